@@ -1,0 +1,4 @@
+pub mod Hex
+pub mod Rows
+pub mod Codes
+pub mod Meanings

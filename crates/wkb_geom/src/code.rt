@@ -1,0 +1,201 @@
+//! The codes of geometries.
+
+ghost use Rattle.std.specs.Prelude.{◌≡◌, ◌||◌, ℕ, Bool, nat_le};
+ghost use Rattle.wkb_geom.specs.declared.common.Dimension.{Dimension};
+ghost use Rattle.wkb_geom.specs.Dimensions.{has_z, has_m};
+ghost use Rattle.wkb_geom.specs.Codes.{Code, thousands, flag, iso_code, ewkb_code, z_flag, m_flag, srid_flag};
+ghost use Rattle.wkb_geom.specs.Reading.{type_of, type_kind, type_dimension, without, in_table, dimension_with, iso_dimension};
+ghost use Rattle.wkb_geom.specs.Meanings.{HasType, IsRead, has_srid_flag};
+
+use crate::common::Dimension;
+use crate::error::{General, WkbError, WkbResult};
+use std::marker::Model;
+
+/// A kind with its dimension.
+#[derive(Clone, Copy, Debug, PartialEq)]
+pub enum WkbType {
+    Point(Dimension),
+    LineString(Dimension),
+    Polygon(Dimension),
+    MultiPoint(Dimension),
+    MultiLineString(Dimension),
+    MultiPolygon(Dimension),
+    GeometryCollection(Dimension),
+}
+
+/// A code as it was read, flags included.
+#[derive(Clone, Copy, Debug)]
+pub struct WkbGeometryCode {
+    code: u32,
+}
+
+impl Model for WkbGeometryCode {
+    ghost Value = { ℕ };
+
+    ghost view = { λ c. c.code };
+
+    ghost inverse = { λ n. record { code = n } };
+}
+
+/// The dimension of these thousands.
+fn of_thousands(thousands: u32) -> Dimension
+    ensures { result ≡ iso_dimension thousands }
+{
+    match thousands {
+        0 => Dimension::Xy,
+        1 => Dimension::Xyz,
+        2 => Dimension::Xym,
+        _ => Dimension::Xyzm,
+    }
+}
+
+/// The dimension that has z and m where it is said by a flag or by the thousands.
+fn joined(z: bool, m: bool, iso: Dimension) -> Dimension
+    ensures { result ≡ dimension_with (z || has_z iso) (m || has_m iso) }
+{
+    match (z, m, iso) {
+        (false, false, Dimension::Xy) => Dimension::Xy,
+        (false, false, Dimension::Xyz) => Dimension::Xyz,
+        (false, false, Dimension::Xym) => Dimension::Xym,
+        (false, false, Dimension::Xyzm) => Dimension::Xyzm,
+        (true, false, Dimension::Xy) => Dimension::Xyz,
+        (true, false, Dimension::Xyz) => Dimension::Xyz,
+        (true, false, Dimension::Xym) => Dimension::Xyzm,
+        (true, false, Dimension::Xyzm) => Dimension::Xyzm,
+        (false, true, Dimension::Xy) => Dimension::Xym,
+        (false, true, Dimension::Xyz) => Dimension::Xyzm,
+        (false, true, Dimension::Xym) => Dimension::Xym,
+        (false, true, Dimension::Xyzm) => Dimension::Xyzm,
+        (true, true, _) => Dimension::Xyzm,
+    }
+}
+
+/// Whether a code without flags is in the table.
+fn is_in_table(n: u32) -> bool
+    ensures { result ≡ in_table n }
+{
+    n / 1000 < 4 && (0 < n % 1000 && n % 1000 < 8)
+}
+
+/// The kind of this number.
+fn of_kind(kind: u32, dimension: Dimension) -> WkbType
+    ensures { result ≡ type_of kind dimension }
+{
+    if kind == 1 {
+        WkbType::Point(dimension)
+    } else if kind == 2 {
+        WkbType::LineString(dimension)
+    } else if kind == 3 {
+        WkbType::Polygon(dimension)
+    } else if kind == 4 {
+        WkbType::MultiPoint(dimension)
+    } else if kind == 5 {
+        WkbType::MultiLineString(dimension)
+    } else if kind == 6 {
+        WkbType::MultiPolygon(dimension)
+    } else {
+        WkbType::GeometryCollection(dimension)
+    }
+}
+
+/// A code without one of its flags, where it is the highest that may be set.
+fn cleared(code: u32, flag: u32) -> u32
+    ensures { result ≡ without code flag }
+{
+    if flag <= code { code - flag } else { code }
+}
+
+impl WkbGeometryCode {
+    /// The code of these four bytes, in the table or not.
+    pub fn new(code: u32) -> Self
+        ensures { result ≡ code }
+    {
+        WkbGeometryCode { code }
+    }
+
+    /// Whether an SRID follows.
+    pub fn has_srid(&self) -> bool
+        ensures flag { result ≡ has_srid_flag self.now }
+        ensures meant { (k : ℕ) (d : Dimension) (srid : Bool) → Code self.now k d srid → result ≡ srid }
+    {
+        0x2000_0000 <= cleared(cleared(self.code, 0x8000_0000), 0x4000_0000)
+    }
+
+    /// The kind and the dimension, by ISO codes and the flags of EWKB.
+    pub fn get_type(&self) -> WkbResult<WkbType>
+        ensures meant { HasType self.now result }
+        ensures read { IsRead self.now result }
+    {
+        let z = 0x8000_0000 <= self.code;
+        let a = cleared(self.code, 0x8000_0000);
+        let m = 0x4000_0000 <= a;
+        let b = cleared(a, 0x4000_0000);
+        let n = cleared(b, 0x2000_0000);
+        if !is_in_table(n) {
+            return Err(WkbError::General(General::CodeOutOfRange(self.code)));
+        }
+        let dimension = joined(z, m, of_thousands(n / 1000));
+        Ok(of_kind(n % 1000, dimension))
+    }
+}
+
+impl WkbType {
+    /// The number of the kind, from 1 for a point to 7 for a collection.
+    pub fn kind(self) -> u32
+        ensures { result ≡ type_kind self }
+    {
+        match self {
+            WkbType::Point(_) => 1,
+            WkbType::LineString(_) => 2,
+            WkbType::Polygon(_) => 3,
+            WkbType::MultiPoint(_) => 4,
+            WkbType::MultiLineString(_) => 5,
+            WkbType::MultiPolygon(_) => 6,
+            WkbType::GeometryCollection(_) => 7,
+        }
+    }
+
+    /// The dimension.
+    pub fn dimension(self) -> Dimension
+        ensures { result ≡ type_dimension self }
+    {
+        match self {
+            WkbType::Point(dimension)
+            | WkbType::LineString(dimension)
+            | WkbType::Polygon(dimension)
+            | WkbType::MultiPoint(dimension)
+            | WkbType::MultiLineString(dimension)
+            | WkbType::MultiPolygon(dimension)
+            | WkbType::GeometryCollection(dimension) => dimension,
+        }
+    }
+
+    /// The code with the flags of EWKB.
+    pub fn ewkb_code(self, srid: bool) -> u32
+        ensures { result ≡ ewkb_code (type_kind self) (type_dimension self) srid }
+    {
+        let (z, m) = match self.dimension() {
+            Dimension::Xy => (0, 0),
+            Dimension::Xyz => (0x8000_0000, 0),
+            Dimension::Xym => (0, 0x4000_0000),
+            Dimension::Xyzm => (0x8000_0000, 0x4000_0000),
+        };
+        let srid = if srid { 0x2000_0000 } else { 0 };
+        z + m + srid + self.kind()
+    }
+}
+
+/// The ISO code.
+impl From<WkbType> for u32 {
+    ghost from_gives = { λ t c. c ≡ iso_code (type_kind t) (type_dimension t) };
+
+    fn from(t: WkbType) -> u32 {
+        let thousands = match t.dimension() {
+            Dimension::Xy => 0,
+            Dimension::Xyz => 1000,
+            Dimension::Xym => 2000,
+            Dimension::Xyzm => 3000,
+        };
+        thousands + t.kind()
+    }
+}

@@ -1,0 +1,169 @@
+//! Byte orders, dimensions and the two written forms.
+
+ghost use Rattle.std.specs.Prelude.{◌≡◌};
+ghost use Rattle.wkb_geom.specs.Dimensions.{size, width, dimensions};
+ghost use Rattle.wkb_geom.specs.Meanings.{HasOrder, IsNamed};
+ghost use Rattle.wkb_geom.specs.Numbers.{order_byte};
+ghost use Rattle.wkb_geom.specs.Reading.{same_dimension};
+ghost use Rattle.wkb_geom.specs.Texts.{form_srid, inner};
+
+use crate::error::{General, WkbError};
+
+/// The order of the bytes of a number.
+#[derive(Debug, Clone, Copy, Default, PartialEq)]
+pub enum Endianness {
+    /// The highest byte first.
+    BigEndian,
+    /// The lowest byte first.
+    #[default]
+    LittleEndian,
+}
+
+/// The dimension of a geometry that was read.
+#[derive(Clone, Copy, Debug, PartialEq)]
+pub enum Dimension {
+    Xy,
+    Xyz,
+    Xym,
+    Xyzm,
+}
+
+impl Dimension {
+    /// How many words a coordinate has.
+    pub fn width(self) -> usize
+        ensures { result ≡ width self }
+    {
+        match self {
+            Dimension::Xy => 2,
+            Dimension::Xyz | Dimension::Xym => 3,
+            Dimension::Xyzm => 4,
+        }
+    }
+
+    /// Whether the other has the same name.
+    pub fn is(self, other: Dimension) -> bool
+        ensures { result ≡ same_dimension self other }
+    {
+        match (self, other) {
+            (Dimension::Xy, Dimension::Xy) => true,
+            (Dimension::Xyz, Dimension::Xyz) => true,
+            (Dimension::Xym, Dimension::Xym) => true,
+            (Dimension::Xyzm, Dimension::Xyzm) => true,
+            _ => false,
+        }
+    }
+}
+
+/// The dimension that a geometry trait answers.
+#[derive(Clone, Copy, Debug, PartialEq)]
+pub enum Dimensions {
+    Xy,
+    Xyz,
+    Xym,
+    Xyzm,
+    /// This many numbers in each coordinate.
+    Unknown(usize),
+}
+
+impl Dimensions {
+    /// How many words a coordinate has.
+    pub fn size(&self) -> usize
+        ensures { result ≡ size self.now }
+    {
+        match self {
+            Dimensions::Xy => 2,
+            Dimensions::Xyz | Dimensions::Xym => 3,
+            Dimensions::Xyzm => 4,
+            Dimensions::Unknown(n) => *n,
+        }
+    }
+}
+
+/// The codes that are written.
+#[derive(Debug, Clone, Copy, Default, PartialEq)]
+pub enum Form {
+    /// ISO codes, no SRID.
+    #[default]
+    Iso,
+    /// EWKB flags, with this SRID on the outermost geometry.
+    Ewkb { srid: Option<u32> },
+}
+
+impl Form {
+    /// The SRID that is written.
+    pub fn srid(self) -> Option<u32>
+        ensures { result ≡ form_srid self }
+    {
+        match self {
+            Form::Iso => None,
+            Form::Ewkb { srid } => srid,
+        }
+    }
+
+    /// The form of a geometry's members: only the outermost geometry has an SRID.
+    pub fn inner(self) -> Form
+        ensures { result ≡ inner self }
+    {
+        match self {
+            Form::Iso => Form::Iso,
+            Form::Ewkb { srid: _ } => Form::Ewkb { srid: None },
+        }
+    }
+}
+
+/// The order that a geometry's first byte says.
+impl TryFrom<u8> for Endianness {
+    type Error = WkbError;
+
+    ghost try_from_gives = { HasOrder };
+
+    fn try_from(byte: u8) -> Result<Endianness, WkbError> {
+        match byte {
+            0 => Ok(Endianness::BigEndian),
+            1 => Ok(Endianness::LittleEndian),
+            _ => Err(WkbError::General(General::InvalidByteOrder)),
+        }
+    }
+}
+
+impl From<Endianness> for u8 {
+    ghost from_gives = { λ order n. n ≡ order_byte order };
+
+    fn from(order: Endianness) -> u8 {
+        match order {
+            Endianness::BigEndian => 0,
+            Endianness::LittleEndian => 1,
+        }
+    }
+}
+
+/// The dimension that is written where a geometry answers these.
+impl TryFrom<Dimensions> for Dimension {
+    type Error = WkbError;
+
+    ghost try_from_gives = { IsNamed };
+
+    fn try_from(dimensions: Dimensions) -> Result<Dimension, WkbError> {
+        match dimensions {
+            Dimensions::Xy | Dimensions::Unknown(2) => Ok(Dimension::Xy),
+            Dimensions::Xyz | Dimensions::Unknown(3) => Ok(Dimension::Xyz),
+            Dimensions::Xym => Ok(Dimension::Xym),
+            Dimensions::Xyzm | Dimensions::Unknown(4) => Ok(Dimension::Xyzm),
+            Dimensions::Unknown(n) => Err(WkbError::General(General::UnsupportedDimensions(n))),
+        }
+    }
+}
+
+/// The same name.
+impl From<Dimension> for Dimensions {
+    ghost from_gives = { λ d result. result ≡ dimensions d };
+
+    fn from(dimension: Dimension) -> Dimensions {
+        match dimension {
+            Dimension::Xy => Dimensions::Xy,
+            Dimension::Xyz => Dimensions::Xyz,
+            Dimension::Xym => Dimensions::Xym,
+            Dimension::Xyzm => Dimensions::Xyzm,
+        }
+    }
+}

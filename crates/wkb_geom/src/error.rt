@@ -1,0 +1,82 @@
+//! The errors of reading and writing.
+
+ghost use Rattle.std.specs.Prelude.{◌≡◌};
+ghost use Rattle.wkb_geom.specs.declared.error.WkbError.TheVariants.{IOError};
+
+use std::alloc::AllocError;
+use std::io;
+use thiserror::Error;
+
+/// A fault of the bytes, or of a geometry's dimension.
+#[derive(Debug, Clone, Copy, PartialEq, Error)]
+pub enum General {
+    /// A geometry to be written has this many numbers in a coordinate, and no name for its dimension.
+    #[error("Unsupported number of dimensions: {0}")]
+    UnsupportedDimensions(usize),
+    /// The whole code as read, flags included, which isn't in the table.
+    #[error("WKB type code out of range. Got: {0}")]
+    CodeOutOfRange(u32),
+    /// The first byte of a geometry is neither 0 nor 1.
+    #[error("Invalid byte order")]
+    InvalidByteOrder,
+    /// Where the point would end and where the input does, in bytes from the point's order byte.
+    #[error("Invalid buffer length for Point: geometry would end at byte {end}, but buffer length is {len}.")]
+    ShortPoint { end: u64, len: usize },
+    /// The same of a line string.
+    #[error("Invalid buffer length for LineString: geometry would end at byte {end}, but buffer length is {len}.")]
+    ShortLineString { end: u64, len: usize },
+    /// The same of a ring, in bytes from the ring's count.
+    #[error("Invalid buffer length for LinearRing: data would end at byte {end}, but buffer length is {len}.")]
+    ShortLinearRing { end: u64, len: usize },
+    /// The same of a multi point.
+    #[error("Invalid buffer length for MultiPoint: geometry would end at byte {end}, but buffer length is {len}.")]
+    ShortMultiPoint { end: u64, len: usize },
+}
+
+/// What is too large to be written.
+#[derive(Debug, Clone, Copy, PartialEq, Error)]
+pub enum Overflow {
+    /// A count past 4294967295.
+    #[error("count does not fit 32 bits")]
+    Count,
+    /// The length of the whole text, in bytes.
+    #[error("size does not fit usize")]
+    Size,
+}
+
+/// Why a geometry is not read or not written.
+#[derive(Debug, Drop, Error)]
+pub enum WkbError {
+    /// A member of a multi geometry of another kind or dimension, or a point among them with an SRID.
+    #[error("Incorrect type passed to operation: {0}")]
+    IncorrectType(&'static str),
+    /// Kept for its name: nothing answers it.
+    #[error("Not yet implemented: {0}")]
+    NotYetImplemented(&'static str),
+    /// A fault with its numbers.
+    #[error("General error: {0}")]
+    General(General),
+    /// A collection inside this many open ones.
+    #[error("WKB nesting depth exceeds the maximum of {0}")]
+    NestingDepthExceeded(usize),
+    /// The input ends inside a header or before a count, or a sink failed.
+    #[error(transparent)]
+    IOError(io::Error),
+    /// A geometry too large to be written.
+    #[error("{0}")]
+    OverflowError(Overflow),
+    /// Memory was asked for and refused.
+    #[error("out of memory")]
+    Memory(AllocError),
+}
+
+/// An answer, or why there is none.
+pub type WkbResult<T> = Result<T, WkbError>;
+
+impl From<io::Error> for WkbError {
+    ghost from_gives = { λ e result. result ≡ IOError e };
+
+    fn from(e: io::Error) -> WkbError {
+        WkbError::IOError(e)
+    }
+}

@@ -1,0 +1,344 @@
+//! The traits of geometries, after `geo-traits`. All calls of an implementation answer from one value,
+//! which its ghost members name, and whose parts have the dimension of the whole: that is proved at each
+//! `impl`. Ordinates are the 64 bits of a binary64, never a float.
+
+ghost use Rattle.std.specs.Prelude.{◌≡◌, ℕ, ◌+◌, ◌-◌, ◌<◌, ◌≤◌, List, length, map, Option, IfSome, All, slice_get, slice_index};
+ghost use Rattle.std.specs.Option.{option_map};
+ghost use Rattle.std.specs.List.{AllByRecursion};
+ghost use Rattle.wkb_geom.specs.declared.common.Dimensions.{Dimensions};
+ghost use Rattle.wkb_geom.specs.Dimensions.{size};
+ghost use Rattle.wkb_geom.specs.Geometries.{Geometry, point, line_string, polygon, multi_point, multi_line_string, multi_polygon, collection, rectangle, triangle, line, geometries, IsCoordinate, IsPoint, AreCoordinates, IsGeometry, AreGeometries};
+ghost use Rattle.wkb_geom.specs.Parts.{part_geometry};
+ghost use Rattle.wkb_geom.specs.Sizes.{dimensions_of};
+
+use crate::Dimensions;
+
+/// What has a dimension.
+pub trait Dimensioned: Drop {
+    ghost dimensions: { Self → Dimensions };
+
+    /// The dimension of each coordinate.
+    fn dim(&self) -> Dimensions
+        ensures { result ≡ dimensions self.now };
+}
+
+/// A coordinate: as many words as its dimension says.
+pub trait CoordTrait: Dimensioned {
+    // The words of the coordinate, in order.
+    ghost words: { Self → List ℕ };
+
+    /// The word at an index, if there is one.
+    fn nth(&self, n: usize) -> Option<u64>
+        ensures { result ≡ slice_get (words self.now) n };
+
+    /// The word at an index that is known to be there.
+    fn at(&self, n: usize) -> u64
+        requires { n < size (Self.dimensions self.now) }
+        ensures { result ≡ slice_index (words self.now) n };
+
+    /// The first word.
+    fn x(&self) -> u64
+        requires { 2 ≤ size (Self.dimensions self.now) }
+        ensures { result ≡ slice_index (words self.now) 0 };
+
+    /// The second word.
+    fn y(&self) -> u64
+        requires { 2 ≤ size (Self.dimensions self.now) }
+        ensures { result ≡ slice_index (words self.now) 1 };
+
+    /// The first two words.
+    fn x_y(&self) -> (u64, u64)
+        requires { 2 ≤ size (Self.dimensions self.now) }
+        ensures x { result.0 ≡ slice_index (words self.now) 0 }
+        ensures y { result.1 ≡ slice_index (words self.now) 1 };
+
+    // As many words as the dimension says, each of 64 bits.
+    ghost lawful: { (c : Self) → IsCoordinate (Self.dimensions c) (words c) };
+}
+
+/// A point, which may be empty.
+pub trait PointTrait: Dimensioned {
+    type CoordType: CoordTrait;
+
+    // The words of the coordinate; None of an empty point.
+    ghost coordinate: { Self → Option (List ℕ) };
+
+    /// The coordinate; none of an empty point.
+    fn coord(&self) -> Option<Self::CoordType>
+        ensures value { option_map Self.CoordType.words result ≡ coordinate self.now }
+        ensures dimensions { IfSome result (λ c. Self.CoordType.dimensions c ≡ Self.dimensions self.now) };
+
+    ghost lawful: { (p : Self) → IsPoint (Self.dimensions p) (coordinate p) };
+}
+
+/// A line string, or a ring of a polygon.
+pub trait LineStringTrait: Dimensioned {
+    type CoordType: CoordTrait;
+
+    // The words of each coordinate, in order.
+    ghost coordinates: { Self → List (List ℕ) };
+
+    /// The number of coordinates.
+    fn num_coords(&self) -> usize
+        ensures { result ≡ length (coordinates self.now) };
+
+    /// The coordinate at an index, if there is one.
+    fn coord(&self, i: usize) -> Option<Self::CoordType>
+        ensures value { option_map Self.CoordType.words result ≡ slice_get (coordinates self.now) i }
+        ensures dimensions { IfSome result (λ c. Self.CoordType.dimensions c ≡ Self.dimensions self.now) };
+
+    /// The coordinate at an index that is known to be there.
+    fn coord_at(&self, i: usize) -> Self::CoordType
+        requires { i < length (coordinates self.now) }
+        ensures value { slice_get (coordinates self.now) i ≡ Some (Self.CoordType.words result) }
+        ensures dimensions { Self.CoordType.dimensions result ≡ Self.dimensions self.now };
+
+    ghost lawful: { (l : Self) → AreCoordinates (Self.dimensions l) (coordinates l) };
+}
+
+/// A polygon: an exterior ring and the interiors, or no ring at all.
+pub trait PolygonTrait: Dimensioned {
+    type RingType: LineStringTrait;
+
+    // The rings, the exterior first: without one there are no interiors.
+    ghost rings: { Self → List (List (List ℕ)) };
+
+    /// The number of interiors, 0 where there is no exterior.
+    fn num_interiors(&self) -> usize
+        ensures { result ≡ length (rings self.now) - 1 };
+
+    /// The exterior ring, if the polygon has rings.
+    fn exterior(&self) -> Option<Self::RingType>
+        ensures value { option_map Self.RingType.coordinates result ≡ slice_get (rings self.now) 0 }
+        ensures dimensions { IfSome result (λ r. Self.RingType.dimensions r ≡ Self.dimensions self.now) };
+
+    /// The interior at an index, if there is one.
+    fn interior(&self, i: usize) -> Option<Self::RingType>
+        ensures value { option_map Self.RingType.coordinates result ≡ slice_get (rings self.now) (i + 1) }
+        ensures dimensions { IfSome result (λ r. Self.RingType.dimensions r ≡ Self.dimensions self.now) };
+
+    ghost lawful: { (p : Self) → AllByRecursion (AreCoordinates (Self.dimensions p)) (rings p) };
+}
+
+/// Points of one dimension.
+pub trait MultiPointTrait: Dimensioned {
+    type InnerPointType: PointTrait;
+
+    // The words of each point, in order; None of an empty one.
+    ghost points: { Self → List (Option (List ℕ)) };
+
+    /// The number of points.
+    fn num_points(&self) -> usize
+        ensures { result ≡ length (points self.now) };
+
+    /// The point at an index, if there is one.
+    fn point(&self, i: usize) -> Option<Self::InnerPointType>
+        ensures value { option_map Self.InnerPointType.coordinate result ≡ slice_get (points self.now) i }
+        ensures dimensions { IfSome result (λ p. Self.InnerPointType.dimensions p ≡ Self.dimensions self.now) };
+
+    ghost lawful: { (m : Self) → AllByRecursion (IsPoint (Self.dimensions m)) (points m) };
+}
+
+/// Line strings of one dimension.
+pub trait MultiLineStringTrait: Dimensioned {
+    type InnerLineStringType: LineStringTrait;
+
+    // The coordinates of each line string, in order.
+    ghost line_strings: { Self → List (List (List ℕ)) };
+
+    /// The number of line strings.
+    fn num_line_strings(&self) -> usize
+        ensures { result ≡ length (line_strings self.now) };
+
+    /// The line string at an index, if there is one.
+    fn line_string(&self, i: usize) -> Option<Self::InnerLineStringType>
+        ensures value { option_map Self.InnerLineStringType.coordinates result ≡ slice_get (line_strings self.now) i }
+        ensures dimensions { IfSome result (λ l. Self.InnerLineStringType.dimensions l ≡ Self.dimensions self.now) };
+
+    ghost lawful: { (m : Self) → AllByRecursion (AreCoordinates (Self.dimensions m)) (line_strings m) };
+}
+
+/// Polygons of one dimension.
+pub trait MultiPolygonTrait: Dimensioned {
+    type InnerPolygonType: PolygonTrait;
+
+    // The rings of each polygon, in order.
+    ghost polygons: { Self → List (List (List (List ℕ))) };
+
+    /// The number of polygons.
+    fn num_polygons(&self) -> usize
+        ensures { result ≡ length (polygons self.now) };
+
+    /// The polygon at an index, if there is one.
+    fn polygon(&self, i: usize) -> Option<&Self::InnerPolygonType>
+        ensures value { option_map (λ p. Self.InnerPolygonType.rings p.now) result ≡ slice_get (polygons self.now) i }
+        ensures dimensions { IfSome result (λ p. Self.InnerPolygonType.dimensions p.now ≡ Self.dimensions self.now) };
+
+    ghost lawful: { (m : Self) → AllByRecursion (AllByRecursion (AreCoordinates (Self.dimensions m))) (polygons m) };
+}
+
+/// Geometries of any kind and dimension.
+pub trait GeometryCollectionTrait: Dimensioned {
+    type GeometryType: GeometryTrait;
+
+    // What each member means, in order.
+    ghost members: { Self → List Geometry };
+
+    /// The members, in order.
+    fn geometries(&self) -> &[Self::GeometryType]
+        ensures { map Self.GeometryType.geometry result.now ≡ members self.now };
+
+    /// The number of members.
+    fn num_geometries(&self) -> usize
+        ensures { result ≡ length (members self.now) };
+
+    /// The member at an index, if there is one.
+    fn geometry(&self, i: usize) -> Option<&Self::GeometryType>
+        ensures { option_map (λ g. Self.GeometryType.geometry g.now) result ≡ slice_get (members self.now) i };
+
+    ghost lawful: { (c : Self) → AreGeometries (geometries (members c)) };
+}
+
+/// A line from one coordinate to another.
+pub trait LineTrait: Dimensioned {
+    type CoordType: CoordTrait;
+
+    ghost start_words: { Self → List ℕ };
+
+    ghost end_words: { Self → List ℕ };
+
+    /// Where it starts.
+    fn start(&self) -> Self::CoordType
+        ensures value { Self.CoordType.words result ≡ start_words self.now }
+        ensures dimensions { Self.CoordType.dimensions result ≡ Self.dimensions self.now };
+
+    /// Where it ends.
+    fn end(&self) -> Self::CoordType
+        ensures value { Self.CoordType.words result ≡ end_words self.now }
+        ensures dimensions { Self.CoordType.dimensions result ≡ Self.dimensions self.now };
+
+    ghost lawful: { (l : Self) → IsCoordinate (Self.dimensions l) (start_words l) × IsCoordinate (Self.dimensions l) (end_words l) };
+}
+
+/// A rectangle between two corners. Only x and y of them are written.
+pub trait RectTrait: Dimensioned {
+    type CoordType: CoordTrait;
+
+    ghost min_words: { Self → List ℕ };
+
+    ghost max_words: { Self → List ℕ };
+
+    /// The corner of the least ordinates.
+    fn min(&self) -> Self::CoordType
+        ensures value { Self.CoordType.words result ≡ min_words self.now }
+        ensures dimensions { Self.CoordType.dimensions result ≡ Self.dimensions self.now };
+
+    /// The corner of the greatest ordinates.
+    fn max(&self) -> Self::CoordType
+        ensures value { Self.CoordType.words result ≡ max_words self.now }
+        ensures dimensions { Self.CoordType.dimensions result ≡ Self.dimensions self.now };
+
+    ghost lawful: { (r : Self) → IsCoordinate (Self.dimensions r) (min_words r) × IsCoordinate (Self.dimensions r) (max_words r) };
+}
+
+/// A triangle by its corners.
+pub trait TriangleTrait: Dimensioned {
+    type CoordType: CoordTrait;
+
+    ghost first_words: { Self → List ℕ };
+
+    ghost second_words: { Self → List ℕ };
+
+    ghost third_words: { Self → List ℕ };
+
+    /// The first corner.
+    fn first(&self) -> Self::CoordType
+        ensures value { Self.CoordType.words result ≡ first_words self.now }
+        ensures dimensions { Self.CoordType.dimensions result ≡ Self.dimensions self.now };
+
+    /// The second corner.
+    fn second(&self) -> Self::CoordType
+        ensures value { Self.CoordType.words result ≡ second_words self.now }
+        ensures dimensions { Self.CoordType.dimensions result ≡ Self.dimensions self.now };
+
+    /// The third corner.
+    fn third(&self) -> Self::CoordType
+        ensures value { Self.CoordType.words result ≡ third_words self.now }
+        ensures dimensions { Self.CoordType.dimensions result ≡ Self.dimensions self.now };
+
+    ghost lawful: { (t : Self) → IsCoordinate (Self.dimensions t) (first_words t) × IsCoordinate (Self.dimensions t) (second_words t) × IsCoordinate (Self.dimensions t) (third_words t) };
+}
+
+/// A geometry by its kind. The dimension of a collection is that of the geometry.
+#[derive(Drop)]
+pub enum GeometryType<'a, P, L, Y, MP, ML, MY, G, R, T, N> {
+    Point(&'a P),
+    LineString(&'a L),
+    Polygon(&'a Y),
+    MultiPoint(&'a MP),
+    MultiLineString(&'a ML),
+    MultiPolygon(&'a MY),
+    GeometryCollection(&'a [G]),
+    Rect(&'a R),
+    Triangle(&'a T),
+    Line(&'a N),
+}
+
+/// A geometry of any kind.
+pub trait GeometryTrait: Dimensioned + Sized {
+    type PointType: PointTrait;
+
+    type LineStringType: LineStringTrait;
+
+    type PolygonType: PolygonTrait;
+
+    type MultiPointType: MultiPointTrait;
+
+    type MultiLineStringType: MultiLineStringTrait;
+
+    type MultiPolygonType: MultiPolygonTrait;
+
+    type RectType: RectTrait;
+
+    type TriangleType: TriangleTrait;
+
+    type LineType: LineTrait;
+
+    // What the geometry means, with all its parts.
+    ghost geometry: { Self → Geometry };
+
+    /// The part that says what kind this is, and what it holds.
+    fn as_type(
+        &self,
+    ) -> GeometryType<
+        '_,
+        Self::PointType,
+        Self::LineStringType,
+        Self::PolygonType,
+        Self::MultiPointType,
+        Self::MultiLineStringType,
+        Self::MultiPolygonType,
+        Self,
+        Self::RectType,
+        Self::TriangleType,
+        Self::LineType,
+    >
+        ensures part { part_geometry
+            (λ p. point (Self.PointType.dimensions p) (Self.PointType.coordinate p))
+            (λ l. line_string (Self.LineStringType.dimensions l) (Self.LineStringType.coordinates l))
+            (λ p. polygon (Self.PolygonType.dimensions p) (Self.PolygonType.rings p))
+            (λ m. multi_point (Self.MultiPointType.dimensions m) (Self.MultiPointType.points m))
+            (λ m. multi_line_string (Self.MultiLineStringType.dimensions m) (Self.MultiLineStringType.line_strings m))
+            (λ m. multi_polygon (Self.MultiPolygonType.dimensions m) (Self.MultiPolygonType.polygons m))
+            (λ gs. collection (Self.dimensions self.now) (geometries (map geometry gs)))
+            (λ r. rectangle (Self.RectType.dimensions r) (Self.RectType.min_words r) (Self.RectType.max_words r))
+            (λ t. triangle (Self.TriangleType.dimensions t) (Self.TriangleType.first_words t) (Self.TriangleType.second_words t) (Self.TriangleType.third_words t))
+            (λ l. line (Self.LineType.dimensions l) (Self.LineType.start_words l) (Self.LineType.end_words l))
+            result ≡ geometry self.now };
+
+    // What it means has the dimension that it answers.
+    ghost one_dimension: { (g : Self) → dimensions_of (geometry g) ≡ Self.dimensions g };
+
+    // Every coordinate fits the dimension.
+    ghost lawful: { (g : Self) → IsGeometry (geometry g) };
+}

@@ -1,0 +1,122 @@
+-- Values and outermost SRIDs are equal exactly where their texts are.
+use Rattle.std.proofs.Common.{◌≡◌, ℕ, suc, List, [], ◌++◌, Option, Some, None, refl, sym, ap, ◌∙◌, subst}
+use Rattle.std.proofs.lemmas.List.{append-nil}
+use Rattle.wkb_geom.specs.declared.common.Endianness.{Endianness}
+use Rattle.wkb_geom.specs.declared.common.Dimension.TheVariants.{Xy, Xyz, Xym, Xyzm}
+use Rattle.wkb_geom.specs.declared.common.Form.{Form}
+use Rattle.wkb_geom.specs.declared.common.Form.TheVariants.{Ewkb}
+use Rattle.wkb_geom.specs.Numbers.{AreBytes}
+use Rattle.wkb_geom.specs.Values.{Value}
+use Rattle.wkb_geom.specs.Spellings.{Spelling, node, header, IsSrid, Spells}
+use Rattle.wkb_geom.specs.Fronts.{Front}
+use Rattle.wkb_geom.specs.Geometries.{geometry_of}
+use Rattle.wkb_geom.specs.Texts.{form_srid, text, IsForm}
+use Rattle.wkb_laws.specs.Written.{written, HasOptions}
+use Rattle.wkb_laws.specs.Laws.{TextSpells, WrittenIsRead, EqualTexts, EqualTextsWithSrid, EqualTextsWithOwnSrid, NamedDimension, RestIsFree, BytesAreRead, RewritingIsRead, RewritingIsFixed, RewritingWithSridIsFixed}
+use Rattle.wkb_laws.proofs.OneFront.{one_spelling, one_front_lem}
+use Rattle.wkb_laws.proofs.TextSpells.{text_spells, written_has_options}
+use Rattle.wkb_laws.proofs.Values.{Good, number-lt, AreBytes-rest, bytes_front, spelled_good, normal-geometry_of, lawful-geometry_of}
+
+outer_srid : (order : Endianness) (form : Form) (s : Spelling) → HasOptions order form s → (header s).srid ≡ form_srid form
+outer_srid order form (node h words ss) k = k.1
+
+-- the text of a value spells it
+pub value_text : (order : Endianness) (form : Form) (t : Value) → IsForm form → Good t → Spells (written order form (geometry_of t)) t (text order form (geometry_of t))
+value_text order form t h good =
+    subst (λ v. Spells (written order form (geometry_of t)) v (text order form (geometry_of t))) (normal-geometry_of t good.0)
+    (text_spells order form (geometry_of t) h (lawful-geometry_of t good.0) good.1)
+
+pub one_text : (order : Endianness) (form other : Form) (t v : Value) → IsForm form → IsForm other → Good t → Good v
+    → text order form (geometry_of t) ≡ text order other (geometry_of v) → (t ≡ v) × (form_srid form ≡ form_srid other)
+one_text order form other t v h k good fine e =
+    let same = one_spelling _ _ t v _ _ [] [] (value_text order form t h good) (value_text order other v k fine) (ap (λ x. x ++ []) e) in (
+      same.value,
+      sym (outer_srid order form _ (written_has_options order form (geometry_of t))) ∙ ap (λ s. (header s).srid) same.spelling
+          ∙ outer_srid order other _ (written_has_options order other (geometry_of v)),
+    )
+
+pub front_good : (input : List ℕ) (s : Spelling) (t : Value) (rest : List ℕ) → AreBytes input → Front input s t rest → Good t
+front_good input s t rest b f = spelled_good s t f.front (bytes_front f.front rest f.whole b) f.spelled
+
+pub text_spells_lem : TextSpells
+text_spells_lem order form g h lawful fine = (written order form g, text_spells order form g h lawful fine, written_has_options order form g)
+
+pub written_is_read_lem : WrittenIsRead
+written_is_read_lem order form g rest h lawful fine shallow =
+    (written order form g, record { front = text order form g; whole = refl; spelled = text_spells order form g h lawful fine; shallow = shallow }, written_has_options order form g)
+
+pub equal_texts_lem : EqualTexts
+equal_texts_lem order form a b s u t v rest more h ab bb f g = (
+  λ e. (one_text order form form t v h h (front_good a s t rest ab f) (front_good b u v more bb g) e).0,
+  λ e. ap (λ z. text order form (geometry_of z)) e,
+)
+
+pub equal_texts_with_srid_lem : EqualTextsWithSrid
+equal_texts_with_srid_lem order i j a b s u t v rest more h k ab bb f g = (
+  λ e. one_text order (Ewkb i) (Ewkb j) t v h k (front_good a s t rest ab f) (front_good b u v more bb g) e,
+  λ e. ap (λ z. text order (Ewkb i) (geometry_of z)) e.0 ∙ ap (λ z. text order (Ewkb z) (geometry_of v)) e.1,
+)
+
+pub rest_is_free_lem : RestIsFree
+rest_is_free_lem input s t rest more f = record { front = f.front; whole = refl; spelled = f.spelled; shallow = f.shallow }
+
+pub bytes_are_read_lem : BytesAreRead
+bytes_are_read_lem input s t rest f = record { front = f.front; whole = sym (append-nil f.front); spelled = f.spelled; shallow = f.shallow }
+
+pub rewriting_is_read_lem : RewritingIsRead
+rewriting_is_read_lem order form input s t rest more h b f = (
+  written order form (geometry_of t),
+  record { front = text order form (geometry_of t); whole = refl; spelled = value_text order form t h (front_good input s t rest b f); shallow = f.shallow },
+  written_has_options order form (geometry_of t),
+)
+
+-- the outermost SRID is four bytes' number
+srid_fits : (order : Endianness) (srid : Option ℕ) (x : List ℕ) → AreBytes x → IsSrid order srid x → IsForm (Ewkb srid)
+srid_fits order None x b h = tt
+srid_fits order (Some n) x b h = number-lt order 4 n x h b
+
+outer_fits : (s : Spelling) (t : Value) (x : List ℕ) → AreBytes x → Spells s t x → IsForm (Ewkb (header s).srid)
+outer_fits (node h own ss) t x b a =
+    let bytes = bytes_front a.front a.rest a.whole b in
+    let first = a.first in
+    let behind : AreBytes (first.code_field ++ first.srid_field) = λ i. (subst AreBytes first.whole bytes) (suc i) in
+    srid_fits h.order h.srid first.srid_field (AreBytes-rest first.code_field first.srid_field behind) first.srid
+
+pub front_srid : (input : List ℕ) (s : Spelling) (t : Value) (rest : List ℕ) → AreBytes input → Front input s t rest → IsForm (Ewkb (header s).srid)
+front_srid input s t rest b f = outer_fits s t f.front (bytes_front f.front rest f.whole b) f.spelled
+
+pub equal_texts_with_own_srid_lem : EqualTextsWithOwnSrid
+equal_texts_with_own_srid_lem order a b s u t v rest more ab bb f g =
+    equal_texts_with_srid_lem order (header s).srid (header u).srid a b s u t v rest more (front_srid a s t rest ab f) (front_srid b u v more bb g) ab bb f g
+
+-- what was rewritten is read as itself
+read_back : (order : Endianness) (form : Form) (input out : List ℕ) (s : Spelling) (t : Value) (rest : List ℕ) → IsForm form → AreBytes input → Front input s t rest → out ≡ text order form (geometry_of t)
+    → (u : Spelling) × Front out u t [] × HasOptions order form u
+read_back order form input out s t rest h b f e =
+    let r = rewriting_is_read_lem order form input s t rest [] h b f in
+    (r.0, subst (λ z. Front z r.0 t []) (append-nil _ ∙ sym e) r.1, r.2)
+
+pub rewriting_is_fixed_lem : RewritingIsFixed
+rewriting_is_fixed_lem order form input out h b r =
+    let back = read_back order form input out r.s r.t r.rest h b r.front r.written in (
+      record { s = back.0; t = r.t; rest = []; front = back.1; written = r.written },
+      λ again q. q.written ∙ ap (λ z. text order form (geometry_of z)) (one_front_lem out q.s back.0 q.t r.t q.rest [] q.front back.1).2 ∙ sym r.written,
+    )
+
+pub rewriting_with_srid_is_fixed_lem : RewritingWithSridIsFixed
+rewriting_with_srid_is_fixed_lem order input out b r =
+    let srid = (header r.s).srid in
+    let back = read_back order (Ewkb srid) input out r.s r.t r.rest (front_srid input r.s r.t r.rest b r.front) b r.front r.written in
+    let same : (header back.0).srid ≡ srid = outer_srid order (Ewkb srid) back.0 back.2 in (
+      record { s = back.0; t = r.t; rest = []; front = back.1; written = r.written ∙ ap (λ z. text order (Ewkb z) (geometry_of r.t)) (sym same) },
+      λ again q.
+          let one = one_front_lem out q.s back.0 q.t r.t q.rest [] q.front back.1 in
+          q.written ∙ ap (λ z. text order (Ewkb (header z).srid) (geometry_of q.t)) one.1 ∙ ap (λ z. text order (Ewkb z) (geometry_of q.t)) same
+          ∙ ap (λ z. text order (Ewkb srid) (geometry_of z)) one.2 ∙ sym r.written,
+    )
+
+pub named_dimension_lem : NamedDimension
+named_dimension_lem Xy = refl
+named_dimension_lem Xyz = refl
+named_dimension_lem Xym = refl
+named_dimension_lem Xyzm = refl

@@ -1,0 +1,104 @@
+//! Laws over the definitions of Well-Known Binary: each function's contract is a law, and its body is empty.
+#![tactic(auto)]
+
+ghost use Rattle.wkb_laws.specs.Laws.{HasOneFront, RestIsFree, BytesAreRead, ReadOrRefused, NeverBoth, OneRefusal, RefusedOutward, CutIsRefused, GeometryAgrees, FrontIsRead, RefusalIsRead, FrontIsBounded, RefusalIsBounded, ReadingIsBounded, TextSpells, WrittenIsRead, TextHasSize, LengthOfText, LengthOfFront, FrontIsWritable, EwkbIsWritable, SizeIsRefused, OwnSridIsWritable, RewritingIsRead, RewritingIsFixed, RewritingWithSridIsFixed, EqualTexts, EqualTextsWithSrid, EqualTextsWithOwnSrid, NamedDimension};
+
+/// An input begins with at most one geometry.
+pub fn one_front()
+    ensures { HasOneFront }
+{}
+
+/// What follows a geometry changes nothing of it, and its bytes alone are read as it.
+pub fn rest_is_free()
+    ensures rest { RestIsFree }
+    ensures bytes { BytesAreRead }
+{}
+
+/// Every input begins with a geometry or is refused, never both, and is refused in one way.
+pub fn read_or_refused()
+    ensures some { ReadOrRefused }
+    ensures never_both { NeverBoth }
+    ensures one { OneRefusal }
+{}
+
+/// A refusal is passed outward through an open collection.
+pub fn refused_outward()
+    ensures { RefusedOutward }
+{}
+
+/// A proper beginning of a geometry is refused as an input that ends too early.
+pub fn cut_is_refused()
+    ensures { CutIsRefused }
+{}
+
+/// Reading from left to right answers exactly the fronts and the refusals, with their turns and entries.
+pub fn geometry_agrees()
+    ensures sound { GeometryAgrees }
+    ensures front { FrontIsRead }
+    ensures refusal { RefusalIsRead }
+{}
+
+/// Members and list entries are bounded by the length of the input.
+pub fn work_is_bounded()
+    ensures read { FrontIsBounded }
+    ensures refused { RefusalIsBounded }
+    ensures reading { ReadingIsBounded }
+{}
+
+/// What is written spells the normal value, with the options' order and SRID.
+pub fn text_spells()
+    ensures { TextSpells }
+{}
+
+/// What is written is read again, whatever follows it.
+pub fn written_is_read()
+    ensures { WrittenIsRead }
+{}
+
+/// A text's length is its geometry's size, in either order, and a geometry that was read is written in its own length,
+/// less four bytes for each SRID.
+pub fn text_length()
+    ensures size { TextHasSize }
+    ensures text { LengthOfText }
+    ensures front { LengthOfFront }
+{}
+
+/// A geometry that was read is its own normal value, and can be written unless an SRID that it did not have makes its
+/// text too long.
+pub fn front_is_writable()
+    ensures iso { FrontIsWritable }
+    ensures ewkb { EwkbIsWritable }
+    ensures size { SizeIsRefused }
+    ensures own_srid { OwnSridIsWritable }
+{}
+
+/// A rewriting is read as the value that it was made of.
+pub fn rewriting_is_read()
+    ensures { RewritingIsRead }
+{}
+
+/// What was rewritten is rewritten to itself.
+pub fn rewriting_is_fixed()
+    ensures plain { RewritingIsFixed }
+    ensures with_srid { RewritingWithSridIsFixed }
+{}
+
+/// Two inputs have equal values exactly where they are rewritten alike.
+pub fn equal_texts()
+    ensures { EqualTexts }
+{}
+
+/// The same where each is rewritten with an SRID.
+pub fn equal_texts_with_srid()
+    ensures { EqualTextsWithSrid }
+{}
+
+/// Two inputs are rewritten alike with their own SRIDs exactly where values and outermost SRIDs are equal.
+pub fn equal_texts_with_own_srid()
+    ensures { EqualTextsWithOwnSrid }
+{}
+
+/// A dimension that was made a caller's dimension is named again.
+pub fn named_dimension()
+    ensures { NamedDimension }
+{}

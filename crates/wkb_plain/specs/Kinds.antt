@@ -1,0 +1,139 @@
+-- What each plain kind but the collection shows: its dimensions and its words.
+use Rattle.std.specs.Prelude.{◌≡◌, ℕ, List, map, Option}
+use Rattle.std.specs.List.{AllByRecursion}
+use Rattle.std.specs.Option.{option_map}
+use Rattle.wkb_plain.specs.declared.coord.Coord.{Coord}
+use Rattle.wkb_plain.specs.declared.line.Line.{Line}
+use Rattle.wkb_plain.specs.declared.line_string.LineString.{LineString}
+use Rattle.wkb_plain.specs.declared.multi_line_string.MultiLineString.{MultiLineString}
+use Rattle.wkb_plain.specs.declared.multi_point.MultiPoint.{MultiPoint}
+use Rattle.wkb_plain.specs.declared.multi_polygon.MultiPolygon.{MultiPolygon}
+use Rattle.wkb_plain.specs.declared.point.Point.{Point}
+use Rattle.wkb_plain.specs.declared.polygon.Polygon.{Polygon}
+use Rattle.wkb_plain.specs.declared.rect.Rect.{Rect}
+use Rattle.wkb_plain.specs.declared.triangle.Triangle.{Triangle}
+use Rattle.wkb_geom.specs.declared.common.Dimensions.{Dimensions}
+use Rattle.wkb_geom.specs.Geometries.{IsCoordinate, IsPoint, AreCoordinates}
+use Rattle.wkb_geom.specs.Lawful.{coordinate_of, point_of, each_part, at_dimension}
+use Rattle.wkb_plain.specs.Runs.{coordinates_in, coordinates_in-lawful}
+
+-- a coordinate
+abbrev pub coord_dimensions : Coord → Dimensions
+coord_dimensions c = c.dim
+
+abbrev pub coord_words : Coord → List ℕ
+coord_words c = c.words.now
+
+pub coord_lawful : (c : Coord) → IsCoordinate (coord_dimensions c) (coord_words c)
+coord_lawful c = coordinate_of c.dim c.words.now c.as_many_words c.in_range
+
+-- a coordinate beside another of these dimensions
+coord_lawful_beside : (d : Dimensions) (c : Coord) → coord_dimensions c ≡ d → IsCoordinate d (coord_words c)
+coord_lawful_beside d c is = at_dimension c.dim d c.words.now (coord_lawful c) is
+
+-- a point; an empty one has no coordinate
+abbrev pub point_dimensions : Point → Dimensions
+point_dimensions p = p.dim
+
+abbrev pub point_coordinate : Point → Option (List ℕ)
+point_coordinate p = option_map coord_words p.coord
+
+pub point_lawful : (p : Point) → IsPoint (point_dimensions p) (point_coordinate p)
+point_lawful p = point_of coord_words coord_dimensions p.dim p.coord coord_lawful p.one_dimension
+
+-- a line string
+abbrev pub line_string_dimensions : LineString → Dimensions
+line_string_dimensions l = l.dim
+
+abbrev pub line_string_coordinates : LineString → List (List ℕ)
+line_string_coordinates l = coordinates_in l.dim l.words.now
+
+pub line_string_lawful : (l : LineString) → AreCoordinates (line_string_dimensions l) (line_string_coordinates l)
+line_string_lawful l = coordinates_in-lawful l.dim l.words.now l.in_range
+
+-- a polygon; its first ring is the exterior
+abbrev pub polygon_dimensions : Polygon → Dimensions
+polygon_dimensions p = p.dim
+
+abbrev pub polygon_rings : Polygon → List (List (List ℕ))
+polygon_rings p = map line_string_coordinates p.rings.now
+
+pub polygon_lawful : (p : Polygon) → AllByRecursion (AreCoordinates (polygon_dimensions p)) (polygon_rings p)
+polygon_lawful p =
+    each_part line_string_coordinates line_string_dimensions p.dim AreCoordinates p.rings.now line_string_lawful p.one_dimension
+
+-- points of one dimension
+abbrev pub multi_point_dimensions : MultiPoint → Dimensions
+multi_point_dimensions m = m.dim
+
+abbrev pub multi_point_points : MultiPoint → List (Option (List ℕ))
+multi_point_points m = map point_coordinate m.points.now
+
+pub multi_point_lawful : (m : MultiPoint) → AllByRecursion (IsPoint (multi_point_dimensions m)) (multi_point_points m)
+multi_point_lawful m =
+    each_part point_coordinate point_dimensions m.dim IsPoint m.points.now point_lawful m.one_dimension
+
+-- line strings of one dimension
+abbrev pub multi_line_string_dimensions : MultiLineString → Dimensions
+multi_line_string_dimensions m = m.dim
+
+abbrev pub multi_line_string_line_strings : MultiLineString → List (List (List ℕ))
+multi_line_string_line_strings m = map line_string_coordinates m.line_strings.now
+
+pub multi_line_string_lawful : (m : MultiLineString) → AllByRecursion (AreCoordinates (multi_line_string_dimensions m)) (multi_line_string_line_strings m)
+multi_line_string_lawful m =
+    each_part line_string_coordinates line_string_dimensions m.dim AreCoordinates m.line_strings.now line_string_lawful m.one_dimension
+
+-- polygons of one dimension
+abbrev pub multi_polygon_dimensions : MultiPolygon → Dimensions
+multi_polygon_dimensions m = m.dim
+
+abbrev pub multi_polygon_polygons : MultiPolygon → List (List (List (List ℕ)))
+multi_polygon_polygons m = map polygon_rings m.polygons.now
+
+pub multi_polygon_lawful : (m : MultiPolygon) → AllByRecursion (AllByRecursion (AreCoordinates (multi_polygon_dimensions m))) (multi_polygon_polygons m)
+multi_polygon_lawful m =
+    each_part polygon_rings polygon_dimensions m.dim (λ d rings. AllByRecursion (AreCoordinates d) rings) m.polygons.now polygon_lawful m.one_dimension
+
+-- a line
+abbrev pub line_dimensions : Line → Dimensions
+line_dimensions l = l.start.dim
+
+abbrev pub line_start : Line → List ℕ
+line_start l = coord_words l.start
+
+abbrev pub line_end : Line → List ℕ
+line_end l = coord_words l.end
+
+pub line_lawful : (l : Line) → IsCoordinate (line_dimensions l) (line_start l) × IsCoordinate (line_dimensions l) (line_end l)
+line_lawful l = ((coord_lawful l.start), coord_lawful_beside l.start.dim l.end l.one_dimension)
+
+-- a rectangle
+abbrev pub rect_dimensions : Rect → Dimensions
+rect_dimensions r = r.min.dim
+
+abbrev pub rect_min : Rect → List ℕ
+rect_min r = coord_words r.min
+
+abbrev pub rect_max : Rect → List ℕ
+rect_max r = coord_words r.max
+
+pub rect_lawful : (r : Rect) → IsCoordinate (rect_dimensions r) (rect_min r) × IsCoordinate (rect_dimensions r) (rect_max r)
+rect_lawful r = ((coord_lawful r.min), coord_lawful_beside r.min.dim r.max r.one_dimension)
+
+-- a triangle
+abbrev pub triangle_dimensions : Triangle → Dimensions
+triangle_dimensions t = t.first.dim
+
+abbrev pub triangle_first : Triangle → List ℕ
+triangle_first t = coord_words t.first
+
+abbrev pub triangle_second : Triangle → List ℕ
+triangle_second t = coord_words t.second
+
+abbrev pub triangle_third : Triangle → List ℕ
+triangle_third t = coord_words t.third
+
+pub triangle_lawful : (t : Triangle) → IsCoordinate (triangle_dimensions t) (triangle_first t) × IsCoordinate (triangle_dimensions t) (triangle_second t) × IsCoordinate (triangle_dimensions t) (triangle_third t)
+triangle_lawful t =
+    ((coord_lawful t.first), coord_lawful_beside t.first.dim t.second t.second_dimension, coord_lawful_beside t.first.dim t.third t.third_dimension)

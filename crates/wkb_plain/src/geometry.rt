@@ -1,0 +1,148 @@
+//! A plain geometry of any kind, and collections of them.
+
+ghost use Rattle.std.specs.Prelude.{◌≡◌, map};
+ghost use Rattle.wkb_plain.specs.PlainGeometry.{plain_geometry, plain_dimensions, dimensions_of-plain_geometry, IsGeometry-plain_geometry, collection_dimensions, collection_members, collection_lawful};
+
+use crate::{
+    Line, LineString, MultiLineString, MultiPoint, MultiPolygon, Point, Polygon, Rect, Triangle,
+};
+use wkb_geom::{Dimensioned, Dimensions, GeometryCollectionTrait, GeometryTrait, GeometryType};
+
+/// A plain geometry of any kind.
+#[cycle(geometry)]
+#[derive(Drop)]
+pub enum Geometry<'w> {
+    Point(Point<'w>),
+    LineString(LineString<'w>),
+    Polygon(Polygon<'w>),
+    MultiPoint(MultiPoint<'w>),
+    MultiLineString(MultiLineString<'w>),
+    MultiPolygon(MultiPolygon<'w>),
+    GeometryCollection(GeometryCollection<'w>),
+    Rect(Rect<'w>),
+    Triangle(Triangle<'w>),
+    Line(Line<'w>),
+}
+
+/// Geometries of any kinds and dimensions. It holds the list of its members, and so is neither
+/// `Copy` nor `Clone`.
+#[cycle(geometry)]
+#[derive(Drop)]
+pub struct GeometryCollection<'w> {
+    dim: Dimensions,
+    members: Vec<Geometry<'w>>,
+}
+
+impl<'w> GeometryCollection<'w> {
+    /// The collection of these members, of any kinds and dimensions.
+    pub fn new(dim: Dimensions, members: Vec<Geometry<'w>>) -> GeometryCollection<'w>
+        ensures dimensions { collection_dimensions result ≡ dim }
+        ensures members { collection_members result ≡ map plain_geometry members.entry.items }
+    {
+        GeometryCollection { dim, members }
+    }
+}
+
+impl Dimensioned for GeometryCollection<'_> {
+    ghost dimensions = { collection_dimensions };
+
+    fn dim(&self) -> Dimensions {
+        self.dim
+    }
+}
+
+impl<'w> GeometryCollectionTrait for GeometryCollection<'w> {
+    type GeometryType = Geometry<'w>;
+
+    ghost members = { collection_members };
+
+    ghost lawful = { collection_lawful };
+
+    fn geometries(&self) -> &[Geometry<'w>] {
+        self.members.as_slice()
+    }
+
+    fn num_geometries(&self) -> usize {
+        self.members.len()
+    }
+
+    fn geometry(&self, i: usize) -> Option<&Geometry<'w>> {
+        self.members.get(i)
+    }
+}
+
+impl Dimensioned for Geometry<'_> {
+    ghost dimensions = { plain_dimensions };
+
+    fn dim(&self) -> Dimensions {
+        match self {
+            Geometry::Point(p) => p.dim(),
+            Geometry::LineString(l) => l.dim(),
+            Geometry::Polygon(p) => p.dim(),
+            Geometry::MultiPoint(m) => m.dim(),
+            Geometry::MultiLineString(m) => m.dim(),
+            Geometry::MultiPolygon(m) => m.dim(),
+            Geometry::GeometryCollection(c) => c.dim,
+            Geometry::Rect(r) => r.dim(),
+            Geometry::Triangle(t) => t.dim(),
+            Geometry::Line(l) => l.dim(),
+        }
+    }
+}
+
+impl<'w> GeometryTrait for Geometry<'w> {
+    type PointType = Point<'w>;
+
+    type LineStringType = LineString<'w>;
+
+    type PolygonType = Polygon<'w>;
+
+    type MultiPointType = MultiPoint<'w>;
+
+    type MultiLineStringType = MultiLineString<'w>;
+
+    type MultiPolygonType = MultiPolygon<'w>;
+
+    type RectType = Rect<'w>;
+
+    type TriangleType = Triangle<'w>;
+
+    type LineType = Line<'w>;
+
+    ghost geometry = { plain_geometry };
+
+    ghost one_dimension = { dimensions_of-plain_geometry };
+
+    ghost lawful = { IsGeometry-plain_geometry };
+
+    fn as_type(
+        &self,
+    ) -> GeometryType<
+        '_,
+        Point<'w>,
+        LineString<'w>,
+        Polygon<'w>,
+        MultiPoint<'w>,
+        MultiLineString<'w>,
+        MultiPolygon<'w>,
+        Geometry<'w>,
+        Rect<'w>,
+        Triangle<'w>,
+        Line<'w>,
+    > {
+        match self {
+            Geometry::Point(p) => GeometryType::Point(p),
+            Geometry::LineString(l) => GeometryType::LineString(l),
+            Geometry::Polygon(p) => GeometryType::Polygon(p),
+            Geometry::MultiPoint(m) => GeometryType::MultiPoint(m),
+            Geometry::MultiLineString(m) => GeometryType::MultiLineString(m),
+            Geometry::MultiPolygon(m) => GeometryType::MultiPolygon(m),
+            Geometry::GeometryCollection(c) => {
+                GeometryType::GeometryCollection(c.members.as_slice())
+            }
+            Geometry::Rect(r) => GeometryType::Rect(r),
+            Geometry::Triangle(t) => GeometryType::Triangle(t),
+            Geometry::Line(l) => GeometryType::Line(l),
+        }
+    }
+}

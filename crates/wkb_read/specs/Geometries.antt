@@ -1,0 +1,16 @@
+-- What a geometry of any kind stands for.
+use Rattle.wkb_geom.specs.Values.{polygon, multi_line_string, multi_polygon, collection}
+use Rattle.wkb_geom.specs.Stored.{whole_of}
+use Rattle.wkb_geom.specs.Reading.{Item}
+use Rattle.wkb_view.specs.Views.{point_seen, line_string_seen, multi_point_seen}
+use Rattle.wkb_read.specs.declared.geometry.Kind.{Kind}
+use Rattle.wkb_read.specs.declared.geometry.Kind.TheVariants.{Point, LineString, Polygon, MultiPoint, MultiLineString, MultiPolygon, GeometryCollection}
+
+abbrev pub kind_seen : Kind → Item
+kind_seen (Point p) = point_seen p
+kind_seen (LineString l) = line_string_seen l
+kind_seen (Polygon p) = whole_of polygon p
+kind_seen (MultiPoint m) = multi_point_seen m
+kind_seen (MultiLineString m) = whole_of multi_line_string m
+kind_seen (MultiPolygon m) = whole_of multi_polygon m
+kind_seen (GeometryCollection c) = whole_of collection c

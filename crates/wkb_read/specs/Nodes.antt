@@ -1,0 +1,35 @@
+-- How large a value is, which falls from a collection to its members.
+use Rattle.std.specs.Prelude.{ℕ, max, ◌+◌, ◌*◌, ◌≤◌, List, [], ◌∷◌}
+use Rattle.std.proofs.Common.{arith}
+use denote.Param.Weighed.{most}
+use Rattle.wkb_geom.specs.Values.{Value, Values, point, line_string, polygon, multi_point, multi_line_string, multi_polygon, collection, no_members, member}
+use Rattle.wkb_geom.specs.Stored.{Listed}
+use Rattle.wkb_geom.specs.Reading.{Item, values}
+
+abbrev mutual
+  pub nodes : Value → ℕ
+  nodes (point d p) = 1
+  nodes (line_string d cs) = 1
+  nodes (polygon d rs) = 1
+  nodes (multi_point d ps) = 1
+  nodes (multi_line_string d ls) = 1
+  nodes (multi_polygon d ps) = 1
+  nodes (collection d vs) = 1 + nodes_all vs
+
+  pub nodes_all : Values → ℕ
+  nodes_all no_members = 0
+  nodes_all (member v vs) = nodes v + nodes_all vs
+
+-- of a collection, and of a geometry that may be one
+abbrev pub size_inside : Listed Values → ℕ
+size_inside i = 2 * (1 + nodes_all i.parts)
+
+abbrev pub size_outside : Item → ℕ
+size_outside i = 2 * nodes i.value + 1
+
+most-members : (members : List Item) → most (λ m. size_outside m + 1) members ≤ 2 * nodes_all (values members) + 2
+most-members [] = omega arith
+most-members (m ∷ members) = omega (arith, most-members members)
+
+pub members_fall : (members : List Item) → max (most (λ m. size_outside m + 1) members) 0 ≤ 2 * (1 + nodes_all (values members))
+members_fall members = omega (arith, most-members members)

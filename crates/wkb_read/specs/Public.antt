@@ -1,0 +1,88 @@
+-- What a reader's answer says of its input.
+use Rattle.std.specs.Prelude.{◌≡◌, ℕ, ◌+◌, ◌<◌, ◌≤◌, List, length, Bool, Result, Ok, Err}
+use Rattle.wkb_geom.specs.declared.common.Endianness.{Endianness}
+use Rattle.wkb_geom.specs.declared.common.Dimension.{Dimension}
+use Rattle.wkb_geom.specs.declared.common.Form.TheVariants.{Iso}
+use Rattle.wkb_geom.specs.declared.error.WkbError.{WkbError}
+use Rattle.wkb_geom.specs.declared.error.WkbError.TheVariants as errors
+use Rattle.wkb_geom.specs.Values.{Value, member_count, listed_count}
+use Rattle.wkb_geom.specs.Spellings.{Spelling, any}
+use Rattle.wkb_geom.specs.Fronts.{Front, max_nesting}
+use Rattle.wkb_geom.specs.Refusals.{Cause, Refuses, Opens, srid_size}
+use Rattle.wkb_geom.specs.Errors.{Tells}
+use Rattle.wkb_geom.specs.Geometries.{geometry_of}
+use Rattle.wkb_geom.specs.Texts.{IsWritable}
+use Rattle.wkb_geom.specs.Reading.{Item}
+use Rattle.wkb_read.specs.declared.read.counts.Counts.{Counts}
+use Rattle.wkb_read.specs.declared.geometry.Wkb.{Wkb}
+
+-- the input begins with the bytes of this geometry, which spell its value
+pub record IsFront (buf : List ℕ) (w : Item) : Type 0 where
+  pub rest : List ℕ
+  pub front : Front buf w.spelled w.value rest
+  pub text_is : front.front ≡ w.text
+
+-- whatever geometry the input begins with has these bytes, this spelling and this value
+abbrev pub IsOnlyFront : List ℕ → Item → Type 0
+IsOnlyFront buf w = (s : Spelling) (t : Value) (rest : List ℕ) → (f : Front buf s t rest) → (f.front ≡ w.text) × (s ≡ w.spelled) × (t ≡ w.value)
+
+-- the input begins with no geometry
+abbrev pub HasNoFront : List ℕ → Type 0
+HasNoFront buf = (s : Spelling) (t : Value) (rest : List ℕ) → Front buf s t rest → ⊥
+
+-- the input is refused, and the error tells why
+pub record IsRefusal (buf : List ℕ) (e : WkbError) : Type 0 where
+  pub cause : Cause
+  pub turns : ℕ
+  pub slots : ℕ
+  pub refuses : Refuses max_nesting any buf cause turns slots
+  pub tells : Tells e cause
+
+-- whatever cause the input is refused for is the one that the error tells
+abbrev pub TellsEach : List ℕ → WkbError → Type 0
+TellsEach buf e = (cause : Cause) (turns slots : ℕ) → Refuses max_nesting any buf cause turns slots → Tells e cause
+
+-- where the answer is an error other than want of memory, this holds of it
+abbrev pub IfRefused : Result Wkb WkbError → (WkbError → Type 0) → Type 0
+IfRefused (Ok w) P = Unit {0}
+IfRefused (Err (errors.Memory e)) P = Unit {0}
+IfRefused (Err e) P = P e
+
+-- where the answer is want of memory, this holds
+abbrev pub IfMemory : Result Wkb WkbError → Type 0 → Type 0
+IfMemory (Err (errors.Memory e)) P = P
+IfMemory _ P = Unit {0}
+
+-- the members and the list entries of this value were counted
+abbrev pub CountsValue : Value → Counts → Type 0
+CountsValue t c = (c.turns ≡ member_count t) × (c.slots ≡ listed_count t)
+
+-- the turns and the entries of the input's refusal were counted
+abbrev pub CountsRefusal : List ℕ → Counts → Type 0
+CountsRefusal buf c = (cause : Cause) (turns slots : ℕ) → Refuses max_nesting any buf cause turns slots → (c.turns ≡ turns) × (c.slots ≡ slots)
+
+-- no more was counted than of the geometry at the front, or than of the refusal
+pub record CountsAtMost (buf : List ℕ) (c : Counts) : Type 0 where
+  pub front : (s : Spelling) (t : Value) (rest : List ℕ) → Front buf s t rest → (c.turns ≤ member_count t) × (c.slots ≤ listed_count t)
+  pub refusal : (cause : Cause) (turns slots : ℕ) → Refuses max_nesting any buf cause turns slots → (c.turns ≤ turns) × (c.slots ≤ slots)
+
+-- the value can be written in either order
+abbrev pub CanBeWritten : Value → Type 0
+CanBeWritten t = (order : Endianness) → IsWritable order Iso (geometry_of t)
+
+-- no list of the input asks for an entry
+pub record AsksForNone (buf : List ℕ) : Type 0 where
+  pub front : (s : Spelling) (t : Value) (rest : List ℕ) → Front buf s t rest → listed_count t ≡ 0
+  pub refusal : (cause : Cause) (turns slots : ℕ) → Refuses max_nesting any buf cause turns slots → slots ≡ 0
+
+-- A point, a line string and a multi point take no memory; a list of rings, line strings or polygons takes none where it
+-- asks for no entry; a collection takes none where its count is missing.
+pub record KindTakesNone (k : ℕ) (srid : Bool) (buf : List ℕ) : Type 0 where
+  pub polygon : k ≡ 3 → AsksForNone buf
+  pub multi_line_string : k ≡ 5 → AsksForNone buf
+  pub multi_polygon : k ≡ 6 → AsksForNone buf
+  pub collection : k ≡ 7 → length buf < 9 + srid_size srid
+
+-- so it is, if the input begins with a header
+abbrev pub TakesNoMemory : List ℕ → Type 0
+TakesNoMemory buf = (order : Endianness) (k : ℕ) (d : Dimension) (srid : Bool) (behind : List ℕ) → Opens buf order k d srid behind → KindTakesNone k srid buf

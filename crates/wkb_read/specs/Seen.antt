@@ -1,0 +1,40 @@
+-- What a geometry of any kind means to a caller of the geometry traits: the geometry of its value, with every
+-- coordinate fitted. Of a geometry that was read it is the geometry of its value as it stands.
+use Rattle.std.proofs.Common.{◌≡◌, List, map, refl}
+use Rattle.wkb_geom.specs.Dimensions.{dimensions}
+use Rattle.wkb_geom.specs.Values as value
+use Rattle.wkb_geom.specs.Values.{Value, Values}
+use Rattle.wkb_geom.specs.Geometries.{Geometry, geometries, geometry_of, IsGeometry, AreGeometries}
+use Rattle.wkb_geom.specs.Sizes.{dimensions_of}
+use Rattle.wkb_geom.specs.Reading.{Item}
+use Rattle.wkb_view.specs.Parts.{list_of_values}
+use Rattle.wkb_view.specs.Fitted.{fitted_geometry, IsGeometry-fitted, fitted_geometry-same}
+
+abbrev pub geometry_seen : Item → Geometry
+geometry_seen w = fitted_geometry (geometry_of w.value)
+
+abbrev pub members_seen : Values → List Geometry
+members_seen vs = map (λ v. fitted_geometry (geometry_of v)) (list_of_values vs)
+
+pub geometry_lawful : (w : Item) → IsGeometry (geometry_seen w)
+geometry_lawful w = IsGeometry-fitted (geometry_of w.value)
+
+pub members_lawful : (vs : Values) → AreGeometries (geometries (members_seen vs))
+members_lawful value.no_members = tt
+members_lawful (value.member v vs) = (IsGeometry-fitted (geometry_of v), members_lawful vs)
+
+dimension_kept : (v : Value) → dimensions_of (fitted_geometry (geometry_of v)) ≡ dimensions (value.dimension v)
+dimension_kept (value.point d c) = refl
+dimension_kept (value.line_string d cs) = refl
+dimension_kept (value.polygon d rings) = refl
+dimension_kept (value.multi_point d points) = refl
+dimension_kept (value.multi_line_string d lines) = refl
+dimension_kept (value.multi_polygon d polygons) = refl
+dimension_kept (value.collection d ts) = refl
+
+pub one_dimension_seen : (w : Item) → dimensions_of (geometry_seen w) ≡ dimensions (value.dimension w.value)
+one_dimension_seen w = dimension_kept w.value
+
+-- a geometry whose value is lawful means what its value does
+pub seen_as_it_is : (w : Item) → IsGeometry (geometry_of w.value) → geometry_seen w ≡ geometry_of w.value
+seen_as_it_is w h = fitted_geometry-same (geometry_of w.value) h

@@ -1,0 +1,13 @@
+-- The kind of a value.
+use Rattle.wkb_geom.specs.Values.{Value, point, line_string, polygon, multi_point, multi_line_string, multi_polygon, collection}
+use Rattle.wkb_read.specs.declared.geometry_type.GeometryType.{GeometryType}
+use Rattle.wkb_read.specs.declared.geometry_type.GeometryType.TheVariants.{Point, LineString, Polygon, MultiPoint, MultiLineString, MultiPolygon, GeometryCollection}
+
+abbrev pub type_of : Value → GeometryType
+type_of (point d c) = Point
+type_of (line_string d cs) = LineString
+type_of (polygon d rings) = Polygon
+type_of (multi_point d points) = MultiPoint
+type_of (multi_line_string d lines) = MultiLineString
+type_of (multi_polygon d polygons) = MultiPolygon
+type_of (collection d ts) = GeometryCollection

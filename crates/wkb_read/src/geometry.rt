@@ -1,0 +1,397 @@
+//! Collections, and geometries of any kind.
+
+ghost use Rattle.wkb_geom.specs.Dimensions.{dimensions as named};
+ghost use Rattle.wkb_read.specs.Seen.{members_seen, geometry_seen, members_lawful, geometry_lawful, one_dimension_seen};
+
+use crate::geometry_type::GeometryType as TypeName;
+use crate::read::stack::read_wkb;
+use std::alloc::{AllocError, Global};
+use std::marker::Model;
+use wkb_geom::error::WkbResult;
+use wkb_geom::{
+    Dimension, Dimensioned, Dimensions, Endianness, GeometryCollectionTrait, GeometryTrait,
+    GeometryType,
+};
+use wkb_plain::{Line, Rect, Triangle};
+use wkb_view::leaf::srid_of_text;
+use wkb_view::line_string::LineString;
+use wkb_view::multi_line_string::MultiLineString;
+use wkb_view::multi_point::MultiPoint;
+use wkb_view::multi_polygon::MultiPolygon;
+use wkb_view::point::Point;
+use wkb_view::polygon::Polygon;
+
+/// A collection of geometries of any kind.
+#[cycle(geometry)]
+#[derive(Debug, Drop)]
+pub struct GeometryCollection<'a> {
+    pub(crate) buf: &'a [u8],
+    pub(crate) order: Endianness,
+    pub(crate) dimension: Dimension,
+    pub(crate) has_srid: bool,
+    pub(crate) members: Vec<Wkb<'a>>,
+}
+
+/// The view of its kind.
+#[cycle(geometry)]
+#[derive(Debug, Drop)]
+pub(crate) enum Kind<'a> {
+    Point(Point<'a>),
+    LineString(LineString<'a>),
+    Polygon(Polygon<'a>),
+    MultiPoint(MultiPoint<'a>),
+    MultiLineString(MultiLineString<'a>),
+    MultiPolygon(MultiPolygon<'a>),
+    GeometryCollection(GeometryCollection<'a>),
+}
+
+/// A geometry of any kind.
+#[cycle(geometry)]
+#[derive(Debug, Drop)]
+pub struct Wkb<'a> {
+    pub(crate) kind: Kind<'a>,
+}
+
+impl<'a> Model for GeometryCollection<'a> {
+    ghost use Rattle.wkb_geom.specs.Values.{Values};
+    ghost use Rattle.wkb_geom.specs.Stored.{Listed, listed_code, values_code};
+    ghost use Rattle.wkb_view.specs.Lists.{collection_parts};
+    ghost use Rattle.wkb_read.specs.Nodes.{size_inside, members_fall};
+
+    ghost Value = { Listed Values };
+
+    ghost coded = { listed_code values_code };
+
+    ghost use Rattle.std.specs.Prelude.{◌≤◌, ◌+◌, length};
+    ghost use Rattle.wkb_geom.specs.Reading.{body_start};
+
+    ghost invariant = { λ a. body_start a.has_srid + 4 ≤ length a.buf.now };
+
+    ghost view = { λ a. collection_parts a.order a.dimension a.has_srid a.members.items a.buf.now };
+
+    ghost size = { size_inside };
+
+    ghost size_decreases = { λ a h. members_fall a.members.items };
+}
+
+impl<'a> Model for Wkb<'a> {
+    ghost use Rattle.wkb_geom.specs.Reading.{Item};
+    ghost use Rattle.wkb_geom.specs.Stored.{item_code};
+    ghost use Rattle.wkb_read.specs.Nodes.{size_outside};
+
+    ghost Value = { Item };
+
+    ghost coded = { item_code };
+
+    ghost use Rattle.wkb_read.specs.Geometries.{kind_seen};
+
+    ghost view = { λ a. kind_seen a.kind };
+
+    ghost size = { size_outside };
+
+    ghost use Rattle.wkb_read.specs.GeometriesFall.{kind_falls};
+
+    ghost size_decreases = { λ a h. kind_falls a.kind };
+}
+
+impl<'a> GeometryCollection<'a> {
+    ghost use Rattle.std.specs.Prelude.{◌≡◌, IfOk, length};
+    ghost use Rattle.wkb_view.specs.Parts.{srid_of};
+
+    /// The number of its bytes.
+    #[inline]
+    pub fn size(&self) -> u64
+        ensures { result ≡ length self.now.text }
+    {
+        self.buf.len() as u64
+    }
+
+    /// Its dimension.
+    #[inline]
+    pub fn dimension(&self) -> Dimension
+        ensures { result ≡ self.now.dimension }
+    {
+        self.dimension
+    }
+
+    /// Its bytes.
+    #[inline]
+    pub fn buf(&self) -> &'a [u8]
+        ensures { result.now ≡ self.now.text }
+    {
+        self.buf
+    }
+
+    /// The SRID in its bytes, where there is one.
+    #[inline]
+    pub(crate) fn srid(&self) -> Option<u32>
+        ensures { result ≡ srid_of self.now.spelled }
+    {
+        srid_of_text(self.buf, self.order, self.has_srid)
+    }
+
+    /// The same collection, with lists of its own.
+    #[cycle(clones)]
+    pub fn clone(&self) -> Result<GeometryCollection<'a>, AllocError>
+        ensures { IfOk result (λ c. c ≡ self.now) }
+    {
+        let mut members = Vec::with_capacity(*self.members.allocator(), self.members.len())?;
+        for member in &self.members {
+            members.push(member.clone()?)?;
+        }
+        Ok(GeometryCollection {
+            buf: self.buf,
+            order: self.order,
+            dimension: self.dimension,
+            has_srid: self.has_srid,
+            members,
+        })
+    }
+}
+
+impl Dimensioned for GeometryCollection<'_> {
+    ghost dimensions = { λ c. named c.dimension };
+
+    #[inline]
+    fn dim(&self) -> Dimensions {
+        self.dimension.into()
+    }
+}
+
+impl<'a> GeometryCollectionTrait for GeometryCollection<'a> {
+    type GeometryType = Wkb<'a>;
+
+    ghost members = { λ c. members_seen c.parts };
+
+    ghost lawful = { λ c. members_lawful c.parts };
+
+    #[inline]
+    fn geometries(&self) -> &[Wkb<'a>] {
+        self.members.as_slice()
+    }
+
+    #[inline]
+    fn num_geometries(&self) -> usize {
+        self.members.len()
+    }
+
+    #[inline]
+    fn geometry(&self, i: usize) -> Option<&Wkb<'a>> {
+        if i < self.members.len() {
+            Some(&self.members[i])
+        } else {
+            None
+        }
+    }
+}
+
+impl<'a> Wkb<'a> {
+    ghost use Rattle.std.specs.Prelude.{◌≡◌, IfOk, MatchOption, None, Some};
+    ghost use Rattle.wkb_view.specs.Parts.{srid_of, IsCollection};
+    ghost use Rattle.wkb_read.specs.Types.{type_of};
+    ghost use Rattle.wkb_geom.specs.Stored.{whole_of};
+    ghost use Rattle.wkb_geom.specs.Values.{collection, dimension};
+    ghost use Rattle.wkb_geom.specs.Geometries.{IsGeometry, normal, geometry_of};
+    ghost use Rattle.wkb_read.specs.Public.{TakesNoMemory, IsFront, IsOnlyFront, HasNoFront, IsRefusal, TellsEach, IfRefused, CanBeWritten};
+    ghost use Rattle.wkb_read.specs.Memory.{IsNotMemory};
+
+    /// The geometry at the front of the bytes, as `read_wkb` answers it.
+    pub fn try_new(alloc: Global, buf: &'a [u8]) -> WkbResult<Wkb<'a>>
+        ensures front { IfOk result (λ w. IsFront buf.now w) }
+        ensures one_front { IfOk result (λ w. IsOnlyFront buf.now w) }
+        ensures lawful { IfOk result (λ w. IsGeometry (geometry_of w.value)) }
+        ensures normal { IfOk result (λ w. normal (geometry_of w.value) ≡ w.value) }
+        ensures writable { IfOk result (λ w. CanBeWritten w.value) }
+        ensures refusal { IfRefused result (λ e. IsRefusal buf.now e) }
+        ensures one_cause { IfRefused result (λ e. TellsEach buf.now e) }
+        ensures no_front { IfRefused result (λ e. HasNoFront buf.now) }
+        ensures no_memory { TakesNoMemory buf.now → IsNotMemory result }
+    {
+        read_wkb(alloc, buf)
+    }
+
+    /// Its dimension.
+    pub fn dimension(&self) -> Dimension
+        ensures { result ≡ dimension self.now.value }
+    {
+        match &self.kind {
+            Kind::Point(point) => point.dimension(),
+            Kind::LineString(line_string) => line_string.dimension(),
+            Kind::Polygon(polygon) => polygon.dimension(),
+            Kind::MultiPoint(multi) => multi.dimension(),
+            Kind::MultiLineString(multi) => multi.dimension(),
+            Kind::MultiPolygon(multi) => multi.dimension(),
+            Kind::GeometryCollection(collection) => collection.dimension(),
+        }
+    }
+
+    /// The kind of geometry that it is.
+    pub fn geometry_type(&self) -> TypeName
+        ensures { result ≡ type_of self.now.value }
+    {
+        match &self.kind {
+            Kind::Point(_) => TypeName::Point,
+            Kind::LineString(_) => TypeName::LineString,
+            Kind::Polygon(_) => TypeName::Polygon,
+            Kind::MultiPoint(_) => TypeName::MultiPoint,
+            Kind::MultiLineString(_) => TypeName::MultiLineString,
+            Kind::MultiPolygon(_) => TypeName::MultiPolygon,
+            Kind::GeometryCollection(_) => TypeName::GeometryCollection,
+        }
+    }
+
+    /// Its bytes.
+    pub fn buf(&self) -> &'a [u8]
+        ensures { result.now ≡ self.now.text }
+    {
+        match &self.kind {
+            Kind::Point(point) => point.buf(),
+            Kind::LineString(line_string) => line_string.buf(),
+            Kind::Polygon(polygon) => polygon.buf(),
+            Kind::MultiPoint(multi) => multi.buf(),
+            Kind::MultiLineString(multi) => multi.buf(),
+            Kind::MultiPolygon(multi) => multi.buf(),
+            Kind::GeometryCollection(collection) => collection.buf(),
+        }
+    }
+
+    /// The SRID of this geometry's own code, where there is one.
+    pub fn srid(&self) -> Option<u32>
+        ensures { result ≡ srid_of self.now.spelled }
+    {
+        match &self.kind {
+            Kind::Point(point) => point.srid(),
+            Kind::LineString(line_string) => line_string.srid(),
+            Kind::Polygon(polygon) => polygon.srid(),
+            Kind::MultiPoint(multi) => multi.srid(),
+            Kind::MultiLineString(multi) => multi.srid(),
+            Kind::MultiPolygon(multi) => multi.srid(),
+            Kind::GeometryCollection(collection) => collection.srid(),
+        }
+    }
+
+    /// The collection that this is, if it is one.
+    pub fn as_geometry_collection(&self) -> Option<&GeometryCollection<'a>>
+        ensures { MatchOption result (IsCollection self.now.value → ⊥) (λ c. whole_of collection c.now ≡ self.now) }
+    {
+        match &self.kind {
+            Kind::GeometryCollection(collection) => Some(collection),
+            Kind::Point(_) => None,
+            Kind::LineString(_) => None,
+            Kind::Polygon(_) => None,
+            Kind::MultiPoint(_) => None,
+            Kind::MultiLineString(_) => None,
+            Kind::MultiPolygon(_) => None,
+        }
+    }
+
+    /// The same geometry, with lists of its own.
+    #[cycle(clones)]
+    pub fn clone(&self) -> Result<Wkb<'a>, AllocError>
+        ensures { IfOk result (λ w. w ≡ self.now) }
+    {
+        match &self.kind {
+            Kind::Point(point) => Ok(Wkb {
+                kind: Kind::Point(*point),
+            }),
+            Kind::LineString(line_string) => Ok(Wkb {
+                kind: Kind::LineString(*line_string),
+            }),
+            Kind::Polygon(polygon) => Ok(Wkb {
+                kind: Kind::Polygon(polygon.clone()?),
+            }),
+            Kind::MultiPoint(multi) => Ok(Wkb {
+                kind: Kind::MultiPoint(*multi),
+            }),
+            Kind::MultiLineString(multi) => Ok(Wkb {
+                kind: Kind::MultiLineString(multi.clone()?),
+            }),
+            Kind::MultiPolygon(multi) => Ok(Wkb {
+                kind: Kind::MultiPolygon(multi.clone()?),
+            }),
+            Kind::GeometryCollection(collection) => Ok(Wkb {
+                kind: Kind::GeometryCollection(collection.clone()?),
+            }),
+        }
+    }
+}
+
+impl Dimensioned for Wkb<'_> {
+    ghost use Rattle.wkb_geom.specs.Values.{dimension};
+
+    ghost dimensions = { λ w. named (dimension w.value) };
+
+    #[inline]
+    fn dim(&self) -> Dimensions {
+        self.dimension().into()
+    }
+}
+
+impl<'a> GeometryTrait for Wkb<'a> {
+    type PointType = Point<'a>;
+
+    type LineStringType = LineString<'a>;
+
+    type PolygonType = Polygon<'a>;
+
+    type MultiPointType = MultiPoint<'a>;
+
+    type MultiLineStringType = MultiLineString<'a>;
+
+    type MultiPolygonType = MultiPolygon<'a>;
+
+    type RectType = Rect<'a>;
+
+    type TriangleType = Triangle<'a>;
+
+    type LineType = Line<'a>;
+
+    ghost geometry = { geometry_seen };
+
+    ghost one_dimension = { one_dimension_seen };
+
+    ghost lawful = { geometry_lawful };
+
+    fn as_type(
+        &self,
+    ) -> GeometryType<
+        '_,
+        Point<'a>,
+        LineString<'a>,
+        Polygon<'a>,
+        MultiPoint<'a>,
+        MultiLineString<'a>,
+        MultiPolygon<'a>,
+        Wkb<'a>,
+        Rect<'a>,
+        Triangle<'a>,
+        Line<'a>,
+    > {
+        match &self.kind {
+            Kind::Point(point) => GeometryType::Point(point),
+            Kind::LineString(line_string) => GeometryType::LineString(line_string),
+            Kind::Polygon(polygon) => GeometryType::Polygon(polygon),
+            Kind::MultiPoint(multi) => GeometryType::MultiPoint(multi),
+            Kind::MultiLineString(multi) => GeometryType::MultiLineString(multi),
+            Kind::MultiPolygon(multi) => GeometryType::MultiPolygon(multi),
+            Kind::GeometryCollection(collection) => {
+                GeometryType::GeometryCollection(collection.geometries())
+            }
+        }
+    }
+}
+
+/// The same geometry, as one of any kind.
+impl<'a> From<GeometryCollection<'a>> for Wkb<'a> {
+    ghost use Rattle.std.specs.Prelude.{◌≡◌};
+    ghost use Rattle.wkb_geom.specs.Stored.{whole_of};
+    ghost use Rattle.wkb_geom.specs.Values.{collection as collected};
+
+    ghost from_gives = { λ c w. w ≡ whole_of collected c };
+
+    fn from(collection: GeometryCollection<'a>) -> Wkb<'a> {
+        Wkb {
+            kind: Kind::GeometryCollection(collection),
+        }
+    }
+}

@@ -1,0 +1,30 @@
+use Rattle.std.proofs.Common.{◌≡◌, ◌<◌, ◌≤◌, ◌*◌, ◌+◌, sym, subst, drop, arith}
+use Rattle.std.proofs.lemmas.List.{drop-drop}
+use Rattle.wkb_geom.specs.Numbers.{number, AreBytes}
+use Rattle.wkb_geom.specs.Dimensions.{width}
+use Rattle.wkb_geom.specs.Items.{length-items}
+use Rattle.wkb_geom.specs.Reading.{body_start, coordinate}
+use Rattle.wkb_view.specs.Ranges.{AreBytes-take, AreBytes-drop}
+use Rattle.wkb_view.proofs.Words.{coordinate_between, coordinate_within, length-between}
+use Rattle.wkb_view.proofs.line_string.LineStringLineStringTrait.coord_at.Goals as goal
+
+pub part-requires : goal.part-requires
+part-requires c =
+    let l = c.args.self.now in
+    let lt : c.args.i < l.count = omega (arith, length-items (8 * width l.dimension) (coordinate l.order l.dimension) (number l.order 4 (drop (body_start l.has_srid) l.buf.now)) (drop 4 (drop (body_start l.has_srid) l.buf.now)), l.counted, c.requires) in
+    rw (c.coord_offset-start.ensures, c.width.ensures) (coordinate_within l.dimension c.args.i l.count (body_start l.has_srid + 4) _ lt l.whole)
+
+pub invariant_of-result : goal.invariant_of-result
+invariant_of-result c =
+    let l = c.args.self.now in
+    let lt : c.args.i < l.count = omega (arith, length-items (8 * width l.dimension) (coordinate l.order l.dimension) (number l.order 4 (drop (body_start l.has_srid) l.buf.now)) (drop 4 (drop (body_start l.has_srid) l.buf.now)), l.counted, c.requires) in
+    record {
+      whole = rw (c.part.ensures, c.coord_offset-start.ensures, c.width.ensures) (length-between _ _ l.buf.now (coordinate_within l.dimension c.args.i l.count (body_start l.has_srid + 4) _ lt l.whole));
+      in_range = subst AreBytes (sym c.part.ensures) (AreBytes-take _ _ (AreBytes-drop _ _ l.in_range));
+    }
+
+pub returns-clause-value : goal.returns-clause-value
+returns-clause-value c =
+    let l = c.args.self.now in
+    let lt : c.args.i < l.count = omega (arith, length-items (8 * width l.dimension) (coordinate l.order l.dimension) (number l.order 4 (drop (body_start l.has_srid) l.buf.now)) (drop 4 (drop (body_start l.has_srid) l.buf.now)), l.counted, c.requires) in
+    sym (rw (c.part.ensures, c.coord_offset-start.ensures, c.width.ensures, ← l.counted, drop-drop 4 (body_start l.has_srid) l.buf.now) (coordinate_between l.order l.dimension l.count c.args.i (body_start l.has_srid + 4) l.buf.now lt))

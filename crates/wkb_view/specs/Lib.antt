@@ -1,0 +1,12 @@
+pub mod Coords
+pub mod Lines
+pub mod Lists
+pub mod MultiPoints
+pub mod Answers
+pub mod Parts
+pub mod Pieces
+pub mod Points
+pub mod Polygons
+pub mod Views
+pub mod Fitted
+pub mod Ranges

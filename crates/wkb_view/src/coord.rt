@@ -1,0 +1,115 @@
+//! A coordinate.
+
+ghost use Rattle.std.specs.Prelude.{◌≡◌, ◌*◌, length};
+ghost use Rattle.wkb_geom.specs.Dimensions.{width, dimensions as named};
+ghost use Rattle.wkb_geom.specs.Numbers.{AreBytes};
+ghost use Rattle.wkb_view.specs.Ranges.{coordinate_lawful};
+
+use wkb_geom::words::{is_nan, u64_at};
+use wkb_geom::{CoordTrait, Dimension, Dimensioned, Dimensions, Endianness};
+
+/// A coordinate: eight bytes for each of its words, in one byte order.
+#[derive(Clone, Copy, Debug)]
+pub struct Coord<'a> {
+    pub bytes: &'a [u8],
+    pub order: Endianness,
+    pub dimension: Dimension,
+    pub ghost whole: { length bytes.now ≡ 8 * width dimension },
+    pub ghost in_range: { AreBytes bytes.now },
+}
+
+impl<'a> Coord<'a> {
+    ghost use Rattle.std.specs.Prelude.{◌≡◌, ◌*◌, length};
+    ghost use Rattle.wkb_geom.specs.Numbers.{all_nan};
+    ghost use Rattle.wkb_view.specs.Coords.{words_seen};
+
+    /// The order of its numbers.
+    #[inline]
+    pub fn byte_order(&self) -> Endianness
+        ensures { result ≡ self.now.order }
+    {
+        self.order
+    }
+
+    /// The bytes of its words.
+    #[inline]
+    pub fn coord_slice(&self) -> &'a [u8]
+        ensures { result.now ≡ self.now.bytes.now }
+    {
+        self.bytes
+    }
+
+    /// Its dimension.
+    #[inline]
+    pub fn dimension(&self) -> Dimension
+        ensures { result ≡ self.now.dimension }
+    {
+        self.dimension
+    }
+
+    /// The number of its bytes.
+    #[inline]
+    pub fn size(&self) -> u64
+        ensures { result ≡ length self.now.bytes.now }
+    {
+        self.bytes.len() as u64
+    }
+
+    /// Whether all its words are not-a-numbers.
+    pub(crate) fn is_nan(&self) -> bool
+        ensures { result ≡ all_nan (words_seen self.now) }
+    {
+        for n in 0..self.dimension.width() {
+            if !is_nan(u64_at(self.bytes, 8 * n, self.order)) {
+                return false;
+            }
+        }
+        true
+    }
+}
+
+impl Dimensioned for Coord<'_> {
+    ghost dimensions = { λ c. named c.dimension };
+
+    #[inline]
+    fn dim(&self) -> Dimensions {
+        self.dimension.into()
+    }
+}
+
+impl CoordTrait for Coord<'_> {
+    ghost use Rattle.wkb_view.specs.Coords.{words_seen};
+
+    ghost words = { words_seen };
+
+    ghost lawful = { λ c. coordinate_lawful c.order c.dimension c.bytes.now c.in_range };
+
+    #[inline]
+    fn nth(&self, n: usize) -> Option<u64> {
+        if n < self.dimension.width() {
+            Some(u64_at(self.bytes, 8 * n, self.order))
+        } else {
+            None
+        }
+    }
+
+    #[inline]
+    fn at(&self, n: usize) -> u64 {
+        u64_at(self.bytes, 8 * n, self.order)
+    }
+
+    #[inline]
+    fn x(&self) -> u64 {
+        u64_at(self.bytes, 0, self.order)
+    }
+
+    #[inline]
+    fn y(&self) -> u64 {
+        u64_at(self.bytes, 8, self.order)
+    }
+
+    #[inline]
+    fn x_y(&self) -> (u64, u64) {
+        (self.x(), self.y())
+    }
+}
