@@ -2,3 +2,6 @@ pub mod Hex
 pub mod Rows
 pub mod Codes
 pub mod Meanings
+pub mod FirstItem
+pub mod Faults
+pub mod Nodes

@@ -16,7 +16,7 @@ use Rattle.wkb_read.proofs.Leaves.{number_within}
 use Rattle.wkb_read.proofs.Lists.{list_at, ListRead, list_read}
 use Rattle.wkb_view.proofs.Lists.{length-parts}
 use Rattle.wkb_read.proofs.Members.{member_right}
-use Rattle.wkb_view.proofs.Points.{both_true}
+use Rattle.std.proofs.lemmas.Bool.{and_parts}
 use Rattle.wkb_read.proofs.Pieces.{drop-of-take}
 use Rattle.wkb_read.proofs.Repeats.{Leads, goes_on, turn_ok, turn_err, first_turn, turns_end, turns_begin}
 use Rattle.std.proofs.Math.Nat.{sub-zero}
@@ -49,7 +49,7 @@ all_next d zero text all h =
     ap (λ (b : Bool). b && true) one
 all_next d (suc n) text all h =
     let k : drop (stride d * n) (drop (stride d) text) ≡ drop (stride d * suc n) text = drop-drop (stride d * n) (stride d) text ∙ ap (λ (j : ℕ). drop j text) (omega arith) in
-    let both = both_true (is_point_head d (head_at text)) (all_points d n (drop (stride d) text)) all in
+    let both = and_parts (is_point_head d (head_at text)) (all_points d n (drop (stride d) text)) all in
     let rest = all_next d n (drop (stride d) text) both.1 (ap (λ (t : List ℕ). is_point_head d (head_at t)) k ∙ h) in
     ap (λ (b : Bool). b && all_points d (suc n) (drop (stride d) text)) both.0 ∙ rest
 

@@ -1,10 +1,10 @@
 -- What a geometry of any kind means to a caller of the geometry traits: the geometry of its value, with every
 -- coordinate fitted. Of a geometry that was read it is the geometry of its value as it stands.
-use Rattle.std.proofs.Common.{◌≡◌, List, map, refl}
+use Rattle.std.proofs.Common.{◌≡◌, List, ◌∷◌, map, refl, ap, ◌∙◌}
 use Rattle.wkb_geom.specs.Dimensions.{dimensions}
 use Rattle.wkb_geom.specs.Values as value
 use Rattle.wkb_geom.specs.Values.{Value, Values}
-use Rattle.wkb_geom.specs.Geometries.{Geometry, geometries, geometry_of, IsGeometry, AreGeometries}
+use Rattle.wkb_geom.specs.Geometries.{Geometry, geometries, geometry_of, geometries_of, IsGeometry, AreGeometries}
 use Rattle.wkb_geom.specs.Sizes.{dimensions_of}
 use Rattle.wkb_geom.specs.Reading.{Item}
 use Rattle.wkb_view.specs.Parts.{list_of_values}
@@ -38,3 +38,9 @@ one_dimension_seen w = dimension_kept w.value
 -- a geometry whose value is lawful means what its value does
 pub seen_as_it_is : (w : Item) → IsGeometry (geometry_of w.value) → geometry_seen w ≡ geometry_of w.value
 seen_as_it_is w h = fitted_geometry-same (geometry_of w.value) h
+
+-- and so do the members of a collection whose value is lawful
+pub members_as_they_are : (vs : Values) → AreGeometries (geometries_of vs) → members_seen vs ≡ map geometry_of (list_of_values vs)
+members_as_they_are value.no_members h = refl
+members_as_they_are (value.member v vs) h =
+    ap (λ (g : Geometry). g ∷ members_seen vs) (fitted_geometry-same (geometry_of v) h.0) ∙ ap (λ (gs : List Geometry). geometry_of v ∷ gs) (members_as_they_are vs h.1)

@@ -1,9 +1,8 @@
 -- A part's fault is that of the whole.
-use Rattle.std.proofs.Common.{◌≡◌, ◌+◌, ℕ, List, Result, Ok, Err, refl}
+use Rattle.std.proofs.Common.{Result, Ok}
 use Rattle.wkb_geom.specs.declared.error.WkbError.{WkbError}
 use Rattle.wkb_geom.specs.declared.error.WkbError.TheVariants as errors
-use Rattle.wkb_geom.specs.Refusals.{Cause, end_of_input, general, incorrect_type, nesting_depth_exceeded}
-use Rattle.wkb_geom.specs.Reading.{Cost, Reading, costs, and_then}
+use Rattle.wkb_geom.specs.Refusals.{Cause}
 use Rattle.wkb_view.specs.Answers.{IsFault}
 
 abbrev ok : {A : Type 0} → A → Result A Cause

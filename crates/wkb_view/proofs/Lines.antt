@@ -1,14 +1,13 @@
 -- Line strings as members, by their texts.
-use Rattle.std.proofs.Common.{◌≡◌, ℕ, zero, suc, ◌+◌, ◌-◌, ◌*◌, ◌≤◌, ◌<◌, Bool, true, false, ltb, cond, List, [], ◌∷◌, length, take, drop, map, if◌then◌else◌, Option, Some, None, Result, Ok, Err, refl, sym, ap, subst, ◌∙◌, length-take, length-drop, arith}
-use Rattle.std.proofs.lemmas.Bool.{le-ltb, ltb-false}
+use Rattle.std.proofs.Common.{◌≡◌, ℕ, zero, suc, ◌≤◌, false, ltb, List, [], ◌∷◌, length, take, drop, Option, Some, None, Result, Ok, refl, sym, ap, subst, ◌∙◌, length-take, arith}
+use Rattle.std.proofs.lemmas.Bool.{le-ltb}
 use Rattle.wkb_geom.specs.declared.common.Endianness.{Endianness}
 use Rattle.wkb_geom.specs.declared.common.Dimension.{Dimension}
 use Rattle.wkb_geom.specs.declared.error.WkbError.{WkbError}
 use Rattle.wkb_geom.specs.Numbers.{number}
 use Rattle.wkb_geom.specs.Items.{number-take}
-use Rattle.wkb_geom.specs.Values.{Coordinate, multi_line_string}
-use Rattle.wkb_geom.specs.Refusals.{Cause, incorrect_type, line_string_end}
-use Rattle.wkb_geom.specs.Reading.{Item, Part, Reading, Head, free, refused, head_at, head_by_order, order_of, then_head, is_line_string, line_string_at, line_string_item, line_of, body_start, taken, list_item, multi_line_string_at}
+use Rattle.wkb_geom.specs.Refusals.{Cause, line_string_end}
+use Rattle.wkb_geom.specs.Reading.{Head, head_at, head_by_order, order_of, line_string_item, body_start}
 use Rattle.wkb_view.specs.Answers.{IsFault}
 use Rattle.wkb_view.specs.Lines.{line_item_by, line_item_in, IsLine}
 use Rattle.wkb_view.proofs.Faults.{no_fault}

@@ -1,9 +1,7 @@
 -- Points as members, by a text that was cut behind them.
-use Rattle.std.proofs.Common.{◌≡◌, ℕ, zero, suc, ◌+◌, ◌-◌, ◌*◌, ◌≤◌, ◌<◌, ◌&&◌, List, [], ◌∷◌, ◌++◌, ltb, if◌then◌else◌, ◌==◌, length, map, take, drop, Bool, true, false, Option, Some, None, Result, Ok, Err, refl, sym, ap, ◌∙◌, length-drop, length-take, arith}
-use Rattle.std.proofs.lemmas.List.{take-take, drop-drop, take_all}
+use Rattle.std.proofs.Common.{◌≡◌, ℕ, zero, suc, ◌+◌, ◌*◌, ◌≤◌, ◌<◌, List, length, map, take, drop, Bool, true, false, Some, None, Result, Ok, Err, refl, sym, ap, ◌∙◌, length-drop, length-take, arith}
+use Rattle.std.proofs.lemmas.List.{take-take, drop-drop, take_all, length-map}
 use Rattle.std.specs.Prelude.{slice_get, option_map}
-use Rattle.std.proofs.lemmas.Option.{slice_get_past}
-use Rattle.std.proofs.lemmas.Bool.{le-ltb}
 use Rattle.wkb_geom.specs.declared.error.WkbError.{WkbError}
 use Rattle.wkb_geom.specs.Items.{length-items}
 use Rattle.wkb_view.specs.Answers.{IsFault}
@@ -11,19 +9,14 @@ use Rattle.wkb_view.proofs.Faults.{no_fault}
 use Rattle.wkb_view.proofs.Words.{items_at, width-le}
 use Rattle.wkb_geom.specs.declared.common.Endianness.TheVariants.{BigEndian}
 use Rattle.wkb_geom.specs.declared.common.Dimension.{Dimension}
-use Rattle.wkb_geom.specs.Dimensions.{width}
-use Rattle.wkb_geom.specs.declared.error.General.TheVariants.{ShortPoint}
-use Rattle.wkb_geom.specs.declared.common.Endianness.{Endianness}
-use Rattle.wkb_geom.specs.Numbers.{number}
-use Rattle.wkb_geom.specs.Values.{multi_point}
-use Rattle.wkb_geom.specs.Refusals.{Cause, general, multi_point_end}
-use Rattle.wkb_geom.specs.Reading.{Item, Part, Reading, Head, free, refused, costs, repeated, taken, body_start, parts_start, list_item, point_of, multi_point_at, head_at, point_item, point_at, is_point, at_no_cost, type_kind, type_dimension, same_dimension}
+use Rattle.wkb_geom.specs.Refusals.{Cause, multi_point_end}
+use Rattle.wkb_geom.specs.Reading.{Item, Head, body_start, parts_start, head_at, point_item}
 use Rattle.wkb_view.specs.MultiPoints.{stride, point_item_by, point_item_in, points_in, is_point_head, all_points}
 use Rattle.wkb_view.proofs.Lines.{head-take}
 use Rattle.wkb_view.proofs.Lists.{length-parts}
-use Rattle.wkb_view.proofs.Points.{both_true}
-use Rattle.wkb_view.proofs.Pieces.{length-mapped, mapped_at}
-use Rattle.std.proofs.Math.Nat.{sub-zero, mul-le-mul_left, mul-le-mul_right}
+use Rattle.std.proofs.lemmas.Bool.{and_parts}
+use Rattle.std.proofs.lemmas.Option.{slice_get_past, slice_get-map}
+use Rattle.std.proofs.Math.Nat.{mul-le-mul_left, mul-le-mul_right}
 
 abbrev at_front : Dimension → List ℕ → Result Head Cause → Item
 at_front d front (Ok h) = point_item h.order d false front
@@ -47,7 +40,7 @@ member_there d count i bytes rest lt long rest-is =
 -- ---- members by their index
 
 pub points_counted : {B : Type 0} (f : Item → B) (d : Dimension) (n : ℕ) (text : List ℕ) → length (map f (points_in d n text)) ≡ n
-points_counted f d n text = length-mapped f (points_in d n text) ∙ length-items (stride d) (point_item_in d) n text
+points_counted f d n text = length-map (points_in d n text) f ∙ length-items (stride d) (point_item_in d) n text
 
 pub points_past : {B : Type 0} (f : Item → B) (d : Dimension) (n i : ℕ) (text : List ℕ) → n ≤ i → slice_get (map f (points_in d n text)) i ≡ None
 points_past f d n i text h = slice_get_past (map f (points_in d n text)) i (omega (arith, points_counted f d n text))
@@ -66,10 +59,10 @@ all_at : (d : Dimension) (n i : ℕ) (text : List ℕ) → i < n → all_points 
 all_at d zero i text lt all = absurd (omega arith)
 all_at d (suc n) zero text lt all =
     let z : stride d * 0 ≡ 0 = omega arith in
-    ap (λ (k : ℕ). is_point_head d (head_at (drop k text))) z ∙ (both_true (is_point_head d (head_at text)) (all_points d n (drop (stride d) text)) all).0
+    ap (λ (k : ℕ). is_point_head d (head_at (drop k text))) z ∙ (and_parts (is_point_head d (head_at text)) (all_points d n (drop (stride d) text)) all).0
 all_at d (suc n) (suc i) text lt all =
     let k : drop (stride d * suc i) text ≡ drop (stride d * i) (drop (stride d) text) = ap (λ (j : ℕ). drop j text) (omega arith) ∙ sym (drop-drop (stride d * i) (stride d) text) in
-    ap (λ (t : List ℕ). is_point_head d (head_at t)) k ∙ all_at d n i (drop (stride d) text) (omega arith) (both_true (is_point_head d (head_at text)) (all_points d n (drop (stride d) text)) all).1
+    ap (λ (t : List ℕ). is_point_head d (head_at t)) k ∙ all_at d n i (drop (stride d) text) (omega arith) (and_parts (is_point_head d (head_at text)) (all_points d n (drop (stride d) text)) all).1
 
 -- the member at an index, by its own bytes
 pub record MemberAt (d : Dimension) (n i : ℕ) (text part : List ℕ) : Type 0 where
@@ -108,4 +101,4 @@ member_item d n i text part h m e =
 
 pub member_value : {B : Type 0} (f : Item → B) (d : Dimension) (n i : ℕ) (text part : List ℕ) (h : Head) → MemberAt d n i text part → head_at part ≡ Ok h
     → Some (f (point_item h.order d false part)) ≡ slice_get (map f (points_in d n text)) i
-member_value f d n i text part h m e = sym (mapped_at f (points_in d n text) i ∙ ap (option_map f) (member_item d n i text part h m e))
+member_value f d n i text part h m e = sym (slice_get-map f (points_in d n text) i ∙ ap (option_map f) (member_item d n i text part h m e))

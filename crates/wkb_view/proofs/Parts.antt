@@ -1,5 +1,5 @@
 -- The members of collections.
-use Rattle.std.proofs.Common.{◌≡◌, ℕ, zero, suc, ◌≤◌, ◌<◌, List, [], ◌∷◌, length, map, Option, Some, None, refl, sym, ap, ◌∙◌, get_or, arith}
+use Rattle.std.proofs.Common.{◌≡◌, ℕ, zero, suc, ◌≤◌, ◌<◌, List, [], ◌∷◌, length, map, Some, None, refl, ap, ◌∙◌, get_or, arith}
 use Rattle.std.specs.Prelude.{slice_get}
 use Rattle.std.proofs.lemmas.Option.{slice_get_past}
 use Rattle.std.specs.List.{AllByRecursion}
@@ -9,7 +9,7 @@ use Rattle.wkb_geom.specs.Values.{Coordinate}
 use Rattle.wkb_geom.specs.Stored.{Listed}
 use Rattle.wkb_view.specs.Fitted.{fitted_lines, fitted_polygons}
 use Rattle.wkb_view.specs.Polygons.{polygon_items}
-use Rattle.wkb_geom.specs.Reading.{Item, values, polygon_of}
+use Rattle.wkb_geom.specs.Reading.{Item, polygon_of}
 
 abbrev rings_listed : List (Listed (List (List Coordinate))) → List (List (List Coordinate))
 rings_listed ps = map (λ (i : Item). polygon_of i.value) (polygon_items ps)

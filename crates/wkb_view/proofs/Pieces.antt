@@ -1,11 +1,7 @@
 -- Parts of one form read one after another, by the offsets at which they end.
-use Rattle.std.proofs.Common.{◌≡◌, ℕ, suc, zero, ◌-◌, ◌+◌, ◌*◌, ◌/◌, ◌≤◌, ◌<◌, min, List, [], ◌∷◌, ◌++◌, length, take, drop, map, Option, Some, None, Result, Ok, Err, refl, sym, ap, subst, ◌∙◌, append_assoc, length-append, length-drop, length-take, get_or, arith}
+use Rattle.std.proofs.Common.{◌≡◌, ℕ, suc, zero, ◌-◌, ◌+◌, ◌≤◌, ◌<◌, List, [], ◌∷◌, length, take, drop, map, Some, None, refl, sym, ap, subst, ◌∙◌, get_or, arith}
 use Rattle.std.specs.Prelude.{slice_get, option_map}
-use Rattle.std.proofs.lemmas.List.{drop-drop, drop-take, take-take}
-use Rattle.std.proofs.lemmas.Option.{slice_get_past}
-use Rattle.std.proofs.Math.Nat.{sub-zero}
-use Rattle.wkb_geom.specs.Refusals.{Cause}
-use Rattle.wkb_geom.specs.Reading.{Cost, free, Part, Reading, costs, repeated, taken}
+use Rattle.std.proofs.lemmas.Option.{slice_get_past, slice_get-map}
 use Rattle.wkb_view.specs.Pieces.{pieces, start_at, ArePieces}
 
 -- ---- the part at an index
@@ -45,32 +41,18 @@ start_at-later start (x ∷ ends) zero p h = absurd (omega arith)
 start_at-later start (x ∷ ends) (suc zero) p h = start_at-first x ends (omega arith)
 start_at-later start (x ∷ ends) (suc (suc i)) p h = let k : suc (suc i) - 1 ≡ suc i = omega arith in let j : suc i - 1 ≡ i = omega arith in rw (k) (start_at-later x ends (suc i) (omega arith) (omega arith) ∙ ap (λ (n : ℕ). get_or ends n 0) j)
 
-map_at : {A : Type 0} (seen : List ℕ → A) (xs : List (List ℕ)) (i : ℕ) → slice_get (map seen xs) i ≡ option_map seen (slice_get xs i)
-map_at seen [] i = refl
-map_at seen (x ∷ xs) zero = refl
-map_at seen (x ∷ xs) (suc i) = map_at seen xs i
-
 -- what it is seen as
 pub part_at : {A : Type 0} (seen : List ℕ → A) (P : List ℕ → Type 0) (start : ℕ) (ends text : List ℕ) (i s t : ℕ) → Between P start ends text i s t
     → slice_get (map seen (pieces start ends text)) i ≡ Some (seen (take (t - s) (drop s text)))
-part_at seen P start ends text i s t b = map_at seen (pieces start ends text) i ∙ ap (option_map seen) b.item
-
-pub length-mapped : {A B : Type 0} (f : A → B) (xs : List A) → length (map f xs) ≡ length xs
-length-mapped f [] = refl
-length-mapped f (x ∷ xs) = ap suc (length-mapped f xs)
-
-pub mapped_at : {A B : Type 0} (f : A → B) (xs : List A) (i : ℕ) → slice_get (map f xs) i ≡ option_map f (slice_get xs i)
-mapped_at f [] i = refl
-mapped_at f (x ∷ xs) zero = refl
-mapped_at f (x ∷ xs) (suc i) = mapped_at f xs i
+part_at seen P start ends text i s t b = slice_get-map seen (pieces start ends text) i ∙ ap (option_map seen) b.item
 
 -- and what is made of that
 pub seen_at : {A B : Type 0} (f : A → B) (seen : List ℕ → A) (P : List ℕ → Type 0) (start : ℕ) (ends text : List ℕ) (i s t : ℕ) → Between P start ends text i s t
     → slice_get (map f (map seen (pieces start ends text))) i ≡ Some (f (seen (take (t - s) (drop s text))))
-seen_at f seen P start ends text i s t b = mapped_at f (map seen (pieces start ends text)) i ∙ ap (option_map f) (part_at seen P start ends text i s t b)
+seen_at f seen P start ends text i s t b = slice_get-map f (map seen (pieces start ends text)) i ∙ ap (option_map f) (part_at seen P start ends text i s t b)
 
 pub seen_past : {A B : Type 0} (f : A → B) (seen : List ℕ → A) (start : ℕ) (ends text : List ℕ) (i : ℕ) → length ends ≤ i → slice_get (map f (map seen (pieces start ends text))) i ≡ None
-seen_past f seen start ends text i h = mapped_at f (map seen (pieces start ends text)) i ∙ ap (option_map f) (parts_past seen start ends text i h)
+seen_past f seen start ends text i h = slice_get-map f (map seen (pieces start ends text)) i ∙ ap (option_map f) (parts_past seen start ends text i h)
 
 pub pieces_within : (P : List ℕ → Type 0) (start : ℕ) (ends text : List ℕ) → ArePieces P start ends text → start ≤ length text
 pieces_within P start [] text h = h

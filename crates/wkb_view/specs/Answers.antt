@@ -1,9 +1,8 @@
 -- How an answer of the reader agrees with reading.
-use Rattle.std.specs.Prelude.{◌≡◌, ℕ, ◌+◌, ◌≤◌, ◌<◌, ◌^◌, List, Result, Ok, Err}
+use Rattle.std.specs.Prelude.{◌≡◌, Result, Ok, Err}
 use Rattle.wkb_geom.specs.declared.error.WkbError.{WkbError}
 use Rattle.wkb_geom.specs.declared.error.WkbError.TheVariants as errors
 use Rattle.wkb_geom.specs.Refusals.{Cause, end_of_input, general, incorrect_type, nesting_depth_exceeded}
-use Rattle.wkb_geom.specs.Reading.{Cost, Part, Reading}
 
 -- the error is this reading's fault; no fault is want of memory
 abbrev pub IsFault : {A : Type 0} → WkbError → Result A Cause → Type 0

@@ -1,5 +1,5 @@
 -- What coordinates and rings stand for.
-use Rattle.std.specs.Prelude.{ℕ, List}
+use Rattle.std.specs.Prelude.{List}
 use Rattle.wkb_geom.specs.Values.{Coordinate}
 use Rattle.wkb_geom.specs.Reading.{coordinate, ring_in}
 use Rattle.wkb_view.specs.declared.coord.Coord.{Coord}

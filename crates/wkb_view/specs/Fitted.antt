@@ -1,10 +1,11 @@
 -- Coordinates that fit their dimensions: one that is lawful stays as it is, any other becomes the zero coordinate. So a
 -- geometry of any value, also one that no input spells, is lawful.
-use Rattle.std.proofs.Common.{◌≡◌, ℕ, zero, suc, ◌<◌, ◌^◌, List, [], ◌∷◌, length, map, Bool, true, false, cond, Option, Some, None, refl, sym, ap, ◌∙◌, subst, arith}
+use Rattle.std.proofs.Common.{◌≡◌, ℕ, zero, suc, ◌^◌, List, [], ◌∷◌, length, map, Bool, true, false, Option, Some, None, refl, sym, ap, ◌∙◌, subst, arith}
 use Rattle.std.specs.Prelude.{nat_lt, ◌==◌, ◌&&◌, if◌then◌else◌, slice_get}
 use Rattle.std.specs.List.{AllByRecursion, list_all}
 use Rattle.std.specs.Option.{option_map, IfSome}
-use Rattle.std.proofs.lemmas.Bool.{eqb-true, eq-eqb, ltb-true, lt-ltb}
+use Rattle.std.proofs.lemmas.Option.{slice_get-map}
+use Rattle.std.proofs.lemmas.Bool.{and_parts, eqb-true, eq-eqb, ltb-true, lt-ltb}
 use Rattle.wkb_geom.specs.declared.common.Dimension.{Dimension}
 use Rattle.wkb_geom.specs.declared.common.Dimensions.{Dimensions}
 use Rattle.wkb_geom.specs.Dimensions.{size, dimensions}
@@ -64,14 +65,10 @@ zeros_are_words : (n : ℕ) → AllByRecursion IsWord (zeros n)
 zeros_are_words zero = tt
 zeros_are_words (suc n) = (omega arith, zeros_are_words n)
 
-both : (a b : Bool) → (a && b) ≡ true → (a ≡ true) × (b ≡ true)
-both true b h = (refl, h)
-both false b h = absurd cc
-
 words_from_test : (ws : List ℕ) → list_all (λ w. nat_lt w (2 ^ 64)) ws ≡ true → AllByRecursion IsWord ws
 words_from_test [] h = tt
 words_from_test (w ∷ ws) h =
-    let t = both (nat_lt w (2 ^ 64)) (list_all (λ v. nat_lt v (2 ^ 64)) ws) h in
+    let t = and_parts (nat_lt w (2 ^ 64)) (list_all (λ v. nat_lt v (2 ^ 64)) ws) h in
     (ltb-true w (2 ^ 64) t.0, words_from_test ws t.1)
 
 test_of_words : (ws : List ℕ) → AllByRecursion IsWord ws → list_all (λ w. nat_lt w (2 ^ 64)) ws ≡ true
@@ -80,7 +77,7 @@ test_of_words (w ∷ ws) h = rw (lt-ltb w (2 ^ 64) h.0, test_of_words ws h.1) re
 
 IsCoordinate-by : (dims : Dimensions) (c : Coordinate) (b : Bool) → fits dims c ≡ b → IsCoordinate dims (if b then c else zeros (size dims))
 IsCoordinate-by dims c true h =
-    let t = both (length c == size dims) (list_all (λ w. nat_lt w (2 ^ 64)) c) h in
+    let t = and_parts (length c == size dims) (list_all (λ w. nat_lt w (2 ^ 64)) c) h in
     record { len = eqb-true (length c) (size dims) t.0; words = words_from_test c t.1 }
 IsCoordinate-by dims c false h = record { len = length-zeros (size dims); words = zeros_are_words (size dims) }
 
@@ -170,18 +167,13 @@ mutual
   fitted_geometries-same no_geometries h = refl
   fitted_geometries-same (geometry g gs) h = rw (fitted_geometry-same g h.0, fitted_geometries-same gs h.1) refl
 
-mapped_at : {X : Type 0} (f : X → X) (xs : List X) (i : ℕ) → slice_get (map f xs) i ≡ option_map f (slice_get xs i)
-mapped_at f [] i = refl
-mapped_at f (x ∷ xs) zero = refl
-mapped_at f (x ∷ xs) (suc i) = mapped_at f xs i
-
 same_in : {C X : Type 0} (read : C → X) (f : X → X) (o : Option C) → IfSome o (λ c. f (read c) ≡ read c) → option_map read o ≡ option_map f (option_map read o)
 same_in read f None same = refl
 same_in {X = X} read f (Some c) same = ap (λ (x : X). Some x) (sym same)
 
 -- a part that fitting leaves as it is stands in the fitted list as in the list itself
 pub fitted_at : {C X : Type 0} (read : C → X) (f : X → X) (o : Option C) (parts : List X) (i : ℕ) → IfSome o (λ c. f (read c) ≡ read c) → option_map read o ≡ slice_get parts i → option_map read o ≡ slice_get (map f parts) i
-fitted_at read f o parts i same is = same_in read f o same ∙ ap (option_map f) is ∙ sym (mapped_at f parts i)
+fitted_at read f o parts i same is = same_in read f o same ∙ ap (option_map f) is ∙ sym (slice_get-map f parts i)
 
 -- the same of a line string of the whole's dimension, by its law
 pub lawful_at : {C : Type 0} (read : C → List Coordinate) (dim : C → Dimension) (d : Dimension) (o : Option C) (parts : List (List Coordinate)) (i : ℕ)

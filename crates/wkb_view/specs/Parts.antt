@@ -1,7 +1,7 @@
 -- The parts of a value, as the calls of views hand them out.
-use Rattle.std.specs.Prelude.{ℕ, List, [], ◌∷◌, Option, Some, None}
+use Rattle.std.specs.Prelude.{ℕ, List, [], ◌∷◌, Option}
 use Rattle.wkb_geom.specs.declared.common.Endianness.{Endianness}
-use Rattle.wkb_geom.specs.Values.{Coordinate, Value, Values, point, line_string, polygon, multi_point, multi_line_string, multi_polygon, collection, no_members, member, kind}
+use Rattle.wkb_geom.specs.Values.{Coordinate, Value, Values, multi_point, collection, no_members, member}
 use Rattle.wkb_geom.specs.Spellings.{Spelling, header}
 
 abbrev pub list_of_values : Values → List Value

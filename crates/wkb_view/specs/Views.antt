@@ -1,5 +1,4 @@
 -- What the views stand for.
-use Rattle.std.specs.Prelude.{◌≡◌}
 use Rattle.wkb_geom.specs.Reading.{Item, point_item, line_string_item, Head}
 use Rattle.wkb_view.specs.declared.point.Point.{Point}
 use Rattle.wkb_view.specs.declared.line_string.LineString.{LineString}

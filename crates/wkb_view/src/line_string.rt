@@ -11,10 +11,12 @@ use crate::leaf::{srid_of_text, start_of_body};
 use crate::multi_line_string::MultiLineString;
 use crate::multi_point::MultiPoint;
 use crate::multi_polygon::MultiPolygon;
+use crate::part::part;
 use crate::point::Point;
 use crate::polygon::Polygon;
-use crate::part::part;
-use wkb_geom::{Dimension, Dimensioned, Dimensions, Endianness, GeometryTrait, GeometryType, LineStringTrait};
+use wkb_geom::{
+    Dimension, Dimensioned, Dimensions, Endianness, GeometryTrait, GeometryType, LineStringTrait,
+};
 use wkb_plain::{Line, Rect, Triangle};
 
 /// A line string.

@@ -9,10 +9,12 @@ use crate::coord::Coord;
 use crate::multi_line_string::MultiLineString;
 use crate::multi_point::MultiPoint;
 use crate::multi_polygon::MultiPolygon;
+use crate::part::part;
 use crate::point::Point;
 use crate::polygon::Polygon;
-use crate::part::part;
-use wkb_geom::{Dimension, Dimensioned, Dimensions, Endianness, GeometryTrait, GeometryType, LineStringTrait};
+use wkb_geom::{
+    Dimension, Dimensioned, Dimensions, Endianness, GeometryTrait, GeometryType, LineStringTrait,
+};
 use wkb_plain::{Line, Rect, Triangle};
 
 /// A ring: a count and so many coordinates, in its polygon's order and dimension.

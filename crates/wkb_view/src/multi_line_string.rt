@@ -8,13 +8,16 @@ use crate::leaf::{header, srid_of_text, start_of_body};
 use crate::line_string::LineString;
 use crate::multi_point::MultiPoint;
 use crate::multi_polygon::MultiPolygon;
+use crate::part::{part, start_of_part};
 use crate::point::Point;
 use crate::polygon::Polygon;
-use crate::part::{part, start_of_part};
 use std::alloc::AllocError;
 use std::marker::Model;
 use wkb_geom::words::u32_at;
-use wkb_geom::{Dimension, Dimensioned, Dimensions, Endianness, GeometryTrait, GeometryType, MultiLineStringTrait};
+use wkb_geom::{
+    Dimension, Dimensioned, Dimensions, Endianness, GeometryTrait, GeometryType,
+    MultiLineStringTrait,
+};
 use wkb_plain::{Line, Rect, Triangle};
 
 /// A multi line string: its members by the offsets at which they end.

@@ -12,10 +12,12 @@ use crate::leaf::{header, srid_of_text};
 use crate::line_string::LineString;
 use crate::multi_line_string::MultiLineString;
 use crate::multi_polygon::MultiPolygon;
+use crate::part::part;
 use crate::point::Point;
 use crate::polygon::Polygon;
-use crate::part::part;
-use wkb_geom::{Dimension, Dimensioned, Dimensions, Endianness, GeometryTrait, GeometryType, MultiPointTrait};
+use wkb_geom::{
+    Dimension, Dimensioned, Dimensions, Endianness, GeometryTrait, GeometryType, MultiPointTrait,
+};
 use wkb_plain::{Line, Rect, Triangle};
 
 /// A multi point: its members have one length, and are made again from their bytes.

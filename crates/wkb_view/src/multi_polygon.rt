@@ -12,7 +12,9 @@ use crate::point::Point;
 use crate::polygon::Polygon;
 use std::alloc::AllocError;
 use std::marker::Model;
-use wkb_geom::{Dimension, Dimensioned, Dimensions, Endianness, GeometryTrait, GeometryType, MultiPolygonTrait};
+use wkb_geom::{
+    Dimension, Dimensioned, Dimensions, Endianness, GeometryTrait, GeometryType, MultiPolygonTrait,
+};
 use wkb_plain::{Line, Rect, Triangle};
 
 /// A multi polygon.

@@ -12,9 +12,11 @@ use crate::line_string::LineString;
 use crate::multi_line_string::MultiLineString;
 use crate::multi_point::MultiPoint;
 use crate::multi_polygon::MultiPolygon;
-use crate::polygon::Polygon;
 use crate::part::part;
-use wkb_geom::{Dimension, Dimensioned, Dimensions, Endianness, GeometryTrait, GeometryType, PointTrait};
+use crate::polygon::Polygon;
+use wkb_geom::{
+    Dimension, Dimensioned, Dimensions, Endianness, GeometryTrait, GeometryType, PointTrait,
+};
 use wkb_plain::{Line, Rect, Triangle};
 
 /// A point, which may be empty.

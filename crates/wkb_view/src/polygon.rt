@@ -5,17 +5,19 @@ ghost use Rattle.wkb_geom.specs.Dimensions.{dimensions as named};
 ghost use Rattle.wkb_view.specs.Fitted.{fitted_lines, lines-fitted};
 
 use crate::leaf::{srid_of_text, start_of_body};
-use crate::linear_ring::LinearRing;
 use crate::line_string::LineString;
+use crate::linear_ring::LinearRing;
 use crate::multi_line_string::MultiLineString;
 use crate::multi_point::MultiPoint;
 use crate::multi_polygon::MultiPolygon;
-use crate::point::Point;
 use crate::part::{part, start_of_part};
+use crate::point::Point;
 use std::alloc::AllocError;
 use std::marker::Model;
 use wkb_geom::words::u32_at;
-use wkb_geom::{Dimension, Dimensioned, Dimensions, Endianness, GeometryTrait, GeometryType, PolygonTrait};
+use wkb_geom::{
+    Dimension, Dimensioned, Dimensions, Endianness, GeometryTrait, GeometryType, PolygonTrait,
+};
 use wkb_plain::{Line, Rect, Triangle};
 
 /// A polygon: its rings by the offsets at which they end.

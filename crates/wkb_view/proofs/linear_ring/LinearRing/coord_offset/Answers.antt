@@ -1,8 +1,8 @@
-use Rattle.std.proofs.Common.{◌≡◌, ◌≤◌, ◌*◌, ◌+◌, drop, arith}
+use Rattle.std.proofs.Common.{◌≤◌, ◌*◌, drop, arith}
 use Rattle.wkb_geom.specs.Numbers.{number}
 use Rattle.wkb_geom.specs.Dimensions.{width}
 use Rattle.wkb_geom.specs.Items.{length-items}
-use Rattle.wkb_geom.specs.Reading.{body_start, coordinate}
+use Rattle.wkb_geom.specs.Reading.{coordinate}
 use Rattle.wkb_view.proofs.Words.{strides}
 use Rattle.wkb_view.proofs.linear_ring.LinearRing.coord_offset.Goals as goal
 

@@ -1,8 +1,6 @@
-use Rattle.std.proofs.Common.{rules, ◌≡◌, ◌+◌, ◌<◌, ◌∙◌, ℕ, List, Some, map, drop, arith, sym, ap}
-use Rattle.wkb_geom.specs.Numbers.{number}
-use Rattle.wkb_geom.specs.Values.{Coordinate}
+use Rattle.std.proofs.Common.{rules, ◌≡◌, ◌+◌, ◌∙◌, ℕ, List, Some, arith, sym, ap}
 use Rattle.wkb_geom.specs.Reading.{Item, body_start, line_of}
-use Rattle.wkb_view.specs.Pieces.{pieces, start_at}
+use Rattle.wkb_view.specs.Pieces.{start_at}
 use Rattle.wkb_view.specs.Lines.{IsLine, line_item_in}
 use Rattle.wkb_view.specs.Views.{head_seen}
 use Rattle.wkb_view.proofs.Pieces.{part_is, seen_at, seen_past}

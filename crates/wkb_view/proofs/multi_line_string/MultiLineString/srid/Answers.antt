@@ -1,6 +1,5 @@
-use Rattle.std.proofs.Common.{◌+◌, ◌≤◌, arith}
+use Rattle.std.proofs.Common.{◌+◌, arith}
 use Rattle.wkb_geom.specs.Reading.{body_start}
-use Rattle.wkb_view.specs.Pieces.{IsRing}
 use Rattle.wkb_view.specs.Lines.{IsLine}
 use Rattle.wkb_view.proofs.Pieces.{pieces_within}
 use Rattle.wkb_view.proofs.multi_line_string.MultiLineString.srid.Goals as goal

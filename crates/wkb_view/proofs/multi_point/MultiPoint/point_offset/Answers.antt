@@ -1,4 +1,4 @@
-use Rattle.std.proofs.Common.{◌≡◌, ◌≤◌, ◌*◌, ◌+◌, arith}
+use Rattle.std.proofs.Common.{◌≤◌, arith}
 use Rattle.wkb_geom.specs.Reading.{Item, parts_start, point_of}
 use Rattle.wkb_view.proofs.MultiPoints.{points_counted, offsets}
 use Rattle.wkb_view.proofs.multi_point.MultiPoint.point_offset.Goals as goal

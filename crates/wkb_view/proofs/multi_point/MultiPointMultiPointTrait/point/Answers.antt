@@ -1,4 +1,4 @@
-use Rattle.std.proofs.Common.{◌≡◌, ◌≤◌, ◌<◌, ◌*◌, ◌+◌, sym, arith}
+use Rattle.std.proofs.Common.{sym, arith}
 use Rattle.wkb_geom.specs.Reading.{Item, parts_start, point_of}
 use Rattle.wkb_view.specs.Views.{head_seen}
 use Rattle.wkb_view.proofs.MultiPoints.{points_counted, points_past, member_of, member_has_head, member_value}

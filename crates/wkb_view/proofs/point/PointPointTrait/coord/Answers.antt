@@ -1,4 +1,4 @@
-use Rattle.std.proofs.Common.{◌∙◌, ap, sym, List, ℕ, Some}
+use Rattle.std.proofs.Common.{◌∙◌, ap, List, ℕ, Some}
 use Rattle.wkb_geom.specs.Numbers.{all_nan}
 use Rattle.wkb_view.proofs.Points.{none_is, some_is}
 use Rattle.wkb_view.proofs.point.PointPointTrait.coord.Goals as goal

@@ -1,4 +1,4 @@
-use Rattle.std.proofs.Common.{rules, ◌≡◌, ◌+◌, ◌<◌, ◌∙◌, ℕ, List, length, arith, sym, ap}
+use Rattle.std.proofs.Common.{rules, ◌≡◌, ◌+◌, ◌∙◌, ℕ, List, arith, sym, ap}
 use Rattle.wkb_geom.specs.Reading.{body_start, ring_in}
 use Rattle.wkb_view.specs.Pieces.{start_at, IsRing}
 use Rattle.wkb_view.proofs.Pieces.{part_is, part_at, parts_past}

@@ -1,0 +1,156 @@
+-- What is written of a geometry that was read.
+use Rattle.std.proofs.Common.{◌≡◌, ◌≢◌, ℕ, ◌<◌, ◌≤◌, ◌^◌, List, length, Option, Some, None, Err, ◌⊎◌, inl, inr, refl, sym, ◌∙◌, subst, arith}
+use Rattle.std.proofs.lemmas.Bool.Decides.{nat_tests}
+use Rattle.std.specs.Bool.{Decides}
+use Rattle.std.specs.Prelude.{nat_lt, true, false, if◌then◌else◌, Bool, MatchBool, bytes_eq, Result, Ok, IfErr, MatchResult}
+use Rattle.std.proofs.lemmas.Slice.Eq.{bytes_eq-Decides}
+use Rattle.wkb_geom.specs.declared.common.Endianness.{Endianness}
+use Rattle.wkb_geom.specs.declared.common.Form.{Form}
+use Rattle.wkb_geom.specs.declared.common.Form.TheVariants.{Iso, Ewkb}
+use Rattle.wkb_geom.specs.declared.error.WkbError.{WkbError}
+use Rattle.wkb_geom.specs.declared.error.WkbError.TheVariants as errors
+use Rattle.wkb_geom.specs.Errors.{IsMemory, TellsFault}
+use Rattle.wkb_geom.specs.Fronts.{Front}
+use Rattle.wkb_geom.specs.Geometries.{Geometry, geometry_of}
+use Rattle.wkb_geom.specs.Numbers.{AreBytes}
+use Rattle.wkb_geom.specs.Reading.{Item}
+use Rattle.wkb_geom.specs.Spellings.{header}
+use Rattle.wkb_geom.specs.Texts.{Fault, unsupported_dimensions, count_overflow, size_overflow, text, fault, refusal, or_else, size_fault, IsWritable, IsRewriting, IsRewritingWithSrid}
+use Rattle.wkb_laws.proofs.Rewritings.{equal_texts_lem}
+use Rattle.wkb_measure.specs.Measures.{Reports}
+use Rattle.wkb_read.specs.Public.{IsFront, IsRefusal, CanBeWritten}
+use Rattle.wkb.specs.Canonical.{IsSize, IsAccepted, IsTooLong, IsTooLongWithSrid, HaveOneValue, HaveTwoValues}
+
+-- a length that is a fault
+too_large_by : (n : ℕ) (f : Fault) (b : Bool) → nat_lt n (2 ^ 64) ≡ b → (if b then None else Some size_overflow) ≡ Some f → (2 ^ 64 ≤ n) × (f ≡ size_overflow)
+too_large_by n f true e is = absurd (cc)
+too_large_by n f false e is = (grind (arith, nat_tests), cc)
+
+too_large : (n : ℕ) (f : Fault) → size_fault n ≡ Some f → (2 ^ 64 ≤ n) × (f ≡ size_overflow)
+unfolding size_fault
+too_large n f is = too_large_by n f (nat_lt n (2 ^ 64)) refl is
+
+-- a length that is none
+fits_by : (n : ℕ) (b : Bool) → nat_lt n (2 ^ 64) ≡ b → ◌≡◌ {A = Option Fault} (if b then None else Some size_overflow) None → n < 2 ^ 64
+fits_by n true e is = grind (arith, nat_tests)
+fits_by n false e is = absurd (cc)
+
+fits : (n : ℕ) → size_fault n ≡ None → n < 2 ^ 64
+unfolding size_fault
+fits n is = fits_by n (nat_lt n (2 ^ 64)) refl is
+
+first_none : (a b : Option Fault) → or_else a b ≡ None → (a ≡ None) × (b ≡ None)
+unfolding or_else
+first_none None b is = (refl, is)
+first_none (Some x) b is = absurd (cc)
+
+none_first : (a b : Option Fault) (f : Fault) → a ≡ None → or_else a b ≡ Some f → b ≡ Some f
+unfolding or_else
+none_first None b f none is = is
+none_first (Some x) b f none is = absurd (cc)
+
+size_error : (e : WkbError) (f : Fault) → f ≡ size_overflow → TellsFault e f → IsSize e
+size_error (errors.OverflowError o) size_overflow is told = told
+size_error _ size_overflow is told = absurd told
+size_error e count_overflow is told = absurd (cc)
+size_error e (unsupported_dimensions n) is told = absurd (cc)
+
+-- Where the ISO text of a geometry can be written, what is refused in another form is its length.
+refused_size : (order : Endianness) (form : Form) (g : Geometry) (e : WkbError) → IsWritable order Iso g → Reports e (refusal order form g)
+    → (length (text order Iso g) < 2 ^ 64) × (2 ^ 64 ≤ length (text order form g)) × IsSize e
+refused_size order form g e writable h =
+    let iso = first_none (fault g) (size_fault (length (text order Iso g))) writable in
+    let size = none_first (fault g) (size_fault (length (text order form g))) h.fault iso.0 h.is in
+    let large = too_large (length (text order form g)) h.fault size in
+    (fits (length (text order Iso g)) iso.1, large.0, size_error e h.fault large.1 h.told)
+
+-- the text of a geometry that was read
+pub rewriting : (order : Endianness) (form : Form) (buf out : List ℕ) (w : Item) → IsFront buf w → out ≡ text order form (geometry_of w.value) → IsRewriting order form buf out
+rewriting order form buf out w front written =
+    record { s = w.spelled; t = w.value; rest = front.rest; front = front.front; written = written }
+
+pub rewriting_with_srid : (order : Endianness) (buf out : List ℕ) (w : Item) (srid : Option ℕ) → IsFront buf w → srid ≡ (header w.spelled).srid
+    → out ≡ text order (Ewkb srid) (geometry_of w.value) → IsRewritingWithSrid order buf out
+rewriting_with_srid order buf out w srid front is written =
+    record { s = w.spelled; t = w.value; rest = front.rest; front = front.front; written = rw is at written }
+
+-- what a writer refuses of a geometry that was read
+pub too_long : (order : Endianness) (form : Form) (buf : List ℕ) (w : Item) (e : WkbError) → IsFront buf w → CanBeWritten w.value
+    → Reports e (refusal order form (geometry_of w.value)) → IsTooLong order form buf × IsSize e
+too_long order form buf w e front writable h =
+    let size = refused_size order form (geometry_of w.value) e (writable order) h in
+    (record { s = w.spelled; t = w.value; rest = front.rest; front = front.front; plain = size.0; with_srid = size.1 }, size.2)
+
+pub too_long_with_srid : (order : Endianness) (srid : Option ℕ) (buf : List ℕ) (w : Item) (e : WkbError) → IsFront buf w → CanBeWritten w.value
+    → srid ≡ (header w.spelled).srid
+    → Reports e (refusal order (Ewkb srid) (geometry_of w.value)) → IsTooLongWithSrid order buf × IsSize e
+too_long_with_srid order srid buf w e front writable is h =
+    let size = refused_size order (Ewkb srid) (geometry_of w.value) e (writable order) h in
+    (record { s = w.spelled; t = w.value; rest = front.rest; front = front.front; plain = size.0; with_srid = rw is at size.1 }, size.2)
+
+-- want of memory, or what a writer refuses
+pub refused_or_long : (order : Endianness) (form : Form) (buf : List ℕ) (w : Item) (e : WkbError) → IsFront buf w → CanBeWritten w.value
+    → IsMemory e ⊎ Reports e (refusal order form (geometry_of w.value))
+    → IsMemory e ⊎ (IsRefusal buf e ⊎ (IsTooLong order form buf × IsSize e))
+refused_or_long order form buf w e front writable (inl memory) = inl memory
+refused_or_long order form buf w e front writable (inr h) = inr (inr (too_long order form buf w e front writable h))
+
+pub refused_or_long_with_srid : (order : Endianness) (srid : Option ℕ) (buf : List ℕ) (w : Item) (e : WkbError) → IsFront buf w → CanBeWritten w.value
+    → srid ≡ (header w.spelled).srid
+    → IsMemory e ⊎ Reports e (refusal order (Ewkb srid) (geometry_of w.value))
+    → IsMemory e ⊎ (IsRefusal buf e ⊎ (IsTooLongWithSrid order buf × IsSize e))
+refused_or_long_with_srid order srid buf w e front writable is (inl memory) = inl memory
+refused_or_long_with_srid order srid buf w e front writable is (inr h) = inr (inr (too_long_with_srid order srid buf w e front writable is h))
+
+-- under ISO no SRID is written that could make the text too long
+pub iso_fits : (order : Endianness) (buf : List ℕ) → IsTooLong order Iso buf → ⊥
+iso_fits order buf h = let low = h.plain in let high = h.with_srid in omega (arith, low, high)
+
+-- what is refused under ISO is what the reader refuses
+pub iso_refused : (order : Endianness) (buf : List ℕ) (e : WkbError) → IsMemory e ⊎ (IsRefusal buf e ⊎ (IsTooLong order Iso buf × IsSize e)) → IsMemory e ⊎ IsRefusal buf e
+iso_refused order buf e (inl memory) = inl memory
+iso_refused order buf e (inr (inl refused)) = inr refused
+iso_refused order buf e (inr (inr long)) = absurd (iso_fits order buf long.0)
+
+pub accepted : (order : Endianness) (form : Form) (buf out : List ℕ) → IsRewriting order form buf out → IsAccepted buf
+accepted order form buf out h = record { s = h.s; t = h.t; rest = h.rest; front = h.front }
+
+-- inputs that are rewritten alike
+pub have_one_value : (order : Endianness) (a b x y : List ℕ) → AreBytes a → AreBytes b → IsRewriting order Iso a x → IsRewriting order Iso b y → x ≡ y → HaveOneValue a b
+have_one_value order a b x y bytes bytes' h k same =
+    let law = equal_texts_lem order Iso a b h.s k.s h.t k.t h.rest k.rest tt bytes bytes' h.front k.front in
+    let one : h.t ≡ k.t = law.0 (sym h.written ∙ same ∙ k.written) in
+    record { s = h.s; u = k.s; t = h.t; rest = h.rest; more = k.rest; first = h.front; second = subst (λ v. Front b k.s v k.rest) (sym one) k.front }
+
+-- inputs that are rewritten in two ways
+pub have_two_values : (order : Endianness) (a b x y : List ℕ) → AreBytes a → AreBytes b → IsRewriting order Iso a x → IsRewriting order Iso b y → x ≢ y → HaveTwoValues a b
+have_two_values order a b x y bytes bytes' h k differ =
+    let law = equal_texts_lem order Iso a b h.s k.s h.t k.t h.rest k.rest tt bytes bytes' h.front k.front in
+    record {
+      s = h.s;
+      u = k.s;
+      t = h.t;
+      v = k.t;
+      rest = h.rest;
+      more = k.rest;
+      first = h.front;
+      second = k.front;
+      different = λ one. differ (h.written ∙ law.1 one ∙ sym k.written);
+    }
+
+-- the comparison of two rewritings answers for the values
+compared_by : (order : Endianness) (a b x y : List ℕ) (equal : Bool) → AreBytes a → AreBytes b → IsRewriting order Iso a x → IsRewriting order Iso b y
+    → Decides equal (x ≡ y) → MatchBool equal (HaveOneValue a b) (HaveTwoValues a b)
+compared_by order a b x y true bytes bytes' h k decides = have_one_value order a b x y bytes bytes' h k (decides.0 refl)
+compared_by order a b x y false bytes bytes' h k decides =
+    have_two_values order a b x y bytes bytes' h k (λ one. let never : false ≡ true = decides.1 one in absurd (cc))
+
+pub compared : (order : Endianness) (a b x y v w : List ℕ) (equal : Bool) → AreBytes a → AreBytes b → IsRewriting order Iso a x → IsRewriting order Iso b y
+    → v ≡ x → w ≡ y → equal ≡ bytes_eq v w → MatchBool equal (HaveOneValue a b) (HaveTwoValues a b)
+compared order a b x y v w equal bytes bytes' h k is is' tested =
+    let decides = subst (λ r. Decides r (v ≡ w)) (sym tested) (bytes_eq-Decides v w) in
+    compared_by order a b v w equal bytes bytes' (rw is h) (rw is' k) decides
+
+pub IfErr-from : {T E : Type 0} (r : Result T E) (P : T → Type 0) (R Q : E → Type 0) → MatchResult r P R → ((e : E) → R e → Q e) → IfErr r Q
+IfErr-from (Ok x) P R Q h f = tt
+IfErr-from (Err e) P R Q h f = f e h

@@ -1,0 +1,207 @@
+//! What reading the bytes of a case answers.
+
+use crate::support::{bytes, iso};
+use std::alloc::Global;
+use std::io;
+use std::test::Fail;
+use wkb::Endianness;
+use wkb::canon::{canonical, canonical_with_srid, same};
+use wkb::error::{General, WkbError, WkbResult};
+use wkb::geom::{CoordTrait, GeometryTrait, GeometryType};
+use wkb::reader::{
+    LineString, MultiLineString, MultiPoint, MultiPolygon, Point, Polygon, Wkb, read_wkb,
+    read_wkb_counted,
+};
+use wkb::writer::WriteOptions;
+
+/// What a reading answered.
+#[derive(Debug, Clone, Copy, PartialEq)]
+pub enum Outcome {
+    /// Accepted, with the size that the view of the whole geometry answers.
+    Accepted(u64),
+    /// An `IOError` of the kind `UnexpectedEof`.
+    EndOfInput,
+    /// The `IncorrectType` of a multi geometry's member.
+    WrongMember,
+    Refused(General),
+    TooDeep(usize),
+    /// Any other error.
+    Other,
+}
+
+/// The view that `as_type` answers.
+#[derive(Clone, Copy)]
+enum View<'v, 'a> {
+    Point(&'v Point<'a>),
+    LineString(&'v LineString<'a>),
+    Polygon(&'v Polygon<'a>),
+    MultiPoint(&'v MultiPoint<'a>),
+    MultiLineString(&'v MultiLineString<'a>),
+    MultiPolygon(&'v MultiPolygon<'a>),
+    Other,
+}
+
+fn view_of<'v, 'a>(wkb: &'v Wkb<'a>) -> View<'v, 'a> {
+    match wkb.as_type() {
+        GeometryType::Point(point) => View::Point(point),
+        GeometryType::LineString(line_string) => View::LineString(line_string),
+        GeometryType::Polygon(polygon) => View::Polygon(polygon),
+        GeometryType::MultiPoint(multi_point) => View::MultiPoint(multi_point),
+        GeometryType::MultiLineString(multi) => View::MultiLineString(multi),
+        GeometryType::MultiPolygon(multi) => View::MultiPolygon(multi),
+        GeometryType::GeometryCollection(_) => View::Other,
+        GeometryType::Rect(_) | GeometryType::Triangle(_) | GeometryType::Line(_) => View::Other,
+    }
+}
+
+/// The size that the view of the whole geometry answers.
+pub fn view_size(wkb: &Wkb<'_>) -> u64 {
+    match view_of(wkb) {
+        View::Point(point) => point.size(),
+        View::LineString(line_string) => line_string.size(),
+        View::Polygon(polygon) => polygon.size(),
+        View::MultiPoint(multi_point) => multi_point.size(),
+        View::MultiLineString(multi_line_string) => multi_line_string.size(),
+        View::MultiPolygon(multi_polygon) => multi_polygon.size(),
+        View::Other => match wkb.as_geometry_collection() {
+            Some(collection) => collection.size(),
+            None => 0,
+        },
+    }
+}
+
+fn outcome_of(answer: &WkbResult<Wkb<'_>>) -> Outcome {
+    match answer {
+        Ok(wkb) => Outcome::Accepted(view_size(wkb)),
+        Err(WkbError::IOError(fault)) => match fault.kind() {
+            io::ErrorKind::UnexpectedEof => Outcome::EndOfInput,
+            _ => Outcome::Other,
+        },
+        Err(WkbError::IncorrectType("multi geometry member")) => Outcome::WrongMember,
+        Err(WkbError::General(fault)) => Outcome::Refused(*fault),
+        Err(WkbError::NestingDepthExceeded(limit)) => Outcome::TooDeep(*limit),
+        Err(_) => Outcome::Other,
+    }
+}
+
+/// `read_wkb` with no clauses, so that the proof of a test reads few facts.
+pub fn read<'a>(alloc: Global, input: &'a [u8]) -> WkbResult<Wkb<'a>> {
+    read_wkb(alloc, input)
+}
+
+/// What `read_wkb` answers to these bytes.
+pub fn answer_to(alloc: Global, input: &[u8]) -> Outcome {
+    outcome_of(&read_wkb(alloc, input))
+}
+
+/// What `read_wkb` answers to the bytes of a text.
+pub fn reads(alloc: Global, text: &str) -> Result<Outcome, Fail> {
+    let input = bytes(alloc, text)?;
+    Ok(answer_to(alloc, input.as_slice()))
+}
+
+/// What `read_wkb_counted` answers, with its turns and slots.
+pub fn counts(alloc: Global, input: &[u8]) -> (Outcome, u128, u128) {
+    let (answer, counts) = read_wkb_counted(alloc, input);
+    (outcome_of(&answer), counts.turns, counts.slots)
+}
+
+/// The canonical form under these options.
+pub fn rewritten_as(alloc: Global, input: &[u8], options: &WriteOptions) -> WkbResult<Vec<u8>> {
+    canonical(alloc, input, options)
+}
+
+/// The canonical form under ISO, little endian.
+pub fn rewritten(alloc: Global, input: &[u8]) -> WkbResult<Vec<u8>> {
+    canonical(alloc, input, &iso(Endianness::LittleEndian))
+}
+
+/// Whether a text's bytes are rewritten under these options as another's.
+pub fn rewrites(
+    alloc: Global,
+    input: &str,
+    options: &WriteOptions,
+    expected: &str,
+) -> Result<bool, Fail> {
+    let input = bytes(alloc, input)?;
+    let text = canonical(alloc, input.as_slice(), options)?;
+    let expected = bytes(alloc, expected)?;
+    Ok(text.as_slice() == expected.as_slice())
+}
+
+/// The same under EWKB with the input's own SRID.
+pub fn rewrites_with_srid(
+    alloc: Global,
+    input: &str,
+    order: Endianness,
+    expected: &str,
+) -> Result<bool, Fail> {
+    let input = bytes(alloc, input)?;
+    let text = canonical_with_srid(alloc, input.as_slice(), order)?;
+    let expected = bytes(alloc, expected)?;
+    Ok(text.as_slice() == expected.as_slice())
+}
+
+/// Whether two texts' bytes have equal values.
+pub fn equal_values(alloc: Global, first: &str, second: &str) -> Result<bool, Fail> {
+    let first = bytes(alloc, first)?;
+    let second = bytes(alloc, second)?;
+    Ok(same(alloc, first.as_slice(), second.as_slice())?)
+}
+
+/// The canonical form under EWKB with the input's own SRID.
+pub fn with_own_srid(alloc: Global, input: &[u8], order: Endianness) -> WkbResult<Vec<u8>> {
+    canonical_with_srid(alloc, input, order)
+}
+
+/// Whether two inputs have equal values.
+pub fn are_same(alloc: Global, first: &[u8], second: &[u8]) -> WkbResult<bool> {
+    same(alloc, first, second)
+}
+
+/// The first three words of a coordinate.
+pub fn words<C: CoordTrait>(coord: &C) -> (Option<u64>, Option<u64>, Option<u64>) {
+    (coord.nth(0), coord.nth(1), coord.nth(2))
+}
+
+pub fn as_point<'a>(wkb: &Wkb<'a>) -> Result<Point<'a>, Fail> {
+    match view_of(wkb) {
+        View::Point(point) => Ok(*point),
+        _ => Err(Fail::new("not a point")),
+    }
+}
+
+pub fn as_line_string<'a>(wkb: &Wkb<'a>) -> Result<LineString<'a>, Fail> {
+    match view_of(wkb) {
+        View::LineString(line_string) => Ok(*line_string),
+        _ => Err(Fail::new("not a line string")),
+    }
+}
+
+pub fn as_multi_point<'a>(wkb: &Wkb<'a>) -> Result<MultiPoint<'a>, Fail> {
+    match view_of(wkb) {
+        View::MultiPoint(multi_point) => Ok(*multi_point),
+        _ => Err(Fail::new("not a multi point")),
+    }
+}
+
+pub fn as_polygon<'v, 'a>(wkb: &'v Wkb<'a>) -> Result<&'v Polygon<'a>, Fail> {
+    match view_of(wkb) {
+        View::Polygon(polygon) => Ok(polygon),
+        _ => Err(Fail::new("not a polygon")),
+    }
+}
+
+pub fn as_multi_line_string<'v, 'a>(wkb: &'v Wkb<'a>) -> Result<&'v MultiLineString<'a>, Fail> {
+    match view_of(wkb) {
+        View::MultiLineString(multi_line_string) => Ok(multi_line_string),
+        _ => Err(Fail::new("not a multi line string")),
+    }
+}
+
+pub fn as_multi_polygon<'v, 'a>(wkb: &'v Wkb<'a>) -> Result<&'v MultiPolygon<'a>, Fail> {
+    match view_of(wkb) {
+        View::MultiPolygon(multi_polygon) => Ok(multi_polygon),
+        _ => Err(Fail::new("not a multi polygon")),
+    }
+}

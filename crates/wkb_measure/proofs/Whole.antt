@@ -1,0 +1,129 @@
+-- A geometry's fault and size, by its header and its body.
+use Rattle.std.proofs.Common.{◌≡◌, ℕ, zero, suc, ◌+◌, ◌*◌, ◌<◌, ◌≤◌, List, [], ◌∷◌, length, map, get_or, slice_get, Option, Some, None, Result, Ok, Err, refl, sym, ap, subst, ◌∙◌, arith}
+use Rattle.std.specs.List.{sum_by}
+use Rattle.std.specs.Prelude.{IfSome}
+use Rattle.std.proofs.lemmas.Option.{slice_get_read}
+use Rattle.std.proofs.lemmas.List.{length-map}
+use Rattle.std.proofs.lemmas.List.Sums.{sum_by-cons}
+use Rattle.wkb_geom.specs.declared.common.Dimensions.{Dimensions}
+use Rattle.wkb_geom.specs.declared.error.WkbError.{WkbError}
+use Rattle.wkb_geom.specs.Geometries.{Geometry, Geometries, point, line_string, polygon, multi_point, multi_line_string, multi_polygon, collection, rectangle, triangle, line, no_geometries, geometry, geometries}
+use Rattle.wkb_geom.specs.Sizes.{node_count, node_counts, dimensions_of, byte_size, byte_sizes, ring_size, line_string_size, polygon_size}
+use Rattle.wkb_geom.specs.Texts.{Fault, or_else, first_fault, count_fault, count_geometries, dimensions_fault, coordinates_fault, rings_fault, fault, fault_each}
+use Rattle.wkb_geom.proofs.Nodes.{node_count-member}
+use Rattle.wkb_measure.specs.Measures.{Reports, Measures, capped}
+use Rattle.wkb_measure.specs.Bodies.{Part, parts_fault, parts_size, ring_part, line_string_part, polygon_part, member_part, members, body_fault, body_size}
+use Rattle.wkb_measure.proofs.Faults.{none_both, reports_first, reports_rest}
+
+-- the faults and the sizes of a list's items, each as a part
+faults_of : {X : Type 0} (part : X → Part) (f : X → Option Fault) (xs : List X) → ((x : X) → (part x).fault ≡ f x) → first_fault (λ p. p.fault) (map part xs) ≡ first_fault f xs
+unfolding first_fault
+faults_of part f [] same = refl
+faults_of part f (x ∷ xs) same = rw (same x, faults_of part f xs same) refl
+
+sizes_of : {X : Type 0} (part : X → Part) (s : X → ℕ) (xs : List X) → ((x : X) → (part x).size ≡ s x) → sum_by (λ p. p.size) (map part xs) ≡ sum_by s xs
+sizes_of part s [] same = refl
+sizes_of part s (x ∷ xs) same =
+    omega (arith, sum_by-cons (λ p. p.size) (part x) (map part xs), sum_by-cons s x xs, same x, sizes_of part s xs same)
+
+items_fault : {X : Type 0} (part : X → Part) (f : X → Option Fault) (xs : List X) → ((x : X) → (part x).fault ≡ f x) → parts_fault (map part xs) ≡ or_else (count_fault (length xs)) (first_fault f xs)
+unfolding parts_fault
+items_fault part f xs same = rw (length-map xs part, faults_of part f xs same) refl
+
+items_size : {X : Type 0} (part : X → Part) (s : X → ℕ) (xs : List X) → ((x : X) → (part x).size ≡ s x) → parts_size (map part xs) ≡ 4 + sum_by s xs
+unfolding parts_size
+items_size part s xs same = ap (λ n. 4 + n) (sizes_of part s xs same)
+
+members_count : (gs : Geometries) → length (members gs) ≡ count_geometries gs
+members_count no_geometries = refl
+members_count (geometry g gs) = omega (arith, members_count gs)
+
+members_faults : (gs : Geometries) → first_fault (λ p. p.fault) (members gs) ≡ fault_each gs
+unfolding first_fault
+members_faults no_geometries = refl
+members_faults (geometry g gs) = ap (or_else (fault g)) (members_faults gs)
+
+members_sizes : (gs : Geometries) → sum_by (λ p. p.size) (members gs) ≡ byte_sizes gs
+members_sizes no_geometries = refl
+members_sizes (geometry g gs) =
+    omega (arith, sum_by-cons (λ p. p.size) (member_part g) (members gs), members_sizes gs)
+
+members_fault : (gs : Geometries) → parts_fault (members gs) ≡ or_else (count_fault (count_geometries gs)) (fault_each gs)
+unfolding parts_fault
+members_fault gs = rw (members_count gs, members_faults gs) refl
+
+members_size : (gs : Geometries) → parts_size (members gs) ≡ 4 + byte_sizes gs
+unfolding parts_size
+members_size gs = ap (λ n. 4 + n) (members_sizes gs)
+
+-- the rings of a polygon
+rings_are : (d : Dimensions) (rings : List (List (List ℕ))) → parts_fault (map (ring_part d) rings) ≡ rings_fault rings
+rings_are d rings = items_fault (ring_part d) coordinates_fault rings (λ r. refl)
+
+rings_take : (d : Dimensions) (rings : List (List (List ℕ))) → parts_size (map (ring_part d) rings) ≡ 4 + sum_by (ring_size d) rings
+rings_take d rings = items_size (ring_part d) (ring_size d) rings (λ r. refl)
+
+alone : (a : Option Fault) → a ≡ or_else a None
+unfolding or_else
+alone None = refl
+alone (Some f) = refl
+
+pub fault_by_body : (g : Geometry) → fault g ≡ or_else (dimensions_fault (dimensions_of g)) (body_fault g)
+fault_by_body (point d c) = alone (dimensions_fault d)
+fault_by_body (line_string d cs) = refl
+fault_by_body (polygon d rings) = ap (or_else (dimensions_fault d)) (sym (rings_are d rings))
+fault_by_body (multi_point d points) = refl
+fault_by_body (multi_line_string d lines) = ap (or_else (dimensions_fault d)) (sym (items_fault (line_string_part d) coordinates_fault lines (λ l. refl)))
+fault_by_body (multi_polygon d polygons) = ap (or_else (dimensions_fault d)) (sym (items_fault (polygon_part d) rings_fault polygons (rings_are d)))
+fault_by_body (collection d gs) = ap (or_else (dimensions_fault d)) (sym (members_fault gs))
+fault_by_body (line d start end) = alone (dimensions_fault d)
+fault_by_body (rectangle d least greatest) = alone (dimensions_fault d)
+fault_by_body (triangle d first second third) = alone (dimensions_fault d)
+
+pub size_by_body : (g : Geometry) → byte_size g ≡ 5 + body_size g
+size_by_body (point d c) = refl
+size_by_body (line_string d cs) = refl
+size_by_body (polygon d rings) = omega (arith, rings_take d rings)
+size_by_body (multi_point d points) = omega arith
+size_by_body (multi_line_string d lines) = omega (arith, items_size (line_string_part d) (line_string_size d) lines (λ l. refl))
+size_by_body (multi_polygon d polygons) = omega (arith, items_size (polygon_part d) (polygon_size d) polygons (λ p. omega (arith, rings_take d p)))
+size_by_body (collection d gs) = omega (arith, members_size gs)
+size_by_body (line d start end) = omega arith
+size_by_body (rectangle d least greatest) = refl
+size_by_body (triangle d first second third) = omega arith
+
+-- what was measured of a header and a body is measured of the geometry
+pub whole_measured : (g : Geometry) (dims : Dimensions) (r : Result ℕ WkbError) → dims ≡ dimensions_of g → dimensions_fault dims ≡ None → Measures (body_fault g) (5 + body_size g) r → Measures (fault g) (byte_size g) r
+whole_measured g dims (Ok n) is supported h =
+    (fault_by_body g ∙ none_both _ _ (ap dimensions_fault (sym is) ∙ supported) h.0, h.1 ∙ ap capped (sym (size_by_body g)))
+whole_measured g dims (Err e) is supported h =
+    subst (Reports e) (sym (fault_by_body g)) (reports_rest e _ _ (ap dimensions_fault (sym is) ∙ supported) h)
+
+pub whole_unsupported : (g : Geometry) (dims : Dimensions) (e : WkbError) → dims ≡ dimensions_of g → Reports e (dimensions_fault dims) → Reports e (fault g)
+whole_unsupported g dims e is told =
+    subst (Reports e) (sym (fault_by_body g)) (reports_first e _ _ (subst (λ d. Reports e (dimensions_fault d)) is told))
+
+-- the parts of members that are lent as a slice
+pub members_length : {X : Type 0} (f : X → Geometry) (xs : List X) → length xs ≡ length (members (geometries (map f xs)))
+members_length f [] = refl
+members_length f (x ∷ xs) = omega (arith, members_length f xs)
+
+members_at : {X : Type 0} (f : X → Geometry) (xs : List X) (i : ℕ) (x : X) → slice_get xs i ≡ Some x → slice_get (members (geometries (map f xs))) i ≡ Some (member_part (f x))
+members_at f [] i x item = cc
+members_at f (y ∷ xs) zero x item = let is : y ≡ x = cc in ap (λ z. Some (member_part (f z))) is
+members_at f (y ∷ xs) (suc i) x item = members_at f xs i x item
+
+-- what is said of a member is said of its part
+pub said_of_member : {X : Type 0} (f : X → Geometry) (Q : Part → Type 0) (xs : List X) (i : ℕ) (x : X) → i < length xs → x ≡ get_or xs i x → Q (member_part (f x)) → IfSome (slice_get (members (geometries (map f xs))) i) Q
+said_of_member f Q xs i x within item told =
+    subst (λ o. IfSome o Q) (sym (members_at f xs i x (slice_get_read xs (length xs) i x refl within item))) told
+
+-- the measure of the recursion falls
+pub members_fall : (d : Dimensions) (gs : Geometries) (geo : Geometry) (t : ℕ) → collection d gs ≡ geo → 3 * node_count geo + 1 ≡ t → 3 * node_counts gs + 3 < t
+members_fall d gs geo t is measure = let whole = ap node_count is in omega (arith, whole)
+
+pub member_falls : {X : Type 0} (f : X → Geometry) (xs : List X) (i : ℕ) (x : X) (t : ℕ) → i < length xs → x ≡ get_or xs i x → 3 * node_counts (geometries (map f xs)) + 3 ≡ t → 3 * node_count (f x) + 2 < t
+member_falls f xs i x t within item measure =
+    let member = node_count-member f xs i x within in
+    let here = ap (λ y. node_count (f y)) item in
+    omega (arith, member, here)

@@ -1,0 +1,55 @@
+use Rattle.std.proofs.Common.{◌≡◌, None, ◌∙◌, ◌+◌, sym, subst, map, arith}
+use Rattle.wkb_geom.specs.Geometries.{geometries}
+use Rattle.wkb_measure.specs.Bodies.{members}
+use Rattle.wkb_measure.specs.Measures.{Reports, capped}
+use Rattle.wkb_measure.proofs.Faults.{measured_err}
+use Rattle.wkb_measure.proofs.Sums.{SoFar, parts_start, parts_step, count_reports, part_reports, parts_all}
+use Rattle.wkb_measure.proofs.Whole.{whole_measured, whole_unsupported, members_length, said_of_member, members_fall, member_falls}
+use Rattle.wkb_measure.proofs.measure.+measure.Goals as goal
+
+pub measure_body-measure_members-requires : goal.measure_body-measure_members-requires
+measure_body-measure_members-requires g t c κs within =
+    (members_fall _ _ _ t c.in-GeometryCollection.ensures.part c.decreases, within)
+
+pub measure_geometry-returns-in_err-check_dimensions : goal.measure_geometry-returns-in_err-check_dimensions
+measure_geometry-returns-in_err-check_dimensions g t c =
+    let same = c.dim.ensures ∙ sym (g.met.G.GeometryTrait.one_dimension c.args.geom.now) in
+    record { measured = measured_err _ _ _ _ c.from_residual.ensures.1 (whole_unsupported _ _ _ same c.in_err-check_dimensions.ensures) }
+
+pub measure_geometry-returns : goal.measure_geometry-returns
+measure_geometry-returns g t c =
+    let same = c.dim.ensures ∙ sym (g.met.G.GeometryTrait.one_dimension c.args.geom.now) in
+    record { measured = whole_measured _ _ _ same c.in_ok-check_dimensions.ensures (c.behind_header.ensures _ _ c.measure_body.ensures) }
+
+pub measure_members-returns-in_err-check_len : goal.measure_members-returns-in_err-check_len
+measure_members-returns-in_err-check_len g t c =
+    count_reports _ _ _ _ (members_length g.G.GeometryTrait.geometry c.args.geoms.now) c.from_residual.ensures.1 c.in_err-check_len.ensures
+
+pub measure_members-loop-geom-init : goal.measure_members-loop-geom-init
+measure_members-loop-geom-init g t c = parts_start (members (geometries (map g.G.GeometryTrait.geometry c.args.geoms.now)))
+
+pub measure_members-measure_geometry-requires : goal.measure_members-measure_geometry-requires
+measure_members-measure_geometry-requires g t c κs within =
+    (member_falls g.G.GeometryTrait.geometry c.args.geoms.now c.loop-geom.geom-index c.geom-item.result t c.loop-geom-test.true c.geom-item.is c.decreases, within)
+
+pub measure_members-returns-in_err-measure_geometry : goal.measure_members-returns-in_err-measure_geometry
+measure_members-returns-in_err-measure_geometry g t c =
+    let xs = c.args.geoms.now in
+    let geo = g.G.GeometryTrait.geometry in
+    let told = said_of_member geo (λ p. Reports c.in_err-measure_geometry.field-0.0 p.fault) xs c.loop-geom.geom-index c.geom-item.result c.loop-geom-test.true c.geom-item.is c.in_err-measure_geometry.ensures.measured in
+    part_reports _ _ _ _ _ _ (members_length geo xs) c.in_ok-check_len.ensures.0 (omega (arith, members_length geo xs, c.loop-geom-test.true)) told c.loop-geom.invariant c.from_residual-in_err-measure_geometry.ensures.1
+
+pub measure_members-loop-geom-preserved : goal.measure_members-loop-geom-preserved
+measure_members-loop-geom-preserved g t c =
+    let xs = c.args.geoms.now in
+    let geo = g.G.GeometryTrait.geometry in
+    let ps = members (geometries (map geo xs)) in
+    let n = c.in_ok-measure_geometry.field-0 in
+    let told = said_of_member geo (λ p. (p.fault ≡ None) × (n ≡ capped p.size)) xs c.loop-geom.geom-index c.geom-item.result c.loop-geom-test.true c.geom-item.is c.in_ok-measure_geometry.ensures.measured in
+    subst (SoFar ps (c.loop-geom.geom-index + 1)) (sym c.saturating_add-total.ensures) (parts_step ps c.loop-geom.geom-index c.loop-geom.total n (omega (arith, members_length geo xs, c.loop-geom-test.true)) told c.loop-geom.invariant)
+
+pub measure_members-returns : goal.measure_members-returns
+measure_members-returns g t c =
+    let xs = c.args.geoms.now in
+    let geo = g.G.GeometryTrait.geometry in
+    parts_all _ _ _ _ (members_length geo xs) c.in_ok-check_len.ensures.0 (omega (arith, members_length geo xs, c.loop-geom-test.false)) c.loop-geom.invariant

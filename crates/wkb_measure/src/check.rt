@@ -1,0 +1,55 @@
+//! The tests of one node, its dimensions and its count, and the bytes of words.
+
+ghost use Rattle.std.specs.Prelude.{◌≡◌, ◌*◌, ◌^◌, ◌<◌, None, MatchResult};
+ghost use Rattle.wkb_geom.specs.Dimensions.{size};
+ghost use Rattle.wkb_geom.specs.Texts.{dimensions_fault, count_fault};
+ghost use Rattle.wkb_measure.specs.Measures.{Reports};
+
+use wkb_geom::{Dimensions, General, Overflow, WkbError, WkbResult};
+
+/// Refuses dimensions that can't be written.
+#[tactic(auto, using(crate::proofs::Faults::supported_laws), unfolding(wkb_geom::specs::Texts::dimensions_fault))]
+pub fn check_dimensions(dim: Dimensions) -> WkbResult<()>
+    ensures { MatchResult result (λ _. dimensions_fault dim ≡ None)
+        (λ e. Reports e (dimensions_fault dim)) }
+{
+    match dim {
+        Dimensions::Unknown(n) => {
+            if n < 2 || 4 < n {
+                Err(WkbError::General(General::UnsupportedDimensions(n)))
+            } else {
+                Ok(())
+            }
+        }
+        _ => Ok(()),
+    }
+}
+
+/// A count, where four bytes hold it.
+#[tactic(auto, using(crate::proofs::Faults::supported_laws))]
+pub fn check_count(n: u128) -> WkbResult<u32>
+    ensures { MatchResult result (λ m. (count_fault n ≡ None) × (m ≡ n))
+        (λ e. Reports e (count_fault n)) }
+{
+    if n <= u32::MAX as u128 {
+        Ok(n as u32)
+    } else {
+        Err(WkbError::OverflowError(Overflow::Count))
+    }
+}
+
+/// The same of a length.
+pub fn check_len(n: usize) -> WkbResult<u32>
+    ensures { MatchResult result (λ m. (count_fault n ≡ None) × (m ≡ n))
+        (λ e. Reports e (count_fault n)) }
+{
+    check_count(n as u128)
+}
+
+/// The bytes of the words of so many coordinates.
+pub fn words_size(dim: Dimensions, n: u32) -> u128
+    ensures sum { result ≡ 8 * size dim * n }
+    ensures bound { result < 2 ^ 100 }
+{
+    8 * dim.size() as u128 * n as u128
+}

@@ -1,0 +1,13 @@
+//! What makes a geometry impossible to write, and the size of one that is not.
+//!
+//! A fault is met in preorder: a node's dimensions, its count, then its parts. A size is counted in
+//! `u128` and stops at the greatest, so that a later fault is met before the size is looked at.
+#![tactic(auto)]
+
+mod check;
+mod lists;
+mod measure;
+mod parts;
+mod rings;
+
+pub use measure::{measure_geometry, measure_geometry_collection, measure_point};

@@ -1,0 +1,42 @@
+//! The members of a MultiLineString and of a MultiPolygon.
+
+ghost use Rattle.std.specs.Prelude.{◌≡◌, length, map};
+ghost use Rattle.wkb_measure.specs.Bodies.{line_string_part, polygon_part};
+
+use crate::parts::{Parts, behind_header, measure_parts};
+use crate::rings::{Rings, measure_ring};
+use wkb_geom::{MultiLineStringTrait, MultiPolygonTrait, WkbResult};
+
+/// The line strings of a MultiLineString.
+#[derive(Clone, Copy)]
+pub struct LineStrings<'a, M>(pub &'a M);
+
+impl<M: MultiLineStringTrait> Parts for LineStrings<'_, M> {
+    ghost parts = { λ m. map (line_string_part (M.dimensions m.0.now)) (M.line_strings m.0.now) };
+
+    fn count(&self) -> u128 {
+        self.0.num_line_strings() as u128
+    }
+
+    fn measure_part(&self, i: usize) -> WkbResult<u128> {
+        let member = self.0.line_string(i).unwrap();
+        behind_header(measure_ring(&member))
+    }
+}
+
+/// The polygons of a MultiPolygon.
+#[derive(Clone, Copy)]
+pub struct Polygons<'a, M>(pub &'a M);
+
+impl<M: MultiPolygonTrait> Parts for Polygons<'_, M> {
+    ghost parts = { λ m. map (polygon_part (M.dimensions m.0.now)) (M.polygons m.0.now) };
+
+    fn count(&self) -> u128 {
+        self.0.num_polygons() as u128
+    }
+
+    fn measure_part(&self, i: usize) -> WkbResult<u128> {
+        let member = self.0.polygon(i).unwrap();
+        behind_header(measure_parts(&Rings(member)))
+    }
+}

@@ -1,0 +1,40 @@
+//! Parts that a body counts, and what they come to.
+
+ghost use Rattle.std.specs.Prelude.{◌≡◌, ℕ, ◌+◌, ◌<◌, List, length, Option, IfSome, slice_get};
+ghost use Rattle.wkb_geom.specs.Texts.{Fault};
+ghost use Rattle.wkb_measure.specs.Bodies.{Part, parts_fault, parts_size};
+ghost use Rattle.wkb_measure.specs.Measures.{Measures};
+
+use crate::check::check_count;
+use wkb_geom::WkbResult;
+
+/// The parts of one body, each with a fault or a size.
+pub trait Parts {
+    ghost parts: { Self → List Part };
+
+    fn count(&self) -> u128
+        ensures { result ≡ length (parts self.now) };
+
+    fn measure_part(&self, i: usize) -> WkbResult<u128>
+        requires { i < length (parts self.now) }
+        ensures { IfSome (slice_get (parts self.now) i) (λ p. Measures p.fault p.size result) };
+}
+
+/// A count, and the parts in order.
+pub fn measure_parts<P: Parts>(body: &P) -> WkbResult<u128>
+    ensures { Measures (parts_fault (P.parts body.now)) (parts_size (P.parts body.now)) result }
+{
+    let count = check_count(body.count())?;
+    let mut total = 4u128;
+    for i in 0..count as usize {
+        total = total.saturating_add(body.measure_part(i)?);
+    }
+    Ok(total)
+}
+
+/// The same with the five bytes of a header before it.
+pub fn behind_header(body: WkbResult<u128>) -> WkbResult<u128>
+    ensures { (f : Option Fault) (n : ℕ) → Measures f n body → Measures f (5 + n) result }
+{
+    Ok(body?.saturating_add(5))
+}

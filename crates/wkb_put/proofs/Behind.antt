@@ -1,0 +1,12 @@
+-- Texts that stand one behind another in a block.
+use Rattle.std.proofs.Common.{ℕ, List, [], ◌++◌, sym, ap, ◌∙◌, append_assoc, append-nil}
+use Rattle.wkb_put.specs.Blocks.{IsExtended}
+
+pub behind : {a b c s t : List ℕ} → IsExtended a b s → IsExtended b c t → IsExtended a c (s ++ t)
+behind {a = a} {s = s} {t = t} p q = record { is = q.is ∙ ap (λ l. l ++ t) p.is ∙ append_assoc a s t }
+
+pub last : {b c t : List ℕ} → IsExtended b c t → IsExtended b c (t ++ [])
+last {b = b} {t = t} p = record { is = p.is ∙ ap (λ l. b ++ l) (sym (append-nil t)) }
+
+pub nothing_behind : (a : List ℕ) → IsExtended a a []
+nothing_behind a = record { is = sym (append-nil a) }

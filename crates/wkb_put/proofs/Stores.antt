@@ -1,0 +1,67 @@
+-- Parts of a text that are stored one after another.
+use Rattle.std.proofs.Common.{◌≡◌, ℕ, zero, suc, ◌+◌, ◌-◌, ◌≤◌, List, [], ◌∷◌, ◌++◌, length, take, drop, Some, refl, sym, ap, ◌∙◌, append_assoc, append-nil, arith, length-drop, slice_get, slice_index, add-one}
+use Rattle.std.specs.List.{flat_map}
+use Rattle.std.proofs.lemmas.List.{length-take-le, take-append-le}
+use Rattle.std.proofs.Math.Seq.{take-append-add, take-append_seam}
+use borrow.Rule.Slice.PartMut.{put_mid, mid_of, post_of}
+use Rattle.wkb_geom.specs.declared.common.Endianness.{Endianness}
+use Rattle.wkb_geom.specs.Numbers.{number_bytes}
+use Rattle.wkb_geom.specs.Texts.{words_text}
+use Rattle.wkb_put.specs.Blocks.{block_size, IsExtended}
+use Rattle.wkb_put.proofs.Loops.{flat_map_step}
+
+-- a text that was stored before what was there
+pub stored : (t rest : List ℕ) (n : ℕ) → length t ≡ n → take n (t ++ rest) ≡ t
+stored t rest n len = ap (λ k. take k (t ++ rest)) (sym len) ∙ take-append_seam t rest
+
+-- a text that was stored behind another
+pub stored_next : (all part t s : List ℕ) (at n k : ℕ) → take at all ≡ t → at ≤ length all → take n part ≡ s → n ≤ length part → take (at + n) (put_mid at k all part) ≡ t ++ s
+stored_next all part t s at n k is fits part_is part_fits =
+    let front = take at all in
+    let len : length front ≡ at = length-take-le at all fits in
+    ap (λ m. take (m + n) (front ++ (part ++ post_of at k all))) (sym len)
+    ∙ take-append-add front (part ++ post_of at k all) n
+    ∙ ap (λ l. front ++ l) (take-append-le n part (post_of at k all) part_fits ∙ part_is)
+    ∙ ap (λ l. l ++ s) is
+
+-- the words of two to four, one after another
+pub two_words : (order : Endianness) (ws : List ℕ) → length ws ≡ 2 → words_text order ws ≡ number_bytes order 8 (slice_index ws 0) ++ number_bytes order 8 (slice_index ws 1)
+unfolding words_text
+two_words order (x ∷ y ∷ []) h = simp append-nil refl
+two_words order [] h = absurd (omega arith)
+two_words order (x ∷ []) h = absurd (omega arith)
+two_words order (x ∷ y ∷ z ∷ rest) h = absurd (omega arith)
+
+pub three_words : (order : Endianness) (ws : List ℕ) → length ws ≡ 3 → words_text order ws ≡ (number_bytes order 8 (slice_index ws 0) ++ number_bytes order 8 (slice_index ws 1)) ++ number_bytes order 8 (slice_index ws 2)
+unfolding words_text
+three_words order (x ∷ y ∷ z ∷ []) h = simp (append-nil, append_assoc) refl
+three_words order [] h = absurd (omega arith)
+three_words order (x ∷ []) h = absurd (omega arith)
+three_words order (x ∷ y ∷ []) h = absurd (omega arith)
+three_words order (x ∷ y ∷ z ∷ w ∷ rest) h = absurd (omega arith)
+
+pub four_words : (order : Endianness) (ws : List ℕ) → length ws ≡ 4 → words_text order ws ≡ (number_bytes order 8 (slice_index ws 0) ++ number_bytes order 8 (slice_index ws 1)) ++ (number_bytes order 8 (slice_index ws 2) ++ number_bytes order 8 (slice_index ws 3))
+unfolding words_text
+four_words order (x ∷ y ∷ z ∷ w ∷ []) h = simp (append-nil, append_assoc) refl
+four_words order [] h = absurd (omega arith)
+four_words order (x ∷ []) h = absurd (omega arith)
+four_words order (x ∷ y ∷ []) h = absurd (omega arith)
+four_words order (x ∷ y ∷ z ∷ []) h = absurd (omega arith)
+four_words order (x ∷ y ∷ z ∷ w ∷ v ∷ rest) h = absurd (omega arith)
+
+pub ruleset stored_laws = (stored)
+
+-- one item more of a run from one place on
+pub run_step : {X : Type 0} (f : X → List ℕ) (xs : List X) (start i : ℕ) (x : X) → slice_get xs i ≡ Some x → start ≤ i → flat_map f (drop start (take (i + 1) xs)) ≡ flat_map f (drop start (take i xs)) ++ f x
+run_step f [] start i x item h = cc
+run_step f (y ∷ ys) zero i x item h = flat_map_step f (y ∷ ys) i x item
+run_step f (y ∷ ys) (suc start) zero x item h = absurd (omega arith)
+run_step f (y ∷ ys) (suc start) (suc i) x item h = rw add-one (rw add-one at (run_step f ys start i x item (omega arith)))
+
+-- a text that was stored behind the bytes that wait in a block
+pub block_next : (bytes part waiting s : List ℕ) (len n : ℕ) → take len bytes ≡ waiting → len ≤ block_size → length bytes ≡ block_size → length part ≡ length (mid_of len (block_size - len) bytes) → length waiting + n ≤ block_size → take n part ≡ s → IsExtended waiting (take (len + n) (put_mid len (block_size - len) bytes part)) s
+block_next bytes part waiting s len n is fits full many room stored =
+    let long : length waiting ≡ len = sym (ap length is) ∙ length-take-le len bytes (omega arith) in
+    let left : length (drop len bytes) ≡ block_size - len = length-drop len bytes ∙ ap (λ k. k - len) full in
+    let free : length part ≡ block_size - len = many ∙ length-take-le (block_size - len) (drop len bytes) (omega (arith, left)) in
+    record { is = stored_next bytes part waiting s len n (block_size - len) is (omega arith) stored (omega (arith, long, free)) }

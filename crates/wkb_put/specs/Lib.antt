@@ -1,0 +1,4 @@
+pub mod Blocks
+pub mod Items
+pub mod Held
+pub mod Sinks

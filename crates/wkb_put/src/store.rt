@@ -1,0 +1,89 @@
+//! Numbers and coordinates into bytes that stand ready for them.
+
+ghost use Rattle.std.specs.Prelude.{◌≡◌, ◌+◌, ◌-◌, ◌*◌, ◌≤◌, ◌++◌, length, drop, take};
+ghost use Rattle.std.specs.List.{flat_map};
+ghost use Rattle.wkb_geom.specs.Dimensions.{size};
+ghost use Rattle.wkb_geom.specs.Numbers.{number_bytes};
+ghost use Rattle.wkb_geom.specs.Texts.{words_text};
+
+use byteorder::{BigEndian, ByteOrder, LittleEndian};
+use wkb_geom::{CoordTrait, Endianness, LineStringTrait};
+
+#[inline]
+#[tactic(auto, unfolding(wkb_geom::specs::Numbers::number_bytes))]
+pub fn u32_bytes(order: Endianness, n: u32) -> [u8; 4]
+    ensures { result ≡ number_bytes order 4 n }
+{
+    let mut bytes = [0; 4];
+    match order {
+        Endianness::BigEndian => BigEndian::write_u32(&mut bytes, n),
+        Endianness::LittleEndian => LittleEndian::write_u32(&mut bytes, n),
+    }
+    bytes
+}
+
+/// Stores a word in the first eight bytes.
+#[inline]
+#[tactic(auto, using(crate::proofs::Stores::stored_laws), unfolding(wkb_geom::specs::Numbers::number_bytes))]
+pub fn store_word(bytes: &mut [u8], order: Endianness, word: u64)
+    requires { 8 ≤ length bytes.old }
+    ensures { take 8 bytes.new ≡ number_bytes order 8 word }
+{
+    match order {
+        Endianness::BigEndian => BigEndian::write_u64(bytes, word),
+        Endianness::LittleEndian => LittleEndian::write_u64(bytes, word),
+    }
+}
+
+#[inline]
+fn store_two(bytes: &mut [u8], order: Endianness, first: u64, second: u64)
+    requires { 16 ≤ length bytes.old }
+    ensures { take 16 bytes.new ≡ number_bytes order 8 first ++ number_bytes order 8 second }
+{
+    store_word(bytes, order, first);
+    store_word(&mut bytes[8..], order, second);
+}
+
+/// Stores the words of a coordinate of two, three or four in the first bytes.
+#[inline]
+pub fn store_coordinate<C: CoordTrait>(bytes: &mut [u8], coord: &C, width: usize, order: Endianness)
+    requires width { width ≡ size (C.dimensions coord.now) }
+    requires least { 2 ≤ width }
+    requires most { width ≤ 4 }
+    requires room { 8 * width ≤ length bytes.old }
+    ensures { take (8 * width) bytes.new ≡ words_text order (C.words coord.now) }
+{
+    store_two(bytes, order, coord.x(), coord.y());
+    match width {
+        2 => {}
+        3 => store_word(&mut bytes[16..], order, coord.at(2)),
+        _ => store_two(&mut bytes[16..], order, coord.at(2), coord.at(3)),
+    }
+}
+
+/// Stores the coordinates between two places one after another, and answers how many bytes they
+/// take.
+#[inline]
+pub fn store_coordinates<L: LineStringTrait>(
+    bytes: &mut [u8],
+    line: &L,
+    from: usize,
+    to: usize,
+    order: Endianness,
+) -> usize
+    requires order { from ≤ to }
+    requires within { to ≤ length (L.coordinates line.now) }
+    requires least { 2 ≤ size (L.dimensions line.now) }
+    requires most { size (L.dimensions line.now) ≤ 4 }
+    requires room { 32 * (to - from) ≤ length bytes.old }
+    ensures len { result ≤ 32 * (to - from) }
+    ensures bytes { take result bytes.new ≡ flat_map (words_text order) (drop from (take to (L.coordinates line.now))) }
+{
+    let width = line.dim().size();
+    let mut at = 0;
+    for i in from..to {
+        store_coordinate(&mut bytes[at..], &line.coord_at(i), width, order);
+        at += 8 * width;
+    }
+    at
+}

@@ -1,0 +1,43 @@
+-- What a size and a writer answer.
+use Rattle.std.specs.Prelude.{◌≡◌, ℕ, length, Bool, List, Option, Some, None, Result, MatchResult, IsErrAnd, IfOk}
+use Rattle.std.specs.Io.KnownBytes.{Appends}
+use Rattle.wkb_geom.specs.declared.common.Endianness.{Endianness}
+use Rattle.wkb_geom.specs.declared.common.Form.{Form}
+use Rattle.wkb_geom.specs.declared.error.WkbError.{WkbError}
+use Rattle.wkb_geom.specs.Errors.{TellsFault}
+use Rattle.wkb_geom.specs.Geometries.{Geometry, normal}
+use Rattle.wkb_geom.specs.Values.{Value}
+use Rattle.wkb_geom.specs.Spellings.{Spelling, Spells}
+use Rattle.wkb_geom.specs.Texts.{Fault, refusal, text}
+use Rattle.wkb_laws.specs.Written.{HasOptions}
+use Rattle.wkb_measure.specs.Measures.{Reports}
+use Rattle.wkb_put.specs.Sinks.{Puts}
+use Rattle.wkb_write.specs.declared.options.WriteOptions.{WriteOptions}
+
+-- the answer is the length of the text, in either order, or the error that tells what is refused
+abbrev pub IsSizeOf : Form → Geometry → Result ℕ WkbError → Type 0
+IsSizeOf form g r =
+    (order : Endianness) → MatchResult r (λ n. (refusal order form g ≡ None) × (n ≡ length (text order form g))) (λ e. Reports e (refusal order form g))
+
+-- what is refused is answered by the error that tells it, and the sink is untouched
+abbrev pub IsRefusedAs : WriteOptions → Geometry → Result (Unit {0}) WkbError → Type 0 → Type 0
+IsRefusedAs options g r untouched =
+    (f : Fault) → refusal options.endianness options.form g ≡ Some f → IsErrAnd r (λ e. TellsFault e f) × untouched
+
+-- what is not refused is put to the sink, whole at Ok
+abbrev pub IsWrittenAs : WriteOptions → Geometry → Result (Unit {0}) WkbError → Option (List ℕ) → Option (List ℕ) → Bool → Type 0
+IsWrittenAs options g r old new failed =
+    refusal options.endianness options.form g ≡ None → Puts old new failed (text options.endianness options.form g) r
+
+-- bytes that spell the value were appended, once: each geometry in the options' order, the outermost with their SRID and
+-- no other with one
+pub record IsSpelled (options : WriteOptions) (t : Value) (old new : Option (List ℕ)) : Type 0 where
+  pub text : List ℕ
+  pub spelling : Spelling
+  pub spelled : Spells spelling t text
+  pub options_kept : HasOptions options.endianness options.form spelling
+  pub appended : Appends old new text
+
+-- what stands appended at Ok spells the value that the geometry stands for
+abbrev pub IsSpelledAs : WriteOptions → Geometry → Result (Unit {0}) WkbError → Option (List ℕ) → Option (List ℕ) → Type 0
+IsSpelledAs options g r old new = IfOk r (λ _. IsSpelled options (normal g) old new)

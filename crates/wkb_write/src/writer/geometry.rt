@@ -1,0 +1,56 @@
+//! The sizes and the writer of a geometry of any kind.
+
+ghost use Rattle.std.specs.Prelude.{◌≡◌, false};
+ghost use Rattle.wkb_geom.specs.declared.common.Form.TheVariants.{Iso};
+ghost use Rattle.wkb_write.specs.Answers.{IsSizeOf, IsRefusedAs, IsWrittenAs, IsSpelledAs};
+
+use crate::size::whole_size;
+use crate::{Sink, WriteOptions};
+use wkb_geom::{Form, GeometryTrait, WkbResult};
+use wkb_measure::measure_geometry;
+use wkb_put::put_geometry;
+
+/// The size of a geometry in ISO codes, in bytes.
+///
+/// Refused by the first of these in preorder: dimensions that can't be written
+/// (`General(UnsupportedDimensions)`), a count that four bytes don't hold (`OverflowError(Count)`).
+/// Where there is none, a size that `usize` doesn't hold is refused (`OverflowError(Size)`).
+pub fn geometry_wkb_size<G: GeometryTrait>(geom: &G) -> WkbResult<usize>
+    ensures size { IsSizeOf Iso (G.geometry geom.now) result }
+{
+    whole_size(measure_geometry(geom), Form::Iso)
+}
+
+/// The size of a geometry under the options: four bytes more where they have an SRID.
+///
+/// Refused as `geometry_wkb_size` refuses it, and where the SRID's bytes make it pass `usize`.
+pub fn geometry_wkb_size_with<G: GeometryTrait>(
+    geom: &G,
+    options: &WriteOptions,
+) -> WkbResult<usize>
+    ensures size { IsSizeOf options.now.form (G.geometry geom.now) result }
+{
+    whole_size(measure_geometry(geom), options.form)
+}
+
+/// Writes a geometry. The whole of it is tested before a byte is put.
+///
+/// Refused as `geometry_wkb_size_with` refuses it under the same options, with the sink untouched.
+/// `IOError` where the sink fails: a beginning of the text then stands.
+pub fn write_geometry<S: Sink, G: GeometryTrait>(
+    writer: &mut S,
+    geom: &G,
+    options: &WriteOptions,
+) -> WkbResult<()>
+    requires working { S.has_failed writer.old ≡ false }
+    ensures refused { IsRefusedAs options.now (G.geometry geom.now) result
+        (writer.new ≡ writer.old) }
+    ensures written { IsWrittenAs options.now (G.geometry geom.now) result
+        (S.appended writer.old) (S.appended writer.new) (S.has_failed writer.new) }
+    ensures spelled { IsSpelledAs options.now (G.geometry geom.now) result
+        (S.appended writer.old) (S.appended writer.new) }
+{
+    let WriteOptions { endianness, form } = *options;
+    whole_size(measure_geometry(geom), form)?;
+    put_geometry(writer, geom, endianness, form)
+}
