@@ -3,6 +3,6 @@
 pub use wkb_laws::{
     cut_is_refused, equal_texts, equal_texts_with_own_srid, equal_texts_with_srid,
     front_is_writable, geometry_agrees, named_dimension, one_front, read_or_refused,
-    refused_outward, rest_is_free, rewriting_is_read, text_length, text_spells, work_is_bounded,
-    written_is_read,
+    refused_outward, rest_is_free, rewriting_is_fixed, rewriting_is_read, text_length, text_spells,
+    work_is_bounded, written_is_read,
 };

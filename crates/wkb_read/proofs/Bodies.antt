@@ -3,12 +3,12 @@ use Rattle.std.proofs.Common.{◌≡◌, ℕ, zero, suc, List, Result, Ok, Err, 
 use Rattle.wkb_geom.specs.declared.error.WkbError.{WkbError}
 use Rattle.wkb_geom.specs.Refusals.{Cause}
 use Rattle.wkb_geom.specs.Reading.{Item, Cost, free, Part, Reading, Head, costs, done, at_no_cost, head_at, body_at, then_head, by_type, geometry_at}
-use Rattle.wkb_read.specs.declared.read.counts.Counts.{Counts}
-use Rattle.wkb_read.specs.Outcome.{Spent, Stops}
+use Rattle.wkb_part.specs.declared.counts.Counts.{Counts}
+use Rattle.wkb_part.specs.Outcome.{Spent, Stops}
 use Rattle.wkb_view.specs.Answers.{IsFault}
 use Rattle.wkb_read.specs.Stack.{collection_inside, counted}
 use Rattle.wkb_read.proofs.Algebra.{cost_is}
-use Rattle.wkb_read.proofs.Faults.{fault_of_whole, stops_from_fault}
+use Rattle.wkb_part.proofs.Faults.{stops_by}
 
 abbrev body_of : ℕ → List ℕ → Head → Reading Item
 body_of levels bytes h = body_at (collection_inside levels) h.wkb_type h.order h.has_srid bytes
@@ -24,15 +24,6 @@ behind_header levels bytes h e = geometry_is levels bytes ∙ ap (λ (r : Result
 
 no_header : (levels : ℕ) (bytes : List ℕ) (f : Cause) → head_at bytes ≡ Err f → geometry_at levels bytes ≡ (free, Err f)
 no_header levels bytes f e = geometry_is levels bytes ∙ ap (λ (r : Result Head Cause). then_head r (body_of levels bytes)) e
-
-nothing_spent : (c : Counts) → Spent c c free
-nothing_spent c = record { turns = omega arith; slots = omega arith }
-
--- a refusal that costs nothing
-pub stops_by : (e : WkbError) {A B : Type 0} (r : Result A Cause) (whole : Reading B) (c : Counts) → IsFault e r → ((f : Cause) → r ≡ Err f → whole ≡ (free, Err f)) → Stops e whole c c
-stops_by e r whole c h step =
-    let w = fault_of_whole e r whole.1 h (λ f is. (ap (λ (x : Reading _). x.1) (step f is), ap (λ (x : Reading _). x.0) (step f is))) in
-    stops_from_fault e whole c c w.0 (rw w.1 (nothing_spent c))
 
 pub stops_without_header : (e : WkbError) (levels : ℕ) (bytes : List ℕ) (c : Counts) → IsFault e (head_at bytes) → Stops e (geometry_at levels bytes) c c
 stops_without_header e levels bytes c h = stops_by e (head_at bytes) (geometry_at levels bytes) c h (λ f is. no_header levels bytes f is)

@@ -1,17 +1,8 @@
 pub mod Algebra
 pub mod Bodies
-pub mod Faults
 pub mod Free
-pub mod Leaves
-pub mod Lines
-pub mod Lists
-pub mod Members
-pub mod MultiPoints
 pub mod NoMemory
 pub mod Opens
 pub mod Parts
-pub mod Pieces
 pub mod Public
-pub mod Repeats
-pub mod Rings
 pub mod Stacks

@@ -18,10 +18,10 @@ use Rattle.wkb_geom.specs.declared.common.Endianness.TheVariants.{LittleEndian}
 use Rattle.wkb_geom.specs.Numbers.{AreBytes}
 use Rattle.wkb_geom.specs.Geometries.{IsGeometry, normal, geometry_of}
 use Rattle.wkb_laws.proofs.Bounds.{front_is_bounded_lem, refusal_is_bounded_lem}
-use Rattle.wkb_read.specs.declared.read.counts.Counts.{Counts}
+use Rattle.wkb_part.specs.declared.counts.Counts.{Counts}
 use Rattle.wkb_read.specs.declared.geometry.Wkb.{Wkb}
-use Rattle.wkb_read.proofs.Faults.{Stopped, by_fault, by_memory, stopped}
-use Rattle.wkb_read.specs.Outcome.{Spent, AtMost}
+use Rattle.wkb_part.proofs.Faults.{Stopped, by_fault, by_memory, stopped}
+use Rattle.wkb_part.specs.Outcome.{Spent, AtMost}
 use Rattle.wkb_read.specs.Stack.{Reads, counted}
 use Rattle.wkb_geom.specs.declared.common.Form.TheVariants.{Iso}
 use Rattle.wkb_geom.specs.Texts.{IsWritable}

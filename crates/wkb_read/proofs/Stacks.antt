@@ -10,11 +10,11 @@ use Rattle.wkb_read.specs.declared.read.unfinished.Open.{Open}
 use Rattle.wkb_read.specs.declared.read.unfinished.Begun.TheVariants.{Whole, Opened}
 use Rattle.wkb_read.specs.declared.geometry.Wkb.{Wkb}
 use Rattle.wkb_geom.specs.declared.error.WkbError.{WkbError}
-use Rattle.wkb_read.specs.declared.read.counts.Counts.{Counts}
-use Rattle.wkb_read.specs.Outcome.{Spent, AtMost, CanCount, Stops}
+use Rattle.wkb_part.specs.declared.counts.Counts.{Counts}
+use Rattle.wkb_part.specs.Outcome.{Spent, AtMost, CanCount, Stops}
 use Rattle.wkb_view.specs.Answers.{IsFault}
 use Rattle.wkb_read.specs.Stack.{in_collection, in_collection_by, counted, resume, levels_inside, HaveRoom, Begins}
-use Rattle.wkb_read.proofs.Faults.{Stopped, by_fault, by_memory, stopped, stops_from_fault, stops_from_memory, fault_of_whole}
+use Rattle.wkb_part.proofs.Faults.{Stopped, by_fault, by_memory, stopped, stops_from_fault, stops_from_memory, fault_of_whole}
 use Rattle.wkb_read.proofs.Algebra.{cost_is, costs-costs, and_then-costs, and_then-same, done_then, repeated_more, repeated_none}
 
 -- ---- what comes of a part, inside collections

@@ -2,7 +2,6 @@ pub mod Geometries
 pub mod GeometriesFall
 pub mod Memory
 pub mod Nodes
-pub mod Outcome
 pub mod Public
 pub mod Stack
 pub mod Types

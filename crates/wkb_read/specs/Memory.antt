@@ -3,19 +3,10 @@ use Rattle.std.specs.Prelude.{◌≡◌, ℕ, ◌+◌, ◌<◌, List, length, Re
 use Rattle.wkb_geom.specs.declared.code.WkbType.{WkbType}
 use Rattle.wkb_geom.specs.declared.code.WkbType.TheVariants as kinds
 use Rattle.wkb_geom.specs.declared.error.WkbError.{WkbError}
-use Rattle.wkb_geom.specs.declared.error.WkbError.TheVariants as errors
 use Rattle.wkb_geom.specs.Reading.{Head, head_at, polygon_at, multi_line_string_at, multi_polygon_at, body_start}
+use Rattle.wkb_part.specs.Memory.{IsNotMemoryError}
 use Rattle.wkb_read.specs.declared.read.unfinished.Begun.{Begun}
 use Rattle.wkb_read.specs.declared.read.unfinished.Begun.TheVariants.{Whole, Opened}
-
--- the answer isn't want of memory
-abbrev pub IsNotMemoryError : WkbError → Type 0
-IsNotMemoryError (errors.Memory e) = ⊥
-IsNotMemoryError _ = Unit {0}
-
-abbrev pub IsNotMemory : {X : Type 0} → Result X WkbError → Type 0
-IsNotMemory (Ok x) = Unit {0}
-IsNotMemory (Err e) = IsNotMemoryError e
 
 -- a point, a line string and a multi point; a list of parts that asks for no entry; a collection whose count is missing
 abbrev pub BodyTakesNone : WkbType → Head → List ℕ → Type 0

@@ -13,7 +13,7 @@ use Rattle.wkb_geom.specs.Errors.{Tells}
 use Rattle.wkb_geom.specs.Geometries.{geometry_of}
 use Rattle.wkb_geom.specs.Texts.{IsWritable}
 use Rattle.wkb_geom.specs.Reading.{Item}
-use Rattle.wkb_read.specs.declared.read.counts.Counts.{Counts}
+use Rattle.wkb_part.specs.declared.counts.Counts.{Counts}
 use Rattle.wkb_read.specs.declared.geometry.Wkb.{Wkb}
 
 -- the input begins with the bytes of this geometry, which spell its value

@@ -4,13 +4,13 @@ use Rattle.wkb_geom.specs.declared.common.Endianness.{Endianness}
 use Rattle.wkb_geom.specs.declared.common.Dimension.{Dimension}
 use Rattle.wkb_geom.specs.declared.error.WkbError.{WkbError}
 use Rattle.wkb_geom.specs.Reading.{Item, Cost, Reading, costs, one_turn, done, and_then, repeated, collection_at, too_deep, body_start, geometry_at}
-use Rattle.wkb_read.specs.declared.read.counts.Counts.{Counts}
+use Rattle.wkb_part.specs.declared.counts.Counts.{Counts}
 use Rattle.wkb_read.specs.declared.read.unfinished.Open.{Open}
 use Rattle.wkb_read.specs.declared.read.unfinished.Begun.{Begun}
 use Rattle.wkb_read.specs.declared.read.unfinished.Begun.TheVariants.{Whole, Opened}
 use Rattle.wkb_view.specs.Lists.{collection_end}
 use Rattle.wkb_view.specs.declared.header.Layout.{Layout}
-use Rattle.wkb_read.specs.Outcome.{Spent, Stops}
+use Rattle.wkb_part.specs.Outcome.{Spent, Stops}
 use Rattle.wkb_read.specs.declared.geometry.Wkb.{Wkb}
 
 -- what comes of the member that is being read, of those behind it, and of the collection

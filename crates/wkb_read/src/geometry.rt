@@ -193,7 +193,7 @@ impl<'a> Wkb<'a> {
     ghost use Rattle.wkb_geom.specs.Values.{collection, dimension};
     ghost use Rattle.wkb_geom.specs.Geometries.{IsGeometry, normal, geometry_of};
     ghost use Rattle.wkb_read.specs.Public.{TakesNoMemory, IsFront, IsOnlyFront, HasNoFront, IsRefusal, TellsEach, IfRefused, CanBeWritten};
-    ghost use Rattle.wkb_read.specs.Memory.{IsNotMemory};
+    ghost use Rattle.wkb_part.specs.Memory.{IsNotMemory};
 
     /// The geometry at the front of the bytes, as `read_wkb` answers it.
     pub fn try_new(alloc: Global, buf: &'a [u8]) -> WkbResult<Wkb<'a>>

@@ -2,28 +2,29 @@
 
 ghost use Rattle.std.specs.Prelude.{◌≡◌, ◌+◌, ◌*◌, ◌<◌, ◌≤◌, ◌^◌, length, reverse, IfOk};
 ghost use Rattle.wkb_geom.specs.Reading.{geometry_at, body_at, line_string_at, costs, done};
-ghost use Rattle.wkb_read.specs.Outcome.{Gives, CanCount};
+ghost use Rattle.wkb_part.specs.Outcome.{Gives, CanCount};
 ghost use Rattle.wkb_read.specs.Stack.{resume, counted, HaveRoom, Settles, levels_inside, collection_inside, BeginsAs, Begins, Reads};
 ghost use Rattle.wkb_read.specs.Public.{TakesNoMemory, IsFront, IsOnlyFront, HasNoFront, IsRefusal, TellsEach, IfRefused, IfMemory, CountsValue, CountsRefusal, CountsAtMost, CanBeWritten};
 ghost use Rattle.wkb_geom.specs.Geometries.{IsGeometry, normal, geometry_of};
 ghost use Rattle.wkb_view.specs.Views.{head_seen};
-ghost use Rattle.wkb_read.specs.Memory.{IsNotMemory, NeedsNone, BodyTakesNone, ReadsWithoutMemory};
+ghost use Rattle.wkb_part.specs.Memory.{IsNotMemory};
+ghost use Rattle.wkb_read.specs.Memory.{NeedsNone, BodyTakesNone, ReadsWithoutMemory};
 ghost use Rattle.wkb_geom.specs.Reading.{body_start};
 
 use crate::geometry::{GeometryCollection, Kind, Wkb};
-use crate::read::counts::Counts;
-use crate::read::leaf::{line_string, point};
-use crate::read::lines::multi_line_string;
-use crate::read::points::multi_point;
-use crate::read::polygons::multi_polygon;
-use crate::read::reserved::{Reserved, bounded_capacity};
-use crate::read::rings::polygon;
 use crate::read::unfinished::{Begun, Open};
 use std::alloc::{AllocError, Global};
 use std::io;
 use wkb_geom::code::WkbType;
 use wkb_geom::error::{WkbError, WkbResult};
 use wkb_geom::words::u32_at;
+use wkb_part::counts::Counts;
+use wkb_part::leaf::{line_string, point};
+use wkb_part::lines::multi_line_string;
+use wkb_part::points::multi_point;
+use wkb_part::polygons::multi_polygon;
+use wkb_part::reserved::{Reserved, bounded_capacity};
+use wkb_part::rings::polygon;
 use wkb_view::header::{Header, Layout};
 use wkb_view::leaf::{header, start_of_body};
 

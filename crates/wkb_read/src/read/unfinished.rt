@@ -1,7 +1,7 @@
 //! Collections that are open while their members are read.
 
 use crate::geometry::Wkb;
-use crate::read::reserved::Reserved;
+use wkb_part::reserved::Reserved;
 use wkb_view::header::Layout;
 
 /// An open collection: where it began, how many members come behind the one that is being read, and

@@ -1,6 +1,6 @@
 use Rattle.std.proofs.Common.{sym, subst}
 use Rattle.wkb_geom.specs.Reading.{Item, Reading}
-use Rattle.wkb_read.specs.Outcome.{CanCount}
+use Rattle.wkb_part.specs.Outcome.{CanCount}
 use Rattle.wkb_read.specs.Stack.{levels_inside, BeginsAs}
 use Rattle.wkb_view.specs.Views.{head_seen}
 use Rattle.wkb_read.proofs.Bodies.{behind_header, stops_without_header}

@@ -1,5 +1,5 @@
 use Rattle.wkb_read.proofs.Bodies.{whole_at_no_cost, stops_at_no_cost}
-use Rattle.wkb_read.proofs.Leaves.{line_string_free}
+use Rattle.wkb_part.proofs.Leaves.{line_string_free}
 use Rattle.wkb_read.proofs.read.stack.begun_line_string.Goals as goal
 
 pub returns-in-Ok-clause-begins : goal.returns-in-Ok-clause-begins

@@ -1,0 +1,30 @@
+//! The bytes of cases that several tests read, in hex.
+
+use crate::support::repeated;
+use std::alloc::Global;
+use std::test::Fail;
+
+/// A polygon with a hole of no coordinates.
+pub const POLYGON_HOLE: &str = "01 03000000 02000000 01000000 P 00000000";
+
+/// A line string that is little endian and one with an SRID that is big endian and empty.
+pub const MULTI_LINE_TWO: &str =
+    "01 05000000 02000000 01 02000000 01000000 P 00 20000002 000010e6 00000000";
+
+/// A line string with an SRID of its own.
+pub const MEMBER_WITH_SRID: &str = "01 05000000 01000000 01 02000020 e6100000 01000000 P";
+
+/// An Xy collection of a big endian Xyz point and an Xy polygon without rings.
+pub const MIXED_DIMENSIONS: &str = "01 07000000 02000000
+    00 000003e9 3ff0000000000000 4000000000000000 4008000000000000 01 03000000 00000000";
+
+/// A collection of one member.
+pub const ONE_MEMBER: &str = "01 07000000 01000000";
+
+/// A point of two zeros.
+pub const ZEROS: &str = "01 01000000 0000000000000000 0000000000000000";
+
+/// So many collections, one in the other, round a point.
+pub fn nested_in(alloc: Global, levels: usize) -> Result<Vec<u8>, Fail> {
+    repeated(alloc, levels, ONE_MEMBER, ZEROS)
+}

@@ -1,0 +1,60 @@
+//! Every proper beginning of an input is refused.
+
+use std::test::Fail;
+use wkb::error::General;
+use wkb_cases::reading::{Outcome, answer_to};
+use wkb_cases::support::bytes;
+use wkb_cases::texts::{
+    MEMBER_WITH_SRID, MIXED_DIMENSIONS, MULTI_LINE_TWO, POLYGON_HOLE, nested_in,
+};
+
+#[test]
+fn cut_nested(rt: HostRuntime) -> Result<(), Fail> {
+    let input = nested_in(rt.alloc(), 128)?;
+    assert_eq!(rt; input.len(), 1173);
+    for len in 0..1173usize {
+        let answer = answer_to(rt.alloc(), &input[..len]);
+        let expected = if len <= 1156 {
+            Outcome::EndOfInput
+        } else {
+            Outcome::Refused(General::ShortPoint {
+                end: 21,
+                len: len - 1152,
+            })
+        };
+        assert_eq!(rt; answer, expected, "{len}");
+    }
+    Ok(())
+}
+
+// Whether a reading ended for want of bytes.
+fn is_short(answer: Outcome) -> bool {
+    match answer {
+        Outcome::EndOfInput => true,
+        Outcome::Refused(fault) => matches!(
+            fault,
+            General::ShortPoint { end: _, len: _ }
+                | General::ShortLineString { end: _, len: _ }
+                | General::ShortLinearRing { end: _, len: _ }
+                | General::ShortMultiPoint { end: _, len: _ }
+        ),
+        _ => false,
+    }
+}
+
+#[test]
+fn cut_others(rt: HostRuntime) -> Result<(), Fail> {
+    for text in [
+        POLYGON_HOLE,
+        MULTI_LINE_TWO,
+        MEMBER_WITH_SRID,
+        MIXED_DIMENSIONS,
+    ] {
+        let input = bytes(rt.alloc(), text)?;
+        for len in 0..input.len() {
+            let answer = answer_to(rt.alloc(), &input[..len]);
+            assert!(rt; is_short(answer), "{len} of {text}");
+        }
+    }
+    Ok(())
+}
