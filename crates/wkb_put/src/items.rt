@@ -11,8 +11,8 @@ use crate::block::Block;
 use crate::coordinates::put_coordinates;
 use crate::lay::lay_point;
 use crate::put::{make_room, put_count, put_header};
-use wkb_geom::rings::{ring_at, ring_count};
 use wkb_geom::code::WkbType;
+use wkb_geom::rings::{ring_at, ring_count};
 use wkb_geom::{
     Dimension, Dimensioned, Endianness, Form, LineStringTrait, MultiLineStringTrait,
     MultiPointTrait, MultiPolygonTrait, PointTrait, PolygonTrait, WkbResult,
