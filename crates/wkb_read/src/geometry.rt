@@ -18,6 +18,7 @@ use wkb_view::line_string::LineString;
 use wkb_view::multi_line_string::MultiLineString;
 use wkb_view::multi_point::MultiPoint;
 use wkb_view::multi_polygon::MultiPolygon;
+use wkb_view::own_srid::OwnSrid;
 use wkb_view::point::Point;
 use wkb_view::polygon::Polygon;
 

@@ -9,6 +9,7 @@ pub mod linear_ring;
 pub mod multi_line_string;
 pub mod multi_point;
 pub mod multi_polygon;
+pub mod own_srid;
 mod part;
 pub mod point;
 pub mod polygon;

@@ -11,6 +11,7 @@ use crate::leaf::{srid_of_text, start_of_body};
 use crate::multi_line_string::MultiLineString;
 use crate::multi_point::MultiPoint;
 use crate::multi_polygon::MultiPolygon;
+use crate::own_srid::OwnSrid;
 use crate::part::part;
 use crate::point::Point;
 use crate::polygon::Polygon;
@@ -38,7 +39,7 @@ impl<'a> LineString<'a> {
     ghost use Rattle.wkb_geom.specs.Values as value;
     ghost use Rattle.wkb_geom.specs.Reading.{body_start, line_of};
     ghost use Rattle.wkb_view.specs.Views.{line_string_seen};
-    ghost use Rattle.wkb_view.specs.Parts.{order_of, srid_of};
+    ghost use Rattle.wkb_view.specs.Parts.{order_of};
 
     /// The number of its bytes.
     #[inline]
@@ -89,12 +90,15 @@ impl<'a> LineString<'a> {
     {
         self.buf
     }
+}
 
-    /// The SRID in its bytes, where there is one: for the geometry of any kind that holds this line string.
+impl OwnSrid for LineString<'_> {
+    ghost use Rattle.wkb_view.specs.Views.{line_string_seen};
+
+    ghost spelled = { λ s. (line_string_seen s).spelled };
+
     #[inline]
-    pub fn srid(&self) -> Option<u32>
-        ensures { result ≡ srid_of (line_string_seen self.now).spelled }
-    {
+    fn srid(&self) -> Option<u32> {
         srid_of_text(self.buf, self.order, self.has_srid)
     }
 }

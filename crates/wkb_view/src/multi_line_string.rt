@@ -8,6 +8,7 @@ use crate::leaf::{header, srid_of_text, start_of_body};
 use crate::line_string::LineString;
 use crate::multi_point::MultiPoint;
 use crate::multi_polygon::MultiPolygon;
+use crate::own_srid::OwnSrid;
 use crate::part::{part, start_of_part};
 use crate::point::Point;
 use crate::polygon::Polygon;
@@ -48,7 +49,6 @@ impl<'a> Model for MultiLineString<'a> {
 }
 
 impl<'a> MultiLineString<'a> {
-    ghost use Rattle.wkb_view.specs.Parts.{srid_of};
     ghost use Rattle.std.specs.Prelude.{◌≡◌, IfOk, IfSome, length, slice_get, option_map};
     ghost use Rattle.wkb_geom.specs.Reading.{line_of};
     ghost use Rattle.wkb_view.specs.Views.{line_string_seen};
@@ -120,12 +120,13 @@ impl<'a> MultiLineString<'a> {
             ends: self.ends.clone()?,
         })
     }
+}
 
-    /// The SRID in its bytes, where there is one: for the geometry of any kind that holds this multi line string.
+impl OwnSrid for MultiLineString<'_> {
+    ghost spelled = { λ s. s.spelled };
+
     #[inline]
-    pub fn srid(&self) -> Option<u32>
-        ensures { result ≡ srid_of self.now.spelled }
-    {
+    fn srid(&self) -> Option<u32> {
         srid_of_text(self.buf, self.order, self.has_srid)
     }
 }

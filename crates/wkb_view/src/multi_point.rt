@@ -12,6 +12,7 @@ use crate::leaf::{header, srid_of_text};
 use crate::line_string::LineString;
 use crate::multi_line_string::MultiLineString;
 use crate::multi_polygon::MultiPolygon;
+use crate::own_srid::OwnSrid;
 use crate::part::part;
 use crate::point::Point;
 use crate::polygon::Polygon;
@@ -40,7 +41,7 @@ impl<'a> MultiPoint<'a> {
     ghost use Rattle.wkb_geom.specs.Values as value;
     ghost use Rattle.wkb_geom.specs.Reading.{body_start};
     ghost use Rattle.wkb_view.specs.Views.{multi_point_seen};
-    ghost use Rattle.wkb_view.specs.Parts.{points_of, srid_of};
+    ghost use Rattle.wkb_view.specs.Parts.{points_of};
 
     /// The number of its bytes.
     #[inline]
@@ -75,12 +76,15 @@ impl<'a> MultiPoint<'a> {
     {
         self.buf
     }
+}
 
-    /// The SRID in its bytes, where there is one: for the geometry of any kind that holds this multi point.
+impl OwnSrid for MultiPoint<'_> {
+    ghost use Rattle.wkb_view.specs.Views.{multi_point_seen};
+
+    ghost spelled = { λ s. (multi_point_seen s).spelled };
+
     #[inline]
-    pub fn srid(&self) -> Option<u32>
-        ensures { result ≡ srid_of (multi_point_seen self.now).spelled }
-    {
+    fn srid(&self) -> Option<u32> {
         srid_of_text(self.buf, self.order, self.has_srid)
     }
 }

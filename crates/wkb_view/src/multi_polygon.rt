@@ -8,6 +8,7 @@ use crate::leaf::srid_of_text;
 use crate::line_string::LineString;
 use crate::multi_line_string::MultiLineString;
 use crate::multi_point::MultiPoint;
+use crate::own_srid::OwnSrid;
 use crate::point::Point;
 use crate::polygon::Polygon;
 use std::alloc::AllocError;
@@ -45,7 +46,6 @@ impl<'a> Model for MultiPolygon<'a> {
 }
 
 impl<'a> MultiPolygon<'a> {
-    ghost use Rattle.wkb_view.specs.Parts.{srid_of};
     ghost use Rattle.std.specs.Prelude.{◌≡◌, IfOk, length};
 
     /// The number of its bytes.
@@ -88,12 +88,13 @@ impl<'a> MultiPolygon<'a> {
             members,
         })
     }
+}
 
-    /// The SRID in its bytes, where there is one: for the geometry of any kind that holds this multi polygon.
+impl OwnSrid for MultiPolygon<'_> {
+    ghost spelled = { λ s. s.spelled };
+
     #[inline]
-    pub fn srid(&self) -> Option<u32>
-        ensures { result ≡ srid_of self.now.spelled }
-    {
+    fn srid(&self) -> Option<u32> {
         srid_of_text(self.buf, self.order, self.has_srid)
     }
 }

@@ -12,6 +12,7 @@ use crate::line_string::LineString;
 use crate::multi_line_string::MultiLineString;
 use crate::multi_point::MultiPoint;
 use crate::multi_polygon::MultiPolygon;
+use crate::own_srid::OwnSrid;
 use crate::part::part;
 use crate::polygon::Polygon;
 use wkb_geom::{
@@ -38,7 +39,7 @@ impl<'a> Point<'a> {
     ghost use Rattle.wkb_view.specs.Points.{coordinate_in};
     ghost use Rattle.wkb_view.specs.Views.{point_seen};
     ghost use Rattle.wkb_geom.specs.Values as value;
-    ghost use Rattle.wkb_view.specs.Parts.{order_of, srid_of};
+    ghost use Rattle.wkb_view.specs.Parts.{order_of};
 
     /// The number of its bytes.
     #[inline]
@@ -104,12 +105,15 @@ impl<'a> Point<'a> {
             dimension: self.dimension,
         }
     }
+}
 
-    /// The SRID in its bytes, where there is one: for the geometry of any kind that holds this point.
+impl OwnSrid for Point<'_> {
+    ghost use Rattle.wkb_view.specs.Views.{point_seen};
+
+    ghost spelled = { λ s. (point_seen s).spelled };
+
     #[inline]
-    pub fn srid(&self) -> Option<u32>
-        ensures { result ≡ srid_of (point_seen self.now).spelled }
-    {
+    fn srid(&self) -> Option<u32> {
         srid_of_text(self.buf, self.order, self.has_srid)
     }
 }

@@ -10,6 +10,7 @@ use crate::linear_ring::LinearRing;
 use crate::multi_line_string::MultiLineString;
 use crate::multi_point::MultiPoint;
 use crate::multi_polygon::MultiPolygon;
+use crate::own_srid::OwnSrid;
 use crate::part::{part, start_of_part};
 use crate::point::Point;
 use std::alloc::AllocError;
@@ -48,7 +49,6 @@ impl<'a> Model for Polygon<'a> {
 }
 
 impl<'a> Polygon<'a> {
-    ghost use Rattle.wkb_view.specs.Parts.{srid_of};
     ghost use Rattle.std.specs.Prelude.{◌≡◌, IfOk, IfSome, length, slice_get, option_map};
     ghost use Rattle.wkb_view.specs.Coords.{ring_seen};
 
@@ -114,12 +114,13 @@ impl<'a> Polygon<'a> {
             ends: self.ends.clone()?,
         })
     }
+}
 
-    /// The SRID in its bytes, where there is one: for the geometry of any kind that holds this polygon.
+impl OwnSrid for Polygon<'_> {
+    ghost spelled = { λ s. s.spelled };
+
     #[inline]
-    pub fn srid(&self) -> Option<u32>
-        ensures { result ≡ srid_of self.now.spelled }
-    {
+    fn srid(&self) -> Option<u32> {
         srid_of_text(self.buf, self.order, self.has_srid)
     }
 }

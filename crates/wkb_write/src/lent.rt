@@ -5,26 +5,27 @@ ghost use Rattle.wkb_geom.specs.Geometries.{point, line_string, polygon, multi_p
 ghost use Rattle.wkb_write.specs.declared.lent.Lent.TheVariants.{Point, LineString, Polygon, MultiPoint, MultiLineString, MultiPolygon, Rect, Triangle, Line};
 ghost use Rattle.wkb_write.specs.Lents.{by_kind};
 
-use crate::never::Never;
+use crate::origin::Origin;
 use wkb_geom::{
     Dimensioned, Dimensions, GeometryTrait, GeometryType, LineStringTrait, LineTrait,
     MultiLineStringTrait, MultiPointTrait, MultiPolygonTrait, PointTrait, PolygonTrait, RectTrait,
     TriangleTrait,
 };
 
-/// A lent geometry of any kind but a collection.
+/// A lent geometry of any kind but a collection. Each alias below lends one kind; `Origin` stands for the
+/// others.
 #[derive(Drop)]
 pub enum Lent<
     'a,
     P,
-    L = Never,
-    Y = Never,
-    MP = Never,
-    ML = Never,
-    MY = Never,
-    R = Never,
-    T = Never,
-    N = Never,
+    L = Origin,
+    Y = Origin,
+    MP = Origin,
+    ML = Origin,
+    MY = Origin,
+    R = Origin,
+    T = Origin,
+    N = Origin,
 > {
     Point(&'a P),
     LineString(&'a L),
@@ -41,28 +42,39 @@ pub enum Lent<
 pub type OfPoint<'a, K> = Lent<'a, K>;
 
 /// A lent line string.
-pub type OfLineString<'a, K> = Lent<'a, Never, K>;
+pub type OfLineString<'a, K> = Lent<'a, Origin, K>;
 
 /// A lent polygon.
-pub type OfPolygon<'a, K> = Lent<'a, Never, Never, K>;
+pub type OfPolygon<'a, K> = Lent<'a, Origin, Origin, K>;
 
 /// A lent MultiPoint.
-pub type OfMultiPoint<'a, K> = Lent<'a, Never, Never, Never, K>;
+pub type OfMultiPoint<'a, K> = Lent<'a, Origin, Origin, Origin, K>;
 
 /// A lent MultiLineString.
-pub type OfMultiLineString<'a, K> = Lent<'a, Never, Never, Never, Never, K>;
+pub type OfMultiLineString<'a, K> = Lent<'a, Origin, Origin, Origin, Origin, K>;
 
 /// A lent MultiPolygon.
-pub type OfMultiPolygon<'a, K> = Lent<'a, Never, Never, Never, Never, Never, K>;
+pub type OfMultiPolygon<'a, K> = Lent<'a, Origin, Origin, Origin, Origin, Origin, K>;
 
 /// A lent rectangle.
-pub type OfRect<'a, K> = Lent<'a, Never, Never, Never, Never, Never, Never, K>;
+pub type OfRect<'a, K> = Lent<'a, Origin, Origin, Origin, Origin, Origin, Origin, K>;
 
 /// A lent triangle.
-pub type OfTriangle<'a, K> = Lent<'a, Never, Never, Never, Never, Never, Never, Never, K>;
+pub type OfTriangle<'a, K> = Lent<'a, Origin, Origin, Origin, Origin, Origin, Origin, Origin, K>;
 
 /// A lent line.
-pub type OfLine<'a, K> = Lent<'a, Never, Never, Never, Never, Never, Never, Never, Never, K>;
+pub type OfLine<'a, K> = Lent<
+    'a,
+    Origin,
+    Origin,
+    Origin,
+    Origin,
+    Origin,
+    Origin,
+    Origin,
+    Origin,
+    K,
+>;
 
 impl<
     P: PointTrait,

@@ -6,8 +6,8 @@
 #![tactic(auto)]
 
 mod lent;
-mod never;
 mod options;
+mod origin;
 mod size;
 mod writer;
 

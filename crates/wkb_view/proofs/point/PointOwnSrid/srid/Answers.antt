@@ -1,6 +1,6 @@
 use Rattle.std.proofs.Common.{◌∙◌}
 use Rattle.wkb_view.proofs.Points.{srid_is}
-use Rattle.wkb_view.proofs.point.Point.srid.Goals as goal
+use Rattle.wkb_view.proofs.point.PointOwnSrid.srid.Goals as goal
 
 pub returns : goal.returns
 returns c = let p = c.args.self.now in c.srid_of_text.ensures ∙ srid_is p.order p.dimension p.has_srid p.buf.now
