@@ -1,5 +1,5 @@
 -- The nodes of a collection's members.
-use Rattle.std.proofs.Common.{◌+◌, ◌<◌, ◌≤◌, ℕ, zero, suc, List, [], ◌∷◌, length, map, get_or, arith}
+use Rattle.std.proofs.Common.{◌<◌, ◌≤◌, ℕ, zero, suc, List, [], ◌∷◌, length, map, get_or, arith}
 use Rattle.wkb_geom.specs.Geometries.{Geometry, geometries}
 use Rattle.wkb_geom.specs.Sizes.{node_count, node_counts}
 

@@ -1,8 +1,7 @@
 -- Faults, one after another.
-use Rattle.std.proofs.Common.{◌≡◌, ℕ, ◌<◌, ◌≤◌, ◌^◌, Option, Some, None, refl, sym, subst, arith, ◌⊎◌, Result}
+use Rattle.std.proofs.Common.{◌≡◌, ℕ, ◌<◌, ◌≤◌, ◌^◌, Option, None, refl, sym, subst, arith, ◌⊎◌, Result}
 use Rattle.std.proofs.lemmas.Bool.Decides.{nat_tests}
-use Rattle.wkb_geom.specs.declared.common.Dimensions.{Dimensions}
-use Rattle.wkb_geom.specs.declared.common.Dimensions.TheVariants.{Xy, Xyz, Xym, Xyzm, Unknown}
+use Rattle.wkb_geom.specs.declared.common.Dimensions.TheVariants.{Unknown}
 use Rattle.wkb_geom.specs.Dimensions.{size}
 use Rattle.wkb_geom.specs.declared.error.WkbError.{WkbError}
 use Rattle.wkb_geom.specs.Texts.{Fault, or_else, count_fault, count_overflow, unsupported_dimensions, dimensions_fault}

@@ -1,11 +1,11 @@
 -- Faults, one after another.
-use Rattle.std.proofs.Common.{◌≡◌, ℕ, zero, suc, ◌<◌, ◌≤◌, ◌^◌, List, [], ◌∷◌, Option, Some, None, refl, sym, ap, ◌∙◌, arith, slice_get}
+use Rattle.std.proofs.Common.{◌≡◌, ℕ, zero, suc, ◌<◌, ◌≤◌, ◌^◌, List, [], ◌∷◌, Option, Some, None, sym, ap, ◌∙◌, arith, slice_get}
 use Rattle.std.proofs.lemmas.Bool.Decides.{nat_tests}
 use Rattle.wkb_geom.specs.declared.common.Dimensions.{Dimensions}
 use Rattle.wkb_geom.specs.declared.common.Dimensions.TheVariants.{Xy, Xyz, Xym, Xyzm, Unknown}
 use Rattle.wkb_geom.proofs.Faults.{none_first, none_rest}
 use Rattle.wkb_geom.specs.Dimensions.{size}
-use Rattle.wkb_geom.specs.Texts.{Fault, or_else, first_fault, count_fault, dimensions_fault}
+use Rattle.wkb_geom.specs.Texts.{Fault, first_fault, count_fault, dimensions_fault}
 
 pub count_below : (n : ℕ) → count_fault n ≡ None → n < 2 ^ 32
 unfolding count_fault

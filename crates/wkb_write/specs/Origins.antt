@@ -1,5 +1,5 @@
 -- The coordinate at the origin.
-use Rattle.std.proofs.Common.{ℕ, ◌<◌, ◌^◌, List, [], ◌∷◌, refl, lit<}
+use Rattle.std.proofs.Common.{ℕ, List, [], ◌∷◌, refl, lit<}
 use Rattle.wkb_geom.specs.declared.common.Dimensions.TheVariants.{Xy}
 use Rattle.wkb_geom.specs.Geometries.{IsCoordinate, AreCoordinates}
 
