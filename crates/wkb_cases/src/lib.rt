@@ -4,5 +4,6 @@
 
 pub mod example;
 pub mod reading;
+pub mod spelled;
 pub mod support;
 pub mod texts;

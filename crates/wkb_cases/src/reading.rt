@@ -1,6 +1,7 @@
 //! What reading the bytes of a case answers.
 
-use crate::support::{bytes, iso};
+use crate::spelled::bytes;
+use crate::support::iso;
 use std::alloc::Global;
 use std::io;
 use std::test::Fail;
@@ -25,6 +26,8 @@ pub enum Outcome {
     WrongMember,
     Refused(General),
     TooDeep(usize),
+    /// Memory was refused.
+    Memory,
     /// Any other error.
     Other,
 }
@@ -80,6 +83,7 @@ fn outcome_of(answer: &WkbResult<Wkb<'_>>) -> Outcome {
         Err(WkbError::IncorrectType("multi geometry member")) => Outcome::WrongMember,
         Err(WkbError::General(fault)) => Outcome::Refused(*fault),
         Err(WkbError::NestingDepthExceeded(limit)) => Outcome::TooDeep(*limit),
+        Err(WkbError::Memory(_)) => Outcome::Memory,
         Err(_) => Outcome::Other,
     }
 }
@@ -96,7 +100,7 @@ pub fn answer_to(alloc: Global, input: &[u8]) -> Outcome {
 
 /// What `read_wkb` answers to the bytes of a text.
 pub fn reads(alloc: Global, text: &str) -> Result<Outcome, Fail> {
-    let input = bytes(alloc, text)?;
+    let input = bytes(text)?;
     Ok(answer_to(alloc, input.as_slice()))
 }
 
@@ -123,9 +127,9 @@ pub fn rewrites(
     options: &WriteOptions,
     expected: &str,
 ) -> Result<bool, Fail> {
-    let input = bytes(alloc, input)?;
+    let input = bytes(input)?;
     let text = canonical(alloc, input.as_slice(), options)?;
-    let expected = bytes(alloc, expected)?;
+    let expected = bytes(expected)?;
     Ok(text.as_slice() == expected.as_slice())
 }
 
@@ -136,16 +140,16 @@ pub fn rewrites_with_srid(
     order: Endianness,
     expected: &str,
 ) -> Result<bool, Fail> {
-    let input = bytes(alloc, input)?;
+    let input = bytes(input)?;
     let text = canonical_with_srid(alloc, input.as_slice(), order)?;
-    let expected = bytes(alloc, expected)?;
+    let expected = bytes(expected)?;
     Ok(text.as_slice() == expected.as_slice())
 }
 
 /// Whether two texts' bytes have equal values.
 pub fn equal_values(alloc: Global, first: &str, second: &str) -> Result<bool, Fail> {
-    let first = bytes(alloc, first)?;
-    let second = bytes(alloc, second)?;
+    let first = bytes(first)?;
+    let second = bytes(second)?;
     Ok(same(alloc, first.as_slice(), second.as_slice())?)
 }
 

@@ -1,4 +1,4 @@
-//! Bytes from the text of a case, the words of its numbers, and the options of writing.
+//! The words of the cases' numbers, the options of writing, and plain geometries.
 
 use std::alloc::Global;
 use std::test::Fail;
@@ -15,44 +15,6 @@ pub const ONE: u64 = 0x3ff0_0000_0000_0000;
 pub const TWO: u64 = 0x4000_0000_0000_0000;
 
 pub const THREE: u64 = 0x4008_0000_0000_0000;
-
-// What `P` stands for: 1.0 and 2.0, little endian.
-const ONE_AND_TWO: &str = "000000000000f03f0000000000000040";
-
-/// The bytes that a text spells in hex. Spaces are for reading, and `P` stands for the sixteen bytes
-/// of 1.0 and 2.0, little endian.
-pub fn bytes(alloc: Global, text: &str) -> Result<Vec<u8>, Fail> {
-    let mut digits = Vec::new(alloc);
-    for character in text.as_bytes() {
-        match *character {
-            b' ' | b'\n' => {}
-            b'P' => digits.extend_from_slice(ONE_AND_TWO.as_bytes())?,
-            digit => digits.push(digit)?,
-        }
-    }
-    Ok(hex::decode(alloc, digits.as_slice())?)
-}
-
-/// As many zero bytes behind a text's bytes.
-pub fn with_zeros(alloc: Global, text: &str, count: usize) -> Result<Vec<u8>, Fail> {
-    let mut spelled = bytes(alloc, text)?;
-    for _zero in 0..count {
-        spelled.push(0)?;
-    }
-    Ok(spelled)
-}
-
-/// A text's bytes, as often as said, and then another's.
-pub fn repeated(alloc: Global, count: usize, text: &str, end: &str) -> Result<Vec<u8>, Fail> {
-    let once = bytes(alloc, text)?;
-    let mut spelled = Vec::new(alloc);
-    for _time in 0..count {
-        spelled.extend_from_slice(once.as_slice())?;
-    }
-    let last = bytes(alloc, end)?;
-    spelled.extend_from_slice(last.as_slice())?;
-    Ok(spelled)
-}
 
 /// ISO in this order.
 pub fn iso(endianness: Endianness) -> WriteOptions {

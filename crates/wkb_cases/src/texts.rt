@@ -1,7 +1,6 @@
 //! The bytes of cases that several tests read, in hex.
 
-use crate::support::repeated;
-use std::alloc::Global;
+use crate::spelled::{Spelled, repeated};
 use std::test::Fail;
 
 /// A polygon with a hole of no coordinates.
@@ -25,6 +24,6 @@ pub const ONE_MEMBER: &str = "01 07000000 01000000";
 pub const ZEROS: &str = "01 01000000 0000000000000000 0000000000000000";
 
 /// So many collections, one in the other, round a point.
-pub fn nested_in(alloc: Global, levels: usize) -> Result<Vec<u8>, Fail> {
-    repeated(alloc, levels, ONE_MEMBER, ZEROS)
+pub fn nested_in(levels: usize) -> Result<Spelled, Fail> {
+    repeated(levels, ONE_MEMBER, ZEROS)
 }

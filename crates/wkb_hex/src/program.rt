@@ -88,7 +88,8 @@ impl Report {
 
 /// An error's text up to its first line feed, so that it fits on one line.
 fn first_line(text: &str) -> &str
-    ensures { IsOneLine result.now }
+    ensures line { IsOneLine result.now }
+    ensures whole { IsOneLine text.now → result.now ≡ text.now }
 {
     match text.split_once('\n') {
         Some((line, _)) => line,

@@ -21,12 +21,19 @@ const POLYGON_WITH_SRID: &str =
 /// A collection of a point with three words and of an empty polygon.
 const MIXED: &str =
     "01070000000200000000000003e93ff000000000000040000000000000004008000000000000010300000000000000";
+/// Two points that are the same, the second big endian and with an SRID.
+const TWO_LINES: &str = "0101000000000000000000f03f0000000000000040
+0020000001000010e63ff00000000000004000000000000000
+";
 /// The head of a collection of one member.
 const COLLECTION_OF_ONE: &str = "010700000001000000";
 /// A point at the origin.
 const ORIGIN: &str = "010100000000000000000000000000000000000000";
 
 const NESTED_BYTES: usize = 1173;
+
+/// All words of the program.
+const WORDS: [&str; 7] = ["le", "be", "same", "cost", "srid", "ewkb-le", "ewkb-be"];
 
 const USAGE: &str = "usage: wkb_hex le|be|same|cost|srid|ewkb-le|ewkb-be\n";
 
@@ -57,6 +64,23 @@ impl Read for EndlessReader {
             return Ok(0);
         }
         buf[0] = b'0';
+        Ok(1)
+    }
+}
+
+/// Gives one byte a read.
+#[derive(Drop)]
+struct NarrowReader<'a> {
+    rest: &'a [u8],
+}
+
+impl Read for NarrowReader<'_> {
+    fn read(&mut self, buf: &mut [u8]) -> io::Result<usize> {
+        if buf.is_empty() || self.rest.is_empty() {
+            return Ok(0);
+        }
+        buf[0] = self.rest[0];
+        self.rest = &self.rest[1..];
         Ok(1)
     }
 }
@@ -262,13 +286,36 @@ fn cut_inputs(rt: HostRuntime) -> Result<(), Fail> {
     Ok(())
 }
 
+// The hex of a line string of two thousand coordinates, which takes over sixty thousand reads.
+#[test]
+fn read_byte_by_byte(rt: HostRuntime) -> Result<(), Fail> {
+    let mut text = String::from_str(rt.alloc(), "0102000000d0070000")?;
+    for _ in 0..4000 {
+        text.push_str("000000000000f03f")?;
+    }
+    assert_eq!(rt; text.len(), 64018);
+    let words = words_of(rt.alloc(), "le")?;
+    let mut reader = NarrowReader {
+        rest: text.as_bytes(),
+    };
+    let mut out = Vec::new(rt.alloc());
+    let status = run(rt.alloc(), words.as_slice(), &mut reader, &mut out);
+    assert_eq!(rt; status, 0);
+    let line = out.as_slice().strip_suffix(b"\n").ok_or("no line")?;
+    assert!(rt; line == text.as_bytes());
+    Ok(())
+}
+
 #[test]
 fn readers_that_fail(rt: HostRuntime) -> Result<(), Fail> {
-    let words = words_of(rt.alloc(), "le")?;
     let mut out = Vec::new(rt.alloc());
-    let mut failing = FailingReader { has_given: false };
-    let status = run(rt.alloc(), words.as_slice(), &mut failing, &mut out);
-    assert_eq!(rt; status, 3);
+    for word in WORDS {
+        let words = words_of(rt.alloc(), word)?;
+        let mut failing = FailingReader { has_given: false };
+        let status = run(rt.alloc(), words.as_slice(), &mut failing, &mut out);
+        assert_eq!(rt; status, 3, "{word}");
+    }
+    let words = words_of(rt.alloc(), "le")?;
     let mut endless = EndlessReader;
     let status = run(rt.alloc(), words.as_slice(), &mut endless, &mut out);
     assert_eq!(rt; status, 3);
@@ -278,17 +325,40 @@ fn readers_that_fail(rt: HostRuntime) -> Result<(), Fail> {
 
 #[test]
 fn writers_that_fail(rt: HostRuntime) -> Result<(), Fail> {
-    let line = b"srid 4326\n";
-    let words = words_of(rt.alloc(), "srid")?;
-    for room in 0..=line.len() {
-        let mut reader = POINT_WITH_SRID.as_bytes();
-        let mut out = NarrowWriter {
-            taken: Vec::new(rt.alloc()),
-            room,
-        };
-        let status = run(rt.alloc(), words.as_slice(), &mut reader, &mut out);
-        assert_eq!(rt; status, if room < line.len() { 3 } else { 0 }, "{room}");
-        assert!(rt; out.taken.as_slice() == &line[..room], "{room}");
+    for (word, input, line) in [
+        ("be", POINT, "00000000013ff00000000000004000000000000000\n"),
+        (
+            "le",
+            POINT_WITH_SRID,
+            "01e9030000000000000000f03f00000000000000400000000000000840\n",
+        ),
+        (
+            "ewkb-le",
+            POINT_WITH_SRID,
+            "01010000a0e6100000000000000000f03f00000000000000400000000000000840\n",
+        ),
+        (
+            "ewkb-be",
+            POINT_WITH_SRID,
+            "00a0000001000010e63ff000000000000040000000000000004008000000000000\n",
+        ),
+        ("srid", POINT_WITH_SRID, "srid 4326\n"),
+        ("cost", MIXED, "accepted turns 2 slots 2\n"),
+        ("same", TWO_LINES, "same\n"),
+    ] {
+        let words = words_of(rt.alloc(), word)?;
+        let line = line.as_bytes();
+        for room in 0..=line.len() {
+            let mut reader = input.as_bytes();
+            let mut out = NarrowWriter {
+                taken: Vec::new(rt.alloc()),
+                room,
+            };
+            let status = run(rt.alloc(), words.as_slice(), &mut reader, &mut out);
+            let expected = if room < line.len() { 3 } else { 0 };
+            assert_eq!(rt; status, expected, "{word} {room}");
+            assert!(rt; out.taken.as_slice() == &line[..room], "{word} {room}");
+        }
     }
     Ok(())
 }

@@ -7,15 +7,19 @@ use wkb::geom::{Dimensions, Geometry, GeometryCollectionTrait};
 use wkb::reader::{Dimension, GeometryType, Wkb};
 use wkb::writer::geometry_wkb_size;
 use wkb_cases::reading::{Outcome, answer_to, counts, read, reads, rewrites, rewritten, view_size};
-use wkb_cases::support::{ONE, TWO, bytes, collection_of, iso, point_of, repeated, written};
+use wkb_cases::spelled::{bytes, repeated};
+use wkb_cases::support::{ONE, TWO, collection_of, iso, point_of, written};
 use wkb_cases::texts::{MIXED_DIMENSIONS, ONE_MEMBER, ZEROS, nested_in};
+
+/// A collection of a collection, of one point, and of a point.
+const TWO_MEMBERS: &str = "01 07000000 02000000 01 07000000 01000000 01 01000000 P 01 01000000 P";
 
 #[test]
 fn nested(rt: HostRuntime) -> Result<(), Fail> {
-    let input = nested_in(rt.alloc(), 50)?;
+    let input = nested_in(50)?;
     let answer = answer_to(rt.alloc(), input.as_slice());
     assert_eq!(rt; answer, Outcome::Accepted(471));
-    let input = nested_in(rt.alloc(), 128)?;
+    let input = nested_in(128)?;
     assert_eq!(rt; input.len(), 1173);
     let (answer, turns, slots) = counts(rt.alloc(), input.as_slice());
     assert_eq!(rt; answer, Outcome::Accepted(1173));
@@ -27,7 +31,7 @@ fn nested(rt: HostRuntime) -> Result<(), Fail> {
 #[test]
 fn nested_too_deep(rt: HostRuntime) -> Result<(), Fail> {
     for levels in [129usize, 1000] {
-        let input = nested_in(rt.alloc(), levels)?;
+        let input = nested_in(levels)?;
         let (answer, turns, slots) = counts(rt.alloc(), input.as_slice());
         assert_eq!(rt; answer, Outcome::TooDeep(128), "{levels}");
         assert_eq!(rt; turns, 128, "{levels}");
@@ -38,12 +42,12 @@ fn nested_too_deep(rt: HostRuntime) -> Result<(), Fail> {
 
 #[test]
 fn nested_cut(rt: HostRuntime) -> Result<(), Fail> {
-    let input = repeated(rt.alloc(), 128, ONE_MEMBER, "01 07000000")?;
+    let input = repeated(128, ONE_MEMBER, "01 07000000")?;
     let (answer, turns, slots) = counts(rt.alloc(), input.as_slice());
     assert_eq!(rt; answer, Outcome::TooDeep(128));
     assert_eq!(rt; turns, 128);
     assert_eq!(rt; slots, 127);
-    let input = repeated(rt.alloc(), 128, ONE_MEMBER, "01 070000")?;
+    let input = repeated(128, ONE_MEMBER, "01 070000")?;
     let answer = answer_to(rt.alloc(), input.as_slice());
     assert_eq!(rt; answer, Outcome::EndOfInput);
     Ok(())
@@ -52,7 +56,7 @@ fn nested_cut(rt: HostRuntime) -> Result<(), Fail> {
 #[test]
 fn nested_counts(rt: HostRuntime) -> Result<(), Fail> {
     for (levels, expected_turns, expected_slots) in [(1, 1, 0), (2, 2, 1), (128, 128, 8128)] {
-        let input = repeated(rt.alloc(), levels, "01 07000000 ffffffff", "")?;
+        let input = repeated(levels, "01 07000000 ffffffff", "")?;
         let (answer, turns, slots) = counts(rt.alloc(), input.as_slice());
         assert_eq!(rt; answer, Outcome::EndOfInput, "{levels}");
         assert_eq!(rt; turns, expected_turns, "{levels}");
@@ -63,8 +67,8 @@ fn nested_counts(rt: HostRuntime) -> Result<(), Fail> {
 
 #[test]
 fn open_not_seen(rt: HostRuntime) -> Result<(), Fail> {
-    let mut input = bytes(rt.alloc(), "01 07000000 81000000")?;
-    let members = repeated(rt.alloc(), 129, "01 07000000 00000000", "")?;
+    let mut input = bytes("01 07000000 81000000")?;
+    let members = repeated(129, "01 07000000 00000000", "")?;
     input.extend_from_slice(members.as_slice())?;
     let (answer, turns, slots) = counts(rt.alloc(), input.as_slice());
     assert_eq!(rt; answer, Outcome::Accepted(1170));
@@ -95,12 +99,28 @@ fn shows_two_members<R: Abort>(rt: &R, wkb: &Wkb<'_>) -> Result<(), Fail> {
     Ok(())
 }
 
+// The bytes of a member, and what is in it, are its own.
+fn shows_bytes_of_members<R: Abort>(rt: &R, wkb: &Wkb<'_>) -> Result<(), Fail> {
+    let collection = wkb.as_geometry_collection().ok_or("no collection")?;
+    let inner = collection.geometry(0).ok_or("no member")?;
+    let first = bytes("01 07000000 01000000 01 01000000 P")?;
+    assert_eq!(rt; inner.buf(), first.as_slice());
+    let last = collection.geometry(1).ok_or("no member")?;
+    let second = bytes("01 01000000 P")?;
+    assert_eq!(rt; last.buf(), second.as_slice());
+    Ok(())
+}
+
+#[test]
+fn bytes_of_members(rt: HostRuntime) -> Result<(), Fail> {
+    let input = bytes(TWO_MEMBERS)?;
+    let wkb = read(rt.alloc(), input.as_slice())?;
+    shows_bytes_of_members(&rt, &wkb)
+}
+
 #[test]
 fn two_members(rt: HostRuntime) -> Result<(), Fail> {
-    let input = bytes(
-        rt.alloc(),
-        "01 07000000 02000000 01 07000000 01000000 01 01000000 P 01 01000000 P",
-    )?;
+    let input = bytes(TWO_MEMBERS)?;
     let (answer, turns, slots) = counts(rt.alloc(), input.as_slice());
     assert_eq!(rt; answer, Outcome::Accepted(60));
     assert_eq!(rt; turns, 3);
@@ -130,7 +150,7 @@ fn shows_mixed_dimensions<R: Abort>(rt: &R, wkb: &Wkb<'_>) -> Result<(), Fail> {
 
 #[test]
 fn mixed_dimensions(rt: HostRuntime) -> Result<(), Fail> {
-    let input = bytes(rt.alloc(), MIXED_DIMENSIONS)?;
+    let input = bytes(MIXED_DIMENSIONS)?;
     let (answer, turns, slots) = counts(rt.alloc(), input.as_slice());
     assert_eq!(rt; answer, Outcome::Accepted(47));
     assert_eq!(rt; turns, 2);
@@ -154,14 +174,9 @@ fn mixed_dimensions_rewritten(rt: HostRuntime) -> Result<(), Fail> {
 
 #[test]
 fn mixed_orders(rt: HostRuntime) -> Result<(), Fail> {
-    let input = repeated(
-        rt.alloc(),
-        64,
-        "01 07000000 01000000 00 00000007 00000001",
-        ZEROS,
-    )?;
+    let input = repeated(64, "01 07000000 01000000 00 00000007 00000001", ZEROS)?;
     let again = rewritten(rt.alloc(), input.as_slice())?;
-    let expected = nested_in(rt.alloc(), 128)?;
+    let expected = nested_in(128)?;
     assert_eq!(rt; expected.len(), 1173);
     assert_eq!(rt; again.as_slice(), expected.as_slice());
     Ok(())
@@ -181,10 +196,7 @@ fn shows_collection_srids<R: Abort>(rt: &R, wkb: &Wkb<'_>) -> Result<(), Fail> {
 
 #[test]
 fn collection_srids(rt: HostRuntime) -> Result<(), Fail> {
-    let input = bytes(
-        rt.alloc(),
-        "01 07000020 01000000 01000000 01 01000020 e6100000 P",
-    )?;
+    let input = bytes("01 07000020 01000000 01000000 01 01000020 e6100000 P")?;
     let wkb = read(rt.alloc(), input.as_slice())?;
     shows_collection_srids(&rt, &wkb)
 }

@@ -2,16 +2,16 @@
 
 use std::test::Fail;
 use wkb_cases::reading::{as_multi_line_string, as_polygon, read};
-use wkb_cases::support::bytes;
+use wkb_cases::spelled::bytes;
 use wkb_cases::texts::{MULTI_LINE_TWO, POLYGON_HOLE};
 use wkb_part::reserved::bounded_capacity;
 
 #[test]
 fn ends_of_parts(rt: HostRuntime) -> Result<(), Fail> {
-    let input = bytes(rt.alloc(), POLYGON_HOLE)?;
+    let input = bytes(POLYGON_HOLE)?;
     let wkb = read(rt.alloc(), input.as_slice())?;
     assert_eq!(rt; as_polygon(&wkb)?.ends.as_slice(), [29usize, 33].as_slice());
-    let input = bytes(rt.alloc(), MULTI_LINE_TWO)?;
+    let input = bytes(MULTI_LINE_TWO)?;
     let wkb = read(rt.alloc(), input.as_slice())?;
     assert_eq!(rt;
         as_multi_line_string(&wkb)?.ends.as_slice(),

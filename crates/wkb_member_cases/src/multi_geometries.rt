@@ -14,7 +14,8 @@ use wkb_cases::reading::{
     Outcome, as_multi_line_string, as_multi_point, as_multi_polygon, as_polygon, counts, read,
     reads, rewrites, rewritten, words,
 };
-use wkb_cases::support::{ONE, TWO, bytes, iso};
+use wkb_cases::spelled::bytes;
+use wkb_cases::support::{ONE, TWO, iso};
 use wkb_cases::texts::{MEMBER_WITH_SRID, MULTI_LINE_TWO, POLYGON_HOLE};
 
 /// A big endian point in a little endian parent.
@@ -31,12 +32,14 @@ fn shows_multi_point<R: Abort>(rt: &R, wkb: &Wkb<'_>) -> Result<(), Fail> {
     assert!(rt; read.point(1).is_none());
     assert_eq!(rt; read.point_offset(0), 9);
     assert_eq!(rt; read.point_offset(1), 30);
+    let text = bytes("00 00000001 3ff0000000000000 4000000000000000")?;
+    assert_eq!(rt; member.buf(), text.as_slice());
     Ok(())
 }
 
 #[test]
 fn multi_point_be_member(rt: HostRuntime) -> Result<(), Fail> {
-    let input = bytes(rt.alloc(), MULTI_POINT_BE_MEMBER)?;
+    let input = bytes(MULTI_POINT_BE_MEMBER)?;
     let (answer, turns, slots) = counts(rt.alloc(), input.as_slice());
     assert_eq!(rt; answer, Outcome::Accepted(30));
     assert_eq!(rt; turns, 1);
@@ -64,7 +67,7 @@ fn multi_point_bad_member(rt: HostRuntime) -> Result<(), Fail> {
         "01 04000000 01000000 00 20000001 3ff0000000000000 4000000000000000",
         "01 04000000 01000000 00 00000002 3ff0000000000000 4000000000000000",
     ] {
-        let input = bytes(rt.alloc(), text)?;
+        let input = bytes(text)?;
         let (answer, turns, slots) = counts(rt.alloc(), input.as_slice());
         assert_eq!(rt; answer, Outcome::WrongMember, "{text}");
         assert_eq!(rt; turns, 1, "{text}");
@@ -98,7 +101,7 @@ fn multi_point_short(rt: HostRuntime) -> Result<(), Fail> {
         ("01 04000000 01000000 01 01000000 0000000000000000", 30, 22),
         ("01 04000020 01000000 01 01000000 P", 5410, 30),
     ] {
-        let input = bytes(rt.alloc(), text)?;
+        let input = bytes(text)?;
         let (answer, turns, slots) = counts(rt.alloc(), input.as_slice());
         assert_eq!(rt;
             answer,
@@ -128,7 +131,7 @@ fn multi_line_member(rt: HostRuntime) -> Result<(), Fail> {
 
 #[test]
 fn multi_line_member_rewritten(rt: HostRuntime) -> Result<(), Fail> {
-    let input = bytes(rt.alloc(), MEMBER_WITH_SRID)?;
+    let input = bytes(MEMBER_WITH_SRID)?;
     assert_eq!(rt; read(rt.alloc(), input.as_slice())?.srid(), None);
     assert_eq!(rt; rewritten(rt.alloc(), input.as_slice())?.len(), 34);
     Ok(())
@@ -149,9 +152,28 @@ fn shows_multi_line_two<R: Abort>(rt: &R, wkb: &Wkb<'_>) -> Result<(), Fail> {
     Ok(())
 }
 
+// The bytes of each line string are its own.
+fn shows_bytes_of_lines<R: Abort>(rt: &R, wkb: &Wkb<'_>) -> Result<(), Fail> {
+    let read = as_multi_line_string(wkb)?;
+    let first = read.line_string(0).ok_or("no line string")?;
+    let text = bytes("01 02000000 01000000 P")?;
+    assert_eq!(rt; first.buf(), text.as_slice());
+    let second = read.line_string(1).ok_or("no line string")?;
+    let text = bytes("00 20000002 000010e6 00000000")?;
+    assert_eq!(rt; second.buf(), text.as_slice());
+    Ok(())
+}
+
+#[test]
+fn bytes_of_lines(rt: HostRuntime) -> Result<(), Fail> {
+    let input = bytes(MULTI_LINE_TWO)?;
+    let wkb = read(rt.alloc(), input.as_slice())?;
+    shows_bytes_of_lines(&rt, &wkb)
+}
+
 #[test]
 fn multi_line_two(rt: HostRuntime) -> Result<(), Fail> {
-    let input = bytes(rt.alloc(), MULTI_LINE_TWO)?;
+    let input = bytes(MULTI_LINE_TWO)?;
     let wkb = read(rt.alloc(), input.as_slice())?;
     shows_multi_line_two(&rt, &wkb)
 }
@@ -174,7 +196,11 @@ fn shows_multi_polygon<R: Abort>(rt: &R, wkb: &Wkb<'_>) -> Result<(), Fail> {
     assert_eq!(rt; read.size(), 18);
     assert_eq!(rt; read.num_polygons(), 1);
     match read.polygon(0) {
-        Some(member) => assert!(rt; member.exterior().is_none()),
+        Some(member) => {
+            assert!(rt; member.exterior().is_none());
+            let text = bytes("01 03000000 00000000")?;
+            assert_eq!(rt; member.buf(), text.as_slice());
+        }
         None => assert!(rt; false),
     }
     Ok(())
@@ -182,7 +208,7 @@ fn shows_multi_polygon<R: Abort>(rt: &R, wkb: &Wkb<'_>) -> Result<(), Fail> {
 
 #[test]
 fn multi_polygon(rt: HostRuntime) -> Result<(), Fail> {
-    let input = bytes(rt.alloc(), "01 06000000 01000000 01 03000000 00000000")?;
+    let input = bytes("01 06000000 01000000 01 03000000 00000000")?;
     let wkb = read(rt.alloc(), input.as_slice())?;
     shows_multi_polygon(&rt, &wkb)
 }
@@ -239,7 +265,7 @@ fn huge_counts(rt: HostRuntime) -> Result<(), Fail> {
         "01 06000000 ffffffff",
         "01 07000000 ffffffff",
     ] {
-        let input = bytes(rt.alloc(), text)?;
+        let input = bytes(text)?;
         let (answer, turns, slots) = counts(rt.alloc(), input.as_slice());
         assert_eq!(rt; answer, Outcome::EndOfInput, "{text}");
         assert_eq!(rt; turns, 1, "{text}");
@@ -270,10 +296,10 @@ fn first_coord<'a, L: LineStringTrait<CoordType = Coord<'a>>>(line: &L) -> Resul
 
 #[test]
 fn kept_parts(rt: HostRuntime) -> Result<(), Fail> {
-    let input = bytes(rt.alloc(), POLYGON_HOLE)?;
+    let input = bytes(POLYGON_HOLE)?;
     let ring = kept_ring(rt.alloc(), input.as_slice())?;
     assert_eq!(rt; words(&first_coord(&ring)?), (Some(ONE), Some(TWO), None));
-    let input = bytes(rt.alloc(), MULTI_LINE_TWO)?;
+    let input = bytes(MULTI_LINE_TWO)?;
     let line = kept_line(rt.alloc(), input.as_slice())?;
     assert_eq!(rt; words(&first_coord(&line)?), (Some(ONE), Some(TWO), None));
     Ok(())

@@ -10,12 +10,13 @@ use wkb::writer::geometry_wkb_size;
 use wkb_cases::reading::{
     as_line_string, as_multi_line_string, as_multi_polygon, as_point, as_polygon, read,
 };
-use wkb_cases::support::{bytes, written};
+use wkb_cases::spelled::bytes;
+use wkb_cases::support::written;
 use wkb_cases::texts::{MIXED_DIMENSIONS, MULTI_LINE_TWO, POLYGON_HOLE};
 
 #[test]
 fn tried_anew(rt: HostRuntime) -> Result<(), Fail> {
-    let input = bytes(rt.alloc(), "01 01000000 P ffffffff")?;
+    let input = bytes("01 01000000 P ffffffff")?;
     let wkb = Wkb::try_new(rt.alloc(), input.as_slice())?;
     assert_eq!(rt; wkb.buf().len(), 21);
     assert_eq!(rt; MAX_WKB_NESTING_DEPTH, 128);
@@ -33,8 +34,8 @@ fn shows_coordinate<R: Abort>(rt: &R, wkb: &Wkb<'_>, words: &[u8]) -> Result<(),
 
 #[test]
 fn coordinate_view(rt: HostRuntime) -> Result<(), Fail> {
-    let input = bytes(rt.alloc(), "01 01000000 P")?;
-    let words = bytes(rt.alloc(), "P")?;
+    let input = bytes("01 01000000 P")?;
+    let words = bytes("P")?;
     let wkb = read(rt.alloc(), input.as_slice())?;
     shows_coordinate(&rt, &wkb, words.as_slice())
 }
@@ -62,21 +63,21 @@ fn clones_multi_polygon<R: Abort>(rt: &R, wkb: &Wkb<'_>) -> Result<(), Fail> {
 
 #[test]
 fn polygon_cloned(rt: HostRuntime) -> Result<(), Fail> {
-    let input = bytes(rt.alloc(), POLYGON_HOLE)?;
+    let input = bytes(POLYGON_HOLE)?;
     let wkb = read(rt.alloc(), input.as_slice())?;
     clones_polygon(&rt, &wkb)
 }
 
 #[test]
 fn multi_line_string_cloned(rt: HostRuntime) -> Result<(), Fail> {
-    let input = bytes(rt.alloc(), MULTI_LINE_TWO)?;
+    let input = bytes(MULTI_LINE_TWO)?;
     let wkb = read(rt.alloc(), input.as_slice())?;
     clones_multi_line_string(&rt, &wkb)
 }
 
 #[test]
 fn multi_polygon_cloned(rt: HostRuntime) -> Result<(), Fail> {
-    let input = bytes(rt.alloc(), "01 06000000 01000000 01 03000000 00000000")?;
+    let input = bytes("01 06000000 01000000 01 03000000 00000000")?;
     let wkb = read(rt.alloc(), input.as_slice())?;
     clones_multi_polygon(&rt, &wkb)
 }
@@ -89,7 +90,7 @@ fn from_collection<'a>(wkb: &Wkb<'a>) -> Result<Wkb<'a>, Fail> {
 
 #[test]
 fn collection_cloned(rt: HostRuntime) -> Result<(), Fail> {
-    let input = bytes(rt.alloc(), MIXED_DIMENSIONS)?;
+    let input = bytes(MIXED_DIMENSIONS)?;
     let wkb = read(rt.alloc(), input.as_slice())?;
     assert_eq!(rt; wkb.clone()?.buf(), input.as_slice());
     let again = from_collection(&wkb)?;
@@ -103,7 +104,7 @@ fn shows_ring<R: Abort>(rt: &R, alloc: Global, wkb: &Wkb<'_>) -> Result<(), Fail
     assert_eq!(rt; ring.byte_order(), Endianness::LittleEndian);
     assert_eq!(rt; geometry_wkb_size(&ring)?, 25);
     assert_eq!(rt; geometry_wkb_size(as_polygon(wkb)?)?, 33);
-    let expected = bytes(alloc, "01 02000000 01000000 P")?;
+    let expected = bytes("01 02000000 01000000 P")?;
     let text = written(alloc, &ring)?;
     assert_eq!(rt; text.as_slice(), expected.as_slice());
     Ok(())
@@ -111,14 +112,14 @@ fn shows_ring<R: Abort>(rt: &R, alloc: Global, wkb: &Wkb<'_>) -> Result<(), Fail
 
 #[test]
 fn ring_as_a_geometry(rt: HostRuntime) -> Result<(), Fail> {
-    let input = bytes(rt.alloc(), POLYGON_HOLE)?;
+    let input = bytes(POLYGON_HOLE)?;
     let wkb = read(rt.alloc(), input.as_slice())?;
     shows_ring(&rt, rt.alloc(), &wkb)
 }
 
 #[test]
 fn point_as_a_geometry(rt: HostRuntime) -> Result<(), Fail> {
-    let input = bytes(rt.alloc(), "01 01000000 P")?;
+    let input = bytes("01 01000000 P")?;
     let point = as_point(&read(rt.alloc(), input.as_slice())?)?;
     assert_eq!(rt; geometry_wkb_size(&point)?, 21);
     Ok(())
@@ -126,7 +127,7 @@ fn point_as_a_geometry(rt: HostRuntime) -> Result<(), Fail> {
 
 #[test]
 fn line_string_as_a_geometry(rt: HostRuntime) -> Result<(), Fail> {
-    let input = bytes(rt.alloc(), "01 02000000 02000000 P P")?;
+    let input = bytes("01 02000000 02000000 P P")?;
     let line_string = as_line_string(&read(rt.alloc(), input.as_slice())?)?;
     assert_eq!(rt; geometry_wkb_size(&line_string)?, 41);
     Ok(())

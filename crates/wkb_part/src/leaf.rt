@@ -1,16 +1,16 @@
 //! Headers, points and line strings: they take no memory.
 
-ghost use Rattle.std.specs.Prelude.{◌≡◌, ◌+◌, ◌*◌, ◌≤◌, length, IfOk, take, drop};
-ghost use Rattle.wkb_geom.specs.Reading.{head_at, point_at, line_string_at, body_start, parts_start, srid_in};
+ghost use Rattle.std.specs.Prelude.{◌≡◌, ◌+◌, ◌*◌, ◌≤◌, length, IfOk, take};
+ghost use Rattle.wkb_geom.specs.Reading.{point_at, line_string_at, body_start, parts_start};
 ghost use Rattle.wkb_view.specs.Answers.{Answers};
-ghost use Rattle.wkb_view.specs.Views.{head_seen, point_seen, line_string_seen};
+ghost use Rattle.wkb_view.specs.Views.{point_seen, line_string_seen};
 
 use std::io;
 use wkb_geom::Endianness;
 use wkb_geom::code::WkbGeometryCode;
 use wkb_geom::error::{General, WkbError, WkbResult};
 use wkb_geom::words::u32_at;
-use wkb_view::header::{Header, Layout};
+use wkb_view::header::Layout;
 use wkb_view::leaf::start_of_body;
 use wkb_view::line_string::LineString;
 use wkb_view::point::Point;

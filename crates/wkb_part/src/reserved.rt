@@ -1,6 +1,6 @@
 //! A list whose entries are asked for once.
 
-ghost use Rattle.std.specs.Prelude.{◌≡◌, ◌++◌, ◌∷◌, [], ◌<◌, ◌≤◌, ◌/◌, min, vec_len, vec_capacity, length, IfOk, IsOk};
+ghost use Rattle.std.specs.Prelude.{◌≡◌, ◌++◌, ◌∷◌, [], ◌<◌, ◌≤◌, ◌/◌, min, vec_capacity, length, IfOk, IsOk};
 
 use std::alloc::{AllocError, Global};
 

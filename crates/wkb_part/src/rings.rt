@@ -1,6 +1,6 @@
 //! Rings and polygons.
 
-ghost use Rattle.std.specs.Prelude.{◌≡◌, ◌+◌, ◌*◌, ◌/◌, ◌≤◌, ◌<◌, [], length, drop, take, min, IfOk, vec_capacity};
+ghost use Rattle.std.specs.Prelude.{◌≡◌, ◌+◌, ◌*◌, ◌/◌, ◌≤◌, ◌<◌, [], length, min, IfOk, vec_capacity};
 ghost use Rattle.wkb_geom.specs.Reading.{polygon_at, ring_at, repeated, at_no_cost, body_start, parts_start, taken};
 ghost use Rattle.wkb_geom.specs.Numbers.{number};
 ghost use Rattle.wkb_geom.specs.Dimensions.{width};

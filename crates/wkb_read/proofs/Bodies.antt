@@ -1,14 +1,19 @@
 -- Geometries by their headers and kinds.
-use Rattle.std.proofs.Common.{◌≡◌, ℕ, zero, suc, List, Result, Ok, Err, refl, sym, ap, ◌∙◌, arith}
+use Rattle.std.proofs.Common.{◌≡◌, ◌<◌, ℕ, zero, suc, Bool, List, Result, Ok, Err, refl, sym, ap, ◌∙◌, arith}
+use Rattle.wkb_geom.specs.declared.common.Endianness.{Endianness}
+use Rattle.wkb_geom.specs.declared.common.Dimension.{Dimension}
+use Rattle.wkb_geom.specs.declared.code.WkbType.{WkbType}
+use Rattle.wkb_geom.specs.declared.code.WkbType.TheVariants as kinds
 use Rattle.wkb_geom.specs.declared.error.WkbError.{WkbError}
 use Rattle.wkb_geom.specs.Refusals.{Cause}
-use Rattle.wkb_geom.specs.Reading.{Item, Cost, free, Part, Reading, Head, costs, done, at_no_cost, head_at, body_at, then_head, by_type, geometry_at}
+use Rattle.wkb_geom.specs.Reading.{Item, Cost, free, Part, Reading, Head, costs, done, at_no_cost, type_kind, head_at, body_at, too_deep, then_head, by_type, geometry_at}
 use Rattle.wkb_part.specs.declared.counts.Counts.{Counts}
 use Rattle.wkb_part.specs.Outcome.{Spent, Stops}
 use Rattle.wkb_view.specs.Answers.{IsFault}
 use Rattle.wkb_read.specs.Stack.{collection_inside, counted}
 use Rattle.wkb_read.proofs.Algebra.{cost_is}
 use Rattle.wkb_part.proofs.Faults.{stops_by}
+use Rattle.wkb_part.proofs.Leaves.{line_string_free}
 
 abbrev body_of : ℕ → List ℕ → Head → Reading Item
 body_of levels bytes h = body_at (collection_inside levels) h.wkb_type h.order h.has_srid bytes
@@ -21,6 +26,36 @@ geometry_is (suc levels) bytes = refl
 -- behind a header stands its body
 pub behind_header : (levels : ℕ) (bytes : List ℕ) (h : Head) → head_at bytes ≡ Ok h → geometry_at levels bytes ≡ body_at (collection_inside levels) h.wkb_type h.order h.has_srid bytes
 behind_header levels bytes h e = geometry_is levels bytes ∙ ap (λ (r : Result Head Cause). then_head r (body_of levels bytes)) e
+
+-- what is no collection is read the same, whatever reads one
+same_body : (collection : Endianness → Dimension → Bool → List ℕ → Reading Item) (t : WkbType) (order : Endianness) (srid : Bool) (bytes : List ℕ)
+    → type_kind t < 7 → body_at collection t order srid bytes ≡ body_at too_deep t order srid bytes
+same_body collection (kinds.Point d) order srid bytes plain = refl
+same_body collection (kinds.LineString d) order srid bytes plain = refl
+same_body collection (kinds.Polygon d) order srid bytes plain = refl
+same_body collection (kinds.MultiPoint d) order srid bytes plain = refl
+same_body collection (kinds.MultiLineString d) order srid bytes plain = refl
+same_body collection (kinds.MultiPolygon d) order srid bytes plain = refl
+same_body collection (kinds.GeometryCollection d) order srid bytes plain = absurd (omega (arith, plain))
+
+pub behind_plain_header : (levels : ℕ) (bytes : List ℕ) (h : Head) → head_at bytes ≡ Ok h → type_kind h.wkb_type < 7
+    → geometry_at levels bytes ≡ body_at too_deep h.wkb_type h.order h.has_srid bytes
+behind_plain_header levels bytes h e plain = behind_header levels bytes h e ∙ same_body (collection_inside levels) h.wkb_type h.order h.has_srid bytes plain
+
+-- a point or a line string costs nothing, whatever reads a collection
+pub leaf_free : (collection : Endianness → Dimension → Bool → List ℕ → Reading Item) (t : WkbType) (order : Endianness) (srid : Bool) (bytes : List ℕ)
+    → type_kind t < 3 → body_at collection t order srid bytes ≡ at_no_cost (body_at too_deep t order srid bytes).1
+leaf_free collection (kinds.Point d) order srid bytes leaf = refl
+leaf_free collection (kinds.LineString d) order srid bytes leaf = line_string_free order d srid bytes
+leaf_free collection (kinds.Polygon d) order srid bytes leaf = absurd (omega (arith, leaf))
+leaf_free collection (kinds.MultiPoint d) order srid bytes leaf = absurd (omega (arith, leaf))
+leaf_free collection (kinds.MultiLineString d) order srid bytes leaf = absurd (omega (arith, leaf))
+leaf_free collection (kinds.MultiPolygon d) order srid bytes leaf = absurd (omega (arith, leaf))
+leaf_free collection (kinds.GeometryCollection d) order srid bytes leaf = absurd (omega (arith, leaf))
+
+pub behind_leaf_header : (levels : ℕ) (bytes : List ℕ) (h : Head) → head_at bytes ≡ Ok h → type_kind h.wkb_type < 3
+    → geometry_at levels bytes ≡ at_no_cost (body_at too_deep h.wkb_type h.order h.has_srid bytes).1
+behind_leaf_header levels bytes h e leaf = behind_header levels bytes h e ∙ leaf_free (collection_inside levels) h.wkb_type h.order h.has_srid bytes leaf
 
 no_header : (levels : ℕ) (bytes : List ℕ) (f : Cause) → head_at bytes ≡ Err f → geometry_at levels bytes ≡ (free, Err f)
 no_header levels bytes f e = geometry_is levels bytes ∙ ap (λ (r : Result Head Cause). then_head r (body_of levels bytes)) e

@@ -4,5 +4,6 @@ pub mod Free
 pub mod NoMemory
 pub mod Opens
 pub mod Parts
+pub mod Placed
 pub mod Public
 pub mod Stacks

@@ -2,6 +2,7 @@ pub mod Geometries
 pub mod GeometriesFall
 pub mod Memory
 pub mod Nodes
+pub mod Placed
 pub mod Public
 pub mod Stack
 pub mod Types

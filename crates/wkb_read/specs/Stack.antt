@@ -3,7 +3,7 @@ use Rattle.std.specs.Prelude.{◌≡◌, ℕ, zero, suc, ◌<◌, ◌+◌, ◌-�
 use Rattle.wkb_geom.specs.declared.common.Endianness.{Endianness}
 use Rattle.wkb_geom.specs.declared.common.Dimension.{Dimension}
 use Rattle.wkb_geom.specs.declared.error.WkbError.{WkbError}
-use Rattle.wkb_geom.specs.Reading.{Item, Cost, Reading, costs, one_turn, done, and_then, repeated, collection_at, too_deep, body_start, geometry_at}
+use Rattle.wkb_geom.specs.Reading.{Item, Cost, Reading, costs, one_turn, done, and_then, repeated, collection_at, too_deep, body_start, parts_start, geometry_at}
 use Rattle.wkb_part.specs.declared.counts.Counts.{Counts}
 use Rattle.wkb_read.specs.declared.read.unfinished.Open.{Open}
 use Rattle.wkb_read.specs.declared.read.unfinished.Begun.{Begun}
@@ -12,6 +12,7 @@ use Rattle.wkb_view.specs.Lists.{collection_end}
 use Rattle.wkb_view.specs.declared.header.Layout.{Layout}
 use Rattle.wkb_part.specs.Outcome.{Spent, Stops}
 use Rattle.wkb_read.specs.declared.geometry.Wkb.{Wkb}
+use Rattle.wkb_read.specs.Placed.{texts}
 
 -- what comes of the member that is being read, of those behind it, and of the collection
 abbrev pub in_collection_by : Layout → List ℕ → ℕ → List Item → (List ℕ → Reading Item) → Reading Item → Reading Item
@@ -43,6 +44,11 @@ abbrev pub HaveRoom : List Open → ℕ → Type 0
 HaveRoom [] left = Unit {0}
 HaveRoom (o ∷ os) left = HasRoom o left × HaveRoom os (length o.bytes.now)
 
+-- behind each open collection's count stand its members so far, and then the bytes at which the current one began
+abbrev pub ArePlaced : List Open → List ℕ → Type 0
+ArePlaced [] here = Unit {0}
+ArePlaced (o ∷ os) here = (parts_start o.layout.has_srid o.bytes.now ≡ texts o.members.items.items ++ here) × ArePlaced os o.bytes.now
+
 -- what comes of a collection's body, where so many more may be open
 abbrev pub collection_inside : ℕ → Endianness → Dimension → Bool → List ℕ → Reading Item
 collection_inside zero = too_deep
@@ -55,6 +61,7 @@ BeginsAs whole around bytes (Ok (Whole w rest)) old new =
 BeginsAs whole around bytes (Ok (Opened o rest)) old new =
     (costs (counted new) (costs one_turn (in_collection o (geometry_at (levels_inside (suc around))) (geometry_at (levels_inside (suc around)) rest.now))) ≡ costs (counted old) whole)
     × (o.bytes.now ≡ bytes) × HasRoom o (length rest.now) × (around < 128)
+    × (parts_start o.layout.has_srid bytes ≡ texts o.members.items.items ++ rest.now)
 BeginsAs whole around bytes (Err e) old new = Stops e whole old new
 
 abbrev pub Begins : ℕ → List ℕ → Result Begun WkbError → Counts → Counts → Type 0
@@ -66,7 +73,7 @@ Settles before after finished rest (Some w) old new =
     (after ≡ []) × (costs (counted new) (done w rest) ≡ costs (counted old) (resume before (done finished rest)))
 Settles before after finished rest None old new =
     (costs (counted new) (resume after (geometry_at (levels_inside (length after)) rest)) ≡ costs (counted old) (resume before (done finished rest)))
-    × HaveRoom after (length rest) × (length after ≤ length before) × (0 < length before)
+    × HaveRoom after (length rest) × (length after ≤ length before) × (0 < length before) × ArePlaced after rest
 
 -- what the reader answers, and what it counted
 abbrev pub Reads : Reading Item → Result Wkb WkbError → Counts → Counts → Type 0

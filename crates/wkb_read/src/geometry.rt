@@ -63,10 +63,9 @@ impl<'a> Model for GeometryCollection<'a> {
 
     ghost coded = { listed_code values_code };
 
-    ghost use Rattle.std.specs.Prelude.{◌≤◌, ◌+◌, length};
-    ghost use Rattle.wkb_geom.specs.Reading.{body_start};
+    ghost use Rattle.wkb_read.specs.Placed.{HoldsMembers};
 
-    ghost invariant = { λ a. body_start a.has_srid + 4 ≤ length a.buf.now };
+    ghost invariant = { λ a. HoldsMembers a.has_srid a.buf.now a.members.items };
 
     ghost view = { λ a. collection_parts a.order a.dimension a.has_srid a.members.items a.buf.now };
 
@@ -160,6 +159,9 @@ impl Dimensioned for GeometryCollection<'_> {
 }
 
 impl<'a> GeometryCollectionTrait for GeometryCollection<'a> {
+    ghost use Rattle.std.specs.Prelude.{◌≡◌, map, option_map, slice_get};
+    ghost use Rattle.wkb_read.specs.Placed.{AreMembers, IsMemberAt};
+
     type GeometryType = Wkb<'a>;
 
     ghost members = { λ c. members_seen c.parts };
@@ -167,7 +169,10 @@ impl<'a> GeometryCollectionTrait for GeometryCollection<'a> {
     ghost lawful = { λ c. members_lawful c.parts };
 
     #[inline]
-    fn geometries(&self) -> &[Wkb<'a>] {
+    fn geometries(&self) -> &[Wkb<'a>]
+        ensures members { map geometry_seen result.now ≡ members_seen self.now.parts }
+        ensures all { AreMembers self.now result.now }
+    {
         self.members.as_slice()
     }
 
@@ -177,7 +182,10 @@ impl<'a> GeometryCollectionTrait for GeometryCollection<'a> {
     }
 
     #[inline]
-    fn geometry(&self, i: usize) -> Option<&Wkb<'a>> {
+    fn geometry(&self, i: usize) -> Option<&Wkb<'a>>
+        ensures member { option_map (λ g. geometry_seen g.now) result ≡ slice_get (members_seen self.now.parts) i }
+        ensures one { IsMemberAt self.now i (option_map (λ g. g.now) result) }
+    {
         if i < self.members.len() {
             Some(&self.members[i])
         } else {

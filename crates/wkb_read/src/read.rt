@@ -2,3 +2,4 @@
 
 pub mod stack;
 pub(crate) mod unfinished;
+pub(crate) mod whole;

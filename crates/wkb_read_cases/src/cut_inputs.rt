@@ -3,17 +3,18 @@
 use std::test::Fail;
 use wkb::error::General;
 use wkb_cases::reading::{Outcome, answer_to};
-use wkb_cases::support::bytes;
+use wkb_cases::spelled::bytes;
 use wkb_cases::texts::{
     MEMBER_WITH_SRID, MIXED_DIMENSIONS, MULTI_LINE_TWO, POLYGON_HOLE, nested_in,
 };
 
 #[test]
 fn cut_nested(rt: HostRuntime) -> Result<(), Fail> {
-    let input = nested_in(rt.alloc(), 128)?;
-    assert_eq!(rt; input.len(), 1173);
-    for len in 0..1173usize {
-        let answer = answer_to(rt.alloc(), &input[..len]);
+    let input = nested_in(128)?;
+    let whole = input.as_slice();
+    assert_eq!(rt; whole.len(), 1173);
+    for len in 0..whole.len() {
+        let answer = answer_to(rt.alloc(), &whole[..len]);
         let expected = if len <= 1156 {
             Outcome::EndOfInput
         } else {
@@ -50,9 +51,10 @@ fn cut_others(rt: HostRuntime) -> Result<(), Fail> {
         MEMBER_WITH_SRID,
         MIXED_DIMENSIONS,
     ] {
-        let input = bytes(rt.alloc(), text)?;
-        for len in 0..input.len() {
-            let answer = answer_to(rt.alloc(), &input[..len]);
+        let input = bytes(text)?;
+        let whole = input.as_slice();
+        for len in 0..whole.len() {
+            let answer = answer_to(rt.alloc(), &whole[..len]);
             assert!(rt; is_short(answer), "{len} of {text}");
         }
     }

@@ -7,7 +7,8 @@ use wkb::error::General;
 use wkb::geom::{Dimensions, LineString, LineStringTrait};
 use wkb::reader::{Coord, Dimension, Wkb};
 use wkb_cases::reading::{Outcome, answer_to, as_line_string, read, reads, rewrites, words};
-use wkb_cases::support::{ONE, THREE, TWO, bytes, iso, line_string_of, with_zeros};
+use wkb_cases::spelled::{bytes, with_zeros};
+use wkb_cases::support::{ONE, THREE, TWO, iso, line_string_of};
 
 /// A big endian line string of one coordinate.
 const LINE_BE_XYZ: &str = "00 000003ea 00000001 3ff0000000000000 4000000000000000 4008000000000000";
@@ -29,7 +30,7 @@ fn line_short(rt: HostRuntime) -> Result<(), Fail> {
         reads(rt.alloc(), "01 02000020 e6100000")?,
         Outcome::EndOfInput
     );
-    let input = with_zeros(rt.alloc(), "01 020000c0 01000000", 24)?;
+    let input = with_zeros("01 020000c0 01000000", 24)?;
     assert_eq!(rt;
         answer_to(rt.alloc(), input.as_slice()),
         Outcome::Refused(General::ShortLineString { end: 41, len: 33 })
@@ -52,7 +53,7 @@ fn shows_line_be_xyz<R: Abort>(rt: &R, wkb: &Wkb<'_>) -> Result<(), Fail> {
 
 #[test]
 fn line_be_xyz(rt: HostRuntime) -> Result<(), Fail> {
-    let input = bytes(rt.alloc(), LINE_BE_XYZ)?;
+    let input = bytes(LINE_BE_XYZ)?;
     let wkb = read(rt.alloc(), input.as_slice())?;
     shows_line_be_xyz(&rt, &wkb)
 }
@@ -98,7 +99,7 @@ fn first_coord<'a>(wkb: &Wkb<'a>) -> Result<Coord<'a>, Fail> {
 
 #[test]
 fn line_lifetime(rt: HostRuntime) -> Result<(), Fail> {
-    let input = bytes(rt.alloc(), "01 02000000 02000000 P P")?;
+    let input = bytes("01 02000000 02000000 P P")?;
     let coord = first_coord(&read(rt.alloc(), input.as_slice())?)?;
     assert_eq!(rt; words(&coord), (Some(ONE), Some(TWO), None));
     Ok(())

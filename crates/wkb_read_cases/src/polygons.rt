@@ -7,7 +7,8 @@ use wkb::error::General;
 use wkb::geom::{LineStringTrait, PolygonTrait};
 use wkb::reader::Wkb;
 use wkb_cases::reading::{Outcome, as_polygon, counts, read, reads, rewrites, words};
-use wkb_cases::support::{ONE, TWO, bytes, iso, with_zeros};
+use wkb_cases::spelled::{bytes, with_zeros};
+use wkb_cases::support::{ONE, TWO, iso};
 use wkb_cases::texts::POLYGON_HOLE;
 
 fn shows_polygon_none<R: Abort>(rt: &R, wkb: &Wkb<'_>) -> Result<(), Fail> {
@@ -20,7 +21,7 @@ fn shows_polygon_none<R: Abort>(rt: &R, wkb: &Wkb<'_>) -> Result<(), Fail> {
 
 #[test]
 fn polygon_none(rt: HostRuntime) -> Result<(), Fail> {
-    let input = bytes(rt.alloc(), "01 03000000 00000000")?;
+    let input = bytes("01 03000000 00000000")?;
     let wkb = read(rt.alloc(), input.as_slice())?;
     shows_polygon_none(&rt, &wkb)
 }
@@ -51,7 +52,7 @@ fn shows_polygon_hole<R: Abort>(rt: &R, wkb: &Wkb<'_>) -> Result<(), Fail> {
 
 #[test]
 fn polygon_hole(rt: HostRuntime) -> Result<(), Fail> {
-    let input = bytes(rt.alloc(), POLYGON_HOLE)?;
+    let input = bytes(POLYGON_HOLE)?;
     let wkb = read(rt.alloc(), input.as_slice())?;
     shows_polygon_hole(&rt, &wkb)
 }
@@ -65,7 +66,7 @@ fn polygon_hole_rewritten(rt: HostRuntime) -> Result<(), Fail> {
 
 #[test]
 fn ring_short(rt: HostRuntime) -> Result<(), Fail> {
-    let input = with_zeros(rt.alloc(), "01 03000000 01000000 04000000", 16)?;
+    let input = with_zeros("01 03000000 01000000 04000000", 16)?;
     let (answer, turns, slots) = counts(rt.alloc(), input.as_slice());
     assert_eq!(rt;
         answer,
@@ -78,7 +79,7 @@ fn ring_short(rt: HostRuntime) -> Result<(), Fail> {
 
 #[test]
 fn three_rings(rt: HostRuntime) -> Result<(), Fail> {
-    let input = with_zeros(rt.alloc(), "01 03000000 03000000", 12)?;
+    let input = with_zeros("01 03000000 03000000", 12)?;
     let (answer, turns, slots) = counts(rt.alloc(), input.as_slice());
     assert_eq!(rt; answer, Outcome::Accepted(21));
     assert_eq!(rt; turns, 3);

@@ -5,4 +5,5 @@ pub mod MultiPoints
 pub mod Parts
 pub mod Pieces
 pub mod Points
+pub mod Spelled
 pub mod Words

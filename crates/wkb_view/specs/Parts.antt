@@ -2,7 +2,7 @@
 use Rattle.std.specs.Prelude.{ℕ, List, [], ◌∷◌, Option}
 use Rattle.wkb_geom.specs.declared.common.Endianness.{Endianness}
 use Rattle.wkb_geom.specs.Values.{Coordinate, Value, Values, multi_point, collection, no_members, member}
-use Rattle.wkb_geom.specs.Spellings.{Spelling, header}
+use Rattle.wkb_geom.specs.Spellings.{Spelling, node, Spellings, no_spellings, spelling, header}
 
 abbrev pub list_of_values : Values → List Value
 list_of_values no_members = []
@@ -21,3 +21,11 @@ IsCollection _ = ⊥
 abbrev pub points_of : Value → List (Option Coordinate)
 points_of (multi_point d ps) = ps
 points_of _ = []
+
+-- the spellings of the members of a geometry
+abbrev pub members_spelled : Spelling → Spellings
+members_spelled (node h words ss) = ss
+
+abbrev pub list_of_spellings : Spellings → List Spelling
+list_of_spellings no_spellings = []
+list_of_spellings (spelling s ss) = s ∷ list_of_spellings ss

@@ -1,9 +1,9 @@
 //! The header of a geometry, and its SRID.
 
-ghost use Rattle.std.specs.Prelude.{◌≡◌, ◌+◌, ◌*◌, ◌≤◌, length, IfOk, take, drop};
-ghost use Rattle.wkb_geom.specs.Reading.{head_at, point_at, line_string_at, body_start, parts_start, srid_in};
+ghost use Rattle.std.specs.Prelude.{◌≡◌, ◌≤◌, length};
+ghost use Rattle.wkb_geom.specs.Reading.{head_at, body_start, srid_in};
 ghost use Rattle.wkb_view.specs.Answers.{Answers};
-ghost use Rattle.wkb_view.specs.Views.{head_seen, point_seen, line_string_seen};
+ghost use Rattle.wkb_view.specs.Views.{head_seen};
 
 use crate::header::Header;
 use std::io;

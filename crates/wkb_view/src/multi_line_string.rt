@@ -52,6 +52,7 @@ impl<'a> MultiLineString<'a> {
     ghost use Rattle.std.specs.Prelude.{◌≡◌, IfOk, IfSome, length, slice_get, option_map};
     ghost use Rattle.wkb_geom.specs.Reading.{line_of};
     ghost use Rattle.wkb_view.specs.Views.{line_string_seen};
+    ghost use Rattle.wkb_view.specs.Parts.{members_spelled, list_of_spellings};
 
     /// The number of its bytes.
     #[inline]
@@ -88,6 +89,7 @@ impl<'a> MultiLineString<'a> {
     pub(crate) fn member(&self, i: usize) -> Option<LineString<'a>>
         ensures value { option_map (λ l. line_of (line_string_seen l).value) result ≡ slice_get self.now.parts i }
         ensures dimension { IfSome result (λ l. l.dimension ≡ self.now.dimension) }
+        ensures spelled { option_map (λ l. (line_string_seen l).spelled) result ≡ slice_get (list_of_spellings (members_spelled self.now.spelled)) i }
     {
         if i >= self.ends.len() {
             return None;
@@ -141,6 +143,11 @@ impl Dimensioned for MultiLineString<'_> {
 }
 
 impl<'a> MultiLineStringTrait for MultiLineString<'a> {
+    ghost use Rattle.std.specs.Prelude.{◌≡◌, IfSome, option_map, slice_get};
+    ghost use Rattle.wkb_geom.specs.Reading.{line_of};
+    ghost use Rattle.wkb_view.specs.Views.{line_string_seen};
+    ghost use Rattle.wkb_view.specs.Parts.{members_spelled, list_of_spellings};
+
     type InnerLineStringType = LineString<'a>;
 
     ghost line_strings = { λ m. fitted_lines (named m.dimension) m.parts };
@@ -153,7 +160,11 @@ impl<'a> MultiLineStringTrait for MultiLineString<'a> {
     }
 
     #[inline]
-    fn line_string(&self, i: usize) -> Option<LineString<'a>> {
+    fn line_string(&self, i: usize) -> Option<LineString<'a>>
+        ensures value { option_map (λ l. line_of (line_string_seen l).value) result ≡ slice_get (fitted_lines (named self.now.dimension) self.now.parts) i }
+        ensures dimensions { IfSome result (λ l. named l.dimension ≡ named self.now.dimension) }
+        ensures spelled { option_map (λ l. (line_string_seen l).spelled) result ≡ slice_get (list_of_spellings (members_spelled self.now.spelled)) i }
+    {
         self.member(i)
     }
 }

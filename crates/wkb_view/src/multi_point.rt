@@ -99,8 +99,10 @@ impl Dimensioned for MultiPoint<'_> {
 }
 
 impl<'a> MultiPointTrait for MultiPoint<'a> {
-    ghost use Rattle.wkb_view.specs.Views.{multi_point_seen};
-    ghost use Rattle.wkb_view.specs.Parts.{points_of};
+    ghost use Rattle.std.specs.Prelude.{◌≡◌, IfSome, option_map, slice_get};
+    ghost use Rattle.wkb_geom.specs.Reading.{point_of};
+    ghost use Rattle.wkb_view.specs.Views.{point_seen, multi_point_seen};
+    ghost use Rattle.wkb_view.specs.Parts.{points_of, members_spelled, list_of_spellings};
 
     type InnerPointType = Point<'a>;
 
@@ -114,7 +116,11 @@ impl<'a> MultiPointTrait for MultiPoint<'a> {
     }
 
     /// The point at an index, made again from its bytes, in its own order.
-    fn point(&self, i: usize) -> Option<Point<'a>> {
+    fn point(&self, i: usize) -> Option<Point<'a>>
+        ensures value { option_map (λ p. point_of (point_seen p).value) result ≡ slice_get (points_of (multi_point_seen self.now).value) i }
+        ensures dimensions { IfSome result (λ p. named p.dimension ≡ named self.now.dimension) }
+        ensures spelled { option_map (λ p. (point_seen p).spelled) result ≡ slice_get (list_of_spellings (members_spelled (multi_point_seen self.now).spelled)) i }
+    {
         if i >= self.count as usize {
             return None;
         }

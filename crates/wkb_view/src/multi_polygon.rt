@@ -109,6 +109,10 @@ impl Dimensioned for MultiPolygon<'_> {
 }
 
 impl<'a> MultiPolygonTrait for MultiPolygon<'a> {
+    ghost use Rattle.std.specs.Prelude.{◌≡◌, IfSome, option_map, slice_get};
+    ghost use Rattle.wkb_view.specs.Fitted.{fitted_lines};
+    ghost use Rattle.wkb_view.specs.Parts.{members_spelled, list_of_spellings};
+
     type InnerPolygonType = Polygon<'a>;
 
     ghost polygons = { λ m. fitted_polygons (named m.dimension) m.parts };
@@ -121,7 +125,11 @@ impl<'a> MultiPolygonTrait for MultiPolygon<'a> {
     }
 
     #[inline]
-    fn polygon(&self, i: usize) -> Option<&Polygon<'a>> {
+    fn polygon(&self, i: usize) -> Option<&Polygon<'a>>
+        ensures value { option_map (λ p. fitted_lines (named p.now.dimension) p.now.parts) result ≡ slice_get (fitted_polygons (named self.now.dimension) self.now.parts) i }
+        ensures dimensions { IfSome result (λ p. named p.now.dimension ≡ named self.now.dimension) }
+        ensures spelled { option_map (λ p. p.now.spelled) result ≡ slice_get (list_of_spellings (members_spelled self.now.spelled)) i }
+    {
         if i < self.members.len() {
             Some(&self.members[i])
         } else {

@@ -51,6 +51,7 @@ impl<'a> Model for Polygon<'a> {
 impl<'a> Polygon<'a> {
     ghost use Rattle.std.specs.Prelude.{◌≡◌, IfOk, IfSome, length, slice_get, option_map};
     ghost use Rattle.wkb_view.specs.Coords.{ring_seen};
+    ghost use Rattle.wkb_view.specs.Parts.{order_of};
 
     /// The number of its bytes.
     #[inline]
@@ -87,6 +88,7 @@ impl<'a> Polygon<'a> {
     pub(crate) fn ring(&self, i: usize) -> Option<LinearRing<'a>>
         ensures value { option_map ring_seen result ≡ slice_get (self.now.parts) i }
         ensures dimension { IfSome result (λ r. r.dimension ≡ self.now.dimension) }
+        ensures order { IfSome result (λ r. r.order ≡ order_of self.now.spelled) }
     {
         if i >= self.ends.len() {
             return None;
@@ -135,6 +137,10 @@ impl Dimensioned for Polygon<'_> {
 }
 
 impl<'a> PolygonTrait for Polygon<'a> {
+    ghost use Rattle.std.specs.Prelude.{◌≡◌, ◌+◌, IfSome, option_map, slice_get};
+    ghost use Rattle.wkb_view.specs.Coords.{ring_seen};
+    ghost use Rattle.wkb_view.specs.Parts.{order_of};
+
     type RingType = LinearRing<'a>;
 
     ghost rings = { λ p. fitted_lines (named p.dimension) p.parts };
@@ -147,12 +153,20 @@ impl<'a> PolygonTrait for Polygon<'a> {
     }
 
     #[inline]
-    fn exterior(&self) -> Option<LinearRing<'a>> {
+    fn exterior(&self) -> Option<LinearRing<'a>>
+        ensures value { option_map ring_seen result ≡ slice_get (fitted_lines (named self.now.dimension) self.now.parts) 0 }
+        ensures dimensions { IfSome result (λ r. named r.dimension ≡ named self.now.dimension) }
+        ensures order { IfSome result (λ r. r.order ≡ order_of self.now.spelled) }
+    {
         self.ring(0)
     }
 
     #[inline]
-    fn interior(&self, i: usize) -> Option<LinearRing<'a>> {
+    fn interior(&self, i: usize) -> Option<LinearRing<'a>>
+        ensures value { option_map ring_seen result ≡ slice_get (fitted_lines (named self.now.dimension) self.now.parts) (i + 1) }
+        ensures dimensions { IfSome result (λ r. named r.dimension ≡ named self.now.dimension) }
+        ensures order { IfSome result (λ r. r.order ≡ order_of self.now.spelled) }
+    {
         if i < self.num_interiors() {
             self.ring(i + 1)
         } else {

@@ -8,7 +8,8 @@ use wkb::writer::{VecSink, geometry_wkb_size_with, write_point};
 use wkb_cases::reading::{
     are_same, equal_values, read, rewrites, rewrites_with_srid, with_own_srid,
 };
-use wkb_cases::support::{ONE, TWO, bytes, coord_of, empty_point_of, ewkb, rect_of};
+use wkb_cases::spelled::bytes;
+use wkb_cases::support::{ONE, TWO, coord_of, empty_point_of, ewkb, rect_of};
 use wkb_cases::texts::{MEMBER_WITH_SRID, MIXED_DIMENSIONS};
 
 /// A polygon of one ring.
@@ -27,7 +28,7 @@ fn same_polygons(rt: HostRuntime) -> Result<(), Fail> {
 #[test]
 fn same_polygons_srids(rt: HostRuntime) -> Result<(), Fail> {
     for (text, srid) in [(BIG_POLYGON, Some(4326)), (LITTLE_POLYGON, None)] {
-        let input = bytes(rt.alloc(), text)?;
+        let input = bytes(text)?;
         assert_eq!(rt; read(rt.alloc(), input.as_slice())?.srid(), srid, "{text}");
     }
     Ok(())
@@ -47,7 +48,7 @@ fn zero_signs(rt: HostRuntime) -> Result<(), Fail> {
 
 #[test]
 fn same_faults(rt: HostRuntime) -> Result<(), Fail> {
-    let order = bytes(rt.alloc(), "02")?;
+    let order = bytes("02")?;
     let answer = are_same(rt.alloc(), order.as_slice(), &[]);
     assert!(rt; matches!(answer, Err(WkbError::General(General::InvalidByteOrder))));
     Ok(())
@@ -113,8 +114,8 @@ fn inner_srid(rt: HostRuntime) -> Result<(), Fail> {
 
 #[test]
 fn ewkb_keys(rt: HostRuntime) -> Result<(), Fail> {
-    let first = bytes(rt.alloc(), LITTLE_POLYGON)?;
-    let second = bytes(rt.alloc(), BIG_POLYGON)?;
+    let first = bytes(LITTLE_POLYGON)?;
+    let second = bytes(BIG_POLYGON)?;
     let first_key = with_own_srid(rt.alloc(), first.as_slice(), Endianness::LittleEndian)?;
     let second_key = with_own_srid(rt.alloc(), second.as_slice(), Endianness::LittleEndian)?;
     assert_eq!(rt; first_key.len(), 29);
@@ -137,10 +138,7 @@ fn ewkb_empty(rt: HostRuntime) -> Result<(), Fail> {
     let point = empty_point_of(Dimensions::Xyz)?;
     let mut sink = VecSink::new(rt.alloc());
     write_point(&mut sink, &point, &ewkb(None))?;
-    let expected = bytes(
-        rt.alloc(),
-        "01 01000080 000000000000f87f 000000000000f87f 000000000000f87f",
-    )?;
+    let expected = bytes("01 01000080 000000000000f87f 000000000000f87f 000000000000f87f")?;
     assert_eq!(rt; sink.into_vec().as_slice(), expected.as_slice());
     Ok(())
 }

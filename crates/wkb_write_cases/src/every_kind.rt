@@ -8,7 +8,8 @@ use wkb::reader::{GeometryType, Wkb};
 use wkb_cases::reading::{
     are_same, as_line_string, as_point, as_polygon, read, rewritten, rewritten_as,
 };
-use wkb_cases::support::{bytes, iso};
+use wkb_cases::spelled::{Spelled, bytes};
+use wkb_cases::support::iso;
 
 /// Each kind's code, its body, and the bytes of the geometry without an SRID.
 const KINDS: [(&str, &str, usize); 8] = [
@@ -27,20 +28,27 @@ const KINDS: [(&str, &str, usize); 8] = [
 ];
 
 /// A kind's geometry without an SRID.
-fn without_srid(alloc: Global, kind: &str, body: &str) -> Result<Vec<u8>, Fail> {
-    let text = format!(in alloc; "01 {kind}000000 {body}")?;
-    bytes(alloc, text.as_str())
+fn without_srid(kind: &str, body: &str) -> Result<Spelled, Fail> {
+    spelled(["01", kind, "000000", body])
 }
 
 /// The same with the SRID 1.
-fn with_srid(alloc: Global, kind: &str, body: &str) -> Result<Vec<u8>, Fail> {
-    let text = format!(in alloc; "01 {kind}000020 01000000 {body}")?;
-    bytes(alloc, text.as_str())
+fn with_srid(kind: &str, body: &str) -> Result<Spelled, Fail> {
+    spelled(["01", kind, "000020 01000000", body])
+}
+
+fn spelled(texts: [&str; 4]) -> Result<Spelled, Fail> {
+    let mut whole = Spelled::new();
+    for text in texts {
+        whole.spell(text)?;
+    }
+    Ok(whole)
 }
 
 // Whether a geometry with bytes behind it gives itself, and reads again as the same.
 fn is_told_apart(alloc: Global, whole: &[u8]) -> Result<bool, Fail> {
-    let mut input = whole.to_vec(alloc)?;
+    let mut input = Spelled::new();
+    input.extend_from_slice(whole)?;
     input.extend_from_slice(&[0xff, 0xff, 0xff, 0xff])?;
     let front = front_of(alloc, input.as_slice())?;
     let again = front_of(alloc, front)?;
@@ -55,7 +63,7 @@ fn front_of<'a>(alloc: Global, input: &'a [u8]) -> Result<&'a [u8], Fail> {
 #[test]
 fn bytes_behind(rt: HostRuntime) -> Result<(), Fail> {
     for (kind, body, size) in KINDS {
-        let whole = without_srid(rt.alloc(), kind, body)?;
+        let whole = without_srid(kind, body)?;
         assert_eq!(rt; whole.len(), size, "{body}");
         assert!(rt; is_told_apart(rt.alloc(), whole.as_slice())?, "{body}");
     }
@@ -65,7 +73,7 @@ fn bytes_behind(rt: HostRuntime) -> Result<(), Fail> {
 #[test]
 fn bytes_behind_an_srid(rt: HostRuntime) -> Result<(), Fail> {
     for (kind, body, size) in KINDS {
-        let whole = with_srid(rt.alloc(), kind, body)?;
+        let whole = with_srid(kind, body)?;
         assert_eq!(rt; whole.len(), size.saturating_add(4), "{body}");
         assert!(rt; is_told_apart(rt.alloc(), whole.as_slice())?, "{body}");
     }
@@ -83,8 +91,8 @@ fn is_rewritten(alloc: Global, input: &[u8], expected: &[u8]) -> Result<bool, Fa
 #[test]
 fn rewritten_alike(rt: HostRuntime) -> Result<(), Fail> {
     for (kind, body, _size) in KINDS {
-        let plain = without_srid(rt.alloc(), kind, body)?;
-        let marked = with_srid(rt.alloc(), kind, body)?;
+        let plain = without_srid(kind, body)?;
+        let marked = with_srid(kind, body)?;
         assert!(rt;
             is_rewritten(rt.alloc(), plain.as_slice(), plain.as_slice())?,
             "{body}"
@@ -118,8 +126,8 @@ fn coordinates_lent(rt: HostRuntime) -> Result<(), Fail> {
         ("02", "02000000 P P", "P P"),
         ("03", "01000000 04000000 P P P P", "P P P P"),
     ] {
-        let expected = bytes(rt.alloc(), words)?;
-        let input = with_srid(rt.alloc(), kind, body)?;
+        let expected = bytes(words)?;
+        let input = with_srid(kind, body)?;
         let wkb = read(rt.alloc(), input.as_slice())?;
         assert_eq!(rt; coordinates_in(&wkb)?, expected.as_slice(), "{body}");
     }

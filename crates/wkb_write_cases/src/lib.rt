@@ -11,8 +11,6 @@ mod long_line;
 #[cfg(test)]
 mod plain_kinds;
 #[cfg(test)]
-mod sinks;
-#[cfg(test)]
 mod use_of_the_library;
 #[cfg(test)]
 mod writing;

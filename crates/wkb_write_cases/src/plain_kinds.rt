@@ -12,7 +12,8 @@ use wkb::writer::{
     write_geometry_collection, write_line_string, write_multi_line_string, write_multi_point,
     write_multi_polygon, write_point, write_polygon,
 };
-use wkb_cases::support::{ONE, TWO, bytes, iso, line_string_of, point_of};
+use wkb_cases::spelled::bytes;
+use wkb_cases::support::{ONE, TWO, iso, line_string_of, point_of};
 
 /// A coordinate, and four of them.
 const WORDS: [u64; 2] = [ONE, TWO];
@@ -28,7 +29,7 @@ fn a_point(rt: HostRuntime) -> Result<(), Fail> {
     let point = point_of(Dimensions::Xy, &WORDS)?;
     let mut sink = VecSink::new(rt.alloc());
     write_point(&mut sink, &point, &iso(Endianness::LittleEndian))?;
-    let expected = bytes(rt.alloc(), "01 01000000 P")?;
+    let expected = bytes("01 01000000 P")?;
     assert_eq!(rt; sink.into_vec().as_slice(), expected.as_slice());
     assert_eq!(rt; point_wkb_size(Dimensions::Xy)?, 21);
     Ok(())
@@ -40,7 +41,7 @@ fn a_line_string(rt: HostRuntime) -> Result<(), Fail> {
     let line_string = line_string_of(Dimensions::Xy, &words)?;
     let mut sink = VecSink::new(rt.alloc());
     write_line_string(&mut sink, &line_string, &iso(Endianness::LittleEndian))?;
-    let expected = bytes(rt.alloc(), "01 02000000 02000000 P P")?;
+    let expected = bytes("01 02000000 02000000 P P")?;
     assert_eq!(rt; sink.into_vec().as_slice(), expected.as_slice());
     assert_eq!(rt; line_string_wkb_size(&line_string)?, 41);
     Ok(())
@@ -53,10 +54,7 @@ fn a_polygon(rt: HostRuntime) -> Result<(), Fail> {
     let polygon = polygon_of(&rings)?;
     let mut sink = VecSink::new(rt.alloc());
     write_polygon(&mut sink, &polygon, &iso(Endianness::LittleEndian))?;
-    let expected = bytes(
-        rt.alloc(),
-        "01 03000000 02000000 04000000 P P P P 04000000 P P P P",
-    )?;
+    let expected = bytes("01 03000000 02000000 04000000 P P P P 04000000 P P P P")?;
     assert_eq!(rt; sink.into_vec().as_slice(), expected.as_slice());
     assert_eq!(rt; polygon_wkb_size(&polygon)?, 145);
     Ok(())
@@ -69,10 +67,7 @@ fn a_multi_point(rt: HostRuntime) -> Result<(), Fail> {
     let multi_point = MultiPoint::new(Dimensions::Xy, &points).ok_or("no multi point")?;
     let mut sink = VecSink::new(rt.alloc());
     write_multi_point(&mut sink, &multi_point, &iso(Endianness::LittleEndian))?;
-    let expected = bytes(
-        rt.alloc(),
-        "01 04000000 02000000 01 01000000 P 01 01000000 P",
-    )?;
+    let expected = bytes("01 04000000 02000000 01 01000000 P 01 01000000 P")?;
     assert_eq!(rt; sink.into_vec().as_slice(), expected.as_slice());
     assert_eq!(rt; multi_point_wkb_size(&multi_point)?, 51);
     Ok(())
@@ -85,10 +80,7 @@ fn a_multi_line_string(rt: HostRuntime) -> Result<(), Fail> {
     let multi = MultiLineString::new(Dimensions::Xy, &line_strings).ok_or("no multi line string")?;
     let mut sink = VecSink::new(rt.alloc());
     write_multi_line_string(&mut sink, &multi, &iso(Endianness::LittleEndian))?;
-    let expected = bytes(
-        rt.alloc(),
-        "01 05000000 02000000 01 02000000 01000000 P 01 02000000 01000000 P",
-    )?;
+    let expected = bytes("01 05000000 02000000 01 02000000 01000000 P 01 02000000 01000000 P")?;
     assert_eq!(rt; sink.into_vec().as_slice(), expected.as_slice());
     assert_eq!(rt; multi_line_string_wkb_size(&multi)?, 59);
     Ok(())
@@ -101,10 +93,7 @@ fn a_multi_polygon(rt: HostRuntime) -> Result<(), Fail> {
     let multi = MultiPolygon::new(Dimensions::Xy, &polygons).ok_or("no multi polygon")?;
     let mut sink = VecSink::new(rt.alloc());
     write_multi_polygon(&mut sink, &multi, &iso(Endianness::LittleEndian))?;
-    let expected = bytes(
-        rt.alloc(),
-        "01 06000000 01000000 01 03000000 01000000 01000000 P",
-    )?;
+    let expected = bytes("01 06000000 01000000 01 03000000 01000000 01000000 P")?;
     assert_eq!(rt; sink.into_vec().as_slice(), expected.as_slice());
     assert_eq!(rt; multi_polygon_wkb_size(&multi)?, 38);
     Ok(())
@@ -118,10 +107,7 @@ fn a_geometry_collection(rt: HostRuntime) -> Result<(), Fail> {
     let collection = GeometryCollection::new(Dimensions::Xy, members);
     let mut sink = VecSink::new(rt.alloc());
     write_geometry_collection(&mut sink, &collection, &iso(Endianness::LittleEndian))?;
-    let expected = bytes(
-        rt.alloc(),
-        "01 07000000 02000000 01 01000000 P 01 02000000 01000000 P",
-    )?;
+    let expected = bytes("01 07000000 02000000 01 01000000 P 01 02000000 01000000 P")?;
     assert_eq!(rt; sink.into_vec().as_slice(), expected.as_slice());
     assert_eq!(rt; geometry_collection_wkb_size(&collection)?, 55);
     Ok(())

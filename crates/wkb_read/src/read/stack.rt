@@ -1,9 +1,9 @@
 //! Reading with an explicit stack of open collections.
 
-ghost use Rattle.std.specs.Prelude.{◌≡◌, ◌+◌, ◌*◌, ◌<◌, ◌≤◌, ◌^◌, length, reverse, IfOk};
-ghost use Rattle.wkb_geom.specs.Reading.{geometry_at, body_at, line_string_at, costs, done};
-ghost use Rattle.wkb_part.specs.Outcome.{Gives, CanCount};
-ghost use Rattle.wkb_read.specs.Stack.{resume, counted, HaveRoom, Settles, levels_inside, collection_inside, BeginsAs, Begins, Reads};
+ghost use Rattle.std.specs.Prelude.{◌≡◌, ◌++◌, ◌+◌, ◌*◌, ◌<◌, ◌≤◌, ◌^◌, length, reverse, IfOk};
+ghost use Rattle.wkb_geom.specs.Reading.{geometry_at, body_at, costs, done};
+ghost use Rattle.wkb_part.specs.Outcome.{CanCount};
+ghost use Rattle.wkb_read.specs.Stack.{resume, counted, HaveRoom, ArePlaced, Settles, levels_inside, collection_inside, BeginsAs, Begins, Reads};
 ghost use Rattle.wkb_read.specs.Public.{TakesNoMemory, IsFront, IsOnlyFront, HasNoFront, IsRefusal, TellsEach, IfRefused, IfMemory, CountsValue, CountsRefusal, CountsAtMost, CanBeWritten};
 ghost use Rattle.wkb_geom.specs.Geometries.{IsGeometry, normal, geometry_of};
 ghost use Rattle.wkb_view.specs.Views.{head_seen};
@@ -13,18 +13,14 @@ ghost use Rattle.wkb_geom.specs.Reading.{body_start};
 
 use crate::geometry::{GeometryCollection, Kind, Wkb};
 use crate::read::unfinished::{Begun, Open};
+use crate::read::whole::{leaf_body, parts_body};
 use std::alloc::{AllocError, Global};
 use std::io;
 use wkb_geom::code::WkbType;
 use wkb_geom::error::{WkbError, WkbResult};
 use wkb_geom::words::u32_at;
 use wkb_part::counts::Counts;
-use wkb_part::leaf::{line_string, point};
-use wkb_part::lines::multi_line_string;
-use wkb_part::points::multi_point;
-use wkb_part::polygons::multi_polygon;
 use wkb_part::reserved::{Reserved, bounded_capacity};
-use wkb_part::rings::polygon;
 use wkb_view::header::{Header, Layout};
 use wkb_view::leaf::{header, start_of_body};
 
@@ -80,27 +76,6 @@ pub(crate) fn open<'a>(
     Ok(Begun::Opened(collection, rest))
 }
 
-/// The line string at the front of the bytes, as a whole geometry.
-pub(crate) fn begun_line_string<'a>(
-    around: usize,
-    layout: Layout,
-    bytes: &'a [u8],
-    counts: &mut Counts,
-) -> WkbResult<Begun<'a>>
-    ensures begins { BeginsAs (line_string_at layout.order layout.dimension layout.has_srid bytes.now) around bytes.now result counts.old counts.new }
-    ensures free { NeedsNone result }
-{
-    match line_string(layout, bytes) {
-        Ok((line_string, rest)) => Ok(Begun::Whole(
-            Wkb {
-                kind: Kind::LineString(line_string),
-            },
-            rest,
-        )),
-        Err(e) => Err(e),
-    }
-}
-
 /// Reads what stands behind a header, inside so many open collections: a whole geometry, or the
 /// beginning of a collection.
 pub(crate) fn body<'a>(
@@ -114,117 +89,23 @@ pub(crate) fn body<'a>(
     ensures begins { BeginsAs (body_at (collection_inside (levels_inside around)) header.wkb_type header.order header.has_srid bytes.now) around bytes.now result counts.old counts.new }
     ensures free { BodyTakesNone header.wkb_type (head_seen header) bytes.now → NeedsNone result }
 {
-    let order = header.order;
-    let has_srid = header.has_srid;
     match header.wkb_type {
-        WkbType::Point(dimension) => match point(
-            Layout {
-                order,
-                dimension,
-                has_srid,
-            },
-            bytes,
-        ) {
-            Ok((point, rest)) => Ok(Begun::Whole(
-                Wkb {
-                    kind: Kind::Point(point),
-                },
-                rest,
-            )),
+        WkbType::Point(_) | WkbType::LineString(_) => match leaf_body(header, bytes) {
+            Ok((whole, rest)) => Ok(Begun::Whole(whole, rest)),
             Err(e) => Err(e),
         },
-        WkbType::LineString(dimension) => begun_line_string(
-            around,
-            Layout {
-                order,
+        WkbType::GeometryCollection(dimension) => {
+            let layout = Layout {
+                order: header.order,
                 dimension,
-                has_srid,
-            },
-            bytes,
-            counts,
-        ),
-        WkbType::Polygon(dimension) => match polygon(
-            alloc,
-            Layout {
-                order,
-                dimension,
-                has_srid,
-            },
-            bytes,
-            counts,
-        ) {
-            Ok((polygon, rest)) => Ok(Begun::Whole(
-                Wkb {
-                    kind: Kind::Polygon(polygon),
-                },
-                rest,
-            )),
+                has_srid: header.has_srid,
+            };
+            open(alloc, around, layout, bytes, counts)
+        }
+        _ => match parts_body(alloc, header, bytes, counts) {
+            Ok((whole, rest)) => Ok(Begun::Whole(whole, rest)),
             Err(e) => Err(e),
         },
-        WkbType::MultiPoint(dimension) => match multi_point(
-            Layout {
-                order,
-                dimension,
-                has_srid,
-            },
-            bytes,
-            counts,
-        ) {
-            Ok((multi_point, rest)) => Ok(Begun::Whole(
-                Wkb {
-                    kind: Kind::MultiPoint(multi_point),
-                },
-                rest,
-            )),
-            Err(e) => Err(e),
-        },
-        WkbType::MultiLineString(dimension) => match multi_line_string(
-            alloc,
-            Layout {
-                order,
-                dimension,
-                has_srid,
-            },
-            bytes,
-            counts,
-        ) {
-            Ok((multi_line_string, rest)) => Ok(Begun::Whole(
-                Wkb {
-                    kind: Kind::MultiLineString(multi_line_string),
-                },
-                rest,
-            )),
-            Err(e) => Err(e),
-        },
-        WkbType::MultiPolygon(dimension) => match multi_polygon(
-            alloc,
-            Layout {
-                order,
-                dimension,
-                has_srid,
-            },
-            bytes,
-            counts,
-        ) {
-            Ok((multi_polygon, rest)) => Ok(Begun::Whole(
-                Wkb {
-                    kind: Kind::MultiPolygon(multi_polygon),
-                },
-                rest,
-            )),
-            Err(e) => Err(e),
-        },
-        WkbType::GeometryCollection(dimension) => open(
-            alloc,
-            around,
-            Layout {
-                order,
-                dimension,
-                has_srid,
-            },
-            bytes,
-            counts,
-        ),
     }
 }
 
@@ -255,6 +136,7 @@ pub(crate) fn settle<'a>(
     counts: &mut Counts,
 ) -> Option<Wkb<'a>>
     requires room { HaveRoom (reverse stack.old.items) (length rest.now + 9) }
+    requires placed { ArePlaced (reverse stack.old.items) (part.text ++ rest.now) }
     requires fits { (costs (counted counts.old) (resume (reverse stack.old.items) (done part rest.now))).0.turns < 2 ^ 128 }
     ensures { Settles (reverse stack.old.items) (reverse stack.new.items) part.entry rest.now result counts.old counts.new }
 {
@@ -295,7 +177,7 @@ pub(crate) fn settle<'a>(
 }
 
 /// The geometry at the front of the bytes, by a loop over a stack of open collections.
-pub(crate) fn geometry<'a>(alloc: Global, buf: &'a [u8], counts: &mut Counts) -> WkbResult<Wkb<'a>>
+pub(crate) fn nested<'a>(alloc: Global, buf: &'a [u8], counts: &mut Counts) -> WkbResult<Wkb<'a>>
     requires fits { CanCount counts.old (geometry_at 128 buf.now).0 }
     ensures reads { Reads (geometry_at 128 buf.now) result counts.old counts.new }
     ensures free { ReadsWithoutMemory buf.now → IsNotMemory result }
@@ -319,6 +201,29 @@ pub(crate) fn geometry<'a>(alloc: Global, buf: &'a [u8], counts: &mut Counts) ->
             }
             Err(e) => return Err(e),
         }
+    }
+}
+
+/// The geometry at the front of the bytes; only a collection goes through the loop.
+pub(crate) fn geometry<'a>(alloc: Global, buf: &'a [u8], counts: &mut Counts) -> WkbResult<Wkb<'a>>
+    requires fits { CanCount counts.old (geometry_at 128 buf.now).0 }
+    ensures reads { Reads (geometry_at 128 buf.now) result counts.old counts.new }
+    ensures free { ReadsWithoutMemory buf.now → IsNotMemory result }
+{
+    let header = match header(buf) {
+        Ok(header) => header,
+        Err(e) => return Err(e),
+    };
+    match header.wkb_type {
+        WkbType::Point(_) | WkbType::LineString(_) => match leaf_body(header, buf) {
+            Ok((whole, _)) => Ok(whole),
+            Err(e) => Err(e),
+        },
+        WkbType::GeometryCollection(_) => nested(alloc, buf, counts),
+        _ => match parts_body(alloc, header, buf, counts) {
+            Ok((whole, _)) => Ok(whole),
+            Err(e) => Err(e),
+        },
     }
 }
 

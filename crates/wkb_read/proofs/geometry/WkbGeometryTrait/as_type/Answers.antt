@@ -48,5 +48,5 @@ returns-in-GeometryCollection c =
     let seen : whole_of collected l ≡ c.args.self.now = sym (ap kind_seen c.in-GeometryCollection.is) ∙ c.self.view_is in
     record {
       part =
-          rw (← seen) (ap (λ (gs : List Geometry). collection (dimensions l.dimension) (geometries gs)) c.geometries.ensures ∙ ap (λ (gs : Geometries). collection (dimensions l.dimension) gs) (members_together l.parts));
+          rw (← seen) (ap (λ (gs : List Geometry). collection (dimensions l.dimension) (geometries gs)) c.geometries.ensures.members ∙ ap (λ (gs : Geometries). collection (dimensions l.dimension) gs) (members_together l.parts));
     }

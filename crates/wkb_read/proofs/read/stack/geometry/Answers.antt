@@ -1,93 +1,53 @@
-use Rattle.std.proofs.Common.{◌≡◌, length, reverse, [], ◌∷◌, sym, ap, subst, ◌∙◌, length-append, arith}
-use Rattle.std.proofs.lemmas.List.{reverse-append, length-reverse}
-use Rattle.wkb_geom.specs.Reading.{Item, Reading, geometry_at}
-use Rattle.wkb_read.specs.Stack.{levels_inside}
+use Rattle.std.proofs.Common.{◌<◌, subst, rules, arith}
+use Rattle.wkb_geom.specs.Reading.{Item, Reading, type_kind}
+use Rattle.wkb_part.specs.Outcome.{CanCount}
 use Rattle.wkb_read.specs.Memory.{ReadsWithoutMemory}
-use Rattle.wkb_read.proofs.Free.{not_memory}
-use Rattle.wkb_read.proofs.Stacks.{can_count, at_most_turn, opened_in, part_in, turns_fit, stops_outward, all_read, HaveRoom-less}
+use Rattle.wkb_view.specs.Views.{head_seen}
+use Rattle.wkb_read.proofs.Bodies.{behind_plain_header, behind_leaf_header, stops_at_no_cost, stops_without_header}
 use Rattle.wkb_read.proofs.read.stack.geometry.Goals as goal
 
-pub begin-requires : goal.begin-requires
-begin-requires c =
-    let around : length (reverse c.loop-collection.stack.items) ≡ c.len.result = omega (arith, length-reverse c.loop-collection.stack.items, c.loop-collection.stack.ok.0, c.len.ensures) in
-    record { fits = rw (← around) (can_count (reverse c.loop-collection.stack.items) _ (geometry_at 128 c.args.buf.now) c.args.counts.now c.loop-collection.counts c.loop-collection.invariant.leads c.requires.fits) }
-
-pub returns-in-Err-push-clause-reads : goal.returns-in-Err-push-clause-reads
-returns-in-Err-push-clause-reads c =
-    let os = reverse c.loop-collection.stack.items in
-    let around : length os ≡ c.len.result = omega (arith, length-reverse c.loop-collection.stack.items, c.loop-collection.stack.ok.0, c.len.ensures) in
-    let o = opened_in c.in-Ok-Opened.collection os c.in-Ok-Opened.rest c.loop-collection.bytes.now c.len.result c.args.counts.now c.loop-collection.counts c.begin.new.counts (geometry_at 128 c.args.buf.now)
-    around c.loop-collection.invariant.leads c.loop-collection.invariant.room (rw c.in-Ok-Opened.field-0-is at c.in-Ok-Opened.ensures.begins) in
-    at_most_turn _ _ c.args.counts.now c.begin.new.counts o.so_far
-
-pub overflow_add-counts : goal.overflow_add-counts
-overflow_add-counts c =
-    let os = reverse c.loop-collection.stack.items in
-    let around : length os ≡ c.len.result = omega (arith, length-reverse c.loop-collection.stack.items, c.loop-collection.stack.ok.0, c.len.ensures) in
-    let o = opened_in c.in-Ok-Opened.collection os c.in-Ok-Opened.rest c.loop-collection.bytes.now c.len.result c.args.counts.now c.loop-collection.counts c.begin.new.counts (geometry_at 128 c.args.buf.now)
-    around c.loop-collection.invariant.leads c.loop-collection.invariant.room (rw c.in-Ok-Opened.field-0-is at c.in-Ok-Opened.ensures.begins) in
-    omega (arith, ap (λ (x : Reading Item). x.0.turns) o.so_far, c.requires.fits.turns)
-
-pub loop-collection-preserved-in-Ok-Opened : goal.loop-collection-preserved-in-Ok-Opened
-loop-collection-preserved-in-Ok-Opened c =
-    let os = reverse c.loop-collection.stack.items in
-    let around : length os ≡ c.len.result = omega (arith, length-reverse c.loop-collection.stack.items, c.loop-collection.stack.ok.0, c.len.ensures) in
-    let o = opened_in c.in-Ok-Opened.collection os c.in-Ok-Opened.rest c.loop-collection.bytes.now c.len.result c.args.counts.now c.loop-collection.counts c.begin.new.counts (geometry_at 128 c.args.buf.now)
-    around c.loop-collection.invariant.leads c.loop-collection.invariant.room (rw c.in-Ok-Opened.field-0-is at c.in-Ok-Opened.ensures.begins) in
-    let new : reverse c.push.new.self.items ≡ c.in-Ok-Opened.collection ∷ os = ap reverse c.in_default.ensures.items ∙ reverse-append c.loop-collection.stack.items (c.in-Ok-Opened.collection ∷ []) in
-    record {
-      leads = rw new o.so_far;
-      room = rw new o.room;
-      shallow = omega (arith, ap length c.in_default.ensures.items, length-append c.loop-collection.stack.items (c.in-Ok-Opened.collection ∷ []), o.shallow, length-reverse c.loop-collection.stack.items);
-      free = λ (h : ReadsWithoutMemory c.args.buf.now). let f = c.loop-collection.invariant.free h in
-          absurd (rw c.in-Ok-Opened.field-0-is at (c.in-Ok-Opened.ensures.free (subst ReadsWithoutMemory (sym f.1) h)));
-    }
-
-pub settle-requires-clause-room : goal.settle-requires-clause-room
-settle-requires-clause-room c = HaveRoom-less (reverse c.loop-collection.stack.items) _ _ (rw c.in-Ok-Whole.field-0-is at c.in-Ok-Whole.ensures.begins).1 c.loop-collection.invariant.room
-
-pub settle-requires-clause-fits : goal.settle-requires-clause-fits
-settle-requires-clause-fits c =
-    let os = reverse c.loop-collection.stack.items in
-    let around : length os ≡ c.len.result = omega (arith, length-reverse c.loop-collection.stack.items, c.loop-collection.stack.ok.0, c.len.ensures) in
-    let p = part_in c.in-Ok-Whole.part os c.in-Ok-Whole.rest c.loop-collection.bytes.now c.len.result c.args.counts.now c.loop-collection.counts c.begin.new.counts (geometry_at 128 c.args.buf.now)
-    around c.loop-collection.invariant.leads (rw c.in-Ok-Whole.field-0-is at c.in-Ok-Whole.ensures.begins) in
-    omega (arith, turns_fit os _ _ c.args.counts.now c.begin.new.counts p, c.requires.fits.turns)
-
-pub returns-in-Some-clause-reads : goal.returns-in-Some-clause-reads
-returns-in-Some-clause-reads c =
-    let os = reverse c.loop-collection.stack.items in
-    let around : length os ≡ c.len.result = omega (arith, length-reverse c.loop-collection.stack.items, c.loop-collection.stack.ok.0, c.len.ensures) in
-    let p = part_in c.in-Ok-Whole.part os c.in-Ok-Whole.rest c.loop-collection.bytes.now c.len.result c.args.counts.now c.loop-collection.counts c.begin.new.counts (geometry_at 128 c.args.buf.now)
-    around c.loop-collection.invariant.leads (rw c.in-Ok-Whole.field-0-is at c.in-Ok-Whole.ensures.begins) in
-    all_read c.in-Some.whole c.in-Ok-Whole.rest.now (geometry_at 128 c.args.buf.now) c.args.counts.now c.settle.new.counts (c.in-Some.ensures.1 ∙ p)
-
-pub loop-collection-preserved : goal.loop-collection-preserved
-loop-collection-preserved c =
-    let os = reverse c.loop-collection.stack.items in
-    let around : length os ≡ c.len.result = omega (arith, length-reverse c.loop-collection.stack.items, c.loop-collection.stack.ok.0, c.len.ensures) in
-    let p = part_in c.in-Ok-Whole.part os c.in-Ok-Whole.rest c.loop-collection.bytes.now c.len.result c.args.counts.now c.loop-collection.counts c.begin.new.counts (geometry_at 128 c.args.buf.now)
-    around c.loop-collection.invariant.leads (rw c.in-Ok-Whole.field-0-is at c.in-Ok-Whole.ensures.begins) in
-    let after = c.in_default-settle.ensures in
-    record {
-      leads = after.0 ∙ p;
-      room = after.1;
-      shallow = omega (arith, after.2, length-reverse c.settle.new.stack.items, length-reverse c.loop-collection.stack.items, c.loop-collection.invariant.shallow);
-      free = λ (h : ReadsWithoutMemory c.args.buf.now). let f = c.loop-collection.invariant.free h in
-          absurd (omega (arith, after.3, length-reverse c.loop-collection.stack.items, ap length f.0));
-    }
-
 pub returns-in-Err-clause-reads : goal.returns-in-Err-clause-reads
-returns-in-Err-clause-reads c =
-    let os = reverse c.loop-collection.stack.items in
-    let around : length os ≡ c.len.result = omega (arith, length-reverse c.loop-collection.stack.items, c.loop-collection.stack.ok.0, c.len.ensures) in
-    stops_outward c.in-Err.e os (geometry_at (levels_inside (length os)) c.loop-collection.bytes.now) (geometry_at 128 c.args.buf.now) c.args.counts.now c.loop-collection.counts c.begin.new.counts
-    c.loop-collection.invariant.leads (rw around c.in-Err.ensures.begins)
+returns-in-Err-clause-reads c = stops_without_header c.in-Err.e 128 c.args.buf.now c.args.counts.now c.in-Err.ensures
 
-pub returns-in-Err-push-clause-free : goal.returns-in-Err-push-clause-free
-returns-in-Err-push-clause-free c = λ h. let f = c.loop-collection.invariant.free h in
-    rw c.in-Ok-Opened.field-0-is at (c.in-Ok-Opened.ensures.free (subst ReadsWithoutMemory (sym f.1) h))
+pub returns-in-Ok-leaf_body-clause-reads : goal.returns-in-Ok-leaf_body-clause-reads
+returns-in-Ok-leaf_body-clause-reads c =
+    let h = head_seen c.in-Ok.header in
+    let leaf : type_kind h.wkb_type < 3 = search rules in
+    rw (behind_leaf_header 128 c.args.buf.now h c.in-Ok.ensures leaf)
+    ((c.in-Ok-leaf_body.field-0-1.now, c.in-Ok-leaf_body.ensures.answer), record { turns = omega arith; slots = omega arith })
 
-pub returns-in-Err-clause-free : goal.returns-in-Err-clause-free
-returns-in-Err-clause-free c = λ h. let f = c.loop-collection.invariant.free h in
-    not_memory c.in-Err.e (c.in-Err.ensures.free (subst ReadsWithoutMemory (sym f.1) h))
+pub returns-in-Err-leaf_body-clause-reads : goal.returns-in-Err-leaf_body-clause-reads
+returns-in-Err-leaf_body-clause-reads c =
+    let h = head_seen c.in-Ok.header in
+    let leaf : type_kind h.wkb_type < 3 = search rules in
+    rw (behind_leaf_header 128 c.args.buf.now h c.in-Ok.ensures leaf)
+    (stops_at_no_cost c.in-Err-leaf_body.e _ c.args.counts.now c.in-Err-leaf_body.ensures.answer)
+
+pub parts_body-requires : goal.parts_body-requires
+parts_body-requires c =
+    let h = head_seen c.in-Ok.header in
+    let parts : 2 < type_kind h.wkb_type = search rules in
+    let plain : type_kind h.wkb_type < 7 = search rules in
+    record {
+      parts = parts;
+      plain = plain;
+      fits = subst (λ (r : Reading Item). CanCount c.args.counts.now r.0) (behind_plain_header 128 c.args.buf.now h c.in-Ok.ensures plain) c.requires.fits;
+    }
+
+pub returns-in-Ok-parts_body : goal.returns-in-Ok-parts_body
+returns-in-Ok-parts_body c =
+    let h = head_seen c.in-Ok.header in
+    let plain : type_kind h.wkb_type < 7 = search rules in
+    record {
+      reads = rw (behind_plain_header 128 c.args.buf.now h c.in-Ok.ensures plain) ((c.in-Ok-parts_body.field-0-1.now, c.in-Ok-parts_body.ensures.answer.0), c.in-Ok-parts_body.ensures.answer.1);
+      free = λ none. tt;
+    }
+
+pub returns-in-Err-parts_body : goal.returns-in-Err-parts_body
+returns-in-Err-parts_body c =
+    let h = head_seen c.in-Ok.header in
+    let plain : type_kind h.wkb_type < 7 = search rules in
+    record {
+      reads = rw (behind_plain_header 128 c.args.buf.now h c.in-Ok.ensures plain) c.in-Err-parts_body.ensures.answer;
+      free = λ (none : ReadsWithoutMemory c.args.buf.now). c.in-Err-parts_body.ensures.free (none h c.in-Ok.ensures);
+    }

@@ -1,4 +1,6 @@
-use Rattle.std.proofs.Common.{◌≡◌, length, refl, arith, ap, ◌∙◌}
+use Rattle.std.proofs.Common.{◌≡◌, length, refl, sym, arith, ap, ◌∙◌}
+use Rattle.std.proofs.lemmas.List.{drop-drop}
+use Rattle.wkb_geom.specs.Reading.{body_start}
 use Rattle.wkb_read.specs.Stack.{counted}
 use Rattle.wkb_read.proofs.Opens.{opens_empty, opens_more}
 use Rattle.wkb_read.proofs.read.stack.open.Goals as goal
@@ -20,4 +22,5 @@ returns-clause-begins c =
       refl,
       record { within = omega (arith, none, c.split_at.ensures.back_len, c.start_of_body-at.ensures); room = rw (none) (omega (arith, c.in-Ok.ensures.capacity, c.bounded_capacity-capacity.ensures, c.start_of_body-at.ensures)) },
       omega arith,
+      rw (c.in-Ok.ensures.items) (drop-drop 4 (body_start c.args.layout.has_srid) c.args.bytes.now ∙ sym (rw c.start_of_body-at.ensures at c.split_at.ensures.back)),
     )

@@ -1,12 +1,13 @@
-use Rattle.std.proofs.Common.{◌≡◌, ◌+◌, ◌≤◌, length, reverse, vec_len}
+use Rattle.std.proofs.Common.{◌≡◌, ◌++◌, ◌+◌, ◌≤◌, length, reverse, vec_len}
 use Rattle.wkb_geom.specs.Reading.{costs, done}
-use Rattle.wkb_read.specs.Stack.{resume, counted, HaveRoom}
+use Rattle.wkb_read.specs.Stack.{resume, counted, HaveRoom, ArePlaced}
 use Rattle.wkb_read.proofs.read.stack.settle.Given as goal
 
 abbrev pub invariant-loop-collection : goal.invariant-loop-collection
 invariant-loop-collection l = record {
   leads : costs (counted l.counts) (resume (reverse l.stack.items) (done l.finished l.rest)) ≡ costs (counted l.fn.counts) (resume (reverse l.fn.stack.items) (done l.fn.part l.rest));
   room : HaveRoom (reverse l.stack.items) (length l.rest + 9);
+  placed : ArePlaced (reverse l.stack.items) (l.finished.text ++ l.rest);
   fewer : length l.stack.items ≤ length l.fn.stack.items;
 }
 

@@ -1,3 +1,7 @@
+use Rattle.std.specs.Prelude.{slice_get, map}
+use Rattle.wkb_geom.specs.Spellings.{Spelling}
+use Rattle.wkb_view.specs.Pieces.{pieces}
+use Rattle.wkb_view.proofs.Spelled.{spelled_each}
 use Rattle.std.proofs.Common.{rules, ◌≡◌, ◌+◌, ◌∙◌, ℕ, List, Some, arith, sym, ap}
 use Rattle.wkb_geom.specs.Reading.{Item, body_start, line_of}
 use Rattle.wkb_view.specs.Pieces.{start_at}
@@ -70,3 +74,22 @@ returns-clause-value c =
     let whole = line_whole p.dimension c.part-buf.result.now h line c.in-Ok.ensures in
     let item = rw (← c.part-buf.ensures) at (seen_at (λ (i : Item). line_of i.value) (line_item_in p.dimension) (IsLine p.dimension) (body_start p.has_srid + 4) p.ends.items p.buf.now c.args.i _ _ r) in
     rw (← c.self.view_is) (ap (λ (i : Item). Some (line_of i.value)) (sym (line_item_is p.dimension c.part-buf.result.now h c.in-Ok.ensures)) ∙ sym item)
+
+pub returns-clause-spelled : goal.returns-clause-spelled
+returns-clause-spelled c =
+    let p = c.self.inside in
+    let start : c.start_of_part-start.result ≡ start_at (body_start p.has_srid + 4) p.ends.items c.args.i =
+    c.start_of_part-start.ensures ∙ ap (λ (n : ℕ). start_at (n + 4) c.deref.result.now c.args.i) c.start_of_body.ensures ∙ ap (λ (es : List ℕ). start_at (body_start p.has_srid + 4) es c.args.i) c.deref.ensures.value in
+    let r = part_is (IsLine p.dimension) (body_start p.has_srid + 4) p.ends.items p.buf.now c.args.i c.start_of_part-start.result c.index-end.result.now c.self.invariant (omega (arith, c.len.ensures, p.ends.ok.0)) start c.index-end.ensures in
+    let line = rw (← c.part-buf.ensures) at r.form in
+    let h = head_seen c.in-Ok.head in
+    let whole = line_whole p.dimension c.part-buf.result.now h line c.in-Ok.ensures in
+    let item = rw (← c.part-buf.ensures) at (seen_at (λ (i : Item). i.spelled) (line_item_in p.dimension) (IsLine p.dimension) (body_start p.has_srid + 4) p.ends.items p.buf.now c.args.i _ _ r) in
+    rw (← c.self.view_is) ((ap (λ (i : Item). Some i.spelled) (sym (line_item_is p.dimension c.part-buf.result.now h c.in-Ok.ensures)) ∙ sym item)
+    ∙ sym (ap (λ (ss : List Spelling). slice_get ss c.args.i) (spelled_each (map (line_item_in p.dimension) (pieces (body_start p.has_srid + 4) p.ends.items p.buf.now)))))
+
+pub returns-then-i-len-clause-spelled : goal.returns-then-i-len-clause-spelled
+returns-then-i-len-clause-spelled c =
+    let p = c.self.inside in
+    rw (← c.self.view_is) (sym (ap (λ (ss : List Spelling). slice_get ss c.args.i) (spelled_each (map (line_item_in p.dimension) (pieces (body_start p.has_srid + 4) p.ends.items p.buf.now)))
+    ∙ seen_past (λ (i : Item). i.spelled) (line_item_in p.dimension) (body_start p.has_srid + 4) p.ends.items p.buf.now c.args.i (omega (arith, c.len.ensures, p.ends.ok.0))))
