@@ -8,6 +8,7 @@ pub mod Fronts
 pub mod Refusals
 pub mod Geometries
 pub mod Texts
+pub mod Told
 pub mod Errors
 pub mod Reading
 pub mod Parts

@@ -1,11 +1,12 @@
 //! The codes of geometries.
 
-ghost use Rattle.std.specs.Prelude.{◌≡◌, ◌||◌, ℕ, Bool, nat_le};
+ghost use Rattle.std.specs.Prelude.{◌≡◌, ◌||◌, ℕ, Bool, nat_le, option_map};
 ghost use Rattle.wkb_geom.specs.declared.common.Dimension.{Dimension};
 ghost use Rattle.wkb_geom.specs.Dimensions.{has_z, has_m};
 ghost use Rattle.wkb_geom.specs.Codes.{Code, thousands, flag, iso_code, ewkb_code, z_flag, m_flag, srid_flag};
-ghost use Rattle.wkb_geom.specs.Reading.{type_of, type_kind, type_dimension, without, in_table, dimension_with, iso_dimension};
-ghost use Rattle.wkb_geom.specs.Meanings.{HasType, IsRead, has_srid_flag};
+ghost use Rattle.wkb_geom.specs.Reading.{type_of, type_kind, type_dimension, meaning, meaning_of, without, in_table};
+ghost use Rattle.wkb_geom.specs.Reading.{dimension_with, iso_dimension};
+ghost use Rattle.wkb_geom.specs.Meanings.{HasType, has_srid_flag};
 
 use crate::common::Dimension;
 use crate::error::{General, WkbError, WkbResult};
@@ -121,10 +122,21 @@ impl WkbGeometryCode {
         0x2000_0000 <= cleared(cleared(self.code, 0x8000_0000), 0x4000_0000)
     }
 
-    /// The kind and the dimension, by ISO codes and the flags of EWKB.
+    /// The kind and the dimension, by ISO codes and the flags of EWKB: `CodeOutOfRange` with the whole code where it
+    /// has none.
     pub fn get_type(&self) -> WkbResult<WkbType>
         ensures meant { HasType self.now result }
-        ensures read { IsRead self.now result }
+    {
+        match self.meaning() {
+            Some(wkb_type) => Ok(wkb_type),
+            None => Err(WkbError::General(General::CodeOutOfRange(self.code))),
+        }
+    }
+
+    /// The kind and the dimension, if the code is in the table.
+    #[inline]
+    pub(crate) fn meaning(&self) -> Option<WkbType>
+        ensures { meaning_of self.now ≡ option_map (λ t. meaning t (has_srid_flag self.now)) result }
     {
         let z = 0x8000_0000 <= self.code;
         let a = cleared(self.code, 0x8000_0000);
@@ -132,10 +144,10 @@ impl WkbGeometryCode {
         let b = cleared(a, 0x4000_0000);
         let n = cleared(b, 0x2000_0000);
         if !is_in_table(n) {
-            return Err(WkbError::General(General::CodeOutOfRange(self.code)));
+            return None;
         }
         let dimension = joined(z, m, of_thousands(n / 1000));
-        Ok(of_kind(n % 1000, dimension))
+        Some(of_kind(n % 1000, dimension))
     }
 }
 

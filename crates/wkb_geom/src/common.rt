@@ -4,7 +4,7 @@ ghost use Rattle.std.specs.Prelude.{◌≡◌};
 ghost use Rattle.wkb_geom.specs.Dimensions.{size, width, dimensions};
 ghost use Rattle.wkb_geom.specs.Meanings.{HasOrder, IsNamed};
 ghost use Rattle.wkb_geom.specs.Numbers.{order_byte};
-ghost use Rattle.wkb_geom.specs.Reading.{same_dimension};
+ghost use Rattle.wkb_geom.specs.Reading.{same_dimension, order_of};
 ghost use Rattle.wkb_geom.specs.Texts.{form_srid, inner};
 
 use crate::error::{General, WkbError};
@@ -17,6 +17,20 @@ pub enum Endianness {
     /// The lowest byte first.
     #[default]
     LittleEndian,
+}
+
+impl Endianness {
+    /// The order that a geometry's first byte says, if it says one.
+    #[inline]
+    pub(crate) fn of_byte(byte: u8) -> Option<Endianness>
+        ensures { result ≡ order_of byte }
+    {
+        match byte {
+            0 => Some(Endianness::BigEndian),
+            1 => Some(Endianness::LittleEndian),
+            _ => None,
+        }
+    }
 }
 
 /// The dimension of a geometry that was read.
@@ -118,10 +132,9 @@ impl TryFrom<u8> for Endianness {
     ghost try_from_gives = { HasOrder };
 
     fn try_from(byte: u8) -> Result<Endianness, WkbError> {
-        match byte {
-            0 => Ok(Endianness::BigEndian),
-            1 => Ok(Endianness::LittleEndian),
-            _ => Err(WkbError::General(General::InvalidByteOrder)),
+        match Endianness::of_byte(byte) {
+            Some(order) => Ok(order),
+            None => Err(WkbError::General(General::InvalidByteOrder)),
         }
     }
 }

@@ -2,6 +2,7 @@
 
 ghost use Rattle.std.specs.Prelude.{◌≡◌};
 ghost use Rattle.wkb_geom.specs.declared.error.WkbError.TheVariants.{IOError};
+ghost use Rattle.wkb_geom.specs.Told.{Tells, TellsRefusal};
 
 use std::alloc::AllocError;
 use std::io;
@@ -31,6 +32,26 @@ pub enum General {
     /// The same of a multi point.
     #[error("Invalid buffer length for MultiPoint: geometry would end at byte {end}, but buffer length is {len}.")]
     ShortMultiPoint { end: u64, len: usize },
+}
+
+/// Why bytes are refused: the first fault from left to right.
+#[derive(Debug, Clone, Copy, PartialEq)]
+pub enum Cause {
+    /// The input ends inside a header or before a count.
+    EndOfInput,
+    /// A fault with its numbers.
+    General(General),
+    /// A member of a multi geometry of another kind or dimension, or a point among them with an SRID.
+    IncorrectType,
+    /// A collection inside this many open ones.
+    NestingDepthExceeded(usize),
+}
+
+/// Why a reader stops: a fault of the bytes, or memory that was asked for and refused.
+#[derive(Debug, Clone, Copy, PartialEq)]
+pub enum Refusal {
+    Fault(Cause),
+    Memory,
 }
 
 /// What is too large to be written.
@@ -78,5 +99,31 @@ impl From<io::Error> for WkbError {
 
     fn from(e: io::Error) -> WkbError {
         WkbError::IOError(e)
+    }
+}
+
+/// The error that tells why bytes are refused.
+impl From<Cause> for WkbError {
+    ghost from_gives = { λ cause e. Tells e cause };
+
+    fn from(cause: Cause) -> WkbError {
+        match cause {
+            Cause::EndOfInput => WkbError::IOError(io::Error::from(io::ErrorKind::UnexpectedEof)),
+            Cause::General(general) => WkbError::General(general),
+            Cause::IncorrectType => WkbError::IncorrectType("multi geometry member"),
+            Cause::NestingDepthExceeded(most) => WkbError::NestingDepthExceeded(most),
+        }
+    }
+}
+
+/// The error that tells why a reader stopped.
+impl From<Refusal> for WkbError {
+    ghost from_gives = { λ refusal e. TellsRefusal e refusal };
+
+    fn from(refusal: Refusal) -> WkbError {
+        match refusal {
+            Refusal::Fault(cause) => cause.into(),
+            Refusal::Memory => WkbError::Memory(AllocError),
+        }
     }
 }

@@ -2,12 +2,15 @@
 //! which its ghost members name, and whose parts have the dimension of the whole: that is proved at each
 //! `impl`. Ordinates are the 64 bits of a binary64, never a float.
 
-ghost use Rattle.std.specs.Prelude.{◌≡◌, ℕ, ◌+◌, ◌-◌, ◌<◌, ◌≤◌, List, length, map, Option, IfSome, All, slice_get, slice_index};
+ghost use Rattle.std.specs.Prelude.{◌≡◌, ℕ, ◌+◌, ◌-◌, ◌<◌, ◌≤◌, List, length, map, Option, IfSome, All, slice_get};
+ghost use Rattle.std.specs.Prelude.{slice_index};
 ghost use Rattle.std.specs.Option.{option_map};
 ghost use Rattle.std.specs.List.{AllByRecursion};
 ghost use Rattle.wkb_geom.specs.declared.common.Dimensions.{Dimensions};
 ghost use Rattle.wkb_geom.specs.Dimensions.{size};
-ghost use Rattle.wkb_geom.specs.Geometries.{Geometry, point, line_string, polygon, multi_point, multi_line_string, multi_polygon, collection, rectangle, triangle, line, geometries, IsCoordinate, IsPoint, AreCoordinates, IsGeometry, AreGeometries};
+ghost use Rattle.wkb_geom.specs.Geometries.{Geometry, point, line_string, polygon, multi_point, multi_line_string};
+ghost use Rattle.wkb_geom.specs.Geometries.{multi_polygon, collection, rectangle, triangle, line, geometries};
+ghost use Rattle.wkb_geom.specs.Geometries.{IsCoordinate, IsPoint, AreCoordinates, IsGeometry, AreGeometries};
 ghost use Rattle.wkb_geom.specs.Parts.{part_geometry};
 ghost use Rattle.wkb_geom.specs.Sizes.{dimensions_of};
 
@@ -217,7 +220,8 @@ pub trait LineTrait: Dimensioned {
         ensures value { Self.CoordType.words result ≡ end_words self.now }
         ensures dimensions { Self.CoordType.dimensions result ≡ Self.dimensions self.now };
 
-    ghost lawful: { (l : Self) → IsCoordinate (Self.dimensions l) (start_words l) × IsCoordinate (Self.dimensions l) (end_words l) };
+    ghost lawful: { (l : Self) → IsCoordinate (Self.dimensions l) (start_words l)
+        × IsCoordinate (Self.dimensions l) (end_words l) };
 }
 
 /// A rectangle between two corners. Only x and y of them are written.
@@ -238,7 +242,8 @@ pub trait RectTrait: Dimensioned {
         ensures value { Self.CoordType.words result ≡ max_words self.now }
         ensures dimensions { Self.CoordType.dimensions result ≡ Self.dimensions self.now };
 
-    ghost lawful: { (r : Self) → IsCoordinate (Self.dimensions r) (min_words r) × IsCoordinate (Self.dimensions r) (max_words r) };
+    ghost lawful: { (r : Self) → IsCoordinate (Self.dimensions r) (min_words r)
+        × IsCoordinate (Self.dimensions r) (max_words r) };
 }
 
 /// A triangle by its corners.
@@ -266,7 +271,8 @@ pub trait TriangleTrait: Dimensioned {
         ensures value { Self.CoordType.words result ≡ third_words self.now }
         ensures dimensions { Self.CoordType.dimensions result ≡ Self.dimensions self.now };
 
-    ghost lawful: { (t : Self) → IsCoordinate (Self.dimensions t) (first_words t) × IsCoordinate (Self.dimensions t) (second_words t) × IsCoordinate (Self.dimensions t) (third_words t) };
+    ghost lawful: { (t : Self) → IsCoordinate (Self.dimensions t) (first_words t)
+        × IsCoordinate (Self.dimensions t) (second_words t) × IsCoordinate (Self.dimensions t) (third_words t) };
 }
 
 /// A geometry by its kind. The dimension of a collection is that of the geometry.

@@ -1,9 +1,10 @@
 pub mod Algebra
 pub mod Bodies
-pub mod Free
+pub mod LastItem
 pub mod NoMemory
 pub mod Opens
 pub mod Parts
 pub mod Placed
+pub mod Spelled
 pub mod Public
 pub mod Stacks

@@ -1,20 +1,19 @@
 -- Open collections, as a part of one is finished.
-use Rattle.std.proofs.Common.{◌≡◌, ℕ, suc, ◌+◌, ◌-◌, ◌≤◌, ◌<◌, List, [], ◌∷◌, ◌++◌, length, Ok, Err, refl, sym, ap, subst, ◌∙◌, append_assoc, length-append, arith}
+use Rattle.std.proofs.Common.{◌≡◌, ℕ, suc, ◌+◌, ◌-◌, ◌≤◌, ◌<◌, List, [], ◌∷◌, ◌++◌, length, Ok, Err, refl, sym, ap, ◌∙◌, append_assoc, length-append, arith}
 use Rattle.std.specs.Prelude.{vec_capacity}
-use Rattle.wkb_geom.specs.Refusals.{Cause}
+use Rattle.wkb_geom.specs.declared.error.Cause.{Cause}
 use Rattle.wkb_geom.specs.Reading.{Item, Cost, ◌⊕◌, one_turn, Part, Reading, costs, done, and_then, repeated, taken, geometry_at}
-use Rattle.wkb_view.specs.Lists.{collection_end, collection_item}
-use Rattle.wkb_view.specs.declared.header.Layout.{Layout}
+use Rattle.wkb_geom.specs.declared.header.Layout.{Layout}
 use Rattle.std.specs.Borrow.{Bor}
 use Rattle.wkb_read.specs.declared.read.unfinished.Open.{Open}
 use Rattle.wkb_read.specs.declared.read.unfinished.Begun.TheVariants.{Whole, Opened}
 use Rattle.wkb_read.specs.declared.geometry.Wkb.{Wkb}
-use Rattle.wkb_geom.specs.declared.error.WkbError.{WkbError}
-use Rattle.wkb_part.specs.declared.counts.Counts.{Counts}
-use Rattle.wkb_part.specs.Outcome.{Spent, AtMost, CanCount, Stops}
-use Rattle.wkb_view.specs.Answers.{IsFault}
-use Rattle.wkb_read.specs.Stack.{in_collection, in_collection_by, counted, resume, levels_inside, HaveRoom, Begins}
-use Rattle.wkb_part.proofs.Faults.{Stopped, by_fault, by_memory, stopped, stops_from_fault, stops_from_memory, fault_of_whole}
+use Rattle.wkb_geom.specs.declared.error.Refusal.{Refusal}
+use Rattle.wkb_geom.specs.declared.error.Refusal.TheVariants.{Fault, Memory}
+use Rattle.wkb_view.specs.declared.counts.Counts.{Counts}
+use Rattle.wkb_view.specs.Outcome.{Spent, AtMost, CanCount, Stops}
+use Rattle.wkb_read.specs.Placed.{closing, collection_in}
+use Rattle.wkb_read.specs.Stack.{in_collection, in_collection_by, first_member, counted, next_turn, resume, levels_inside, HaveRoom, BeginsAs}
 use Rattle.wkb_read.proofs.Algebra.{cost_is, costs-costs, and_then-costs, and_then-same, done_then, repeated_more, repeated_none}
 
 -- ---- what comes of a part, inside collections
@@ -22,7 +21,7 @@ use Rattle.wkb_read.proofs.Algebra.{cost_is, costs-costs, and_then-costs, and_th
 pub resume-costs : (os : List Open) (c : Cost) (r : Reading Item) → resume os (costs c r) ≡ costs c (resume os r)
 resume-costs [] c r = refl
 resume-costs (o ∷ os) c r =
-    ap (resume os) (and_then-costs c r (λ x rest. and_then (repeated o.left (geometry_at (levels_inside (suc (length os)))) rest) (λ xs after. collection_end o.layout.order o.layout.dimension o.layout.has_srid o.bytes.now (o.members.items.items ++ x ∷ xs) after)))
+    ap (resume os) (and_then-costs c r (λ x rest. and_then (repeated o.left (geometry_at (levels_inside (suc (length os)))) rest) (λ xs after. closing o.layout o.bytes.now (o.members.items.items ++ x ∷ xs) after)))
     ∙ resume-costs os c (in_collection o (geometry_at (levels_inside (suc (length os)))) r)
 
 pub resume-err : (os : List Open) (c : Cost) (f : Cause) → resume os (c, Err f) ≡ (c, Err f)
@@ -33,25 +32,21 @@ resume-err (o ∷ os) c f = resume-err os c f
 in_collection_more : (h : Layout) (bytes : List ℕ) (n : ℕ) (front : List Item) (member : List ℕ → Reading Item) (m : Item) (rest : List ℕ)
     → in_collection_by h bytes (suc n) front member (done m rest) ≡ costs one_turn (in_collection_by h bytes n (front ++ m ∷ []) member (member rest))
 in_collection_more h bytes n front member m rest =
-    done_then m rest (λ x after. and_then (repeated (suc n) member after) (λ xs end. collection_end h.order h.dimension h.has_srid bytes (front ++ x ∷ xs) end))
-    ∙ repeated_more n member rest (λ xs after. collection_end h.order h.dimension h.has_srid bytes (front ++ m ∷ xs) after)
+    done_then m rest (λ x after. and_then (repeated (suc n) member after) (λ xs end. closing h bytes (front ++ x ∷ xs) end))
+    ∙ repeated_more n member rest (λ xs after. closing h bytes (front ++ m ∷ xs) after)
     ∙ ap (λ (r : Reading Item). costs one_turn r) (and_then-same (member rest) _ _ (λ x after. and_then-same (repeated n member after) _ _
-    (λ xs end. ap (λ (ms : List Item). collection_end h.order h.dimension h.has_srid bytes ms end) (sym (append_assoc front (m ∷ []) (x ∷ xs))))))
+    (λ xs end. ap (λ (ms : List Item). closing h bytes ms end) (sym (append_assoc front (m ∷ []) (x ∷ xs))))))
 
 -- the last member was the last part
 in_collection_last : (h : Layout) (bytes : List ℕ) (front : List Item) (member : List ℕ → Reading Item) (m : Item) (rest : List ℕ)
-    → in_collection_by h bytes 0 front member (done m rest) ≡ collection_end h.order h.dimension h.has_srid bytes (front ++ m ∷ []) rest
+    → in_collection_by h bytes 0 front member (done m rest) ≡ closing h bytes (front ++ m ∷ []) rest
 in_collection_last h bytes front member m rest =
-    done_then m rest (λ x after. and_then (repeated 0 member after) (λ xs end. collection_end h.order h.dimension h.has_srid bytes (front ++ x ∷ xs) end))
-    ∙ repeated_none member rest (λ xs after. collection_end h.order h.dimension h.has_srid bytes (front ++ m ∷ xs) after)
+    done_then m rest (λ x after. and_then (repeated 0 member after) (λ xs end. closing h bytes (front ++ x ∷ xs) end))
+    ∙ repeated_none member rest (λ xs after. closing h bytes (front ++ m ∷ xs) after)
 
 -- what is spent, and what comes of the rest
 abbrev pub leads : Cost → List Open → Reading Item → Reading Item
 leads spent os r = costs spent (resume os r)
-
--- one more turn
-abbrev pub next_turn : Cost → Cost
-next_turn c = record { turns = c.turns + 1; slots = c.slots }
 
 next_turn_is : (c : Cost) → next_turn c ≡ c ⊕ one_turn
 next_turn_is c = cost_is _ _ refl (omega arith)
@@ -77,7 +72,7 @@ goes_on o next os m rest spent more left header bytes members =
 -- a finished part that was the innermost collection's last
 pub closes : (o : Open) (os : List Open) (m : Item) (rest : List ℕ) (spent : Cost) (members : List Item)
     → o.left ≡ 0 → members ≡ o.members.items.items ++ m ∷ []
-    → leads spent os (done (collection_item o.layout.order o.layout.dimension o.layout.has_srid members (taken o.bytes.now rest)) rest) ≡ leads spent (o ∷ os) (done m rest)
+    → leads spent os (done (collection_in o.layout members (taken o.bytes.now rest)) rest) ≡ leads spent (o ∷ os) (done m rest)
 closes o os m rest spent members left is =
     ap (λ (r : Reading Item). leads spent os r) (rw (left, is) (sym (in_collection_last o.layout o.bytes.now o.members.items.items (geometry_at (levels_inside (suc (length os)))) m rest)))
 
@@ -92,11 +87,7 @@ pub HaveRoom-less : (os : List Open) (m n : ℕ) → m ≤ n → HaveRoom os n �
 HaveRoom-less [] m n le h = tt
 HaveRoom-less (o ∷ os) m n le h = (record { within = omega (arith, h.0.within); room = h.0.room }, h.1)
 
--- the part's bytes make room for it
-pub push_fits : (o : Open) (os : List Open) (rest : ℕ) → HaveRoom (o ∷ os) (rest + 9) → length o.members.items.items < vec_capacity o.members.items
-push_fits o os rest h = omega (arith, h.0.within, h.0.room)
-
--- and the next one finds room
+-- the next part finds room
 pub next_fits : (o next : Open) (os : List Open) (rest : ℕ) (m : Item) → HaveRoom (o ∷ os) (rest + 9)
     → 0 < o.left → next.left ≡ o.left - 1 → next.layout.has_srid ≡ o.layout.has_srid → next.bytes.now ≡ o.bytes.now
     → next.members.items.items ≡ o.members.items.items ++ m ∷ [] → vec_capacity o.members.items ≤ vec_capacity next.members.items
@@ -118,7 +109,7 @@ moved os old new before after whole e so_far =
 
 -- a collection is opened
 pub opened : (o : Open) (os : List Open) (rest : List ℕ) (old new : Cost) (before whole : Reading Item)
-    → costs new (costs one_turn (in_collection o (geometry_at (levels_inside (suc (length os)))) (geometry_at (levels_inside (suc (length os))) rest))) ≡ costs old before
+    → costs new (first_member (length os) o rest) ≡ costs old before
     → leads old os before ≡ whole → leads (next_turn new) (o ∷ os) (geometry_at (levels_inside (suc (length os))) rest) ≡ whole
 opened o os rest old new before whole e so_far =
     let inside = in_collection o (geometry_at (levels_inside (suc (length os)))) (geometry_at (levels_inside (suc (length os))) rest) in
@@ -154,32 +145,28 @@ pub at_most_turn : (left whole : Reading Item) (old new : Counts) → costs (nex
 at_most_turn left whole old new e =
     record { turns = omega (arith, ap (λ (x : Reading Item). x.0.turns) e); slots = omega (arith, ap (λ (x : Reading Item). x.0.slots) e) }
 
--- the part's refusal is passed outward
-fault_outward : (e : WkbError) (os : List Open) (c : Cost) (p : Part Item) → IsFault e p → (IsFault e (resume os (c, p)).1) × ((resume os (c, p)).0 ≡ c)
-fault_outward e os c p h = fault_of_whole e p (resume os (c, p)).1 h (λ f is. (rw (is, resume-err os c f) refl, rw (is, resume-err os c f) refl))
-
--- of any error but want of memory
-spent_by_fault : (e : WkbError) (os : List Open) (r whole : Reading Item) (old mid new : Counts) → leads (counted mid) os r ≡ costs (counted old) whole
-    → IsFault e r.1 → Spent mid new r.0 → IsFault e whole.1 × Spent old new whole.0
-spent_by_fault e os (c, p) whole old mid new so_far h spent =
-    let out = fault_outward e os c p h in
-    let t : mid.turns + c.turns ≡ old.turns + whole.0.turns = ap (λ (d : Cost). mid.turns + d.turns) (sym out.1) ∙ ap (λ (x : Reading Item). x.0.turns) so_far in
-    let s : mid.slots + c.slots ≡ old.slots + whole.0.slots = ap (λ (d : Cost). mid.slots + d.slots) (sym out.1) ∙ ap (λ (x : Reading Item). x.0.slots) so_far in (
-      subst (λ (x : Reading Item). IsFault e x.1) so_far out.0,
-      record { turns = omega (arith, spent.turns, t); slots = omega (arith, spent.slots, s) },
+-- a part's refusal is passed outward
+fault_outward : (cause : Cause) (os : List Open) (c : Cost) (p : Part Item) (whole : Reading Item) (old mid new : Counts) → leads (counted mid) os (c, p) ≡ costs (counted old) whole
+    → p ≡ Err cause → Spent mid new c → Stops (Fault cause) whole old new
+fault_outward cause os c p whole old mid new so_far is spent =
+    let out : resume os (c, p) ≡ (c, Err cause) = rw (is) (resume-err os c cause) in
+    let all : costs (counted mid) (c, Err cause) ≡ costs (counted old) whole = ap (λ (r : Reading Item). costs (counted mid) r) (sym out) ∙ so_far in (
+      sym (ap (λ (r : Reading Item). r.1) all),
+      record {
+        turns = omega (arith, spent.turns, ap (λ (r : Reading Item). r.0.turns) all);
+        slots = omega (arith, spent.slots, ap (λ (r : Reading Item). r.0.slots) all);
+      },
     )
 
-stops_outward_by : (e : WkbError) (os : List Open) (r whole : Reading Item) (old mid new : Counts) → leads (counted mid) os r ≡ costs (counted old) whole → Stopped e r mid new → Stops e whole old new
-stops_outward_by e os r whole old mid new so_far (by_fault fault spent) = let w = spent_by_fault e os r whole old mid new so_far fault spent in stops_from_fault e whole old new w.0 w.1
-stops_outward_by e os r whole old mid new so_far (by_memory is most) =
+pub stops_outward : (refusal : Refusal) (os : List Open) (r whole : Reading Item) (old mid new : Counts) → leads (counted mid) os r ≡ costs (counted old) whole
+    → Stops refusal r mid new → Stops refusal whole old new
+stops_outward (Fault cause) os (c, p) whole old mid new so_far h = fault_outward cause os c p whole old mid new so_far h.0 h.1
+stops_outward Memory os r whole old mid new so_far most =
     let p = resume-part os r in
-    stops_from_memory e whole old new is (record {
+    record {
       turns = omega (arith, most.turns, p.turns, ap (λ (x : Reading Item). x.0.turns) so_far);
       slots = omega (arith, most.slots, p.slots, ap (λ (x : Reading Item). x.0.slots) so_far);
-    })
-
-pub stops_outward : (e : WkbError) (os : List Open) (r whole : Reading Item) (old mid new : Counts) → leads (counted mid) os r ≡ costs (counted old) whole → Stops e r mid new → Stops e whole old new
-stops_outward e os r whole old mid new so_far h = stops_outward_by e os r whole old mid new so_far (stopped e r mid new h)
+    }
 
 -- all is read
 pub all_read : (w : Item) (rest : List ℕ) (whole : Reading Item) (old new : Counts) → costs (counted new) (done w rest) ≡ costs (counted old) whole → ((end : List ℕ) × (whole.1 ≡ Ok (w, end))) × Spent old new whole.0
@@ -197,7 +184,7 @@ pub record OpenedIn (o : Open) (os : List Open) (rest : List ℕ) (old new : Cou
 
 pub opened_in : (o : Open) (os : List Open) (rest : Bor (List ℕ)) (bytes : List ℕ) (around : ℕ) (old mid new : Counts) (whole : Reading Item)
     → length os ≡ around → leads (counted mid) os (geometry_at (levels_inside (length os)) bytes) ≡ costs (counted old) whole → HaveRoom os (length bytes)
-    → Begins around bytes (Ok (Opened o rest)) mid new → OpenedIn o os rest.now old new whole
+    → BeginsAs (geometry_at (levels_inside around) bytes) around bytes (Ok (Opened o rest)) mid new → OpenedIn o os rest.now old new whole
 opened_in o os rest bytes around old mid new whole around-is so_far room b =
     let e = rw (← around-is) at b.0 in
     record {
@@ -208,7 +195,7 @@ opened_in o os rest bytes around old mid new whole around-is so_far room b =
 
 pub part_in : (w : Wkb) (os : List Open) (rest : Bor (List ℕ)) (bytes : List ℕ) (around : ℕ) (old mid new : Counts) (whole : Reading Item)
     → length os ≡ around → leads (counted mid) os (geometry_at (levels_inside (length os)) bytes) ≡ costs (counted old) whole
-    → Begins around bytes (Ok (Whole w rest)) mid new → leads (counted new) os (done w rest.now) ≡ costs (counted old) whole
+    → BeginsAs (geometry_at (levels_inside around) bytes) around bytes (Ok (Whole w rest)) mid new → leads (counted new) os (done w rest.now) ≡ costs (counted old) whole
 part_in w os rest bytes around old mid new whole around-is so_far b =
     let e = rw (← around-is) at b.0 in
     moved os (counted mid) (counted new) (geometry_at (levels_inside (length os)) bytes) (done w rest.now) (costs (counted old) whole) e so_far

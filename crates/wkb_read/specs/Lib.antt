@@ -3,6 +3,7 @@ pub mod GeometriesFall
 pub mod Memory
 pub mod Nodes
 pub mod Placed
+pub mod Views
 pub mod Public
 pub mod Stack
 pub mod Types

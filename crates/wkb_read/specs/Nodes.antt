@@ -31,5 +31,6 @@ most-members : (members : List Item) → most (λ m. size_outside m + 1) members
 most-members [] = omega arith
 most-members (m ∷ members) = omega (arith, most-members members)
 
-pub members_fall : (members : List Item) → max (most (λ m. size_outside m + 1) members) 0 ≤ 2 * (1 + nodes_all (values members))
+pub members_fall : (members : List Item)
+    → max (most (λ m. size_outside m + 1) members) 0 ≤ 2 * (1 + nodes_all (values members))
 members_fall members = omega (arith, most-members members)

@@ -1,20 +1,43 @@
 -- Where the members of a collection stand in its bytes.
 use Rattle.std.specs.Prelude.{◌≡◌, ℕ, ◌+◌, ◌≤◌, List, [], ◌∷◌, ◌++◌, length, Bool, Option, slice_get}
 use Rattle.std.specs.Option.{is_some}
-use Rattle.wkb_geom.specs.Values.{Values}
+use Rattle.wkb_geom.specs.declared.header.Layout.{Layout}
+use Rattle.wkb_geom.specs.Values.{Values, collection}
 use Rattle.wkb_geom.specs.Stored.{Listed}
-use Rattle.wkb_geom.specs.Reading.{Item, body_start, parts_start, spellings, values}
-use Rattle.wkb_view.specs.Parts.{srid_of, members_spelled}
+use Rattle.wkb_geom.specs.Reading.{Item, Reading, done, list_item, spelled_in, taken, body_start, parts_start, spellings, values}
+use Rattle.std.specs.List.{AllByRecursion}
+use Rattle.wkb_view.specs.Parts.{srid_of, members_spelled, IsSpelled}
+
+-- the collection that a text is, by its layout and its members: as a view of it holds it, and as a geometry
+abbrev pub parts_in : Layout → List Item → List ℕ → Listed Values
+parts_in l members text = record {
+  text = text;
+  spelled = spelled_in l.order l.has_srid text [] (spellings members);
+  dimension = l.dimension;
+  parts = values members;
+}
+
+abbrev pub collection_in : Layout → List Item → List ℕ → Item
+collection_in l members text = list_item l.order l.has_srid (λ ms. collection l.dimension (values ms)) members text
+
+-- what is read once a collection that began with these bytes has all its members
+abbrev pub closing : Layout → List ℕ → List Item → List ℕ → Reading Item
+closing l bytes members after = done (collection_in l members (taken bytes after)) after
 
 -- the bytes of these geometries, one behind the other
 abbrev pub texts : List Item → List ℕ
 texts [] = []
 texts (m ∷ ms) = m.text ++ texts ms
 
--- behind a collection's count stand its members, one behind the other, and nothing else
+-- behind a collection's count stand its members, one behind the other, each spelled by its bytes, and nothing else
 pub record HoldsMembers (has_srid : Bool) (text : List ℕ) (members : List Item) : Type 0 where
   pub long : body_start has_srid + 4 ≤ length text
   pub behind : parts_start has_srid text ≡ texts members
+  pub each : AllByRecursion IsSpelled members
+
+-- so it is with this text, which spells the collection
+abbrev pub IsCollectionIn : Layout → List Item → List ℕ → Type 0
+IsCollectionIn l members text = HoldsMembers l.has_srid text members × IsSpelled (collection_in l members text)
 
 -- the members of a collection, by their bytes, their spellings and their values
 pub record AreMembers (whole : Listed Values) (members : List Item) : Type 0 where
@@ -22,8 +45,6 @@ pub record AreMembers (whole : Listed Values) (members : List Item) : Type 0 whe
   pub spelled : spellings members ≡ members_spelled whole.spelled
   pub value : values members ≡ whole.parts
 
--- the member of this number, if there is one
-pub record IsMemberAt (whole : Listed Values) (i : ℕ) (found : Option Item) : Type 0 where
-  pub members : List Item
-  pub all : AreMembers whole members
-  pub one : found ≡ slice_get members i
+-- the member of this number, if there is one, among the members that a collection has
+abbrev pub IsMemberAt : Listed Values → ℕ → Option Item → Type 0
+IsMemberAt whole i found = (members : List Item) → AreMembers whole members → found ≡ slice_get members i

@@ -8,12 +8,13 @@ use Rattle.wkb_geom.specs.declared.error.WkbError.TheVariants as errors
 use Rattle.wkb_geom.specs.Values.{Value, member_count, listed_count}
 use Rattle.wkb_geom.specs.Spellings.{Spelling, any}
 use Rattle.wkb_geom.specs.Fronts.{Front, max_nesting}
-use Rattle.wkb_geom.specs.Refusals.{Cause, Refuses, Opens, srid_size}
-use Rattle.wkb_geom.specs.Errors.{Tells}
+use Rattle.wkb_geom.specs.declared.error.Cause.{Cause}
+use Rattle.wkb_geom.specs.Refusals.{Refuses, Opens, srid_size}
+use Rattle.wkb_geom.specs.Told.{Tells}
 use Rattle.wkb_geom.specs.Geometries.{geometry_of}
 use Rattle.wkb_geom.specs.Texts.{IsWritable}
 use Rattle.wkb_geom.specs.Reading.{Item}
-use Rattle.wkb_part.specs.declared.counts.Counts.{Counts}
+use Rattle.wkb_view.specs.declared.counts.Counts.{Counts}
 use Rattle.wkb_read.specs.declared.geometry.Wkb.{Wkb}
 
 -- the input begins with the bytes of this geometry, which spell its value
@@ -24,7 +25,8 @@ pub record IsFront (buf : List ℕ) (w : Item) : Type 0 where
 
 -- whatever geometry the input begins with has these bytes, this spelling and this value
 abbrev pub IsOnlyFront : List ℕ → Item → Type 0
-IsOnlyFront buf w = (s : Spelling) (t : Value) (rest : List ℕ) → (f : Front buf s t rest) → (f.front ≡ w.text) × (s ≡ w.spelled) × (t ≡ w.value)
+IsOnlyFront buf w = (s : Spelling) (t : Value) (rest : List ℕ) → (f : Front buf s t rest)
+    → (f.front ≡ w.text) × (s ≡ w.spelled) × (t ≡ w.value)
 
 -- the input begins with no geometry
 abbrev pub HasNoFront : List ℕ → Type 0
@@ -59,12 +61,15 @@ CountsValue t c = (c.turns ≡ member_count t) × (c.slots ≡ listed_count t)
 
 -- the turns and the entries of the input's refusal were counted
 abbrev pub CountsRefusal : List ℕ → Counts → Type 0
-CountsRefusal buf c = (cause : Cause) (turns slots : ℕ) → Refuses max_nesting any buf cause turns slots → (c.turns ≡ turns) × (c.slots ≡ slots)
+CountsRefusal buf c = (cause : Cause) (turns slots : ℕ) → Refuses max_nesting any buf cause turns slots
+    → (c.turns ≡ turns) × (c.slots ≡ slots)
 
 -- no more was counted than of the geometry at the front, or than of the refusal
 pub record CountsAtMost (buf : List ℕ) (c : Counts) : Type 0 where
-  pub front : (s : Spelling) (t : Value) (rest : List ℕ) → Front buf s t rest → (c.turns ≤ member_count t) × (c.slots ≤ listed_count t)
-  pub refusal : (cause : Cause) (turns slots : ℕ) → Refuses max_nesting any buf cause turns slots → (c.turns ≤ turns) × (c.slots ≤ slots)
+  pub front : (s : Spelling) (t : Value) (rest : List ℕ) → Front buf s t rest
+      → (c.turns ≤ member_count t) × (c.slots ≤ listed_count t)
+  pub refusal : (cause : Cause) (turns slots : ℕ) → Refuses max_nesting any buf cause turns slots
+      → (c.turns ≤ turns) × (c.slots ≤ slots)
 
 -- the value can be written in either order
 abbrev pub CanBeWritten : Value → Type 0
@@ -75,8 +80,8 @@ pub record AsksForNone (buf : List ℕ) : Type 0 where
   pub front : (s : Spelling) (t : Value) (rest : List ℕ) → Front buf s t rest → listed_count t ≡ 0
   pub refusal : (cause : Cause) (turns slots : ℕ) → Refuses max_nesting any buf cause turns slots → slots ≡ 0
 
--- A point, a line string and a multi point take no memory; a list of rings, line strings or polygons takes none where it
--- asks for no entry; a collection takes none where its count is missing.
+-- A point, a line string and a multi point take no memory; a list of rings, line strings or polygons takes none where
+-- it asks for no entry; a collection takes none where its count is missing.
 pub record KindTakesNone (k : ℕ) (srid : Bool) (buf : List ℕ) : Type 0 where
   pub polygon : k ≡ 3 → AsksForNone buf
   pub multi_line_string : k ≡ 5 → AsksForNone buf
@@ -85,4 +90,5 @@ pub record KindTakesNone (k : ℕ) (srid : Bool) (buf : List ℕ) : Type 0 where
 
 -- so it is, if the input begins with a header
 abbrev pub TakesNoMemory : List ℕ → Type 0
-TakesNoMemory buf = (order : Endianness) (k : ℕ) (d : Dimension) (srid : Bool) (behind : List ℕ) → Opens buf order k d srid behind → KindTakesNone k srid buf
+TakesNoMemory buf = (order : Endianness) (k : ℕ) (d : Dimension) (srid : Bool) (behind : List ℕ)
+    → Opens buf order k d srid behind → KindTakesNone k srid buf

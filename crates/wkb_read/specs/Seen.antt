@@ -40,7 +40,9 @@ pub seen_as_it_is : (w : Item) → IsGeometry (geometry_of w.value) → geometry
 seen_as_it_is w h = fitted_geometry-same (geometry_of w.value) h
 
 -- and so do the members of a collection whose value is lawful
-pub members_as_they_are : (vs : Values) → AreGeometries (geometries_of vs) → members_seen vs ≡ map geometry_of (list_of_values vs)
+pub members_as_they_are : (vs : Values) → AreGeometries (geometries_of vs)
+    → members_seen vs ≡ map geometry_of (list_of_values vs)
 members_as_they_are value.no_members h = refl
 members_as_they_are (value.member v vs) h =
-    ap (λ (g : Geometry). g ∷ members_seen vs) (fitted_geometry-same (geometry_of v) h.0) ∙ ap (λ (gs : List Geometry). geometry_of v ∷ gs) (members_as_they_are vs h.1)
+    ap (λ (g : Geometry). g ∷ members_seen vs) (fitted_geometry-same (geometry_of v) h.0)
+    ∙ ap (λ (gs : List Geometry). geometry_of v ∷ gs) (members_as_they_are vs h.1)

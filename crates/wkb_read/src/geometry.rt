@@ -9,11 +9,11 @@ use std::alloc::{AllocError, Global};
 use std::marker::Model;
 use wkb_geom::error::WkbResult;
 use wkb_geom::{
-    Dimension, Dimensioned, Dimensions, Endianness, GeometryCollectionTrait, GeometryTrait,
-    GeometryType,
+    Dimension, Dimensioned, Dimensions, GeometryCollectionTrait, GeometryTrait, GeometryType,
+    Layout,
 };
 use wkb_plain::{Line, Rect, Triangle};
-use wkb_view::leaf::srid_of_text;
+use wkb_view::any::AnyView;
 use wkb_view::line_string::LineString;
 use wkb_view::multi_line_string::MultiLineString;
 use wkb_view::multi_point::MultiPoint;
@@ -27,9 +27,7 @@ use wkb_view::polygon::Polygon;
 #[derive(Debug, Drop)]
 pub struct GeometryCollection<'a> {
     pub(crate) buf: &'a [u8],
-    pub(crate) order: Endianness,
-    pub(crate) dimension: Dimension,
-    pub(crate) has_srid: bool,
+    pub(crate) layout: Layout,
     pub(crate) members: Vec<Wkb<'a>>,
 }
 
@@ -56,18 +54,16 @@ pub struct Wkb<'a> {
 impl<'a> Model for GeometryCollection<'a> {
     ghost use Rattle.wkb_geom.specs.Values.{Values};
     ghost use Rattle.wkb_geom.specs.Stored.{Listed, listed_code, values_code};
-    ghost use Rattle.wkb_view.specs.Lists.{collection_parts};
     ghost use Rattle.wkb_read.specs.Nodes.{size_inside, members_fall};
+    ghost use Rattle.wkb_read.specs.Placed.{IsCollectionIn, parts_in};
 
     ghost Value = { Listed Values };
 
     ghost coded = { listed_code values_code };
 
-    ghost use Rattle.wkb_read.specs.Placed.{HoldsMembers};
+    ghost invariant = { λ a. IsCollectionIn a.layout a.members.items a.buf.now };
 
-    ghost invariant = { λ a. HoldsMembers a.has_srid a.buf.now a.members.items };
-
-    ghost view = { λ a. collection_parts a.order a.dimension a.has_srid a.members.items a.buf.now };
+    ghost view = { λ a. parts_in a.layout a.members.items a.buf.now };
 
     ghost size = { size_inside };
 
@@ -96,7 +92,9 @@ impl<'a> Model for Wkb<'a> {
 
 impl<'a> GeometryCollection<'a> {
     ghost use Rattle.std.specs.Prelude.{◌≡◌, IfOk, length};
-    ghost use Rattle.wkb_view.specs.Parts.{srid_of};
+    ghost use Rattle.wkb_geom.specs.Stored.{whole_of};
+    ghost use Rattle.wkb_geom.specs.Values.{collection};
+    ghost use Rattle.wkb_view.specs.Parts.{srid_of, IsSpelled};
 
     /// The number of its bytes.
     #[inline]
@@ -111,13 +109,14 @@ impl<'a> GeometryCollection<'a> {
     pub fn dimension(&self) -> Dimension
         ensures { result ≡ self.now.dimension }
     {
-        self.dimension
+        self.layout.dimension
     }
 
     /// Its bytes.
     #[inline]
     pub fn buf(&self) -> &'a [u8]
-        ensures { result.now ≡ self.now.text }
+        ensures text { result.now ≡ self.now.text }
+        ensures spells { IsSpelled (whole_of collection self.now) }
     {
         self.buf
     }
@@ -127,7 +126,7 @@ impl<'a> GeometryCollection<'a> {
     pub(crate) fn srid(&self) -> Option<u32>
         ensures { result ≡ srid_of self.now.spelled }
     {
-        srid_of_text(self.buf, self.order, self.has_srid)
+        self.layout.srid(self.buf)
     }
 
     /// The same collection, with lists of its own.
@@ -141,9 +140,7 @@ impl<'a> GeometryCollection<'a> {
         }
         Ok(GeometryCollection {
             buf: self.buf,
-            order: self.order,
-            dimension: self.dimension,
-            has_srid: self.has_srid,
+            layout: self.layout,
             members,
         })
     }
@@ -154,7 +151,7 @@ impl Dimensioned for GeometryCollection<'_> {
 
     #[inline]
     fn dim(&self) -> Dimensions {
-        self.dimension.into()
+        self.layout.dimension.into()
     }
 }
 
@@ -196,19 +193,21 @@ impl<'a> GeometryCollectionTrait for GeometryCollection<'a> {
 
 impl<'a> Wkb<'a> {
     ghost use Rattle.std.specs.Prelude.{◌≡◌, IfOk, MatchOption, None, Some};
-    ghost use Rattle.wkb_view.specs.Parts.{srid_of, IsCollection};
+    ghost use Rattle.wkb_view.specs.Parts.{srid_of, IsCollection, IsSpelled};
     ghost use Rattle.wkb_read.specs.Types.{type_of};
     ghost use Rattle.wkb_geom.specs.Stored.{whole_of};
     ghost use Rattle.wkb_geom.specs.Values.{collection, dimension};
     ghost use Rattle.wkb_geom.specs.Geometries.{IsGeometry, normal, geometry_of};
-    ghost use Rattle.wkb_read.specs.Public.{TakesNoMemory, IsFront, IsOnlyFront, HasNoFront, IsRefusal, TellsEach, IfRefused, CanBeWritten};
-    ghost use Rattle.wkb_part.specs.Memory.{IsNotMemory};
+    ghost use Rattle.wkb_read.specs.Public.{TakesNoMemory, IsFront, IsOnlyFront, CanBeWritten};
+    ghost use Rattle.wkb_read.specs.Public.{HasNoFront, IsRefusal, TellsEach, IfRefused};
+    ghost use Rattle.wkb_read.specs.Memory.{IsNotMemory};
 
     /// The geometry at the front of the bytes, as `read_wkb` answers it.
     pub fn try_new(alloc: Global, buf: &'a [u8]) -> WkbResult<Wkb<'a>>
         ensures front { IfOk result (λ w. IsFront buf.now w) }
         ensures one_front { IfOk result (λ w. IsOnlyFront buf.now w) }
         ensures lawful { IfOk result (λ w. IsGeometry (geometry_of w.value)) }
+        ensures seen { IfOk result (λ w. geometry_seen w ≡ geometry_of w.value) }
         ensures normal { IfOk result (λ w. normal (geometry_of w.value) ≡ w.value) }
         ensures writable { IfOk result (λ w. CanBeWritten w.value) }
         ensures refusal { IfRefused result (λ e. IsRefusal buf.now e) }
@@ -251,7 +250,8 @@ impl<'a> Wkb<'a> {
 
     /// Its bytes.
     pub fn buf(&self) -> &'a [u8]
-        ensures { result.now ≡ self.now.text }
+        ensures text { result.now ≡ self.now.text }
+        ensures spells { IsSpelled self.now }
     {
         match &self.kind {
             Kind::Point(point) => point.buf(),
@@ -337,6 +337,8 @@ impl Dimensioned for Wkb<'_> {
 }
 
 impl<'a> GeometryTrait for Wkb<'a> {
+    ghost use Rattle.wkb_read.specs.Views.{IsViewOf};
+
     type PointType = Point<'a>;
 
     type LineStringType = LineString<'a>;
@@ -361,21 +363,9 @@ impl<'a> GeometryTrait for Wkb<'a> {
 
     ghost lawful = { geometry_lawful };
 
-    fn as_type(
-        &self,
-    ) -> GeometryType<
-        '_,
-        Point<'a>,
-        LineString<'a>,
-        Polygon<'a>,
-        MultiPoint<'a>,
-        MultiLineString<'a>,
-        MultiPolygon<'a>,
-        Wkb<'a>,
-        Rect<'a>,
-        Triangle<'a>,
-        Line<'a>,
-    > {
+    fn as_type(&self) -> AnyView<'_, 'a, Wkb<'a>>
+        ensures view { IsViewOf self.now result }
+    {
         match &self.kind {
             Kind::Point(point) => GeometryType::Point(point),
             Kind::LineString(line_string) => GeometryType::LineString(line_string),

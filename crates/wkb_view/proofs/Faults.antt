@@ -1,18 +1,19 @@
--- A part's fault is that of the whole.
-use Rattle.std.proofs.Common.{Result, Ok}
-use Rattle.wkb_geom.specs.declared.error.WkbError.{WkbError}
-use Rattle.wkb_geom.specs.declared.error.WkbError.TheVariants as errors
-use Rattle.wkb_geom.specs.Refusals.{Cause}
-use Rattle.wkb_view.specs.Answers.{IsFault}
+-- What stops a part stops the whole.
+use Rattle.std.proofs.Common.{◌≡◌, ◌+◌, Result, Ok, Err, ap, arith}
+use Rattle.wkb_geom.specs.declared.error.Cause.{Cause}
+use Rattle.wkb_geom.specs.declared.error.Refusal.TheVariants.{Fault}
+use Rattle.wkb_geom.specs.Reading.{Reading, refused}
+use Rattle.wkb_view.specs.declared.counts.Counts.{Counts}
+use Rattle.wkb_view.specs.Outcome.{Spent, Stops}
 
-abbrev ok : {A : Type 0} → A → Result A Cause
-ok x = Ok x
+-- a reading that is refused at no cost
+pub stops_by : {A : Type 0} (f : Cause) (whole : Reading A) (c : Counts) → whole ≡ refused f → Stops (Fault f) whole c c
+stops_by {A = A} f whole c is =
+    (ap (λ (r : Reading A). r.1) is, rw is (record { turns = omega arith; slots = omega arith }))
 
-pub no_fault : {A : Type 0} (e : WkbError) (x : A) → IsFault e (ok x) → ⊥
-no_fault (errors.IncorrectType t) x h = cc
-no_fault (errors.General g) x h = cc
-no_fault (errors.NestingDepthExceeded n) x h = cc
-no_fault (errors.IOError y) x h = cc
-no_fault (errors.Memory y) x h = h
-no_fault (errors.NotYetImplemented y) x h = h
-no_fault (errors.OverflowError y) x h = h
+abbrev answered : {A : Type 0} → A → Result A Cause
+answered x = Ok x
+
+-- what is answered isn't refused
+pub no_fault : {A : Type 0} (f : Cause) (x : A) → answered x ≡ Err f → ⊥
+no_fault f x e = cc

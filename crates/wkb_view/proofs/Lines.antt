@@ -1,14 +1,14 @@
 -- Line strings as members, by their texts.
-use Rattle.std.proofs.Common.{◌≡◌, ℕ, zero, suc, ◌≤◌, false, ltb, List, [], ◌∷◌, length, take, drop, Option, Some, None, Result, Ok, refl, sym, ap, subst, ◌∙◌, length-take, arith}
+use Rattle.std.proofs.Common.{◌≡◌, ℕ, zero, suc, ◌≤◌, false, ltb, List, [], ◌∷◌, length, take, drop, Option, Some, None, Result, Ok, Err, refl, sym, ap, subst, ◌∙◌, length-take, arith}
 use Rattle.std.proofs.lemmas.Bool.{le-ltb}
 use Rattle.wkb_geom.specs.declared.common.Endianness.{Endianness}
 use Rattle.wkb_geom.specs.declared.common.Dimension.{Dimension}
-use Rattle.wkb_geom.specs.declared.error.WkbError.{WkbError}
 use Rattle.wkb_geom.specs.Numbers.{number}
 use Rattle.wkb_geom.specs.Items.{number-take}
-use Rattle.wkb_geom.specs.Refusals.{Cause, line_string_end}
-use Rattle.wkb_geom.specs.Reading.{Head, head_at, head_by_order, order_of, line_string_item, body_start}
-use Rattle.wkb_view.specs.Answers.{IsFault}
+use Rattle.wkb_geom.specs.declared.error.Cause.{Cause}
+use Rattle.wkb_geom.specs.Refusals.{line_string_end}
+use Rattle.wkb_geom.specs.declared.header.Header.{Header as Head}
+use Rattle.wkb_geom.specs.Reading.{head_at, head_by_order, order_of, line_string_item, body_start}
 use Rattle.wkb_view.specs.Lines.{line_item_by, line_item_in, IsLine}
 use Rattle.wkb_view.proofs.Faults.{no_fault}
 
@@ -39,8 +39,8 @@ line_whole d text h l e =
     let same : l.head ≡ h = ok_same l.head h (sym l.head_is ∙ e) in
     subst (λ (g : Head). length text ≡ line_string_end d g.has_srid (number g.order 4 (drop (body_start g.has_srid) text))) same l.whole
 
-pub line_has_head : (d : Dimension) (text : List ℕ) (e : WkbError) → IsLine d text → IsFault e (head_at text) → ⊥
-line_has_head d text e l fault = no_fault e l.head (subst (λ (r : Result Head Cause). IsFault e r) l.head_is fault)
+pub line_has_head : (d : Dimension) (text : List ℕ) (f : Cause) → IsLine d text → head_at text ≡ Err f → ⊥
+line_has_head d text f l fault = no_fault f l.head (sym l.head_is ∙ fault)
 
 pub line_item_is : (d : Dimension) (text : List ℕ) (h : Head) → head_at text ≡ Ok h → line_item_in d text ≡ line_string_item h.order d h.has_srid text
 line_item_is d text h e = ap (line_item_by d text) e

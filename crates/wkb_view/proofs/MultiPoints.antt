@@ -2,15 +2,14 @@
 use Rattle.std.proofs.Common.{◌≡◌, ℕ, zero, suc, ◌+◌, ◌*◌, ◌≤◌, ◌<◌, List, length, map, take, drop, Bool, true, false, Some, None, Result, Ok, Err, refl, sym, ap, ◌∙◌, length-drop, length-take, arith}
 use Rattle.std.proofs.lemmas.List.{take-take, drop-drop, take_all, length-map}
 use Rattle.std.specs.Prelude.{slice_get, option_map}
-use Rattle.wkb_geom.specs.declared.error.WkbError.{WkbError}
 use Rattle.wkb_geom.specs.Items.{length-items}
-use Rattle.wkb_view.specs.Answers.{IsFault}
-use Rattle.wkb_view.proofs.Faults.{no_fault}
 use Rattle.wkb_view.proofs.Words.{items_at, width-le}
 use Rattle.wkb_geom.specs.declared.common.Endianness.TheVariants.{BigEndian}
 use Rattle.wkb_geom.specs.declared.common.Dimension.{Dimension}
-use Rattle.wkb_geom.specs.Refusals.{Cause, multi_point_end}
-use Rattle.wkb_geom.specs.Reading.{Item, Head, body_start, parts_start, head_at, point_item}
+use Rattle.wkb_geom.specs.declared.error.Cause.{Cause}
+use Rattle.wkb_geom.specs.Refusals.{multi_point_end}
+use Rattle.wkb_geom.specs.declared.header.Header.{Header as Head}
+use Rattle.wkb_geom.specs.Reading.{Item, body_start, parts_start, head_at, point_item}
 use Rattle.wkb_view.specs.MultiPoints.{stride, point_item_by, point_item_in, points_in, is_point_head, all_points}
 use Rattle.wkb_view.proofs.Lines.{head-take}
 use Rattle.wkb_view.proofs.Lists.{length-parts}
@@ -87,12 +86,11 @@ member_of d srid n i start buf part lt whole all start-is part-is =
       item = items_at (stride d) (point_item_in d) n i text lt ∙ ap (λ (x : Item). Some x) (sym (ap (point_item_in d) cut ∙ point-take d (stride d) behind (omega arith) long));
     }
 
-head_there : (d : Dimension) (e : WkbError) (r : Result Head Cause) → is_point_head d r ≡ true → IsFault e r → ⊥
-head_there d e (Ok h) is fault = no_fault e h fault
-head_there d e (Err c) is fault = absurd cc
-
-pub member_has_head : (d : Dimension) (n i : ℕ) (text part : List ℕ) (e : WkbError) → MemberAt d n i text part → IsFault e (head_at part) → ⊥
-member_has_head d n i text part e m fault = head_there d e (head_at part) m.head fault
+pub member_has_head : (d : Dimension) (n i : ℕ) (text part : List ℕ) (f : Cause) → MemberAt d n i text part → head_at part ≡ Err f → ⊥
+member_has_head d n i text part f m fault = let is = m.head in clash (rw fault at is)
+  where
+    clash : false ≡ true → ⊥
+    clash e = cc
 
 pub member_item : (d : Dimension) (n i : ℕ) (text part : List ℕ) (h : Head) → MemberAt d n i text part → head_at part ≡ Ok h
     → slice_get (points_in d n text) i ≡ Some (point_item h.order d false part)

@@ -27,3 +27,15 @@ polygons_counted d (p ∷ ps) = ap suc (polygons_counted d ps)
 
 pub polygon_past : (d : Dimension) (ps : List (Listed (List (List Coordinate)))) (i : ℕ) → length ps ≤ i → slice_get (fitted_polygons (dimensions d) (rings_listed ps)) i ≡ None
 polygon_past d ps i h = slice_get_past (fitted_polygons (dimensions d) (rings_listed ps)) i (omega (arith, polygons_counted d ps))
+
+pub parts_in : (ps : List (Listed (List (List Coordinate)))) (i : ℕ) (p : Listed (List (List Coordinate))) → i < length ps → p ≡ get_or ps i p → Some p.parts ≡ slice_get (rings_listed ps) i
+parts_in [] i p lt e = absurd (omega arith)
+parts_in (x ∷ ps) zero p lt e = ap (λ (y : Listed (List (List Coordinate))). Some y.parts) e
+parts_in (x ∷ ps) (suc i) p lt e = parts_in ps i p (omega arith) e
+
+rings_counted : (ps : List (Listed (List (List Coordinate)))) → length (rings_listed ps) ≡ length ps
+rings_counted [] = refl
+rings_counted (p ∷ ps) = ap suc (rings_counted ps)
+
+pub parts_past : (ps : List (Listed (List (List Coordinate)))) (i : ℕ) → length ps ≤ i → slice_get (rings_listed ps) i ≡ None
+parts_past ps i h = slice_get_past (rings_listed ps) i (omega (arith, rings_counted ps))

@@ -1,5 +1,8 @@
 -- What coordinates and rings stand for.
-use Rattle.std.specs.Prelude.{List}
+use Rattle.std.specs.Prelude.{ℕ, ◌+◌, ◌*◌, List, take, drop}
+use Rattle.wkb_geom.specs.declared.common.Dimension.{Dimension}
+use Rattle.wkb_geom.specs.Dimensions.{width}
+use Rattle.wkb_geom.specs.declared.common.Endianness.{Endianness}
 use Rattle.wkb_geom.specs.Values.{Coordinate}
 use Rattle.wkb_geom.specs.Reading.{coordinate, ring_in}
 use Rattle.wkb_view.specs.declared.coord.Coord.{Coord}
@@ -10,3 +13,31 @@ words_seen c = coordinate c.order c.dimension c.bytes.now
 
 abbrev pub ring_seen : LinearRing → List Coordinate
 ring_seen r = ring_in r.order r.dimension r.bytes.now
+
+-- the bytes of the coordinate that begins at an offset
+abbrev pub coordinate_text : Dimension → ℕ → List ℕ → List ℕ
+coordinate_text d start text = take (8 * width d) (drop start text)
+
+-- the order, the dimension and the bytes of a coordinate
+abbrev pub coord_order : Coord → Endianness
+coord_order c = c.order
+
+abbrev pub coord_dimension : Coord → Dimension
+coord_dimension c = c.dimension
+
+abbrev pub coord_text : Coord → List ℕ
+coord_text c = c.bytes.now
+
+-- the same of a ring: a count and its coordinates
+abbrev pub ring_order : LinearRing → Endianness
+ring_order r = r.order
+
+abbrev pub ring_dimension : LinearRing → Dimension
+ring_dimension r = r.dimension
+
+abbrev pub ring_text : LinearRing → List ℕ
+ring_text r = r.bytes.now
+
+-- where the coordinate at an index begins in a ring's bytes
+abbrev pub ring_offset : LinearRing → ℕ → ℕ
+ring_offset r i = 4 + 8 * width r.dimension * i

@@ -2,7 +2,6 @@ pub mod Coords
 pub mod Lines
 pub mod Lists
 pub mod MultiPoints
-pub mod Answers
 pub mod Parts
 pub mod Pieces
 pub mod Points
@@ -10,3 +9,6 @@ pub mod Polygons
 pub mod Views
 pub mod Fitted
 pub mod Ranges
+pub mod Headers
+pub mod Memory
+pub mod Outcome

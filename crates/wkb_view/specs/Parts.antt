@@ -1,8 +1,9 @@
 -- The parts of a value, as the calls of views hand them out.
-use Rattle.std.specs.Prelude.{ℕ, List, [], ◌∷◌, Option}
+use Rattle.std.specs.Prelude.{ℕ, List, [], ◌∷◌, Option, slice_get}
 use Rattle.wkb_geom.specs.declared.common.Endianness.{Endianness}
 use Rattle.wkb_geom.specs.Values.{Coordinate, Value, Values, multi_point, collection, no_members, member}
-use Rattle.wkb_geom.specs.Spellings.{Spelling, node, Spellings, no_spellings, spelling, header}
+use Rattle.wkb_geom.specs.Spellings.{Spelling, node, Spellings, no_spellings, spelling, header, Spells}
+use Rattle.wkb_geom.specs.Reading.{Item}
 
 abbrev pub list_of_values : Values → List Value
 list_of_values no_members = []
@@ -29,3 +30,11 @@ members_spelled (node h words ss) = ss
 abbrev pub list_of_spellings : Spellings → List Spelling
 list_of_spellings no_spellings = []
 list_of_spellings (spelling s ss) = s ∷ list_of_spellings ss
+
+-- the bytes of a geometry spell its value
+abbrev pub IsSpelled : Item → Type 0
+IsSpelled i = ∥ Spells i.spelled i.value i.text ∥₁
+
+-- the spelling of the member at an index
+abbrev pub spelling_at : Spelling → ℕ → Option Spelling
+spelling_at s i = slice_get (list_of_spellings (members_spelled s)) i

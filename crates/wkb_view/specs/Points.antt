@@ -5,4 +5,4 @@ use Rattle.wkb_geom.specs.Reading.{coordinate, body_start}
 use Rattle.wkb_view.specs.declared.point.Point.{Point}
 
 abbrev pub coordinate_in : Point → Coordinate
-coordinate_in p = coordinate p.order p.dimension (drop (body_start p.has_srid) p.buf.now)
+coordinate_in p = coordinate p.layout.order p.layout.dimension (drop (body_start p.layout.has_srid) p.buf.now)

@@ -11,8 +11,9 @@ use Rattle.wkb_geom.specs.Dimensions.{width, size, dimensions}
 use Rattle.wkb_geom.specs.Numbers.{number, all_nan, AreBytes, IsWord}
 use Rattle.wkb_geom.specs.Items.{length-items}
 use Rattle.wkb_geom.specs.Geometries.{IsCoordinate, IsPoint, AreCoordinates}
-use Rattle.wkb_geom.specs.Refusals.{Cause}
-use Rattle.wkb_geom.specs.Reading.{Head, head_at, parts_start, items, coordinate, coordinates, body_start, point_of, point_item, point_item_of, line_of, line_string_item, ring_in}
+use Rattle.wkb_geom.specs.declared.error.Cause.{Cause}
+use Rattle.wkb_geom.specs.declared.header.Header.{Header as Head}
+use Rattle.wkb_geom.specs.Reading.{head_at, parts_start, items, coordinate, coordinates, body_start, point_of, point_item, point_item_of, line_of, line_string_item, ring_in}
 use Rattle.wkb_view.specs.MultiPoints.{stride, point_item_by, points_in, multi_point_item}
 use Rattle.wkb_view.specs.Parts.{points_of}
 

@@ -1,9 +1,8 @@
 //! A coordinate.
 
 ghost use Rattle.std.specs.Prelude.{◌≡◌, ◌*◌, length};
-ghost use Rattle.wkb_geom.specs.Dimensions.{width, dimensions as named};
+ghost use Rattle.wkb_geom.specs.Dimensions.{width};
 ghost use Rattle.wkb_geom.specs.Numbers.{AreBytes};
-ghost use Rattle.wkb_view.specs.Ranges.{coordinate_lawful};
 
 use wkb_geom::words::{is_nan, u64_at};
 use wkb_geom::{CoordTrait, Dimension, Dimensioned, Dimensions, Endianness};
@@ -11,22 +10,22 @@ use wkb_geom::{CoordTrait, Dimension, Dimensioned, Dimensions, Endianness};
 /// A coordinate: eight bytes for each of its words, in one byte order.
 #[derive(Clone, Copy, Debug)]
 pub struct Coord<'a> {
-    pub bytes: &'a [u8],
-    pub order: Endianness,
-    pub dimension: Dimension,
-    pub ghost whole: { length bytes.now ≡ 8 * width dimension },
-    pub ghost in_range: { AreBytes bytes.now },
+    pub(crate) bytes: &'a [u8],
+    pub(crate) order: Endianness,
+    pub(crate) dimension: Dimension,
+    ghost whole: { length bytes.now ≡ 8 * width dimension },
+    ghost in_range: { AreBytes bytes.now },
 }
 
 impl<'a> Coord<'a> {
-    ghost use Rattle.std.specs.Prelude.{◌≡◌, ◌*◌, length};
+    ghost use Rattle.std.specs.Prelude.{◌≡◌, length};
     ghost use Rattle.wkb_geom.specs.Numbers.{all_nan};
-    ghost use Rattle.wkb_view.specs.Coords.{words_seen};
+    ghost use Rattle.wkb_view.specs.Coords.{words_seen, coord_order, coord_dimension, coord_text};
 
     /// The order of its numbers.
     #[inline]
     pub fn byte_order(&self) -> Endianness
-        ensures { result ≡ self.now.order }
+        ensures { result ≡ coord_order self.now }
     {
         self.order
     }
@@ -34,7 +33,7 @@ impl<'a> Coord<'a> {
     /// The bytes of its words.
     #[inline]
     pub fn coord_slice(&self) -> &'a [u8]
-        ensures { result.now ≡ self.now.bytes.now }
+        ensures { result.now ≡ coord_text self.now }
     {
         self.bytes
     }
@@ -42,7 +41,7 @@ impl<'a> Coord<'a> {
     /// Its dimension.
     #[inline]
     pub fn dimension(&self) -> Dimension
-        ensures { result ≡ self.now.dimension }
+        ensures { result ≡ coord_dimension self.now }
     {
         self.dimension
     }
@@ -50,7 +49,7 @@ impl<'a> Coord<'a> {
     /// The number of its bytes.
     #[inline]
     pub fn size(&self) -> u64
-        ensures { result ≡ length self.now.bytes.now }
+        ensures { result ≡ length (coord_text self.now) }
     {
         self.bytes.len() as u64
     }
@@ -69,7 +68,10 @@ impl<'a> Coord<'a> {
 }
 
 impl Dimensioned for Coord<'_> {
-    ghost dimensions = { λ c. named c.dimension };
+    ghost use Rattle.wkb_geom.specs.Dimensions.{dimensions as named};
+    ghost use Rattle.wkb_view.specs.Coords.{coord_dimension};
+
+    ghost dimensions = { λ c. named (coord_dimension c) };
 
     #[inline]
     fn dim(&self) -> Dimensions {
@@ -79,6 +81,7 @@ impl Dimensioned for Coord<'_> {
 
 impl CoordTrait for Coord<'_> {
     ghost use Rattle.wkb_view.specs.Coords.{words_seen};
+    ghost use Rattle.wkb_view.specs.Ranges.{coordinate_lawful};
 
     ghost words = { words_seen };
 

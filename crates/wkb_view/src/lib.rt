@@ -1,9 +1,10 @@
-//! Views of the kinds of geometry in Well-Known Binary: each borrows the bytes that it stands for.
+//! Views of the kinds of geometry in Well-Known Binary: each borrows the bytes that it stands for. A kind is one file:
+//! its view, what the view answers, and (`read`) how it is read.
 #![tactic(auto)]
 
+pub mod any;
 pub mod coord;
-pub mod header;
-pub mod leaf;
+pub mod counts;
 pub mod line_string;
 pub mod linear_ring;
 pub mod multi_line_string;
@@ -13,3 +14,4 @@ pub mod own_srid;
 mod part;
 pub mod point;
 pub mod polygon;
+pub mod reserved;

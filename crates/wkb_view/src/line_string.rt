@@ -1,45 +1,46 @@
 //! A line string.
 
-ghost use Rattle.std.specs.Prelude.{◌≡◌, ◌+◌, ◌*◌, length, drop, refl};
-ghost use Rattle.wkb_geom.specs.Numbers.{number, AreBytes};
-ghost use Rattle.wkb_geom.specs.Dimensions.{width, dimensions as named};
-ghost use Rattle.wkb_geom.specs.Reading.{body_start};
-ghost use Rattle.wkb_view.specs.Ranges.{line_lawful};
+ghost use Rattle.std.specs.Prelude.{◌≡◌, ◌+◌, ◌*◌, length, drop};
+ghost use Rattle.wkb_geom.specs.Dimensions.{width};
+ghost use Rattle.wkb_geom.specs.Numbers.{AreBytes, number};
+ghost use Rattle.wkb_geom.specs.Reading.{body_start, line_string_item};
+ghost use Rattle.wkb_view.specs.Parts.{IsSpelled};
 
+use crate::any::AnyView;
 use crate::coord::Coord;
-use crate::leaf::{srid_of_text, start_of_body};
+use crate::linear_ring::LinearRing;
 use crate::multi_line_string::MultiLineString;
 use crate::multi_point::MultiPoint;
 use crate::multi_polygon::MultiPolygon;
 use crate::own_srid::OwnSrid;
-use crate::part::part;
 use crate::point::Point;
 use crate::polygon::Polygon;
+use wkb_geom::words::u32_at;
 use wkb_geom::{
-    Dimension, Dimensioned, Dimensions, Endianness, GeometryTrait, GeometryType, LineStringTrait,
+    Cause, Dimension, Dimensioned, Dimensions, Endianness, General, GeometryTrait, GeometryType,
+    Header, Layout, LineStringTrait,
 };
 use wkb_plain::{Line, Rect, Triangle};
 
 /// A line string.
 #[derive(Clone, Copy, Debug)]
 pub struct LineString<'a> {
-    pub buf: &'a [u8],
-    pub order: Endianness,
-    pub dimension: Dimension,
-    pub has_srid: bool,
-    pub count: u32,
-    pub ghost counted: { count ≡ number order 4 (drop (body_start has_srid) buf.now) },
-    pub ghost whole: { length buf.now ≡ body_start has_srid + 4 + 8 * width dimension * count },
-    pub ghost in_range: { AreBytes buf.now },
+    buf: &'a [u8],
+    layout: Layout,
+    count: u32,
+    ghost counted: { count ≡ number layout.order 4 (drop (body_start layout.has_srid) buf.now) },
+    ghost whole: { length buf.now ≡ body_start layout.has_srid + 4 + 8 * width layout.dimension * count },
+    ghost in_range: { AreBytes buf.now },
+    ghost spells: { IsSpelled (line_string_item layout.order layout.dimension layout.has_srid buf.now) },
 }
 
 impl<'a> LineString<'a> {
-    ghost use Rattle.std.specs.Prelude.{◌≡◌, ◌+◌, ◌*◌, ◌≤◌, length, drop};
-    ghost use Rattle.wkb_geom.specs.Dimensions.{width};
-    ghost use Rattle.wkb_geom.specs.Values as value;
+    ghost use Rattle.std.specs.Prelude.{◌≡◌, ◌+◌, length, ◌≤◌, drop};
     ghost use Rattle.wkb_geom.specs.Reading.{body_start, line_of};
-    ghost use Rattle.wkb_view.specs.Views.{line_string_seen};
-    ghost use Rattle.wkb_view.specs.Parts.{order_of};
+    ghost use Rattle.wkb_view.specs.Parts.{IsSpelled, order_of};
+    ghost use Rattle.wkb_geom.specs.Values as value;
+    ghost use Rattle.wkb_view.specs.Coords.{ring_text, ring_order, ring_dimension};
+    ghost use Rattle.wkb_view.specs.Views.{line_string_seen, line_string_layout, line_string_offset};
 
     /// The number of its bytes.
     #[inline]
@@ -53,10 +54,9 @@ impl<'a> LineString<'a> {
     #[inline]
     pub fn coord_offset(&self, i: u64) -> u64
         requires { i ≤ length (line_of (line_string_seen self.now).value) }
-        ensures { result ≡ body_start self.now.has_srid + 4 + 8 * width self.now.dimension * i }
+        ensures { result ≡ line_string_offset self.now i }
     {
-        let start = if self.has_srid { 13u64 } else { 9 };
-        start + 8 * self.dimension.width() as u64 * i
+        self.layout.body_start() as u64 + self.ring().coord_offset(i)
     }
 
     /// Its dimension.
@@ -64,15 +64,16 @@ impl<'a> LineString<'a> {
     pub fn dimension(&self) -> Dimension
         ensures { result ≡ value.dimension (line_string_seen self.now).value }
     {
-        self.dimension
+        self.layout.dimension
     }
 
     /// The bytes of its coordinates, behind the count.
     #[inline]
     pub fn coords_slice(&self) -> &'a [u8]
-        ensures { result.now ≡ drop (body_start self.now.has_srid + 4) (line_string_seen self.now).text }
+        ensures { result.now ≡ drop (body_start (line_string_layout self.now).has_srid + 4)
+            (line_string_seen self.now).text }
     {
-        &self.buf[start_of_body(self.has_srid) + 4..]
+        &self.buf[self.layout.body_start() + 4..]
     }
 
     /// The order of its numbers.
@@ -80,15 +81,32 @@ impl<'a> LineString<'a> {
     pub fn byte_order(&self) -> Endianness
         ensures { result ≡ order_of (line_string_seen self.now).spelled }
     {
-        self.order
+        self.layout.order
     }
 
     /// Its bytes.
     #[inline]
     pub fn buf(&self) -> &'a [u8]
-        ensures { result.now ≡ (line_string_seen self.now).text }
+        ensures text { result.now ≡ (line_string_seen self.now).text }
+        ensures spells { IsSpelled (line_string_seen self.now) }
     {
         self.buf
+    }
+
+    /// Its count and its coordinates, as a ring has them.
+    #[inline]
+    fn ring(&self) -> LinearRing<'a>
+        ensures text { ring_text result
+            ≡ drop (body_start (line_string_layout self.now).has_srid) (line_string_seen self.now).text }
+        ensures order { ring_order result ≡ (line_string_layout self.now).order }
+        ensures dimension { ring_dimension result ≡ (line_string_layout self.now).dimension }
+    {
+        LinearRing {
+            bytes: &self.buf[self.layout.body_start()..],
+            order: self.layout.order,
+            dimension: self.layout.dimension,
+            count: self.count,
+        }
     }
 }
 
@@ -99,28 +117,36 @@ impl OwnSrid for LineString<'_> {
 
     #[inline]
     fn srid(&self) -> Option<u32> {
-        srid_of_text(self.buf, self.order, self.has_srid)
+        self.layout.srid(self.buf)
     }
 }
 
 impl Dimensioned for LineString<'_> {
-    ghost dimensions = { λ g. named g.dimension };
+    ghost use Rattle.wkb_geom.specs.Dimensions.{dimensions as named};
+    ghost use Rattle.wkb_view.specs.Views.{line_string_layout};
+
+    ghost dimensions = { λ g. named (line_string_layout g).dimension };
 
     #[inline]
     fn dim(&self) -> Dimensions {
-        self.dimension.into()
+        self.layout.dimension.into()
     }
 }
 
 impl<'a> LineStringTrait for LineString<'a> {
+    ghost use Rattle.std.specs.Prelude.{◌≡◌, length, option_map, IfSome, ◌<◌, Some, slice_get};
+    ghost use Rattle.wkb_geom.specs.Dimensions.{dimensions as named};
+    ghost use Rattle.wkb_view.specs.Coords.{words_seen, coordinate_text, coord_order, coord_dimension, coord_text};
+    ghost use Rattle.wkb_view.specs.Parts.{order_of};
+    ghost use Rattle.wkb_view.specs.Ranges.{line_lawful};
     ghost use Rattle.wkb_geom.specs.Reading.{line_of};
-    ghost use Rattle.wkb_view.specs.Views.{line_string_seen};
+    ghost use Rattle.wkb_view.specs.Views.{line_string_seen, line_string_layout, line_string_offset};
 
     type CoordType = Coord<'a>;
 
     ghost coordinates = { λ l. line_of (line_string_seen l).value };
 
-    ghost lawful = { λ l. line_lawful l.order l.dimension l.has_srid l.buf.now l.in_range };
+    ghost lawful = { λ l. line_lawful l.layout.order l.layout.dimension l.layout.has_srid l.buf.now l.in_range };
 
     #[inline]
     fn num_coords(&self) -> usize {
@@ -128,29 +154,39 @@ impl<'a> LineStringTrait for LineString<'a> {
     }
 
     #[inline]
-    fn coord(&self, i: usize) -> Option<Coord<'a>> {
-        if i < self.num_coords() {
-            Some(self.coord_at(i))
-        } else {
-            None
-        }
+    fn coord(&self, i: usize) -> Option<Coord<'a>>
+        ensures value { option_map words_seen result ≡ slice_get (line_of (line_string_seen self.now).value) i }
+        ensures dimensions { IfSome result (λ c. named (coord_dimension c)
+            ≡ named (line_string_layout self.now).dimension) }
+        ensures order { IfSome result (λ c. coord_order c ≡ order_of (line_string_seen self.now).spelled) }
+        ensures bytes { IfSome result (λ c. coord_text c ≡ coordinate_text (line_string_layout self.now).dimension
+            (line_string_offset self.now i) (line_string_seen self.now).text) }
+    {
+        self.ring().coord(i)
     }
 
     #[inline]
-    fn coord_at(&self, i: usize) -> Coord<'a> {
-        let start = self.coord_offset(i as u64) as usize;
-        Coord {
-            bytes: part(self.buf, start, 8 * self.dimension.width()),
-            order: self.order,
-            dimension: self.dimension,
-        }
+    fn coord_at(&self, i: usize) -> Coord<'a>
+        requires { i < length (line_of (line_string_seen self.now).value) }
+        ensures value { slice_get (line_of (line_string_seen self.now).value) i ≡ Some (words_seen result) }
+        ensures dimensions { named (coord_dimension result) ≡ named (line_string_layout self.now).dimension }
+        ensures order { coord_order result ≡ order_of (line_string_seen self.now).spelled }
+        ensures bytes { coord_text result
+            ≡ coordinate_text (line_string_layout self.now).dimension
+            (line_string_offset self.now i) (line_string_seen self.now).text }
+    {
+        self.ring().coord_at(i)
     }
 }
 
 impl<'a> GeometryTrait for LineString<'a> {
-    ghost use Rattle.wkb_geom.specs.Geometries.{line_string};
+    ghost use Rattle.std.specs.Prelude.{◌≡◌, refl};
+    ghost use Rattle.wkb_geom.specs.Dimensions.{dimensions as named};
+    ghost use Rattle.wkb_geom.specs.declared.geom.GeometryType.TheVariants.{LineString as Handed};
+    ghost use Rattle.wkb_view.specs.Ranges.{line_lawful};
     ghost use Rattle.wkb_geom.specs.Reading.{line_of};
-    ghost use Rattle.wkb_view.specs.Views.{line_string_seen};
+    ghost use Rattle.wkb_view.specs.Views.{line_string_seen, line_string_layout};
+    ghost use Rattle.wkb_geom.specs.Geometries.{line_string};
 
     type PointType = Point<'a>;
 
@@ -170,28 +206,72 @@ impl<'a> GeometryTrait for LineString<'a> {
 
     type LineType = Line<'a>;
 
-    ghost geometry = { λ l. line_string (named l.dimension) (line_of (line_string_seen l).value) };
+    ghost geometry = { λ l. line_string (named (line_string_layout l).dimension) (line_of (line_string_seen l).value) };
 
     ghost one_dimension = { λ g. refl };
 
-    ghost lawful = { λ l. line_lawful l.order l.dimension l.has_srid l.buf.now l.in_range };
+    ghost lawful = { λ l. line_lawful l.layout.order l.layout.dimension l.layout.has_srid l.buf.now l.in_range };
 
     #[inline]
-    fn as_type(
-        &self,
-    ) -> GeometryType<
-        '_,
-        Point<'a>,
-        LineString<'a>,
-        Polygon<'a>,
-        MultiPoint<'a>,
-        MultiLineString<'a>,
-        MultiPolygon<'a>,
-        LineString<'a>,
-        Rect<'a>,
-        Triangle<'a>,
-        Line<'a>,
-    > {
+    fn as_type(&self) -> AnyView<'_, 'a, LineString<'a>>
+        ensures view { result ≡ Handed self.entry }
+    {
         GeometryType::LineString(self)
+    }
+}
+
+impl<'a> LineString<'a> {
+    ghost use Rattle.std.specs.Prelude.{◌≡◌, ◌+◌, length, ◌≤◌, IfOk, Ok};
+    ghost use Rattle.wkb_view.specs.Headers.{HasHead, line_string_behind};
+    ghost use Rattle.wkb_view.specs.Outcome.{Answers};
+    ghost use Rattle.wkb_geom.specs.declared.code.WkbType.TheVariants as kinds;
+    ghost use Rattle.wkb_view.specs.Views.{line_string_seen, line_string_layout};
+    ghost use Rattle.wkb_geom.specs.Reading.{head_at};
+    ghost use Rattle.wkb_view.specs.Lines.{IsLine, line_item_in};
+
+    /// The line string behind this header, and the bytes after it.
+    #[tactic(auto, unfolding(wkb_geom::specs::Reading::line_string_at))]
+    #[inline]
+    pub fn read(layout: Layout, bytes: &'a [u8]) -> Result<(LineString<'a>, &'a [u8]), Cause>
+        requires head { HasHead (λ d. kinds.LineString d) layout bytes.now }
+        ensures answer { Answers (λ x. (line_string_seen x.0, x.1.now)) result (line_string_behind layout bytes.now) }
+        ensures shorter { IfOk result (λ x. length x.1.now + 9 ≤ length bytes.now) }
+    {
+        let count = match layout.count(bytes) {
+            Ok(count) => count,
+            Err(cause) => return Err(cause),
+        };
+        let end = layout.body_start() as u64
+            + 4
+            + 8 * layout.dimension.width() as u64 * count as u64;
+        if (bytes.len() as u64) < end {
+            return Err(Cause::General(General::ShortLineString {
+                end,
+                len: bytes.len(),
+            }));
+        }
+        let (buf, rest) = bytes.split_at(end as usize);
+        let line_string = LineString { buf, layout, count };
+        Ok((line_string, rest))
+    }
+
+    /// The line string that stands in these bytes, behind this header and with the dimension of its multi line string.
+    #[inline]
+    pub(crate) fn of_text(header: Header, dimension: Dimension, buf: &'a [u8]) -> LineString<'a>
+        requires head { head_at buf.now ≡ Ok header }
+        requires line { IsLine dimension buf.now }
+        ensures item { line_string_seen result ≡ line_item_in dimension buf.now }
+        ensures dimension { (line_string_layout result).dimension ≡ dimension }
+    {
+        let layout = Layout {
+            order: header.order,
+            dimension,
+            has_srid: header.has_srid,
+        };
+        LineString {
+            buf,
+            layout,
+            count: u32_at(buf, layout.body_start(), header.order),
+        }
     }
 }

@@ -1,9 +1,11 @@
 //! A ring of a polygon.
 
-ghost use Rattle.std.specs.Prelude.{◌≡◌, ◌+◌, ◌*◌, length, refl};
-ghost use Rattle.wkb_geom.specs.Numbers.{number, AreBytes};
-ghost use Rattle.wkb_geom.specs.Dimensions.{width, dimensions as named};
-ghost use Rattle.wkb_view.specs.Ranges.{ring_lawful};
+ghost use Rattle.std.specs.Prelude.{◌≡◌, ◌+◌, ◌*◌, length, IfOk};
+ghost use Rattle.wkb_geom.specs.Dimensions.{width};
+ghost use Rattle.wkb_geom.specs.Numbers.{AreBytes, number};
+ghost use Rattle.wkb_view.specs.Outcome.{Answers};
+ghost use Rattle.wkb_geom.specs.Reading.{ring_at, taken};
+ghost use Rattle.wkb_view.specs.Pieces.{IsRing, Passed};
 
 use crate::coord::Coord;
 use crate::multi_line_string::MultiLineString;
@@ -12,32 +14,33 @@ use crate::multi_polygon::MultiPolygon;
 use crate::part::part;
 use crate::point::Point;
 use crate::polygon::Polygon;
+use wkb_geom::words::u32_at;
 use wkb_geom::{
-    Dimension, Dimensioned, Dimensions, Endianness, GeometryTrait, GeometryType, LineStringTrait,
+    Cause, Dimension, Dimensioned, Dimensions, Endianness, General, GeometryTrait, GeometryType,
+    LineStringTrait,
 };
 use wkb_plain::{Line, Rect, Triangle};
 
 /// A ring: a count and so many coordinates, in its polygon's order and dimension.
 #[derive(Clone, Copy, Debug)]
 pub struct LinearRing<'a> {
-    pub bytes: &'a [u8],
-    pub order: Endianness,
-    pub dimension: Dimension,
-    pub count: u32,
-    pub ghost counted: { count ≡ number order 4 bytes.now },
-    pub ghost whole: { length bytes.now ≡ 4 + 8 * width dimension * count },
-    pub ghost in_range: { AreBytes bytes.now },
+    pub(crate) bytes: &'a [u8],
+    pub(crate) order: Endianness,
+    pub(crate) dimension: Dimension,
+    pub(crate) count: u32,
+    ghost counted: { count ≡ number order 4 bytes.now },
+    ghost whole: { length bytes.now ≡ 4 + 8 * width dimension * count },
+    ghost in_range: { AreBytes bytes.now },
 }
 
 impl<'a> LinearRing<'a> {
-    ghost use Rattle.std.specs.Prelude.{◌≡◌, ◌+◌, ◌*◌, ◌≤◌, length, drop};
-    ghost use Rattle.wkb_geom.specs.Dimensions.{width};
-    ghost use Rattle.wkb_view.specs.Coords.{ring_seen};
+    ghost use Rattle.std.specs.Prelude.{◌≡◌, length, ◌≤◌, drop};
+    ghost use Rattle.wkb_view.specs.Coords.{ring_text, ring_order, ring_dimension, ring_seen, ring_offset};
 
     /// The number of its bytes: of its count and its coordinates.
     #[inline]
     pub fn size(&self) -> u64
-        ensures { result ≡ length self.now.bytes.now }
+        ensures { result ≡ length (ring_text self.now) }
     {
         self.bytes.len() as u64
     }
@@ -46,7 +49,7 @@ impl<'a> LinearRing<'a> {
     #[inline]
     pub fn coord_offset(&self, i: u64) -> u64
         requires { i ≤ length (ring_seen self.now) }
-        ensures { result ≡ 4 + 8 * width self.now.dimension * i }
+        ensures { result ≡ ring_offset self.now i }
     {
         4 + 8 * self.dimension.width() as u64 * i
     }
@@ -54,7 +57,7 @@ impl<'a> LinearRing<'a> {
     /// Its dimension.
     #[inline]
     pub fn dimension(&self) -> Dimension
-        ensures { result ≡ self.now.dimension }
+        ensures { result ≡ ring_dimension self.now }
     {
         self.dimension
     }
@@ -62,7 +65,7 @@ impl<'a> LinearRing<'a> {
     /// The bytes of its coordinates, behind the count.
     #[inline]
     pub fn coords_slice(&self) -> &'a [u8]
-        ensures { result.now ≡ drop 4 self.now.bytes.now }
+        ensures { result.now ≡ drop 4 (ring_text self.now) }
     {
         &self.bytes[4..]
     }
@@ -70,14 +73,17 @@ impl<'a> LinearRing<'a> {
     /// The order of its numbers.
     #[inline]
     pub fn byte_order(&self) -> Endianness
-        ensures { result ≡ self.now.order }
+        ensures { result ≡ ring_order self.now }
     {
         self.order
     }
 }
 
 impl Dimensioned for LinearRing<'_> {
-    ghost dimensions = { λ g. named g.dimension };
+    ghost use Rattle.wkb_geom.specs.Dimensions.{dimensions as named};
+    ghost use Rattle.wkb_view.specs.Coords.{ring_dimension};
+
+    ghost dimensions = { λ r. named (ring_dimension r) };
 
     #[inline]
     fn dim(&self) -> Dimensions {
@@ -86,7 +92,11 @@ impl Dimensioned for LinearRing<'_> {
 }
 
 impl<'a> LineStringTrait for LinearRing<'a> {
-    ghost use Rattle.wkb_view.specs.Coords.{ring_seen};
+    ghost use Rattle.std.specs.Prelude.{◌≡◌, length, option_map, IfSome, ◌<◌, Some, slice_get};
+    ghost use Rattle.wkb_geom.specs.Dimensions.{dimensions as named};
+    ghost use Rattle.wkb_view.specs.Coords.{words_seen, coordinate_text, coord_order, coord_dimension, coord_text};
+    ghost use Rattle.wkb_view.specs.Coords.{ring_text, ring_order, ring_dimension, ring_seen, ring_offset};
+    ghost use Rattle.wkb_view.specs.Ranges.{ring_lawful};
 
     type CoordType = Coord<'a>;
 
@@ -100,7 +110,13 @@ impl<'a> LineStringTrait for LinearRing<'a> {
     }
 
     #[inline]
-    fn coord(&self, i: usize) -> Option<Coord<'a>> {
+    fn coord(&self, i: usize) -> Option<Coord<'a>>
+        ensures value { option_map words_seen result ≡ slice_get (ring_seen self.now) i }
+        ensures dimensions { IfSome result (λ c. named (coord_dimension c) ≡ named (ring_dimension self.now)) }
+        ensures order { IfSome result (λ c. coord_order c ≡ ring_order self.now) }
+        ensures bytes { IfSome result (λ c. coord_text c ≡ coordinate_text (ring_dimension self.now)
+            (ring_offset self.now i) (ring_text self.now)) }
+    {
         if i < self.num_coords() {
             Some(self.coord_at(i))
         } else {
@@ -109,7 +125,14 @@ impl<'a> LineStringTrait for LinearRing<'a> {
     }
 
     #[inline]
-    fn coord_at(&self, i: usize) -> Coord<'a> {
+    fn coord_at(&self, i: usize) -> Coord<'a>
+        requires { i < length (ring_seen self.now) }
+        ensures value { slice_get (ring_seen self.now) i ≡ Some (words_seen result) }
+        ensures dimensions { named (coord_dimension result) ≡ named (ring_dimension self.now) }
+        ensures order { coord_order result ≡ ring_order self.now }
+        ensures bytes { coord_text result ≡ coordinate_text (ring_dimension self.now)
+            (ring_offset self.now i) (ring_text self.now) }
+    {
         let start = self.coord_offset(i as u64) as usize;
         Coord {
             bytes: part(self.bytes, start, 8 * self.dimension.width()),
@@ -120,8 +143,12 @@ impl<'a> LineStringTrait for LinearRing<'a> {
 }
 
 impl<'a> GeometryTrait for LinearRing<'a> {
+    ghost use Rattle.std.specs.Prelude.{◌≡◌, refl};
+    ghost use Rattle.wkb_geom.specs.Dimensions.{dimensions as named};
+    ghost use Rattle.wkb_geom.specs.declared.geom.GeometryType.TheVariants.{LineString as Handed};
+    ghost use Rattle.wkb_view.specs.Coords.{ring_dimension, ring_seen};
     ghost use Rattle.wkb_geom.specs.Geometries.{line_string};
-    ghost use Rattle.wkb_view.specs.Coords.{ring_seen};
+    ghost use Rattle.wkb_view.specs.Ranges.{ring_lawful};
 
     type PointType = Point<'a>;
 
@@ -141,7 +168,7 @@ impl<'a> GeometryTrait for LinearRing<'a> {
 
     type LineType = Line<'a>;
 
-    ghost geometry = { λ r. line_string (named r.dimension) (ring_seen r) };
+    ghost geometry = { λ r. line_string (named (ring_dimension r)) (ring_seen r) };
 
     ghost one_dimension = { λ g. refl };
 
@@ -162,7 +189,34 @@ impl<'a> GeometryTrait for LinearRing<'a> {
         Rect<'a>,
         Triangle<'a>,
         Line<'a>,
-    > {
+    >
+        ensures view { result ≡ Handed self.entry }
+    {
         GeometryType::LineString(self)
     }
+}
+
+/// The bytes after the ring at the front of the bytes.
+#[tactic(auto, unfolding(wkb_geom::specs::Reading::ring_at))]
+#[inline]
+pub(crate) fn ring<'a>(
+    order: Endianness,
+    dimension: Dimension,
+    bytes: &'a [u8],
+) -> Result<&'a [u8], Cause>
+    ensures answer { Answers (λ rest. (taken bytes.now rest.now, rest.now)) result (ring_at order dimension bytes.now) }
+    ensures passed { IfOk result (λ rest. Passed 4 (IsRing order dimension) bytes.now rest.now) }
+{
+    if bytes.len() < 4 {
+        return Err(Cause::EndOfInput);
+    }
+    let count = u32_at(bytes, 0, order);
+    let end = 4 + 8 * dimension.width() as u64 * count as u64;
+    if (bytes.len() as u64) < end {
+        return Err(Cause::General(General::ShortLinearRing {
+            end,
+            len: bytes.len(),
+        }));
+    }
+    Ok(&bytes[end as usize..])
 }

@@ -1,58 +1,64 @@
 //! A multi line string.
 
-ghost use Rattle.std.specs.Prelude.{refl};
+ghost use Rattle.std.specs.Prelude.{◌≡◌, ◌+◌, length, ◌≤◌, IfOk, ◌/◌, [], min, vec_capacity, map};
 ghost use Rattle.wkb_geom.specs.Dimensions.{dimensions as named};
-ghost use Rattle.wkb_view.specs.Fitted.{fitted_lines, lines-fitted};
+ghost use Rattle.wkb_geom.specs.Reading.{body_start, taken, parts_start, is_line_string};
+ghost use Rattle.wkb_view.specs.Outcome.{Answers, Surely, CanCount};
+ghost use Rattle.wkb_view.specs.Lines.{IsLine, line_item_in, line_at};
+ghost use Rattle.wkb_view.specs.Pieces.{Passed};
+ghost use Rattle.wkb_view.specs.Headers.{pieces_behind, ArePiecesBehind, lines_behind};
 
-use crate::leaf::{header, srid_of_text, start_of_body};
+use crate::any::AnyView;
+use crate::counts::Counts;
 use crate::line_string::LineString;
 use crate::multi_point::MultiPoint;
 use crate::multi_polygon::MultiPolygon;
 use crate::own_srid::OwnSrid;
-use crate::part::{part, start_of_part};
+use crate::part::piece;
 use crate::point::Point;
 use crate::polygon::Polygon;
-use std::alloc::AllocError;
+use crate::reserved::{Reserved, reserve};
+use std::alloc::{AllocError, Global};
 use std::marker::Model;
-use wkb_geom::words::u32_at;
 use wkb_geom::{
-    Dimension, Dimensioned, Dimensions, Endianness, GeometryTrait, GeometryType,
-    MultiLineStringTrait,
+    Cause, Dimension, Dimensioned, Dimensions, Endianness, GeometryTrait, GeometryType, Header,
+    Layout, MultiLineStringTrait, Refusal,
 };
 use wkb_plain::{Line, Rect, Triangle};
 
 /// A multi line string: its members by the offsets at which they end.
 #[derive(Debug, Drop)]
 pub struct MultiLineString<'a> {
-    pub buf: &'a [u8],
-    pub order: Endianness,
-    pub dimension: Dimension,
-    pub has_srid: bool,
-    pub ends: Vec<usize>,
+    buf: &'a [u8],
+    layout: Layout,
+    ends: Vec<usize>,
 }
 
 impl<'a> Model for MultiLineString<'a> {
-    ghost use Rattle.std.specs.Prelude.{◌+◌, List, map};
-    ghost use Rattle.wkb_geom.specs.Values.{Coordinate};
-    ghost use Rattle.wkb_geom.specs.Stored.{Listed, listed_code, rings_code};
-    ghost use Rattle.wkb_geom.specs.Reading.{body_start};
-    ghost use Rattle.wkb_view.specs.Lines.{lines_parts, line_item_in, IsLine};
-    ghost use Rattle.wkb_view.specs.Pieces.{pieces, ArePieces};
+    ghost use Rattle.wkb_view.specs.Parts.{IsSpelled};
+    ghost use Rattle.wkb_view.specs.Lines.{IsLine};
+    ghost use Rattle.wkb_geom.specs.Stored.{whole_of, Listed, listed_code, rings_code};
+    ghost use Rattle.std.specs.Prelude.{List};
+    ghost use Rattle.wkb_geom.specs.Values.{Coordinate, multi_line_string};
+    ghost use Rattle.wkb_view.specs.Headers.{ArePiecesBehind, lines_laid};
 
     ghost Value = { Listed (List (List Coordinate)) };
 
     ghost coded = { listed_code rings_code };
 
-    ghost view = { λ a. lines_parts a.order a.dimension a.has_srid (map (line_item_in a.dimension) (pieces (body_start a.has_srid + 4) a.ends.items a.buf.now)) a.buf.now };
+    ghost view = { λ a. lines_laid a.layout a.ends.items a.buf.now };
 
-    ghost invariant = { λ a. ArePieces (IsLine a.dimension) (body_start a.has_srid + 4) a.ends.items a.buf.now };
+    ghost invariant = { λ a. ArePiecesBehind (IsLine a.layout.dimension) a.layout a.ends.items a.buf.now
+        × IsSpelled (whole_of multi_line_string (lines_laid a.layout a.ends.items a.buf.now)) };
 }
 
 impl<'a> MultiLineString<'a> {
-    ghost use Rattle.std.specs.Prelude.{◌≡◌, IfOk, IfSome, length, slice_get, option_map};
+    ghost use Rattle.std.specs.Prelude.{◌≡◌, length, option_map, IfSome, IfOk, slice_get};
+    ghost use Rattle.wkb_view.specs.Parts.{IsSpelled, spelling_at};
     ghost use Rattle.wkb_geom.specs.Reading.{line_of};
-    ghost use Rattle.wkb_view.specs.Views.{line_string_seen};
-    ghost use Rattle.wkb_view.specs.Parts.{members_spelled, list_of_spellings};
+    ghost use Rattle.wkb_view.specs.Views.{line_string_seen, line_string_layout};
+    ghost use Rattle.wkb_geom.specs.Stored.{whole_of};
+    ghost use Rattle.wkb_geom.specs.Values.{multi_line_string};
 
     /// The number of its bytes.
     #[inline]
@@ -67,13 +73,14 @@ impl<'a> MultiLineString<'a> {
     pub fn dimension(&self) -> Dimension
         ensures { result ≡ self.now.dimension }
     {
-        self.dimension
+        self.layout.dimension
     }
 
     /// Its bytes.
     #[inline]
     pub fn buf(&self) -> &'a [u8]
-        ensures { result.now ≡ self.now.text }
+        ensures text { result.now ≡ self.now.text }
+        ensures spells { IsSpelled (whole_of multi_line_string self.now) }
     {
         self.buf
     }
@@ -88,26 +95,18 @@ impl<'a> MultiLineString<'a> {
     /// The line string at an index, made again from the bytes between two ends, in its own order.
     pub(crate) fn member(&self, i: usize) -> Option<LineString<'a>>
         ensures value { option_map (λ l. line_of (line_string_seen l).value) result ≡ slice_get self.now.parts i }
-        ensures dimension { IfSome result (λ l. l.dimension ≡ self.now.dimension) }
-        ensures spelled { option_map (λ l. (line_string_seen l).spelled) result ≡ slice_get (list_of_spellings (members_spelled self.now.spelled)) i }
+        ensures dimension { IfSome result (λ l. (line_string_layout l).dimension ≡ self.now.dimension) }
+        ensures spelled { option_map (λ l. (line_string_seen l).spelled) result ≡ spelling_at self.now.spelled i }
     {
-        if i >= self.ends.len() {
-            return None;
-        }
-        let start = start_of_part(start_of_body(self.has_srid) + 4, &self.ends, i);
-        let end = self.ends[i];
-        let buf = part(self.buf, start, end - start);
-        let head = match header(buf) {
-            Ok(head) => head,
+        let buf = match piece(self.buf, self.layout.body_start() + 4, &self.ends, i) {
+            Some(buf) => buf,
+            None => return None,
+        };
+        let header = match Header::read(buf) {
+            Ok(header) => header,
             Err(_) => unreachable!(),
         };
-        Some(LineString {
-            buf,
-            order: head.order,
-            dimension: self.dimension,
-            has_srid: head.has_srid,
-            count: u32_at(buf, start_of_body(head.has_srid), head.order),
-        })
+        Some(LineString::of_text(header, self.layout.dimension, buf))
     }
 
     /// The same multi line string, with a list of its own.
@@ -116,9 +115,7 @@ impl<'a> MultiLineString<'a> {
     {
         Ok(MultiLineString {
             buf: self.buf,
-            order: self.order,
-            dimension: self.dimension,
-            has_srid: self.has_srid,
+            layout: self.layout,
             ends: self.ends.clone()?,
         })
     }
@@ -129,7 +126,7 @@ impl OwnSrid for MultiLineString<'_> {
 
     #[inline]
     fn srid(&self) -> Option<u32> {
-        srid_of_text(self.buf, self.order, self.has_srid)
+        self.layout.srid(self.buf)
     }
 }
 
@@ -138,15 +135,17 @@ impl Dimensioned for MultiLineString<'_> {
 
     #[inline]
     fn dim(&self) -> Dimensions {
-        self.dimension.into()
+        self.layout.dimension.into()
     }
 }
 
 impl<'a> MultiLineStringTrait for MultiLineString<'a> {
-    ghost use Rattle.std.specs.Prelude.{◌≡◌, IfSome, option_map, slice_get};
+    ghost use Rattle.std.specs.Prelude.{◌≡◌, option_map, IfSome, slice_get};
+    ghost use Rattle.wkb_geom.specs.Dimensions.{dimensions as named};
     ghost use Rattle.wkb_geom.specs.Reading.{line_of};
-    ghost use Rattle.wkb_view.specs.Views.{line_string_seen};
-    ghost use Rattle.wkb_view.specs.Parts.{members_spelled, list_of_spellings};
+    ghost use Rattle.wkb_view.specs.Views.{line_string_seen, line_string_layout};
+    ghost use Rattle.wkb_view.specs.Fitted.{fitted_lines, lines-fitted};
+    ghost use Rattle.wkb_view.specs.Parts.{spelling_at};
 
     type InnerLineStringType = LineString<'a>;
 
@@ -161,15 +160,21 @@ impl<'a> MultiLineStringTrait for MultiLineString<'a> {
 
     #[inline]
     fn line_string(&self, i: usize) -> Option<LineString<'a>>
-        ensures value { option_map (λ l. line_of (line_string_seen l).value) result ≡ slice_get (fitted_lines (named self.now.dimension) self.now.parts) i }
-        ensures dimensions { IfSome result (λ l. named l.dimension ≡ named self.now.dimension) }
-        ensures spelled { option_map (λ l. (line_string_seen l).spelled) result ≡ slice_get (list_of_spellings (members_spelled self.now.spelled)) i }
+        ensures value { option_map (λ l. line_of (line_string_seen l).value) result
+            ≡ slice_get (fitted_lines (named self.now.dimension) self.now.parts) i }
+        ensures part { option_map (λ l. line_of (line_string_seen l).value) result ≡ slice_get self.now.parts i }
+        ensures dimensions { IfSome result (λ l. named (line_string_layout l).dimension ≡ named self.now.dimension) }
+        ensures spelled { option_map (λ l. (line_string_seen l).spelled) result ≡ spelling_at self.now.spelled i }
     {
         self.member(i)
     }
 }
 
 impl<'a> GeometryTrait for MultiLineString<'a> {
+    ghost use Rattle.std.specs.Prelude.{◌≡◌, refl};
+    ghost use Rattle.wkb_geom.specs.Dimensions.{dimensions as named};
+    ghost use Rattle.wkb_geom.specs.declared.geom.GeometryType.TheVariants.{MultiLineString as Handed};
+    ghost use Rattle.wkb_view.specs.Fitted.{fitted_lines, lines-fitted};
     ghost use Rattle.wkb_geom.specs.Geometries.{multi_line_string};
 
     type PointType = Point<'a>;
@@ -197,21 +202,119 @@ impl<'a> GeometryTrait for MultiLineString<'a> {
     ghost lawful = { λ m. lines-fitted (named m.dimension) m.parts };
 
     #[inline]
-    fn as_type(
-        &self,
-    ) -> GeometryType<
-        '_,
-        Point<'a>,
-        LineString<'a>,
-        Polygon<'a>,
-        MultiPoint<'a>,
-        MultiLineString<'a>,
-        MultiPolygon<'a>,
-        MultiLineString<'a>,
-        Rect<'a>,
-        Triangle<'a>,
-        Line<'a>,
-    > {
+    fn as_type(&self) -> AnyView<'_, 'a, MultiLineString<'a>>
+        ensures view { result ≡ Handed self.entry }
+    {
         GeometryType::MultiLineString(self)
+    }
+}
+
+/// Whether a line string of this dimension follows.
+#[inline]
+fn is_member(header: Header, dimension: Dimension) -> bool
+    ensures { result ≡ is_line_string dimension header }
+{
+    header.wkb_type.kind() == 2 && header.wkb_type.dimension().is(dimension)
+}
+
+/// Passes the line string of this dimension at the front of the bytes.
+fn line<'a>(dimension: Dimension, bytes: &'a [u8]) -> Result<&'a [u8], Cause>
+    ensures answer { Answers (λ rest. (line_item_in dimension (taken bytes.now rest.now), rest.now))
+        result (line_at dimension bytes.now).1 }
+    ensures passed { IfOk result (λ rest. Passed 9 (IsLine dimension) bytes.now rest.now) }
+{
+    let header = match Header::read(bytes) {
+        Ok(header) => header,
+        Err(cause) => return Err(cause),
+    };
+    if !is_member(header, dimension) {
+        return Err(Cause::IncorrectType);
+    }
+    let layout = Layout {
+        order: header.order,
+        dimension,
+        has_srid: header.has_srid,
+    };
+    match LineString::read(layout, bytes) {
+        Ok((_, rest)) => Ok(rest),
+        Err(cause) => Err(cause),
+    }
+}
+
+/// Passes so many line strings, and keeps the offsets at which they end.
+fn lines<'a>(
+    layout: Layout,
+    bytes: &'a [u8],
+    mut ends: Reserved<usize>,
+    count: u32,
+    counts: &mut Counts,
+) -> Result<(Reserved<usize>, &'a [u8]), Cause>
+    requires whole { body_start layout.has_srid + 4 ≤ length bytes.now }
+    requires empty { ends.items.items ≡ [] }
+    requires room { min count (length (parts_start layout.has_srid bytes.now) / 9) ≤ vec_capacity ends.items }
+    requires fits { CanCount counts.old (lines_behind layout count bytes.now).0 }
+    ensures lines { Surely (λ x. (
+      map (line_item_in layout.dimension)
+          (pieces_behind layout x.0.items.items (taken bytes.now x.1.now)),
+      x.1.now,
+    )) result
+        (lines_behind layout count bytes.now) counts.old counts.new }
+    ensures ends { IfOk result (λ x. ArePiecesBehind (IsLine layout.dimension) layout
+        x.0.items.items (taken bytes.now x.1.now)) }
+    ensures shorter { IfOk result (λ x. length x.1.now + body_start layout.has_srid + 4 ≤ length bytes.now) }
+{
+    let mut rest = layout.behind_count(bytes);
+    for _ in 0..count {
+        counts.turns += 1;
+        rest = line(layout.dimension, rest)?;
+        ends.push(bytes.len() - rest.len());
+    }
+    Ok((ends, rest))
+}
+
+impl<'a> MultiLineString<'a> {
+    ghost use Rattle.std.specs.Prelude.{◌≡◌, ◌+◌, length, ◌≤◌, IfOk};
+    ghost use Rattle.wkb_view.specs.Headers.{HasHead, multi_line_string_behind};
+    ghost use Rattle.wkb_geom.specs.Values as value;
+    ghost use Rattle.wkb_geom.specs.declared.code.WkbType.TheVariants as kinds;
+    ghost use Rattle.wkb_geom.specs.Stored.{whole_of};
+    ghost use Rattle.wkb_view.specs.Memory.{IsNoWant};
+    ghost use Rattle.wkb_view.specs.Outcome.{Gives, CanCount};
+
+    /// The multi line string behind this header, and the bytes after it.
+    #[tactic(auto, unfolding(wkb_geom::specs::Reading::multi_line_string_at))]
+    pub fn read(
+        alloc: Global,
+        layout: Layout,
+        bytes: &'a [u8],
+        counts: &mut Counts,
+    ) -> Result<(MultiLineString<'a>, &'a [u8]), Refusal>
+        requires fits { CanCount counts.old (multi_line_string_behind layout bytes.now).0 }
+        requires head { HasHead (λ d. kinds.MultiLineString d) layout bytes.now }
+        ensures answer { Gives (λ x. (whole_of value.multi_line_string x.0, x.1.now))
+            result (multi_line_string_behind layout bytes.now) counts.old counts.new }
+        ensures shorter { IfOk result (λ x. length x.1.now + 9 ≤ length bytes.now) }
+        ensures free { (multi_line_string_behind layout bytes.now).0.slots ≡ 0 → IsNoWant result }
+    {
+        let count = match layout.count(bytes) {
+            Ok(count) => count,
+            Err(cause) => return Err(Refusal::Fault(cause)),
+        };
+        let remaining = bytes.len() - (layout.body_start() + 4);
+        let ends = match reserve(alloc, count, remaining, 9, counts) {
+            Ok(ends) => ends,
+            Err(_) => return Err(Refusal::Memory),
+        };
+        match lines(layout, bytes, ends, count, counts) {
+            Ok((ends, rest)) => {
+                let multi_line_string = MultiLineString {
+                    buf: &bytes[..bytes.len() - rest.len()],
+                    layout,
+                    ends: ends.into_vec(),
+                };
+                Ok((multi_line_string, rest))
+            }
+            Err(cause) => Err(Refusal::Fault(cause)),
+        }
     }
 }

@@ -1,52 +1,66 @@
 //! A multi polygon.
 
-ghost use Rattle.std.specs.Prelude.{refl};
+ghost use Rattle.std.specs.Prelude.{◌≡◌, ◌+◌, length, ◌≤◌, IfOk, ◌/◌, [], min, vec_capacity};
 ghost use Rattle.wkb_geom.specs.Dimensions.{dimensions as named};
-ghost use Rattle.wkb_view.specs.Fitted.{fitted_polygons, polygons-fitted};
+ghost use Rattle.wkb_geom.specs.Reading.{body_start, parts_start, is_polygon};
+ghost use Rattle.wkb_geom.specs.Values as value;
+ghost use Rattle.wkb_geom.specs.Stored.{whole_of};
+ghost use Rattle.wkb_view.specs.Memory.{IsNoWant};
+ghost use Rattle.wkb_view.specs.Outcome.{Gives, CanCount};
+ghost use Rattle.std.specs.List.{AllByRecursion};
+ghost use Rattle.wkb_view.specs.Polygons.{polygon_member, polygon_items};
+ghost use Rattle.wkb_view.specs.Headers.{polygons_behind};
 
-use crate::leaf::srid_of_text;
+use crate::any::AnyView;
+use crate::counts::Counts;
 use crate::line_string::LineString;
 use crate::multi_line_string::MultiLineString;
 use crate::multi_point::MultiPoint;
 use crate::own_srid::OwnSrid;
 use crate::point::Point;
 use crate::polygon::Polygon;
-use std::alloc::AllocError;
+use crate::reserved::{Reserved, reserve};
+use std::alloc::{AllocError, Global};
 use std::marker::Model;
 use wkb_geom::{
-    Dimension, Dimensioned, Dimensions, Endianness, GeometryTrait, GeometryType, MultiPolygonTrait,
+    Cause, Dimension, Dimensioned, Dimensions, Endianness, GeometryTrait, GeometryType, Header,
+    Layout, MultiPolygonTrait, Refusal,
 };
 use wkb_plain::{Line, Rect, Triangle};
 
 /// A multi polygon.
 #[derive(Debug, Drop)]
 pub struct MultiPolygon<'a> {
-    pub buf: &'a [u8],
-    pub order: Endianness,
-    pub dimension: Dimension,
-    pub has_srid: bool,
-    pub members: Vec<Polygon<'a>>,
+    buf: &'a [u8],
+    layout: Layout,
+    members: Vec<Polygon<'a>>,
 }
 
 impl<'a> Model for MultiPolygon<'a> {
-    ghost use Rattle.std.specs.Prelude.{◌≡◌, ◌≤◌, ◌+◌, length, List};
-    ghost use Rattle.std.specs.List.{AllByRecursion};
-    ghost use Rattle.wkb_geom.specs.Values.{Coordinate};
-    ghost use Rattle.wkb_geom.specs.Stored.{Listed, listed_code, polygons_code};
+    ghost use Rattle.std.specs.Prelude.{◌≡◌, ◌+◌, length, ◌≤◌, List};
     ghost use Rattle.wkb_geom.specs.Reading.{body_start};
-    ghost use Rattle.wkb_view.specs.Polygons.{polygons_parts, polygon_items};
+    ghost use Rattle.wkb_view.specs.Parts.{IsSpelled};
+    ghost use Rattle.wkb_geom.specs.Stored.{whole_of, Listed, listed_code, polygons_code};
+    ghost use Rattle.wkb_geom.specs.Values.{Coordinate, multi_polygon};
+    ghost use Rattle.std.specs.List.{AllByRecursion};
+    ghost use Rattle.wkb_view.specs.Headers.{polygons_laid};
 
     ghost Value = { Listed (List (List (List Coordinate))) };
 
     ghost coded = { listed_code polygons_code };
 
-    ghost invariant = { λ a. (body_start a.has_srid + 4 ≤ length a.buf.now) × AllByRecursion (λ p. p.dimension ≡ a.dimension) a.members.items };
+    ghost invariant = { λ a. (body_start a.layout.has_srid + 4 ≤ length a.buf.now)
+        × AllByRecursion (λ p. p.dimension ≡ a.layout.dimension) a.members.items
+        × IsSpelled (whole_of multi_polygon (polygons_laid a.layout a.members.items a.buf.now)) };
 
-    ghost view = { λ a. polygons_parts a.order a.dimension a.has_srid (polygon_items a.members.items) a.buf.now };
+    ghost view = { λ a. polygons_laid a.layout a.members.items a.buf.now };
 }
 
 impl<'a> MultiPolygon<'a> {
-    ghost use Rattle.std.specs.Prelude.{◌≡◌, IfOk, length};
+    ghost use Rattle.std.specs.Prelude.{◌≡◌, length, IfOk};
+    ghost use Rattle.wkb_view.specs.Parts.{IsSpelled};
+    ghost use Rattle.wkb_geom.specs.Stored.{whole_of};
+    ghost use Rattle.wkb_geom.specs.Values.{multi_polygon};
 
     /// The number of its bytes.
     #[inline]
@@ -61,13 +75,14 @@ impl<'a> MultiPolygon<'a> {
     pub fn dimension(&self) -> Dimension
         ensures { result ≡ self.now.dimension }
     {
-        self.dimension
+        self.layout.dimension
     }
 
     /// Its bytes.
     #[inline]
     pub fn buf(&self) -> &'a [u8]
-        ensures { result.now ≡ self.now.text }
+        ensures text { result.now ≡ self.now.text }
+        ensures spells { IsSpelled (whole_of multi_polygon self.now) }
     {
         self.buf
     }
@@ -82,9 +97,7 @@ impl<'a> MultiPolygon<'a> {
         }
         Ok(MultiPolygon {
             buf: self.buf,
-            order: self.order,
-            dimension: self.dimension,
-            has_srid: self.has_srid,
+            layout: self.layout,
             members,
         })
     }
@@ -95,7 +108,7 @@ impl OwnSrid for MultiPolygon<'_> {
 
     #[inline]
     fn srid(&self) -> Option<u32> {
-        srid_of_text(self.buf, self.order, self.has_srid)
+        self.layout.srid(self.buf)
     }
 }
 
@@ -104,14 +117,15 @@ impl Dimensioned for MultiPolygon<'_> {
 
     #[inline]
     fn dim(&self) -> Dimensions {
-        self.dimension.into()
+        self.layout.dimension.into()
     }
 }
 
 impl<'a> MultiPolygonTrait for MultiPolygon<'a> {
-    ghost use Rattle.std.specs.Prelude.{◌≡◌, IfSome, option_map, slice_get};
-    ghost use Rattle.wkb_view.specs.Fitted.{fitted_lines};
-    ghost use Rattle.wkb_view.specs.Parts.{members_spelled, list_of_spellings};
+    ghost use Rattle.std.specs.Prelude.{◌≡◌, option_map, IfSome, slice_get};
+    ghost use Rattle.wkb_geom.specs.Dimensions.{dimensions as named};
+    ghost use Rattle.wkb_view.specs.Fitted.{fitted_lines, fitted_polygons, polygons-fitted};
+    ghost use Rattle.wkb_view.specs.Parts.{spelling_at};
 
     type InnerPolygonType = Polygon<'a>;
 
@@ -126,9 +140,11 @@ impl<'a> MultiPolygonTrait for MultiPolygon<'a> {
 
     #[inline]
     fn polygon(&self, i: usize) -> Option<&Polygon<'a>>
-        ensures value { option_map (λ p. fitted_lines (named p.now.dimension) p.now.parts) result ≡ slice_get (fitted_polygons (named self.now.dimension) self.now.parts) i }
+        ensures value { option_map (λ p. fitted_lines (named p.now.dimension) p.now.parts) result
+            ≡ slice_get (fitted_polygons (named self.now.dimension) self.now.parts) i }
+        ensures part { option_map (λ p. p.now.parts) result ≡ slice_get self.now.parts i }
         ensures dimensions { IfSome result (λ p. named p.now.dimension ≡ named self.now.dimension) }
-        ensures spelled { option_map (λ p. p.now.spelled) result ≡ slice_get (list_of_spellings (members_spelled self.now.spelled)) i }
+        ensures spelled { option_map (λ p. p.now.spelled) result ≡ spelling_at self.now.spelled i }
     {
         if i < self.members.len() {
             Some(&self.members[i])
@@ -139,6 +155,10 @@ impl<'a> MultiPolygonTrait for MultiPolygon<'a> {
 }
 
 impl<'a> GeometryTrait for MultiPolygon<'a> {
+    ghost use Rattle.std.specs.Prelude.{◌≡◌, refl};
+    ghost use Rattle.wkb_geom.specs.Dimensions.{dimensions as named};
+    ghost use Rattle.wkb_geom.specs.declared.geom.GeometryType.TheVariants.{MultiPolygon as Handed};
+    ghost use Rattle.wkb_view.specs.Fitted.{fitted_polygons, polygons-fitted};
     ghost use Rattle.wkb_geom.specs.Geometries.{multi_polygon};
 
     type PointType = Point<'a>;
@@ -166,21 +186,126 @@ impl<'a> GeometryTrait for MultiPolygon<'a> {
     ghost lawful = { λ m. polygons-fitted (named m.dimension) m.parts };
 
     #[inline]
-    fn as_type(
-        &self,
-    ) -> GeometryType<
-        '_,
-        Point<'a>,
-        LineString<'a>,
-        Polygon<'a>,
-        MultiPoint<'a>,
-        MultiLineString<'a>,
-        MultiPolygon<'a>,
-        MultiPolygon<'a>,
-        Rect<'a>,
-        Triangle<'a>,
-        Line<'a>,
-    > {
+    fn as_type(&self) -> AnyView<'_, 'a, MultiPolygon<'a>>
+        ensures view { result ≡ Handed self.entry }
+    {
         GeometryType::MultiPolygon(self)
+    }
+}
+
+/// Whether a polygon of this dimension follows.
+#[inline]
+fn is_member(header: Header, dimension: Dimension) -> bool
+    ensures { result ≡ is_polygon dimension header }
+{
+    header.wkb_type.kind() == 3 && header.wkb_type.dimension().is(dimension)
+}
+
+/// The polygon of this dimension at the front of the bytes, and the bytes after it.
+fn member<'a>(
+    alloc: Global,
+    dimension: Dimension,
+    bytes: &'a [u8],
+    counts: &mut Counts,
+) -> Result<(Polygon<'a>, &'a [u8]), Refusal>
+    requires fits { CanCount counts.old (polygon_member dimension bytes.now).0 }
+    ensures dimension { IfOk result (λ x. x.0.dimension ≡ dimension) }
+    ensures answer { Gives (λ x. (whole_of value.polygon x.0, x.1.now))
+        result (polygon_member dimension bytes.now) counts.old counts.new }
+    ensures shorter { IfOk result (λ x. length x.1.now + 9 ≤ length bytes.now) }
+    ensures free { (polygon_member dimension bytes.now).0.slots ≡ 0 → IsNoWant result }
+{
+    let header = match Header::read(bytes) {
+        Ok(header) => header,
+        Err(cause) => return Err(Refusal::Fault(cause)),
+    };
+    if !is_member(header, dimension) {
+        return Err(Refusal::Fault(Cause::IncorrectType));
+    }
+    let layout = Layout {
+        order: header.order,
+        dimension,
+        has_srid: header.has_srid,
+    };
+    Polygon::read(alloc, layout, bytes, counts)
+}
+
+/// So many polygons, and the bytes after them.
+fn polygons<'a>(
+    alloc: Global,
+    layout: Layout,
+    bytes: &'a [u8],
+    mut members: Reserved<Polygon<'a>>,
+    count: u32,
+    counts: &mut Counts,
+) -> Result<(Reserved<Polygon<'a>>, &'a [u8]), Refusal>
+    requires whole { body_start layout.has_srid + 4 ≤ length bytes.now }
+    requires empty { members.items.items ≡ [] }
+    requires room { min count (length (parts_start layout.has_srid bytes.now) / 9) ≤ vec_capacity members.items }
+    requires fits { CanCount counts.old (polygons_behind layout count bytes.now).0 }
+    ensures dimension { IfOk result (λ x. AllByRecursion (λ p. p.dimension ≡ layout.dimension) x.0.items.items) }
+    ensures polygons { Gives (λ x. (polygon_items x.0.items.items, x.1.now))
+        result (polygons_behind layout count bytes.now) counts.old counts.new }
+    ensures shorter { IfOk result (λ x. length x.1.now ≤ length (parts_start layout.has_srid bytes.now)) }
+    ensures free { (polygons_behind layout count bytes.now).0.slots ≡ 0 → IsNoWant result }
+{
+    let mut rest = layout.behind_count(bytes);
+    for _ in 0..count {
+        counts.turns += 1;
+        match member(alloc, layout.dimension, rest, counts) {
+            Ok((polygon, after)) => {
+                members.push(polygon);
+                rest = after;
+            }
+            Err(refusal) => return Err(refusal),
+        }
+    }
+    Ok((members, rest))
+}
+
+impl<'a> MultiPolygon<'a> {
+    ghost use Rattle.std.specs.Prelude.{◌≡◌, ◌+◌, length, ◌≤◌, IfOk};
+    ghost use Rattle.wkb_view.specs.Headers.{HasHead, multi_polygon_behind};
+    ghost use Rattle.wkb_geom.specs.Values as value;
+    ghost use Rattle.wkb_geom.specs.declared.code.WkbType.TheVariants as kinds;
+    ghost use Rattle.wkb_geom.specs.Stored.{whole_of};
+    ghost use Rattle.wkb_view.specs.Memory.{IsNoWant};
+    ghost use Rattle.wkb_view.specs.Outcome.{Gives, CanCount};
+
+    /// The multi polygon behind this header, and the bytes after it.
+    #[tactic(auto, unfolding(wkb_geom::specs::Reading::multi_polygon_at))]
+    pub fn read(
+        alloc: Global,
+        layout: Layout,
+        bytes: &'a [u8],
+        counts: &mut Counts,
+    ) -> Result<(MultiPolygon<'a>, &'a [u8]), Refusal>
+        requires fits { CanCount counts.old (multi_polygon_behind layout bytes.now).0 }
+        requires head { HasHead (λ d. kinds.MultiPolygon d) layout bytes.now }
+        ensures answer { Gives (λ x. (whole_of value.multi_polygon x.0, x.1.now))
+            result (multi_polygon_behind layout bytes.now) counts.old counts.new }
+        ensures shorter { IfOk result (λ x. length x.1.now + 9 ≤ length bytes.now) }
+        ensures free { (multi_polygon_behind layout bytes.now).0.slots ≡ 0 → IsNoWant result }
+    {
+        let count = match layout.count(bytes) {
+            Ok(count) => count,
+            Err(cause) => return Err(Refusal::Fault(cause)),
+        };
+        let remaining = bytes.len() - (layout.body_start() + 4);
+        let members = match reserve(alloc, count, remaining, 9, counts) {
+            Ok(members) => members,
+            Err(_) => return Err(Refusal::Memory),
+        };
+        match polygons(alloc, layout, bytes, members, count, counts) {
+            Ok((members, rest)) => {
+                let multi_polygon = MultiPolygon {
+                    buf: &bytes[..bytes.len() - rest.len()],
+                    layout,
+                    members: members.into_vec(),
+                };
+                Ok((multi_polygon, rest))
+            }
+            Err(refusal) => Err(refusal),
+        }
     }
 }

@@ -1,7 +1,8 @@
 //! Parts of a text.
 
-ghost use Rattle.std.specs.Prelude.{◌≡◌, ◌+◌, ◌<◌, ◌≤◌, length, take, drop};
-ghost use Rattle.wkb_view.specs.Pieces.{start_at};
+ghost use Rattle.std.specs.Prelude.{◌≡◌, ◌+◌, ◌<◌, ◌≤◌, length, take, drop, IfSome, option_map, slice_get};
+ghost use Rattle.wkb_geom.specs.Numbers.{AreBytes};
+ghost use Rattle.wkb_view.specs.Pieces.{pieces, start_at, AreInOrder};
 
 /// So many bytes from an offset on.
 #[inline]
@@ -16,9 +17,24 @@ pub(crate) fn part<'a>(bytes: &'a [u8], start: usize, len: usize) -> &'a [u8]
 
 /// Where the part at an index begins, of parts that end at these offsets.
 #[inline]
-pub(crate) fn start_of_part(first: usize, ends: &[usize], i: usize) -> usize
+fn start_of_part(first: usize, ends: &[usize], i: usize) -> usize
     requires { i < length ends.now }
     ensures { result ≡ start_at first ends.now i }
 {
     if i == 0 { first } else { ends[i - 1] }
+}
+
+/// The bytes of the part at an index, of parts that end at these offsets; the first of them begins at `first`.
+#[inline]
+pub(crate) fn piece<'a>(bytes: &'a [u8], first: usize, ends: &[usize], i: usize) -> Option<&'a [u8]>
+    requires { AreInOrder first ends.now bytes.now }
+    ensures part { option_map (λ b. b.now) result ≡ slice_get (pieces first ends.now bytes.now) i }
+    ensures bytes { IfSome result (λ b. AreBytes b.now) }
+{
+    if i >= ends.len() {
+        return None;
+    }
+    let start = start_of_part(first, ends, i);
+    let end = ends[i];
+    Some(part(bytes, start, end - start))
 }

@@ -1,13 +1,13 @@
 //! A point.
 
-ghost use Rattle.std.specs.Prelude.{◌≡◌, ◌+◌, ◌*◌, length, refl};
-ghost use Rattle.wkb_geom.specs.Dimensions.{width, dimensions as named};
+ghost use Rattle.std.specs.Prelude.{◌≡◌, ◌+◌, ◌*◌, length};
+ghost use Rattle.wkb_geom.specs.Dimensions.{width};
 ghost use Rattle.wkb_geom.specs.Numbers.{AreBytes};
-ghost use Rattle.wkb_geom.specs.Reading.{body_start};
-ghost use Rattle.wkb_view.specs.Ranges.{point_lawful};
+ghost use Rattle.wkb_geom.specs.Reading.{body_start, point_item};
+ghost use Rattle.wkb_view.specs.Parts.{IsSpelled};
 
+use crate::any::AnyView;
 use crate::coord::Coord;
-use crate::leaf::{srid_of_text, start_of_body};
 use crate::line_string::LineString;
 use crate::multi_line_string::MultiLineString;
 use crate::multi_point::MultiPoint;
@@ -16,30 +16,29 @@ use crate::own_srid::OwnSrid;
 use crate::part::part;
 use crate::polygon::Polygon;
 use wkb_geom::{
-    Dimension, Dimensioned, Dimensions, Endianness, GeometryTrait, GeometryType, PointTrait,
+    Cause, Dimension, Dimensioned, Dimensions, Endianness, General, GeometryTrait, GeometryType,
+    Layout, PointTrait,
 };
 use wkb_plain::{Line, Rect, Triangle};
 
 /// A point, which may be empty.
 #[derive(Clone, Copy, Debug)]
 pub struct Point<'a> {
-    pub buf: &'a [u8],
-    pub order: Endianness,
-    pub dimension: Dimension,
-    pub has_srid: bool,
-    pub ghost whole: { length buf.now ≡ body_start has_srid + 8 * width dimension },
-    pub ghost in_range: { AreBytes buf.now },
+    buf: &'a [u8],
+    layout: Layout,
+    ghost whole: { length buf.now ≡ body_start layout.has_srid + 8 * width layout.dimension },
+    ghost in_range: { AreBytes buf.now },
+    ghost spells: { IsSpelled (point_item layout.order layout.dimension layout.has_srid buf.now) },
 }
 
 impl<'a> Point<'a> {
-    ghost use Rattle.std.specs.Prelude.{◌≡◌, ◌≤◌, length, drop, is_none, option_map};
-    ghost use Rattle.wkb_geom.specs.Numbers.{all_nan};
-    ghost use Rattle.wkb_geom.specs.Reading.{point_of, body_start, coordinate};
-    ghost use Rattle.wkb_view.specs.Coords.{words_seen};
+    ghost use Rattle.std.specs.Prelude.{◌≡◌, length, drop, is_none};
+    ghost use Rattle.wkb_geom.specs.Reading.{body_start, point_of};
+    ghost use Rattle.wkb_view.specs.Parts.{IsSpelled, order_of};
+    ghost use Rattle.wkb_view.specs.Coords.{words_seen, coordinate_text, coord_order, coord_dimension, coord_text};
     ghost use Rattle.wkb_view.specs.Points.{coordinate_in};
-    ghost use Rattle.wkb_view.specs.Views.{point_seen};
+    ghost use Rattle.wkb_view.specs.Views.{point_seen, point_layout};
     ghost use Rattle.wkb_geom.specs.Values as value;
-    ghost use Rattle.wkb_view.specs.Parts.{order_of};
 
     /// The number of its bytes.
     #[inline]
@@ -54,7 +53,7 @@ impl<'a> Point<'a> {
     pub fn dimension(&self) -> Dimension
         ensures { result ≡ value.dimension (point_seen self.now).value }
     {
-        self.dimension
+        self.layout.dimension
     }
 
     /// Whether all its words are not-a-numbers.
@@ -70,21 +69,22 @@ impl<'a> Point<'a> {
     pub fn byte_order(&self) -> Endianness
         ensures { result ≡ order_of (point_seen self.now).spelled }
     {
-        self.order
+        self.layout.order
     }
 
     /// The bytes of its words, also where all are not-a-numbers.
     #[inline]
     pub fn coord_slice(&self) -> &'a [u8]
-        ensures { result.now ≡ drop (body_start self.now.has_srid) (point_seen self.now).text }
+        ensures { result.now ≡ drop (body_start (point_layout self.now).has_srid) (point_seen self.now).text }
     {
-        &self.buf[start_of_body(self.has_srid)..]
+        &self.buf[self.layout.body_start()..]
     }
 
     /// Its bytes.
     #[inline]
     pub fn buf(&self) -> &'a [u8]
-        ensures { result.now ≡ (point_seen self.now).text }
+        ensures text { result.now ≡ (point_seen self.now).text }
+        ensures spells { IsSpelled (point_seen self.now) }
     {
         self.buf
     }
@@ -92,17 +92,20 @@ impl<'a> Point<'a> {
     /// Its words, also where all are not-a-numbers.
     pub(crate) fn words(&self) -> Coord<'a>
         ensures words { words_seen result ≡ coordinate_in self.now }
-        ensures order { result.order ≡ self.now.order }
-        ensures dimension { result.dimension ≡ self.now.dimension }
+        ensures order { coord_order result ≡ (point_layout self.now).order }
+        ensures dimension { coord_dimension result ≡ (point_layout self.now).dimension }
+        ensures bytes { coord_text result
+            ≡ coordinate_text (point_layout self.now).dimension
+            (body_start (point_layout self.now).has_srid) (point_seen self.now).text }
     {
         Coord {
             bytes: part(
                 self.buf,
-                start_of_body(self.has_srid),
-                8 * self.dimension.width(),
+                self.layout.body_start(),
+                8 * self.layout.dimension.width(),
             ),
-            order: self.order,
-            dimension: self.dimension,
+            order: self.layout.order,
+            dimension: self.layout.dimension,
         }
     }
 }
@@ -114,40 +117,58 @@ impl OwnSrid for Point<'_> {
 
     #[inline]
     fn srid(&self) -> Option<u32> {
-        srid_of_text(self.buf, self.order, self.has_srid)
+        self.layout.srid(self.buf)
     }
 }
 
 impl Dimensioned for Point<'_> {
-    ghost dimensions = { λ g. named g.dimension };
+    ghost use Rattle.wkb_geom.specs.Dimensions.{dimensions as named};
+    ghost use Rattle.wkb_view.specs.Views.{point_layout};
+
+    ghost dimensions = { λ g. named (point_layout g).dimension };
 
     #[inline]
     fn dim(&self) -> Dimensions {
-        self.dimension.into()
+        self.layout.dimension.into()
     }
 }
 
 impl<'a> PointTrait for Point<'a> {
-    ghost use Rattle.wkb_geom.specs.Reading.{point_of};
-    ghost use Rattle.wkb_view.specs.Views.{point_seen};
+    ghost use Rattle.std.specs.Prelude.{◌≡◌, option_map, IfSome};
+    ghost use Rattle.wkb_geom.specs.Dimensions.{dimensions as named};
+    ghost use Rattle.wkb_geom.specs.Reading.{body_start, point_of};
+    ghost use Rattle.wkb_view.specs.Ranges.{point_lawful};
+    ghost use Rattle.wkb_view.specs.Coords.{words_seen, coordinate_text, coord_order, coord_dimension, coord_text};
+    ghost use Rattle.wkb_view.specs.Views.{point_seen, point_layout};
+    ghost use Rattle.wkb_view.specs.Parts.{order_of};
 
     type CoordType = Coord<'a>;
 
     ghost coordinate = { λ p. point_of (point_seen p).value };
 
-    ghost lawful = { λ p. point_lawful p.order p.dimension p.has_srid p.buf.now p.in_range };
+    ghost lawful = { λ p. point_lawful p.layout.order p.layout.dimension p.layout.has_srid p.buf.now p.in_range };
 
     #[inline]
-    fn coord(&self) -> Option<Coord<'a>> {
+    fn coord(&self) -> Option<Coord<'a>>
+        ensures value { option_map words_seen result ≡ point_of (point_seen self.now).value }
+        ensures dimensions { IfSome result (λ c. named (coord_dimension c) ≡ named (point_layout self.now).dimension) }
+        ensures order { IfSome result (λ c. coord_order c ≡ order_of (point_seen self.now).spelled) }
+        ensures bytes { IfSome result (λ c. coord_text c ≡ coordinate_text (point_layout self.now).dimension
+            (body_start (point_layout self.now).has_srid) (point_seen self.now).text) }
+    {
         let words = self.words();
         if words.is_nan() { None } else { Some(words) }
     }
 }
 
 impl<'a> GeometryTrait for Point<'a> {
-    ghost use Rattle.wkb_geom.specs.Geometries.{point};
+    ghost use Rattle.std.specs.Prelude.{◌≡◌, refl};
+    ghost use Rattle.wkb_geom.specs.Dimensions.{dimensions as named};
+    ghost use Rattle.wkb_view.specs.Ranges.{point_lawful};
     ghost use Rattle.wkb_geom.specs.Reading.{point_of};
-    ghost use Rattle.wkb_view.specs.Views.{point_seen};
+    ghost use Rattle.wkb_view.specs.Views.{point_seen, point_layout};
+    ghost use Rattle.wkb_geom.specs.declared.geom.GeometryType.TheVariants.{Point as Handed};
+    ghost use Rattle.wkb_geom.specs.Geometries.{point};
 
     type PointType = Point<'a>;
 
@@ -167,28 +188,65 @@ impl<'a> GeometryTrait for Point<'a> {
 
     type LineType = Line<'a>;
 
-    ghost geometry = { λ p. point (named p.dimension) (point_of (point_seen p).value) };
+    ghost geometry = { λ p. point (named (point_layout p).dimension) (point_of (point_seen p).value) };
 
     ghost one_dimension = { λ g. refl };
 
-    ghost lawful = { λ p. point_lawful p.order p.dimension p.has_srid p.buf.now p.in_range };
+    ghost lawful = { λ p. point_lawful p.layout.order p.layout.dimension p.layout.has_srid p.buf.now p.in_range };
 
     #[inline]
-    fn as_type(
-        &self,
-    ) -> GeometryType<
-        '_,
-        Point<'a>,
-        LineString<'a>,
-        Polygon<'a>,
-        MultiPoint<'a>,
-        MultiLineString<'a>,
-        MultiPolygon<'a>,
-        Point<'a>,
-        Rect<'a>,
-        Triangle<'a>,
-        Line<'a>,
-    > {
+    fn as_type(&self) -> AnyView<'_, 'a, Point<'a>>
+        ensures view { result ≡ Handed self.entry }
+    {
         GeometryType::Point(self)
+    }
+}
+
+impl<'a> Point<'a> {
+    ghost use Rattle.std.specs.Prelude.{◌≡◌, ◌+◌, length, ◌≤◌, false, IfOk};
+    ghost use Rattle.wkb_geom.specs.Reading.{point_item};
+    ghost use Rattle.wkb_view.specs.Parts.{IsSpelled};
+    ghost use Rattle.wkb_view.specs.Views.{point_seen, point_layout};
+    ghost use Rattle.wkb_view.specs.Headers.{HasHead, point_behind};
+    ghost use Rattle.wkb_view.specs.MultiPoints.{stride};
+    ghost use Rattle.wkb_view.specs.Outcome.{Answers};
+    ghost use Rattle.wkb_geom.specs.declared.code.WkbType.TheVariants as kinds;
+
+    /// The point behind this header, and the bytes after it.
+    #[tactic(auto, unfolding(wkb_geom::specs::Reading::point_at))]
+    #[inline]
+    pub fn read(layout: Layout, bytes: &'a [u8]) -> Result<(Point<'a>, &'a [u8]), Cause>
+        requires head { HasHead (λ d. kinds.Point d) layout bytes.now }
+        ensures answer { Answers (λ x. (point_seen x.0, x.1.now)) result (point_behind layout bytes.now) }
+        ensures shorter { IfOk result (λ x. length x.1.now + 9 ≤ length bytes.now) }
+    {
+        let end = layout.body_start() + 8 * layout.dimension.width();
+        if bytes.len() < end {
+            return Err(Cause::General(General::ShortPoint {
+                end: end as u64,
+                len: bytes.len(),
+            }));
+        }
+        let (buf, rest) = bytes.split_at(end);
+        let point = Point { buf, layout };
+        Ok((point, rest))
+    }
+
+    /// The point that stands in these bytes, a member of a multi point: it has no SRID.
+    #[inline]
+    pub(crate) fn of_text(order: Endianness, dimension: Dimension, buf: &'a [u8]) -> Point<'a>
+        requires whole { length buf.now ≡ stride dimension }
+        requires spells { IsSpelled (point_item order dimension false buf.now) }
+        ensures item { point_seen result ≡ point_item order dimension false buf.now }
+        ensures dimension { (point_layout result).dimension ≡ dimension }
+    {
+        Point {
+            buf,
+            layout: Layout {
+                order,
+                dimension,
+                has_srid: false,
+            },
+        }
     }
 }

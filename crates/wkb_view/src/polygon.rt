@@ -1,57 +1,64 @@
 //! A polygon.
 
-ghost use Rattle.std.specs.Prelude.{refl};
+ghost use Rattle.std.specs.Prelude.{◌≡◌, ◌+◌, length, ◌≤◌, IfOk, ◌/◌, [], min, vec_capacity};
 ghost use Rattle.wkb_geom.specs.Dimensions.{dimensions as named};
-ghost use Rattle.wkb_view.specs.Fitted.{fitted_lines, lines-fitted};
+ghost use Rattle.wkb_geom.specs.Reading.{body_start, taken, parts_start};
+ghost use Rattle.wkb_view.specs.Pieces.{IsRing};
+ghost use Rattle.wkb_view.specs.Outcome.{Surely, CanCount};
+ghost use Rattle.wkb_view.specs.Headers.{rings_behind, pieces_behind, ArePiecesBehind};
 
-use crate::leaf::{srid_of_text, start_of_body};
+use crate::any::AnyView;
+use crate::counts::Counts;
 use crate::line_string::LineString;
-use crate::linear_ring::LinearRing;
+use crate::linear_ring::{LinearRing, ring};
 use crate::multi_line_string::MultiLineString;
 use crate::multi_point::MultiPoint;
 use crate::multi_polygon::MultiPolygon;
 use crate::own_srid::OwnSrid;
-use crate::part::{part, start_of_part};
+use crate::part::piece;
 use crate::point::Point;
-use std::alloc::AllocError;
+use crate::reserved::{Reserved, reserve};
+use std::alloc::{AllocError, Global};
 use std::marker::Model;
 use wkb_geom::words::u32_at;
 use wkb_geom::{
-    Dimension, Dimensioned, Dimensions, Endianness, GeometryTrait, GeometryType, PolygonTrait,
+    Cause, Dimension, Dimensioned, Dimensions, Endianness, GeometryTrait, GeometryType, Layout,
+    PolygonTrait, Refusal,
 };
 use wkb_plain::{Line, Rect, Triangle};
 
 /// A polygon: its rings by the offsets at which they end.
 #[derive(Debug, Drop)]
 pub struct Polygon<'a> {
-    pub buf: &'a [u8],
-    pub order: Endianness,
-    pub dimension: Dimension,
-    pub has_srid: bool,
-    pub ends: Vec<usize>,
+    buf: &'a [u8],
+    layout: Layout,
+    ends: Vec<usize>,
 }
 
 impl<'a> Model for Polygon<'a> {
-    ghost use Rattle.std.specs.Prelude.{◌+◌, List};
-    ghost use Rattle.wkb_geom.specs.Values.{Coordinate};
-    ghost use Rattle.wkb_geom.specs.Stored.{Listed, listed_code, rings_code};
-    ghost use Rattle.wkb_geom.specs.Reading.{body_start};
-    ghost use Rattle.wkb_view.specs.Lists.{polygon_parts};
-    ghost use Rattle.wkb_view.specs.Pieces.{pieces, IsRing, ArePieces};
+    ghost use Rattle.wkb_view.specs.Parts.{IsSpelled};
+    ghost use Rattle.wkb_view.specs.Pieces.{IsRing};
+    ghost use Rattle.wkb_geom.specs.Stored.{whole_of, Listed, listed_code, rings_code};
+    ghost use Rattle.std.specs.Prelude.{List};
+    ghost use Rattle.wkb_geom.specs.Values.{Coordinate, polygon};
+    ghost use Rattle.wkb_view.specs.Headers.{ArePiecesBehind, polygon_laid};
 
     ghost Value = { Listed (List (List Coordinate)) };
 
     ghost coded = { listed_code rings_code };
 
-    ghost view = { λ a. polygon_parts a.order a.dimension a.has_srid (pieces (body_start a.has_srid + 4) a.ends.items a.buf.now) a.buf.now };
+    ghost view = { λ a. polygon_laid a.layout a.ends.items a.buf.now };
 
-    ghost invariant = { λ a. ArePieces (IsRing a.order a.dimension) (body_start a.has_srid + 4) a.ends.items a.buf.now };
+    ghost invariant = { λ a. ArePiecesBehind (IsRing a.layout.order a.layout.dimension) a.layout a.ends.items a.buf.now
+        × IsSpelled (whole_of polygon (polygon_laid a.layout a.ends.items a.buf.now)) };
 }
 
 impl<'a> Polygon<'a> {
-    ghost use Rattle.std.specs.Prelude.{◌≡◌, IfOk, IfSome, length, slice_get, option_map};
-    ghost use Rattle.wkb_view.specs.Coords.{ring_seen};
-    ghost use Rattle.wkb_view.specs.Parts.{order_of};
+    ghost use Rattle.std.specs.Prelude.{◌≡◌, length, option_map, IfSome, IfOk, slice_get};
+    ghost use Rattle.wkb_view.specs.Parts.{IsSpelled, order_of};
+    ghost use Rattle.wkb_view.specs.Coords.{ring_order, ring_dimension, ring_seen};
+    ghost use Rattle.wkb_geom.specs.Stored.{whole_of};
+    ghost use Rattle.wkb_geom.specs.Values.{polygon};
 
     /// The number of its bytes.
     #[inline]
@@ -66,13 +73,14 @@ impl<'a> Polygon<'a> {
     pub fn dimension(&self) -> Dimension
         ensures { result ≡ self.now.dimension }
     {
-        self.dimension
+        self.layout.dimension
     }
 
     /// Its bytes.
     #[inline]
     pub fn buf(&self) -> &'a [u8]
-        ensures { result.now ≡ self.now.text }
+        ensures text { result.now ≡ self.now.text }
+        ensures spells { IsSpelled (whole_of polygon self.now) }
     {
         self.buf
     }
@@ -87,20 +95,18 @@ impl<'a> Polygon<'a> {
     /// The ring at an index, made again from the bytes between two ends.
     pub(crate) fn ring(&self, i: usize) -> Option<LinearRing<'a>>
         ensures value { option_map ring_seen result ≡ slice_get (self.now.parts) i }
-        ensures dimension { IfSome result (λ r. r.dimension ≡ self.now.dimension) }
-        ensures order { IfSome result (λ r. r.order ≡ order_of self.now.spelled) }
+        ensures dimension { IfSome result (λ r. ring_dimension r ≡ self.now.dimension) }
+        ensures order { IfSome result (λ r. ring_order r ≡ order_of self.now.spelled) }
     {
-        if i >= self.ends.len() {
-            return None;
-        }
-        let start = start_of_part(start_of_body(self.has_srid) + 4, &self.ends, i);
-        let end = self.ends[i];
-        let bytes = part(self.buf, start, end - start);
+        let bytes = match piece(self.buf, self.layout.body_start() + 4, &self.ends, i) {
+            Some(bytes) => bytes,
+            None => return None,
+        };
         Some(LinearRing {
             bytes,
-            order: self.order,
-            dimension: self.dimension,
-            count: u32_at(bytes, 0, self.order),
+            order: self.layout.order,
+            dimension: self.layout.dimension,
+            count: u32_at(bytes, 0, self.layout.order),
         })
     }
 
@@ -110,9 +116,7 @@ impl<'a> Polygon<'a> {
     {
         Ok(Polygon {
             buf: self.buf,
-            order: self.order,
-            dimension: self.dimension,
-            has_srid: self.has_srid,
+            layout: self.layout,
             ends: self.ends.clone()?,
         })
     }
@@ -123,7 +127,7 @@ impl OwnSrid for Polygon<'_> {
 
     #[inline]
     fn srid(&self) -> Option<u32> {
-        srid_of_text(self.buf, self.order, self.has_srid)
+        self.layout.srid(self.buf)
     }
 }
 
@@ -132,14 +136,16 @@ impl Dimensioned for Polygon<'_> {
 
     #[inline]
     fn dim(&self) -> Dimensions {
-        self.dimension.into()
+        self.layout.dimension.into()
     }
 }
 
 impl<'a> PolygonTrait for Polygon<'a> {
-    ghost use Rattle.std.specs.Prelude.{◌≡◌, ◌+◌, IfSome, option_map, slice_get};
-    ghost use Rattle.wkb_view.specs.Coords.{ring_seen};
+    ghost use Rattle.std.specs.Prelude.{◌≡◌, ◌+◌, option_map, IfSome, slice_get};
+    ghost use Rattle.wkb_geom.specs.Dimensions.{dimensions as named};
     ghost use Rattle.wkb_view.specs.Parts.{order_of};
+    ghost use Rattle.wkb_view.specs.Coords.{ring_order, ring_dimension, ring_seen};
+    ghost use Rattle.wkb_view.specs.Fitted.{fitted_lines, lines-fitted};
 
     type RingType = LinearRing<'a>;
 
@@ -154,18 +160,22 @@ impl<'a> PolygonTrait for Polygon<'a> {
 
     #[inline]
     fn exterior(&self) -> Option<LinearRing<'a>>
-        ensures value { option_map ring_seen result ≡ slice_get (fitted_lines (named self.now.dimension) self.now.parts) 0 }
-        ensures dimensions { IfSome result (λ r. named r.dimension ≡ named self.now.dimension) }
-        ensures order { IfSome result (λ r. r.order ≡ order_of self.now.spelled) }
+        ensures value { option_map ring_seen result
+            ≡ slice_get (fitted_lines (named self.now.dimension) self.now.parts) 0 }
+        ensures part { option_map ring_seen result ≡ slice_get self.now.parts 0 }
+        ensures dimensions { IfSome result (λ r. named (ring_dimension r) ≡ named self.now.dimension) }
+        ensures order { IfSome result (λ r. ring_order r ≡ order_of self.now.spelled) }
     {
         self.ring(0)
     }
 
     #[inline]
     fn interior(&self, i: usize) -> Option<LinearRing<'a>>
-        ensures value { option_map ring_seen result ≡ slice_get (fitted_lines (named self.now.dimension) self.now.parts) (i + 1) }
-        ensures dimensions { IfSome result (λ r. named r.dimension ≡ named self.now.dimension) }
-        ensures order { IfSome result (λ r. r.order ≡ order_of self.now.spelled) }
+        ensures value { option_map ring_seen result
+            ≡ slice_get (fitted_lines (named self.now.dimension) self.now.parts) (i + 1) }
+        ensures part { option_map ring_seen result ≡ slice_get self.now.parts (i + 1) }
+        ensures dimensions { IfSome result (λ r. named (ring_dimension r) ≡ named self.now.dimension) }
+        ensures order { IfSome result (λ r. ring_order r ≡ order_of self.now.spelled) }
     {
         if i < self.num_interiors() {
             self.ring(i + 1)
@@ -176,6 +186,10 @@ impl<'a> PolygonTrait for Polygon<'a> {
 }
 
 impl<'a> GeometryTrait for Polygon<'a> {
+    ghost use Rattle.std.specs.Prelude.{◌≡◌, refl};
+    ghost use Rattle.wkb_geom.specs.Dimensions.{dimensions as named};
+    ghost use Rattle.wkb_geom.specs.declared.geom.GeometryType.TheVariants.{Polygon as Handed};
+    ghost use Rattle.wkb_view.specs.Fitted.{fitted_lines, lines-fitted};
     ghost use Rattle.wkb_geom.specs.Geometries.{polygon};
 
     type PointType = Point<'a>;
@@ -203,21 +217,84 @@ impl<'a> GeometryTrait for Polygon<'a> {
     ghost lawful = { λ p. lines-fitted (named p.dimension) p.parts };
 
     #[inline]
-    fn as_type(
-        &self,
-    ) -> GeometryType<
-        '_,
-        Point<'a>,
-        LineString<'a>,
-        Polygon<'a>,
-        MultiPoint<'a>,
-        MultiLineString<'a>,
-        MultiPolygon<'a>,
-        Polygon<'a>,
-        Rect<'a>,
-        Triangle<'a>,
-        Line<'a>,
-    > {
+    fn as_type(&self) -> AnyView<'_, 'a, Polygon<'a>>
+        ensures view { result ≡ Handed self.entry }
+    {
         GeometryType::Polygon(self)
+    }
+}
+
+/// Passes so many rings, and keeps the offsets at which they end.
+fn rings<'a>(
+    layout: Layout,
+    bytes: &'a [u8],
+    mut ends: Reserved<usize>,
+    count: u32,
+    counts: &mut Counts,
+) -> Result<(Reserved<usize>, &'a [u8]), Cause>
+    requires whole { body_start layout.has_srid + 4 ≤ length bytes.now }
+    requires empty { ends.items.items ≡ [] }
+    requires room { min count (length (parts_start layout.has_srid bytes.now) / 4) ≤ vec_capacity ends.items }
+    requires fits { CanCount counts.old (rings_behind layout count bytes.now).0 }
+    ensures rings { Surely (λ x. (pieces_behind layout x.0.items.items (taken bytes.now x.1.now), x.1.now)) result
+        (rings_behind layout count bytes.now) counts.old counts.new }
+    ensures ends { IfOk result (λ x. ArePiecesBehind (IsRing layout.order layout.dimension) layout
+        x.0.items.items (taken bytes.now x.1.now)) }
+    ensures shorter { IfOk result (λ x. length x.1.now + body_start layout.has_srid + 4 ≤ length bytes.now) }
+{
+    let mut rest = layout.behind_count(bytes);
+    for _ in 0..count {
+        counts.turns += 1;
+        rest = ring(layout.order, layout.dimension, rest)?;
+        ends.push(bytes.len() - rest.len());
+    }
+    Ok((ends, rest))
+}
+
+impl<'a> Polygon<'a> {
+    ghost use Rattle.std.specs.Prelude.{◌≡◌, ◌+◌, length, ◌≤◌, IfOk};
+    ghost use Rattle.wkb_view.specs.Headers.{HasHead, polygon_behind};
+    ghost use Rattle.wkb_geom.specs.Values as value;
+    ghost use Rattle.wkb_geom.specs.declared.code.WkbType.TheVariants as kinds;
+    ghost use Rattle.wkb_geom.specs.Stored.{whole_of};
+    ghost use Rattle.wkb_view.specs.Memory.{IsNoWant};
+    ghost use Rattle.wkb_view.specs.Outcome.{Gives, CanCount};
+
+    /// The polygon behind this header, and the bytes after it.
+    #[tactic(auto, unfolding(wkb_geom::specs::Reading::polygon_at))]
+    pub fn read(
+        alloc: Global,
+        layout: Layout,
+        bytes: &'a [u8],
+        counts: &mut Counts,
+    ) -> Result<(Polygon<'a>, &'a [u8]), Refusal>
+        requires fits { CanCount counts.old (polygon_behind layout bytes.now).0 }
+        requires head { HasHead (λ d. kinds.Polygon d) layout bytes.now }
+        ensures dimension { IfOk result (λ x. x.0.dimension ≡ layout.dimension) }
+        ensures answer { Gives (λ x. (whole_of value.polygon x.0, x.1.now))
+            result (polygon_behind layout bytes.now) counts.old counts.new }
+        ensures shorter { IfOk result (λ x. length x.1.now + 9 ≤ length bytes.now) }
+        ensures free { (polygon_behind layout bytes.now).0.slots ≡ 0 → IsNoWant result }
+    {
+        let count = match layout.count(bytes) {
+            Ok(count) => count,
+            Err(cause) => return Err(Refusal::Fault(cause)),
+        };
+        let remaining = bytes.len() - (layout.body_start() + 4);
+        let ends = match reserve(alloc, count, remaining, 4, counts) {
+            Ok(ends) => ends,
+            Err(_) => return Err(Refusal::Memory),
+        };
+        match rings(layout, bytes, ends, count, counts) {
+            Ok((ends, rest)) => {
+                let polygon = Polygon {
+                    buf: &bytes[..bytes.len() - rest.len()],
+                    layout,
+                    ends: ends.into_vec(),
+                };
+                Ok((polygon, rest))
+            }
+            Err(cause) => Err(Refusal::Fault(cause)),
+        }
     }
 }

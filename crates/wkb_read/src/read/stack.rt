@@ -1,28 +1,30 @@
 //! Reading with an explicit stack of open collections.
 
-ghost use Rattle.std.specs.Prelude.{◌≡◌, ◌++◌, ◌+◌, ◌*◌, ◌<◌, ◌≤◌, ◌^◌, length, reverse, IfOk};
-ghost use Rattle.wkb_geom.specs.Reading.{geometry_at, body_at, costs, done};
-ghost use Rattle.wkb_part.specs.Outcome.{CanCount};
-ghost use Rattle.wkb_read.specs.Stack.{resume, counted, HaveRoom, ArePlaced, Settles, levels_inside, collection_inside, BeginsAs, Begins, Reads};
-ghost use Rattle.wkb_read.specs.Public.{TakesNoMemory, IsFront, IsOnlyFront, HasNoFront, IsRefusal, TellsEach, IfRefused, IfMemory, CountsValue, CountsRefusal, CountsAtMost, CanBeWritten};
+ghost use Rattle.std.specs.Prelude.{Ok, ◌≡◌, ◌++◌, ◌∷◌, [], ◌+◌, ◌*◌, ◌<◌, ◌≤◌, ◌^◌, length, reverse, IfOk, IfErr};
+ghost use Rattle.wkb_geom.specs.declared.code.WkbType.TheVariants as kinds;
+ghost use Rattle.wkb_geom.specs.Fronts.{max_nesting};
 ghost use Rattle.wkb_geom.specs.Geometries.{IsGeometry, normal, geometry_of};
-ghost use Rattle.wkb_view.specs.Views.{head_seen};
-ghost use Rattle.wkb_part.specs.Memory.{IsNotMemory};
-ghost use Rattle.wkb_read.specs.Memory.{NeedsNone, BodyTakesNone, ReadsWithoutMemory};
-ghost use Rattle.wkb_geom.specs.Reading.{body_start};
+ghost use Rattle.wkb_geom.specs.Reading.{body_start, head_at, geometry_at, costs, done};
+ghost use Rattle.wkb_view.specs.Headers.{HasHead};
+ghost use Rattle.wkb_view.specs.Memory.{IsNoWant};
+ghost use Rattle.wkb_view.specs.Outcome.{CanCount};
+ghost use Rattle.wkb_view.specs.Parts.{IsSpelled};
+ghost use Rattle.wkb_read.specs.Memory.{IsNotMemory, NeedsNone, BodyTakesNone, ReadsWithoutMemory};
+ghost use Rattle.wkb_read.specs.Public.{TakesNoMemory, IsFront, IsOnlyFront, HasNoFront, IsRefusal, TellsEach};
+ghost use Rattle.wkb_read.specs.Public.{IfRefused, IfMemory, CountsValue, CountsRefusal, CountsAtMost, CanBeWritten};
+ghost use Rattle.wkb_read.specs.Seen.{geometry_seen};
+ghost use Rattle.wkb_read.specs.Stack.{resume, counted, next_turn, first_member, levels_inside};
+ghost use Rattle.wkb_read.specs.Stack.{HasRoom, HaveRoom, IsPlaced, ArePlaced, Settles};
+ghost use Rattle.wkb_read.specs.Stack.{collection_inside, body_inside, BeginsAs, ReadsAs};
 
 use crate::geometry::{GeometryCollection, Kind, Wkb};
 use crate::read::unfinished::{Begun, Open};
 use crate::read::whole::{leaf_body, parts_body};
 use std::alloc::{AllocError, Global};
-use std::io;
 use wkb_geom::code::WkbType;
-use wkb_geom::error::{WkbError, WkbResult};
-use wkb_geom::words::u32_at;
-use wkb_part::counts::Counts;
-use wkb_part::reserved::{Reserved, bounded_capacity};
-use wkb_view::header::{Header, Layout};
-use wkb_view::leaf::{header, start_of_body};
+use wkb_geom::{Cause, Header, Layout, Refusal, WkbResult};
+use wkb_view::counts::Counts;
+use wkb_view::reserved::reserve;
 
 /// How many collections may be open around a geometry.
 pub const MAX_WKB_NESTING_DEPTH: usize = 128;
@@ -35,33 +37,30 @@ pub(crate) fn open<'a>(
     layout: Layout,
     bytes: &'a [u8],
     counts: &mut Counts,
-) -> WkbResult<Begun<'a>>
-    requires fits { CanCount counts.old (collection_inside (levels_inside around) layout.order layout.dimension layout.has_srid bytes.now).0 }
-    ensures begins { BeginsAs (collection_inside (levels_inside around) layout.order layout.dimension layout.has_srid bytes.now) around bytes.now result counts.old counts.new }
+) -> Result<Begun<'a>, Refusal>
+    requires head { HasHead (λ d. kinds.GeometryCollection d) layout bytes.now }
+    requires fits { CanCount counts.old (collection_inside (levels_inside around) layout bytes.now).0 }
+    ensures begins { BeginsAs (collection_inside (levels_inside around) layout bytes.now) around bytes.now
+        result counts.old counts.new }
     ensures free { length bytes.now < body_start layout.has_srid + 4 → NeedsNone result }
 {
     if around >= MAX_WKB_NESTING_DEPTH {
-        return Err(WkbError::NestingDepthExceeded(MAX_WKB_NESTING_DEPTH));
+        return Err(Refusal::Fault(Cause::NestingDepthExceeded(MAX_WKB_NESTING_DEPTH)));
     }
-    let at = start_of_body(layout.has_srid);
-    if bytes.len() < at + 4 {
-        return Err(WkbError::IOError(io::Error::from(io::ErrorKind::UnexpectedEof)));
-    }
-    let count = u32_at(bytes, at, layout.order);
-    let capacity = bounded_capacity(count, bytes.len() - (at + 4), 9);
-    counts.slots += capacity as u128;
-    let members = match Reserved::with_capacity(alloc, capacity) {
-        Ok(members) => members,
-        Err(e) => return Err(WkbError::Memory(e)),
+    let count = match layout.count(bytes) {
+        Ok(count) => count,
+        Err(cause) => return Err(Refusal::Fault(cause)),
     };
-    let (buf, rest) = bytes.split_at(at + 4);
+    let (buf, rest) = bytes.split_at(layout.body_start() + 4);
+    let members = match reserve(alloc, count, rest.len(), 9, counts) {
+        Ok(members) => members,
+        Err(_) => return Err(Refusal::Memory),
+    };
     if count == 0 {
         let whole = Wkb {
             kind: Kind::GeometryCollection(GeometryCollection {
                 buf,
-                order: layout.order,
-                dimension: layout.dimension,
-                has_srid: layout.has_srid,
+                layout,
                 members: members.into_vec(),
             }),
         };
@@ -78,53 +77,67 @@ pub(crate) fn open<'a>(
 
 /// Reads what stands behind a header, inside so many open collections: a whole geometry, or the
 /// beginning of a collection.
+#[inline]
 pub(crate) fn body<'a>(
     alloc: Global,
     around: usize,
     header: Header,
     bytes: &'a [u8],
     counts: &mut Counts,
-) -> WkbResult<Begun<'a>>
-    requires fits { CanCount counts.old (body_at (collection_inside (levels_inside around)) header.wkb_type header.order header.has_srid bytes.now).0 }
-    ensures begins { BeginsAs (body_at (collection_inside (levels_inside around)) header.wkb_type header.order header.has_srid bytes.now) around bytes.now result counts.old counts.new }
-    ensures free { BodyTakesNone header.wkb_type (head_seen header) bytes.now → NeedsNone result }
+) -> Result<Begun<'a>, Refusal>
+    requires head { head_at bytes.now ≡ Ok header }
+    requires fits { CanCount counts.old (body_inside (levels_inside around) header bytes.now).0 }
+    ensures begins { BeginsAs (body_inside (levels_inside around) header bytes.now) around bytes.now
+        result counts.old counts.new }
+    ensures free { BodyTakesNone header bytes.now → NeedsNone result }
 {
     match header.wkb_type {
         WkbType::Point(_) | WkbType::LineString(_) => match leaf_body(header, bytes) {
             Ok((whole, rest)) => Ok(Begun::Whole(whole, rest)),
-            Err(e) => Err(e),
+            Err(cause) => Err(Refusal::Fault(cause)),
         },
-        WkbType::GeometryCollection(dimension) => {
-            let layout = Layout {
-                order: header.order,
-                dimension,
-                has_srid: header.has_srid,
-            };
-            open(alloc, around, layout, bytes, counts)
-        }
+        WkbType::GeometryCollection(_) => open(alloc, around, header.layout(), bytes, counts),
         _ => match parts_body(alloc, header, bytes, counts) {
             Ok((whole, rest)) => Ok(Begun::Whole(whole, rest)),
-            Err(e) => Err(e),
+            Err(refusal) => Err(refusal),
         },
     }
 }
 
 /// Reads what stands at the front of the bytes, inside so many open collections: a whole geometry, or
 /// the beginning of a collection.
+#[inline]
 pub(crate) fn begin<'a>(
     alloc: Global,
     around: usize,
     bytes: &'a [u8],
     counts: &mut Counts,
-) -> WkbResult<Begun<'a>>
+) -> Result<Begun<'a>, Refusal>
     requires fits { CanCount counts.old (geometry_at (levels_inside around) bytes.now).0 }
-    ensures begins { Begins around bytes.now result counts.old counts.new }
+    ensures begins { BeginsAs (geometry_at (levels_inside around) bytes.now) around bytes.now
+        result counts.old counts.new }
     ensures free { ReadsWithoutMemory bytes.now → NeedsNone result }
 {
-    match header(bytes) {
+    match Header::read(bytes) {
         Ok(header) => body(alloc, around, header, bytes, counts),
-        Err(e) => Err(e),
+        Err(cause) => Err(Refusal::Fault(cause)),
     }
+}
+
+/// Puts a collection that was opened on the stack: its first member begins.
+pub(crate) fn enter<'a>(
+    stack: &mut Vec<Open<'a>>,
+    collection: Open<'a>,
+    counts: &mut Counts,
+) -> Result<(), AllocError>
+    requires fits { counts.old.turns + 1 < 2 ^ 128 }
+    ensures entered { IfOk result (λ done. stack.new.items ≡ stack.old.items ++ collection.entry ∷ []) }
+    ensures turn { IfOk result (λ done. counted counts.new ≡ next_turn (counted counts.old)) }
+    ensures stays { IfErr result (λ e. counts.new ≡ counts.old) }
+{
+    stack.push(collection)?;
+    counts.turns += 1;
+    Ok(())
 }
 
 /// Puts a finished part into the collection around it, and closes each collection that has all its
@@ -136,61 +149,66 @@ pub(crate) fn settle<'a>(
     counts: &mut Counts,
 ) -> Option<Wkb<'a>>
     requires room { HaveRoom (reverse stack.old.items) (length rest.now + 9) }
+    requires spells { IsSpelled part }
     requires placed { ArePlaced (reverse stack.old.items) (part.text ++ rest.now) }
-    requires fits { (costs (counted counts.old) (resume (reverse stack.old.items) (done part rest.now))).0.turns < 2 ^ 128 }
-    ensures { Settles (reverse stack.old.items) (reverse stack.new.items) part.entry rest.now result counts.old counts.new }
+    requires fits { (costs (counted counts.old) (resume (reverse stack.old.items) (done part rest.now))).0.turns
+        < 2 ^ 128 }
+    ensures { Settles (reverse stack.old.items) (reverse stack.new.items) part.entry rest.now
+        result counts.old counts.new }
 {
     let mut finished = part;
-    while let Some(collection) = stack.pop() {
-        let Open {
-            layout,
-            bytes,
-            left,
-            mut members,
-        } = collection;
-        members.push(finished);
-        if left > 0 {
-            let next = Open {
-                layout,
-                bytes,
-                left: left - 1,
-                members,
-            };
-            match stack.push(next) {
-                Ok(()) => (),
-                Err(_) => unreachable!(),
-            }
+    loop {
+        let Some(top) = stack.last_mut() else {
+            return Some(finished);
+        };
+        top.members.push(finished);
+        if top.left > 0 {
+            top.left -= 1;
             counts.turns += 1;
             return None;
         }
+        let Some(collection) = stack.pop() else {
+            unreachable!()
+        };
+        let Open {
+            layout,
+            bytes,
+            left: _,
+            members,
+        } = collection;
         finished = Wkb {
             kind: Kind::GeometryCollection(GeometryCollection {
                 buf: &bytes[..bytes.len() - rest.len()],
-                order: layout.order,
-                dimension: layout.dimension,
-                has_srid: layout.has_srid,
+                layout,
                 members: members.into_vec(),
             }),
         };
     }
-    Some(finished)
 }
 
-/// The geometry at the front of the bytes, by a loop over a stack of open collections.
-pub(crate) fn nested<'a>(alloc: Global, buf: &'a [u8], counts: &mut Counts) -> WkbResult<Wkb<'a>>
-    requires fits { CanCount counts.old (geometry_at 128 buf.now).0 }
-    ensures reads { Reads (geometry_at 128 buf.now) result counts.old counts.new }
-    ensures free { ReadsWithoutMemory buf.now → IsNotMemory result }
+/// The outermost collection, whose members stand in these bytes, by a loop over a stack of open collections.
+pub(crate) fn nested<'a>(
+    alloc: Global,
+    outermost: Open<'a>,
+    members: &'a [u8],
+    counts: &mut Counts,
+) -> Result<Wkb<'a>, Refusal>
+    requires room { HasRoom outermost (length members.now) }
+    requires placed { IsPlaced outermost members.now }
+    requires fits { CanCount counts.old (first_member 0 outermost members.now).0 }
+    ensures { ReadsAs (first_member 0 outermost.entry members.now) result counts.old counts.new }
 {
     let mut stack: Vec<Open<'a>> = Vec::new(alloc);
-    let mut bytes = buf;
+    if let Err(_) = enter(&mut stack, outermost, counts) {
+        return Err(Refusal::Memory);
+    }
+    let mut bytes = members;
     loop {
         match begin(alloc, stack.len(), bytes, counts) {
             Ok(Begun::Opened(collection, rest)) => {
-                if let Err(_) = stack.push(collection) {
-                    return Err(WkbError::Memory(AllocError));
+                if let Err(_) = enter(&mut stack, collection, counts) {
+                    return Err(Refusal::Memory);
                 }
-                counts.turns += 1;
                 bytes = rest;
             }
             Ok(Begun::Whole(part, rest)) => {
@@ -199,31 +217,25 @@ pub(crate) fn nested<'a>(alloc: Global, buf: &'a [u8], counts: &mut Counts) -> W
                 }
                 bytes = rest;
             }
-            Err(e) => return Err(e),
+            Err(refusal) => return Err(refusal),
         }
     }
 }
 
-/// The geometry at the front of the bytes; only a collection goes through the loop.
-pub(crate) fn geometry<'a>(alloc: Global, buf: &'a [u8], counts: &mut Counts) -> WkbResult<Wkb<'a>>
-    requires fits { CanCount counts.old (geometry_at 128 buf.now).0 }
-    ensures reads { Reads (geometry_at 128 buf.now) result counts.old counts.new }
-    ensures free { ReadsWithoutMemory buf.now → IsNotMemory result }
+/// The geometry at the front of the bytes; only a collection that has members goes through the loop.
+pub(crate) fn geometry<'a>(
+    alloc: Global,
+    buf: &'a [u8],
+    counts: &mut Counts,
+) -> Result<Wkb<'a>, Refusal>
+    requires fits { CanCount counts.old (geometry_at max_nesting buf.now).0 }
+    ensures reads { ReadsAs (geometry_at max_nesting buf.now) result counts.old counts.new }
+    ensures free { ReadsWithoutMemory buf.now → IsNoWant result }
 {
-    let header = match header(buf) {
-        Ok(header) => header,
-        Err(e) => return Err(e),
-    };
-    match header.wkb_type {
-        WkbType::Point(_) | WkbType::LineString(_) => match leaf_body(header, buf) {
-            Ok((whole, _)) => Ok(whole),
-            Err(e) => Err(e),
-        },
-        WkbType::GeometryCollection(_) => nested(alloc, buf, counts),
-        _ => match parts_body(alloc, header, buf, counts) {
-            Ok((whole, _)) => Ok(whole),
-            Err(e) => Err(e),
-        },
+    match begin(alloc, 0, buf, counts) {
+        Ok(Begun::Whole(whole, _)) => Ok(whole),
+        Ok(Begun::Opened(outermost, members)) => nested(alloc, outermost, members, counts),
+        Err(refusal) => Err(refusal),
     }
 }
 
@@ -236,6 +248,7 @@ pub fn read_wkb<'a>(alloc: Global, buf: &'a [u8]) -> WkbResult<Wkb<'a>>
     ensures front { IfOk result (λ w. IsFront buf.now w) }
     ensures one_front { IfOk result (λ w. IsOnlyFront buf.now w) }
     ensures lawful { IfOk result (λ w. IsGeometry (geometry_of w.value)) }
+    ensures seen { IfOk result (λ w. geometry_seen w ≡ geometry_of w.value) }
     ensures normal { IfOk result (λ w. normal (geometry_of w.value) ≡ w.value) }
     ensures writable { IfOk result (λ w. CanBeWritten w.value) }
     ensures refusal { IfRefused result (λ e. IsRefusal buf.now e) }
@@ -251,6 +264,7 @@ pub fn read_wkb_counted<'a>(alloc: Global, buf: &'a [u8]) -> (WkbResult<Wkb<'a>>
     ensures front { IfOk result.0 (λ w. IsFront buf.now w) }
     ensures one_front { IfOk result.0 (λ w. IsOnlyFront buf.now w) }
     ensures lawful { IfOk result.0 (λ w. IsGeometry (geometry_of w.value)) }
+    ensures seen { IfOk result.0 (λ w. geometry_seen w ≡ geometry_of w.value) }
     ensures normal { IfOk result.0 (λ w. normal (geometry_of w.value) ≡ w.value) }
     ensures writable { IfOk result.0 (λ w. CanBeWritten w.value) }
     ensures refusal { IfRefused result.0 (λ e. IsRefusal buf.now e) }
@@ -264,6 +278,8 @@ pub fn read_wkb_counted<'a>(alloc: Global, buf: &'a [u8]) -> (WkbResult<Wkb<'a>>
     ensures slots_bounded { result.1.slots ≤ 15 * length buf.now }
 {
     let mut counts = Counts { turns: 0, slots: 0 };
-    let answer = geometry(alloc, buf, &mut counts);
-    (answer, counts)
+    match geometry(alloc, buf, &mut counts) {
+        Ok(whole) => (Ok(whole), counts),
+        Err(refusal) => (Err(refusal.into()), counts),
+    }
 }

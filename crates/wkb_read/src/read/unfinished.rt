@@ -1,8 +1,8 @@
 //! Collections that are open while their members are read.
 
 use crate::geometry::Wkb;
-use wkb_part::reserved::Reserved;
-use wkb_view::header::Layout;
+use wkb_geom::Layout;
+use wkb_view::reserved::Reserved;
 
 /// An open collection: where it began, how many members come behind the one that is being read, and
 /// the members so far.

@@ -1,46 +1,42 @@
 //! Reading of what holds no collection, as a geometry of any kind. The two are inlined where they are
 //! called: a result handed on in memory would be copied whole.
 
-ghost use Rattle.std.specs.Prelude.{◌+◌, ◌<◌, ◌≤◌, length, IfOk};
-ghost use Rattle.wkb_geom.specs.Reading.{body_at, too_deep, type_kind};
-ghost use Rattle.wkb_part.specs.Outcome.{Gives, CanCount};
-ghost use Rattle.wkb_part.specs.Memory.{IsNotMemory};
+ghost use Rattle.std.specs.Prelude.{◌≡◌, Ok, ◌+◌, ◌<◌, ◌≤◌, length, IfOk};
+ghost use Rattle.wkb_geom.specs.Reading.{head_at, type_kind};
+ghost use Rattle.wkb_view.specs.Memory.{IsNoWant};
+ghost use Rattle.wkb_view.specs.Outcome.{Answers, Gives, CanCount};
 ghost use Rattle.wkb_read.specs.Memory.{BodyTakesNone};
-ghost use Rattle.wkb_view.specs.Answers.{Answers};
-ghost use Rattle.wkb_view.specs.Views.{head_seen};
+ghost use Rattle.wkb_read.specs.Stack.{plain_body};
 
 use crate::geometry::{Kind, Wkb};
 use std::alloc::Global;
 use wkb_geom::code::WkbType;
-use wkb_geom::error::WkbResult;
-use wkb_part::counts::Counts;
-use wkb_part::leaf::{line_string, point};
-use wkb_part::lines::multi_line_string;
-use wkb_part::points::multi_point;
-use wkb_part::polygons::multi_polygon;
-use wkb_part::rings::polygon;
-use wkb_view::header::{Header, Layout};
+use wkb_geom::{Cause, Header, Refusal};
+use wkb_view::counts::Counts;
+use wkb_view::line_string::LineString;
+use wkb_view::multi_line_string::MultiLineString;
+use wkb_view::multi_point::MultiPoint;
+use wkb_view::multi_polygon::MultiPolygon;
+use wkb_view::point::Point;
+use wkb_view::polygon::Polygon;
 
 /// The point or line string behind this header, and the bytes after it.
 #[inline]
-pub(crate) fn leaf_body<'a>(header: Header, bytes: &'a [u8]) -> WkbResult<(Wkb<'a>, &'a [u8])>
+pub(crate) fn leaf_body<'a>(header: Header, bytes: &'a [u8]) -> Result<(Wkb<'a>, &'a [u8]), Cause>
+    requires head { head_at bytes.now ≡ Ok header }
     requires leaf { type_kind header.wkb_type < 3 }
-    ensures answer { Answers (λ x. (x.0, x.1.now)) result (body_at too_deep header.wkb_type header.order header.has_srid bytes.now).1 }
+    ensures answer { Answers (λ x. (x.0, x.1.now)) result (plain_body header bytes.now).1 }
     ensures shorter { IfOk result (λ x. length x.1.now + 9 ≤ length bytes.now) }
 {
-    let layout = Layout {
-        order: header.order,
-        dimension: header.wkb_type.dimension(),
-        has_srid: header.has_srid,
-    };
+    let layout = header.layout();
     let (kind, rest) = match header.wkb_type {
-        WkbType::Point(_) => match point(layout, bytes) {
+        WkbType::Point(_) => match Point::read(layout, bytes) {
             Ok((point, rest)) => (Kind::Point(point), rest),
-            Err(e) => return Err(e),
+            Err(cause) => return Err(cause),
         },
-        WkbType::LineString(_) => match line_string(layout, bytes) {
+        WkbType::LineString(_) => match LineString::read(layout, bytes) {
             Ok((line_string, rest)) => (Kind::LineString(line_string), rest),
-            Err(e) => return Err(e),
+            Err(cause) => return Err(cause),
         },
         _ => unreachable!(),
     };
@@ -54,35 +50,32 @@ pub(crate) fn parts_body<'a>(
     header: Header,
     bytes: &'a [u8],
     counts: &mut Counts,
-) -> WkbResult<(Wkb<'a>, &'a [u8])>
+) -> Result<(Wkb<'a>, &'a [u8]), Refusal>
+    requires head { head_at bytes.now ≡ Ok header }
     requires parts { 2 < type_kind header.wkb_type }
     requires plain { type_kind header.wkb_type < 7 }
-    requires fits { CanCount counts.old (body_at too_deep header.wkb_type header.order header.has_srid bytes.now).0 }
-    ensures answer { Gives (λ x. (x.0, x.1.now)) result (body_at too_deep header.wkb_type header.order header.has_srid bytes.now) counts.old counts.new }
+    requires fits { CanCount counts.old (plain_body header bytes.now).0 }
+    ensures answer { Gives (λ x. (x.0, x.1.now)) result (plain_body header bytes.now) counts.old counts.new }
     ensures shorter { IfOk result (λ x. length x.1.now + 9 ≤ length bytes.now) }
-    ensures free { BodyTakesNone header.wkb_type (head_seen header) bytes.now → IsNotMemory result }
+    ensures free { BodyTakesNone header bytes.now → IsNoWant result }
 {
-    let layout = Layout {
-        order: header.order,
-        dimension: header.wkb_type.dimension(),
-        has_srid: header.has_srid,
-    };
+    let layout = header.layout();
     let (kind, rest) = match header.wkb_type {
-        WkbType::Polygon(_) => match polygon(alloc, layout, bytes, counts) {
+        WkbType::Polygon(_) => match Polygon::read(alloc, layout, bytes, counts) {
             Ok((polygon, rest)) => (Kind::Polygon(polygon), rest),
-            Err(e) => return Err(e),
+            Err(refusal) => return Err(refusal),
         },
-        WkbType::MultiPoint(_) => match multi_point(layout, bytes, counts) {
+        WkbType::MultiPoint(_) => match MultiPoint::read(layout, bytes, counts) {
             Ok((multi, rest)) => (Kind::MultiPoint(multi), rest),
-            Err(e) => return Err(e),
+            Err(cause) => return Err(Refusal::Fault(cause)),
         },
-        WkbType::MultiLineString(_) => match multi_line_string(alloc, layout, bytes, counts) {
+        WkbType::MultiLineString(_) => match MultiLineString::read(alloc, layout, bytes, counts) {
             Ok((multi, rest)) => (Kind::MultiLineString(multi), rest),
-            Err(e) => return Err(e),
+            Err(refusal) => return Err(refusal),
         },
-        WkbType::MultiPolygon(_) => match multi_polygon(alloc, layout, bytes, counts) {
+        WkbType::MultiPolygon(_) => match MultiPolygon::read(alloc, layout, bytes, counts) {
             Ok((multi, rest)) => (Kind::MultiPolygon(multi), rest),
-            Err(e) => return Err(e),
+            Err(refusal) => return Err(refusal),
         },
         _ => unreachable!(),
     };

@@ -1,21 +1,11 @@
-use Rattle.wkb_geom.proofs.Meanings.{meaning_is, meaning_is_none, code_of_meaning}
+use Rattle.std.proofs.Common.{ap}
+use Rattle.wkb_geom.specs.declared.error.General.TheVariants.{CodeOutOfRange}
+use Rattle.wkb_geom.specs.declared.error.WkbError.TheVariants.{General}
+use Rattle.wkb_geom.proofs.Meanings.{code_of_meaning, no_code_without_meaning}
 use Rattle.wkb_geom.proofs.code.WkbGeometryCode.get_type.Goals as goal
 
-pub returns-then-not-is_in_table-clause-read : goal.returns-then-not-is_in_table-clause-read
-returns-then-not-is_in_table-clause-read c =
-    rw (← c.self.view_is)
-    (meaning_is_none c.self.inside.code c.cleared-a.result c.cleared-b.result c.cleared-n.result
-    c.cleared-a.ensures c.cleared-b.ensures c.cleared-n.ensures c.if-not-is_in_table.ensures)
+pub returns-in-Some : goal.returns-in-Some
+returns-in-Some c = record { meant = code_of_meaning _ _ c.in-Some.ensures }
 
-pub returns-clause-read : goal.returns-clause-read
-returns-clause-read c =
-    rw (← c.self.view_is)
-    (meaning_is c.self.inside.code c.cleared-a.result c.cleared-b.result c.cleared-n.result c.of_thousands.result c.joined-dimension.result c.of_kind.result
-    c.cleared-a.ensures c.cleared-b.ensures c.cleared-n.ensures c.if-not-is_in_table.ensures c.of_thousands.ensures c.joined-dimension.ensures c.of_kind.ensures)
-
-pub returns-clause-meant : goal.returns-clause-meant
-returns-clause-meant c =
-    rw (← c.self.view_is)
-    (code_of_meaning c.self.inside.code _
-    (meaning_is c.self.inside.code c.cleared-a.result c.cleared-b.result c.cleared-n.result c.of_thousands.result c.joined-dimension.result c.of_kind.result
-    c.cleared-a.ensures c.cleared-b.ensures c.cleared-n.ensures c.if-not-is_in_table.ensures c.of_thousands.ensures c.joined-dimension.ensures c.of_kind.ensures))
+pub returns-in-None : goal.returns-in-None
+returns-in-None c = record { meant = (ap (λ n. General (CodeOutOfRange n)) c.self.view_is, no_code_without_meaning _ c.in-None.ensures) }

@@ -1,7 +1,6 @@
 use Rattle.std.proofs.Common.{◌∙◌, ap, sym, subst, List, map}
 use Rattle.wkb_geom.specs.Reading.{Item}
-use Rattle.wkb_view.specs.Lists.{collection_parts}
-use Rattle.wkb_read.specs.Placed.{AreMembers}
+use Rattle.wkb_read.specs.Placed.{AreMembers, parts_in}
 use Rattle.wkb_read.specs.Seen.{geometry_seen}
 use Rattle.wkb_read.proofs.Parts.{members_are}
 use Rattle.wkb_read.proofs.Placed.{are_members}
@@ -14,4 +13,4 @@ pub returns-clause-all : goal.returns-clause-all
 returns-clause-all c =
     let g = c.self.inside in
     rw (← c.self.view_is)
-    (subst (AreMembers (collection_parts g.order g.dimension g.has_srid g.members.items g.buf.now)) (sym c.as_slice.ensures.value) (are_members g.order g.dimension g.has_srid g.members.items g.buf.now c.self.invariant))
+    (subst (AreMembers (parts_in g.layout g.members.items g.buf.now)) (sym c.as_slice.ensures.value) (are_members g.layout g.members.items g.buf.now c.self.invariant.0))

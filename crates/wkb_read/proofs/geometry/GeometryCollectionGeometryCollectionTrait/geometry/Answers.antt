@@ -10,7 +10,7 @@ pub returns-then-i-len-clause-one : goal.returns-then-i-len-clause-one
 returns-then-i-len-clause-one c =
     let g = c.self.inside in
     rw (← c.self.view_is)
-    (member_at _ g.members.items c.args.i c.index.result.now (are_members g.order g.dimension g.has_srid g.members.items g.buf.now c.self.invariant) (omega (arith, c.len.ensures, g.members.ok.0)) c.index.ensures)
+    (member_at _ g.members.items c.args.i c.index.result.now (are_members g.layout g.members.items g.buf.now c.self.invariant.0) (omega (arith, c.len.ensures, g.members.ok.0)) c.index.ensures)
 
 pub returns-else-i-len-clause-member : goal.returns-else-i-len-clause-member
 returns-else-i-len-clause-member c = rw (← c.self.view_is) (sym (member_past c.self.inside.members.items c.args.i (omega (arith, c.len.ensures, c.self.inside.members.ok.0))))
@@ -19,4 +19,4 @@ pub returns-else-i-len-clause-one : goal.returns-else-i-len-clause-one
 returns-else-i-len-clause-one c =
     let g = c.self.inside in
     rw (← c.self.view_is)
-    (no_member_at _ g.members.items c.args.i (are_members g.order g.dimension g.has_srid g.members.items g.buf.now c.self.invariant) (omega (arith, c.len.ensures, g.members.ok.0)))
+    (no_member_at _ g.members.items c.args.i (are_members g.layout g.members.items g.buf.now c.self.invariant.0) (omega (arith, c.len.ensures, g.members.ok.0)))

@@ -1,51 +1,65 @@
-use Rattle.std.proofs.Common.{arith}
+use Rattle.std.proofs.Common.{Ok, Err, arith}
+use Rattle.wkb_geom.specs.declared.common.Endianness.{Endianness}
+use Rattle.wkb_geom.specs.declared.common.Endianness.TheVariants.{LittleEndian}
+use Rattle.wkb_read.specs.Public.{IsRefusal, TellsEach, HasNoFront, CountsRefusal}
+use Rattle.wkb_read.specs.Seen.{seen_as_it_is}
 use Rattle.wkb_read.proofs.NoMemory.{without_memory}
-use Rattle.wkb_read.proofs.Public.{bounded, count_bounded, is_front, is_only_front, is_lawful, is_normal, is_writable, is_refusal, is_only_refusal, is_no_front, is_counted, is_refusal_counted, is_memory_counted}
+use Rattle.wkb_read.proofs.Public.{bounded, count_bounded, is_read, only_front, lawful_of, if_told, is_refusal, tells_each, has_no_front, counts_refusal, memory_counted, is_not_memory}
 use Rattle.wkb_read.proofs.read.stack.read_wkb_counted.Goals as goal
 
-pub geometry-answer-requires : goal.geometry-answer-requires
-geometry-answer-requires c =
+pub geometry-requires : goal.geometry-requires
+geometry-requires c =
     let b = bounded c.args.buf.now in
     record { fits = record { turns = omega (arith, b.turns); slots = omega (arith, b.slots) } }
 
-pub returns-clause-front : goal.returns-clause-front
-returns-clause-front c = is_front c.args.buf.now c.geometry-answer.result c.geometry-answer.new.counts c.geometry-answer.ensures.reads
+pub returns-in-Ok : goal.returns-in-Ok
+returns-in-Ok c =
+    let buf = c.args.buf.now in
+    let w = c.in-Ok.whole in
+    let new = c.geometry.new.counts in
+    let r = is_read buf w new c.in-Ok.ensures.reads in
+    let lawful = λ (order : Endianness). lawful_of buf w order (λ i. (c.type_inv.buf i).fits) (omega arith) r.front in
+    let bound = count_bounded buf (Ok w) new c.in-Ok.ensures.reads in
+    record {
+      front = r.front;
+      one_front = only_front buf w r.front;
+      lawful = (lawful LittleEndian).geometry;
+      seen = seen_as_it_is w (lawful LittleEndian).geometry;
+      normal = (lawful LittleEndian).normal_is;
+      writable = λ order. (lawful order).writable;
+      refusal = tt;
+      one_cause = tt;
+      no_front = tt;
+      no_memory = λ none. tt;
+      counts = r.counts;
+      refusal_counts = tt;
+      memory_counts = tt;
+      turns_bounded = bound.turns;
+      slots_bounded = bound.slots;
+    }
 
-pub returns-clause-one_front : goal.returns-clause-one_front
-returns-clause-one_front c = is_only_front c.args.buf.now c.geometry-answer.result c.geometry-answer.new.counts c.geometry-answer.ensures.reads
-
-pub returns-clause-lawful : goal.returns-clause-lawful
-returns-clause-lawful c = is_lawful c.args.buf.now c.geometry-answer.result c.geometry-answer.new.counts (λ i. (c.type_inv.buf i).fits) (omega arith) c.geometry-answer.ensures.reads
-
-pub returns-clause-normal : goal.returns-clause-normal
-returns-clause-normal c = is_normal c.args.buf.now c.geometry-answer.result c.geometry-answer.new.counts (λ i. (c.type_inv.buf i).fits) (omega arith) c.geometry-answer.ensures.reads
-
-pub returns-clause-writable : goal.returns-clause-writable
-returns-clause-writable c = is_writable c.args.buf.now c.geometry-answer.result c.geometry-answer.new.counts (λ i. (c.type_inv.buf i).fits) (omega arith) c.geometry-answer.ensures.reads
-
-pub returns-clause-refusal : goal.returns-clause-refusal
-returns-clause-refusal c = is_refusal c.args.buf.now c.geometry-answer.result c.geometry-answer.new.counts c.geometry-answer.ensures.reads
-
-pub returns-clause-one_cause : goal.returns-clause-one_cause
-returns-clause-one_cause c = is_only_refusal c.args.buf.now c.geometry-answer.result c.geometry-answer.new.counts c.geometry-answer.ensures.reads
-
-pub returns-clause-no_front : goal.returns-clause-no_front
-returns-clause-no_front c = is_no_front c.args.buf.now c.geometry-answer.result c.geometry-answer.new.counts c.geometry-answer.ensures.reads
-
-pub returns-clause-counts : goal.returns-clause-counts
-returns-clause-counts c = is_counted c.args.buf.now c.geometry-answer.result c.geometry-answer.new.counts c.geometry-answer.ensures.reads
-
-pub returns-clause-refusal_counts : goal.returns-clause-refusal_counts
-returns-clause-refusal_counts c = is_refusal_counted c.args.buf.now c.geometry-answer.result c.geometry-answer.new.counts c.geometry-answer.ensures.reads
-
-pub returns-clause-memory_counts : goal.returns-clause-memory_counts
-returns-clause-memory_counts c = is_memory_counted c.args.buf.now c.geometry-answer.result c.geometry-answer.new.counts c.geometry-answer.ensures.reads
-
-pub returns-clause-turns_bounded : goal.returns-clause-turns_bounded
-returns-clause-turns_bounded c = (count_bounded c.args.buf.now c.geometry-answer.result c.geometry-answer.new.counts c.geometry-answer.ensures.reads).turns
-
-pub returns-clause-slots_bounded : goal.returns-clause-slots_bounded
-returns-clause-slots_bounded c = (count_bounded c.args.buf.now c.geometry-answer.result c.geometry-answer.new.counts c.geometry-answer.ensures.reads).slots
-
-pub returns-clause-no_memory : goal.returns-clause-no_memory
-returns-clause-no_memory c = λ none. c.geometry-answer.ensures.free (without_memory c.args.buf.now none)
+pub returns-in-Err : goal.returns-in-Err
+returns-in-Err c =
+    let buf = c.args.buf.now in
+    let e = c.into.result in
+    let refusal = c.in-Err.refusal in
+    let new = c.geometry.new.counts in
+    let stops = c.in-Err.ensures.reads in
+    let bound = count_bounded buf (Err refusal) new stops in
+    record {
+      front = tt;
+      one_front = tt;
+      lawful = tt;
+      seen = tt;
+      normal = tt;
+      writable = tt;
+      refusal = if_told (IsRefusal buf) buf e refusal new stops c.into.ensures (is_refusal buf e new);
+      one_cause = if_told (TellsEach buf) buf e refusal new stops c.into.ensures (tells_each buf e new);
+      no_front = if_told (λ e. HasNoFront buf) buf e refusal new stops c.into.ensures (has_no_front buf e new);
+      no_memory = λ none. is_not_memory e refusal c.into.ensures (c.in-Err.ensures.free (without_memory buf none));
+      counts = tt;
+      refusal_counts = if_told (λ e. CountsRefusal buf new) buf e refusal new stops c.into.ensures (counts_refusal buf e new);
+      memory_counts = memory_counted buf e refusal new stops;
+      turns_bounded = bound.turns;
+      slots_bounded = bound.slots;
+    }

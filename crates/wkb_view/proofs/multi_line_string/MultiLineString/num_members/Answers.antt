@@ -13,6 +13,6 @@ returns c =
       arith,
       c.len.ensures,
       p.ends.ok.0,
-      parts_counted (line_item_in p.dimension) (body_start p.has_srid + 4) p.ends.items p.buf.now,
-      length-map (map (line_item_in p.dimension) (pieces (body_start p.has_srid + 4) p.ends.items p.buf.now)) (λ (i : Item). line_of i.value),
+      parts_counted (line_item_in p.layout.dimension) (body_start p.layout.has_srid + 4) p.ends.items p.buf.now,
+      length-map (map (line_item_in p.layout.dimension) (pieces (body_start p.layout.has_srid + 4) p.ends.items p.buf.now)) (λ (i : Item). line_of i.value),
     ))

@@ -4,7 +4,7 @@ use Rattle.wkb_view.specs.Lines.{IsLine}
 use Rattle.wkb_view.proofs.Pieces.{pieces_within}
 use Rattle.wkb_view.proofs.multi_line_string.MultiLineStringOwnSrid.srid.Goals as goal
 
-pub srid_of_text-requires : goal.srid_of_text-requires
-srid_of_text-requires c =
+pub srid-requires : goal.srid-requires
+srid-requires c =
     let p = c.self.inside in
-    omega (arith, pieces_within (IsLine p.dimension) (body_start p.has_srid + 4) p.ends.items p.buf.now c.self.invariant)
+    omega (arith, pieces_within (IsLine p.layout.dimension) (body_start p.layout.has_srid + 4) p.ends.items p.buf.now c.self.invariant.0)

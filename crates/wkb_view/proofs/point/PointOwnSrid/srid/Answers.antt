@@ -3,4 +3,4 @@ use Rattle.wkb_view.proofs.Points.{srid_is}
 use Rattle.wkb_view.proofs.point.PointOwnSrid.srid.Goals as goal
 
 pub returns : goal.returns
-returns c = let p = c.args.self.now in c.srid_of_text.ensures ∙ srid_is p.order p.dimension p.has_srid p.buf.now
+returns c = let p = c.args.self.now in c.srid.ensures ∙ srid_is p.layout.order p.layout.dimension p.layout.has_srid p.buf.now

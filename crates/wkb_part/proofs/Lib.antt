@@ -1,9 +1,0 @@
-pub mod Faults
-pub mod Leaves
-pub mod LineStrings
-pub mod Lists
-pub mod Members
-pub mod MultiPoints
-pub mod Pieces
-pub mod Repeats
-pub mod RingPassed

@@ -1,0 +1,5 @@
+use Rattle.std.proofs.Common.{refl}
+use Rattle.wkb_view.proofs.multi_line_string.MultiLineStringGeometryTrait.TheImpl.Goals as goal
+
+pub as_type-tells : goal.as_type-tells
+as_type-tells g _ _ _ _ _ _ _ _ _ _ _ _ _ _ _ _ _ _ _ _ _ _ _ _ c = record { part = rw c.ensures.view refl }

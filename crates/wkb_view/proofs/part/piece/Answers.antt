@@ -1,0 +1,15 @@
+use Rattle.std.proofs.Common.{sym, arith}
+use Rattle.wkb_view.proofs.Pieces.{part_is, pieces_past}
+use Rattle.wkb_view.proofs.part.piece.Goals as goal
+
+pub returns-then-i-ends-clause-part : goal.returns-then-i-ends-clause-part
+returns-then-i-ends-clause-part c = sym (pieces_past c.args.first c.args.ends.now c.args.bytes.now c.args.i (omega (arith, c.if-i-ends.true)))
+
+pub overflow_sub-end : goal.overflow_sub-end
+overflow_sub-end c = (part_is _ c.args.first c.args.ends.now c.args.bytes.now c.args.i _ c.requires (omega (arith, c.if-i-ends.false)) c.start_of_part-start.ensures).ordered
+
+pub part-requires : goal.part-requires
+part-requires c = (part_is _ c.args.first c.args.ends.now c.args.bytes.now c.args.i _ c.requires (omega (arith, c.if-i-ends.false)) c.start_of_part-start.ensures).within
+
+pub returns-clause-part : goal.returns-clause-part
+returns-clause-part c = rw c.part.ensures (sym (part_is _ c.args.first c.args.ends.now c.args.bytes.now c.args.i _ c.requires (omega (arith, c.if-i-ends.false)) c.start_of_part-start.ensures).item)
