@@ -10,7 +10,8 @@ use Rattle.wkb_geom.specs.Grammar.{IsEach}
 use Rattle.wkb_geom.specs.Values.{Coordinate, Value, point, line_string, polygon, multi_point, multi_line_string, multi_polygon, collection, Values, no_members, member, kind, dimension, members, each, member_count, member_count_each, listed_count, listed_count_each}
 use Rattle.wkb_geom.specs.Spellings.{Spelling, node, Spellings, no_spellings, spelling, SpellsCoordinates, SpellsBody, Part, any, part, member_part, Spells, SpellsEach}
 use Rattle.wkb_geom.specs.Fronts.{FrontWithin}
-use Rattle.wkb_geom.specs.Refusals.{Cause, slots_asked, room_inside, IsAllowed, Counts, RefusesRings, no_ring_count, short_ring, later_ring, Refuses, no_order_byte, bad_order_byte, no_code, bad_code, wrong_part, too_deep, short_point, no_count, short_line_string, short_multi_point, bad_ring, bad_member, RefusesEach, this_member, later_member}
+use Rattle.wkb_geom.specs.declared.error.Cause.{Cause}
+use Rattle.wkb_geom.specs.Refusals.{slots_asked, room_inside, IsAllowed, Counts, RefusesRings, no_ring_count, short_ring, later_ring, Refuses, no_order_byte, bad_order_byte, no_code, bad_code, wrong_part, too_deep, short_point, no_count, short_line_string, short_multi_point, bad_ring, bad_member, RefusesEach, this_member, later_member}
 use Rattle.wkb_laws.specs.Laws.{FrontIsBounded, RefusalIsBounded}
 use Rattle.wkb_laws.proofs.ListKinds.{by_list_kind}
 use Rattle.wkb_laws.proofs.Openings.{length-opens, header_length}

@@ -11,9 +11,12 @@ use Rattle.wkb_geom.specs.Grammar.{Begins}
 use Rattle.wkb_geom.specs.Values.{Coordinate, Value, kind, dimension, member_count, listed_count}
 use Rattle.wkb_geom.specs.Spellings.{Spelling, SpellsCoordinates, Part, any, member_part, IsPart, has_srid}
 use Rattle.wkb_geom.specs.Fronts.{FrontWithin}
-use Rattle.wkb_geom.specs.Refusals.{Cause, end_of_input, general, srid_size, point_end, line_string_end, multi_point_end, ring_end, slots_asked, room_inside, Counts, RefusesRings, no_ring_count, short_ring, later_ring, Refuses, no_order_byte, bad_order_byte, no_code, bad_code, wrong_part, too_deep, short_point, no_count, short_line_string, short_multi_point, bad_ring, bad_member, RefusesEach, this_member, later_member}
+use Rattle.wkb_geom.specs.declared.error.Cause.{Cause}
+use Rattle.wkb_geom.specs.declared.error.Cause.TheVariants.{EndOfInput as end_of_input, General as general}
+use Rattle.wkb_geom.specs.Refusals.{srid_size, point_end, line_string_end, multi_point_end, ring_end, slots_asked, room_inside, Counts, RefusesRings, no_ring_count, short_ring, later_ring, Refuses, no_order_byte, bad_order_byte, no_code, bad_code, wrong_part, too_deep, short_point, no_count, short_line_string, short_multi_point, bad_ring, bad_member, RefusesEach, this_member, later_member}
 use Rattle.wkb_geom.specs.Reading as reading
-use Rattle.wkb_geom.specs.Reading.{type_kind, type_dimension, type_of, free, Reading, Head, Item, then_head, head_at, meaning_of, body_start, body_at, with_count}
+use Rattle.wkb_geom.specs.declared.header.Header.{Header as Head}
+use Rattle.wkb_geom.specs.Reading.{type_kind, type_dimension, type_of, free, Reading, Item, then_head, head_at, meaning_of, body_start, body_at, with_count}
 use Rattle.wkb_laws.proofs.Parts.{begins_number, number-front, take_front, drop_front}
 use Rattle.wkb_laws.proofs.OneFront.{one_spelling}
 use Rattle.wkb_laws.proofs.Openings.{length-opens}

@@ -8,7 +8,9 @@ use Rattle.wkb_geom.specs.Grammar.{Begins}
 use Rattle.wkb_geom.specs.Values.{Value, listed_count}
 use Rattle.wkb_geom.specs.Spellings.{Spelling, Part, any}
 use Rattle.wkb_geom.specs.Fronts.{Front, FrontWithin, max_nesting}
-use Rattle.wkb_geom.specs.Refusals.{Cause, end_of_input, general, incorrect_type, nesting_depth_exceeded, slots_asked, Opens, Counts, RefusesRings, no_ring_count, short_ring, later_ring, Refuses, no_order_byte, bad_order_byte, no_code, bad_code, wrong_part, too_deep, short_point, no_count, short_line_string, short_multi_point, bad_ring, bad_member, RefusesEach, this_member, later_member}
+use Rattle.wkb_geom.specs.declared.error.Cause.{Cause}
+use Rattle.wkb_geom.specs.declared.error.Cause.TheVariants.{EndOfInput as end_of_input, General as general, IncorrectType as incorrect_type, NestingDepthExceeded as nesting_depth_exceeded}
+use Rattle.wkb_geom.specs.Refusals.{slots_asked, Opens, Counts, RefusesRings, no_ring_count, short_ring, later_ring, Refuses, no_order_byte, bad_order_byte, no_code, bad_code, wrong_part, too_deep, short_point, no_count, short_line_string, short_multi_point, bad_ring, bad_member, RefusesEach, this_member, later_member}
 use Rattle.wkb_laws.specs.Laws.{HasFront, IsRefused, IsCut, CutIsRefused}
 use Rattle.wkb_laws.proofs.OneFront.{one_front_lem}
 use Rattle.wkb_laws.proofs.Outcomes.{read_or_refused_lem, never_both_lem}

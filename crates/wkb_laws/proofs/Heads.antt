@@ -12,9 +12,11 @@ use Rattle.wkb_geom.specs.Codes.{Code}
 use Rattle.wkb_geom.specs.Grammar.{Begins}
 use Rattle.wkb_geom.specs.Values.{Value, kind, dimension, members, nest, member_count, listed_count}
 use Rattle.wkb_geom.specs.Spellings.{Header, Spellings, IsHeader, IsSrid, SpellsBody, Part, member_part, IsPart, has_srid, Spells, SpellsEach}
-use Rattle.wkb_geom.specs.Refusals.{incorrect_type, srid_size, Opens, IsAllowed, Counts, Refuses, no_order_byte, bad_order_byte, no_code, bad_code, wrong_part, no_count}
+use Rattle.wkb_geom.specs.declared.error.Cause.TheVariants.{IncorrectType as incorrect_type}
+use Rattle.wkb_geom.specs.Refusals.{srid_size, Opens, IsAllowed, Counts, Refuses, no_order_byte, bad_order_byte, no_code, bad_code, wrong_part, no_count}
 use Rattle.wkb_geom.specs.Reading as reading
-use Rattle.wkb_geom.specs.Reading.{type_kind, type_dimension, Cost, Reading, Head, Item, then_head, head_at, meaning_of, body_start}
+use Rattle.wkb_geom.specs.declared.header.Header.{Header as Head}
+use Rattle.wkb_geom.specs.Reading.{type_kind, type_dimension, Cost, Reading, Item, then_head, head_at, meaning_of, body_start}
 use Rattle.wkb_geom.proofs.Meanings.{meaning_holds}
 use Rattle.wkb_laws.proofs.Parts.{number_begins, begins_number, number-take}
 use Rattle.wkb_laws.proofs.Openings.{length-opens}

@@ -11,7 +11,8 @@ use Rattle.wkb_geom.specs.Dimensions.{width}
 use Rattle.wkb_geom.specs.Grammar.{IsEach}
 use Rattle.wkb_geom.specs.Values.{point, line_string, polygon}
 use Rattle.wkb_geom.specs.Spellings.{no_spellings, SpellsCoordinate, SpellsCoordinates, Part, IsPart}
-use Rattle.wkb_geom.specs.Refusals.{end_of_input, general, point_end, line_string_end, ring_end, slots_asked, Opens, IsAllowed, RefusesRings, no_ring_count, short_ring, later_ring, Refuses, short_point, short_line_string, bad_ring}
+use Rattle.wkb_geom.specs.declared.error.Cause.TheVariants.{EndOfInput as end_of_input, General as general}
+use Rattle.wkb_geom.specs.Refusals.{point_end, line_string_end, ring_end, slots_asked, Opens, IsAllowed, RefusesRings, no_ring_count, short_ring, later_ring, Refuses, short_point, short_line_string, bad_ring}
 use Rattle.wkb_geom.specs.Reading as reading
 use Rattle.wkb_geom.specs.Reading.{Cost, free, Reading, Item, body_start, coordinate, coordinates, ring_in}
 use Rattle.wkb_laws.proofs.Parts.{length-items, items_are, number-take, number_begins, take_front, drop_front}

@@ -23,3 +23,5 @@ pub mod GeometryAt
 pub mod Outcomes
 pub mod Cut
 pub mod Rows
+pub mod OneText
+pub mod PartsInPlace

@@ -7,7 +7,8 @@ use Rattle.wkb_geom.specs.declared.common.Dimension.{Dimension}
 use Rattle.wkb_geom.specs.Numbers.{IsNumber, number}
 use Rattle.wkb_geom.specs.Values.{Coordinate, Value, point, line_string, polygon, multi_point, multi_line_string, multi_polygon, collection, Values, no_members, member, kind, dimension, members, each, count, nest, nest_each, member_count, member_count_each, listed_count, listed_count_each}
 use Rattle.wkb_geom.specs.Spellings.{Spellings, no_spellings, spelling, SpellsBody, Part, part, member_part, SpellsEach}
-use Rattle.wkb_geom.specs.Refusals.{Cause, multi_point_end, slots_asked, room_inside, Opens, IsAllowed, Refuses, bad_member, RefusesEach, this_member, later_member}
+use Rattle.wkb_geom.specs.declared.error.Cause.{Cause}
+use Rattle.wkb_geom.specs.Refusals.{multi_point_end, slots_asked, room_inside, Opens, IsAllowed, Refuses, bad_member, RefusesEach, this_member, later_member}
 use Rattle.wkb_geom.specs.Reading as reading
 use Rattle.wkb_geom.specs.Reading.{Cost, Reading, Item, spellings, values, body_start}
 use Rattle.wkb_laws.specs.Laws.{listed_inside}

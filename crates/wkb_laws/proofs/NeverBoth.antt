@@ -12,7 +12,8 @@ use Rattle.wkb_geom.specs.Grammar.{IsEach}
 use Rattle.wkb_geom.specs.Values.{Coordinate, Value, point, line_string, polygon, multi_point, multi_line_string, multi_polygon, collection, Values, no_members, member, kind, dimension, members, each, count, nest, nest_each}
 use Rattle.wkb_geom.specs.Spellings.{Header, Spelling, node, Spellings, no_spellings, spelling, SpellsCoordinates, SpellsBody, Part, member_part, IsPart, has_srid, SpellsEach}
 use Rattle.wkb_geom.specs.Fronts.{FrontWithin}
-use Rattle.wkb_geom.specs.Refusals.{Cause, srid_size, Opens, point_end, line_string_end, multi_point_end, ring_end, room_inside, Counts, RefusesRings, no_ring_count, short_ring, later_ring, Refuses, no_order_byte, bad_order_byte, no_code, bad_code, wrong_part, too_deep, short_point, no_count, short_line_string, short_multi_point, bad_ring, bad_member, RefusesEach, this_member, later_member}
+use Rattle.wkb_geom.specs.declared.error.Cause.{Cause}
+use Rattle.wkb_geom.specs.Refusals.{srid_size, Opens, point_end, line_string_end, multi_point_end, ring_end, room_inside, Counts, RefusesRings, no_ring_count, short_ring, later_ring, Refuses, no_order_byte, bad_order_byte, no_code, bad_code, wrong_part, too_deep, short_point, no_count, short_line_string, short_multi_point, bad_ring, bad_member, RefusesEach, this_member, later_member}
 use Rattle.wkb_laws.proofs.Settled.{one_number, one_coordinates}
 use Rattle.wkb_laws.proofs.OneFront.{one_spelling, count-each, order_byte_inj}
 use Rattle.wkb_laws.proofs.Openings.{front_opens, length-opens, one_opening, one_count}

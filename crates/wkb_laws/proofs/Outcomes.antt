@@ -4,7 +4,8 @@ use Rattle.std.specs.Prelude.{Ok, Err}
 use Rattle.wkb_geom.specs.Values.{Values, no_members, member, count, nest_each, member_count, member_count_each, listed_count}
 use Rattle.wkb_geom.specs.Spellings.{Spellings, no_spellings, spelling, Part, any, SpellsEach}
 use Rattle.wkb_geom.specs.Fronts.{max_nesting}
-use Rattle.wkb_geom.specs.Refusals.{Cause, room_inside, Refuses, bad_member, RefusesEach, this_member, later_member}
+use Rattle.wkb_geom.specs.declared.error.Cause.{Cause}
+use Rattle.wkb_geom.specs.Refusals.{room_inside, Refuses, bad_member, RefusesEach, this_member, later_member}
 use Rattle.wkb_laws.specs.Laws.{HasFront, IsRefused, ReadOrRefused, NeverBoth, OneRefusal, listed_inside, RefusedOutward}
 use Rattle.wkb_geom.specs.Reading as reading
 use Rattle.wkb_geom.specs.Reading.{Reading, Item}

@@ -12,10 +12,13 @@ use Rattle.wkb_geom.specs.Numbers.{IsNumber, order_byte}
 use Rattle.wkb_geom.specs.Codes.{Code}
 use Rattle.wkb_geom.specs.Grammar.{Begins}
 use Rattle.wkb_geom.specs.Spellings.{Part, any, part, IsPart}
-use Rattle.wkb_geom.specs.Refusals.{Cause, end_of_input, general, incorrect_type, Opens}
+use Rattle.wkb_geom.specs.declared.error.Cause.{Cause}
+use Rattle.wkb_geom.specs.declared.error.Cause.TheVariants.{EndOfInput as end_of_input, General as general, IncorrectType as incorrect_type}
+use Rattle.wkb_geom.specs.Refusals.{Opens}
 use Rattle.wkb_geom.specs.Meanings.{HasNoMeaning}
 use Rattle.wkb_geom.specs.Reading as reading
-use Rattle.wkb_geom.specs.Reading.{type_kind, type_dimension, type_of, free, Reading, Head, Item, then_head, head_at, meaning_of, body_start, body_at, with_count}
+use Rattle.wkb_geom.specs.declared.header.Header.{Header as Head}
+use Rattle.wkb_geom.specs.Reading.{type_kind, type_dimension, type_of, free, Reading, Item, then_head, head_at, meaning_of, body_start, body_at, with_count}
 use Rattle.wkb_geom.proofs.Codes.{one_meaning}
 use Rattle.wkb_geom.proofs.Meanings.{meaning_holds, type_kind-type_of}
 use Rattle.wkb_laws.proofs.Parts.{begins_number}

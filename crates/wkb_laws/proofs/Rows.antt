@@ -14,7 +14,9 @@ use Rattle.wkb_geom.specs.Numbers.{number, number_bytes}
 use Rattle.wkb_geom.specs.Values.{Value, kind, dimension, member_count, listed_count, point, line_string, polygon, multi_point, multi_line_string, multi_polygon, collection, member, no_members}
 use Rattle.wkb_geom.specs.Spellings.{any, header, Spelling, node, Spellings, no_spellings, spelling}
 use Rattle.wkb_geom.specs.Fronts.{max_nesting, Front}
-use Rattle.wkb_geom.specs.Refusals.{Cause, end_of_input, general, incorrect_type, nesting_depth_exceeded, Refuses}
+use Rattle.wkb_geom.specs.declared.error.Cause.{Cause}
+use Rattle.wkb_geom.specs.declared.error.Cause.TheVariants.{EndOfInput as end_of_input, General as general, IncorrectType as incorrect_type, NestingDepthExceeded as nesting_depth_exceeded}
+use Rattle.wkb_geom.specs.Refusals.{Refuses}
 use Rattle.wkb_geom.specs.Geometries.{geometry_of}
 use Rattle.wkb_geom.specs.Texts.{text, code_of, srid_text, header_text, words_text, coordinates_text, point_words, point_text, line_string_text, polygon_text, members_text}
 use Rattle.wkb_geom.specs.Reading.{Reading, Item, geometry_at, by_type, head_at, meaning_of, point_at, line_string_at, ring_at, polygon_at, multi_point_at, multi_line_string_at, multi_polygon_at, collection_at, repeated}

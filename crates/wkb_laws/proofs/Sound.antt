@@ -12,7 +12,8 @@ use Rattle.wkb_geom.specs.Values.{Value, multi_point, multi_line_string, multi_p
 use Rattle.wkb_geom.specs.Spellings.{Part, any, part, IsPart}
 use Rattle.wkb_geom.specs.Refusals.{multi_point_end, Opens, IsAllowed, too_deep, short_multi_point}
 use Rattle.wkb_geom.specs.Reading as reading
-use Rattle.wkb_geom.specs.Reading.{type_kind, type_dimension, type_of, Cost, free, Reading, Head, Item, body_start}
+use Rattle.wkb_geom.specs.declared.header.Header.{Header as Head}
+use Rattle.wkb_geom.specs.Reading.{type_kind, type_dimension, type_of, Cost, free, Reading, Item, body_start}
 use Rattle.wkb_geom.proofs.Codes.{thousands_inj}
 use Rattle.wkb_laws.proofs.Heads.{Says, head_says, Tests, member_says, counts_here, count_says}
 use Rattle.wkb_laws.proofs.Leaves.{point_says, line_string_says, polygon_says}

@@ -9,7 +9,9 @@ use Rattle.wkb_geom.specs.Values.{Value, Values, no_members, member, count, nest
 use Rattle.wkb_geom.specs.Spellings.{Spelling, Spellings, Spells, SpellsEach, Part, any, srid_count, header}
 use Rattle.wkb_geom.specs.Fronts.{Front, max_nesting}
 use Rattle.wkb_geom.specs.declared.error.General.TheVariants.{ShortPoint, ShortLineString, ShortLinearRing, ShortMultiPoint}
-use Rattle.wkb_geom.specs.Refusals.{Cause, end_of_input, general, slots_asked, Counts, Refuses}
+use Rattle.wkb_geom.specs.declared.error.Cause.{Cause}
+use Rattle.wkb_geom.specs.declared.error.Cause.TheVariants.{EndOfInput as end_of_input, General as general}
+use Rattle.wkb_geom.specs.Refusals.{slots_asked, Counts, Refuses}
 use Rattle.wkb_geom.specs.Dimensions.{named, dimensions}
 use Rattle.wkb_geom.specs.Geometries.{Geometry, IsGeometry, normal, geometry_of}
 use Rattle.wkb_geom.specs.Sizes.{byte_size}

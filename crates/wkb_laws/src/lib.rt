@@ -1,7 +1,15 @@
 //! Laws over the definitions of Well-Known Binary: each function's contract is a law, and its body is empty.
 #![tactic(auto)]
 
-ghost use Rattle.wkb_laws.specs.Laws.{HasOneFront, RestIsFree, BytesAreRead, ReadOrRefused, NeverBoth, OneRefusal, RefusedOutward, CutIsRefused, GeometryAgrees, FrontIsRead, RefusalIsRead, FrontIsBounded, RefusalIsBounded, ReadingIsBounded, TextSpells, WrittenIsRead, TextHasSize, LengthOfText, LengthOfFront, FrontIsWritable, EwkbIsWritable, SizeIsRefused, OwnSridIsWritable, RewritingIsRead, RewritingIsFixed, RewritingWithSridIsFixed, EqualTexts, EqualTextsWithSrid, EqualTextsWithOwnSrid, NamedDimension};
+ghost use Rattle.wkb_laws.specs.Laws.{HasOneFront, RestIsFree, BytesAreRead, ReadOrRefused, NeverBoth, OneRefusal};
+ghost use Rattle.wkb_laws.specs.Laws.{RefusedOutward, CutIsRefused, GeometryAgrees, FrontIsRead, RefusalIsRead};
+ghost use Rattle.wkb_laws.specs.Laws.{FrontIsBounded, RefusalIsBounded, ReadingIsBounded, TextSpells, WrittenIsRead};
+ghost use Rattle.wkb_laws.specs.Laws.{TextHasSize, LengthOfText, LengthOfFront, FrontIsWritable, EwkbIsWritable};
+ghost use Rattle.wkb_laws.specs.Laws.{SizeIsRefused, OwnSridIsWritable, RewritingIsRead, RewritingIsFixed};
+ghost use Rattle.wkb_laws.specs.Laws.{RewritingWithSridIsFixed, EqualTexts, EqualTextsWithSrid};
+ghost use Rattle.wkb_laws.specs.Laws.{EqualTextsWithOwnSrid, NamedDimension};
+
+pub mod places;
 
 /// An input begins with at most one geometry.
 pub fn one_front()

@@ -1,0 +1,208 @@
+-- Rings of polygons in a collection, and their words.
+use Rattle.std.proofs.Common.{◌≡◌, ℕ, zero, suc, ◌+◌, ◌*◌, List, [], ◌∷◌, ◌++◌, length, drop, Option, Some, None, ◌⊎◌, inl, inr, refl, sym, ap, subst, ◌∙◌, append_assoc, length-append, arith}
+use Rattle.std.specs.Prelude.{slice_get, option_map, MatchOption}
+use Rattle.std.proofs.lemmas.List.{drop-drop}
+use Rattle.wkb_geom.specs.declared.common.Dimension.{Dimension}
+use Rattle.wkb_geom.specs.declared.error.WkbError.{WkbError}
+use Rattle.wkb_geom.specs.Numbers.{number}
+use Rattle.wkb_geom.specs.Dimensions.{width}
+use Rattle.wkb_geom.specs.Errors.{IsMemory}
+use Rattle.wkb_geom.specs.Values.{Coordinate, Value, Values, polygon, collection, no_members, member, members, kind}
+use Rattle.wkb_geom.specs.Spellings.{Spelling, node, Spellings, no_spellings, spelling, header, Spells}
+use Rattle.wkb_geom.specs.Stored.{Listed, whole_of}
+use Rattle.wkb_geom.specs.Reading.{Item, spellings, values}
+use Rattle.wkb_laws.proofs.Parts.{drop_front}
+use Rattle.wkb_laws.specs.Places.{IsOneOf, IsMember, IsWordOf, MembersStand, RingsStand, WordsStand}
+use Rattle.wkb_view.specs.Coords.{ring_seen}
+use Rattle.wkb_view.specs.Parts.{members_spelled}
+use Rattle.wkb_view.specs.declared.linear_ring.LinearRing.{LinearRing}
+use Rattle.wkb_read.specs.Public.{HasNoFront}
+use Rattle.wkb_read.specs.Views.{IsCollectionOf}
+use Rattle.wkb_clients.specs.Rings.{IsRingOf, HasNoRing}
+use Rattle.wkb_clients.specs.Words.{IsRingWordAt, HasNoRingWordAt}
+use Rattle.wkb_clients.proofs.Fronts.{Stands, one_value, one_spelling, no_word, no_word_there}
+
+-- ---- members by their index
+
+pub one_of : (ms : List Item) (k : ℕ) (m : Item) → slice_get ms k ≡ Some m → IsOneOf k (spellings ms) (values ms) m.spelled m.value
+one_of [] k m is = absurd (cc)
+one_of (x ∷ ms) zero m is =
+    let same : x ≡ m = cc in
+    (ap (λ (i : Item). i.spelled) (sym same), ap (λ (i : Item). i.value) (sym same))
+one_of (x ∷ ms) (suc k) m is = one_of ms k m is
+
+none_of : (ms : List Item) (k : ℕ) (s : Spelling) (t : Value) → slice_get ms k ≡ None → IsOneOf k (spellings ms) (values ms) s t → ⊥
+none_of [] zero s t is h = h
+none_of [] (suc k) s t is h = h
+none_of (x ∷ ms) zero s t is h = absurd (cc)
+none_of (x ∷ ms) (suc k) s t is h = none_of ms k s t is h
+
+same_value : (ms : List Item) (k : ℕ) (s : Spelling) (t : Value) (m : Item) → slice_get ms k ≡ Some m → IsOneOf k (spellings ms) (values ms) s t → t ≡ m.value
+same_value [] zero s t m is h = absurd h
+same_value [] (suc k) s t m is h = absurd h
+same_value (x ∷ ms) zero s t m is h =
+    let same : x ≡ m = cc in
+    h.1 ∙ ap (λ (i : Item). i.value) same
+same_value (x ∷ ms) (suc k) s t m is h = same_value ms k s t m is h
+
+listed : (u : Spelling) (d : Dimension) (vs : Values) (k : ℕ) (s : Spelling) (t : Value) → IsMember k u (collection d vs) s t → IsOneOf k (members_spelled u) vs s t
+listed (node g ws ss) d vs k s t h = h
+
+unlisted : (u : Spelling) (d : Dimension) (vs : Values) (k : ℕ) (s : Spelling) (t : Value) → IsOneOf k (members_spelled u) vs s t → IsMember k u (collection d vs) s t
+unlisted (node g ws ss) d vs k s t h = h
+
+-- a member of a collection is one of those that were handed out
+member_in : (w : Item) (ms : List Item) (k : ℕ) (s : Spelling) (t : Value) → IsCollectionOf w ms → IsMember k w.spelled w.value s t → IsOneOf k (spellings ms) (values ms) s t
+member_in w ms k s t c h =
+    let inside = listed c.whole.spelled c.whole.dimension c.whole.parts k s t (subst (λ (v : Item). IsMember k v.spelled v.value s t) (sym c.is) h) in
+    subst (λ vs. IsOneOf k (spellings ms) vs s t) (sym c.all.value) (subst (λ ss. IsOneOf k ss c.whole.parts s t) (sym c.all.spelled) inside)
+
+member_of : (w : Item) (ms : List Item) (k : ℕ) (m : Item) → IsCollectionOf w ms → slice_get ms k ≡ Some m → IsMember k w.spelled w.value m.spelled m.value
+member_of w ms k m c is =
+    let inside = subst (λ vs. IsOneOf k (spellings ms) vs m.spelled m.value) c.all.value (one_of ms k m is) in
+    subst (λ (v : Item). IsMember k v.spelled v.value m.spelled m.value) c.is
+    (unlisted c.whole.spelled c.whole.dimension c.whole.parts k m.spelled m.value (subst (λ ss. IsOneOf k ss c.whole.parts m.spelled m.value) c.all.spelled inside))
+
+-- a member has one value
+same_one : (k : ℕ) (ss : Spellings) (vs : Values) (s u : Spelling) (t v : Value) → IsOneOf k ss vs s t → IsOneOf k ss vs u v → t ≡ v
+same_one zero (spelling a ss) (member b vs) s u t v h g = h.1 ∙ sym g.1
+same_one (suc k) (spelling a ss) (member b vs) s u t v h g = same_one k ss vs s u t v h g
+same_one zero no_spellings vs s u t v h g = absurd h
+same_one (suc k) no_spellings vs s u t v h g = absurd h
+same_one zero (spelling a ss) no_members s u t v h g = absurd h
+same_one (suc k) (spelling a ss) no_members s u t v h g = absurd h
+
+one_member : (w : Item) (k : ℕ) (s u : Spelling) (t v : Value) → IsMember k w.spelled w.value s t → IsMember k w.spelled w.value u v → t ≡ v
+one_member w k s u t v h g = by w.spelled w.value h g
+  where
+    by : (y : Spelling) (z : Value) → IsMember k y z s t → IsMember k y z u v → t ≡ v
+    by (node a ws ss) z h g = same_one k ss (members z) s u t v h g
+
+-- ---- rings
+
+abbrev rings_of : Value → List (List Coordinate)
+rings_of (polygon d rings) = rings
+rings_of _ = []
+
+-- a collection that has no such member has no such ring
+pub no_member : (w : Item) (ms : List Item) (k j : ℕ) → IsCollectionOf w ms → slice_get ms k ≡ None → HasNoRing w k j
+no_member w ms k j c none = λ ring h. none_of ms k h.spelled (polygon h.of_polygon h.rings) none (member_in w ms k h.spelled (polygon h.of_polygon h.rings) c h.is_member)
+
+-- nor has one whose member is no polygon
+pub no_polygon : (w : Item) (ms : List Item) (k j : ℕ) (m : Item) → IsCollectionOf w ms → slice_get ms k ≡ Some m → (kind m.value ≡ 3 → ⊥) → HasNoRing w k j
+no_polygon w ms k j m c is other =
+    λ ring h. other (ap kind (sym (same_value ms k h.spelled (polygon h.of_polygon h.rings) m is (member_in w ms k h.spelled (polygon h.of_polygon h.rings) c h.is_member))))
+
+-- nor what is no collection
+pub no_collection : (w : Item) (k j : ℕ) → (kind w.value ≡ 7 → ⊥) → HasNoRing w k j
+no_collection w k j other = λ ring h. other (ap kind h.value_is)
+
+-- a polygon's ring is found, or there is none
+pub ring_or_none : (w : Item) (ms : List Item) (k j : ℕ) (m : Item) (p : Listed (List (List Coordinate))) (r : Option LinearRing) → IsCollectionOf w ms → slice_get ms k ≡ Some m → whole_of polygon p ≡ m
+    → option_map ring_seen r ≡ slice_get p.parts j → MatchOption r (HasNoRing w k j) (λ r. IsRingOf w k j (ring_seen r))
+ring_or_none w ms k j m p (Some r) c is view found =
+    record {
+      dimension = c.whole.dimension;
+      members = c.whole.parts;
+      spelled = p.spelled;
+      of_polygon = p.dimension;
+      rings = p.parts;
+      value_is = ap (λ (i : Item). i.value) (sym c.is);
+      is_member = subst (λ (i : Item). IsMember k w.spelled w.value i.spelled i.value) (sym view) (member_of w ms k m c is);
+      is = sym found;
+    }
+ring_or_none w ms k j m p None c is view found =
+    λ ring h. let same = same_value ms k h.spelled (polygon h.of_polygon h.rings) m is (member_in w ms k h.spelled (polygon h.of_polygon h.rings) c h.is_member) in
+    let rings : h.rings ≡ p.parts = ap rings_of (same ∙ ap (λ (i : Item). i.value) (sym view)) in
+    let none : None ≡ Some ring = found ∙ ap (λ (l : List (List Coordinate)). slice_get l j) (sym rings) ∙ h.is in
+    absurd (cc)
+
+-- ---- words
+
+-- what stands behind a part of a text
+behind_part : (text rest head before part after : List ℕ) (start : ℕ) → text ≡ head ++ (before ++ (part ++ after)) → start ≡ length head + length before
+    → drop start (text ++ rest) ≡ part ++ (after ++ rest)
+behind_part text rest head before part after start is at =
+    let all : text ++ rest ≡ (head ++ before) ++ (part ++ (after ++ rest)) =
+    ap (λ t. t ++ rest) is ∙ append_assoc head (before ++ (part ++ after)) rest ∙ ap (λ t. head ++ t) (append_assoc before (part ++ after) rest)
+    ∙ ap (λ t. head ++ (before ++ t)) (append_assoc part after rest) ∙ sym (append_assoc head before (part ++ (after ++ rest))) in
+    ap (drop start) all ∙ drop_front start (head ++ before) (part ++ (after ++ rest)) (omega (arith, length-append head before, at))
+
+ring_word_at : MembersStand → RingsStand → WordsStand → (blob : List ℕ) (offset k j i n x : ℕ) (w : Item) (ring : List Coordinate)
+    → Stands blob offset w → IsRingOf w k j ring → IsWordOf ring i n x → IsRingWordAt blob offset k j i n x
+ring_word_at members rings words blob offset k j i n x w ring there of word =
+    let f = there.front in
+    let spells = subst (λ t. Spells w.spelled w.value t) f.text_is f.front.spelled in
+    let m = members w k of.spelled (polygon of.of_polygon of.rings) spells of.is_member in
+    let part : Item = record { text = m.0; spelled = of.spelled; value = polygon of.of_polygon of.rings } in
+    let p = m.1 in
+    let r = rings part of.of_polygon of.rings j ring p.spells refl of.is in
+    let here = 4 + 8 * (width r.dimension * i + n) in
+    let whole : drop offset blob ≡ w.text ++ f.rest = f.front.whole ∙ ap (λ t. t ++ f.rest) f.text_is in
+    let in_whole : drop p.start (drop offset blob) ≡ m.0 ++ (p.after ++ f.rest) =
+    ap (drop p.start) whole ∙ behind_part w.text f.rest p.head p.before m.0 p.after p.start p.parts p.start_is in
+    let in_part : drop r.start (drop p.start (drop offset blob)) ≡ r.bytes ++ (r.after ++ (p.after ++ f.rest)) =
+    ap (drop r.start) in_whole ∙ behind_part m.0 (p.after ++ f.rest) r.head r.before r.bytes r.after r.start r.parts r.start_is in
+    let at : drop (offset + p.start + r.start + here) blob ≡ drop here (drop r.start (drop p.start (drop offset blob))) =
+    sym (drop-drop here (offset + p.start + r.start) blob) ∙ ap (drop here) (sym (drop-drop r.start (offset + p.start) blob) ∙ ap (drop r.start) (sym (drop-drop p.start offset blob))) in
+    record {
+      whole = w;
+      dimension = of.dimension;
+      members = of.members;
+      part = part;
+      ring = ring;
+      front = f;
+      value_is = of.value_is;
+      polygon = p;
+      of_polygon = r;
+      word = word;
+      place = offset + p.start + r.start + here;
+      place_is = omega arith;
+      stands = ap (number (header of.spelled).order 8) (at ∙ ap (drop here) in_part) ∙ words (header of.spelled).order r.dimension ring r.bytes (r.after ++ (p.after ++ f.rest)) i n x r.spells word;
+    }
+
+-- what is said to be such a word is one of a ring of the collection that stands there
+ring_of : (blob : List ℕ) (offset k j i n x : ℕ) (w : Item) → Stands blob offset w → (h : IsRingWordAt blob offset k j i n x) → IsRingOf w k j h.ring
+ring_of blob offset k j i n x w there h =
+    let value = one_value blob offset w h.whole there h.front in
+    let spelled = one_spelling blob offset w h.whole there h.front in
+    let p = h.of_polygon in
+    record {
+      dimension = h.dimension;
+      members = h.members;
+      spelled = h.part.spelled;
+      of_polygon = p.dimension;
+      rings = p.rings;
+      value_is = sym value ∙ h.value_is;
+      is_member = subst (λ u. IsMember k u w.value h.part.spelled (polygon p.dimension p.rings)) spelled
+          (subst (λ v. IsMember k h.whole.spelled v h.part.spelled (polygon p.dimension p.rings)) value (subst (λ v. IsMember k h.whole.spelled h.whole.value h.part.spelled v) p.value_is h.polygon.is));
+      is = p.is;
+    }
+
+-- the ring of such a number is one
+one_ring : (w : Item) (k j : ℕ) (a b : List Coordinate) → IsRingOf w k j a → IsRingOf w k j b → a ≡ b
+one_ring w k j a b h g =
+    let same = one_member w k h.spelled g.spelled (polygon h.of_polygon h.rings) (polygon g.of_polygon g.rings) h.is_member g.is_member in
+    let some : Some a ≡ Some b = sym h.is ∙ ap (λ (l : List (List Coordinate)). slice_get l j) (ap rings_of same) ∙ g.is in
+    cc
+
+-- the coordinate of a ring was found, and its word or none
+pub ring_word_or_none : MembersStand → RingsStand → WordsStand → (blob : List ℕ) (offset k j i n : ℕ) (w : Item) (ring : List Coordinate) (c : Coordinate) (found : Option ℕ)
+    → Stands blob offset w → IsRingOf w k j ring → Some c ≡ slice_get ring i → found ≡ slice_get c n
+    → MatchOption found (HasNoRingWordAt blob offset k j i n) (λ x. IsRingWordAt blob offset k j i n x)
+ring_word_or_none members rings words blob offset k j i n w ring c (Some x) there of here found =
+    ring_word_at members rings words blob offset k j i n x w ring there of (record { coordinate = c; coordinate_is = sym here; word_is = sym found })
+ring_word_or_none members rings words blob offset k j i n w ring c None there of here found =
+    λ x h. no_word ring c i n x here found (subst (λ l. IsWordOf l i n x) (one_ring w k j h.ring ring (ring_of blob offset k j i n x w there h) of) h.word)
+
+pub no_ring_coordinate : (blob : List ℕ) (offset k j i n : ℕ) (w : Item) (ring : List Coordinate) → Stands blob offset w → IsRingOf w k j ring → None ≡ slice_get ring i
+    → HasNoRingWordAt blob offset k j i n
+no_ring_coordinate blob offset k j i n w ring there of none =
+    λ x h. no_word_there ring i n x none (subst (λ l. IsWordOf l i n x) (one_ring w k j h.ring ring (ring_of blob offset k j i n x w there h) of) h.word)
+
+pub no_ring_there : (blob : List ℕ) (offset k j i n : ℕ) (w : Item) → Stands blob offset w → HasNoRing w k j → HasNoRingWordAt blob offset k j i n
+no_ring_there blob offset k j i n w there none = λ x h. none h.ring (ring_of blob offset k j i n x w there h)
+
+pub no_collection_there : (blob : List ℕ) (offset k j i n : ℕ) (e : WkbError) → IsMemory e ⊎ HasNoFront (drop offset blob) → IsMemory e ⊎ HasNoRingWordAt blob offset k j i n
+no_collection_there blob offset k j i n e (inl memory) = inl memory
+no_collection_there blob offset k j i n e (inr none) = inr (λ x h. none h.whole.spelled h.whole.value h.front.rest h.front.front)

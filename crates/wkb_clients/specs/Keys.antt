@@ -1,0 +1,47 @@
+-- Keys of geometries, and a store of them.
+use Rattle.std.specs.Prelude.{◌≡◌, ◌↔◌, ℕ, List, [], ◌∷◌, ◌++◌, Bool, MatchBool, Contains, Result, Ok, Err, None}
+use Rattle.wkb_geom.specs.declared.common.Endianness.TheVariants.{LittleEndian}
+use Rattle.wkb_geom.specs.declared.common.Dimension.TheVariants.{Xy}
+use Rattle.wkb_geom.specs.declared.common.Form.TheVariants.{Iso}
+use Rattle.wkb_geom.specs.Numbers.{AreBytes}
+use Rattle.wkb_geom.specs.Values.{Value, point}
+use Rattle.wkb_geom.specs.Spellings.{Spelling}
+use Rattle.wkb_geom.specs.Fronts.{Front, max_nesting}
+use Rattle.wkb_geom.specs.Geometries.{geometry_of}
+use Rattle.wkb_geom.specs.declared.error.Cause.{Cause}
+use Rattle.wkb_geom.specs.Texts.{text}
+use Rattle.wkb_geom.specs.Reading.{Item, geometry_at}
+
+-- the bytes that are written of a value, under one order and one form
+unfoldable pub key_of : Value → List ℕ
+key_of t = text LittleEndian Iso (geometry_of t)
+
+-- the key of the geometry that the input begins with
+pub record IsKey (input key : List ℕ) : Type 0 where
+  pub spelled : Spelling
+  pub value : Value
+  pub rest : List ℕ
+  pub front : Front input spelled value rest
+  pub is : key ≡ key_of value
+
+-- Two inputs have one key exactly if their values are equal.
+abbrev pub HasOneKey : Type 0
+HasOneKey = (a b x y : List ℕ) → AreBytes a → AreBytes b → (k : IsKey a x) → (l : IsKey b y)
+    → (x ≡ y) ↔ (k.value ≡ l.value)
+
+-- The value that the input begins with was stored before, and nothing changed, or it was not, and is the last one now.
+pub record Inserts (old new : List Value) (input : List ℕ) (was : Bool) : Type 0 where
+  pub spelled : Spelling
+  pub value : Value
+  pub rest : List ℕ
+  pub front : Front input spelled value rest
+  pub known : MatchBool was (Contains old value) (Contains old value → ⊥)
+  pub kept : MatchBool was (new ≡ old) (new ≡ old ++ value ∷ [])
+
+-- the value that a key is read as
+abbrev pub value_read : Result (Item × List ℕ) Cause → Value
+value_read (Ok x) = x.0.value
+value_read (Err c) = point Xy None
+
+unfoldable pub value_in : List ℕ → Value
+value_in key = value_read (geometry_at max_nesting key).1

@@ -1,0 +1,4 @@
+pub mod Keys
+pub mod Members
+pub mod Rings
+pub mod Words

@@ -1,0 +1,14 @@
+-- The bytes of a member.
+use Rattle.std.specs.Prelude.{◌≡◌, ℕ, List}
+use Rattle.wkb_geom.specs.Reading.{Item}
+use Rattle.wkb_laws.specs.Places.{HoldsMember}
+
+-- a member of this number that has these bytes
+pub record IsHeld (whole : Item) (k : ℕ) (bytes : List ℕ) : Type 0 where
+  pub part : Item
+  pub text_is : part.text ≡ bytes
+  pub held : HoldsMember whole k part
+
+-- there is one
+abbrev pub HoldsBytes : Item → ℕ → List ℕ → Type 0
+HoldsBytes whole k bytes = ∥ IsHeld whole k bytes ∥₁

@@ -1,0 +1,82 @@
+//! Equal views answer alike. A clone is equal to its source, so it lends the same members.
+
+ghost use Rattle.std.specs.Prelude.{◌≡◌, option_map};
+ghost use Rattle.wkb_geom.specs.Numbers.{AreBytes};
+ghost use Rattle.wkb_geom.specs.Stored.{whole_of};
+ghost use Rattle.wkb_geom.specs.Values.{polygon as of_rings};
+ghost use Rattle.wkb_view.specs.Parts.{IsSpelled};
+ghost use Rattle.wkb_view.specs.Views.{line_string_seen};
+
+use crate::members::holds_bytes;
+use wkb::geom::{GeometryCollectionTrait, MultiLineStringTrait, MultiPolygonTrait};
+use wkb::laws::one_text;
+use wkb::reader::{GeometryCollection, LineString, MultiLineString, MultiPolygon, Polygon, Wkb};
+
+/// The geometry of one index in two equal collections: the same bytes, spelled alike, of one value.
+pub fn geometries<'m, 'a>(
+    source: &'m GeometryCollection<'a>,
+    clone: &'m GeometryCollection<'a>,
+    i: usize,
+) -> (Option<&'m Wkb<'a>>, Option<&'m Wkb<'a>>)
+    requires { clone.now ≡ source.now }
+    ensures { option_map (λ g. g.now) result.1 ≡ option_map (λ g. g.now) result.0 }
+{
+    let _members = source.geometries();
+    (source.geometry(i), clone.geometry(i))
+}
+
+// The bytes of a polygon spell it.
+fn polygon_spelled(polygon: &Polygon)
+    ensures bytes { AreBytes polygon.now.text }
+    ensures spells { IsSpelled (whole_of of_rings polygon.now) }
+{
+    holds_bytes(polygon.buf());
+}
+
+// The bytes of a line string spell it.
+fn line_string_spelled(line_string: &LineString)
+    ensures bytes { AreBytes (line_string_seen line_string.now).text }
+    ensures spells { IsSpelled (line_string_seen line_string.now) }
+{
+    holds_bytes(line_string.buf());
+}
+
+/// The same of the polygons of one index in two equal multi polygons.
+pub fn polygons<'m, 'a>(
+    source: &'m MultiPolygon<'a>,
+    clone: &'m MultiPolygon<'a>,
+    i: usize,
+) -> (Option<&'m Polygon<'a>>, Option<&'m Polygon<'a>>)
+    requires { clone.now ≡ source.now }
+    ensures { option_map (λ p. p.now) result.1 ≡ option_map (λ p. p.now) result.0 }
+{
+    one_text();
+    match (source.polygon(i), clone.polygon(i)) {
+        (Some(one), Some(other)) => {
+            polygon_spelled(one);
+            polygon_spelled(other);
+            (Some(one), Some(other))
+        }
+        missing => missing,
+    }
+}
+
+/// The same of the line strings of one index in two equal multi line strings.
+pub fn line_strings<'a>(
+    source: &MultiLineString<'a>,
+    clone: &MultiLineString<'a>,
+    i: usize,
+) -> (Option<LineString<'a>>, Option<LineString<'a>>)
+    requires { clone.now ≡ source.now }
+    ensures { option_map line_string_seen result.1 ≡ option_map line_string_seen result.0 }
+{
+    one_text();
+    match (source.line_string(i), clone.line_string(i)) {
+        (Some(one), Some(other)) => {
+            line_string_spelled(&one);
+            line_string_spelled(&other);
+            (Some(one), Some(other))
+        }
+        missing => missing,
+    }
+}

@@ -1,0 +1,25 @@
+//! Laws of places: where the bytes of members, rings and words stand in those of a geometry.
+
+ghost use Rattle.wkb_laws.specs.Places.{HasOneText, MembersStand, RingsStand, WordsStand, LineStringWordsStand};
+
+/// A spelling and a value have one text: whatever bytes spell both are the same bytes.
+pub fn one_text()
+    ensures { HasOneText }
+{}
+
+/// Members stand behind the count of their geometry, one behind the other, in their order.
+pub fn members_stand()
+    ensures { MembersStand }
+{}
+
+/// Rings stand behind the count of their polygon, one behind the other, in their order. Each is a count and its
+/// coordinates in the polygon's order.
+pub fn rings_stand()
+    ensures { RingsStand }
+{}
+
+/// The words of coordinates stand behind their count, eight bytes each.
+pub fn words_stand()
+    ensures ring { WordsStand }
+    ensures line_string { LineStringWordsStand }
+{}
