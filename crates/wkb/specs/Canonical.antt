@@ -9,7 +9,8 @@ use Rattle.wkb_geom.specs.declared.error.WkbError.TheVariants as errors
 use Rattle.wkb_geom.specs.Values.{Value, member_count, listed_count}
 use Rattle.wkb_geom.specs.Spellings.{Spelling, header, any}
 use Rattle.wkb_geom.specs.Fronts.{Front, max_nesting}
-use Rattle.wkb_geom.specs.Refusals.{Cause, Refuses}
+use Rattle.wkb_geom.specs.declared.error.Cause.{Cause}
+use Rattle.wkb_geom.specs.Refusals.{Refuses}
 use Rattle.wkb_geom.specs.Geometries.{geometry_of}
 use Rattle.wkb_geom.specs.Texts.{text}
 

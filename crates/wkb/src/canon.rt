@@ -12,9 +12,10 @@ ghost use Rattle.wkb.specs.Canonical.{IsAccepted, IsSize, IsTooLong, IsTooLongWi
 use std::alloc::{AllocError, Global};
 use wkb_geom::error::{WkbError, WkbResult};
 use wkb_geom::{Endianness, Form, GeometryTrait};
+use wkb_put::put_geometry;
 use wkb_read::geometry::Wkb;
 use wkb_read::read::stack::read_wkb;
-use wkb_write::{VecSink, WriteOptions, geometry_wkb_size_with, write_geometry};
+use wkb_write::{VecSink, WriteOptions, geometry_wkb_size_with};
 
 /// The text of a geometry under the options, in memory that is asked for at once.
 fn text_of<G: GeometryTrait>(
@@ -34,9 +35,10 @@ fn text_of<G: GeometryTrait>(
         Ok(sink) => sink,
         Err(e) => return Err(WkbError::Memory(e)),
     };
-    match write_geometry(&mut sink, geometry, options) {
+    // The size refused whatever a writer refuses.
+    match put_geometry(&mut sink, geometry, options.endianness, options.form, size) {
         Ok(()) => Ok(sink.into_vec()),
-        // The size refused whatever a writer refuses, and this sink fails only for want of memory.
+        // This sink fails only for want of memory.
         Err(_) => Err(WkbError::Memory(AllocError)),
     }
 }
@@ -76,7 +78,8 @@ pub fn canonical(alloc: Global, buf: &[u8], options: &WriteOptions) -> WkbResult
 /// Refused as `canonical` refuses.
 pub fn canonical_with_srid(alloc: Global, buf: &[u8], order: Endianness) -> WkbResult<Vec<u8>>
     ensures ok { IfOk result (λ text. IsRewritingWithSrid order buf.now text.items) }
-    ensures err { IfErr result (λ e. IsMemory e ⊎ (IsRefusal buf.now e ⊎ (IsTooLongWithSrid order buf.now × IsSize e))) }
+    ensures err { IfErr result (λ e. IsMemory e ⊎ (IsRefusal buf.now e ⊎ (IsTooLongWithSrid order buf.now
+        × IsSize e))) }
 {
     match read_wkb(alloc, buf) {
         Ok(wkb) => {

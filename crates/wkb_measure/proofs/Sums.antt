@@ -4,9 +4,9 @@ use Rattle.std.specs.List.{sum_by}
 use Rattle.std.specs.Prelude.{IfSome, IsErrAnd}
 use Rattle.std.proofs.lemmas.List.Sums.{sum_by_more}
 use Rattle.std.proofs.lemmas.Option.{slice_get-get_or, get_or_from_slice_get}
-use Rattle.wkb_geom.specs.declared.error.WkbError.{WkbError}
+use Rattle.wkb_measure.specs.declared.fault.Fault.{Fault as Found}
 use Rattle.wkb_geom.specs.Texts.{first_fault, count_fault}
-use Rattle.wkb_measure.specs.Measures.{Reports, Measures, capped}
+use Rattle.wkb_measure.specs.Measures.{Finds, Measures, capped}
 use Rattle.wkb_measure.specs.Bodies.{Part, parts_fault, parts_size}
 use Rattle.wkb_geom.proofs.Faults.{none_first, none_rest}
 use Rattle.wkb_measure.proofs.Faults.{reports_first, reports_rest, none_both, measured_err}
@@ -26,11 +26,11 @@ first_fault_step (q ∷ ps) (suc i) p item h here =
     rw add-one (none_both q.fault (first_fault (λ r. r.fault) (take (suc i) ps)) (none_first _ _ h) (rw add-one at rest))
 
 -- the first fault is that of a part, where those before it have none
-first_reports : (ps : List Part) (i : ℕ) (p : Part) (e : WkbError) → slice_get ps i ≡ Some p → first_fault (λ q. q.fault) (take i ps) ≡ None → Reports e p.fault → Reports e (first_fault (λ q. q.fault) ps)
+first_reports : (ps : List Part) (i : ℕ) (p : Part) (e : Found) → slice_get ps i ≡ Some p → first_fault (λ q. q.fault) (take i ps) ≡ None → Finds e p.fault → Finds e (first_fault (λ q. q.fault) ps)
 unfolding first_fault
 first_reports [] i p e item h r = cc
 first_reports (q ∷ ps) zero p e item h r =
-    let is : p ≡ q = cc in reports_first e q.fault (first_fault (λ s. s.fault) ps) (subst (λ s. Reports e s.fault) is r)
+    let is : p ≡ q = cc in reports_first e q.fault (first_fault (λ s. s.fault) ps) (subst (λ s. Finds e s.fault) is r)
 first_reports (q ∷ ps) (suc i) p e item h r =
     reports_rest e q.fault (first_fault (λ s. s.fault) ps) (none_first _ _ h) (first_reports ps i p e item (none_rest q.fault _ h) r)
 
@@ -59,14 +59,14 @@ parts_step ps i total n within told s =
     }
 
 -- the fault of the count, and of a part
-pub count_reports : (ps : List Part) (n : ℕ) (e : WkbError) (r : Result ℕ WkbError) → n ≡ length ps → IsErrAnd r (λ y. y ≡ e) → Reports e (count_fault n) → Measures (parts_fault ps) (parts_size ps) r
+pub count_reports : (ps : List Part) (n : ℕ) (e : Found) (r : Result ℕ Found) → n ≡ length ps → IsErrAnd r (λ y. y ≡ e) → Finds e (count_fault n) → Measures (parts_fault ps) (parts_size ps) r
 unfolding parts_fault
-count_reports ps n e r is exit told = measured_err e _ _ r exit (reports_first e _ _ (subst (λ k. Reports e (count_fault k)) is told))
+count_reports ps n e r is exit told = measured_err e _ _ r exit (reports_first e _ _ (subst (λ k. Finds e (count_fault k)) is told))
 
-pub part_reports : (ps : List Part) (n i total : ℕ) (e : WkbError) (r : Result ℕ WkbError) → n ≡ length ps → count_fault n ≡ None → i < length ps → IfSome (slice_get ps i) (λ p. Reports e p.fault) → SoFar ps i total → IsErrAnd r (λ y. y ≡ e) → Measures (parts_fault ps) (parts_size ps) r
+pub part_reports : (ps : List Part) (n i total : ℕ) (e : Found) (r : Result ℕ Found) → n ≡ length ps → count_fault n ≡ None → i < length ps → IfSome (slice_get ps i) (λ p. Finds e p.fault) → SoFar ps i total → IsErrAnd r (λ y. y ≡ e) → Measures (parts_fault ps) (parts_size ps) r
 unfolding parts_fault
 part_reports ps n i total e r is counted within told s exit =
-    let here = part_there ps i (λ q. Reports e q.fault) within told in
+    let here = part_there ps i (λ q. Finds e q.fault) within told in
     let item = slice_get-get_or ps i no_part within in
     measured_err e _ _ r exit (reports_rest e _ _ (ap count_fault (sym is) ∙ counted) (first_reports ps i (get_or ps i no_part) e item s.none here))
 

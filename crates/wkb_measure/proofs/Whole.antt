@@ -6,12 +6,12 @@ use Rattle.std.proofs.lemmas.Option.{slice_get_read}
 use Rattle.std.proofs.lemmas.List.{length-map}
 use Rattle.std.proofs.lemmas.List.Sums.{sum_by-cons}
 use Rattle.wkb_geom.specs.declared.common.Dimensions.{Dimensions}
-use Rattle.wkb_geom.specs.declared.error.WkbError.{WkbError}
+use Rattle.wkb_measure.specs.declared.fault.Fault.{Fault as Found}
 use Rattle.wkb_geom.specs.Geometries.{Geometry, Geometries, point, line_string, polygon, multi_point, multi_line_string, multi_polygon, collection, rectangle, triangle, line, no_geometries, geometry, geometries}
 use Rattle.wkb_geom.specs.Sizes.{node_count, node_counts, dimensions_of, byte_size, byte_sizes, ring_size, line_string_size, polygon_size}
 use Rattle.wkb_geom.specs.Texts.{Fault, or_else, first_fault, count_fault, count_geometries, dimensions_fault, coordinates_fault, rings_fault, fault, fault_each}
 use Rattle.wkb_geom.proofs.Nodes.{node_count-member}
-use Rattle.wkb_measure.specs.Measures.{Reports, Measures, capped}
+use Rattle.wkb_measure.specs.Measures.{Finds, Measures, capped}
 use Rattle.wkb_measure.specs.Bodies.{Part, parts_fault, parts_size, ring_part, line_string_part, polygon_part, member_part, members, body_fault, body_size}
 use Rattle.wkb_measure.proofs.Faults.{none_both, reports_first, reports_rest}
 
@@ -93,15 +93,15 @@ size_by_body (rectangle d least greatest) = refl
 size_by_body (triangle d first second third) = omega arith
 
 -- what was measured of a header and a body is measured of the geometry
-pub whole_measured : (g : Geometry) (dims : Dimensions) (r : Result ℕ WkbError) → dims ≡ dimensions_of g → dimensions_fault dims ≡ None → Measures (body_fault g) (5 + body_size g) r → Measures (fault g) (byte_size g) r
+pub whole_measured : (g : Geometry) (dims : Dimensions) (r : Result ℕ Found) → dims ≡ dimensions_of g → dimensions_fault dims ≡ None → Measures (body_fault g) (5 + body_size g) r → Measures (fault g) (byte_size g) r
 whole_measured g dims (Ok n) is supported h =
     (fault_by_body g ∙ none_both _ _ (ap dimensions_fault (sym is) ∙ supported) h.0, h.1 ∙ ap capped (sym (size_by_body g)))
 whole_measured g dims (Err e) is supported h =
-    subst (Reports e) (sym (fault_by_body g)) (reports_rest e _ _ (ap dimensions_fault (sym is) ∙ supported) h)
+    subst (Finds e) (sym (fault_by_body g)) (reports_rest e _ _ (ap dimensions_fault (sym is) ∙ supported) h)
 
-pub whole_unsupported : (g : Geometry) (dims : Dimensions) (e : WkbError) → dims ≡ dimensions_of g → Reports e (dimensions_fault dims) → Reports e (fault g)
+pub whole_unsupported : (g : Geometry) (dims : Dimensions) (e : Found) → dims ≡ dimensions_of g → Finds e (dimensions_fault dims) → Finds e (fault g)
 whole_unsupported g dims e is told =
-    subst (Reports e) (sym (fault_by_body g)) (reports_first e _ _ (subst (λ d. Reports e (dimensions_fault d)) is told))
+    subst (Finds e) (sym (fault_by_body g)) (reports_first e _ _ (subst (λ d. Finds e (dimensions_fault d)) is told))
 
 -- the parts of members that are lent as a slice
 pub members_length : {X : Type 0} (f : X → Geometry) (xs : List X) → length xs ≡ length (members (geometries (map f xs)))

@@ -1,2 +1,3 @@
-pub mod Measures
 pub mod Bodies
+pub mod Faults
+pub mod Measures

@@ -3,20 +3,21 @@
 ghost use Rattle.std.specs.Prelude.{◌≡◌, ◌*◌, ◌^◌, ◌<◌, None, MatchResult};
 ghost use Rattle.wkb_geom.specs.Dimensions.{size};
 ghost use Rattle.wkb_geom.specs.Texts.{dimensions_fault, count_fault};
-ghost use Rattle.wkb_measure.specs.Measures.{Reports};
+ghost use Rattle.wkb_measure.specs.Measures.{Finds};
 
-use wkb_geom::{Dimensions, General, Overflow, WkbError, WkbResult};
+use crate::fault::Fault;
+use wkb_geom::Dimensions;
 
 /// Refuses dimensions that can't be written.
 #[tactic(auto, using(crate::proofs::Faults::supported_laws), unfolding(wkb_geom::specs::Texts::dimensions_fault))]
-pub fn check_dimensions(dim: Dimensions) -> WkbResult<()>
+pub fn check_dimensions(dim: Dimensions) -> Result<(), Fault>
     ensures { MatchResult result (λ _. dimensions_fault dim ≡ None)
-        (λ e. Reports e (dimensions_fault dim)) }
+        (λ e. Finds e (dimensions_fault dim)) }
 {
     match dim {
         Dimensions::Unknown(n) => {
             if n < 2 || 4 < n {
-                Err(WkbError::General(General::UnsupportedDimensions(n)))
+                Err(Fault::UnsupportedDimensions(n))
             } else {
                 Ok(())
             }
@@ -27,21 +28,21 @@ pub fn check_dimensions(dim: Dimensions) -> WkbResult<()>
 
 /// A count, where four bytes hold it.
 #[tactic(auto, using(crate::proofs::Faults::supported_laws))]
-pub fn check_count(n: u128) -> WkbResult<u32>
+pub fn check_count(n: u128) -> Result<u32, Fault>
     ensures { MatchResult result (λ m. (count_fault n ≡ None) × (m ≡ n))
-        (λ e. Reports e (count_fault n)) }
+        (λ e. Finds e (count_fault n)) }
 {
     if n <= u32::MAX as u128 {
         Ok(n as u32)
     } else {
-        Err(WkbError::OverflowError(Overflow::Count))
+        Err(Fault::Count)
     }
 }
 
-/// The same of a length.
-pub fn check_len(n: usize) -> WkbResult<u32>
+/// The same of a length in memory.
+pub fn check_len(n: usize) -> Result<u32, Fault>
     ensures { MatchResult result (λ m. (count_fault n ≡ None) × (m ≡ n))
-        (λ e. Reports e (count_fault n)) }
+        (λ e. Finds e (count_fault n)) }
 {
     check_count(n as u128)
 }

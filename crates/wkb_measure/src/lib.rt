@@ -5,9 +5,11 @@
 #![tactic(auto)]
 
 mod check;
+mod fault;
 mod lists;
 mod measure;
 mod parts;
 mod rings;
 
+pub use fault::Fault;
 pub use measure::{measure_geometry, measure_geometry_collection, measure_point};

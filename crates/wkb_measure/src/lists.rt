@@ -1,11 +1,12 @@
 //! The members of a MultiLineString and of a MultiPolygon.
 
-ghost use Rattle.std.specs.Prelude.{◌≡◌, length, map};
+ghost use Rattle.std.specs.Prelude.{map};
 ghost use Rattle.wkb_measure.specs.Bodies.{line_string_part, polygon_part};
 
+use crate::fault::Fault;
 use crate::parts::{Parts, behind_header, measure_parts};
 use crate::rings::{Rings, measure_ring};
-use wkb_geom::{MultiLineStringTrait, MultiPolygonTrait, WkbResult};
+use wkb_geom::{MultiLineStringTrait, MultiPolygonTrait};
 
 /// The line strings of a MultiLineString.
 #[derive(Clone, Copy)]
@@ -18,7 +19,7 @@ impl<M: MultiLineStringTrait> Parts for LineStrings<'_, M> {
         self.0.num_line_strings() as u128
     }
 
-    fn measure_part(&self, i: usize) -> WkbResult<u128> {
+    fn measure_part(&self, i: usize) -> Result<u128, Fault> {
         let member = self.0.line_string(i).unwrap();
         behind_header(measure_ring(&member))
     }
@@ -35,7 +36,7 @@ impl<M: MultiPolygonTrait> Parts for Polygons<'_, M> {
         self.0.num_polygons() as u128
     }
 
-    fn measure_part(&self, i: usize) -> WkbResult<u128> {
+    fn measure_part(&self, i: usize) -> Result<u128, Fault> {
         let member = self.0.polygon(i).unwrap();
         behind_header(measure_parts(&Rings(member)))
     }

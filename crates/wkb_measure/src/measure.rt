@@ -1,6 +1,6 @@
 //! Faults and sizes of whole geometries.
 
-ghost use Rattle.std.specs.Prelude.{◌≡◌, ◌+◌, ◌*◌, length, map};
+ghost use Rattle.std.specs.Prelude.{◌+◌, ◌*◌, length, map};
 ghost use Rattle.wkb_geom.specs.Dimensions.{size};
 ghost use Rattle.wkb_geom.specs.Geometries.{collection, geometries};
 ghost use Rattle.wkb_geom.specs.Sizes.{byte_size, point_size};
@@ -9,16 +9,17 @@ ghost use Rattle.wkb_measure.specs.Bodies.{body_fault, body_size, members, parts
 ghost use Rattle.wkb_measure.specs.Measures.{Measures};
 
 use crate::check::{check_dimensions, check_len, words_size};
+use crate::fault::Fault;
 use crate::lists::{LineStrings, Polygons};
 use crate::parts::{behind_header, measure_parts};
 use crate::rings::{Rings, measure_ring};
 use wkb_geom::{
     Dimensioned, Dimensions, GeometryCollectionTrait, GeometryTrait, GeometryType, LineTrait,
-    MultiPointTrait, TriangleTrait, WkbResult,
+    MultiPointTrait, TriangleTrait,
 };
 
 /// A point of these dimensions, whatever its words.
-pub fn measure_point(dim: Dimensions) -> WkbResult<u128>
+pub fn measure_point(dim: Dimensions) -> Result<u128, Fault>
     ensures measured { Measures (dimensions_fault dim) (point_size dim) result }
 {
     check_dimensions(dim)?;
@@ -26,7 +27,7 @@ pub fn measure_point(dim: Dimensions) -> WkbResult<u128>
 }
 
 // A count and points.
-fn measure_points<M: MultiPointTrait>(geom: &M) -> WkbResult<u128>
+fn measure_points<M: MultiPointTrait>(geom: &M) -> Result<u128, Fault>
     ensures { Measures (count_fault (length (M.points geom.now)))
         (4 + length (M.points geom.now) * point_size (M.dimensions geom.now)) result }
 {
@@ -36,7 +37,7 @@ fn measure_points<M: MultiPointTrait>(geom: &M) -> WkbResult<u128>
 
 // What stands behind a geometry's header.
 #[cycle(measure)]
-fn measure_body<G: GeometryTrait>(geom: &G) -> WkbResult<u128>
+fn measure_body<G: GeometryTrait>(geom: &G) -> Result<u128, Fault>
     ensures { Measures (body_fault (G.geometry geom.now)) (body_size (G.geometry geom.now)) result }
 {
     match geom.as_type() {
@@ -55,7 +56,7 @@ fn measure_body<G: GeometryTrait>(geom: &G) -> WkbResult<u128>
 
 // A count and members, each a whole geometry.
 #[cycle(measure)]
-fn measure_members<G: GeometryTrait>(geoms: &[G]) -> WkbResult<u128>
+fn measure_members<G: GeometryTrait>(geoms: &[G]) -> Result<u128, Fault>
     ensures { Measures (parts_fault (members (geometries (map G.geometry geoms.now))))
         (parts_size (members (geometries (map G.geometry geoms.now)))) result }
 {
@@ -71,7 +72,7 @@ fn measure_members<G: GeometryTrait>(geoms: &[G]) -> WkbResult<u128>
 ///
 /// The size is the greatest `u128` where that is less.
 #[cycle(measure)]
-pub fn measure_geometry<G: GeometryTrait>(geom: &G) -> WkbResult<u128>
+pub fn measure_geometry<G: GeometryTrait>(geom: &G) -> Result<u128, Fault>
     ensures measured { Measures (fault (G.geometry geom.now))
         (byte_size (G.geometry geom.now)) result }
 {
@@ -80,7 +81,7 @@ pub fn measure_geometry<G: GeometryTrait>(geom: &G) -> WkbResult<u128>
 }
 
 /// The same of a collection, whose members are of another type.
-pub fn measure_geometry_collection<C: GeometryCollectionTrait>(geom: &C) -> WkbResult<u128>
+pub fn measure_geometry_collection<C: GeometryCollectionTrait>(geom: &C) -> Result<u128, Fault>
     ensures measured { Measures
         (fault (collection (C.dimensions geom.now) (geometries (C.members geom.now))))
         (byte_size (collection (C.dimensions geom.now) (geometries (C.members geom.now))))

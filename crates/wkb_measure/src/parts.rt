@@ -1,12 +1,12 @@
 //! Parts that a body counts, and what they come to.
 
 ghost use Rattle.std.specs.Prelude.{◌≡◌, ℕ, ◌+◌, ◌<◌, List, length, Option, IfSome, slice_get};
-ghost use Rattle.wkb_geom.specs.Texts.{Fault};
+ghost use Rattle.wkb_geom.specs.Texts.{Fault as Meant};
 ghost use Rattle.wkb_measure.specs.Bodies.{Part, parts_fault, parts_size};
 ghost use Rattle.wkb_measure.specs.Measures.{Measures};
 
 use crate::check::check_count;
-use wkb_geom::WkbResult;
+use crate::fault::Fault;
 
 /// The parts of one body, each with a fault or a size.
 pub trait Parts {
@@ -15,13 +15,13 @@ pub trait Parts {
     fn count(&self) -> u128
         ensures { result ≡ length (parts self.now) };
 
-    fn measure_part(&self, i: usize) -> WkbResult<u128>
+    fn measure_part(&self, i: usize) -> Result<u128, Fault>
         requires { i < length (parts self.now) }
         ensures { IfSome (slice_get (parts self.now) i) (λ p. Measures p.fault p.size result) };
 }
 
 /// A count, and the parts in order.
-pub fn measure_parts<P: Parts>(body: &P) -> WkbResult<u128>
+pub fn measure_parts<P: Parts>(body: &P) -> Result<u128, Fault>
     ensures { Measures (parts_fault (P.parts body.now)) (parts_size (P.parts body.now)) result }
 {
     let count = check_count(body.count())?;
@@ -33,8 +33,8 @@ pub fn measure_parts<P: Parts>(body: &P) -> WkbResult<u128>
 }
 
 /// The same with the five bytes of a header before it.
-pub fn behind_header(body: WkbResult<u128>) -> WkbResult<u128>
-    ensures { (f : Option Fault) (n : ℕ) → Measures f n body → Measures f (5 + n) result }
+pub fn behind_header(body: Result<u128, Fault>) -> Result<u128, Fault>
+    ensures { (f : Option Meant) (n : ℕ) → Measures f n body → Measures f (5 + n) result }
 {
     Ok(body?.saturating_add(5))
 }

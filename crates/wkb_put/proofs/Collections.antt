@@ -1,16 +1,16 @@
 -- A collection's members, as a list of what they mean.
-use Rattle.std.proofs.Common.{◌≡◌, ℕ, ◌+◌, ◌*◌, ◌<◌, List, [], ◌∷◌, ◌++◌, length, map, get_or, refl, sym, ap, ◌∙◌, arith, None, ◌^◌, subst, Bool, Result}
+use Rattle.std.proofs.Common.{◌≡◌, ℕ, ◌+◌, ◌*◌, ◌<◌, List, [], ◌∷◌, ◌++◌, length, map, get_or, refl, sym, ap, ◌∙◌, arith, None, ◌^◌, subst, Result}
 use Rattle.std.specs.List.{flat_map}
 use Rattle.wkb_geom.specs.declared.common.Endianness.{Endianness}
 use Rattle.wkb_geom.specs.declared.common.Form.{Form}
 use Rattle.wkb_geom.specs.declared.common.Dimension.{Dimension}
 use Rattle.wkb_geom.specs.declared.common.Dimensions.{Dimensions}
-use Rattle.wkb_geom.specs.declared.error.WkbError.{WkbError}
+use Rattle.wkb_put.specs.declared.buffered.Stopped.{Stopped}
 use Rattle.wkb_geom.specs.Dimensions.{written_dimension}
 use Rattle.wkb_geom.specs.Geometries.{Geometry, geometries, collection}
 use Rattle.wkb_geom.specs.Sizes.{node_count, node_counts}
 use Rattle.wkb_geom.specs.Texts.{text, texts, fault, fault_each, first_fault, or_else, count_fault, count_geometries, members_text, header_text, inner}
-use Rattle.wkb_put.specs.Blocks.{Place, Lays}
+use Rattle.wkb_put.specs.Progress.{Progress, Advances}
 use Rattle.wkb_put.specs.Items.{counted}
 use Rattle.wkb_geom.proofs.Faults.{none_first, none_rest}
 use Rattle.wkb_geom.proofs.Nodes.{node_count-member}
@@ -36,12 +36,12 @@ text-collection order form d f xs =
     rw (count-geometries f xs, texts-geometries order (inner form) f xs, counted_map order (λ x. text order (inner form) (f x)) xs) refl
 
 -- the text of a geometry that is a collection of these members
-pub lays_collection : {X : Type 0} (a b : Place) (failed : Bool) (r : Result (Unit {0}) WkbError) (order : Endianness) (form : Form) (d read : Dimensions) (named : Dimension) (f : X → Geometry) (xs : List X) (geo : Geometry) → collection d (geometries (map f xs)) ≡ geo → named ≡ written_dimension read → read ≡ d → Lays a b failed (header_text order form 7 named ++ counted order (map (λ x. text order (inner form) (f x)) xs)) r → Lays a b failed (text order form geo) r
-lays_collection a b failed r order form d read named f xs geo is name same p =
+pub lays_collection : {X : Type 0} (a b : Progress) (r : Result (Unit {0}) Stopped) (order : Endianness) (form : Form) (d read : Dimensions) (named : Dimension) (f : X → Geometry) (xs : List X) (geo : Geometry) → collection d (geometries (map f xs)) ≡ geo → named ≡ written_dimension read → read ≡ d → Advances a b (header_text order form 7 named ++ counted order (map (λ x. text order (inner form) (f x)) xs)) r → Advances a b (text order form geo) r
+lays_collection a b r order form d read named f xs geo is name same p =
     let written : named ≡ written_dimension d = name ∙ ap written_dimension same in
     let rest = counted order (map (λ x. text order (inner form) (f x)) xs) in
     let whole : header_text order form 7 named ++ rest ≡ text order form geo = ap (λ e. header_text order form 7 e ++ rest) written ∙ sym (text-collection order form d f xs) ∙ ap (text order form) is in
-    subst (λ t. Lays a b failed t r) whole p
+    subst (λ t. Advances a b t r) whole p
 
 pub collection_count : {X : Type 0} (d : Dimensions) (f : X → Geometry) (xs : List X) (geo : Geometry) → collection d (geometries (map f xs)) ≡ geo → fault geo ≡ None → length xs < 2 ^ 32
 collection_count d f xs geo is h =

@@ -5,11 +5,16 @@ use Rattle.wkb_geom.specs.declared.common.Dimensions.{Dimensions}
 use Rattle.wkb_geom.specs.declared.common.Dimensions.TheVariants.{Xy, Xyz, Xym, Xyzm, Unknown}
 use Rattle.wkb_geom.proofs.Faults.{none_first, none_rest}
 use Rattle.wkb_geom.specs.Dimensions.{size}
-use Rattle.wkb_geom.specs.Texts.{Fault, first_fault, count_fault, dimensions_fault}
+use Rattle.wkb_geom.specs.Texts.{Fault, or_else, first_fault, count_fault, dimensions_fault}
 
 pub count_below : (n : ℕ) → count_fault n ≡ None → n < 2 ^ 32
 unfolding count_fault
 count_below n h = grind (arith, nat_tests)
+
+-- where neither is there, none is
+pub none_both : (a b : Option Fault) → a ≡ None → b ≡ None → or_else a b ≡ None
+unfolding or_else
+none_both a b p q = rw p q
 
 -- where no item has a fault, the item at i has none
 pub none_at : {X : Type 0} (f : X → Option Fault) (xs : List X) (i : ℕ) (x : X) → first_fault f xs ≡ None → slice_get xs i ≡ Some x → f x ≡ None

@@ -1,8 +1,8 @@
 -- The steps of a loop that lays the texts of a list's items.
-use Rattle.std.proofs.Common.{◌≡◌, ℕ, zero, suc, ◌+◌, ◌<◌, ◌≤◌, List, [], ◌∷◌, ◌++◌, length, take, drop, Some, refl, sym, ap, ◌∙◌, subst, append_assoc, append-nil, arith, take_all, take-append-drop, slice_get, add-one, map, get_or, Bool, Result}
+use Rattle.std.proofs.Common.{◌≡◌, ℕ, zero, suc, ◌+◌, ◌<◌, ◌≤◌, List, [], ◌∷◌, ◌++◌, length, take, drop, Some, refl, sym, ap, ◌∙◌, subst, append_assoc, append-nil, arith, take_all, take-append-drop, slice_get, add-one, map, get_or, Result}
 use Rattle.std.specs.List.{flat_map}
 use Rattle.std.proofs.lemmas.List.{length-map}
-use Rattle.wkb_geom.specs.declared.error.WkbError.{WkbError}
+use Rattle.wkb_put.specs.declared.buffered.Stopped.{Stopped}
 use Rattle.std.proofs.lemmas.List.Concat.{flat_map-append}
 use Rattle.wkb_geom.specs.declared.common.Endianness.{Endianness}
 use Rattle.wkb_geom.specs.declared.common.Form.{Form}
@@ -12,7 +12,7 @@ use Rattle.wkb_geom.specs.Dimensions.{written_dimension}
 use Rattle.wkb_geom.specs.Numbers.{number_bytes}
 use Rattle.wkb_geom.specs.Texts.{header_text, members_text, inner}
 use Rattle.wkb_put.specs.Items.{counted}
-use Rattle.wkb_put.specs.Blocks.{Place, IsLaid, IsCut, Lays}
+use Rattle.wkb_put.specs.Progress.{Progress, IsLaid, IsCut, Advances}
 use Rattle.wkb_put.proofs.Laid.{laid_then, cut_then, cut_first}
 
 some_is : {X : Type 0} {x y : X} → Some x ≡ Some y → x ≡ y
@@ -35,24 +35,24 @@ take_shorter (suc i) zero xs h = absurd (omega arith)
 take_shorter (suc i) (suc j) [] h = refl
 take_shorter (suc i) (suc j) (x ∷ xs) h = ap (λ l. x ∷ l) (take_shorter i j xs (omega arith))
 
-pub item_laid : {X : Type 0} {a b c : Place} (f : X → List ℕ) (xs : List X) (i : ℕ) (x : X) → slice_get xs i ≡ Some x → IsLaid a b (flat_map f (take i xs)) → IsLaid b c (f x) → IsLaid a c (flat_map f (take (i + 1) xs))
+pub item_laid : {X : Type 0} {a b c : Progress} (f : X → List ℕ) (xs : List X) (i : ℕ) (x : X) → slice_get xs i ≡ Some x → IsLaid a b (flat_map f (take i xs)) → IsLaid b c (f x) → IsLaid a c (flat_map f (take (i + 1) xs))
 item_laid {a = a} {c = c} f xs i x h p q = subst (IsLaid a c) (sym (flat_map_step f xs i x h)) (laid_then p q)
 
-pub item_cut : {X : Type 0} {a b c : Place} (f : X → List ℕ) (xs : List X) (i : ℕ) (x : X) → slice_get xs i ≡ Some x → IsLaid a b (flat_map f (take i xs)) → IsCut b c (f x) → IsCut a c (flat_map f xs)
+pub item_cut : {X : Type 0} {a b c : Progress} (f : X → List ℕ) (xs : List X) (i : ℕ) (x : X) → slice_get xs i ≡ Some x → IsLaid a b (flat_map f (take i xs)) → IsCut b c (f x) → IsCut a c (flat_map f xs)
 item_cut {a = a} {c = c} f xs i x h p q = subst (IsCut a c) (sym (flat_map_rest f xs i x h)) (cut_first _ (cut_then p q))
 
-pub items_laid : {X : Type 0} {a b : Place} (f : X → List ℕ) (xs : List X) (i : ℕ) → length xs ≤ i → IsLaid a b (flat_map f (take i xs)) → IsLaid a b (flat_map f xs)
+pub items_laid : {X : Type 0} {a b : Progress} (f : X → List ℕ) (xs : List X) (i : ℕ) → length xs ≤ i → IsLaid a b (flat_map f (take i xs)) → IsLaid a b (flat_map f xs)
 items_laid {a = a} {b = b} f xs i h p = subst (λ l. IsLaid a b (flat_map f l)) (take_all i xs h) p
 
 -- a run of items, between two places
-pub run_laid : {X : Type 0} {a b c : Place} (f : X → List ℕ) (xs : List X) (i j : ℕ) → i ≤ j → IsLaid a b (flat_map f (take i xs)) → IsLaid b c (flat_map f (drop i (take j xs))) → IsLaid a c (flat_map f (take j xs))
+pub run_laid : {X : Type 0} {a b c : Progress} (f : X → List ℕ) (xs : List X) (i j : ℕ) → i ≤ j → IsLaid a b (flat_map f (take i xs)) → IsLaid b c (flat_map f (drop i (take j xs))) → IsLaid a c (flat_map f (take j xs))
 run_laid {a = a} {c = c} f xs i j h p q =
     let parts : flat_map f (take j xs) ≡ flat_map f (take i xs) ++ flat_map f (drop i (take j xs)) =
     ap (flat_map f) (sym (take-append-drop i (take j xs))) ∙ flat_map-append f (take i (take j xs)) (drop i (take j xs))
     ∙ ap (λ l. flat_map f l ++ flat_map f (drop i (take j xs))) (take_shorter i j xs h) in
     subst (IsLaid a c) (sym parts) (laid_then p q)
 
-pub run_cut : {X : Type 0} {a b c : Place} (f : X → List ℕ) (xs : List X) (i : ℕ) → IsLaid a b (flat_map f (take i xs)) → IsCut b c [] → IsCut a c (flat_map f xs)
+pub run_cut : {X : Type 0} {a b c : Progress} (f : X → List ℕ) (xs : List X) (i : ℕ) → IsLaid a b (flat_map f (take i xs)) → IsCut b c [] → IsCut a c (flat_map f xs)
 run_cut {a = a} {c = c} f xs i p q =
     let parts : flat_map f xs ≡ flat_map f (take i xs) ++ flat_map f (drop i xs) =
     ap (flat_map f) (sym (take-append-drop i xs)) ∙ flat_map-append f (take i xs) (drop i xs) in
@@ -73,24 +73,25 @@ pub counted_map : {X : Type 0} (order : Endianness) (f : X → List ℕ) (xs : L
 unfolding counted
 counted_map order f xs = rw (length-map xs f, joined f xs) refl
 
-pub lays_counted : {X : Type 0} (a b : Place) (failed : Bool) (r : Result (Unit {0}) WkbError) (order : Endianness) (header : List ℕ) (f : X → List ℕ) (xs : List X) → Lays a b failed (header ++ counted order (map f xs)) r → Lays a b failed (header ++ (number_bytes order 4 (length xs) ++ flat_map f xs)) r
-lays_counted a b failed r order header f xs p = subst (λ t. Lays a b failed (header ++ t) r) (counted_map order f xs) p
+pub lays_counted : {X : Type 0} (a b : Progress) (r : Result (Unit {0}) Stopped) (order : Endianness) (header : List ℕ) (f : X → List ℕ) (xs : List X) → Advances a b (header ++ counted order (map f xs)) r → Advances a b (header ++ (number_bytes order 4 (length xs) ++ flat_map f xs)) r
+lays_counted a b r order header f xs p = subst (λ t. Advances a b (header ++ t) r) (counted_map order f xs) p
 
 -- the same, of members in the form of members
-pub lays_members : {X : Type 0} (a b : Place) (failed : Bool) (r : Result (Unit {0}) WkbError) (order : Endianness) (form within : Form) (k : ℕ) (d : Dimension) (dims read : Dimensions) (f : Form → Dimension → X → List ℕ) (xs : List X) → d ≡ written_dimension read → read ≡ dims → within ≡ inner form → Lays a b failed (header_text order form k d ++ counted order (map (f within d) xs)) r → Lays a b failed (members_text order form k (written_dimension dims) (length xs) (flat_map (f (inner form) (written_dimension dims)) xs)) r
+pub lays_members : {X : Type 0} (a b : Progress) (r : Result (Unit {0}) Stopped) (order : Endianness) (form within : Form) (k : ℕ) (d : Dimension) (dims read : Dimensions) (f : Form → Dimension → X → List ℕ) (xs : List X) → d ≡ written_dimension read → read ≡ dims → within ≡ inner form → Advances a b (header_text order form k d ++ counted order (map (f within (written_dimension dims)) xs)) r → Advances a b (members_text order form k (written_dimension dims) (length xs) (flat_map (f (inner form) (written_dimension dims)) xs)) r
 unfolding members_text
-lays_members a b failed r order form within k d dims read f xs named same is p =
+lays_members a b r order form within k d dims read f xs named same is p =
     let written : d ≡ written_dimension dims = named ∙ ap written_dimension same in
-    subst (λ e. Lays a b failed (header_text order form k e ++ (number_bytes order 4 (length xs) ++ flat_map (f (inner form) e) xs)) r) written
-    (subst (λ h. Lays a b failed (header_text order form k d ++ (number_bytes order 4 (length xs) ++ flat_map (f h d) xs)) r) is
-    (lays_counted a b failed r order (header_text order form k d) (f within d) xs p))
+    let texts = λ (h : Form). f h (written_dimension dims) in
+    subst (λ e. Advances a b (header_text order form k e ++ (number_bytes order 4 (length xs) ++ flat_map (texts (inner form)) xs)) r) written
+    (subst (λ h. Advances a b (header_text order form k d ++ (number_bytes order 4 (length xs) ++ flat_map (texts h) xs)) r) is
+    (lays_counted a b r order (header_text order form k d) (texts within) xs p))
 
 -- the steps of a loop that lays a header, a count and the items
-pub headed_count_cut : {X : Type 0} {a b c : Place} (order : Endianness) (header : List ℕ) (f : X → List ℕ) (xs : List X) (n : ℕ) → n ≡ length xs → IsLaid a b header → IsCut b c (number_bytes order 4 n) → IsCut a c (header ++ counted order (map f xs))
+pub headed_count_cut : {X : Type 0} {a b c : Progress} (order : Endianness) (header : List ℕ) (f : X → List ℕ) (xs : List X) (n : ℕ) → n ≡ length xs → IsLaid a b header → IsCut b c (number_bytes order 4 n) → IsCut a c (header ++ counted order (map f xs))
 headed_count_cut order header f xs n is p q = rw (counted_map order f xs, ← is) (cut_then p (cut_first _ q))
 
-pub headed_item_cut : {X : Type 0} {a b c d e : Place} (order : Endianness) (header : List ℕ) (f : X → List ℕ) (xs : List X) (n i : ℕ) (x : X) → n ≡ length xs → slice_get xs i ≡ Some x → IsLaid a b header → IsLaid b c (number_bytes order 4 n) → IsLaid c d (flat_map f (take i xs)) → IsCut d e (f x) → IsCut a e (header ++ counted order (map f xs))
+pub headed_item_cut : {X : Type 0} {a b c d e : Progress} (order : Endianness) (header : List ℕ) (f : X → List ℕ) (xs : List X) (n i : ℕ) (x : X) → n ≡ length xs → slice_get xs i ≡ Some x → IsLaid a b header → IsLaid b c (number_bytes order 4 n) → IsLaid c d (flat_map f (take i xs)) → IsCut d e (f x) → IsCut a e (header ++ counted order (map f xs))
 headed_item_cut order header f xs n i x is item p q s last = rw (counted_map order f xs, ← is) (cut_then p (cut_then q (item_cut f xs i x item s last)))
 
-pub headed_items_laid : {X : Type 0} {a b c d : Place} (order : Endianness) (header : List ℕ) (f : X → List ℕ) (xs : List X) (n i : ℕ) → n ≡ length xs → length xs ≤ i → IsLaid a b header → IsLaid b c (number_bytes order 4 n) → IsLaid c d (flat_map f (take i xs)) → IsLaid a d (header ++ counted order (map f xs))
+pub headed_items_laid : {X : Type 0} {a b c d : Progress} (order : Endianness) (header : List ℕ) (f : X → List ℕ) (xs : List X) (n i : ℕ) → n ≡ length xs → length xs ≤ i → IsLaid a b header → IsLaid b c (number_bytes order 4 n) → IsLaid c d (flat_map f (take i xs)) → IsLaid a d (header ++ counted order (map f xs))
 headed_items_laid order header f xs n i is past p q s = rw (counted_map order f xs, ← is) (laid_then p (laid_then q (items_laid f xs i past s)))

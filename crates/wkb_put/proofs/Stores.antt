@@ -1,13 +1,15 @@
 -- Parts of a text that are stored one after another.
-use Rattle.std.proofs.Common.{◌≡◌, ℕ, zero, suc, ◌+◌, ◌-◌, ◌≤◌, List, [], ◌∷◌, ◌++◌, length, take, drop, Some, refl, sym, ap, ◌∙◌, append_assoc, append-nil, arith, length-drop, slice_get, slice_index, add-one}
+use Rattle.std.proofs.Common.{◌≡◌, ℕ, zero, suc, ◌+◌, ◌-◌, ◌*◌, ◌/◌, ◌<◌, ◌≤◌, List, [], ◌∷◌, ◌++◌, length, take, drop, Some, refl, sym, ap, ◌∙◌, append_assoc, append-nil, arith, length-drop, slice_get, slice_index, add-one}
 use Rattle.std.specs.List.{flat_map}
 use Rattle.std.proofs.lemmas.List.{length-take-le, take-append-le}
+use Rattle.std.proofs.Math.Nat.{mul-add, mul-le-mul_left}
+use Rattle.std.proofs.lemmas.Nat.{le-div}
 use Rattle.std.proofs.Math.Seq.{take-append-add, take-append_seam}
 use borrow.Rule.Slice.PartMut.{put_mid, mid_of, post_of}
 use Rattle.wkb_geom.specs.declared.common.Endianness.{Endianness}
 use Rattle.wkb_geom.specs.Numbers.{number_bytes}
 use Rattle.wkb_geom.specs.Texts.{words_text}
-use Rattle.wkb_put.specs.Blocks.{block_size, IsExtended}
+use Rattle.wkb_put.specs.Blocks.{Waiting, IsExtended}
 use Rattle.wkb_put.proofs.Loops.{flat_map_step}
 
 -- a text that was stored before what was there
@@ -59,9 +61,23 @@ run_step f (y ∷ ys) (suc start) zero x item h = absurd (omega arith)
 run_step f (y ∷ ys) (suc start) (suc i) x item h = rw add-one (rw add-one at (run_step f ys start i x item (omega arith)))
 
 -- a text that was stored behind the bytes that wait in a block
-pub block_next : (bytes part waiting s : List ℕ) (len n : ℕ) → take len bytes ≡ waiting → len ≤ block_size → length bytes ≡ block_size → length part ≡ length (mid_of len (block_size - len) bytes) → length waiting + n ≤ block_size → take n part ≡ s → IsExtended waiting (take (len + n) (put_mid len (block_size - len) bytes part)) s
-block_next bytes part waiting s len n is fits full many room stored =
-    let long : length waiting ≡ len = sym (ap length is) ∙ length-take-le len bytes (omega arith) in
-    let left : length (drop len bytes) ≡ block_size - len = length-drop len bytes ∙ ap (λ k. k - len) full in
-    let free : length part ≡ block_size - len = many ∙ length-take-le (block_size - len) (drop len bytes) (omega (arith, left)) in
-    record { is = stored_next bytes part waiting s len n (block_size - len) is (omega arith) stored (omega (arith, long, free)) }
+pub block_next : (old : Waiting) (bytes part s : List ℕ) (len n : ℕ) → record { waiting = take len bytes; room = length bytes - len } ≡ old → len ≤ length bytes → length part ≡ length (mid_of len (length bytes - len) bytes) → n ≤ old.room → take n part ≡ s → IsExtended old.waiting (take (len + n) (put_mid len (length bytes - len) bytes part)) s
+block_next old bytes part s len n is fits many room stored =
+    let left : length (drop len bytes) ≡ length bytes - len = length-drop len bytes in
+    let free : length part ≡ length bytes - len = many ∙ length-take-le (length bytes - len) (drop len bytes) (omega (arith, left)) in
+    let holds = ap (λ w. w.room) is in
+    record { is = stored_next bytes part old.waiting s len n (length bytes - len) (ap (λ w. w.waiting) is) fits stored (omega (arith, free, holds, room)) }
+
+-- the bytes of the items that are left, of w bytes each
+pub one_more : (w i to : ℕ) → i < to → w * (to - i) ≡ w * (to - (i + 1)) + w
+one_more w i to h =
+    let step : to - i ≡ (to - (i + 1)) + 1 = omega arith in
+    ap (λ k. w * k) step ∙ omega (arith, mul-add w (to - (i + 1)) 1)
+
+-- as many items of w bytes as a room is divided into fit there
+pub run_fits : (w k room : ℕ) → 0 < w → k ≤ room / w → w * k ≤ room
+run_fits w k room some few = let most = mul-le-mul_left w few in omega (arith, most)
+
+-- and where there is room for one, that is at least one
+pub one_fits : (w room : ℕ) → 0 < w → w ≤ room → 0 < room / w
+one_fits w room some fits = le-div 1 room w some (omega arith)

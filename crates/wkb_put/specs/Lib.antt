@@ -1,4 +1,5 @@
 pub mod Blocks
 pub mod Items
 pub mod Held
+pub mod Progress
 pub mod Sinks

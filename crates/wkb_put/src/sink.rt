@@ -1,6 +1,7 @@
 //! Where bytes are written to.
 
-ghost use Rattle.std.specs.Prelude.{◌≡◌, ◌||◌, ◌+◌, ◌≤◌, ◌-◌, min, IsOk, ℕ, Bool, false, List, [], Option, None, Some, length, take, IfOk, vec_capacity};
+ghost use Rattle.std.specs.Prelude.{◌≡◌, ◌||◌, ◌+◌, ◌≤◌, ◌-◌, min, ℕ, Bool, false, List, [], length, take};
+ghost use Rattle.std.specs.Prelude.{Option, None, Some, IsOk, IfOk, vec_capacity};
 ghost use Rattle.std.specs.Io.{WritesAtMost};
 ghost use Rattle.std.specs.Io.KnownBytes.{WriteAppends};
 ghost use Rattle.wkb_put.specs.Held.{Outward, Growing, Lent};
@@ -26,11 +27,12 @@ pub trait Sink {
         ensures bytes { WriteAppends (appended self.old) (appended self.new) result bytes.now }
         ensures failure { has_failed self.new ≡ (has_failed self.old || put_fails (length bytes.now) result) };
 
+    /// Whether a put has failed: what stands is then a beginning at most.
     fn failed(&self) -> bool
         ensures { result ≡ has_failed self.now };
 }
 
-/// A sink over a writer: one write for each put.
+/// A sink over a writer: one write for each put, which isn't tried again where it was interrupted.
 #[derive(Drop)]
 pub struct Out<W> {
     writer: W,
@@ -44,6 +46,7 @@ impl<W> Model for Out<W> {
 }
 
 impl<W: Write> Out<W> {
+    /// A sink over this writer, with nothing written.
     pub fn new(writer: W) -> Out<W>
         ensures writer { result.writer ≡ writer }
         ensures failed { result.failed ≡ false }
@@ -54,6 +57,7 @@ impl<W: Write> Out<W> {
         }
     }
 
+    /// The writer, with all that was written to it.
     pub fn into_inner(self) -> W
         ensures { result ≡ self.writer }
     {
@@ -99,6 +103,7 @@ impl Model for VecSink {
 }
 
 impl VecSink {
+    /// An empty sink, which asks for memory as bytes come.
     pub fn new(alloc: Global) -> VecSink
         ensures bytes { result.bytes ≡ [] }
         ensures failed { result.failed ≡ false }
@@ -109,7 +114,7 @@ impl VecSink {
         }
     }
 
-    /// A sink whose first n bytes ask for no more memory.
+    /// A sink whose first n bytes ask for no more memory. Fails where there is none for them.
     pub fn with_capacity(alloc: Global, n: usize) -> Result<VecSink, AllocError>
         ensures bytes { IfOk result (λ s. s.bytes ≡ []) }
         ensures capacity { IfOk result (λ s. n ≤ s.capacity) }
@@ -122,6 +127,7 @@ impl VecSink {
         })
     }
 
+    /// The bytes that stand.
     pub fn into_vec(self) -> Vec<u8>
         ensures { result.items ≡ self.bytes }
     {
@@ -171,12 +177,17 @@ pub struct SliceSink<'a> {
 impl<'a> Model for SliceSink<'a> {
     ghost Value = { Lent };
 
-    ghost view = { λ s. record { bytes = take s.len s.slice.now; room = length s.slice.now - s.len; failed = s.has_failed } };
+    ghost view = { λ s. record {
+      bytes = take s.len s.slice.now;
+      room = length s.slice.now - s.len;
+      failed = s.has_failed;
+    } };
 
     ghost invariant = { λ s. s.len ≤ length s.slice.now };
 }
 
 impl<'a> SliceSink<'a> {
+    /// A sink that fills the slice from its front, and leaves what it doesn't fill as it was.
     pub fn new(slice: &'a mut [u8]) -> SliceSink<'a>
         ensures bytes { result.bytes ≡ [] }
         ensures room { result.room ≡ length slice.old }

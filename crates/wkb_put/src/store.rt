@@ -1,6 +1,6 @@
 //! Numbers and coordinates into bytes that stand ready for them.
 
-ghost use Rattle.std.specs.Prelude.{◌≡◌, ◌+◌, ◌-◌, ◌*◌, ◌≤◌, ◌++◌, length, drop, take};
+ghost use Rattle.std.specs.Prelude.{◌≡◌, ◌-◌, ◌*◌, ◌≤◌, ◌++◌, length, drop, take};
 ghost use Rattle.std.specs.List.{flat_map};
 ghost use Rattle.wkb_geom.specs.Dimensions.{size};
 ghost use Rattle.wkb_geom.specs.Numbers.{number_bytes};
@@ -61,8 +61,36 @@ pub fn store_coordinate<C: CoordTrait>(bytes: &mut [u8], coord: &C, width: usize
     }
 }
 
-/// Stores the coordinates between two places one after another, and answers how many bytes they
-/// take.
+/// Stores the coordinates between two places one after another, for an order and a width that are known where it is
+/// inlined.
+#[inline(always)]
+fn store_run<L: LineStringTrait>(
+    bytes: &mut [u8],
+    line: &L,
+    from: usize,
+    to: usize,
+    order: Endianness,
+    width: usize,
+) -> usize
+    requires order { from ≤ to }
+    requires width { width ≡ size (L.dimensions line.now) }
+    requires within { to ≤ length (L.coordinates line.now) }
+    requires least { 2 ≤ size (L.dimensions line.now) }
+    requires most { size (L.dimensions line.now) ≤ 4 }
+    requires room { 8 * width * (to - from) ≤ length bytes.old }
+    ensures len { result ≤ 8 * width * (to - from) }
+    ensures bytes { take result bytes.new ≡ flat_map (words_text order) (drop from (take to (L.coordinates line.now))) }
+{
+    let mut at = 0;
+    for i in from..to {
+        store_coordinate(&mut bytes[at..], &line.coord_at(i), width, order);
+        at += 8 * width;
+    }
+    at
+}
+
+/// Stores the coordinates between two places one after another, and answers how many bytes they take: a loop an order,
+/// and one for two words by itself.
 #[inline]
 pub fn store_coordinates<L: LineStringTrait>(
     bytes: &mut [u8],
@@ -75,15 +103,25 @@ pub fn store_coordinates<L: LineStringTrait>(
     requires within { to ≤ length (L.coordinates line.now) }
     requires least { 2 ≤ size (L.dimensions line.now) }
     requires most { size (L.dimensions line.now) ≤ 4 }
-    requires room { 32 * (to - from) ≤ length bytes.old }
-    ensures len { result ≤ 32 * (to - from) }
+    requires room { 8 * size (L.dimensions line.now) * (to - from) ≤ length bytes.old }
+    ensures len { result ≤ 8 * size (L.dimensions line.now) * (to - from) }
     ensures bytes { take result bytes.new ≡ flat_map (words_text order) (drop from (take to (L.coordinates line.now))) }
 {
     let width = line.dim().size();
-    let mut at = 0;
-    for i in from..to {
-        store_coordinate(&mut bytes[at..], &line.coord_at(i), width, order);
-        at += 8 * width;
+    match order {
+        Endianness::BigEndian => {
+            if width == 2 {
+                store_run(bytes, line, from, to, Endianness::BigEndian, 2)
+            } else {
+                store_run(bytes, line, from, to, Endianness::BigEndian, width)
+            }
+        }
+        Endianness::LittleEndian => {
+            if width == 2 {
+                store_run(bytes, line, from, to, Endianness::LittleEndian, 2)
+            } else {
+                store_run(bytes, line, from, to, Endianness::LittleEndian, width)
+            }
+        }
     }
-    at
 }

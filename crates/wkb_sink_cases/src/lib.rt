@@ -2,6 +2,8 @@
 #![tactic(auto)]
 
 #[cfg(test)]
+mod blocks;
+#[cfg(test)]
 mod failures;
 #[cfg(test)]
 mod kinds;
@@ -9,5 +11,7 @@ mod kinds;
 mod long_text;
 #[cfg(test)]
 mod refusals;
+#[cfg(test)]
+mod single_calls;
 #[cfg(test)]
 mod sinks;

@@ -88,6 +88,52 @@ impl Sink for FailingSink {
     }
 }
 
+/// Takes as many bytes as it has room for, and then fails by an error of its own.
+#[derive(Drop)]
+pub struct FullSink {
+    pub taken: Vec<u8>,
+    room: usize,
+    message: &'static str,
+    has_failed: bool,
+}
+
+impl FullSink {
+    pub fn new(taken: Vec<u8>, room: usize, message: &'static str) -> FullSink
+        ensures { result.has_failed ≡ false }
+    {
+        FullSink {
+            taken,
+            room,
+            message,
+            has_failed: false,
+        }
+    }
+}
+
+impl Sink for FullSink {
+    ghost has_failed = { λ s. s.has_failed };
+
+    fn put(&mut self, bytes: &[u8]) -> io::Result<usize> {
+        let n = bytes.len().min(self.room);
+        if n == 0 && !bytes.is_empty() {
+            self.has_failed = true;
+            return Err(io::Error::new(io::ErrorKind::PermissionDenied, self.message));
+        }
+        self.room -= n;
+        match self.taken.extend_from_slice(&bytes[..n]) {
+            Ok(()) => Ok(n),
+            Err(want) => {
+                self.has_failed = true;
+                Err(io::Error::from(want))
+            }
+        }
+    }
+
+    fn failed(&self) -> bool {
+        self.has_failed
+    }
+}
+
 /// Takes nothing, and answers that.
 #[derive(Drop)]
 pub struct IdleSink {
@@ -114,6 +160,31 @@ impl Sink for IdleSink {
 
     fn failed(&self) -> bool {
         self.has_failed
+    }
+}
+
+/// Counts its writes, takes a few bytes of each, and is interrupted at one of them.
+#[derive(Drop)]
+pub struct CountingWriter {
+    pub taken: Vec<u8>,
+    pub writes: usize,
+    pub interrupted_at: Option<usize>,
+    pub most: usize,
+}
+
+impl Write for CountingWriter {
+    fn write(&mut self, bytes: &[u8]) -> io::Result<usize> {
+        self.writes = self.writes.saturating_add(1);
+        if self.interrupted_at == Some(self.writes) {
+            return Err(io::Error::from(io::ErrorKind::Interrupted));
+        }
+        let n = bytes.len().min(self.most);
+        self.taken.extend_from_slice(&bytes[..n])?;
+        Ok(n)
+    }
+
+    fn flush(&mut self) -> io::Result<()> {
+        Ok(())
     }
 }
 

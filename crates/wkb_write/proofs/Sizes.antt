@@ -5,21 +5,23 @@ use Rattle.std.proofs.lemmas.Bool.Decides.{nat_tests}
 use Rattle.std.proofs.lemmas.Result.{err_from_is_err_and}
 use Rattle.wkb_geom.specs.declared.common.Endianness.{Endianness}
 use Rattle.wkb_geom.specs.declared.common.Form.{Form}
-use Rattle.wkb_geom.specs.declared.error.WkbError.{WkbError}
-use Rattle.wkb_geom.specs.declared.error.WkbError.TheVariants as errors
-use Rattle.wkb_geom.specs.declared.error.Overflow.TheVariants.{Size}
+use Rattle.wkb_measure.specs.declared.fault.Fault.{Fault as Found}
+use Rattle.wkb_measure.specs.declared.fault.Fault.TheVariants as found
 use Rattle.wkb_geom.specs.Geometries.{Geometry, IsGeometry}
 use Rattle.wkb_geom.specs.Refusals.{srid_size}
 use Rattle.wkb_geom.specs.Sizes.{byte_size}
-use Rattle.wkb_geom.specs.Texts.{text, fault, refusal, size_fault, size_overflow, form_srid, IsForm}
-use Rattle.wkb_measure.specs.Measures.{Reports, Measures, capped}
+use Rattle.wkb_geom.specs.Texts.{text, fault, refusal, size_fault, form_srid, IsForm}
+use Rattle.wkb_measure.specs.Measures.{Finds, Measures, capped}
 use Rattle.wkb_measure.proofs.Faults.{none_both, reports_first, reports_rest}
 use Rattle.wkb_laws.proofs.TextSizes.{text_has_size_lem}
-use Rattle.wkb_write.specs.Answers.{IsSizeOf}
+use Rattle.wkb_geom.specs.declared.error.WkbError.{WkbError}
+use Rattle.wkb_geom.specs.Errors.{TellsFault}
+use Rattle.wkb_measure.specs.Faults.{meaning}
+use Rattle.wkb_write.specs.Answers.{IsSized, IsSizeOf}
 
-reports_size : (n : ℕ) → 2 ^ 64 ≤ n → Reports (errors.OverflowError Size) (size_fault n)
+reports_size : (n : ℕ) → 2 ^ 64 ≤ n → Finds found.Size (size_fault n)
 unfolding size_fault
-reports_size n h = record { fault = size_overflow; is = grind (arith, nat_tests); told = refl }
+reports_size n h = record { is = grind (arith, nat_tests) }
 
 size_without_fault : (n : ℕ) → n < 2 ^ 64 → size_fault n ≡ None
 unfolding size_fault
@@ -38,19 +40,19 @@ measured_length order form g fits lawful none = text_has_size_lem order form g f
     of_flag false = refl
 
 -- what was measured without a fault
-at_ok : (measured : Result ℕ WkbError) (s : ℕ) (g : Geometry) → measured ≡ Ok s → Measures (fault g) (byte_size g) measured → (fault g ≡ None) × (s ≡ capped (byte_size g))
+at_ok : (measured : Result ℕ Found) (s : ℕ) (g : Geometry) → measured ≡ Ok s → Measures (fault g) (byte_size g) measured → (fault g ≡ None) × (s ≡ capped (byte_size g))
 at_ok measured s g is h = subst (Measures (fault g) (byte_size g)) is h
 
 -- a fault is what the size refuses
-pub size_refused : (measured : Result ℕ WkbError) (e : WkbError) (form : Form) (g : Geometry) (r : Result ℕ WkbError) → measured ≡ Err e → IsErrAnd r (λ y. y ≡ e) → Measures (fault g) (byte_size g) measured → IsSizeOf form g r
+pub size_refused : (measured : Result ℕ Found) (e : Found) (form : Form) (g : Geometry) (r : Result ℕ Found) → measured ≡ Err e → IsErrAnd r (λ y. y ≡ e) → Measures (fault g) (byte_size g) measured → IsSized form g r
 size_refused measured e form g r is exit h = λ order.
-    let told : Reports e (fault g) = subst (Measures (fault g) (byte_size g)) is h in
+    let told : Finds e (fault g) = subst (Measures (fault g) (byte_size g)) is h in
     let p = err_from_is_err_and r exit in
-    let P : WkbError → Type 0 = λ y. Reports y (refusal order form g) in
+    let P : Found → Type 0 = λ y. Finds y (refusal order form g) in
     rw p.1 (subst P (sym p.2) (reports_first e (fault g) _ told))
 
 -- the size that was measured is that of the text, and fits
-pub size_told : (measured : Result ℕ WkbError) (s total : ℕ) (form : Form) (g : Geometry) → measured ≡ Ok s → IsForm form → IsGeometry g → Measures (fault g) (byte_size g) measured → total ≡ capped (s + srid_size (is_some (form_srid form))) → total < 2 ^ 64 → IsSizeOf form g (Ok total)
+pub size_told : (measured : Result ℕ Found) (s total : ℕ) (form : Form) (g : Geometry) → measured ≡ Ok s → IsForm form → IsGeometry g → Measures (fault g) (byte_size g) measured → total ≡ capped (s + srid_size (is_some (form_srid form))) → total < 2 ^ 64 → IsSized form g (Ok total)
 size_told measured s total form g is srid_fits lawful h sum fits = λ order.
     let m = at_ok measured s g is h in
     let whole = measured_length order form g srid_fits lawful m.0 in
@@ -58,8 +60,13 @@ size_told measured s total form g is srid_fits lawful h sum fits = λ order.
     (none_both (fault g) _ m.0 (size_without_fault _ (subst (λ n. n < 2 ^ 64) exact fits)), exact)
 
 -- the size that was measured does not fit
-pub size_past : (measured : Result ℕ WkbError) (s total : ℕ) (form : Form) (g : Geometry) → measured ≡ Ok s → IsForm form → IsGeometry g → Measures (fault g) (byte_size g) measured → total ≡ capped (s + srid_size (is_some (form_srid form))) → 2 ^ 64 ≤ total → IsSizeOf form g (Err (errors.OverflowError Size))
+pub size_past : (measured : Result ℕ Found) (s total : ℕ) (form : Form) (g : Geometry) → measured ≡ Ok s → IsForm form → IsGeometry g → Measures (fault g) (byte_size g) measured → total ≡ capped (s + srid_size (is_some (form_srid form))) → 2 ^ 64 ≤ total → IsSized form g (Err found.Size)
 size_past measured s total form g is srid_fits lawful h sum past = λ order.
     let m = at_ok measured s g is h in
     let whole = measured_length order form g srid_fits lawful m.0 in
     reports_rest _ (fault g) _ m.0 (reports_size _ (omega (arith, m.1, sum, whole, srid_size_at_most (is_some (form_srid form)))))
+
+-- the error tells the fault that was found
+pub size_answered : (form : Form) (g : Geometry) (f : Found) (r : Result ℕ WkbError) → IsErrAnd r (λ e. TellsFault e (meaning f)) → IsSized form g (Err f) → IsSizeOf form g r
+size_answered form g f (Err e) tells size = λ order. record { fault = meaning f; is = (size order).is; told = tells }
+size_answered form g f (Ok n) tells size = absurd tells

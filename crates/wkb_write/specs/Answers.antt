@@ -10,7 +10,8 @@ use Rattle.wkb_geom.specs.Values.{Value}
 use Rattle.wkb_geom.specs.Spellings.{Spelling, Spells}
 use Rattle.wkb_geom.specs.Texts.{Fault, refusal, text}
 use Rattle.wkb_laws.specs.Written.{HasOptions}
-use Rattle.wkb_measure.specs.Measures.{Reports}
+use Rattle.wkb_measure.specs.Measures.{Reports, Finds}
+use Rattle.wkb_measure.specs.declared.fault.Fault.{Fault as Found}
 use Rattle.wkb_put.specs.Sinks.{Puts}
 use Rattle.wkb_write.specs.declared.options.WriteOptions.{WriteOptions}
 
@@ -18,6 +19,11 @@ use Rattle.wkb_write.specs.declared.options.WriteOptions.{WriteOptions}
 abbrev pub IsSizeOf : Form → Geometry → Result ℕ WkbError → Type 0
 IsSizeOf form g r =
     (order : Endianness) → MatchResult r (λ n. (refusal order form g ≡ None) × (n ≡ length (text order form g))) (λ e. Reports e (refusal order form g))
+
+-- the same with the fault itself
+abbrev pub IsSized : Form → Geometry → Result ℕ Found → Type 0
+IsSized form g r =
+    (order : Endianness) → MatchResult r (λ n. (refusal order form g ≡ None) × (n ≡ length (text order form g))) (λ e. Finds e (refusal order form g))
 
 -- what is refused is answered by the error that tells it, and the sink is untouched
 abbrev pub IsRefusedAs : WriteOptions → Geometry → Result (Unit {0}) WkbError → Type 0 → Type 0

@@ -1,8 +1,10 @@
 //! A geometry of one kind that a caller lends, as a geometry of any kind.
 
 ghost use Rattle.std.specs.Prelude.{refl};
-ghost use Rattle.wkb_geom.specs.Geometries.{point, line_string, polygon, multi_point, multi_line_string, multi_polygon, rectangle, triangle, line};
-ghost use Rattle.wkb_write.specs.declared.lent.Lent.TheVariants.{Point, LineString, Polygon, MultiPoint, MultiLineString, MultiPolygon, Rect, Triangle, Line};
+ghost use Rattle.wkb_geom.specs.Geometries.{point, line_string, polygon, multi_point, multi_line_string};
+ghost use Rattle.wkb_geom.specs.Geometries.{multi_polygon, rectangle, triangle, line};
+ghost use Rattle.wkb_write.specs.declared.lent.Lent.TheVariants.{Point, LineString, Polygon, MultiPoint};
+ghost use Rattle.wkb_write.specs.declared.lent.Lent.TheVariants.{MultiLineString, MultiPolygon, Rect, Triangle, Line};
 ghost use Rattle.wkb_write.specs.Lents.{by_kind};
 
 use crate::origin::Origin;

@@ -1,16 +1,20 @@
 //! The size of a text, from what was measured.
 
-ghost use Rattle.std.specs.Prelude.{◌≡◌, is_some};
+ghost use Rattle.std.specs.Prelude.{◌≡◌, is_some, IsErrAnd};
+ghost use Rattle.wkb_geom.specs.Errors.{TellsFault};
 ghost use Rattle.wkb_geom.specs.Geometries.{Geometry, IsGeometry};
 ghost use Rattle.wkb_geom.specs.Refusals.{srid_size};
 ghost use Rattle.wkb_geom.specs.Sizes.{byte_size};
 ghost use Rattle.wkb_geom.specs.Texts.{fault, form_srid, IsForm};
+ghost use Rattle.wkb_measure.specs.Faults.{meaning};
 ghost use Rattle.wkb_measure.specs.Measures.{Measures};
-ghost use Rattle.wkb_write.specs.Answers.{IsSizeOf};
+ghost use Rattle.wkb_write.specs.Answers.{IsSized, IsSizeOf};
 
-use wkb_geom::{Form, Overflow, WkbError, WkbResult};
+use wkb_geom::{Form, WkbError, WkbResult};
+use wkb_measure::Fault;
 
 // The bytes of the SRID that is written.
+#[inline]
 fn srid_size(form: Form) -> u128
     ensures size { result ≡ srid_size (is_some (form_srid form)) }
     ensures fits { IsForm form }
@@ -22,9 +26,10 @@ fn srid_size(form: Form) -> u128
 }
 
 /// The size that was measured with the SRID's bytes, where `usize` holds it.
-pub fn whole_size(measured: WkbResult<u128>, form: Form) -> WkbResult<usize>
+#[inline]
+pub fn whole_size(measured: Result<u128, Fault>, form: Form) -> Result<usize, Fault>
     ensures size { (g : Geometry) → IsGeometry g
-        → Measures (fault g) (byte_size g) measured → IsSizeOf form g result }
+        → Measures (fault g) (byte_size g) measured → IsSized form g result }
     ensures fits { IsForm form }
 {
     let srid = srid_size(form);
@@ -32,6 +37,26 @@ pub fn whole_size(measured: WkbResult<u128>, form: Form) -> WkbResult<usize>
     if total <= usize::MAX as u128 {
         Ok(total as usize)
     } else {
-        Err(WkbError::OverflowError(Overflow::Size))
+        Err(Fault::Size)
     }
+}
+
+/// The size, or the error that tells the fault.
+#[inline]
+pub fn told(size: Result<usize, Fault>) -> WkbResult<usize>
+    ensures { (form : Form) (g : Geometry) → IsSized form g size → IsSizeOf form g result }
+{
+    match size {
+        Ok(size) => Ok(size),
+        Err(fault) => refused(fault),
+    }
+}
+
+/// The error that tells the fault. Not inlined: an error takes more room than all else in its callers.
+#[cold]
+#[inline(never)]
+pub fn refused<T>(fault: Fault) -> WkbResult<T>
+    ensures { IsErrAnd result (λ e. TellsFault e (meaning fault)) }
+{
+    Err(WkbError::from(fault))
 }

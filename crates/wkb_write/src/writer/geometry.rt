@@ -4,7 +4,7 @@ ghost use Rattle.std.specs.Prelude.{◌≡◌, false};
 ghost use Rattle.wkb_geom.specs.declared.common.Form.TheVariants.{Iso};
 ghost use Rattle.wkb_write.specs.Answers.{IsSizeOf, IsRefusedAs, IsWrittenAs, IsSpelledAs};
 
-use crate::size::whole_size;
+use crate::size::{refused, told, whole_size};
 use crate::{Sink, WriteOptions};
 use wkb_geom::{Form, GeometryTrait, WkbResult};
 use wkb_measure::measure_geometry;
@@ -15,28 +15,31 @@ use wkb_put::put_geometry;
 /// Refused by the first of these in preorder: dimensions that can't be written
 /// (`General(UnsupportedDimensions)`), a count that four bytes don't hold (`OverflowError(Count)`).
 /// Where there is none, a size that `usize` doesn't hold is refused (`OverflowError(Size)`).
+#[inline]
 pub fn geometry_wkb_size<G: GeometryTrait>(geom: &G) -> WkbResult<usize>
     ensures size { IsSizeOf Iso (G.geometry geom.now) result }
 {
-    whole_size(measure_geometry(geom), Form::Iso)
+    told(whole_size(measure_geometry(geom), Form::Iso))
 }
 
 /// The size of a geometry under the options: four bytes more where they have an SRID.
 ///
 /// Refused as `geometry_wkb_size` refuses it, and where the SRID's bytes make it pass `usize`.
+#[inline]
 pub fn geometry_wkb_size_with<G: GeometryTrait>(
     geom: &G,
     options: &WriteOptions,
 ) -> WkbResult<usize>
     ensures size { IsSizeOf options.now.form (G.geometry geom.now) result }
 {
-    whole_size(measure_geometry(geom), options.form)
+    told(whole_size(measure_geometry(geom), options.form))
 }
 
 /// Writes a geometry. The whole of it is tested before a byte is put.
 ///
 /// Refused as `geometry_wkb_size_with` refuses it under the same options, with the sink untouched.
 /// `IOError` where the sink fails: a beginning of the text then stands.
+#[inline(always)]
 pub fn write_geometry<S: Sink, G: GeometryTrait>(
     writer: &mut S,
     geom: &G,
@@ -51,6 +54,8 @@ pub fn write_geometry<S: Sink, G: GeometryTrait>(
         (S.appended writer.old) (S.appended writer.new) }
 {
     let WriteOptions { endianness, form } = *options;
-    whole_size(measure_geometry(geom), form)?;
-    put_geometry(writer, geom, endianness, form)
+    match whole_size(measure_geometry(geom), form) {
+        Ok(size) => put_geometry(writer, geom, endianness, form, size),
+        Err(fault) => refused(fault),
+    }
 }

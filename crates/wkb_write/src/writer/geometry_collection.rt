@@ -5,7 +5,7 @@ ghost use Rattle.wkb_geom.specs.declared.common.Form.TheVariants.{Iso};
 ghost use Rattle.wkb_geom.specs.Geometries.{collection, geometries};
 ghost use Rattle.wkb_write.specs.Answers.{IsSizeOf, IsRefusedAs, IsWrittenAs, IsSpelledAs};
 
-use crate::size::whole_size;
+use crate::size::{refused, told, whole_size};
 use crate::{Sink, WriteOptions};
 use wkb_geom::{Form, GeometryCollectionTrait, WkbResult};
 use wkb_measure::measure_geometry_collection;
@@ -19,7 +19,7 @@ pub fn geometry_collection_wkb_size<C: GeometryCollectionTrait>(geom: &C) -> Wkb
         (collection (C.dimensions geom.now) (geometries (C.members geom.now)))
         result }
 {
-    whole_size(measure_geometry_collection(geom), Form::Iso)
+    told(whole_size(measure_geometry_collection(geom), Form::Iso))
 }
 
 /// Writes a GeometryCollection. The whole of it is tested before a byte is put.
@@ -43,6 +43,8 @@ pub fn write_geometry_collection<S: Sink, C: GeometryCollectionTrait>(
         result (S.appended writer.old) (S.appended writer.new) }
 {
     let WriteOptions { endianness, form } = *options;
-    whole_size(measure_geometry_collection(geom), form)?;
-    put_geometry_collection(writer, geom, endianness, form)
+    match whole_size(measure_geometry_collection(geom), form) {
+        Ok(size) => put_geometry_collection(writer, geom, endianness, form, size),
+        Err(fault) => refused(fault),
+    }
 }

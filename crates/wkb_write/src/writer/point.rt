@@ -6,7 +6,7 @@ ghost use Rattle.wkb_geom.specs.Geometries.{point, IsPoint};
 ghost use Rattle.wkb_write.specs.Answers.{IsSizeOf, IsRefusedAs, IsWrittenAs, IsSpelledAs};
 
 use crate::lent::OfPoint;
-use crate::size::whole_size;
+use crate::size::{told, whole_size};
 use crate::writer::geometry::write_geometry;
 use crate::{Sink, WriteOptions};
 use wkb_geom::{Dimensions, Form, PointTrait, WkbResult};
@@ -18,7 +18,7 @@ use wkb_measure::measure_point;
 pub fn point_wkb_size(dim: Dimensions) -> WkbResult<usize>
     ensures size { (c : Option (List ℕ)) → IsPoint dim c → IsSizeOf Iso (point dim c) result }
 {
-    whole_size(measure_point(dim), Form::Iso)
+    told(whole_size(measure_point(dim), Form::Iso))
 }
 
 /// Writes a point, an empty point as not-a-numbers.

@@ -1,7 +1,7 @@
 use Rattle.std.proofs.Common.{◌≡◌, None, ◌∙◌, ◌+◌, sym, subst, map, arith}
 use Rattle.wkb_geom.specs.Geometries.{geometries}
 use Rattle.wkb_measure.specs.Bodies.{members}
-use Rattle.wkb_measure.specs.Measures.{Reports, capped}
+use Rattle.wkb_measure.specs.Measures.{Finds, capped}
 use Rattle.wkb_measure.proofs.Faults.{measured_err}
 use Rattle.wkb_measure.proofs.Sums.{SoFar, parts_start, parts_step, count_reports, part_reports, parts_all}
 use Rattle.wkb_measure.proofs.Whole.{whole_measured, whole_unsupported, members_length, said_of_member, members_fall, member_falls}
@@ -36,7 +36,7 @@ pub measure_members-returns-in_err-measure_geometry : goal.measure_members-retur
 measure_members-returns-in_err-measure_geometry g t c =
     let xs = c.args.geoms.now in
     let geo = g.G.GeometryTrait.geometry in
-    let told = said_of_member geo (λ p. Reports c.in_err-measure_geometry.field-0.0 p.fault) xs c.loop-geom.geom-index c.geom-item.result c.loop-geom-test.true c.geom-item.is c.in_err-measure_geometry.ensures.measured in
+    let told = said_of_member geo (λ p. Finds c.in_err-measure_geometry.field-0.0 p.fault) xs c.loop-geom.geom-index c.geom-item.result c.loop-geom-test.true c.geom-item.is c.in_err-measure_geometry.ensures.measured in
     part_reports _ _ _ _ _ _ (members_length geo xs) c.in_ok-check_len.ensures.0 (omega (arith, members_length geo xs, c.loop-geom-test.true)) told c.loop-geom.invariant c.from_residual-in_err-measure_geometry.ensures.1
 
 pub measure_members-loop-geom-preserved : goal.measure_members-loop-geom-preserved

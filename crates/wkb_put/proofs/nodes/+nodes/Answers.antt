@@ -3,7 +3,7 @@ use Rattle.std.proofs.lemmas.Option.{slice_get_read}
 use Rattle.wkb_geom.specs.Geometries.{geometries}
 use Rattle.wkb_geom.specs.Sizes.{node_count, node_counts}
 use Rattle.wkb_geom.specs.Texts.{text, fault, inner}
-use Rattle.wkb_put.specs.Blocks.{IsCut, IsLaid}
+use Rattle.wkb_put.specs.Progress.{IsCut, IsLaid, progress}
 use Rattle.wkb_put.proofs.Collections.{collection_count, collection_members, lays_collection, member_falls, members_fall}
 use Rattle.wkb_put.proofs.Faults.{none_at}
 use Rattle.wkb_put.proofs.Laid.{exits}
@@ -13,7 +13,7 @@ use Rattle.wkb_put.proofs.nodes.+nodes.Goals as goal
 pub put_members-returns-in_err-put_count : goal.put_members-returns-in_err-put_count
 put_members-returns-in_err-put_count g t c =
     let f = c.in_err-put_count.ensures in
-    exits _ _ c.from_residual-in_err-put_count.ensures.1 f.0 (headed_count_cut c.args.order _ (λ m. text c.args.order (inner c.args.form) (g.G.GeometryTrait.geometry m)) c.args.members.now _ refl c.in_ok-put_header.ensures.0 f.1) f.2
+    exits _ _ c.from_residual-in_err-put_count.ensures.1 (headed_count_cut c.args.order _ (λ m. text c.args.order (inner c.args.form) (g.G.GeometryTrait.geometry m)) c.args.members.now _ refl c.in_ok-put_header.ensures f)
 
 pub put_members-put_node-requires : goal.put_members-put_node-requires
 put_members-put_node-requires g t c κs within =
@@ -21,56 +21,55 @@ put_members-put_node-requires g t c κs within =
     let item = slice_get_read members (length members) c.loop-member.member-index c.member-item.result refl c.loop-member-test.true c.member-item.is in
     let fine = none_at (λ m. fault (g.G.GeometryTrait.geometry m)) members c.loop-member.member-index c.member-item.result c.requires.fault item in
     let falls = member_falls g.G.GeometryTrait.geometry members c.loop-member.member-index c.member-item.result c.loop-member-test.true c.member-item.is in
-    (subst (λ n. 2 * node_count (g.G.GeometryTrait.geometry c.member-item.result) < n) c.decreases falls, (within.0, (within.1.0, (within.1.1.0, (within.1.1.1.0, (within.1.1.1.1.0, (within.1.1.1.1.1.0, (within.1.1.1.1.1.1.0, (within.1.1.1.1.1.1.1.0, (within.1.1.1.1.1.1.1.1.0, (within.1.1.1.1.1.1.1.1.1.0, (within.1.1.1.1.1.1.1.1.1.1.0, (within.1.1.1.1.1.1.1.1.1.1.1.0, (within.1.1.1.1.1.1.1.1.1.1.1.1.0, (within.1.1.1.1.1.1.1.1.1.1.1.1.1.0, (within.1.1.1.1.1.1.1.1.1.1.1.1.1.1.0, (within.1.1.1.1.1.1.1.1.1.1.1.1.1.1.1.0, (within.1.1.1.1.1.1.1.1.1.1.1.1.1.1.1.1.0, (within.1.1.1.1.1.1.1.1.1.1.1.1.1.1.1.1.1.0, (within.1.1.1.1.1.1.1.1.1.1.1.1.1.1.1.1.1.1.0, (within.1.1.1.1.1.1.1.1.1.1.1.1.1.1.1.1.1.1.1.0, (within.1.1.1.1.1.1.1.1.1.1.1.1.1.1.1.1.1.1.1.1.0, (within.1.1.1.1.1.1.1.1.1.1.1.1.1.1.1.1.1.1.1.1.1.0, (within.1.1.1.1.1.1.1.1.1.1.1.1.1.1.1.1.1.1.1.1.1.1.0, (within.1.1.1.1.1.1.1.1.1.1.1.1.1.1.1.1.1.1.1.1.1.1.1.0, (within.1.1.1.1.1.1.1.1.1.1.1.1.1.1.1.1.1.1.1.1.1.1.1.1, (fine, c.loop-member.invariant.working)))))))))))))))))))))))))))
+    (subst (λ n. 2 * node_count (g.G.GeometryTrait.geometry c.member-item.result) < n) c.decreases falls, (within.0, (within.1.0, (within.1.1.0, (within.1.1.1.0, (within.1.1.1.1.0, (within.1.1.1.1.1.0, (within.1.1.1.1.1.1.0, (within.1.1.1.1.1.1.1.0, (within.1.1.1.1.1.1.1.1.0, (within.1.1.1.1.1.1.1.1.1.0, (within.1.1.1.1.1.1.1.1.1.1.0, (within.1.1.1.1.1.1.1.1.1.1.1.0, (within.1.1.1.1.1.1.1.1.1.1.1.1.0, (within.1.1.1.1.1.1.1.1.1.1.1.1.1.0, (within.1.1.1.1.1.1.1.1.1.1.1.1.1.1.0, (within.1.1.1.1.1.1.1.1.1.1.1.1.1.1.1.0, (within.1.1.1.1.1.1.1.1.1.1.1.1.1.1.1.1.0, (within.1.1.1.1.1.1.1.1.1.1.1.1.1.1.1.1.1.0, (within.1.1.1.1.1.1.1.1.1.1.1.1.1.1.1.1.1.1.0, (within.1.1.1.1.1.1.1.1.1.1.1.1.1.1.1.1.1.1.1.0, (within.1.1.1.1.1.1.1.1.1.1.1.1.1.1.1.1.1.1.1.1.0, (within.1.1.1.1.1.1.1.1.1.1.1.1.1.1.1.1.1.1.1.1.1.0, (within.1.1.1.1.1.1.1.1.1.1.1.1.1.1.1.1.1.1.1.1.1.1.0, (within.1.1.1.1.1.1.1.1.1.1.1.1.1.1.1.1.1.1.1.1.1.1.1.0, (within.1.1.1.1.1.1.1.1.1.1.1.1.1.1.1.1.1.1.1.1.1.1.1.1, (fine, c.loop-member.invariant.laid.works)))))))))))))))))))))))))))
 
 pub put_members-returns-in_err-put_node : goal.put_members-returns-in_err-put_node
 put_members-returns-in_err-put_node g t c =
     let f = c.in_err-put_node.ensures in
     let members = c.args.members.now in
     let item = slice_get_read members (length members) c.loop-member.member-index c.member-item.result refl c.loop-member-test.true c.member-item.is in
-    let cut = subst (λ form. IsCut (g.S.Sink.appended c.loop-member.writer, c.loop-member.block) (g.S.Sink.appended c.put_node.new.writer, c.put_node.new.block) (text c.args.order form (g.G.GeometryTrait.geometry c.member-item.result))) c.inner.ensures f.1 in
-    exits _ _ c.from_residual-in_err-put_node.ensures.1 f.0 (headed_item_cut c.args.order _ (λ m. text c.args.order (inner c.args.form) (g.G.GeometryTrait.geometry m)) members _ c.loop-member.member-index c.member-item.result refl item c.in_ok-put_header.ensures.0 c.in_ok-put_count.ensures.0 c.loop-member.invariant.laid cut) f.2
+    let cut = subst (λ form. IsCut (progress g.S.Sink.appended g.S.Sink.has_failed c.loop-member.out) (progress g.S.Sink.appended g.S.Sink.has_failed c.put_node.new.out) (text c.args.order form (g.G.GeometryTrait.geometry c.member-item.result))) c.inner.ensures f in
+    exits _ _ c.from_residual-in_err-put_node.ensures.1 (headed_item_cut c.args.order _ (λ m. text c.args.order (inner c.args.form) (g.G.GeometryTrait.geometry m)) members _ c.loop-member.member-index c.member-item.result refl item c.in_ok-put_header.ensures c.in_ok-put_count.ensures c.loop-member.invariant.laid cut)
 
 pub put_members-loop-member-preserved : goal.put_members-loop-member-preserved
 put_members-loop-member-preserved g t c =
     let members = c.args.members.now in
     let item = slice_get_read members (length members) c.loop-member.member-index c.member-item.result refl c.loop-member-test.true c.member-item.is in
-    let laid = subst (λ form. IsLaid (g.S.Sink.appended c.loop-member.writer, c.loop-member.block) (g.S.Sink.appended c.put_node.new.writer, c.put_node.new.block) (text c.args.order form (g.G.GeometryTrait.geometry c.member-item.result))) c.inner.ensures c.in_ok-put_node.ensures.0 in
+    let laid = subst (λ form. IsLaid (progress g.S.Sink.appended g.S.Sink.has_failed c.loop-member.out) (progress g.S.Sink.appended g.S.Sink.has_failed c.put_node.new.out) (text c.args.order form (g.G.GeometryTrait.geometry c.member-item.result))) c.inner.ensures c.in_ok-put_node.ensures in
     record {
       laid = item_laid (λ m. text c.args.order (inner c.args.form) (g.G.GeometryTrait.geometry m)) members c.loop-member.member-index c.member-item.result item c.loop-member.invariant.laid laid;
-      working = c.in_ok-put_node.ensures.1;
     }
 
 pub put_members-returns : goal.put_members-returns
 put_members-returns g t c =
-    (headed_items_laid c.args.order _ (λ m. text c.args.order (inner c.args.form) (g.G.GeometryTrait.geometry m)) c.args.members.now _ c.loop-member.member-index refl c.loop-member-test.false c.in_ok-put_header.ensures.0 c.in_ok-put_count.ensures.0 c.loop-member.invariant.laid, c.loop-member.invariant.working)
+    (headed_items_laid c.args.order _ (λ m. text c.args.order (inner c.args.form) (g.G.GeometryTrait.geometry m)) c.args.members.now _ c.loop-member.member-index refl c.loop-member-test.false c.in_ok-put_header.ensures c.in_ok-put_count.ensures c.loop-member.invariant.laid)
 
-pub put_node-point_node-requires-clause-fault : goal.put_node-point_node-requires-clause-fault
-put_node-point_node-requires-clause-fault g t c = ap fault c.in-Point.ensures.part ∙ c.requires.fault
+pub put_node-put_point-requires-clause-fault : goal.put_node-put_point-requires-clause-fault
+put_node-put_point-requires-clause-fault g t c = ap fault c.in-Point.ensures.part ∙ c.requires.fault
 
-pub put_node-line_string_node-requires-clause-fault : goal.put_node-line_string_node-requires-clause-fault
-put_node-line_string_node-requires-clause-fault g t c = ap fault c.in-LineString.ensures.part ∙ c.requires.fault
+pub put_node-put_line_string-requires-clause-fault : goal.put_node-put_line_string-requires-clause-fault
+put_node-put_line_string-requires-clause-fault g t c = ap fault c.in-LineString.ensures.part ∙ c.requires.fault
 
-pub put_node-polygon_node-requires-clause-fault : goal.put_node-polygon_node-requires-clause-fault
-put_node-polygon_node-requires-clause-fault g t c = ap fault c.in-Polygon.ensures.part ∙ c.requires.fault
+pub put_node-put_polygon-requires-clause-fault : goal.put_node-put_polygon-requires-clause-fault
+put_node-put_polygon-requires-clause-fault g t c = ap fault c.in-Polygon.ensures.part ∙ c.requires.fault
 
-pub put_node-multi_point_node-requires-clause-fault : goal.put_node-multi_point_node-requires-clause-fault
-put_node-multi_point_node-requires-clause-fault g t c = ap fault c.in-MultiPoint.ensures.part ∙ c.requires.fault
+pub put_node-put_multi_point-requires-clause-fault : goal.put_node-put_multi_point-requires-clause-fault
+put_node-put_multi_point-requires-clause-fault g t c = ap fault c.in-MultiPoint.ensures.part ∙ c.requires.fault
 
-pub put_node-multi_line_string_node-requires-clause-fault : goal.put_node-multi_line_string_node-requires-clause-fault
-put_node-multi_line_string_node-requires-clause-fault g t c = ap fault c.in-MultiLineString.ensures.part ∙ c.requires.fault
+pub put_node-put_multi_line_string-requires-clause-fault : goal.put_node-put_multi_line_string-requires-clause-fault
+put_node-put_multi_line_string-requires-clause-fault g t c = ap fault c.in-MultiLineString.ensures.part ∙ c.requires.fault
 
-pub put_node-multi_polygon_node-requires-clause-fault : goal.put_node-multi_polygon_node-requires-clause-fault
-put_node-multi_polygon_node-requires-clause-fault g t c = ap fault c.in-MultiPolygon.ensures.part ∙ c.requires.fault
+pub put_node-put_multi_polygon-requires-clause-fault : goal.put_node-put_multi_polygon-requires-clause-fault
+put_node-put_multi_polygon-requires-clause-fault g t c = ap fault c.in-MultiPolygon.ensures.part ∙ c.requires.fault
 
-pub put_node-rect_node-requires-clause-fault : goal.put_node-rect_node-requires-clause-fault
-put_node-rect_node-requires-clause-fault g t c = ap fault c.in-Rect.ensures.part ∙ c.requires.fault
+pub put_node-put_rect-requires-clause-fault : goal.put_node-put_rect-requires-clause-fault
+put_node-put_rect-requires-clause-fault g t c = ap fault c.in-Rect.ensures.part ∙ c.requires.fault
 
-pub put_node-triangle_node-requires-clause-fault : goal.put_node-triangle_node-requires-clause-fault
-put_node-triangle_node-requires-clause-fault g t c = ap fault c.in-Triangle.ensures.part ∙ c.requires.fault
+pub put_node-put_triangle-requires-clause-fault : goal.put_node-put_triangle-requires-clause-fault
+put_node-put_triangle-requires-clause-fault g t c = ap fault c.in-Triangle.ensures.part ∙ c.requires.fault
 
-pub put_node-line_node-requires-clause-fault : goal.put_node-line_node-requires-clause-fault
-put_node-line_node-requires-clause-fault g t c = ap fault c.in-Line.ensures.part ∙ c.requires.fault
+pub put_node-put_line-requires-clause-fault : goal.put_node-put_line-requires-clause-fault
+put_node-put_line-requires-clause-fault g t c = ap fault c.in-Line.ensures.part ∙ c.requires.fault
 
 pub put_node-put_members-requires : goal.put_node-put_members-requires
 put_node-put_members-requires g t c κs within =
@@ -84,4 +83,4 @@ put_node-put_members-requires g t c κs within =
 
 pub put_node-returns-in-GeometryCollection : goal.put_node-returns-in-GeometryCollection
 put_node-returns-in-GeometryCollection g t c =
-    lays_collection _ _ _ _ c.args.order c.args.form (g.G.Dimensioned.dimensions c.args.geom.now) c.dim.result c.written.result g.G.GeometryTrait.geometry c.in-GeometryCollection.members.now (g.G.GeometryTrait.geometry c.args.geom.now) c.in-GeometryCollection.ensures.part c.written.ensures c.dim.ensures c.put_members.ensures
+    lays_collection _ _ _ c.args.order c.args.form (g.G.Dimensioned.dimensions c.args.geom.now) c.dim.result c.written.result g.G.GeometryTrait.geometry c.in-GeometryCollection.members.now (g.G.GeometryTrait.geometry c.args.geom.now) c.in-GeometryCollection.ensures.part c.written.ensures c.dim.ensures c.put_members.ensures

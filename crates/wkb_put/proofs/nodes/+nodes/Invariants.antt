@@ -1,9 +1,9 @@
-use Rattle.std.proofs.Common.{◌≡◌, ◌+◌, ◌*◌, map, take, false}
+use Rattle.std.proofs.Common.{◌+◌, ◌*◌, map, take}
 use Rattle.std.specs.List.{flat_map}
 use Rattle.wkb_geom.specs.Geometries.{geometries}
 use Rattle.wkb_geom.specs.Sizes.{node_count, node_counts}
 use Rattle.wkb_geom.specs.Texts.{text, inner}
-use Rattle.wkb_put.specs.Blocks.{IsLaid}
+use Rattle.wkb_put.specs.Progress.{IsLaid, progress}
 use Rattle.wkb_put.proofs.nodes.+nodes.Given as goal
 
 abbrev pub decreases-put_node : goal.decreases-put_node
@@ -14,6 +14,5 @@ decreases-put_members g l = 2 * node_counts (geometries (map g.G.GeometryTrait.g
 
 abbrev pub invariant-put_members-loop-member : goal.invariant-put_members-loop-member
 invariant-put_members-loop-member g l = record {
-  laid : IsLaid (g.S.Sink.appended l.initial.writer, l.initial.block) (g.S.Sink.appended l.writer, l.block) (flat_map (λ m. text l.order (inner l.form) (g.G.GeometryTrait.geometry m)) (take l.member-index l.members));
-  working : g.S.Sink.has_failed l.writer ≡ false;
+  laid : IsLaid (progress g.S.Sink.appended g.S.Sink.has_failed l.initial.out) (progress g.S.Sink.appended g.S.Sink.has_failed l.out) (flat_map (λ m. text l.order (inner l.form) (g.G.GeometryTrait.geometry m)) (take l.member-index l.members));
 }

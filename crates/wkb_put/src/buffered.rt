@@ -1,0 +1,123 @@
+//! Bytes to a sink, by blocks.
+
+ghost use Rattle.std.specs.Prelude.{◌≡◌, ◌≤◌, [], false, IfOk};
+ghost use Rattle.wkb_geom.specs.Numbers.{number_bytes};
+ghost use Rattle.wkb_geom.specs.Reading.{type_kind, type_dimension};
+ghost use Rattle.wkb_geom.specs.Texts.{header_text};
+ghost use Rattle.wkb_put.specs.Progress.{Lays};
+ghost use Rattle.wkb_put.specs.Sinks.{Moves};
+
+use crate::Sink;
+use crate::block::Block;
+use crate::lay::{lay_count, lay_header};
+use crate::sizes::{COUNT, HEADER, LEAST};
+use std::io;
+use wkb_geom::code::WkbType;
+use wkb_geom::{Endianness, Form};
+
+/// The sink failed. Its error is kept in one place, where it had one: an `io::Error` is too large to be handed on by
+/// each step.
+#[derive(Debug, Clone, Copy)]
+pub struct Stopped;
+
+/// A sink behind a block, and the place where its error is kept.
+#[derive(Drop)]
+pub struct Buffered<'a, S: Sink> {
+    pub sink: &'a mut S,
+    pub block: Block<'a>,
+    pub error: &'a mut Option<io::Error>,
+}
+
+/// Puts all of the bytes, or as many as the sink takes before it fails: by an error, or by taking no byte.
+#[inline]
+pub fn put_all<S: Sink>(sink: &mut S, bytes: &[u8]) -> Result<(), Option<io::Error>>
+    requires { S.has_failed sink.old ≡ false }
+    ensures { Moves (S.appended sink.old) (S.appended sink.new) (S.has_failed sink.new) bytes.now result }
+{
+    let mut rest = bytes;
+    while !rest.is_empty() {
+        match sink.put(rest) {
+            Ok(0) => return Err(None),
+            Ok(n) => rest = &rest[n..],
+            Err(e) => return Err(Some(e)),
+        }
+    }
+    Ok(())
+}
+
+impl<'a, S: Sink> Buffered<'a, S> {
+    /// Puts what waits.
+    #[inline]
+    #[tactic(auto, using(crate::proofs::Steps::flush_laws))]
+    pub fn flush(&mut self) -> Result<(), Stopped>
+        requires { S.has_failed self.old.sink.now ≡ false }
+        ensures laid { Lays S.appended S.has_failed self.old self.new [] result }
+        ensures empty { IfOk result (λ _. self.new.block.waiting ≡ []) }
+        ensures room { IfOk result (λ _. LEAST ≤ self.new.block.room) }
+    {
+        match put_all(self.sink, self.block.waiting()) {
+            Ok(()) => {
+                self.block.clear();
+                Ok(())
+            }
+            Err(error) => {
+                *self.error = error;
+                Err(Stopped)
+            }
+        }
+    }
+
+    // The same where more is to come: seldom, and so not inlined.
+    #[cold]
+    #[inline(never)]
+    fn flush_full(&mut self) -> Result<(), Stopped>
+        requires { S.has_failed self.old.sink.now ≡ false }
+        ensures laid { Lays S.appended S.has_failed self.old self.new [] result }
+        ensures room { IfOk result (λ _. LEAST ≤ self.new.block.room) }
+    {
+        self.flush()
+    }
+
+    /// Sees that the block has room for so many bytes.
+    #[inline]
+    pub fn make_room(&mut self, n: usize) -> Result<(), Stopped>
+        requires fits { n ≤ LEAST }
+        requires working { S.has_failed self.old.sink.now ≡ false }
+        ensures laid { Lays S.appended S.has_failed self.old self.new [] result }
+        ensures room { IfOk result (λ _. n ≤ self.new.block.room) }
+    {
+        if self.block.room() < n {
+            self.flush_full()
+        } else {
+            Ok(())
+        }
+    }
+
+    /// Puts a count.
+    #[tactic(auto, using(crate::proofs::Steps::step_laws))]
+    pub fn put_count(&mut self, order: Endianness, n: u32) -> Result<(), Stopped>
+        requires working { S.has_failed self.old.sink.now ≡ false }
+        ensures { Lays S.appended S.has_failed self.old self.new (number_bytes order 4 n) result }
+    {
+        self.make_room(COUNT)?;
+        lay_count(&mut self.block, order, n);
+        Ok(())
+    }
+
+    /// Puts a header of this code.
+    #[tactic(auto, using(crate::proofs::Steps::step_laws))]
+    pub fn put_header(
+        &mut self,
+        order: Endianness,
+        form: Form,
+        kind: WkbType,
+    ) -> Result<(), Stopped>
+        requires working { S.has_failed self.old.sink.now ≡ false }
+        ensures { Lays S.appended S.has_failed self.old self.new
+            (header_text order form (type_kind kind) (type_dimension kind)) result }
+    {
+        self.make_room(HEADER)?;
+        lay_header(&mut self.block, order, form, kind);
+        Ok(())
+    }
+}
