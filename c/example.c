@@ -1,0 +1,335 @@
+/* Reads a geometry, walks its coordinates where they stand, rewrites it and compares the two; and then tries what no proof of the library sees: that no
+ * byte behind the input is touched, that a refusal leaves what it was lent, that refused memory is told, and that
+ * calls may run side by side. c/run compares what this prints with example.out. */
+#define _GNU_SOURCE
+#include "wkb.h"
+#include <pthread.h>
+#include <stdio.h>
+#include <stdlib.h>
+#include <string.h>
+#include <sys/mman.h>
+#include <unistd.h>
+
+_Static_assert(sizeof(wkb_found) == 24 && offsetof(wkb_found, srid) == 16 && offsetof(wkb_found, width) == 23,
+               "found as the library lays it out");
+_Static_assert(sizeof(wkb_fault) == 32 && offsetof(wkb_fault, code) == 24, "fault as the library lays it out");
+_Static_assert(sizeof(wkb_options) == 12 && offsetof(wkb_options, srid) == 8, "options as the library lays them out");
+_Static_assert(sizeof(wkb_part) == 24 && offsetof(wkb_part, kind) == 16 && offsetof(wkb_part, order) == 19,
+               "a part as the library lays it out");
+_Static_assert(sizeof(wkb_status) == 4 && sizeof(bool) == 1, "statuses and truth values as the library has them");
+
+/* How many more blocks malloc and realloc hand out, and how many are held. The linker puts these in the place of
+ * the C library's. */
+static __thread size_t allowed = SIZE_MAX;
+static __thread long held = 0;
+void *__real_malloc(size_t size);
+void *__real_realloc(void *block, size_t size);
+void __real_free(void *block);
+
+static bool is_refused(void) {
+  if (allowed == 0) return true;
+  allowed--;
+  return false;
+}
+
+void *__wrap_malloc(size_t size) {
+  if (is_refused()) return NULL;
+  held++;
+  return __real_malloc(size);
+}
+
+void *__wrap_realloc(void *block, size_t size) {
+  if (is_refused()) return NULL;
+  if (block == NULL) held++;
+  return __real_realloc(block, size);
+}
+
+void __wrap_free(void *block) {
+  if (block != NULL) held--;
+  __real_free(block);
+}
+
+/* Prints what was found wrong, and ends. */
+static void expect(bool holds, const char *what, const char *where) {
+  if (holds) return;
+  printf("wrong: %s (%s)\n", what, where);
+  exit(1);
+}
+
+/* The bytes that a text spells in hex. P stands for the sixteen bytes of 1.0 and 2.0, little endian. */
+static size_t spelled(const char *text, uint8_t *bytes) {
+  static const char one_and_two[] = "000000000000f03f0000000000000040";
+  size_t len = 0;
+  for (; *text != '\0'; text++) {
+    if (*text == ' ') continue;
+    if (*text == 'P') {
+      len += spelled(one_and_two, bytes + len);
+      continue;
+    }
+    char digits[3] = {text[0], text[1], '\0'};
+    bytes[len++] = (uint8_t)strtoul(digits, NULL, 16);
+    text++;
+  }
+  return len;
+}
+
+/* What an input is answered: of an accepted one its size and the number of its parts, of a refused one its numbers. */
+typedef struct answer {
+  const char *input;
+  wkb_status status;
+  uint64_t size, parts;
+  wkb_fault fault;
+} answer;
+
+static const answer ANSWERS[] = {
+    {"", WKB_IO_ERROR, 0, 0, {0, 0, 0, 0}},
+    {"02", WKB_INVALID_BYTE_ORDER, 0, 0, {0, 0, 0, 0}},
+    {"01 0100", WKB_IO_ERROR, 0, 0, {0, 0, 0, 0}},
+    {"01 11000000 P", WKB_CODE_OUT_OF_RANGE, 0, 0, {0, 0, 0, 17}},
+    {"01 01000010 P", WKB_CODE_OUT_OF_RANGE, 0, 0, {0, 0, 0, 268435457}},
+    {"01 01000000 P", WKB_OK, 21, 1, {0, 0, 0, 0}},
+    {"01 01000000 P ffffffff", WKB_OK, 21, 1, {0, 0, 0, 0}},
+    {"01 01000020 P", WKB_SHORT_POINT, 0, 0, {0, 25, 21, 0}},
+    {"01 02000000 0a000000 P", WKB_SHORT_LINE_STRING, 0, 0, {0, 169, 25, 0}},
+    {"01 02000000 ffffffff", WKB_SHORT_LINE_STRING, 0, 0, {0, 68719476729, 9, 0}},
+    {"01 03000000 02000000 01000000 P 00000000", WKB_OK, 33, 3, {0, 0, 0, 0}},
+    {"01 03000000 01000000 04000000 P", WKB_SHORT_LINEAR_RING, 0, 0, {1, 68, 20, 0}},
+    {"01 04000000 01000000 00 00000001 3ff0000000000000 4000000000000000", WKB_OK, 30, 2, {0, 0, 0, 0}},
+    {"01 04000000 01000000 00 20000001 3ff0000000000000 4000000000000000", WKB_INCORRECT_TYPE, 0, 0, {1, 0, 0, 0}},
+    {"01 04000000 01000000", WKB_SHORT_MULTI_POINT, 0, 0, {0, 30, 9, 0}},
+    {"01 05000000 01000000 01 02000020 e6100000 01000000 P", WKB_OK, 38, 2, {0, 0, 0, 0}},
+    {"01 06000000 01000000 01 08000000 00000000", WKB_CODE_OUT_OF_RANGE, 0, 0, {1, 0, 0, 8}},
+    {"01 07000000 ffffffff 01 07000000 ffffffff", WKB_IO_ERROR, 0, 0, {2, 0, 0, 0}},
+    {"01 07000000 02000000 01 01000020 e6100000 P 01 07000000 01000000 01 01000000 P", WKB_OK, 64, 4, {0, 0, 0, 0}},
+};
+enum { ANSWER_COUNT = sizeof ANSWERS / sizeof ANSWERS[0] };
+
+static const wkb_options LITTLE_ISO = {WKB_LITTLE_ENDIAN, WKB_ISO, 0};
+
+/* Each input answers what it must, and writes nothing else. */
+static void check_is_as_told(const answer *a, const uint8_t *bytes, size_t len) {
+  wkb_found found, found_before;
+  wkb_fault fault, fault_before;
+  memset(&found, 0x5a, sizeof found), memset(&fault, 0x5a, sizeof fault);
+  found_before = found, fault_before = fault;
+  expect(wkb_check(bytes, len, &found, &fault) == a->status, "the status", a->input);
+  if (a->status == WKB_OK) {
+    expect(found.size == a->size && found.parts == a->parts, "what was found", a->input);
+    expect(memcmp(&fault, &fault_before, sizeof fault) == 0, "a fault was written", a->input);
+  } else {
+    expect(fault.part == a->fault.part && fault.end == a->fault.end && fault.len == a->fault.len &&
+               fault.code == a->fault.code, "the fault", a->input);
+    expect(memcmp(&found, &found_before, sizeof found) == 0, "something found was written", a->input);
+  }
+}
+
+/* The table has as many parts as were told, and its coordinates lie inside the geometry; without room or with a
+ * refusal it stays as it was. */
+static void parts_are_as_told(const answer *a, const uint8_t *bytes, size_t len) {
+  wkb_part parts[8], before[8];
+  uint64_t count = 77;
+  memset(parts, 0x5a, sizeof parts), memset(before, 0x5a, sizeof before);
+  if (a->status != WKB_OK) {
+    expect(wkb_parts(bytes, len, parts, 8, &count) == a->status && count == 77, "not listed", a->input);
+    expect(memcmp(parts, before, sizeof parts) == 0, "parts were written", a->input);
+    return;
+  }
+  expect(wkb_parts(bytes, len, parts, a->parts - 1, &count) == WKB_NO_ROOM && count == a->parts, "no room", a->input);
+  expect(memcmp(parts, before, sizeof parts) == 0, "parts were written", a->input);
+  expect(wkb_parts(bytes, len, parts, 8, &count) == WKB_OK && count == a->parts, "the parts", a->input);
+  for (uint64_t i = 0; i < count; i++)
+    if (parts[i].kind <= WKB_LINE_STRING)
+      expect(parts[i].offset + 8 * parts[i].width * parts[i].count <= a->size, "a part goes on too far", a->input);
+  expect(memcmp(parts + count, before, (8 - count) * sizeof parts[0]) == 0, "more parts were written", a->input);
+}
+
+/* A refusal leaves the bytes, the size and the truth value that it was lent. */
+static void refusal_leaves_outputs(const answer *a, const uint8_t *bytes, size_t len) {
+  uint8_t out[64], before[64];
+  uint64_t size = 77;
+  bool equal = true;
+  memset(out, 0x5a, sizeof out), memset(before, 0x5a, sizeof before);
+  if (a->status == WKB_OK) {
+    expect(wkb_write(bytes, len, &LITTLE_ISO, out, 3, &size) == WKB_NO_ROOM, "no room", a->input);
+    expect(size > 3 && size <= len, "the size that is wanted", a->input);
+  } else {
+    expect(wkb_write(bytes, len, &LITTLE_ISO, out, sizeof out, &size) == a->status, "not written", a->input);
+    expect(wkb_same(bytes, len, bytes, len, &equal) == a->status, "not compared", a->input);
+    expect(size == 77 && equal, "a size or a truth value was written", a->input);
+  }
+  expect(memcmp(out, before, sizeof out) == 0, "bytes were written", a->input);
+}
+
+/* All inputs again, each at the very end of a page that nothing may be read behind, whole and cut off at each byte. */
+static void nothing_is_read_behind(void) {
+  size_t page = (size_t)sysconf(_SC_PAGESIZE);
+  uint8_t *pages = mmap(NULL, 2 * page, PROT_READ | PROT_WRITE, MAP_PRIVATE | MAP_ANONYMOUS, -1, 0);
+  expect(pages != MAP_FAILED && mprotect(pages + page, page, PROT_NONE) == 0, "two pages", "");
+  for (int i = 0; i < ANSWER_COUNT; i++) {
+    uint8_t bytes[128];
+    size_t len = spelled(ANSWERS[i].input, bytes);
+    memcpy(pages + page - len, bytes, len);
+    check_is_as_told(&ANSWERS[i], pages + page - len, len);
+    refusal_leaves_outputs(&ANSWERS[i], pages + page - len, len);
+    parts_are_as_told(&ANSWERS[i], pages + page - len, len);
+    if (ANSWERS[i].status != WKB_OK) continue;
+    for (size_t cut = 0; cut < ANSWERS[i].size; cut++) {
+      uint8_t *start = pages + page - cut, out[128];
+      wkb_found found;
+      wkb_fault fault;
+      wkb_part parts[8];
+      uint64_t size, count;
+      bool equal;
+      memcpy(start, bytes, cut);
+      wkb_status status = wkb_check(start, cut, &found, &fault);
+      expect(status >= WKB_IO_ERROR, "a beginning is refused", ANSWERS[i].input);
+      expect(wkb_write(start, cut, &LITTLE_ISO, out, sizeof out, &size) == status, "as it is read", ANSWERS[i].input);
+      expect(wkb_same(bytes, len, start, cut, &equal) == status, "as the second is read", ANSWERS[i].input);
+      expect(wkb_parts(start, cut, parts, 8, &count) == status, "as it is read", ANSWERS[i].input);
+    }
+  }
+  munmap(pages, 2 * page);
+}
+
+/* What a call answers where malloc hands out no more than so many blocks. */
+typedef wkb_status (*call)(const uint8_t *bytes, size_t len);
+
+static wkb_status checked(const uint8_t *bytes, size_t len) {
+  wkb_found found;
+  wkb_fault fault;
+  return wkb_check(bytes, len, &found, &fault);
+}
+
+static wkb_status written(const uint8_t *bytes, size_t len) {
+  uint8_t out[128], before[128];
+  uint64_t size = 77;
+  memset(out, 0x5a, sizeof out), memset(before, 0x5a, sizeof before);
+  wkb_status status = wkb_write(bytes, len, &LITTLE_ISO, out, sizeof out, &size);
+  expect(status == WKB_OK || (size == 77 && memcmp(out, before, sizeof out) == 0), "outputs without memory", "");
+  return status;
+}
+
+static wkb_status compared(const uint8_t *bytes, size_t len) {
+  bool equal = false;
+  wkb_status status = wkb_same(bytes, len, bytes, len, &equal);
+  expect(equal == (status == WKB_OK), "a truth value without memory", "");
+  return status;
+}
+
+static wkb_status listed(const uint8_t *bytes, size_t len) {
+  wkb_part parts[8];
+  uint64_t count = 77;
+  wkb_status status = wkb_parts(bytes, len, parts, 8, &count);
+  expect(status == WKB_OK || count == 77, "a number of parts without memory", "");
+  return status;
+}
+
+/* Refuses the first block, then the second, and so on, until none is refused: how many there were. Each refusal is
+ * told, and gives back what was held. */
+static size_t refused_in_turn(call called, const uint8_t *bytes, size_t len) {
+  for (size_t n = 0;; n++) {
+    allowed = n;
+    wkb_status status = called(bytes, len);
+    size_t left = allowed;
+    allowed = SIZE_MAX;
+    expect(held == 0, "memory is given back", "");
+    if (status == WKB_OK) return n;
+    expect(status == WKB_NO_MEMORY && left == 0, "refused memory is told", "");
+  }
+}
+
+static void memory_is_refused(void) {
+  uint8_t bytes[128];
+  for (int i = 0; i < ANSWER_COUNT; i++) {
+    if (ANSWERS[i].status != WKB_OK) continue;
+    size_t len = spelled(ANSWERS[i].input, bytes);
+    bool takes_none = bytes[1] == WKB_POINT || bytes[1] == WKB_LINE_STRING || bytes[1] == WKB_MULTI_POINT;
+    size_t blocks = refused_in_turn(checked, bytes, len);
+    expect(takes_none ? blocks == 0 : blocks > 0, "blocks of a check", ANSWERS[i].input);
+    expect(refused_in_turn(written, bytes, len) > blocks, "blocks of a text", ANSWERS[i].input);
+    expect(refused_in_turn(listed, bytes, len) > blocks, "blocks of a table", ANSWERS[i].input);
+    expect(refused_in_turn(compared, bytes, len) > 2 * blocks, "blocks of a comparison", ANSWERS[i].input);
+  }
+}
+
+/* All inputs many times over, as each of several threads does. */
+static void *many_times(void *unused) {
+  for (int n = 0; n < 2000; n++) {
+    for (int i = 0; i < ANSWER_COUNT; i++) {
+      uint8_t bytes[128];
+      size_t len = spelled(ANSWERS[i].input, bytes);
+      check_is_as_told(&ANSWERS[i], bytes, len);
+      refusal_leaves_outputs(&ANSWERS[i], bytes, len);
+      parts_are_as_told(&ANSWERS[i], bytes, len);
+    }
+  }
+  return unused;
+}
+
+static void side_by_side(void) {
+  pthread_t threads[4];
+  for (int i = 0; i < 4; i++) expect(pthread_create(&threads[i], NULL, many_times, NULL) == 0, "a thread", "");
+  for (int i = 0; i < 4; i++) expect(pthread_join(threads[i], NULL) == 0, "a thread's end", "");
+}
+
+/* A word of a coordinate of a part, where it stands in the input. */
+static double ordinate(const uint8_t *buf, const wkb_part *part, uint64_t i, unsigned n) {
+  const uint8_t *bytes = buf + part->offset + 8 * (part->width * i + n);
+  uint64_t word = 0;
+  double value;
+  for (int k = 0; k < 8; k++) word = word << 8 | bytes[part->order == WKB_BIG_ENDIAN ? k : 7 - k];
+  memcpy(&value, &word, sizeof value);
+  return value;
+}
+
+/* Two polygons, the second one big endian and with an SRID of its own, and four bytes behind them. */
+static void polygons(void) {
+  uint8_t buf[128], out[128];
+  size_t len = spelled("01 06000000 02000000  01 03000000 01000000 01000000 P"
+                       "  00 20000003 000010e6 00000001 00000001 3ff0000000000000 4000000000000000  ffffffff", buf);
+  wkb_found found;
+  wkb_fault fault;
+  uint64_t size = 0;
+  bool equal = false;
+
+  wkb_status status = wkb_check(buf, len, &found, &fault);
+  printf("status %d: kind %d, dimension %d, %d parts in %d of %d bytes, %s SRID\n", status, found.kind, found.dimension,
+         (int)found.parts, (int)found.size, (int)len, found.has_srid ? "an" : "no");
+
+  wkb_part parts[8];
+  uint64_t count = 0;
+  wkb_parts(buf, len, parts, 8, &count);
+  for (uint64_t i = 0; i < count; i++) {
+    printf("part %d: kind %d, %d from byte %d on", (int)i, parts[i].kind, (int)parts[i].count, (int)parts[i].offset);
+    if (parts[i].kind == WKB_RING)
+      printf(": (%g, %g)", ordinate(buf, &parts[i], 0, 0), ordinate(buf, &parts[i], 0, 1));
+    printf("\n");
+  }
+
+  wkb_options options = {WKB_BIG_ENDIAN, WKB_EWKB_WITH_SRID, 4326};
+  status = wkb_write(buf, len, &options, out, sizeof out, &size);
+  printf("status %d: ", status);
+  for (uint64_t i = 0; i < 13; i++) printf("%02x", out[i]);
+  printf(".., %d bytes\n", (int)size);
+
+  status = wkb_same(buf, len, out, size, &equal);
+  printf("status %d: %s\n", status, equal ? "the same geometry" : "another geometry");
+
+  status = wkb_check(buf, found.size - 8, &found, &fault);
+  printf("status %d: part %d, at byte %d, would end %d bytes on\n", status, (int)fault.part,
+         (int)(found.size - 8 - fault.len), (int)fault.end);
+
+  status = wkb_write(buf, len, &options, out, 10, &size);
+  printf("status %d: %d bytes are wanted\n", status, (int)size);
+}
+
+int main(void) {
+  polygons();
+  nothing_is_read_behind();
+  printf("no byte behind the input is read, and refusals leave what they were lent\n");
+  memory_is_refused();
+  printf("each block of memory refused in turn is told\n");
+  side_by_side();
+  printf("calls run side by side\n");
+  return 0;
+}

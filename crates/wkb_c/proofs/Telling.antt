@@ -1,0 +1,118 @@
+-- What is told of an answer of the reader.
+use Rattle.std.proofs.Common.{◌≡◌, ◌≢◌, ℕ, ◌+◌, ◌≤◌, List, length, refl, sym, ap, arith, ◌⊎◌, inl, inr}
+use Rattle.std.specs.Prelude.{Bool, is_some, unwrap_or}
+use Rattle.wkb_geom.specs.Codes.{thousands}
+use Rattle.wkb_geom.specs.Dimensions.{width}
+use Rattle.wkb_geom.specs.Reading.{Item}
+use Rattle.wkb_geom.specs.Spellings.{header}
+use Rattle.wkb_geom.specs.Values.{kind, dimension, member_count}
+use Rattle.wkb_geom.specs.declared.error.General.{General as Fault}
+use Rattle.wkb_geom.specs.declared.error.General.TheVariants.{UnsupportedDimensions, CodeOutOfRange, InvalidByteOrder, ShortPoint, ShortLineString, ShortLinearRing, ShortMultiPoint}
+use Rattle.wkb_geom.specs.declared.error.WkbError.{WkbError}
+use Rattle.wkb_geom.specs.declared.error.WkbError.TheVariants.{IncorrectType, NotYetImplemented, General, NestingDepthExceeded, IOError, OverflowError, Memory}
+use Rattle.wkb_geom.specs.Told.{Tells}
+use Rattle.wkb_geom.specs.Errors.{IsMemory}
+use Rattle.wkb_geom.specs.declared.error.Cause.{Cause}
+use Rattle.wkb_geom.specs.declared.error.Cause.TheVariants.{EndOfInput as end_of_input, General as general, IncorrectType as incorrect_type, NestingDepthExceeded as nesting_depth_exceeded}
+use Rattle.wkb_read.specs.Memory.{IsNotMemoryError}
+use Rattle.wkb_read.specs.Public.{IsFront, IsRefusal, TakesNoMemory}
+use Rattle.wkb.specs.Canonical.{IsAccepted}
+use Rattle.wkb_c.specs.declared.found.Found.{Found}
+use Rattle.wkb_c.specs.Checks.{IsFound, HoldsNoList}
+use Rattle.wkb_c.specs.Statuses.{status_of, general_status, fault_of, general_fault, IsRefusedAs, IsRefusedInTurn}
+use Rattle.wkb_c.specs.Told.{status_told, fault_told}
+
+-- an error that tells a cause has its status
+pub status_tells : (e : WkbError) (cause : Cause) → Tells e cause → status_told e ≡ status_of cause
+status_tells (IOError e) end_of_input told = refl
+status_tells (General g) (general h) told = ap general_status told
+status_tells (IncorrectType s) incorrect_type told = refl
+status_tells (NestingDepthExceeded n) (nesting_depth_exceeded m) told = refl
+status_tells _ _ told = absurd told
+
+-- and its numbers
+pub fault_tells : (part : ℕ) (e : WkbError) (cause : Cause) → Tells e cause → fault_told part e ≡ fault_of part cause
+fault_tells part (IOError e) end_of_input told = refl
+fault_tells part (General g) (general h) told = ap (general_fault part) told
+fault_tells part (IncorrectType s) incorrect_type told = refl
+fault_tells part (NestingDepthExceeded n) (nesting_depth_exceeded m) told = refl
+fault_tells part _ _ told = absurd told
+
+general_is_late : (g : Fault) → 5 ≤ general_status g
+general_is_late InvalidByteOrder = omega arith
+general_is_late (CodeOutOfRange code) = omega arith
+general_is_late (UnsupportedDimensions n) = omega arith
+general_is_late (ShortPoint end len) = omega arith
+general_is_late (ShortLineString end len) = omega arith
+general_is_late (ShortMultiPoint end len) = omega arith
+general_is_late (ShortLinearRing end len) = omega arith
+
+cause_is_late : (cause : Cause) → 5 ≤ status_of cause
+cause_is_late end_of_input = omega arith
+cause_is_late (general g) = general_is_late g
+cause_is_late incorrect_type = omega arith
+cause_is_late (nesting_depth_exceeded n) = omega arith
+
+-- the statuses of refusals are the last ones
+pub refusal_is_late : (e : WkbError) (cause : Cause) → Tells e cause → 5 ≤ status_told e
+refusal_is_late e cause told = rw (status_tells e cause told) (cause_is_late cause)
+
+-- an error that isn't want of memory has another status
+general_is_other : (g : Fault) → general_status g ≢ 1
+general_is_other g is = omega (arith, is, general_is_late g)
+
+pub other_is_other : (e : WkbError) → IsNotMemoryError e → status_told e ≢ 1
+other_is_other (Memory e) other is = absurd other
+other_is_other (OverflowError o) other is = absurd (cc)
+other_is_other (IOError e) other is = absurd (cc)
+other_is_other (IncorrectType s) other is = absurd (cc)
+other_is_other (NotYetImplemented s) other is = absurd (cc)
+other_is_other (NestingDepthExceeded n) other is = absurd (cc)
+other_is_other (General g) other is = general_is_other g is
+
+memory_is_told : (e : WkbError) → IsMemory e → status_told e ≡ 1
+memory_is_told (Memory e) is = refl
+memory_is_told _ is = absurd is
+
+-- a refusal has the status of its cause
+pub refused_as : (buf : List ℕ) (e : WkbError) → IsRefusal buf e → IsRefusedAs buf (status_told e)
+refused_as buf e r = record { cause = r.cause; turns = r.turns; slots = r.slots; refuses = r.refuses; status_is = status_tells e r.cause r.tells }
+
+-- so has that of one of two inputs
+refused_one : (a b : List ℕ) (e : WkbError) → IsRefusal a e ⊎ (IsAccepted a × IsRefusal b e) → IsRefusedInTurn a b (status_told e)
+refused_one a b e (inl first) = inl (refused_as a e first)
+refused_one a b e (inr second) = inr (second.0, refused_as b e second.1)
+
+pub refused_in_turn : (a b : List ℕ) (e : WkbError) → IsMemory e ⊎ (IsRefusal a e ⊎ (IsAccepted a × IsRefusal b e)) → status_told e ≢ 1 → IsRefusedInTurn a b (status_told e)
+refused_in_turn a b e (inl memory) other = absurd (other (memory_is_told e memory))
+refused_in_turn a b e (inr refused) other = refused_one a b e refused
+
+-- points, line strings and multi points take no memory
+kind_without_list : (k : ℕ) (srid : Bool) (buf : List ℕ) → (k ≡ 1) ⊎ ((k ≡ 2) ⊎ (k ≡ 4)) → (k ≢ 3) × (k ≢ 5) × (k ≢ 6) × (k ≢ 7)
+kind_without_list k srid buf (inl is) = (λ e. omega (arith, is, e), λ e. omega (arith, is, e), λ e. omega (arith, is, e), λ e. omega (arith, is, e))
+kind_without_list k srid buf (inr (inl is)) = (λ e. omega (arith, is, e), λ e. omega (arith, is, e), λ e. omega (arith, is, e), λ e. omega (arith, is, e))
+kind_without_list k srid buf (inr (inr is)) = (λ e. omega (arith, is, e), λ e. omega (arith, is, e), λ e. omega (arith, is, e), λ e. omega (arith, is, e))
+
+pub no_list_no_memory : (buf : List ℕ) → HoldsNoList buf → TakesNoMemory buf
+no_list_no_memory buf none order k d srid behind opens =
+    let other = kind_without_list k srid buf (none order k d srid behind opens) in
+    record { polygon = λ is. absurd (other.0 is); multi_line_string = λ is. absurd (other.1 is); multi_polygon = λ is. absurd (other.2 is); collection = λ is. absurd (other.3 is) }
+
+-- what is told of a geometry that was read
+pub found_at_front : (buf : List ℕ) (w : Item) (f : Found) (turns : ℕ) → IsFront buf w → turns ≡ member_count w.value
+    → f.size ≡ length w.text → f.parts ≡ 1 + turns → f.kind ≡ kind w.value → f.dimension ≡ thousands (dimension w.value)
+    → f.width ≡ width (dimension w.value) → f.has_srid ≡ is_some (header w.spelled).srid → f.srid ≡ unwrap_or (header w.spelled).srid 0
+    → IsFound buf f
+found_at_front buf w f turns front counted size parts kind_is dimension_is width_is has_srid srid = record {
+  s = w.spelled;
+  t = w.value;
+  rest = front.rest;
+  front = front.front;
+  size_is = (rw (sym front.text_is) at size);
+  parts_are = (omega (arith, parts, counted));
+  kind_is = kind_is;
+  dimension_is = dimension_is;
+  width_is = width_is;
+  has_srid_is = has_srid;
+  srid_is = srid;
+}

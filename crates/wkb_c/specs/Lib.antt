@@ -1,0 +1,9 @@
+pub mod Checks
+pub mod Kinds
+pub mod Requests
+pub mod Room
+pub mod Statuses
+pub mod Growing
+pub mod Tables
+pub mod Told
+pub mod Writings

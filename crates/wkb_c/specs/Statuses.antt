@@ -1,0 +1,73 @@
+-- The status that tells a refusal, and its numbers.
+use Rattle.std.specs.Prelude.{◌≡◌, ◌⊎◌, ℕ, List}
+use Rattle.wkb_geom.specs.declared.error.General.{General}
+use Rattle.wkb_geom.specs.declared.error.General.TheVariants.{UnsupportedDimensions, CodeOutOfRange, InvalidByteOrder, ShortPoint, ShortLineString, ShortLinearRing, ShortMultiPoint}
+use Rattle.wkb_geom.specs.Spellings.{any}
+use Rattle.wkb_geom.specs.Fronts.{max_nesting}
+use Rattle.wkb_geom.specs.declared.error.Cause.{Cause}
+use Rattle.wkb_geom.specs.declared.error.Cause.TheVariants.{EndOfInput as end_of_input, General as general, IncorrectType as incorrect_type, NestingDepthExceeded as nesting_depth_exceeded}
+use Rattle.wkb_geom.specs.Refusals.{Refuses}
+use Rattle.wkb.specs.Canonical.{IsAccepted}
+use Rattle.wkb_c.specs.declared.status.TheConstants.{IO_ERROR, INVALID_BYTE_ORDER, CODE_OUT_OF_RANGE, INCORRECT_TYPE, NESTING_DEPTH_EXCEEDED, SHORT_POINT, SHORT_LINE_STRING, SHORT_MULTI_POINT, SHORT_LINEAR_RING}
+use Rattle.wkb_c.specs.declared.fault.Fault.{Fault}
+
+-- the status of a fault of the bytes (no reading refuses an unsupported dimension)
+abbrev pub general_status : General → ℕ
+general_status InvalidByteOrder = INVALID_BYTE_ORDER
+general_status (CodeOutOfRange code) = CODE_OUT_OF_RANGE
+general_status (UnsupportedDimensions n) = INCORRECT_TYPE
+general_status (ShortPoint end len) = SHORT_POINT
+general_status (ShortLineString end len) = SHORT_LINE_STRING
+general_status (ShortMultiPoint end len) = SHORT_MULTI_POINT
+general_status (ShortLinearRing end len) = SHORT_LINEAR_RING
+
+-- the status of a cause
+abbrev pub status_of : Cause → ℕ
+status_of end_of_input = IO_ERROR
+status_of (general g) = general_status g
+status_of incorrect_type = INCORRECT_TYPE
+status_of (nesting_depth_exceeded n) = NESTING_DEPTH_EXCEEDED
+
+-- a part of this number is refused, and no more is told
+abbrev pub plain_fault : ℕ → Fault
+plain_fault part = record { part = part; end = 0; len = 0; code = 0 }
+
+-- a part is refused that would end there, where the input ends here
+abbrev pub short_fault : ℕ → ℕ → ℕ → Fault
+short_fault part end len = record { part = part; end = end; len = len; code = 0 }
+
+-- the numbers of a fault of the bytes
+abbrev pub general_fault : ℕ → General → Fault
+general_fault part InvalidByteOrder = plain_fault part
+general_fault part (CodeOutOfRange code) = record { part = part; end = 0; len = 0; code = code }
+general_fault part (UnsupportedDimensions n) = plain_fault part
+general_fault part (ShortPoint end len) = short_fault part end len
+general_fault part (ShortLineString end len) = short_fault part end len
+general_fault part (ShortMultiPoint end len) = short_fault part end len
+general_fault part (ShortLinearRing end len) = short_fault part end len
+
+-- the numbers of a cause that refuses the part of this number
+abbrev pub fault_of : ℕ → Cause → Fault
+fault_of part (general g) = general_fault part g
+fault_of part _ = plain_fault part
+
+-- the input is refused, and the status tells why
+pub record IsRefusedAs (input : List ℕ) (status : ℕ) : Type 0 where
+  pub cause : Cause
+  pub turns : ℕ
+  pub slots : ℕ
+  pub refuses : Refuses max_nesting any input cause turns slots
+  pub status_is : status ≡ status_of cause
+
+-- the input is refused, the status tells why, and the fault tells which part, and its numbers
+pub record IsFault (input : List ℕ) (status : ℕ) (fault : Fault) : Type 0 where
+  pub cause : Cause
+  pub turns : ℕ
+  pub slots : ℕ
+  pub refuses : Refuses max_nesting any input cause turns slots
+  pub status_is : status ≡ status_of cause
+  pub fault_is : fault ≡ fault_of turns cause
+
+-- the first input is refused, or it begins with a geometry and the second is refused; the status tells why
+abbrev pub IsRefusedInTurn : List ℕ → List ℕ → ℕ → Type 0
+IsRefusedInTurn a b status = IsRefusedAs a status ⊎ (IsAccepted a × IsRefusedAs b status)

@@ -1,0 +1,340 @@
+//! The table of a geometry's parts, by the headers, counts and sizes of its views.
+
+ghost use Rattle.std.specs.Prelude.{◌≡◌, ◌+◌, ◌*◌, ◌<◌, ◌^◌, [], ◌∷◌, length, slice_get, slice_index, option_map};
+ghost use Rattle.std.specs.Prelude.{IfOk, IfSome};
+ghost use Rattle.wkb_geom.specs.Dimensions.{width as words, dimensions as named};
+ghost use Rattle.wkb_geom.specs.Reading.{spellings, values};
+ghost use Rattle.wkb_geom.specs.Refusals.{ring_end};
+ghost use Rattle.wkb_geom.specs.Numbers.{order_byte};
+ghost use Rattle.wkb_geom.specs.Values.{kind, dimension, members, polygon as polygon_of};
+ghost use Rattle.wkb_geom.specs.Values.{multi_line_string as lines_of, multi_polygon as polygons_of};
+ghost use Rattle.wkb_geom.specs.Stored.{whole_of};
+ghost use Rattle.wkb_view.specs.Coords.{ring_seen, ring_dimension};
+ghost use Rattle.wkb_view.specs.Parts.{order_of, srid_of, members_spelled};
+ghost use Rattle.wkb_view.specs.Views.{point_seen, line_string_seen, multi_point_seen};
+ghost use Rattle.wkb_c.specs.Tables.{entry, entries, ring_entries, rings_size, size, sizes, count_of};
+ghost use Rattle.wkb_c.specs.Growing.{Grows, Lists, ListsMembers, HasMembers, header_size as header_bytes};
+
+use crate::found::{dimension_number, kind_number, width};
+use std::alloc::{AllocError, Global};
+use wkb::geom::{
+    GeometryTrait, GeometryType, LineStringTrait, MultiLineStringTrait, MultiPointTrait,
+    MultiPolygonTrait, PolygonTrait,
+};
+use wkb::reader::{
+    Dimension, LineString, LinearRing, MultiLineString, MultiPoint, MultiPolygon, Point, Polygon,
+    Wkb,
+};
+use wkb_view::own_srid::OwnSrid;
+
+/// A geometry, or a ring of a polygon.
+#[repr(C)]
+#[derive(Clone, Copy)]
+pub struct Part {
+    /// Where its coordinates, rings or members begin, in bytes from the front of the input.
+    pub offset: u64,
+    /// How many it has; a point has one coordinate.
+    pub count: u64,
+    /// The number of its kind, as in the codes; 0 is a ring.
+    pub kind: u8,
+    /// The number of its dimension, as the thousands of a code.
+    pub dimension: u8,
+    /// The words of a coordinate.
+    pub width: u8,
+    /// The byte that tells its order.
+    pub order: u8,
+}
+
+/// The parts that are listed, and the byte at which the next one begins.
+#[derive(Drop)]
+pub struct Table {
+    pub parts: Vec<Part>,
+    pub next: u64,
+}
+
+/// What stands in front of a part's coordinates, rings or members.
+#[derive(Clone, Copy)]
+pub struct Front {
+    pub kind: u8,
+    pub dimension: Dimension,
+    pub order: u8,
+    /// The bytes of its header and its count.
+    pub leading: u64,
+}
+
+/// The bytes of a header.
+fn header_size(srid: Option<u32>) -> u64
+    ensures { result ≡ header_bytes srid }
+{
+    if srid.is_some() { 9 } else { 5 }
+}
+
+/// Adds a part of so many coordinates, rings or members, and passes over its front and its coordinates.
+fn add(table: &mut Table, front: Front, count: u64, coordinates: u64) -> Result<(), AllocError>
+    requires fits { table.old.next + front.leading + coordinates < 2 ^ 63 }
+    ensures { IfOk result (λ done. Grows table.old table.new (entry front.kind front.dimension front.order
+        (table.old.next + front.leading) count ∷ []) (front.leading + coordinates)) }
+{
+    let offset = table.next + front.leading;
+    table.parts.push(Part {
+        offset,
+        count,
+        kind: front.kind,
+        dimension: dimension_number(front.dimension),
+        width: width(front.dimension),
+        order: front.order,
+    })?;
+    table.next = offset + coordinates;
+    Ok(())
+}
+
+fn add_point(table: &mut Table, point: &Point<'_>) -> Result<(), AllocError>
+    requires fits { table.old.next + size (point_seen point.now).spelled (point_seen point.now).value < 2 ^ 63 }
+    ensures { IfOk result (λ done. Lists table.old table.new (point_seen point.now).spelled
+        (point_seen point.now).value) }
+{
+    let front = Front {
+        kind: 1,
+        dimension: point.dimension(),
+        order: point.byte_order().into(),
+        leading: header_size(point.srid()),
+    };
+    add(table, front, 1, 8 * width(point.dimension()) as u64)
+}
+
+fn add_line_string(table: &mut Table, line: &LineString<'_>) -> Result<(), AllocError>
+    requires fits { table.old.next + size (line_string_seen line.now).spelled (line_string_seen line.now).value
+        < 2 ^ 63 }
+    ensures { IfOk result (λ done. Lists table.old table.new (line_string_seen line.now).spelled
+        (line_string_seen line.now).value) }
+{
+    let front = Front {
+        kind: 2,
+        dimension: line.dimension(),
+        order: line.byte_order().into(),
+        leading: header_size(line.srid()) + 4,
+    };
+    let count = line.num_coords() as u64;
+    add(
+        table,
+        front,
+        count,
+        8 * width(line.dimension()) as u64 * count,
+    )
+}
+
+fn add_ring(table: &mut Table, ring: &LinearRing<'_>, order: u8) -> Result<(), AllocError>
+    requires fits { table.old.next + ring_end (ring_dimension ring.now) (length (ring_seen ring.now)) < 2 ^ 63 }
+    ensures { IfOk result (λ done. Grows table.old table.new (entry 0 (ring_dimension ring.now) order
+        (table.old.next + 4) (length (ring_seen ring.now)) ∷ []) (ring_end (ring_dimension ring.now) (length
+        (ring_seen ring.now)))) }
+{
+    let front = Front {
+        kind: 0,
+        dimension: ring.dimension(),
+        order,
+        leading: 4,
+    };
+    let count = ring.num_coords() as u64;
+    add(
+        table,
+        front,
+        count,
+        8 * width(ring.dimension()) as u64 * count,
+    )
+}
+
+/// How many rings a polygon has.
+fn num_rings(polygon: &Polygon<'_>) -> usize
+    requires { length polygon.now.parts < 2 ^ 63 }
+    ensures { result ≡ length polygon.now.parts }
+{
+    match polygon.exterior() {
+        Some(_) => 1 + polygon.num_interiors(),
+        None => 0,
+    }
+}
+
+/// The ring of this number, of which the exterior is the first.
+fn ring<'a>(polygon: &Polygon<'a>, i: usize) -> Option<LinearRing<'a>>
+    ensures part { option_map ring_seen result ≡ slice_get polygon.now.parts i }
+    ensures dimension { IfSome result (λ r. named (ring_dimension r) ≡ named polygon.now.dimension) }
+{
+    if i == 0 {
+        polygon.exterior()
+    } else {
+        polygon.interior(i - 1)
+    }
+}
+
+/// Adds the rings of a polygon.
+fn add_rings(table: &mut Table, polygon: &Polygon<'_>, order: u8) -> Result<(), AllocError>
+    requires fits { table.old.next + rings_size polygon.now.dimension polygon.now.parts < 2 ^ 63 }
+    ensures { IfOk result (λ done. Grows table.old table.new
+        (ring_entries polygon.now.dimension order table.old.next polygon.now.parts)
+        (rings_size polygon.now.dimension polygon.now.parts)) }
+{
+    for i in 0..num_rings(polygon) {
+        match ring(polygon, i) {
+            Some(ring) => add_ring(table, &ring, order)?,
+            None => unreachable!(),
+        }
+    }
+    Ok(())
+}
+
+/// The order byte of a geometry, which is its first.
+fn first_byte(buf: &[u8]) -> u8
+    requires { 0 < length buf.now }
+    ensures { result ≡ slice_index buf.now 0 }
+{
+    buf[0]
+}
+
+fn add_polygon(table: &mut Table, polygon: &Polygon<'_>) -> Result<(), AllocError>
+    requires fits { table.old.next + size (whole_of polygon_of polygon.now).spelled
+        (whole_of polygon_of polygon.now).value < 2 ^ 63 }
+    ensures { IfOk result (λ done. Lists table.old table.new (whole_of polygon_of polygon.now).spelled
+        (whole_of polygon_of polygon.now).value) }
+{
+    let front = Front {
+        kind: 3,
+        dimension: polygon.dimension(),
+        order: first_byte(polygon.buf()),
+        leading: header_size(polygon.srid()) + 4,
+    };
+    add(table, front, num_rings(polygon) as u64, 0)?;
+    add_rings(table, polygon, front.order)
+}
+
+/// Adds the members of a multi point.
+fn add_points(table: &mut Table, multi: &MultiPoint<'_>) -> Result<(), AllocError>
+    requires fits { table.old.next + sizes (members_spelled (multi_point_seen multi.now).spelled) (members
+        (multi_point_seen multi.now).value) < 2 ^ 63 }
+    ensures { IfOk result (λ done. ListsMembers table.old table.new (members_spelled
+        (multi_point_seen multi.now).spelled) (members (multi_point_seen multi.now).value)) }
+{
+    for i in 0..multi.num_points() {
+        match multi.point(i) {
+            Some(point) => add_point(table, &point)?,
+            None => unreachable!(),
+        }
+    }
+    Ok(())
+}
+
+/// Adds the members of a multi line string.
+fn add_line_strings(table: &mut Table, multi: &MultiLineString<'_>) -> Result<(), AllocError>
+    requires fits { table.old.next + sizes (members_spelled multi.now.spelled) (members
+        (whole_of lines_of multi.now).value) < 2 ^ 63 }
+    ensures { IfOk result (λ done. ListsMembers table.old table.new (members_spelled multi.now.spelled) (members
+        (whole_of lines_of multi.now).value)) }
+{
+    for i in 0..multi.num_line_strings() {
+        match multi.line_string(i) {
+            Some(line) => add_line_string(table, &line)?,
+            None => unreachable!(),
+        }
+    }
+    Ok(())
+}
+
+/// Adds the members of a multi polygon.
+fn add_polygons(table: &mut Table, multi: &MultiPolygon<'_>) -> Result<(), AllocError>
+    requires fits { table.old.next + sizes (members_spelled multi.now.spelled) (members
+        (whole_of polygons_of multi.now).value) < 2 ^ 63 }
+    ensures { IfOk result (λ done. ListsMembers table.old table.new (members_spelled multi.now.spelled) (members
+        (whole_of polygons_of multi.now).value)) }
+{
+    for i in 0..multi.num_polygons() {
+        match multi.polygon(i) {
+            Some(polygon) => add_polygon(table, &polygon)?,
+            None => unreachable!(),
+        }
+    }
+    Ok(())
+}
+
+/// Adds the members of a collection.
+#[cycle(table)]
+fn add_members(table: &mut Table, members: &[Wkb<'_>]) -> Result<(), AllocError>
+    requires fits { table.old.next + sizes (spellings members.now) (values members.now) < 2 ^ 63 }
+    ensures { IfOk result (λ done. ListsMembers table.old table.new (spellings members.now) (values members.now)) }
+{
+    for member in members {
+        add_geometry(table, member)?;
+    }
+    Ok(())
+}
+
+/// What stands in front of the members of a geometry that has some.
+fn front_of(wkb: &Wkb<'_>) -> Front
+    ensures kind { result.kind ≡ kind wkb.now.value }
+    ensures dimension { result.dimension ≡ dimension wkb.now.value }
+    ensures order { result.order ≡ order_byte (order_of wkb.now.spelled) }
+    ensures leading { result.leading ≡ header_bytes (srid_of wkb.now.spelled) + 4 }
+{
+    Front {
+        kind: kind_number(wkb.geometry_type()),
+        dimension: wkb.dimension(),
+        order: first_byte(wkb.buf()),
+        leading: header_size(wkb.srid()) + 4,
+    }
+}
+
+/// Adds a geometry that has members, of which there are so many, but not these.
+fn add_whole(table: &mut Table, wkb: &Wkb<'_>, count: usize) -> Result<(), AllocError>
+    requires fits { table.old.next + size wkb.now.spelled wkb.now.value < 2 ^ 63 }
+    requires counted { count ≡ count_of wkb.now.value }
+    requires holds { HasMembers wkb.now.value }
+    ensures { IfOk result (λ done. Grows table.old table.new (entry (kind wkb.now.value) (dimension wkb.now.value)
+        (order_byte (order_of wkb.now.spelled)) (table.old.next + (header_bytes
+        (srid_of wkb.now.spelled) + 4)) count ∷ []) (header_bytes (srid_of wkb.now.spelled) + 4)) }
+{
+    add(table, front_of(wkb), count as u64, 0)
+}
+
+/// Adds a geometry of any kind.
+#[cycle(table)]
+fn add_geometry(table: &mut Table, wkb: &Wkb<'_>) -> Result<(), AllocError>
+    requires fits { table.old.next + size wkb.now.spelled wkb.now.value < 2 ^ 63 }
+    ensures { IfOk result (λ done. Lists table.old table.new wkb.now.spelled wkb.now.value) }
+{
+    match wkb.as_type() {
+        GeometryType::Point(point) => add_point(table, point),
+        GeometryType::LineString(line) => add_line_string(table, line),
+        GeometryType::Polygon(polygon) => add_polygon(table, polygon),
+        GeometryType::MultiPoint(multi) => {
+            add_whole(table, wkb, multi.num_points())?;
+            add_points(table, multi)
+        }
+        GeometryType::MultiLineString(multi) => {
+            add_whole(table, wkb, multi.num_line_strings())?;
+            add_line_strings(table, multi)
+        }
+        GeometryType::MultiPolygon(multi) => {
+            add_whole(table, wkb, multi.num_polygons())?;
+            add_polygons(table, multi)
+        }
+        GeometryType::GeometryCollection(members) => {
+            add_whole(table, wkb, members.len())?;
+            add_members(table, members)
+        }
+        GeometryType::Line(_) => unreachable!(),
+        GeometryType::Rect(_) => unreachable!(),
+        GeometryType::Triangle(_) => unreachable!(),
+    }
+}
+
+/// The parts of a geometry, of which there are so many.
+pub fn table_of(alloc: Global, wkb: &Wkb<'_>, count: usize) -> Result<Vec<Part>, AllocError>
+    requires fits { size wkb.now.spelled wkb.now.value < 2 ^ 63 }
+    ensures { IfOk result (λ parts. parts.items ≡ entries 0 wkb.now.spelled wkb.now.value) }
+{
+    let mut table = Table {
+        parts: Vec::with_capacity(alloc, count)?,
+        next: 0,
+    };
+    add_geometry(&mut table, wkb)?;
+    Ok(table.parts)
+}

@@ -1,0 +1,20 @@
+//! What is handed out into a caller's slice.
+
+ghost use Rattle.std.specs.Prelude.{◌≡◌, ◌≢◌};
+ghost use Rattle.wkb_c.specs.Room.{IsHeld, LacksRoom};
+
+use crate::status::{NO_ROOM, OK};
+
+/// Puts the items at the front of the slice where they have room there, and tells how many they are.
+pub fn hand_out<T: Copy>(items: &[T], out: &mut [T], count: &mut u64) -> u32
+    ensures held { result ≡ OK → IsHeld items.now out.old out.new count.new }
+    ensures no_room { result ≢ OK → (result ≡ NO_ROOM) × LacksRoom items.now out.old count.new }
+    ensures out_kept { result ≢ OK → out.new ≡ out.old }
+{
+    *count = items.len() as u64;
+    if out.len() < items.len() {
+        return NO_ROOM;
+    }
+    out[..items.len()].copy_from_slice(items);
+    OK
+}
