@@ -3,6 +3,8 @@
 #![tactic(auto)]
 
 pub mod example;
+pub mod ordinates;
+pub mod places;
 pub mod reading;
 pub mod spelled;
 pub mod support;

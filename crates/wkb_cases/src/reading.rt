@@ -98,6 +98,11 @@ pub fn answer_to(alloc: Global, input: &[u8]) -> Outcome {
     outcome_of(&read_wkb(alloc, input))
 }
 
+/// What `Wkb::try_new` answers to these bytes.
+pub fn tried(alloc: Global, input: &[u8]) -> Outcome {
+    outcome_of(&Wkb::try_new(alloc, input))
+}
+
 /// What `read_wkb` answers to the bytes of a text.
 pub fn reads(alloc: Global, text: &str) -> Result<Outcome, Fail> {
     let input = bytes(text)?;

@@ -4,14 +4,19 @@ use Rattle.std.specs.Prelude.{IfErr, IsErrAnd}
 use Rattle.hex.specs.Hex.{decode_of}
 use Rattle.hex.specs.declared.error.FromHexError.{FromHexError}
 use Rattle.hex.specs.declared.error.FromHexError.TheVariants as hex_errors
+use Rattle.wkb_geom.specs.Told.{Tells}
 use Rattle.wkb_geom.specs.Errors.{IsMemory}
+use Rattle.wkb_geom.specs.Fronts.{max_nesting}
+use Rattle.wkb_geom.specs.declared.error.Cause.{Cause}
+use Rattle.wkb_geom.specs.Refusals.{Refuses}
+use Rattle.wkb_geom.specs.Spellings.{any}
 use Rattle.wkb.specs.Canonical.{IsAccepted, IsSize}
-use Rattle.wkb_read.specs.Public.{IfRefused, IsRefusal}
 use Rattle.wkb_geom.specs.declared.error.WkbError.{WkbError}
 use Rattle.wkb_geom.specs.declared.error.WkbError.TheVariants as errors
 use Rattle.wkb_hex.specs.declared.calls.HexFault.{HexFault}
 use Rattle.wkb_hex.specs.declared.calls.HexFault.TheVariants.{NotHex, Memory}
-use Rattle.wkb_hex.specs.Calls.{IsHex, IsHexOf, AreHexOf, IsFaultOf, RefusedFirst, IsOversized, this_one, later_one, FaultOfError, FaultOfHexError}
+use Rattle.wkb_hex.specs.Calls.{IsHex, IsHexOf, AreHexOf, IsFaultOf, FirstRefusal, RefusedFirst, IsOversized, this_one, later_one}
+use Rattle.wkb_hex.specs.Calls.{FaultOfError, FaultOfHexError}
 use Rattle.wkb_hex.proofs.Hexes.{not_hex}
 
 pub IfErr-from : {T E : Type 0} (r : Result T E) (P Q : E → Type 0) → IsErrAnd r P → ((e : E) → P e → Q e) → IfErr r Q
@@ -31,25 +36,43 @@ call_fault texts IsRefused (errors.Memory x) fault h is = rw is tt
 call_fault texts IsRefused e fault (inl memory) is = absurd memory
 call_fault texts IsRefused e fault (inr refused) is = rw is refused
 
-pub refused_one : (text bytes read : List ℕ) (e : WkbError) → IsHexOf text bytes → read ≡ bytes → IsRefusal read e
+-- the only input is refused, and the error tells why
+pub refused_alone : (input : List ℕ) (e : WkbError) (cause : Cause) (turns slots : ℕ)
+    → Refuses max_nesting any input cause turns slots → Tells e cause → RefusedFirst (input ∷ []) e
+refused_alone input e cause turns slots refuses told =
+    record { cause = cause; refusal = this_one (record { refuses = refuses }); told = told }
+
+never_refused : (cause : Cause) → FirstRefusal [] cause → ⊥
+never_refused cause h = elim h [ ]
+
+first_of : (input : List ℕ) (others : List (List ℕ)) (cause : Cause) → FirstRefusal (input ∷ []) cause → FirstRefusal (input ∷ others) cause
+first_of input others cause (this_one refused) = this_one refused
+first_of input others cause (later_one accepted never) = absurd (never_refused cause never)
+
+-- of two inputs the first one is refused
+refused_before : (input other : List ℕ) (e : WkbError) → RefusedFirst (input ∷ []) e → RefusedFirst (input ∷ other ∷ []) e
+refused_before input other e h = record { cause = h.cause; refusal = first_of input (other ∷ []) h.cause h.refusal; told = h.told }
+
+-- of two inputs the second one is refused
+refused_behind : (input other : List ℕ) (e : WkbError) → IsAccepted input → RefusedFirst (other ∷ []) e → RefusedFirst (input ∷ other ∷ []) e
+refused_behind input other e accepted h = record { cause = h.cause; refusal = later_one accepted h.refusal; told = h.told }
+
+-- the refusal of the bytes that the only text spells
+pub refused_one : (text bytes read : List ℕ) (e : WkbError) → IsHexOf text bytes → read ≡ bytes → RefusedFirst (read ∷ []) e
     → (inputs : List (List ℕ)) × AreHexOf (text ∷ []) inputs × RefusedFirst inputs e
-refused_one text bytes read e hex is h =
-    (read ∷ [], ((rw is hex), tt), record { cause = h.cause; refusal = this_one (record { refuses = h.refuses }); told = h.tells })
+refused_one text bytes read e hex is h = (read ∷ [], ((rw is hex), tt), h)
 
 pub refused_pair : (first second a b read other : List ℕ) (e : WkbError) → IsHexOf first a → IsHexOf second b → read ≡ a → other ≡ b
-    → IsRefusal read e ⊎ (IsAccepted read × IsRefusal other e)
+    → RefusedFirst (read ∷ []) e ⊎ (IsAccepted read × RefusedFirst (other ∷ []) e)
     → (inputs : List (List ℕ)) × AreHexOf (first ∷ second ∷ []) inputs × RefusedFirst inputs e
 refused_pair first second a b read other e hex hex' is is' (inl h) =
-    (read ∷ other ∷ [], ((rw is hex), ((rw is' hex'), tt)), record { cause = h.cause; refusal = this_one (record { refuses = h.refuses }); told = h.tells })
-refused_pair first second a b read other e hex hex' is is' (inr (accepted, h)) = (
-  read ∷ other ∷ [],
-  ((rw is hex), ((rw is' hex'), tt)),
-  record { cause = h.cause; refusal = later_one accepted (this_one (record { refuses = h.refuses })); told = h.tells },
-)
+    (read ∷ other ∷ [], ((rw is hex), ((rw is' hex'), tt)), refused_before read other e h)
+refused_pair first second a b read other e hex hex' is is' (inr (accepted, h)) =
+    (read ∷ other ∷ [], ((rw is hex), ((rw is' hex'), tt)), refused_behind read other e accepted h)
 
 -- want of memory, or what a call on the only input's bytes refuses
 pub refused_or_long : (text bytes read : List ℕ) (e : WkbError) (IsLong : List ℕ → Type 0) → IsHexOf text bytes → read ≡ bytes
-    → IsMemory e ⊎ (IsRefusal read e ⊎ (IsLong read × IsSize e))
+    → IsMemory e ⊎ (RefusedFirst (read ∷ []) e ⊎ (IsLong read × IsSize e))
     → IsMemory e ⊎ ((inputs : List (List ℕ)) × AreHexOf (text ∷ []) inputs × (RefusedFirst inputs e ⊎ IsOversized IsLong inputs e))
 refused_or_long text bytes read e IsLong hex is (inl memory) = inl memory
 refused_or_long text bytes read e IsLong hex is (inr (inl refused)) =
@@ -57,13 +80,3 @@ refused_or_long text bytes read e IsLong hex is (inr (inl refused)) =
     inr (h.0, h.1, inl h.2)
 refused_or_long text bytes read e IsLong hex is (inr (inr long)) =
     inr (read ∷ [], ((rw is hex), tt), inr (record { bytes = read; only = refl; long = long.0; size = long.1 }))
-
--- an error of the reader is want of memory or tells the refusal
-pub read_refused : (buf : List ℕ) (e : WkbError) → IfRefused (Err e) (λ x. IsRefusal buf x) → IsMemory e ⊎ IsRefusal buf e
-read_refused buf (errors.Memory x) h = inl tt
-read_refused buf (errors.IncorrectType x) h = inr h
-read_refused buf (errors.NotYetImplemented x) h = inr h
-read_refused buf (errors.General x) h = inr h
-read_refused buf (errors.NestingDepthExceeded x) h = inr h
-read_refused buf (errors.IOError x) h = inr h
-read_refused buf (errors.OverflowError x) h = inr h

@@ -1,5 +1,6 @@
 -- What is said of a refusal.
-use Rattle.std.proofs.Common.{◌≡◌, ◌≢◌, ℕ, List, [], ◌∷◌, ◌++◌, length, Bool, true, false, Option, Some, append_assoc, Result, Ok, Err, ◌⊎◌, inl, inr, refl, sym, ◌∙◌, arith, string_bytes, IfOk}
+use Rattle.std.proofs.Common.{◌≡◌, ◌≢◌, ℕ, List, [], ◌∷◌, ◌++◌, length, append_assoc, refl, sym, ◌∙◌, arith}
+use Rattle.std.proofs.Common.{Bool, true, false, Option, Some, Result, Ok, Err, ◌⊎◌, inl, inr, string_bytes, IfOk}
 use Rattle.std.specs.Prelude.{codes}
 use Rattle.std.specs.Bool.{MatchBool}
 use Rattle.std.specs.Fmt.{decimal}
@@ -8,9 +9,10 @@ use Rattle.wkb_hex.specs.declared.program.Report.{Report}
 use Rattle.hex.specs.Hex.{encode_lower}
 use Rattle.wkb_geom.specs.declared.common.Endianness.{Endianness}
 use Rattle.wkb_geom.specs.declared.common.Form.TheVariants.{Iso}
-use Rattle.wkb_geom.specs.Refusals.{Cause, end_of_input, general, incorrect_type, nesting_depth_exceeded}
+use Rattle.wkb_geom.specs.declared.error.Cause.{Cause}
+use Rattle.wkb_geom.specs.declared.error.Cause.TheVariants.{EndOfInput as end_of_input, General as general, IncorrectType as incorrect_type, NestingDepthExceeded as nesting_depth_exceeded}
 use Rattle.wkb_geom.specs.Texts.{IsRewriting, IsRewritingWithSrid}
-use Rattle.wkb_geom.specs.Errors.{Tells}
+use Rattle.wkb_geom.specs.Told.{Tells}
 use Rattle.wkb.specs.Canonical.{IsTooLong, IsTooLongWithSrid, HasSrid, Accepts, IsRefused, IsSize}
 use Rattle.wkb_geom.specs.declared.error.WkbError.{WkbError}
 use Rattle.wkb_geom.specs.declared.error.WkbError.TheVariants as errors
@@ -19,7 +21,8 @@ use Rattle.wkb_hex.specs.declared.calls.HexFault.TheVariants.{NotHex, Wkb, Memor
 use Rattle.wkb_hex.specs.declared.program.Command.{Command}
 use Rattle.wkb_hex.specs.declared.program.Command.TheVariants.{Rewrite, RewriteWithSrid, Same, Cost, Srid}
 use Rattle.wkb_hex.specs.Calls.{AreHex, AreHexOf, IsHexOf, IsFaultOf, RefusedFirst, IsOversized}
-use Rattle.wkb_hex.specs.Program.{wanted_lines, Gives, Says, rewritten, rewritten_with_srid, accepted, counted_refusal, srid, too_long, refused, not_hex, IsRefusalLine, counts, TellsCause, TellsError, TellsFault}
+use Rattle.wkb_hex.specs.Program.{Says, rewritten, rewritten_with_srid, accepted, counted_refusal, srid, too_long, refused, not_hex}
+use Rattle.wkb_hex.specs.Program.{wanted_lines, Gives, IsRefusalLine, counts, TellsCause, TellsError, TellsFault}
 use Rattle.wkb.proofs.Texts.{iso_fits}
 use Rattle.wkb_hex.proofs.Hexes.{AreHex-from, AreHexOf-length}
 
@@ -31,7 +34,8 @@ TellsCause-from (errors.NestingDepthExceeded n) (nesting_depth_exceeded m) line 
 TellsCause-from _ _ line told h = absurd told
 
 -- as many texts as the command wants, all hex
-pub Gives-from : (command : Command) (texts inputs : List (List ℕ)) → length texts ≡ wanted_lines command → AreHexOf texts inputs → Gives command texts inputs
+pub Gives-from : (command : Command) (texts inputs : List (List ℕ)) → length texts ≡ wanted_lines command → AreHexOf texts inputs
+    → Gives command texts inputs
 Gives-from command texts inputs wanted hex = record { wanted = AreHexOf-length texts inputs hex ∙ wanted; hex = hex }
 
 -- what is said of texts that aren't all hex
@@ -69,18 +73,22 @@ Reports texts command r = IfOk r (λ report. Says texts command (string_bytes re
 
 -- a fixed line
 pub reports_line : (texts : List (List ℕ)) (command : Command) (line : List ℕ) (status : ℕ) (r : Result Report AllocError)
-    → IfOk r (λ report. (string_bytes report.line ≡ line) × (report.status ≡ status)) → Says texts command line status → Reports texts command r
+    → IfOk r (λ report. (string_bytes report.line ≡ line) × (report.status ≡ status)) → Says texts command line status
+    → Reports texts command r
 reports_line texts command line status r h says =
     IfOk-from r _ _ h (λ report is. rw (is.0, is.1) says)
 
 -- a fault
-pub reports_fault : (texts : List (List ℕ)) (command : Command) (IsRefused : List (List ℕ) → WkbError → Type 0) (fault : HexFault) (r : Result Report AllocError)
+pub reports_fault : (texts : List (List ℕ)) (command : Command) (IsRefused : List (List ℕ) → WkbError → Type 0)
+    (fault : HexFault) (r : Result Report AllocError)
     → length texts ≡ wanted_lines command
-    → ((line : List ℕ) (inputs : List (List ℕ)) (e : WkbError) → Gives command texts inputs → IsRefused inputs e → TellsError e line → Says texts command line 1)
+    → ((line : List ℕ) (inputs : List (List ℕ)) (e : WkbError) → Gives command texts inputs → IsRefused inputs e → TellsError e line
+    → Says texts command line 1)
     → IsFaultOf texts IsRefused fault
     → IfOk r (λ report. TellsFault fault (string_bytes report.line) report.status) → Reports texts command r
 reports_fault texts command IsRefused fault r wanted f h told =
-    IfOk-from r _ _ told (λ report is. says_fault command texts IsRefused fault (string_bytes report.line) report.status wanted (f (string_bytes report.line)) h is)
+    IfOk-from r _ _ told
+    (λ report is. says_fault command texts IsRefused fault (string_bytes report.line) report.status wanted (f (string_bytes report.line)) h is)
 
 pub reports_refusal : (texts : List (List ℕ)) (command : Command) (fault : HexFault) (r : Result Report AllocError)
     → length texts ≡ wanted_lines command → command ≢ Cost
@@ -101,7 +109,8 @@ pub gives_two : (texts inputs : List (List ℕ)) → ((a b : List ℕ) → texts
 gives_two [] inputs h gives = let e = AreHexOf-length [] inputs gives.hex in let w = gives.wanted in absurd (omega (arith, e, w))
 gives_two (a ∷ []) inputs h gives = let e = AreHexOf-length (a ∷ []) inputs gives.hex in let w = gives.wanted in absurd (omega (arith, e, w))
 gives_two (a ∷ b ∷ []) inputs h gives = h a b refl
-gives_two (a ∷ b ∷ c ∷ rest) inputs h gives = let e = AreHexOf-length (a ∷ b ∷ c ∷ rest) inputs gives.hex in let w = gives.wanted in absurd (omega (arith, e, w))
+gives_two (a ∷ b ∷ c ∷ rest) inputs h gives =
+    let e = AreHexOf-length (a ∷ b ∷ c ∷ rest) inputs gives.hex in let w = gives.wanted in absurd (omega (arith, e, w))
 
 gives_length_one : (texts inputs : List (List ℕ)) → length inputs ≡ 1 → AreHexOf texts inputs → ((a : List ℕ) → texts ≢ a ∷ []) → ⊥
 gives_length_one [] inputs w hex h = let e = AreHexOf-length [] inputs hex in omega (arith, e, w)
@@ -130,7 +139,8 @@ size_line : (e : WkbError) (line : List ℕ) → IsSize e → TellsError e line 
 size_line (errors.OverflowError o) line size told = told
 size_line _ line size told = absurd size
 
-pub says_srid_refused : (order : Endianness) (text line : List ℕ) (inputs : List (List ℕ)) (e : WkbError) → Gives (RewriteWithSrid order) (text ∷ []) inputs
+pub says_srid_refused : (order : Endianness) (text line : List ℕ) (inputs : List (List ℕ)) (e : WkbError)
+    → Gives (RewriteWithSrid order) (text ∷ []) inputs
     → RefusedFirst inputs e ⊎ IsOversized (IsTooLongWithSrid order) inputs e
     → TellsError e line → Says (text ∷ []) (RewriteWithSrid order) line 1
 says_srid_refused order text line inputs e gives (inl first) told =
@@ -145,7 +155,8 @@ says_iso_refused order text line inputs e gives (inl first) told =
     says_refused (Rewrite order) (text ∷ []) line (λ is. cc) inputs e gives first told
 says_iso_refused order text line inputs e gives (inr h) told = absurd (iso_fits order h.bytes h.long)
 
-counts_line : (verdict : List ℕ) (turns slots : ℕ) → verdict ++ (codes " turns " ++ (decimal turns ++ (codes " slots " ++ decimal slots))) ≡ counts verdict turns slots
+counts_line : (verdict : List ℕ) (turns slots : ℕ)
+    → verdict ++ (codes " turns " ++ (decimal turns ++ (codes " slots " ++ decimal slots))) ≡ counts verdict turns slots
 counts_line verdict turns slots = simp append_assoc
 
 pub says_accepted : (text line : List ℕ) (is_accepted : Bool) (turns slots : ℕ) → is_accepted ≡ true

@@ -1,12 +1,14 @@
 -- The program: the line that it writes and the status that it ends with, for its words and its input.
-use Rattle.std.specs.Prelude.{◌≡◌, ◌≢◌, ℕ, ◌==◌, if◌then◌else◌, codes, List, [], ◌∷◌, ◌++◌, length, EachIndex, slice_index, Some, None}
+use Rattle.std.specs.Prelude.{◌≡◌, ◌≢◌, ℕ, ◌==◌, if◌then◌else◌, codes, Some, None}
+use Rattle.std.specs.Prelude.{List, [], ◌∷◌, ◌++◌, length, EachIndex, slice_index}
 use Rattle.std.specs.Fmt.{decimal}
 use Rattle.std.specs.Io.{StartsWith}
 use Rattle.hex.specs.Hex.{encode_lower}
 use Rattle.wkb_geom.specs.declared.common.Endianness.{Endianness}
 use Rattle.wkb_geom.specs.declared.common.Endianness.TheVariants.{BigEndian, LittleEndian}
 use Rattle.wkb_geom.specs.declared.common.Form.TheVariants.{Iso}
-use Rattle.wkb_geom.specs.Refusals.{Cause, end_of_input}
+use Rattle.wkb_geom.specs.declared.error.Cause.{Cause}
+use Rattle.wkb_geom.specs.declared.error.Cause.TheVariants.{EndOfInput as end_of_input}
 use Rattle.wkb_geom.specs.Texts.{IsRewriting, IsRewritingWithSrid}
 use Rattle.wkb.specs.Canonical.{IsRefused, Accepts, IsTooLongWithSrid, HaveOneValue, HaveTwoValues, HasSrid}
 use Rattle.wkb_hex.specs.Calls.{AreHexOf, FirstRefusal}

@@ -3,10 +3,12 @@
 //! A text is hex digits in either case, two for each byte. Want of memory is always `HexFault::Memory`.
 
 ghost use Rattle.std.specs.Prelude.{◌≡◌, ◌∷◌, [], ℕ, List, ◌⊎◌, IfOk, IfErr, MatchBool};
-ghost use Rattle.wkb_geom.specs.Refusals.{Cause};
+ghost use Rattle.wkb_geom.specs.declared.error.Cause.{Cause};
 ghost use Rattle.wkb_geom.specs.Texts.{IsRewriting, IsRewritingWithSrid};
-ghost use Rattle.wkb.specs.Canonical.{IsTooLong, IsTooLongWithSrid, HaveOneValue, HaveTwoValues, HasSrid, Accepts, IsRefused};
-ghost use Rattle.wkb_hex.specs.Calls.{IsHex, IsHexOf, IsFaultOf, RefusedFirst, IsOversized, FaultOfError, FaultOfHexError};
+ghost use Rattle.wkb.specs.Canonical.{IsTooLong, IsTooLongWithSrid, HaveOneValue, HaveTwoValues};
+ghost use Rattle.wkb.specs.Canonical.{HasSrid, Accepts, IsRefused};
+ghost use Rattle.wkb_hex.specs.Calls.{IsHex, IsHexOf, IsFaultOf, RefusedFirst, IsOversized};
+ghost use Rattle.wkb_hex.specs.Calls.{FaultOfError, FaultOfHexError};
 
 use hex::FromHexError;
 use std::alloc::Global;
@@ -30,7 +32,9 @@ pub enum HexFault {
 /// Whether an input is accepted, and what reading it cost.
 #[derive(Debug, Clone, Copy, PartialEq)]
 pub struct Cost {
+    /// Whether the reader answered a geometry.
     pub accepted: bool,
+    /// Parts begun and list entries asked for, up to the end or to the refusal.
     pub counts: Counts,
 }
 
@@ -59,7 +63,8 @@ impl From<FromHexError> for HexFault {
 /// The bytes that a text spells.
 fn decoded(alloc: Global, text: &str) -> Result<Vec<u8>, HexFault>
     ensures ok { IfOk result (λ bytes. IsHexOf text.now bytes.items) }
-    ensures err { IfErr result (λ fault. (fault ≡ HexFault.Memory) ⊎ ((fault ≡ HexFault.NotHex) × ¬ IsHex text.now)) }
+    ensures err { IfErr result (λ fault. (fault ≡ HexFault.Memory)
+        ⊎ ((fault ≡ HexFault.NotHex) × ¬ IsHex text.now)) }
 {
     Ok(hex::decode(alloc, text)?)
 }

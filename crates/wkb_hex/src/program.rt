@@ -1,8 +1,10 @@
 //! The program: one command over the hex lines of its input.
 
-ghost use Rattle.std.specs.Prelude.{◌≡◌, ◌≢◌, ◌∷◌, [], ℕ, List, map, codes, IfOk, IfSome, MatchOption, string_bytes};
+ghost use Rattle.std.specs.Prelude.{◌≡◌, ◌≢◌, ◌∷◌, [], ℕ, List, map, codes};
+ghost use Rattle.std.specs.Prelude.{IfOk, IfSome, MatchOption, string_bytes};
 ghost use Rattle.std.specs.Io.KnownBytes.{Appends};
-ghost use Rattle.wkb_hex.specs.Program.{word, AreNoCommand, without_last_feed, lines, IsOneLine, TellsError, TellsFault, Says, Answers, Ends};
+ghost use Rattle.wkb_hex.specs.Program.{word, AreNoCommand, without_last_feed, lines, IsOneLine};
+ghost use Rattle.wkb_hex.specs.Program.{TellsError, TellsFault, Says, Answers, Ends};
 
 use crate::calls::{HexFault, cost_hex, rewrite_hex, rewrite_hex_with_srid, same_hex, srid_hex};
 use crate::transfer::{ReadFault, read_to_end, write_whole};
@@ -125,7 +127,8 @@ fn fault_report(alloc: Global, fault: HexFault) -> Result<Report, AllocError>
 }
 
 fn rewriting(alloc: Global, order: Endianness, text: &str) -> Result<Report, AllocError>
-    ensures { IfOk result (λ report. Says (text.now ∷ []) (Command.Rewrite order) (string_bytes report.line) report.status) }
+    ensures { IfOk result (λ report. Says (text.now ∷ []) (Command.Rewrite order)
+        (string_bytes report.line) report.status) }
 {
     let options = WriteOptions {
         endianness: order,
@@ -141,7 +144,8 @@ fn rewriting(alloc: Global, order: Endianness, text: &str) -> Result<Report, All
 }
 
 fn rewriting_with_srid(alloc: Global, order: Endianness, text: &str) -> Result<Report, AllocError>
-    ensures { IfOk result (λ report. Says (text.now ∷ []) (Command.RewriteWithSrid order) (string_bytes report.line) report.status) }
+    ensures { IfOk result (λ report. Says (text.now ∷ []) (Command.RewriteWithSrid order)
+        (string_bytes report.line) report.status) }
 {
     match rewrite_hex_with_srid(alloc, text, order) {
         Ok(bytes) => Ok(Report {
@@ -153,7 +157,8 @@ fn rewriting_with_srid(alloc: Global, order: Endianness, text: &str) -> Result<R
 }
 
 fn comparison(alloc: Global, first: &str, second: &str) -> Result<Report, AllocError>
-    ensures { IfOk result (λ report. Says (first.now ∷ second.now ∷ []) Command.Same (string_bytes report.line) report.status) }
+    ensures { IfOk result (λ report. Says (first.now ∷ second.now ∷ []) Command.Same
+        (string_bytes report.line) report.status) }
 {
     let equal = match same_hex(alloc, first, second) {
         Ok(equal) => equal,

@@ -4,10 +4,10 @@
 use crate::calls::{cost_hex, rewrite_hex, rewrite_hex_with_srid, same_hex, srid_hex};
 use crate::program::run;
 use std::alloc::{AllocError, Global};
-use std::io;
 use std::io::Write;
 use std::process::Abort;
 use std::test::Fail;
+use std::{io, str};
 use wkb::Endianness;
 use wkb::writer::{Form, WriteOptions};
 
@@ -20,6 +20,26 @@ const MIXED_EWKB: &str =
 /// Its text under ISO, little endian.
 const MIXED_ISO: &str =
     "01070000000200000001e9030000000000000000f03f00000000000000400000000000000840010300000000000000";
+/// The worked inputs that take memory, but for the nested one: each with its text under ISO, little endian, and how many
+/// turns it costs, which are as many as its slots.
+const INPUTS: [(&str, &str, u128); 4] = [
+    (
+        "01030000000200000001000000000000000000f03f000000000000004000000000",
+        "01030000000200000001000000000000000000f03f000000000000004000000000",
+        2,
+    ),
+    (
+        "010600000001000000010300000000000000",
+        "010600000001000000010300000000000000",
+        1,
+    ),
+    (
+        "010500000002000000010200000001000000000000000000f03f00000000000000400020000002000010e600000000",
+        "010500000002000000010200000001000000000000000000f03f0000000000000040010200000000000000",
+        2,
+    ),
+    (MIXED, MIXED_ISO, 2),
+];
 /// A polygon of a ring of one coordinate and an empty one, with an SRID.
 const POLYGON: &str = "0103000020e61000000200000001000000000000000000f03f000000000000004000000000";
 /// How many digits 128 collections have, each round the next, with a point in the last.
@@ -117,11 +137,25 @@ fn compared(rt: HostRuntime) -> Result<(), Fail> {
 
 #[test]
 fn counted(rt: HostRuntime) -> Result<(), Fail> {
-    for input in [MIXED, POLYGON] {
+    for (input, _text, parts) in INPUTS {
         let cost = cost_hex(rt.alloc(), input)?;
         assert!(rt; cost.accepted, "{input}");
-        assert_eq!(rt; (cost.counts.turns, cost.counts.slots), (2, 2), "{input}");
+        assert_eq!(rt;
+            (cost.counts.turns, cost.counts.slots),
+            (parts, parts),
+            "{input}"
+        );
     }
+    Ok(())
+}
+
+#[test]
+fn counted_nested(rt: HostRuntime) -> Result<(), Fail> {
+    let line = nested();
+    let digits = line.as_slice().strip_suffix(b"\n").ok_or("no line")?;
+    let cost = cost_hex(rt.alloc(), str::from_utf8(digits)?)?;
+    assert!(rt; cost.accepted);
+    assert_eq!(rt; (cost.counts.turns, cost.counts.slots), (128, 128));
     Ok(())
 }
 
@@ -156,13 +190,33 @@ fn runs<R: Abort>(
 
 #[test]
 fn run_words(rt: HostRuntime) -> Result<(), Fail> {
-    for (word, line) in [
-        ("le", MIXED_ISO),
-        ("ewkb-le", MIXED_EWKB),
-        ("srid", "no srid"),
-        ("cost", "accepted turns 2 slots 2"),
-    ] {
+    for (word, line) in [("ewkb-le", MIXED_EWKB), ("srid", "no srid")] {
         runs(&rt, rt.alloc(), word, MIXED.as_bytes(), line.as_bytes())?;
+    }
+    Ok(())
+}
+
+#[test]
+fn run_le(rt: HostRuntime) -> Result<(), Fail> {
+    for (input, text, _parts) in INPUTS {
+        runs(&rt, rt.alloc(), "le", input.as_bytes(), text.as_bytes())?;
+    }
+    Ok(())
+}
+
+// What is said of an input that costs as many turns as slots, at most two of each.
+fn cost_line(parts: u128) -> &'static [u8] {
+    if parts == 1 {
+        b"accepted turns 1 slots 1"
+    } else {
+        b"accepted turns 2 slots 2"
+    }
+}
+
+#[test]
+fn run_cost(rt: HostRuntime) -> Result<(), Fail> {
+    for (input, _text, parts) in INPUTS {
+        runs(&rt, rt.alloc(), "cost", input.as_bytes(), cost_line(parts))?;
     }
     Ok(())
 }
@@ -191,4 +245,16 @@ fn nested() -> [u8; NESTED_DIGITS + 1] {
 fn run_nested(rt: HostRuntime) -> Result<(), Fail> {
     let line = nested();
     runs(&rt, rt.alloc(), "le", &line, &line[..NESTED_DIGITS])
+}
+
+#[test]
+fn run_nested_cost(rt: HostRuntime) -> Result<(), Fail> {
+    let line = nested();
+    runs(
+        &rt,
+        rt.alloc(),
+        "cost",
+        &line,
+        b"accepted turns 128 slots 128",
+    )
 }

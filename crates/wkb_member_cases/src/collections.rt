@@ -91,6 +91,25 @@ fn collection_in_collection(rt: HostRuntime) -> Result<(), Fail> {
     Ok(())
 }
 
+fn shows_inner_collection<R: Abort>(rt: &R, wkb: &Wkb<'_>) -> Result<(), Fail> {
+    let collection = wkb.as_geometry_collection().ok_or("no collection")?;
+    assert_eq!(rt; collection.num_geometries(), 1);
+    let member = collection.geometry(0).ok_or("no member")?;
+    assert_eq!(rt; member.buf().len(), 9);
+    let inner = member.as_geometry_collection().ok_or("no collection")?;
+    assert_eq!(rt; inner.num_geometries(), 0);
+    assert_eq!(rt; inner.size(), 9);
+    assert!(rt; inner.geometry(0).is_none());
+    Ok(())
+}
+
+#[test]
+fn empty_collection_in_a_collection(rt: HostRuntime) -> Result<(), Fail> {
+    let input = bytes("01 07000000 01000000 01 07000000 00000000")?;
+    let wkb = read(rt.alloc(), input.as_slice())?;
+    shows_inner_collection(&rt, &wkb)
+}
+
 fn shows_two_members<R: Abort>(rt: &R, wkb: &Wkb<'_>) -> Result<(), Fail> {
     let collection = wkb.as_geometry_collection().ok_or("no collection")?;
     assert_eq!(rt; collection.geometry(0).map(view_size), Some(30));

@@ -6,8 +6,6 @@
 #[cfg(test)]
 mod collections;
 #[cfg(test)]
-mod inside;
-#[cfg(test)]
 mod multi_geometries;
 #[cfg(test)]
 mod views;

@@ -1,5 +1,6 @@
 -- The runs of words, one by one and joined again.
-use Rattle.std.proofs.Common.{◌≡◌, ℕ, zero, suc, ◌+◌, ◌*◌, ◌/◌, ◌%◌, ◌<◌, ◌≤◌, List, [], ◌∷◌, ◌++◌, length, take, drop, refl, sym, ap, ◌∙◌, arith, length-drop, Some, None, slice_get}
+use Rattle.std.proofs.Common.{◌≡◌, ℕ, zero, suc, ◌+◌, ◌*◌, ◌/◌, ◌%◌, ◌<◌, ◌≤◌, refl, sym, ap, ◌∙◌, arith}
+use Rattle.std.proofs.Common.{List, [], ◌∷◌, ◌++◌, length, take, drop, length-drop, Some, None, slice_get}
 use Rattle.std.proofs.Math.Nat.{div-mul-le_self, mul-le-mul_right, zero-mul}
 use Rattle.std.proofs.lemmas.List.{drop-drop, take-append-drop}
 use Rattle.std.proofs.lemmas.Nat.{div-add-mod'}
@@ -12,7 +13,8 @@ pub length-runs : (width count : ℕ) (words : List ℕ) → length (runs width 
 length-runs width zero words = refl
 length-runs width (suc count) words = omega (arith, length-runs width count (drop width words))
 
-pub slice_get-runs : (width count i : ℕ) (words : List ℕ) → i < count → slice_get (runs width count words) i ≡ Some (take width (drop (i * width) words))
+pub slice_get-runs : (width count i : ℕ) (words : List ℕ) → i < count
+    → slice_get (runs width count words) i ≡ Some (take width (drop (i * width) words))
 slice_get-runs width zero i words h = absurd (omega arith)
 slice_get-runs width (suc count) zero words h = ap (λ n. Some (take width (drop n words))) (sym (zero-mul width))
 slice_get-runs width (suc count) (suc i) words h =

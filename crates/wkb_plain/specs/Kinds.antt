@@ -134,6 +134,10 @@ triangle_second t = coord_words t.second
 abbrev pub triangle_third : Triangle → List ℕ
 triangle_third t = coord_words t.third
 
-pub triangle_lawful : (t : Triangle) → IsCoordinate (triangle_dimensions t) (triangle_first t) × IsCoordinate (triangle_dimensions t) (triangle_second t) × IsCoordinate (triangle_dimensions t) (triangle_third t)
-triangle_lawful t =
-    ((coord_lawful t.first), coord_lawful_beside t.first.dim t.second t.second_dimension, coord_lawful_beside t.first.dim t.third t.third_dimension)
+pub triangle_lawful : (t : Triangle) → IsCoordinate (triangle_dimensions t) (triangle_first t)
+    × IsCoordinate (triangle_dimensions t) (triangle_second t) × IsCoordinate (triangle_dimensions t) (triangle_third t)
+triangle_lawful t = (
+  coord_lawful t.first,
+  coord_lawful_beside t.first.dim t.second t.second_dimension,
+  coord_lawful_beside t.first.dim t.third t.third_dimension,
+)

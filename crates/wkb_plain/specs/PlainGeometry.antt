@@ -2,14 +2,27 @@
 use Rattle.std.specs.Prelude.{◌≡◌, List, [], ◌∷◌, map, refl}
 use Rattle.std.proofs.Common.{ap, ◌∙◌, sym, subst}
 use Rattle.wkb_geom.specs.declared.common.Dimensions.{Dimensions}
-use Rattle.wkb_geom.specs.Geometries.{Geometry, point, line_string, polygon, multi_point, multi_line_string, multi_polygon, collection, rectangle, triangle, line, geometries, IsGeometry, AreGeometries}
+use Rattle.wkb_geom.specs.Geometries.{Geometry, point, line_string, polygon, multi_point, multi_line_string, multi_polygon}
+use Rattle.wkb_geom.specs.Geometries.{collection, rectangle, triangle, line, geometries, IsGeometry, AreGeometries}
 use Rattle.wkb_geom.specs.Sizes.{dimensions_of}
 use Rattle.wkb_plain.specs.declared.geometry.Geometry.{Geometry as PlainGeometry}
-use Rattle.wkb_plain.specs.declared.geometry.Geometry.TheOpen.{Geometry-F, GeometryCollection-F, Point, LineString, Polygon, MultiPoint, MultiLineString, MultiPolygon, GeometryCollection, Rect, Triangle, Line}
+use Rattle.wkb_plain.specs.declared.geometry.Geometry.TheOpen.{Geometry-F, GeometryCollection-F}
+use Rattle.wkb_plain.specs.declared.geometry.Geometry.TheOpen.{Point, LineString, Polygon, MultiPoint, MultiLineString, MultiPolygon}
+use Rattle.wkb_plain.specs.declared.geometry.Geometry.TheOpen.{GeometryCollection, Rect, Triangle, Line}
 use Rattle.wkb_plain.specs.declared.geometry.Geometry.TheViews.{out-Geometry}
-use Rattle.wkb_plain.specs.declared.geometry.Geometry.TheFolds.{fold-Geometry, fold_out-Geometry, fold_out-GeometryCollection, fold-GeometryCollection, map-Geometry, map-GeometryCollection, ind-Geometry, fold-roll-Geometry, fold-roll-GeometryCollection}
+use Rattle.wkb_plain.specs.declared.geometry.Geometry.TheFolds.{fold-Geometry, fold_out-Geometry, map-Geometry, ind-Geometry, fold-roll-Geometry}
+use Rattle.wkb_plain.specs.declared.geometry.Geometry.TheFolds.{fold-GeometryCollection, fold_out-GeometryCollection, map-GeometryCollection}
+use Rattle.wkb_plain.specs.declared.geometry.Geometry.TheFolds.{fold-roll-GeometryCollection}
 use Rattle.wkb_plain.specs.declared.geometry.GeometryCollection.{GeometryCollection as PlainCollection}
-use Rattle.wkb_plain.specs.Kinds.{point_dimensions, point_coordinate, point_lawful, line_string_dimensions, line_string_coordinates, line_string_lawful, polygon_dimensions, polygon_rings, polygon_lawful, multi_point_dimensions, multi_point_points, multi_point_lawful, multi_line_string_dimensions, multi_line_string_line_strings, multi_line_string_lawful, multi_polygon_dimensions, multi_polygon_polygons, multi_polygon_lawful, line_dimensions, line_start, line_end, line_lawful, rect_dimensions, rect_min, rect_max, rect_lawful, triangle_dimensions, triangle_first, triangle_second, triangle_third, triangle_lawful}
+use Rattle.wkb_plain.specs.Kinds.{point_dimensions, point_coordinate, point_lawful}
+use Rattle.wkb_plain.specs.Kinds.{line_string_dimensions, line_string_coordinates, line_string_lawful}
+use Rattle.wkb_plain.specs.Kinds.{polygon_dimensions, polygon_rings, polygon_lawful}
+use Rattle.wkb_plain.specs.Kinds.{multi_point_dimensions, multi_point_points, multi_point_lawful}
+use Rattle.wkb_plain.specs.Kinds.{multi_line_string_dimensions, multi_line_string_line_strings, multi_line_string_lawful}
+use Rattle.wkb_plain.specs.Kinds.{multi_polygon_dimensions, multi_polygon_polygons, multi_polygon_lawful}
+use Rattle.wkb_plain.specs.Kinds.{line_dimensions, line_start, line_end, line_lawful}
+use Rattle.wkb_plain.specs.Kinds.{rect_dimensions, rect_min, rect_max, rect_lawful}
+use Rattle.wkb_plain.specs.Kinds.{triangle_dimensions, triangle_first, triangle_second, triangle_third, triangle_lawful}
 
 -- one layer, with each collection's geometry in its place
 abbrev pub geometry_layer : Geometry-F Geometry Geometry → Geometry
@@ -51,7 +64,11 @@ plain_dimensions g = layer_dimensions (out-Geometry g)
 abbrev plain_collection : PlainCollection → Geometry
 plain_collection = fold-GeometryCollection Geometry Geometry geometry_layer collection_layer
 
-layer-dimensions_of : (x : Geometry-F PlainGeometry PlainCollection) → dimensions_of (geometry_layer (map-Geometry PlainGeometry PlainCollection Geometry Geometry plain_geometry plain_collection x)) ≡ layer_dimensions x
+-- one layer, with the geometry that each collection means in its place
+abbrev meant_layer : Geometry-F PlainGeometry PlainCollection → Geometry
+meant_layer x = geometry_layer (map-Geometry PlainGeometry PlainCollection Geometry Geometry plain_geometry plain_collection x)
+
+layer-dimensions_of : (x : Geometry-F PlainGeometry PlainCollection) → dimensions_of (meant_layer x) ≡ layer_dimensions x
 layer-dimensions_of (Point p) = refl
 layer-dimensions_of (LineString l) = refl
 layer-dimensions_of (Polygon p) = refl
@@ -67,13 +84,21 @@ pub dimensions_of-plain_geometry : (g : PlainGeometry) → dimensions_of (plain_
 dimensions_of-plain_geometry g =
     ap dimensions_of (fold_out-Geometry Geometry Geometry geometry_layer collection_layer g) ∙ layer-dimensions_of (out-Geometry g)
 
+-- the same of a collection
+abbrev meant_collection : GeometryCollection-F PlainGeometry PlainCollection → Geometry
+meant_collection x = collection_layer (map-GeometryCollection PlainGeometry PlainCollection Geometry Geometry plain_geometry plain_collection x)
+
 abbrev LawfulGeometry : Type 0
 LawfulGeometry = (g : PlainGeometry) × IsGeometry (plain_geometry g)
 
 abbrev LawfulCollection : Type 0
 LawfulCollection = (c : PlainCollection) × IsGeometry (plain_collection c)
 
-IsGeometry-layer : (y : Geometry-F LawfulGeometry LawfulCollection) → IsGeometry (geometry_layer (map-Geometry PlainGeometry PlainCollection Geometry Geometry plain_geometry plain_collection (map-Geometry LawfulGeometry LawfulCollection PlainGeometry PlainCollection (λ e. e.0) (λ e. e.0) y)))
+-- one layer without the proofs beside its parts
+abbrev bare_layer : Geometry-F LawfulGeometry LawfulCollection → Geometry-F PlainGeometry PlainCollection
+bare_layer y = map-Geometry LawfulGeometry LawfulCollection PlainGeometry PlainCollection (λ e. e.0) (λ e. e.0) y
+
+IsGeometry-layer : (y : Geometry-F LawfulGeometry LawfulCollection) → IsGeometry (meant_layer (bare_layer y))
 IsGeometry-layer (Point p) = point_lawful p
 IsGeometry-layer (LineString l) = line_string_lawful l
 IsGeometry-layer (Polygon p) = polygon_lawful p
@@ -95,10 +120,10 @@ IsGeometry-plain_geometry =
     ind-Geometry (λ g. IsGeometry (plain_geometry g)) (λ c. IsGeometry (plain_collection c))
     (λ x y is.
     subst IsGeometry (sym (fold-roll-Geometry Geometry Geometry geometry_layer collection_layer x))
-    (subst (λ z. IsGeometry (geometry_layer (map-Geometry PlainGeometry PlainCollection Geometry Geometry plain_geometry plain_collection z))) is (IsGeometry-layer y)))
+    (subst (λ z. IsGeometry (meant_layer z)) is (IsGeometry-layer y)))
     (λ x y is.
     subst IsGeometry (sym (fold-roll-GeometryCollection Geometry Geometry geometry_layer collection_layer x))
-    (subst (λ z. IsGeometry (collection_layer (map-GeometryCollection PlainGeometry PlainCollection Geometry Geometry plain_geometry plain_collection z))) is (AreGeometries-members y.members.items)))
+    (subst (λ z. IsGeometry (meant_collection z)) is (AreGeometries-members y.members.items)))
 
 -- a collection
 abbrev pub collection_dimensions : PlainCollection → Dimensions

@@ -16,7 +16,8 @@ runs width (suc count) words = take width words ∷ runs width count (drop width
 abbrev pub coordinates_in : Dimensions → List ℕ → List (List ℕ)
 coordinates_in d words = runs (size d) (length words / size d) words
 
-runs-lawful : (d : Dimensions) (count : ℕ) (words : List ℕ) → count * size d ≤ length words → All IsWord words → AreCoordinates d (runs (size d) count words)
+runs-lawful : (d : Dimensions) (count : ℕ) (words : List ℕ) → count * size d ≤ length words → All IsWord words
+    → AreCoordinates d (runs (size d) count words)
 runs-lawful d zero words h fit = tt
 runs-lawful d (suc count) words h fit = (
   record {

@@ -16,14 +16,17 @@ pub struct MultiLineString<'w> {
 }
 
 impl<'w> MultiLineString<'w> {
-    ghost use Rattle.wkb_plain.specs.Kinds.{line_string_dimensions, line_string_coordinates, multi_line_string_dimensions, multi_line_string_line_strings};
+    ghost use Rattle.wkb_plain.specs.Kinds.{line_string_dimensions, line_string_coordinates};
+    ghost use Rattle.wkb_plain.specs.Kinds.{multi_line_string_dimensions, multi_line_string_line_strings};
 
     /// These line strings, in order. None where the dimension has no words, or a line string has
     /// another dimension.
     pub fn new(dim: Dimensions, line_strings: &'w [LineString<'w>]) -> Option<MultiLineString<'w>>
-        ensures some { IsSome result ↔ ((0 < size dim) × All (λ l. line_string_dimensions l ≡ dim) line_strings.now) }
+        ensures some { IsSome result ↔ ((0 < size dim)
+            × All (λ l. line_string_dimensions l ≡ dim) line_strings.now) }
         ensures dimensions { IfSome result (λ m. multi_line_string_dimensions m ≡ dim) }
-        ensures line_strings { IfSome result (λ m. multi_line_string_line_strings m ≡ map line_string_coordinates line_strings.now) }
+        ensures line_strings { IfSome result (λ m. multi_line_string_line_strings m
+            ≡ map line_string_coordinates line_strings.now) }
     {
         if dim.size() == 0 || !all_have(line_strings, dim) {
             return None;

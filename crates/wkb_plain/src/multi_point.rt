@@ -16,7 +16,8 @@ pub struct MultiPoint<'w> {
 }
 
 impl<'w> MultiPoint<'w> {
-    ghost use Rattle.wkb_plain.specs.Kinds.{point_dimensions, point_coordinate, multi_point_dimensions, multi_point_points};
+    ghost use Rattle.wkb_plain.specs.Kinds.{point_dimensions, point_coordinate};
+    ghost use Rattle.wkb_plain.specs.Kinds.{multi_point_dimensions, multi_point_points};
 
     /// These points, in order. None where the dimension has no words, or a point has another
     /// dimension.

@@ -16,7 +16,8 @@ pub struct MultiPolygon<'w> {
 }
 
 impl<'w> MultiPolygon<'w> {
-    ghost use Rattle.wkb_plain.specs.Kinds.{polygon_dimensions, polygon_rings, multi_polygon_dimensions, multi_polygon_polygons};
+    ghost use Rattle.wkb_plain.specs.Kinds.{polygon_dimensions, polygon_rings};
+    ghost use Rattle.wkb_plain.specs.Kinds.{multi_polygon_dimensions, multi_polygon_polygons};
 
     /// These polygons, in order. None where the dimension has no words, or a polygon has another
     /// dimension.

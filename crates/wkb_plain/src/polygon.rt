@@ -16,7 +16,8 @@ pub struct Polygon<'w> {
 }
 
 impl<'w> Polygon<'w> {
-    ghost use Rattle.wkb_plain.specs.Kinds.{line_string_dimensions, line_string_coordinates, polygon_dimensions, polygon_rings};
+    ghost use Rattle.wkb_plain.specs.Kinds.{line_string_dimensions, line_string_coordinates};
+    ghost use Rattle.wkb_plain.specs.Kinds.{polygon_dimensions, polygon_rings};
 
     /// The polygon of these rings, the exterior first. None where the dimension has no words, or a
     /// ring has another dimension.

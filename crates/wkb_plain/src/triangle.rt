@@ -16,7 +16,8 @@ pub struct Triangle<'w> {
 }
 
 impl<'w> Triangle<'w> {
-    ghost use Rattle.wkb_plain.specs.Kinds.{coord_dimensions, coord_words, triangle_dimensions, triangle_first, triangle_second, triangle_third};
+    ghost use Rattle.wkb_plain.specs.Kinds.{coord_dimensions, coord_words, triangle_dimensions};
+    ghost use Rattle.wkb_plain.specs.Kinds.{triangle_first, triangle_second, triangle_third};
 
     /// The triangle of three corners. None where they differ in dimension.
     pub fn new(first: Coord<'w>, second: Coord<'w>, third: Coord<'w>) -> Option<Triangle<'w>>

@@ -1,9 +1,12 @@
 //! Order bytes and codes.
 
+ghost use Rattle.std.specs.Prelude.{◌≡◌, ◌↔◌, IsTrue};
+
+use std::hash::{DefaultHasher, Hash, Hasher};
 use std::test::Fail;
 use wkb::error::General;
 use wkb::reader::{Dimension, GeometryType};
-use wkb_cases::reading::{Outcome, answer_to, read, reads, rewritten, view_size};
+use wkb_cases::reading::{Outcome, answer_to, read, reads, rewritten, tried, view_size};
 use wkb_cases::spelled::{bytes, with_zeros};
 
 #[test]
@@ -95,6 +98,79 @@ fn zm_joined_rewritten(rt: HostRuntime) -> Result<(), Fail> {
         let input = with_zeros(text, 32)?;
         let text_again = rewritten(rt.alloc(), input.as_slice())?;
         assert_eq!(rt; text_again.as_slice(), expected.as_slice(), "{text}");
+    }
+    Ok(())
+}
+
+// Each cause, through `Wkb::try_new`.
+#[test]
+fn refused_anew(rt: HostRuntime) -> Result<(), Fail> {
+    for (text, expected) in [
+        ("", Outcome::EndOfInput),
+        ("02", Outcome::Refused(General::InvalidByteOrder)),
+        (
+            "01 11000000 P",
+            Outcome::Refused(General::CodeOutOfRange(17)),
+        ),
+        (
+            "01 01000020 0000",
+            Outcome::Refused(General::ShortPoint { end: 25, len: 7 }),
+        ),
+        (
+            "01 02000000 0a000000 P",
+            Outcome::Refused(General::ShortLineString { end: 169, len: 25 }),
+        ),
+        (
+            "01 03000000 01000000 04000000 P",
+            Outcome::Refused(General::ShortLinearRing { end: 68, len: 20 }),
+        ),
+        (
+            "01 04000000 01000000",
+            Outcome::Refused(General::ShortMultiPoint { end: 30, len: 9 }),
+        ),
+        (
+            "01 05000000 01000000 01 ea030000 00000000",
+            Outcome::WrongMember,
+        ),
+    ] {
+        let input = bytes(text)?;
+        assert_eq!(rt; tried(rt.alloc(), input.as_slice()), expected, "{text}");
+    }
+    Ok(())
+}
+
+// The derived comparison is that of the values.
+fn is_kind(a: GeometryType, b: GeometryType) -> bool
+    ensures { IsTrue result ↔ (a ≡ b) }
+{
+    a == b
+}
+
+fn hash_of(kind: GeometryType) -> u64 {
+    let mut hasher = DefaultHasher::new();
+    kind.hash(&mut hasher);
+    hasher.finish()
+}
+
+/// The kinds that are read.
+const KINDS: [GeometryType; 7] = [
+    GeometryType::Point,
+    GeometryType::LineString,
+    GeometryType::Polygon,
+    GeometryType::MultiPoint,
+    GeometryType::MultiLineString,
+    GeometryType::MultiPolygon,
+    GeometryType::GeometryCollection,
+];
+
+// Equal kinds hash alike; of these seven, no two others do.
+#[test]
+fn kinds_compared(rt: HostRuntime) -> Result<(), Fail> {
+    for (i, a) in KINDS.iter().enumerate() {
+        for (j, b) in KINDS.iter().enumerate() {
+            assert_eq!(rt; is_kind(*a, *b), i == j, "{i} {j}");
+            assert_eq!(rt; hash_of(*a) == hash_of(*b), i == j, "{i} {j}");
+        }
     }
     Ok(())
 }

@@ -48,6 +48,12 @@ fn shows_line_be_xyz<R: Abort>(rt: &R, wkb: &Wkb<'_>) -> Result<(), Fail> {
     let coord = line.coord(0).ok_or("no coordinate")?;
     assert_eq!(rt; words(&coord), (Some(ONE), Some(TWO), Some(THREE)));
     assert!(rt; line.coord(1).is_none());
+    if line.num_coords() == 1 {
+        let coord = line.coord_at(0);
+        assert_eq!(rt; words(&coord), (Some(ONE), Some(TWO), Some(THREE)));
+        assert_eq!(rt; coord.byte_order(), Endianness::BigEndian);
+        assert_eq!(rt; coord.coord_slice(), line.coords_slice());
+    }
     Ok(())
 }
 

@@ -1,11 +1,15 @@
 //! Points, empty ones among them.
 
+use std::alloc::Global;
 use std::process::Abort;
 use std::test::Fail;
 use wkb::Endianness;
-use wkb::error::General;
-use wkb::geom::{Dimensions, Geometry, PointTrait};
+use wkb::error::{General, WkbResult};
+use wkb::geom::{
+    CoordTrait, Dimensions, Geometry, GeometryTrait, GeometryType as Typed, Point, PointTrait,
+};
 use wkb::reader::{Coord, Dimension, GeometryType, Wkb};
+use wkb::writer::{VecSink, write_point};
 use wkb_cases::reading::{Outcome, answer_to, are_same, as_point, read, reads, rewrites, words};
 use wkb_cases::spelled::{bytes, with_zeros};
 use wkb_cases::support::{ONE, THREE, TWO, empty_point_of, iso, point_of, written};
@@ -53,11 +57,20 @@ fn first_run_rewritten(rt: HostRuntime) -> Result<(), Fail> {
     Ok(())
 }
 
+// What `write_point` makes of a plain point, little endian.
+fn point_written(alloc: Global, point: &Point<'_>) -> WkbResult<Vec<u8>> {
+    let mut sink = VecSink::new(alloc);
+    write_point(&mut sink, point, &iso(Endianness::LittleEndian))?;
+    Ok(sink.into_vec())
+}
+
 #[test]
 fn empty_point(rt: HostRuntime) -> Result<(), Fail> {
-    let empty = Geometry::Point(empty_point_of(Dimensions::Xy)?);
-    let text = written(rt.alloc(), &empty)?;
+    let empty = empty_point_of(Dimensions::Xy)?;
     let expected = bytes(EMPTY)?;
+    let text = point_written(rt.alloc(), &empty)?;
+    assert_eq!(rt; text.as_slice(), expected.as_slice());
+    let text = written(rt.alloc(), &Geometry::Point(empty))?;
     assert_eq!(rt; text.as_slice(), expected.as_slice());
     Ok(())
 }
@@ -86,9 +99,11 @@ fn empty_point_other_nans_rewritten(rt: HostRuntime) -> Result<(), Fail> {
 #[test]
 fn written_nans(rt: HostRuntime) -> Result<(), Fail> {
     let nans = [0xfff8_0000_0000_0001u64; 2];
-    let point = Geometry::Point(point_of(Dimensions::Xy, &nans)?);
-    let text = written(rt.alloc(), &point)?;
+    let point = point_of(Dimensions::Xy, &nans)?;
     let expected = bytes(OTHER_NANS)?;
+    let text = point_written(rt.alloc(), &point)?;
+    assert_eq!(rt; text.as_slice(), expected.as_slice());
+    let text = written(rt.alloc(), &Geometry::Point(point))?;
     assert_eq!(rt; text.as_slice(), expected.as_slice());
     Ok(())
 }
@@ -97,6 +112,7 @@ fn written_nans(rt: HostRuntime) -> Result<(), Fail> {
 fn one_nan(rt: HostRuntime) -> Result<(), Fail> {
     let input = bytes(ONE_NAN)?;
     let wkb = read(rt.alloc(), input.as_slice())?;
+    assert!(rt; !as_point(&wkb)?.is_empty());
     assert_eq!(rt;
         words(&coord_in(&wkb)?),
         (Some(0xffff_ffff_ffff_ffff), Some(TWO), None)
@@ -126,6 +142,27 @@ fn point_srid(rt: HostRuntime) -> Result<(), Fail> {
     let input = bytes(POINT_SRID)?;
     let wkb = read(rt.alloc(), input.as_slice())?;
     shows_point_srid(&rt, &wkb)
+}
+
+// A coordinate of three words, through each call.
+fn shows_calls<R: Abort, C: CoordTrait>(rt: &R, coord: &C) {
+    let size = coord.dim().size();
+    assert_eq!(rt; size, 3);
+    if size == 3 {
+        assert_eq!(rt; coord.x(), ONE);
+        assert_eq!(rt; coord.y(), TWO);
+        assert_eq!(rt; coord.x_y(), (ONE, TWO));
+        assert_eq!(rt; (coord.at(0), coord.at(1), coord.at(2)), (ONE, TWO, THREE));
+        assert_eq!(rt; coord.nth(3), None);
+    }
+}
+
+#[test]
+fn calls_of_a_coordinate(rt: HostRuntime) -> Result<(), Fail> {
+    let input = bytes(POINT_SRID)?;
+    let coord = coord_in(&read(rt.alloc(), input.as_slice())?)?;
+    shows_calls(&rt, &coord);
+    Ok(())
 }
 
 #[test]
@@ -196,6 +233,25 @@ fn trailing_compared(rt: HostRuntime) -> Result<(), Fail> {
 fn point_lifetime(rt: HostRuntime) -> Result<(), Fail> {
     let input = bytes(POINT)?;
     let coord = coord_in(&read(rt.alloc(), input.as_slice())?)?;
+    assert_eq!(rt; words(&coord), (Some(ONE), Some(TWO), None));
+    Ok(())
+}
+
+// The coordinate of the view of the view.
+fn coord_of_types<'a>(wkb: &Wkb<'a>) -> Result<Coord<'a>, Fail> {
+    let Typed::Point(point) = wkb.as_type() else {
+        return Err(Fail::new("not a point"));
+    };
+    let Typed::Point(again) = point.as_type() else {
+        return Err(Fail::new("a point that is none"));
+    };
+    Ok(again.coord().ok_or("an empty point")?)
+}
+
+#[test]
+fn point_lifetime_of_types(rt: HostRuntime) -> Result<(), Fail> {
+    let input = bytes(POINT)?;
+    let coord = coord_of_types(&read(rt.alloc(), input.as_slice())?)?;
     assert_eq!(rt; words(&coord), (Some(ONE), Some(TWO), None));
     Ok(())
 }

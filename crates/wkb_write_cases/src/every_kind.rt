@@ -127,9 +127,10 @@ fn coordinates_lent(rt: HostRuntime) -> Result<(), Fail> {
         ("03", "01000000 04000000 P P P P", "P P P P"),
     ] {
         let expected = bytes(words)?;
-        let input = with_srid(kind, body)?;
-        let wkb = read(rt.alloc(), input.as_slice())?;
-        assert_eq!(rt; coordinates_in(&wkb)?, expected.as_slice(), "{body}");
+        for input in [with_srid(kind, body)?, without_srid(kind, body)?] {
+            let wkb = read(rt.alloc(), input.as_slice())?;
+            assert_eq!(rt; coordinates_in(&wkb)?, expected.as_slice(), "{body}");
+        }
     }
     Ok(())
 }

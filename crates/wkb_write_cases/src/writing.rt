@@ -62,6 +62,26 @@ fn unknown_dimensions(rt: HostRuntime) -> Result<(), Fail> {
 }
 
 #[test]
+fn unknown_dimensions_of_a_point(rt: HostRuntime) -> Result<(), Fail> {
+    let point = Geometry::Point(empty_point_of(Dimensions::Unknown(5))?);
+    let options = iso(Endianness::LittleEndian);
+    let mut sink = VecSink::new(rt.alloc());
+    assert!(rt; is_refused(&write_geometry(&mut sink, &point, &options)));
+    assert!(rt; !sink.failed());
+    assert_eq!(rt; sink.into_vec().len(), 0);
+    let mut out = Out::new(Vec::new(rt.alloc()));
+    assert!(rt; is_refused(&write_geometry(&mut out, &point, &options)));
+    assert!(rt; !out.failed());
+    assert_eq!(rt; out.into_inner().len(), 0);
+    let mut room = [0u8; 8];
+    let mut slice = SliceSink::new(&mut room);
+    assert!(rt; is_refused(&write_geometry(&mut slice, &point, &options)));
+    assert!(rt; !slice.failed());
+    assert_eq!(rt; slice.len(), 0);
+    Ok(())
+}
+
+#[test]
 fn unknown_dimensions_with_a_name(rt: HostRuntime) -> Result<(), Fail> {
     let three = point_of(Dimensions::Unknown(3), &[ONE, TWO, THREE])?;
     let text = written(rt.alloc(), &Geometry::Point(three))?;

@@ -77,7 +77,7 @@ pub(crate) fn open<'a>(
 
 /// Reads what stands behind a header, inside so many open collections: a whole geometry, or the
 /// beginning of a collection.
-#[inline]
+#[inline(always)]
 pub(crate) fn body<'a>(
     alloc: Global,
     around: usize,
@@ -106,7 +106,7 @@ pub(crate) fn body<'a>(
 
 /// Reads what stands at the front of the bytes, inside so many open collections: a whole geometry, or
 /// the beginning of a collection.
-#[inline]
+#[inline(always)]
 pub(crate) fn begin<'a>(
     alloc: Global,
     around: usize,

@@ -21,7 +21,7 @@ use wkb_view::point::Point;
 use wkb_view::polygon::Polygon;
 
 /// The point or line string behind this header, and the bytes after it.
-#[inline]
+#[inline(always)]
 pub(crate) fn leaf_body<'a>(header: Header, bytes: &'a [u8]) -> Result<(Wkb<'a>, &'a [u8]), Cause>
     requires head { head_at bytes.now ≡ Ok header }
     requires leaf { type_kind header.wkb_type < 3 }

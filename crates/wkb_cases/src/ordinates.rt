@@ -1,0 +1,42 @@
+//! Ordinates as numbers, as the README shows it.
+
+use std::alloc::Global;
+use wkb::error::WkbResult;
+use wkb::geom::{CoordTrait, GeometryTrait, GeometryType, LineStringTrait};
+use wkb::reader::read_wkb;
+
+/// The bit of a word that tells the number's sign.
+const SIGN: u64 = 0x8000_0000_0000_0000;
+/// The word of the greatest number that is one, which is infinite.
+const INFINITY: u64 = 0x7ff0_0000_0000_0000;
+
+/// The number that an ordinate's word stands for; none if it is not a number.
+#[tactic(auto, using(std::proofs::lemmas::Float::not_nan_f64_bits))]
+pub fn ordinate(word: u64) -> Option<f64> {
+    if word % SIGN <= INFINITY {
+        Some(f64::from_bits(word))
+    } else {
+        None
+    }
+}
+
+/// The greatest x of a line string; none if no x is a number, or the bytes hold something else.
+pub fn greatest_x(alloc: Global, bytes: &[u8]) -> WkbResult<Option<f64>> {
+    let wkb = read_wkb(alloc, bytes)?;
+    let mut greatest = None;
+    if let GeometryType::LineString(line) = wkb.as_type() {
+        for i in 0..line.num_coords() {
+            greatest = greater(greatest, ordinate(line.coord_at(i).x()));
+        }
+    }
+    Ok(greatest)
+}
+
+/// The greater of two numbers, or the one that is there.
+fn greater(a: Option<f64>, b: Option<f64>) -> Option<f64> {
+    match (a, b) {
+        (Some(a), Some(b)) => Some(if a < b { b } else { a }),
+        (Some(a), None) => Some(a),
+        (None, b) => b,
+    }
+}

@@ -1,0 +1,83 @@
+//! A type of one's own that is written, as the README shows it.
+
+ghost use Rattle.std.specs.Prelude.{◌<◌, ◌^◌, ◌∷◌, [], Some};
+ghost use Rattle.wkb_geom.specs.declared.common.Dimensions.TheVariants.{Xy};
+
+use std::alloc::Global;
+use wkb::error::WkbResult;
+use wkb::geom::{CoordTrait, Dimensioned, Dimensions, PointTrait};
+use wkb::writer::{VecSink, WriteOptions, write_point};
+
+/// A place on the map, in the words of its two numbers.
+#[derive(Debug, Clone, Copy)]
+pub struct Place {
+    pub longitude: u64,
+    pub latitude: u64,
+    ghost longitude_fits: { longitude < 2 ^ 64 },
+    ghost latitude_fits: { latitude < 2 ^ 64 },
+}
+
+impl Dimensioned for Place {
+    ghost dimensions = { λ place. Xy };
+
+    fn dim(&self) -> Dimensions {
+        Dimensions::Xy
+    }
+}
+
+impl CoordTrait for Place {
+    ghost use Rattle.wkb_cases.specs.Places.{place_words, place_lawful};
+
+    ghost words = { place_words };
+
+    ghost lawful = { place_lawful };
+
+    fn nth(&self, n: usize) -> Option<u64> {
+        match n {
+            0 => Some(self.longitude),
+            1 => Some(self.latitude),
+            _ => None,
+        }
+    }
+
+    fn at(&self, n: usize) -> u64 {
+        if n == 0 {
+            self.longitude
+        } else {
+            self.latitude
+        }
+    }
+
+    fn x(&self) -> u64 {
+        self.longitude
+    }
+
+    fn y(&self) -> u64 {
+        self.latitude
+    }
+
+    fn x_y(&self) -> (u64, u64) {
+        (self.longitude, self.latitude)
+    }
+}
+
+impl PointTrait for Place {
+    ghost use Rattle.wkb_cases.specs.Places.{place_words, place_lawful};
+
+    type CoordType = Place;
+
+    ghost coordinate = { λ place. Some (place_words place) };
+
+    ghost lawful = { place_lawful };
+
+    fn coord(&self) -> Option<Place> {
+        Some(*self)
+    }
+}
+
+/// A place as a point, under the options.
+pub fn written(alloc: Global, place: &Place, options: &WriteOptions) -> WkbResult<Vec<u8>> {
+    let mut sink = VecSink::new(alloc);
+    write_point(&mut sink, place, options)?;
+    Ok(sink.into_vec())
+}

@@ -1,0 +1,59 @@
+//! The program's arguments as texts.
+
+use std::alloc::{AllocError, Global};
+use std::env::{Env, FillError};
+
+/// The bytes that are lent for an argument at first.
+const FIRST_SIZE: usize = 256;
+
+/// Why an argument isn't a text in memory.
+#[derive(Debug, Clone, Copy)]
+pub enum ArgumentFault {
+    /// It isn't UTF-8.
+    NoText,
+    Memory,
+}
+
+impl From<AllocError> for ArgumentFault {
+    fn from(_error: AllocError) -> ArgumentFault {
+        ArgumentFault::Memory
+    }
+}
+
+/// The arguments behind the program's name. The name itself is not looked at, so it need not be a text.
+pub fn words<E: Env>(alloc: Global, env: &E) -> Result<Vec<String>, ArgumentFault> {
+    let mut words = Vec::new(alloc);
+    for i in 1..usize::MAX {
+        let Some(word) = word_at(alloc, env, i)? else {
+            return Ok(words);
+        };
+        if words.push(word).is_err() {
+            return Err(ArgumentFault::Memory);
+        }
+    }
+    Ok(words)
+}
+
+/// An argument by its place, and None past the last. It is asked for with twice the room until it fits.
+fn word_at<E: Env>(alloc: Global, env: &E, i: usize) -> Result<Option<String>, ArgumentFault> {
+    let mut size = FIRST_SIZE;
+    for _ in 0..usize::BITS {
+        let mut bytes = vec![in alloc; 0u8; size]?;
+        match env.arg(i, bytes.as_mut_slice()) {
+            Ok(len) => {
+                bytes.truncate(len);
+                return Ok(Some(text(bytes)?));
+            }
+            Err(FillError::NotPresent) => return Ok(None),
+            Err(FillError::TooLong) => size = size.saturating_add(size),
+        }
+    }
+    Err(ArgumentFault::Memory)
+}
+
+fn text(bytes: Vec<u8>) -> Result<String, ArgumentFault> {
+    match String::from_utf8(bytes) {
+        Ok(text) => Ok(text),
+        Err(_) => Err(ArgumentFault::NoText),
+    }
+}
