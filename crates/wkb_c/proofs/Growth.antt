@@ -1,25 +1,15 @@
 -- How a table grows by the members of a geometry, and by the rings of a polygon.
-use Rattle.std.proofs.Common.{◌≡◌, ℕ, zero, suc, ◌+◌, ◌≤◌, ◌<◌, ◌^◌, List, [], ◌∷◌, ◌++◌, length, drop, Option, Some, None, refl, sym, ap, subst, ◌∙◌, append_assoc, append-nil, arith}
+use Rattle.wkb_c.proofs.Common.{◌≡◌, ℕ, zero, suc, ◌+◌, ◌≤◌, ◌<◌, ◌^◌, List, [], ◌∷◌, ◌++◌, length, drop, Option, Some, None, refl, sym, ap, subst, ◌∙◌}
+use Rattle.wkb_c.proofs.Common.{append_assoc, append-nil, arith, Result, Ok, Err, IfOk, slice_get, slice_index, Dimension, dimensions, order_byte, Item}
+use Rattle.wkb_c.proofs.Common.{spellings, values, ring_end, Header, Spelling, node, Spellings, no_spellings, spelling, Spells, Coordinate, Value, Values}
+use Rattle.wkb_c.proofs.Common.{point, line_string, polygon, multi_point, multi_line_string, multi_polygon, collection, no_members, member, members, count}
+use Rattle.wkb_c.proofs.Common.{each, kind, dimension, nodes, nodes_all, point_of, point_seen, value_seen, IsSpelled, order_of, srid_of, list_of_values}
+use Rattle.wkb_c.proofs.Common.{list_of_spellings, members_spelled}
 use Rattle.std.proofs.Math.Logic.{∥∥₁_elim}
 use Rattle.std.proofs.Props.{props}
-use Rattle.std.specs.Prelude.{Result, Ok, Err, IfOk, Bool, true, false}
-use Rattle.std.specs.Prelude.{slice_get, slice_index}
-use Rattle.wkb_geom.specs.declared.common.Dimension.{Dimension}
-use Rattle.wkb_geom.specs.declared.common.Endianness.{Endianness}
 use Rattle.wkb_geom.specs.declared.common.Dimension.TheVariants.{Xy, Xyz, Xym, Xyzm}
-use Rattle.wkb_geom.specs.Dimensions.{dimensions}
-use Rattle.wkb_geom.specs.Numbers.{order_byte}
-use Rattle.wkb_geom.specs.Reading.{Item, spellings, values}
-use Rattle.wkb_geom.specs.Refusals.{ring_end}
-use Rattle.wkb_geom.specs.Spellings.{Header, Spelling, node, Spellings, no_spellings, spelling, Spells}
-use Rattle.wkb_geom.specs.Values.{Coordinate, Value, Values, point, line_string, polygon, multi_point, multi_line_string, multi_polygon, collection, no_members, member, members, count, each, kind, dimension}
-use Rattle.wkb_read.specs.Nodes.{nodes, nodes_all}
 use Rattle.wkb_read.specs.Views.{IsCollectionOf}
-use Rattle.wkb_geom.specs.Reading.{point_item_of, point_of, coordinate, body_start}
-use Rattle.wkb_geom.specs.Numbers.{all_nan}
 use Rattle.wkb_view.specs.declared.point.Point as views
-use Rattle.wkb_view.specs.Views.{point_seen}
-use Rattle.wkb_view.specs.Parts.{IsSpelled, order_of, srid_of, list_of_values, list_of_spellings, members_spelled}
 use Rattle.wkb_c.specs.declared.parts.Part.{Part}
 use Rattle.wkb_c.specs.declared.parts.Table.{Table}
 use Rattle.wkb_c.specs.Tables.{entry, entries, ring_entries, member_entries, rings_size, rings_of, body_size, leading, count_of, size, sizes}
@@ -30,25 +20,15 @@ use Rattle.wkb_c.specs.Growing.{Grows, Lists, ListsMembers, HasMembers, header_s
 -- a dimension is known by its name
 pub one_name : (d e : Dimension) → dimensions d ≡ dimensions e → d ≡ e
 one_name Xy Xy is = refl
-one_name Xy Xyz is = absurd (cc)
-one_name Xy Xym is = absurd (cc)
-one_name Xy Xyzm is = absurd (cc)
-one_name Xyz Xy is = absurd (cc)
 one_name Xyz Xyz is = refl
-one_name Xyz Xym is = absurd (cc)
-one_name Xyz Xyzm is = absurd (cc)
-one_name Xym Xy is = absurd (cc)
-one_name Xym Xyz is = absurd (cc)
 one_name Xym Xym is = refl
-one_name Xym Xyzm is = absurd (cc)
-one_name Xyzm Xy is = absurd (cc)
-one_name Xyzm Xyz is = absurd (cc)
-one_name Xyzm Xym is = absurd (cc)
 one_name Xyzm Xyzm is = refl
+one_name _ _ is = absurd (cc)
 
 -- ---- members
 
-from_spelling : (ss : Spellings) (i : ℕ) (s : Spelling) → slice_get (list_of_spellings ss) i ≡ Some s → spellings_from i ss ≡ spelling s (spellings_from (suc i) ss)
+from_spelling : (ss : Spellings) (i : ℕ) (s : Spelling) → slice_get (list_of_spellings ss) i ≡ Some s
+    → spellings_from i ss ≡ spelling s (spellings_from (suc i) ss)
 from_spelling no_spellings i s is = absurd (cc)
 from_spelling (spelling x ss) zero s is = let same : x ≡ s = cc in ap (λ y. spelling y ss) same
 from_spelling (spelling x ss) (suc i) s is = from_spelling ss i s is
@@ -75,12 +55,15 @@ none_sized (spelling s ss) = refl
 pub added_none : (ss : Spellings) (ts : Values) (t : Table) → Added ss ts t 0 t
 added_none ss ts t = record { parts = refl; next = refl }
 
-sizes_from : (ss : Spellings) (ts : Values) (i : ℕ) (s : Spelling) (t : Value) → slice_get (list_of_spellings ss) i ≡ Some s → slice_get (list_of_values ts) i ≡ Some t
+sizes_from : (ss : Spellings) (ts : Values) (i : ℕ) (s : Spelling) (t : Value) → slice_get (list_of_spellings ss) i ≡ Some s
+    → slice_get (list_of_values ts) i ≡ Some t
     → sizes (spellings_from i ss) (values_from i ts) ≡ size s t + sizes (spellings_from (suc i) ss) (values_from (suc i) ts)
 sizes_from ss ts i s t this that = rw (from_spelling ss i s this, from_value ts i t that) refl
 
-entries_from : (at : ℕ) (ss : Spellings) (ts : Values) (i : ℕ) (s : Spelling) (t : Value) → slice_get (list_of_spellings ss) i ≡ Some s → slice_get (list_of_values ts) i ≡ Some t
-    → member_entries at (spellings_from i ss) (values_from i ts) ≡ entries at s t ++ member_entries (at + size s t) (spellings_from (suc i) ss) (values_from (suc i) ts)
+entries_from : (at : ℕ) (ss : Spellings) (ts : Values) (i : ℕ) (s : Spelling) (t : Value) → slice_get (list_of_spellings ss) i ≡ Some s
+    → slice_get (list_of_values ts) i ≡ Some t
+    → member_entries at (spellings_from i ss) (values_from i ts) ≡ entries at s t ++ member_entries (at + size s t) (spellings_from (suc i) ss)
+    (values_from (suc i) ts)
 entries_from at ss ts i s t this that = rw (from_spelling ss i s this, from_value ts i t that) refl
 
 pub added_fits : (ss : Spellings) (ts : Values) (start : Table) (i : ℕ) (now : Table) (s : Spelling) (t : Value) → Added ss ts start i now
@@ -106,7 +89,8 @@ pub added_all : (ss : Spellings) (ts : Values) (start : Table) (i : ℕ) (now : 
 added_all ss ts start i now past a =
     let none = past_values ts i past in
     record {
-      parts = sym (append-nil now.parts.items) ∙ ap (λ (x : List Part). now.parts.items ++ x) (sym (ap (member_entries now.next (spellings_from i ss)) none ∙ none_listed now.next (spellings_from i ss))) ∙ a.parts;
+      parts = sym (append-nil now.parts.items) ∙ ap (λ (x : List Part). now.parts.items ++ x)
+          (sym (ap (member_entries now.next (spellings_from i ss)) none ∙ none_listed now.next (spellings_from i ss))) ∙ a.parts;
       next = omega (arith, a.next, ap (sizes (spellings_from i ss)) none, none_sized (spellings_from i ss));
     }
 
@@ -173,12 +157,17 @@ listed_whole (node h words ss) t old mid new n m counted first rest =
     let at : old.next + leading h t ≡ mid.next = omega (arith, first.next, leads h t m) in
     record {
       parts = rest.parts ∙ ap (λ (x : List Part). x ++ member_entries mid.next ss (members t)) first.parts
-          ∙ append_assoc old.parts.items (entry (kind t) (dimension t) (order_byte h.order) (old.next + (header_size h.srid + 4)) n ∷ []) (member_entries mid.next ss (members t))
-          ∙ ap (λ (k : ℕ). old.parts.items ++ (entry (kind t) (dimension t) (order_byte h.order) (old.next + k) n ∷ member_entries mid.next ss (members t))) (sym (leads h t m))
-          ∙ ap (λ (k : ℕ). old.parts.items ++ (entry (kind t) (dimension t) (order_byte h.order) (old.next + leading h t) k ∷ member_entries mid.next ss (members t))) counted
-          ∙ ap (λ (k : ℕ). old.parts.items ++ (entry (kind t) (dimension t) (order_byte h.order) (old.next + leading h t) (count_of t) ∷ member_entries k ss (members t))) (sym at)
+          ∙ append_assoc old.parts.items (entry (kind t) (dimension t) (order_byte h.order) (old.next + (header_size h.srid + 4)) n ∷ [])
+          (member_entries mid.next ss (members t))
+          ∙ ap (λ (k : ℕ). old.parts.items ++ (entry (kind t) (dimension t) (order_byte h.order) (old.next + k) n ∷ member_entries mid.next ss (members t)))
+          (sym (leads h t m))
+          ∙ ap (λ (k : ℕ). old.parts.items ++ (entry (kind t) (dimension t) (order_byte h.order) (old.next + leading h t) k
+          ∷ member_entries mid.next ss (members t))) counted
+          ∙ ap (λ (k : ℕ). old.parts.items ++ (entry (kind t) (dimension t) (order_byte h.order) (old.next + leading h t) (count_of t)
+          ∷ member_entries k ss (members t))) (sym at)
           ∙ ap (λ (r : List (List Coordinate)). old.parts.items ++ (entry (kind t) (dimension t) (order_byte h.order) (old.next + leading h t) (count_of t)
-          ∷ (ring_entries (dimension t) (order_byte h.order) (old.next + leading h t) r ++ member_entries (old.next + leading h t) ss (members t)))) (sym (no_rings t m));
+          ∷ (ring_entries (dimension t) (order_byte h.order) (old.next + leading h t) r ++ member_entries (old.next + leading h t) ss (members t))))
+          (sym (no_rings t m));
       next = omega (arith, rest.next, first.next, leads h t m, no_body t m);
     }
 
@@ -198,12 +187,15 @@ drop_past (x ∷ rings) (suc i) past = drop_past rings i (omega arith)
 pub rings_none : (d : Dimension) (order : ℕ) (rings : List (List Coordinate)) (t : Table) → RingsAdded d order rings t 0 t
 rings_none d order rings t = record { parts = refl; next = refl }
 
-pub rings_fit : (d e : Dimension) (order : ℕ) (rings : List (List Coordinate)) (start : Table) (i : ℕ) (now : Table) (ring : List Coordinate) → dimensions e ≡ dimensions d
-    → RingsAdded d order rings start i now → Some ring ≡ slice_get rings i → start.next + rings_size d rings < 2 ^ 63 → now.next + ring_end e (length ring) < 2 ^ 63
+pub rings_fit : (d e : Dimension) (order : ℕ) (rings : List (List Coordinate)) (start : Table) (i : ℕ) (now : Table) (ring : List Coordinate)
+    → dimensions e ≡ dimensions d
+    → RingsAdded d order rings start i now → Some ring ≡ slice_get rings i → start.next + rings_size d rings < 2 ^ 63
+    → now.next + ring_end e (length ring) < 2 ^ 63
 rings_fit d e order rings start i now ring same a is fits =
     omega (arith, a.next, fits, ap (rings_size d) (drop_ring rings i ring is), ap (λ (x : Dimension). ring_end x (length ring)) (one_name e d same))
 
-pub rings_more : (d e : Dimension) (order : ℕ) (rings : List (List Coordinate)) (start : Table) (i : ℕ) (now then : Table) (ring : List Coordinate) → dimensions e ≡ dimensions d
+pub rings_more : (d e : Dimension) (order : ℕ) (rings : List (List Coordinate)) (start : Table) (i : ℕ) (now then : Table) (ring : List Coordinate)
+    → dimensions e ≡ dimensions d
     → RingsAdded d order rings start i now → Some ring ≡ slice_get rings i
     → Grows now then (entry 0 e order (now.next + 4) (length ring) ∷ []) (ring_end e (length ring)) → RingsAdded d order rings start (i + 1) then
 rings_more d e order rings start i now then ring same a is grown =
@@ -221,7 +213,8 @@ rings_more d e order rings start i now then ring same a is grown =
       next = omega (arith, g.next, a.next, ap (rings_size d) (drop_ring rings i ring is));
     })
 
-pub rings_all : (d : Dimension) (order : ℕ) (rings : List (List Coordinate)) (start : Table) (i : ℕ) (now : Table) → length rings ≤ i → RingsAdded d order rings start i now
+pub rings_all : (d : Dimension) (order : ℕ) (rings : List (List Coordinate)) (start : Table) (i : ℕ) (now : Table) → length rings ≤ i
+    → RingsAdded d order rings start i now
     → Grows start now (ring_entries d order start.next rings) (rings_size d rings)
 rings_all d order rings start i now past a =
     let none = drop_past rings i past in
@@ -252,8 +245,10 @@ rings_are_few d (cs ∷ rings) = omega (arith, rings_are_few d rings)
 
 -- ---- a polygon
 
-pub listed_polygon : (s : Spelling) (d : Dimension) (rings : List (List Coordinate)) (old mid new : Table) (n order lead : ℕ) → n ≡ length rings → order ≡ order_byte (order_of s) → lead ≡ header_size (srid_of s) + 4
-    → Grows old mid (entry 3 d order (old.next + lead) n ∷ []) (lead + 0) → Grows mid new (ring_entries d order mid.next rings) (rings_size d rings) → Lists old new s (polygon d rings)
+pub listed_polygon : (s : Spelling) (d : Dimension) (rings : List (List Coordinate)) (old mid new : Table) (n order lead : ℕ) → n ≡ length rings
+    → order ≡ order_byte (order_of s) → lead ≡ header_size (srid_of s) + 4
+    → Grows old mid (entry 3 d order (old.next + lead) n ∷ []) (lead + 0) → Grows mid new (ring_entries d order mid.next rings) (rings_size d rings)
+    → Lists old new s (polygon d rings)
 listed_polygon (node h words ss) d rings old mid new n order lead counted ordered leads first rest =
     let at = old.next + leading h (polygon d rings) in
     let begins : mid.next ≡ at = omega (arith, first.next, leads) in
@@ -265,8 +260,10 @@ listed_polygon (node h words ss) d rings old mid new n order lead counted ordere
           ∙ ap (λ (k : ℕ). old.parts.items ++ (entry 3 d order at k ∷ ring_entries d order mid.next rings)) counted
           ∙ ap (λ (k : ℕ). old.parts.items ++ (entry 3 d order at (length rings) ∷ ring_entries d order k rings)) begins
           ∙ ap (λ (k : ℕ). old.parts.items ++ (entry 3 d k at (length rings) ∷ ring_entries d k at rings)) ordered
-          ∙ ap (λ (x : List Part). old.parts.items ++ (entry 3 d (order_byte h.order) at (length rings) ∷ x)) (sym (append-nil (ring_entries d (order_byte h.order) at rings)))
-          ∙ ap (λ (x : List Part). old.parts.items ++ (entry 3 d (order_byte h.order) at (length rings) ∷ (ring_entries d (order_byte h.order) at rings ++ x))) (sym (none_listed at ss));
+          ∙ ap (λ (x : List Part). old.parts.items ++ (entry 3 d (order_byte h.order) at (length rings) ∷ x))
+          (sym (append-nil (ring_entries d (order_byte h.order) at rings)))
+          ∙ ap (λ (x : List Part). old.parts.items ++ (entry 3 d (order_byte h.order) at (length rings) ∷ (ring_entries d (order_byte h.order) at rings ++ x)))
+          (sym (none_listed at ss));
       next = omega (arith, rest.next, first.next, leads, none_sized ss);
     }
 
@@ -311,7 +308,8 @@ collection_fits w ms old mid added c fits first =
     )
 
 pub listed_collection : (w : Item) (ms : List Item) (old mid new : Table) (n : ℕ) → IsCollectionOf w ms → n ≡ count_of w.value
-    → Grows old mid (entry (kind w.value) (dimension w.value) (order_byte (order_of w.spelled)) (old.next + (header_size (srid_of w.spelled) + 4)) n ∷ []) (header_size (srid_of w.spelled) + 4)
+    → Grows old mid (entry (kind w.value) (dimension w.value) (order_byte (order_of w.spelled)) (old.next + (header_size (srid_of w.spelled) + 4)) n ∷ [])
+    (header_size (srid_of w.spelled) + 4)
     → ListsMembers mid new (spellings ms) (values ms) → Lists old new w.spelled w.value
 listed_collection w ms old mid new n c counted first rest =
     listed_whole w.spelled w.value old mid new n (collection_has w ms c) counted first
@@ -324,16 +322,11 @@ member_nodes [] i m is = absurd (cc)
 member_nodes (x ∷ ms) zero m is = let same : x ≡ m = cc in omega (arith, ap (λ (y : Item). nodes y.value) same)
 member_nodes (x ∷ ms) (suc i) m is = omega (arith, member_nodes ms i m is)
 
-point_form : (order : Endianness) (d : Dimension) (srid : Bool) (text words : List ℕ) (nan : Bool)
-    → point d (point_of (point_item_of order d srid text words nan).value) ≡ (point_item_of order d srid text words nan).value
-point_form order d srid text words true = refl
-point_form order d srid text words false = refl
-
-pub point_value : (l : List (Option Coordinate)) (d : Dimension) (i : ℕ) (p : views.Point) → Some (point_of (point_seen p).value) ≡ slice_get l i → dimensions p.layout.dimension ≡ dimensions d
+pub point_value : (l : List (Option Coordinate)) (d : Dimension) (i : ℕ) (p : views.Point) → Some (point_of (point_seen p).value) ≡ slice_get l i
+    → dimensions p.layout.dimension ≡ dimensions d
     → slice_get (list_of_values (each (point d) l)) i ≡ Some (point_seen p).value
 point_value l d i p is same =
-    let words = coordinate p.layout.order p.layout.dimension (drop (body_start p.layout.has_srid) p.buf.now) in
-    part_value point l d p.layout.dimension i (point_of (point_seen p).value) is same ∙ ap (λ (v : Value). Some v) (point_form p.layout.order p.layout.dimension p.layout.has_srid p.buf.now words (all_nan words))
+    part_value point l d p.layout.dimension i (point_of (point_seen p).value) is same ∙ ap (λ (v : Value). Some v) (sym (value_seen p))
 
 -- ---- answers
 

@@ -1,3 +1,4 @@
+mod Common
 mod Telling
 mod Growth
 mod Words

@@ -1,21 +1,18 @@
 -- What is told of an answer of the reader.
-use Rattle.std.proofs.Common.{◌≡◌, ◌≢◌, ℕ, ◌+◌, ◌≤◌, List, length, refl, sym, ap, arith, ◌⊎◌, inl, inr}
-use Rattle.std.specs.Prelude.{Bool, is_some, unwrap_or}
+use Rattle.wkb_c.proofs.Common.{◌≡◌, ◌≢◌, ℕ, ◌+◌, ◌≤◌, List, length, refl, sym, ap, arith, ◌⊎◌, inl, inr, Bool, is_some, unwrap_or, width, Item, header, kind}
+use Rattle.wkb_c.proofs.Common.{dimension, member_count, IsFront, IsRefusal, TakesNoMemory}
 use Rattle.wkb_geom.specs.Codes.{thousands}
-use Rattle.wkb_geom.specs.Dimensions.{width}
-use Rattle.wkb_geom.specs.Reading.{Item}
-use Rattle.wkb_geom.specs.Spellings.{header}
-use Rattle.wkb_geom.specs.Values.{kind, dimension, member_count}
 use Rattle.wkb_geom.specs.declared.error.General.{General as Fault}
-use Rattle.wkb_geom.specs.declared.error.General.TheVariants.{UnsupportedDimensions, CodeOutOfRange, InvalidByteOrder, ShortPoint, ShortLineString, ShortLinearRing, ShortMultiPoint}
+use Rattle.wkb_geom.specs.declared.error.General.TheVariants.{UnsupportedDimensions, CodeOutOfRange, InvalidByteOrder, ShortPoint, ShortLineString}
+use Rattle.wkb_geom.specs.declared.error.General.TheVariants.{ShortLinearRing, ShortMultiPoint}
 use Rattle.wkb_geom.specs.declared.error.WkbError.{WkbError}
 use Rattle.wkb_geom.specs.declared.error.WkbError.TheVariants.{IncorrectType, NotYetImplemented, General, NestingDepthExceeded, IOError, OverflowError, Memory}
 use Rattle.wkb_geom.specs.Told.{Tells}
 use Rattle.wkb_geom.specs.Errors.{IsMemory}
 use Rattle.wkb_geom.specs.declared.error.Cause.{Cause}
-use Rattle.wkb_geom.specs.declared.error.Cause.TheVariants.{EndOfInput as end_of_input, General as general, IncorrectType as incorrect_type, NestingDepthExceeded as nesting_depth_exceeded}
+use Rattle.wkb_geom.specs.declared.error.Cause.TheVariants.{EndOfInput as end_of_input, General as general, IncorrectType as incorrect_type}
+use Rattle.wkb_geom.specs.declared.error.Cause.TheVariants.{NestingDepthExceeded as nesting_depth_exceeded}
 use Rattle.wkb_read.specs.Memory.{IsNotMemoryError}
-use Rattle.wkb_read.specs.Public.{IsFront, IsRefusal, TakesNoMemory}
 use Rattle.wkb.specs.Canonical.{IsAccepted}
 use Rattle.wkb_c.specs.declared.found.Found.{Found}
 use Rattle.wkb_c.specs.Checks.{IsFound, HoldsNoList}
@@ -83,7 +80,8 @@ refused_one : (a b : List ℕ) (e : WkbError) → IsRefusal a e ⊎ (IsAccepted 
 refused_one a b e (inl first) = inl (refused_as a e first)
 refused_one a b e (inr second) = inr (second.0, refused_as b e second.1)
 
-pub refused_in_turn : (a b : List ℕ) (e : WkbError) → IsMemory e ⊎ (IsRefusal a e ⊎ (IsAccepted a × IsRefusal b e)) → status_told e ≢ 1 → IsRefusedInTurn a b (status_told e)
+pub refused_in_turn : (a b : List ℕ) (e : WkbError) → IsMemory e ⊎ (IsRefusal a e ⊎ (IsAccepted a × IsRefusal b e)) → status_told e ≢ 1
+    → IsRefusedInTurn a b (status_told e)
 refused_in_turn a b e (inl memory) other = absurd (other (memory_is_told e memory))
 refused_in_turn a b e (inr refused) other = refused_one a b e refused
 
@@ -96,7 +94,12 @@ kind_without_list k srid buf (inr (inr is)) = (λ e. omega (arith, is, e), λ e.
 pub no_list_no_memory : (buf : List ℕ) → HoldsNoList buf → TakesNoMemory buf
 no_list_no_memory buf none order k d srid behind opens =
     let other = kind_without_list k srid buf (none order k d srid behind opens) in
-    record { polygon = λ is. absurd (other.0 is); multi_line_string = λ is. absurd (other.1 is); multi_polygon = λ is. absurd (other.2 is); collection = λ is. absurd (other.3 is) }
+    record {
+      polygon = λ is. absurd (other.0 is);
+      multi_line_string = λ is. absurd (other.1 is);
+      multi_polygon = λ is. absurd (other.2 is);
+      collection = λ is. absurd (other.3 is);
+    }
 
 -- what is told of a geometry that was read
 pub found_at_front : (buf : List ℕ) (w : Item) (f : Found) (turns : ℕ) → IsFront buf w → turns ≡ member_count w.value

@@ -1,21 +1,17 @@
 -- The words of a geometry's parts stand where its table says.
-use Rattle.std.proofs.Common.{◌≡◌, ℕ, zero, suc, ◌+◌, ◌*◌, List, [], ◌∷◌, ◌++◌, length, drop, Option, Some, None, refl, sym, ap, ◌∙◌, append_assoc, append-nil, length-append, ◌<◌, ◌^◌, arith}
-use Rattle.std.proofs.lemmas.List.{drop-drop}
+use Rattle.wkb_c.proofs.Common.{◌≡◌, ℕ, zero, suc, ◌+◌, ◌*◌, List, [], ◌∷◌, ◌++◌, length, drop, Option, Some, None, refl, sym, ap, ◌∙◌, append_assoc}
+use Rattle.wkb_c.proofs.Common.{append-nil, length-append, ◌<◌, ◌^◌, arith, drop-drop, slice_get, is_some, sum_by, Dimension, width, IsNumber, number}
+use Rattle.wkb_c.proofs.Common.{order_byte, srid_size, ring_end, Header, Spelling, node, Spellings, no_spellings, spelling, IsHeader, IsSrid, SpellsCoordinate}
+use Rattle.wkb_c.proofs.Common.{SpellsCoordinates, SpellsBody, Wanted, Spells, SpellsEach, Coordinate, Value, Values, point, line_string, polygon, multi_point}
+use Rattle.wkb_c.proofs.Common.{multi_line_string, multi_polygon, collection, no_members, member, members, each, kind, dimension, member_count}
+use Rattle.wkb_c.proofs.Common.{member_count_each, Item, IsFront}
 use Rattle.std.proofs.lemmas.List.Sums.{sum_by-cons}
-use Rattle.std.specs.Prelude.{slice_get, is_some, sum_by}
 use Rattle.wkb_geom.specs.declared.common.Endianness.{Endianness}
-use Rattle.wkb_geom.specs.declared.common.Dimension.{Dimension}
-use Rattle.wkb_geom.specs.Dimensions.{width}
 use Rattle.wkb_geom.specs.Grammar.{IsEach}
-use Rattle.wkb_geom.specs.Numbers.{IsNumber, number, order_byte}
-use Rattle.wkb_geom.specs.Refusals.{srid_size, ring_end}
-use Rattle.wkb_geom.specs.Spellings.{Header, Spelling, node, Spellings, no_spellings, spelling, IsHeader, IsSrid, SpellsCoordinate, SpellsCoordinates, SpellsBody, Part as Wanted, Spells, SpellsEach}
-use Rattle.wkb_geom.specs.Values.{Coordinate, Value, Values, point, line_string, polygon, multi_point, multi_line_string, multi_polygon, collection, no_members, member, members, each, kind, dimension, member_count, member_count_each}
-use Rattle.wkb_geom.specs.Reading.{Item}
-use Rattle.wkb_read.specs.Public.{IsFront}
 use Rattle.wkb_laws.proofs.Parts.{drop_front, number-front}
 use Rattle.wkb_c.specs.declared.parts.Part.{Part}
-use Rattle.wkb_c.specs.Tables.{Piece, entry, entries, ring_entries, member_entries, rings_size, rings_of, body_size, leading, count_of, size, sizes, coordinates_of, ring_pieces, pieces, member_pieces, HoldsWords, HoldEach}
+use Rattle.wkb_c.specs.Tables.{Piece, entry, entries, ring_entries, member_entries, rings_size, rings_of, body_size, leading, count_of, size, sizes}
+use Rattle.wkb_c.specs.Tables.{coordinates_of, ring_pieces, pieces, member_pieces, HoldsWords, HoldEach}
 
 -- ---- lengths
 
@@ -26,15 +22,18 @@ words_length order (x ∷ c) bytes h = omega (arith, ap length h.whole, length-a
 coordinate_length : (order : Endianness) (d : Dimension) (c : Coordinate) (bytes : List ℕ) → SpellsCoordinate order d c bytes → length bytes ≡ 8 * width d
 coordinate_length order d c bytes h = words_length order c bytes h.words ∙ ap (λ (k : ℕ). 8 * k) h.len
 
-items_length : (order : Endianness) (d : Dimension) (cs : List Coordinate) (bytes : List ℕ) → IsEach (SpellsCoordinate order d) cs bytes → length bytes ≡ 8 * width d * length cs
+items_length : (order : Endianness) (d : Dimension) (cs : List Coordinate) (bytes : List ℕ) → IsEach (SpellsCoordinate order d) cs bytes
+    → length bytes ≡ 8 * width d * length cs
 items_length order d [] bytes h = omega (arith, ap length h)
 items_length order d (c ∷ cs) bytes h =
     omega (arith, ap length h.whole, length-append h.front h.rest, coordinate_length order d c h.front h.first, items_length order d cs h.rest h.second)
 
-ring_length : (order : Endianness) (d : Dimension) (cs : List Coordinate) (bytes : List ℕ) → SpellsCoordinates order d cs bytes → length bytes ≡ ring_end d (length cs)
+ring_length : (order : Endianness) (d : Dimension) (cs : List Coordinate) (bytes : List ℕ) → SpellsCoordinates order d cs bytes
+    → length bytes ≡ ring_end d (length cs)
 ring_length order d cs bytes h = omega (arith, ap length h.whole, length-append h.front h.rest, h.first.len, items_length order d cs h.rest h.second)
 
-rings_length : (order : Endianness) (d : Dimension) (rings : List (List Coordinate)) (bytes : List ℕ) → IsEach (SpellsCoordinates order d) rings bytes → length bytes ≡ rings_size d rings
+rings_length : (order : Endianness) (d : Dimension) (rings : List (List Coordinate)) (bytes : List ℕ) → IsEach (SpellsCoordinates order d) rings bytes
+    → length bytes ≡ rings_size d rings
 rings_length order d [] bytes h = omega (arith, ap length h)
 rings_length order d (cs ∷ rings) bytes h =
     omega (arith, ap length h.whole, length-append h.front h.rest, ring_length order d cs h.front h.first, rings_length order d rings h.rest h.second)
@@ -47,7 +46,8 @@ header_length : (h : Header) (k : ℕ) (d : Dimension) (bytes : List ℕ) → Is
 header_length h k d bytes is =
     omega (arith, ap length is.whole, length-append is.code_field is.srid_field, is.code.len, srid_length h.order h.srid is.srid_field is.srid)
 
-body_length : (h : Header) (words : List ℕ) (t : Value) (bytes : List ℕ) → SpellsBody h.order words t bytes → 5 + srid_size (is_some h.srid) + length bytes ≡ leading h t + body_size t
+body_length : (h : Header) (words : List ℕ) (t : Value) (bytes : List ℕ) → SpellsBody h.order words t bytes
+    → 5 + srid_size (is_some h.srid) + length bytes ≡ leading h t + body_size t
 body_length h words (point d None) bytes b = omega (arith, coordinate_length h.order d words bytes b.1)
 body_length h words (point d (Some c)) bytes b = omega (arith, coordinate_length h.order d c bytes b.2)
 body_length h words (line_string d cs) bytes b = omega (arith, ring_length h.order d cs bytes b.1)
@@ -93,7 +93,8 @@ moved input rest m n same stands = ap (λ (k : ℕ). drop k input) (sym same) �
 
 -- ---- words
 
-number_at : (order : Endianness) (c : Coordinate) (bytes rest : List ℕ) (n w : ℕ) → IsEach (IsNumber order 8) c bytes → slice_get c n ≡ Some w → number order 8 (drop (8 * n) (bytes ++ rest)) ≡ w
+number_at : (order : Endianness) (c : Coordinate) (bytes rest : List ℕ) (n w : ℕ) → IsEach (IsNumber order 8) c bytes → slice_get c n ≡ Some w
+    → number order 8 (drop (8 * n) (bytes ++ rest)) ≡ w
 number_at order [] bytes rest n w h is = absurd (cc)
 number_at order (x ∷ c) bytes rest zero w h is =
     let same : x ≡ w = cc in
@@ -110,7 +111,8 @@ next_coordinate : (wide i n : ℕ) → 8 * (wide * suc i + n) ≡ 8 * wide + 8 *
 next_coordinate wide i n = omega arith
 
 coordinate_at : (order : Endianness) (d : Dimension) (cs : List Coordinate) (bytes rest : List ℕ) (i n w : ℕ) (c : Coordinate)
-    → IsEach (SpellsCoordinate order d) cs bytes → slice_get cs i ≡ Some c → slice_get c n ≡ Some w → number order 8 (drop (8 * (width d * i + n)) (bytes ++ rest)) ≡ w
+    → IsEach (SpellsCoordinate order d) cs bytes → slice_get cs i ≡ Some c → slice_get c n ≡ Some w
+    → number order 8 (drop (8 * (width d * i + n)) (bytes ++ rest)) ≡ w
 coordinate_at order d [] bytes rest i n w c h this that = absurd (cc)
 coordinate_at order d (x ∷ cs) bytes rest zero n w c h this that =
     let same : x ≡ c = cc in
@@ -121,20 +123,25 @@ coordinate_at order d (x ∷ cs) bytes rest zero n w c h this that =
 coordinate_at order d (x ∷ cs) bytes rest (suc i) n w c h this that =
     let all : bytes ++ rest ≡ h.front ++ (h.rest ++ rest) = ap (λ (y : List ℕ). y ++ rest) h.whole ∙ append_assoc h.front h.rest rest in
     let j = 8 * (width d * i + n) in
-    ap (λ (k : ℕ). number order 8 (drop k (bytes ++ rest))) (next_coordinate (width d) i n) ∙ ap (number order 8) (sym (drop-drop j (8 * width d) (bytes ++ rest)))
-    ∙ ap (λ (y : List ℕ). number order 8 (drop j y)) (ap (drop (8 * width d)) all ∙ drop_front (8 * width d) h.front (h.rest ++ rest) (coordinate_length order d x h.front h.first))
+    ap (λ (k : ℕ). number order 8 (drop k (bytes ++ rest))) (next_coordinate (width d) i n)
+    ∙ ap (number order 8) (sym (drop-drop j (8 * width d) (bytes ++ rest)))
+    ∙ ap (λ (y : List ℕ). number order 8 (drop j y)) (ap (drop (8 * width d)) all
+    ∙ drop_front (8 * width d) h.front (h.rest ++ rest) (coordinate_length order d x h.front h.first))
     ∙ coordinate_at order d cs h.rest rest i n w c h.second this that
 
-holds_words : (input : List ℕ) (k : ℕ) (d : Dimension) (order : Endianness) (at n : ℕ) (cs : List Coordinate) (bytes rest : List ℕ) → drop at input ≡ bytes ++ rest
+holds_words : (input : List ℕ) (k : ℕ) (d : Dimension) (order : Endianness) (at n : ℕ) (cs : List Coordinate) (bytes rest : List ℕ)
+    → drop at input ≡ bytes ++ rest
     → IsEach (SpellsCoordinate order d) cs bytes → HoldsWords input (entry k d (order_byte order) at n) (record { order = order; coordinates = cs })
 holds_words input k d order at n cs bytes rest stands each i m w c this that =
     let j = 8 * (width d * i + m) in
-    ap (number order 8) (sym (drop-drop j at input)) ∙ ap (λ (y : List ℕ). number order 8 (drop j y)) stands ∙ coordinate_at order d cs bytes rest i m w c each this that
+    ap (number order 8) (sym (drop-drop j at input)) ∙ ap (λ (y : List ℕ). number order 8 (drop j y)) stands
+    ∙ coordinate_at order d cs bytes rest i m w c each this that
 
 holds_one : (input : List ℕ) (k : ℕ) (d : Dimension) (order : Endianness) (at n : ℕ) (c : Coordinate) (bytes rest : List ℕ) → drop at input ≡ bytes ++ rest
     → SpellsCoordinate order d c bytes → HoldsWords input (entry k d (order_byte order) at n) (record { order = order; coordinates = c ∷ [] })
 holds_one input k d order at n c bytes rest stands one =
-    holds_words input k d order at n (c ∷ []) bytes rest stands (record { front = bytes; rest = []; whole = sym (append-nil bytes); first = one; second = refl })
+    holds_words input k d order at n (c ∷ []) bytes rest stands
+    (record { front = bytes; rest = []; whole = sym (append-nil bytes); first = one; second = refl })
 
 -- ---- parts
 
@@ -144,39 +151,48 @@ each_append input [] qs (x ∷ xs) ys f g = absurd f
 each_append input (p ∷ ps) qs [] ys f g = absurd f
 each_append input (p ∷ ps) qs (x ∷ xs) ys f g = (f.0, each_append input ps qs xs ys f.1 g)
 
-rings_hold : (input : List ℕ) (order : Endianness) (d : Dimension) (rings : List (List Coordinate)) (at : ℕ) (bytes rest : List ℕ) → drop at input ≡ bytes ++ rest
+rings_hold : (input : List ℕ) (order : Endianness) (d : Dimension) (rings : List (List Coordinate)) (at : ℕ) (bytes rest : List ℕ)
+    → drop at input ≡ bytes ++ rest
     → IsEach (SpellsCoordinates order d) rings bytes → HoldEach input (ring_entries d (order_byte order) at rings) (ring_pieces order rings)
 rings_hold input order d [] at bytes rest stands h = tt
 rings_hold input order d (cs ∷ rings) at bytes rest stands h =
     let here = before input at bytes h.front h.rest rest stands h.whole in
     let inside = behind input at 4 h.front h.first.front h.first.rest (h.rest ++ rest) here h.first.whole h.first.first.len in (
       holds_words input 0 d order (at + 4) (length cs) cs h.first.rest (h.rest ++ rest) inside h.first.second,
-      rings_hold input order d rings (at + ring_end d (length cs)) h.rest rest (behind input at (ring_end d (length cs)) bytes h.front h.rest rest stands h.whole (ring_length order d cs h.front h.first)) h.second,
+      rings_hold input order d rings (at + ring_end d (length cs)) h.rest rest
+          (behind input at (ring_end d (length cs)) bytes h.front h.rest rest stands h.whole (ring_length order d cs h.front h.first)) h.second,
     )
 
 -- a body, behind a header of so many bytes
-own_holds : (input : List ℕ) (h : Header) (words : List ℕ) (t : Value) (at : ℕ) (bytes rest : List ℕ) → drop (at + (5 + srid_size (is_some h.srid))) input ≡ bytes ++ rest → SpellsBody h.order words t bytes
-    → HoldsWords input (entry (kind t) (dimension t) (order_byte h.order) (at + leading h t) (count_of t)) (record { order = h.order; coordinates = coordinates_of words t })
-own_holds input h words (point d None) at bytes rest stands b = holds_one input 1 d h.order (at + (5 + srid_size (is_some h.srid))) 1 words bytes rest stands b.1
-own_holds input h words (point d (Some c)) at bytes rest stands b = holds_one input 1 d h.order (at + (5 + srid_size (is_some h.srid))) 1 c bytes rest stands b.2
+own_holds : (input : List ℕ) (h : Header) (words : List ℕ) (t : Value) (at : ℕ) (bytes rest : List ℕ)
+    → drop (at + (5 + srid_size (is_some h.srid))) input ≡ bytes ++ rest → SpellsBody h.order words t bytes
+    → HoldsWords input (entry (kind t) (dimension t) (order_byte h.order) (at + leading h t) (count_of t))
+    (record { order = h.order; coordinates = coordinates_of words t })
+own_holds input h words (point d None) at bytes rest stands b =
+    holds_one input 1 d h.order (at + (5 + srid_size (is_some h.srid))) 1 words bytes rest stands b.1
+own_holds input h words (point d (Some c)) at bytes rest stands b =
+    holds_one input 1 d h.order (at + (5 + srid_size (is_some h.srid))) 1 c bytes rest stands b.2
 own_holds input h words (line_string d cs) at bytes rest stands b =
     let start = at + (5 + srid_size (is_some h.srid)) in
     holds_words input 2 d h.order (at + (9 + srid_size (is_some h.srid))) (length cs) cs b.1.rest rest
-    (moved input (b.1.rest ++ rest) (start + 4) (at + (9 + srid_size (is_some h.srid))) (omega arith) (behind input start 4 bytes b.1.front b.1.rest rest stands b.1.whole b.1.first.len)) b.1.second
+    (moved input (b.1.rest ++ rest) (start + 4) (at + (9 + srid_size (is_some h.srid))) (omega arith)
+    (behind input start 4 bytes b.1.front b.1.rest rest stands b.1.whole b.1.first.len)) b.1.second
 own_holds input h words (polygon d rings) at bytes rest stands b = λ i n w c this that. absurd (cc)
 own_holds input h words (multi_point d points) at bytes rest stands b = λ i n w c this that. absurd (cc)
 own_holds input h words (multi_line_string d lines) at bytes rest stands b = λ i n w c this that. absurd (cc)
 own_holds input h words (multi_polygon d polygons) at bytes rest stands b = λ i n w c this that. absurd (cc)
 own_holds input h words (collection d ts) at bytes rest stands b = λ i n w c this that. absurd (cc)
 
-own_rings_hold : (input : List ℕ) (h : Header) (words : List ℕ) (t : Value) (at : ℕ) (bytes rest : List ℕ) → drop (at + (5 + srid_size (is_some h.srid))) input ≡ bytes ++ rest → SpellsBody h.order words t bytes
+own_rings_hold : (input : List ℕ) (h : Header) (words : List ℕ) (t : Value) (at : ℕ) (bytes rest : List ℕ)
+    → drop (at + (5 + srid_size (is_some h.srid))) input ≡ bytes ++ rest → SpellsBody h.order words t bytes
     → HoldEach input (ring_entries (dimension t) (order_byte h.order) (at + leading h t) (rings_of t)) (ring_pieces h.order (rings_of t))
 own_rings_hold input h words (point d c) at bytes rest stands b = tt
 own_rings_hold input h words (line_string d cs) at bytes rest stands b = tt
 own_rings_hold input h words (polygon d rings) at bytes rest stands b =
     let start = at + (5 + srid_size (is_some h.srid)) in
     rings_hold input h.order d rings (at + (9 + srid_size (is_some h.srid))) b.1.rest rest
-    (moved input (b.1.rest ++ rest) (start + 4) (at + (9 + srid_size (is_some h.srid))) (omega arith) (behind input start 4 bytes b.1.front b.1.rest rest stands b.1.whole b.1.first.len)) b.1.second
+    (moved input (b.1.rest ++ rest) (start + 4) (at + (9 + srid_size (is_some h.srid))) (omega arith)
+    (behind input start 4 bytes b.1.front b.1.rest rest stands b.1.whole b.1.first.len)) b.1.second
 own_rings_hold input h words (multi_point d points) at bytes rest stands b = tt
 own_rings_hold input h words (multi_line_string d lines) at bytes rest stands b = tt
 own_rings_hold input h words (multi_polygon d polygons) at bytes rest stands b = tt
@@ -190,11 +206,13 @@ abbrev MembersHold : List ℕ → Header → Spellings → Value → ℕ → Typ
 MembersHold input h ss t at = HoldEach input (member_entries (at + leading h t) ss (members t)) (member_pieces ss (members t))
 
 -- the members stand behind a count
-behind_count : (input : List ℕ) (h : Header) (at : ℕ) (count inner rest : List ℕ) → drop (at + (5 + srid_size (is_some h.srid))) input ≡ (count ++ inner) ++ rest → length count ≡ 4
+behind_count : (input : List ℕ) (h : Header) (at : ℕ) (count inner rest : List ℕ)
+    → drop (at + (5 + srid_size (is_some h.srid))) input ≡ (count ++ inner) ++ rest → length count ≡ 4
     → drop (at + (9 + srid_size (is_some h.srid))) input ≡ inner ++ rest
 behind_count input h at count inner rest stands four =
     let start = at + (5 + srid_size (is_some h.srid)) in
-    moved input (inner ++ rest) (start + 4) (at + (9 + srid_size (is_some h.srid))) (omega arith) (behind input start 4 (count ++ inner) count inner rest stands refl four)
+    moved input (inner ++ rest) (start + 4) (at + (9 + srid_size (is_some h.srid))) (omega arith)
+    (behind input start 4 (count ++ inner) count inner rest stands refl four)
 
 own_members_hold : (input : List ℕ) (h : Header) (words : List ℕ) (ss : Spellings) (t : Value) (at : ℕ) (body inner rest : List ℕ)
     → drop (at + (5 + srid_size (is_some h.srid))) input ≡ (body ++ inner) ++ rest → SpellsBody h.order words t body
@@ -208,9 +226,11 @@ own_members_hold input h words ss (multi_polygon d polygons) at body inner rest 
 own_members_hold input h words ss (collection d ts) at body inner rest stands b each = each (behind_count input h at body inner rest stands b.1.len)
 
 mutual
-  pub holds : (input : List ℕ) (s : Spelling) (t : Value) (at : ℕ) (bytes rest : List ℕ) → drop at input ≡ bytes ++ rest → Spells s t bytes → HoldEach input (entries at s t) (pieces s t)
+  pub holds : (input : List ℕ) (s : Spelling) (t : Value) (at : ℕ) (bytes rest : List ℕ) → drop at input ≡ bytes ++ rest → Spells s t bytes
+      → HoldEach input (entries at s t) (pieces s t)
   holds input (node h words ss) t at bytes rest stands sp =
-      let inside = behind input at (5 + srid_size (is_some h.srid)) bytes sp.front sp.rest rest stands sp.whole (header_length h (kind t) (dimension t) sp.front sp.first) in
+      let inside = behind input at (5 + srid_size (is_some h.srid)) bytes sp.front sp.rest rest stands sp.whole
+      (header_length h (kind t) (dimension t) sp.front sp.first) in
       let body = before input (at + (5 + srid_size (is_some h.srid))) sp.rest sp.second.front sp.second.rest rest inside sp.second.whole in
       let whole = inside ∙ ap (λ (x : List ℕ). x ++ rest) sp.second.whole in (
         own_holds input h words t at sp.second.front (sp.second.rest ++ rest) body sp.second.first,
@@ -219,13 +239,15 @@ mutual
             (λ there. each_holds input _ ss (members t) (at + leading h t) sp.second.rest rest there sp.second.second)),
       )
 
-  each_holds : (input : List ℕ) (w : Wanted) (ss : Spellings) (ts : Values) (at : ℕ) (bytes rest : List ℕ) → drop at input ≡ bytes ++ rest → SpellsEach w ss ts bytes
+  each_holds : (input : List ℕ) (w : Wanted) (ss : Spellings) (ts : Values) (at : ℕ) (bytes rest : List ℕ) → drop at input ≡ bytes ++ rest
+      → SpellsEach w ss ts bytes
       → HoldEach input (member_entries at ss ts) (member_pieces ss ts)
   each_holds input w no_spellings ts at bytes rest stands sp = tt
   each_holds input w (spelling s ss) no_members at bytes rest stands sp = tt
   each_holds input w (spelling s ss) (member t ts) at bytes rest stands sp =
       each_append input _ _ _ _ (holds input s t at sp.front (sp.rest ++ rest) (before input at bytes sp.front sp.rest rest stands sp.whole) sp.first.0)
-      (each_holds input w ss ts (at + size s t) sp.rest rest (behind input at (size s t) bytes sp.front sp.rest rest stands sp.whole (spelled_size s t sp.front sp.first.0)) sp.second)
+      (each_holds input w ss ts (at + size s t) sp.rest rest
+      (behind input at (size s t) bytes sp.front sp.rest rest stands sp.whole (spelled_size s t sp.front sp.first.0)) sp.second)
 
 -- ---- the front of an input
 
@@ -247,7 +269,8 @@ line_count : (d : Dimension) (lines : List (List Coordinate)) → member_count_e
 line_count d [] = refl
 line_count d (l ∷ lines) = omega (arith, line_count d lines)
 
-polygon_count : (d : Dimension) (polygons : List (List (List Coordinate))) → member_count_each (each (polygon d) polygons) ≡ sum_by (λ rings. 1 + length rings) polygons
+polygon_count : (d : Dimension) (polygons : List (List (List Coordinate)))
+    → member_count_each (each (polygon d) polygons) ≡ sum_by (λ rings. 1 + length rings) polygons
 polygon_count d [] = refl
 polygon_count d (p ∷ polygons) = omega (arith, polygon_count d polygons, sum_by-cons (λ rings. 1 + length rings) p polygons)
 
@@ -271,9 +294,16 @@ mutual
         own_count t,
       )
 
-  members_many : (w : Wanted) (ss : Spellings) (ts : Values) (at : ℕ) (bytes : List ℕ) → SpellsEach w ss ts bytes → length (member_entries at ss ts) ≡ member_count_each ts
+  members_many : (w : Wanted) (ss : Spellings) (ts : Values) (at : ℕ) (bytes : List ℕ) → SpellsEach w ss ts bytes
+      → length (member_entries at ss ts) ≡ member_count_each ts
   members_many w no_spellings no_members at bytes sp = refl
   members_many w no_spellings (member t ts) at bytes sp = absurd sp
   members_many w (spelling s ss) no_members at bytes sp = absurd sp
   members_many w (spelling s ss) (member t ts) at bytes sp =
-      omega (arith, length-append (entries at s t) (member_entries (at + size s t) ss ts), entries_many s t at sp.front sp.first.0, members_many w ss ts (at + size s t) sp.rest sp.second)
+      omega (
+        arith,
+        length-append (entries at s t) (member_entries (at + size s t) ss ts),
+        entries_many s t at sp.front sp.first.0,
+        members_many w ss ts
+            (at + size s t) sp.rest sp.second,
+      )

@@ -1,14 +1,17 @@
 -- The status that tells a refusal, and its numbers.
 use Rattle.std.specs.Prelude.{◌≡◌, ◌⊎◌, ℕ, List}
 use Rattle.wkb_geom.specs.declared.error.General.{General}
-use Rattle.wkb_geom.specs.declared.error.General.TheVariants.{UnsupportedDimensions, CodeOutOfRange, InvalidByteOrder, ShortPoint, ShortLineString, ShortLinearRing, ShortMultiPoint}
+use Rattle.wkb_geom.specs.declared.error.General.TheVariants.{UnsupportedDimensions, CodeOutOfRange, InvalidByteOrder, ShortPoint, ShortLineString}
+use Rattle.wkb_geom.specs.declared.error.General.TheVariants.{ShortLinearRing, ShortMultiPoint}
 use Rattle.wkb_geom.specs.Spellings.{any}
 use Rattle.wkb_geom.specs.Fronts.{max_nesting}
 use Rattle.wkb_geom.specs.declared.error.Cause.{Cause}
-use Rattle.wkb_geom.specs.declared.error.Cause.TheVariants.{EndOfInput as end_of_input, General as general, IncorrectType as incorrect_type, NestingDepthExceeded as nesting_depth_exceeded}
+use Rattle.wkb_geom.specs.declared.error.Cause.TheVariants.{EndOfInput as end_of_input, General as general, IncorrectType as incorrect_type}
+use Rattle.wkb_geom.specs.declared.error.Cause.TheVariants.{NestingDepthExceeded as nesting_depth_exceeded}
 use Rattle.wkb_geom.specs.Refusals.{Refuses}
 use Rattle.wkb.specs.Canonical.{IsAccepted}
-use Rattle.wkb_c.specs.declared.status.TheConstants.{IO_ERROR, INVALID_BYTE_ORDER, CODE_OUT_OF_RANGE, INCORRECT_TYPE, NESTING_DEPTH_EXCEEDED, SHORT_POINT, SHORT_LINE_STRING, SHORT_MULTI_POINT, SHORT_LINEAR_RING}
+use Rattle.wkb_c.specs.declared.status.TheConstants.{IO_ERROR, INVALID_BYTE_ORDER, CODE_OUT_OF_RANGE, INCORRECT_TYPE, NESTING_DEPTH_EXCEEDED, SHORT_POINT}
+use Rattle.wkb_c.specs.declared.status.TheConstants.{SHORT_LINE_STRING, SHORT_MULTI_POINT, SHORT_LINEAR_RING}
 use Rattle.wkb_c.specs.declared.fault.Fault.{Fault}
 
 -- the status of a fault of the bytes (no reading refuses an unsupported dimension)

@@ -6,7 +6,8 @@ use Rattle.wkb_geom.specs.Codes.{thousands}
 use Rattle.wkb_geom.specs.Dimensions.{width}
 use Rattle.wkb_geom.specs.Fronts.{Front}
 use Rattle.wkb_geom.specs.Numbers.{order_byte, number}
-use Rattle.wkb_geom.specs.Values.{Coordinate, Value, Values, point, line_string, polygon, multi_point, multi_line_string, multi_polygon, collection, no_members, member, kind, dimension, members, count, member_count}
+use Rattle.wkb_geom.specs.Values.{Coordinate, Value, Values, point, line_string, polygon, multi_point, multi_line_string, multi_polygon, collection, no_members}
+use Rattle.wkb_geom.specs.Values.{member, kind, dimension, members, count, member_count}
 use Rattle.wkb_geom.specs.Spellings.{Header, Spelling, node, Spellings, no_spellings, spelling}
 use Rattle.wkb_geom.specs.Refusals.{srid_size, ring_end}
 use Rattle.wkb_c.specs.Room.{IsHeld, LacksRoom}
@@ -94,7 +95,8 @@ ring_pieces order (cs ∷ rest) = record { order = order; coordinates = cs } ∷
 -- the coordinates of each part, in preorder
 abbrev mutual
   pub pieces : Spelling → Value → List Piece
-  pieces (node h words ss) t = record { order = h.order; coordinates = coordinates_of words t } ∷ (ring_pieces h.order (rings_of t) ++ member_pieces ss (members t))
+  pieces (node h words ss) t =
+      record { order = h.order; coordinates = coordinates_of words t } ∷ (ring_pieces h.order (rings_of t) ++ member_pieces ss (members t))
 
   pub member_pieces : Spellings → Values → List Piece
   member_pieces no_spellings ts = []

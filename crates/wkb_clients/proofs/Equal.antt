@@ -1,20 +1,13 @@
 -- Views of one spelling and one value are equal.
-use Rattle.std.proofs.Common.{◌≡◌, ℕ, List, Some, sym, ap, subst, ◌∙◌}
-use Rattle.std.specs.Prelude.{slice_get}
+use Rattle.std.proofs.Common.{◌≡◌, ℕ, List, Some, sym, ap, subst, ◌∙◌, slice_get}
 use Rattle.std.proofs.Math.Logic.{∥∥₁_elim}
 use Rattle.std.proofs.Props.{props}
-use Rattle.wkb_geom.specs.declared.common.Dimension.{Dimension}
-use Rattle.wkb_geom.specs.Dimensions.{dimensions}
-use Rattle.wkb_geom.specs.Numbers.{AreBytes}
-use Rattle.wkb_geom.specs.Values.{Coordinate, line_string, polygon}
-use Rattle.wkb_geom.specs.Spellings.{Spelling, Spells}
-use Rattle.wkb_geom.specs.Stored.{Listed, whole_of}
-use Rattle.wkb_geom.specs.Reading.{Item}
-use Rattle.wkb_laws.specs.Places.{HasOneText}
-use Rattle.wkb_view.specs.Parts.{members_spelled, list_of_spellings, IsSpelled}
+use Rattle.wkb_clients.specs.Common.{Dimension, dimensions, AreBytes, Coordinate}
+use Rattle.wkb_clients.specs.Common.{line_string, polygon, Spelling, Spells, Listed, whole_of, Item, HasOneText, members_spelled, list_of_spellings, IsSpelled}
 use Rattle.wkb_clients.proofs.MembersHeld.{one_name}
 
-same_text : HasOneText → (a b : Item) → AreBytes a.text → AreBytes b.text → IsSpelled a → IsSpelled b → a.spelled ≡ b.spelled → a.value ≡ b.value → a.text ≡ b.text
+same_text : HasOneText → (a b : Item) → AreBytes a.text → AreBytes b.text → IsSpelled a → IsSpelled b → a.spelled ≡ b.spelled → a.value ≡ b.value
+    → a.text ≡ b.text
 same_text one a b bytes bytes' spells spells' s t =
     ∥∥₁_elim spells (hlevel props) (λ h. ∥∥₁_elim spells' (hlevel props) (λ k.
     one a.spelled a.value a.text b.text bytes bytes' h (subst (λ u. Spells u a.value b.text) (sym s) (subst (λ v. Spells b.spelled v b.text) (sym t) k))))
@@ -23,7 +16,8 @@ some_one : {A : Type 0} (a b : A) → Some a ≡ Some b → a ≡ b
 some_one a b h = cc
 
 -- what stands at one index of two equal multi geometries
-at_one : {A B : Type 0} (m n : Listed A) (list : A → List B) (i : ℕ) (a b : B) → n ≡ m → Some a ≡ slice_get (list m.parts) i → Some b ≡ slice_get (list n.parts) i → b ≡ a
+at_one : {A B : Type 0} (m n : Listed A) (list : A → List B) (i : ℕ) (a b : B) → n ≡ m → Some a ≡ slice_get (list m.parts) i
+    → Some b ≡ slice_get (list n.parts) i → b ≡ a
 at_one m n list i a b same h k = some_one b a (k ∙ ap (λ l. slice_get (list l.parts) i) same ∙ sym h)
 
 spelled_one : {A : Type 0} (m n : Listed A) (i : ℕ) (s u : Spelling) → n ≡ m → Some s ≡ slice_get (list_of_spellings (members_spelled m.spelled)) i
@@ -36,7 +30,8 @@ dimension_one m n d e same h k = one_name e d (k ∙ ap (λ l. dimensions l.dime
 pub same_polygon : HasOneText → (m n : Listed (List (List (List Coordinate)))) (i : ℕ) (p q : Listed (List (List Coordinate))) → n ≡ m
     → Some p.parts ≡ slice_get m.parts i → Some q.parts ≡ slice_get n.parts i
     → dimensions p.dimension ≡ dimensions m.dimension → dimensions q.dimension ≡ dimensions n.dimension
-    → Some p.spelled ≡ slice_get (list_of_spellings (members_spelled m.spelled)) i → Some q.spelled ≡ slice_get (list_of_spellings (members_spelled n.spelled)) i
+    → Some p.spelled ≡ slice_get (list_of_spellings (members_spelled m.spelled)) i
+    → Some q.spelled ≡ slice_get (list_of_spellings (members_spelled n.spelled)) i
     → AreBytes p.text → AreBytes q.text → IsSpelled (whole_of polygon p) → IsSpelled (whole_of polygon q) → q ≡ p
 same_polygon one m n i p q same part part' dims dims' spelled spelled' bytes bytes' spells spells' =
     let a : q.parts ≡ p.parts = at_one m n (λ l. l) i p.parts q.parts same part part' in
@@ -45,10 +40,12 @@ same_polygon one m n i p q same part part' dims dims' spelled spelled' bytes byt
     let t = same_text one (whole_of polygon q) (whole_of polygon p) bytes' bytes spells' spells s (λ j. polygon (d j) (a j)) in
     λ j. record { text = t j; spelled = s j; dimension = d j; parts = a j }
 
-pub same_line_string : HasOneText → (m n : Listed (List (List Coordinate))) (i : ℕ) (a b : Item) (d e : Dimension) (cs ds : List Coordinate) → n ≡ m → a.value ≡ line_string d cs → b.value ≡ line_string e ds
+pub same_line_string : HasOneText → (m n : Listed (List (List Coordinate))) (i : ℕ) (a b : Item) (d e : Dimension) (cs ds : List Coordinate) → n ≡ m
+    → a.value ≡ line_string d cs → b.value ≡ line_string e ds
     → Some cs ≡ slice_get m.parts i → Some ds ≡ slice_get n.parts i
     → dimensions d ≡ dimensions m.dimension → dimensions e ≡ dimensions n.dimension
-    → Some a.spelled ≡ slice_get (list_of_spellings (members_spelled m.spelled)) i → Some b.spelled ≡ slice_get (list_of_spellings (members_spelled n.spelled)) i
+    → Some a.spelled ≡ slice_get (list_of_spellings (members_spelled m.spelled)) i
+    → Some b.spelled ≡ slice_get (list_of_spellings (members_spelled n.spelled)) i
     → AreBytes a.text → AreBytes b.text → IsSpelled a → IsSpelled b → b ≡ a
 same_line_string one m n i a b d e cs ds same value value' part part' dims dims' spelled spelled' bytes bytes' spells spells' =
     let c : ds ≡ cs = at_one m n (λ l. l) i cs ds same part part' in

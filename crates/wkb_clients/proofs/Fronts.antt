@@ -1,13 +1,8 @@
 -- What the reader's clauses say of the bytes behind an offset.
-use Rattle.std.proofs.Common.{◌≡◌, ℕ, List, drop, ◌⊎◌, inl, inr, Some, None, Err, ap, subst, ◌∙◌}
-use Rattle.std.specs.Prelude.{slice_get}
-use Rattle.wkb_geom.specs.declared.error.WkbError.{WkbError}
+use Rattle.std.proofs.Common.{◌≡◌, ℕ, List, drop, ◌⊎◌, inl, inr, Some, None, Err, ap, subst, ◌∙◌, slice_get}
+use Rattle.wkb_clients.specs.Common.{WkbError, IsMemory, Coordinate, Item}
+use Rattle.wkb_clients.specs.Common.{IsWordOf, IsFront, IsOnlyFront, HasNoFront, IfRefused}
 use Rattle.wkb_geom.specs.declared.error.WkbError.TheVariants as errors
-use Rattle.wkb_geom.specs.Errors.{IsMemory}
-use Rattle.wkb_geom.specs.Values.{Coordinate}
-use Rattle.wkb_geom.specs.Reading.{Item}
-use Rattle.wkb_laws.specs.Places.{IsWordOf}
-use Rattle.wkb_read.specs.Public.{IsFront, IsOnlyFront, HasNoFront, IfRefused}
 
 -- the geometry that stands in a blob behind an offset: its bytes spell it, and no other stands there
 pub record Stands (blob : List ℕ) (offset : ℕ) (w : Item) : Type 0 where
@@ -15,7 +10,8 @@ pub record Stands (blob : List ℕ) (offset : ℕ) (w : Item) : Type 0 where
   pub only : IsOnlyFront (drop offset blob) w
 
 -- so it does where the reader accepts the bytes behind the offset
-pub stands : (blob : List ℕ) (offset : ℕ) (behind : List ℕ) (w : Item) → behind ≡ drop offset blob → IsFront behind w → IsOnlyFront behind w → Stands blob offset w
+pub stands : (blob : List ℕ) (offset : ℕ) (behind : List ℕ) (w : Item) → behind ≡ drop offset blob → IsFront behind w → IsOnlyFront behind w
+    → Stands blob offset w
 stands blob offset behind w same front only = record { front = subst (λ b. IsFront b w) same front; only = subst (λ b. IsOnlyFront b w) same only }
 
 -- of what the reader refuses, for a cause other than memory, there is none
@@ -28,7 +24,8 @@ refused_by buf (errors.NestingDepthExceeded n) h = inr h
 refused_by buf (errors.OverflowError o) h = inr h
 refused_by buf (errors.IOError e) h = inr h
 
-pub refused : (blob : List ℕ) (offset : ℕ) (behind : List ℕ) (e : WkbError) → behind ≡ drop offset blob → IfRefused (Err e) (λ _. HasNoFront behind) → IsMemory e ⊎ HasNoFront (drop offset blob)
+pub refused : (blob : List ℕ) (offset : ℕ) (behind : List ℕ) (e : WkbError) → behind ≡ drop offset blob → IfRefused (Err e) (λ _. HasNoFront behind)
+    → IsMemory e ⊎ HasNoFront (drop offset blob)
 refused blob offset behind e same h = subst (λ b. IsMemory e ⊎ HasNoFront b) same (refused_by behind e h)
 
 -- what is said to stand there has its spelling and its value

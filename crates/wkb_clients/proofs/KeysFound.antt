@@ -1,15 +1,12 @@
 -- Keys, found among others or missing, and the values that they are read as.
 use Rattle.std.proofs.Common.{◌≡◌, ℕ, zero, suc, List, [], ◌∷◌, ◌++◌, map, Bool, true, false, Result, Ok, Err, refl, sym, ap, subst, ◌∙◌, arith}
-use Rattle.std.specs.Prelude.{IfOk, bytes_eq, Contains, ◌||◌}
-use Rattle.std.specs.Bool.{Decides}
+use Rattle.std.specs.Prelude.{IfOk}
+use Rattle.std.specs.Prelude.{bytes_eq, Contains, ◌||◌}
 use Rattle.std.specs.List.{AllByRecursion, list_any}
 use Rattle.std.proofs.lemmas.List.{append-nil, map-append}
+use Rattle.wkb_clients.specs.Common.{LittleEndian, Iso, AreBytes, Value, Front}
+use Rattle.std.specs.Bool.{Decides}
 use Rattle.std.proofs.lemmas.Slice.Eq.{bytes_eq-Decides}
-use Rattle.wkb_geom.specs.declared.common.Endianness.TheVariants.{LittleEndian}
-use Rattle.wkb_geom.specs.declared.common.Form.TheVariants.{Iso}
-use Rattle.wkb_geom.specs.Numbers.{AreBytes}
-use Rattle.wkb_geom.specs.Values.{Value}
-use Rattle.wkb_geom.specs.Fronts.{Front}
 use Rattle.wkb_geom.specs.Texts.{IsRewriting}
 use Rattle.wkb_laws.specs.Laws.{EqualTexts, FrontIsRead, RewritingIsRead}
 use Rattle.wkb_clients.specs.Keys.{key_of, IsKey, HasOneKey, Inserts, value_in, value_read}
@@ -39,7 +36,8 @@ key_read front rewriting input key bytes k =
 -- ---- among others
 
 module _ {V : Type 0} (bytes_of : V → List ℕ) (key : List ℕ) (t : Value) where
-  known_by : (k : V) (ks : List V) (found : Bool) → Decides found (bytes_of k ≡ key) → value_in key ≡ t → (list_any (λ y. bytes_eq (bytes_of y) key) ks ≡ true → Contains (map (λ y. value_in (bytes_of y)) ks) t)
+  known_by : (k : V) (ks : List V) (found : Bool) → Decides found (bytes_of k ≡ key) → value_in key ≡ t
+      → (list_any (λ y. bytes_eq (bytes_of y) key) ks ≡ true → Contains (map (λ y. value_in (bytes_of y)) ks) t)
       → (found ≡ false → list_any (λ y. bytes_eq (bytes_of y) key) ks ≡ true) → Contains (map (λ y. value_in (bytes_of y)) (k ∷ ks)) t
   known_by k ks true decides is later h = (0, omega arith, ap value_in (decides.0 refl) ∙ is)
   known_by k ks false decides is later h = let c = later (h refl) in (suc c.0, omega (arith, c.1), c.2)
@@ -50,7 +48,9 @@ module _ {V : Type 0} (bytes_of : V → List ℕ) (key : List ℕ) (t : Value) w
 
   pub known : (ks : List V) → value_in key ≡ t → list_any (λ y. bytes_eq (bytes_of y) key) ks ≡ true → Contains (map (λ y. value_in (bytes_of y)) ks) t
   known [] is h = absurd (cc)
-  known (k ∷ ks) is h = known_by k ks (bytes_eq (bytes_of k) key) (bytes_eq-Decides (bytes_of k) key) is (known ks is) (rest_true (bytes_eq (bytes_of k) key) (list_any (λ y. bytes_eq (bytes_of y) key) ks) h)
+  known (k ∷ ks) is h =
+      known_by k ks (bytes_eq (bytes_of k) key) (bytes_eq-Decides (bytes_of k) key) is (known ks is)
+      (rest_true (bytes_eq (bytes_of k) key) (list_any (λ y. bytes_eq (bytes_of y) key) ks) h)
 
   rest_false : (a b : Bool) → (a || b) ≡ false → (a ≡ false) × (b ≡ false)
   rest_false true b h = absurd (cc)
@@ -59,7 +59,8 @@ module _ {V : Type 0} (bytes_of : V → List ℕ) (key : List ℕ) (t : Value) w
   differs : (found : Bool) (x : List ℕ) → Decides found (x ≡ key) → found ≡ false → x ≡ key → ⊥
   differs found x decides is_false same = let is_true = decides.1 same in absurd (cc)
 
-  pub unknown : (ks : List V) → AllByRecursion (λ y. bytes_of y ≡ key_of (value_in (bytes_of y))) ks → key ≡ key_of t → list_any (λ y. bytes_eq (bytes_of y) key) ks ≡ false
+  pub unknown : (ks : List V) → AllByRecursion (λ y. bytes_of y ≡ key_of (value_in (bytes_of y))) ks → key ≡ key_of t
+      → list_any (λ y. bytes_eq (bytes_of y) key) ks ≡ false
       → Contains (map (λ y. value_in (bytes_of y)) ks) t → ⊥
   unknown [] all is none c = absurd (omega (arith, c.1))
   unknown (k ∷ ks) all is none (zero, below, at) =
@@ -69,7 +70,8 @@ module _ {V : Type 0} (bytes_of : V → List ℕ) (key : List ℕ) (t : Value) w
       let both = rest_false (bytes_eq (bytes_of k) key) (list_any (λ y. bytes_eq (bytes_of y) key) ks) none in
       unknown ks all.1 is both.1 (n, omega (arith, below), at)
 
-pub all_with : {V : Type 0} (bytes_of : V → List ℕ) (ks : List V) (k : V) → AllByRecursion (λ y. bytes_of y ≡ key_of (value_in (bytes_of y))) ks → bytes_of k ≡ key_of (value_in (bytes_of k))
+pub all_with : {V : Type 0} (bytes_of : V → List ℕ) (ks : List V) (k : V) → AllByRecursion (λ y. bytes_of y ≡ key_of (value_in (bytes_of y))) ks
+    → bytes_of k ≡ key_of (value_in (bytes_of k))
     → AllByRecursion (λ y. bytes_of y ≡ key_of (value_in (bytes_of y))) (ks ++ k ∷ [])
 all_with bytes_of [] k all is = (is, tt)
 all_with bytes_of (x ∷ ks) k all is = (all.0, all_with bytes_of ks k all.1 is)
@@ -88,9 +90,11 @@ was_known front rewriting bytes_of ks input key bytes k found =
       kept = refl;
     }
 
-pub is_stored : FrontIsRead → RewritingIsRead → {V : Type 0} (bytes_of : V → List ℕ) (ks : List V) (input : List ℕ) (v : V) → AreBytes input → IsKey input (bytes_of v)
+pub is_stored : FrontIsRead → RewritingIsRead → {V : Type 0} (bytes_of : V → List ℕ) (ks : List V) (input : List ℕ) (v : V) → AreBytes input
+    → IsKey input (bytes_of v)
     → AllByRecursion (λ y. bytes_of y ≡ key_of (value_in (bytes_of y))) ks
-    → list_any (λ y. bytes_eq (bytes_of y) (bytes_of v)) ks ≡ false → Inserts (map (λ y. value_in (bytes_of y)) ks) (map (λ y. value_in (bytes_of y)) (ks ++ v ∷ [])) input false
+    → list_any (λ y. bytes_eq (bytes_of y) (bytes_of v)) ks ≡ false
+    → Inserts (map (λ y. value_in (bytes_of y)) ks) (map (λ y. value_in (bytes_of y)) (ks ++ v ∷ [])) input false
 is_stored front rewriting bytes_of ks input v bytes k all none =
     record {
       spelled = k.spelled;
@@ -98,7 +102,8 @@ is_stored front rewriting bytes_of ks input v bytes k all none =
       rest = k.rest;
       front = k.front;
       known = unknown bytes_of (bytes_of v) k.value ks all k.is none;
-      kept = map-append (λ y. value_in (bytes_of y)) ks (v ∷ []) ∙ ap (λ w. map (λ y. value_in (bytes_of y)) ks ++ w ∷ []) (key_read front rewriting input (bytes_of v) bytes k);
+      kept = map-append (λ y. value_in (bytes_of y)) ks (v ∷ [])
+          ∙ ap (λ w. map (λ y. value_in (bytes_of y)) ks ++ w ∷ []) (key_read front rewriting input (bytes_of v) bytes k);
     }
 
 pub is_its_own : FrontIsRead → RewritingIsRead → (input key : List ℕ) → AreBytes input → (k : IsKey input key) → key ≡ key_of (value_in key)

@@ -1,13 +1,10 @@
 -- The kinds of what `as_type` hands out.
-use Rattle.std.proofs.Common.{◌≡◌, ℕ, List, Bool, true, false, refl, sym, ap, ◌∙◌, arith}
+use Rattle.std.proofs.Common.{◌≡◌, ℕ, List, refl, sym, ap, ◌∙◌, arith}
+use Rattle.wkb_clients.specs.Common.{Coordinate, kind, Listed, Item, point_value}
 use Rattle.std.specs.Borrow.{Bor}
-use Rattle.wkb_geom.specs.declared.common.Endianness.{Endianness}
-use Rattle.wkb_geom.specs.declared.common.Dimension.{Dimension}
 use Rattle.wkb_geom.specs.declared.geom.GeometryType.{GeometryType}
-use Rattle.wkb_geom.specs.declared.geom.GeometryType.TheVariants.{Point, LineString, Polygon, MultiPoint, MultiLineString, MultiPolygon, GeometryCollection, Rect, Triangle, Line}
-use Rattle.wkb_geom.specs.Values.{Coordinate, kind}
-use Rattle.wkb_geom.specs.Stored.{Listed}
-use Rattle.wkb_geom.specs.Reading.{Item, point_item_of}
+use Rattle.wkb_geom.specs.declared.geom.GeometryType.TheVariants.{Point, LineString, Polygon, MultiPoint, MultiLineString, MultiPolygon, GeometryCollection}
+use Rattle.wkb_geom.specs.declared.geom.GeometryType.TheVariants.{Rect, Triangle, Line}
 use Rattle.wkb_view.specs.declared.point.Point as views
 use Rattle.wkb_view.specs.declared.line_string.LineString as lines
 use Rattle.wkb_view.specs.declared.multi_point.MultiPoint as points
@@ -15,7 +12,9 @@ use Rattle.wkb_read.specs.Views.{IsViewOf}
 
 -- what a geometry of any kind hands out
 abbrev pub Handed : Type 0 → Type 0 → Type 0 → Type 0
-Handed R T N = GeometryType views.Point lines.LineString (Listed (List (List Coordinate))) points.MultiPoint (Listed (List (List Coordinate))) (Listed (List (List (List Coordinate)))) Item R T N
+Handed R T N =
+    GeometryType views.Point lines.LineString (Listed (List (List Coordinate))) points.MultiPoint (Listed (List (List Coordinate)))
+    (Listed (List (List (List Coordinate)))) Item R T N
 
 -- the kind of what was handed out; the last three are never handed out
 abbrev pub kind_of : {R T N : Type 0} → Handed R T N → ℕ
@@ -28,12 +27,8 @@ kind_of (MultiPolygon m) = 6
 kind_of (GeometryCollection gs) = 7
 kind_of _ = 0
 
-kind_of_point : (order : Endianness) (d : Dimension) (srid : Bool) (text words : List ℕ) (empty : Bool) → kind (point_item_of order d srid text words empty).value ≡ 1
-kind_of_point order d srid text words true = refl
-kind_of_point order d srid text words false = refl
-
 pub kind_handed : {R T N : Type 0} (w : Item) (r : Handed R T N) → IsViewOf w r → kind w.value ≡ kind_of r
-kind_handed w (Point p) view = sym (ap (λ (v : Item). kind v.value) view) ∙ kind_of_point _ _ _ _ _ _
+kind_handed w (Point p) view = sym (ap (λ (v : Item). kind v.value) view) ∙ ap kind (point_value p.now)
 kind_handed w (LineString l) view = sym (ap (λ (v : Item). kind v.value) view)
 kind_handed w (Polygon p) view = sym (ap (λ (v : Item). kind v.value) view)
 kind_handed w (MultiPoint m) view = sym (ap (λ (v : Item). kind v.value) view)
@@ -49,6 +44,7 @@ pub not_line_string : {R T N : Type 0} (w : Item) (r : Handed R T N) → IsViewO
 not_line_string w (LineString l) view none two = none l refl
 not_line_string w r view none two = absurd (omega (arith, kind_handed w r view, two))
 
-pub not_polygon : {R T N : Type 0} (w : Item) (r : Handed R T N) → IsViewOf w r → ((p : Bor (Listed (List (List Coordinate)))) → r ≡ Polygon p → ⊥) → kind w.value ≡ 3 → ⊥
+pub not_polygon : {R T N : Type 0} (w : Item) (r : Handed R T N) → IsViewOf w r → ((p : Bor (Listed (List (List Coordinate)))) → r ≡ Polygon p → ⊥)
+    → kind w.value ≡ 3 → ⊥
 not_polygon w (Polygon p) view none three = none p refl
 not_polygon w r view none three = absurd (omega (arith, kind_handed w r view, three))

@@ -1,22 +1,15 @@
 -- Rings of polygons in a collection, and their words.
-use Rattle.std.proofs.Common.{◌≡◌, ℕ, zero, suc, ◌+◌, ◌*◌, List, [], ◌∷◌, ◌++◌, length, drop, Option, Some, None, ◌⊎◌, inl, inr, refl, sym, ap, subst, ◌∙◌, append_assoc, length-append, arith}
-use Rattle.std.specs.Prelude.{slice_get, option_map, MatchOption}
+use Rattle.std.proofs.Common.{◌≡◌, ℕ, zero, suc, ◌+◌, ◌*◌, List, [], ◌∷◌, ◌++◌, length, drop, Option, Some, None, ◌⊎◌, inl, inr, refl, sym, ap, subst}
+use Rattle.std.proofs.Common.{◌∙◌, append_assoc, length-append, arith, slice_get}
+use Rattle.std.specs.Prelude.{option_map, MatchOption}
 use Rattle.std.proofs.lemmas.List.{drop-drop}
-use Rattle.wkb_geom.specs.declared.common.Dimension.{Dimension}
-use Rattle.wkb_geom.specs.declared.error.WkbError.{WkbError}
-use Rattle.wkb_geom.specs.Numbers.{number}
-use Rattle.wkb_geom.specs.Dimensions.{width}
-use Rattle.wkb_geom.specs.Errors.{IsMemory}
-use Rattle.wkb_geom.specs.Values.{Coordinate, Value, Values, polygon, collection, no_members, member, members, kind}
-use Rattle.wkb_geom.specs.Spellings.{Spelling, node, Spellings, no_spellings, spelling, header, Spells}
-use Rattle.wkb_geom.specs.Stored.{Listed, whole_of}
-use Rattle.wkb_geom.specs.Reading.{Item, spellings, values}
+use Rattle.wkb_clients.specs.Common.{Dimension, WkbError, number, width}
+use Rattle.wkb_clients.specs.Common.{IsMemory, Coordinate, Value, Values, polygon, collection, no_members, member, members, kind, Spelling, node, Spellings}
+use Rattle.wkb_clients.specs.Common.{no_spellings, spelling, header, Spells, Listed, whole_of, Item, spellings, values, IsOneOf, IsMember, IsWordOf}
+use Rattle.wkb_clients.specs.Common.{MembersStand, RingsStand, WordsStand, members_spelled, HasNoFront}
 use Rattle.wkb_laws.proofs.Parts.{drop_front}
-use Rattle.wkb_laws.specs.Places.{IsOneOf, IsMember, IsWordOf, MembersStand, RingsStand, WordsStand}
 use Rattle.wkb_view.specs.Coords.{ring_seen}
-use Rattle.wkb_view.specs.Parts.{members_spelled}
 use Rattle.wkb_view.specs.declared.linear_ring.LinearRing.{LinearRing}
-use Rattle.wkb_read.specs.Public.{HasNoFront}
 use Rattle.wkb_read.specs.Views.{IsCollectionOf}
 use Rattle.wkb_clients.specs.Rings.{IsRingOf, HasNoRing}
 use Rattle.wkb_clients.specs.Words.{IsRingWordAt, HasNoRingWordAt}
@@ -45,14 +38,17 @@ same_value (x ∷ ms) zero s t m is h =
     h.1 ∙ ap (λ (i : Item). i.value) same
 same_value (x ∷ ms) (suc k) s t m is h = same_value ms k s t m is h
 
-listed : (u : Spelling) (d : Dimension) (vs : Values) (k : ℕ) (s : Spelling) (t : Value) → IsMember k u (collection d vs) s t → IsOneOf k (members_spelled u) vs s t
+listed : (u : Spelling) (d : Dimension) (vs : Values) (k : ℕ) (s : Spelling) (t : Value) → IsMember k u (collection d vs) s t
+    → IsOneOf k (members_spelled u) vs s t
 listed (node g ws ss) d vs k s t h = h
 
-unlisted : (u : Spelling) (d : Dimension) (vs : Values) (k : ℕ) (s : Spelling) (t : Value) → IsOneOf k (members_spelled u) vs s t → IsMember k u (collection d vs) s t
+unlisted : (u : Spelling) (d : Dimension) (vs : Values) (k : ℕ) (s : Spelling) (t : Value) → IsOneOf k (members_spelled u) vs s t
+    → IsMember k u (collection d vs) s t
 unlisted (node g ws ss) d vs k s t h = h
 
 -- a member of a collection is one of those that were handed out
-member_in : (w : Item) (ms : List Item) (k : ℕ) (s : Spelling) (t : Value) → IsCollectionOf w ms → IsMember k w.spelled w.value s t → IsOneOf k (spellings ms) (values ms) s t
+member_in : (w : Item) (ms : List Item) (k : ℕ) (s : Spelling) (t : Value) → IsCollectionOf w ms → IsMember k w.spelled w.value s t
+    → IsOneOf k (spellings ms) (values ms) s t
 member_in w ms k s t c h =
     let inside = listed c.whole.spelled c.whole.dimension c.whole.parts k s t (subst (λ (v : Item). IsMember k v.spelled v.value s t) (sym c.is) h) in
     subst (λ vs. IsOneOf k (spellings ms) vs s t) (sym c.all.value) (subst (λ ss. IsOneOf k ss c.whole.parts s t) (sym c.all.spelled) inside)
@@ -61,7 +57,8 @@ member_of : (w : Item) (ms : List Item) (k : ℕ) (m : Item) → IsCollectionOf 
 member_of w ms k m c is =
     let inside = subst (λ vs. IsOneOf k (spellings ms) vs m.spelled m.value) c.all.value (one_of ms k m is) in
     subst (λ (v : Item). IsMember k v.spelled v.value m.spelled m.value) c.is
-    (unlisted c.whole.spelled c.whole.dimension c.whole.parts k m.spelled m.value (subst (λ ss. IsOneOf k ss c.whole.parts m.spelled m.value) c.all.spelled inside))
+    (unlisted c.whole.spelled c.whole.dimension c.whole.parts k m.spelled m.value
+    (subst (λ ss. IsOneOf k ss c.whole.parts m.spelled m.value) c.all.spelled inside))
 
 -- a member has one value
 same_one : (k : ℕ) (ss : Spellings) (vs : Values) (s u : Spelling) (t v : Value) → IsOneOf k ss vs s t → IsOneOf k ss vs u v → t ≡ v
@@ -86,19 +83,22 @@ rings_of _ = []
 
 -- a collection that has no such member has no such ring
 pub no_member : (w : Item) (ms : List Item) (k j : ℕ) → IsCollectionOf w ms → slice_get ms k ≡ None → HasNoRing w k j
-no_member w ms k j c none = λ ring h. none_of ms k h.spelled (polygon h.of_polygon h.rings) none (member_in w ms k h.spelled (polygon h.of_polygon h.rings) c h.is_member)
+no_member w ms k j c none =
+    λ ring h. none_of ms k h.spelled (polygon h.of_polygon h.rings) none (member_in w ms k h.spelled (polygon h.of_polygon h.rings) c h.is_member)
 
 -- nor has one whose member is no polygon
 pub no_polygon : (w : Item) (ms : List Item) (k j : ℕ) (m : Item) → IsCollectionOf w ms → slice_get ms k ≡ Some m → (kind m.value ≡ 3 → ⊥) → HasNoRing w k j
 no_polygon w ms k j m c is other =
-    λ ring h. other (ap kind (sym (same_value ms k h.spelled (polygon h.of_polygon h.rings) m is (member_in w ms k h.spelled (polygon h.of_polygon h.rings) c h.is_member))))
+    λ ring h. other (ap kind (sym (same_value ms k h.spelled (polygon h.of_polygon h.rings) m is
+    (member_in w ms k h.spelled (polygon h.of_polygon h.rings) c h.is_member))))
 
 -- nor what is no collection
 pub no_collection : (w : Item) (k j : ℕ) → (kind w.value ≡ 7 → ⊥) → HasNoRing w k j
 no_collection w k j other = λ ring h. other (ap kind h.value_is)
 
 -- a polygon's ring is found, or there is none
-pub ring_or_none : (w : Item) (ms : List Item) (k j : ℕ) (m : Item) (p : Listed (List (List Coordinate))) (r : Option LinearRing) → IsCollectionOf w ms → slice_get ms k ≡ Some m → whole_of polygon p ≡ m
+pub ring_or_none : (w : Item) (ms : List Item) (k j : ℕ) (m : Item) (p : Listed (List (List Coordinate))) (r : Option LinearRing) → IsCollectionOf w ms
+    → slice_get ms k ≡ Some m → whole_of polygon p ≡ m
     → option_map ring_seen r ≡ slice_get p.parts j → MatchOption r (HasNoRing w k j) (λ r. IsRingOf w k j (ring_seen r))
 ring_or_none w ms k j m p (Some r) c is view found =
     record {
@@ -112,7 +112,8 @@ ring_or_none w ms k j m p (Some r) c is view found =
       is = sym found;
     }
 ring_or_none w ms k j m p None c is view found =
-    λ ring h. let same = same_value ms k h.spelled (polygon h.of_polygon h.rings) m is (member_in w ms k h.spelled (polygon h.of_polygon h.rings) c h.is_member) in
+    λ ring h. let same = same_value ms k h.spelled (polygon h.of_polygon h.rings) m is
+    (member_in w ms k h.spelled (polygon h.of_polygon h.rings) c h.is_member) in
     let rings : h.rings ≡ p.parts = ap rings_of (same ∙ ap (λ (i : Item). i.value) (sym view)) in
     let none : None ≡ Some ring = found ∙ ap (λ (l : List (List Coordinate)). slice_get l j) (sym rings) ∙ h.is in
     absurd (cc)
@@ -144,7 +145,8 @@ ring_word_at members rings words blob offset k j i n x w ring there of word =
     let in_part : drop r.start (drop p.start (drop offset blob)) ≡ r.bytes ++ (r.after ++ (p.after ++ f.rest)) =
     ap (drop r.start) in_whole ∙ behind_part m.0 (p.after ++ f.rest) r.head r.before r.bytes r.after r.start r.parts r.start_is in
     let at : drop (offset + p.start + r.start + here) blob ≡ drop here (drop r.start (drop p.start (drop offset blob))) =
-    sym (drop-drop here (offset + p.start + r.start) blob) ∙ ap (drop here) (sym (drop-drop r.start (offset + p.start) blob) ∙ ap (drop r.start) (sym (drop-drop p.start offset blob))) in
+    sym (drop-drop here (offset + p.start + r.start) blob)
+    ∙ ap (drop here) (sym (drop-drop r.start (offset + p.start) blob) ∙ ap (drop r.start) (sym (drop-drop p.start offset blob))) in
     record {
       whole = w;
       dimension = of.dimension;
@@ -158,7 +160,8 @@ ring_word_at members rings words blob offset k j i n x w ring there of word =
       word = word;
       place = offset + p.start + r.start + here;
       place_is = omega arith;
-      stands = ap (number (header of.spelled).order 8) (at ∙ ap (drop here) in_part) ∙ words (header of.spelled).order r.dimension ring r.bytes (r.after ++ (p.after ++ f.rest)) i n x r.spells word;
+      stands = ap (number (header of.spelled).order 8) (at ∙ ap (drop here) in_part)
+          ∙ words (header of.spelled).order r.dimension ring r.bytes (r.after ++ (p.after ++ f.rest)) i n x r.spells word;
     }
 
 -- what is said to be such a word is one of a ring of the collection that stands there
@@ -175,7 +178,8 @@ ring_of blob offset k j i n x w there h =
       rings = p.rings;
       value_is = sym value ∙ h.value_is;
       is_member = subst (λ u. IsMember k u w.value h.part.spelled (polygon p.dimension p.rings)) spelled
-          (subst (λ v. IsMember k h.whole.spelled v h.part.spelled (polygon p.dimension p.rings)) value (subst (λ v. IsMember k h.whole.spelled h.whole.value h.part.spelled v) p.value_is h.polygon.is));
+          (subst (λ v. IsMember k h.whole.spelled v h.part.spelled (polygon p.dimension p.rings)) value
+          (subst (λ v. IsMember k h.whole.spelled h.whole.value h.part.spelled v) p.value_is h.polygon.is));
       is = p.is;
     }
 
@@ -187,7 +191,8 @@ one_ring w k j a b h g =
     cc
 
 -- the coordinate of a ring was found, and its word or none
-pub ring_word_or_none : MembersStand → RingsStand → WordsStand → (blob : List ℕ) (offset k j i n : ℕ) (w : Item) (ring : List Coordinate) (c : Coordinate) (found : Option ℕ)
+pub ring_word_or_none : MembersStand → RingsStand → WordsStand
+    → (blob : List ℕ) (offset k j i n : ℕ) (w : Item) (ring : List Coordinate) (c : Coordinate) (found : Option ℕ)
     → Stands blob offset w → IsRingOf w k j ring → Some c ≡ slice_get ring i → found ≡ slice_get c n
     → MatchOption found (HasNoRingWordAt blob offset k j i n) (λ x. IsRingWordAt blob offset k j i n x)
 ring_word_or_none members rings words blob offset k j i n w ring c (Some x) there of here found =
@@ -195,7 +200,8 @@ ring_word_or_none members rings words blob offset k j i n w ring c (Some x) ther
 ring_word_or_none members rings words blob offset k j i n w ring c None there of here found =
     λ x h. no_word ring c i n x here found (subst (λ l. IsWordOf l i n x) (one_ring w k j h.ring ring (ring_of blob offset k j i n x w there h) of) h.word)
 
-pub no_ring_coordinate : (blob : List ℕ) (offset k j i n : ℕ) (w : Item) (ring : List Coordinate) → Stands blob offset w → IsRingOf w k j ring → None ≡ slice_get ring i
+pub no_ring_coordinate : (blob : List ℕ) (offset k j i n : ℕ) (w : Item) (ring : List Coordinate) → Stands blob offset w → IsRingOf w k j ring
+    → None ≡ slice_get ring i
     → HasNoRingWordAt blob offset k j i n
 no_ring_coordinate blob offset k j i n w ring there of none =
     λ x h. no_word_there ring i n x none (subst (λ l. IsWordOf l i n x) (one_ring w k j h.ring ring (ring_of blob offset k j i n x w there h) of) h.word)
@@ -203,6 +209,7 @@ no_ring_coordinate blob offset k j i n w ring there of none =
 pub no_ring_there : (blob : List ℕ) (offset k j i n : ℕ) (w : Item) → Stands blob offset w → HasNoRing w k j → HasNoRingWordAt blob offset k j i n
 no_ring_there blob offset k j i n w there none = λ x h. none h.ring (ring_of blob offset k j i n x w there h)
 
-pub no_collection_there : (blob : List ℕ) (offset k j i n : ℕ) (e : WkbError) → IsMemory e ⊎ HasNoFront (drop offset blob) → IsMemory e ⊎ HasNoRingWordAt blob offset k j i n
+pub no_collection_there : (blob : List ℕ) (offset k j i n : ℕ) (e : WkbError) → IsMemory e ⊎ HasNoFront (drop offset blob)
+    → IsMemory e ⊎ HasNoRingWordAt blob offset k j i n
 no_collection_there blob offset k j i n e (inl memory) = inl memory
 no_collection_there blob offset k j i n e (inr none) = inr (λ x h. none h.whole.spelled h.whole.value h.front.rest h.front.front)

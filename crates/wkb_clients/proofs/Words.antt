@@ -1,17 +1,9 @@
 -- Words of a line string, found and missing.
-use Rattle.std.proofs.Common.{◌≡◌, ℕ, ◌+◌, ◌*◌, List, [], drop, Option, Some, None, ◌⊎◌, inl, inr, sym, ap, subst, ◌∙◌, arith}
-use Rattle.std.specs.Prelude.{slice_get, MatchOption}
+use Rattle.std.proofs.Common.{◌≡◌, ℕ, ◌+◌, ◌*◌, List, [], drop, Option, Some, None, ◌⊎◌, inl, inr, sym, ap, subst, ◌∙◌, arith, slice_get}
+use Rattle.std.specs.Prelude.{MatchOption}
 use Rattle.std.proofs.lemmas.List.{drop-drop}
-use Rattle.wkb_geom.specs.declared.common.Dimension.{Dimension}
-use Rattle.wkb_geom.specs.Numbers.{number}
-use Rattle.wkb_geom.specs.Dimensions.{width}
-use Rattle.wkb_geom.specs.Values.{Coordinate, Value, line_string, kind}
-use Rattle.wkb_geom.specs.declared.error.WkbError.{WkbError}
-use Rattle.wkb_geom.specs.Errors.{IsMemory}
-use Rattle.wkb_geom.specs.Spellings.{header, Spells}
-use Rattle.wkb_read.specs.Public.{HasNoFront}
-use Rattle.wkb_geom.specs.Reading.{Item}
-use Rattle.wkb_laws.specs.Places.{behind_count, IsWordOf, LineStringWordsStand}
+use Rattle.wkb_clients.specs.Common.{Dimension, number, width, Coordinate, Value, line_string, kind, WkbError, IsMemory, header, Spells, HasNoFront}
+use Rattle.wkb_clients.specs.Common.{Item, behind_count, IsWordOf, LineStringWordsStand}
 use Rattle.wkb_clients.specs.Words.{IsWordAt, HasNoWordAt}
 use Rattle.wkb_clients.proofs.Fronts.{Stands, one_value, no_word, no_word_there}
 
@@ -50,7 +42,8 @@ word_of blob offset i n x w d cs there is h =
 pub word_or_none : LineStringWordsStand → (blob : List ℕ) (offset i n : ℕ) (w : Item) (d : Dimension) (cs : List Coordinate) (c : Coordinate) (found : Option ℕ)
     → Stands blob offset w → w.value ≡ line_string d cs → Some c ≡ slice_get cs i → found ≡ slice_get c n
     → MatchOption found (HasNoWordAt blob offset i n) (λ x. IsWordAt blob offset i n x)
-word_or_none law blob offset i n w d cs c (Some x) there is here found = word_at law blob offset i n x w d cs there is (record { coordinate = c; coordinate_is = sym here; word_is = sym found })
+word_or_none law blob offset i n w d cs c (Some x) there is here found =
+    word_at law blob offset i n x w d cs there is (record { coordinate = c; coordinate_is = sym here; word_is = sym found })
 word_or_none law blob offset i n w d cs c None there is here found = λ x h. no_word cs c i n x here found (word_of blob offset i n x w d cs there is h)
 
 -- there is no such coordinate

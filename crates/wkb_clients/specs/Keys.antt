@@ -1,16 +1,11 @@
 -- Keys of geometries, and a store of them.
-use Rattle.std.specs.Prelude.{◌≡◌, ◌↔◌, ℕ, List, [], ◌∷◌, ◌++◌, Bool, MatchBool, Contains, Result, Ok, Err, None}
-use Rattle.wkb_geom.specs.declared.common.Endianness.TheVariants.{LittleEndian}
-use Rattle.wkb_geom.specs.declared.common.Dimension.TheVariants.{Xy}
-use Rattle.wkb_geom.specs.declared.common.Form.TheVariants.{Iso}
-use Rattle.wkb_geom.specs.Numbers.{AreBytes}
-use Rattle.wkb_geom.specs.Values.{Value, point}
-use Rattle.wkb_geom.specs.Spellings.{Spelling}
-use Rattle.wkb_geom.specs.Fronts.{Front, max_nesting}
+use Rattle.std.proofs.Common.{◌≡◌, ℕ, List, [], ◌∷◌, ◌++◌, Bool, Result, Ok, Err, None}
+use Rattle.std.specs.Prelude.{◌↔◌, MatchBool, Contains}
+use Rattle.wkb_clients.specs.Common.{LittleEndian, Xy, Iso, AreBytes, Value}
+use Rattle.wkb_clients.specs.Common.{point, Spelling, Front, max_nesting, Item, geometry_at}
 use Rattle.wkb_geom.specs.Geometries.{geometry_of}
 use Rattle.wkb_geom.specs.declared.error.Cause.{Cause}
 use Rattle.wkb_geom.specs.Texts.{text}
-use Rattle.wkb_geom.specs.Reading.{Item, geometry_at}
 
 -- the bytes that are written of a value, under one order and one form
 unfoldable pub key_of : Value → List ℕ

@@ -1,3 +1,4 @@
+pub mod Common
 pub mod Keys
 pub mod Members
 pub mod Rings

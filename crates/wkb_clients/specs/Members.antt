@@ -1,7 +1,6 @@
 -- The bytes of a member.
-use Rattle.std.specs.Prelude.{◌≡◌, ℕ, List}
-use Rattle.wkb_geom.specs.Reading.{Item}
-use Rattle.wkb_laws.specs.Places.{HoldsMember}
+use Rattle.std.proofs.Common.{◌≡◌, ℕ, List}
+use Rattle.wkb_clients.specs.Common.{Item, HoldsMember}
 
 -- a member of this number that has these bytes
 pub record IsHeld (whole : Item) (k : ℕ) (bytes : List ℕ) : Type 0 where

@@ -1,10 +1,6 @@
 -- A ring of a polygon in a collection, by its value.
-use Rattle.std.specs.Prelude.{◌≡◌, ℕ, List, Some, slice_get}
-use Rattle.wkb_geom.specs.declared.common.Dimension.{Dimension}
-use Rattle.wkb_geom.specs.Values.{Coordinate, Values, polygon, collection}
-use Rattle.wkb_geom.specs.Spellings.{Spelling}
-use Rattle.wkb_geom.specs.Reading.{Item}
-use Rattle.wkb_laws.specs.Places.{IsMember}
+use Rattle.std.proofs.Common.{◌≡◌, ℕ, List, Some, slice_get}
+use Rattle.wkb_clients.specs.Common.{Dimension, Coordinate, Values, polygon, collection, Spelling, Item, IsMember}
 
 -- the geometry is a collection, its member k a polygon, and these are the coordinates of its ring j
 pub record IsRingOf (whole : Item) (k j : ℕ) (ring : List Coordinate) : Type 0 where

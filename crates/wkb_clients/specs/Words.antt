@@ -1,13 +1,7 @@
 -- Words of geometries that stand in a blob, behind an offset.
-use Rattle.std.specs.Prelude.{◌≡◌, ℕ, ◌+◌, ◌*◌, List, drop}
-use Rattle.wkb_geom.specs.declared.common.Dimension.{Dimension}
-use Rattle.wkb_geom.specs.Numbers.{number}
-use Rattle.wkb_geom.specs.Dimensions.{width}
-use Rattle.wkb_geom.specs.Values.{Coordinate, Values, line_string, collection}
-use Rattle.wkb_geom.specs.Spellings.{header}
-use Rattle.wkb_geom.specs.Reading.{Item}
-use Rattle.wkb_laws.specs.Places.{behind_count, IsWordOf, HoldsMember, HoldsRing}
-use Rattle.wkb_read.specs.Public.{IsFront}
+use Rattle.std.proofs.Common.{◌≡◌, ℕ, ◌+◌, ◌*◌, List, drop}
+use Rattle.wkb_clients.specs.Common.{Dimension, number, width, Coordinate, Values, line_string, collection, header, Item}
+use Rattle.wkb_clients.specs.Common.{behind_count, IsWordOf, HoldsMember, HoldsRing, IsFront}
 
 -- Behind the offset stands a line string, and this is word n of its coordinate i: the number that stands, in the line
 -- string's order, so many words behind its count, which ends 9 bytes on, or 13 with an SRID.

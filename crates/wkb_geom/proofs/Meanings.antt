@@ -1,5 +1,6 @@
 -- What codes stand for: the number is taken apart flag by flag, and what is read is the one meaning.
-use Rattle.std.proofs.Common.{◌≡◌, ◌⊎◌, ℕ, zero, suc, ◌+◌, ◌-◌, ◌*◌, ◌/◌, ◌%◌, ◌<◌, ◌≤◌, Option, Some, None, Bool, true, false, refl, sym, ap, ◌∙◌, subst, arith, inl, inr}
+use Rattle.std.proofs.Common.{◌≡◌, ◌⊎◌, ℕ, zero, suc, ◌+◌, ◌-◌, ◌*◌, ◌/◌, ◌%◌, ◌<◌, ◌≤◌, Option, Some, None, Bool, true, false, refl, sym, ap, ◌∙◌, subst}
+use Rattle.std.proofs.Common.{arith, inl, inr}
 use Rattle.std.specs.Prelude.{nat_le, ◌&&◌, ◌||◌, if◌then◌else◌}
 use Rattle.std.proofs.lemmas.Bool.{ltb-true, leb-true, lt-ltb}
 use Rattle.std.proofs.lemmas.Bool.Decides.{leb_tells}
@@ -38,8 +39,9 @@ code_is c k d z m s a b n iso dz dm ea eb en h =
     let sum = h.2 in
     record { z = z; m = m; iso = iso; kind = record { low = low; high = high }; sum = omega arith; has_z = dz; has_m = dm }
 
-no_meaning : (c : ℕ) (z m s : Bool) (a b n : ℕ) → c ≡ flag z 0x80000000 + a → (z ≡ false → a < 0x80000000) → a ≡ flag m 0x40000000 + b → (m ≡ false → b < 0x40000000)
-    → b ≡ flag s 0x20000000 + n → (s ≡ false → n < 0x20000000) → ((d : Dimension) (k : ℕ) → IsIso n d k → ⊥) → HasNoMeaning c
+no_meaning : (c : ℕ) (z m s : Bool) (a b n : ℕ) → c ≡ flag z 0x80000000 + a → (z ≡ false → a < 0x80000000)
+    → a ≡ flag m 0x40000000 + b → (m ≡ false → b < 0x40000000) → b ≡ flag s 0x20000000 + n → (s ≡ false → n < 0x20000000)
+    → ((d : Dimension) (k : ℕ) → IsIso n d k → ⊥) → HasNoMeaning c
 no_meaning c z m s a b n ea la eb lb en ln none k d srid code =
     let most = thousands-most code.iso in
     let low = code.kind.low in
@@ -68,7 +70,8 @@ type_kind-type_of (suc (suc (suc (suc (suc (suc zero)))))) d low high = (refl, r
 type_kind-type_of (suc (suc (suc (suc (suc (suc (suc zero))))))) d low high = (refl, refl)
 type_kind-type_of (suc (suc (suc (suc (suc (suc (suc (suc k)))))))) d low high = absurd (omega arith)
 
-without_by : (c worth : ℕ) (b : Bool) → nat_le worth c ≡ b → (c ≡ flag b worth + (if b then c - worth else c)) × (b ≡ false → (if b then c - worth else c) < worth)
+without_by : (c worth : ℕ) (b : Bool) → nat_le worth c ≡ b
+    → (c ≡ flag b worth + (if b then c - worth else c)) × (b ≡ false → (if b then c - worth else c) < worth)
 without_by c worth true e = let h : worth ≤ c = leb-true worth c e in (omega arith, λ f. cc)
 without_by c worth false e = (omega arith, λ f. elim (leb_tells worth c) [ inl h ↦ absurd (clash (sym e ∙ h.0)) | inr h ↦ h.1 ])
   where
@@ -103,7 +106,8 @@ all_true : (a b c : Bool) → a ≡ true → b ≡ true → c ≡ true → (a &&
 all_true a b c e f g = rw (e, f, g) refl
 
 -- what a code stands for is what it is read as
-pub meaning_holds : (Q : Option Meaning → Type 0) (c : ℕ) → ((m : Meaning) → Code c (type_kind m.wkb_type) (type_dimension m.wkb_type) m.has_srid → Q (Some m)) → (HasNoMeaning c → Q None) → Q (meaning_of c)
+pub meaning_holds : (Q : Option Meaning → Type 0) (c : ℕ)
+    → ((m : Meaning) → Code c (type_kind m.wkb_type) (type_dimension m.wkb_type) m.has_srid → Q (Some m)) → (HasNoMeaning c → Q None) → Q (meaning_of c)
 unfolding meaning_of
 meaning_holds Q c some none =
     let z = nat_le z_flag c in

@@ -12,9 +12,11 @@ use Rattle.wkb_geom.specs.declared.code.WkbType.TheVariants as kinds
 use Rattle.wkb_geom.specs.Numbers.{is_nan, number_bytes, empty_word}
 use Rattle.wkb_geom.specs.Values as value
 use Rattle.wkb_geom.specs.Values.{Coordinate, Value}
-use Rattle.wkb_geom.specs.Geometries.{Geometry, Geometries, point, line_string, polygon, multi_point, multi_line_string, multi_polygon, collection, line, rectangle, triangle, no_geometries, geometry, normal}
+use Rattle.wkb_geom.specs.Geometries.{Geometry, Geometries, point, line_string, polygon, multi_point, multi_line_string, multi_polygon, collection, line}
+use Rattle.wkb_geom.specs.Geometries.{rectangle, triangle, no_geometries, geometry, normal}
 use Rattle.wkb_geom.specs.Sizes.{byte_size}
-use Rattle.wkb_geom.specs.Texts.{text, fault, refusal, unsupported_dimensions, count_overflow, code_of, srid_text, header_text, words_text, coordinates_text, point_words, point_text, line_string_text, polygon_text, members_text, or_else, dimensions_fault, count_fault}
+use Rattle.wkb_geom.specs.Texts.{text, fault, refusal, unsupported_dimensions, count_overflow, code_of, srid_text, header_text, words_text, coordinates_text}
+use Rattle.wkb_geom.specs.Texts.{point_words, point_text, line_string_text, polygon_text, members_text, or_else, dimensions_fault, count_fault}
 use Rattle.wkb_geom.specs.Reading.{Meaning, meaning_of}
 use Rattle.wkb_geom.proofs.Hex.{hex, copies}
 
@@ -60,6 +62,20 @@ abbrev together : List Geometry → Geometries
 together [] = no_geometries
 together (g ∷ gs) = geometry g (together gs)
 
+-- a point and a line string, and members of two dimensions
+abbrev one_dimension : Geometry
+one_dimension = collection asked.Xy (together (point asked.Xy (Some one_two) ∷ line_string asked.Xy (one_two ∷ []) ∷ []))
+
+abbrev two_dimensions : Geometry
+two_dimensions = collection asked.Xy (together (point asked.Xyz (Some one_two_three) ∷ polygon asked.Xy [] ∷ []))
+
+abbrev zero_word : List ℕ
+zero_word = hex "0000000000000000"
+
+-- the corners of a rectangle from 0 0 to 1 2, the first of them twice
+abbrev corners : List ℕ
+corners = copies 3 zero_word ++ hex "0000000000000040" ++ P ++ hex "000000000000f03f" ++ copies 3 zero_word
+
 -- under these options each geometry has this text
 texts : Endianness → Form → List (Geometry × List ℕ) → List (List ℕ)
 unfolding number_bytes code_of srid_text header_text words_text coordinates_text point_words point_text line_string_text polygon_text members_text
@@ -80,11 +96,11 @@ iso_texts : Texts LittleEndian Iso (
     ∷ (multi_point asked.Xy (Some one_two ∷ Some one_two ∷ []), hex "01 04000000 02000000" ++ copies 2 (hex "01 01000000" ++ P))
     ∷ (multi_line_string asked.Xy ((one_two ∷ []) ∷ (one_two ∷ []) ∷ []), hex "01 05000000 02000000" ++ copies 2 (hex "01 02000000 01000000" ++ P))
     ∷ (multi_polygon asked.Xy (((one_two ∷ []) ∷ []) ∷ []), hex "01 06000000 01000000 01 03000000 01000000 01000000" ++ P)
-    ∷ (collection asked.Xy (together (point asked.Xy (Some one_two) ∷ line_string asked.Xy (one_two ∷ []) ∷ [])), hex "01 07000000 02000000 01 01000000" ++ P ++ hex "01 02000000 01000000" ++ P)
-    ∷ (collection asked.Xy (together (point asked.Xyz (Some one_two_three) ∷ polygon asked.Xy [] ∷ [])), hex "01 07000000 02000000 01 e9030000" ++ P ++ hex "0000000000000840 01 03000000 00000000")
+    ∷ (one_dimension, hex "01 07000000 02000000 01 01000000" ++ P ++ hex "01 02000000 01000000" ++ P)
+    ∷ (two_dimensions, hex "01 07000000 02000000 01 e9030000" ++ P ++ hex "0000000000000840 01 03000000 00000000")
     ∷ (line asked.Xy one_two one_two, hex "01 02000000 02000000" ++ P ++ P)
     ∷ (triangle asked.Xy one_two one_two one_two, hex "01 03000000 01000000 04000000" ++ copies 4 P)
-    ∷ (rectangle asked.Xyzm (0 ∷ 0 ∷ 7 ∷ 7 ∷ []) (one_two ++ (7 ∷ 7 ∷ [])), hex "01 03000000 01000000 05000000 0000000000000000 0000000000000000 0000000000000000 0000000000000040 000000000000f03f 0000000000000040 000000000000f03f 0000000000000000 0000000000000000 0000000000000000")
+    ∷ (rectangle asked.Xyzm (0 ∷ 0 ∷ 7 ∷ 7 ∷ []) (one_two ++ (7 ∷ 7 ∷ [])), hex "01 03000000 01000000 05000000" ++ corners)
     ∷ [])
 unfolding texts
 iso_texts = refl
@@ -99,14 +115,14 @@ big_texts = refl
 -- Under EWKB without an SRID.
 ewkb_texts : Texts LittleEndian (Ewkb None) (
     (point asked.Xyz None, hex "01 01000080 000000000000f87f 000000000000f87f 000000000000f87f")
-    ∷ (collection asked.Xy (together (point asked.Xyz (Some one_two_three) ∷ polygon asked.Xy [] ∷ [])), hex "01 07000000 02000000 01 01000080" ++ P ++ hex "0000000000000840 01 03000000 00000000")
+    ∷ (two_dimensions, hex "01 07000000 02000000 01 01000080" ++ P ++ hex "0000000000000840 01 03000000 00000000")
     ∷ [])
 unfolding texts
 ewkb_texts = refl
 
 -- With an SRID, which stands on the outermost geometry alone.
 srid_texts : Texts LittleEndian (Ewkb (Some 4326)) (
-    (collection asked.Xy (together (point asked.Xyz (Some one_two_three) ∷ polygon asked.Xy [] ∷ [])), hex "01 07000020 e6100000 02000000 01 01000080" ++ P ++ hex "0000000000000840 01 03000000 00000000")
+    (two_dimensions, hex "01 07000020 e6100000 02000000 01 01000080" ++ P ++ hex "0000000000000840 01 03000000 00000000")
     ∷ (point asked.Xyz (Some one_two_three), hex "01 010000a0 e6100000" ++ P ++ hex "0000000000000840")
     ∷ [])
 unfolding texts
@@ -139,8 +155,10 @@ sizes : map byte_size (
 unfolding nested
 sizes = refl
 
-lengths : map length (texts LittleEndian (Ewkb (Some 4326)) ((rectangle asked.Xyzm corner corner, []) ∷ []) ++ texts LittleEndian (Ewkb None) ((rectangle asked.Xyzm corner corner, []) ∷ []) ++ texts LittleEndian Iso ((nested 129 (point asked.Xy None), []) ∷ []))
-    ≡ 97 ∷ 93 ∷ 1182 ∷ []
+lengths : map length (
+    texts LittleEndian (Ewkb (Some 4326)) ((rectangle asked.Xyzm corner corner, []) ∷ [])
+    ++ texts LittleEndian (Ewkb None) ((rectangle asked.Xyzm corner corner, []) ∷ [])
+    ++ texts LittleEndian Iso ((nested 129 (point asked.Xy None), []) ∷ [])) ≡ 97 ∷ 93 ∷ 1182 ∷ []
 unfolding texts nested
 lengths = refl
 

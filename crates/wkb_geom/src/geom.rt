@@ -338,7 +338,8 @@ pub trait GeometryTrait: Dimensioned + Sized {
             (λ m. multi_polygon (Self.MultiPolygonType.dimensions m) (Self.MultiPolygonType.polygons m))
             (λ gs. collection (Self.dimensions self.now) (geometries (map geometry gs)))
             (λ r. rectangle (Self.RectType.dimensions r) (Self.RectType.min_words r) (Self.RectType.max_words r))
-            (λ t. triangle (Self.TriangleType.dimensions t) (Self.TriangleType.first_words t) (Self.TriangleType.second_words t) (Self.TriangleType.third_words t))
+            (λ t. triangle (Self.TriangleType.dimensions t)
+            (Self.TriangleType.first_words t) (Self.TriangleType.second_words t) (Self.TriangleType.third_words t))
             (λ l. line (Self.LineType.dimensions l) (Self.LineType.start_words l) (Self.LineType.end_words l))
             result ≡ geometry self.now };
 

@@ -69,7 +69,32 @@ impl Layout {
     ghost use Rattle.std.specs.Prelude.{◌≡◌, ◌+◌, ◌<◌, ◌≤◌, IfOk, IfErr, length, drop};
     ghost use Rattle.wkb_geom.specs.Numbers.{number};
     ghost use Rattle.wkb_geom.specs.declared.error.Cause.TheVariants.{EndOfInput as end_of_input};
-    ghost use Rattle.wkb_geom.specs.Reading.{body_start, parts_start, srid_in};
+    ghost use Rattle.wkb_geom.specs.Reading.{body_start, member_layout, parts_start, srid_in};
+
+    /// The layout of the member of this kind and dimension at the front of the bytes, whose order and flag are its own.
+    ///
+    /// A member that is a point has no SRID. `IncorrectType` where another stands there.
+    #[inline]
+    pub fn of_member(kind: u32, dimension: Dimension, bytes: &[u8]) -> Result<Layout, Cause>
+        ensures { member_layout kind dimension bytes.now ≡ result }
+    {
+        let header = match Header::read(bytes) {
+            Ok(header) => header,
+            Err(cause) => return Err(cause),
+        };
+        let wkb_type = header.wkb_type;
+        let is_member = wkb_type.kind() == kind
+            && wkb_type.dimension().is(dimension)
+            && !(kind == 1 && header.has_srid);
+        if !is_member {
+            return Err(Cause::IncorrectType);
+        }
+        Ok(Layout {
+            order: header.order,
+            dimension,
+            has_srid: header.has_srid,
+        })
+    }
 
     /// How many bytes stand before the body: order, code, and the SRID where there is one.
     #[inline]

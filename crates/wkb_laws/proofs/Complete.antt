@@ -1,243 +1,587 @@
 -- Every front and every refusal is what reading from left to right answers.
-use Rattle.std.proofs.Common.{◌≡◌, ◌≢◌, ℕ, zero, suc, ◌+◌, ◌-◌, ◌<◌, ◌≤◌, List, ◌∷◌, ◌++◌, length, take, drop, Bool, refl, sym, ap, ◌∙◌, subst, append_assoc, arith, length-append}
-use Rattle.std.specs.Prelude.{Ok, Err, nat_lt, if◌then◌else◌}
-use Rattle.std.proofs.lemmas.Bool.{lt-ltb, le-ltb, cond-true, cond-false}
-use Rattle.std.proofs.lemmas.List.{drop-drop}
-use Rattle.wkb_geom.specs.declared.common.Endianness.{Endianness}
-use Rattle.wkb_geom.specs.declared.common.Dimension.{Dimension}
-use Rattle.wkb_geom.specs.declared.error.General.TheVariants.{ShortPoint, ShortLineString, ShortLinearRing, ShortMultiPoint}
-use Rattle.wkb_geom.specs.Numbers.{number}
-use Rattle.wkb_geom.specs.Grammar.{Begins}
-use Rattle.wkb_geom.specs.Values.{Coordinate, Value, kind, dimension, member_count, listed_count}
-use Rattle.wkb_geom.specs.Spellings.{Spelling, SpellsCoordinates, Part, any, member_part, IsPart, has_srid}
-use Rattle.wkb_geom.specs.Fronts.{FrontWithin}
-use Rattle.wkb_geom.specs.declared.error.Cause.{Cause}
-use Rattle.wkb_geom.specs.declared.error.Cause.TheVariants.{EndOfInput as end_of_input, General as general}
-use Rattle.wkb_geom.specs.Refusals.{srid_size, point_end, line_string_end, multi_point_end, ring_end, slots_asked, room_inside, Counts, RefusesRings, no_ring_count, short_ring, later_ring, Refuses, no_order_byte, bad_order_byte, no_code, bad_code, wrong_part, too_deep, short_point, no_count, short_line_string, short_multi_point, bad_ring, bad_member, RefusesEach, this_member, later_member}
+use Rattle.std.proofs.Common.{◌≡◌, ℕ, zero, suc, ◌<◌, ◌≤◌, List, [], ◌∷◌, length, Some, None, Ok, Err, Result, Bool, nat_lt, refl, sym, ap, ◌∙◌, arith, lt-ltb}
+use Rattle.std.proofs.Common.{le-ltb, ◌≢◌, ◌+◌, ◌-◌, ◌*◌, ◌++◌, take, drop, map, Option, true, false, is_some, ◌==◌, if◌then◌else◌, subst, append_assoc}
+use Rattle.std.proofs.Common.{append-nil, length-append, drop-drop, lit<, lit≤}
+use Rattle.std.proofs.lemmas.Bool.{cond-true, cond-false, false_from_ne_true}
+use Rattle.wkb_laws.specs.Words.{Endianness, BigEndian, LittleEndian, Dimension, Head, Layout, WkbType, Cause, end_of_input, general, incorrect_type}
+use Rattle.wkb_laws.specs.Words.{InvalidByteOrder, IsNumber, order_byte, Code, Begins, Part, any, part, IsPart, Opens, Reading, Item, type_kind, type_dimension}
+use Rattle.wkb_laws.specs.Words.{type_of, layout_of, laid, head_at, head_by_order, head_by_code, meaning, meaning_of, then_body, member_body, layout_wanted}
+use Rattle.wkb_laws.specs.Words.{body_at, collection_within, by_type, geometry_at, is_member, member_at, refused, ShortLinearRing, number, all_nan, width}
+use Rattle.wkb_laws.specs.Words.{IsEach, Coordinate, Value, point, line_string, polygon, multi_point, multi_line_string, multi_polygon, collection, Values}
+use Rattle.wkb_laws.specs.Words.{no_members, member, each, count, nest, nest_each, members, kind, dimension, member_count, member_count_each, listed_count}
+use Rattle.wkb_laws.specs.Words.{Header, Spelling, node, Spellings, no_spellings, spelling, IsSrid, SpellsCoordinate, SpellsCoordinates, Spells, SpellsEach}
+use Rattle.wkb_laws.specs.Words.{member_part, has_srid, FrontWithin, srid_size, point_end, line_string_end, multi_point_end, ring_end, slots_asked, room_inside}
+use Rattle.wkb_laws.specs.Words.{IsAllowed, Counts, Cost, free, body_start, parts_start, ◌⊕◌, with_count, ring_part, parts_body, coordinate, coordinates}
+use Rattle.wkb_laws.specs.Words.{ring_in, items, spellings, values, and_then, at_no_cost, collection_at, costs, done, line_string_of, line_string_at}
+use Rattle.wkb_laws.specs.Words.{line_string_body}
+use Rattle.wkb_laws.specs.Words.{line_string_item, list_item, multi_line_string_at, multi_point_at, multi_polygon_at, one_turn, point_at, point_item}
+use Rattle.wkb_laws.specs.Words.{point_item_of, point_of, polygon_at, polygon_item, polygon_of, repeated, ring_at, slots_of, spelled_in, srid_in, taken}
+use Rattle.wkb_laws.specs.Words.{RefusesRings, no_ring_count, short_ring, later_ring, Refuses, no_order_byte, bad_order_byte, no_code, bad_code, wrong_part}
+use Rattle.wkb_laws.specs.Words.{too_deep, short_point, no_count, short_line_string, short_multi_point, bad_ring, bad_member, RefusesEach, this_member}
+use Rattle.wkb_laws.specs.Words.{later_member}
+use Rattle.wkb_geom.specs.declared.code.WkbType.TheVariants as kinds
 use Rattle.wkb_geom.specs.Reading as reading
-use Rattle.wkb_geom.specs.declared.header.Header.{Header as Head}
-use Rattle.wkb_geom.specs.Reading.{type_kind, type_dimension, type_of, free, Reading, Item, then_head, head_at, meaning_of, body_start, body_at, with_count}
-use Rattle.wkb_laws.proofs.Parts.{begins_number, number-front, take_front, drop_front}
-use Rattle.wkb_laws.proofs.OneFront.{one_spelling}
-use Rattle.wkb_laws.proofs.Openings.{length-opens}
-use Rattle.wkb_laws.proofs.Lengths.{line_length}
-use Rattle.wkb_laws.proofs.ListKinds.{by_list_kind}
-use Rattle.wkb_laws.proofs.NeverBoth.{never_both_part}
-use Rattle.wkb_laws.proofs.Heads.{Says}
-use Rattle.wkb_laws.proofs.Leaves.{polygon_with}
-use Rattle.wkb_laws.proofs.Members.{members_with}
-use Rattle.wkb_laws.proofs.Sound.{points_at, lines_at, polygons_at, points_made, lines_made, polygons_made, collection_made}
-use Rattle.wkb_laws.proofs.Readers.{collections, Reads, any_reads, points_read, lines_read, polygons_read, meaning_missing, head_coded, head_none, head_misordered, head_cut, faulty, opened, unwanted}
+use Rattle.wkb_geom.proofs.Codes.{one_meaning}
+use Rattle.wkb_geom.proofs.Meanings.{meaning_holds, type_kind-type_of}
+use Rattle.wkb_laws.specs.Laws.{listed_inside}
+use Rattle.wkb_laws.proofs.Parts.{then_length, then_append, begins_number, number-front, take_front, drop_front, items_read, length-opens, header_length}
+use Rattle.wkb_laws.proofs.Parts.{srid_length}
+use Rattle.wkb_laws.proofs.Lists.{IsWanted, by_list_kind, whole_by, list_behind, count-each, each_same}
+use Rattle.wkb_laws.proofs.Sound.{passes, is_passed}
+use Rattle.wkb_laws.proofs.Lengths.{coordinate_length, line_length, each_size, each_spelled_length}
+use Rattle.wkb_laws.proofs.Bounds.{wanted_inside, each_long, coordinates_long}
+use Rattle.wkb_laws.proofs.Heads.{count_in}
+use Rattle.wkb_laws.proofs.Bodies.{asked_all, list_body, each_nine, list_turns, list_slots}
 
--- a count, as it is read
-record CountRead (input : List ℕ) (order : Endianness) (srid : Bool) (n : ℕ) (rest : List ℕ) : Type 0 where
-  pub long : body_start srid + 4 ≤ length input
-  pub many : number order 4 (drop (body_start srid) input) ≡ n
-  pub behind : reading.parts_start srid input ≡ rest
+type_of-type : (t : WkbType) → type_of (type_kind t) (type_dimension t) ≡ t
+type_of-type (kinds.Point d) = refl
+type_of-type _ = refl
 
-count_read : {room n : ℕ} {w : Part} {input rest : List ℕ} {order : Endianness} {k : ℕ} {d : Dimension} {srid : Bool} → Counts room w input order k d srid n rest → CountRead input order srid n rest
-count_read {n = n} {input = input} {rest = rest} {order = order} {srid = srid} c =
-    let o = c.opens in
-    let behind5 : drop 5 input ≡ c.srid_field ++ (c.count_field ++ rest) = ap (drop 5) o.whole ∙ (begins_number order 4 o.code o.behind _ o.number).2 in
-    let start : drop (body_start srid) input ≡ c.count_field ++ rest =
-    sym (drop-drop (srid_size srid) 5 input) ∙ ap (drop (srid_size srid)) behind5 ∙ drop_front (srid_size srid) c.srid_field (c.count_field ++ rest) c.srid_len in
-    let four = (c.number).len in
-    let size = c.srid_len in
-    record {
-      long = omega (arith, length-opens o, length-append c.srid_field (c.count_field ++ rest), length-append c.count_field rest);
-      many = ap (number order 4) start ∙ number-front order 4 n c.count_field rest c.number;
-      behind = ap (drop 4) start ∙ drop_front 4 c.count_field rest four;
-    }
+-- an opening, and each fault in front of a body, as they are read
+meaning_found : (c k : ℕ) (d : Dimension) (srid : Bool) → Code c k d srid → meaning_of c ≡ Some (meaning (type_of k d) srid)
+meaning_found c k d srid code =
+    meaning_holds (λ m. m ≡ Some (meaning (type_of k d) srid)) c
+    (λ m other. let one = one_meaning other code in
+    let type : m.wkb_type ≡ type_of k d = sym (type_of-type m.wkb_type) ∙ (λ i. type_of (one.kind i) (one.dimension i)) in
+    λ i. Some (meaning (type i) (one.srid i)))
+    (λ none. absurd (none k d srid code))
 
-counted : {n : ℕ} {input rest : List ℕ} {order : Endianness} {srid : Bool} (f : ℕ → Reading Item) → CountRead input order srid n rest → with_count order srid input f ≡ f n
-counted {input = input} {srid = srid} f c = cond-false (nat_lt (length input) (body_start srid + 4)) _ _ (le-ltb _ _ c.long) ∙ ap f c.many
+head_by_byte : (order : Endianness) (behind : List ℕ) → head_at (order_byte order ∷ behind) ≡ head_by_order (Some order) behind
+unfolding head_at
+head_by_byte BigEndian behind = refl
+head_by_byte LittleEndian behind = refl
 
-uncounted : (input : List ℕ) (order : Endianness) (srid : Bool) (f : ℕ → Reading Item) → length input < body_start srid + 4 → with_count order srid input f ≡ reading.refused end_of_input
-uncounted input order srid f short = cond-true (nat_lt (length input) (body_start srid + 4)) _ _ (lt-ltb _ _ short)
+head_coded : {input behind rest : List ℕ} {order : Endianness} {c : ℕ} → input ≡ order_byte order ∷ behind → Begins (IsNumber order 4 c) behind rest
+    → head_at input ≡ head_by_code order c (meaning_of c)
+head_coded {behind = behind} {rest = rest} {order = order} {c = c} e b =
+    let read = begins_number order 4 c behind rest b in
+    ap head_at e ∙ head_by_byte order behind ∙ cond-false (nat_lt (length behind) 4) _ _ (le-ltb (length behind) 4 read.0)
+    ∙ ap (λ z. head_by_code order z (meaning_of z)) read.1
+
+abbrev head_of : Endianness → ℕ → Dimension → Bool → Head
+head_of order k d srid = record { order = order; wkb_type = type_of k d; has_srid = srid }
+
+head_opened : {input rest : List ℕ} {order : Endianness} {k : ℕ} {d : Dimension} {srid : Bool} → Opens input order k d srid rest
+    → head_at input ≡ Ok (head_of order k d srid)
+head_opened {order = order} {k = k} {d = d} {srid = srid} o =
+    head_coded o.whole o.number ∙ ap (head_by_code order o.code) (meaning_found o.code k d srid o.meaning)
+
+head_misordered : (first : ℕ) (rest : List ℕ) → 1 < first → head_at (first ∷ rest) ≡ Err (general InvalidByteOrder)
+unfolding head_at
+head_misordered (suc (suc n)) rest h = refl
+head_misordered _ rest h = absurd (omega arith)
+
+head_cut : (first : ℕ) (rest : List ℕ) → first ≤ 1 → length rest < 4 → head_at (first ∷ rest) ≡ Err end_of_input
+unfolding head_at
+head_cut zero rest h short = cond-true (nat_lt (length rest) 4) _ _ (lt-ltb (length rest) 4 short)
+head_cut (suc zero) rest h short = cond-true (nat_lt (length rest) 4) _ _ (lt-ltb (length rest) 4 short)
+head_cut (suc (suc n)) rest h short = absurd (omega arith)
+
+-- the reader of a part, where so many collections more may be opened
+abbrev reader : ℕ → Part → List ℕ → Reading Item
+reader room any = geometry_at room
+reader room (part k d) = member_at k d
+
+-- what it answers by a head
+abbrev read_by : ℕ → Part → List ℕ → Result Head Cause → Reading Item
+read_by room any input r = then_body r (λ h. body_at (collection_within room) h.wkb_type (layout_of h) input)
+read_by room (part k d) input r = then_body (layout_wanted k d r) (λ l. member_body k l input)
+
+reader_by : (room : ℕ) (w : Part) (input : List ℕ) → reader room w input ≡ read_by room w input (head_at input)
+unfolding geometry_at by_type
+reader_by zero any input = refl
+reader_by (suc room) any input = refl
+reader_by room (part k d) input = refl
+
+faulty : (room : ℕ) (w : Part) (input : List ℕ) (cause : Cause) → head_at input ≡ Err cause → reader room w input ≡ refused cause
+faulty room any input cause e = reader_by room any input ∙ ap (read_by room any input) e
+faulty room (part k d) input cause e = ap (read_by room (part k d) input) e
+
+member_body_is : (deeper : Layout → List ℕ → Reading Item) (k : ℕ) (d : Dimension) (l : Layout) (input : List ℕ) → 1 ≤ k → k ≤ 3
+    → member_body k l input ≡ body_at deeper (type_of k d) l input
+member_body_is deeper (suc zero) d l input low few = refl
+member_body_is deeper (suc (suc zero)) d l input low few = refl
+member_body_is deeper (suc (suc (suc zero))) d l input low few = refl
+member_body_is deeper _ d l input low few = absurd (omega arith)
+
+module _ {input rest : List ℕ} {order : Endianness} {k : ℕ} {d : Dimension} {srid : Bool} (o : Opens input order k d srid rest) where
+  same_type : (type_kind (type_of k d) ≡ k) × (type_dimension (type_of k d) ≡ d)
+  same_type = type_kind-type_of k d o.meaning.kind.low o.meaning.kind.high
+
+  opened : (room : ℕ) (w : Part) → IsWanted w → IsPart w k d srid
+      → reader room w input ≡ body_at (collection_within room) (type_of k d) (laid order d srid) input
+  opened room any good p =
+      reader_by room any input ∙ ap (read_by room any input) (head_opened o)
+      ∙ ap (λ z. body_at (collection_within room) (type_of k d) (laid order z srid) input) same_type.1
+  opened room (part l e) good p =
+      let wanted = is_passed l e (head_of order k d srid) (same_type.0 ∙ p.0, same_type.1 ∙ p.1, p.2) in
+      let few : k ≤ 3 = omega (arith, p.0) in
+      ap (read_by room (part l e) input) (head_opened o)
+      ∙ ap (λ z. then_body z (λ m. member_body l m input)) (cond-true (is_member l e (head_of order k d srid)) _ _ wanted)
+      ∙ (λ i. member_body (sym p.0 i) (laid order (sym p.1 i) srid) input)
+      ∙ member_body_is (collection_within room) k d (laid order d srid) input o.meaning.kind.low few
+
+  unwanted : (room : ℕ) (w : Part) → (IsPart w k d srid → ⊥) → reader room w input ≡ refused incorrect_type
+  unwanted room any n = absurd (n tt)
+  unwanted room (part l e) n =
+      let not = false_from_ne_true _ (λ t. let p = passes l e (head_of order k d srid) t in n (sym same_type.0 ∙ p.0, sym same_type.1 ∙ p.1, p.2)) in
+      ap (read_by room (part l e) input) (head_opened o)
+      ∙ ap (λ z. then_body z (λ m. member_body l m input)) (cond-false (is_member l e (head_of order k d srid)) _ _ not)
+
+-- what stands behind the count of a body, by the kind
+abbrev behind_of : ℕ → ℕ → Layout → List ℕ → ℕ → Reading Item
+behind_of room k l input =
+    if k == 2 then (λ n. at_no_cost (line_string_body l input n)) else if k == 3 then parts_body 3 l (ring_part l) (polygon_item l) input
+    else list_behind k l (reader (room_inside k room) (member_part k l.dimension)) input
 
 -- every body but a point's has a count
-has_count : (room k : ℕ) (d : Dimension) (order : Endianness) (srid : Bool) (input : List ℕ) → 1 ≤ k → k ≤ 7 → k ≢ 1 → (k ≡ 7 → 0 < room)
-    → (f : ℕ → Reading Item) × (body_at (collections room) (type_of k d) order srid input ≡ with_count order srid input f)
-unfolding reading.line_string_at reading.polygon_at reading.multi_point_at reading.multi_line_string_at reading.multi_polygon_at reading.collection_at
-has_count room zero d order srid input low high n some = absurd (omega arith)
-has_count room (suc zero) d order srid input low high n some = absurd (n refl)
-has_count room (suc (suc zero)) d order srid input low high n some = (λ c. reading.at_no_cost (reading.line_string_body order d srid input c), refl)
-has_count room (suc (suc (suc zero))) d order srid input low high n some = (reading.polygon_body order d srid input, refl)
-has_count room (suc (suc (suc (suc zero)))) d order srid input low high n some = (reading.multi_point_body order d srid input, refl)
-has_count room (suc (suc (suc (suc (suc zero))))) d order srid input low high n some = (reading.members_body order srid 5 (lines_at d) (lines_made d) input, refl)
-has_count room (suc (suc (suc (suc (suc (suc zero)))))) d order srid input low high n some = (reading.members_body order srid 6 (polygons_at d) (polygons_made d) input, refl)
-has_count zero (suc (suc (suc (suc (suc (suc (suc zero))))))) d order srid input low high n some = let more = some refl in absurd (omega arith)
-has_count (suc room) (suc (suc (suc (suc (suc (suc (suc zero))))))) d order srid input low high n some = (reading.members_body order srid 7 (reading.geometry_at room) (collection_made d) input, refl)
-has_count room (suc (suc (suc (suc (suc (suc (suc (suc k)))))))) d order srid input low high n some = absurd (omega arith)
+body_counted : (room k : ℕ) (l : Layout) (input : List ℕ) → 1 ≤ k → k ≤ 7 → k ≢ 1 → (k ≡ 7 → 0 < room)
+    → body_at (collection_within room) (type_of k l.dimension) l input ≡ with_count l input (behind_of room k l input)
+unfolding line_string_at polygon_at multi_point_at multi_line_string_at multi_polygon_at collection_at
+body_counted room (suc zero) l input low high n some = absurd (n refl)
+body_counted room (suc (suc zero)) l input low high n some = refl
+body_counted room (suc (suc (suc zero))) l input low high n some = refl
+body_counted room (suc (suc (suc (suc zero)))) l input low high n some = refl
+body_counted room (suc (suc (suc (suc (suc zero))))) l input low high n some = refl
+body_counted room (suc (suc (suc (suc (suc (suc zero)))))) l input low high n some = refl
+body_counted zero (suc (suc (suc (suc (suc (suc (suc zero))))))) l input low high n some = let more = some refl in absurd (omega arith)
+body_counted (suc room) (suc (suc (suc (suc (suc (suc (suc zero))))))) l input low high n some =
+    let inside : room ≡ suc room - 1 = omega arith in
+    ap (λ z. with_count l input (list_behind 7 l (reader z any) input)) inside
+body_counted room _ l input low high n some = absurd (omega arith)
 
--- a list of members, as it is read behind its count
-record ListRead (room k : ℕ) (d : Dimension) (order : Endianness) (srid : Bool) (input : List ℕ) (n : ℕ) : Type 0 where
-  pub part_at : List ℕ → Reading Item
-  pub reads : Reads (room_inside k room) (member_part k d) part_at
-  pub made : List Item → Value
-  pub body : body_at (collections room) (type_of k d) order srid input ≡ reading.members_body order srid k part_at made input n
+-- a count, as it is read
+pub record CountRead (input : List ℕ) (l : Layout) (n : ℕ) (rest : List ℕ) : Type 0 where
+  pub long : body_start l.has_srid + 4 ≤ length input
+  pub many : count_in l input ≡ n
+  pub behind : parts_start l.has_srid input ≡ rest
 
-list_read : {room n : ℕ} {w : Part} {input rest : List ℕ} {order : Endianness} {k : ℕ} {d : Dimension} {srid : Bool} → Counts room w input order k d srid n rest → 3 < k
-    → (k ≡ 4 → multi_point_end d srid n ≤ length input) → ListRead room k d order srid input n
-unfolding reading.multi_point_at reading.multi_line_string_at reading.multi_polygon_at reading.collection_at
-list_read {room} {n} {w} {input} {rest} {order} {k} {d} {srid} c low long =
-    by_list_kind (λ k. (k ≡ 4 → multi_point_end d srid n ≤ length input) → (k ≡ 7 → 0 < room) → ListRead room k d order srid input n)
-    (λ fits some. record {
-      part_at = points_at d;
-      reads = points_read room d;
-      made = points_made d;
-      body = counted (reading.multi_point_body order d srid input) read ∙ cond-false (nat_lt (length input) (multi_point_end d srid n)) _ _ (le-ltb _ _ (fits refl));
-    })
-    (λ fits some. record { part_at = lines_at d; reads = lines_read room d; made = lines_made d; body = counted (reading.members_body order srid 5 (lines_at d) (lines_made d) input) read })
-    (λ fits some. record { part_at = polygons_at d; reads = polygons_read room d; made = polygons_made d; body = counted (reading.members_body order srid 6 (polygons_at d) (polygons_made d) input) read })
-    (λ fits some. inside room (some refl))
-    k low c.opens.meaning.kind.high long c.allowed.shallow
-  where
-    read : CountRead input order srid n rest
-    read = count_read c
+module _ {room n : ℕ} {w : Part} {input rest : List ℕ} {order : Endianness} {k : ℕ} {d : Dimension} {srid : Bool}
+    (c : Counts room w input order k d srid n rest) where
+  count_read : CountRead input (laid order d srid) n rest
+  count_read =
+      let o = c.opens in
+      let size = srid_size srid in
+      let behind5 : drop 5 input ≡ c.srid_field ++ (c.count_field ++ rest) = ap (drop 5) o.whole ∙ (begins_number order 4 o.code o.behind _ o.number).2 in
+      let start : drop (body_start srid) input ≡ c.count_field ++ rest =
+      sym (drop-drop size 5 input) ∙ ap (drop size) behind5 ∙ drop_front size c.srid_field (c.count_field ++ rest) c.srid_len in
+      let four = (c.number).len in
+      record {
+        long = omega (arith, length-opens o, length-append c.srid_field (c.count_field ++ rest), length-append c.count_field rest);
+        many = ap (number order 4) start ∙ number-front order 4 n c.count_field rest c.number;
+        behind = ap (drop 4) start ∙ drop_front 4 c.count_field rest four;
+      }
 
-    inside : (room : ℕ) → 0 < room → ListRead room 7 d order srid input n
-    inside zero some = absurd (omega arith)
-    inside (suc room) some =
-        let less : room ≡ suc room - 1 = omega arith in
+  -- what a reader of such parts answers is what stands behind the count
+  counted : IsWanted w → k ≢ 1 → reader room w input ≡ behind_of room k (laid order d srid) input n
+  counted good not1 =
+      opened c.opens room w good c.allowed.wanted
+      ∙ body_counted room k (laid order d srid) input c.opens.meaning.kind.low c.opens.meaning.kind.high not1 c.allowed.shallow
+      ∙ cond-false (nat_lt (length input) (body_start srid + 4)) _ _ (le-ltb _ _ count_read.long)
+      ∙ ap (behind_of room k (laid order d srid) input) count_read.many
+
+-- a list of members, where a multi point is long enough
+list_counted : (room k : ℕ) (l : Layout) (input : List ℕ) (n : ℕ) → 3 < k → k ≤ 7 → (k ≡ 4 → multi_point_end l.dimension l.has_srid n ≤ length input)
+    → behind_of room k l input n ≡ parts_body k l (reader (room_inside k room) (member_part k l.dimension)) (list_item l (whole_by k)) input n
+list_counted room k l input n low high long =
+    by_list_kind (λ k. (k ≡ 4 → multi_point_end l.dimension l.has_srid n ≤ length input)
+    → behind_of room k l input n ≡ parts_body k l (reader (room_inside k room) (member_part k l.dimension)) (list_item l (whole_by k)) input n)
+    (λ fits. cond-false (nat_lt (length input) (multi_point_end l.dimension l.has_srid n)) _ _ (le-ltb _ _ (fits refl)))
+    (λ fits. refl) (λ fits. refl) (λ fits. refl) k low high long
+
+-- what is answered of so many parts, by what the parts are read as
+parts_read : {A : Type 0} (k : ℕ) (l : Layout) (part_at : List ℕ → Reading A) (whole : List A → List ℕ → Item) (input rest : List ℕ) (n : ℕ)
+    (r : Reading (List A)) → parts_start l.has_srid input ≡ rest → repeated n part_at rest ≡ r → parts_body k l part_at whole input n
+    ≡ costs (slots_of (slots_asked k n (length rest))) (and_then r (λ parts after. done (whole parts (taken input after)) after))
+parts_read k l part_at whole input rest n r e same =
+    ap (λ z. costs (slots_of (slots_asked k n (length z)))
+    (and_then (repeated n part_at z) (λ parts after. done (whole parts (taken input after)) after))) e
+    ∙ ap (λ z. costs (slots_of (slots_asked k n (length rest))) (and_then z (λ parts after. done (whole parts (taken input after)) after))) same
+
+taken_front : (x rest : List ℕ) → taken (x ++ rest) rest ≡ x
+taken_front x rest =
+    let n : length (x ++ rest) - length rest ≡ length x = omega (arith, length-append x rest) in
+    ap (λ z. take z (x ++ rest)) n ∙ take_front (length x) x rest refl
+
+-- ---- words, coordinates and rings, as they are read at the front of what they stand in
+
+coordinate_read : (order : Endianness) (d : Dimension) (c : Coordinate) (x y : List ℕ) → SpellsCoordinate order d c x → coordinate order d (x ++ y) ≡ c
+coordinate_read order d c x y h =
+    ap (λ n. items 8 (number order 8) n (x ++ y)) (sym h.len)
+    ∙ items_read (IsNumber order 8) 8 (number order 8) (λ v x y is. (is.len, number-front order 8 v x y is)) c x y h.words
+
+pub record RingRead (order : Endianness) (d : Dimension) (cs : List Coordinate) (x y : List ℕ) : Type 0 where
+  pub many : number order 4 (x ++ y) ≡ length cs
+  pub is : ring_in order d (x ++ y) ≡ cs
+
+pub ring_read : (order : Endianness) (d : Dimension) (cs : List Coordinate) (x y : List ℕ) → SpellsCoordinates order d cs x → RingRead order d cs x y
+ring_read order d cs x y h =
+    let shape : x ++ y ≡ h.front ++ (h.rest ++ y) = then_append h y in
+    let many : number order 4 (x ++ y) ≡ length cs = ap (number order 4) shape ∙ number-front order 4 (length cs) h.front (h.rest ++ y) h.first in
+    let behind : drop 4 (x ++ y) ≡ h.rest ++ y = ap (drop 4) shape ∙ drop_front 4 h.front (h.rest ++ y) h.first.len in
+    let read = items_read (SpellsCoordinate order d) (8 * width d) (coordinate order d)
+    (λ c x y is. (coordinate_length order d c x is, coordinate_read order d c x y is)) cs h.rest y h.second in
+    record { many = many; is = (λ i. coordinates order d (many i) (behind i)) ∙ read }
+
+-- a ring that stands in front is read as its text
+ring_found : (order : Endianness) (d : Dimension) (ring : List Coordinate) (x rest : List ℕ) → SpellsCoordinates order d ring x
+    → ring_at order d (x ++ rest) ≡ Ok (x, rest)
+unfolding ring_at
+ring_found order d ring x rest h =
+    let end = ring_end d (length ring) in
+    let read = ring_read order d ring x rest h in
+    let len : length (x ++ rest) ≡ length x + length rest = length-append x rest in
+    let long : length x ≡ end = line_length order d ring x h in
+    let input = x ++ rest in
+    cond-false (nat_lt (length input) 4) _ _ (le-ltb (length input) 4 (omega arith))
+    ∙ ap (λ z. if nat_lt (length input) (ring_end d z) then Err (general (ShortLinearRing (ring_end d z) (length input)))
+    else Ok (take (ring_end d z) input, drop (ring_end d z) input)) read.many
+    ∙ cond-false (nat_lt (length input) end) _ _ (le-ltb (length input) end (omega arith))
+    ∙ (λ i. Ok (take_front end x rest long i, drop_front end x rest long i))
+
+-- what several parts are read as, with the parts
+record RingsFound (l : Layout) (rings : List (List Coordinate)) (input rest : List ℕ) : Type 0 where
+  pub texts : List (List ℕ)
+  pub read : repeated (length rings) (ring_part l) input ≡ (record { turns = length rings; slots = 0 }, Ok (texts, rest))
+  pub are : map (ring_in l.order l.dimension) texts ≡ rings
+
+-- so many parts, where the first is refused, and where it is read
+module _ {A : Type 0} (part_at : List ℕ → Reading A) (n : ℕ) (input : List ℕ) where
+  next_part : Reading A → Reading (List A)
+  next_part r = costs one_turn (and_then r (λ x rest. and_then (repeated n part_at rest) (λ xs after. done (x ∷ xs) after)))
+
+  part_refused : (c : Cost) (cause : Cause) → part_at input ≡ (c, Err cause) → repeated (suc n) part_at input ≡ (one_turn ⊕ c, Err cause)
+  unfolding repeated next_part
+  part_refused c cause e = ap next_part e
+
+  then_parts : (rest : List ℕ) (x : A) (c : Cost) (r : Reading (List A)) → part_at input ≡ (c, Ok (x, rest)) → repeated n part_at rest ≡ r
+      → repeated (suc n) part_at input ≡ costs one_turn (costs c (and_then r (λ xs after. done (x ∷ xs) after)))
+  unfolding repeated next_part
+  then_parts rest x c r first others = ap next_part first ∙ ap (λ z. costs one_turn (costs c (and_then z (λ xs after. done (x ∷ xs) after)))) others
+
+-- the same answer at equal costs
+at_cost : {A : Type 0} {r : reading.Part A} {a b c d : ℕ} → a ≡ c → b ≡ d
+    → ◌≡◌ {A = Reading A} (record { turns = a; slots = b }, r) (record { turns = c; slots = d }, r)
+at_cost {r = r} e f = λ i. (record { turns = e i; slots = f i }, r)
+
+rings_found : (l : Layout) (rings : List (List Coordinate)) (x rest : List ℕ) → IsEach (SpellsCoordinates l.order l.dimension) rings x
+    → RingsFound l rings (x ++ rest) rest
+unfolding repeated
+rings_found l [] x rest h = record { texts = []; read = ap (λ z. done [] (z ++ rest)) h; are = refl }
+rings_found l (ring ∷ rings) x rest h =
+    let others = rings_found l rings h.rest rest h.second in
+    let shape : x ++ rest ≡ h.front ++ (h.rest ++ rest) = then_append h rest in
+    let found = ring_found l.order l.dimension ring h.front (h.rest ++ rest) h.first in
+    let head : ring_in l.order l.dimension h.front ≡ ring =
+    ap (ring_in l.order l.dimension) (sym (append-nil h.front)) ∙ (ring_read l.order l.dimension ring h.front [] h.first).is in
+    record {
+      texts = h.front ∷ others.texts;
+      read = then_parts (ring_part l) (length rings) (x ++ rest) (h.rest ++ rest) h.front free _ (ap (ring_part l) shape ∙ ap at_no_cost found) others.read
+          ∙ at_cost (omega arith) refl;
+      are = λ i. head i ∷ others.are i;
+    }
+
+-- ---- the text of a geometry, as its parts are read
+
+srid_read : (order : Endianness) (srid : Option ℕ) (field x y : List ℕ) → IsSrid order srid field → drop 5 x ≡ field ++ y
+    → srid_in order (is_some srid) x ≡ srid
+srid_read order None field x y is e = refl
+srid_read order (Some v) field x y is e = ap Some (ap (number order 4) e ∙ number-front order 4 v field y is)
+
+-- what has no members has no spellings of any, and no bytes
+alone : (w : Part) (ss : Spellings) (m : List ℕ) → SpellsEach w ss no_members m → (no_spellings ≡ ss) × (m ≡ [])
+alone w no_spellings m h = (refl, h)
+alone w (spelling s ss) m h = absurd h
+
+points_long : (t : Value) → kind t ≡ 4 → each_size (members t) ≡ (5 + 8 * width (dimension t)) * count (members t)
+points_long (multi_point d l) e =
+    each_same (point d) each_size refl (5 + 8 * width d) (λ a ts. refl) l ∙ ap (λ n. (5 + 8 * width d) * n) (sym (count-each (point d) l))
+points_long _ e = absurd (omega (arith, e))
+
+-- how deep a geometry's members are nested
+nest_inside : (t : Value) (room : ℕ) → nest t ≤ room → nest_each (members t) ≤ room_inside (kind t) room
+nest_inside (multi_point d l) room h = omega (arith, each_same (point d) nest_each refl 0 (λ a ts. omega arith) l)
+nest_inside (multi_line_string d l) room h = omega (arith, each_same (line_string d) nest_each refl 0 (λ a ts. omega arith) l)
+nest_inside (multi_polygon d l) room h = omega (arith, each_same (polygon d) nest_each refl 0 (λ a ts. omega arith) l)
+nest_inside _ room h = omega arith
+
+nest_collection : (t : Value) → kind t ≡ 7 → 0 < nest t
+nest_collection (collection d ts) e = omega arith
+nest_collection _ e = absurd (omega (arith, e))
+
+-- the items of members make the geometry again
+held : {A : Type 0} (f : A → Value) (g : Value → A) → ((a : A) → g (f a) ≡ a) → (found : List Item) (l : List A) → values found ≡ each f l
+    → map (λ i. g i.value) found ≡ l
+held f g back [] [] e = refl
+held f g back (i ∷ found) (a ∷ l) e =
+    let first : i.value ≡ f a = cc in
+    let others : values found ≡ each f l = cc in
+    λ j. (ap g first ∙ back a) j ∷ held f g back found l others j
+held f g back _ _ e = cc
+
+whole_is : (t : Value) (found : List Item) → 3 < kind t → values found ≡ members t → whole_by (kind t) (dimension t) found ≡ t
+whole_is (multi_point d l) found low e = ap (multi_point d) (held (point d) point_of (λ a. refl) found l e)
+whole_is (multi_line_string d l) found low e = ap (multi_line_string d) (held (line_string d) line_string_of (λ a. refl) found l e)
+whole_is (multi_polygon d l) found low e = ap (multi_polygon d) (held (polygon d) polygon_of (λ a. refl) found l e)
+whole_is (collection d ts) found low e = ap (collection d) e
+whole_is _ found low e = absurd (omega arith)
+
+-- a geometry as it is answered
+abbrev pub found : Spelling → Value → List ℕ → List ℕ → Reading Item
+found s t x rest = (record { turns = member_count t; slots = listed_count t }, Ok (record { text = x; spelled = s; value = t }, rest))
+
+-- what several members are read as, with the items
+record MembersFound (part_at : List ℕ → Reading Item) (ss : Spellings) (ts : Values) (input rest : List ℕ) : Type 0 where
+  pub items : List Item
+  pub read : repeated (count ts) part_at input ≡ (record { turns = member_count_each ts; slots = listed_inside ts }, Ok (items, rest))
+  pub same_spellings : spellings items ≡ ss
+  pub same_values : values items ≡ ts
+
+module _ (h : Header) (own : List ℕ) (ss : Spellings) (t : Value) (x : List ℕ) (a : Spells (node h own ss) t x) where
+  body_cut : drop (body_start (is_some h.srid)) x ≡ a.second.front ++ a.second.rest
+  body_cut =
+      ap (drop (body_start (is_some h.srid))) a.whole
+      ∙ drop_front (body_start (is_some h.srid)) a.front a.rest (header_length h (kind t) (dimension t) a.front a.first) ∙ a.second.whole
+
+  text_length : length x ≡ body_start (is_some h.srid) + (length a.second.front + length a.second.rest)
+  text_length = omega (arith, then_length a, header_length h (kind t) (dimension t) a.front a.first, then_length a.second)
+
+  head_whole : x ≡ order_byte h.order ∷ (a.first.code_field ++ (a.first.srid_field ++ a.rest))
+  head_whole =
+      a.whole ∙ ap (λ z. z ++ a.rest) a.first.whole ∙ ap (λ z. order_byte h.order ∷ z) (append_assoc a.first.code_field a.first.srid_field a.rest)
+
+  opens : (rest : List ℕ) → Opens (x ++ rest) h.order (kind t) (dimension t) (is_some h.srid) (a.first.srid_field ++ (a.rest ++ rest))
+  opens rest =
+      let is = a.first in
+      let behind = append_assoc is.code_field (is.srid_field ++ a.rest) rest ∙ ap (λ z. is.code_field ++ z) (append_assoc is.srid_field a.rest rest) in
+      record {
+        code = h.code;
+        behind = is.code_field ++ (is.srid_field ++ (a.rest ++ rest));
+        whole = ap (λ z. z ++ rest) head_whole ∙ ap (λ z. order_byte h.order ∷ z) behind;
+        number = record { front = is.code_field; whole = refl; first = is.code };
+        meaning = is.meaning;
+      }
+
+  spelling_read : (words : List ℕ) (others : Spellings) → words ≡ own → others ≡ ss
+      → spelled_in (laid h.order (dimension t) (is_some h.srid)) x words others ≡ node h own ss
+  spelling_read words others same_words same_others =
+      let is = a.first in
+      let whole = head_whole in
+      let code : number h.order 4 (drop 1 x) ≡ h.code =
+      ap (λ z. number h.order 4 (drop 1 z)) whole ∙ number-front h.order 4 h.code is.code_field (is.srid_field ++ a.rest) is.code in
+      let behind : drop 5 x ≡ is.srid_field ++ a.rest =
+      ap (drop 5) whole ∙ drop_front 5 (order_byte h.order ∷ is.code_field) (is.srid_field ++ a.rest) (omega arith) in
+      let srid = srid_read h.order h.srid is.srid_field x a.rest is.srid behind in
+      λ i. node (record { order = h.order; code = code i; srid = srid i }) (same_words i) (same_others i)
+
+  module _ (room : ℕ) (w : Part) (good : IsWanted w) (rest : List ℕ) (shallow : nest t ≤ room) (p : IsPart w (kind t) (dimension t) (is_some h.srid)) where
+    is_allowed : IsAllowed room w (kind t) (dimension t) (is_some h.srid)
+    is_allowed = record { wanted = p; shallow = λ e. let deep = nest_collection t e in omega arith }
+
+    front_counts : (n : ℕ) (field behind : List ℕ) → a.second.front ≡ field ++ behind → IsNumber h.order 4 n field
+        → Counts room w (x ++ rest) h.order (kind t) (dimension t) (is_some h.srid) n (behind ++ (a.second.rest ++ rest))
+    front_counts n field behind e number =
+        let more = a.second.rest ++ rest in
+        let shape = then_append a.second rest ∙ ap (λ z. z ++ more) e ∙ append_assoc field behind more in
         record {
-          part_at = reading.geometry_at room;
-          reads = subst (λ z. Reads z any (reading.geometry_at room)) less (any_reads room);
-          made = collection_made d;
-          body = counted (reading.members_body order srid 7 (reading.geometry_at room) (collection_made d) input) read;
+          srid_field = a.first.srid_field;
+          count_field = field;
+          opens = subst (λ z. Opens (x ++ rest) h.order (kind t) (dimension t) (is_some h.srid) (a.first.srid_field ++ z)) shape (opens rest);
+          allowed = is_allowed;
+          srid_len = srid_length h.order h.srid a.first.srid_field a.first.srid;
+          number = number;
         }
+
+    list_found : 3 < kind t → MembersFound (reader (room_inside (kind t) room) (member_part (kind t) (dimension t))) ss (members t) (a.second.rest ++ rest) rest
+        → reader room w (x ++ rest) ≡ found (node h own ss) t x rest
+    list_found low f =
+        let k = kind t in
+        let n = count (members t) in
+        let behind = a.second.rest ++ rest in
+        let l = laid h.order (dimension t) (is_some h.srid) in
+        let body = subst (λ T. T) (list_body h.order own t a.second.front low) a.second.first in
+        let c = front_counts n a.second.front [] (sym (append-nil a.second.front)) body.1 in
+        let inside = each_spelled_length (member_part k (dimension t)) ss (members t) a.second.rest a.second.second in
+        let enough : k ≡ 4 → multi_point_end l.dimension l.has_srid n ≤ length (x ++ rest) =
+        λ four. omega (arith, length-append x rest, points_long t four, body.1.len, text_length) in
+        let nine = each_nine (member_part k (dimension t)) ss (members t) a.second.rest a.second.second in
+        let slots = list_slots t (length behind) low (omega (arith, length-append a.second.rest rest)) in
+        let turns = list_turns t low in
+        let spelled = spelling_read [] (spellings f.items) (sym body.0) f.same_spellings in
+        let cost : Cost = record { turns = member_count t; slots = listed_count t } in
+        let value = whole_is t f.items low f.same_values in
+        counted c good (λ one. omega arith) ∙ list_counted room k l (x ++ rest) n low c.opens.meaning.kind.high enough
+        ∙ parts_read k l (reader (room_inside k room) (member_part k l.dimension)) (list_item l (whole_by k)) (x ++ rest) behind n _
+        (count_read c).behind f.read
+        ∙ at_cost (omega arith) (omega arith)
+        ∙ (λ i. (cost, Ok (list_item l (whole_by k) f.items (taken_front x rest i), rest)))
+        ∙ (λ i. (cost, Ok (record { text = x; spelled = spelled i; value = value i }, rest)))
+
+module _ (room : ℕ) (w : Part) (good : IsWanted w) (h : Header) (own : List ℕ) (ss : Spellings) (x rest : List ℕ) (d : Dimension) where
+  -- a point, by its words and whether all of them are not-a-numbers
+  point_by : (c : Option Coordinate) (a : Spells (node h own ss) (point d c) x) (words : List ℕ) (all : Bool) → SpellsCoordinate h.order d words a.second.front
+      → all_nan words ≡ all
+      → IsPart w 1 d (is_some h.srid) → reader room w (x ++ rest) ≡ (free, Ok (point_item_of (laid h.order d (is_some h.srid)) x words all, rest))
+  unfolding point_at
+  point_by c a words all spelled nan p =
+      let l = laid h.order d (is_some h.srid) in
+      let end = point_end d (is_some h.srid) in
+      let none = alone _ ss a.second.rest a.second.second in
+      let long = coordinate_length h.order d words a.second.front spelled in
+      let len : length x ≡ end = omega (arith, text_length h own ss (point d c) x a, ap length none.1) in
+      let is = ap (coordinate h.order d) (body_cut h own ss (point d c) x a) ∙ coordinate_read h.order d words a.second.front a.second.rest spelled in
+      opened (opens h own ss (point d c) x a rest) room w good p
+      ∙ ap at_no_cost (cond-false (nat_lt (length (x ++ rest)) end) _ _ (le-ltb _ _ (omega (arith, length-append x rest)))
+      ∙ (λ i. Ok (point_item l (take_front end x rest len i), drop_front end x rest len i)))
+      ∙ (λ i. (free, Ok (point_item_of l x (is i) (all_nan (is i)), rest))) ∙ (λ i. (free, Ok (point_item_of l x words (nan i), rest)))
+
+  line_by : (cs : List Coordinate) → Spells (node h own ss) (line_string d cs) x → IsPart w 2 d (is_some h.srid)
+      → reader room w (x ++ rest) ≡ found (node h own ss) (line_string d cs) x rest
+  line_by cs a p =
+      let body = a.second.first.1 in
+      let l = laid h.order d (is_some h.srid) in
+      let end = line_string_end d (is_some h.srid) (length cs) in
+      let none = alone _ ss a.second.rest a.second.second in
+      let read = ring_read h.order d cs a.second.front a.second.rest body in
+      let long = line_length h.order d cs a.second.front body in
+      let len : length x ≡ end = omega (arith, text_length h own ss (line_string d cs) x a, ap length none.1) in
+      let c = front_counts h own ss (line_string d cs) x a room w good rest (omega arith) p (length cs) body.front body.rest body.whole body.first in
+      let spelled = spelling_read h own ss (line_string d cs) x a [] no_spellings (sym a.second.first.0) none.0 in
+      let ring : ring_in h.order d (drop (body_start (is_some h.srid)) x) ≡ cs = ap (ring_in h.order d) (body_cut h own ss (line_string d cs) x a) ∙ read.is in
+      counted c good (λ e. omega arith)
+      ∙ ap at_no_cost (cond-false (nat_lt (length (x ++ rest)) end) _ _ (le-ltb _ _ (omega (arith, length-append x rest)))
+      ∙ (λ i. Ok (line_string_item l (take_front end x rest len i), drop_front end x rest len i)))
+      ∙ (λ i. (free, Ok (record { text = x; spelled = spelled i; value = line_string d (ring i) }, rest)))
+
+  polygon_by : (rings : List (List Coordinate)) → Spells (node h own ss) (polygon d rings) x → IsPart w 3 d (is_some h.srid)
+      → reader room w (x ++ rest) ≡ found (node h own ss) (polygon d rings) x rest
+  polygon_by rings a p =
+      let body = a.second.first.1 in
+      let l = laid h.order d (is_some h.srid) in
+      let none = alone _ ss a.second.rest a.second.second in
+      let more = a.second.rest ++ rest in
+      let f = rings_found l rings body.rest more body.second in
+      let long = each_long (SpellsCoordinates h.order d) 4 (coordinates_long h.order d) rings body.rest body.second in
+      let c = front_counts h own ss (polygon d rings) x a room w good rest (omega arith) p (length rings) body.front body.rest body.whole body.first in
+      let spelled = spelling_read h own ss (polygon d rings) x a [] no_spellings (sym a.second.first.0) none.0 in
+      let cost : Cost = record { turns = length rings; slots = length rings } in
+      let asked = asked_all (length rings) (length (body.rest ++ more)) (omega (arith, length-append body.rest more)) in
+      counted c good (λ e. omega arith)
+      ∙ parts_read 3 l (ring_part l) (polygon_item l) (x ++ rest) (body.rest ++ more) (length rings) _ (count_read c).behind f.read
+      ∙ at_cost (omega arith) (omega (arith, asked))
+      ∙ (λ i. (cost, Ok (polygon_item l f.texts (taken (x ++ rest) (none.1 i ++ rest)), none.1 i ++ rest)))
+      ∙ (λ i. (cost, Ok (polygon_item l f.texts (taken_front x rest i), rest)))
+      ∙ (λ i. (cost, Ok (record { text = x; spelled = spelled i; value = polygon d (f.are i) }, rest)))
+
+-- A front is what a reader of such parts answers.
+mutual
+  unfolding repeated
+
+  pub front_at : (room : ℕ) (w : Part) → IsWanted w → (s : Spelling) (t : Value) (x rest : List ℕ) → Spells s t x → nest t ≤ room
+      → IsPart w (kind t) (dimension t) (has_srid s) → reader room w (x ++ rest) ≡ found s t x rest
+  front_at room w good (node h own ss) (point d None) x rest a shallow p =
+      let spelled = spelling_read h own ss (point d None) x a own no_spellings refl (alone _ ss a.second.rest a.second.second).0 in
+      point_by room w good h own ss x rest d None a own true a.second.first.1 a.second.first.0 p
+      ∙ (λ i. (free, Ok (record { text = x; spelled = spelled i; value = point d None }, rest)))
+  front_at room w good (node h own ss) (point d (Some c)) x rest a shallow p =
+      let spelled = spelling_read h own ss (point d (Some c)) x a [] no_spellings (sym a.second.first.0) (alone _ ss a.second.rest a.second.second).0 in
+      point_by room w good h own ss x rest d (Some c) a c false a.second.first.2 a.second.first.1 p
+      ∙ (λ i. (free, Ok (record { text = x; spelled = spelled i; value = point d (Some c) }, rest)))
+  front_at room w good (node h own ss) (line_string d cs) x rest a shallow p = line_by room w good h own ss x rest d cs a p
+  front_at room w good (node h own ss) (polygon d rings) x rest a shallow p = polygon_by room w good h own ss x rest d rings a p
+  front_at room w good (node h own ss) t x rest a shallow p =
+      let allowed = is_allowed h own ss t x a room w good rest shallow p in
+      let inside = wanted_inside w room (kind t) (dimension t) (is_some h.srid) good allowed (lit< tt) (lit≤ tt) in
+      list_found h own ss t x a room w good rest shallow p (lit< tt)
+      (members_at (room_inside (kind t) room) (member_part (kind t) (dimension t)) inside ss (members t) a.second.rest rest a.second.second
+      (nest_inside t room shallow))
+
+  members_at : (room : ℕ) (w : Part) → IsWanted w → (ss : Spellings) (ts : Values) (x rest : List ℕ) → SpellsEach w ss ts x → nest_each ts ≤ room
+      → MembersFound (reader room w) ss ts (x ++ rest) rest
+  members_at room w good no_spellings no_members x rest a shallow =
+      record { items = []; read = ap (λ z. done [] (z ++ rest)) a; same_spellings = refl; same_values = refl }
+  members_at room w good (spelling s ss) (member t ts) x rest a shallow =
+      let others = members_at room w good ss ts a.rest rest a.second (omega arith) in
+      let shape : x ++ rest ≡ a.front ++ (a.rest ++ rest) = then_append a rest in
+      let first = front_at room w good s t a.front (a.rest ++ rest) a.first.0 (omega arith) a.first.1 in
+      let many : 1 + count ts ≡ suc (count ts) = omega arith in
+      record {
+        items = record { text = a.front; spelled = s; value = t } ∷ others.items;
+        read = ap (λ n. repeated n (reader room w) (x ++ rest)) many
+            ∙ then_parts (reader room w) (count ts) (x ++ rest) (a.rest ++ rest) _ _ _ (ap (reader room w) shape ∙ first) others.read
+            ∙ at_cost (omega arith) (omega arith);
+        same_spellings = ap (spelling s) others.same_spellings;
+        same_values = ap (member t) others.same_values;
+      }
+  members_at room w good _ _ x rest a shallow = absurd a
+
+pub front_read : (room : ℕ) (w : Part) → IsWanted w → (input : List ℕ) (s : Spelling) (t : Value) (rest : List ℕ) → (f : FrontWithin room input s t rest)
+    → IsPart w (kind t) (dimension t) (has_srid s) → reader room w input ≡ found s t f.front rest
+front_read room w good input s t rest f p = ap (reader room w) f.whole ∙ front_at room w good s t f.front rest f.spelled f.shallow p
 
 -- a refusal, with its turns and its slots
 abbrev refusal : {A : Type 0} → ℕ → ℕ → Cause → Reading A
 refusal turns slots cause = (record { turns = turns; slots = slots }, Err cause)
 
-refusal_is : {A : Type 0} {a b c d : ℕ} {cause : Cause} → a ≡ c → b ≡ d → ◌≡◌ {A = Reading A} (refusal a b cause) (refusal c d cause)
-refusal_is {cause = cause} e f = λ i. (record { turns = e i; slots = f i }, Err cause)
-
--- a list whose parts are refused
-list_refused : {A B : Type 0} (asked turns slots : ℕ) (cause : Cause) (parts : Reading A) (f : A → List ℕ → Reading B) → parts ≡ refusal turns slots cause
-    → reading.costs (reading.slots_of asked) (reading.and_then parts f) ≡ refusal turns (asked + slots) cause
-list_refused asked turns slots cause parts f e = ap (λ z. reading.costs (reading.slots_of asked) (reading.and_then z f)) e ∙ refusal_is (omega arith) refl
-
--- a ring that stands in front is read as its text
-ring_found : (order : Endianness) (d : Dimension) (ring : List Coordinate) (input rest : List ℕ) → (b : Begins (SpellsCoordinates order d ring) input rest) → reading.ring_at order d input ≡ Ok (b.front, rest)
-unfolding reading.ring_at
-ring_found order d ring input rest b =
-    let t = b.first in
-    let shape : input ≡ t.front ++ (t.rest ++ rest) = b.whole ∙ ap (λ z. z ++ rest) t.whole ∙ append_assoc t.front t.rest rest in
-    let many : number order 4 input ≡ length ring = ap (number order 4) shape ∙ number-front order 4 (length ring) t.front (t.rest ++ rest) t.first in
-    let long : length b.front ≡ ring_end d (length ring) = line_length order d ring b.front b.first in
-    let len : length input ≡ length b.front + length rest = ap length b.whole ∙ length-append b.front rest in
-    cond-false (nat_lt (length input) 4) _ _ (le-ltb (length input) 4 (omega arith))
-    ∙ ap (λ z. if nat_lt (length input) (ring_end d z) then Err (general (ShortLinearRing (ring_end d z) (length input))) else Ok (take (ring_end d z) input, drop (ring_end d z) input)) many
-    ∙ cond-false (nat_lt (length input) (ring_end d (length ring))) _ _ (le-ltb (length input) (ring_end d (length ring)) (omega arith))
-    ∙ ap (λ z. Ok (take (ring_end d (length ring)) z, drop (ring_end d (length ring)) z)) b.whole
-    ∙ ap (λ z. Ok (z, drop (ring_end d (length ring)) (b.front ++ rest))) (take_front (ring_end d (length ring)) b.front rest long)
-    ∙ ap (λ z. Ok (b.front, z)) (drop_front (ring_end d (length ring)) b.front rest long)
-
-abbrev rings_at : Endianness → Dimension → ℕ → List ℕ → Reading (List (List ℕ))
-rings_at order d n input = reading.repeated n (λ b. reading.at_no_cost (reading.ring_at order d b)) input
-
--- so many rings, by the first
-abbrev next_ring : Endianness → Dimension → ℕ → reading.Part (List ℕ) → Reading (List (List ℕ))
-next_ring order d n r = reading.costs reading.one_turn (reading.and_then (free, r) (λ x rest. reading.and_then (rings_at order d n rest) (λ xs after. reading.done (x ∷ xs) after)))
-
-rings_refused : {order : Endianness} {d : Dimension} {n : ℕ} {input : List ℕ} {cause : Cause} {begun : ℕ} → RefusesRings order d n input cause begun → rings_at order d n input ≡ refusal begun 0 cause
-unfolding reading.repeated reading.ring_at
-rings_refused {order} {d} {input = input} (no_ring_count {more = more} h) = ap (next_ring order d more) (cond-true (nat_lt (length input) 4) _ _ (lt-ltb (length input) 4 h))
-rings_refused {order} {d} {input = input} (short_ring {more = more} {n = n} {rest = rest} b h) =
+rings_refused : {order : Endianness} {d : Dimension} {n : ℕ} {input : List ℕ} {cause : Cause} {begun : ℕ} → (srid : Bool)
+    → RefusesRings order d n input cause begun → repeated n (ring_part (laid order d srid)) input ≡ refusal begun 0 cause
+unfolding ring_at
+rings_refused {order} {d} {input = input} srid (no_ring_count {more = more} h) =
+    part_refused (ring_part (laid order d srid)) more input free end_of_input
+    (ap at_no_cost (cond-true (nat_lt (length input) 4) _ _ (lt-ltb (length input) 4 h)))
+rings_refused {order} {d} {input = input} srid (short_ring {more = more} {n = n} {rest = rest} b h) =
     let read = begins_number order 4 n input rest b in
-    ap (next_ring order d more)
+    part_refused (ring_part (laid order d srid)) more input free _ (ap at_no_cost
     (cond-false (nat_lt (length input) 4) _ _ (le-ltb (length input) 4 read.0)
-    ∙ ap (λ z. if nat_lt (length input) (ring_end d z) then Err (general (ShortLinearRing (ring_end d z) (length input))) else Ok (take (ring_end d z) input, drop (ring_end d z) input)) read.1
-    ∙ cond-true (nat_lt (length input) (ring_end d n)) _ _ (lt-ltb (length input) (ring_end d n) h))
-rings_refused {order} {d} {input = input} (later_ring {more = more} {begun = begun} {rest = rest} {cause = cause} ring b r) =
-    ap (next_ring order d more) (ring_found order d ring input rest b)
-    ∙ ap (λ z. reading.costs reading.one_turn (reading.costs free (reading.and_then z (λ xs after. reading.done (b.front ∷ xs) after)))) (rings_refused r)
-    ∙ refusal_is (omega arith) refl
-
--- A front is what a reader of such parts answers.
-abbrev found : (s : Spelling) (t : Value) (x rest : List ℕ) → Reading Item
-found s t x rest = (record { turns = member_count t; slots = listed_count t }, Ok (record { text = x; spelled = s; value = t }, rest))
-
-found_by : (room : ℕ) (w : Part) (input : List ℕ) (s : Spelling) (t : Value) (rest : List ℕ) (f : FrontWithin room input s t rest) → IsPart w (kind t) (dimension t) (has_srid s)
-    → (r : Reading Item) → Says room w input r → r ≡ found s t f.front rest
-found_by room w input s t rest f p (cost, Ok x) h =
-    let same = one_spelling x.0.spelled s x.0.value t x.0.text f.front x.1 rest h.spelled f.spelled (sym h.whole ∙ f.whole) in
-    let turns : cost.turns ≡ member_count t = h.turns ∙ ap member_count same.value in
-    let slots : cost.slots ≡ listed_count t = h.slots ∙ ap listed_count same.value in
-    λ i. (record { turns = turns i; slots = slots i }, Ok (record { text = same.text i; spelled = same.spelling i; value = same.value i }, same.rest i))
-found_by room w input s t rest f p (cost, Err cause) h = absurd (never_both_part h s t rest f p)
-
-pub front_read : {room : ℕ} {w : Part} {part_at : List ℕ → Reading Item} → Reads room w part_at → (input : List ℕ) (s : Spelling) (t : Value) (rest : List ℕ) → (f : FrontWithin room input s t rest)
-    → IsPart w (kind t) (dimension t) (has_srid s) → part_at input ≡ found s t f.front rest
-front_read {room} {w} {part_at} r input s t rest f p = found_by room w input s t rest f p (part_at input) (r.says input)
-
--- so many members, by the first
-abbrev next_member : (List ℕ → Reading Item) → ℕ → Reading Item → Reading (List Item)
-next_member part_at n r = reading.costs reading.one_turn (reading.and_then r (λ x rest. reading.and_then (reading.repeated n part_at rest) (λ xs after. reading.done (x ∷ xs) after)))
-
-repeated-suc : (part_at : List ℕ → Reading Item) (n : ℕ) (input : List ℕ) → reading.repeated (suc n) part_at input ≡ next_member part_at n (part_at input)
-unfolding reading.repeated
-repeated-suc part_at n input = refl
-
-point_short : (order : Endianness) (d : Dimension) (srid : Bool) (input : List ℕ) → length input < point_end d srid
-    → reading.point_at order d srid input ≡ Err (general (ShortPoint (point_end d srid) (length input)))
-unfolding reading.point_at
-point_short order d srid input short = cond-true (nat_lt (length input) (point_end d srid)) _ _ (lt-ltb _ _ short)
-
-line_short : {n : ℕ} {rest : List ℕ} (order : Endianness) (d : Dimension) (srid : Bool) (input : List ℕ) → CountRead input order srid n rest → length input < line_string_end d srid n
-    → reading.line_string_at order d srid input ≡ reading.refused (general (ShortLineString (line_string_end d srid n) (length input)))
-unfolding reading.line_string_at
-line_short {n} order d srid input c short =
-    counted (λ m. reading.at_no_cost (reading.line_string_body order d srid input m)) c ∙ ap reading.at_no_cost (cond-true (nat_lt (length input) (line_string_end d srid n)) _ _ (lt-ltb _ _ short))
-
-points_short : {n : ℕ} {rest : List ℕ} (order : Endianness) (d : Dimension) (srid : Bool) (input : List ℕ) → CountRead input order srid n rest → length input < multi_point_end d srid n
-    → reading.multi_point_at order d srid input ≡ reading.refused (general (ShortMultiPoint (multi_point_end d srid n) (length input)))
-unfolding reading.multi_point_at
-points_short {n} order d srid input c short =
-    counted (reading.multi_point_body order d srid input) c ∙ cond-true (nat_lt (length input) (multi_point_end d srid n)) _ _ (lt-ltb _ _ short)
-
-polygon_refused : {n : ℕ} {rest : List ℕ} (order : Endianness) (d : Dimension) (srid : Bool) (input : List ℕ) (cause : Cause) (begun : ℕ) → CountRead input order srid n rest
-    → RefusesRings order d n rest cause begun
-    → reading.polygon_at order d srid input ≡ refusal begun (slots_asked 3 n (length rest)) cause
-unfolding reading.polygon_at
-polygon_refused {n} {rest} order d srid input cause begun c r =
-    counted (reading.polygon_body order d srid input) c
-    ∙ ap (λ z. polygon_with order d srid input (slots_asked 3 n (length z)) (rings_at order d n z)) c.behind
-    ∙ list_refused (slots_asked 3 n (length rest)) begun 0 cause _ _ (rings_refused r)
-    ∙ refusal_is refl (omega arith)
+    ∙ ap (λ z. if nat_lt (length input) (ring_end d z) then Err (general (ShortLinearRing (ring_end d z) (length input)))
+    else Ok (take (ring_end d z) input, drop (ring_end d z) input)) read.1
+    ∙ cond-true (nat_lt (length input) (ring_end d n)) _ _ (lt-ltb (length input) (ring_end d n) h)))
+rings_refused {order} {d} {input = input} srid (later_ring {more = more} {begun = begun} {rest = rest} {cause = cause} ring b r) =
+    let l = laid order d srid in
+    then_parts (ring_part l) more input rest b.front free _ (ap (ring_part l) b.whole ∙ ap at_no_cost (ring_found order d ring b.front rest b.first))
+    (rings_refused srid r)
+    ∙ at_cost (omega arith) refl
 
 -- Each refusal is what a reader of such parts answers, with its turns and its slots.
 mutual
-  pub refusal_read : {room : ℕ} {w : Part} {input : List ℕ} {cause : Cause} {begun slots : ℕ} → Refuses room w input cause begun slots → (part_at : List ℕ → Reading Item) → Reads room w part_at
-      → part_at input ≡ refusal begun slots cause
-  refusal_read no_order_byte part_at r = faulty r head_none
-  refusal_read (bad_order_byte {first = first} {rest = rest} h) part_at r = faulty r (head_misordered first rest h)
-  refusal_read (no_code {first = first} {rest = rest} h short) part_at r = faulty r (head_cut first rest h short)
-  refusal_read (bad_code {c = c} {order = order} e b none) part_at r = faulty r (head_coded e b ∙ ap (reading.head_by_code order c) (meaning_missing c none))
-  refusal_read (wrong_part o n) part_at r = unwanted r o n
-  refusal_read (too_deep o p) part_at r = opened r o p
-  refusal_read {input = input} (short_point {order = order} {d = d} {srid = srid} o p short) part_at r = opened r o p ∙ ap reading.at_no_cost (point_short order d srid input short)
-  refusal_read {room} {input = input} (no_count {k = k} {order = order} {d = d} {srid = srid} o n a short) part_at r =
-      let f = has_count room k d order srid input o.meaning.kind.low o.meaning.kind.high n a.shallow in
-      opened r o a.wanted ∙ f.1 ∙ uncounted input order srid f.0 (omega (arith, length-opens o))
-  refusal_read {input = input} (short_line_string {order = order} {d = d} {srid = srid} c short) part_at r = opened r c.opens c.allowed.wanted ∙ line_short order d srid input (count_read c) short
-  refusal_read {input = input} (short_multi_point {order = order} {d = d} {srid = srid} c short) part_at r = opened r c.opens c.allowed.wanted ∙ points_short order d srid input (count_read c) short
-  refusal_read {input = input} {cause = cause} {begun = begun} (bad_ring {order = order} {d = d} {srid = srid} c h) part_at r =
-      opened r c.opens c.allowed.wanted ∙ polygon_refused order d srid input cause begun (count_read c) h
-  refusal_read {input = input} {cause = cause} {begun = begun} (bad_member {k = k} {n = n} {slots = inside} {order = order} {srid = srid} {rest = rest} c low long h) part_at r =
-      let list = list_read c low long in
-      opened r c.opens c.allowed.wanted ∙ list.body
-      ∙ ap (λ z. members_with order srid list.made input (slots_asked k n (length z)) (reading.repeated n list.part_at z)) (count_read c).behind
-      ∙ list_refused (slots_asked k n (length rest)) begun inside cause _ _ (each_refusal_read h list.part_at list.reads)
+  unfolding point_at head_at
 
-  each_refusal_read : {room : ℕ} {w : Part} {n : ℕ} {input : List ℕ} {cause : Cause} {begun slots : ℕ} → RefusesEach room w n input cause begun slots → (part_at : List ℕ → Reading Item) → Reads room w part_at
-      → reading.repeated n part_at input ≡ refusal begun slots cause
-  each_refusal_read {input = input} (this_member {more = more} h) part_at r =
-      repeated-suc part_at more input ∙ ap (next_member part_at more) (refusal_read h part_at r) ∙ refusal_is refl (omega arith)
-  each_refusal_read {input = input} (later_member {more = more} {rest = rest} {s = s} {t = t} f p h) part_at r =
-      repeated-suc part_at more input ∙ ap (next_member part_at more) (front_read r input s t rest f p)
-      ∙ ap (λ z. reading.costs reading.one_turn (reading.costs (record { turns = member_count t; slots = listed_count t }) (reading.and_then z (λ xs after. reading.done (record { text = f.front; spelled = s; value = t } ∷ xs) after))))
-      (each_refusal_read h part_at r)
-      ∙ refusal_is (omega arith) (omega arith)
+  pub refusal_read : {room : ℕ} {w : Part} {input : List ℕ} {cause : Cause} {begun slots : ℕ} → Refuses room w input cause begun slots → IsWanted w
+      → reader room w input ≡ refusal begun slots cause
+  refusal_read {room} {w} no_order_byte good = faulty room w [] _ refl
+  refusal_read {room} {w} (bad_order_byte {first = first} {rest = rest} h) good = faulty room w _ _ (head_misordered first rest h)
+  refusal_read {room} {w} (no_code {first = first} {rest = rest} h short) good = faulty room w _ _ (head_cut first rest h short)
+  refusal_read {room} {w} (bad_code {c = c} {order = order} e b none) good =
+      let missing = meaning_holds (λ m. m ≡ None) c (λ m code. absurd (none _ _ _ code)) (λ h. refl) in
+      faulty room w _ _ (head_coded e b ∙ ap (head_by_code order c) missing)
+  refusal_read {room} {w} (wrong_part o n) good = unwanted o room w n
+  refusal_read {w = w} (too_deep o p) good = opened o 0 w good p
+  refusal_read {room} {w} {input} (short_point {d = d} {srid = srid} o p short) good =
+      opened o room w good p ∙ ap at_no_cost (cond-true (nat_lt (length input) (point_end d srid)) _ _ (lt-ltb _ _ short))
+  refusal_read {room} {w} {input} (no_count {k = k} {order = order} {d = d} {srid = srid} o n a short) good =
+      let few : length input < body_start srid + 4 = omega (arith, length-opens o) in
+      opened o room w good a.wanted ∙ body_counted room k (laid order d srid) input o.meaning.kind.low o.meaning.kind.high n a.shallow
+      ∙ cond-true (nat_lt (length input) (body_start srid + 4)) _ _ (lt-ltb _ _ few)
+  refusal_read {input = input} (short_line_string {n = n} {d = d} {srid = srid} c short) good =
+      counted c good (λ e. omega arith) ∙ ap at_no_cost (cond-true (nat_lt (length input) (line_string_end d srid n)) _ _ (lt-ltb _ _ short))
+  refusal_read {input = input} (short_multi_point {n = n} {d = d} {srid = srid} c short) good =
+      counted c good (λ e. omega arith) ∙ cond-true (nat_lt (length input) (multi_point_end d srid n)) _ _ (lt-ltb _ _ short)
+  refusal_read {input = input} (bad_ring {n = n} {order = order} {d = d} {srid = srid} {rest = rest} c h) good =
+      let l = laid order d srid in
+      counted c good (λ e. omega arith)
+      ∙ parts_read 3 l (ring_part l) (polygon_item l) input rest n _ (count_read c).behind (rings_refused srid h) ∙ at_cost (omega arith) (omega arith)
+  refusal_read {room} {w} {input} (bad_member {k = k} {n = n} {order = order} {d = d} {srid = srid} {rest = rest} c low long h) good =
+      let l = laid order d srid in
+      let high = c.opens.meaning.kind.high in
+      let members = each_refusal_read h (wanted_inside w room k d srid good c.allowed low high) in
+      counted c good (λ e. omega arith) ∙ list_counted room k l input n low high long
+      ∙ parts_read k l (reader (room_inside k room) (member_part k d)) (list_item l (whole_by k)) input rest n _ (count_read c).behind members
+      ∙ at_cost (omega arith) refl
+
+  each_refusal_read : {room : ℕ} {w : Part} {n : ℕ} {input : List ℕ} {cause : Cause} {begun slots : ℕ} → RefusesEach room w n input cause begun slots
+      → IsWanted w → repeated n (reader room w) input ≡ refusal begun slots cause
+  each_refusal_read {room} {w} {input = input} (this_member {more = more} h) good =
+      part_refused (reader room w) more input _ _ (refusal_read h good) ∙ at_cost refl (omega arith)
+  each_refusal_read {room} {w} {input = input} (later_member {more = more} {rest = rest} {s = s} {t = t} f p h) good =
+      then_parts (reader room w) more input rest _ _ _ (front_read room w good input s t rest f p) (each_refusal_read h good)
+      ∙ at_cost (omega arith) (omega arith)

@@ -1,16 +1,8 @@
 -- A proper beginning of a geometry is refused as an input that ends too early.
-use Rattle.std.proofs.Common.{◌⊎◌, ℕ, ◌+◌, List, [], ◌++◌, length, sym, ap, ◌∙◌, subst, append_assoc, arith, inl, inr, length-append, Bool}
-use Rattle.std.proofs.lemmas.List.{append-nil}
-use Rattle.wkb_geom.specs.declared.common.Endianness.{Endianness}
-use Rattle.wkb_geom.specs.declared.common.Dimension.{Dimension}
-use Rattle.wkb_geom.specs.declared.error.General.TheVariants.{UnsupportedDimensions, CodeOutOfRange, InvalidByteOrder, ShortPoint, ShortLineString, ShortLinearRing, ShortMultiPoint}
-use Rattle.wkb_geom.specs.Grammar.{Begins}
-use Rattle.wkb_geom.specs.Values.{Value, listed_count}
-use Rattle.wkb_geom.specs.Spellings.{Spelling, Part, any}
-use Rattle.wkb_geom.specs.Fronts.{Front, FrontWithin, max_nesting}
-use Rattle.wkb_geom.specs.declared.error.Cause.{Cause}
-use Rattle.wkb_geom.specs.declared.error.Cause.TheVariants.{EndOfInput as end_of_input, General as general, IncorrectType as incorrect_type, NestingDepthExceeded as nesting_depth_exceeded}
-use Rattle.wkb_geom.specs.Refusals.{slots_asked, Opens, Counts, RefusesRings, no_ring_count, short_ring, later_ring, Refuses, no_order_byte, bad_order_byte, no_code, bad_code, wrong_part, too_deep, short_point, no_count, short_line_string, short_multi_point, bad_ring, bad_member, RefusesEach, this_member, later_member}
+use Rattle.std.proofs.Common.{◌⊎◌, ℕ, ◌+◌, List, [], ◌++◌, length, sym, ap, ◌∙◌, subst, append_assoc, arith, inl, inr, length-append, Bool, append-nil}
+use Rattle.wkb_laws.specs.Words.{Endianness, Dimension, ShortPoint, ShortLineString, ShortLinearRing, ShortMultiPoint, Begins, Value, listed_count, Spelling}
+use Rattle.wkb_laws.specs.Words.{Part, any, Front, FrontWithin, max_nesting, Cause, end_of_input, general, slots_asked, Opens, Counts, RefusesRings, later_ring}
+use Rattle.wkb_laws.specs.Words.{Refuses, bad_order_byte, bad_code, wrong_part, too_deep, bad_ring, bad_member, RefusesEach, this_member, later_member}
 use Rattle.wkb_laws.specs.Laws.{HasFront, IsRefused, IsCut, CutIsRefused}
 use Rattle.wkb_laws.proofs.OneFront.{one_front_lem}
 use Rattle.wkb_laws.proofs.Outcomes.{read_or_refused_lem, never_both_lem}
@@ -19,51 +11,48 @@ use Rattle.wkb_laws.proofs.Outcomes.{read_or_refused_lem, never_both_lem}
 begins_more : {P : List ℕ → Type 0} {input rest : List ℕ} (y : List ℕ) → Begins P input rest → Begins P (input ++ y) (rest ++ y)
 begins_more {rest = rest} y b = record { front = b.front; whole = ap (λ z. z ++ y) b.whole ∙ append_assoc b.front rest y; first = b.first }
 
-opens_more : {input rest : List ℕ} {order : Endianness} {k : ℕ} {d : Dimension} {srid : Bool} (y : List ℕ) → Opens input order k d srid rest → Opens (input ++ y) order k d srid (rest ++ y)
+opens_more : {input rest : List ℕ} {order : Endianness} {k : ℕ} {d : Dimension} {srid : Bool} (y : List ℕ) → Opens input order k d srid rest
+    → Opens (input ++ y) order k d srid (rest ++ y)
 opens_more y o = record { code = o.code; behind = o.behind ++ y; whole = ap (λ z. z ++ y) o.whole; number = begins_more y o.number; meaning = o.meaning }
 
-counts_more : {room : ℕ} {w : Part} {input rest : List ℕ} {order : Endianness} {k : ℕ} {d : Dimension} {n : ℕ} {srid : Bool} (y : List ℕ) → Counts room w input order k d srid n rest
-    → Counts room w (input ++ y) order k d srid n (rest ++ y)
+counts_more : {room : ℕ} {w : Part} {input rest : List ℕ} {order : Endianness} {k : ℕ} {d : Dimension} {n : ℕ} {srid : Bool} (y : List ℕ)
+    → Counts room w input order k d srid n rest → Counts room w (input ++ y) order k d srid n (rest ++ y)
 counts_more {input = input} {rest = rest} {order = order} {k = k} {d = d} {srid = srid} y c = record {
   srid_field = c.srid_field;
   count_field = c.count_field;
-  opens = subst (λ z. Opens (input ++ y) order k d srid z) (append_assoc c.srid_field (c.count_field ++ rest) y ∙ ap (λ z. c.srid_field ++ z) (append_assoc c.count_field rest y)) (opens_more y c.opens);
+  opens = subst (λ z. Opens (input ++ y) order k d srid z)
+      (append_assoc c.srid_field (c.count_field ++ rest) y ∙ ap (λ z. c.srid_field ++ z) (append_assoc c.count_field rest y)) (opens_more y c.opens);
   allowed = c.allowed;
   srid_len = c.srid_len;
   number = c.number;
 }
 
-front_more : {room : ℕ} {input : List ℕ} {s : Spelling} {t : Value} {rest : List ℕ} (y : List ℕ) → FrontWithin room input s t rest → FrontWithin room (input ++ y) s t (rest ++ y)
-front_more {rest = rest} y f = record { front = f.front; whole = ap (λ z. z ++ y) f.whole ∙ append_assoc f.front rest y; spelled = f.spelled; shallow = f.shallow }
+front_more : {room : ℕ} {input : List ℕ} {s : Spelling} {t : Value} {rest : List ℕ} (y : List ℕ) → FrontWithin room input s t rest
+    → FrontWithin room (input ++ y) s t (rest ++ y)
+front_more {rest = rest} y f =
+    record { front = f.front; whole = ap (λ z. z ++ y) f.whole ∙ append_assoc f.front rest y; spelled = f.spelled; shallow = f.shallow }
 
 rings_cut : {order : Endianness} {d : Dimension} {n : ℕ} {input : List ℕ} {cause : Cause} {begun : ℕ} → RefusesRings order d n input cause begun → IsCut cause
-rings_cut (no_ring_count h) = tt
-rings_cut (short_ring b h) = tt
 rings_cut (later_ring ring b h) = rings_cut h
+rings_cut _ = tt
 
 -- A refusal for another reason than an early end stays, with its turns, whatever comes behind.
 mutual
   lasts : {room : ℕ} {w : Part} {input : List ℕ} {cause : Cause} {begun slots : ℕ} → Refuses room w input cause begun slots → (y : List ℕ) → (IsCut cause → ⊥)
       → (z : ℕ) × Refuses room w (input ++ y) cause begun z
-  lasts no_order_byte y n = absurd (n tt)
   lasts (bad_order_byte h) y n = (0, bad_order_byte h)
-  lasts (no_code h short) y n = absurd (n tt)
-  lasts (bad_code {order = order} {behind = behind} e b none) y n = (0, bad_code {order = order} {behind = behind ++ y} (ap (λ z. z ++ y) e) (begins_more y b) none)
+  lasts (bad_code {order = order} {behind = behind} e b none) y n =
+      (0, bad_code {order = order} {behind = behind ++ y} (ap (λ z. z ++ y) e) (begins_more y b) none)
   lasts (wrong_part o not) y n = (0, wrong_part (opens_more y o) not)
   lasts (too_deep o p) y n = (0, too_deep (opens_more y o) p)
-  lasts (short_point o p h) y n = absurd (n tt)
-  lasts (no_count o not a h) y n = absurd (n tt)
-  lasts (short_line_string c h) y n = absurd (n tt)
-  lasts (short_multi_point c h) y n = absurd (n tt)
   lasts (bad_ring c r) y n = absurd (n (rings_cut r))
   lasts {input = input} (bad_member {k = k} {n = m} {rest = rest} c low long r) y n =
-      let more = each_lasts r y n in (
-        slots_asked k m (length (rest ++ y)) + more.0,
-        bad_member (counts_more y c) low (λ e. let enough = long e in omega (arith, length-append input y)) more.1,
-      )
+      let more = each_lasts r y n in
+      (slots_asked k m (length (rest ++ y)) + more.0, bad_member (counts_more y c) low (λ e. let fits = long e in omega (arith, length-append input y)) more.1)
+  lasts _ y n = absurd (n tt)
 
-  each_lasts : {room : ℕ} {w : Part} {n : ℕ} {input : List ℕ} {cause : Cause} {begun slots : ℕ} → RefusesEach room w n input cause begun slots → (y : List ℕ) → (IsCut cause → ⊥)
-      → (z : ℕ) × RefusesEach room w n (input ++ y) cause begun z
+  each_lasts : {room : ℕ} {w : Part} {n : ℕ} {input : List ℕ} {cause : Cause} {begun slots : ℕ} → RefusesEach room w n input cause begun slots → (y : List ℕ)
+      → (IsCut cause → ⊥) → (z : ℕ) × RefusesEach room w n (input ++ y) cause begun z
   each_lasts (this_member r) y n = let more = lasts r y n in (more.0, this_member more.1)
   each_lasts (later_member {t = t} f p r) y n = let more = each_lasts r y n in (listed_count t + more.0, later_member (front_more y f) p more.1)
 
@@ -73,11 +62,7 @@ cut_or_not (general (ShortPoint end len)) = inl tt
 cut_or_not (general (ShortLineString end len)) = inl tt
 cut_or_not (general (ShortLinearRing end len)) = inl tt
 cut_or_not (general (ShortMultiPoint end len)) = inl tt
-cut_or_not (general (UnsupportedDimensions n)) = inr (λ h. h)
-cut_or_not (general (CodeOutOfRange c)) = inr (λ h. h)
-cut_or_not (general InvalidByteOrder) = inr (λ h. h)
-cut_or_not incorrect_type = inr (λ h. h)
-cut_or_not (nesting_depth_exceeded n) = inr (λ h. h)
+cut_or_not _ = inr (λ h. h)
 
 pub cut_is_refused_lem : CutIsRefused
 cut_is_refused_lem input s t rest x y f e some = go (read_or_refused_lem x)

@@ -1,14 +1,10 @@
 -- Reading from left to right answers exactly the fronts and the refusals, at bounded costs.
-use Rattle.std.proofs.Common.{ℕ, ◌+◌, ◌*◌, ◌≤◌, List, length, refl, arith}
-use Rattle.std.specs.Prelude.{Ok, Err}
-use Rattle.wkb_geom.specs.Spellings.{any}
-use Rattle.wkb_geom.specs.Fronts.{max_nesting}
-use Rattle.wkb_geom.specs.Reading.{Reading, Item, geometry_at}
+use Rattle.std.proofs.Common.{ℕ, ◌+◌, ◌*◌, ◌≤◌, List, length, refl, arith, Ok, Err}
+use Rattle.wkb_laws.specs.Words.{any, max_nesting, Reading, Item}
 use Rattle.wkb_laws.specs.Laws.{Agrees, GeometryAgrees, FrontIsRead, RefusalIsRead, ReadingIsBounded}
 use Rattle.wkb_laws.proofs.Bounds.{front_is_bounded_lem, refusal_is_bounded_lem}
 use Rattle.wkb_laws.proofs.Heads.{Says}
 use Rattle.wkb_laws.proofs.Sound.{geometry_says}
-use Rattle.wkb_laws.proofs.Readers.{any_reads}
 use Rattle.wkb_laws.proofs.Complete.{front_read, refusal_read}
 
 agrees : (input : List ℕ) (r : Reading Item) → Says max_nesting any input r → Agrees input r
@@ -19,18 +15,14 @@ pub geometry_agrees_lem : GeometryAgrees
 geometry_agrees_lem input = agrees input _ (geometry_says max_nesting input)
 
 pub front_is_read_lem : FrontIsRead
-front_is_read_lem input s t rest f = front_read (any_reads max_nesting) input s t rest f tt
+front_is_read_lem input s t rest f = front_read max_nesting any tt input s t rest f tt
 
 pub refusal_is_read_lem : RefusalIsRead
-refusal_is_read_lem input cause turns slots r = refusal_read r (geometry_at max_nesting) (any_reads max_nesting)
+refusal_is_read_lem input cause turns slots r = refusal_read r tt
 
 bounded : (input : List ℕ) (r : Reading Item) → Agrees input r → (4 * r.0.turns ≤ length input + 4) × (r.0.slots ≤ 15 * length input)
 bounded input (cost, Ok x) h =
     let bounds = front_is_bounded_lem input x.0.spelled x.0.value x.1 h.0 in
-    let turns = bounds.0 in
-    let slots = bounds.1 in
-    let same_turns = h.1 in
-    let same_slots = h.2 in
     (omega arith, omega arith)
 bounded input (cost, Err cause) h = refusal_is_bounded_lem input cause cost.turns cost.slots h
 

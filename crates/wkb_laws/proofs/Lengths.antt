@@ -1,28 +1,19 @@
 -- How long a text is.
-use Rattle.std.proofs.Common.{◌≡◌, ℕ, ◌+◌, ◌*◌, ◌<◌, ◌≤◌, ◌^◌, List, [], ◌∷◌, length, Option, Some, None, Bool, true, false, refl, sym, ap, ◌∙◌, arith, length-append}
-use Rattle.std.specs.Prelude.{sum_by, is_some, if◌then◌else◌, nat_lt}
+use Rattle.std.proofs.Common.{◌≡◌, ℕ, ◌+◌, ◌*◌, ◌<◌, ◌≤◌, ◌^◌, List, [], ◌∷◌, length, Some, None, Bool, true, false, refl, sym, ap, ◌∙◌, arith, length-append}
+use Rattle.std.proofs.Common.{sum_by, is_some, if◌then◌else◌, nat_lt, lt-ltb}
 use Rattle.std.proofs.lemmas.List.Sums.{sum_by-cons}
-use Rattle.std.proofs.lemmas.Bool.{lt-ltb, cond-true}
-use Rattle.wkb_geom.specs.declared.common.Endianness.{Endianness}
-use Rattle.wkb_geom.specs.declared.common.Dimension.{Dimension}
-use Rattle.wkb_geom.specs.declared.common.Dimension.TheVariants.{Xy, Xyz, Xym, Xyzm}
-use Rattle.wkb_geom.specs.declared.common.Form.{Form}
-use Rattle.wkb_geom.specs.declared.common.Form.TheVariants.{Iso, Ewkb}
-use Rattle.wkb_geom.specs.Numbers.{AreBytes, IsNumber}
-use Rattle.wkb_geom.specs.Dimensions.{width}
-use Rattle.wkb_geom.specs.Grammar.{IsEach}
-use Rattle.wkb_geom.specs.Values.{Coordinate, Value, point, line_string, polygon, multi_point, multi_line_string, multi_polygon, collection, Values, no_members, member, kind, dimension, members, each}
-use Rattle.wkb_geom.specs.Spellings.{Header, header, Spelling, node, Spellings, no_spellings, spelling, IsHeader, SpellsCoordinate, SpellsCoordinates, SpellsBody, Part, member_part, Spells, SpellsEach, srid_count, srid_count_each}
-use Rattle.wkb_geom.specs.Fronts.{Front}
-use Rattle.wkb_geom.specs.Refusals.{srid_size}
-use Rattle.wkb_geom.specs.Geometries.{Geometry, IsGeometry, normal, geometry_of}
-use Rattle.wkb_geom.specs.Texts.{or_else, size_fault, form_srid, inner, text, fault, IsForm, IsWritable}
+use Rattle.std.proofs.lemmas.Bool.{cond-true}
+use Rattle.wkb_laws.specs.Words.{Endianness, Dimension, Xy, Form, Iso, Ewkb, AreBytes, IsNumber, width, IsEach, Coordinate, Value, point, line_string, polygon}
+use Rattle.wkb_laws.specs.Words.{multi_point, multi_line_string, multi_polygon, collection, Values, no_members, member, kind, dimension, members, header}
+use Rattle.wkb_laws.specs.Words.{Spelling, node, Spellings, no_spellings, spelling, SpellsCoordinate, SpellsCoordinates, SpellsBody, Part, member_part, Spells}
+use Rattle.wkb_laws.specs.Words.{SpellsEach, srid_count, srid_count_each, Front, srid_size, Geometry, IsGeometry, normal, geometry_of, or_else, size_fault}
+use Rattle.wkb_laws.specs.Words.{form_srid, inner, text, fault, IsForm, IsWritable}
 use Rattle.wkb_laws.specs.Written.{written, HasOptions, AllHaveOptions}
 use Rattle.wkb_laws.specs.Laws.{LengthOfText, LengthOfFront, FrontIsWritable, EwkbIsWritable, SizeIsRefused, OwnSridIsWritable}
-use Rattle.wkb_laws.proofs.TextSpells.{text_spells, written_has_options}
-use Rattle.wkb_laws.proofs.Values.{normal-geometry_of, lawful-geometry_of}
-use Rattle.wkb_laws.proofs.Rewritings.{front_good, front_srid}
-use Rattle.wkb_laws.proofs.Openings.{header_length}
+use Rattle.wkb_laws.proofs.Parts.{then_length, each_len, header_length}
+use Rattle.wkb_laws.proofs.Lists.{each_sum, each_same}
+use Rattle.wkb_laws.proofs.TextSpells.{inner_fits, text_spells, written_has_options}
+use Rattle.wkb_laws.proofs.Values.{front_good, front_srid, normal-geometry_of, lawful-geometry_of}
 
 -- the bytes of a ring behind its four bytes of count
 abbrev line_size : Dimension → List Coordinate → ℕ
@@ -49,18 +40,11 @@ abbrev mutual
 -- a geometry has at least nine bytes
 width-least : (d : Dimension) → 2 ≤ width d
 width-least Xy = omega arith
-width-least Xyz = omega arith
-width-least Xym = omega arith
-width-least Xyzm = omega arith
+width-least _ = omega arith
 
 pub value_size-least : (t : Value) → 9 ≤ value_size t
 value_size-least (point d c) = let w = width-least d in omega arith
-value_size-least (line_string d cs) = omega arith
-value_size-least (polygon d rings) = omega arith
-value_size-least (multi_point d l) = omega arith
-value_size-least (multi_line_string d l) = omega arith
-value_size-least (multi_polygon d l) = omega arith
-value_size-least (collection d ts) = omega arith
+value_size-least _ = omega arith
 
 -- the body up to the members
 abbrev body_size : Value → ℕ
@@ -69,117 +53,72 @@ body_size (line_string d cs) = line_size d cs
 body_size (polygon d rings) = rings_size d rings
 body_size _ = 4
 
-sizes_of_points : (d : Dimension) (l : List (Option Coordinate)) → each_size (each (point d) l) ≡ (5 + 8 * width d) * length l
-sizes_of_points d [] = omega arith
-sizes_of_points d (c ∷ l) = omega (arith, sizes_of_points d l)
-
-sizes_of_each : {A : Type 0} (f : A → Value) (size : A → ℕ) → ((a : A) → value_size (f a) ≡ size a) → (l : List A) → each_size (each f l) ≡ sum_by size l
-sizes_of_each f size e [] = refl
-sizes_of_each f size e (a ∷ l) =
-    ap (λ z. z + each_size (each f l)) (e a) ∙ ap (λ z. size a + z) (sizes_of_each f size e l) ∙ sym (sum_by-cons size a l)
-
 value_size-members : (t : Value) → value_size t ≡ 5 + body_size t + each_size (members t)
-value_size-members (point d c) = omega arith
-value_size-members (line_string d cs) = omega arith
-value_size-members (polygon d rings) = omega arith
-value_size-members (multi_point d l) = omega (arith, sizes_of_points d l)
-value_size-members (multi_line_string d l) = ap (λ z. 9 + z) (sym (sizes_of_each (line_string d) (λ cs. 5 + line_size d cs) (λ a. refl) l))
-value_size-members (multi_polygon d l) = ap (λ z. 9 + z) (sym (sizes_of_each (polygon d) (λ rings. 5 + rings_size d rings) (λ a. refl) l))
-value_size-members (collection d ts) = refl
+value_size-members (multi_point d l) = omega (arith, each_same (point d) each_size refl (5 + 8 * width d) (λ a ts. refl) l)
+value_size-members (multi_line_string d l) = ap (λ z. 9 + z) (sym (each_sum (line_string d) each_size refl (λ cs. 5 + line_size d cs) (λ a ts. refl) l))
+value_size-members (multi_polygon d l) = ap (λ z. 9 + z) (sym (each_sum (polygon d) each_size refl (λ rings. 5 + rings_size d rings) (λ a ts. refl) l))
+value_size-members _ = omega arith
 
-each_length : {A : Type 0} (P : A → List ℕ → Type 0) (size : A → ℕ) → ((a : A) (x : List ℕ) → P a x → length x ≡ size a) → (l : List A) (x : List ℕ) → IsEach P l x → length x ≡ sum_by size l
+each_length : {A : Type 0} (P : A → List ℕ → Type 0) (size : A → ℕ) → ((a : A) (x : List ℕ) → P a x → length x ≡ size a) → (l : List A) (x : List ℕ)
+    → IsEach P l x → length x ≡ sum_by size l
 each_length P size one [] x h = ap length h
 each_length P size one (a ∷ l) x h =
     ap length h.whole ∙ length-append h.front h.rest ∙ ap (λ z. z + length h.rest) (one a h.front h.first)
     ∙ ap (λ z. size a + z) (each_length P size one l h.rest h.second) ∙ sym (sum_by-cons size a l)
 
-words_length : (order : Endianness) (c : Coordinate) (x : List ℕ) → IsEach (IsNumber order 8) c x → length x ≡ 8 * length c
-words_length order [] x h = omega (arith, ap length h)
-words_length order (w ∷ c) x h =
-    let eight = (h.first).len in
-    let tail = words_length order c h.rest h.second in
-    omega (arith, ap length h.whole, length-append h.front h.rest)
-
-coordinate_length : (order : Endianness) (d : Dimension) (c : Coordinate) (x : List ℕ) → SpellsCoordinate order d c x → length x ≡ 8 * width d
-coordinate_length order d c x h = words_length order c x h.words ∙ ap (λ z. 8 * z) h.len
-
-coordinates_length : (order : Endianness) (d : Dimension) (cs : List Coordinate) (x : List ℕ) → IsEach (SpellsCoordinate order d) cs x → length x ≡ 8 * width d * length cs
-coordinates_length order d [] x h = omega (arith, ap length h)
-coordinates_length order d (c ∷ cs) x h =
-    let head = coordinate_length order d c h.front h.first in
-    let tail = coordinates_length order d cs h.rest h.second in
-    omega (arith, ap length h.whole, length-append h.front h.rest)
+pub coordinate_length : (order : Endianness) (d : Dimension) (c : Coordinate) (x : List ℕ) → SpellsCoordinate order d c x → length x ≡ 8 * width d
+coordinate_length order d c x h = each_len (IsNumber order 8) 8 (λ v y is. is.len) c x h.words ∙ ap (λ z. 8 * z) h.len
 
 pub line_length : (order : Endianness) (d : Dimension) (cs : List Coordinate) (x : List ℕ) → SpellsCoordinates order d cs x → length x ≡ line_size d cs
 line_length order d cs x h =
-    let four = (h.first).len in
-    let body = coordinates_length order d cs h.rest h.second in
-    omega (arith, ap length h.whole, length-append h.front h.rest)
+    omega (arith, each_len (SpellsCoordinate order d) (8 * width d) (coordinate_length order d) cs h.rest h.second, then_length h)
 
 body_length : (order : Endianness) (own : List ℕ) (t : Value) (x : List ℕ) → SpellsBody order own t x → length x ≡ body_size t
 body_length order own (point d None) x h = coordinate_length order d own x h.1
 body_length order own (point d (Some c)) x h = coordinate_length order d c x h.2
 body_length order own (line_string d cs) x h = line_length order d cs x h.1
 body_length order own (polygon d rings) x h =
-    let four = ((h.1).first).len in
     let body = each_length (SpellsCoordinates order d) (line_size d) (line_length order d) rings (h.1).rest (h.1).second in
-    omega (arith, ap length (h.1).whole, length-append (h.1).front (h.1).rest)
-body_length order own (multi_point d l) x h = (h.1).len
-body_length order own (multi_line_string d l) x h = (h.1).len
-body_length order own (multi_polygon d l) x h = (h.1).len
-body_length order own (collection d ts) x h = (h.1).len
+    omega (arith, ((h.1).first).len, then_length h.1)
+body_length order own _ x h = (h.1).len
 
-header_bytes : (h : Header) (k : ℕ) (d : Dimension) (x : List ℕ) → IsHeader h k d x → length x ≡ 5 + 4 * (if is_some h.srid then 1 else 0)
-header_bytes h k d x a = go (is_some h.srid) (header_length h k d x a)
-  where
-    go : (b : Bool) → length x ≡ 5 + srid_size b → length x ≡ 5 + 4 * (if b then 1 else 0)
-    go true e = e
-    go false e = e
+srid_size_is : (b : Bool) → srid_size b ≡ 4 * (if b then 1 else 0)
+srid_size_is true = refl
+srid_size_is false = refl
 
 -- a text is as long as its value asks for, and four bytes for each SRID
 mutual
   pub spelled_length : (s : Spelling) (t : Value) (x : List ℕ) → Spells s t x → length x ≡ value_size t + 4 * srid_count s
   spelled_length (node h own ss) t x a =
-      let head = header_bytes h (kind t) (dimension t) a.front a.first in
+      let head = header_length h (kind t) (dimension t) a.front a.first in
       let body = body_length h.order own t a.second.front a.second.first in
       let tail = each_spelled_length (member_part (kind t) (dimension t)) ss (members t) a.second.rest a.second.second in
-      omega (arith, ap length a.whole, length-append a.front a.rest, ap length a.second.whole, length-append a.second.front a.second.rest, value_size-members t)
+      omega (arith, then_length a, then_length a.second, value_size-members t, srid_size_is (is_some h.srid))
 
   pub each_spelled_length : (w : Part) (ss : Spellings) (ts : Values) (x : List ℕ) → SpellsEach w ss ts x → length x ≡ each_size ts + 4 * srid_count_each ss
   each_spelled_length w no_spellings no_members x a = ap length a
   each_spelled_length w (spelling s ss) (member t ts) x a =
-      let head = spelled_length s t a.front a.first.0 in
-      let tail = each_spelled_length w ss ts a.rest a.second in
-      omega (arith, ap length a.whole, length-append a.front a.rest)
-  each_spelled_length w no_spellings (member t ts) x a = absurd a
-  each_spelled_length w (spelling s ss) no_members x a = absurd a
-
-inner_none : (form : Form) → form_srid (inner form) ≡ None
-inner_none Iso = refl
-inner_none (Ewkb srid) = refl
+      omega (arith, each_spelled_length w ss ts a.rest a.second, spelled_length s t a.front a.first.0, then_length a)
+  each_spelled_length w _ _ x a = absurd a
 
 -- what is written has the options' SRID, and no other
 mutual
-  no_srids : (order : Endianness) (form : Form) (ss : Spellings) → form_srid form ≡ None → AllHaveOptions order form ss → srid_count_each ss ≡ 0
+  no_srids : (order : Endianness) (form : Form) (ss : Spellings) → is_some (form_srid form) ≡ false → AllHaveOptions order form ss → srid_count_each ss ≡ 0
   no_srids order form no_spellings none h = refl
   no_srids order form (spelling s ss) none h =
-      let head = srid_counted order form s h.0 in
-      let tail = no_srids order form ss none h.1 in
-      let zero_head : ◌≡◌ {A = ℕ} (if is_some (form_srid form) then 1 else 0) 0 = ap (λ z. if is_some z then 1 else 0) none in
-      omega arith
+      let zero_head : ◌≡◌ {A = ℕ} (if is_some (form_srid form) then 1 else 0) 0 = ap (λ z. if z then 1 else 0) none in
+      omega (arith, no_srids order form ss none h.1, srid_counted order form s h.0)
 
   srid_counted : (order : Endianness) (form : Form) (s : Spelling) → HasOptions order form s → srid_count s ≡ (if is_some (form_srid form) then 1 else 0)
   srid_counted order form (node h own ss) k =
-      let members = no_srids order (inner form) ss (inner_none form) k.2 in
       let mine : ◌≡◌ {A = ℕ} (if is_some h.srid then 1 else 0) (if is_some (form_srid form) then 1 else 0) = ap (λ z. if is_some z then 1 else 0) k.1 in
-      omega arith
+      omega (arith, no_srids order (inner form) ss (inner_fits form).1 k.2)
 
 pub text_length : (order : Endianness) (form : Form) (g : Geometry) → IsForm form → IsGeometry g → fault g ≡ None
     → length (text order form g) ≡ value_size (normal g) + 4 * (if is_some (form_srid form) then 1 else 0)
 text_length order form g h lawful fine =
-    let all = spelled_length (written order form g) (normal g) (text order form g) (text_spells order form g h lawful fine) in
     let one = srid_counted order form (written order form g) (written_has_options order form g) in
-    omega arith
+    omega (arith, spelled_length (written order form g) (normal g) (text order form g) (text_spells order form g h lawful fine))
 
 pub length_of_text_lem : LengthOfText
 length_of_text_lem order other form g h lawful fine =
@@ -188,28 +127,26 @@ length_of_text_lem order other form g h lawful fine =
 pub length_of_front_lem : LengthOfFront
 length_of_front_lem order input s t rest b f =
     let good = front_good input s t rest b f in
-    let all = spelled_length s t f.front f.spelled in
-    let written : length (text order Iso (geometry_of t)) ≡ value_size (normal (geometry_of t)) + 0 = text_length order Iso (geometry_of t) tt (lawful-geometry_of t good.0) good.1 in
-    omega (arith, ap value_size (normal-geometry_of t good.0))
+    let written : length (text order Iso (geometry_of t)) ≡ value_size (normal (geometry_of t)) + 0 =
+    text_length order Iso (geometry_of t) tt (lawful-geometry_of t good.0) good.1 in
+    omega (arith, spelled_length s t f.front f.spelled, ap value_size (normal-geometry_of t good.0))
 
 pub size_is_refused_lem : SizeIsRefused
 unfolding or_else
-size_is_refused_lem order form input s t rest b f = ap (λ z. or_else z (size_fault (length (text order form (geometry_of t))))) (front_good input s t rest b f).1
-
-size_fits : (n : ℕ) → n < 2 ^ 64 → size_fault n ≡ None
-unfolding size_fault
-size_fits n h = cond-true (nat_lt n (2 ^ 64)) _ _ (lt-ltb n (2 ^ 64) h)
+size_is_refused_lem order form input s t rest b f =
+    ap (λ z. or_else z (size_fault (length (text order form (geometry_of t))))) (front_good input s t rest b f).1
 
 -- a front's text under a form is no longer than the front where the form has no SRID that the front hasn't
-fits : (order : Endianness) (form : Form) (input : List ℕ) (s : Spelling) (t : Value) (rest : List ℕ) → AreBytes input → length input < 2 ^ 64 → Front input s t rest → IsForm form
-    → ◌≤◌ (if is_some (form_srid form) then 1 else 0) (srid_count s) → IsWritable order form (geometry_of t)
+fits : (order : Endianness) (form : Form) (input : List ℕ) (s : Spelling) (t : Value) (rest : List ℕ) → AreBytes input → length input < 2 ^ 64
+    → Front input s t rest → IsForm form → ◌≤◌ (if is_some (form_srid form) then 1 else 0) (srid_count s) → IsWritable order form (geometry_of t)
+unfolding size_fault
 fits order form input s t rest b small f form_is fewer =
     let good = front_good input s t rest b f in
     let long = spelled_length s t f.front f.spelled in
     let whole : length input ≡ length f.front + length rest = ap length f.whole ∙ length-append f.front rest in
     let len = text_length order form (geometry_of t) form_is (lawful-geometry_of t good.0) good.1 in
     let same : value_size (normal (geometry_of t)) ≡ value_size t = ap value_size (normal-geometry_of t good.0) in
-    size_is_refused_lem order form input s t rest b f ∙ size_fits _ (omega arith)
+    size_is_refused_lem order form input s t rest b f ∙ cond-true (nat_lt (length (text order form (geometry_of t))) (2 ^ 64)) _ _ (lt-ltb _ _ (omega arith))
 
 pub front_is_writable_lem : FrontIsWritable
 front_is_writable_lem order input s t rest b small f =

@@ -1,29 +1,50 @@
--- Lists put together, taken apart again, and what holds of all items.
-use Rattle.std.proofs.Common.{◌≡◌, ℕ, List, [], ◌∷◌, ◌++◌, length, refl, sym, ap, ◌∙◌, append_assoc, arith}
+-- Lists of values, what holds of all items, and the kinds that are lists of members.
+use Rattle.std.proofs.Common.{ℕ, sum_by, ◌+◌, ◌*◌, sym, ap, ◌∙◌, ◌≡◌, List, [], ◌∷◌, length, refl, arith, zero, suc, ◌<◌, ◌≤◌, ◌==◌, ◌&&◌, nat_lt}
+use Rattle.std.proofs.Common.{if◌then◌else◌}
+use Rattle.std.proofs.lemmas.List.Sums.{sum_by-cons}
 use Rattle.std.specs.List.{AllByRecursion}
-
--- two texts of one length in front of one input are the same
-pub split_same : (x y r q : List ℕ) → length x ≡ length y → x ++ r ≡ y ++ q → (x ≡ y) × (r ≡ q)
-split_same [] [] r q l e = (refl, e)
-split_same [] (b ∷ y) r q l e = absurd (omega arith)
-split_same (a ∷ x) [] r q l e = absurd (omega arith)
-split_same (a ∷ x) (b ∷ y) r q l e =
-    let head : a ≡ b = cc in
-    let tail : x ++ r ≡ y ++ q = cc in
-    let shorter : length x ≡ length y = omega arith in
-    let rest = split_same x y r q shorter tail in
-    let same : x ≡ y = rest.0 in
-    (cc, rest.1)
-
--- where two texts are each two texts, the first of these stand in front of the same input
-pub apart : {x y : List ℕ} (f g h k r q : List ℕ) → x ≡ f ++ g → y ≡ h ++ k → x ++ r ≡ y ++ q → f ++ (g ++ r) ≡ h ++ (k ++ q)
-apart f g h k r q p p' e =
-    sym (ap (λ v. v ++ r) p ∙ append_assoc f g r) ∙ e ∙ ap (λ v. v ++ q) p' ∙ append_assoc h k q
-
-pub together : {x y : List ℕ} (f g h k : List ℕ) → x ≡ f ++ g → y ≡ h ++ k → f ≡ h → g ≡ k → x ≡ y
-together f g h k p q e e' = cc
+use Rattle.wkb_laws.specs.Words.{Values, no_members, member, Value, each, count, Dimension, Layout, general, ShortMultiPoint, Part, any, part, multi_point_end}
+use Rattle.wkb_laws.specs.Words.{Reading, Item, collection_with, list_item, multi_line_string_with, multi_point_with, multi_polygon_with, parts_body, refused}
 
 -- what follows for one follows for all
 pub all_imply : {A : Type 0} (P Q : A → Type 0) → ((a : A) → P a → Q a) → (l : List A) → AllByRecursion P l → AllByRecursion Q l
 all_imply P Q f [] h = tt
 all_imply P Q f (a ∷ l) h = (f a h.0, all_imply P Q f l h.1)
+
+-- What a list of values has is the sum of what its items have.
+module _ {A : Type 0} (f : A → Value) (total : Values → ℕ) (none : total no_members ≡ 0) where
+  pub each_sum : (own : A → ℕ) → ((a : A) (ts : Values) → total (member (f a) ts) ≡ own a + total ts) → (l : List A) → total (each f l) ≡ sum_by own l
+  each_sum own one [] = none
+  each_sum own one (a ∷ l) = one a (each f l) ∙ ap (λ z. own a + z) (each_sum own one l) ∙ sym (sum_by-cons own a l)
+
+  pub each_same : (n : ℕ) → ((a : A) (ts : Values) → total (member (f a) ts) ≡ n + total ts) → (l : List A) → total (each f l) ≡ n * length l
+  each_same n one [] = omega (arith, none)
+  each_same n one (a ∷ l) = omega (arith, one a (each f l), each_same n one l)
+
+pub count-each : {A : Type 0} (f : A → Value) (l : List A) → count (each f l) ≡ length l
+count-each f l = omega (arith, each_same f count refl 1 (λ a ts. refl) l)
+
+-- what holds of each of the four holds of any
+pub by_list_kind : (Q : ℕ → Type 0) → Q 4 → Q 5 → Q 6 → Q 7 → (k : ℕ) → 3 < k → k ≤ 7 → Q k
+by_list_kind Q a b c d (suc (suc (suc (suc zero)))) low high = a
+by_list_kind Q a b c d (suc (suc (suc (suc (suc zero))))) low high = b
+by_list_kind Q a b c d (suc (suc (suc (suc (suc (suc zero)))))) low high = c
+by_list_kind Q a b c d (suc (suc (suc (suc (suc (suc (suc zero))))))) low high = d
+by_list_kind Q a b c d _ low high = absurd (omega arith)
+
+-- a part that is a member: of any kind, or a point, a line string or a polygon
+abbrev pub IsWanted : Part → Type 0
+IsWanted any = Unit {0}
+IsWanted (part k d) = k ≤ 3
+
+-- the geometry of such members, by its kind
+abbrev pub whole_by : ℕ → Dimension → List Item → Value
+whole_by k =
+    if k == 4 then multi_point_with else if k == 5 then multi_line_string_with else if k == 6 then multi_polygon_with else collection_with
+
+-- what stands behind the count of a list of members
+abbrev pub list_behind : ℕ → Layout → (List ℕ → Reading Item) → List ℕ → ℕ → Reading Item
+list_behind k l part_at input n =
+    let end = multi_point_end l.dimension l.has_srid n in
+    if (k == 4) && nat_lt (length input) end then refused (general (ShortMultiPoint end (length input)))
+    else parts_body k l part_at (list_item l (whole_by k)) input n

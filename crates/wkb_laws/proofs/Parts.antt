@@ -1,13 +1,19 @@
--- The front of a list, and what is read there.
-use Rattle.std.proofs.Common.{◌≡◌, ℕ, zero, suc, ◌+◌, ◌*◌, ◌≤◌, List, ◌++◌, length, take, drop, refl, sym, ap, ◌∙◌, subst, arith, length-drop, length-append}
-use Rattle.std.proofs.lemmas.List.{take-append-drop, length-take-le}
-use Rattle.std.proofs.Math.Seq.{take-append_seam, drop-append_seam, take-add}
-use Rattle.byteorder.specs.Numbers.{big_from-take, little_from-take, big_from-append, little_from-append}
-use Rattle.wkb_geom.specs.declared.common.Endianness.{Endianness}
-use Rattle.wkb_geom.specs.declared.common.Endianness.TheVariants.{BigEndian, LittleEndian}
-use Rattle.wkb_geom.specs.Numbers.{IsNumber, number}
+-- The front of a list, what is read there, and what stands in front of a body.
+use Rattle.std.proofs.Common.{slice_get, Some, drop-drop, ◌≡◌, ℕ, zero, suc, ◌+◌, ◌*◌, ◌≤◌, List, [], ◌∷◌, ◌++◌, append_assoc, length, take, drop, refl, sym}
+use Rattle.std.proofs.Common.{ap, ◌∙◌, subst, arith, length-drop, length-append, take-append-drop, length-take-le, take-add, Option, None, Bool, is_some}
+use Rattle.std.proofs.Math.Seq.{take-append_seam, drop-append_seam}
+use Rattle.byteorder.specs.Numbers.{big_from-append, little_from-append}
+use Rattle.wkb_laws.specs.Words.{Then, Endianness, BigEndian, LittleEndian, IsNumber, number, IsEach, Begins, Dimension, Header, IsHeader, IsSrid, srid_size}
+use Rattle.wkb_laws.specs.Words.{Opens}
+use Rattle.wkb_geom.specs.Items.{number-take as number_taken}
 pub use Rattle.wkb_geom.specs.Reading.{items}
-use Rattle.wkb_geom.specs.Grammar.{IsEach, Begins}
+
+-- how long a text of two parts is, and what it is in front of others
+pub then_length : {P Q : List ℕ → Type 0} {x : List ℕ} (a : Then P Q x) → length x ≡ length a.front + length a.rest
+then_length a = ap length a.whole ∙ length-append a.front a.rest
+
+pub then_append : {P Q : List ℕ → Type 0} {x : List ℕ} (a : Then P Q x) (y : List ℕ) → x ++ y ≡ a.front ++ (a.rest ++ y)
+then_append a y = ap (λ z. z ++ y) a.whole ∙ append_assoc a.front a.rest y
 
 pub take_front : (n : ℕ) (x y : List ℕ) → length x ≡ n → take n (x ++ y) ≡ x
 take_front n x y e = subst (λ k. take k (x ++ y) ≡ x) e (take-append_seam x y)
@@ -16,18 +22,20 @@ pub drop_front : (n : ℕ) (x y : List ℕ) → length x ≡ n → drop n (x ++ 
 drop_front n x y e = subst (λ k. drop k (x ++ y) ≡ y) e (drop-append_seam x y)
 
 -- a number is read off the first bytes
-pub number-front : (order : Endianness) (n v : ℕ) (x y : List ℕ) → IsNumber order n v x → number order n (x ++ y) ≡ v
+pub number-more : (order : Endianness) (n : ℕ) (x y : List ℕ) → n ≤ length x → number order n (x ++ y) ≡ number order n x
 unfolding number
-number-front BigEndian n v x y h = big_from-append n x y (omega (arith, h.len)) ∙ h.value
-number-front LittleEndian n v x y h = little_from-append n x y (omega (arith, h.len)) ∙ h.value
+number-more BigEndian n x y h = big_from-append n x y h
+number-more LittleEndian n x y h = little_from-append n x y h
+
+pub number-front : (order : Endianness) (n v : ℕ) (x y : List ℕ) → IsNumber order n v x → number order n (x ++ y) ≡ v
+number-front order n v x y h = number-more order n x y (omega (arith, h.len)) ∙ h.value
 
 pub number-take : (order : Endianness) (n : ℕ) (y : List ℕ) → n ≤ length y → IsNumber order n (number order n y) (take n y)
-unfolding number
-number-take BigEndian n y h = record { len = length-take-le n y h; value = big_from-take 0 n n y (omega arith) }
-number-take LittleEndian n y h = record { len = length-take-le n y h; value = little_from-take 0 n n y (omega arith) }
+number-take order n y h = record { len = length-take-le n y h; value = number_taken order n n y (omega arith) }
 
 -- where an input begins with a field, the number and the rest
-pub begins_number : (order : Endianness) (n v : ℕ) (input rest : List ℕ) → Begins (IsNumber order n v) input rest → (n ≤ length input) × (number order n input ≡ v) × (drop n input ≡ rest)
+pub begins_number : (order : Endianness) (n v : ℕ) (input rest : List ℕ) → Begins (IsNumber order n v) input rest
+    → (n ≤ length input) × (number order n input ≡ v) × (drop n input ≡ rest)
 begins_number order n v input rest b =
     let long : n ≤ length (b.front ++ rest) = omega (arith, (b.first).len, length-append b.front rest) in (
       subst (λ z. n ≤ length z) (sym b.whole) long,
@@ -37,10 +45,6 @@ begins_number order n v input rest b =
 
 pub number_begins : (order : Endianness) (n : ℕ) (input : List ℕ) → n ≤ length input → Begins (IsNumber order n (number order n input)) input (drop n input)
 number_begins order n input h = record { front = take n input; whole = sym (take-append-drop n input); first = number-take order n input h }
-
-pub length-items : {A : Type 0} (size : ℕ) (item : List ℕ → A) (n : ℕ) (input : List ℕ) → length (items size item n input) ≡ n
-length-items size item zero input = refl
-length-items size item (suc n) input = ap suc (length-items size item n (drop size input))
 
 -- Where each item is read off its bytes, so are n of them.
 pub items_are : {A : Type 0} (P : A → List ℕ → Type 0) (size : ℕ) (item : List ℕ → A) → ((y : List ℕ) → size ≤ length y → P (item y) (take size y))
@@ -55,3 +59,45 @@ items_are P size item one (suc n) y h =
       first = one y (omega arith);
       second = items_are P size item one n (drop size y) (omega (arith, length-drop size y));
     }
+
+-- as many bytes an item
+pub each_len : {A : Type 0} (P : A → List ℕ → Type 0) (size : ℕ) → ((a : A) (x : List ℕ) → P a x → length x ≡ size) → (l : List A) (x : List ℕ) → IsEach P l x
+    → length x ≡ size * length l
+each_len P size one [] x h = omega (arith, ap length h)
+each_len P size one (a ∷ l) x h =
+    omega (arith, then_length h, one a h.front h.first, each_len P size one l h.rest h.second)
+
+-- Where each item is what is read at the front of its bytes, so are n of them.
+pub items_read : {A : Type 0} (P : A → List ℕ → Type 0) (size : ℕ) (item : List ℕ → A)
+    → ((a : A) (x y : List ℕ) → P a x → (length x ≡ size) × (item (x ++ y) ≡ a))
+    → (l : List A) (x y : List ℕ) → IsEach P l x → items size item (length l) (x ++ y) ≡ l
+items_read P size item one [] x y h = refl
+items_read P size item one (a ∷ l) x y h =
+    let first = one a h.front (h.rest ++ y) h.first in
+    let shape : x ++ y ≡ h.front ++ (h.rest ++ y) = then_append h y in
+    let behind : drop size (x ++ y) ≡ h.rest ++ y = ap (drop size) shape ∙ drop_front size h.front (h.rest ++ y) first.0 in
+    let head : item (x ++ y) ≡ a = ap item shape ∙ first.1 in
+    let tail : items size item (length l) (drop size (x ++ y)) ≡ l = ap (items size item (length l)) behind ∙ items_read P size item one l h.rest y h.second in
+    cc
+
+-- one of the items, by its number
+pub item_at : {A : Type 0} (size : ℕ) (item : List ℕ → A) (n i : ℕ) (y : List ℕ) (a : A) → slice_get (items size item n y) i ≡ Some a
+    → item (drop (size * i) y) ≡ a
+item_at size item zero i y a is = absurd (cc)
+item_at size item (suc n) zero y a is = let start : size * 0 ≡ 0 = omega arith in let same : item y ≡ a = cc in ap (λ k. item (drop k y)) start ∙ same
+item_at size item (suc n) (suc i) y a is =
+    let start : size * suc i ≡ size + size * i = omega arith in
+    ap (λ k. item (drop k y)) start ∙ ap item (sym (drop-drop (size * i) size y)) ∙ item_at size item n i (drop size y) a is
+
+pub length-opens : {input rest : List ℕ} {order : Endianness} {k : ℕ} {d : Dimension} {srid : Bool} → Opens input order k d srid rest
+    → length input ≡ 5 + length rest
+length-opens {input} {rest} o =
+    omega (arith, ap length o.number.whole ∙ length-append o.number.front rest, ap length o.whole)
+
+pub srid_length : (order : Endianness) (srid : Option ℕ) (field : List ℕ) → IsSrid order srid field → length field ≡ srid_size (is_some srid)
+srid_length order None field h = ap length h
+srid_length order (Some n) field h = h.len
+
+pub header_length : (h : Header) (k : ℕ) (d : Dimension) (front : List ℕ) → IsHeader h k d front → length front ≡ 5 + srid_size (is_some h.srid)
+header_length h k d front is =
+    omega (arith, ap length is.whole, length-append is.code_field is.srid_field, srid_length h.order h.srid is.srid_field is.srid)

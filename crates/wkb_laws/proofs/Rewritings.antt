@@ -1,27 +1,19 @@
 -- Values and outermost SRIDs are equal exactly where their texts are.
-use Rattle.std.proofs.Common.{◌≡◌, ℕ, suc, List, [], ◌++◌, Option, Some, None, refl, sym, ap, ◌∙◌, subst}
-use Rattle.std.proofs.lemmas.List.{append-nil}
-use Rattle.wkb_geom.specs.declared.common.Endianness.{Endianness}
-use Rattle.wkb_geom.specs.declared.common.Dimension.TheVariants.{Xy, Xyz, Xym, Xyzm}
-use Rattle.wkb_geom.specs.declared.common.Form.{Form}
-use Rattle.wkb_geom.specs.declared.common.Form.TheVariants.{Ewkb}
-use Rattle.wkb_geom.specs.Numbers.{AreBytes}
-use Rattle.wkb_geom.specs.Values.{Value}
-use Rattle.wkb_geom.specs.Spellings.{Spelling, node, header, IsSrid, Spells}
-use Rattle.wkb_geom.specs.Fronts.{Front}
-use Rattle.wkb_geom.specs.Geometries.{geometry_of}
-use Rattle.wkb_geom.specs.Texts.{form_srid, text, IsForm}
+use Rattle.std.proofs.Common.{◌≡◌, ℕ, List, [], ◌++◌, refl, sym, ap, ◌∙◌, subst, append-nil}
+use Rattle.wkb_laws.specs.Words.{Endianness, Form, Ewkb, AreBytes, Value, Spelling, node, header, Spells, Front, geometry_of, form_srid, text, IsForm}
 use Rattle.wkb_laws.specs.Written.{written, HasOptions}
-use Rattle.wkb_laws.specs.Laws.{TextSpells, WrittenIsRead, EqualTexts, EqualTextsWithSrid, EqualTextsWithOwnSrid, NamedDimension, RestIsFree, BytesAreRead, RewritingIsRead, RewritingIsFixed, RewritingWithSridIsFixed}
+use Rattle.wkb_laws.specs.Laws.{TextSpells, WrittenIsRead, EqualTexts, EqualTextsWithSrid, EqualTextsWithOwnSrid, RestIsFree, BytesAreRead, RewritingIsRead}
+use Rattle.wkb_laws.specs.Laws.{RewritingIsFixed, RewritingWithSridIsFixed}
 use Rattle.wkb_laws.proofs.OneFront.{one_spelling, one_front_lem}
 use Rattle.wkb_laws.proofs.TextSpells.{text_spells, written_has_options}
-use Rattle.wkb_laws.proofs.Values.{Good, number-lt, AreBytes-rest, bytes_front, spelled_good, normal-geometry_of, lawful-geometry_of}
+use Rattle.wkb_laws.proofs.Values.{Good, front_good, front_srid, normal-geometry_of, lawful-geometry_of}
 
 outer_srid : (order : Endianness) (form : Form) (s : Spelling) → HasOptions order form s → (header s).srid ≡ form_srid form
 outer_srid order form (node h words ss) k = k.1
 
 -- the text of a value spells it
-pub value_text : (order : Endianness) (form : Form) (t : Value) → IsForm form → Good t → Spells (written order form (geometry_of t)) t (text order form (geometry_of t))
+pub value_text : (order : Endianness) (form : Form) (t : Value) → IsForm form → Good t
+    → Spells (written order form (geometry_of t)) t (text order form (geometry_of t))
 value_text order form t h good =
     subst (λ v. Spells (written order form (geometry_of t)) v (text order form (geometry_of t))) (normal-geometry_of t good.0)
     (text_spells order form (geometry_of t) h (lawful-geometry_of t good.0) good.1)
@@ -35,15 +27,13 @@ one_text order form other t v h k good fine e =
           ∙ outer_srid order other _ (written_has_options order other (geometry_of v)),
     )
 
-pub front_good : (input : List ℕ) (s : Spelling) (t : Value) (rest : List ℕ) → AreBytes input → Front input s t rest → Good t
-front_good input s t rest b f = spelled_good s t f.front (bytes_front f.front rest f.whole b) f.spelled
-
 pub text_spells_lem : TextSpells
 text_spells_lem order form g h lawful fine = (written order form g, text_spells order form g h lawful fine, written_has_options order form g)
 
 pub written_is_read_lem : WrittenIsRead
 written_is_read_lem order form g rest h lawful fine shallow =
-    (written order form g, record { front = text order form g; whole = refl; spelled = text_spells order form g h lawful fine; shallow = shallow }, written_has_options order form g)
+    let spelled = text_spells order form g h lawful fine in
+    (written order form g, record { front = text order form g; whole = refl; spelled = spelled; shallow = shallow }, written_has_options order form g)
 
 pub equal_texts_lem : EqualTexts
 equal_texts_lem order form a b s u t v rest more h ab bb f g = (
@@ -70,28 +60,13 @@ rewriting_is_read_lem order form input s t rest more h b f = (
   written_has_options order form (geometry_of t),
 )
 
--- the outermost SRID is four bytes' number
-srid_fits : (order : Endianness) (srid : Option ℕ) (x : List ℕ) → AreBytes x → IsSrid order srid x → IsForm (Ewkb srid)
-srid_fits order None x b h = tt
-srid_fits order (Some n) x b h = number-lt order 4 n x h b
-
-outer_fits : (s : Spelling) (t : Value) (x : List ℕ) → AreBytes x → Spells s t x → IsForm (Ewkb (header s).srid)
-outer_fits (node h own ss) t x b a =
-    let bytes = bytes_front a.front a.rest a.whole b in
-    let first = a.first in
-    let behind : AreBytes (first.code_field ++ first.srid_field) = λ i. (subst AreBytes first.whole bytes) (suc i) in
-    srid_fits h.order h.srid first.srid_field (AreBytes-rest first.code_field first.srid_field behind) first.srid
-
-pub front_srid : (input : List ℕ) (s : Spelling) (t : Value) (rest : List ℕ) → AreBytes input → Front input s t rest → IsForm (Ewkb (header s).srid)
-front_srid input s t rest b f = outer_fits s t f.front (bytes_front f.front rest f.whole b) f.spelled
-
 pub equal_texts_with_own_srid_lem : EqualTextsWithOwnSrid
 equal_texts_with_own_srid_lem order a b s u t v rest more ab bb f g =
     equal_texts_with_srid_lem order (header s).srid (header u).srid a b s u t v rest more (front_srid a s t rest ab f) (front_srid b u v more bb g) ab bb f g
 
 -- what was rewritten is read as itself
-read_back : (order : Endianness) (form : Form) (input out : List ℕ) (s : Spelling) (t : Value) (rest : List ℕ) → IsForm form → AreBytes input → Front input s t rest → out ≡ text order form (geometry_of t)
-    → (u : Spelling) × Front out u t [] × HasOptions order form u
+read_back : (order : Endianness) (form : Form) (input out : List ℕ) (s : Spelling) (t : Value) (rest : List ℕ) → IsForm form → AreBytes input
+    → Front input s t rest → out ≡ text order form (geometry_of t) → (u : Spelling) × Front out u t [] × HasOptions order form u
 read_back order form input out s t rest h b f e =
     let r = rewriting_is_read_lem order form input s t rest [] h b f in
     (r.0, subst (λ z. Front z r.0 t []) (append-nil _ ∙ sym e) r.1, r.2)
@@ -114,9 +89,3 @@ rewriting_with_srid_is_fixed_lem order input out b r =
           q.written ∙ ap (λ z. text order (Ewkb (header z).srid) (geometry_of q.t)) one.1 ∙ ap (λ z. text order (Ewkb z) (geometry_of q.t)) same
           ∙ ap (λ z. text order (Ewkb srid) (geometry_of z)) one.2 ∙ sym r.written,
     )
-
-pub named_dimension_lem : NamedDimension
-named_dimension_lem Xy = refl
-named_dimension_lem Xyz = refl
-named_dimension_lem Xym = refl
-named_dimension_lem Xyzm = refl

@@ -1,22 +1,11 @@
 -- The laws, as statements.
-use Rattle.std.specs.Prelude.{Some, Ok, Err, ◌≡◌, ◌↔◌, ◌⊎◌, ℕ, suc, ◌+◌, ◌*◌, ◌-◌, ◌≤◌, ◌<◌, List, [], ◌++◌, length, None, Bool, ◌^◌, is_some, if◌then◌else◌, Option}
-use Rattle.wkb_geom.specs.declared.common.Endianness.{Endianness}
-use Rattle.wkb_geom.specs.declared.common.Dimension.{Dimension}
-use Rattle.wkb_geom.specs.declared.common.Form.{Form}
-use Rattle.wkb_geom.specs.declared.common.Form.TheVariants.{Iso, Ewkb}
-use Rattle.wkb_geom.specs.Numbers.{AreBytes}
-use Rattle.wkb_geom.specs.Values.{Value, Values, no_members, member, count, nest, nest_each, member_count, member_count_each, listed_count}
-use Rattle.wkb_geom.specs.Spellings.{Spelling, Spellings, Spells, SpellsEach, Part, any, srid_count, header}
-use Rattle.wkb_geom.specs.Fronts.{Front, max_nesting}
-use Rattle.wkb_geom.specs.declared.error.General.TheVariants.{ShortPoint, ShortLineString, ShortLinearRing, ShortMultiPoint}
-use Rattle.wkb_geom.specs.declared.error.Cause.{Cause}
-use Rattle.wkb_geom.specs.declared.error.Cause.TheVariants.{EndOfInput as end_of_input, General as general}
-use Rattle.wkb_geom.specs.Refusals.{slots_asked, Counts, Refuses}
-use Rattle.wkb_geom.specs.Dimensions.{named, dimensions}
-use Rattle.wkb_geom.specs.Geometries.{Geometry, IsGeometry, normal, geometry_of}
-use Rattle.wkb_geom.specs.Sizes.{byte_size}
-use Rattle.wkb_geom.specs.Texts.{text, fault, size_fault, refusal, form_srid, IsForm, IsWritable, IsRewriting, IsRewritingWithSrid}
-use Rattle.wkb_geom.specs.Reading.{Reading, Item, geometry_at}
+use Rattle.std.proofs.Common.{Some, Ok, Err, ◌≡◌, ◌↔◌, ◌⊎◌, ℕ, suc, ◌+◌, ◌*◌, ◌-◌, ◌≤◌, ◌<◌, List, [], ◌++◌, length, None, Bool, ◌^◌, is_some, if◌then◌else◌}
+use Rattle.std.proofs.Common.{Option}
+use Rattle.wkb_laws.specs.Words.{Endianness, Dimension, Form, Iso, Ewkb, AreBytes, Value, Values, no_members, member, count, nest, nest_each, member_count}
+use Rattle.wkb_laws.specs.Words.{member_count_each, listed_count, Spelling, Spellings, Spells, SpellsEach, Part, any, srid_count, header, Front, max_nesting}
+use Rattle.wkb_laws.specs.Words.{ShortPoint, ShortLineString, ShortLinearRing, ShortMultiPoint, Cause, end_of_input, general, slots_asked, Counts, Refuses}
+use Rattle.wkb_laws.specs.Words.{named, dimensions, Geometry, IsGeometry, normal, geometry_of, byte_size, text, fault, size_fault, refusal, form_srid, IsForm}
+use Rattle.wkb_laws.specs.Words.{IsWritable, IsRewriting, IsRewritingWithSrid, Reading, Item, geometry_at}
 use Rattle.wkb_laws.specs.Written.{HasOptions}
 
 -- The bytes, the spelling, the value and the rest of a front are settled by the input.
@@ -33,9 +22,11 @@ RestIsFree = (input : List ℕ) (s : Spelling) (t : Value) (rest more : List ℕ
 abbrev pub BytesAreRead : Type 0
 BytesAreRead = (input : List ℕ) (s : Spelling) (t : Value) (rest : List ℕ) → (f : Front input s t rest) → Front f.front s t []
 
+-- The input begins with a geometry.
 abbrev pub HasFront : List ℕ → Type 0
 HasFront input = (s : Spelling) × (t : Value) × (rest : List ℕ) × Front input s t rest
 
+-- The input is refused.
 abbrev pub IsRefused : List ℕ → Type 0
 IsRefused input = (cause : Cause) × (turns : ℕ) × (slots : ℕ) × Refuses max_nesting any input cause turns slots
 
@@ -149,12 +140,14 @@ LengthOfFront = (order : Endianness) (input : List ℕ) (s : Spelling) (t : Valu
 
 -- A value that was read is a lawful geometry that can be written, and its own normal value.
 abbrev pub FrontIsWritable : Type 0
-FrontIsWritable = (order : Endianness) (input : List ℕ) (s : Spelling) (t : Value) (rest : List ℕ) → AreBytes input → length input < 2 ^ 64 → Front input s t rest
+FrontIsWritable =
+    (order : Endianness) (input : List ℕ) (s : Spelling) (t : Value) (rest : List ℕ) → AreBytes input → length input < 2 ^ 64 → Front input s t rest
     → IsGeometry (geometry_of t) × (normal (geometry_of t) ≡ t) × IsWritable order Iso (geometry_of t)
 
 -- So it can under EWKB without an SRID.
 abbrev pub EwkbIsWritable : Type 0
-EwkbIsWritable = (order : Endianness) (input : List ℕ) (s : Spelling) (t : Value) (rest : List ℕ) → AreBytes input → length input < 2 ^ 64 → Front input s t rest
+EwkbIsWritable =
+    (order : Endianness) (input : List ℕ) (s : Spelling) (t : Value) (rest : List ℕ) → AreBytes input → length input < 2 ^ 64 → Front input s t rest
     → IsWritable order (Ewkb None) (geometry_of t)
 
 -- With any SRID it is refused for its size alone: where usize doesn't measure its text.
@@ -164,12 +157,14 @@ SizeIsRefused = (order : Endianness) (form : Form) (input : List ℕ) (s : Spell
 
 -- The SRID of its outermost geometry fits four bytes, and with it the value can be written.
 abbrev pub OwnSridIsWritable : Type 0
-OwnSridIsWritable = (order : Endianness) (input : List ℕ) (s : Spelling) (t : Value) (rest : List ℕ) → AreBytes input → length input < 2 ^ 64 → Front input s t rest
+OwnSridIsWritable =
+    (order : Endianness) (input : List ℕ) (s : Spelling) (t : Value) (rest : List ℕ) → AreBytes input → length input < 2 ^ 64 → Front input s t rest
     → IsForm (Ewkb (header s).srid) × IsWritable order (Ewkb (header s).srid) (geometry_of t)
 
 -- A rewriting is read as the value that it was made of, whatever follows it.
 abbrev pub RewritingIsRead : Type 0
-RewritingIsRead = (order : Endianness) (form : Form) (input : List ℕ) (s : Spelling) (t : Value) (rest more : List ℕ) → IsForm form → AreBytes input → Front input s t rest
+RewritingIsRead =
+    (order : Endianness) (form : Form) (input : List ℕ) (s : Spelling) (t : Value) (rest more : List ℕ) → IsForm form → AreBytes input → Front input s t rest
     → (u : Spelling) × Front (text order form (geometry_of t) ++ more) u t more × HasOptions order form u
 
 -- A rewriting is its own rewriting under the same options, and has no other.
@@ -196,7 +191,8 @@ EqualTextsWithSrid = (order : Endianness) (i j : Option ℕ) (a b : List ℕ) (s
 
 -- Two inputs have equal values and equal outermost SRIDs exactly where they are written alike with their own SRIDs.
 abbrev pub EqualTextsWithOwnSrid : Type 0
-EqualTextsWithOwnSrid = (order : Endianness) (a b : List ℕ) (s u : Spelling) (t v : Value) (rest more : List ℕ) → AreBytes a → AreBytes b → Front a s t rest → Front b u v more
+EqualTextsWithOwnSrid =
+    (order : Endianness) (a b : List ℕ) (s u : Spelling) (t v : Value) (rest more : List ℕ) → AreBytes a → AreBytes b → Front a s t rest → Front b u v more
     → (text order (Ewkb (header s).srid) (geometry_of t) ≡ text order (Ewkb (header u).srid) (geometry_of v)) ↔ ((t ≡ v) × ((header s).srid ≡ (header u).srid))
 
 -- A dimension's name is its own.

@@ -1,14 +1,7 @@
 -- Where the parts of a geometry stand in its bytes.
-use Rattle.std.specs.Prelude.{◌≡◌, ℕ, zero, suc, ◌+◌, ◌*◌, List, ◌++◌, length, drop, take, Some, slice_get}
-use Rattle.wkb_geom.specs.declared.common.Endianness.{Endianness}
-use Rattle.wkb_geom.specs.declared.common.Dimension.{Dimension}
-use Rattle.wkb_geom.specs.Numbers.{AreBytes, number}
-use Rattle.wkb_geom.specs.Dimensions.{width}
-use Rattle.wkb_geom.specs.Grammar.{IsEach}
-use Rattle.wkb_geom.specs.Values.{Coordinate, Value, Values, line_string, polygon, member, members, count}
-use Rattle.wkb_geom.specs.Spellings.{Spelling, node, Spellings, spelling, header, has_srid, any, SpellsCoordinates, Spells, SpellsEach}
-use Rattle.wkb_geom.specs.Refusals.{srid_size}
-use Rattle.wkb_geom.specs.Reading.{Item}
+use Rattle.std.proofs.Common.{◌≡◌, ℕ, zero, suc, ◌+◌, ◌*◌, List, ◌++◌, length, drop, take, Some, slice_get}
+use Rattle.wkb_laws.specs.Words.{Endianness, Dimension, AreBytes, number, width, IsEach, Coordinate, Value, Values, line_string, polygon, member, members}
+use Rattle.wkb_laws.specs.Words.{count, Spelling, node, Spellings, spelling, header, has_srid, any, SpellsCoordinates, Spells, SpellsEach, srid_size, Item}
 
 -- A spelling and a value leave no byte open.
 abbrev pub HasOneText : Type 0

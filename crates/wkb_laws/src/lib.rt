@@ -17,6 +17,7 @@ pub fn one_front()
 {}
 
 /// What follows a geometry changes nothing of it, and its bytes alone are read as it.
+#[tactic(auto, using(crate::proofs::Rewritings::rest_is_free_lem, crate::proofs::Rewritings::bytes_are_read_lem))]
 pub fn rest_is_free()
     ensures rest { RestIsFree }
     ensures bytes { BytesAreRead }
@@ -54,11 +55,13 @@ pub fn work_is_bounded()
 {}
 
 /// What is written spells the normal value, with the options' order and SRID.
+#[tactic(auto, using(crate::proofs::Rewritings::text_spells_lem))]
 pub fn text_spells()
     ensures { TextSpells }
 {}
 
 /// What is written is read again, whatever follows it.
+#[tactic(auto, using(crate::proofs::Rewritings::written_is_read_lem))]
 pub fn written_is_read()
     ensures { WrittenIsRead }
 {}
@@ -107,6 +110,7 @@ pub fn equal_texts_with_own_srid()
 {}
 
 /// A dimension that was made a caller's dimension is named again.
+#[tactic(auto, using(crate::proofs::Values::named_dimension_lem))]
 pub fn named_dimension()
     ensures { NamedDimension }
 {}

@@ -3,17 +3,20 @@
 ghost use Rattle.wkb_laws.specs.Places.{HasOneText, MembersStand, RingsStand, WordsStand, LineStringWordsStand};
 
 /// A spelling and a value have one text: whatever bytes spell both are the same bytes.
+#[tactic(auto, using(crate::proofs::OneText::one_text_lem))]
 pub fn one_text()
     ensures { HasOneText }
 {}
 
 /// Members stand behind the count of their geometry, one behind the other, in their order.
+#[tactic(auto, using(crate::proofs::PartsInPlace::members_lem))]
 pub fn members_stand()
     ensures { MembersStand }
 {}
 
 /// Rings stand behind the count of their polygon, one behind the other, in their order. Each is a count and its
 /// coordinates in the polygon's order.
+#[tactic(auto, using(crate::proofs::PartsInPlace::rings_lem))]
 pub fn rings_stand()
     ensures { RingsStand }
 {}

@@ -1,23 +1,8 @@
 -- A list by its last item: the top of a stack.
-use Rattle.std.proofs.Common.{◌≡◌, ℕ, zero, suc, List, [], ◌∷◌, ◌++◌, length, slice_index_or, slice_set, reverse, refl, sym, ap, ◌∙◌, length-append, arith}
-use Rattle.std.proofs.lemmas.List.{reverse-append, length-reverse}
+use Rattle.wkb_read.proofs.Words.{◌≡◌, ℕ, suc, List, [], ◌∷◌, ◌++◌, length, take, slice_index_or, slice_set, reverse, sym, ap, ◌∙◌, arith, length-append}
+use Rattle.wkb_read.proofs.Words.{length-set, take_all, take-suc, take-suc-set, reverse-append, length-reverse}
 
--- the items before the last, and the list with another last item
-record SplitLast {A : Type 0} (xs : List A) (n : ℕ) (o : A) : Type 0 where
-  front : List A
-  is : xs ≡ front ++ o ∷ []
-  set_is : (y : A) → slice_set xs n y ≡ front ++ y ∷ []
-
-split_last : {A : Type 0} (xs : List A) (n : ℕ) (o : A) → length xs ≡ suc n → o ≡ slice_index_or xs n o → SplitLast xs n o
-split_last [] n o l is = absurd (cc)
-split_last (x ∷ []) zero o l is = record { front = []; is = ap (λ z. z ∷ []) (sym is); set_is = λ y. refl }
-split_last (x ∷ []) (suc n) o l is = absurd (omega (arith, l))
-split_last (x ∷ x' ∷ xs) zero o l is = absurd (omega (arith, l))
-split_last (x ∷ x' ∷ xs) (suc n) o l is =
-    let r = split_last (x' ∷ xs) n o (omega (arith, l)) is in
-    record { front = x ∷ r.front; is = ap (λ zs. x ∷ zs) r.is; set_is = λ y. ap (λ zs. x ∷ zs) (r.set_is y) }
-
-pub backwards : {A : Type 0} (xs front : List A) (o : A) → xs ≡ front ++ o ∷ [] → reverse xs ≡ o ∷ reverse front
+backwards : {A : Type 0} (xs front : List A) (o : A) → xs ≡ front ++ o ∷ [] → reverse xs ≡ o ∷ reverse front
 backwards xs front o is = ap reverse is ∙ reverse-append front (o ∷ [])
 
 -- the stack from its top on, and with another top
@@ -29,17 +14,15 @@ pub record Top {A : Type 0} (xs : List A) (n : ℕ) (o : A) : Type 0 where
 
 pub top : {A : Type 0} (xs : List A) (n : ℕ) (o : A) → length xs ≡ suc n → o ≡ slice_index_or xs n o → Top xs n o
 top xs n o l is =
-    let s = split_last xs n o l is in
+    let all : xs ≡ take n xs ++ o ∷ [] =
+    sym (take_all (suc n) xs (omega (arith, l))) ∙ take-suc xs n o (omega (arith, l)) ∙ ap (λ z. take n xs ++ z ∷ []) (sym is) in
     record {
-      below = reverse s.front;
-      is = backwards xs s.front o s.is;
-      set_is = λ y. backwards (slice_set xs n y) s.front y (s.set_is y);
-      count = omega (arith, ap length s.is, length-append s.front (o ∷ []), length-reverse s.front);
+      below = reverse (take n xs);
+      is = backwards xs (take n xs) o all;
+      set_is = λ y. backwards _ (take n xs) y (sym (take_all (suc n) _ (omega (arith, l, length-set xs n y))) ∙ take-suc-set xs n y (omega (arith, l)));
+      count = omega (arith, ap length all, length-append (take n xs) (o ∷ []), length-reverse (take n xs));
     }
-
-both_same : {A : Type 0} (x y : A) (xs ys : List A) → x ∷ xs ≡ y ∷ ys → (x ≡ y) × (xs ≡ ys)
-both_same x y xs ys e = (cc, cc)
 
 -- what is taken off the stack is the other top
 pub popped : {A : Type 0} (xs ys : List A) (n : ℕ) (o y z : A) (t : Top xs n o) → slice_set xs n y ≡ ys ++ z ∷ [] → (y ≡ z) × (t.below ≡ reverse ys)
-popped xs ys n o y z t e = both_same y z t.below (reverse ys) (sym (t.set_is y) ∙ backwards (slice_set xs n y) ys z e)
+popped xs ys n o y z t e = let same : y ∷ t.below ≡ z ∷ reverse ys = sym (t.set_is y) ∙ backwards _ ys z e in (cc, cc)

@@ -1,3 +1,4 @@
+pub mod Words
 pub mod Algebra
 pub mod Bodies
 pub mod LastItem
@@ -5,6 +6,5 @@ pub mod NoMemory
 pub mod Opens
 pub mod Parts
 pub mod Placed
-pub mod Spelled
 pub mod Public
 pub mod Stacks

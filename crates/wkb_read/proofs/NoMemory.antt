@@ -1,17 +1,9 @@
 -- Inputs that take no memory, by their headers.
-use Rattle.std.proofs.Common.{◌≡◌, ℕ, ◌+◌, ◌<◌, Bool, List, length, drop, Ok, Err, refl, subst, arith}
-use Rattle.wkb_geom.specs.declared.code.WkbType.{WkbType}
+use Rattle.wkb_read.proofs.Words.{◌≡◌, ℕ, ◌+◌, ◌<◌, Bool, List, length, drop, Ok, Err, refl, subst, arith, WkbType, Endianness, max_nesting, Item, Reading}
+use Rattle.wkb_read.proofs.Words.{head_at, type_kind, type_dimension, laid, geometry_at, srid_size, Agrees, geometry_agrees_lem, TypeTakesNone}
+use Rattle.wkb_read.proofs.Words.{ReadsWithoutMemory, AsksForNone, KindTakesNone, TakesNoMemory}
 use Rattle.wkb_geom.specs.declared.code.WkbType.TheVariants as kinds
-use Rattle.wkb_geom.specs.declared.common.Endianness.{Endianness}
-use Rattle.wkb_geom.specs.Fronts.{max_nesting}
-use Rattle.wkb_geom.specs.Reading.{Item, Reading, head_at, type_kind, type_dimension, geometry_at}
-use Rattle.wkb_geom.specs.Refusals.{srid_size}
-use Rattle.wkb_laws.specs.Laws.{Agrees}
-use Rattle.wkb_laws.proofs.GeometryAt.{geometry_agrees_lem}
-use Rattle.wkb_read.specs.Memory.{TypeTakesNone, ReadsWithoutMemory}
-use Rattle.wkb_read.specs.Public.{AsksForNone, KindTakesNone, TakesNoMemory}
-use Rattle.wkb_read.proofs.Bodies.{behind_header}
-use Rattle.wkb_read.proofs.Spelled.{head_opens}
+use Rattle.wkb_read.proofs.Bodies.{behind_header, head_opens}
 
 -- what asks for no entry costs none
 asked_by : (buf : List ℕ) (r : Reading Item) → AsksForNone buf → Agrees buf r → r.0.slots ≡ 0
@@ -22,14 +14,13 @@ asked : (buf : List ℕ) (r : Reading Item) → AsksForNone buf → geometry_at 
 asked buf r none e = asked_by buf r none (subst (Agrees buf) e (geometry_agrees_lem buf))
 
 by_kind : (buf : List ℕ) (type : WkbType) (order : Endianness) (srid : Bool) → head_at buf ≡ Ok (record { order = order; wkb_type = type; has_srid = srid })
-    → KindTakesNone (type_kind type) srid buf → TypeTakesNone type order srid buf
-by_kind buf (kinds.Point d) order srid e k = tt
-by_kind buf (kinds.LineString d) order srid e k = tt
-by_kind buf (kinds.Polygon d) order srid e k = asked buf _ (k.polygon refl) (behind_header max_nesting buf _ e)
-by_kind buf (kinds.MultiPoint d) order srid e k = tt
-by_kind buf (kinds.MultiLineString d) order srid e k = asked buf _ (k.multi_line_string refl) (behind_header max_nesting buf _ e)
-by_kind buf (kinds.MultiPolygon d) order srid e k = asked buf _ (k.multi_polygon refl) (behind_header max_nesting buf _ e)
+    → KindTakesNone (type_kind type) srid buf → TypeTakesNone type (laid order (type_dimension type) srid) buf
+by_kind buf (kinds.Polygon d) order srid e k = asked buf _ (k.polygon refl) (behind_header 0 buf _ e)
+by_kind buf (kinds.MultiLineString d) order srid e k = asked buf _ (k.multi_line_string refl) (behind_header 0 buf _ e)
+by_kind buf (kinds.MultiPolygon d) order srid e k = asked buf _ (k.multi_polygon refl) (behind_header 0 buf _ e)
 by_kind buf (kinds.GeometryCollection d) order srid e k = let short : length buf < 9 + srid_size srid = k.collection refl in omega arith
+by_kind buf _ order srid e k = tt
 
 pub without_memory : (buf : List ℕ) → TakesNoMemory buf → ReadsWithoutMemory buf
-without_memory buf none = λ h e. by_kind buf h.wkb_type h.order h.has_srid e (none h.order (type_kind h.wkb_type) (type_dimension h.wkb_type) h.has_srid (drop 5 buf) (head_opens buf h e))
+without_memory buf none = λ h e.
+    by_kind buf h.wkb_type h.order h.has_srid e (none h.order (type_kind h.wkb_type) (type_dimension h.wkb_type) h.has_srid (drop 5 buf) (head_opens buf h e))

@@ -1,205 +1,181 @@
 -- Open collections, as a part of one is finished.
-use Rattle.std.proofs.Common.{◌≡◌, ℕ, suc, ◌+◌, ◌-◌, ◌≤◌, ◌<◌, List, [], ◌∷◌, ◌++◌, length, Ok, Err, refl, sym, ap, ◌∙◌, append_assoc, length-append, arith}
-use Rattle.std.specs.Prelude.{vec_capacity}
-use Rattle.wkb_geom.specs.declared.error.Cause.{Cause}
-use Rattle.wkb_geom.specs.Reading.{Item, Cost, ◌⊕◌, one_turn, Part, Reading, costs, done, and_then, repeated, taken, geometry_at}
-use Rattle.wkb_geom.specs.declared.header.Layout.{Layout}
-use Rattle.std.specs.Borrow.{Bor}
-use Rattle.wkb_read.specs.declared.read.unfinished.Open.{Open}
-use Rattle.wkb_read.specs.declared.read.unfinished.Begun.TheVariants.{Whole, Opened}
-use Rattle.wkb_read.specs.declared.geometry.Wkb.{Wkb}
-use Rattle.wkb_geom.specs.declared.error.Refusal.{Refusal}
-use Rattle.wkb_geom.specs.declared.error.Refusal.TheVariants.{Fault, Memory}
-use Rattle.wkb_view.specs.declared.counts.Counts.{Counts}
-use Rattle.wkb_view.specs.Outcome.{Spent, AtMost, CanCount, Stops}
-use Rattle.wkb_read.specs.Placed.{closing, collection_in}
-use Rattle.wkb_read.specs.Stack.{in_collection, in_collection_by, first_member, counted, next_turn, resume, levels_inside, HaveRoom, BeginsAs}
-use Rattle.wkb_read.proofs.Algebra.{cost_is, costs-costs, and_then-costs, and_then-same, done_then, repeated_more, repeated_none}
+use Rattle.wkb_read.proofs.Words.{◌≡◌, ℕ, suc, ◌+◌, ◌≤◌, List, [], ◌∷◌, ◌++◌, length, vec_capacity, Ok, Err, refl, sym, ap, subst, ◌∙◌, append_assoc}
+use Rattle.wkb_read.proofs.Words.{length-append, arith, Bor, Item, Cost, ◌⊕◌, one_turn, Reading, costs, done, and_then, repeated, taken, Layout, IsSpelled}
+use Rattle.wkb_read.proofs.Words.{Refusal, Fault, Memory, Counts, Spent, AtMost, CanCount, Stops, Wkb, Open, Whole, Opened, IsCollectionIn, closing, list_item}
+use Rattle.wkb_read.proofs.Words.{collection_with, geometry_inside, behind_member, in_collection, outward, first_member, counted, next_turn, IsOpen, AreOpen}
+use Rattle.wkb_read.proofs.Words.{IsPart, BeginsAs}
+use Rattle.wkb_read.proofs.Algebra.{cost_is, costs-costs, and_then-costs, and_then-assoc, and_then-same, and_then-least, done_then, repeated_more}
+use Rattle.wkb_read.proofs.Algebra.{repeated_none}
+use Rattle.wkb_read.proofs.Placed.{Closed, closed, one_more, part_read}
+use Rattle.wkb_view.proofs.Members.{all_more}
 
--- ---- what comes of a part, inside collections
+-- what is being read inside these collections, and what comes of it in all
+pub record Reaches (os : List Open) (bytes : List ℕ) (spent : Counts) (whole : Reading Item) : Type 0 where
+  pub so_far : costs (counted spent) (and_then (geometry_inside (length os) bytes) (outward os)) ≡ whole
+  pub stand : AreOpen os bytes
 
-pub resume-costs : (os : List Open) (c : Cost) (r : Reading Item) → resume os (costs c r) ≡ costs c (resume os r)
-resume-costs [] c r = refl
-resume-costs (o ∷ os) c r =
-    ap (resume os) (and_then-costs c r (λ x rest. and_then (repeated o.left (geometry_at (levels_inside (suc (length os)))) rest) (λ xs after. closing o.layout o.bytes.now (o.members.items.items ++ x ∷ xs) after)))
-    ∙ resume-costs os c (in_collection o (geometry_at (levels_inside (suc (length os)))) r)
+-- the same of a part that is finished
+pub record Finishes (os : List Open) (m : Item) (rest : List ℕ) (spent : Counts) (whole : Reading Item) : Type 0 where
+  pub so_far : costs (counted spent) (outward os m rest) ≡ whole
+  pub stand : AreOpen os (m.text ++ rest)
+  pub part : IsPart m
 
-pub resume-err : (os : List Open) (c : Cost) (f : Cause) → resume os (c, Err f) ≡ (c, Err f)
-resume-err [] c f = refl
-resume-err (o ∷ os) c f = resume-err os c f
+turn_is : (c d : Cost) → d ≡ next_turn c → d ≡ c ⊕ one_turn
+turn_is c d e = e ∙ cost_is _ _ refl (omega arith)
 
--- the next member begins
-in_collection_more : (h : Layout) (bytes : List ℕ) (n : ℕ) (front : List Item) (member : List ℕ → Reading Item) (m : Item) (rest : List ℕ)
-    → in_collection_by h bytes (suc n) front member (done m rest) ≡ costs one_turn (in_collection_by h bytes n (front ++ m ∷ []) member (member rest))
-in_collection_more h bytes n front member m rest =
-    done_then m rest (λ x after. and_then (repeated (suc n) member after) (λ xs end. closing h bytes (front ++ x ∷ xs) end))
-    ∙ repeated_more n member rest (λ xs after. closing h bytes (front ++ m ∷ xs) after)
-    ∙ ap (λ (r : Reading Item). costs one_turn r) (and_then-same (member rest) _ _ (λ x after. and_then-same (repeated n member after) _ _
-    (λ xs end. ap (λ (ms : List Item). closing h bytes ms end) (sym (append_assoc front (m ∷ []) (x ∷ xs))))))
-
--- the last member was the last part
-in_collection_last : (h : Layout) (bytes : List ℕ) (front : List Item) (member : List ℕ → Reading Item) (m : Item) (rest : List ℕ)
-    → in_collection_by h bytes 0 front member (done m rest) ≡ closing h bytes (front ++ m ∷ []) rest
-in_collection_last h bytes front member m rest =
-    done_then m rest (λ x after. and_then (repeated 0 member after) (λ xs end. closing h bytes (front ++ x ∷ xs) end))
-    ∙ repeated_none member rest (λ xs after. closing h bytes (front ++ m ∷ xs) after)
-
--- what is spent, and what comes of the rest
-abbrev pub leads : Cost → List Open → Reading Item → Reading Item
-leads spent os r = costs spent (resume os r)
-
-next_turn_is : (c : Cost) → next_turn c ≡ c ⊕ one_turn
-next_turn_is c = cost_is _ _ refl (omega arith)
-
--- a finished part in the innermost collection, which goes on
-pub goes_on : (o next : Open) (os : List Open) (m : Item) (rest : List ℕ) (spent : Cost)
-    → 0 < o.left → next.left ≡ o.left - 1 → next.layout ≡ o.layout → next.bytes.now ≡ o.bytes.now → next.members.items.items ≡ o.members.items.items ++ m ∷ []
-    → leads (next_turn spent) (next ∷ os) (geometry_at (levels_inside (suc (length os))) rest) ≡ leads spent (o ∷ os) (done m rest)
-goes_on o next os m rest spent more left header bytes members =
-    let member = geometry_at (levels_inside (suc (length os))) in
-    let n : o.left ≡ suc next.left = omega arith in
-    let inside : in_collection o member (done m rest) ≡ costs one_turn (in_collection next member (member rest)) =
-    ap (λ (k : ℕ). in_collection_by o.layout o.bytes.now k o.members.items.items member (done m rest)) n
-    ∙ in_collection_more o.layout o.bytes.now next.left o.members.items.items member m rest
-    ∙ ap (λ (r : Reading Item). costs one_turn r)
-    (ap (λ (h : Layout). in_collection_by h o.bytes.now next.left (o.members.items.items ++ m ∷ []) member (member rest)) (sym header)
-    ∙ ap (λ (b : List ℕ). in_collection_by next.layout b next.left (o.members.items.items ++ m ∷ []) member (member rest)) (sym bytes)
-    ∙ ap (λ (ms : List Item). in_collection_by next.layout next.bytes.now next.left ms member (member rest)) (sym members)) in
-    ap (λ (c : Cost). leads c (next ∷ os) (member rest)) (next_turn_is spent)
-    ∙ sym (costs-costs spent one_turn (resume os (in_collection next member (member rest))))
-    ∙ ap (λ (r : Reading Item). costs spent r) (sym (resume-costs os one_turn (in_collection next member (member rest))) ∙ ap (resume os) (sym inside))
-
--- a finished part that was the innermost collection's last
-pub closes : (o : Open) (os : List Open) (m : Item) (rest : List ℕ) (spent : Cost) (members : List Item)
-    → o.left ≡ 0 → members ≡ o.members.items.items ++ m ∷ []
-    → leads spent os (done (collection_in o.layout members (taken o.bytes.now rest)) rest) ≡ leads spent (o ∷ os) (done m rest)
-closes o os m rest spent members left is =
-    ap (λ (r : Reading Item). leads spent os r) (rw (left, is) (sym (in_collection_last o.layout o.bytes.now o.members.items.items (geometry_at (levels_inside (suc (length os)))) m rest)))
-
--- a turn is among those of the whole
-pub turn_counts : (o next : Open) (os : List Open) (m : Item) (rest : List ℕ) (spent : Cost) (whole : Reading Item)
-    → leads (next_turn spent) (next ∷ os) (geometry_at (levels_inside (suc (length os))) rest) ≡ whole → spent.turns + 1 ≤ whole.0.turns
-turn_counts o next os m rest spent whole e = omega (arith, ap (λ (r : Reading Item). r.0.turns) e)
-
--- ---- room
-
-pub HaveRoom-less : (os : List Open) (m n : ℕ) → m ≤ n → HaveRoom os n → HaveRoom os m
-HaveRoom-less [] m n le h = tt
-HaveRoom-less (o ∷ os) m n le h = (record { within = omega (arith, h.0.within); room = h.0.room }, h.1)
-
--- the next part finds room
-pub next_fits : (o next : Open) (os : List Open) (rest : ℕ) (m : Item) → HaveRoom (o ∷ os) (rest + 9)
-    → 0 < o.left → next.left ≡ o.left - 1 → next.layout.has_srid ≡ o.layout.has_srid → next.bytes.now ≡ o.bytes.now
-    → next.members.items.items ≡ o.members.items.items ++ m ∷ [] → vec_capacity o.members.items ≤ vec_capacity next.members.items
-    → HaveRoom (next ∷ os) rest
-next_fits o next os rest m h more left header bytes members capacity =
-    let longer : length next.members.items.items ≡ length o.members.items.items + 1 = ap length members ∙ length-append o.members.items.items (m ∷ []) in
-    (record { within = rw (header, bytes, longer) (omega (arith, h.0.within)); room = rw (header, bytes, longer) (omega (arith, h.0.room)) }, rw bytes h.1)
-
--- a collection that is closed was longer than its last part
-pub closed_fits : (o : Open) (os : List Open) (rest : ℕ) → HaveRoom (o ∷ os) (rest + 9) → HaveRoom os (rest + 9)
-closed_fits o os rest h = HaveRoom-less os (rest + 9) (length o.bytes.now) (omega (arith, h.0.within)) h.1
-
--- ---- what is spent, so far and in all
+-- ---- a part begins
 
 -- a reading that leads to another does so inside collections too
-pub moved : (os : List Open) (old new : Cost) (before after whole : Reading Item) → costs new after ≡ costs old before → leads old os before ≡ whole → leads new os after ≡ whole
+moved : (os : List Open) (old new : Cost) (before after whole : Reading Item) → costs new after ≡ costs old before
+    → costs old (and_then before (outward os)) ≡ whole → costs new (and_then after (outward os)) ≡ whole
 moved os old new before after whole e so_far =
-    sym (resume-costs os new after) ∙ ap (resume os) e ∙ resume-costs os old before ∙ so_far
+    sym (and_then-costs new after (outward os)) ∙ ap (λ (r : Reading Item). and_then r (outward os)) e ∙ and_then-costs old before (outward os) ∙ so_far
 
--- a collection is opened
-pub opened : (o : Open) (os : List Open) (rest : List ℕ) (old new : Cost) (before whole : Reading Item)
-    → costs new (first_member (length os) o rest) ≡ costs old before
-    → leads old os before ≡ whole → leads (next_turn new) (o ∷ os) (geometry_at (levels_inside (suc (length os))) rest) ≡ whole
-opened o os rest old new before whole e so_far =
-    let inside = in_collection o (geometry_at (levels_inside (suc (length os)))) (geometry_at (levels_inside (suc (length os))) rest) in
-    ap (λ (c : Cost). costs c (resume os inside)) (next_turn_is new)
-    ∙ sym (costs-costs new one_turn (resume os inside))
-    ∙ ap (λ (r : Reading Item). costs new r) (sym (resume-costs os one_turn inside))
-    ∙ moved os old new before (costs one_turn inside) whole e so_far
+-- a collection is opened, and its first member begins
+pub enters : (o : Open) (os : List Open) (rest : Bor (List ℕ)) (bytes : List ℕ) (mid new after : Counts) (whole : Reading Item) → Reaches os bytes mid whole
+    → BeginsAs (geometry_inside (length os) bytes) (length os) bytes (Ok (Opened o rest)) mid new → counted after ≡ next_turn (counted new)
+    → Reaches (o ∷ os) rest.now after whole
+enters o os rest bytes mid new after whole r b turn =
+    let member = geometry_inside (suc (length os)) rest.now in
+    let inside = in_collection (length os) o in
+    record {
+      so_far = ap (λ (c : Cost). costs c (and_then member (outward (o ∷ os)))) (turn_is (counted new) (counted after) turn)
+          ∙ sym (costs-costs (counted new) one_turn (and_then member (outward (o ∷ os))))
+          ∙ ap (λ (s : Reading Item). costs (counted new) s) (ap (λ (s : Reading Item). costs one_turn s) (sym (and_then-assoc member inside (outward os)))
+          ∙ sym (and_then-costs one_turn (and_then member inside) (outward os)))
+          ∙ moved os (counted mid) (counted new) (geometry_inside (length os) bytes) (first_member (length os) o rest.now) whole b.0 r.so_far;
+      stand = (b.3, rw b.1 r.stand);
+    }
 
-record IsPart (a b : Cost) : Type 0 where
-  pub turns : a.turns ≤ b.turns
-  pub slots : a.slots ≤ b.slots
+-- a whole part was read
+pub finishes : (w : Wkb) (os : List Open) (rest : Bor (List ℕ)) (bytes : List ℕ) (mid new : Counts) (whole : Reading Item) → Reaches os bytes mid whole
+    → BeginsAs (geometry_inside (length os) bytes) (length os) bytes (Ok (Whole w rest)) mid new → Finishes os w rest.now new whole
+finishes w os rest bytes mid new whole r b =
+    let p = part_read w rest bytes (length os) mid new b in
+    record {
+      so_far = ap (λ (s : Reading Item). costs (counted new) s) (sym (done_then w rest.now (outward os)))
+          ∙ moved os (counted mid) (counted new) (geometry_inside (length os) bytes) (done w rest.now) whole b.0 r.so_far;
+      stand = subst (AreOpen os) p.whole r.stand;
+      part = p.part;
+    }
 
-in_collection-part : (o : Open) (member : List ℕ → Reading Item) (r : Reading Item) → IsPart r.0 (in_collection o member r).0
-in_collection-part o member (c, Ok x) = record { turns = omega arith; slots = omega arith }
-in_collection-part o member (c, Err f) = record { turns = omega arith; slots = omega arith }
+-- the counters have room for the part, and for a turn
+pub can_begin : (os : List Open) (bytes : List ℕ) (old new : Counts) (whole : Reading Item) → Reaches os bytes new (costs (counted old) whole)
+    → CanCount old whole.0 → CanCount new (geometry_inside (length os) bytes).0
+can_begin os bytes old new whole r fits =
+    let part = and_then-least (geometry_inside (length os) bytes) (outward os) in
+    record {
+      turns = omega (arith, ap (λ (s : Reading Item). s.0.turns) r.so_far, part.0, fits.turns);
+      slots = omega (arith, ap (λ (s : Reading Item). s.0.slots) r.so_far, part.1, fits.slots);
+    }
 
-resume-part : (os : List Open) (r : Reading Item) → IsPart r.0 (resume os r).0
-resume-part [] r = record { turns = omega arith; slots = omega arith }
-resume-part (o ∷ os) r =
-    let a = in_collection-part o (geometry_at (levels_inside (suc (length os)))) r in
-    let b = resume-part os (in_collection o (geometry_at (levels_inside (suc (length os)))) r) in
-    record { turns = omega (arith, a.turns, b.turns); slots = omega (arith, a.slots, b.slots) }
-
-pub can_count : (os : List Open) (r whole : Reading Item) (old new : Counts) → leads (counted new) os r ≡ costs (counted old) whole → CanCount old whole.0 → CanCount new r.0
-can_count os r whole old new e fits =
-    let p = resume-part os r in
-    let t = ap (λ (x : Reading Item). x.0.turns) e in
-    let s = ap (λ (x : Reading Item). x.0.slots) e in
-    record { turns = omega (arith, t, p.turns, fits.turns); slots = omega (arith, s, p.slots, fits.slots) }
-
--- what is counted before a turn is among the whole
-pub at_most_turn : (left whole : Reading Item) (old new : Counts) → costs (next_turn (counted new)) left ≡ costs (counted old) whole → AtMost old new whole.0
-at_most_turn left whole old new e =
-    record { turns = omega (arith, ap (λ (x : Reading Item). x.0.turns) e); slots = omega (arith, ap (λ (x : Reading Item). x.0.slots) e) }
+-- what was counted before a turn is among the whole
+pub at_most_turn : (os : List Open) (bytes : List ℕ) (old new after : Counts) (whole : Reading Item) → Reaches os bytes after (costs (counted old) whole)
+    → counted after ≡ next_turn (counted new) → AtMost old new whole.0
+at_most_turn os bytes old new after whole r turn = record {
+  turns = omega (arith, ap (λ (s : Reading Item). s.0.turns) r.so_far, ap (λ (c : Cost). c.turns) turn);
+  slots = omega (arith, ap (λ (s : Reading Item). s.0.slots) r.so_far, ap (λ (c : Cost). c.slots) turn);
+}
 
 -- a part's refusal is passed outward
-fault_outward : (cause : Cause) (os : List Open) (c : Cost) (p : Part Item) (whole : Reading Item) (old mid new : Counts) → leads (counted mid) os (c, p) ≡ costs (counted old) whole
-    → p ≡ Err cause → Spent mid new c → Stops (Fault cause) whole old new
-fault_outward cause os c p whole old mid new so_far is spent =
-    let out : resume os (c, p) ≡ (c, Err cause) = rw (is) (resume-err os c cause) in
-    let all : costs (counted mid) (c, Err cause) ≡ costs (counted old) whole = ap (λ (r : Reading Item). costs (counted mid) r) (sym out) ∙ so_far in (
-      sym (ap (λ (r : Reading Item). r.1) all),
-      record {
-        turns = omega (arith, spent.turns, ap (λ (r : Reading Item). r.0.turns) all);
-        slots = omega (arith, spent.slots, ap (λ (r : Reading Item). r.0.slots) all);
-      },
-    )
-
-pub stops_outward : (refusal : Refusal) (os : List Open) (r whole : Reading Item) (old mid new : Counts) → leads (counted mid) os r ≡ costs (counted old) whole
-    → Stops refusal r mid new → Stops refusal whole old new
-stops_outward (Fault cause) os (c, p) whole old mid new so_far h = fault_outward cause os c p whole old mid new so_far h.0 h.1
-stops_outward Memory os r whole old mid new so_far most =
-    let p = resume-part os r in
+pub stops_outward : (refusal : Refusal) (r : Reading Item) (f : Item → List ℕ → Reading Item) (whole : Reading Item) (old mid new : Counts)
+    → costs (counted mid) (and_then r f) ≡ costs (counted old) whole → Stops refusal r mid new → Stops refusal whole old new
+stops_outward (Fault cause) (c, Ok x) f whole old mid new so_far h = absurd cc
+stops_outward (Fault cause) (c, Err e) f whole old mid new so_far h = (
+  sym (ap (λ (s : Reading Item). s.1) so_far) ∙ h.0,
+  record {
+    turns = omega (arith, h.1.turns, ap (λ (s : Reading Item). s.0.turns) so_far);
+    slots = omega (arith, h.1.slots, ap (λ (s : Reading Item). s.0.slots) so_far);
+  },
+)
+stops_outward Memory r f whole old mid new so_far most =
+    let part = and_then-least r f in
     record {
-      turns = omega (arith, most.turns, p.turns, ap (λ (x : Reading Item). x.0.turns) so_far);
-      slots = omega (arith, most.slots, p.slots, ap (λ (x : Reading Item). x.0.slots) so_far);
+      turns = omega (arith, most.turns, part.0, ap (λ (s : Reading Item). s.0.turns) so_far);
+      slots = omega (arith, most.slots, part.1, ap (λ (s : Reading Item). s.0.slots) so_far);
     }
 
 -- all is read
-pub all_read : (w : Item) (rest : List ℕ) (whole : Reading Item) (old new : Counts) → costs (counted new) (done w rest) ≡ costs (counted old) whole → ((end : List ℕ) × (whole.1 ≡ Ok (w, end))) × Spent old new whole.0
+pub all_read : (w : Item) (rest : List ℕ) (whole : Reading Item) (old new : Counts) → costs (counted new) (done w rest) ≡ costs (counted old) whole
+    → ((end : List ℕ) × (whole.1 ≡ Ok (w, end))) × Spent old new whole.0
 all_read w rest whole old new e = (
-  (rest, sym (ap (λ (x : Reading Item). x.1) e)),
-  record { turns = omega (arith, ap (λ (x : Reading Item). x.0.turns) e); slots = omega (arith, ap (λ (x : Reading Item). x.0.slots) e) },
+  (rest, sym (ap (λ (s : Reading Item). s.1) e)),
+  record { turns = omega (arith, ap (λ (s : Reading Item). s.0.turns) e); slots = omega (arith, ap (λ (s : Reading Item). s.0.slots) e) },
 )
 
--- ---- what a beginning does to the stack
+-- ---- a part is finished
 
-pub record OpenedIn (o : Open) (os : List Open) (rest : List ℕ) (old new : Counts) (whole : Reading Item) : Type 0 where
-  pub so_far : leads (next_turn (counted new)) (o ∷ os) (geometry_at (levels_inside (suc (length os))) rest) ≡ costs (counted old) whole
-  pub room : HaveRoom (o ∷ os) (length rest)
-  pub shallow : suc (length os) ≤ 128
+-- a collection with one member more
+pub record IsNext (o next : Open) (m : Item) : Type 0 where
+  pub left : o.left ≡ suc next.left
+  pub layout : next.layout ≡ o.layout
+  pub bytes : next.bytes.now ≡ o.bytes.now
+  pub items : next.members.items.items ≡ o.members.items.items ++ m ∷ []
+  pub capacity : vec_capacity o.members.items ≤ vec_capacity next.members.items
 
-pub opened_in : (o : Open) (os : List Open) (rest : Bor (List ℕ)) (bytes : List ℕ) (around : ℕ) (old mid new : Counts) (whole : Reading Item)
-    → length os ≡ around → leads (counted mid) os (geometry_at (levels_inside (length os)) bytes) ≡ costs (counted old) whole → HaveRoom os (length bytes)
-    → BeginsAs (geometry_at (levels_inside around) bytes) around bytes (Ok (Opened o rest)) mid new → OpenedIn o os rest.now old new whole
-opened_in o os rest bytes around old mid new whole around-is so_far room b =
-    let e = rw (← around-is) at b.0 in
+member_more : (member : List ℕ → Reading Item) (l : Layout) (bytes : List ℕ) (n : ℕ) (front : List Item) (m : Item) (rest : List ℕ)
+    → behind_member member l bytes (suc n) front m rest ≡ costs one_turn (and_then (member rest) (behind_member member l bytes n (front ++ m ∷ [])))
+member_more member l bytes n front m rest =
+    repeated_more n member rest (λ xs after. closing l bytes (front ++ m ∷ xs) after)
+    ∙ ap (λ (r : Reading Item). costs one_turn r) (and_then-same (member rest) _ _ (λ x after. and_then-same (repeated n member after) _ _
+    (λ xs end. ap (λ (ms : List Item). closing l bytes ms end) (sym (append_assoc front (m ∷ []) (x ∷ xs))))))
+
+goes_on : (o next : Open) (os : List Open) (m : Item) (rest : List ℕ) → IsNext o next m
+    → outward (o ∷ os) m rest ≡ costs one_turn (and_then (geometry_inside (suc (length os)) rest) (outward (next ∷ os)))
+goes_on o next os m rest n =
+    let member = geometry_inside (suc (length os)) in
+    let inside = in_collection (length os) next in
+    let one : in_collection (length os) o m rest ≡ costs one_turn (and_then (member rest) inside) =
+    rw (n.left, n.layout, n.bytes, n.items) (member_more member o.layout o.bytes.now next.left o.members.items.items m rest) in
+    ap (λ (r : Reading Item). and_then r (outward os)) one ∙ and_then-costs one_turn (and_then (member rest) inside) (outward os)
+    ∙ ap (λ (r : Reading Item). costs one_turn r) (and_then-assoc (member rest) inside (outward os))
+
+more_open : (o next : Open) (m : Item) (rest : List ℕ) → IsNext o next m → IsOpen o (m.text ++ rest) → IsPart m → IsOpen next rest
+more_open o next m rest n h part =
+    let longer : length next.members.items.items ≡ length o.members.items.items + 1 = ap length n.items ∙ length-append o.members.items.items (m ∷ []) in
     record {
-      so_far = opened o os rest.now (counted mid) (counted new) (geometry_at (levels_inside (length os)) bytes) (costs (counted old) whole) e so_far;
-      room = (b.2, rw b.1 room);
-      shallow = omega (arith, around-is, b.3);
+      head = rw (n.layout, n.bytes) h.head;
+      count = rw (n.layout, n.bytes) (h.count ∙ omega (arith, longer, n.left));
+      behind = rw (n.layout, n.bytes, n.items) (h.behind ∙ sym (one_more o.members.items.items m rest));
+      each = rw n.items (all_more IsSpelled o.members.items.items m h.each part.spelled);
+      within = rw (n.layout, n.bytes) (omega (arith, longer, h.within, part.long, length-append m.text rest));
+      room = rw (n.layout, n.bytes) (omega (arith, longer, n.left, n.capacity, h.room));
     }
 
-pub part_in : (w : Wkb) (os : List Open) (rest : Bor (List ℕ)) (bytes : List ℕ) (around : ℕ) (old mid new : Counts) (whole : Reading Item)
-    → length os ≡ around → leads (counted mid) os (geometry_at (levels_inside (length os)) bytes) ≡ costs (counted old) whole
-    → BeginsAs (geometry_at (levels_inside around) bytes) around bytes (Ok (Whole w rest)) mid new → leads (counted new) os (done w rest.now) ≡ costs (counted old) whole
-part_in w os rest bytes around old mid new whole around-is so_far b =
-    let e = rw (← around-is) at b.0 in
-    moved os (counted mid) (counted new) (geometry_at (levels_inside (length os)) bytes) (done w rest.now) (costs (counted old) whole) e so_far
+-- the next member begins
+pub next_begins : (o next : Open) (os : List Open) (m : Item) (rest : List ℕ) (spent after : Counts) (whole : Reading Item) → IsNext o next m
+    → Finishes (o ∷ os) m rest spent whole → counted after ≡ next_turn (counted spent) → Reaches (next ∷ os) rest after whole
+next_begins o next os m rest spent after whole n f turn =
+    let r = and_then (geometry_inside (suc (length os)) rest) (outward (next ∷ os)) in
+    record {
+      so_far = ap (λ (c : Cost). costs c r) (turn_is (counted spent) (counted after) turn) ∙ sym (costs-costs (counted spent) one_turn r)
+          ∙ ap (λ (s : Reading Item). costs (counted spent) s) (sym (goes_on o next os m rest n)) ∙ f.so_far;
+      stand = (more_open o next m rest n f.stand.0 f.part, rw n.bytes f.stand.1);
+    }
 
--- turns that are counted by now are among those of the whole
-pub turns_fit : (os : List Open) (r whole : Reading Item) (old new : Counts) → leads (counted new) os r ≡ costs (counted old) whole → new.turns + (resume os r).0.turns ≡ old.turns + whole.0.turns
-turns_fit os r whole old new e = ap (λ (x : Reading Item). x.0.turns) e
+-- a collection that has all its members, and is a finished part itself
+pub record Completes (o : Open) (os : List Open) (members : List Item) (rest : List ℕ) (spent : Counts) (whole : Reading Item) : Type 0 where
+  pub collection : IsCollectionIn o.layout members (taken o.bytes.now rest)
+  pub finishes : Finishes os (list_item o.layout collection_with members (taken o.bytes.now rest)) rest spent whole
+
+pub completes : (o : Open) (os : List Open) (m : Item) (members : List Item) (rest : List ℕ) (spent : Counts) (whole : Reading Item) → o.left ≡ 0
+    → members ≡ o.members.items.items ++ m ∷ [] → Finishes (o ∷ os) m rest spent whole → Completes o os members rest spent whole
+completes o os m members rest spent whole none is f =
+    let member = geometry_inside (suc (length os)) in
+    let h = f.stand.0 in
+    let front = o.members.items.items in
+    let c : Closed o.layout o.bytes.now members rest = rw is (closed o.layout o.bytes.now (front ++ m ∷ []) rest h.head
+    (h.count ∙ omega (arith, none, length-append front (m ∷ []))) (omega (arith, h.within)) (h.behind ∙ sym (one_more front m rest))
+    (all_more IsSpelled front m h.each f.part.spelled)) in
+    let text = taken o.bytes.now rest in
+    let last : in_collection (length os) o m rest ≡ closing o.layout o.bytes.now members rest =
+    rw (none, is) (repeated_none member rest (λ xs after. closing o.layout o.bytes.now (front ++ m ∷ xs) after)) in
+    let out = ap (λ (r : Reading Item). and_then r (outward os)) last ∙ done_then (list_item o.layout collection_with members text) rest (outward os) in
+    record {
+      collection = c.collection;
+      finishes = record {
+        so_far = ap (λ (r : Reading Item). costs (counted spent) r) (sym out) ∙ f.so_far;
+        stand = subst (AreOpen os) c.whole f.stand.1;
+        part = record { spelled = c.collection.1; long = omega (arith, c.collection.0.long) };
+      };
+    }

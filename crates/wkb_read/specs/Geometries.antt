@@ -1,8 +1,5 @@
 -- What a geometry of any kind stands for.
-use Rattle.wkb_geom.specs.Values.{polygon, multi_line_string, multi_polygon, collection}
-use Rattle.wkb_geom.specs.Stored.{whole_of}
-use Rattle.wkb_geom.specs.Reading.{Item}
-use Rattle.wkb_view.specs.Views.{point_seen, line_string_seen, multi_point_seen}
+use Rattle.wkb_read.specs.Words.{polygon, multi_line_string, multi_polygon, collection, whole_of, Item, point_seen, line_string_seen, multi_point_seen}
 use Rattle.wkb_read.specs.declared.geometry.Kind.{Kind}
 use Rattle.wkb_read.specs.declared.geometry.Kind.TheVariants.{Point, LineString, Polygon, MultiPoint, MultiLineString, MultiPolygon, GeometryCollection}
 

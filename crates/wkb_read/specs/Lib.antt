@@ -1,3 +1,4 @@
+pub mod Words
 pub mod Geometries
 pub mod GeometriesFall
 pub mod Memory

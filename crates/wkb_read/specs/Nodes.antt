@@ -1,20 +1,13 @@
 -- How large a value is, which falls from a collection to its members.
 use Rattle.std.specs.Prelude.{ℕ, max, ◌+◌, ◌*◌, ◌≤◌, List, [], ◌∷◌}
+use Rattle.wkb_read.specs.Words.{Value, Values, collection, no_members, member, Listed, Item, values}
 use Rattle.std.proofs.Common.{arith}
 use denote.Param.Weighed.{most}
-use Rattle.wkb_geom.specs.Values.{Value, Values, point, line_string, polygon, multi_point, multi_line_string, multi_polygon, collection, no_members, member}
-use Rattle.wkb_geom.specs.Stored.{Listed}
-use Rattle.wkb_geom.specs.Reading.{Item, values}
 
 abbrev mutual
   pub nodes : Value → ℕ
-  nodes (point d p) = 1
-  nodes (line_string d cs) = 1
-  nodes (polygon d rs) = 1
-  nodes (multi_point d ps) = 1
-  nodes (multi_line_string d ls) = 1
-  nodes (multi_polygon d ps) = 1
   nodes (collection d vs) = 1 + nodes_all vs
+  nodes _ = 1
 
   pub nodes_all : Values → ℕ
   nodes_all no_members = 0

@@ -1,28 +1,23 @@
 -- Where the members of a collection stand in its bytes.
 use Rattle.std.specs.Prelude.{◌≡◌, ℕ, ◌+◌, ◌≤◌, List, [], ◌∷◌, ◌++◌, length, Bool, Option, slice_get}
 use Rattle.std.specs.Option.{is_some}
-use Rattle.wkb_geom.specs.declared.header.Layout.{Layout}
-use Rattle.wkb_geom.specs.Values.{Values, collection}
-use Rattle.wkb_geom.specs.Stored.{Listed}
-use Rattle.wkb_geom.specs.Reading.{Item, Reading, done, list_item, spelled_in, taken, body_start, parts_start, spellings, values}
+use Rattle.wkb_read.specs.Words.{Layout, Values, Listed, Item, Reading, done}
 use Rattle.std.specs.List.{AllByRecursion}
-use Rattle.wkb_view.specs.Parts.{srid_of, members_spelled, IsSpelled}
+use Rattle.wkb_read.specs.Words.{list_item, collection_with, spelled_in, taken, body_start, parts_start, spellings, values, srid_of}
+use Rattle.wkb_read.specs.Words.{members_spelled, IsSpelled}
 
--- the collection that a text is, by its layout and its members: as a view of it holds it, and as a geometry
+-- the collection that a text is, by its layout and its members, as a view of it holds it
 abbrev pub parts_in : Layout → List Item → List ℕ → Listed Values
 parts_in l members text = record {
   text = text;
-  spelled = spelled_in l.order l.has_srid text [] (spellings members);
+  spelled = spelled_in l text [] (spellings members);
   dimension = l.dimension;
   parts = values members;
 }
 
-abbrev pub collection_in : Layout → List Item → List ℕ → Item
-collection_in l members text = list_item l.order l.has_srid (λ ms. collection l.dimension (values ms)) members text
-
 -- what is read once a collection that began with these bytes has all its members
 abbrev pub closing : Layout → List ℕ → List Item → List ℕ → Reading Item
-closing l bytes members after = done (collection_in l members (taken bytes after)) after
+closing l bytes members after = done (list_item l collection_with members (taken bytes after)) after
 
 -- the bytes of these geometries, one behind the other
 abbrev pub texts : List Item → List ℕ
@@ -37,7 +32,7 @@ pub record HoldsMembers (has_srid : Bool) (text : List ℕ) (members : List Item
 
 -- so it is with this text, which spells the collection
 abbrev pub IsCollectionIn : Layout → List Item → List ℕ → Type 0
-IsCollectionIn l members text = HoldsMembers l.has_srid text members × IsSpelled (collection_in l members text)
+IsCollectionIn l members text = HoldsMembers l.has_srid text members × IsSpelled (list_item l collection_with members text)
 
 -- the members of a collection, by their bytes, their spellings and their values
 pub record AreMembers (whole : Listed Values) (members : List Item) : Type 0 where

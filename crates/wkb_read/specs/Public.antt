@@ -1,20 +1,9 @@
 -- What a reader's answer says of its input.
 use Rattle.std.specs.Prelude.{◌≡◌, ℕ, ◌+◌, ◌<◌, ◌≤◌, List, length, Bool, Result, Ok, Err}
-use Rattle.wkb_geom.specs.declared.common.Endianness.{Endianness}
-use Rattle.wkb_geom.specs.declared.common.Dimension.{Dimension}
-use Rattle.wkb_geom.specs.declared.common.Form.TheVariants.{Iso}
-use Rattle.wkb_geom.specs.declared.error.WkbError.{WkbError}
+use Rattle.wkb_read.specs.Words.{Endianness, Dimension, Iso, WkbError, Value, member_count}
+use Rattle.wkb_read.specs.Words.{listed_count, Spelling, any, Front, max_nesting, Cause, Refuses, Opens, srid_size, Tells, geometry_of, IsWritable, Item}
+use Rattle.wkb_read.specs.Words.{Counts}
 use Rattle.wkb_geom.specs.declared.error.WkbError.TheVariants as errors
-use Rattle.wkb_geom.specs.Values.{Value, member_count, listed_count}
-use Rattle.wkb_geom.specs.Spellings.{Spelling, any}
-use Rattle.wkb_geom.specs.Fronts.{Front, max_nesting}
-use Rattle.wkb_geom.specs.declared.error.Cause.{Cause}
-use Rattle.wkb_geom.specs.Refusals.{Refuses, Opens, srid_size}
-use Rattle.wkb_geom.specs.Told.{Tells}
-use Rattle.wkb_geom.specs.Geometries.{geometry_of}
-use Rattle.wkb_geom.specs.Texts.{IsWritable}
-use Rattle.wkb_geom.specs.Reading.{Item}
-use Rattle.wkb_view.specs.declared.counts.Counts.{Counts}
 use Rattle.wkb_read.specs.declared.geometry.Wkb.{Wkb}
 
 -- the input begins with the bytes of this geometry, which spell its value

@@ -1,13 +1,11 @@
 -- What a geometry of any kind means to a caller of the geometry traits: the geometry of its value, with every
 -- coordinate fitted. Of a geometry that was read it is the geometry of its value as it stands.
-use Rattle.std.proofs.Common.{◌≡◌, List, ◌∷◌, map, refl, ap, ◌∙◌}
-use Rattle.wkb_geom.specs.Dimensions.{dimensions}
+use Rattle.std.specs.Prelude.{◌≡◌, List, ◌∷◌, map}
+use Rattle.wkb_read.specs.Words.{dimensions, Value, Values, Geometry, geometries, geometry_of, geometries_of, IsGeometry, AreGeometries}
+use Rattle.wkb_read.specs.Words.{Item, list_of_values}
+use Rattle.std.proofs.Common.{refl, ap, ◌∙◌}
 use Rattle.wkb_geom.specs.Values as value
-use Rattle.wkb_geom.specs.Values.{Value, Values}
-use Rattle.wkb_geom.specs.Geometries.{Geometry, geometries, geometry_of, geometries_of, IsGeometry, AreGeometries}
 use Rattle.wkb_geom.specs.Sizes.{dimensions_of}
-use Rattle.wkb_geom.specs.Reading.{Item}
-use Rattle.wkb_view.specs.Parts.{list_of_values}
 use Rattle.wkb_view.specs.Fitted.{fitted_geometry, IsGeometry-fitted, fitted_geometry-same}
 
 abbrev pub geometry_seen : Item → Geometry
@@ -25,12 +23,7 @@ members_lawful (value.member v vs) = (IsGeometry-fitted (geometry_of v), members
 
 dimension_kept : (v : Value) → dimensions_of (fitted_geometry (geometry_of v)) ≡ dimensions (value.dimension v)
 dimension_kept (value.point d c) = refl
-dimension_kept (value.line_string d cs) = refl
-dimension_kept (value.polygon d rings) = refl
-dimension_kept (value.multi_point d points) = refl
-dimension_kept (value.multi_line_string d lines) = refl
-dimension_kept (value.multi_polygon d polygons) = refl
-dimension_kept (value.collection d ts) = refl
+dimension_kept _ = refl
 
 pub one_dimension_seen : (w : Item) → dimensions_of (geometry_seen w) ≡ dimensions (value.dimension w.value)
 one_dimension_seen w = dimension_kept w.value

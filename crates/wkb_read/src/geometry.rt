@@ -1,6 +1,6 @@
 //! Collections, and geometries of any kind.
 
-ghost use Rattle.wkb_geom.specs.Dimensions.{dimensions as named};
+ghost use Rattle.wkb_read.specs.Words.{dimensions as named};
 ghost use Rattle.wkb_read.specs.Seen.{members_seen, geometry_seen, members_lawful, geometry_lawful, one_dimension_seen};
 
 use crate::geometry_type::GeometryType as TypeName;
@@ -52,8 +52,7 @@ pub struct Wkb<'a> {
 }
 
 impl<'a> Model for GeometryCollection<'a> {
-    ghost use Rattle.wkb_geom.specs.Values.{Values};
-    ghost use Rattle.wkb_geom.specs.Stored.{Listed, listed_code, values_code};
+    ghost use Rattle.wkb_read.specs.Words.{Values, Listed, listed_code, values_code};
     ghost use Rattle.wkb_read.specs.Nodes.{size_inside, members_fall};
     ghost use Rattle.wkb_read.specs.Placed.{IsCollectionIn, parts_in};
 
@@ -71,8 +70,7 @@ impl<'a> Model for GeometryCollection<'a> {
 }
 
 impl<'a> Model for Wkb<'a> {
-    ghost use Rattle.wkb_geom.specs.Reading.{Item};
-    ghost use Rattle.wkb_geom.specs.Stored.{item_code};
+    ghost use Rattle.wkb_read.specs.Words.{Item, item_code};
     ghost use Rattle.wkb_read.specs.Nodes.{size_outside};
 
     ghost Value = { Item };
@@ -92,9 +90,7 @@ impl<'a> Model for Wkb<'a> {
 
 impl<'a> GeometryCollection<'a> {
     ghost use Rattle.std.specs.Prelude.{◌≡◌, IfOk, length};
-    ghost use Rattle.wkb_geom.specs.Stored.{whole_of};
-    ghost use Rattle.wkb_geom.specs.Values.{collection};
-    ghost use Rattle.wkb_view.specs.Parts.{srid_of, IsSpelled};
+    ghost use Rattle.wkb_read.specs.Words.{whole_of, collection, srid_of, IsSpelled};
 
     /// The number of its bytes.
     #[inline]
@@ -193,11 +189,9 @@ impl<'a> GeometryCollectionTrait for GeometryCollection<'a> {
 
 impl<'a> Wkb<'a> {
     ghost use Rattle.std.specs.Prelude.{◌≡◌, IfOk, MatchOption, None, Some};
-    ghost use Rattle.wkb_view.specs.Parts.{srid_of, IsCollection, IsSpelled};
+    ghost use Rattle.wkb_read.specs.Words.{srid_of, IsCollection, IsSpelled};
+    ghost use Rattle.wkb_read.specs.Words.{whole_of, collection, dimension, IsGeometry, normal, geometry_of};
     ghost use Rattle.wkb_read.specs.Types.{type_of};
-    ghost use Rattle.wkb_geom.specs.Stored.{whole_of};
-    ghost use Rattle.wkb_geom.specs.Values.{collection, dimension};
-    ghost use Rattle.wkb_geom.specs.Geometries.{IsGeometry, normal, geometry_of};
     ghost use Rattle.wkb_read.specs.Public.{TakesNoMemory, IsFront, IsOnlyFront, CanBeWritten};
     ghost use Rattle.wkb_read.specs.Public.{HasNoFront, IsRefusal, TellsEach, IfRefused};
     ghost use Rattle.wkb_read.specs.Memory.{IsNotMemory};
@@ -285,12 +279,7 @@ impl<'a> Wkb<'a> {
     {
         match &self.kind {
             Kind::GeometryCollection(collection) => Some(collection),
-            Kind::Point(_) => None,
-            Kind::LineString(_) => None,
-            Kind::Polygon(_) => None,
-            Kind::MultiPoint(_) => None,
-            Kind::MultiLineString(_) => None,
-            Kind::MultiPolygon(_) => None,
+            _ => None,
         }
     }
 
@@ -299,34 +288,21 @@ impl<'a> Wkb<'a> {
     pub fn clone(&self) -> Result<Wkb<'a>, AllocError>
         ensures { IfOk result (λ w. w ≡ self.now) }
     {
-        match &self.kind {
-            Kind::Point(point) => Ok(Wkb {
-                kind: Kind::Point(*point),
-            }),
-            Kind::LineString(line_string) => Ok(Wkb {
-                kind: Kind::LineString(*line_string),
-            }),
-            Kind::Polygon(polygon) => Ok(Wkb {
-                kind: Kind::Polygon(polygon.clone()?),
-            }),
-            Kind::MultiPoint(multi) => Ok(Wkb {
-                kind: Kind::MultiPoint(*multi),
-            }),
-            Kind::MultiLineString(multi) => Ok(Wkb {
-                kind: Kind::MultiLineString(multi.clone()?),
-            }),
-            Kind::MultiPolygon(multi) => Ok(Wkb {
-                kind: Kind::MultiPolygon(multi.clone()?),
-            }),
-            Kind::GeometryCollection(collection) => Ok(Wkb {
-                kind: Kind::GeometryCollection(collection.clone()?),
-            }),
-        }
+        let kind = match &self.kind {
+            Kind::Point(point) => Kind::Point(*point),
+            Kind::LineString(line_string) => Kind::LineString(*line_string),
+            Kind::Polygon(polygon) => Kind::Polygon(polygon.clone()?),
+            Kind::MultiPoint(multi) => Kind::MultiPoint(*multi),
+            Kind::MultiLineString(multi) => Kind::MultiLineString(multi.clone()?),
+            Kind::MultiPolygon(multi) => Kind::MultiPolygon(multi.clone()?),
+            Kind::GeometryCollection(collection) => Kind::GeometryCollection(collection.clone()?),
+        };
+        Ok(Wkb { kind })
     }
 }
 
 impl Dimensioned for Wkb<'_> {
-    ghost use Rattle.wkb_geom.specs.Values.{dimension};
+    ghost use Rattle.wkb_read.specs.Words.{dimension};
 
     ghost dimensions = { λ w. named (dimension w.value) };
 
@@ -383,8 +359,7 @@ impl<'a> GeometryTrait for Wkb<'a> {
 /// The same geometry, as one of any kind.
 impl<'a> From<GeometryCollection<'a>> for Wkb<'a> {
     ghost use Rattle.std.specs.Prelude.{◌≡◌};
-    ghost use Rattle.wkb_geom.specs.Stored.{whole_of};
-    ghost use Rattle.wkb_geom.specs.Values.{collection as collected};
+    ghost use Rattle.wkb_read.specs.Words.{whole_of, collection as collected};
 
     ghost from_gives = { λ c w. w ≡ whole_of collected c };
 

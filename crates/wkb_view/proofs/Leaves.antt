@@ -1,21 +1,80 @@
--- Line strings: what a count reads, and what they cost.
-use Rattle.std.proofs.Common.{◌≡◌, ℕ, ◌-◌, ◌+◌, ◌≤◌, Bool, true, false, cond, List, take, drop, refl, ap, ◌∙◌, arith}
-use Rattle.wkb_geom.specs.declared.common.Endianness.{Endianness}
-use Rattle.wkb_geom.specs.declared.common.Dimension.{Dimension}
-use Rattle.wkb_geom.specs.Numbers.{number}
-use Rattle.wkb_geom.specs.Items.{number-take}
-use Rattle.wkb_geom.specs.Reading.{Item, Reading, free, at_no_cost, line_string_at}
-use Rattle.wkb_view.proofs.PiecesRead.{drop-of-take}
+-- Points, line strings and rings: what a text that was cut behind them says, and what they cost.
+use Rattle.std.proofs.Common.{◌≡◌, ℕ, zero, suc, ◌-◌, ◌+◌, ◌≤◌, Bool, true, false, cond, ltb, List, [], ◌∷◌, length, take, drop, Option, Some, None}
+use Rattle.std.proofs.Common.{Ok, refl, sym, ap, ◌∙◌, length-take, length-drop, arith}
+use Rattle.std.proofs.lemmas.Bool.{le-ltb}
+use Rattle.wkb_geom.specs.Reading.{order_of, head_by_order}
+use Rattle.wkb_view.specs.Words.{Endianness, Dimension, Layout, number, number-take, ring_end, Item, Part, Reading, free}
+use Rattle.wkb_view.specs.Words.{at_no_cost, head_at, taken, line_string_at, layout_wanted}
+use Rattle.wkb_view.specs.Words.{member_layout, member_body, member_at, then_body}
+use Rattle.wkb_view.specs.Members.{item_of, IsText, IsMember, layout_said, member_item}
+use Rattle.wkb_view.specs.Pieces.{Passed, IsRing}
+use Rattle.wkb_view.proofs.Pieces.{drop-of-take}
 
 -- a number within the text that was taken
-pub number_within : (order : Endianness) (at end : ℕ) (bytes : List ℕ) → at + 4 ≤ end → number order 4 (drop at (take end bytes)) ≡ number order 4 (drop at bytes)
-number_within order at end bytes h = ap (λ (t : List ℕ). number order 4 t) (drop-of-take at end bytes (omega arith)) ∙ number-take order 4 (end - at) (drop at bytes) (omega arith)
+pub number_within : (order : Endianness) (at end : ℕ) (bytes : List ℕ) → at + 4 ≤ end
+    → number order 4 (drop at (take end bytes)) ≡ number order 4 (drop at bytes)
+number_within order at end bytes h =
+    ap (λ (t : List ℕ). number order 4 t) (drop-of-take at end bytes (omega arith)) ∙ number-take order 4 (end - at) (drop at bytes) (omega arith)
+
+by_order_same : (o : Option Endianness) (n : ℕ) (behind : List ℕ) → 4 ≤ n → n ≤ length behind → head_by_order o (take n behind) ≡ head_by_order o behind
+by_order_same None n behind h le = refl
+by_order_same (Some e) n behind h le =
+    let a : ltb (length (take n behind)) 4 ≡ false = le-ltb _ _ (omega (arith, length-take n behind)) in
+    let b : ltb (length behind) 4 ≡ false = le-ltb _ _ (omega arith) in
+    rw (a, b, number-take e 4 n behind h) refl
+
+-- a header reads no byte past its end
+pub head-take : (n : ℕ) (bytes : List ℕ) → 5 ≤ n → n ≤ length bytes → head_at (take n bytes) ≡ head_at bytes
+unfolding head_at
+head-take zero bytes h le = absurd (omega arith)
+head-take (suc n) [] h le = absurd (omega arith)
+head-take (suc n) (b ∷ bytes) h le = by_order_same (order_of b) n bytes (omega arith) (omega arith)
 
 free_by : (b : Bool) (r p : Reading Item) → p.0 ≡ free → r.0 ≡ free → (cond b p r).0 ≡ free
 free_by true r p h k = h
 free_by false r p h k = k
 
 -- a line string costs nothing
-pub line_string_free : (order : Endianness) (d : Dimension) (srid : Bool) (bytes : List ℕ) → line_string_at order d srid bytes ≡ at_no_cost (line_string_at order d srid bytes).1
+pub line_string_free : (l : Layout) (bytes : List ℕ) → line_string_at l bytes ≡ at_no_cost (line_string_at l bytes).1
 unfolding line_string_at
-line_string_free order d srid bytes = ap (λ c. (c, (line_string_at order d srid bytes).1)) (free_by _ _ _ refl refl)
+line_string_free l bytes = ap (λ c. (c, (line_string_at l bytes).1)) (free_by _ _ _ refl refl)
+
+-- ---- what was passed, by the text that was taken
+
+abbrev pub found : Item → List ℕ → Part Item
+found i rest = Ok (i, rest)
+
+pub passed_by : {P : List ℕ → Type 0} (least : ℕ) (bytes rest : List ℕ) (end : ℕ) → least ≤ end → end ≤ length bytes → rest ≡ drop end bytes
+    → P (take end bytes) → Passed least P bytes rest
+passed_by least bytes rest end enough le rest-is form =
+    let cut : length bytes - length rest ≡ end = omega (arith, ap length rest-is, length-drop end bytes) in
+    record { shorter = omega (arith, ap length rest-is, length-drop end bytes); rest_is = rest-is ∙ ap (λ (k : ℕ). drop k bytes) (sym cut); form = rw cut form }
+
+pub ring_passed : (order : Endianness) (d : Dimension) (bytes rest : List ℕ) (n end : ℕ) → n ≡ number order 4 bytes → end ≡ ring_end d n → end ≤ length bytes
+    → rest ≡ drop end bytes → Passed 4 (IsRing order d) bytes rest
+ring_passed order d bytes rest n end n-is end-is le rest-is =
+    let same : number order 4 (take end bytes) ≡ number order 4 bytes = number-take order 4 end bytes (omega arith) in
+    passed_by 4 bytes rest end (omega arith) le rest-is
+    (record { counted = omega (arith, length-take end bytes); whole = rw (same, ← n-is) (omega (arith, length-take end bytes)) })
+
+-- ---- members
+
+-- what stands behind the header of a member is the member
+pub member_gives : (k : ℕ) (d : Dimension) (bytes : List ℕ) (l : Layout) (r : Reading Item) → member_layout k d bytes ≡ Ok l → member_body k l bytes ≡ r
+    → member_at k d bytes ≡ r
+member_gives k d bytes l r e is = ap (λ s. then_body s (λ m. member_body k m bytes)) e ∙ is
+
+-- a member that was read, as it was passed
+pub member_passed : (k : ℕ) (d : Dimension) (bytes : List ℕ) (l : Layout) (x : Item) (rest : List ℕ) → member_layout k d bytes ≡ Ok l
+    → Passed 9 (IsText k l) bytes rest → x ≡ item_of k l (taken bytes rest) → (x ≡ member_item k d (taken bytes rest)) × Passed 9 (IsMember k d) bytes rest
+member_passed k d bytes l x rest e passed is =
+    let shorter = passed.shorter in
+    let layout : member_layout k d (taken bytes rest) ≡ Ok l =
+    ap (layout_wanted k d) (head-take (length bytes - length rest) bytes (omega arith) (omega arith)) ∙ e in (
+      is ∙ ap (λ s. item_of k (layout_said d s) (taken bytes rest)) (sym layout),
+      record { shorter = passed.shorter; rest_is = passed.rest_is; form = record { layout = l; layout_is = layout; text_is = passed.form } },
+    )
+
+-- a member is seen by its layout
+pub member_seen : (k : ℕ) (d : Dimension) (text : List ℕ) (l : Layout) → member_layout k d text ≡ Ok l → item_of k l text ≡ member_item k d text
+member_seen k d text l e = ap (λ r. item_of k (layout_said d r) text) (sym e)

@@ -1,96 +1,184 @@
--- Members of multi geometries: the test of their headers, and loops over them that may run out of memory.
-use Rattle.std.proofs.Common.{◌≡◌, ℕ, suc, ◌+◌, ◌-◌, ◌≤◌, ◌<◌, Bool, true, false, List, ◌∷◌, [], ◌++◌, Result, Ok, Err, refl, sym, ap, ◌∙◌, if◌then◌else◌, arith}
+-- Members in lists.
+use Rattle.std.proofs.Common.{◌≡◌, ℕ, zero, suc, List, [], ◌∷◌, ◌++◌, map, Option, Some, None, refl, sym, ap, ◌∙◌, subst, ◌+◌, ◌-◌, ◌*◌, ◌≤◌, ◌<◌, length}
+use Rattle.std.proofs.Common.{take, drop, Bool, true, false, ◌&&◌, Result, Ok, Err, length-drop, length-take, arith}
+use Rattle.std.specs.Prelude.{slice_get, option_map, if◌then◌else◌, ◌==◌}
 use Rattle.std.specs.List.{AllByRecursion}
-use Rattle.wkb_geom.specs.declared.error.Refusal.{Refusal}
-use Rattle.wkb_geom.specs.declared.error.Refusal.TheVariants.{Fault, Memory}
-use Rattle.wkb_geom.specs.declared.error.Cause.{Cause}
+use Rattle.std.proofs.lemmas.Option.{slice_get-map}
+use Rattle.std.proofs.lemmas.List.{length-map}
+use Rattle.wkb_geom.specs.Values.{polygon}
 use Rattle.wkb_geom.specs.declared.error.Cause.TheVariants.{IncorrectType as incorrect_type}
-use Rattle.wkb_geom.specs.declared.header.Header.{Header as Head}
-use Rattle.wkb_geom.specs.Reading.{Item, Cost, Reading, refused, head_at, then_head, member_at, costs, one_turn, and_then, done, repeated}
-use Rattle.wkb_geom.specs.Values.{Coordinate, polygon}
-use Rattle.wkb_geom.specs.Stored.{Listed, whole_of}
-use Rattle.wkb_view.specs.Polygons.{polygon_items}
-use Rattle.wkb_view.specs.declared.counts.Counts.{Counts}
-use Rattle.wkb_view.specs.Outcome.{Spent, AtMost, Stops}
-use Rattle.wkb_view.proofs.Faults.{stops_by}
-use Rattle.wkb_view.proofs.Repeats.{Leads, goes_on, turn_ok, turn_err}
+use Rattle.wkb_geom.specs.Reading.{type_kind, type_dimension, same_dimension}
+use Rattle.wkb_view.specs.Words.{Dimension, dimensions, Spelling, Coordinate, Listed, whole_of, Item, spellings, polygon_of, Endianness, Layout, Head, Cause}
+use Rattle.wkb_view.specs.Words.{multi_point_end, body_start, point_of, taken, laid, head_at, layout_wanted, member_layout, list_of_spellings}
+use Rattle.wkb_view.specs.Fitted.{fitted_lines, fitted_polygons}
+use Rattle.wkb_view.specs.Members.{polygon_items, IsText, IsMember, AreMembers, member_item, members_in, pieces_behind, every, stride, point_ends, points_in}
+use Rattle.wkb_view.specs.Pieces.{pieces, Passed}
+use Rattle.wkb_view.specs.Ranges.{member_dimension}
+use Rattle.wkb_view.proofs.Pieces.{parts_counted, pieces_past, piece_form, piece_seen, last_end}
 
-abbrev behind : (Head → Bool) → (Head → List ℕ → Reading Item) → List ℕ → Head → Reading Item
-behind test body bytes g = if test g then body g bytes else refused incorrect_type
+-- the spellings of members, one by one
+pub spelled_each : (ms : List Item) → list_of_spellings (spellings ms) ≡ map (λ i. i.spelled) ms
+spelled_each [] = refl
+spelled_each (m ∷ ms) = ap (λ (ss : List Spelling). m.spelled ∷ ss) (spelled_each ms)
 
-member_by : (test : Head → Bool) (body : Head → List ℕ → Reading Item) (bytes : List ℕ) (h : Head) (b : Bool) → head_at bytes ≡ Ok h → b ≡ test h → member_at test body bytes ≡ (if b then body h bytes else refused incorrect_type)
-member_by test body bytes h b e is = ap (λ (r : Result Head Cause). then_head r (behind test body bytes)) e ∙ ap (λ (c : Bool). if c then body h bytes else refused incorrect_type) (sym is)
+-- ---- the members that pieces are
 
-pub member_right : (test : Head → Bool) (body : Head → List ℕ → Reading Item) (bytes : List ℕ) (h : Head) → head_at bytes ≡ Ok h → true ≡ test h → member_at test body bytes ≡ body h bytes
-member_right test body bytes h e is = member_by test body bytes h true e is
+pub members_counted : {B : Type 0} (f : Item → B) (k : ℕ) (l : Layout) (ends text : List ℕ) → length (map f (members_in k l ends text)) ≡ length ends
+members_counted f k l ends text = length-map (members_in k l ends text) f ∙ parts_counted (member_item k l.dimension) (body_start l.has_srid + 4) ends text
 
-pub member_wrong : (test : Head → Bool) (body : Head → List ℕ → Reading Item) (bytes : List ℕ) (h : Head) → head_at bytes ≡ Ok h → false ≡ test h → member_at test body bytes ≡ refused incorrect_type
-member_wrong test body bytes h e is = member_by test body bytes h false e is
+module _ (k : ℕ) (l : Layout) (ends text : List ℕ) (i : ℕ) where
+  -- one that is handed out has the text that its layout says
+  pub member_text : (t : List ℕ) (m : Layout) → AreMembers k l ends text → Some t ≡ slice_get (pieces_behind l ends text) i
+      → member_layout k l.dimension t ≡ Ok m → IsText k m t
+  member_text t m are e is =
+      let member = piece_form (IsMember k l.dimension) (body_start l.has_srid + 4) ends text i t are e in
+      subst (λ n. IsText k n t) (same member.layout m (sym member.layout_is ∙ is)) member.text_is
+    where
+      good : Layout → Result Layout Cause
+      good n = Ok n
 
-pub member_none : (test : Head → Bool) (body : Head → List ℕ → Reading Item) (bytes : List ℕ) (f : Cause) → head_at bytes ≡ Err f → member_at test body bytes ≡ refused f
-member_none test body bytes f is = ap (λ (r : Result Head Cause). then_head r (behind test body bytes)) is
+      same : (m n : Layout) → good m ≡ good n → m ≡ n
+      same m n e = cc
 
-pub member_stops : (test : Head → Bool) (body : Head → List ℕ → Reading Item) (bytes : List ℕ) (f : Cause) (c : Counts) → head_at bytes ≡ Err f → Stops (Fault f) (member_at test body bytes) c c
-member_stops test body bytes f c is = stops_by f (member_at test body bytes) c (member_none test body bytes f is)
+  -- and has a layout
+  pub member_there : (t : List ℕ) (f : Cause) → AreMembers k l ends text → Some t ≡ slice_get (pieces_behind l ends text) i
+      → member_layout k l.dimension t ≡ Err f → ⊥
+  member_there t f are e is =
+      let member = piece_form (IsMember k l.dimension) (body_start l.has_srid + 4) ends text i t are e in
+      apart member.layout f (sym member.layout_is ∙ is)
+    where
+      good : Layout → Result Layout Cause
+      good n = Ok n
 
-pub items_push : (ps : List (Listed (List (List Coordinate)))) (p : Listed (List (List Coordinate))) → polygon_items (ps ++ p ∷ []) ≡ polygon_items ps ++ whole_of polygon p ∷ []
-items_push [] p = refl
-items_push (q ∷ ps) p = ap (λ (r : List Item). whole_of polygon q ∷ r) (items_push ps p)
+      apart : (m : Layout) (f : Cause) → good m ≡ Err f → ⊥
+      apart m f e = cc
 
--- ---- a loop over parts
+  -- what is made of it
+  pub members_seen : {B : Type 0} (f : Item → B) (o : Option (List ℕ)) → o ≡ slice_get (pieces_behind l ends text) i
+      → option_map f (option_map (member_item k l.dimension) o) ≡ slice_get (map f (members_in k l ends text)) i
+  members_seen f o e =
+      ap (option_map f) (piece_seen (member_item k l.dimension) (body_start l.has_srid + 4) ends text i o e)
+      ∙ sym (slice_get-map f (members_in k l ends text) i)
 
-first_then : {A : Type 0} (front : List A) (turns slots : ℕ) (whole : Reading (List A)) (c : Cost) (x : A) (r : Reading (List A))
-    → Leads turns slots (goes_on front (costs one_turn (costs c (and_then r (λ xs after. done (x ∷ xs) after))))) whole
-    → (turns + 1 + c.turns ≤ whole.0.turns) × (slots + c.slots ≤ whole.0.slots)
-first_then front turns slots whole c x (d, Ok y) leads = (omega (arith, leads.turns_are), omega (arith, leads.slots_are))
-first_then front turns slots whole c x (d, Err f) leads = (omega (arith, leads.turns_are), omega (arith, leads.slots_are))
-
-first_by : {A : Type 0} (front : List A) (n : ℕ) (part : List ℕ → Reading A) (turns slots : ℕ) (whole : Reading (List A)) (r : Reading A) (s : List ℕ → Reading (List A))
-    → Leads turns slots (goes_on front (costs one_turn (and_then r (λ x rest. and_then (s rest) (λ xs after. done (x ∷ xs) after))))) whole
-    → (turns + 1 + r.0.turns ≤ whole.0.turns) × (slots + r.0.slots ≤ whole.0.slots)
-first_by front n part turns slots whole (c, Err f) s leads = (omega (arith, leads.turns_are), omega (arith, leads.slots_are))
-first_by front n part turns slots whole (c, Ok x) s leads = first_then front turns slots whole c x.0 (s x.1) leads
-
--- what the next part costs is among the cost of the whole
-pub first_part : {A : Type 0} (front : List A) (part : List ℕ → Reading A) (count i : ℕ) (bytes : List ℕ) (turns slots : ℕ) (whole : Reading (List A)) → i < count
-    → Leads turns slots (goes_on front (repeated (count - i) part bytes)) whole → (turns + 1 + (part bytes).0.turns ≤ whole.0.turns) × (slots + (part bytes).0.slots ≤ whole.0.slots)
-unfolding repeated
-first_part front part count i bytes turns slots whole lt leads =
-    let k : count - i ≡ suc (count - (i + 1)) = omega arith in
-    first_by front (count - (i + 1)) part turns slots whole (part bytes) (repeated (count - (i + 1)) part) (rw k at leads)
-
--- a part that was read
-pub next_part : {A : Type 0} (front : List A) (part : List ℕ → Reading A) (count i : ℕ) (bytes rest : List ℕ) (x : A) (old new : Counts) (whole : Reading (List A)) → i < count
-    → Leads old.turns old.slots (goes_on front (repeated (count - i) part bytes)) whole → (part bytes).1 ≡ Ok (x, rest)
-    → new.turns ≡ old.turns + 1 + (part bytes).0.turns → new.slots ≡ old.slots + (part bytes).0.slots
-    → Leads new.turns new.slots (goes_on (front ++ x ∷ []) (repeated (count - (i + 1)) part rest)) whole
-next_part front part count i bytes rest x old new whole lt leads is turns slots =
-    let k : count - i ≡ suc (count - (i + 1)) = omega arith in
-    rw (turns, slots) (turn_ok front part (count - (i + 1)) bytes (part bytes).0 x rest old.turns old.slots whole (λ j. ((part bytes).0, is j)) (rw k at leads))
-
--- a part that stops
-stops_with : {A : Type 0} (f : Cause) (front : List A) (part : List ℕ → Reading A) (count i : ℕ) (bytes : List ℕ) (start old mid new : Counts) (whole : Reading (List A)) → i < count
-    → Leads old.turns old.slots (goes_on front (repeated (count - i) part bytes)) (costs (record { turns = start.turns; slots = start.slots }) whole) → mid.turns ≡ old.turns + 1 → mid.slots ≡ old.slots
-    → (part bytes).1 ≡ Err f → Spent mid new (part bytes).0 → (whole.1 ≡ Err f) × Spent start new whole.0
-stops_with f front part count i bytes start old mid new whole lt leads turns slots is spent =
-    let k : count - i ≡ suc (count - (i + 1)) = omega arith in
-    let t = turn_err front part (count - (i + 1)) bytes (part bytes).0 f old.turns old.slots (costs (record { turns = start.turns; slots = start.slots }) whole) (λ j. ((part bytes).0, is j)) (rw k at leads) in
-    (t.0, record { turns = omega (arith, t.1, spent.turns, turns); slots = omega (arith, t.2, spent.slots, slots) })
-
-at_most_with : {A : Type 0} (front : List A) (part : List ℕ → Reading A) (count i : ℕ) (bytes : List ℕ) (start old mid new : Counts) (whole : Reading (List A)) → i < count
-    → Leads old.turns old.slots (goes_on front (repeated (count - i) part bytes)) (costs (record { turns = start.turns; slots = start.slots }) whole) → mid.turns ≡ old.turns + 1 → mid.slots ≡ old.slots
-    → AtMost mid new (part bytes).0 → AtMost start new whole.0
-at_most_with front part count i bytes start old mid new whole lt leads turns slots most =
-    let p = first_part front part count i bytes old.turns old.slots (costs (record { turns = start.turns; slots = start.slots }) whole) lt leads in
-    record { turns = omega (arith, p.0, most.turns, turns); slots = omega (arith, p.1, most.slots, slots) }
-
-pub part_stops : {A : Type 0} (e : Refusal) (front : List A) (part : List ℕ → Reading A) (count i : ℕ) (bytes : List ℕ) (start old mid new : Counts) (whole : Reading (List A)) → i < count
-    → Leads old.turns old.slots (goes_on front (repeated (count - i) part bytes)) (costs (record { turns = start.turns; slots = start.slots }) whole) → mid.turns ≡ old.turns + 1 → mid.slots ≡ old.slots
-    → Stops e (part bytes) mid new → Stops e whole start new
-part_stops Memory front part count i bytes start old mid new whole lt leads turns slots most = at_most_with front part count i bytes start old mid new whole lt leads turns slots most
-part_stops (Fault f) front part count i bytes start old mid new whole lt leads turns slots h = stops_with f front part count i bytes start old mid new whole lt leads turns slots h.0 h.1
+  -- and its spelling
+  pub spelling_seen : (o : Option (List ℕ)) → o ≡ slice_get (pieces_behind l ends text) i
+      → option_map (λ m. m.spelled) (option_map (member_item k l.dimension) o) ≡ slice_get (list_of_spellings (spellings (members_in k l ends text))) i
+  spelling_seen o e = members_seen (λ m. m.spelled) o e ∙ sym (ap (λ (ss : List Spelling). slice_get ss i) (spelled_each (members_in k l ends text)))
 
 -- what holds of each member holds with one more
 pub all_more : {A : Type 0} (P : A → Type 0) (xs : List A) (x : A) → AllByRecursion P xs → P x → AllByRecursion P (xs ++ x ∷ [])
 all_more P [] x all h = (h, tt)
 all_more P (y ∷ ys) x all h = (all.0, all_more P ys x all.1 h)
+
+each_at : {A : Type 0} (P : A → Type 0) (xs : List A) (i : ℕ) (x : A) → AllByRecursion P xs → slice_get xs i ≡ Some x → P x
+each_at P [] i x all e = absurd cc
+each_at P (y ∷ xs) zero x all e = let same : y ≡ x = cc in subst P same all.0
+each_at P (y ∷ xs) (suc i) x all e = each_at P xs i x all.1 e
+
+items_at : {B : Type 0} (f : Item → B) (ps : List (Listed (List (List Coordinate)))) (i : ℕ) (o : Option (Listed (List (List Coordinate)))) → slice_get ps i ≡ o
+    → option_map f (option_map (λ p. whole_of polygon p) o) ≡ slice_get (map f (polygon_items ps)) i
+items_at f ps i o e =
+    sym (slice_get-map f (polygon_items ps) i ∙ ap (option_map f) (slice_get-map (λ p. whole_of polygon p) ps i ∙ ap (option_map (λ p. whole_of polygon p)) e))
+
+fitted_at : (d : Dimension) (ps : List (Listed (List (List Coordinate)))) (i : ℕ) (o : Option (Listed (List (List Coordinate)))) → slice_get ps i ≡ o
+    → AllByRecursion (λ p. p.dimension ≡ d) ps → option_map (λ p. fitted_lines (dimensions p.dimension) p.parts) o
+    ≡ option_map (fitted_lines (dimensions d)) (option_map (λ m. polygon_of m.value) (option_map (λ p. whole_of polygon p) o))
+fitted_at d ps i None e all = refl
+fitted_at d ps i (Some p) e all = ap (λ (f : Dimension). Some (fitted_lines (dimensions f) p.parts)) (each_at (λ q. q.dimension ≡ d) ps i p all e)
+
+-- the member of a multi polygon at an index, if there is one
+pub record PolygonAt (d : Dimension) (ps : List (Listed (List (List Coordinate)))) (i : ℕ) (o : Option (Listed (List (List Coordinate)))) : Type 0 where
+  pub part : option_map (λ m. polygon_of m.value) (option_map (λ p. whole_of polygon p) o) ≡ slice_get (map (λ m. polygon_of m.value) (polygon_items ps)) i
+  pub value : option_map (λ p. fitted_lines (dimensions p.dimension) p.parts) o
+      ≡ slice_get (fitted_polygons (dimensions d) (map (λ m. polygon_of m.value) (polygon_items ps))) i
+  pub spelled : option_map (λ m. m.spelled) (option_map (λ p. whole_of polygon p) o) ≡ slice_get (list_of_spellings (spellings (polygon_items ps))) i
+
+pub polygon_there : (d : Dimension) (ps : List (Listed (List (List Coordinate)))) (i : ℕ) (o : Option (Listed (List (List Coordinate)))) → slice_get ps i ≡ o
+    → AllByRecursion (λ p. p.dimension ≡ d) ps → PolygonAt d ps i o
+polygon_there d ps i o e all =
+    let part = items_at (λ m. polygon_of m.value) ps i o e in
+    let fitted = slice_get-map (fitted_lines (dimensions d)) (map (λ m. polygon_of m.value) (polygon_items ps)) i in
+    record {
+      part = part;
+      value = fitted_at d ps i o e all ∙ ap (option_map (fitted_lines (dimensions d))) part ∙ sym fitted;
+      spelled = items_at (λ m. m.spelled) ps i o e ∙ sym (ap (λ (ss : List Spelling). slice_get ss i) (spelled_each (polygon_items ps)));
+    }
+
+-- ---- the members of a multi point, which have one size
+
+pub length-every : (start size n : ℕ) → length (every start size n) ≡ n
+length-every start size zero = refl
+length-every start size (suc n) = ap suc (length-every (start + size) size n)
+
+last_end-every : (start size n : ℕ) → last_end start (every start size n) ≡ start + size * n
+last_end-every start size zero = omega arith
+last_end-every start size (suc n) = omega (arith, last_end-every (start + size) size n)
+
+every-next : (start size n end : ℕ) → end ≡ start + size * n + size → every start size (suc n) ≡ every start size n ++ end ∷ []
+every-next start size zero end e = ap (λ (k : ℕ). k ∷ []) (omega arith)
+every-next start size (suc n) end e = ap (λ (r : List ℕ). (start + size) ∷ r) (every-next (start + size) size n end (omega arith))
+
+-- the part at an index
+pub every_at : (start size n i : ℕ) (text : List ℕ) → i < n
+    → slice_get (pieces start (every start size n) text) i ≡ Some (take size (drop (start + size * i) text))
+every_at start size zero i text lt = absurd (omega arith)
+every_at start size (suc n) zero text lt =
+    let k : start + size - start ≡ size = omega arith in
+    let z : start ≡ start + size * 0 = omega arith in
+    ap (λ (m : ℕ). Some (take m (drop start text))) k ∙ ap (λ (m : ℕ). Some (take size (drop m text))) z
+every_at start size (suc n) (suc i) text lt =
+    every_at (start + size) size n i text (omega arith) ∙ ap (λ (m : ℕ). Some (take size (drop m text))) (omega arith)
+
+-- ---- a member has no SRID, so that it has the size of all
+
+no_srid_by : (order : Endianness) (d : Dimension) (a b srid : Bool) (l : Layout)
+    → (if (a && (b && (if srid then false else true))) then Ok (laid order d srid) else Err incorrect_type) ≡ Ok l → l.has_srid ≡ false
+no_srid_by order d true true false l e = let same : laid order d false ≡ l = cc in ap (λ (m : Layout). m.has_srid) (sym same)
+no_srid_by order d true true true l e = absurd cc
+no_srid_by order d true false srid l e = absurd cc
+no_srid_by order d false b srid l e = absurd cc
+
+no_srid : (d : Dimension) (r : Result Head Cause) (l : Layout) → layout_wanted 1 d r ≡ Ok l → l.has_srid ≡ false
+no_srid d (Ok h) l e = no_srid_by h.order d (type_kind h.wkb_type == 1) (same_dimension (type_dimension h.wkb_type) d) h.has_srid l e
+no_srid d (Err c) l e = absurd cc
+
+member_size : (d : Dimension) (text : List ℕ) → IsMember 1 d text → length text ≡ stride d
+member_size d text m =
+    let same : m.layout.dimension ≡ d = member_dimension 1 d text m.layout m.layout_is in
+    let none : m.layout.has_srid ≡ false = no_srid d (head_at text) m.layout m.layout_is in
+    rw (same, none) at m.text_is.whole ∙ omega arith
+
+-- a member more
+pub ends_next : (l : Layout) (i : ℕ) (bytes rest after : List ℕ) → rest ≡ drop (last_end (body_start l.has_srid + 4) (point_ends l i)) bytes
+    → last_end (body_start l.has_srid + 4) (point_ends l i) ≤ length bytes
+    → Passed 9 (IsMember 1 l.dimension) rest after → point_ends l (i + 1) ≡ point_ends l i ++ (length bytes - length after) ∷ []
+ends_next l i bytes rest after rest-is within passed =
+    let start = body_start l.has_srid + 4 in
+    let last = last_end-every start (stride l.dimension) i in
+    let long = ap length rest-is ∙ length-drop (last_end start (point_ends l i)) bytes in
+    let size = member_size l.dimension (taken rest after) passed.form in
+    let shorter = passed.shorter in
+    let one : i + 1 ≡ suc i = omega arith in
+    ap (point_ends l) one ∙ every-next start (stride l.dimension) i (length bytes - length after) (omega (arith, length-take (length rest - length after) rest))
+
+-- where the last of them ends
+pub points_end : (l : Layout) (i : ℕ) (bytes rest : List ℕ) → rest ≡ drop (last_end (body_start l.has_srid + 4) (point_ends l i)) bytes
+    → last_end (body_start l.has_srid + 4) (point_ends l i) ≤ length bytes → multi_point_end l.dimension l.has_srid i + length rest ≡ length bytes
+points_end l i bytes rest rest-is within =
+    let start = body_start l.has_srid + 4 in
+    omega (arith, last_end-every start (stride l.dimension) i, ap length rest-is ∙ length-drop (last_end start (point_ends l i)) bytes)
+
+-- ---- members by their index
+
+pub points_counted : (l : Layout) (n : ℕ) (text : List ℕ) → length (map (λ i. point_of i.value) (points_in l n text)) ≡ n
+points_counted l n text = members_counted (λ i. point_of i.value) 1 l (point_ends l n) text ∙ length-every (body_start l.has_srid + 4) (stride l.dimension) n
+
+pub point_text : (l : Layout) (n i : ℕ) (buf : List ℕ) (start : ℕ) (part : List ℕ) → i < n → start ≡ body_start l.has_srid + 4 + stride l.dimension * i
+    → part ≡ take (stride l.dimension) (drop start buf) → Some part ≡ slice_get (pieces_behind l (point_ends l n) buf) i
+point_text l n i buf start part lt start-is part-is =
+    ap (λ (t : List ℕ). Some t) (part-is ∙ ap (λ (k : ℕ). take (stride l.dimension) (drop k buf)) start-is)
+    ∙ sym (every_at (body_start l.has_srid + 4) (stride l.dimension) n i buf lt)
+
+pub point_past : (l : Layout) (n i : ℕ) (buf : List ℕ) → n ≤ i → None ≡ slice_get (pieces_behind l (point_ends l n) buf) i
+point_past l n i buf le =
+    pieces_past (body_start l.has_srid + 4) (point_ends l n) buf i (omega (arith, length-every (body_start l.has_srid + 4) (stride l.dimension) n))

@@ -1,10 +1,6 @@
 -- What coordinates and rings stand for.
 use Rattle.std.specs.Prelude.{ℕ, ◌+◌, ◌*◌, List, take, drop}
-use Rattle.wkb_geom.specs.declared.common.Dimension.{Dimension}
-use Rattle.wkb_geom.specs.Dimensions.{width}
-use Rattle.wkb_geom.specs.declared.common.Endianness.{Endianness}
-use Rattle.wkb_geom.specs.Values.{Coordinate}
-use Rattle.wkb_geom.specs.Reading.{coordinate, ring_in}
+use Rattle.wkb_view.specs.Words.{Dimension, Endianness, Coordinate, width, coordinate, ring_in}
 use Rattle.wkb_view.specs.declared.coord.Coord.{Coord}
 use Rattle.wkb_view.specs.declared.linear_ring.LinearRing.{LinearRing}
 

@@ -1,7 +1,6 @@
 -- Answers that aren't want of memory.
 use Rattle.std.specs.Prelude.{Result, Ok, Err}
-use Rattle.wkb_geom.specs.declared.error.Refusal.{Refusal}
-use Rattle.wkb_geom.specs.declared.error.Refusal.TheVariants.{Fault, Memory}
+use Rattle.wkb_view.specs.Words.{Refusal, Fault, Memory}
 
 -- the bytes are at fault
 abbrev pub IsAtFault : Refusal → Type 0

@@ -1,15 +1,17 @@
 -- How an answer of the reader agrees with reading.
 use Rattle.std.specs.Prelude.{◌≡◌, ℕ, ◌+◌, ◌≤◌, ◌<◌, ◌^◌, List, Result, Ok, Err}
-use Rattle.wkb_geom.specs.declared.error.Cause.{Cause}
-use Rattle.wkb_geom.specs.declared.error.Refusal.{Refusal}
-use Rattle.wkb_geom.specs.declared.error.Refusal.TheVariants.{Fault, Memory}
-use Rattle.wkb_geom.specs.Reading.{Cost, Reading}
+use Rattle.wkb_view.specs.Words.{Cause, Refusal, Fault, Memory, Cost, free, Reading}
 use Rattle.wkb_view.specs.declared.counts.Counts.{Counts}
 
 -- an answer that takes no memory
 abbrev pub Answers : {X Y : Type 0} → (X → Y) → Result X Cause → Result Y Cause → Type 0
 Answers view (Ok x) r = r ≡ Ok (view x)
 Answers view (Err cause) r = r ≡ Err cause
+
+-- the same of an answer that costs nothing
+abbrev pub Freely : {X Y : Type 0} → (X → Y × List ℕ) → Result X Cause → Reading Y → Type 0
+Freely view (Ok x) r = r ≡ (free, Ok (view x))
+Freely view (Err cause) r = r ≡ (free, Err cause)
 
 -- what was counted between the two
 pub record Spent (old new : Counts) (cost : Cost) : Type 0 where

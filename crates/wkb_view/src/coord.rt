@@ -1,8 +1,7 @@
 //! A coordinate.
 
 ghost use Rattle.std.specs.Prelude.{◌≡◌, ◌*◌, length};
-ghost use Rattle.wkb_geom.specs.Dimensions.{width};
-ghost use Rattle.wkb_geom.specs.Numbers.{AreBytes};
+ghost use Rattle.wkb_view.specs.Words.{width, AreBytes};
 
 use wkb_geom::words::{is_nan, u64_at};
 use wkb_geom::{CoordTrait, Dimension, Dimensioned, Dimensions, Endianness};
@@ -19,7 +18,7 @@ pub struct Coord<'a> {
 
 impl<'a> Coord<'a> {
     ghost use Rattle.std.specs.Prelude.{◌≡◌, length};
-    ghost use Rattle.wkb_geom.specs.Numbers.{all_nan};
+    ghost use Rattle.wkb_view.specs.Words.{all_nan};
     ghost use Rattle.wkb_view.specs.Coords.{words_seen, coord_order, coord_dimension, coord_text};
 
     /// The order of its numbers.
@@ -68,7 +67,7 @@ impl<'a> Coord<'a> {
 }
 
 impl Dimensioned for Coord<'_> {
-    ghost use Rattle.wkb_geom.specs.Dimensions.{dimensions as named};
+    ghost use Rattle.wkb_view.specs.Words.{dimensions as named};
     ghost use Rattle.wkb_view.specs.Coords.{coord_dimension};
 
     ghost dimensions = { λ c. named (coord_dimension c) };
@@ -96,6 +95,7 @@ impl CoordTrait for Coord<'_> {
         }
     }
 
+    #[tactic(auto, using(crate::proofs::Items::word_at, crate::specs::Ranges::named_size))]
     #[inline]
     fn at(&self, n: usize) -> u64 {
         u64_at(self.bytes, 8 * n, self.order)

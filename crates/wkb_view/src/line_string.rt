@@ -1,26 +1,19 @@
 //! A line string.
 
 ghost use Rattle.std.specs.Prelude.{◌≡◌, ◌+◌, ◌*◌, length, drop};
-ghost use Rattle.wkb_geom.specs.Dimensions.{width};
-ghost use Rattle.wkb_geom.specs.Numbers.{AreBytes, number};
-ghost use Rattle.wkb_geom.specs.Reading.{body_start, line_string_item};
-ghost use Rattle.wkb_view.specs.Parts.{IsSpelled};
+ghost use Rattle.wkb_view.specs.Words.{width, AreBytes, number, body_start, line_string_item, IsSpelled};
 
-use crate::any::AnyView;
+use crate::any::{
+    AnyView, Line, MultiLineString, MultiPoint, MultiPolygon, Point, Polygon, Rect, Triangle,
+};
 use crate::coord::Coord;
 use crate::linear_ring::LinearRing;
-use crate::multi_line_string::MultiLineString;
-use crate::multi_point::MultiPoint;
-use crate::multi_polygon::MultiPolygon;
 use crate::own_srid::OwnSrid;
-use crate::point::Point;
-use crate::polygon::Polygon;
 use wkb_geom::words::u32_at;
 use wkb_geom::{
     Cause, Dimension, Dimensioned, Dimensions, Endianness, General, GeometryTrait, GeometryType,
-    Header, Layout, LineStringTrait,
+    Layout, LineStringTrait,
 };
-use wkb_plain::{Line, Rect, Triangle};
 
 /// A line string.
 #[derive(Clone, Copy, Debug)]
@@ -31,16 +24,21 @@ pub struct LineString<'a> {
     ghost counted: { count ≡ number layout.order 4 (drop (body_start layout.has_srid) buf.now) },
     ghost whole: { length buf.now ≡ body_start layout.has_srid + 4 + 8 * width layout.dimension * count },
     ghost in_range: { AreBytes buf.now },
-    ghost spells: { IsSpelled (line_string_item layout.order layout.dimension layout.has_srid buf.now) },
+    ghost spells: { IsSpelled (line_string_item layout buf.now) },
 }
 
 impl<'a> LineString<'a> {
-    ghost use Rattle.std.specs.Prelude.{◌≡◌, ◌+◌, length, ◌≤◌, drop};
-    ghost use Rattle.wkb_geom.specs.Reading.{body_start, line_of};
-    ghost use Rattle.wkb_view.specs.Parts.{IsSpelled, order_of};
+    ghost use Rattle.std.specs.Prelude.{◌≡◌, ◌+◌, length, ◌≤◌, drop, IfOk};
     ghost use Rattle.wkb_geom.specs.Values as value;
+    ghost use Rattle.wkb_geom.specs.declared.code.WkbType.TheVariants as kinds;
+    ghost use Rattle.wkb_view.specs.Words.{body_start, line_string_of, line_string_at, line_string_item, taken};
+    ghost use Rattle.wkb_view.specs.Parts.{IsSpelled, order_of};
     ghost use Rattle.wkb_view.specs.Coords.{ring_text, ring_order, ring_dimension};
     ghost use Rattle.wkb_view.specs.Views.{line_string_seen, line_string_layout, line_string_offset};
+    ghost use Rattle.wkb_view.specs.Headers.{HasHead};
+    ghost use Rattle.wkb_view.specs.Outcome.{Answers};
+    ghost use Rattle.wkb_view.specs.Members.{IsText};
+    ghost use Rattle.wkb_view.specs.Pieces.{Passed};
 
     /// The number of its bytes.
     #[inline]
@@ -53,7 +51,7 @@ impl<'a> LineString<'a> {
     /// Where a coordinate begins in its bytes.
     #[inline]
     pub fn coord_offset(&self, i: u64) -> u64
-        requires { i ≤ length (line_of (line_string_seen self.now).value) }
+        requires { i ≤ length (line_string_of (line_string_seen self.now).value) }
         ensures { result ≡ line_string_offset self.now i }
     {
         self.layout.body_start() as u64 + self.ring().coord_offset(i)
@@ -108,133 +106,15 @@ impl<'a> LineString<'a> {
             count: self.count,
         }
     }
-}
-
-impl OwnSrid for LineString<'_> {
-    ghost use Rattle.wkb_view.specs.Views.{line_string_seen};
-
-    ghost spelled = { λ s. (line_string_seen s).spelled };
-
-    #[inline]
-    fn srid(&self) -> Option<u32> {
-        self.layout.srid(self.buf)
-    }
-}
-
-impl Dimensioned for LineString<'_> {
-    ghost use Rattle.wkb_geom.specs.Dimensions.{dimensions as named};
-    ghost use Rattle.wkb_view.specs.Views.{line_string_layout};
-
-    ghost dimensions = { λ g. named (line_string_layout g).dimension };
-
-    #[inline]
-    fn dim(&self) -> Dimensions {
-        self.layout.dimension.into()
-    }
-}
-
-impl<'a> LineStringTrait for LineString<'a> {
-    ghost use Rattle.std.specs.Prelude.{◌≡◌, length, option_map, IfSome, ◌<◌, Some, slice_get};
-    ghost use Rattle.wkb_geom.specs.Dimensions.{dimensions as named};
-    ghost use Rattle.wkb_view.specs.Coords.{words_seen, coordinate_text, coord_order, coord_dimension, coord_text};
-    ghost use Rattle.wkb_view.specs.Parts.{order_of};
-    ghost use Rattle.wkb_view.specs.Ranges.{line_lawful};
-    ghost use Rattle.wkb_geom.specs.Reading.{line_of};
-    ghost use Rattle.wkb_view.specs.Views.{line_string_seen, line_string_layout, line_string_offset};
-
-    type CoordType = Coord<'a>;
-
-    ghost coordinates = { λ l. line_of (line_string_seen l).value };
-
-    ghost lawful = { λ l. line_lawful l.layout.order l.layout.dimension l.layout.has_srid l.buf.now l.in_range };
-
-    #[inline]
-    fn num_coords(&self) -> usize {
-        self.count as usize
-    }
-
-    #[inline]
-    fn coord(&self, i: usize) -> Option<Coord<'a>>
-        ensures value { option_map words_seen result ≡ slice_get (line_of (line_string_seen self.now).value) i }
-        ensures dimensions { IfSome result (λ c. named (coord_dimension c)
-            ≡ named (line_string_layout self.now).dimension) }
-        ensures order { IfSome result (λ c. coord_order c ≡ order_of (line_string_seen self.now).spelled) }
-        ensures bytes { IfSome result (λ c. coord_text c ≡ coordinate_text (line_string_layout self.now).dimension
-            (line_string_offset self.now i) (line_string_seen self.now).text) }
-    {
-        self.ring().coord(i)
-    }
-
-    #[inline]
-    fn coord_at(&self, i: usize) -> Coord<'a>
-        requires { i < length (line_of (line_string_seen self.now).value) }
-        ensures value { slice_get (line_of (line_string_seen self.now).value) i ≡ Some (words_seen result) }
-        ensures dimensions { named (coord_dimension result) ≡ named (line_string_layout self.now).dimension }
-        ensures order { coord_order result ≡ order_of (line_string_seen self.now).spelled }
-        ensures bytes { coord_text result
-            ≡ coordinate_text (line_string_layout self.now).dimension
-            (line_string_offset self.now i) (line_string_seen self.now).text }
-    {
-        self.ring().coord_at(i)
-    }
-}
-
-impl<'a> GeometryTrait for LineString<'a> {
-    ghost use Rattle.std.specs.Prelude.{◌≡◌, refl};
-    ghost use Rattle.wkb_geom.specs.Dimensions.{dimensions as named};
-    ghost use Rattle.wkb_geom.specs.declared.geom.GeometryType.TheVariants.{LineString as Handed};
-    ghost use Rattle.wkb_view.specs.Ranges.{line_lawful};
-    ghost use Rattle.wkb_geom.specs.Reading.{line_of};
-    ghost use Rattle.wkb_view.specs.Views.{line_string_seen, line_string_layout};
-    ghost use Rattle.wkb_geom.specs.Geometries.{line_string};
-
-    type PointType = Point<'a>;
-
-    type LineStringType = LineString<'a>;
-
-    type PolygonType = Polygon<'a>;
-
-    type MultiPointType = MultiPoint<'a>;
-
-    type MultiLineStringType = MultiLineString<'a>;
-
-    type MultiPolygonType = MultiPolygon<'a>;
-
-    type RectType = Rect<'a>;
-
-    type TriangleType = Triangle<'a>;
-
-    type LineType = Line<'a>;
-
-    ghost geometry = { λ l. line_string (named (line_string_layout l).dimension) (line_of (line_string_seen l).value) };
-
-    ghost one_dimension = { λ g. refl };
-
-    ghost lawful = { λ l. line_lawful l.layout.order l.layout.dimension l.layout.has_srid l.buf.now l.in_range };
-
-    #[inline]
-    fn as_type(&self) -> AnyView<'_, 'a, LineString<'a>>
-        ensures view { result ≡ Handed self.entry }
-    {
-        GeometryType::LineString(self)
-    }
-}
-
-impl<'a> LineString<'a> {
-    ghost use Rattle.std.specs.Prelude.{◌≡◌, ◌+◌, length, ◌≤◌, IfOk, Ok};
-    ghost use Rattle.wkb_view.specs.Headers.{HasHead, line_string_behind};
-    ghost use Rattle.wkb_view.specs.Outcome.{Answers};
-    ghost use Rattle.wkb_geom.specs.declared.code.WkbType.TheVariants as kinds;
-    ghost use Rattle.wkb_view.specs.Views.{line_string_seen, line_string_layout};
-    ghost use Rattle.wkb_geom.specs.Reading.{head_at};
-    ghost use Rattle.wkb_view.specs.Lines.{IsLine, line_item_in};
 
     /// The line string behind this header, and the bytes after it.
     #[tactic(auto, unfolding(wkb_geom::specs::Reading::line_string_at))]
     #[inline]
     pub fn read(layout: Layout, bytes: &'a [u8]) -> Result<(LineString<'a>, &'a [u8]), Cause>
         requires head { HasHead (λ d. kinds.LineString d) layout bytes.now }
-        ensures answer { Answers (λ x. (line_string_seen x.0, x.1.now)) result (line_string_behind layout bytes.now) }
+        ensures answer { Answers (λ x. (line_string_seen x.0, x.1.now)) result (line_string_at layout bytes.now).1 }
+        ensures item { IfOk result (λ x. line_string_seen x.0 ≡ line_string_item layout (taken bytes.now x.1.now)) }
+        ensures passed { IfOk result (λ x. Passed 9 (IsText 2 layout) bytes.now x.1.now) }
         ensures shorter { IfOk result (λ x. length x.1.now + 9 ≤ length bytes.now) }
     {
         let count = match layout.count(bytes) {
@@ -255,23 +135,126 @@ impl<'a> LineString<'a> {
         Ok((line_string, rest))
     }
 
-    /// The line string that stands in these bytes, behind this header and with the dimension of its multi line string.
+    /// The line string that stands in these bytes, a member of a multi line string.
     #[inline]
-    pub(crate) fn of_text(header: Header, dimension: Dimension, buf: &'a [u8]) -> LineString<'a>
-        requires head { head_at buf.now ≡ Ok header }
-        requires line { IsLine dimension buf.now }
-        ensures item { line_string_seen result ≡ line_item_in dimension buf.now }
-        ensures dimension { (line_string_layout result).dimension ≡ dimension }
+    pub(crate) fn of_text(layout: Layout, buf: &'a [u8]) -> LineString<'a>
+        requires { IsText 2 layout buf.now }
+        ensures item { line_string_seen result ≡ line_string_item layout buf.now }
+        ensures layout { line_string_layout result ≡ layout }
     {
-        let layout = Layout {
-            order: header.order,
-            dimension,
-            has_srid: header.has_srid,
-        };
         LineString {
             buf,
             layout,
-            count: u32_at(buf, layout.body_start(), header.order),
+            count: u32_at(buf, layout.body_start(), layout.order),
         }
+    }
+}
+
+impl OwnSrid for LineString<'_> {
+    ghost use Rattle.wkb_view.specs.Views.{line_string_seen};
+
+    ghost spelled = { λ s. (line_string_seen s).spelled };
+
+    #[inline]
+    fn srid(&self) -> Option<u32> {
+        self.layout.srid(self.buf)
+    }
+}
+
+impl Dimensioned for LineString<'_> {
+    ghost use Rattle.wkb_view.specs.Words.{dimensions as named};
+    ghost use Rattle.wkb_view.specs.Views.{line_string_layout};
+
+    ghost dimensions = { λ g. named (line_string_layout g).dimension };
+
+    #[inline]
+    fn dim(&self) -> Dimensions {
+        self.layout.dimension.into()
+    }
+}
+
+impl<'a> LineStringTrait for LineString<'a> {
+    ghost use Rattle.std.specs.Prelude.{◌≡◌, length, option_map, IfSome, ◌<◌, Some, slice_get};
+    ghost use Rattle.wkb_view.specs.Words.{dimensions as named, line_string_of, order_of};
+    ghost use Rattle.wkb_view.specs.Coords.{words_seen, coordinate_text, coord_order, coord_dimension, coord_text};
+    ghost use Rattle.wkb_view.specs.Ranges.{line_lawful};
+    ghost use Rattle.wkb_view.specs.Views.{line_string_seen, line_string_layout, line_string_offset};
+
+    type CoordType = Coord<'a>;
+
+    ghost coordinates = { λ l. line_string_of (line_string_seen l).value };
+
+    ghost lawful = { λ l. line_lawful l.layout l.buf.now l.in_range };
+
+    #[tactic(auto, using(crate::proofs::Items::ring_counted))]
+    #[inline]
+    fn num_coords(&self) -> usize {
+        self.count as usize
+    }
+
+    #[inline]
+    fn coord(&self, i: usize) -> Option<Coord<'a>>
+        ensures value { option_map words_seen result ≡ slice_get (line_string_of (line_string_seen self.now).value) i }
+        ensures dimensions { IfSome result (λ c. named (coord_dimension c)
+            ≡ named (line_string_layout self.now).dimension) }
+        ensures order { IfSome result (λ c. coord_order c ≡ order_of (line_string_seen self.now).spelled) }
+        ensures bytes { IfSome result (λ c. coord_text c ≡ coordinate_text (line_string_layout self.now).dimension
+            (line_string_offset self.now i) (line_string_seen self.now).text) }
+    {
+        self.ring().coord(i)
+    }
+
+    #[inline]
+    fn coord_at(&self, i: usize) -> Coord<'a>
+        requires { i < length (line_string_of (line_string_seen self.now).value) }
+        ensures value { slice_get (line_string_of (line_string_seen self.now).value) i ≡ Some (words_seen result) }
+        ensures dimensions { named (coord_dimension result) ≡ named (line_string_layout self.now).dimension }
+        ensures order { coord_order result ≡ order_of (line_string_seen self.now).spelled }
+        ensures bytes { coord_text result
+            ≡ coordinate_text (line_string_layout self.now).dimension
+            (line_string_offset self.now i) (line_string_seen self.now).text }
+    {
+        self.ring().coord_at(i)
+    }
+}
+
+impl<'a> GeometryTrait for LineString<'a> {
+    ghost use Rattle.std.specs.Prelude.{◌≡◌, refl};
+    ghost use Rattle.wkb_geom.specs.declared.geom.GeometryType.TheVariants.{LineString as Handed};
+    ghost use Rattle.wkb_geom.specs.Geometries.{line_string};
+    ghost use Rattle.wkb_view.specs.Words.{dimensions as named, line_string_of};
+    ghost use Rattle.wkb_view.specs.Ranges.{line_lawful};
+    ghost use Rattle.wkb_view.specs.Views.{line_string_seen, line_string_layout};
+
+    type PointType = Point<'a>;
+
+    type LineStringType = LineString<'a>;
+
+    type PolygonType = Polygon<'a>;
+
+    type MultiPointType = MultiPoint<'a>;
+
+    type MultiLineStringType = MultiLineString<'a>;
+
+    type MultiPolygonType = MultiPolygon<'a>;
+
+    type RectType = Rect<'a>;
+
+    type TriangleType = Triangle<'a>;
+
+    type LineType = Line<'a>;
+
+    ghost geometry = { λ l. line_string (named (line_string_layout l).dimension)
+        (line_string_of (line_string_seen l).value) };
+
+    ghost one_dimension = { λ g. refl };
+
+    ghost lawful = { λ l. line_lawful l.layout l.buf.now l.in_range };
+
+    #[inline]
+    fn as_type(&self) -> AnyView<'_, 'a, LineString<'a>>
+        ensures view { result ≡ Handed self.entry }
+    {
+        GeometryType::LineString(self)
     }
 }

@@ -1,25 +1,18 @@
 //! A ring of a polygon.
 
 ghost use Rattle.std.specs.Prelude.{◌≡◌, ◌+◌, ◌*◌, length, IfOk};
-ghost use Rattle.wkb_geom.specs.Dimensions.{width};
-ghost use Rattle.wkb_geom.specs.Numbers.{AreBytes, number};
+ghost use Rattle.wkb_view.specs.Words.{width, AreBytes, number, ring_at, taken};
 ghost use Rattle.wkb_view.specs.Outcome.{Answers};
-ghost use Rattle.wkb_geom.specs.Reading.{ring_at, taken};
 ghost use Rattle.wkb_view.specs.Pieces.{IsRing, Passed};
 
+use crate::any::{Line, MultiLineString, MultiPoint, MultiPolygon, Point, Polygon, Rect, Triangle};
 use crate::coord::Coord;
-use crate::multi_line_string::MultiLineString;
-use crate::multi_point::MultiPoint;
-use crate::multi_polygon::MultiPolygon;
 use crate::part::part;
-use crate::point::Point;
-use crate::polygon::Polygon;
 use wkb_geom::words::u32_at;
 use wkb_geom::{
     Cause, Dimension, Dimensioned, Dimensions, Endianness, General, GeometryTrait, GeometryType,
     LineStringTrait,
 };
-use wkb_plain::{Line, Rect, Triangle};
 
 /// A ring: a count and so many coordinates, in its polygon's order and dimension.
 #[derive(Clone, Copy, Debug)]
@@ -46,6 +39,7 @@ impl<'a> LinearRing<'a> {
     }
 
     /// Where a coordinate begins in its bytes.
+    #[tactic(auto, using(crate::proofs::Items::ring_counted, crate::proofs::Items::few_words))]
     #[inline]
     pub fn coord_offset(&self, i: u64) -> u64
         requires { i ≤ length (ring_seen self.now) }
@@ -80,7 +74,7 @@ impl<'a> LinearRing<'a> {
 }
 
 impl Dimensioned for LinearRing<'_> {
-    ghost use Rattle.wkb_geom.specs.Dimensions.{dimensions as named};
+    ghost use Rattle.wkb_view.specs.Words.{dimensions as named};
     ghost use Rattle.wkb_view.specs.Coords.{ring_dimension};
 
     ghost dimensions = { λ r. named (ring_dimension r) };
@@ -93,7 +87,7 @@ impl Dimensioned for LinearRing<'_> {
 
 impl<'a> LineStringTrait for LinearRing<'a> {
     ghost use Rattle.std.specs.Prelude.{◌≡◌, length, option_map, IfSome, ◌<◌, Some, slice_get};
-    ghost use Rattle.wkb_geom.specs.Dimensions.{dimensions as named};
+    ghost use Rattle.wkb_view.specs.Words.{dimensions as named};
     ghost use Rattle.wkb_view.specs.Coords.{words_seen, coordinate_text, coord_order, coord_dimension, coord_text};
     ghost use Rattle.wkb_view.specs.Coords.{ring_text, ring_order, ring_dimension, ring_seen, ring_offset};
     ghost use Rattle.wkb_view.specs.Ranges.{ring_lawful};
@@ -104,6 +98,7 @@ impl<'a> LineStringTrait for LinearRing<'a> {
 
     ghost lawful = { λ r. ring_lawful r.order r.dimension r.bytes.now r.in_range };
 
+    #[tactic(auto, using(crate::proofs::Items::ring_counted))]
     #[inline]
     fn num_coords(&self) -> usize {
         self.count as usize
@@ -124,6 +119,7 @@ impl<'a> LineStringTrait for LinearRing<'a> {
         }
     }
 
+    #[tactic(auto, using(crate::proofs::Items::ring_counted, crate::proofs::Items::next_within))]
     #[inline]
     fn coord_at(&self, i: usize) -> Coord<'a>
         requires { i < length (ring_seen self.now) }
@@ -144,10 +140,10 @@ impl<'a> LineStringTrait for LinearRing<'a> {
 
 impl<'a> GeometryTrait for LinearRing<'a> {
     ghost use Rattle.std.specs.Prelude.{◌≡◌, refl};
-    ghost use Rattle.wkb_geom.specs.Dimensions.{dimensions as named};
     ghost use Rattle.wkb_geom.specs.declared.geom.GeometryType.TheVariants.{LineString as Handed};
-    ghost use Rattle.wkb_view.specs.Coords.{ring_dimension, ring_seen};
     ghost use Rattle.wkb_geom.specs.Geometries.{line_string};
+    ghost use Rattle.wkb_view.specs.Words.{dimensions as named};
+    ghost use Rattle.wkb_view.specs.Coords.{ring_dimension, ring_seen};
     ghost use Rattle.wkb_view.specs.Ranges.{ring_lawful};
 
     type PointType = Point<'a>;

@@ -1,30 +1,24 @@
 //! A multi line string.
 
-ghost use Rattle.std.specs.Prelude.{◌≡◌, ◌+◌, length, ◌≤◌, IfOk, ◌/◌, [], min, vec_capacity, map};
-ghost use Rattle.wkb_geom.specs.Dimensions.{dimensions as named};
-ghost use Rattle.wkb_geom.specs.Reading.{body_start, taken, parts_start, is_line_string};
-ghost use Rattle.wkb_view.specs.Outcome.{Answers, Surely, CanCount};
-ghost use Rattle.wkb_view.specs.Lines.{IsLine, line_item_in, line_at};
+ghost use Rattle.std.specs.Prelude.{◌≡◌, ◌+◌, length, ◌≤◌, IfOk, ◌/◌, [], min, vec_capacity};
+ghost use Rattle.wkb_view.specs.Words.{dimensions as named, body_start, member_at, parts_start, taken};
+ghost use Rattle.wkb_view.specs.Members.{parts_behind, IsMember, member_item, AreMembers, members_in};
+ghost use Rattle.wkb_view.specs.Outcome.{Freely, Surely, CanCount};
 ghost use Rattle.wkb_view.specs.Pieces.{Passed};
-ghost use Rattle.wkb_view.specs.Headers.{pieces_behind, ArePiecesBehind, lines_behind};
 
-use crate::any::AnyView;
+use crate::any::{
+    AnyView, Line, LineString, MultiPoint, MultiPolygon, Point, Polygon, Rect, Triangle,
+};
 use crate::counts::Counts;
-use crate::line_string::LineString;
-use crate::multi_point::MultiPoint;
-use crate::multi_polygon::MultiPolygon;
 use crate::own_srid::OwnSrid;
 use crate::part::piece;
-use crate::point::Point;
-use crate::polygon::Polygon;
 use crate::reserved::{Reserved, reserve};
 use std::alloc::{AllocError, Global};
 use std::marker::Model;
 use wkb_geom::{
-    Cause, Dimension, Dimensioned, Dimensions, Endianness, GeometryTrait, GeometryType, Header,
-    Layout, MultiLineStringTrait, Refusal,
+    Cause, Dimension, Dimensioned, Dimensions, Endianness, GeometryTrait, GeometryType, Layout,
+    MultiLineStringTrait, Refusal,
 };
-use wkb_plain::{Line, Rect, Triangle};
 
 /// A multi line string: its members by the offsets at which they end.
 #[derive(Debug, Drop)]
@@ -35,12 +29,11 @@ pub struct MultiLineString<'a> {
 }
 
 impl<'a> Model for MultiLineString<'a> {
-    ghost use Rattle.wkb_view.specs.Parts.{IsSpelled};
-    ghost use Rattle.wkb_view.specs.Lines.{IsLine};
-    ghost use Rattle.wkb_geom.specs.Stored.{whole_of, Listed, listed_code, rings_code};
-    ghost use Rattle.std.specs.Prelude.{List};
-    ghost use Rattle.wkb_geom.specs.Values.{Coordinate, multi_line_string};
-    ghost use Rattle.wkb_view.specs.Headers.{ArePiecesBehind, lines_laid};
+    ghost use Rattle.std.specs.Prelude.{◌+◌, ◌≤◌, length, List};
+    ghost use Rattle.wkb_geom.specs.Stored.{listed_code, rings_code};
+    ghost use Rattle.wkb_geom.specs.Values.{multi_line_string};
+    ghost use Rattle.wkb_view.specs.Words.{body_start, whole_of, Listed, Coordinate, IsSpelled};
+    ghost use Rattle.wkb_view.specs.Members.{AreMembers, lines_laid};
 
     ghost Value = { Listed (List (List Coordinate)) };
 
@@ -48,17 +41,20 @@ impl<'a> Model for MultiLineString<'a> {
 
     ghost view = { λ a. lines_laid a.layout a.ends.items a.buf.now };
 
-    ghost invariant = { λ a. ArePiecesBehind (IsLine a.layout.dimension) a.layout a.ends.items a.buf.now
+    ghost invariant = { λ a. (body_start a.layout.has_srid + 4 ≤ length a.buf.now)
+        × AreMembers 2 a.layout a.ends.items a.buf.now
         × IsSpelled (whole_of multi_line_string (lines_laid a.layout a.ends.items a.buf.now)) };
 }
 
 impl<'a> MultiLineString<'a> {
-    ghost use Rattle.std.specs.Prelude.{◌≡◌, length, option_map, IfSome, IfOk, slice_get};
-    ghost use Rattle.wkb_view.specs.Parts.{IsSpelled, spelling_at};
-    ghost use Rattle.wkb_geom.specs.Reading.{line_of};
-    ghost use Rattle.wkb_view.specs.Views.{line_string_seen, line_string_layout};
-    ghost use Rattle.wkb_geom.specs.Stored.{whole_of};
+    ghost use Rattle.std.specs.Prelude.{◌≡◌, length, option_map, IfSome, IfOk, slice_get, ◌+◌, ◌≤◌};
     ghost use Rattle.wkb_geom.specs.Values.{multi_line_string};
+    ghost use Rattle.wkb_geom.specs.declared.code.WkbType.TheVariants as kinds;
+    ghost use Rattle.wkb_view.specs.Words.{line_string_of, whole_of, multi_line_string_at, IsSpelled, spelling_at};
+    ghost use Rattle.wkb_view.specs.Views.{line_string_seen, line_string_layout};
+    ghost use Rattle.wkb_view.specs.Headers.{HasHead};
+    ghost use Rattle.wkb_view.specs.Memory.{IsNoWant};
+    ghost use Rattle.wkb_view.specs.Outcome.{Gives, CanCount};
 
     /// The number of its bytes.
     #[inline]
@@ -86,6 +82,7 @@ impl<'a> MultiLineString<'a> {
     }
 
     /// The number of line strings.
+    #[tactic(auto, using(crate::proofs::Members::members_counted))]
     pub(crate) fn num_members(&self) -> usize
         ensures { result ≡ length self.now.parts }
     {
@@ -94,7 +91,8 @@ impl<'a> MultiLineString<'a> {
 
     /// The line string at an index, made again from the bytes between two ends, in its own order.
     pub(crate) fn member(&self, i: usize) -> Option<LineString<'a>>
-        ensures value { option_map (λ l. line_of (line_string_seen l).value) result ≡ slice_get self.now.parts i }
+        ensures value { option_map (λ l. line_string_of (line_string_seen l).value) result
+            ≡ slice_get self.now.parts i }
         ensures dimension { IfSome result (λ l. (line_string_layout l).dimension ≡ self.now.dimension) }
         ensures spelled { option_map (λ l. (line_string_seen l).spelled) result ≡ spelling_at self.now.spelled i }
     {
@@ -102,11 +100,11 @@ impl<'a> MultiLineString<'a> {
             Some(buf) => buf,
             None => return None,
         };
-        let header = match Header::read(buf) {
-            Ok(header) => header,
+        let layout = match Layout::of_member(2, self.layout.dimension, buf) {
+            Ok(layout) => layout,
             Err(_) => unreachable!(),
         };
-        Some(LineString::of_text(header, self.layout.dimension, buf))
+        Some(LineString::of_text(layout, buf))
     }
 
     /// The same multi line string, with a list of its own.
@@ -118,6 +116,43 @@ impl<'a> MultiLineString<'a> {
             layout: self.layout,
             ends: self.ends.clone()?,
         })
+    }
+
+    /// The multi line string behind this header, and the bytes after it.
+    #[tactic(auto, unfolding(wkb_geom::specs::Reading::multi_line_string_at))]
+    pub fn read(
+        alloc: Global,
+        layout: Layout,
+        bytes: &'a [u8],
+        counts: &mut Counts,
+    ) -> Result<(MultiLineString<'a>, &'a [u8]), Refusal>
+        requires fits { CanCount counts.old (multi_line_string_at layout bytes.now).0 }
+        requires head { HasHead (λ d. kinds.MultiLineString d) layout bytes.now }
+        ensures answer { Gives (λ x. (whole_of multi_line_string x.0, x.1.now))
+            result (multi_line_string_at layout bytes.now) counts.old counts.new }
+        ensures shorter { IfOk result (λ x. length x.1.now + 9 ≤ length bytes.now) }
+        ensures no_memory { (multi_line_string_at layout bytes.now).0.slots ≡ 0 → IsNoWant result }
+    {
+        let count = match layout.count(bytes) {
+            Ok(count) => count,
+            Err(cause) => return Err(Refusal::Fault(cause)),
+        };
+        let remaining = bytes.len() - (layout.body_start() + 4);
+        let ends = match reserve(alloc, count, remaining, 9, counts) {
+            Ok(ends) => ends,
+            Err(_) => return Err(Refusal::Memory),
+        };
+        match lines(layout, bytes, ends, count, counts) {
+            Ok((ends, rest)) => {
+                let multi_line_string = MultiLineString {
+                    buf: &bytes[..bytes.len() - rest.len()],
+                    layout,
+                    ends: ends.into_vec(),
+                };
+                Ok((multi_line_string, rest))
+            }
+            Err(cause) => Err(Refusal::Fault(cause)),
+        }
     }
 }
 
@@ -141,17 +176,15 @@ impl Dimensioned for MultiLineString<'_> {
 
 impl<'a> MultiLineStringTrait for MultiLineString<'a> {
     ghost use Rattle.std.specs.Prelude.{◌≡◌, option_map, IfSome, slice_get};
-    ghost use Rattle.wkb_geom.specs.Dimensions.{dimensions as named};
-    ghost use Rattle.wkb_geom.specs.Reading.{line_of};
+    ghost use Rattle.wkb_view.specs.Words.{dimensions as named, line_string_of, spelling_at};
     ghost use Rattle.wkb_view.specs.Views.{line_string_seen, line_string_layout};
-    ghost use Rattle.wkb_view.specs.Fitted.{fitted_lines, lines-fitted};
-    ghost use Rattle.wkb_view.specs.Parts.{spelling_at};
+    ghost use Rattle.wkb_view.specs.Fitted.{fitted_lines, lines_fit};
 
     type InnerLineStringType = LineString<'a>;
 
     ghost line_strings = { λ m. fitted_lines (named m.dimension) m.parts };
 
-    ghost lawful = { λ m. lines-fitted (named m.dimension) m.parts };
+    ghost lawful = { λ m. (lines_fit (named m.dimension) m.parts).lawful };
 
     #[inline]
     fn num_line_strings(&self) -> usize {
@@ -160,9 +193,9 @@ impl<'a> MultiLineStringTrait for MultiLineString<'a> {
 
     #[inline]
     fn line_string(&self, i: usize) -> Option<LineString<'a>>
-        ensures value { option_map (λ l. line_of (line_string_seen l).value) result
+        ensures value { option_map (λ l. line_string_of (line_string_seen l).value) result
             ≡ slice_get (fitted_lines (named self.now.dimension) self.now.parts) i }
-        ensures part { option_map (λ l. line_of (line_string_seen l).value) result ≡ slice_get self.now.parts i }
+        ensures part { option_map (λ l. line_string_of (line_string_seen l).value) result ≡ slice_get self.now.parts i }
         ensures dimensions { IfSome result (λ l. named (line_string_layout l).dimension ≡ named self.now.dimension) }
         ensures spelled { option_map (λ l. (line_string_seen l).spelled) result ≡ spelling_at self.now.spelled i }
     {
@@ -172,10 +205,10 @@ impl<'a> MultiLineStringTrait for MultiLineString<'a> {
 
 impl<'a> GeometryTrait for MultiLineString<'a> {
     ghost use Rattle.std.specs.Prelude.{◌≡◌, refl};
-    ghost use Rattle.wkb_geom.specs.Dimensions.{dimensions as named};
     ghost use Rattle.wkb_geom.specs.declared.geom.GeometryType.TheVariants.{MultiLineString as Handed};
-    ghost use Rattle.wkb_view.specs.Fitted.{fitted_lines, lines-fitted};
     ghost use Rattle.wkb_geom.specs.Geometries.{multi_line_string};
+    ghost use Rattle.wkb_view.specs.Words.{dimensions as named};
+    ghost use Rattle.wkb_view.specs.Fitted.{fitted_lines, lines_fit};
 
     type PointType = Point<'a>;
 
@@ -199,7 +232,7 @@ impl<'a> GeometryTrait for MultiLineString<'a> {
 
     ghost one_dimension = { λ g. refl };
 
-    ghost lawful = { λ m. lines-fitted (named m.dimension) m.parts };
+    ghost lawful = { λ m. (lines_fit (named m.dimension) m.parts).lawful };
 
     #[inline]
     fn as_type(&self) -> AnyView<'_, 'a, MultiLineString<'a>>
@@ -209,31 +242,15 @@ impl<'a> GeometryTrait for MultiLineString<'a> {
     }
 }
 
-/// Whether a line string of this dimension follows.
-#[inline]
-fn is_member(header: Header, dimension: Dimension) -> bool
-    ensures { result ≡ is_line_string dimension header }
-{
-    header.wkb_type.kind() == 2 && header.wkb_type.dimension().is(dimension)
-}
-
 /// Passes the line string of this dimension at the front of the bytes.
 fn line<'a>(dimension: Dimension, bytes: &'a [u8]) -> Result<&'a [u8], Cause>
-    ensures answer { Answers (λ rest. (line_item_in dimension (taken bytes.now rest.now), rest.now))
-        result (line_at dimension bytes.now).1 }
-    ensures passed { IfOk result (λ rest. Passed 9 (IsLine dimension) bytes.now rest.now) }
+    ensures answer { Freely (λ rest. (member_item 2 dimension (taken bytes.now rest.now), rest.now))
+        result (member_at 2 dimension bytes.now) }
+    ensures passed { IfOk result (λ rest. Passed 9 (IsMember 2 dimension) bytes.now rest.now) }
 {
-    let header = match Header::read(bytes) {
-        Ok(header) => header,
+    let layout = match Layout::of_member(2, dimension, bytes) {
+        Ok(layout) => layout,
         Err(cause) => return Err(cause),
-    };
-    if !is_member(header, dimension) {
-        return Err(Cause::IncorrectType);
-    }
-    let layout = Layout {
-        order: header.order,
-        dimension,
-        has_srid: header.has_srid,
     };
     match LineString::read(layout, bytes) {
         Ok((_, rest)) => Ok(rest),
@@ -242,6 +259,7 @@ fn line<'a>(dimension: Dimension, bytes: &'a [u8]) -> Result<&'a [u8], Cause>
 }
 
 /// Passes so many line strings, and keeps the offsets at which they end.
+#[tactic(auto, using(crate::proofs::Lists::parts_length))]
 fn lines<'a>(
     layout: Layout,
     bytes: &'a [u8],
@@ -252,15 +270,10 @@ fn lines<'a>(
     requires whole { body_start layout.has_srid + 4 ≤ length bytes.now }
     requires empty { ends.items.items ≡ [] }
     requires room { min count (length (parts_start layout.has_srid bytes.now) / 9) ≤ vec_capacity ends.items }
-    requires fits { CanCount counts.old (lines_behind layout count bytes.now).0 }
-    ensures lines { Surely (λ x. (
-      map (line_item_in layout.dimension)
-          (pieces_behind layout x.0.items.items (taken bytes.now x.1.now)),
-      x.1.now,
-    )) result
-        (lines_behind layout count bytes.now) counts.old counts.new }
-    ensures ends { IfOk result (λ x. ArePiecesBehind (IsLine layout.dimension) layout
-        x.0.items.items (taken bytes.now x.1.now)) }
+    requires fits { CanCount counts.old (parts_behind (member_at 2 layout.dimension) layout count bytes.now).0 }
+    ensures lines { Surely (λ x. (members_in 2 layout x.0.items.items (taken bytes.now x.1.now), x.1.now))
+        result (parts_behind (member_at 2 layout.dimension) layout count bytes.now) counts.old counts.new }
+    ensures ends { IfOk result (λ x. AreMembers 2 layout x.0.items.items (taken bytes.now x.1.now)) }
     ensures shorter { IfOk result (λ x. length x.1.now + body_start layout.has_srid + 4 ≤ length bytes.now) }
 {
     let mut rest = layout.behind_count(bytes);
@@ -270,51 +283,4 @@ fn lines<'a>(
         ends.push(bytes.len() - rest.len());
     }
     Ok((ends, rest))
-}
-
-impl<'a> MultiLineString<'a> {
-    ghost use Rattle.std.specs.Prelude.{◌≡◌, ◌+◌, length, ◌≤◌, IfOk};
-    ghost use Rattle.wkb_view.specs.Headers.{HasHead, multi_line_string_behind};
-    ghost use Rattle.wkb_geom.specs.Values as value;
-    ghost use Rattle.wkb_geom.specs.declared.code.WkbType.TheVariants as kinds;
-    ghost use Rattle.wkb_geom.specs.Stored.{whole_of};
-    ghost use Rattle.wkb_view.specs.Memory.{IsNoWant};
-    ghost use Rattle.wkb_view.specs.Outcome.{Gives, CanCount};
-
-    /// The multi line string behind this header, and the bytes after it.
-    #[tactic(auto, unfolding(wkb_geom::specs::Reading::multi_line_string_at))]
-    pub fn read(
-        alloc: Global,
-        layout: Layout,
-        bytes: &'a [u8],
-        counts: &mut Counts,
-    ) -> Result<(MultiLineString<'a>, &'a [u8]), Refusal>
-        requires fits { CanCount counts.old (multi_line_string_behind layout bytes.now).0 }
-        requires head { HasHead (λ d. kinds.MultiLineString d) layout bytes.now }
-        ensures answer { Gives (λ x. (whole_of value.multi_line_string x.0, x.1.now))
-            result (multi_line_string_behind layout bytes.now) counts.old counts.new }
-        ensures shorter { IfOk result (λ x. length x.1.now + 9 ≤ length bytes.now) }
-        ensures free { (multi_line_string_behind layout bytes.now).0.slots ≡ 0 → IsNoWant result }
-    {
-        let count = match layout.count(bytes) {
-            Ok(count) => count,
-            Err(cause) => return Err(Refusal::Fault(cause)),
-        };
-        let remaining = bytes.len() - (layout.body_start() + 4);
-        let ends = match reserve(alloc, count, remaining, 9, counts) {
-            Ok(ends) => ends,
-            Err(_) => return Err(Refusal::Memory),
-        };
-        match lines(layout, bytes, ends, count, counts) {
-            Ok((ends, rest)) => {
-                let multi_line_string = MultiLineString {
-                    buf: &bytes[..bytes.len() - rest.len()],
-                    layout,
-                    ends: ends.into_vec(),
-                };
-                Ok((multi_line_string, rest))
-            }
-            Err(cause) => Err(Refusal::Fault(cause)),
-        }
-    }
 }

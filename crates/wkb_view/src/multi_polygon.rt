@@ -1,32 +1,25 @@
 //! A multi polygon.
 
 ghost use Rattle.std.specs.Prelude.{◌≡◌, ◌+◌, length, ◌≤◌, IfOk, ◌/◌, [], min, vec_capacity};
-ghost use Rattle.wkb_geom.specs.Dimensions.{dimensions as named};
-ghost use Rattle.wkb_geom.specs.Reading.{body_start, parts_start, is_polygon};
+ghost use Rattle.std.specs.List.{AllByRecursion};
 ghost use Rattle.wkb_geom.specs.Values as value;
-ghost use Rattle.wkb_geom.specs.Stored.{whole_of};
+ghost use Rattle.wkb_view.specs.Words.{dimensions as named, body_start, member_at, parts_start, whole_of};
 ghost use Rattle.wkb_view.specs.Memory.{IsNoWant};
 ghost use Rattle.wkb_view.specs.Outcome.{Gives, CanCount};
-ghost use Rattle.std.specs.List.{AllByRecursion};
-ghost use Rattle.wkb_view.specs.Polygons.{polygon_member, polygon_items};
-ghost use Rattle.wkb_view.specs.Headers.{polygons_behind};
+ghost use Rattle.wkb_view.specs.Members.{parts_behind, polygon_items};
 
-use crate::any::AnyView;
+use crate::any::{
+    AnyView, Line, LineString, MultiLineString, MultiPoint, Point, Polygon, Rect, Triangle,
+};
 use crate::counts::Counts;
-use crate::line_string::LineString;
-use crate::multi_line_string::MultiLineString;
-use crate::multi_point::MultiPoint;
 use crate::own_srid::OwnSrid;
-use crate::point::Point;
-use crate::polygon::Polygon;
 use crate::reserved::{Reserved, reserve};
 use std::alloc::{AllocError, Global};
 use std::marker::Model;
 use wkb_geom::{
-    Cause, Dimension, Dimensioned, Dimensions, Endianness, GeometryTrait, GeometryType, Header,
-    Layout, MultiPolygonTrait, Refusal,
+    Dimension, Dimensioned, Dimensions, Endianness, GeometryTrait, GeometryType, Layout,
+    MultiPolygonTrait, Refusal,
 };
-use wkb_plain::{Line, Rect, Triangle};
 
 /// A multi polygon.
 #[derive(Debug, Drop)]
@@ -38,12 +31,11 @@ pub struct MultiPolygon<'a> {
 
 impl<'a> Model for MultiPolygon<'a> {
     ghost use Rattle.std.specs.Prelude.{◌≡◌, ◌+◌, length, ◌≤◌, List};
-    ghost use Rattle.wkb_geom.specs.Reading.{body_start};
-    ghost use Rattle.wkb_view.specs.Parts.{IsSpelled};
-    ghost use Rattle.wkb_geom.specs.Stored.{whole_of, Listed, listed_code, polygons_code};
-    ghost use Rattle.wkb_geom.specs.Values.{Coordinate, multi_polygon};
     ghost use Rattle.std.specs.List.{AllByRecursion};
-    ghost use Rattle.wkb_view.specs.Headers.{polygons_laid};
+    ghost use Rattle.wkb_geom.specs.Stored.{listed_code, polygons_code};
+    ghost use Rattle.wkb_geom.specs.Values.{multi_polygon};
+    ghost use Rattle.wkb_view.specs.Words.{body_start, whole_of, Listed, Coordinate, IsSpelled};
+    ghost use Rattle.wkb_view.specs.Members.{polygons_laid};
 
     ghost Value = { Listed (List (List (List Coordinate))) };
 
@@ -57,10 +49,13 @@ impl<'a> Model for MultiPolygon<'a> {
 }
 
 impl<'a> MultiPolygon<'a> {
-    ghost use Rattle.std.specs.Prelude.{◌≡◌, length, IfOk};
-    ghost use Rattle.wkb_view.specs.Parts.{IsSpelled};
-    ghost use Rattle.wkb_geom.specs.Stored.{whole_of};
+    ghost use Rattle.std.specs.Prelude.{◌≡◌, length, IfOk, ◌+◌, ◌≤◌};
     ghost use Rattle.wkb_geom.specs.Values.{multi_polygon};
+    ghost use Rattle.wkb_geom.specs.declared.code.WkbType.TheVariants as kinds;
+    ghost use Rattle.wkb_view.specs.Words.{whole_of, multi_polygon_at, IsSpelled};
+    ghost use Rattle.wkb_view.specs.Headers.{HasHead};
+    ghost use Rattle.wkb_view.specs.Memory.{IsNoWant};
+    ghost use Rattle.wkb_view.specs.Outcome.{Gives, CanCount};
 
     /// The number of its bytes.
     #[inline]
@@ -101,6 +96,43 @@ impl<'a> MultiPolygon<'a> {
             members,
         })
     }
+
+    /// The multi polygon behind this header, and the bytes after it.
+    #[tactic(auto, unfolding(wkb_geom::specs::Reading::multi_polygon_at))]
+    pub fn read(
+        alloc: Global,
+        layout: Layout,
+        bytes: &'a [u8],
+        counts: &mut Counts,
+    ) -> Result<(MultiPolygon<'a>, &'a [u8]), Refusal>
+        requires fits { CanCount counts.old (multi_polygon_at layout bytes.now).0 }
+        requires head { HasHead (λ d. kinds.MultiPolygon d) layout bytes.now }
+        ensures answer { Gives (λ x. (whole_of multi_polygon x.0, x.1.now))
+            result (multi_polygon_at layout bytes.now) counts.old counts.new }
+        ensures shorter { IfOk result (λ x. length x.1.now + 9 ≤ length bytes.now) }
+        ensures no_memory { (multi_polygon_at layout bytes.now).0.slots ≡ 0 → IsNoWant result }
+    {
+        let count = match layout.count(bytes) {
+            Ok(count) => count,
+            Err(cause) => return Err(Refusal::Fault(cause)),
+        };
+        let remaining = bytes.len() - (layout.body_start() + 4);
+        let members = match reserve(alloc, count, remaining, 9, counts) {
+            Ok(members) => members,
+            Err(_) => return Err(Refusal::Memory),
+        };
+        match polygons(alloc, layout, bytes, members, count, counts) {
+            Ok((members, rest)) => {
+                let multi_polygon = MultiPolygon {
+                    buf: &bytes[..bytes.len() - rest.len()],
+                    layout,
+                    members: members.into_vec(),
+                };
+                Ok((multi_polygon, rest))
+            }
+            Err(refusal) => Err(refusal),
+        }
+    }
 }
 
 impl OwnSrid for MultiPolygon<'_> {
@@ -123,15 +155,14 @@ impl Dimensioned for MultiPolygon<'_> {
 
 impl<'a> MultiPolygonTrait for MultiPolygon<'a> {
     ghost use Rattle.std.specs.Prelude.{◌≡◌, option_map, IfSome, slice_get};
-    ghost use Rattle.wkb_geom.specs.Dimensions.{dimensions as named};
-    ghost use Rattle.wkb_view.specs.Fitted.{fitted_lines, fitted_polygons, polygons-fitted};
-    ghost use Rattle.wkb_view.specs.Parts.{spelling_at};
+    ghost use Rattle.wkb_view.specs.Words.{dimensions as named, spelling_at};
+    ghost use Rattle.wkb_view.specs.Fitted.{fitted_lines, fitted_polygons, polygons_fit};
 
     type InnerPolygonType = Polygon<'a>;
 
     ghost polygons = { λ m. fitted_polygons (named m.dimension) m.parts };
 
-    ghost lawful = { λ m. polygons-fitted (named m.dimension) m.parts };
+    ghost lawful = { λ m. (polygons_fit (named m.dimension) m.parts).lawful };
 
     #[inline]
     fn num_polygons(&self) -> usize {
@@ -156,10 +187,10 @@ impl<'a> MultiPolygonTrait for MultiPolygon<'a> {
 
 impl<'a> GeometryTrait for MultiPolygon<'a> {
     ghost use Rattle.std.specs.Prelude.{◌≡◌, refl};
-    ghost use Rattle.wkb_geom.specs.Dimensions.{dimensions as named};
     ghost use Rattle.wkb_geom.specs.declared.geom.GeometryType.TheVariants.{MultiPolygon as Handed};
-    ghost use Rattle.wkb_view.specs.Fitted.{fitted_polygons, polygons-fitted};
     ghost use Rattle.wkb_geom.specs.Geometries.{multi_polygon};
+    ghost use Rattle.wkb_view.specs.Words.{dimensions as named};
+    ghost use Rattle.wkb_view.specs.Fitted.{fitted_polygons, polygons_fit};
 
     type PointType = Point<'a>;
 
@@ -183,7 +214,7 @@ impl<'a> GeometryTrait for MultiPolygon<'a> {
 
     ghost one_dimension = { λ g. refl };
 
-    ghost lawful = { λ m. polygons-fitted (named m.dimension) m.parts };
+    ghost lawful = { λ m. (polygons_fit (named m.dimension) m.parts).lawful };
 
     #[inline]
     fn as_type(&self) -> AnyView<'_, 'a, MultiPolygon<'a>>
@@ -193,14 +224,6 @@ impl<'a> GeometryTrait for MultiPolygon<'a> {
     }
 }
 
-/// Whether a polygon of this dimension follows.
-#[inline]
-fn is_member(header: Header, dimension: Dimension) -> bool
-    ensures { result ≡ is_polygon dimension header }
-{
-    header.wkb_type.kind() == 3 && header.wkb_type.dimension().is(dimension)
-}
-
 /// The polygon of this dimension at the front of the bytes, and the bytes after it.
 fn member<'a>(
     alloc: Global,
@@ -208,26 +231,17 @@ fn member<'a>(
     bytes: &'a [u8],
     counts: &mut Counts,
 ) -> Result<(Polygon<'a>, &'a [u8]), Refusal>
-    requires fits { CanCount counts.old (polygon_member dimension bytes.now).0 }
+    requires fits { CanCount counts.old (member_at 3 dimension bytes.now).0 }
     ensures dimension { IfOk result (λ x. x.0.dimension ≡ dimension) }
     ensures answer { Gives (λ x. (whole_of value.polygon x.0, x.1.now))
-        result (polygon_member dimension bytes.now) counts.old counts.new }
+        result (member_at 3 dimension bytes.now) counts.old counts.new }
     ensures shorter { IfOk result (λ x. length x.1.now + 9 ≤ length bytes.now) }
-    ensures free { (polygon_member dimension bytes.now).0.slots ≡ 0 → IsNoWant result }
+    ensures no_memory { (member_at 3 dimension bytes.now).0.slots ≡ 0 → IsNoWant result }
 {
-    let header = match Header::read(bytes) {
-        Ok(header) => header,
-        Err(cause) => return Err(Refusal::Fault(cause)),
-    };
-    if !is_member(header, dimension) {
-        return Err(Refusal::Fault(Cause::IncorrectType));
+    match Layout::of_member(3, dimension, bytes) {
+        Ok(layout) => Polygon::read(alloc, layout, bytes, counts),
+        Err(cause) => Err(Refusal::Fault(cause)),
     }
-    let layout = Layout {
-        order: header.order,
-        dimension,
-        has_srid: header.has_srid,
-    };
-    Polygon::read(alloc, layout, bytes, counts)
 }
 
 /// So many polygons, and the bytes after them.
@@ -242,12 +256,13 @@ fn polygons<'a>(
     requires whole { body_start layout.has_srid + 4 ≤ length bytes.now }
     requires empty { members.items.items ≡ [] }
     requires room { min count (length (parts_start layout.has_srid bytes.now) / 9) ≤ vec_capacity members.items }
-    requires fits { CanCount counts.old (polygons_behind layout count bytes.now).0 }
+    requires fits { CanCount counts.old (parts_behind (member_at 3 layout.dimension) layout count bytes.now).0 }
     ensures dimension { IfOk result (λ x. AllByRecursion (λ p. p.dimension ≡ layout.dimension) x.0.items.items) }
     ensures polygons { Gives (λ x. (polygon_items x.0.items.items, x.1.now))
-        result (polygons_behind layout count bytes.now) counts.old counts.new }
+        result (parts_behind (member_at 3 layout.dimension) layout count bytes.now) counts.old counts.new }
     ensures shorter { IfOk result (λ x. length x.1.now ≤ length (parts_start layout.has_srid bytes.now)) }
-    ensures free { (polygons_behind layout count bytes.now).0.slots ≡ 0 → IsNoWant result }
+    ensures no_memory { (parts_behind (member_at 3 layout.dimension) layout count bytes.now).0.slots ≡ 0
+        → IsNoWant result }
 {
     let mut rest = layout.behind_count(bytes);
     for _ in 0..count {
@@ -261,51 +276,4 @@ fn polygons<'a>(
         }
     }
     Ok((members, rest))
-}
-
-impl<'a> MultiPolygon<'a> {
-    ghost use Rattle.std.specs.Prelude.{◌≡◌, ◌+◌, length, ◌≤◌, IfOk};
-    ghost use Rattle.wkb_view.specs.Headers.{HasHead, multi_polygon_behind};
-    ghost use Rattle.wkb_geom.specs.Values as value;
-    ghost use Rattle.wkb_geom.specs.declared.code.WkbType.TheVariants as kinds;
-    ghost use Rattle.wkb_geom.specs.Stored.{whole_of};
-    ghost use Rattle.wkb_view.specs.Memory.{IsNoWant};
-    ghost use Rattle.wkb_view.specs.Outcome.{Gives, CanCount};
-
-    /// The multi polygon behind this header, and the bytes after it.
-    #[tactic(auto, unfolding(wkb_geom::specs::Reading::multi_polygon_at))]
-    pub fn read(
-        alloc: Global,
-        layout: Layout,
-        bytes: &'a [u8],
-        counts: &mut Counts,
-    ) -> Result<(MultiPolygon<'a>, &'a [u8]), Refusal>
-        requires fits { CanCount counts.old (multi_polygon_behind layout bytes.now).0 }
-        requires head { HasHead (λ d. kinds.MultiPolygon d) layout bytes.now }
-        ensures answer { Gives (λ x. (whole_of value.multi_polygon x.0, x.1.now))
-            result (multi_polygon_behind layout bytes.now) counts.old counts.new }
-        ensures shorter { IfOk result (λ x. length x.1.now + 9 ≤ length bytes.now) }
-        ensures free { (multi_polygon_behind layout bytes.now).0.slots ≡ 0 → IsNoWant result }
-    {
-        let count = match layout.count(bytes) {
-            Ok(count) => count,
-            Err(cause) => return Err(Refusal::Fault(cause)),
-        };
-        let remaining = bytes.len() - (layout.body_start() + 4);
-        let members = match reserve(alloc, count, remaining, 9, counts) {
-            Ok(members) => members,
-            Err(_) => return Err(Refusal::Memory),
-        };
-        match polygons(alloc, layout, bytes, members, count, counts) {
-            Ok((members, rest)) => {
-                let multi_polygon = MultiPolygon {
-                    buf: &bytes[..bytes.len() - rest.len()],
-                    layout,
-                    members: members.into_vec(),
-                };
-                Ok((multi_polygon, rest))
-            }
-            Err(refusal) => Err(refusal),
-        }
-    }
 }

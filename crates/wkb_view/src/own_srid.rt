@@ -2,7 +2,7 @@
 
 ghost use Rattle.std.specs.Prelude.{◌≡◌};
 ghost use Rattle.wkb_geom.specs.Spellings.{Spelling};
-ghost use Rattle.wkb_view.specs.Parts.{srid_of};
+ghost use Rattle.wkb_view.specs.Words.{srid_of};
 
 /// What has a code of its own, perhaps with an SRID. Users ask `Wkb::srid`.
 pub trait OwnSrid {

@@ -1,8 +1,8 @@
 //! Parts of a text.
 
-ghost use Rattle.std.specs.Prelude.{◌≡◌, ◌+◌, ◌<◌, ◌≤◌, length, take, drop, IfSome, option_map, slice_get};
+ghost use Rattle.std.specs.Prelude.{◌≡◌, ◌+◌, ◌<◌, ◌≤◌, ◌∷◌, get_or, length, take, drop, IfSome, option_map, slice_get};
 ghost use Rattle.wkb_geom.specs.Numbers.{AreBytes};
-ghost use Rattle.wkb_view.specs.Pieces.{pieces, start_at, AreInOrder};
+ghost use Rattle.wkb_view.specs.Pieces.{pieces, AreInOrder};
 
 /// So many bytes from an offset on.
 #[inline]
@@ -19,7 +19,7 @@ pub(crate) fn part<'a>(bytes: &'a [u8], start: usize, len: usize) -> &'a [u8]
 #[inline]
 fn start_of_part(first: usize, ends: &[usize], i: usize) -> usize
     requires { i < length ends.now }
-    ensures { result ≡ start_at first ends.now i }
+    ensures { result ≡ get_or (first ∷ ends.now) i 0 }
 {
     if i == 0 { first } else { ends[i - 1] }
 }

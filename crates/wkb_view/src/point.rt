@@ -1,25 +1,18 @@
 //! A point.
 
 ghost use Rattle.std.specs.Prelude.{◌≡◌, ◌+◌, ◌*◌, length};
-ghost use Rattle.wkb_geom.specs.Dimensions.{width};
-ghost use Rattle.wkb_geom.specs.Numbers.{AreBytes};
-ghost use Rattle.wkb_geom.specs.Reading.{body_start, point_item};
-ghost use Rattle.wkb_view.specs.Parts.{IsSpelled};
+ghost use Rattle.wkb_view.specs.Words.{width, AreBytes, body_start, point_item, IsSpelled};
 
-use crate::any::AnyView;
+use crate::any::{
+    AnyView, Line, LineString, MultiLineString, MultiPoint, MultiPolygon, Polygon, Rect, Triangle,
+};
 use crate::coord::Coord;
-use crate::line_string::LineString;
-use crate::multi_line_string::MultiLineString;
-use crate::multi_point::MultiPoint;
-use crate::multi_polygon::MultiPolygon;
 use crate::own_srid::OwnSrid;
 use crate::part::part;
-use crate::polygon::Polygon;
 use wkb_geom::{
     Cause, Dimension, Dimensioned, Dimensions, Endianness, General, GeometryTrait, GeometryType,
     Layout, PointTrait,
 };
-use wkb_plain::{Line, Rect, Triangle};
 
 /// A point, which may be empty.
 #[derive(Clone, Copy, Debug)]
@@ -28,17 +21,20 @@ pub struct Point<'a> {
     layout: Layout,
     ghost whole: { length buf.now ≡ body_start layout.has_srid + 8 * width layout.dimension },
     ghost in_range: { AreBytes buf.now },
-    ghost spells: { IsSpelled (point_item layout.order layout.dimension layout.has_srid buf.now) },
+    ghost spells: { IsSpelled (point_item layout buf.now) },
 }
 
 impl<'a> Point<'a> {
-    ghost use Rattle.std.specs.Prelude.{◌≡◌, length, drop, is_none};
-    ghost use Rattle.wkb_geom.specs.Reading.{body_start, point_of};
-    ghost use Rattle.wkb_view.specs.Parts.{IsSpelled, order_of};
-    ghost use Rattle.wkb_view.specs.Coords.{words_seen, coordinate_text, coord_order, coord_dimension, coord_text};
-    ghost use Rattle.wkb_view.specs.Points.{coordinate_in};
-    ghost use Rattle.wkb_view.specs.Views.{point_seen, point_layout};
+    ghost use Rattle.std.specs.Prelude.{◌≡◌, length, drop, is_none, ◌+◌, ◌≤◌, IfOk};
     ghost use Rattle.wkb_geom.specs.Values as value;
+    ghost use Rattle.wkb_geom.specs.declared.code.WkbType.TheVariants as kinds;
+    ghost use Rattle.wkb_view.specs.Words.{body_start, point_of, point_at, point_item, taken, IsSpelled, order_of};
+    ghost use Rattle.wkb_view.specs.Coords.{words_seen, coordinate_text, coord_order, coord_dimension, coord_text};
+    ghost use Rattle.wkb_view.specs.Views.{coordinate_in, point_seen, point_layout};
+    ghost use Rattle.wkb_view.specs.Headers.{HasHead};
+    ghost use Rattle.wkb_view.specs.Members.{IsText};
+    ghost use Rattle.wkb_view.specs.Pieces.{Passed};
+    ghost use Rattle.wkb_view.specs.Outcome.{Answers};
 
     /// The number of its bytes.
     #[inline]
@@ -57,6 +53,7 @@ impl<'a> Point<'a> {
     }
 
     /// Whether all its words are not-a-numbers.
+    #[tactic(auto, using(crate::proofs::Items::empty_is))]
     #[inline]
     pub fn is_empty(&self) -> bool
         ensures { result ≡ is_none (point_of (point_seen self.now).value) }
@@ -108,6 +105,38 @@ impl<'a> Point<'a> {
             dimension: self.layout.dimension,
         }
     }
+
+    /// The point behind this header, and the bytes after it.
+    #[tactic(auto, unfolding(wkb_geom::specs::Reading::point_at))]
+    #[inline]
+    pub fn read(layout: Layout, bytes: &'a [u8]) -> Result<(Point<'a>, &'a [u8]), Cause>
+        requires head { HasHead (λ d. kinds.Point d) layout bytes.now }
+        ensures answer { Answers (λ x. (point_seen x.0, x.1.now)) result (point_at layout bytes.now) }
+        ensures item { IfOk result (λ x. point_seen x.0 ≡ point_item layout (taken bytes.now x.1.now)) }
+        ensures passed { IfOk result (λ x. Passed 9 (IsText 1 layout) bytes.now x.1.now) }
+        ensures shorter { IfOk result (λ x. length x.1.now + 9 ≤ length bytes.now) }
+    {
+        let end = layout.body_start() + 8 * layout.dimension.width();
+        if bytes.len() < end {
+            return Err(Cause::General(General::ShortPoint {
+                end: end as u64,
+                len: bytes.len(),
+            }));
+        }
+        let (buf, rest) = bytes.split_at(end);
+        let point = Point { buf, layout };
+        Ok((point, rest))
+    }
+
+    /// The point that stands in these bytes, a member of a multi point.
+    #[inline]
+    pub(crate) fn of_text(layout: Layout, buf: &'a [u8]) -> Point<'a>
+        requires { IsText 1 layout buf.now }
+        ensures item { point_seen result ≡ point_item layout buf.now }
+        ensures layout { point_layout result ≡ layout }
+    {
+        Point { buf, layout }
+    }
 }
 
 impl OwnSrid for Point<'_> {
@@ -115,6 +144,7 @@ impl OwnSrid for Point<'_> {
 
     ghost spelled = { λ s. (point_seen s).spelled };
 
+    #[tactic(auto, using(crate::proofs::Items::srid_is))]
     #[inline]
     fn srid(&self) -> Option<u32> {
         self.layout.srid(self.buf)
@@ -122,7 +152,7 @@ impl OwnSrid for Point<'_> {
 }
 
 impl Dimensioned for Point<'_> {
-    ghost use Rattle.wkb_geom.specs.Dimensions.{dimensions as named};
+    ghost use Rattle.wkb_view.specs.Words.{dimensions as named};
     ghost use Rattle.wkb_view.specs.Views.{point_layout};
 
     ghost dimensions = { λ g. named (point_layout g).dimension };
@@ -135,18 +165,16 @@ impl Dimensioned for Point<'_> {
 
 impl<'a> PointTrait for Point<'a> {
     ghost use Rattle.std.specs.Prelude.{◌≡◌, option_map, IfSome};
-    ghost use Rattle.wkb_geom.specs.Dimensions.{dimensions as named};
-    ghost use Rattle.wkb_geom.specs.Reading.{body_start, point_of};
+    ghost use Rattle.wkb_view.specs.Words.{dimensions as named, body_start, point_of, order_of};
     ghost use Rattle.wkb_view.specs.Ranges.{point_lawful};
     ghost use Rattle.wkb_view.specs.Coords.{words_seen, coordinate_text, coord_order, coord_dimension, coord_text};
     ghost use Rattle.wkb_view.specs.Views.{point_seen, point_layout};
-    ghost use Rattle.wkb_view.specs.Parts.{order_of};
 
     type CoordType = Coord<'a>;
 
     ghost coordinate = { λ p. point_of (point_seen p).value };
 
-    ghost lawful = { λ p. point_lawful p.layout.order p.layout.dimension p.layout.has_srid p.buf.now p.in_range };
+    ghost lawful = { λ p. point_lawful p.layout p.buf.now p.in_range };
 
     #[inline]
     fn coord(&self) -> Option<Coord<'a>>
@@ -163,12 +191,11 @@ impl<'a> PointTrait for Point<'a> {
 
 impl<'a> GeometryTrait for Point<'a> {
     ghost use Rattle.std.specs.Prelude.{◌≡◌, refl};
-    ghost use Rattle.wkb_geom.specs.Dimensions.{dimensions as named};
-    ghost use Rattle.wkb_view.specs.Ranges.{point_lawful};
-    ghost use Rattle.wkb_geom.specs.Reading.{point_of};
-    ghost use Rattle.wkb_view.specs.Views.{point_seen, point_layout};
     ghost use Rattle.wkb_geom.specs.declared.geom.GeometryType.TheVariants.{Point as Handed};
     ghost use Rattle.wkb_geom.specs.Geometries.{point};
+    ghost use Rattle.wkb_view.specs.Words.{dimensions as named, point_of};
+    ghost use Rattle.wkb_view.specs.Ranges.{point_lawful};
+    ghost use Rattle.wkb_view.specs.Views.{point_seen, point_layout};
 
     type PointType = Point<'a>;
 
@@ -192,61 +219,12 @@ impl<'a> GeometryTrait for Point<'a> {
 
     ghost one_dimension = { λ g. refl };
 
-    ghost lawful = { λ p. point_lawful p.layout.order p.layout.dimension p.layout.has_srid p.buf.now p.in_range };
+    ghost lawful = { λ p. point_lawful p.layout p.buf.now p.in_range };
 
     #[inline]
     fn as_type(&self) -> AnyView<'_, 'a, Point<'a>>
         ensures view { result ≡ Handed self.entry }
     {
         GeometryType::Point(self)
-    }
-}
-
-impl<'a> Point<'a> {
-    ghost use Rattle.std.specs.Prelude.{◌≡◌, ◌+◌, length, ◌≤◌, false, IfOk};
-    ghost use Rattle.wkb_geom.specs.Reading.{point_item};
-    ghost use Rattle.wkb_view.specs.Parts.{IsSpelled};
-    ghost use Rattle.wkb_view.specs.Views.{point_seen, point_layout};
-    ghost use Rattle.wkb_view.specs.Headers.{HasHead, point_behind};
-    ghost use Rattle.wkb_view.specs.MultiPoints.{stride};
-    ghost use Rattle.wkb_view.specs.Outcome.{Answers};
-    ghost use Rattle.wkb_geom.specs.declared.code.WkbType.TheVariants as kinds;
-
-    /// The point behind this header, and the bytes after it.
-    #[tactic(auto, unfolding(wkb_geom::specs::Reading::point_at))]
-    #[inline]
-    pub fn read(layout: Layout, bytes: &'a [u8]) -> Result<(Point<'a>, &'a [u8]), Cause>
-        requires head { HasHead (λ d. kinds.Point d) layout bytes.now }
-        ensures answer { Answers (λ x. (point_seen x.0, x.1.now)) result (point_behind layout bytes.now) }
-        ensures shorter { IfOk result (λ x. length x.1.now + 9 ≤ length bytes.now) }
-    {
-        let end = layout.body_start() + 8 * layout.dimension.width();
-        if bytes.len() < end {
-            return Err(Cause::General(General::ShortPoint {
-                end: end as u64,
-                len: bytes.len(),
-            }));
-        }
-        let (buf, rest) = bytes.split_at(end);
-        let point = Point { buf, layout };
-        Ok((point, rest))
-    }
-
-    /// The point that stands in these bytes, a member of a multi point: it has no SRID.
-    #[inline]
-    pub(crate) fn of_text(order: Endianness, dimension: Dimension, buf: &'a [u8]) -> Point<'a>
-        requires whole { length buf.now ≡ stride dimension }
-        requires spells { IsSpelled (point_item order dimension false buf.now) }
-        ensures item { point_seen result ≡ point_item order dimension false buf.now }
-        ensures dimension { (point_layout result).dimension ≡ dimension }
-    {
-        Point {
-            buf,
-            layout: Layout {
-                order,
-                dimension,
-                has_srid: false,
-            },
-        }
     }
 }

@@ -1,22 +1,17 @@
 //! A polygon.
 
 ghost use Rattle.std.specs.Prelude.{◌≡◌, ◌+◌, length, ◌≤◌, IfOk, ◌/◌, [], min, vec_capacity};
-ghost use Rattle.wkb_geom.specs.Dimensions.{dimensions as named};
-ghost use Rattle.wkb_geom.specs.Reading.{body_start, taken, parts_start};
-ghost use Rattle.wkb_view.specs.Pieces.{IsRing};
+ghost use Rattle.wkb_view.specs.Words.{dimensions as named, body_start, parts_start, ring_part, taken};
+ghost use Rattle.wkb_view.specs.Members.{parts_behind, pieces_behind, AreRings};
 ghost use Rattle.wkb_view.specs.Outcome.{Surely, CanCount};
-ghost use Rattle.wkb_view.specs.Headers.{rings_behind, pieces_behind, ArePiecesBehind};
 
-use crate::any::AnyView;
+use crate::any::{
+    AnyView, Line, LineString, MultiLineString, MultiPoint, MultiPolygon, Point, Rect, Triangle,
+};
 use crate::counts::Counts;
-use crate::line_string::LineString;
 use crate::linear_ring::{LinearRing, ring};
-use crate::multi_line_string::MultiLineString;
-use crate::multi_point::MultiPoint;
-use crate::multi_polygon::MultiPolygon;
 use crate::own_srid::OwnSrid;
 use crate::part::piece;
-use crate::point::Point;
 use crate::reserved::{Reserved, reserve};
 use std::alloc::{AllocError, Global};
 use std::marker::Model;
@@ -25,7 +20,6 @@ use wkb_geom::{
     Cause, Dimension, Dimensioned, Dimensions, Endianness, GeometryTrait, GeometryType, Layout,
     PolygonTrait, Refusal,
 };
-use wkb_plain::{Line, Rect, Triangle};
 
 /// A polygon: its rings by the offsets at which they end.
 #[derive(Debug, Drop)]
@@ -36,12 +30,11 @@ pub struct Polygon<'a> {
 }
 
 impl<'a> Model for Polygon<'a> {
-    ghost use Rattle.wkb_view.specs.Parts.{IsSpelled};
-    ghost use Rattle.wkb_view.specs.Pieces.{IsRing};
-    ghost use Rattle.wkb_geom.specs.Stored.{whole_of, Listed, listed_code, rings_code};
-    ghost use Rattle.std.specs.Prelude.{List};
-    ghost use Rattle.wkb_geom.specs.Values.{Coordinate, polygon};
-    ghost use Rattle.wkb_view.specs.Headers.{ArePiecesBehind, polygon_laid};
+    ghost use Rattle.std.specs.Prelude.{◌+◌, ◌≤◌, length, List};
+    ghost use Rattle.wkb_geom.specs.Stored.{listed_code, rings_code};
+    ghost use Rattle.wkb_geom.specs.Values.{polygon};
+    ghost use Rattle.wkb_view.specs.Words.{body_start, whole_of, Listed, Coordinate, IsSpelled};
+    ghost use Rattle.wkb_view.specs.Members.{AreRings, polygon_laid};
 
     ghost Value = { Listed (List (List Coordinate)) };
 
@@ -49,16 +42,20 @@ impl<'a> Model for Polygon<'a> {
 
     ghost view = { λ a. polygon_laid a.layout a.ends.items a.buf.now };
 
-    ghost invariant = { λ a. ArePiecesBehind (IsRing a.layout.order a.layout.dimension) a.layout a.ends.items a.buf.now
+    ghost invariant = { λ a. (body_start a.layout.has_srid + 4 ≤ length a.buf.now)
+        × AreRings a.layout a.ends.items a.buf.now
         × IsSpelled (whole_of polygon (polygon_laid a.layout a.ends.items a.buf.now)) };
 }
 
 impl<'a> Polygon<'a> {
-    ghost use Rattle.std.specs.Prelude.{◌≡◌, length, option_map, IfSome, IfOk, slice_get};
-    ghost use Rattle.wkb_view.specs.Parts.{IsSpelled, order_of};
-    ghost use Rattle.wkb_view.specs.Coords.{ring_order, ring_dimension, ring_seen};
-    ghost use Rattle.wkb_geom.specs.Stored.{whole_of};
+    ghost use Rattle.std.specs.Prelude.{◌≡◌, length, option_map, IfSome, IfOk, slice_get, ◌+◌, ◌≤◌};
     ghost use Rattle.wkb_geom.specs.Values.{polygon};
+    ghost use Rattle.wkb_geom.specs.declared.code.WkbType.TheVariants as kinds;
+    ghost use Rattle.wkb_view.specs.Words.{whole_of, polygon_at, IsSpelled, order_of};
+    ghost use Rattle.wkb_view.specs.Coords.{ring_order, ring_dimension, ring_seen};
+    ghost use Rattle.wkb_view.specs.Headers.{HasHead};
+    ghost use Rattle.wkb_view.specs.Memory.{IsNoWant};
+    ghost use Rattle.wkb_view.specs.Outcome.{Gives, CanCount};
 
     /// The number of its bytes.
     #[inline]
@@ -86,6 +83,7 @@ impl<'a> Polygon<'a> {
     }
 
     /// The number of rings.
+    #[tactic(auto, using(crate::proofs::Pieces::parts_counted))]
     pub(crate) fn num_rings(&self) -> usize
         ensures { result ≡ length (self.now.parts) }
     {
@@ -120,6 +118,44 @@ impl<'a> Polygon<'a> {
             ends: self.ends.clone()?,
         })
     }
+
+    /// The polygon behind this header, and the bytes after it.
+    #[tactic(auto, unfolding(wkb_geom::specs::Reading::polygon_at))]
+    pub fn read(
+        alloc: Global,
+        layout: Layout,
+        bytes: &'a [u8],
+        counts: &mut Counts,
+    ) -> Result<(Polygon<'a>, &'a [u8]), Refusal>
+        requires fits { CanCount counts.old (polygon_at layout bytes.now).0 }
+        requires head { HasHead (λ d. kinds.Polygon d) layout bytes.now }
+        ensures dimension { IfOk result (λ x. x.0.dimension ≡ layout.dimension) }
+        ensures answer { Gives (λ x. (whole_of polygon x.0, x.1.now))
+            result (polygon_at layout bytes.now) counts.old counts.new }
+        ensures shorter { IfOk result (λ x. length x.1.now + 9 ≤ length bytes.now) }
+        ensures no_memory { (polygon_at layout bytes.now).0.slots ≡ 0 → IsNoWant result }
+    {
+        let count = match layout.count(bytes) {
+            Ok(count) => count,
+            Err(cause) => return Err(Refusal::Fault(cause)),
+        };
+        let remaining = bytes.len() - (layout.body_start() + 4);
+        let ends = match reserve(alloc, count, remaining, 4, counts) {
+            Ok(ends) => ends,
+            Err(_) => return Err(Refusal::Memory),
+        };
+        match rings(layout, bytes, ends, count, counts) {
+            Ok((ends, rest)) => {
+                let polygon = Polygon {
+                    buf: &bytes[..bytes.len() - rest.len()],
+                    layout,
+                    ends: ends.into_vec(),
+                };
+                Ok((polygon, rest))
+            }
+            Err(cause) => Err(Refusal::Fault(cause)),
+        }
+    }
 }
 
 impl OwnSrid for Polygon<'_> {
@@ -142,16 +178,15 @@ impl Dimensioned for Polygon<'_> {
 
 impl<'a> PolygonTrait for Polygon<'a> {
     ghost use Rattle.std.specs.Prelude.{◌≡◌, ◌+◌, option_map, IfSome, slice_get};
-    ghost use Rattle.wkb_geom.specs.Dimensions.{dimensions as named};
-    ghost use Rattle.wkb_view.specs.Parts.{order_of};
+    ghost use Rattle.wkb_view.specs.Words.{dimensions as named, order_of};
     ghost use Rattle.wkb_view.specs.Coords.{ring_order, ring_dimension, ring_seen};
-    ghost use Rattle.wkb_view.specs.Fitted.{fitted_lines, lines-fitted};
+    ghost use Rattle.wkb_view.specs.Fitted.{fitted_lines, lines_fit};
 
     type RingType = LinearRing<'a>;
 
     ghost rings = { λ p. fitted_lines (named p.dimension) p.parts };
 
-    ghost lawful = { λ p. lines-fitted (named p.dimension) p.parts };
+    ghost lawful = { λ p. (lines_fit (named p.dimension) p.parts).lawful };
 
     #[inline]
     fn num_interiors(&self) -> usize {
@@ -169,6 +204,7 @@ impl<'a> PolygonTrait for Polygon<'a> {
         self.ring(0)
     }
 
+    #[tactic(auto, using(std::proofs::lemmas::Option::slice_get_past))]
     #[inline]
     fn interior(&self, i: usize) -> Option<LinearRing<'a>>
         ensures value { option_map ring_seen result
@@ -187,10 +223,10 @@ impl<'a> PolygonTrait for Polygon<'a> {
 
 impl<'a> GeometryTrait for Polygon<'a> {
     ghost use Rattle.std.specs.Prelude.{◌≡◌, refl};
-    ghost use Rattle.wkb_geom.specs.Dimensions.{dimensions as named};
     ghost use Rattle.wkb_geom.specs.declared.geom.GeometryType.TheVariants.{Polygon as Handed};
-    ghost use Rattle.wkb_view.specs.Fitted.{fitted_lines, lines-fitted};
     ghost use Rattle.wkb_geom.specs.Geometries.{polygon};
+    ghost use Rattle.wkb_view.specs.Words.{dimensions as named};
+    ghost use Rattle.wkb_view.specs.Fitted.{fitted_lines, lines_fit};
 
     type PointType = Point<'a>;
 
@@ -214,7 +250,7 @@ impl<'a> GeometryTrait for Polygon<'a> {
 
     ghost one_dimension = { λ g. refl };
 
-    ghost lawful = { λ p. lines-fitted (named p.dimension) p.parts };
+    ghost lawful = { λ p. (lines_fit (named p.dimension) p.parts).lawful };
 
     #[inline]
     fn as_type(&self) -> AnyView<'_, 'a, Polygon<'a>>
@@ -235,11 +271,10 @@ fn rings<'a>(
     requires whole { body_start layout.has_srid + 4 ≤ length bytes.now }
     requires empty { ends.items.items ≡ [] }
     requires room { min count (length (parts_start layout.has_srid bytes.now) / 4) ≤ vec_capacity ends.items }
-    requires fits { CanCount counts.old (rings_behind layout count bytes.now).0 }
-    ensures rings { Surely (λ x. (pieces_behind layout x.0.items.items (taken bytes.now x.1.now), x.1.now)) result
-        (rings_behind layout count bytes.now) counts.old counts.new }
-    ensures ends { IfOk result (λ x. ArePiecesBehind (IsRing layout.order layout.dimension) layout
-        x.0.items.items (taken bytes.now x.1.now)) }
+    requires fits { CanCount counts.old (parts_behind (ring_part layout) layout count bytes.now).0 }
+    ensures rings { Surely (λ x. (pieces_behind layout x.0.items.items (taken bytes.now x.1.now), x.1.now))
+        result (parts_behind (ring_part layout) layout count bytes.now) counts.old counts.new }
+    ensures ends { IfOk result (λ x. AreRings layout x.0.items.items (taken bytes.now x.1.now)) }
     ensures shorter { IfOk result (λ x. length x.1.now + body_start layout.has_srid + 4 ≤ length bytes.now) }
 {
     let mut rest = layout.behind_count(bytes);
@@ -249,52 +284,4 @@ fn rings<'a>(
         ends.push(bytes.len() - rest.len());
     }
     Ok((ends, rest))
-}
-
-impl<'a> Polygon<'a> {
-    ghost use Rattle.std.specs.Prelude.{◌≡◌, ◌+◌, length, ◌≤◌, IfOk};
-    ghost use Rattle.wkb_view.specs.Headers.{HasHead, polygon_behind};
-    ghost use Rattle.wkb_geom.specs.Values as value;
-    ghost use Rattle.wkb_geom.specs.declared.code.WkbType.TheVariants as kinds;
-    ghost use Rattle.wkb_geom.specs.Stored.{whole_of};
-    ghost use Rattle.wkb_view.specs.Memory.{IsNoWant};
-    ghost use Rattle.wkb_view.specs.Outcome.{Gives, CanCount};
-
-    /// The polygon behind this header, and the bytes after it.
-    #[tactic(auto, unfolding(wkb_geom::specs::Reading::polygon_at))]
-    pub fn read(
-        alloc: Global,
-        layout: Layout,
-        bytes: &'a [u8],
-        counts: &mut Counts,
-    ) -> Result<(Polygon<'a>, &'a [u8]), Refusal>
-        requires fits { CanCount counts.old (polygon_behind layout bytes.now).0 }
-        requires head { HasHead (λ d. kinds.Polygon d) layout bytes.now }
-        ensures dimension { IfOk result (λ x. x.0.dimension ≡ layout.dimension) }
-        ensures answer { Gives (λ x. (whole_of value.polygon x.0, x.1.now))
-            result (polygon_behind layout bytes.now) counts.old counts.new }
-        ensures shorter { IfOk result (λ x. length x.1.now + 9 ≤ length bytes.now) }
-        ensures free { (polygon_behind layout bytes.now).0.slots ≡ 0 → IsNoWant result }
-    {
-        let count = match layout.count(bytes) {
-            Ok(count) => count,
-            Err(cause) => return Err(Refusal::Fault(cause)),
-        };
-        let remaining = bytes.len() - (layout.body_start() + 4);
-        let ends = match reserve(alloc, count, remaining, 4, counts) {
-            Ok(ends) => ends,
-            Err(_) => return Err(Refusal::Memory),
-        };
-        match rings(layout, bytes, ends, count, counts) {
-            Ok((ends, rest)) => {
-                let polygon = Polygon {
-                    buf: &bytes[..bytes.len() - rest.len()],
-                    layout,
-                    ends: ends.into_vec(),
-                };
-                Ok((polygon, rest))
-            }
-            Err(cause) => Err(Refusal::Fault(cause)),
-        }
-    }
 }

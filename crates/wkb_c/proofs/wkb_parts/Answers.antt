@@ -1,4 +1,4 @@
-use Rattle.std.proofs.Common.{◌∙◌, List, length, ap, subst, arith}
+use Rattle.wkb_c.proofs.Common.{◌∙◌, List, length, ap, subst, arith}
 use Rattle.wkb_c.specs.declared.parts.Part.{Part}
 use Rattle.wkb_c.specs.Room.{IsHeld}
 use Rattle.wkb_c.proofs.Words.{front_fits, holds, entries_many}
@@ -16,7 +16,9 @@ returns-in-Ok-table_of-clause-listed c = λ ok.
       t = w.value;
       rest = f.rest;
       front = f.front;
-      held = subst (λ (parts : List Part). IsHeld parts c.args.parts.now c.hand_out.new.out c.hand_out.new.count) (c.as_slice.ensures.value ∙ c.in-Ok-table_of.ensures) (c.hand_out.ensures.held ok);
+      held = subst (λ (parts : List Part). IsHeld parts c.args.parts.now c.hand_out.new.out c.hand_out.new.count)
+          (c.as_slice.ensures.value ∙ c.in-Ok-table_of.ensures) (c.hand_out.ensures.held ok);
       words = holds c.args.buf.now w.spelled w.value 0 f.front.front f.rest f.front.whole f.front.spelled;
-      many = (c.hand_out.ensures.held ok).count_is ∙ ap length (c.as_slice.ensures.value ∙ c.in-Ok-table_of.ensures) ∙ entries_many w.spelled w.value 0 f.front.front f.front.spelled;
+      many = (c.hand_out.ensures.held ok).count_is ∙ ap length (c.as_slice.ensures.value ∙ c.in-Ok-table_of.ensures)
+          ∙ entries_many w.spelled w.value 0 f.front.front f.front.spelled;
     }

@@ -1,21 +1,17 @@
 //! Reading with an explicit stack of open collections.
 
-ghost use Rattle.std.specs.Prelude.{Ok, ◌≡◌, ◌++◌, ◌∷◌, [], ◌+◌, ◌*◌, ◌<◌, ◌≤◌, ◌^◌, length, reverse, IfOk, IfErr};
 ghost use Rattle.wkb_geom.specs.declared.code.WkbType.TheVariants as kinds;
-ghost use Rattle.wkb_geom.specs.Fronts.{max_nesting};
-ghost use Rattle.wkb_geom.specs.Geometries.{IsGeometry, normal, geometry_of};
-ghost use Rattle.wkb_geom.specs.Reading.{body_start, head_at, geometry_at, costs, done};
-ghost use Rattle.wkb_view.specs.Headers.{HasHead};
-ghost use Rattle.wkb_view.specs.Memory.{IsNoWant};
-ghost use Rattle.wkb_view.specs.Outcome.{CanCount};
-ghost use Rattle.wkb_view.specs.Parts.{IsSpelled};
+ghost use Rattle.std.specs.Prelude.{Ok, ◌≡◌, ◌++◌, ◌∷◌, [], ◌+◌, ◌*◌, ◌<◌, ◌≤◌, ◌^◌, length, reverse, IfOk};
+ghost use Rattle.std.specs.Prelude.{IfErr};
+ghost use Rattle.wkb_read.specs.Words.{max_nesting, IsGeometry, normal, geometry_of, body_start, head_at};
+ghost use Rattle.wkb_read.specs.Words.{geometry_at};
+ghost use Rattle.wkb_read.specs.Words.{HasHead, IsNoWant, CanCount};
 ghost use Rattle.wkb_read.specs.Memory.{IsNotMemory, NeedsNone, BodyTakesNone, ReadsWithoutMemory};
 ghost use Rattle.wkb_read.specs.Public.{TakesNoMemory, IsFront, IsOnlyFront, HasNoFront, IsRefusal, TellsEach};
 ghost use Rattle.wkb_read.specs.Public.{IfRefused, IfMemory, CountsValue, CountsRefusal, CountsAtMost, CanBeWritten};
 ghost use Rattle.wkb_read.specs.Seen.{geometry_seen};
-ghost use Rattle.wkb_read.specs.Stack.{resume, counted, next_turn, first_member, levels_inside};
-ghost use Rattle.wkb_read.specs.Stack.{HasRoom, HaveRoom, IsPlaced, ArePlaced, Settles};
-ghost use Rattle.wkb_read.specs.Stack.{collection_inside, body_inside, BeginsAs, ReadsAs};
+ghost use Rattle.wkb_read.specs.Stack.{geometry_inside, collection_inside, body_inside, outward, first_member, counted};
+ghost use Rattle.wkb_read.specs.Stack.{next_turn, IsOpen, AreOpen, IsPart, BeginsAs, Settles, ReadsAs};
 
 use crate::geometry::{GeometryCollection, Kind, Wkb};
 use crate::read::unfinished::{Begun, Open};
@@ -39,10 +35,10 @@ pub(crate) fn open<'a>(
     counts: &mut Counts,
 ) -> Result<Begun<'a>, Refusal>
     requires head { HasHead (λ d. kinds.GeometryCollection d) layout bytes.now }
-    requires fits { CanCount counts.old (collection_inside (levels_inside around) layout bytes.now).0 }
-    ensures begins { BeginsAs (collection_inside (levels_inside around) layout bytes.now) around bytes.now
+    requires fits { CanCount counts.old (collection_inside around layout bytes.now).0 }
+    ensures begins { BeginsAs (collection_inside around layout bytes.now) around bytes.now
         result counts.old counts.new }
-    ensures free { length bytes.now < body_start layout.has_srid + 4 → NeedsNone result }
+    ensures no_memory { length bytes.now < body_start layout.has_srid + 4 → NeedsNone result }
 {
     if around >= MAX_WKB_NESTING_DEPTH {
         return Err(Refusal::Fault(Cause::NestingDepthExceeded(MAX_WKB_NESTING_DEPTH)));
@@ -86,10 +82,9 @@ pub(crate) fn body<'a>(
     counts: &mut Counts,
 ) -> Result<Begun<'a>, Refusal>
     requires head { head_at bytes.now ≡ Ok header }
-    requires fits { CanCount counts.old (body_inside (levels_inside around) header bytes.now).0 }
-    ensures begins { BeginsAs (body_inside (levels_inside around) header bytes.now) around bytes.now
-        result counts.old counts.new }
-    ensures free { BodyTakesNone header bytes.now → NeedsNone result }
+    requires fits { CanCount counts.old (body_inside around header bytes.now).0 }
+    ensures begins { BeginsAs (body_inside around header bytes.now) around bytes.now result counts.old counts.new }
+    ensures no_memory { BodyTakesNone header bytes.now → NeedsNone result }
 {
     match header.wkb_type {
         WkbType::Point(_) | WkbType::LineString(_) => match leaf_body(header, bytes) {
@@ -113,10 +108,9 @@ pub(crate) fn begin<'a>(
     bytes: &'a [u8],
     counts: &mut Counts,
 ) -> Result<Begun<'a>, Refusal>
-    requires fits { CanCount counts.old (geometry_at (levels_inside around) bytes.now).0 }
-    ensures begins { BeginsAs (geometry_at (levels_inside around) bytes.now) around bytes.now
-        result counts.old counts.new }
-    ensures free { ReadsWithoutMemory bytes.now → NeedsNone result }
+    requires fits { CanCount counts.old (geometry_inside around bytes.now).0 }
+    ensures begins { BeginsAs (geometry_inside around bytes.now) around bytes.now result counts.old counts.new }
+    ensures no_memory { ReadsWithoutMemory bytes.now → NeedsNone result }
 {
     match Header::read(bytes) {
         Ok(header) => body(alloc, around, header, bytes, counts),
@@ -148,11 +142,9 @@ pub(crate) fn settle<'a>(
     rest: &'a [u8],
     counts: &mut Counts,
 ) -> Option<Wkb<'a>>
-    requires room { HaveRoom (reverse stack.old.items) (length rest.now + 9) }
-    requires spells { IsSpelled part }
-    requires placed { ArePlaced (reverse stack.old.items) (part.text ++ rest.now) }
-    requires fits { (costs (counted counts.old) (resume (reverse stack.old.items) (done part rest.now))).0.turns
-        < 2 ^ 128 }
+    requires part { IsPart part }
+    requires stand { AreOpen (reverse stack.old.items) (part.text ++ rest.now) }
+    requires fits { counts.old.turns + (outward (reverse stack.old.items) part rest.now).0.turns < 2 ^ 128 }
     ensures { Settles (reverse stack.old.items) (reverse stack.new.items) part.entry rest.now
         result counts.old counts.new }
 {
@@ -193,8 +185,7 @@ pub(crate) fn nested<'a>(
     members: &'a [u8],
     counts: &mut Counts,
 ) -> Result<Wkb<'a>, Refusal>
-    requires room { HasRoom outermost (length members.now) }
-    requires placed { IsPlaced outermost members.now }
+    requires stands { IsOpen outermost members.now }
     requires fits { CanCount counts.old (first_member 0 outermost members.now).0 }
     ensures { ReadsAs (first_member 0 outermost.entry members.now) result counts.old counts.new }
 {
@@ -230,7 +221,7 @@ pub(crate) fn geometry<'a>(
 ) -> Result<Wkb<'a>, Refusal>
     requires fits { CanCount counts.old (geometry_at max_nesting buf.now).0 }
     ensures reads { ReadsAs (geometry_at max_nesting buf.now) result counts.old counts.new }
-    ensures free { ReadsWithoutMemory buf.now → IsNoWant result }
+    ensures no_memory { ReadsWithoutMemory buf.now → IsNoWant result }
 {
     match begin(alloc, 0, buf, counts) {
         Ok(Begun::Whole(whole, _)) => Ok(whole),

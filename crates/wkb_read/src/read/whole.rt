@@ -2,9 +2,8 @@
 //! called: a result handed on in memory would be copied whole.
 
 ghost use Rattle.std.specs.Prelude.{◌≡◌, Ok, ◌+◌, ◌<◌, ◌≤◌, length, IfOk};
-ghost use Rattle.wkb_geom.specs.Reading.{head_at, type_kind};
-ghost use Rattle.wkb_view.specs.Memory.{IsNoWant};
-ghost use Rattle.wkb_view.specs.Outcome.{Answers, Gives, CanCount};
+ghost use Rattle.wkb_read.specs.Words.{head_at, type_kind};
+ghost use Rattle.wkb_read.specs.Words.{IsNoWant, Answers, Gives, CanCount};
 ghost use Rattle.wkb_read.specs.Memory.{BodyTakesNone};
 ghost use Rattle.wkb_read.specs.Stack.{plain_body};
 
@@ -57,7 +56,7 @@ pub(crate) fn parts_body<'a>(
     requires fits { CanCount counts.old (plain_body header bytes.now).0 }
     ensures answer { Gives (λ x. (x.0, x.1.now)) result (plain_body header bytes.now) counts.old counts.new }
     ensures shorter { IfOk result (λ x. length x.1.now + 9 ≤ length bytes.now) }
-    ensures free { BodyTakesNone header bytes.now → IsNoWant result }
+    ensures no_memory { BodyTakesNone header bytes.now → IsNoWant result }
 {
     let layout = header.layout();
     let (kind, rest) = match header.wkb_type {

@@ -1,6 +1,4 @@
-use Rattle.std.proofs.Common.{◌+◌, ◌*◌}
-use Rattle.wkb_geom.specs.Reading.{spellings, values}
-use Rattle.wkb_read.specs.Nodes.{nodes, nodes_all}
+use Rattle.wkb_c.proofs.Common.{◌+◌, ◌*◌, spellings, values, nodes, nodes_all}
 use Rattle.wkb_c.specs.Growing.{Added}
 use Rattle.wkb_c.proofs.parts.+table.Given as goal
 

@@ -1,6 +1,4 @@
-use Rattle.wkb_geom.specs.Values.{members}
-use Rattle.wkb_view.specs.Parts.{members_spelled}
-use Rattle.wkb_view.specs.Views.{multi_point_seen}
+use Rattle.wkb_c.proofs.Common.{members, members_spelled, multi_point_seen}
 use Rattle.wkb_c.specs.Growing.{Added}
 use Rattle.wkb_c.proofs.parts.add_points.Given as goal
 

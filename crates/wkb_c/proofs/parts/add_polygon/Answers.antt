@@ -1,5 +1,4 @@
-use Rattle.std.proofs.Common.{◌≡◌, ◌+◌, ◌∙◌, ap, arith}
-use Rattle.wkb_view.specs.Parts.{srid_of}
+use Rattle.wkb_c.proofs.Common.{◌≡◌, ◌+◌, ◌∙◌, ap, arith, srid_of}
 use Rattle.wkb_c.specs.Growing.{header_size}
 use Rattle.wkb_c.proofs.Growth.{first_is_order, polygon_fits, listed_polygon, if_ok}
 use Rattle.wkb_c.proofs.parts.add_polygon.Goals as goal
@@ -17,5 +16,6 @@ returns c =
     let first = rw c.dimension.ensures at c.in_ok-add.ensures in
     let leads : c.header_size.result + 4 ≡ header_size (srid_of p.spelled) + 4 = omega (arith, c.header_size.ensures, ap header_size c.srid.ensures) in
     if_ok c.add_rings.result _ _
-    (λ done rest. listed_polygon p.spelled p.dimension p.parts c.args.table.now c.add.new.table c.add_rings.new.table _ _ _ c.num_rings.ensures ordered leads first rest)
+    (λ done rest. listed_polygon p.spelled p.dimension p.parts c.args.table.now c.add.new.table c.add_rings.new.table _ _ _ c.num_rings.ensures ordered leads
+    first rest)
     c.add_rings.ensures

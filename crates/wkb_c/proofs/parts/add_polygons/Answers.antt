@@ -1,15 +1,15 @@
-use Rattle.std.proofs.Common.{sym, arith}
-use Rattle.std.proofs.lemmas.List.{length-map}
-use Rattle.wkb_geom.specs.Dimensions.{dimensions}
-use Rattle.wkb_geom.specs.Values.{polygon}
-use Rattle.wkb_view.specs.Fitted.{fitted_lines}
+use Rattle.wkb_c.proofs.Common.{sym, arith, length-map, dimensions, polygon, fitted_lines}
 use Rattle.wkb_c.proofs.Growth.{added_fits, added_more, added_all, part_value, below_is_some, each_count}
 use Rattle.wkb_c.proofs.parts.add_polygons.Goals as goal
 
 pub add_polygon-requires : goal.add_polygon-requires
 add_polygon-requires c =
     let o = c.in-Some.ensures in
-    record { fits = added_fits _ _ _ _ _ _ _ c.loop-i.invariant (sym o.spelled) (part_value polygon c.args.multi.now.parts c.args.multi.now.dimension c.in-Some.polygon.now.dimension c.loop-i.i c.in-Some.polygon.now.parts o.part o.dimensions) c.requires.fits }
+    record {
+      fits = added_fits _ _ _ _ _ _ _ c.loop-i.invariant (sym o.spelled)
+          (part_value polygon c.args.multi.now.parts c.args.multi.now.dimension c.in-Some.polygon.now.dimension c.loop-i.i c.in-Some.polygon.now.parts o.part
+          o.dimensions) c.requires.fits;
+    }
 
 pub unreachable-requires : goal.unreachable-requires
 unreachable-requires c =
@@ -20,7 +20,9 @@ unreachable-requires c =
 pub loop-i-preserved : goal.loop-i-preserved
 loop-i-preserved c =
     let o = c.in-Some.ensures in
-    added_more _ _ _ _ _ _ _ _ c.loop-i.invariant (sym o.spelled) (part_value polygon c.args.multi.now.parts c.args.multi.now.dimension c.in-Some.polygon.now.dimension c.loop-i.i c.in-Some.polygon.now.parts o.part o.dimensions) c.in_ok-add_polygon-in-Some.ensures
+    added_more _ _ _ _ _ _ _ _ c.loop-i.invariant (sym o.spelled)
+    (part_value polygon c.args.multi.now.parts c.args.multi.now.dimension c.in-Some.polygon.now.dimension c.loop-i.i c.in-Some.polygon.now.parts o.part
+    o.dimensions) c.in_ok-add_polygon-in-Some.ensures
 
 pub returns : goal.returns
 returns c =

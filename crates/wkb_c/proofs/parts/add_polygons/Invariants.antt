@@ -1,6 +1,4 @@
-use Rattle.wkb_geom.specs.Stored.{whole_of}
-use Rattle.wkb_geom.specs.Values.{members, multi_polygon}
-use Rattle.wkb_view.specs.Parts.{members_spelled}
+use Rattle.wkb_c.proofs.Common.{whole_of, members, multi_polygon, members_spelled}
 use Rattle.wkb_c.specs.Growing.{Added}
 use Rattle.wkb_c.proofs.parts.add_polygons.Given as goal
 

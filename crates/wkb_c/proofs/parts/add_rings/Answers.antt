@@ -1,4 +1,4 @@
-use Rattle.std.proofs.Common.{arith}
+use Rattle.wkb_c.proofs.Common.{arith}
 use Rattle.wkb_c.proofs.Growth.{rings_are_few, rings_fit, rings_more, below_is_some}
 use Rattle.wkb_c.proofs.parts.add_rings.Goals as goal
 

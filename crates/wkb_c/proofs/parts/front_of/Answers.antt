@@ -1,4 +1,4 @@
-use Rattle.std.proofs.Common.{◌∙◌}
+use Rattle.wkb_c.proofs.Common.{◌∙◌}
 use Rattle.wkb_c.proofs.Growth.{first_is_order}
 use Rattle.wkb_c.proofs.parts.front_of.Goals as goal
 

@@ -1,7 +1,4 @@
-use Rattle.std.proofs.Common.{arith}
-use Rattle.std.proofs.lemmas.List.{length-map}
-use Rattle.wkb_geom.specs.Dimensions.{dimensions}
-use Rattle.wkb_view.specs.Fitted.{fitted_line}
+use Rattle.wkb_c.proofs.Common.{arith, length-map, dimensions, fitted_line}
 use Rattle.wkb_c.proofs.Growth.{no_first}
 use Rattle.wkb_c.proofs.parts.num_rings.Goals as goal
 

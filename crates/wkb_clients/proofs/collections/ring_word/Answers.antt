@@ -13,7 +13,8 @@ returns-in-Some-coord c =
     let at = c.args.at in
     let w = c.in-Ok.geometry in
     let there = stands c.args.blob.now c.args.offset c.behind.result.now w c.behind.ensures c.in-Ok.ensures.front c.in-Ok.ensures.one_front in
-    ring_word_or_none c.members_stand.ensures c.rings_stand.ensures c.words_stand.ensures.ring c.args.blob.now c.args.offset at.member at.ring at.coordinate at.word
+    ring_word_or_none c.members_stand.ensures c.rings_stand.ensures c.words_stand.ensures.ring c.args.blob.now c.args.offset at.member at.ring at.coordinate
+    at.word
     w _ _ c.nth.result there c.in-Some.ensures c.in-Some-coord.ensures.value c.nth.ensures
 
 pub returns-in-Some : goal.returns-in-Some

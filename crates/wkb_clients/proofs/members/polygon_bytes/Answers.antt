@@ -1,6 +1,5 @@
 use Rattle.std.proofs.Common.{refl, ap}
-use Rattle.wkb_geom.specs.Stored.{whole_of}
-use Rattle.wkb_geom.specs.Values.{polygon, multi_polygon}
+use Rattle.wkb_clients.specs.Common.{whole_of, polygon, multi_polygon}
 use Rattle.wkb_clients.proofs.MembersHeld.{holds_bytes, one_name}
 use Rattle.wkb_clients.proofs.members.polygon_bytes.Goals as goal
 

@@ -1,6 +1,6 @@
-use Rattle.std.proofs.Common.{◌∙◌, arith}
-use Rattle.std.proofs.lemmas.List.{take_all}
+use Rattle.wkb_read.proofs.Words.{◌∙◌, arith, take_all}
 use Rattle.wkb_read.proofs.geometry.+clones.Goals as goal
 
 pub GeometryCollection::clone-invariant_of-result : goal.GeometryCollection::clone-invariant_of-result
-GeometryCollection::clone-invariant_of-result n c = rw (c.loop-member.invariant ∙ take_all _ _ (omega (arith, c.loop-member-test.false, c.deref-member-items.ensures.len))) c.self.invariant
+GeometryCollection::clone-invariant_of-result n c =
+    rw (c.loop-member.invariant ∙ take_all _ _ (omega (arith, c.loop-member-test.false, c.deref-member-items.ensures.len))) c.self.invariant

@@ -1,19 +1,21 @@
 use Rattle.std.proofs.Common.{◌∙◌, ap}
-use Rattle.wkb_geom.specs.Reading.{Item, Reading}
-use Rattle.wkb_view.specs.Views.{line_string_seen}
-use Rattle.wkb_view.proofs.LineStrings.{found, line_at_none, line_at_right, member_found}
+use Rattle.wkb_view.specs.Words.{Part, Item, at_no_cost}
+use Rattle.wkb_view.proofs.Leaves.{found, line_string_free, member_gives, member_passed}
 use Rattle.wkb_view.proofs.multi_line_string.line.Goals as goal
-
-pub returns-in-Err-clause-answer : goal.returns-in-Err-clause-answer
-returns-in-Err-clause-answer c = line_at_none c.args.dimension c.args.bytes.now c.in-Err.cause c.in-Err.ensures
 
 pub returns-in-Ok-read-clause-answer : goal.returns-in-Ok-read-clause-answer
 returns-in-Ok-read-clause-answer c =
-    let h = c.in-Ok.header in
-    let rest = c.in-Ok-read.rest.now in
-    let member = member_found c.args.dimension c.args.bytes.now h (line_string_seen c.in-Ok-read.field-0-0) rest c.in-Ok-read.field-0-0.spells c.in-Ok.ensures c.in-Ok-read.ensures.answer in
-    ap (λ (r : Reading Item). r.1) (line_at_right c.args.dimension c.args.bytes.now h c.in-Ok.ensures c.if-not-is_member.ensures) ∙ c.in-Ok-read.ensures.answer ∙ ap (λ (i : Item). found i rest) member.item
+    let bytes = c.args.bytes.now in
+    let read = c.in-Ok-read.ensures in
+    let passed = member_passed 2 c.args.dimension bytes _ _ _ c.in-Ok.ensures read.passed read.item in
+    member_gives 2 c.args.dimension bytes _ _ c.in-Ok.ensures
+    (line_string_free _ bytes ∙ ap (λ (p : Part Item). at_no_cost p) (read.answer ∙ ap (λ (i : Item). found i c.in-Ok-read.rest.now) passed.0))
+
+pub returns-in-Err-read-clause-answer : goal.returns-in-Err-read-clause-answer
+returns-in-Err-read-clause-answer c =
+    let bytes = c.args.bytes.now in
+    member_gives 2 c.args.dimension bytes _ _ c.in-Ok.ensures (line_string_free _ bytes ∙ ap (λ (p : Part Item). at_no_cost p) c.in-Err-read.ensures.answer)
 
 pub returns-in-Ok-read-clause-passed : goal.returns-in-Ok-read-clause-passed
 returns-in-Ok-read-clause-passed c =
-    (member_found c.args.dimension c.args.bytes.now c.in-Ok.header (line_string_seen c.in-Ok-read.field-0-0) c.in-Ok-read.rest.now c.in-Ok-read.field-0-0.spells c.in-Ok.ensures c.in-Ok-read.ensures.answer).passed
+    (member_passed 2 c.args.dimension c.args.bytes.now _ _ _ c.in-Ok.ensures c.in-Ok-read.ensures.passed c.in-Ok-read.ensures.item).1

@@ -1,37 +1,42 @@
-use Rattle.std.proofs.Common.{length-drop, arith}
-use Rattle.std.proofs.lemmas.List.{take_all}
-use Rattle.wkb_geom.specs.declared.error.Cause.TheVariants.{IncorrectType as incorrect_type}
-use Rattle.wkb_geom.specs.Reading.{is_point}
-use Rattle.wkb_view.specs.MultiPoints.{stride}
-use Rattle.wkb_view.proofs.Members.{member_none, member_wrong}
-use Rattle.wkb_view.proofs.PointsRead.{point_body, point_turn, point_counts, point_fails, points_end}
+use Rattle.std.proofs.Common.{◌≡◌, arith}
+use Rattle.std.proofs.lemmas.Result.{err_from_is_err_and}
+use Rattle.wkb_view.specs.Words.{Fault}
+use Rattle.wkb_view.proofs.Lists.{freely, part_costs, part_stops}
+use Rattle.wkb_view.proofs.Pieces.{pieces_next, pieces_read}
+use Rattle.wkb_view.proofs.Members.{ends_next, points_end}
 use Rattle.wkb_view.proofs.multi_point.points.Goals as goal
 
 pub overflow_add-counts : goal.overflow_add-counts
-overflow_add-counts c = omega (arith, point_counts _ _ _ _ _ _ _ _ c.loop-test.true c.loop.invariant.so_far, c.requires.fits.turns)
+overflow_add-counts c = omega (arith, (part_costs c.loop-test.true c.loop.invariant.so_far.left).0, c.requires.fits.turns)
 
-pub returns-in-Err-clause-points : goal.returns-in-Err-clause-points
-returns-in-Err-clause-points c =
-    let d = c.args.dimension in
-    let fails = point_fails _ _ _ _ _ c.in-Err.cause _ _ _ c.loop-test.true c.loop.invariant.so_far (member_none (is_point d) (point_body d) c.loop.rest.now c.in-Err.cause c.in-Err.ensures) in
-    (fails.0, record { turns = omega (arith, fails.1); slots = omega (arith, fails.1) })
-
-pub returns-then-not-is_member-clause-points : goal.returns-then-not-is_member-clause-points
-returns-then-not-is_member-clause-points c =
-    let d = c.args.dimension in
-    let fails = point_fails _ _ _ _ _ incorrect_type _ _ _ c.loop-test.true c.loop.invariant.so_far (member_wrong (is_point d) (point_body d) c.loop.rest.now c.in-Ok.header c.in-Ok.ensures c.if-not-is_member.ensures) in
-    (fails.0, record { turns = omega (arith, fails.1); slots = omega (arith, fails.1) })
+pub returns-in_err-rest-clause-points : goal.returns-in_err-rest-clause-points
+returns-in_err-rest-clause-points c =
+    let p = err_from_is_err_and c.from_residual.result c.from_residual.ensures.1 in
+    rw (p.1, p.2) (part_stops (Fault c.in_err-rest.field-0.0) _ c.loop-test.true c.loop.invariant.so_far.left (freely _ _ _ c.in_err-rest.ensures.answer))
 
 pub loop-preserved : goal.loop-preserved
-loop-preserved c = record {
-  so_far = point_turn _ _ _ _ _ _ c.in-Ok.header _ _ _ c.loop-test.true c.requires.long c.loop.invariant.so_far c.in-Ok.ensures c.if-not-is_member.ensures
-      (rw c.width.ensures (take_all _ _ (omega (arith, length-drop (stride c.args.dimension) c.loop.rest.now))));
-}
+loop-preserved c =
+    let so_far = c.loop.invariant.so_far in
+    let gives = freely _ _ _ c.in_ok-rest.ensures.answer in
+    let passed = c.in_ok-rest.ensures.passed in
+    record {
+      so_far = rw (ends_next c.args.layout c.loop.counter c.args.bytes.now c.loop.rest.now _ so_far.rest_is so_far.within passed)
+          (pieces_next _ _ (omega arith) c.loop-test.true so_far gives.0 gives.1 passed);
+    }
 
 pub returns-clause-points : goal.returns-clause-points
 returns-clause-points c =
-    let e = points_end _ _ _ _ _ _ _ _ c.loop-test.false (omega arith) c.loop.invariant.so_far in
-    (e.answer, record { turns = omega (arith, e.turns_are); slots = omega (arith, e.slots_are) })
+    let all : c.loop.counter ≡ c.args.count = omega (arith, c.loop-test.false) in
+    let r = pieces_read c.loop-test.false c.loop.invariant.so_far in
+    (rw all at r.0, r.1)
 
-pub returns-clause-good : goal.returns-clause-good
-returns-clause-good c = (points_end _ _ _ _ _ _ _ _ c.loop-test.false (omega arith) c.loop.invariant.so_far).good
+pub returns-clause-each : goal.returns-clause-each
+returns-clause-each c =
+    let all : c.loop.counter ≡ c.args.count = omega (arith, c.loop-test.false) in
+    rw all at (pieces_read c.loop-test.false c.loop.invariant.so_far).2
+
+pub returns-clause-end : goal.returns-clause-end
+returns-clause-end c =
+    let all : c.loop.counter ≡ c.args.count = omega (arith, c.loop-test.false) in
+    let so_far = c.loop.invariant.so_far in
+    rw all at (points_end c.args.layout c.loop.counter c.args.bytes.now c.loop.rest.now so_far.rest_is so_far.within)

@@ -1,10 +1,12 @@
-use Rattle.wkb_geom.specs.Reading.{repeated, costs}
-use Rattle.wkb_view.specs.MultiPoints.{point_member}
-use Rattle.wkb_view.proofs.PointsRead.{PointsSoFar}
+use Rattle.std.proofs.Common.{◌+◌}
+use Rattle.wkb_view.specs.Words.{body_start, member_at}
+use Rattle.wkb_view.specs.Members.{parts_behind, IsMember, member_item, point_ends}
+use Rattle.wkb_view.proofs.Pieces.{SoFar}
 use Rattle.wkb_view.proofs.multi_point.points.Given as goal
 
 abbrev pub invariant-loop : goal.invariant-loop
 invariant-loop l = record {
-  so_far : PointsSoFar l.dimension l.count l.counter l.bytes l.rest l.counts.turns l.counts.slots
-      (costs (record { turns = l.fn.counts.turns; slots = l.fn.counts.slots }) (repeated l.count (point_member l.dimension) l.bytes));
+  so_far : SoFar 9 (IsMember 1 l.layout.dimension) (member_item 1 l.layout.dimension) (member_at 1 l.layout.dimension) (body_start l.layout.has_srid + 4)
+      l.count l.counter l.bytes (point_ends l.layout l.counter) l.rest l.fn.counts l.counts
+      (parts_behind (member_at 1 l.layout.dimension) l.layout l.count l.bytes);
 }

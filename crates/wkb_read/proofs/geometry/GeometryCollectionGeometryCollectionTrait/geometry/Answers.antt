@@ -1,22 +1,21 @@
-use Rattle.std.proofs.Common.{arith, sym}
-use Rattle.wkb_read.proofs.Parts.{member_in, member_past}
-use Rattle.wkb_read.proofs.Placed.{are_members, member_at, no_member_at}
+use Rattle.wkb_read.proofs.Words.{◌≡◌, Some, None, sym, arith, slice_get}
+use Rattle.std.proofs.lemmas.Option.{slice_get_past, slice_get_read}
+use Rattle.wkb_read.proofs.Parts.{member_seen}
+use Rattle.wkb_read.proofs.Placed.{are_members, is_member_at}
 use Rattle.wkb_read.proofs.geometry.GeometryCollectionGeometryCollectionTrait.geometry.Goals as goal
 
-pub returns-then-i-len-clause-member : goal.returns-then-i-len-clause-member
-returns-then-i-len-clause-member c = rw (← c.self.view_is) (member_in c.self.inside.members.items c.args.i c.index.result.now (omega (arith, c.len.ensures, c.self.inside.members.ok.0)) c.index.ensures)
+pub returns-then-i-len : goal.returns-then-i-len
+returns-then-i-len c =
+    let ms = c.self.inside.members.items in
+    let found : Some c.index.result.now ≡ slice_get ms c.args.i =
+    sym (slice_get_read ms c.len.result c.args.i c.index.result.now (omega (arith, c.len.ensures, c.self.inside.members.ok.0)) c.if-i-len.true
+    c.index.ensures) in
+    let held = are_members c.self.inside.layout ms c.self.inside.buf.now c.self.invariant.0 in
+    rw (← c.self.view_is) (record { member = member_seen ms c.args.i _ found; one = is_member_at _ ms c.args.i _ held found })
 
-pub returns-then-i-len-clause-one : goal.returns-then-i-len-clause-one
-returns-then-i-len-clause-one c =
-    let g = c.self.inside in
-    rw (← c.self.view_is)
-    (member_at _ g.members.items c.args.i c.index.result.now (are_members g.layout g.members.items g.buf.now c.self.invariant.0) (omega (arith, c.len.ensures, g.members.ok.0)) c.index.ensures)
-
-pub returns-else-i-len-clause-member : goal.returns-else-i-len-clause-member
-returns-else-i-len-clause-member c = rw (← c.self.view_is) (sym (member_past c.self.inside.members.items c.args.i (omega (arith, c.len.ensures, c.self.inside.members.ok.0))))
-
-pub returns-else-i-len-clause-one : goal.returns-else-i-len-clause-one
-returns-else-i-len-clause-one c =
-    let g = c.self.inside in
-    rw (← c.self.view_is)
-    (no_member_at _ g.members.items c.args.i (are_members g.layout g.members.items g.buf.now c.self.invariant.0) (omega (arith, c.len.ensures, g.members.ok.0)))
+pub returns-else-i-len : goal.returns-else-i-len
+returns-else-i-len c =
+    let ms = c.self.inside.members.items in
+    let found : None ≡ slice_get ms c.args.i = sym (slice_get_past ms c.args.i (omega (arith, c.len.ensures, c.self.inside.members.ok.0))) in
+    let held = are_members c.self.inside.layout ms c.self.inside.buf.now c.self.invariant.0 in
+    rw (← c.self.view_is) (record { member = member_seen ms c.args.i _ found; one = is_member_at _ ms c.args.i _ held found })

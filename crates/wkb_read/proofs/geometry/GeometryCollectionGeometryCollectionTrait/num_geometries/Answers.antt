@@ -1,6 +1,9 @@
-use Rattle.std.proofs.Common.{arith}
-use Rattle.wkb_read.proofs.Parts.{members_counted}
+use Rattle.wkb_read.proofs.Words.{arith, ap, length, geometry_seen}
+use Rattle.std.proofs.lemmas.List.{length-map}
+use Rattle.wkb_read.proofs.Parts.{members_are}
 use Rattle.wkb_read.proofs.geometry.GeometryCollectionGeometryCollectionTrait.num_geometries.Goals as goal
 
 pub returns : goal.returns
-returns c = rw (← c.self.view_is) (omega (arith, c.len.ensures, c.self.inside.members.ok.0, members_counted c.self.inside.members.items))
+returns c =
+    let ms = c.self.inside.members.items in
+    rw (← c.self.view_is) (omega (arith, c.len.ensures, c.self.inside.members.ok.0, ap length (members_are ms), length-map ms geometry_seen))

@@ -1,102 +1,84 @@
-use Rattle.std.proofs.Common.{◌≡◌, suc, length, reverse, [], ◌∷◌, ap, subst, ◌∙◌, length-append, arith}
-use Rattle.std.proofs.lemmas.List.{reverse-append, length-reverse}
-use Rattle.wkb_geom.specs.Reading.{Item, Cost, Reading, geometry_at}
-use Rattle.wkb_read.specs.Stack.{ArePlaced, first_member, levels_inside}
-use Rattle.wkb_read.proofs.Placed.{part_whole}
-use Rattle.wkb_read.proofs.Stacks.{leads, can_count, at_most_turn, opened_in, part_in, turns_fit, stops_outward, all_read, HaveRoom-less}
+use Rattle.wkb_read.proofs.Words.{◌≡◌, ◌+◌, length, reverse, [], ◌∷◌, refl, ap, ◌∙◌, length-append, reverse-append, length-reverse, arith, Item, Reading, costs}
+use Rattle.wkb_read.proofs.Words.{Counts, counted, next_turn, first_member, outward}
+use Rattle.wkb_read.proofs.Stacks.{Reaches, Finishes, can_begin, at_most_turn, enters, finishes, stops_outward, all_read}
 use Rattle.wkb_read.proofs.read.stack.nested.Goals as goal
+use Rattle.wkb_read.proofs.read.stack.nested.Goals.{After-len, In-Ok-Opened, In-Ok-Whole}
+
+as_many : (c : After-len) → length (reverse c.loop-collection.stack.items) ≡ c.len.result
+as_many c = omega (arith, length-reverse c.loop-collection.stack.items, c.loop-collection.stack.ok.0, c.len.ensures)
+
+-- the first member of a collection that was opened begins, and a turn is counted
+opened : (c : In-Ok-Opened) (after : Counts) → length (reverse c.loop-collection.stack.items) ≡ c.len.result
+    → counted after ≡ next_turn (counted c.begin.new.counts)
+    → Reaches (c.in-Ok-Opened.collection ∷ reverse c.loop-collection.stack.items) c.in-Ok-Opened.rest.now after
+    (costs (counted c.args.counts.now) (first_member 0 c.args.outermost c.args.members.now))
+opened c after around turn =
+    enters c.in-Ok-Opened.collection (reverse c.loop-collection.stack.items) c.in-Ok-Opened.rest c.loop-collection.bytes.now c.loop-collection.counts
+    c.begin.new.counts after _ c.loop-collection.invariant.reaches (rw (c.in-Ok-Opened.field-0-is, ← around) at c.in-Ok-Opened.ensures.begins) turn
+
+-- a whole part was read
+part : (c : In-Ok-Whole) → length (reverse c.loop-collection.stack.items) ≡ c.len.result
+    → Finishes (reverse c.loop-collection.stack.items) c.in-Ok-Whole.part c.in-Ok-Whole.rest.now c.begin.new.counts
+    (costs (counted c.args.counts.now) (first_member 0 c.args.outermost c.args.members.now))
+part c around =
+    finishes c.in-Ok-Whole.part (reverse c.loop-collection.stack.items) c.in-Ok-Whole.rest c.loop-collection.bytes.now c.loop-collection.counts
+    c.begin.new.counts _ c.loop-collection.invariant.reaches (rw (c.in-Ok-Whole.field-0-is, ← around) at c.in-Ok-Whole.ensures.begins)
 
 pub begin-requires : goal.begin-requires
 begin-requires c =
-    let os = reverse c.loop-collection.stack.items in
-    let whole = first_member 0 c.args.outermost c.args.members.now in
-    let around : length os ≡ c.len.result = omega (arith, length-reverse c.loop-collection.stack.items, c.loop-collection.stack.ok.0, c.len.ensures) in
-    record { fits = rw (← around) (can_count os _ whole c.args.counts.now c.loop-collection.counts c.loop-collection.invariant.leads c.requires.fits) }
+    let fits = can_begin _ _ c.args.counts.now c.loop-collection.counts _ c.loop-collection.invariant.reaches c.requires.fits in
+    record { fits = rw (← as_many (goal.at.begin-requires c).After-len) fits }
 
 pub enter-requires-in-Ok-Opened : goal.enter-requires-in-Ok-Opened
 enter-requires-in-Ok-Opened c =
-    let os = reverse c.loop-collection.stack.items in
-    let whole = first_member 0 c.args.outermost c.args.members.now in
-    let around : length os ≡ c.len.result = omega (arith, length-reverse c.loop-collection.stack.items, c.loop-collection.stack.ok.0, c.len.ensures) in
-    let begun = rw c.in-Ok-Opened.field-0-is at c.in-Ok-Opened.ensures.begins in
-    let o = opened_in c.in-Ok-Opened.collection os c.in-Ok-Opened.rest c.loop-collection.bytes.now c.len.result c.args.counts.now c.loop-collection.counts c.begin.new.counts whole
-    around c.loop-collection.invariant.leads c.loop-collection.invariant.room begun in
-    record { fits = omega (arith, ap (λ (x : Reading Item). x.0.turns) o.so_far, c.requires.fits.turns) }
+    let p = goal.at.enter-requires-in-Ok-Opened c in
+    let after : Counts = record { turns = c.begin.new.counts.turns + 1; slots = c.begin.new.counts.slots } in
+    record { fits = omega (arith, ap (λ (s : Reading Item). s.0.turns) (opened p.In-Ok-Opened after (as_many p.After-len) refl).so_far, c.requires.fits.turns) }
 
 pub returns-in-Err-enter : goal.returns-in-Err-enter
 returns-in-Err-enter c =
-    let os = reverse c.loop-collection.stack.items in
-    let whole = first_member 0 c.args.outermost c.args.members.now in
-    let around : length os ≡ c.len.result = omega (arith, length-reverse c.loop-collection.stack.items, c.loop-collection.stack.ok.0, c.len.ensures) in
-    let begun = rw c.in-Ok-Opened.field-0-is at c.in-Ok-Opened.ensures.begins in
-    let o = opened_in c.in-Ok-Opened.collection os c.in-Ok-Opened.rest c.loop-collection.bytes.now c.len.result c.args.counts.now c.loop-collection.counts c.begin.new.counts whole
-    around c.loop-collection.invariant.leads c.loop-collection.invariant.room begun in
-    rw c.in-Err-enter.ensures.stays (at_most_turn _ whole c.args.counts.now c.begin.new.counts o.so_far)
+    let p = goal.at.returns-in-Err-enter c in
+    let after : Counts = record { turns = c.begin.new.counts.turns + 1; slots = c.begin.new.counts.slots } in
+    rw c.in-Err-enter.ensures.stays (at_most_turn _ _ c.args.counts.now c.begin.new.counts after _ (opened p.In-Ok-Opened after (as_many p.After-len) refl)
+    refl)
 
 pub loop-collection-preserved-in-Ok-Opened : goal.loop-collection-preserved-in-Ok-Opened
 loop-collection-preserved-in-Ok-Opened c =
-    let os = reverse c.loop-collection.stack.items in
-    let whole = first_member 0 c.args.outermost c.args.members.now in
-    let around : length os ≡ c.len.result = omega (arith, length-reverse c.loop-collection.stack.items, c.loop-collection.stack.ok.0, c.len.ensures) in
+    let p = goal.at.loop-collection-preserved-in-Ok-Opened c in
+    let items = c.loop-collection.stack.items in
     let begun = rw c.in-Ok-Opened.field-0-is at c.in-Ok-Opened.ensures.begins in
-    let o = opened_in c.in-Ok-Opened.collection os c.in-Ok-Opened.rest c.loop-collection.bytes.now c.len.result c.args.counts.now c.loop-collection.counts c.begin.new.counts whole
-    around c.loop-collection.invariant.leads c.loop-collection.invariant.room begun in
     let entered = c.in_default-enter.ensures.entered in
-    let new : reverse c.enter-in-Ok-Opened.new.stack.items ≡ c.in-Ok-Opened.collection ∷ os = ap reverse entered ∙ reverse-append c.loop-collection.stack.items (c.in-Ok-Opened.collection ∷ []) in
-    let turn = ap (λ (k : Cost). leads k (c.in-Ok-Opened.collection ∷ os) (geometry_at (levels_inside (suc (length os))) c.in-Ok-Opened.rest.now)) c.in_default-enter.ensures.turn in
+    let longer = length-append items (c.in-Ok-Opened.collection ∷ []) in
+    let new : reverse c.enter-in-Ok-Opened.new.stack.items ≡ c.in-Ok-Opened.collection ∷ reverse items =
+    ap reverse entered ∙ reverse-append items (c.in-Ok-Opened.collection ∷ []) in
     record {
-      leads = rw new (turn ∙ o.so_far);
-      room = rw new o.room;
-      placed = rw new (begun.4, rw begun.1 c.loop-collection.invariant.placed);
-      shallow = omega (arith, ap length entered, length-append c.loop-collection.stack.items (c.in-Ok-Opened.collection ∷ []), o.shallow, length-reverse c.loop-collection.stack.items);
+      reaches = rw new (opened p.In-Ok-Opened _ (as_many p.After-len) c.in_default-enter.ensures.turn);
+      shallow = omega (arith, ap length entered, longer, as_many p.After-len, length-reverse items, begun.2);
     }
 
-pub settle-requires-clause-room : goal.settle-requires-clause-room
-settle-requires-clause-room c = HaveRoom-less (reverse c.loop-collection.stack.items) _ _ (rw c.in-Ok-Whole.field-0-is at c.in-Ok-Whole.ensures.begins).1 c.loop-collection.invariant.room
-
-pub settle-requires-clause-placed : goal.settle-requires-clause-placed
-settle-requires-clause-placed c =
-    subst (ArePlaced (reverse c.loop-collection.stack.items))
-    (part_whole c.in-Ok-Whole.part c.in-Ok-Whole.rest c.loop-collection.bytes.now c.len.result c.loop-collection.counts c.begin.new.counts (rw c.in-Ok-Whole.field-0-is at c.in-Ok-Whole.ensures.begins))
-    c.loop-collection.invariant.placed
-
-pub settle-requires-clause-fits : goal.settle-requires-clause-fits
-settle-requires-clause-fits c =
-    let os = reverse c.loop-collection.stack.items in
-    let whole = first_member 0 c.args.outermost c.args.members.now in
-    let around : length os ≡ c.len.result = omega (arith, length-reverse c.loop-collection.stack.items, c.loop-collection.stack.ok.0, c.len.ensures) in
-    let p = part_in c.in-Ok-Whole.part os c.in-Ok-Whole.rest c.loop-collection.bytes.now c.len.result c.args.counts.now c.loop-collection.counts c.begin.new.counts whole
-    around c.loop-collection.invariant.leads (rw c.in-Ok-Whole.field-0-is at c.in-Ok-Whole.ensures.begins) in
-    omega (arith, turns_fit os _ whole c.args.counts.now c.begin.new.counts p, c.requires.fits.turns)
+pub settle-requires : goal.settle-requires
+settle-requires c =
+    let p = goal.at.settle-requires c in
+    let f = part p.In-Ok-Whole (as_many p.After-len) in
+    record { part = f.part; stand = f.stand; fits = omega (arith, ap (λ (s : Reading Item). s.0.turns) f.so_far, c.requires.fits.turns) }
 
 pub returns-in-Some : goal.returns-in-Some
 returns-in-Some c =
-    let os = reverse c.loop-collection.stack.items in
-    let whole = first_member 0 c.args.outermost c.args.members.now in
-    let around : length os ≡ c.len.result = omega (arith, length-reverse c.loop-collection.stack.items, c.loop-collection.stack.ok.0, c.len.ensures) in
-    let p = part_in c.in-Ok-Whole.part os c.in-Ok-Whole.rest c.loop-collection.bytes.now c.len.result c.args.counts.now c.loop-collection.counts c.begin.new.counts whole
-    around c.loop-collection.invariant.leads (rw c.in-Ok-Whole.field-0-is at c.in-Ok-Whole.ensures.begins) in
-    all_read c.in-Some.whole c.in-Ok-Whole.rest.now whole c.args.counts.now c.settle.new.counts (c.in-Some.ensures.1 ∙ p)
+    let p = goal.at.returns-in-Some c in
+    all_read c.in-Some.whole c.in-Ok-Whole.rest.now _ c.args.counts.now c.settle.new.counts
+    (c.in-Some.ensures.1 ∙ (part p.In-Ok-Whole (as_many p.After-len)).so_far)
 
 pub loop-collection-preserved : goal.loop-collection-preserved
 loop-collection-preserved c =
-    let os = reverse c.loop-collection.stack.items in
-    let whole = first_member 0 c.args.outermost c.args.members.now in
-    let around : length os ≡ c.len.result = omega (arith, length-reverse c.loop-collection.stack.items, c.loop-collection.stack.ok.0, c.len.ensures) in
-    let p = part_in c.in-Ok-Whole.part os c.in-Ok-Whole.rest c.loop-collection.bytes.now c.len.result c.args.counts.now c.loop-collection.counts c.begin.new.counts whole
-    around c.loop-collection.invariant.leads (rw c.in-Ok-Whole.field-0-is at c.in-Ok-Whole.ensures.begins) in
+    let p = goal.at.loop-collection-preserved c in
     let after = c.in_default-settle.ensures in
+    let now = length-reverse c.settle.new.stack.items in
     record {
-      leads = after.0 ∙ p;
-      room = after.1;
-      placed = after.4;
-      shallow = omega (arith, after.2, length-reverse c.settle.new.stack.items, length-reverse c.loop-collection.stack.items, c.loop-collection.invariant.shallow);
+      reaches = record { so_far = after.0 ∙ (part p.In-Ok-Whole (as_many p.After-len)).so_far; stand = after.1 };
+      shallow = omega (arith, after.2, now, length-reverse c.loop-collection.stack.items, c.loop-collection.invariant.shallow);
     }
 
 pub returns-in-Err-begin : goal.returns-in-Err-begin
 returns-in-Err-begin c =
-    let os = reverse c.loop-collection.stack.items in
-    let whole = first_member 0 c.args.outermost c.args.members.now in
-    let around : length os ≡ c.len.result = omega (arith, length-reverse c.loop-collection.stack.items, c.loop-collection.stack.ok.0, c.len.ensures) in
-    stops_outward c.in-Err-begin.refusal os (geometry_at (levels_inside (length os)) c.loop-collection.bytes.now) whole c.args.counts.now c.loop-collection.counts c.begin.new.counts
-    c.loop-collection.invariant.leads (rw around c.in-Err-begin.ensures.begins)
+    stops_outward c.in-Err-begin.refusal _ (outward (reverse c.loop-collection.stack.items)) _ c.args.counts.now c.loop-collection.counts c.begin.new.counts
+    c.loop-collection.invariant.reaches.so_far (rw (as_many (goal.at.returns-in-Err-begin c).After-len) c.in-Err-begin.ensures.begins)

@@ -1,16 +1,14 @@
-use Rattle.std.proofs.Common.{Ok, Err, arith}
-use Rattle.wkb_geom.specs.declared.common.Endianness.{Endianness}
-use Rattle.wkb_geom.specs.declared.common.Endianness.TheVariants.{LittleEndian}
-use Rattle.wkb_read.specs.Public.{IsRefusal, TellsEach, HasNoFront, CountsRefusal}
-use Rattle.wkb_read.specs.Seen.{seen_as_it_is}
+use Rattle.wkb_read.proofs.Words.{Ok, Err, arith, Endianness, LittleEndian, IsRefusal, TellsEach, HasNoFront, CountsRefusal, seen_as_it_is}
+use Rattle.wkb_laws.proofs.GeometryAt.{reading_is_bounded_lem}
+use Rattle.wkb_laws.proofs.Lengths.{front_is_writable_lem}
 use Rattle.wkb_read.proofs.NoMemory.{without_memory}
-use Rattle.wkb_read.proofs.Public.{bounded, count_bounded, is_read, only_front, lawful_of, if_told, is_refusal, tells_each, has_no_front, counts_refusal, memory_counted, is_not_memory}
+use Rattle.wkb_read.proofs.Public.{count_bounded, is_read, if_told, memory_counted, is_not_memory}
 use Rattle.wkb_read.proofs.read.stack.read_wkb_counted.Goals as goal
 
 pub geometry-requires : goal.geometry-requires
 geometry-requires c =
-    let b = bounded c.args.buf.now in
-    record { fits = record { turns = omega (arith, b.turns); slots = omega (arith, b.slots) } }
+    let b = reading_is_bounded_lem c.args.buf.now in
+    record { fits = record { turns = omega (arith, b.0); slots = omega (arith, b.1) } }
 
 pub returns-in-Ok : goal.returns-in-Ok
 returns-in-Ok c =
@@ -18,15 +16,16 @@ returns-in-Ok c =
     let w = c.in-Ok.whole in
     let new = c.geometry.new.counts in
     let r = is_read buf w new c.in-Ok.ensures.reads in
-    let lawful = λ (order : Endianness). lawful_of buf w order (λ i. (c.type_inv.buf i).fits) (omega arith) r.front in
+    let lawful = λ (order : Endianness). front_is_writable_lem order buf w.spelled w.value r.front.rest (λ i. (c.type_inv.buf i).fits) (omega arith)
+    r.front.front in
     let bound = count_bounded buf (Ok w) new c.in-Ok.ensures.reads in
     record {
       front = r.front;
-      one_front = only_front buf w r.front;
-      lawful = (lawful LittleEndian).geometry;
-      seen = seen_as_it_is w (lawful LittleEndian).geometry;
-      normal = (lawful LittleEndian).normal_is;
-      writable = λ order. (lawful order).writable;
+      one_front = r.one_front;
+      lawful = (lawful LittleEndian).0;
+      seen = seen_as_it_is w (lawful LittleEndian).0;
+      normal = (lawful LittleEndian).1;
+      writable = λ order. (lawful order).2;
       refusal = tt;
       one_cause = tt;
       no_front = tt;
@@ -34,8 +33,8 @@ returns-in-Ok c =
       counts = r.counts;
       refusal_counts = tt;
       memory_counts = tt;
-      turns_bounded = bound.turns;
-      slots_bounded = bound.slots;
+      turns_bounded = bound.0;
+      slots_bounded = bound.1;
     }
 
 pub returns-in-Err : goal.returns-in-Err
@@ -53,13 +52,13 @@ returns-in-Err c =
       seen = tt;
       normal = tt;
       writable = tt;
-      refusal = if_told (IsRefusal buf) buf e refusal new stops c.into.ensures (is_refusal buf e new);
-      one_cause = if_told (TellsEach buf) buf e refusal new stops c.into.ensures (tells_each buf e new);
-      no_front = if_told (λ e. HasNoFront buf) buf e refusal new stops c.into.ensures (has_no_front buf e new);
-      no_memory = λ none. is_not_memory e refusal c.into.ensures (c.in-Err.ensures.free (without_memory buf none));
+      refusal = if_told (IsRefusal buf) buf e refusal new stops c.into.ensures (λ t. t.refusal);
+      one_cause = if_told (TellsEach buf) buf e refusal new stops c.into.ensures (λ t. t.one_cause);
+      no_front = if_told (λ e. HasNoFront buf) buf e refusal new stops c.into.ensures (λ t. t.no_front);
+      no_memory = λ none. is_not_memory e refusal c.into.ensures (c.in-Err.ensures.no_memory (without_memory buf none));
       counts = tt;
-      refusal_counts = if_told (λ e. CountsRefusal buf new) buf e refusal new stops c.into.ensures (counts_refusal buf e new);
+      refusal_counts = if_told (λ e. CountsRefusal buf new) buf e refusal new stops c.into.ensures (λ t. t.counts);
       memory_counts = memory_counted buf e refusal new stops;
-      turns_bounded = bound.turns;
-      slots_bounded = bound.slots;
+      turns_bounded = bound.0;
+      slots_bounded = bound.1;
     }

@@ -1,90 +1,76 @@
-use Rattle.std.proofs.Common.{◌≡◌, ◌+◌, ◌-◌, List, ◌∷◌, [], ◌++◌, length, length-append, reverse, refl, sym, ap, subst, ◌∙◌, arith, vec_len, slice_set}
-use Rattle.std.proofs.lemmas.List.{length-reverse}
-use Rattle.std.specs.List.{AllByRecursion}
-use Rattle.wkb_geom.specs.Reading.{Item}
-use Rattle.wkb_view.specs.Parts.{IsSpelled}
-use Rattle.wkb_view.proofs.Members.{all_more}
-use Rattle.wkb_read.specs.declared.read.unfinished.Open.{Open}
-use Rattle.wkb_read.specs.Placed.{texts}
-use Rattle.wkb_read.specs.Stack.{counted, HaveRoom, ArePlaced}
-use Rattle.wkb_read.proofs.LastItem.{top, popped}
-use Rattle.wkb_read.proofs.Placed.{one_more, closed}
-use Rattle.wkb_read.proofs.Stacks.{goes_on, closes, turn_counts, next_fits, closed_fits}
+use Rattle.wkb_read.proofs.Words.{◌≡◌, ◌<◌, ◌+◌, ◌-◌, ℕ, ◌∷◌, [], ◌++◌, length, reverse, length-append, length-reverse, refl, sym, ap, ◌∙◌, arith, vec_len}
+use Rattle.wkb_read.proofs.Words.{List, slice_set, Item, Reading, costs, Open, counted, outward}
+use Rattle.wkb_read.proofs.LastItem.{Top, top, popped}
+use Rattle.wkb_read.proofs.Stacks.{Reaches, Finishes, Completes, next_begins, completes}
 use Rattle.wkb_read.proofs.read.stack.settle.Goals as goal
+use Rattle.wkb_read.proofs.read.stack.settle.Goals.{After-push}
+
+on_top : (c : After-push) → Top c.loop-top.stack.items (vec_len c.loop-top.stack - 1) c.in-Some.top.now
+on_top c =
+    top c.loop-top.stack.items (vec_len c.loop-top.stack - 1) c.in-Some.top.now (omega (arith, c.in-Some.ensures.variant.0 refl, c.loop-top.stack.ok))
+    c.in-Some.ensures.value
+
+-- the top with the finished part, and so many members that come behind
+abbrev filled : After-push → ℕ → Open
+filled c left = record { layout = c.in-Some.top.now.layout; bytes = c.in-Some.top.now.bytes; left = left; members = c.push.new.self }
+
+abbrev full : After-push → Open
+full c = filled c c.in-Some.top.now.left
+
+abbrev whole : After-push → Reading Item
+whole c = costs (counted c.args.counts.now) (outward (reverse c.args.stack.now.items) c.args.part c.args.rest.now)
+
+finishes : (c : After-push) → Finishes (c.in-Some.top.now ∷ (on_top c).below) c.loop-top.finished c.args.rest.now c.loop-top.counts (whole c)
+finishes c = rw (on_top c).is at c.loop-top.invariant.finishes
+
+begins : (c : After-push) → 0 < c.in-Some.top.now.left
+    → Reaches (filled c (c.in-Some.top.now.left - 1) ∷ (on_top c).below) c.args.rest.now
+    (record { turns = c.loop-top.counts.turns + 1; slots = c.loop-top.counts.slots }) (whole c)
+begins c more =
+    let o = c.in-Some.top.now in
+    next_begins o (filled c (o.left - 1)) (on_top c).below c.loop-top.finished c.args.rest.now c.loop-top.counts _ (whole c)
+    (record { left = omega (arith, more); layout = refl; bytes = refl; items = c.push.ensures.items; capacity = c.push.ensures.capacity }) (finishes c) refl
 
 pub overflow_add-counts : goal.overflow_add-counts
 overflow_add-counts c =
-    let o = c.in-Some.top.now in
-    let n = vec_len c.loop-top.stack - 1 in
-    let t = top c.loop-top.stack.items n o (omega (arith, c.in-Some.ensures.variant.0 refl, c.loop-top.stack.ok)) c.in-Some.ensures.value in
-    let next : Open = record { layout = o.layout; bytes = o.bytes; left = o.left - 1; members = c.push.new.self } in
-    let leads = goes_on o next t.below c.loop-top.finished c.args.rest.now (counted c.loop-top.counts) c.if-top-gt0.true refl refl refl c.push.ensures.items ∙ (rw t.is at c.loop-top.invariant.leads) in
-    omega (arith, turn_counts o next t.below c.loop-top.finished c.args.rest.now (counted c.loop-top.counts) _ leads, c.requires.fits)
+    omega (arith, ap (λ (s : Reading Item). s.0.turns) (begins (goal.at.overflow_add-counts c).After-push c.if-top-gt0.true).so_far, c.requires.fits)
 
 pub returns-then-top-gt0 : goal.returns-then-top-gt0
 returns-then-top-gt0 c =
-    let o = c.in-Some.top.now in
-    let n = vec_len c.loop-top.stack - 1 in
-    let t = top c.loop-top.stack.items n o (omega (arith, c.in-Some.ensures.variant.0 refl, c.loop-top.stack.ok)) c.in-Some.ensures.value in
-    let next : Open = record { layout = o.layout; bytes = o.bytes; left = o.left - 1; members = c.push.new.self } in
-    let leads = goes_on o next t.below c.loop-top.finished c.args.rest.now (counted c.loop-top.counts) c.if-top-gt0.true refl refl refl c.push.ensures.items ∙ (rw t.is at c.loop-top.invariant.leads) in
-    let new : reverse (slice_set c.loop-top.stack.items n next) ≡ next ∷ t.below = t.set_is next in
-    let room : HaveRoom (o ∷ t.below) (length c.args.rest.now + 9) = rw t.is at c.loop-top.invariant.room in
-    let placed : ArePlaced (o ∷ t.below) (c.loop-top.finished.text ++ c.args.rest.now) = rw t.is at c.loop-top.invariant.placed in
-    rw new (
-      leads,
-      next_fits o next t.below (length c.args.rest.now) c.loop-top.finished room c.if-top-gt0.true refl refl refl c.push.ensures.items c.push.ensures.capacity,
-      omega (arith, t.count, length-reverse c.args.stack.now.items, c.loop-top.invariant.fewer),
-      omega (arith, t.count, length-reverse c.args.stack.now.items, c.loop-top.invariant.fewer),
-      (
-        record {
-          head = placed.0.head;
-          count = placed.0.count ∙ omega (arith, ap length c.push.ensures.items, length-append o.members.items.items (c.loop-top.finished ∷ []));
-          behind = placed.0.behind ∙ sym (one_more o.members.items.items c.loop-top.finished c.args.rest.now) ∙ ap (λ (ms : List Item). texts ms ++ c.args.rest.now) (sym c.push.ensures.items);
-          each = subst (AllByRecursion IsSpelled) (sym c.push.ensures.items) (all_more _ _ _ placed.0.each c.loop-top.invariant.spells);
-        },
-        placed.1,
-      ),
-    )
+    let p = (goal.at.returns-then-top-gt0 c).After-push in
+    let r = begins p c.if-top-gt0.true in
+    let t = on_top p in
+    let lengths = length-reverse c.args.stack.now.items in
+    rw (t.set_is _) (r.so_far, r.stand, omega (arith, t.count, lengths, c.loop-top.invariant.fewer))
+
+-- what is taken off is the top, now with all its members
+taken_off : (c : After-push) (ys : List Open) (z : Open) → slice_set c.loop-top.stack.items (vec_len c.loop-top.stack - 1) (full c) ≡ ys ++ z ∷ []
+    → (full c ≡ z) × ((on_top c).below ≡ reverse ys)
+taken_off c ys z e = popped c.loop-top.stack.items ys (vec_len c.loop-top.stack - 1) c.in-Some.top.now (full c) z (on_top c) e
+
+all_in : (c : After-push) (z : Open) (members : List Item) → full c ≡ z → members ≡ z.members.items.items → c.in-Some.top.now.left ≡ 0
+    → Completes c.in-Some.top.now (on_top c).below members c.args.rest.now c.loop-top.counts (whole c)
+all_in c z members same is none =
+    completes c.in-Some.top.now (on_top c).below c.loop-top.finished members c.args.rest.now c.loop-top.counts (whole c) none
+    (is ∙ ap (λ (o : Open). o.members.items.items) (sym same) ∙ c.push.ensures.items) (finishes c)
 
 pub slice_bounds-finished-count : goal.slice_bounds-finished-count
 slice_bounds-finished-count c =
-    let o = c.in-Some.top.now in
-    let n = vec_len c.loop-top.stack - 1 in
-    let t = top c.loop-top.stack.items n o (omega (arith, c.in-Some.ensures.variant.0 refl, c.loop-top.stack.ok)) c.in-Some.ensures.value in
-    let filled : Open = record { layout = o.layout; bytes = o.bytes; left = o.left; members = c.push.new.self } in
-    let same = popped c.loop-top.stack.items c.pop.new.self.items n o filled c.in-Some-pop.collection t c.in-Some-pop.ensures.items in
-    let room : HaveRoom (o ∷ t.below) (length c.args.rest.now + 9) = rw t.is at c.loop-top.invariant.room in
-    rw (sym same.0) (omega (arith, room.0.within))
+    let p = (goal.at.slice_bounds-finished-count c).After-push in
+    rw (sym (taken_off p _ _ c.in-Some-pop.ensures.items).0)
+    (omega (arith, (finishes p).stand.0.within, length-append c.loop-top.finished.text c.args.rest.now))
 
 pub invariant_of-finished : goal.invariant_of-finished
 invariant_of-finished c =
-    let o = c.in-Some.top.now in
-    let n = vec_len c.loop-top.stack - 1 in
-    let t = top c.loop-top.stack.items n o (omega (arith, c.in-Some.ensures.variant.0 refl, c.loop-top.stack.ok)) c.in-Some.ensures.value in
-    let filled : Open = record { layout = o.layout; bytes = o.bytes; left = o.left; members = c.push.new.self } in
-    let same = popped c.loop-top.stack.items c.pop.new.self.items n o filled c.in-Some-pop.collection t c.in-Some-pop.ensures.items in
-    let room : HaveRoom (o ∷ t.below) (length c.args.rest.now + 9) = rw t.is at c.loop-top.invariant.room in
-    let placed : ArePlaced (o ∷ t.below) (c.loop-top.finished.text ++ c.args.rest.now) = rw t.is at c.loop-top.invariant.placed in
-    let items_are : c.into_vec.result.items ≡ o.members.items.items ++ c.loop-top.finished ∷ [] = c.into_vec.ensures ∙ ap (λ (z : Open). z.members.items.items) (sym same.0) ∙ c.push.ensures.items in
-    let whole = closed o t.below c.loop-top.finished c.args.rest.now (omega arith) room placed c.loop-top.invariant.spells in
-    rw (sym same.0, items_are) whole.collection
+    let p = (goal.at.invariant_of-finished c).After-push in
+    let same = (taken_off p _ _ c.in-Some-pop.ensures.items).0 in
+    rw (sym same) (all_in p _ _ same c.into_vec.ensures (omega (arith, c.if-top-gt0.false))).collection
 
 pub loop-top-preserved : goal.loop-top-preserved
 loop-top-preserved c =
-    let o = c.in-Some.top.now in
-    let n = vec_len c.loop-top.stack - 1 in
-    let t = top c.loop-top.stack.items n o (omega (arith, c.in-Some.ensures.variant.0 refl, c.loop-top.stack.ok)) c.in-Some.ensures.value in
-    let filled : Open = record { layout = o.layout; bytes = o.bytes; left = o.left; members = c.push.new.self } in
-    let same = popped c.loop-top.stack.items c.pop.new.self.items n o filled c.in-Some-pop.collection t c.in-Some-pop.ensures.items in
-    let room : HaveRoom (o ∷ t.below) (length c.args.rest.now + 9) = rw t.is at c.loop-top.invariant.room in
-    let placed : ArePlaced (o ∷ t.below) (c.loop-top.finished.text ++ c.args.rest.now) = rw t.is at c.loop-top.invariant.placed in
-    let items_are : c.into_vec.result.items ≡ o.members.items.items ++ c.loop-top.finished ∷ [] = c.into_vec.ensures ∙ ap (λ (z : Open). z.members.items.items) (sym same.0) ∙ c.push.ensures.items in
-    let whole = closed o t.below c.loop-top.finished c.args.rest.now (omega arith) room placed c.loop-top.invariant.spells in
-    rw (sym same.0, sym same.1) (record {
-      leads = closes o t.below c.loop-top.finished c.args.rest.now (counted c.loop-top.counts) c.into_vec.result.items (omega arith) items_are ∙ (rw t.is at c.loop-top.invariant.leads);
-      room = closed_fits o t.below (length c.args.rest.now) room;
-      spells = rw items_are whole.collection.1;
-      placed = subst (ArePlaced t.below) whole.whole placed.1;
-      fewer = omega (arith, c.loop-top.invariant.fewer, length-reverse c.pop.new.self.items, ap length same.1, t.count);
+    let p = (goal.at.loop-top-preserved c).After-push in
+    let off = taken_off p _ _ c.in-Some-pop.ensures.items in
+    rw (sym off.0, sym off.1) (record {
+      finishes = (all_in p _ _ off.0 c.into_vec.ensures (omega (arith, c.if-top-gt0.false))).finishes;
+      fewer = omega (arith, c.loop-top.invariant.fewer, length-reverse c.pop.new.self.items, ap length off.1, (on_top p).count);
     })

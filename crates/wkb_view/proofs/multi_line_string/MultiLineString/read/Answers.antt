@@ -1,36 +1,34 @@
-use Rattle.std.proofs.Common.{ap, ◌∙◌, refl, arith}
-use Rattle.wkb_geom.specs.declared.error.Refusal.TheVariants.{Fault}
-use Rattle.wkb_geom.specs.Reading.{Item, Reading}
-use Rattle.wkb_view.proofs.CountedLists.{list_read, list_stops, list_fits}
-use Rattle.wkb_view.proofs.LineStrings.{lines_are_list}
+use Rattle.std.proofs.Common.{◌-◌, length, length-take, arith}
+use Rattle.wkb_view.specs.Words.{Fault}
+use Rattle.wkb_view.proofs.Lists.{lines_here, list_fits, list_reads, list_stops}
 use Rattle.wkb_view.proofs.SpelledRead.{body_spelled}
 use Rattle.wkb_view.proofs.multi_line_string.MultiLineString.read.Goals as goal
 
 pub lines-requires-clause-fits : goal.lines-requires-clause-fits
 lines-requires-clause-fits c =
-    let l = c.args.layout in
-    list_fits 5 l.order l.has_srid _ _ c.args.bytes.now _ _ c.args.counts.now c.reserve.new.counts c.in-Ok.ensures.whole c.in-Ok.ensures.counted refl
-    c.reserve.ensures.turns (rw c.body_start.ensures at c.reserve.ensures.slots) (rw (lines_are_list l.order l.dimension l.has_srid c.args.bytes.now) at c.requires.fits)
+    list_fits
+    (lines_here c.args.layout c.args.bytes.now _ c.args.counts.now c.reserve.new.counts c.in-Ok.ensures.whole c.in-Ok.ensures.counted c.reserve.ensures.turns
+    (rw c.body_start.ensures at c.reserve.ensures.slots)) c.requires.fits
 
 pub returns-in-Ok-lines-clause-answer : goal.returns-in-Ok-lines-clause-answer
 returns-in-Ok-lines-clause-answer c =
-    let l = c.args.layout in
     let e = c.in-Ok-lines.ensures.lines in
-    let slots = rw c.body_start.ensures at c.reserve.ensures.slots in
-    let p = list_read 5 l.order l.has_srid _ _ c.args.bytes.now _ _ _ _ c.in-Ok.ensures.whole c.in-Ok.ensures.counted refl e.0 in
-    rw (c.into_vec.ensures, lines_are_list l.order l.dimension l.has_srid c.args.bytes.now)
-    (p.answer, record { turns = omega (arith, e.1, p.turns_are, c.reserve.ensures.turns); slots = omega (arith, e.1, p.slots_are, slots) })
+    rw c.into_vec.ensures (list_reads _ _ _
+    (lines_here c.args.layout c.args.bytes.now _ c.args.counts.now c.reserve.new.counts c.in-Ok.ensures.whole c.in-Ok.ensures.counted c.reserve.ensures.turns
+    (rw c.body_start.ensures at c.reserve.ensures.slots)) e.0 e.1)
 
 pub returns-in-Err-lines-clause-answer : goal.returns-in-Err-lines-clause-answer
 returns-in-Err-lines-clause-answer c =
-    let l = c.args.layout in
-    rw (lines_are_list l.order l.dimension l.has_srid c.args.bytes.now)
-    (list_stops (Fault c.in-Err-lines.cause) 5 l.order l.has_srid _ _ c.args.bytes.now _ _ c.args.counts.now c.reserve.new.counts c.lines.new.counts c.in-Ok.ensures.whole c.in-Ok.ensures.counted refl
-    c.reserve.ensures.turns (rw c.body_start.ensures at c.reserve.ensures.slots) c.in-Err-lines.ensures.lines)
+    list_stops (Fault c.in-Err-lines.cause) _
+    (lines_here c.args.layout c.args.bytes.now _ c.args.counts.now c.reserve.new.counts c.in-Ok.ensures.whole c.in-Ok.ensures.counted c.reserve.ensures.turns
+    (rw c.body_start.ensures at c.reserve.ensures.slots)) c.in-Err-lines.ensures.lines
 
 pub invariant_of-multi_line_string : goal.invariant_of-multi_line_string
 invariant_of-multi_line_string c =
-    let l = c.args.layout in
+    let bytes = c.args.bytes.now in
     let e = c.in-Ok-lines.ensures in
-    let p = list_read 5 l.order l.has_srid _ _ c.args.bytes.now _ _ _ _ c.in-Ok.ensures.whole c.in-Ok.ensures.counted refl e.lines.0 in
-    rw c.into_vec.ensures (e.ends, body_spelled c.args.bytes.now _ _ _ c.requires.head (ap (λ (r : Reading Item). r.1) (lines_are_list l.order l.dimension l.has_srid c.args.bytes.now) ∙ p.answer))
+    let read = list_reads _ _ _
+    (lines_here c.args.layout c.args.bytes.now _ c.args.counts.now c.reserve.new.counts c.in-Ok.ensures.whole c.in-Ok.ensures.counted c.reserve.ensures.turns
+    (rw c.body_start.ensures at c.reserve.ensures.slots)) e.lines.0 e.lines.1 in
+    rw c.into_vec.ensures
+    (omega (arith, e.shorter, length-take (length bytes - length c.in-Ok-lines.rest.now) bytes), e.ends, body_spelled bytes _ _ _ c.requires.head read.0)

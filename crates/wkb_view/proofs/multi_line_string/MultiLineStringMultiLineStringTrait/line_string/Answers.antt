@@ -1,4 +1,4 @@
-use Rattle.wkb_geom.specs.Reading.{line_of}
+use Rattle.wkb_geom.specs.Reading.{line_string_of}
 use Rattle.wkb_view.specs.declared.line_string.LineString.{LineString}
 use Rattle.wkb_view.specs.Views.{line_string_seen}
 use Rattle.wkb_view.specs.Fitted.{lawful_at}
@@ -8,4 +8,6 @@ use Rattle.wkb_view.proofs.multi_line_string.MultiLineStringMultiLineStringTrait
 pub returns-clause-value : goal.returns-clause-value
 returns-clause-value c =
     let m = c.args.self.now in
-    lawful_at (λ (l : LineString). line_of (line_string_seen l).value) (λ (l : LineString). l.layout.dimension) m.dimension c.member.result m.parts c.args.i (λ (l : LineString). line_lawful l.layout.order l.layout.dimension l.layout.has_srid l.buf.now l.in_range) c.member.ensures.dimension c.member.ensures.value
+    lawful_at (λ (l : LineString). line_string_of (line_string_seen l).value) (λ (l : LineString). l.layout.dimension) m.dimension c.member.result m.parts
+    c.args.i
+    (λ (l : LineString). line_lawful l.layout l.buf.now l.in_range) c.member.ensures.dimension c.member.ensures.value

@@ -1,0 +1,82 @@
+-- Words and coordinates at their offsets.
+use Rattle.std.proofs.Common.{◌≡◌, ℕ, zero, suc, ◌+◌, ◌-◌, ◌*◌, ◌≤◌, ◌<◌, List, length, take, drop, Some, refl, sym, ap, ◌∙◌}
+use Rattle.std.proofs.Common.{get_or, arith, Bool, true, false}
+use Rattle.std.specs.Prelude.{slice_get, is_none}
+use Rattle.std.proofs.lemmas.List.{drop-drop, drop-take}
+use Rattle.std.proofs.lemmas.Option.{get_or_from_slice_get}
+use Rattle.std.proofs.Math.Nat.{mul-le-mul_left, mul-le-mul_right, mul-add}
+use Rattle.wkb_geom.specs.Spellings.{header}
+use Rattle.wkb_geom.specs.Reading.{point_words_in}
+use Rattle.wkb_view.specs.Words.{Endianness, Dimension, Xy, Xyz, Xym, Xyzm, number, width, number-take, length-items, items, coordinate, coordinates}
+use Rattle.wkb_view.specs.Words.{ring_in, Layout, is_nan, all_nan, point_of, point_item, point_item_of, srid_in}
+
+pub items_at : {A : Type 0} (size : ℕ) (item : List ℕ → A) (n i : ℕ) (xs : List ℕ) → i < n
+    → slice_get (items size item n xs) i ≡ Some (item (drop (size * i) xs))
+items_at size item zero i xs h = absurd (omega arith)
+items_at size item (suc n) zero xs h = let z : 0 ≡ size * 0 = omega arith in ap (λ (k : ℕ). Some (item (drop k xs))) z
+items_at size item (suc n) (suc i) xs h =
+    items_at size item n i (drop size xs) (omega arith)
+    ∙ ap (λ (t : List ℕ). Some (item t)) (drop-drop (size * i) size xs ∙ ap (λ (k : ℕ). drop k xs) (omega arith))
+
+pub word_at : (e : Endianness) (n i : ℕ) (xs : List ℕ) → i < n → get_or (items 8 (number e 8) n xs) i 0 ≡ number e 8 (drop (8 * i) xs)
+word_at e n i xs h = get_or_from_slice_get (items 8 (number e 8) n xs) i (number e 8 (drop (8 * i) xs)) 0 (items_at 8 (number e 8) n i xs h)
+
+-- a word that was tested
+pub word_is : (e : Endianness) (d : Dimension) (n w : ℕ) (xs : List ℕ) (b : Bool) → n < width d → w ≡ number e 8 (drop (8 * n) xs) → b ≡ is_nan w
+    → is_nan (get_or (coordinate e d xs) n 0) ≡ b
+word_is e d n w xs b lt w-is b-is = ap (λ (v : ℕ). is_nan v) (word_at e (width d) n xs lt ∙ sym w-is) ∙ sym b-is
+
+-- words read no byte past their end
+pub words-take : (e : Endianness) (n m : ℕ) (xs : List ℕ) → 8 * n ≤ m → items 8 (number e 8) n (take m xs) ≡ items 8 (number e 8) n xs
+words-take e zero m xs h = refl
+words-take e (suc n) m xs h =
+    let k : m ≡ 8 + (m - 8) = omega arith in
+    let inner : drop 8 (take m xs) ≡ take (m - 8) (drop 8 xs) = ap (λ (j : ℕ). drop 8 (take j xs)) k ∙ drop-take 8 (m - 8) xs in
+    rw (number-take e 8 m xs (omega arith), inner, words-take e n (m - 8) (drop 8 xs) (omega arith)) refl
+
+-- the coordinate between two offsets
+pub coordinate_between : (e : Endianness) (d : Dimension) (n i start : ℕ) (text : List ℕ) → i < n
+    → Some (coordinate e d (take (8 * width d) (drop (start + 8 * width d * i) text))) ≡ slice_get (coordinates e d n (drop start text)) i
+coordinate_between e d n i start text h =
+    ap (λ (ws : List ℕ). Some ws) (words-take e (width d) (8 * width d) (drop (start + 8 * width d * i) text) (omega arith)
+    ∙ ap (λ (t : List ℕ). coordinate e d t) (sym (drop-drop (8 * width d * i) start text)))
+    ∙ sym (items_at (8 * width d) (coordinate e d) n i (drop start text) h)
+
+pub ring_counted : (e : Endianness) (d : Dimension) (text : List ℕ) → length (ring_in e d text) ≡ number e 4 text
+ring_counted e d text = length-items (8 * width d) (coordinate e d) (number e 4 text) (drop 4 text)
+
+pub width-within : (d : Dimension) → (2 ≤ width d) × (width d ≤ 4)
+width-within Xy = (omega arith, omega arith)
+width-within Xyz = (omega arith, omega arith)
+width-within Xym = (omega arith, omega arith)
+width-within Xyzm = (omega arith, omega arith)
+
+pub few_words : (d : Dimension) (i : ℕ) → 8 * width d * i ≤ 32 * i
+few_words d i = mul-le-mul_right i (omega (arith, (width-within d).1))
+
+pub few_bytes : (d : Dimension) (i : ℕ) → (5 + 8 * width d) * i ≤ 37 * i
+few_bytes d i = mul-le-mul_right i (omega (arith, (width-within d).1))
+
+-- an item below the count ends where all do, or before
+pub next_within : (size i n : ℕ) → i < n → size * i + size ≤ size * n
+next_within size i n lt = let b : size * (i + 1) ≤ size * n = mul-le-mul_left size (omega arith) in omega (arith, b, mul-add size i 1)
+
+-- ---- points that are empty, and those that are not
+
+empty_by : (l : Layout) (text ws : List ℕ) (b : Bool) → is_none (point_of (point_item_of l text ws b).value) ≡ b
+empty_by l text ws true = refl
+empty_by l text ws false = refl
+
+pub empty_is : (l : Layout) (text : List ℕ) → is_none (point_of (point_item l text).value) ≡ all_nan (point_words_in l text)
+empty_is l text = empty_by l text _ _
+
+srid_by : (l : Layout) (text ws : List ℕ) (b : Bool) → (header (point_item_of l text ws b).spelled).srid ≡ srid_in l.order l.has_srid text
+srid_by l text ws true = refl
+srid_by l text ws false = refl
+
+pub srid_is : (l : Layout) (text : List ℕ) → (header (point_item l text).spelled).srid ≡ srid_in l.order l.has_srid text
+srid_is l text = srid_by l text _ _
+
+pub coordinate_is : (l : Layout) (text : List ℕ) (b : Bool) → b ≡ all_nan (point_words_in l text)
+    → point_of (point_item_of l text (point_words_in l text) b).value ≡ point_of (point_item l text).value
+coordinate_is l text b h = ap (λ (c : Bool). point_of (point_item_of l text (point_words_in l text) c).value) h
