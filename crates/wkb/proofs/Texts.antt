@@ -2,7 +2,7 @@
 use Rattle.std.proofs.Common.{◌≡◌, ◌≢◌, ℕ, ◌<◌, ◌≤◌, ◌^◌, List, length, Option, Some, None, Err, ◌⊎◌, inl, inr, refl, sym, ◌∙◌, subst, arith}
 use Rattle.std.proofs.lemmas.Bool.Decides.{nat_tests}
 use Rattle.std.specs.Bool.{Decides}
-use Rattle.std.specs.Prelude.{nat_lt, true, false, if◌then◌else◌, Bool, MatchBool, bytes_eq, Result, Ok, IfErr, MatchResult}
+use Rattle.std.specs.Prelude.{nat_lt, true, false, if◌then◌else◌, Bool, MatchBool, bytes_eq, Result, Ok, IfErr, IsErrAnd, MatchResult}
 use Rattle.std.proofs.lemmas.Slice.Eq.{bytes_eq-Decides}
 use Rattle.wkb_geom.specs.declared.common.Endianness.{Endianness}
 use Rattle.wkb_geom.specs.declared.common.Form.{Form}
@@ -15,9 +15,13 @@ use Rattle.wkb_geom.specs.Geometries.{Geometry, geometry_of}
 use Rattle.wkb_geom.specs.Numbers.{AreBytes}
 use Rattle.wkb_geom.specs.Reading.{Item}
 use Rattle.wkb_geom.specs.Spellings.{header}
-use Rattle.wkb_geom.specs.Texts.{Fault, unsupported_dimensions, count_overflow, size_overflow, text, fault, refusal, or_else, size_fault, IsWritable, IsRewriting, IsRewritingWithSrid}
+use Rattle.wkb_geom.specs.Texts.{Fault, unsupported_dimensions, count_overflow, size_overflow, text, fault, refusal, or_else, size_fault, IsWritable}
+use Rattle.wkb_geom.specs.Texts.{IsRewriting, IsRewritingWithSrid}
 use Rattle.wkb_laws.proofs.Rewritings.{equal_texts_lem}
+use Rattle.wkb_measure.specs.declared.fault.Fault.{Fault as Found}
+use Rattle.wkb_measure.specs.Faults.{meaning}
 use Rattle.wkb_measure.specs.Measures.{Reports}
+use Rattle.wkb_write.specs.Answers.{IsSized}
 use Rattle.wkb_read.specs.Public.{IsFront, IsRefusal, CanBeWritten}
 use Rattle.wkb.specs.Canonical.{IsSize, IsAccepted, IsTooLong, IsTooLongWithSrid, HaveOneValue, HaveTwoValues}
 
@@ -65,7 +69,8 @@ refused_size order form g e writable h =
     (fits (length (text order Iso g)) iso.1, large.0, size_error e h.fault large.1 h.told)
 
 -- the text of a geometry that was read
-pub rewriting : (order : Endianness) (form : Form) (buf out : List ℕ) (w : Item) → IsFront buf w → out ≡ text order form (geometry_of w.value) → IsRewriting order form buf out
+pub rewriting : (order : Endianness) (form : Form) (buf out : List ℕ) (w : Item) → IsFront buf w → out ≡ text order form (geometry_of w.value)
+    → IsRewriting order form buf out
 rewriting order form buf out w front written =
     record { s = w.spelled; t = w.value; rest = front.rest; front = front.front; written = written }
 
@@ -107,7 +112,8 @@ pub iso_fits : (order : Endianness) (buf : List ℕ) → IsTooLong order Iso buf
 iso_fits order buf h = let low = h.plain in let high = h.with_srid in omega (arith, low, high)
 
 -- what is refused under ISO is what the reader refuses
-pub iso_refused : (order : Endianness) (buf : List ℕ) (e : WkbError) → IsMemory e ⊎ (IsRefusal buf e ⊎ (IsTooLong order Iso buf × IsSize e)) → IsMemory e ⊎ IsRefusal buf e
+pub iso_refused : (order : Endianness) (buf : List ℕ) (e : WkbError) → IsMemory e ⊎ (IsRefusal buf e ⊎ (IsTooLong order Iso buf × IsSize e))
+    → IsMemory e ⊎ IsRefusal buf e
 iso_refused order buf e (inl memory) = inl memory
 iso_refused order buf e (inr (inl refused)) = inr refused
 iso_refused order buf e (inr (inr long)) = absurd (iso_fits order buf long.0)
@@ -116,14 +122,16 @@ pub accepted : (order : Endianness) (form : Form) (buf out : List ℕ) → IsRew
 accepted order form buf out h = record { s = h.s; t = h.t; rest = h.rest; front = h.front }
 
 -- inputs that are rewritten alike
-pub have_one_value : (order : Endianness) (a b x y : List ℕ) → AreBytes a → AreBytes b → IsRewriting order Iso a x → IsRewriting order Iso b y → x ≡ y → HaveOneValue a b
+pub have_one_value : (order : Endianness) (a b x y : List ℕ) → AreBytes a → AreBytes b → IsRewriting order Iso a x → IsRewriting order Iso b y
+    → x ≡ y → HaveOneValue a b
 have_one_value order a b x y bytes bytes' h k same =
     let law = equal_texts_lem order Iso a b h.s k.s h.t k.t h.rest k.rest tt bytes bytes' h.front k.front in
     let one : h.t ≡ k.t = law.0 (sym h.written ∙ same ∙ k.written) in
     record { s = h.s; u = k.s; t = h.t; rest = h.rest; more = k.rest; first = h.front; second = subst (λ v. Front b k.s v k.rest) (sym one) k.front }
 
 -- inputs that are rewritten in two ways
-pub have_two_values : (order : Endianness) (a b x y : List ℕ) → AreBytes a → AreBytes b → IsRewriting order Iso a x → IsRewriting order Iso b y → x ≢ y → HaveTwoValues a b
+pub have_two_values : (order : Endianness) (a b x y : List ℕ) → AreBytes a → AreBytes b → IsRewriting order Iso a x → IsRewriting order Iso b y
+    → x ≢ y → HaveTwoValues a b
 have_two_values order a b x y bytes bytes' h k differ =
     let law = equal_texts_lem order Iso a b h.s k.s h.t k.t h.rest k.rest tt bytes bytes' h.front k.front in
     record {
@@ -154,3 +162,10 @@ compared order a b x y v w equal bytes bytes' h k is is' tested =
 pub IfErr-from : {T E : Type 0} (r : Result T E) (P : T → Type 0) (R Q : E → Type 0) → MatchResult r P R → ((e : E) → R e → Q e) → IfErr r Q
 IfErr-from (Ok x) P R Q h f = tt
 IfErr-from (Err e) P R Q h f = f e h
+
+-- the error that tells the fault that was found
+pub refused_as_found : {A : Type 0} (P : A → Type 0) (order : Endianness) (form : Form) (g : Geometry) (f : Found) (r : Result A WkbError)
+    → IsErrAnd r (λ e. TellsFault e (meaning f)) → IsSized form g (Err f)
+    → MatchResult r P (λ e. IsMemory e ⊎ Reports e (refusal order form g))
+refused_as_found P order form g f (Err e) tells size = inr (record { fault = meaning f; is = (size order).is; told = tells })
+refused_as_found P order form g f (Ok x) tells size = absurd tells

@@ -1,45 +1,89 @@
 //! The canonical form: the one text of the value that was read.
 
-ghost use Rattle.std.specs.Prelude.{◌≡◌, ◌⊎◌, IfOk, IfErr, MatchBool, MatchResult};
+ghost use Rattle.std.specs.Prelude.{◌≡◌, ◌⊎◌, None, IfOk, IfErr, IsErrAnd, MatchBool, MatchResult};
 ghost use Rattle.wkb_geom.specs.Errors.{IsMemory};
 ghost use Rattle.wkb_geom.specs.Geometries.{geometry_of, IsGeometry};
 ghost use Rattle.wkb_geom.specs.Numbers.{AreBytes};
-ghost use Rattle.wkb_geom.specs.Texts.{text, refusal, IsRewriting, IsRewritingWithSrid};
-ghost use Rattle.wkb_measure.specs.Measures.{Reports};
+ghost use Rattle.wkb_geom.specs.Texts.{text, fault, refusal, IsRewriting, IsRewritingWithSrid};
+ghost use Rattle.wkb_measure.specs.Measures.{IsMeasured, Reports};
 ghost use Rattle.wkb_read.specs.Public.{IsRefusal};
 ghost use Rattle.wkb.specs.Canonical.{IsAccepted, IsSize, IsTooLong, IsTooLongWithSrid, HaveOneValue, HaveTwoValues};
 
 use std::alloc::{AllocError, Global};
 use wkb_geom::error::{WkbError, WkbResult};
-use wkb_geom::{Endianness, Form, GeometryTrait};
-use wkb_put::put_geometry;
+use wkb_geom::{Dimensioned, Endianness, Form, GeometryTrait, GeometryType};
+use wkb_measure::{Fault, measure_geometry, measure_point};
+use wkb_put::{Kind, OfGeometry, OfPoint, Stopped, put_geometry};
 use wkb_read::geometry::Wkb;
 use wkb_read::read::stack::read_wkb;
-use wkb_write::{VecSink, WriteOptions, geometry_wkb_size_with};
+use wkb_write::{VecSink, WriteOptions, refused, whole_size};
 
-/// The text of a geometry under the options, in memory that is asked for at once.
-fn text_of<G: GeometryTrait>(
-    alloc: Global,
-    geometry: &G,
-    options: &WriteOptions,
-) -> WkbResult<Vec<u8>>
-    ensures { MatchResult result
-        (λ out. out.items ≡ text options.now.endianness options.now.form (G.geometry geometry.now))
-        (λ e. IsMemory e ⊎ Reports e (refusal options.now.endianness options.now.form (G.geometry geometry.now))) }
+// Want of memory. Not inlined: an error takes more room than all else in its callers.
+#[cold]
+#[inline(never)]
+fn no_memory<T>() -> WkbResult<T>
+    ensures { IsErrAnd result IsMemory }
 {
-    let size = match geometry_wkb_size_with(geometry, options) {
-        Ok(size) => size,
-        Err(e) => return Err(e),
+    Err(WkbError::Memory(AllocError))
+}
+
+/// The text of a geometry that has no fault, in memory that is asked for at once.
+#[inline(always)]
+fn put_text<G, K: Kind<G>>(
+    alloc: Global,
+    geom: &G,
+    order: Endianness,
+    form: Form,
+    size: usize,
+) -> WkbResult<Vec<u8>>
+    requires fault { fault (K.geometry geom.now) ≡ None }
+    ensures { MatchResult result (λ out. out.items ≡ text order form (K.geometry geom.now)) IsMemory }
+{
+    let Ok(mut sink) = VecSink::with_capacity(alloc, size) else {
+        return no_memory();
     };
-    let mut sink = match VecSink::with_capacity(alloc, size) {
-        Ok(sink) => sink,
-        Err(e) => return Err(WkbError::Memory(e)),
-    };
-    // The size refused whatever a writer refuses.
-    match put_geometry(&mut sink, geometry, options.endianness, options.form, size) {
+    let mut error = None;
+    match put_geometry::<VecSink, G, K>(&mut sink, geom, order, form, size, &mut error) {
         Ok(()) => Ok(sink.into_vec()),
         // This sink fails only for want of memory.
-        Err(_) => Err(WkbError::Memory(AllocError)),
+        Err(Stopped) => no_memory(),
+    }
+}
+
+/// The text of a geometry of a kind under the options, as what was measured of it allows.
+#[inline(always)]
+fn text_as<G, K: Kind<G>>(
+    alloc: Global,
+    geom: &G,
+    measured: Result<u128, Fault>,
+    options: &WriteOptions,
+) -> WkbResult<Vec<u8>>
+    requires lawful { IsGeometry (K.geometry geom.now) }
+    requires measured { IsMeasured (K.geometry geom.now) measured }
+    ensures { MatchResult result
+        (λ out. out.items ≡ text options.now.endianness options.now.form (K.geometry geom.now))
+        (λ e. IsMemory e ⊎ Reports e (refusal options.now.endianness options.now.form (K.geometry geom.now))) }
+{
+    let WriteOptions { endianness, form } = *options;
+    match whole_size(measured, form) {
+        Ok(size) => put_text::<G, K>(alloc, geom, endianness, form, size),
+        Err(fault) => refused(fault),
+    }
+}
+
+/// The same of a geometry of any kind.
+#[inline(always)]
+fn text_of<G: GeometryTrait>(alloc: Global, geom: &G, options: &WriteOptions) -> WkbResult<Vec<u8>>
+    ensures { MatchResult result
+        (λ out. out.items ≡ text options.now.endianness options.now.form (G.geometry geom.now))
+        (λ e. IsMemory e ⊎ Reports e (refusal options.now.endianness options.now.form (G.geometry geom.now))) }
+{
+    match geom.as_type() {
+        // By itself a point needs no call.
+        GeometryType::Point(point) => {
+            text_as::<G::PointType, OfPoint>(alloc, point, measure_point(point.dim()), options)
+        }
+        _ => text_as::<G, OfGeometry>(alloc, geom, measure_geometry(geom), options),
     }
 }
 

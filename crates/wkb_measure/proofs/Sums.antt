@@ -1,5 +1,6 @@
 -- Parts one after another, as a loop meets them.
-use Rattle.std.proofs.Common.{◌≡◌, ℕ, zero, suc, ◌+◌, ◌<◌, ◌≤◌, List, [], ◌∷◌, length, take, get_or, Some, None, Result, refl, sym, ap, subst, ◌∙◌, arith, slice_get, add-one, take_all}
+use Rattle.std.proofs.Common.{◌≡◌, ℕ, zero, suc, ◌+◌, ◌<◌, ◌≤◌, List, [], ◌∷◌, length, take, get_or, Some, None, Result, refl, sym, ap, subst, ◌∙◌, arith}
+use Rattle.std.proofs.Common.{slice_get, add-one, take_all}
 use Rattle.std.specs.List.{sum_by}
 use Rattle.std.specs.Prelude.{IfSome, IsErrAnd}
 use Rattle.std.proofs.lemmas.List.Sums.{sum_by_more}
@@ -11,12 +12,13 @@ use Rattle.wkb_measure.specs.Bodies.{Part, parts_fault, parts_size}
 use Rattle.wkb_geom.proofs.Faults.{none_first, none_rest}
 use Rattle.wkb_measure.proofs.Faults.{reports_first, reports_rest, none_both, measured_err}
 
--- the parts before i have no fault, and the total is their sizes and the count's four bytes
+-- the parts before i have no fault, and the total is their sizes and the nine bytes before them
 pub record SoFar (ps : List Part) (i total : ℕ) : Type 0 where
   pub none : first_fault (λ p. p.fault) (take i ps) ≡ None
-  pub sum : total ≡ capped (4 + sum_by (λ p. p.size) (take i ps))
+  pub sum : total ≡ capped (9 + sum_by (λ p. p.size) (take i ps))
 
-first_fault_step : (ps : List Part) (i : ℕ) (p : Part) → slice_get ps i ≡ Some p → first_fault (λ q. q.fault) (take i ps) ≡ None → p.fault ≡ None → first_fault (λ q. q.fault) (take (i + 1) ps) ≡ None
+first_fault_step : (ps : List Part) (i : ℕ) (p : Part) → slice_get ps i ≡ Some p → first_fault (λ q. q.fault) (take i ps) ≡ None → p.fault ≡ None
+    → first_fault (λ q. q.fault) (take (i + 1) ps) ≡ None
 unfolding first_fault
 first_fault_step [] i p item h here = cc
 first_fault_step (q ∷ ps) zero p item h here =
@@ -26,7 +28,8 @@ first_fault_step (q ∷ ps) (suc i) p item h here =
     rw add-one (none_both q.fault (first_fault (λ r. r.fault) (take (suc i) ps)) (none_first _ _ h) (rw add-one at rest))
 
 -- the first fault is that of a part, where those before it have none
-first_reports : (ps : List Part) (i : ℕ) (p : Part) (e : Found) → slice_get ps i ≡ Some p → first_fault (λ q. q.fault) (take i ps) ≡ None → Finds e p.fault → Finds e (first_fault (λ q. q.fault) ps)
+first_reports : (ps : List Part) (i : ℕ) (p : Part) (e : Found) → slice_get ps i ≡ Some p → first_fault (λ q. q.fault) (take i ps) ≡ None → Finds e p.fault
+    → Finds e (first_fault (λ q. q.fault) ps)
 unfolding first_fault
 first_reports [] i p e item h r = cc
 first_reports (q ∷ ps) zero p e item h r =
@@ -34,7 +37,7 @@ first_reports (q ∷ ps) zero p e item h r =
 first_reports (q ∷ ps) (suc i) p e item h r =
     reports_rest e q.fault (first_fault (λ s. s.fault) ps) (none_first _ _ h) (first_reports ps i p e item (none_rest q.fault _ h) r)
 
-pub parts_start : (ps : List Part) → SoFar ps 0 4
+pub parts_start : (ps : List Part) → SoFar ps 0 9
 unfolding first_fault
 parts_start ps = record { none = refl; sum = omega arith }
 
@@ -46,7 +49,8 @@ part_there : (ps : List Part) (i : ℕ) (Q : Part → Type 0) → i < length ps 
 part_there ps i Q within told = subst (λ o. IfSome o Q) (slice_get-get_or ps i no_part within) told
 
 -- one more part
-pub parts_step : (ps : List Part) (i total n : ℕ) → i < length ps → IfSome (slice_get ps i) (λ p. (p.fault ≡ None) × (n ≡ capped p.size)) → SoFar ps i total → SoFar ps (i + 1) (capped (total + n))
+pub parts_step : (ps : List Part) (i total n : ℕ) → i < length ps → IfSome (slice_get ps i) (λ p. (p.fault ≡ None) × (n ≡ capped p.size))
+    → SoFar ps i total → SoFar ps (i + 1) (capped (total + n))
 parts_step ps i total n within told s =
     let p = get_or ps i no_part in
     let item = slice_get-get_or ps i no_part within in
@@ -59,11 +63,13 @@ parts_step ps i total n within told s =
     }
 
 -- the fault of the count, and of a part
-pub count_reports : (ps : List Part) (n : ℕ) (e : Found) (r : Result ℕ Found) → n ≡ length ps → IsErrAnd r (λ y. y ≡ e) → Finds e (count_fault n) → Measures (parts_fault ps) (parts_size ps) r
+pub count_reports : (ps : List Part) (n : ℕ) (e : Found) (r : Result ℕ Found) → n ≡ length ps → IsErrAnd r (λ y. y ≡ e) → Finds e (count_fault n)
+    → Measures (parts_fault ps) (parts_size ps) r
 unfolding parts_fault
 count_reports ps n e r is exit told = measured_err e _ _ r exit (reports_first e _ _ (subst (λ k. Finds e (count_fault k)) is told))
 
-pub part_reports : (ps : List Part) (n i total : ℕ) (e : Found) (r : Result ℕ Found) → n ≡ length ps → count_fault n ≡ None → i < length ps → IfSome (slice_get ps i) (λ p. Finds e p.fault) → SoFar ps i total → IsErrAnd r (λ y. y ≡ e) → Measures (parts_fault ps) (parts_size ps) r
+pub part_reports : (ps : List Part) (n i total : ℕ) (e : Found) (r : Result ℕ Found) → n ≡ length ps → count_fault n ≡ None → i < length ps
+    → IfSome (slice_get ps i) (λ p. Finds e p.fault) → SoFar ps i total → IsErrAnd r (λ y. y ≡ e) → Measures (parts_fault ps) (parts_size ps) r
 unfolding parts_fault
 part_reports ps n i total e r is counted within told s exit =
     let here = part_there ps i (λ q. Finds e q.fault) within told in
@@ -71,8 +77,9 @@ part_reports ps n i total e r is counted within told s exit =
     measured_err e _ _ r exit (reports_rest e _ _ (ap count_fault (sym is) ∙ counted) (first_reports ps i (get_or ps i no_part) e item s.none here))
 
 -- all of the parts
-pub parts_all : (ps : List Part) (n i total : ℕ) → n ≡ length ps → count_fault n ≡ None → length ps ≤ i → SoFar ps i total → (parts_fault ps ≡ None) × (total ≡ capped (parts_size ps))
+pub parts_all : (ps : List Part) (n i total : ℕ) → n ≡ length ps → count_fault n ≡ None → length ps ≤ i → SoFar ps i total
+    → (parts_fault ps ≡ None) × (total ≡ capped (parts_size ps))
 unfolding parts_fault parts_size
 parts_all ps n i total is counted past s =
     let whole = take_all i ps past in
-    (none_both _ _ (ap count_fault (sym is) ∙ counted) (ap (first_fault (λ q. q.fault)) (sym whole) ∙ s.none), s.sum ∙ ap (λ l. capped (4 + sum_by (λ q. q.size) l)) whole)
+    (none_both _ _ (ap count_fault (sym is) ∙ counted) (ap (first_fault (λ q. q.fault)) (sym whole) ∙ s.none), s.sum ∙ ap (λ l. capped (9 + sum_by (λ q. q.size) l)) whole)

@@ -1,5 +1,6 @@
 -- A geometry's fault and size, by its header and its body.
-use Rattle.std.proofs.Common.{◌≡◌, ℕ, zero, suc, ◌+◌, ◌*◌, ◌<◌, List, [], ◌∷◌, length, map, get_or, slice_get, Option, Some, None, Result, Ok, Err, refl, sym, ap, subst, ◌∙◌, arith}
+use Rattle.std.proofs.Common.{◌≡◌, ℕ, zero, suc, ◌+◌, ◌*◌, ◌<◌, List, [], ◌∷◌, length, map, get_or, slice_get, Option, Some, None, Result, Ok, Err, refl, sym}
+use Rattle.std.proofs.Common.{ap, subst, ◌∙◌, arith}
 use Rattle.std.specs.List.{sum_by}
 use Rattle.std.specs.Prelude.{IfSome}
 use Rattle.std.proofs.lemmas.Option.{slice_get_read}
@@ -7,16 +8,19 @@ use Rattle.std.proofs.lemmas.List.{length-map}
 use Rattle.std.proofs.lemmas.List.Sums.{sum_by-cons}
 use Rattle.wkb_geom.specs.declared.common.Dimensions.{Dimensions}
 use Rattle.wkb_measure.specs.declared.fault.Fault.{Fault as Found}
-use Rattle.wkb_geom.specs.Geometries.{Geometry, Geometries, point, line_string, polygon, multi_point, multi_line_string, multi_polygon, collection, rectangle, triangle, line, no_geometries, geometry, geometries}
+use Rattle.wkb_geom.specs.Geometries.{Geometry, Geometries, point, line_string, polygon, multi_point, multi_line_string, multi_polygon, collection, rectangle}
+use Rattle.wkb_geom.specs.Geometries.{triangle, line, no_geometries, geometry, geometries}
 use Rattle.wkb_geom.specs.Sizes.{node_count, node_counts, dimensions_of, byte_size, byte_sizes, ring_size, line_string_size, polygon_size}
-use Rattle.wkb_geom.specs.Texts.{Fault, or_else, first_fault, count_fault, count_geometries, dimensions_fault, coordinates_fault, rings_fault, fault, fault_each}
+use Rattle.wkb_geom.specs.Texts.{Fault, or_else, first_fault, count_fault, count_geometries, dimensions_fault, coordinates_fault, rings_fault, fault}
+use Rattle.wkb_geom.specs.Texts.{fault_each}
 use Rattle.wkb_geom.proofs.Nodes.{node_count-member}
-use Rattle.wkb_measure.specs.Measures.{Finds, Measures, capped}
-use Rattle.wkb_measure.specs.Bodies.{Part, parts_fault, parts_size, ring_part, line_string_part, polygon_part, member_part, members, body_fault, body_size}
+use Rattle.wkb_measure.specs.Measures.{Finds, IsMeasured, Measures, capped}
+use Rattle.wkb_measure.specs.Bodies.{Part, parts_fault, parts_size, ring_part, line_string_part, polygon_part, member_part, members, body_fault, size_by_parts}
 use Rattle.wkb_measure.proofs.Faults.{none_both, reports_first, reports_rest}
 
 -- the faults and the sizes of a list's items, each as a part
-faults_of : {X : Type 0} (part : X → Part) (f : X → Option Fault) (xs : List X) → ((x : X) → (part x).fault ≡ f x) → first_fault (λ p. p.fault) (map part xs) ≡ first_fault f xs
+faults_of : {X : Type 0} (part : X → Part) (f : X → Option Fault) (xs : List X) → ((x : X) → (part x).fault ≡ f x)
+    → first_fault (λ p. p.fault) (map part xs) ≡ first_fault f xs
 unfolding first_fault
 faults_of part f [] same = refl
 faults_of part f (x ∷ xs) same = rw (same x, faults_of part f xs same) refl
@@ -26,13 +30,14 @@ sizes_of part s [] same = refl
 sizes_of part s (x ∷ xs) same =
     omega (arith, sum_by-cons (λ p. p.size) (part x) (map part xs), sum_by-cons s x xs, same x, sizes_of part s xs same)
 
-items_fault : {X : Type 0} (part : X → Part) (f : X → Option Fault) (xs : List X) → ((x : X) → (part x).fault ≡ f x) → parts_fault (map part xs) ≡ or_else (count_fault (length xs)) (first_fault f xs)
+items_fault : {X : Type 0} (part : X → Part) (f : X → Option Fault) (xs : List X) → ((x : X) → (part x).fault ≡ f x)
+    → parts_fault (map part xs) ≡ or_else (count_fault (length xs)) (first_fault f xs)
 unfolding parts_fault
 items_fault part f xs same = rw (length-map xs part, faults_of part f xs same) refl
 
-items_size : {X : Type 0} (part : X → Part) (s : X → ℕ) (xs : List X) → ((x : X) → (part x).size ≡ s x) → parts_size (map part xs) ≡ 4 + sum_by s xs
+items_size : {X : Type 0} (part : X → Part) (s : X → ℕ) (xs : List X) → ((x : X) → (part x).size ≡ s x) → parts_size (map part xs) ≡ 9 + sum_by s xs
 unfolding parts_size
-items_size part s xs same = ap (λ n. 4 + n) (sizes_of part s xs same)
+items_size part s xs same = ap (λ n. 9 + n) (sizes_of part s xs same)
 
 members_count : (gs : Geometries) → length (members gs) ≡ count_geometries gs
 members_count no_geometries = refl
@@ -52,15 +57,15 @@ members_fault : (gs : Geometries) → parts_fault (members gs) ≡ or_else (coun
 unfolding parts_fault
 members_fault gs = rw (members_count gs, members_faults gs) refl
 
-members_size : (gs : Geometries) → parts_size (members gs) ≡ 4 + byte_sizes gs
+members_size : (gs : Geometries) → parts_size (members gs) ≡ 9 + byte_sizes gs
 unfolding parts_size
-members_size gs = ap (λ n. 4 + n) (members_sizes gs)
+members_size gs = ap (λ n. 9 + n) (members_sizes gs)
 
 -- the rings of a polygon
 rings_are : (d : Dimensions) (rings : List (List (List ℕ))) → parts_fault (map (ring_part d) rings) ≡ rings_fault rings
 rings_are d rings = items_fault (ring_part d) coordinates_fault rings (λ r. refl)
 
-rings_take : (d : Dimensions) (rings : List (List (List ℕ))) → parts_size (map (ring_part d) rings) ≡ 4 + sum_by (ring_size d) rings
+rings_take : (d : Dimensions) (rings : List (List (List ℕ))) → parts_size (map (ring_part d) rings) ≡ 9 + sum_by (ring_size d) rings
 rings_take d rings = items_size (ring_part d) (ring_size d) rings (λ r. refl)
 
 alone : (a : Option Fault) → a ≡ or_else a None
@@ -80,7 +85,7 @@ fault_by_body (line d start end) = alone (dimensions_fault d)
 fault_by_body (rectangle d least greatest) = alone (dimensions_fault d)
 fault_by_body (triangle d first second third) = alone (dimensions_fault d)
 
-pub size_by_body : (g : Geometry) → byte_size g ≡ 5 + body_size g
+pub size_by_body : (g : Geometry) → byte_size g ≡ size_by_parts g
 size_by_body (point d c) = refl
 size_by_body (line_string d cs) = refl
 size_by_body (polygon d rings) = omega (arith, rings_take d rings)
@@ -93,7 +98,8 @@ size_by_body (rectangle d least greatest) = refl
 size_by_body (triangle d first second third) = omega arith
 
 -- what was measured of a header and a body is measured of the geometry
-pub whole_measured : (g : Geometry) (dims : Dimensions) (r : Result ℕ Found) → dims ≡ dimensions_of g → dimensions_fault dims ≡ None → Measures (body_fault g) (5 + body_size g) r → Measures (fault g) (byte_size g) r
+pub whole_measured : (g : Geometry) (dims : Dimensions) (r : Result ℕ Found) → dims ≡ dimensions_of g → dimensions_fault dims ≡ None
+    → Measures (body_fault g) (size_by_parts g) r → Measures (fault g) (byte_size g) r
 whole_measured g dims (Ok n) is supported h =
     (fault_by_body g ∙ none_both _ _ (ap dimensions_fault (sym is) ∙ supported) h.0, h.1 ∙ ap capped (sym (size_by_body g)))
 whole_measured g dims (Err e) is supported h =
@@ -103,26 +109,35 @@ pub whole_unsupported : (g : Geometry) (dims : Dimensions) (e : Found) → dims 
 whole_unsupported g dims e is told =
     subst (Finds e) (sym (fault_by_body g)) (reports_first e _ _ (subst (λ d. Finds e (dimensions_fault d)) is told))
 
+-- the same of a collection and of its members as its parts
+pub collected : (d : Dimensions) (gs : Geometries) (r : Result ℕ Found) → dimensions_fault d ≡ None
+    → Measures (parts_fault (members gs)) (parts_size (members gs)) r → IsMeasured (collection d gs) r
+unfolding IsMeasured
+collected d gs r supported h = whole_measured (collection d gs) d r refl supported h
+
 -- the parts of members that are lent as a slice
 pub members_length : {X : Type 0} (f : X → Geometry) (xs : List X) → length xs ≡ length (members (geometries (map f xs)))
 members_length f [] = refl
 members_length f (x ∷ xs) = omega (arith, members_length f xs)
 
-members_at : {X : Type 0} (f : X → Geometry) (xs : List X) (i : ℕ) (x : X) → slice_get xs i ≡ Some x → slice_get (members (geometries (map f xs))) i ≡ Some (member_part (f x))
+members_at : {X : Type 0} (f : X → Geometry) (xs : List X) (i : ℕ) (x : X) → slice_get xs i ≡ Some x
+    → slice_get (members (geometries (map f xs))) i ≡ Some (member_part (f x))
 members_at f [] i x item = cc
 members_at f (y ∷ xs) zero x item = let is : y ≡ x = cc in ap (λ z. Some (member_part (f z))) is
 members_at f (y ∷ xs) (suc i) x item = members_at f xs i x item
 
 -- what is said of a member is said of its part
-pub said_of_member : {X : Type 0} (f : X → Geometry) (Q : Part → Type 0) (xs : List X) (i : ℕ) (x : X) → i < length xs → x ≡ get_or xs i x → Q (member_part (f x)) → IfSome (slice_get (members (geometries (map f xs))) i) Q
+pub said_of_member : {X : Type 0} (f : X → Geometry) (Q : Part → Type 0) (xs : List X) (i : ℕ) (x : X) → i < length xs → x ≡ get_or xs i x
+    → Q (member_part (f x)) → IfSome (slice_get (members (geometries (map f xs))) i) Q
 said_of_member f Q xs i x within item told =
     subst (λ o. IfSome o Q) (sym (members_at f xs i x (slice_get_read xs (length xs) i x refl within item))) told
 
 -- the measure of the recursion falls
-pub members_fall : (d : Dimensions) (gs : Geometries) (geo : Geometry) (t : ℕ) → collection d gs ≡ geo → 3 * node_count geo + 1 ≡ t → 3 * node_counts gs + 3 < t
+pub members_fall : (d : Dimensions) (gs : Geometries) (geo : Geometry) (t : ℕ) → collection d gs ≡ geo → 2 * node_count geo ≡ t → 2 * node_counts gs + 1 < t
 members_fall d gs geo t is measure = let whole = ap node_count is in omega (arith, whole)
 
-pub member_falls : {X : Type 0} (f : X → Geometry) (xs : List X) (i : ℕ) (x : X) (t : ℕ) → i < length xs → x ≡ get_or xs i x → 3 * node_counts (geometries (map f xs)) + 3 ≡ t → 3 * node_count (f x) + 2 < t
+pub member_falls : {X : Type 0} (f : X → Geometry) (xs : List X) (i : ℕ) (x : X) (t : ℕ) → i < length xs → x ≡ get_or xs i x
+    → 2 * node_counts (geometries (map f xs)) + 1 ≡ t → 2 * node_count (f x) < t
 member_falls f xs i x t within item measure =
     let member = node_count-member f xs i x within in
     let here = ap (λ y. node_count (f y)) item in

@@ -9,6 +9,7 @@ use crate::fault::Fault;
 use wkb_geom::Dimensions;
 
 /// Refuses dimensions that can't be written.
+#[inline(always)]
 #[tactic(auto, using(crate::proofs::Faults::supported_laws), unfolding(wkb_geom::specs::Texts::dimensions_fault))]
 pub fn check_dimensions(dim: Dimensions) -> Result<(), Fault>
     ensures { MatchResult result (λ _. dimensions_fault dim ≡ None)
@@ -48,6 +49,7 @@ pub fn check_len(n: usize) -> Result<u32, Fault>
 }
 
 /// The bytes of the words of so many coordinates.
+#[inline(always)]
 pub fn words_size(dim: Dimensions, n: u32) -> u128
     ensures sum { result ≡ 8 * size dim * n }
     ensures bound { result < 2 ^ 100 }

@@ -12,4 +12,8 @@ mod parts;
 mod rings;
 
 pub use fault::Fault;
-pub use measure::{measure_geometry, measure_geometry_collection, measure_point};
+pub use measure::{
+    measure_geometry, measure_geometry_collection, measure_line, measure_line_string,
+    measure_multi_line_string, measure_multi_point, measure_multi_polygon, measure_point,
+    measure_polygon, measure_rect, measure_triangle,
+};

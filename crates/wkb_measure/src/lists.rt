@@ -38,6 +38,6 @@ impl<M: MultiPolygonTrait> Parts for Polygons<'_, M> {
 
     fn measure_part(&self, i: usize) -> Result<u128, Fault> {
         let member = self.0.polygon(i).unwrap();
-        behind_header(measure_parts(&Rings(member)))
+        measure_parts(&Rings(member))
     }
 }

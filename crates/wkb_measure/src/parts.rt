@@ -20,19 +20,20 @@ pub trait Parts {
         ensures { IfSome (slice_get (parts self.now) i) (λ p. Measures p.fault p.size result) };
 }
 
-/// A count, and the parts in order.
+/// A header, a count, and the parts in order.
 pub fn measure_parts<P: Parts>(body: &P) -> Result<u128, Fault>
     ensures { Measures (parts_fault (P.parts body.now)) (parts_size (P.parts body.now)) result }
 {
     let count = check_count(body.count())?;
-    let mut total = 4u128;
+    let mut total = 9u128;
     for i in 0..count as usize {
         total = total.saturating_add(body.measure_part(i)?);
     }
     Ok(total)
 }
 
-/// The same with the five bytes of a header before it.
+/// What was measured, with the five bytes of a header before it.
+#[inline(always)]
 pub fn behind_header(body: Result<u128, Fault>) -> Result<u128, Fault>
     ensures { (f : Option Meant) (n : ℕ) → Measures f n body → Measures f (5 + n) result }
 {

@@ -1,5 +1,6 @@
 -- Texts that are appended to a sink one after another.
-use Rattle.std.proofs.Common.{◌≡◌, ℕ, ◌≤◌, List, [], ◌++◌, length, take, drop, Option, Some, None, sym, ap, ◌∙◌, append_assoc, append-nil, arith, length-drop, take_all, take-append-drop, ◌-◌}
+use Rattle.std.proofs.Common.{◌≡◌, ℕ, ◌≤◌, List, [], ◌++◌, length, take, drop, Option, Some, None, sym, ap, ◌∙◌, append_assoc, append-nil, arith, length-drop}
+use Rattle.std.proofs.Common.{take_all, take-append-drop, ◌-◌}
 use Rattle.std.specs.Io.KnownBytes.{Appends}
 use Rattle.wkb_put.specs.Sinks.{IsWritten}
 

@@ -1,5 +1,6 @@
 -- Texts that are laid one after another.
-use Rattle.std.proofs.Common.{◌≡◌, ℕ, List, [], ◌++◌, Option, refl, sym, ap, ◌∙◌, subst, append_assoc, append-nil, arith, length-append, Bool, true, false, Result, Ok, Err}
+use Rattle.std.proofs.Common.{◌≡◌, ℕ, List, [], ◌++◌, Option, refl, sym, ap, ◌∙◌, subst, append_assoc, append-nil, arith, length-append, Bool, true, false}
+use Rattle.std.proofs.Common.{Result, Ok, Err}
 use Rattle.std.specs.Prelude.{IsErrAnd, IfOk}
 use Rattle.std.specs.Io.KnownBytes.{Appends}
 use Rattle.std.proofs.lemmas.Result.{err_from_is_err_and}
@@ -57,12 +58,15 @@ pub exits : {a b : Progress} {all : List ℕ} (e : Stopped) (r : Result (Unit {0
 exits e r is cut = rw (err_from_is_err_and r is).1 cut
 
 -- the last part's answer is the whole's
-pub lays_then : {a b : Progress} (c : Progress) {s : List ℕ} (t : List ℕ) (r : Result (Unit {0}) Stopped) → IsLaid a b s → Advances b c t r → Advances a c (s ++ t) r
+pub lays_then : {a b : Progress} (c : Progress) {s : List ℕ} (t : List ℕ) (r : Result (Unit {0}) Stopped) → IsLaid a b s → Advances b c t r
+    → Advances a c (s ++ t) r
 lays_then c t (Ok x) p q = laid_then p q
 lays_then c t (Err e) p q = cut_then p q
 
 -- a text that was laid in the block once there was room
-pub laid_here : {a : Progress} {n : ℕ} {o : Option (List ℕ)} {failed : Bool} {w v t : List ℕ} → IsLaid a (record { sink = n; appended = o; failed = failed; waiting = w }) [] → IsExtended w v t → IsLaid a (record { sink = n; appended = o; failed = failed; waiting = v }) t
+pub laid_here : {a : Progress} {n : ℕ} {o : Option (List ℕ)} {failed : Bool} {w v t : List ℕ}
+    → IsLaid a (record { sink = n; appended = o; failed = failed; waiting = w }) [] → IsExtended w v t
+    → IsLaid a (record { sink = n; appended = o; failed = failed; waiting = v }) t
 laid_here {a = a} {t = t} p is = record {
   same = p.same;
   works = p.works;
@@ -72,7 +76,8 @@ laid_here {a = a} {t = t} p is = record {
 }
 
 -- all that waited was put
-pub flushed : (n : ℕ) (a b : Option (List ℕ)) (s f : Bool) (w v bytes : List ℕ) → IsWritten a b bytes → f ≡ false → bytes ≡ w → v ≡ [] → IsLaid (record { sink = n; appended = a; failed = s; waiting = w }) (record { sink = n; appended = b; failed = f; waiting = v }) []
+pub flushed : (n : ℕ) (a b : Option (List ℕ)) (s f : Bool) (w v bytes : List ℕ) → IsWritten a b bytes → f ≡ false → bytes ≡ w → v ≡ []
+    → IsLaid (record { sink = n; appended = a; failed = s; waiting = w }) (record { sink = n; appended = b; failed = f; waiting = v }) []
 flushed n a b s f w v bytes p works is empty = record {
   same = refl;
   works = works;
@@ -82,7 +87,8 @@ flushed n a b s f w v bytes p works is empty = record {
 }
 
 -- or not all
-pub flush_cut : (n : ℕ) (a b : Option (List ℕ)) (s f : Bool) (w v bytes : List ℕ) → IsBegun a b bytes → f ≡ true → bytes ≡ w → IsCut (record { sink = n; appended = a; failed = s; waiting = w }) (record { sink = n; appended = b; failed = f; waiting = v }) []
+pub flush_cut : (n : ℕ) (a b : Option (List ℕ)) (s f : Bool) (w v bytes : List ℕ) → IsBegun a b bytes → f ≡ true → bytes ≡ w
+    → IsCut (record { sink = n; appended = a; failed = s; waiting = w }) (record { sink = n; appended = b; failed = f; waiting = v }) []
 flush_cut n a b s f w v bytes p stopped is = record {
   same = refl;
   stopped = stopped;

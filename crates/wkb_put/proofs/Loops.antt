@@ -1,5 +1,6 @@
 -- The steps of a loop that lays the texts of a list's items.
-use Rattle.std.proofs.Common.{◌≡◌, ℕ, zero, suc, ◌+◌, ◌<◌, ◌≤◌, List, [], ◌∷◌, ◌++◌, length, take, drop, Some, refl, sym, ap, ◌∙◌, subst, append_assoc, append-nil, arith, take_all, take-append-drop, slice_get, add-one, map, get_or, Result}
+use Rattle.std.proofs.Common.{◌≡◌, ℕ, zero, suc, ◌+◌, ◌<◌, ◌≤◌, List, [], ◌∷◌, ◌++◌, length, take, drop, Some, refl, sym, ap, ◌∙◌, subst, append_assoc}
+use Rattle.std.proofs.Common.{append-nil, arith, take_all, take-append-drop, slice_get, add-one, map, get_or, Result}
 use Rattle.std.specs.List.{flat_map}
 use Rattle.std.proofs.lemmas.List.{length-map}
 use Rattle.wkb_put.specs.declared.buffered.Stopped.{Stopped}
@@ -18,13 +19,15 @@ use Rattle.wkb_put.proofs.Laid.{laid_then, cut_then, cut_first}
 some_is : {X : Type 0} {x y : X} → Some x ≡ Some y → x ≡ y
 some_is h = cc
 
-pub flat_map_step : {X : Type 0} (f : X → List ℕ) (xs : List X) (i : ℕ) (x : X) → slice_get xs i ≡ Some x → flat_map f (take (i + 1) xs) ≡ flat_map f (take i xs) ++ f x
+pub flat_map_step : {X : Type 0} (f : X → List ℕ) (xs : List X) (i : ℕ) (x : X) → slice_get xs i ≡ Some x
+    → flat_map f (take (i + 1) xs) ≡ flat_map f (take i xs) ++ f x
 flat_map_step f [] i x h = cc
 flat_map_step f (y ∷ ys) zero x h = append-nil (f y) ∙ ap f (some_is h)
 flat_map_step f (y ∷ ys) (suc i) x h =
     rw add-one (ap (λ l. f y ++ l) (rw add-one at (flat_map_step f ys i x h)) ∙ sym (append_assoc (f y) (flat_map f (take i ys)) (f x)))
 
-flat_map_rest : {X : Type 0} (f : X → List ℕ) (xs : List X) (i : ℕ) (x : X) → slice_get xs i ≡ Some x → flat_map f xs ≡ (flat_map f (take i xs) ++ f x) ++ flat_map f (drop (i + 1) xs)
+flat_map_rest : {X : Type 0} (f : X → List ℕ) (xs : List X) (i : ℕ) (x : X) → slice_get xs i ≡ Some x
+    → flat_map f xs ≡ (flat_map f (take i xs) ++ f x) ++ flat_map f (drop (i + 1) xs)
 flat_map_rest f xs i x h =
     ap (flat_map f) (sym (take-append-drop (i + 1) xs)) ∙ flat_map-append f (take (i + 1) xs) (drop (i + 1) xs)
     ∙ ap (λ l. l ++ flat_map f (drop (i + 1) xs)) (flat_map_step f xs i x h)
@@ -35,24 +38,29 @@ take_shorter (suc i) zero xs h = absurd (omega arith)
 take_shorter (suc i) (suc j) [] h = refl
 take_shorter (suc i) (suc j) (x ∷ xs) h = ap (λ l. x ∷ l) (take_shorter i j xs (omega arith))
 
-pub item_laid : {X : Type 0} {a b c : Progress} (f : X → List ℕ) (xs : List X) (i : ℕ) (x : X) → slice_get xs i ≡ Some x → IsLaid a b (flat_map f (take i xs)) → IsLaid b c (f x) → IsLaid a c (flat_map f (take (i + 1) xs))
+pub item_laid : {X : Type 0} {a b c : Progress} (f : X → List ℕ) (xs : List X) (i : ℕ) (x : X) → slice_get xs i ≡ Some x
+    → IsLaid a b (flat_map f (take i xs)) → IsLaid b c (f x) → IsLaid a c (flat_map f (take (i + 1) xs))
 item_laid {a = a} {c = c} f xs i x h p q = subst (IsLaid a c) (sym (flat_map_step f xs i x h)) (laid_then p q)
 
-pub item_cut : {X : Type 0} {a b c : Progress} (f : X → List ℕ) (xs : List X) (i : ℕ) (x : X) → slice_get xs i ≡ Some x → IsLaid a b (flat_map f (take i xs)) → IsCut b c (f x) → IsCut a c (flat_map f xs)
+pub item_cut : {X : Type 0} {a b c : Progress} (f : X → List ℕ) (xs : List X) (i : ℕ) (x : X) → slice_get xs i ≡ Some x
+    → IsLaid a b (flat_map f (take i xs)) → IsCut b c (f x) → IsCut a c (flat_map f xs)
 item_cut {a = a} {c = c} f xs i x h p q = subst (IsCut a c) (sym (flat_map_rest f xs i x h)) (cut_first _ (cut_then p q))
 
-pub items_laid : {X : Type 0} {a b : Progress} (f : X → List ℕ) (xs : List X) (i : ℕ) → length xs ≤ i → IsLaid a b (flat_map f (take i xs)) → IsLaid a b (flat_map f xs)
+pub items_laid : {X : Type 0} {a b : Progress} (f : X → List ℕ) (xs : List X) (i : ℕ) → length xs ≤ i → IsLaid a b (flat_map f (take i xs))
+    → IsLaid a b (flat_map f xs)
 items_laid {a = a} {b = b} f xs i h p = subst (λ l. IsLaid a b (flat_map f l)) (take_all i xs h) p
 
 -- a run of items, between two places
-pub run_laid : {X : Type 0} {a b c : Progress} (f : X → List ℕ) (xs : List X) (i j : ℕ) → i ≤ j → IsLaid a b (flat_map f (take i xs)) → IsLaid b c (flat_map f (drop i (take j xs))) → IsLaid a c (flat_map f (take j xs))
+pub run_laid : {X : Type 0} {a b c : Progress} (f : X → List ℕ) (xs : List X) (i j : ℕ) → i ≤ j → IsLaid a b (flat_map f (take i xs))
+    → IsLaid b c (flat_map f (drop i (take j xs))) → IsLaid a c (flat_map f (take j xs))
 run_laid {a = a} {c = c} f xs i j h p q =
     let parts : flat_map f (take j xs) ≡ flat_map f (take i xs) ++ flat_map f (drop i (take j xs)) =
     ap (flat_map f) (sym (take-append-drop i (take j xs))) ∙ flat_map-append f (take i (take j xs)) (drop i (take j xs))
     ∙ ap (λ l. flat_map f l ++ flat_map f (drop i (take j xs))) (take_shorter i j xs h) in
     subst (IsLaid a c) (sym parts) (laid_then p q)
 
-pub run_cut : {X : Type 0} {a b c : Progress} (f : X → List ℕ) (xs : List X) (i : ℕ) → IsLaid a b (flat_map f (take i xs)) → IsCut b c [] → IsCut a c (flat_map f xs)
+pub run_cut : {X : Type 0} {a b c : Progress} (f : X → List ℕ) (xs : List X) (i : ℕ) → IsLaid a b (flat_map f (take i xs)) → IsCut b c []
+    → IsCut a c (flat_map f xs)
 run_cut {a = a} {c = c} f xs i p q =
     let parts : flat_map f xs ≡ flat_map f (take i xs) ++ flat_map f (drop i xs) =
     ap (flat_map f) (sym (take-append-drop i xs)) ∙ flat_map-append f (take i xs) (drop i xs) in
@@ -69,29 +77,42 @@ joined f [] = refl
 joined f (x ∷ xs) = ap (λ l. f x ++ l) (joined f xs)
 
 -- the count and the items' texts
-pub counted_map : {X : Type 0} (order : Endianness) (f : X → List ℕ) (xs : List X) → counted order (map f xs) ≡ number_bytes order 4 (length xs) ++ flat_map f xs
+pub counted_map : {X : Type 0} (order : Endianness) (f : X → List ℕ) (xs : List X)
+    → counted order (map f xs) ≡ number_bytes order 4 (length xs) ++ flat_map f xs
 unfolding counted
 counted_map order f xs = rw (length-map xs f, joined f xs) refl
 
-pub lays_counted : {X : Type 0} (a b : Progress) (r : Result (Unit {0}) Stopped) (order : Endianness) (header : List ℕ) (f : X → List ℕ) (xs : List X) → Advances a b (header ++ counted order (map f xs)) r → Advances a b (header ++ (number_bytes order 4 (length xs) ++ flat_map f xs)) r
+pub lays_counted : {X : Type 0} (a b : Progress) (r : Result (Unit {0}) Stopped) (order : Endianness) (header : List ℕ) (f : X → List ℕ) (xs : List X)
+    → Advances a b (header ++ counted order (map f xs)) r → Advances a b (header ++ (number_bytes order 4 (length xs) ++ flat_map f xs)) r
 lays_counted a b r order header f xs p = subst (λ t. Advances a b (header ++ t) r) (counted_map order f xs) p
 
--- the same, of members in the form of members
-pub lays_members : {X : Type 0} (a b : Progress) (r : Result (Unit {0}) Stopped) (order : Endianness) (form within : Form) (k : ℕ) (d : Dimension) (dims read : Dimensions) (f : Form → Dimension → X → List ℕ) (xs : List X) → d ≡ written_dimension read → read ≡ dims → within ≡ inner form → Advances a b (header_text order form k d ++ counted order (map (f within (written_dimension dims)) xs)) r → Advances a b (members_text order form k (written_dimension dims) (length xs) (flat_map (f (inner form) (written_dimension dims)) xs)) r
+-- the same, of members
+pub lays_members : {X : Type 0} (a b : Progress) (r : Result (Unit {0}) Stopped) (order : Endianness) (form : Form) (k : ℕ) (d : Dimension) (dims read : Dimensions) (f : Dimension → X → List ℕ) (xs : List X) → d ≡ written_dimension read → read ≡ dims → Advances a b (header_text order form k d ++ counted order (map (f (written_dimension dims)) xs)) r → Advances a b (members_text order form k (written_dimension dims) (length xs) (flat_map (f (written_dimension dims)) xs)) r
 unfolding members_text
-lays_members a b r order form within k d dims read f xs named same is p =
+lays_members a b r order form k d dims read f xs named same p =
     let written : d ≡ written_dimension dims = named ∙ ap written_dimension same in
-    let texts = λ (h : Form). f h (written_dimension dims) in
-    subst (λ e. Advances a b (header_text order form k e ++ (number_bytes order 4 (length xs) ++ flat_map (texts (inner form)) xs)) r) written
-    (subst (λ h. Advances a b (header_text order form k d ++ (number_bytes order 4 (length xs) ++ flat_map (texts h) xs)) r) is
-    (lays_counted a b r order (header_text order form k d) (texts within) xs p))
+    lays_counted a b r order _ (f (written_dimension dims)) xs
+    (subst (λ e. Advances a b (header_text order form k e ++ counted order (map (f (written_dimension dims)) xs)) r) written p)
 
--- the steps of a loop that lays a header, a count and the items
-pub headed_count_cut : {X : Type 0} {a b c : Progress} (order : Endianness) (header : List ℕ) (f : X → List ℕ) (xs : List X) (n : ℕ) → n ≡ length xs → IsLaid a b header → IsCut b c (number_bytes order 4 n) → IsCut a c (header ++ counted order (map f xs))
-headed_count_cut order header f xs n is p q = rw (counted_map order f xs, ← is) (cut_then p (cut_first _ q))
+-- the steps of a loop that lays a header with a count, and then texts
+pub headed_item_cut : {a b c d : Progress} (order : Endianness) (header : List ℕ) (texts : List (List ℕ)) (n i : ℕ) (t : List ℕ) → n ≡ length texts
+    → slice_get texts i ≡ Some t → IsLaid a b (header ++ number_bytes order 4 n) → IsLaid b c (flat_map (λ s. s) (take i texts)) → IsCut c d t
+    → IsCut a d (header ++ counted order texts)
+unfolding counted
+headed_item_cut order header texts n i t is item p q last = rw (← is, ← append_assoc) (cut_then p (item_cut (λ s. s) texts i t item q last))
 
-pub headed_item_cut : {X : Type 0} {a b c d e : Progress} (order : Endianness) (header : List ℕ) (f : X → List ℕ) (xs : List X) (n i : ℕ) (x : X) → n ≡ length xs → slice_get xs i ≡ Some x → IsLaid a b header → IsLaid b c (number_bytes order 4 n) → IsLaid c d (flat_map f (take i xs)) → IsCut d e (f x) → IsCut a e (header ++ counted order (map f xs))
-headed_item_cut order header f xs n i x is item p q s last = rw (counted_map order f xs, ← is) (cut_then p (cut_then q (item_cut f xs i x item s last)))
+pub headed_items_laid : {a b c : Progress} (order : Endianness) (header : List ℕ) (texts : List (List ℕ)) (n i : ℕ) → n ≡ length texts → length texts ≤ i
+    → IsLaid a b (header ++ number_bytes order 4 n) → IsLaid b c (flat_map (λ s. s) (take i texts)) → IsLaid a c (header ++ counted order texts)
+unfolding counted
+headed_items_laid order header texts n i is past p q = rw (← is, ← append_assoc) (laid_then p (items_laid (λ s. s) texts i past q))
 
-pub headed_items_laid : {X : Type 0} {a b c d : Progress} (order : Endianness) (header : List ℕ) (f : X → List ℕ) (xs : List X) (n i : ℕ) → n ≡ length xs → length xs ≤ i → IsLaid a b header → IsLaid b c (number_bytes order 4 n) → IsLaid c d (flat_map f (take i xs)) → IsLaid a d (header ++ counted order (map f xs))
-headed_items_laid order header f xs n i is past p q s = rw (counted_map order f xs, ← is) (laid_then p (laid_then q (items_laid f xs i past s)))
+pub headed_cut : {a b : Progress} (order : Endianness) (header : List ℕ) (texts : List (List ℕ)) (n : ℕ) → n ≡ length texts
+    → IsCut a b (header ++ number_bytes order 4 n) → IsCut a b (header ++ counted order texts)
+unfolding counted
+headed_cut order header texts n is p = rw (← is, ← append_assoc) (cut_first _ p)
+
+-- the text of an item by the item
+pub text_of_item : {X : Type 0} (f : X → List ℕ) (xs : List X) (i : ℕ) (x : X) → slice_get xs i ≡ Some x → slice_get (map f xs) i ≡ Some (f x)
+text_of_item f [] i x h = cc
+text_of_item f (y ∷ ys) zero x h = ap (λ o. Some (f o)) (some_is h)
+text_of_item f (y ∷ ys) (suc i) x h = text_of_item f ys i x h

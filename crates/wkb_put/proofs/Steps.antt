@@ -9,6 +9,8 @@ pub ruleset flush_laws = (flushed, flush_cut)
 
 pub ruleset step_laws = (supported_at_least, supported_at_most, exits, cut_early, cut_first, laid_none, laid_here, lays_then)
 
-pub ruleset item_laws = (supported_at_least, supported_at_most, exits, cut_early, cut_first, laid_none, laid_here, some_below, none_first, none_rest, none_at, none_both, count_below)
+pub ruleset item_laws =
+    (supported_at_least, supported_at_most, exits, cut_early, cut_first, laid_none, laid_here, some_below, none_first, none_rest, none_at, none_both, count_below)
 
-pub ruleset node_laws = (supported_at_least, supported_at_most, exits, cut_early, cut_first, laid_none, laid_here, lays_then, none_first, none_rest, none_at, count_below, lays_counted, lays_members)
+pub ruleset node_laws =
+    (supported_at_least, supported_at_most, exits, cut_early, cut_first, laid_none, laid_here, lays_then, none_first, none_rest, none_at, count_below, lays_counted, lays_members)

@@ -1,5 +1,6 @@
 -- Parts of a text that are stored one after another.
-use Rattle.std.proofs.Common.{◌≡◌, ℕ, zero, suc, ◌+◌, ◌-◌, ◌*◌, ◌/◌, ◌<◌, ◌≤◌, List, [], ◌∷◌, ◌++◌, length, take, drop, Some, refl, sym, ap, ◌∙◌, append_assoc, append-nil, arith, length-drop, slice_get, slice_index, add-one}
+use Rattle.std.proofs.Common.{◌≡◌, ℕ, zero, suc, ◌+◌, ◌-◌, ◌*◌, ◌/◌, ◌<◌, ◌≤◌, List, [], ◌∷◌, ◌++◌, length, take, drop, Some, refl, sym, ap, ◌∙◌, append_assoc}
+use Rattle.std.proofs.Common.{append-nil, arith, length-drop, slice_get, slice_index, add-one}
 use Rattle.std.specs.List.{flat_map}
 use Rattle.std.proofs.lemmas.List.{length-take-le, take-append-le}
 use Rattle.std.proofs.Math.Nat.{mul-add, mul-le-mul_left}
@@ -17,7 +18,8 @@ pub stored : (t rest : List ℕ) (n : ℕ) → length t ≡ n → take n (t ++ r
 stored t rest n len = ap (λ k. take k (t ++ rest)) (sym len) ∙ take-append_seam t rest
 
 -- a text that was stored behind another
-pub stored_next : (all part t s : List ℕ) (at n k : ℕ) → take at all ≡ t → at ≤ length all → take n part ≡ s → n ≤ length part → take (at + n) (put_mid at k all part) ≡ t ++ s
+pub stored_next : (all part t s : List ℕ) (at n k : ℕ) → take at all ≡ t → at ≤ length all → take n part ≡ s → n ≤ length part
+    → take (at + n) (put_mid at k all part) ≡ t ++ s
 stored_next all part t s at n k is fits part_is part_fits =
     let front = take at all in
     let len : length front ≡ at = length-take-le at all fits in
@@ -27,14 +29,16 @@ stored_next all part t s at n k is fits part_is part_fits =
     ∙ ap (λ l. l ++ s) is
 
 -- the words of two to four, one after another
-pub two_words : (order : Endianness) (ws : List ℕ) → length ws ≡ 2 → words_text order ws ≡ number_bytes order 8 (slice_index ws 0) ++ number_bytes order 8 (slice_index ws 1)
+pub two_words : (order : Endianness) (ws : List ℕ) → length ws ≡ 2
+    → words_text order ws ≡ number_bytes order 8 (slice_index ws 0) ++ number_bytes order 8 (slice_index ws 1)
 unfolding words_text
 two_words order (x ∷ y ∷ []) h = simp append-nil refl
 two_words order [] h = absurd (omega arith)
 two_words order (x ∷ []) h = absurd (omega arith)
 two_words order (x ∷ y ∷ z ∷ rest) h = absurd (omega arith)
 
-pub three_words : (order : Endianness) (ws : List ℕ) → length ws ≡ 3 → words_text order ws ≡ (number_bytes order 8 (slice_index ws 0) ++ number_bytes order 8 (slice_index ws 1)) ++ number_bytes order 8 (slice_index ws 2)
+pub three_words : (order : Endianness) (ws : List ℕ) → length ws ≡ 3
+    → words_text order ws ≡ (number_bytes order 8 (slice_index ws 0) ++ number_bytes order 8 (slice_index ws 1)) ++ number_bytes order 8 (slice_index ws 2)
 unfolding words_text
 three_words order (x ∷ y ∷ z ∷ []) h = simp (append-nil, append_assoc) refl
 three_words order [] h = absurd (omega arith)
@@ -42,7 +46,8 @@ three_words order (x ∷ []) h = absurd (omega arith)
 three_words order (x ∷ y ∷ []) h = absurd (omega arith)
 three_words order (x ∷ y ∷ z ∷ w ∷ rest) h = absurd (omega arith)
 
-pub four_words : (order : Endianness) (ws : List ℕ) → length ws ≡ 4 → words_text order ws ≡ (number_bytes order 8 (slice_index ws 0) ++ number_bytes order 8 (slice_index ws 1)) ++ (number_bytes order 8 (slice_index ws 2) ++ number_bytes order 8 (slice_index ws 3))
+pub four_words : (order : Endianness) (ws : List ℕ) → length ws ≡ 4
+    → words_text order ws ≡ (number_bytes order 8 (slice_index ws 0) ++ number_bytes order 8 (slice_index ws 1)) ++ (number_bytes order 8 (slice_index ws 2) ++ number_bytes order 8 (slice_index ws 3))
 unfolding words_text
 four_words order (x ∷ y ∷ z ∷ w ∷ []) h = simp (append-nil, append_assoc) refl
 four_words order [] h = absurd (omega arith)
@@ -54,14 +59,17 @@ four_words order (x ∷ y ∷ z ∷ w ∷ v ∷ rest) h = absurd (omega arith)
 pub ruleset stored_laws = (stored)
 
 -- one item more of a run from one place on
-pub run_step : {X : Type 0} (f : X → List ℕ) (xs : List X) (start i : ℕ) (x : X) → slice_get xs i ≡ Some x → start ≤ i → flat_map f (drop start (take (i + 1) xs)) ≡ flat_map f (drop start (take i xs)) ++ f x
+pub run_step : {X : Type 0} (f : X → List ℕ) (xs : List X) (start i : ℕ) (x : X) → slice_get xs i ≡ Some x → start ≤ i
+    → flat_map f (drop start (take (i + 1) xs)) ≡ flat_map f (drop start (take i xs)) ++ f x
 run_step f [] start i x item h = cc
 run_step f (y ∷ ys) zero i x item h = flat_map_step f (y ∷ ys) i x item
 run_step f (y ∷ ys) (suc start) zero x item h = absurd (omega arith)
 run_step f (y ∷ ys) (suc start) (suc i) x item h = rw add-one (rw add-one at (run_step f ys start i x item (omega arith)))
 
 -- a text that was stored behind the bytes that wait in a block
-pub block_next : (old : Waiting) (bytes part s : List ℕ) (len n : ℕ) → record { waiting = take len bytes; room = length bytes - len } ≡ old → len ≤ length bytes → length part ≡ length (mid_of len (length bytes - len) bytes) → n ≤ old.room → take n part ≡ s → IsExtended old.waiting (take (len + n) (put_mid len (length bytes - len) bytes part)) s
+pub block_next : (old : Waiting) (bytes part s : List ℕ) (len n : ℕ) → record { waiting = take len bytes; room = length bytes - len } ≡ old
+    → len ≤ length bytes → length part ≡ length (mid_of len (length bytes - len) bytes) → n ≤ old.room → take n part ≡ s
+    → IsExtended old.waiting (take (len + n) (put_mid len (length bytes - len) bytes part)) s
 block_next old bytes part s len n is fits many room stored =
     let left : length (drop len bytes) ≡ length bytes - len = length-drop len bytes in
     let free : length part ≡ length bytes - len = many ∙ length-take-le (length bytes - len) (drop len bytes) (omega (arith, left)) in

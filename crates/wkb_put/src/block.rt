@@ -88,7 +88,7 @@ impl<'a> Block<'a> {
     }
 
     /// Lays a coordinate of two, three or four words.
-    #[inline]
+    #[inline(always)]
     pub fn lay_coordinate<C: CoordTrait>(&mut self, coord: &C, order: Endianness)
         requires least { 2 ≤ size (C.dimensions coord.now) }
         requires most { size (C.dimensions coord.now) ≤ 4 }

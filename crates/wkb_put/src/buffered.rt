@@ -1,6 +1,6 @@
 //! Bytes to a sink, by blocks.
 
-ghost use Rattle.std.specs.Prelude.{◌≡◌, ◌≤◌, [], false, IfOk};
+ghost use Rattle.std.specs.Prelude.{◌≡◌, ◌≤◌, ◌++◌, [], false, IfOk};
 ghost use Rattle.wkb_geom.specs.Numbers.{number_bytes};
 ghost use Rattle.wkb_geom.specs.Reading.{type_kind, type_dimension};
 ghost use Rattle.wkb_geom.specs.Texts.{header_text};
@@ -29,7 +29,7 @@ pub struct Buffered<'a, S: Sink> {
 }
 
 /// Puts all of the bytes, or as many as the sink takes before it fails: by an error, or by taking no byte.
-#[inline]
+#[inline(always)]
 pub fn put_all<S: Sink>(sink: &mut S, bytes: &[u8]) -> Result<(), Option<io::Error>>
     requires { S.has_failed sink.old ≡ false }
     ensures { Moves (S.appended sink.old) (S.appended sink.new) (S.has_failed sink.new) bytes.now result }
@@ -47,7 +47,7 @@ pub fn put_all<S: Sink>(sink: &mut S, bytes: &[u8]) -> Result<(), Option<io::Err
 
 impl<'a, S: Sink> Buffered<'a, S> {
     /// Puts what waits.
-    #[inline]
+    #[inline(always)]
     #[tactic(auto, using(crate::proofs::Steps::flush_laws))]
     pub fn flush(&mut self) -> Result<(), Stopped>
         requires { S.has_failed self.old.sink.now ≡ false }
@@ -118,6 +118,24 @@ impl<'a, S: Sink> Buffered<'a, S> {
     {
         self.make_room(HEADER)?;
         lay_header(&mut self.block, order, form, kind);
+        Ok(())
+    }
+    /// Puts a header of this code, and a count.
+    #[tactic(auto, using(crate::proofs::Steps::step_laws))]
+    pub fn put_head(
+        &mut self,
+        order: Endianness,
+        form: Form,
+        kind: WkbType,
+        n: u32,
+    ) -> Result<(), Stopped>
+        requires working { S.has_failed self.old.sink.now ≡ false }
+        ensures { Lays S.appended S.has_failed self.old self.new
+            (header_text order form (type_kind kind) (type_dimension kind) ++ number_bytes order 4 n) result }
+    {
+        self.make_room(HEADER + COUNT)?;
+        lay_header(&mut self.block, order, form, kind);
+        lay_count(&mut self.block, order, n);
         Ok(())
     }
 }

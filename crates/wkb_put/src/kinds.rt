@@ -1,16 +1,18 @@
 //! Geometries of one part, and polygons.
 
 ghost use Rattle.std.specs.Prelude.{◌≡◌, ◌<◌, ◌^◌, ◌++◌, ℕ, List, [], None, false, length, map, get_or};
-ghost use Rattle.wkb_geom.specs.Geometries.{point, line_string, polygon, line, rectangle, triangle};
+ghost use Rattle.wkb_geom.specs.declared.common.Endianness.{Endianness};
+ghost use Rattle.wkb_geom.specs.declared.common.Form.{Form};
+ghost use Rattle.wkb_geom.specs.Geometries.{Geometry, point, line_string, polygon, line, rectangle, triangle};
 ghost use Rattle.wkb_geom.specs.Reading.{type_kind, type_dimension};
-ghost use Rattle.wkb_geom.specs.Texts.{coordinates_text, dimensions_fault, fault, header_text, text};
+ghost use Rattle.wkb_geom.specs.Texts.{coordinates_text, dimensions_fault, fault, header_text, inner, text};
 ghost use Rattle.wkb_put.specs.Items.{counted};
 ghost use Rattle.wkb_put.specs.Progress.{Lays};
 
 use crate::Sink;
 use crate::buffered::{Buffered, Stopped};
 use crate::lay::{lay_corner, lay_count, lay_empty, lay_header, written};
-use crate::sizes::{COORDINATE, CORNER, LINE, POINT, RECT, TRIANGLE};
+use crate::sizes::{COORDINATE, CORNER, LINE, POINT, RECT, SHORT_TEXT, TRIANGLE};
 use wkb_geom::code::WkbType;
 use wkb_geom::rings::{ring_at, ring_count};
 use wkb_geom::{
@@ -21,103 +23,135 @@ use wkb_geom::{
 /// As many coordinates make a run: for so many or more of two words the block has room before some of them are laid.
 const RUN: usize = 8;
 
-/// Puts a point, empty or not.
-#[tactic(auto, using(crate::proofs::Steps::step_laws))]
-pub fn put_point<S: Sink, P: PointTrait>(
-    out: &mut Buffered<'_, S>,
-    geom: &P,
-    order: Endianness,
-    form: Form,
-) -> Result<(), Stopped>
-    requires fault { fault (point (P.dimensions geom.now) (P.coordinate geom.now)) ≡ None }
-    requires working { S.has_failed out.old.sink.now ≡ false }
-    ensures { Lays S.appended S.has_failed out.old out.new
-        (text order form (point (P.dimensions geom.now) (P.coordinate geom.now))) result }
-{
-    let dim = written(geom.dim());
-    out.make_room(POINT)?;
-    lay_header(&mut out.block, order, form, WkbType::Point(dim));
-    match geom.coord() {
-        Some(coord) => out.block.lay_coordinate(&coord, order),
-        None => lay_empty(&mut out.block, order, dim),
+/// How the geometries of a kind are put.
+pub trait Kind<G> {
+    // What a geometry means.
+    ghost geometry: { G → Geometry };
+
+    /// Whether a text of this size goes by a small block.
+    #[inline(always)]
+    fn is_short(size: usize) -> bool {
+        size <= SHORT_TEXT
     }
-    Ok(())
+
+    /// Puts a geometry that has no fault.
+    fn put<S: Sink>(
+        out: &mut Buffered<'_, S>,
+        geom: &G,
+        order: Endianness,
+        form: Form,
+    ) -> Result<(), Stopped>
+        requires fault { fault (geometry geom.now) ≡ None }
+        requires working { S.has_failed out.old.sink.now ≡ false }
+        ensures { Lays S.appended S.has_failed out.old out.new (text order form (geometry geom.now)) result };
 }
 
-/// Puts a line, as a line string of its two ends.
+/// A point, empty or not.
+pub struct OfPoint;
+
 #[tactic(auto, using(crate::proofs::Steps::step_laws))]
-pub fn put_line<S: Sink, L: LineTrait>(
-    out: &mut Buffered<'_, S>,
-    geom: &L,
-    order: Endianness,
-    form: Form,
-) -> Result<(), Stopped>
-    requires fault { fault (line (L.dimensions geom.now) (L.start_words geom.now) (L.end_words geom.now)) ≡ None }
-    requires working { S.has_failed out.old.sink.now ≡ false }
-    ensures { Lays S.appended S.has_failed out.old out.new
-        (text order form (line (L.dimensions geom.now) (L.start_words geom.now) (L.end_words geom.now))) result }
-{
-    let kind = WkbType::LineString(written(geom.dim()));
-    out.make_room(LINE)?;
-    lay_header(&mut out.block, order, form, kind);
-    lay_count(&mut out.block, order, 2);
-    out.block.lay_coordinate(&geom.start(), order);
-    out.block.lay_coordinate(&geom.end(), order);
-    Ok(())
+impl<P: PointTrait> Kind<P> for OfPoint {
+    ghost geometry = { λ p. point (P.dimensions p) (P.coordinate p) };
+
+    #[inline(always)]
+    fn is_short(_size: usize) -> bool {
+        true
+    }
+
+    #[inline(always)]
+    fn put<S: Sink>(
+        out: &mut Buffered<'_, S>,
+        geom: &P,
+        order: Endianness,
+        form: Form,
+    ) -> Result<(), Stopped> {
+        let dim = written(geom.dim());
+        out.make_room(POINT)?;
+        lay_header(&mut out.block, order, form, WkbType::Point(dim));
+        match geom.coord() {
+            Some(coord) => out.block.lay_coordinate(&coord, order),
+            None => lay_empty(&mut out.block, order, dim),
+        }
+        Ok(())
+    }
 }
 
-/// Puts a rectangle, as a polygon of one ring of x and y alone.
+/// A line, which is put as a line string of its two ends.
+pub struct OfLine;
+
 #[tactic(auto, using(crate::proofs::Steps::step_laws))]
-pub fn put_rect<S: Sink, R: RectTrait>(
-    out: &mut Buffered<'_, S>,
-    geom: &R,
-    order: Endianness,
-    form: Form,
-) -> Result<(), Stopped>
-    requires fault { fault (rectangle (R.dimensions geom.now) (R.min_words geom.now) (R.max_words geom.now)) ≡ None }
-    requires working { S.has_failed out.old.sink.now ≡ false }
-    ensures { Lays S.appended S.has_failed out.old out.new
-        (text order form (rectangle (R.dimensions geom.now) (R.min_words geom.now) (R.max_words geom.now))) result }
-{
-    let (x0, y0) = geom.min().x_y();
-    let (x1, y1) = geom.max().x_y();
-    out.make_room(RECT)?;
-    lay_header(&mut out.block, order, form, WkbType::Polygon(Dimension::Xy));
-    lay_count(&mut out.block, order, 1);
-    lay_count(&mut out.block, order, 5);
-    lay_corner(&mut out.block, order, x0, y0);
-    lay_corner(&mut out.block, order, x0, y1);
-    lay_corner(&mut out.block, order, x1, y1);
-    lay_corner(&mut out.block, order, x1, y0);
-    lay_corner(&mut out.block, order, x0, y0);
-    Ok(())
+impl<L: LineTrait> Kind<L> for OfLine {
+    ghost geometry = { λ l. line (L.dimensions l) (L.start_words l) (L.end_words l) };
+
+    fn put<S: Sink>(
+        out: &mut Buffered<'_, S>,
+        geom: &L,
+        order: Endianness,
+        form: Form,
+    ) -> Result<(), Stopped> {
+        let kind = WkbType::LineString(written(geom.dim()));
+        out.make_room(LINE)?;
+        lay_header(&mut out.block, order, form, kind);
+        lay_count(&mut out.block, order, 2);
+        out.block.lay_coordinate(&geom.start(), order);
+        out.block.lay_coordinate(&geom.end(), order);
+        Ok(())
+    }
 }
 
-/// Puts a triangle, as a polygon of one ring, which ends as it begins.
+/// A rectangle, which is put as a polygon of one ring of x and y alone.
+pub struct OfRect;
+
 #[tactic(auto, using(crate::proofs::Steps::step_laws))]
-pub fn put_triangle<S: Sink, T: TriangleTrait>(
-    out: &mut Buffered<'_, S>,
-    geom: &T,
-    order: Endianness,
-    form: Form,
-) -> Result<(), Stopped>
-    requires fault { fault (triangle (T.dimensions geom.now)
-        (T.first_words geom.now) (T.second_words geom.now) (T.third_words geom.now)) ≡ None }
-    requires working { S.has_failed out.old.sink.now ≡ false }
-    ensures { Lays S.appended S.has_failed out.old out.new (text order form (triangle (T.dimensions geom.now)
-        (T.first_words geom.now) (T.second_words geom.now) (T.third_words geom.now))) result }
-{
-    let kind = WkbType::Polygon(written(geom.dim()));
-    let first = geom.first();
-    out.make_room(TRIANGLE)?;
-    lay_header(&mut out.block, order, form, kind);
-    lay_count(&mut out.block, order, 1);
-    lay_count(&mut out.block, order, 4);
-    out.block.lay_coordinate(&first, order);
-    out.block.lay_coordinate(&geom.second(), order);
-    out.block.lay_coordinate(&geom.third(), order);
-    out.block.lay_coordinate(&first, order);
-    Ok(())
+impl<R: RectTrait> Kind<R> for OfRect {
+    ghost geometry = { λ r. rectangle (R.dimensions r) (R.min_words r) (R.max_words r) };
+
+    fn put<S: Sink>(
+        out: &mut Buffered<'_, S>,
+        geom: &R,
+        order: Endianness,
+        form: Form,
+    ) -> Result<(), Stopped> {
+        let (x0, y0) = geom.min().x_y();
+        let (x1, y1) = geom.max().x_y();
+        out.make_room(RECT)?;
+        lay_header(&mut out.block, order, form, WkbType::Polygon(Dimension::Xy));
+        lay_count(&mut out.block, order, 1);
+        lay_count(&mut out.block, order, 5);
+        lay_corner(&mut out.block, order, x0, y0);
+        lay_corner(&mut out.block, order, x0, y1);
+        lay_corner(&mut out.block, order, x1, y1);
+        lay_corner(&mut out.block, order, x1, y0);
+        lay_corner(&mut out.block, order, x0, y0);
+        Ok(())
+    }
+}
+
+/// A triangle, which is put as a polygon of one ring, which ends as it begins.
+pub struct OfTriangle;
+
+#[tactic(auto, using(crate::proofs::Steps::step_laws))]
+impl<T: TriangleTrait> Kind<T> for OfTriangle {
+    ghost geometry = { λ t. triangle (T.dimensions t) (T.first_words t) (T.second_words t) (T.third_words t) };
+
+    fn put<S: Sink>(
+        out: &mut Buffered<'_, S>,
+        geom: &T,
+        order: Endianness,
+        form: Form,
+    ) -> Result<(), Stopped> {
+        let kind = WkbType::Polygon(written(geom.dim()));
+        let first = geom.first();
+        out.make_room(TRIANGLE)?;
+        lay_header(&mut out.block, order, form, kind);
+        lay_count(&mut out.block, order, 1);
+        lay_count(&mut out.block, order, 4);
+        out.block.lay_coordinate(&first, order);
+        out.block.lay_coordinate(&geom.second(), order);
+        out.block.lay_coordinate(&geom.third(), order);
+        out.block.lay_coordinate(&first, order);
+        Ok(())
+    }
 }
 
 /// Puts the coordinates of a line string or a ring, after their count.
@@ -150,111 +184,107 @@ fn put_coordinates<S: Sink, L: LineStringTrait>(
     Ok(())
 }
 
-/// Puts a line string.
+/// A line string.
+pub struct OfLineString;
+
 #[tactic(auto, using(crate::proofs::Steps::node_laws), unfolding(wkb_geom::specs::Texts::line_string_text))]
-pub fn put_line_string<S: Sink, L: LineStringTrait>(
-    out: &mut Buffered<'_, S>,
-    geom: &L,
-    order: Endianness,
-    form: Form,
-) -> Result<(), Stopped>
-    requires fault { fault (line_string (L.dimensions geom.now) (L.coordinates geom.now)) ≡ None }
-    requires working { S.has_failed out.old.sink.now ≡ false }
-    ensures { Lays S.appended S.has_failed out.old out.new
-        (text order form (line_string (L.dimensions geom.now) (L.coordinates geom.now))) result }
-{
-    out.put_header(order, form, WkbType::LineString(written(geom.dim())))?;
-    put_coordinates(out, geom, order)
+impl<L: LineStringTrait> Kind<L> for OfLineString {
+    ghost geometry = { λ l. line_string (L.dimensions l) (L.coordinates l) };
+
+    fn put<S: Sink>(
+        out: &mut Buffered<'_, S>,
+        geom: &L,
+        order: Endianness,
+        form: Form,
+    ) -> Result<(), Stopped> {
+        out.put_header(order, form, WkbType::LineString(written(geom.dim())))?;
+        put_coordinates(out, geom, order)
+    }
 }
 
-/// How the items of a geometry are put that stand after their count.
+/// A kind whose geometries are items behind a count.
 pub trait Items<G> {
-    // Whether the geometry has no fault.
-    ghost is_fine: { Self → G → Type 0 };
+    // Whether a geometry has no fault.
+    ghost is_fine: { G → Type 0 };
 
-    // The texts of the items, in order.
-    ghost texts: { Self → G → List (List ℕ) };
+    // The texts of the items, in order, under the order and the form of items.
+    ghost texts: { Endianness → Form → G → List (List ℕ) };
 
-    fn count(&self, geom: &G) -> u32
-        requires { is_fine self.now geom.now }
-        ensures { result ≡ length (texts self.now geom.now) };
+    fn count(geom: &G) -> u32
+        requires { is_fine geom.now }
+        ensures { (order : Endianness) (form : Form) → result ≡ length (texts order form geom.now) };
 
     fn put_item<S: Sink>(
-        &self,
         out: &mut Buffered<'_, S>,
         geom: &G,
         i: usize,
+        order: Endianness,
+        form: Form,
     ) -> Result<(), Stopped>
-        requires fine { is_fine self.now geom.now }
-        requires within { i < length (texts self.now geom.now) }
+        requires fine { is_fine geom.now }
+        requires within { i < length (texts order form geom.now) }
         requires working { S.has_failed out.old.sink.now ≡ false }
-        ensures { Lays S.appended S.has_failed out.old out.new (get_or (texts self.now geom.now) i []) result };
+        ensures { Lays S.appended S.has_failed out.old out.new (get_or (texts order form geom.now) i []) result };
 }
 
 /// Puts a header of this code, and the items after their count.
 #[tactic(auto, using(crate::proofs::Steps::step_laws))]
-pub fn put_whole<S: Sink, G, I: Items<G>>(
+pub fn put_items<S: Sink, G, I: Items<G>>(
     out: &mut Buffered<'_, S>,
-    items: &I,
     geom: &G,
     order: Endianness,
     form: Form,
     kind: WkbType,
 ) -> Result<(), Stopped>
-    requires fine { I.is_fine items.now geom.now }
+    requires fine { I.is_fine geom.now }
     requires working { S.has_failed out.old.sink.now ≡ false }
     ensures { Lays S.appended S.has_failed out.old out.new
         (header_text order form (type_kind kind) (type_dimension kind)
-        ++ counted order (I.texts items.now geom.now)) result }
+        ++ counted order (I.texts order (inner form) geom.now)) result }
 {
-    out.put_header(order, form, kind)?;
-    let count = items.count(geom);
-    out.put_count(order, count)?;
+    let count = I::count(geom);
+    out.put_head(order, form, kind, count)?;
     for i in 0..count as usize {
-        items.put_item(out, geom, i)?;
+        I::put_item(out, geom, i, order, form.inner())?;
     }
     Ok(())
 }
 
-/// A polygon's rings.
-#[derive(Clone, Copy)]
-struct Rings {
-    order: Endianness,
+/// A polygon.
+pub struct OfPolygon;
+
+#[tactic(auto, using(crate::proofs::Steps::node_laws), unfolding(wkb_geom::specs::Texts::polygon_text))]
+impl<P: PolygonTrait> Kind<P> for OfPolygon {
+    ghost geometry = { λ p. polygon (P.dimensions p) (P.rings p) };
+
+    fn put<S: Sink>(
+        out: &mut Buffered<'_, S>,
+        geom: &P,
+        order: Endianness,
+        form: Form,
+    ) -> Result<(), Stopped> {
+        let kind = WkbType::Polygon(written(geom.dim()));
+        put_items::<S, P, OfPolygon>(out, geom, order, form, kind)
+    }
 }
 
 #[tactic(auto, using(crate::proofs::Steps::item_laws))]
-impl<G: PolygonTrait> Items<G> for Rings {
-    ghost is_fine = { λ how geom. fault (polygon (G.dimensions geom) (G.rings geom)) ≡ None };
+impl<P: PolygonTrait> Items<P> for OfPolygon {
+    ghost is_fine = { λ p. fault (polygon (P.dimensions p) (P.rings p)) ≡ None };
 
-    ghost texts = { λ how geom. map (coordinates_text how.order) (G.rings geom) };
+    ghost texts = { λ order form p. map (coordinates_text order) (P.rings p) };
 
-    fn count(&self, geom: &G) -> u32 {
+    fn count(geom: &P) -> u32 {
         ring_count(geom) as u32
     }
 
     fn put_item<S: Sink>(
-        &self,
         out: &mut Buffered<'_, S>,
-        geom: &G,
+        geom: &P,
         i: usize,
+        order: Endianness,
+        _form: Form,
     ) -> Result<(), Stopped> {
-        put_coordinates(out, &ring_at(geom, i), self.order)
+        put_coordinates(out, &ring_at(geom, i), order)
     }
-}
-
-/// Puts a polygon.
-#[tactic(auto, using(crate::proofs::Steps::node_laws), unfolding(wkb_geom::specs::Texts::polygon_text))]
-pub fn put_polygon<S: Sink, P: PolygonTrait>(
-    out: &mut Buffered<'_, S>,
-    geom: &P,
-    order: Endianness,
-    form: Form,
-) -> Result<(), Stopped>
-    requires fault { fault (polygon (P.dimensions geom.now) (P.rings geom.now)) ≡ None }
-    requires working { S.has_failed out.old.sink.now ≡ false }
-    ensures { Lays S.appended S.has_failed out.old out.new
-        (text order form (polygon (P.dimensions geom.now) (P.rings geom.now))) result }
-{
-    let kind = WkbType::Polygon(written(geom.dim()));
-    put_whole(out, &Rings { order }, geom, order, form, kind)
 }

@@ -40,6 +40,7 @@ pub fn lay_count(block: &mut Block<'_>, order: Endianness, n: u32)
 }
 
 /// Lays the order's byte, the code, and the SRID where there is one.
+#[inline(always)]
 pub fn lay_header(block: &mut Block<'_>, order: Endianness, form: Form, kind: WkbType)
     requires { HEADER ≤ block.old.room }
     ensures room { block.old.room ≤ block.new.room + HEADER }

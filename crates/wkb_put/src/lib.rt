@@ -16,5 +16,8 @@ mod sink;
 mod sizes;
 mod store;
 
-pub use nodes::{put_geometry, put_geometry_collection};
+pub use buffered::Stopped;
+pub use kinds::{Kind, OfLine, OfLineString, OfPoint, OfPolygon, OfRect, OfTriangle};
+pub use multi::{OfMultiLineString, OfMultiPoint, OfMultiPolygon};
+pub use nodes::{OfGeometry, OfGeometryCollection, answer, put_geometry};
 pub use sink::{Out, Sink, SliceSink, VecSink};

@@ -1,7 +1,7 @@
 //! Geometries of any kind, once no fault is left.
 
 ghost use Rattle.std.specs.Prelude.{◌≡◌, ◌<◌, ◌≤◌, ◌^◌, ◌++◌, Bool, false, ℕ, List, [], length, map};
-ghost use Rattle.std.specs.Prelude.{Option, None, IfSome, IfOk};
+ghost use Rattle.std.specs.Prelude.{Option, None, Err, IfSome, IfOk, IsErrAnd};
 ghost use Rattle.wkb_geom.specs.Geometries.{collection, geometries};
 ghost use Rattle.wkb_geom.specs.Texts.{text, fault, first_fault, header_text, inner};
 ghost use Rattle.wkb_put.specs.Items.{counted};
@@ -12,10 +12,10 @@ ghost use Rattle.wkb_put.specs.declared.sizes.TheConstants.{LEAST};
 use crate::Sink;
 use crate::block::Block;
 use crate::buffered::{Buffered, Stopped};
-use crate::kinds::{put_line, put_line_string, put_point, put_polygon, put_rect, put_triangle};
+use crate::kinds::{Kind, OfLine, OfLineString, OfPoint, OfPolygon, OfRect, OfTriangle};
 use crate::lay::written;
-use crate::multi::{put_multi_line_string, put_multi_point, put_multi_polygon};
-use crate::sizes::LEAST;
+use crate::multi::{OfMultiLineString, OfMultiPoint, OfMultiPolygon};
+use crate::sizes::{LARGE, LEAST, SMALL};
 use std::io;
 use std::io::ErrorKind;
 use wkb_geom::code::WkbType;
@@ -41,8 +41,8 @@ fn put_members<S: Sink, G: GeometryTrait>(
         (header_text order form 7 dim
         ++ counted order (map (λ m. text order (inner form) (G.geometry m)) members.now)) result }
 {
-    out.put_header(order, form, WkbType::GeometryCollection(dim))?;
-    out.put_count(order, members.len() as u32)?;
+    let count = members.len() as u32;
+    out.put_head(order, form, WkbType::GeometryCollection(dim), count)?;
     for member in members {
         put_node(out, member, order, form.inner())?;
     }
@@ -63,182 +63,118 @@ fn put_node<S: Sink, G: GeometryTrait>(
     ensures { Lays S.appended S.has_failed out.old out.new (text order form (G.geometry geom.now)) result }
 {
     match geom.as_type() {
-        GeometryType::Point(p) => put_point(out, p, order, form),
-        GeometryType::LineString(l) => put_line_string(out, l, order, form),
-        GeometryType::Polygon(p) => put_polygon(out, p, order, form),
-        GeometryType::MultiPoint(m) => put_multi_point(out, m, order, form),
-        GeometryType::MultiLineString(m) => put_multi_line_string(out, m, order, form),
-        GeometryType::MultiPolygon(m) => put_multi_polygon(out, m, order, form),
-        GeometryType::Rect(r) => put_rect(out, r, order, form),
-        GeometryType::Triangle(t) => put_triangle(out, t, order, form),
-        GeometryType::Line(l) => put_line(out, l, order, form),
+        GeometryType::Point(p) => OfPoint::put(out, p, order, form),
+        GeometryType::LineString(l) => OfLineString::put(out, l, order, form),
+        GeometryType::Polygon(p) => OfPolygon::put(out, p, order, form),
+        GeometryType::MultiPoint(m) => OfMultiPoint::put(out, m, order, form),
+        GeometryType::MultiLineString(m) => OfMultiLineString::put(out, m, order, form),
+        GeometryType::MultiPolygon(m) => OfMultiPolygon::put(out, m, order, form),
+        GeometryType::Rect(r) => OfRect::put(out, r, order, form),
+        GeometryType::Triangle(t) => OfTriangle::put(out, t, order, form),
+        GeometryType::Line(l) => OfLine::put(out, l, order, form),
         GeometryType::GeometryCollection(members) => {
             put_members(out, members, order, form, written(geom.dim()))
         }
     }
 }
 
-// Puts a collection, whose members are of another type.
-fn put_collection<S: Sink, C: GeometryCollectionTrait>(
-    out: &mut Buffered<'_, S>,
-    geom: &C,
-    order: Endianness,
-    form: Form,
-) -> Result<(), Stopped>
-    requires fault { fault (collection (C.dimensions geom.now) (geometries (C.members geom.now))) ≡ None }
-    requires working { S.has_failed out.old.sink.now ≡ false }
-    ensures { Lays S.appended S.has_failed out.old out.new
-        (text order form (collection (C.dimensions geom.now) (geometries (C.members geom.now)))) result }
-{
-    let dim = written(geom.dim());
-    put_members(out, geom.geometries(), order, form, dim)
+/// A geometry of any kind.
+pub struct OfGeometry;
+
+impl<G: GeometryTrait> Kind<G> for OfGeometry {
+    ghost geometry = { λ g. G.geometry g };
+
+    fn put<S: Sink>(
+        out: &mut Buffered<'_, S>,
+        geom: &G,
+        order: Endianness,
+        form: Form,
+    ) -> Result<(), Stopped> {
+        put_node(out, geom, order, form)
+    }
 }
 
-// The answer to the caller: where the sink stopped, its own error, or that it took no byte.
+/// A collection, whose members are of another type.
+pub struct OfGeometryCollection;
+
+impl<C: GeometryCollectionTrait> Kind<C> for OfGeometryCollection {
+    ghost geometry = { λ c. collection (C.dimensions c) (geometries (C.members c)) };
+
+    fn put<S: Sink>(
+        out: &mut Buffered<'_, S>,
+        geom: &C,
+        order: Endianness,
+        form: Form,
+    ) -> Result<(), Stopped> {
+        let dim = written(geom.dim());
+        put_members(out, geom.geometries(), order, form, dim)
+    }
+}
+
+/// The answer to the caller: where the sink stopped, its own error, or that it took no byte.
 #[inline(always)]
-fn answer(put: Result<(), Stopped>, error: &mut Option<io::Error>) -> WkbResult<()>
+pub fn answer(put: Result<(), Stopped>, error: &mut Option<io::Error>) -> WkbResult<()>
     ensures { (old new : Option (List ℕ)) (failed : Bool) (text : List ℕ)
         → Moves old new failed text put → Puts old new failed text result }
 {
     match put {
         Ok(()) => Ok(()),
-        Err(Stopped) => Err(failure(error)),
+        Err(Stopped) => failure(error),
     }
 }
 
 // Not inlined: an error takes more room than all else in its callers.
 #[cold]
 #[inline(never)]
-fn failure(error: &mut Option<io::Error>) -> WkbError
-    ensures kind { IsIOError result }
-    ensures own { IfSome error.old (λ e. result ≡ WkbError.IOError e) }
+fn failure(error: &mut Option<io::Error>) -> WkbResult<()>
+    ensures kind { IsErrAnd result (λ e. IsIOError e) }
+    ensures own { IfSome error.old (λ e. result ≡ Err (WkbError.IOError e)) }
 {
     match error.take() {
-        Some(error) => WkbError::IOError(error),
-        None => WkbError::IOError(io::Error::from(ErrorKind::WriteZero)),
+        Some(error) => Err(WkbError::IOError(error)),
+        None => Err(WkbError::IOError(io::Error::from(ErrorKind::WriteZero))),
     }
 }
 
-// To make a block takes time by its size. A short text goes by a small block, which it fits with room for
-// the step that asks for more than it lays.
-const SHORT_TEXT: usize = 172;
-
-const SMALL: usize = 192;
-
-const LARGE: usize = 1024;
-
 // Puts a geometry, and then all that waits.
-fn finish_node<S: Sink, G: GeometryTrait>(
+#[inline(always)]
+fn finish<S: Sink, G, K: Kind<G>>(
     out: &mut Buffered<'_, S>,
     geom: &G,
     order: Endianness,
     form: Form,
 ) -> Result<(), Stopped>
-    requires fault { fault (G.geometry geom.now) ≡ None }
+    requires fault { fault (K.geometry geom.now) ≡ None }
     requires working { S.has_failed out.old.sink.now ≡ false }
-    ensures laid { Lays S.appended S.has_failed out.old out.new (text order form (G.geometry geom.now)) result }
+    ensures laid { Lays S.appended S.has_failed out.old out.new (text order form (K.geometry geom.now)) result }
     ensures empty { IfOk result (λ _. out.new.block.waiting ≡ []) }
 {
-    put_node(out, geom, order, form)?;
+    K::put(out, geom, order, form)?;
     out.flush()
 }
 
 // Appends the text of a geometry by blocks in these bytes.
-#[inline]
-fn put_by<S: Sink, G: GeometryTrait>(
-    writer: &mut S,
-    bytes: &mut [u8],
-    geom: &G,
-    order: Endianness,
-    form: Form,
-    error: &mut Option<io::Error>,
-) -> Result<(), Stopped>
-    requires least { LEAST ≤ length bytes.old }
-    requires fault { fault (G.geometry geom.now) ≡ None }
-    requires working { S.has_failed writer.old ≡ false }
-    ensures { Moves (S.appended writer.old) (S.appended writer.new) (S.has_failed writer.new)
-        (text order form (G.geometry geom.now)) result }
-{
-    let mut out = Buffered {
-        sink: writer,
-        block: Block::over(bytes),
-        error,
-    };
-    let put = finish_node(&mut out, geom, order, form);
-    let Buffered {
-        sink: _sink,
-        block: _,
-        error: _,
-    } = out;
-    put
-}
-
-/// Appends the text of a geometry that has no fault, by a block for the size of its text.
-///
-/// `IOError` where the sink fails, with the sink's own error, or `WriteZero` where it takes no byte.
 #[inline(always)]
-pub fn put_geometry<S: Sink, G: GeometryTrait>(
-    writer: &mut S,
-    geom: &G,
-    order: Endianness,
-    form: Form,
-    size: usize,
-) -> WkbResult<()>
-    requires fault { fault (G.geometry geom.now) ≡ None }
-    requires working { S.has_failed writer.old ≡ false }
-    ensures { Puts (S.appended writer.old) (S.appended writer.new) (S.has_failed writer.new)
-        (text order form (G.geometry geom.now)) result }
-{
-    let mut error = None;
-    let put = if size <= SHORT_TEXT {
-        let mut bytes = [0; SMALL];
-        put_by(writer, &mut bytes, geom, order, form, &mut error)
-    } else {
-        let mut bytes = [0; LARGE];
-        put_by(writer, &mut bytes, geom, order, form, &mut error)
-    };
-    answer(put, &mut error)
-}
-
-// Puts a collection, and then all that waits.
-fn finish_collection<S: Sink, C: GeometryCollectionTrait>(
-    out: &mut Buffered<'_, S>,
-    geom: &C,
-    order: Endianness,
-    form: Form,
-) -> Result<(), Stopped>
-    requires fault { fault (collection (C.dimensions geom.now) (geometries (C.members geom.now))) ≡ None }
-    requires working { S.has_failed out.old.sink.now ≡ false }
-    ensures laid { Lays S.appended S.has_failed out.old out.new
-        (text order form (collection (C.dimensions geom.now) (geometries (C.members geom.now)))) result }
-    ensures empty { IfOk result (λ _. out.new.block.waiting ≡ []) }
-{
-    put_collection(out, geom, order, form)?;
-    out.flush()
-}
-
-// Appends the text of a collection by blocks in these bytes.
-#[inline]
-fn put_collection_by<S: Sink, C: GeometryCollectionTrait>(
+fn put_by<S: Sink, G, K: Kind<G>>(
     writer: &mut S,
     bytes: &mut [u8],
-    geom: &C,
+    geom: &G,
     order: Endianness,
     form: Form,
     error: &mut Option<io::Error>,
 ) -> Result<(), Stopped>
     requires least { LEAST ≤ length bytes.old }
-    requires fault { fault (collection (C.dimensions geom.now) (geometries (C.members geom.now))) ≡ None }
+    requires fault { fault (K.geometry geom.now) ≡ None }
     requires working { S.has_failed writer.old ≡ false }
     ensures { Moves (S.appended writer.old) (S.appended writer.new) (S.has_failed writer.new)
-        (text order form (collection (C.dimensions geom.now) (geometries (C.members geom.now)))) result }
+        (text order form (K.geometry geom.now)) result }
 {
     let mut out = Buffered {
         sink: writer,
         block: Block::over(bytes),
         error,
     };
-    let put = finish_collection(&mut out, geom, order, form);
+    let put = finish::<S, G, K>(&mut out, geom, order, form);
     let Buffered {
         sink: _sink,
         block: _,
@@ -247,28 +183,27 @@ fn put_collection_by<S: Sink, C: GeometryCollectionTrait>(
     put
 }
 
-/// Appends the text of a collection that has no fault, by a block for the size of its text.
-///
-/// Fails as `put_geometry` does.
-pub fn put_geometry_collection<S: Sink, C: GeometryCollectionTrait>(
+/// Appends the text of a geometry that has no fault, by a block for the size of its text. Where the sink fails by an
+/// error, that is kept.
+#[inline(always)]
+pub fn put_geometry<S: Sink, G, K: Kind<G>>(
     writer: &mut S,
-    geom: &C,
+    geom: &G,
     order: Endianness,
     form: Form,
     size: usize,
-) -> WkbResult<()>
-    requires fault { fault (collection (C.dimensions geom.now) (geometries (C.members geom.now))) ≡ None }
+    error: &mut Option<io::Error>,
+) -> Result<(), Stopped>
+    requires fault { fault (K.geometry geom.now) ≡ None }
     requires working { S.has_failed writer.old ≡ false }
-    ensures { Puts (S.appended writer.old) (S.appended writer.new) (S.has_failed writer.new)
-        (text order form (collection (C.dimensions geom.now) (geometries (C.members geom.now)))) result }
+    ensures { Moves (S.appended writer.old) (S.appended writer.new) (S.has_failed writer.new)
+        (text order form (K.geometry geom.now)) result }
 {
-    let mut error = None;
-    let put = if size <= SHORT_TEXT {
+    if K::is_short(size) {
         let mut bytes = [0; SMALL];
-        put_collection_by(writer, &mut bytes, geom, order, form, &mut error)
+        put_by::<S, G, K>(writer, &mut bytes, geom, order, form, error)
     } else {
         let mut bytes = [0; LARGE];
-        put_collection_by(writer, &mut bytes, geom, order, form, &mut error)
-    };
-    answer(put, &mut error)
+        put_by::<S, G, K>(writer, &mut bytes, geom, order, form, error)
+    }
 }

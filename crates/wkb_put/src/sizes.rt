@@ -26,3 +26,13 @@ pub const TRIANGLE: usize = HEADER + 2 * COUNT + 4 * COORDINATE;
 
 /// The greatest of what is laid in one piece, so that every block is at least that long.
 pub const LEAST: usize = TRIANGLE;
+
+/// To make a block takes time by its size. A text of at most so many bytes goes by a small block, which it fits with
+/// room for the step that asks for more than it lays.
+pub const SHORT_TEXT: usize = 172;
+
+/// A small block.
+pub const SMALL: usize = 192;
+
+/// A large block.
+pub const LARGE: usize = 1024;

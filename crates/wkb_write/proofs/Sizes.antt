@@ -32,7 +32,8 @@ srid_size_at_most true = omega arith
 srid_size_at_most false = omega arith
 
 -- the text of a geometry without a fault is as long as measured, and four bytes longer where it has an SRID
-measured_length : (order : Endianness) (form : Form) (g : Geometry) → IsForm form → IsGeometry g → fault g ≡ None → length (text order form g) ≡ byte_size g + srid_size (is_some (form_srid form))
+measured_length : (order : Endianness) (form : Form) (g : Geometry) → IsForm form → IsGeometry g → fault g ≡ None
+    → length (text order form g) ≡ byte_size g + srid_size (is_some (form_srid form))
 measured_length order form g fits lawful none = text_has_size_lem order form g fits lawful none ∙ ap (λ n. byte_size g + n) (of_flag (is_some (form_srid form)))
   where
     of_flag : (srid : Bool) → 4 * (if srid then 1 else 0) ≡ srid_size srid
@@ -40,11 +41,13 @@ measured_length order form g fits lawful none = text_has_size_lem order form g f
     of_flag false = refl
 
 -- what was measured without a fault
-at_ok : (measured : Result ℕ Found) (s : ℕ) (g : Geometry) → measured ≡ Ok s → Measures (fault g) (byte_size g) measured → (fault g ≡ None) × (s ≡ capped (byte_size g))
+at_ok : (measured : Result ℕ Found) (s : ℕ) (g : Geometry) → measured ≡ Ok s → Measures (fault g) (byte_size g) measured
+    → (fault g ≡ None) × (s ≡ capped (byte_size g))
 at_ok measured s g is h = subst (Measures (fault g) (byte_size g)) is h
 
 -- a fault is what the size refuses
-pub size_refused : (measured : Result ℕ Found) (e : Found) (form : Form) (g : Geometry) (r : Result ℕ Found) → measured ≡ Err e → IsErrAnd r (λ y. y ≡ e) → Measures (fault g) (byte_size g) measured → IsSized form g r
+pub size_refused : (measured : Result ℕ Found) (e : Found) (form : Form) (g : Geometry) (r : Result ℕ Found) → measured ≡ Err e → IsErrAnd r (λ y. y ≡ e)
+    → Measures (fault g) (byte_size g) measured → IsSized form g r
 size_refused measured e form g r is exit h = λ order.
     let told : Finds e (fault g) = subst (Measures (fault g) (byte_size g)) is h in
     let p = err_from_is_err_and r exit in
@@ -52,7 +55,8 @@ size_refused measured e form g r is exit h = λ order.
     rw p.1 (subst P (sym p.2) (reports_first e (fault g) _ told))
 
 -- the size that was measured is that of the text, and fits
-pub size_told : (measured : Result ℕ Found) (s total : ℕ) (form : Form) (g : Geometry) → measured ≡ Ok s → IsForm form → IsGeometry g → Measures (fault g) (byte_size g) measured → total ≡ capped (s + srid_size (is_some (form_srid form))) → total < 2 ^ 64 → IsSized form g (Ok total)
+pub size_told : (measured : Result ℕ Found) (s total : ℕ) (form : Form) (g : Geometry) → measured ≡ Ok s → IsForm form → IsGeometry g
+    → Measures (fault g) (byte_size g) measured → total ≡ capped (s + srid_size (is_some (form_srid form))) → total < 2 ^ 64 → IsSized form g (Ok total)
 size_told measured s total form g is srid_fits lawful h sum fits = λ order.
     let m = at_ok measured s g is h in
     let whole = measured_length order form g srid_fits lawful m.0 in
@@ -60,13 +64,15 @@ size_told measured s total form g is srid_fits lawful h sum fits = λ order.
     (none_both (fault g) _ m.0 (size_without_fault _ (subst (λ n. n < 2 ^ 64) exact fits)), exact)
 
 -- the size that was measured does not fit
-pub size_past : (measured : Result ℕ Found) (s total : ℕ) (form : Form) (g : Geometry) → measured ≡ Ok s → IsForm form → IsGeometry g → Measures (fault g) (byte_size g) measured → total ≡ capped (s + srid_size (is_some (form_srid form))) → 2 ^ 64 ≤ total → IsSized form g (Err found.Size)
+pub size_past : (measured : Result ℕ Found) (s total : ℕ) (form : Form) (g : Geometry) → measured ≡ Ok s → IsForm form → IsGeometry g
+    → Measures (fault g) (byte_size g) measured → total ≡ capped (s + srid_size (is_some (form_srid form))) → 2 ^ 64 ≤ total → IsSized form g (Err found.Size)
 size_past measured s total form g is srid_fits lawful h sum past = λ order.
     let m = at_ok measured s g is h in
     let whole = measured_length order form g srid_fits lawful m.0 in
     reports_rest _ (fault g) _ m.0 (reports_size _ (omega (arith, m.1, sum, whole, srid_size_at_most (is_some (form_srid form)))))
 
 -- the error tells the fault that was found
-pub size_answered : (form : Form) (g : Geometry) (f : Found) (r : Result ℕ WkbError) → IsErrAnd r (λ e. TellsFault e (meaning f)) → IsSized form g (Err f) → IsSizeOf form g r
+pub size_answered : (form : Form) (g : Geometry) (f : Found) (r : Result ℕ WkbError) → IsErrAnd r (λ e. TellsFault e (meaning f)) → IsSized form g (Err f)
+    → IsSizeOf form g r
 size_answered form g f (Err e) tells size = λ order. record { fault = meaning f; is = (size order).is; told = tells }
 size_answered form g f (Ok n) tells size = absurd tells

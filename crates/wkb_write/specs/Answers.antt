@@ -47,3 +47,10 @@ pub record IsSpelled (options : WriteOptions) (t : Value) (old new : Option (Lis
 -- what stands appended at Ok spells the value that the geometry stands for
 abbrev pub IsSpelledAs : WriteOptions → Geometry → Result (Unit {0}) WkbError → Option (List ℕ) → Option (List ℕ) → Type 0
 IsSpelledAs options g r old new = IfOk r (λ _. IsSpelled options (normal g) old new)
+
+-- what a writer promises of a geometry under its options: what becomes of a refused one and of one that is not, and what
+-- stands appended
+pub record Writes (options : WriteOptions) (g : Geometry) (r : Result (Unit {0}) WkbError) (untouched : Type 0) (old new : Option (List ℕ)) (failed : Bool) : Type 0 where
+  pub refused : IsRefusedAs options g r untouched
+  pub written : IsWrittenAs options g r old new failed
+  pub spelled : IsSpelledAs options g r old new

@@ -1,3 +1,1 @@
 pub mod Answers
-pub mod Lents
-pub mod Origins

@@ -5,13 +5,12 @@
 //! refuses, by the same error.
 #![tactic(auto)]
 
-mod lent;
 mod options;
-mod origin;
 mod size;
 mod writer;
 
 pub use options::WriteOptions;
+pub use size::{refused, whole_size};
 pub use wkb_put::{Out, Sink, SliceSink, VecSink};
 pub use writer::geometry::{geometry_wkb_size, geometry_wkb_size_with, write_geometry};
 pub use writer::geometry_collection::{geometry_collection_wkb_size, write_geometry_collection};

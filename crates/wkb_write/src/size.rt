@@ -4,10 +4,9 @@ ghost use Rattle.std.specs.Prelude.{◌≡◌, is_some, IsErrAnd};
 ghost use Rattle.wkb_geom.specs.Errors.{TellsFault};
 ghost use Rattle.wkb_geom.specs.Geometries.{Geometry, IsGeometry};
 ghost use Rattle.wkb_geom.specs.Refusals.{srid_size};
-ghost use Rattle.wkb_geom.specs.Sizes.{byte_size};
-ghost use Rattle.wkb_geom.specs.Texts.{fault, form_srid, IsForm};
+ghost use Rattle.wkb_geom.specs.Texts.{form_srid, IsForm};
 ghost use Rattle.wkb_measure.specs.Faults.{meaning};
-ghost use Rattle.wkb_measure.specs.Measures.{Measures};
+ghost use Rattle.wkb_measure.specs.Measures.{IsMeasured};
 ghost use Rattle.wkb_write.specs.Answers.{IsSized, IsSizeOf};
 
 use wkb_geom::{Form, WkbError, WkbResult};
@@ -28,8 +27,7 @@ fn srid_size(form: Form) -> u128
 /// The size that was measured with the SRID's bytes, where `usize` holds it.
 #[inline]
 pub fn whole_size(measured: Result<u128, Fault>, form: Form) -> Result<usize, Fault>
-    ensures size { (g : Geometry) → IsGeometry g
-        → Measures (fault g) (byte_size g) measured → IsSized form g result }
+    ensures size { (g : Geometry) → IsGeometry g → IsMeasured g measured → IsSized form g result }
     ensures fits { IsForm form }
 {
     let srid = srid_size(form);
@@ -41,12 +39,12 @@ pub fn whole_size(measured: Result<u128, Fault>, form: Form) -> Result<usize, Fa
     }
 }
 
-/// The size, or the error that tells the fault.
+/// The size of a text under the form, or the error that tells the fault.
 #[inline]
-pub fn told(size: Result<usize, Fault>) -> WkbResult<usize>
-    ensures { (form : Form) (g : Geometry) → IsSized form g size → IsSizeOf form g result }
+pub fn size_of(measured: Result<u128, Fault>, form: Form) -> WkbResult<usize>
+    ensures { (g : Geometry) → IsGeometry g → IsMeasured g measured → IsSizeOf form g result }
 {
-    match size {
+    match whole_size(measured, form) {
         Ok(size) => Ok(size),
         Err(fault) => refused(fault),
     }

@@ -2,13 +2,15 @@
 
 ghost use Rattle.std.specs.Prelude.{◌≡◌, false};
 ghost use Rattle.wkb_geom.specs.declared.common.Form.TheVariants.{Iso};
-ghost use Rattle.wkb_write.specs.Answers.{IsSizeOf, IsRefusedAs, IsWrittenAs, IsSpelledAs};
+ghost use Rattle.wkb_write.specs.Answers.{IsSizeOf, Writes};
 
-use crate::size::{refused, told, whole_size};
+use crate::size::size_of;
+use crate::writer::point::write_point;
+use crate::writer::write_as;
 use crate::{Sink, WriteOptions};
-use wkb_geom::{Form, GeometryTrait, WkbResult};
+use wkb_geom::{Form, GeometryTrait, GeometryType, WkbResult};
 use wkb_measure::measure_geometry;
-use wkb_put::put_geometry;
+use wkb_put::OfGeometry;
 
 /// The size of a geometry in ISO codes, in bytes.
 ///
@@ -19,7 +21,7 @@ use wkb_put::put_geometry;
 pub fn geometry_wkb_size<G: GeometryTrait>(geom: &G) -> WkbResult<usize>
     ensures size { IsSizeOf Iso (G.geometry geom.now) result }
 {
-    told(whole_size(measure_geometry(geom), Form::Iso))
+    size_of(measure_geometry(geom), Form::Iso)
 }
 
 /// The size of a geometry under the options: four bytes more where they have an SRID.
@@ -32,7 +34,7 @@ pub fn geometry_wkb_size_with<G: GeometryTrait>(
 ) -> WkbResult<usize>
     ensures size { IsSizeOf options.now.form (G.geometry geom.now) result }
 {
-    told(whole_size(measure_geometry(geom), options.form))
+    size_of(measure_geometry(geom), options.form)
 }
 
 /// Writes a geometry. The whole of it is tested before a byte is put.
@@ -46,16 +48,12 @@ pub fn write_geometry<S: Sink, G: GeometryTrait>(
     options: &WriteOptions,
 ) -> WkbResult<()>
     requires working { S.has_failed writer.old ≡ false }
-    ensures refused { IsRefusedAs options.now (G.geometry geom.now) result
-        (writer.new ≡ writer.old) }
-    ensures written { IsWrittenAs options.now (G.geometry geom.now) result
-        (S.appended writer.old) (S.appended writer.new) (S.has_failed writer.new) }
-    ensures spelled { IsSpelledAs options.now (G.geometry geom.now) result
-        (S.appended writer.old) (S.appended writer.new) }
+    ensures { Writes options.now (G.geometry geom.now) result
+        (writer.new ≡ writer.old) (S.appended writer.old) (S.appended writer.new) (S.has_failed writer.new) }
 {
-    let WriteOptions { endianness, form } = *options;
-    match whole_size(measure_geometry(geom), form) {
-        Ok(size) => put_geometry(writer, geom, endianness, form, size),
-        Err(fault) => refused(fault),
+    match geom.as_type() {
+        // By itself a point needs no call.
+        GeometryType::Point(point) => write_point(writer, point, options),
+        _ => write_as::<S, G, OfGeometry>(writer, geom, measure_geometry(geom), options),
     }
 }

@@ -3,23 +3,22 @@
 ghost use Rattle.std.specs.Prelude.{◌≡◌, false};
 ghost use Rattle.wkb_geom.specs.declared.common.Form.TheVariants.{Iso};
 ghost use Rattle.wkb_geom.specs.Geometries.{collection, geometries};
-ghost use Rattle.wkb_write.specs.Answers.{IsSizeOf, IsRefusedAs, IsWrittenAs, IsSpelledAs};
+ghost use Rattle.wkb_write.specs.Answers.{IsSizeOf, Writes};
 
-use crate::size::{refused, told, whole_size};
+use crate::size::size_of;
+use crate::writer::write_as;
 use crate::{Sink, WriteOptions};
 use wkb_geom::{Form, GeometryCollectionTrait, WkbResult};
 use wkb_measure::measure_geometry_collection;
-use wkb_put::put_geometry_collection;
+use wkb_put::OfGeometryCollection;
 
 /// The size of a GeometryCollection in ISO codes.
 ///
 /// Refused as `geometry_wkb_size` refuses it.
 pub fn geometry_collection_wkb_size<C: GeometryCollectionTrait>(geom: &C) -> WkbResult<usize>
-    ensures size { IsSizeOf Iso
-        (collection (C.dimensions geom.now) (geometries (C.members geom.now)))
-        result }
+    ensures size { IsSizeOf Iso (collection (C.dimensions geom.now) (geometries (C.members geom.now))) result }
 {
-    told(whole_size(measure_geometry_collection(geom), Form::Iso))
+    size_of(measure_geometry_collection(geom), Form::Iso)
 }
 
 /// Writes a GeometryCollection. The whole of it is tested before a byte is put.
@@ -32,19 +31,9 @@ pub fn write_geometry_collection<S: Sink, C: GeometryCollectionTrait>(
     options: &WriteOptions,
 ) -> WkbResult<()>
     requires working { S.has_failed writer.old ≡ false }
-    ensures refused { IsRefusedAs options.now
-        (collection (C.dimensions geom.now) (geometries (C.members geom.now)))
-        result (writer.new ≡ writer.old) }
-    ensures written { IsWrittenAs options.now
-        (collection (C.dimensions geom.now) (geometries (C.members geom.now)))
-        result (S.appended writer.old) (S.appended writer.new) (S.has_failed writer.new) }
-    ensures spelled { IsSpelledAs options.now
-        (collection (C.dimensions geom.now) (geometries (C.members geom.now)))
-        result (S.appended writer.old) (S.appended writer.new) }
+    ensures { Writes options.now (collection (C.dimensions geom.now) (geometries (C.members geom.now))) result
+        (writer.new ≡ writer.old) (S.appended writer.old) (S.appended writer.new) (S.has_failed writer.new) }
 {
-    let WriteOptions { endianness, form } = *options;
-    match whole_size(measure_geometry_collection(geom), form) {
-        Ok(size) => put_geometry_collection(writer, geom, endianness, form, size),
-        Err(fault) => refused(fault),
-    }
+    let measured = measure_geometry_collection(geom);
+    write_as::<S, C, OfGeometryCollection>(writer, geom, measured, options)
 }

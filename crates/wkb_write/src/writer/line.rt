@@ -3,22 +3,23 @@
 ghost use Rattle.std.specs.Prelude.{◌≡◌, false};
 ghost use Rattle.wkb_geom.specs.declared.common.Form.TheVariants.{Iso};
 ghost use Rattle.wkb_geom.specs.Geometries.{line};
-ghost use Rattle.wkb_write.specs.Answers.{IsSizeOf, IsRefusedAs, IsWrittenAs, IsSpelledAs};
+ghost use Rattle.wkb_write.specs.Answers.{IsSizeOf, Writes};
 
-use crate::lent::OfLine;
-use crate::writer::geometry::{geometry_wkb_size, write_geometry};
+use crate::size::size_of;
+use crate::writer::write_as;
 use crate::{Sink, WriteOptions};
-use wkb_geom::{LineTrait, WkbResult};
+use wkb_geom::{Form, LineTrait, WkbResult};
+use wkb_measure::measure_line;
+use wkb_put::OfLine;
 
 /// The size of a line, as a line string of two coordinates, in ISO codes.
 ///
 /// Refused as `geometry_wkb_size` refuses it.
 pub fn line_wkb_size<L: LineTrait>(geom: &L) -> WkbResult<usize>
     ensures size { IsSizeOf Iso
-        (line (L.dimensions geom.now) (L.start_words geom.now) (L.end_words geom.now))
-        result }
+        (line (L.dimensions geom.now) (L.start_words geom.now) (L.end_words geom.now)) result }
 {
-    geometry_wkb_size(&OfLine::Line(geom))
+    size_of(measure_line(geom), Form::Iso)
 }
 
 /// Writes a line, as a line string of two coordinates.
@@ -31,15 +32,9 @@ pub fn write_line<S: Sink, L: LineTrait>(
     options: &WriteOptions,
 ) -> WkbResult<()>
     requires working { S.has_failed writer.old ≡ false }
-    ensures refused { IsRefusedAs options.now
-        (line (L.dimensions geom.now) (L.start_words geom.now) (L.end_words geom.now))
-        result (writer.new ≡ writer.old) }
-    ensures written { IsWrittenAs options.now
-        (line (L.dimensions geom.now) (L.start_words geom.now) (L.end_words geom.now))
-        result (S.appended writer.old) (S.appended writer.new) (S.has_failed writer.new) }
-    ensures spelled { IsSpelledAs options.now
-        (line (L.dimensions geom.now) (L.start_words geom.now) (L.end_words geom.now))
-        result (S.appended writer.old) (S.appended writer.new) }
+    ensures { Writes options.now
+        (line (L.dimensions geom.now) (L.start_words geom.now) (L.end_words geom.now)) result
+        (writer.new ≡ writer.old) (S.appended writer.old) (S.appended writer.new) (S.has_failed writer.new) }
 {
-    write_geometry(writer, &OfLine::Line(geom), options)
+    write_as::<S, L, OfLine>(writer, geom, measure_line(geom), options)
 }

@@ -3,12 +3,14 @@
 ghost use Rattle.std.specs.Prelude.{◌≡◌, false};
 ghost use Rattle.wkb_geom.specs.declared.common.Form.TheVariants.{Iso};
 ghost use Rattle.wkb_geom.specs.Geometries.{multi_point};
-ghost use Rattle.wkb_write.specs.Answers.{IsSizeOf, IsRefusedAs, IsWrittenAs, IsSpelledAs};
+ghost use Rattle.wkb_write.specs.Answers.{IsSizeOf, Writes};
 
-use crate::lent::OfMultiPoint;
-use crate::writer::geometry::{geometry_wkb_size, write_geometry};
+use crate::size::size_of;
+use crate::writer::write_as;
 use crate::{Sink, WriteOptions};
-use wkb_geom::{MultiPointTrait, WkbResult};
+use wkb_geom::{Form, MultiPointTrait, WkbResult};
+use wkb_measure::measure_multi_point;
+use wkb_put::OfMultiPoint;
 
 /// The size of a MultiPoint in ISO codes.
 ///
@@ -16,7 +18,7 @@ use wkb_geom::{MultiPointTrait, WkbResult};
 pub fn multi_point_wkb_size<M: MultiPointTrait>(geom: &M) -> WkbResult<usize>
     ensures size { IsSizeOf Iso (multi_point (M.dimensions geom.now) (M.points geom.now)) result }
 {
-    geometry_wkb_size(&OfMultiPoint::MultiPoint(geom))
+    size_of(measure_multi_point(geom), Form::Iso)
 }
 
 /// Writes a MultiPoint.
@@ -29,15 +31,8 @@ pub fn write_multi_point<S: Sink, M: MultiPointTrait>(
     options: &WriteOptions,
 ) -> WkbResult<()>
     requires working { S.has_failed writer.old ≡ false }
-    ensures refused { IsRefusedAs options.now
-        (multi_point (M.dimensions geom.now) (M.points geom.now))
-        result (writer.new ≡ writer.old) }
-    ensures written { IsWrittenAs options.now
-        (multi_point (M.dimensions geom.now) (M.points geom.now))
-        result (S.appended writer.old) (S.appended writer.new) (S.has_failed writer.new) }
-    ensures spelled { IsSpelledAs options.now
-        (multi_point (M.dimensions geom.now) (M.points geom.now))
-        result (S.appended writer.old) (S.appended writer.new) }
+    ensures { Writes options.now (multi_point (M.dimensions geom.now) (M.points geom.now)) result
+        (writer.new ≡ writer.old) (S.appended writer.old) (S.appended writer.new) (S.has_failed writer.new) }
 {
-    write_geometry(writer, &OfMultiPoint::MultiPoint(geom), options)
+    write_as::<S, M, OfMultiPoint>(writer, geom, measure_multi_point(geom), options)
 }

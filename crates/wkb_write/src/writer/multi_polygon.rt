@@ -3,22 +3,22 @@
 ghost use Rattle.std.specs.Prelude.{◌≡◌, false};
 ghost use Rattle.wkb_geom.specs.declared.common.Form.TheVariants.{Iso};
 ghost use Rattle.wkb_geom.specs.Geometries.{multi_polygon};
-ghost use Rattle.wkb_write.specs.Answers.{IsSizeOf, IsRefusedAs, IsWrittenAs, IsSpelledAs};
+ghost use Rattle.wkb_write.specs.Answers.{IsSizeOf, Writes};
 
-use crate::lent::OfMultiPolygon;
-use crate::writer::geometry::{geometry_wkb_size, write_geometry};
+use crate::size::size_of;
+use crate::writer::write_as;
 use crate::{Sink, WriteOptions};
-use wkb_geom::{MultiPolygonTrait, WkbResult};
+use wkb_geom::{Form, MultiPolygonTrait, WkbResult};
+use wkb_measure::measure_multi_polygon;
+use wkb_put::OfMultiPolygon;
 
 /// The size of a MultiPolygon in ISO codes.
 ///
 /// Refused as `geometry_wkb_size` refuses it.
 pub fn multi_polygon_wkb_size<M: MultiPolygonTrait>(geom: &M) -> WkbResult<usize>
-    ensures size { IsSizeOf Iso
-        (multi_polygon (M.dimensions geom.now) (M.polygons geom.now))
-        result }
+    ensures size { IsSizeOf Iso (multi_polygon (M.dimensions geom.now) (M.polygons geom.now)) result }
 {
-    geometry_wkb_size(&OfMultiPolygon::MultiPolygon(geom))
+    size_of(measure_multi_polygon(geom), Form::Iso)
 }
 
 /// Writes a MultiPolygon.
@@ -31,15 +31,8 @@ pub fn write_multi_polygon<S: Sink, M: MultiPolygonTrait>(
     options: &WriteOptions,
 ) -> WkbResult<()>
     requires working { S.has_failed writer.old ≡ false }
-    ensures refused { IsRefusedAs options.now
-        (multi_polygon (M.dimensions geom.now) (M.polygons geom.now))
-        result (writer.new ≡ writer.old) }
-    ensures written { IsWrittenAs options.now
-        (multi_polygon (M.dimensions geom.now) (M.polygons geom.now))
-        result (S.appended writer.old) (S.appended writer.new) (S.has_failed writer.new) }
-    ensures spelled { IsSpelledAs options.now
-        (multi_polygon (M.dimensions geom.now) (M.polygons geom.now))
-        result (S.appended writer.old) (S.appended writer.new) }
+    ensures { Writes options.now (multi_polygon (M.dimensions geom.now) (M.polygons geom.now)) result
+        (writer.new ≡ writer.old) (S.appended writer.old) (S.appended writer.new) (S.has_failed writer.new) }
 {
-    write_geometry(writer, &OfMultiPolygon::MultiPolygon(geom), options)
+    write_as::<S, M, OfMultiPolygon>(writer, geom, measure_multi_polygon(geom), options)
 }

@@ -3,12 +3,14 @@
 ghost use Rattle.std.specs.Prelude.{◌≡◌, false};
 ghost use Rattle.wkb_geom.specs.declared.common.Form.TheVariants.{Iso};
 ghost use Rattle.wkb_geom.specs.Geometries.{polygon};
-ghost use Rattle.wkb_write.specs.Answers.{IsSizeOf, IsRefusedAs, IsWrittenAs, IsSpelledAs};
+ghost use Rattle.wkb_write.specs.Answers.{IsSizeOf, Writes};
 
-use crate::lent::OfPolygon;
-use crate::writer::geometry::{geometry_wkb_size, write_geometry};
+use crate::size::size_of;
+use crate::writer::write_as;
 use crate::{Sink, WriteOptions};
-use wkb_geom::{PolygonTrait, WkbResult};
+use wkb_geom::{Form, PolygonTrait, WkbResult};
+use wkb_measure::measure_polygon;
+use wkb_put::OfPolygon;
 
 /// The size of a polygon, the exterior first, in ISO codes.
 ///
@@ -16,7 +18,7 @@ use wkb_geom::{PolygonTrait, WkbResult};
 pub fn polygon_wkb_size<P: PolygonTrait>(geom: &P) -> WkbResult<usize>
     ensures size { IsSizeOf Iso (polygon (P.dimensions geom.now) (P.rings geom.now)) result }
 {
-    geometry_wkb_size(&OfPolygon::Polygon(geom))
+    size_of(measure_polygon(geom), Form::Iso)
 }
 
 /// Writes a polygon, the exterior first.
@@ -29,15 +31,8 @@ pub fn write_polygon<S: Sink, P: PolygonTrait>(
     options: &WriteOptions,
 ) -> WkbResult<()>
     requires working { S.has_failed writer.old ≡ false }
-    ensures refused { IsRefusedAs options.now
-        (polygon (P.dimensions geom.now) (P.rings geom.now))
-        result (writer.new ≡ writer.old) }
-    ensures written { IsWrittenAs options.now
-        (polygon (P.dimensions geom.now) (P.rings geom.now))
-        result (S.appended writer.old) (S.appended writer.new) (S.has_failed writer.new) }
-    ensures spelled { IsSpelledAs options.now
-        (polygon (P.dimensions geom.now) (P.rings geom.now))
-        result (S.appended writer.old) (S.appended writer.new) }
+    ensures { Writes options.now (polygon (P.dimensions geom.now) (P.rings geom.now)) result
+        (writer.new ≡ writer.old) (S.appended writer.old) (S.appended writer.new) (S.has_failed writer.new) }
 {
-    write_geometry(writer, &OfPolygon::Polygon(geom), options)
+    write_as::<S, P, OfPolygon>(writer, geom, measure_polygon(geom), options)
 }

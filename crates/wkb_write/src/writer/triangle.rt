@@ -3,12 +3,14 @@
 ghost use Rattle.std.specs.Prelude.{◌≡◌, false};
 ghost use Rattle.wkb_geom.specs.declared.common.Form.TheVariants.{Iso};
 ghost use Rattle.wkb_geom.specs.Geometries.{triangle};
-ghost use Rattle.wkb_write.specs.Answers.{IsSizeOf, IsRefusedAs, IsWrittenAs, IsSpelledAs};
+ghost use Rattle.wkb_write.specs.Answers.{IsSizeOf, Writes};
 
-use crate::lent::OfTriangle;
-use crate::writer::geometry::{geometry_wkb_size, write_geometry};
+use crate::size::size_of;
+use crate::writer::write_as;
 use crate::{Sink, WriteOptions};
-use wkb_geom::{TriangleTrait, WkbResult};
+use wkb_geom::{Form, TriangleTrait, WkbResult};
+use wkb_measure::measure_triangle;
+use wkb_put::OfTriangle;
 
 /// The size of a triangle, as a polygon of one ring, in ISO codes.
 ///
@@ -19,7 +21,7 @@ pub fn triangle_wkb_size<T: TriangleTrait>(geom: &T) -> WkbResult<usize>
         (T.second_words geom.now) (T.third_words geom.now))
         result }
 {
-    geometry_wkb_size(&OfTriangle::Triangle(geom))
+    size_of(measure_triangle(geom), Form::Iso)
 }
 
 /// Writes a triangle, as a polygon of one ring.
@@ -32,18 +34,10 @@ pub fn write_triangle<S: Sink, T: TriangleTrait>(
     options: &WriteOptions,
 ) -> WkbResult<()>
     requires working { S.has_failed writer.old ≡ false }
-    ensures refused { IsRefusedAs options.now
+    ensures { Writes options.now
         (triangle (T.dimensions geom.now) (T.first_words geom.now)
-        (T.second_words geom.now) (T.third_words geom.now))
-        result (writer.new ≡ writer.old) }
-    ensures written { IsWrittenAs options.now
-        (triangle (T.dimensions geom.now) (T.first_words geom.now)
-        (T.second_words geom.now) (T.third_words geom.now))
-        result (S.appended writer.old) (S.appended writer.new) (S.has_failed writer.new) }
-    ensures spelled { IsSpelledAs options.now
-        (triangle (T.dimensions geom.now) (T.first_words geom.now)
-        (T.second_words geom.now) (T.third_words geom.now))
-        result (S.appended writer.old) (S.appended writer.new) }
+        (T.second_words geom.now) (T.third_words geom.now)) result
+        (writer.new ≡ writer.old) (S.appended writer.old) (S.appended writer.new) (S.has_failed writer.new) }
 {
-    write_geometry(writer, &OfTriangle::Triangle(geom), options)
+    write_as::<S, T, OfTriangle>(writer, geom, measure_triangle(geom), options)
 }

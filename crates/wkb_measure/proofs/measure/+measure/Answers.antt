@@ -1,29 +1,31 @@
-use Rattle.std.proofs.Common.{◌≡◌, None, ◌∙◌, ◌+◌, sym, subst, map, arith}
-use Rattle.wkb_geom.specs.Geometries.{geometries}
+use Rattle.std.proofs.Common.{◌≡◌, None, ◌∙◌, ◌+◌, refl, sym, subst, map, arith}
+use Rattle.wkb_geom.specs.Geometries.{collection, geometries}
 use Rattle.wkb_measure.specs.Bodies.{members}
-use Rattle.wkb_measure.specs.Measures.{Finds, capped}
+use Rattle.wkb_measure.specs.Measures.{Finds, IsMeasured, capped}
 use Rattle.wkb_measure.proofs.Faults.{measured_err}
 use Rattle.wkb_measure.proofs.Sums.{SoFar, parts_start, parts_step, count_reports, part_reports, parts_all}
-use Rattle.wkb_measure.proofs.Whole.{whole_measured, whole_unsupported, members_length, said_of_member, members_fall, member_falls}
+use Rattle.wkb_measure.proofs.Whole.{collected, whole_unsupported, members_length, said_of_member, members_fall, member_falls}
 use Rattle.wkb_measure.proofs.measure.+measure.Goals as goal
 
-pub measure_body-measure_members-requires : goal.measure_body-measure_members-requires
-measure_body-measure_members-requires g t c κs within =
+pub measure_geometry-measure_members-requires : goal.measure_geometry-measure_members-requires
+measure_geometry-measure_members-requires g t c κs within =
     (members_fall _ _ _ t c.in-GeometryCollection.ensures.part c.decreases, within)
 
-pub measure_geometry-returns-in_err-check_dimensions : goal.measure_geometry-returns-in_err-check_dimensions
-measure_geometry-returns-in_err-check_dimensions g t c =
-    let same = c.dim.ensures ∙ sym (g.met.G.GeometryTrait.one_dimension c.args.geom.now) in
-    record { measured = measured_err _ _ _ _ c.from_residual.ensures.1 (whole_unsupported _ _ _ same c.in_err-check_dimensions.ensures) }
+pub measure_geometry-returns-in-Point : goal.measure_geometry-returns-in-Point
+measure_geometry-returns-in-Point g t c =
+    let told = rw c.dim.ensures at (c.measure_point.ensures.measured (g.G.PointType.PointTrait.coordinate c.in-Point.p.now)) in
+    record { measured = subst (λ h. IsMeasured h c.measure_point.result) c.in-Point.ensures.part told }
 
-pub measure_geometry-returns : goal.measure_geometry-returns
-measure_geometry-returns g t c =
-    let same = c.dim.ensures ∙ sym (g.met.G.GeometryTrait.one_dimension c.args.geom.now) in
-    record { measured = whole_measured _ _ _ same c.in_ok-check_dimensions.ensures (c.behind_header.ensures _ _ c.measure_body.ensures) }
+pub measure_members-returns-in_err-check_dimensions : goal.measure_members-returns-in_err-check_dimensions
+unfolding IsMeasured
+measure_members-returns-in_err-check_dimensions g t c =
+    let whole = collection c.args.dim (geometries (map g.G.GeometryTrait.geometry c.args.geoms.now)) in
+    measured_err _ _ _ _ c.from_residual.ensures.1 (whole_unsupported whole _ _ refl c.in_err-check_dimensions.ensures)
 
 pub measure_members-returns-in_err-check_len : goal.measure_members-returns-in_err-check_len
 measure_members-returns-in_err-check_len g t c =
-    count_reports _ _ _ _ (members_length g.G.GeometryTrait.geometry c.args.geoms.now) c.from_residual.ensures.1 c.in_err-check_len.ensures
+    collected _ _ _ c.in_ok-check_dimensions.ensures
+    (count_reports _ _ _ _ (members_length g.G.GeometryTrait.geometry c.args.geoms.now) c.from_residual-in_err-check_len.ensures.1 c.in_err-check_len.ensures)
 
 pub measure_members-loop-geom-init : goal.measure_members-loop-geom-init
 measure_members-loop-geom-init g t c = parts_start (members (geometries (map g.G.GeometryTrait.geometry c.args.geoms.now)))
@@ -33,23 +35,29 @@ measure_members-measure_geometry-requires g t c κs within =
     (member_falls g.G.GeometryTrait.geometry c.args.geoms.now c.loop-geom.geom-index c.geom-item.result t c.loop-geom-test.true c.geom-item.is c.decreases, within)
 
 pub measure_members-returns-in_err-measure_geometry : goal.measure_members-returns-in_err-measure_geometry
+unfolding IsMeasured
 measure_members-returns-in_err-measure_geometry g t c =
     let xs = c.args.geoms.now in
     let geo = g.G.GeometryTrait.geometry in
-    let told = said_of_member geo (λ p. Finds c.in_err-measure_geometry.field-0.0 p.fault) xs c.loop-geom.geom-index c.geom-item.result c.loop-geom-test.true c.geom-item.is c.in_err-measure_geometry.ensures.measured in
-    part_reports _ _ _ _ _ _ (members_length geo xs) c.in_ok-check_len.ensures.0 (omega (arith, members_length geo xs, c.loop-geom-test.true)) told c.loop-geom.invariant c.from_residual-in_err-measure_geometry.ensures.1
+    let told =
+    said_of_member geo (λ p. Finds c.in_err-measure_geometry.field-0.0 p.fault) xs c.loop-geom.geom-index c.geom-item.result c.loop-geom-test.true c.geom-item.is c.in_err-measure_geometry.ensures.measured in
+    collected _ _ _ c.in_ok-check_dimensions.ensures
+    (part_reports _ _ _ _ _ _ (members_length geo xs) c.in_ok-check_len.ensures.0 (omega (arith, members_length geo xs, c.loop-geom-test.true)) told c.loop-geom.invariant c.from_residual-in_err-measure_geometry.ensures.1)
 
 pub measure_members-loop-geom-preserved : goal.measure_members-loop-geom-preserved
+unfolding IsMeasured
 measure_members-loop-geom-preserved g t c =
     let xs = c.args.geoms.now in
     let geo = g.G.GeometryTrait.geometry in
     let ps = members (geometries (map geo xs)) in
     let n = c.in_ok-measure_geometry.field-0 in
-    let told = said_of_member geo (λ p. (p.fault ≡ None) × (n ≡ capped p.size)) xs c.loop-geom.geom-index c.geom-item.result c.loop-geom-test.true c.geom-item.is c.in_ok-measure_geometry.ensures.measured in
+    let told =
+    said_of_member geo (λ p. (p.fault ≡ None) × (n ≡ capped p.size)) xs c.loop-geom.geom-index c.geom-item.result c.loop-geom-test.true c.geom-item.is c.in_ok-measure_geometry.ensures.measured in
     subst (SoFar ps (c.loop-geom.geom-index + 1)) (sym c.saturating_add-total.ensures) (parts_step ps c.loop-geom.geom-index c.loop-geom.total n (omega (arith, members_length geo xs, c.loop-geom-test.true)) told c.loop-geom.invariant)
 
 pub measure_members-returns : goal.measure_members-returns
 measure_members-returns g t c =
     let xs = c.args.geoms.now in
     let geo = g.G.GeometryTrait.geometry in
-    parts_all _ _ _ _ (members_length geo xs) c.in_ok-check_len.ensures.0 (omega (arith, members_length geo xs, c.loop-geom-test.false)) c.loop-geom.invariant
+    collected _ _ _ c.in_ok-check_dimensions.ensures
+    (parts_all _ _ _ _ (members_length geo xs) c.in_ok-check_len.ensures.0 (omega (arith, members_length geo xs, c.loop-geom-test.false)) c.loop-geom.invariant)

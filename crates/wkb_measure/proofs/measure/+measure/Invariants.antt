@@ -6,13 +6,10 @@ use Rattle.wkb_measure.proofs.Sums.{SoFar}
 use Rattle.wkb_measure.proofs.measure.+measure.Given as goal
 
 abbrev pub decreases-measure_geometry : goal.decreases-measure_geometry
-decreases-measure_geometry g l = 3 * node_count (g.G.GeometryTrait.geometry l.geom.now) + 2
-
-abbrev pub decreases-measure_body : goal.decreases-measure_body
-decreases-measure_body g l = 3 * node_count (g.G.GeometryTrait.geometry l.geom.now) + 1
+decreases-measure_geometry g l = 2 * node_count (g.G.GeometryTrait.geometry l.geom.now)
 
 abbrev pub decreases-measure_members : goal.decreases-measure_members
-decreases-measure_members g l = 3 * node_counts (geometries (map g.G.GeometryTrait.geometry l.geoms.now)) + 3
+decreases-measure_members g l = 2 * node_counts (geometries (map g.G.GeometryTrait.geometry l.geoms.now)) + 1
 
 abbrev pub invariant-measure_members-loop-geom : goal.invariant-measure_members-loop-geom
 invariant-measure_members-loop-geom g l = SoFar (members (geometries (map g.G.GeometryTrait.geometry l.geoms))) l.geom-index l.total

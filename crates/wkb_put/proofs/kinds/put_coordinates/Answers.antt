@@ -16,7 +16,8 @@ loop-done-preserved g c =
     let coordinates = g.L.LineStringTrait.coordinates c.args.line.now in
     record {
       within = omega (arith, c.min-next.ensures);
-      laid = run_laid (words_text c.args.order) coordinates c.loop-done.done c.min-next.result (omega (arith, c.min-next.ensures, c.loop-done-test.true)) c.loop-done.invariant.laid (laid_here c.in_ok-make_room.ensures.laid c.lay_coordinates.ensures);
+      laid =
+          run_laid (words_text c.args.order) coordinates c.loop-done.done c.min-next.result (omega (arith, c.min-next.ensures, c.loop-done-test.true)) c.loop-done.invariant.laid (laid_here c.in_ok-make_room.ensures.laid c.lay_coordinates.ensures);
     }
 
 pub returns : goal.returns

@@ -14,5 +14,5 @@ decreases-put_members g l = 2 * node_counts (geometries (map g.G.GeometryTrait.g
 
 abbrev pub invariant-put_members-loop-member : goal.invariant-put_members-loop-member
 invariant-put_members-loop-member g l = record {
-  laid : IsLaid (progress g.S.Sink.appended g.S.Sink.has_failed l.initial.out) (progress g.S.Sink.appended g.S.Sink.has_failed l.out) (flat_map (λ m. text l.order (inner l.form) (g.G.GeometryTrait.geometry m)) (take l.member-index l.members));
+  laid : IsLaid (progress g.S.Sink.appended g.S.Sink.has_failed l.initial.out) (progress g.S.Sink.appended g.S.Sink.has_failed l.out) (flat_map (λ t. t) (take l.member-index (map (λ m. text l.order (inner l.form) (g.G.GeometryTrait.geometry m)) l.members)));
 }

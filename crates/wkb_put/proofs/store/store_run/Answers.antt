@@ -13,5 +13,7 @@ loop-i-preserved g c =
       long = search rules;
       left = omega (arith, more, before.left);
       past = omega arith;
-      stored = stored_next _ _ _ _ c.loop-i.at _ _ before.stored (omega (arith, room)) c.store_coordinate.ensures (omega (arith, room)) ∙ sym (run_step (words_text c.args.order) coordinates c.args.from c.loop-i.i _ c.coord_at.ensures.value before.past);
+      stored =
+          stored_next _ _ _ _ c.loop-i.at _ _ before.stored (omega (arith, room)) c.store_coordinate.ensures (omega (arith, room))
+          ∙ sym (run_step (words_text c.args.order) coordinates c.args.from c.loop-i.i _ c.coord_at.ensures.value before.past);
     }
