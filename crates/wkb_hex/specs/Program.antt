@@ -65,6 +65,24 @@ pub record Gives (command : Command) (lines : List (List ℕ)) (inputs : List (L
   pub wanted : length inputs ≡ wanted_lines command
   pub hex : AreHexOf lines inputs
 
+-- ---- the statuses
+
+-- of an answer
+abbrev pub status_answered : ℕ
+status_answered = 0
+
+-- of an input that is refused
+abbrev pub status_refused : ℕ
+status_refused = 1
+
+-- of other words, and of an input that isn't hex
+abbrev pub status_misused : ℕ
+status_misused = 2
+
+-- of a run without memory, input or output
+abbrev pub status_failed : ℕ
+status_failed = 3
+
 -- ---- the table of the answers
 
 abbrev pub IsOneLine : List ℕ → Type 0
@@ -88,8 +106,8 @@ TellsError _ line = IsRefusalLine line
 
 -- what is said of a fault, with the status
 abbrev pub TellsFault : HexFault → List ℕ → ℕ → Type 0
-TellsFault NotHex line status = (line ≡ codes "not hex") × (status ≡ 2)
-TellsFault (Wkb e) line status = TellsError e line × (status ≡ 1)
+TellsFault NotHex line status = (line ≡ codes "not hex") × (status ≡ status_misused)
+TellsFault (Wkb e) line status = TellsError e line × (status ≡ status_refused)
 TellsFault Memory line status = ⊥
 
 abbrev pub counts : List ℕ → ℕ → ℕ → List ℕ
@@ -99,37 +117,37 @@ counts verdict turns slots = verdict ++ codes " turns " ++ decimal turns ++ code
 pub data Says (lines : List (List ℕ)) : Command → List ℕ → ℕ → Type 0 where
   rewritten : {order : Endianness} {bytes answer : List ℕ}
       → Gives (Rewrite order) lines (bytes ∷ []) → IsRewriting order Iso bytes answer
-      → Says lines (Rewrite order) (encode_lower answer) 0
+      → Says lines (Rewrite order) (encode_lower answer) status_answered
   rewritten_with_srid : {order : Endianness} {bytes answer : List ℕ}
       → Gives (RewriteWithSrid order) lines (bytes ∷ []) → IsRewritingWithSrid order bytes answer
-      → Says lines (RewriteWithSrid order) (encode_lower answer) 0
+      → Says lines (RewriteWithSrid order) (encode_lower answer) status_answered
   same : {first second : List ℕ}
       → Gives Same lines (first ∷ second ∷ []) → HaveOneValue first second
-      → Says lines Same (codes "same") 0
+      → Says lines Same (codes "same") status_answered
   different : {first second : List ℕ}
       → Gives Same lines (first ∷ second ∷ []) → HaveTwoValues first second
-      → Says lines Same (codes "different") 0
+      → Says lines Same (codes "different") status_answered
   accepted : {bytes : List ℕ} {turns slots : ℕ}
       → Gives Cost lines (bytes ∷ []) → Accepts bytes turns slots
-      → Says lines Cost (counts (codes "accepted") turns slots) 0
+      → Says lines Cost (counts (codes "accepted") turns slots) status_answered
   counted_refusal : {bytes : List ℕ} {cause : Cause} {turns slots : ℕ}
       → Gives Cost lines (bytes ∷ []) → IsRefused bytes cause turns slots
-      → Says lines Cost (counts (codes "refused") turns slots) 1
+      → Says lines Cost (counts (codes "refused") turns slots) status_refused
   srid : {bytes : List ℕ} {number : ℕ}
       → Gives Srid lines (bytes ∷ []) → HasSrid bytes (Some number)
-      → Says lines Srid (codes "srid " ++ decimal number) 0
+      → Says lines Srid (codes "srid " ++ decimal number) status_answered
   no_srid : {bytes : List ℕ}
       → Gives Srid lines (bytes ∷ []) → HasSrid bytes None
-      → Says lines Srid (codes "no srid") 0
+      → Says lines Srid (codes "no srid") status_answered
   refused : {command : Command} {inputs : List (List ℕ)} {cause : Cause} {line : List ℕ}
       → command ≢ Cost → Gives command lines inputs → FirstRefusal inputs cause → TellsCause cause line
-      → Says lines command line 1
+      → Says lines command line status_refused
   too_long : {order : Endianness} {bytes line : List ℕ}
       → Gives (RewriteWithSrid order) lines (bytes ∷ []) → IsTooLongWithSrid order bytes → IsRefusalLine line
-      → Says lines (RewriteWithSrid order) line 1
+      → Says lines (RewriteWithSrid order) line status_refused
   not_hex : {command : Command}
       → ((inputs : List (List ℕ)) → ¬ Gives command lines inputs)
-      → Says lines command (codes "not hex") 2
+      → Says lines command (codes "not hex") status_misused
 
 -- the words are no command's
 abbrev pub AreNoCommand : List (List ℕ) → Type 0
@@ -137,14 +155,14 @@ AreNoCommand words = (command : Command) → words ≢ word command ∷ []
 
 -- The line, with its line feed, and the status, for the words and the input.
 pub data Answers (words : List (List ℕ)) (input : List ℕ) : List ℕ → ℕ → Type 0 where
-  misused : AreNoCommand words → Answers words input (usage ++ line_feed ∷ []) 2
+  misused : AreNoCommand words → Answers words input (usage ++ line_feed ∷ []) status_misused
   asked : {command : Command} {said : List ℕ} {status : ℕ}
       → words ≡ word command ∷ [] → Says (lines input) command said status
       → Answers words input (said ++ line_feed ∷ []) status
 
--- The run wrote its whole line and ended with the line's status, or it ended with 3 and wrote a beginning of the line or
+-- The run wrote its whole line and ended with the line's status, or it failed and wrote a beginning of the line or
 -- of `out of memory`, perhaps empty or whole.
 pub data Ends (words : List (List ℕ)) (input : List ℕ) : ℕ → List ℕ → Type 0 where
   answered : {line : List ℕ} {status : ℕ} → Answers words input line status → Ends words input status line
-  cut_short : {line written : List ℕ} {status : ℕ} → Answers words input line status → StartsWith line written → Ends words input 3 written
-  out_of_memory : {written : List ℕ} → StartsWith (codes "out of memory" ++ line_feed ∷ []) written → Ends words input 3 written
+  cut_short : {line written : List ℕ} {status : ℕ} → Answers words input line status → StartsWith line written → Ends words input status_failed written
+  out_of_memory : {written : List ℕ} → StartsWith (codes "out of memory" ++ line_feed ∷ []) written → Ends words input status_failed written

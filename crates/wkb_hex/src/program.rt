@@ -4,7 +4,7 @@ ghost use Rattle.std.specs.Prelude.{◌≡◌, ◌≢◌, ◌∷◌, [], ℕ, Li
 ghost use Rattle.std.specs.Prelude.{IfOk, IfSome, MatchOption, string_bytes};
 ghost use Rattle.std.specs.Io.KnownBytes.{Appends};
 ghost use Rattle.wkb_hex.specs.Program.{word, AreNoCommand, without_last_feed, lines, IsOneLine};
-ghost use Rattle.wkb_hex.specs.Program.{TellsError, TellsFault, Says, Answers, Ends};
+ghost use Rattle.wkb_hex.specs.Program.{status_misused, status_refused, TellsError, TellsFault, Says, Answers, Ends};
 
 use crate::calls::{HexFault, cost_hex, rewrite_hex, rewrite_hex_with_srid, same_hex, srid_hex};
 use crate::transfer::{ReadFault, read_to_end, write_whole};
@@ -22,7 +22,7 @@ const REFUSED: u8 = 1;
 /// The status of a run with other words, or an input that isn't hex.
 const MISUSED: u8 = 2;
 /// The status of a run without memory, input or output.
-const FAILED: u8 = 3;
+pub const FAILED: u8 = 3;
 
 const USAGE: &str = "usage: wkb_hex le|be|same|cost|srid|ewkb-le|ewkb-be\n";
 
@@ -82,7 +82,8 @@ impl Report {
     }
 
     fn not_hex(alloc: Global) -> Result<Report, AllocError>
-        ensures { IfOk result (λ report. (string_bytes report.line ≡ codes "not hex") × (report.status ≡ 2)) }
+        ensures { IfOk result (λ report. (string_bytes report.line ≡ codes "not hex")
+            × (report.status ≡ status_misused)) }
     {
         Report::new(alloc, "not hex", MISUSED)
     }
@@ -101,7 +102,8 @@ fn first_line(text: &str) -> &str
 
 /// `refused: ` and the error's text.
 fn refusal(alloc: Global, error: &WkbError) -> Result<Report, AllocError>
-    ensures { IfOk result (λ report. TellsError error.now (string_bytes report.line) × (report.status ≡ 1)) }
+    ensures { IfOk result (λ report. TellsError error.now (string_bytes report.line)
+        × (report.status ≡ status_refused)) }
 {
     if let WkbError::IOError(_) = error {
         return Report::new(alloc, "refused: end of input", REFUSED);

@@ -20,8 +20,8 @@ const MIXED_EWKB: &str =
 /// Its text under ISO, little endian.
 const MIXED_ISO: &str =
     "01070000000200000001e9030000000000000000f03f00000000000000400000000000000840010300000000000000";
-/// The worked inputs that take memory, but for the nested one: each with its text under ISO, little endian, and how many
-/// turns it costs, which are as many as its slots.
+/// The worked inputs that take memory, but for the nested one: each with its text under ISO, little endian, and how
+/// many turns it costs, which are as many as its slots.
 const INPUTS: [(&str, &str, u128); 4] = [
     (
         "01030000000200000001000000000000000000f03f000000000000004000000000",
