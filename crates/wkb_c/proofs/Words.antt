@@ -265,9 +265,9 @@ point_count : (d : Dimension) (points : List (Option Coordinate)) → member_cou
 point_count d [] = refl
 point_count d (p ∷ points) = omega (arith, point_count d points)
 
-line_count : (d : Dimension) (lines : List (List Coordinate)) → member_count_each (each (line_string d) lines) ≡ length lines
-line_count d [] = refl
-line_count d (l ∷ lines) = omega (arith, line_count d lines)
+line_string_count : (d : Dimension) (lines : List (List Coordinate)) → member_count_each (each (line_string d) lines) ≡ length lines
+line_string_count d [] = refl
+line_string_count d (l ∷ lines) = omega (arith, line_string_count d lines)
 
 polygon_count : (d : Dimension) (polygons : List (List (List Coordinate)))
     → member_count_each (each (polygon d) polygons) ≡ sum_by (λ rings. 1 + length rings) polygons
@@ -279,7 +279,7 @@ own_count (point d c) = refl
 own_count (line_string d cs) = refl
 own_count (polygon d rings) = omega arith
 own_count (multi_point d points) = omega (arith, point_count d points)
-own_count (multi_line_string d lines) = omega (arith, line_count d lines)
+own_count (multi_line_string d lines) = omega (arith, line_string_count d lines)
 own_count (multi_polygon d polygons) = omega (arith, polygon_count d polygons)
 own_count (collection d ts) = omega arith
 

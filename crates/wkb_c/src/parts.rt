@@ -2,12 +2,12 @@
 
 ghost use Rattle.std.specs.Prelude.{◌≡◌, ◌+◌, ◌*◌, ◌<◌, ◌^◌, [], ◌∷◌, length, slice_get, slice_index, option_map};
 ghost use Rattle.std.specs.Prelude.{IfOk, IfSome};
-ghost use Rattle.wkb_geom.specs.Dimensions.{width as words, dimensions as named};
+ghost use Rattle.wkb_geom.specs.Dimensions.{width as words, dimensions as trait_dimensions};
 ghost use Rattle.wkb_geom.specs.Reading.{spellings, values};
 ghost use Rattle.wkb_geom.specs.Refusals.{ring_end};
 ghost use Rattle.wkb_geom.specs.Numbers.{order_byte};
 ghost use Rattle.wkb_geom.specs.Values.{kind, dimension, members, polygon as polygon_of};
-ghost use Rattle.wkb_geom.specs.Values.{multi_line_string as lines_of, multi_polygon as polygons_of};
+ghost use Rattle.wkb_geom.specs.Values.{multi_line_string as line_strings_of, multi_polygon as polygons_of};
 ghost use Rattle.wkb_geom.specs.Stored.{whole_of};
 ghost use Rattle.wkb_view.specs.Coords.{ring_seen, ring_dimension};
 ghost use Rattle.wkb_view.specs.Parts.{order_of, srid_of, members_spelled};
@@ -158,7 +158,8 @@ fn num_rings(polygon: &Polygon<'_>) -> usize
 /// The ring of this number, of which the exterior is the first.
 fn ring<'a>(polygon: &Polygon<'a>, i: usize) -> Option<LinearRing<'a>>
     ensures part { option_map ring_seen result ≡ slice_get polygon.now.parts i }
-    ensures dimension { IfSome result (λ r. named (ring_dimension r) ≡ named polygon.now.dimension) }
+    ensures dimension { IfSome result (λ r. trait_dimensions (ring_dimension r)
+        ≡ trait_dimensions polygon.now.dimension) }
 {
     if i == 0 {
         polygon.exterior()
@@ -226,9 +227,9 @@ fn add_points(table: &mut Table, multi: &MultiPoint<'_>) -> Result<(), AllocErro
 /// Adds the members of a multi line string.
 fn add_line_strings(table: &mut Table, multi: &MultiLineString<'_>) -> Result<(), AllocError>
     requires fits { table.old.next + sizes (members_spelled multi.now.spelled) (members
-        (whole_of lines_of multi.now).value) < 2 ^ 63 }
+        (whole_of line_strings_of multi.now).value) < 2 ^ 63 }
     ensures { IfOk result (λ done. ListsMembers table.old table.new (members_spelled multi.now.spelled) (members
-        (whole_of lines_of multi.now).value)) }
+        (whole_of line_strings_of multi.now).value)) }
 {
     for i in 0..multi.num_line_strings() {
         match multi.line_string(i) {

@@ -8,9 +8,9 @@ use Rattle.wkb_clients.specs.Words.{IsWordAt, HasNoWordAt}
 use Rattle.wkb_clients.proofs.Fronts.{Stands, one_value, no_word, no_word_there}
 
 -- the coordinates of a line string
-abbrev line_coordinates : Value → List Coordinate
-line_coordinates (line_string d cs) = cs
-line_coordinates _ = []
+abbrev line_string_coordinates : Value → List Coordinate
+line_string_coordinates (line_string d cs) = cs
+line_string_coordinates _ = []
 
 -- a word of the line string that stands there
 word_at : LineStringWordsStand → (blob : List ℕ) (offset i n x : ℕ) (w : Item) (d : Dimension) (cs : List Coordinate)
@@ -36,7 +36,7 @@ word_of : (blob : List ℕ) (offset i n x : ℕ) (w : Item) (d : Dimension) (cs 
     → IsWordAt blob offset i n x → IsWordOf cs i n x
 word_of blob offset i n x w d cs there is h =
     let same = one_value blob offset w h.whole there h.front in
-    subst (λ l. IsWordOf l i n x) (ap line_coordinates (sym h.value_is ∙ same ∙ is)) h.word
+    subst (λ l. IsWordOf l i n x) (ap line_string_coordinates (sym h.value_is ∙ same ∙ is)) h.word
 
 -- the coordinate was found, and its word or none
 pub word_or_none : LineStringWordsStand → (blob : List ℕ) (offset i n : ℕ) (w : Item) (d : Dimension) (cs : List Coordinate) (c : Coordinate) (found : Option ℕ)

@@ -1,4 +1,5 @@
 pub mod Hex
+mod Layouts
 pub mod Rows
 pub mod Codes
 pub mod Meanings

@@ -1,9 +1,9 @@
 //! The codes of geometries.
 
-ghost use Rattle.std.specs.Prelude.{◌≡◌, ◌||◌, ℕ, Bool, nat_le, option_map};
+ghost use Rattle.std.specs.Prelude.{◌≡◌, ◌||◌, ℕ, Bool, option_map};
 ghost use Rattle.wkb_geom.specs.declared.common.Dimension.{Dimension};
 ghost use Rattle.wkb_geom.specs.Dimensions.{has_z, has_m};
-ghost use Rattle.wkb_geom.specs.Codes.{Code, thousands, flag, iso_code, ewkb_code, z_flag, m_flag, srid_flag};
+ghost use Rattle.wkb_geom.specs.Codes.{Code, thousands, flag, iso_code, ewkb_code};
 ghost use Rattle.wkb_geom.specs.Reading.{type_of, type_kind, type_dimension, meaning, meaning_of, without, in_table};
 ghost use Rattle.wkb_geom.specs.Reading.{dimension_with, iso_dimension};
 ghost use Rattle.wkb_geom.specs.Meanings.{HasType, has_srid_flag};
@@ -11,6 +11,15 @@ ghost use Rattle.wkb_geom.specs.Meanings.{HasType, has_srid_flag};
 use crate::common::Dimension;
 use crate::error::{General, WkbError, WkbResult};
 use std::marker::Model;
+
+/// The flag of a z, of EWKB.
+const Z_FLAG: u32 = 0x8000_0000;
+
+/// The flag of an m.
+const M_FLAG: u32 = 0x4000_0000;
+
+/// The flag of an SRID.
+const SRID_FLAG: u32 = 0x2000_0000;
 
 /// A kind with its dimension.
 #[derive(Clone, Copy, Debug, PartialEq)]
@@ -119,7 +128,7 @@ impl WkbGeometryCode {
         ensures flag { result ≡ has_srid_flag self.now }
         ensures meant { (k : ℕ) (d : Dimension) (srid : Bool) → Code self.now k d srid → result ≡ srid }
     {
-        0x2000_0000 <= cleared(cleared(self.code, 0x8000_0000), 0x4000_0000)
+        SRID_FLAG <= cleared(cleared(self.code, Z_FLAG), M_FLAG)
     }
 
     /// The kind and the dimension, by ISO codes and the flags of EWKB: `CodeOutOfRange` with the whole code where it
@@ -138,11 +147,11 @@ impl WkbGeometryCode {
     pub(crate) fn meaning(&self) -> Option<WkbType>
         ensures { meaning_of self.now ≡ option_map (λ t. meaning t (has_srid_flag self.now)) result }
     {
-        let z = 0x8000_0000 <= self.code;
-        let a = cleared(self.code, 0x8000_0000);
-        let m = 0x4000_0000 <= a;
-        let b = cleared(a, 0x4000_0000);
-        let n = cleared(b, 0x2000_0000);
+        let z = Z_FLAG <= self.code;
+        let a = cleared(self.code, Z_FLAG);
+        let m = M_FLAG <= a;
+        let b = cleared(a, M_FLAG);
+        let n = cleared(b, SRID_FLAG);
         if !is_in_table(n) {
             return None;
         }
@@ -188,11 +197,11 @@ impl WkbType {
     {
         let (z, m) = match self.dimension() {
             Dimension::Xy => (0, 0),
-            Dimension::Xyz => (0x8000_0000, 0),
-            Dimension::Xym => (0, 0x4000_0000),
-            Dimension::Xyzm => (0x8000_0000, 0x4000_0000),
+            Dimension::Xyz => (Z_FLAG, 0),
+            Dimension::Xym => (0, M_FLAG),
+            Dimension::Xyzm => (Z_FLAG, M_FLAG),
         };
-        let srid = if srid { 0x2000_0000 } else { 0 };
+        let srid = if srid { SRID_FLAG } else { 0 };
         z + m + srid + self.kind()
     }
 }

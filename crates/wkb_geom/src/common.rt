@@ -167,7 +167,7 @@ impl TryFrom<Dimensions> for Dimension {
     }
 }
 
-/// The same name.
+/// The name that geometry traits have for a dimension.
 impl From<Dimension> for Dimensions {
     ghost from_gives = { λ d result. result ≡ dimensions d };
 

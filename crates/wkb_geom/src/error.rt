@@ -35,7 +35,7 @@ pub enum General {
 }
 
 /// Why bytes are refused: the first fault from left to right.
-#[derive(Debug, Clone, Copy, PartialEq)]
+#[derive(Debug, Clone, Copy)]
 pub enum Cause {
     /// The input ends inside a header or before a count.
     EndOfInput,
@@ -48,7 +48,7 @@ pub enum Cause {
 }
 
 /// Why a reader stops: a fault of the bytes, or memory that was asked for and refused.
-#[derive(Debug, Clone, Copy, PartialEq)]
+#[derive(Debug, Clone, Copy)]
 pub enum Refusal {
     Fault(Cause),
     Memory,

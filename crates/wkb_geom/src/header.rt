@@ -66,7 +66,7 @@ impl Header {
 }
 
 impl Layout {
-    ghost use Rattle.std.specs.Prelude.{◌≡◌, ◌+◌, ◌<◌, ◌≤◌, IfOk, IfErr, length, drop};
+    ghost use Rattle.std.specs.Prelude.{◌≡◌, ◌+◌, ◌<◌, ◌≤◌, Ok, IsOk, IfOk, IfErr, length, drop};
     ghost use Rattle.wkb_geom.specs.Numbers.{number};
     ghost use Rattle.wkb_geom.specs.declared.error.Cause.TheVariants.{EndOfInput as end_of_input};
     ghost use Rattle.wkb_geom.specs.Reading.{body_start, member_layout, parts_start, srid_in};
@@ -94,6 +94,23 @@ impl Layout {
             dimension,
             has_srid: header.has_srid,
         })
+    }
+
+    /// The same of a member that is known to stand there: its order and its flag are read, and nothing is tested.
+    #[inline]
+    pub fn of_known_member(kind: u32, dimension: Dimension, bytes: &[u8]) -> Layout
+        requires { IsOk (member_layout kind dimension bytes.now) }
+        ensures { member_layout kind dimension bytes.now ≡ Ok result }
+    {
+        let Some(order) = Endianness::of_byte(bytes[0]) else {
+            unreachable!()
+        };
+        let code = WkbGeometryCode::new(u32_at(bytes, 1, order));
+        Layout {
+            order,
+            dimension,
+            has_srid: kind != 1 && code.has_srid(),
+        }
     }
 
     /// How many bytes stand before the body: order, code, and the SRID where there is one.

@@ -19,7 +19,7 @@ use Rattle.wkb_geom.specs.Reading as reading
 use Rattle.wkb_laws.specs.Laws.{listed_inside}
 use Rattle.wkb_laws.proofs.Parts.{then_length, items_are, number-take, number_begins, take_front, drop_front}
 use Rattle.wkb_laws.proofs.Bounds.{each_long, coordinates_long, member_count-members}
-use Rattle.wkb_laws.proofs.Heads.{refused_as, ItemIs, Says, Opened, count_in, counts_here, count_says, number_in, item_is}
+use Rattle.wkb_laws.proofs.Heads.{refused_as, ItemIs, IsRight, Opened, count_in, counts_here, count_says, number_in, item_is}
 use Rattle.wkb_laws.proofs.Lists.{count-each, each_sum, each_same, by_list_kind, whole_by, list_behind}
 use Rattle.wkb_laws.proofs.Lengths.{value_size-least, spelled_length}
 
@@ -31,8 +31,9 @@ coordinate_is order d y h = record {
 }
 
 -- a count and that many coordinates are all of a text that ends with them
-line_is : (order : Endianness) (d : Dimension) (c : List ℕ) → length c ≡ 4 + 8 * width d * number order 4 c → SpellsCoordinates order d (ring_in order d c) c
-line_is order d c h =
+coordinates_are : (order : Endianness) (d : Dimension) (c : List ℕ) → length c ≡ 4 + 8 * width d * number order 4 c
+    → SpellsCoordinates order d (ring_in order d c) c
+coordinates_are order d c h =
     let n = number order 4 c in
     let size = 8 * width d * n in
     let len = length-drop 4 c in
@@ -103,7 +104,8 @@ module _ (l : Layout) where
       let x = cut end input (ltb-false (length input) end s) in
       let same : number l.order 4 input ≡ number l.order 4 (take end input) =
       number_in l.order 0 input (take end input) (drop end input) x.whole (omega (arith, x.len)) in
-      ring_then n input (take end input) (drop end input) _ x.whole (line_is l.order l.dimension (take end input) (x.len ∙ ap (ring_end l.dimension) same))
+      ring_then n input (take end input) (drop end input) _ x.whole (coordinates_are l.order l.dimension (take end input) (x.len
+      ∙ ap (ring_end l.dimension) same))
       (rings_say n (drop end input))))
 
 -- the text of a geometry whose parts stand in front of the rest
@@ -149,11 +151,11 @@ module _ (room : ℕ) (w : Part) (input : List ℕ) (l : Layout) where
       item_is room w input x rest l [] no_spellings (point l.dimension (Some words)) _ [] free o p e long (sym (append-nil _)) (refl, all, spelled) refl
       (omega arith) refl refl
 
-  pub point_says : Opened input 1 l → IsPart w 1 l.dimension l.has_srid → Says room w input (free, point_at l input)
+  pub point_says : Opened input 1 l → IsPart w 1 l.dimension l.has_srid → IsRight room w input (free, point_at l input)
   unfolding point_at
   point_says o p =
       let end = point_end l.dimension l.has_srid in
-      cond_both (nat_lt (length input) end) _ _ (λ r. Says room w input (free, r))
+      cond_both (nat_lt (length input) end) _ _ (λ r. IsRight room w input (free, r))
       (λ t. short_point o p (ltb-true (length input) end t))
       (λ t.
       let x = cut end input (ltb-false (length input) end t) in
@@ -164,14 +166,14 @@ module _ (room : ℕ) (w : Part) (input : List ℕ) (l : Layout) where
       point_is (take end input) (drop end input) words (all_nan words) o p x.whole (omega arith)
       (subst (SpellsCoordinate l.order l.dimension words) all (coordinate_is l.order l.dimension c (omega arith))) refl)
 
-  pub line_string_says : Opened input 2 l → IsPart w 2 l.dimension l.has_srid → Says room w input (line_string_at l input)
+  pub line_string_says : Opened input 2 l → IsPart w 2 l.dimension l.has_srid → IsRight room w input (line_string_at l input)
   unfolding line_string_at
   line_string_says o p =
       let allowed : IsAllowed room w 2 l.dimension l.has_srid = record { wanted = p; shallow = λ e. absurd (omega arith) } in
       let n = count_in l input in
       let end = line_string_end l.dimension l.has_srid n in
       count_says room w input 2 l o allowed (λ n. at_no_cost (line_string_body l input n)) (λ e. omega arith) (λ enough.
-      cond_both (nat_lt (length input) end) _ _ (λ r. Says room w input (free, r))
+      cond_both (nat_lt (length input) end) _ _ (λ r. IsRight room w input (free, r))
       (λ t. short_line_string (counts_here room w input 2 l o allowed enough) (ltb-true (length input) end t))
       (λ t.
       let x = cut end input (ltb-false (length input) end t) in
@@ -180,11 +182,11 @@ module _ (room : ℕ) (w : Part) (input : List ℕ) (l : Layout) where
       let long : length c ≡ 4 + 8 * width l.dimension * n = length-drop (body_start l.has_srid) (take end input) ∙ omega arith in
       item_is room w input (take end input) (drop end input) l [] no_spellings (line_string l.dimension (ring_in l.order l.dimension c)) c [] free o p x.whole
       (omega arith)
-      (sym (append-nil c)) (refl, line_is l.order l.dimension c (long ∙ ap (λ z. 4 + 8 * width l.dimension * z) same)) refl (omega arith) refl refl))
+      (sym (append-nil c)) (refl, coordinates_are l.order l.dimension c (long ∙ ap (λ z. 4 + 8 * width l.dimension * z) same)) refl (omega arith) refl refl))
 
   polygon_end : (r : Reading (List (List ℕ))) → Opened input 3 l → IsAllowed room w 3 l.dimension l.has_srid → body_start l.has_srid + 4 ≤ length input
       → RingsSay l (count_in l input) (parts_start l.has_srid input) r
-      → Says room w input (costs (slots_of (slots_asked 3 (count_in l input) (length (parts_start l.has_srid input))))
+      → IsRight room w input (costs (slots_of (slots_asked 3 (count_in l input) (length (parts_start l.has_srid input))))
       (and_then r (λ rings after. done (polygon_item l rings (taken input after)) after)))
   polygon_end (cost, Ok x) o allowed enough says =
       let field = take 4 (drop (body_start l.has_srid) input) in
@@ -202,7 +204,7 @@ module _ (room : ℕ) (w : Part) (input : List ℕ) (l : Layout) where
   polygon_end (cost, Err cause) o allowed enough says =
       refused_as (omega arith) (omega (arith, says.1)) (bad_ring (counts_here room w input 3 l o allowed enough) says.0)
 
-  pub polygon_says : Opened input 3 l → IsPart w 3 l.dimension l.has_srid → Says room w input (polygon_at l input)
+  pub polygon_says : Opened input 3 l → IsPart w 3 l.dimension l.has_srid → IsRight room w input (polygon_at l input)
   unfolding polygon_at
   polygon_says o p =
       let allowed : IsAllowed room w 3 l.dimension l.has_srid = record { wanted = p; shallow = λ e. absurd (omega arith) } in
@@ -251,13 +253,13 @@ module _ (room : ℕ) (w : Part) where
       refused_each refl (omega arith) (omega arith)
       (later_member (record { front = i.text; whole = is.whole; spelled = is.spelled; shallow = is.shallow }) is.wanted h)
 
-  each_step : (n : ℕ) (input : List ℕ) (r : Reading Item) (more : List ℕ → Reading (List Item)) → Says room w input r
+  each_step : (n : ℕ) (input : List ℕ) (r : Reading Item) (more : List ℕ → Reading (List Item)) → IsRight room w input r
       → ((rest : List ℕ) → EachSay room w n rest (more rest))
       → EachSay room w (suc n) input (costs one_turn (and_then r (λ x rest. and_then (more rest) (λ xs after. done (x ∷ xs) after))))
   each_step n input (cost, Ok x) more h others = member_then n input x.0 x.1 cost (more x.1) h (others x.1)
   each_step n input (cost, Err cause) more h others = refused_each refl refl (omega arith) (this_member h)
 
-  pub each_say : (part_at : List ℕ → Reading Item) → ((y : List ℕ) → Says room w y (part_at y)) → (n : ℕ) (input : List ℕ)
+  pub each_say : (part_at : List ℕ → Reading Item) → ((y : List ℕ) → IsRight room w y (part_at y)) → (n : ℕ) (input : List ℕ)
       → EachSay room w n input (repeated n part_at input)
   unfolding repeated
   each_say part_at one zero input = record { many = refl; front = []; whole = refl; spelled = refl; shallow = omega arith; turns = refl; slots = refl }
@@ -355,7 +357,7 @@ module _ (room : ℕ) (w : Part) (input : List ℕ) (k : ℕ) (l : Layout) where
     parts_say : (r : Reading (List Item)) → (k ≡ 4 → multi_point_end l.dimension l.has_srid (count_in l input) ≤ length input)
         → body_start l.has_srid + 4 ≤ length input
         → EachSay (room_inside k room) (member_part k l.dimension) (count_in l input) (parts_start l.has_srid input) r
-        → Says room w input (costs (slots_of (slots_asked k (count_in l input) (length (parts_start l.has_srid input))))
+        → IsRight room w input (costs (slots_of (slots_asked k (count_in l input) (length (parts_start l.has_srid input))))
         (and_then r (λ items after. done (list_item l (whole_by k) items (taken input after)) after)))
     parts_say (cost, Ok x) long enough says =
         let parts = parts_text l input says.front x.1 enough says.whole in
@@ -380,14 +382,14 @@ module _ (room : ℕ) (w : Part) (input : List ℕ) (k : ℕ) (l : Layout) where
         parts.whole parts.long parts.body
     parts_say (cost, Err cause) long enough says = refused_as (omega arith) refl (bad_member (counts_here room w input k l o allowed enough) low long says)
 
-    pub list_says : (part_at : List ℕ → Reading Item) → ((y : List ℕ) → Says (room_inside k room) (member_part k l.dimension) y (part_at y))
-        → Says room w input (with_count l input (list_behind k l part_at input))
+    pub list_says : (part_at : List ℕ → Reading Item) → ((y : List ℕ) → IsRight (room_inside k room) (member_part k l.dimension) y (part_at y))
+        → IsRight room w input (with_count l input (list_behind k l part_at input))
     list_says part_at one =
         let n = count_in l input in
         let end = multi_point_end l.dimension l.has_srid n in
         let short = nat_lt (length input) end in
         count_says room w input k l o allowed (list_behind k l part_at input) (λ e. omega arith) (λ enough.
-        cond_both ((k == 4) && short) _ _ (Says room w input)
+        cond_both ((k == 4) && short) _ _ (IsRight room w input)
         (λ t. let both = and_parts _ _ t in
         let here = counts_here room w input k l o allowed enough in
         short_multi_point (subst (λ z. Counts room w input l.order z l.dimension l.has_srid n (parts_start l.has_srid input)) (eqb-true k 4 both.0) here)

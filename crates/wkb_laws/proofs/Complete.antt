@@ -28,7 +28,7 @@ use Rattle.wkb_laws.proofs.Parts.{then_length, then_append, begins_number, numbe
 use Rattle.wkb_laws.proofs.Parts.{srid_length}
 use Rattle.wkb_laws.proofs.Lists.{IsWanted, by_list_kind, whole_by, list_behind, count-each, each_same}
 use Rattle.wkb_laws.proofs.Sound.{passes, is_passed}
-use Rattle.wkb_laws.proofs.Lengths.{coordinate_length, line_length, each_size, each_spelled_length}
+use Rattle.wkb_laws.proofs.Lengths.{coordinate_length, coordinates_length, each_size, each_spelled_length}
 use Rattle.wkb_laws.proofs.Bounds.{wanted_inside, each_long, coordinates_long}
 use Rattle.wkb_laws.proofs.Heads.{count_in}
 use Rattle.wkb_laws.proofs.Bodies.{asked_all, list_body, each_nine, list_turns, list_slots}
@@ -231,7 +231,7 @@ ring_found order d ring x rest h =
     let end = ring_end d (length ring) in
     let read = ring_read order d ring x rest h in
     let len : length (x ++ rest) ≡ length x + length rest = length-append x rest in
-    let long : length x ≡ end = line_length order d ring x h in
+    let long : length x ≡ end = coordinates_length order d ring x h in
     let input = x ++ rest in
     cond-false (nat_lt (length input) 4) _ _ (le-ltb (length input) 4 (omega arith))
     ∙ ap (λ z. if nat_lt (length input) (ring_end d z) then Err (general (ShortLinearRing (ring_end d z) (length input)))
@@ -435,15 +435,15 @@ module _ (room : ℕ) (w : Part) (good : IsWanted w) (h : Header) (own : List �
       ∙ (λ i. Ok (point_item l (take_front end x rest len i), drop_front end x rest len i)))
       ∙ (λ i. (free, Ok (point_item_of l x (is i) (all_nan (is i)), rest))) ∙ (λ i. (free, Ok (point_item_of l x words (nan i), rest)))
 
-  line_by : (cs : List Coordinate) → Spells (node h own ss) (line_string d cs) x → IsPart w 2 d (is_some h.srid)
+  line_string_by : (cs : List Coordinate) → Spells (node h own ss) (line_string d cs) x → IsPart w 2 d (is_some h.srid)
       → reader room w (x ++ rest) ≡ found (node h own ss) (line_string d cs) x rest
-  line_by cs a p =
+  line_string_by cs a p =
       let body = a.second.first.1 in
       let l = laid h.order d (is_some h.srid) in
       let end = line_string_end d (is_some h.srid) (length cs) in
       let none = alone _ ss a.second.rest a.second.second in
       let read = ring_read h.order d cs a.second.front a.second.rest body in
-      let long = line_length h.order d cs a.second.front body in
+      let long = coordinates_length h.order d cs a.second.front body in
       let len : length x ≡ end = omega (arith, text_length h own ss (line_string d cs) x a, ap length none.1) in
       let c = front_counts h own ss (line_string d cs) x a room w good rest (omega arith) p (length cs) body.front body.rest body.whole body.first in
       let spelled = spelling_read h own ss (line_string d cs) x a [] no_spellings (sym a.second.first.0) none.0 in
@@ -487,7 +487,7 @@ mutual
       let spelled = spelling_read h own ss (point d (Some c)) x a [] no_spellings (sym a.second.first.0) (alone _ ss a.second.rest a.second.second).0 in
       point_by room w good h own ss x rest d (Some c) a c false a.second.first.2 a.second.first.1 p
       ∙ (λ i. (free, Ok (record { text = x; spelled = spelled i; value = point d (Some c) }, rest)))
-  front_at room w good (node h own ss) (line_string d cs) x rest a shallow p = line_by room w good h own ss x rest d cs a p
+  front_at room w good (node h own ss) (line_string d cs) x rest a shallow p = line_string_by room w good h own ss x rest d cs a p
   front_at room w good (node h own ss) (polygon d rings) x rest a shallow p = polygon_by room w good h own ss x rest d rings a p
   front_at room w good (node h own ss) t x rest a shallow p =
       let allowed = is_allowed h own ss t x a room w good rest shallow p in

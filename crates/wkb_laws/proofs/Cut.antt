@@ -3,7 +3,7 @@ use Rattle.std.proofs.Common.{◌⊎◌, ℕ, ◌+◌, List, [], ◌++◌, lengt
 use Rattle.wkb_laws.specs.Words.{Endianness, Dimension, ShortPoint, ShortLineString, ShortLinearRing, ShortMultiPoint, Begins, Value, listed_count, Spelling}
 use Rattle.wkb_laws.specs.Words.{Part, any, Front, FrontWithin, max_nesting, Cause, end_of_input, general, slots_asked, Opens, Counts, RefusesRings, later_ring}
 use Rattle.wkb_laws.specs.Words.{Refuses, bad_order_byte, bad_code, wrong_part, too_deep, bad_ring, bad_member, RefusesEach, this_member, later_member}
-use Rattle.wkb_laws.specs.Laws.{HasFront, IsRefused, IsCut, CutIsRefused}
+use Rattle.wkb_laws.specs.Laws.{HasFront, HasRefusal, IsCut, CutIsRefused}
 use Rattle.wkb_laws.proofs.OneFront.{one_front_lem}
 use Rattle.wkb_laws.proofs.Outcomes.{read_or_refused_lem, never_both_lem}
 
@@ -75,7 +75,7 @@ cut_is_refused_lem input s t rest x y f e some = go (read_or_refused_lem x)
     refused c b z r (inl cut) = (c, b, z, r, cut)
     refused c b z r (inr not) = let more = lasts r y not in absurd (never_both_lem (x ++ y) s t [] c b more.0 whole more.1)
 
-    go : HasFront x ⊎ IsRefused x → (cause : Cause) × (turns : ℕ) × (slots : ℕ) × Refuses max_nesting any x cause turns slots × IsCut cause
+    go : HasFront x ⊎ HasRefusal x → (cause : Cause) × (turns : ℕ) × (slots : ℕ) × Refuses max_nesting any x cause turns slots × IsCut cause
     go (inl g) =
         let same = one_front_lem (x ++ y) g.0 s g.1 t (g.2 ++ y) [] (front_more y g.3) whole in
         absurd (omega (arith, ap length same.3, length-append g.2 y))

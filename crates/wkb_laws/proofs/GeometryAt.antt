@@ -3,11 +3,11 @@ use Rattle.std.proofs.Common.{ℕ, ◌+◌, ◌*◌, ◌≤◌, List, length, re
 use Rattle.wkb_laws.specs.Words.{any, max_nesting, Reading, Item}
 use Rattle.wkb_laws.specs.Laws.{Agrees, GeometryAgrees, FrontIsRead, RefusalIsRead, ReadingIsBounded}
 use Rattle.wkb_laws.proofs.Bounds.{front_is_bounded_lem, refusal_is_bounded_lem}
-use Rattle.wkb_laws.proofs.Heads.{Says}
+use Rattle.wkb_laws.proofs.Heads.{IsRight}
 use Rattle.wkb_laws.proofs.Sound.{geometry_says}
 use Rattle.wkb_laws.proofs.Complete.{front_read, refusal_read}
 
-agrees : (input : List ℕ) (r : Reading Item) → Says max_nesting any input r → Agrees input r
+agrees : (input : List ℕ) (r : Reading Item) → IsRight max_nesting any input r → Agrees input r
 agrees input (cost, Ok x) h = (record { front = x.0.text; whole = h.whole; spelled = h.spelled; shallow = h.shallow }, h.turns, h.slots, refl)
 agrees input (cost, Err cause) h = h
 

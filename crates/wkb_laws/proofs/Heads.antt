@@ -21,9 +21,9 @@ pub record ItemIs (room : ℕ) (w : Part) (input : List ℕ) (i : Item) (rest : 
   pub turns : cost.turns ≡ member_count i.value
   pub slots : cost.slots ≡ listed_count i.value
 
-abbrev pub Says : ℕ → Part → List ℕ → Reading Item → Type 0
-Says room w input (cost, Ok x) = ItemIs room w input x.0 x.1 cost
-Says room w input (cost, Err cause) = Refuses room w input cause cost.turns cost.slots
+abbrev pub IsRight : ℕ → Part → List ℕ → Reading Item → Type 0
+IsRight room w input (cost, Ok x) = ItemIs room w input x.0 x.1 cost
+IsRight room w input (cost, Err cause) = Refuses room w input cause cost.turns cost.slots
 
 -- the same refusal with equal counts
 pub refused_as : {room : ℕ} {w : Part} {input : List ℕ} {cause : Cause} {a b c d : ℕ} → a ≡ c → b ≡ d → Refuses room w input cause a b
@@ -83,10 +83,10 @@ module _ (room : ℕ) (w : Part) (input : List ℕ) (k : ℕ) (l : Layout) (o : 
       }
 
   -- with a count that is whole, or not
-  pub count_says : (f : ℕ → Reading Item) → k ≢ 1 → (body_start l.has_srid + 4 ≤ length input → Says room w input (f (count_in l input)))
-      → Says room w input (with_count l input f)
+  pub count_says : (f : ℕ → Reading Item) → k ≢ 1 → (body_start l.has_srid + 4 ≤ length input → IsRight room w input (f (count_in l input)))
+      → IsRight room w input (with_count l input f)
   count_says f not1 each =
-      cond_both (nat_lt (length input) (body_start l.has_srid + 4)) _ _ (Says room w input)
+      cond_both (nat_lt (length input) (body_start l.has_srid + 4)) _ _ (IsRight room w input)
       (λ t. let short = ltb-true _ _ t in no_count o not1 allowed (omega (arith, length-opens o)))
       (λ t. each (ltb-false _ _ t))
 

@@ -16,20 +16,20 @@ use Rattle.wkb_laws.proofs.TextSpells.{inner_fits, text_spells, written_has_opti
 use Rattle.wkb_laws.proofs.Values.{front_good, front_srid, normal-geometry_of, lawful-geometry_of}
 
 -- the bytes of a ring behind its four bytes of count
-abbrev line_size : Dimension → List Coordinate → ℕ
-line_size d cs = 4 + 8 * width d * length cs
+abbrev coordinates_size : Dimension → List Coordinate → ℕ
+coordinates_size d cs = 4 + 8 * width d * length cs
 
 abbrev rings_size : Dimension → List (List Coordinate) → ℕ
-rings_size d rings = 4 + sum_by (line_size d) rings
+rings_size d rings = 4 + sum_by (coordinates_size d) rings
 
 -- the bytes of a value without SRIDs
 abbrev mutual
   pub value_size : Value → ℕ
   value_size (point d c) = 5 + 8 * width d
-  value_size (line_string d cs) = 5 + line_size d cs
+  value_size (line_string d cs) = 5 + coordinates_size d cs
   value_size (polygon d rings) = 5 + rings_size d rings
   value_size (multi_point d l) = 9 + (5 + 8 * width d) * length l
-  value_size (multi_line_string d l) = 9 + sum_by (λ cs. 5 + line_size d cs) l
+  value_size (multi_line_string d l) = 9 + sum_by (λ cs. 5 + coordinates_size d cs) l
   value_size (multi_polygon d l) = 9 + sum_by (λ rings. 5 + rings_size d rings) l
   value_size (collection d ts) = 9 + each_size ts
 
@@ -49,13 +49,13 @@ value_size-least _ = omega arith
 -- the body up to the members
 abbrev body_size : Value → ℕ
 body_size (point d c) = 8 * width d
-body_size (line_string d cs) = line_size d cs
+body_size (line_string d cs) = coordinates_size d cs
 body_size (polygon d rings) = rings_size d rings
 body_size _ = 4
 
 value_size-members : (t : Value) → value_size t ≡ 5 + body_size t + each_size (members t)
 value_size-members (multi_point d l) = omega (arith, each_same (point d) each_size refl (5 + 8 * width d) (λ a ts. refl) l)
-value_size-members (multi_line_string d l) = ap (λ z. 9 + z) (sym (each_sum (line_string d) each_size refl (λ cs. 5 + line_size d cs) (λ a ts. refl) l))
+value_size-members (multi_line_string d l) = ap (λ z. 9 + z) (sym (each_sum (line_string d) each_size refl (λ cs. 5 + coordinates_size d cs) (λ a ts. refl) l))
 value_size-members (multi_polygon d l) = ap (λ z. 9 + z) (sym (each_sum (polygon d) each_size refl (λ rings. 5 + rings_size d rings) (λ a ts. refl) l))
 value_size-members _ = omega arith
 
@@ -69,16 +69,17 @@ each_length P size one (a ∷ l) x h =
 pub coordinate_length : (order : Endianness) (d : Dimension) (c : Coordinate) (x : List ℕ) → SpellsCoordinate order d c x → length x ≡ 8 * width d
 coordinate_length order d c x h = each_len (IsNumber order 8) 8 (λ v y is. is.len) c x h.words ∙ ap (λ z. 8 * z) h.len
 
-pub line_length : (order : Endianness) (d : Dimension) (cs : List Coordinate) (x : List ℕ) → SpellsCoordinates order d cs x → length x ≡ line_size d cs
-line_length order d cs x h =
+pub coordinates_length : (order : Endianness) (d : Dimension) (cs : List Coordinate) (x : List ℕ) → SpellsCoordinates order d cs x
+    → length x ≡ coordinates_size d cs
+coordinates_length order d cs x h =
     omega (arith, each_len (SpellsCoordinate order d) (8 * width d) (coordinate_length order d) cs h.rest h.second, then_length h)
 
 body_length : (order : Endianness) (own : List ℕ) (t : Value) (x : List ℕ) → SpellsBody order own t x → length x ≡ body_size t
 body_length order own (point d None) x h = coordinate_length order d own x h.1
 body_length order own (point d (Some c)) x h = coordinate_length order d c x h.2
-body_length order own (line_string d cs) x h = line_length order d cs x h.1
+body_length order own (line_string d cs) x h = coordinates_length order d cs x h.1
 body_length order own (polygon d rings) x h =
-    let body = each_length (SpellsCoordinates order d) (line_size d) (line_length order d) rings (h.1).rest (h.1).second in
+    let body = each_length (SpellsCoordinates order d) (coordinates_size d) (coordinates_length order d) rings (h.1).rest (h.1).second in
     omega (arith, ((h.1).first).len, then_length h.1)
 body_length order own _ x h = (h.1).len
 

@@ -3,12 +3,12 @@ use Rattle.std.proofs.Common.{◌≡◌, ◌⊎◌, ℕ, suc, ◌+◌, ◌≤◌
 use Rattle.wkb_laws.specs.Words.{Values, no_members, member, count, nest_each, member_count_each, Spellings, no_spellings, spelling, Part, any, SpellsEach}
 use Rattle.wkb_laws.specs.Words.{Cause, room_inside, Refuses, bad_member, RefusesEach, this_member, later_member, Reading, Item}
 use Rattle.wkb_geom.specs.Reading as reading
-use Rattle.wkb_laws.specs.Laws.{Agrees, HasFront, IsRefused, ReadOrRefused, NeverBoth, OneRefusal, listed_inside, RefusedOutward}
+use Rattle.wkb_laws.specs.Laws.{Agrees, HasFront, HasRefusal, ReadOrRefused, NeverBoth, OneRefusal, listed_inside, RefusedOutward}
 use Rattle.wkb_laws.proofs.Parts.{then_append}
 use Rattle.wkb_laws.proofs.Bodies.{refused_each}
 use Rattle.wkb_laws.proofs.GeometryAt.{geometry_agrees_lem, front_is_read_lem, refusal_is_read_lem}
 
-either : (input : List ℕ) (r : Reading Item) → Agrees input r → HasFront input ⊎ IsRefused input
+either : (input : List ℕ) (r : Reading Item) → Agrees input r → HasFront input ⊎ HasRefusal input
 either input (cost, Ok x) h = inl (x.0.spelled, x.0.value, x.1, h.0)
 either input (cost, Err cause) h = inr (cause, cost.turns, cost.slots, h)
 

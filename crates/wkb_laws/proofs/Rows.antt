@@ -34,8 +34,8 @@ unfolding read
 answer input = answer_of (read input)
 
 -- inputs and their answers
-abbrev Answers : List (List ℕ × Answer) → Type 0
-Answers rows = map (λ row. answer row.0) rows ≡ map (λ row. row.1) rows
+abbrev AreAnswered : List (List ℕ × Answer) → Type 0
+AreAnswered rows = map (λ row. answer row.0) rows ≡ map (λ row. row.1) rows
 
 -- codes that stand for nothing, by their bytes and their numbers, in front of these bytes
 abbrev unknown : List ℕ → List (List ℕ × ℕ) → List (List ℕ × Answer)
@@ -68,7 +68,7 @@ two_lines = hex "01 05000000 02000000 01 02000000 01000000" ++ P ++ hex "00 2000
 abbrev two_kinds : List ℕ
 two_kinds = hex "01 07000000 02000000 00 000003e9" ++ big_P ++ hex "4008000000000000 01 03000000 00000000"
 
-codes : Answers (
+codes : AreAnswered (
     -- No bytes, no order byte, no code.
     (hex "", refused end_of_input 0 0)
     ∷ (hex "01", refused end_of_input 0 0)
@@ -89,7 +89,7 @@ unfolding answer
 codes = refl
 
 -- Codes that stand for nothing; the first are a point's with a bit turned.
-unknown_codes : Answers (
+unknown_codes : AreAnswered (
     unknown P ((hex "00000000", 0) ∷ (hex "09000000", 9) ∷ (hex "11000000", 17) ∷ (hex "21000000", 33) ∷ (hex "41000000", 65) ∷ (hex "81000000", 129)
     ∷ (hex "01010000", 257) ∷ (hex "01020000", 513) ∷ (hex "01040000", 1025) ∷ (hex "01080000", 2049) ∷ (hex "01100000", 4097) ∷ (hex "01200000", 8193)
     ∷ (hex "01400000", 16385) ∷ (hex "01800000", 32769) ∷ (hex "01000100", 65537) ∷ (hex "01000200", 131073) ∷ (hex "01000400", 262145)
@@ -100,7 +100,7 @@ unknown_codes : Answers (
 unfolding answer
 unknown_codes = refl
 
-geometries : Answers (
+geometries : AreAnswered (
     -- Points, also with an SRID, without their bytes, and with others behind them.
     (hex "01 01000000" ++ P, accepted 1 Xy 21 0 0)
     ∷ (hex "01 01000000" ++ P ++ hex "ffffffff", accepted 1 Xy 21 0 0)
@@ -154,7 +154,7 @@ abbrev early : ℕ → ℕ → List (List ℕ) → List (List ℕ × Answer)
 early turns slots inputs = map (λ input. (input, refused end_of_input turns slots)) inputs
 
 -- A count that is missing, a member that is missing, and counts that claim all that they can.
-counts : Answers (
+counts : AreAnswered (
     early 0 0 (hex "01 02000000" ∷ hex "01 03000000" ∷ hex "01 04000000" ∷ hex "01 05000000" ∷ hex "01 06000000" ∷ hex "01 07000000" ∷ [])
     ++ early 1 0 (hex "01 05000000 01000000" ∷ hex "01 06000000 01000000" ∷ hex "01 07000000 01000000" ∷ hex "01 03000000 ffffffff"
     ∷ hex "01 05000000 ffffffff" ∷ hex "01 06000000 ffffffff" ∷ hex "01 07000000 ffffffff" ∷ []))
@@ -168,7 +168,7 @@ levels n inside = copies n (hex "01 07000000 01000000") ++ inside
 abbrev a_point : List ℕ
 a_point = hex "01 01000000" ++ zeros 16
 
-collections : Answers (
+collections : AreAnswered (
     -- As many collections as may be open, and more; the first fault is that of the one too many, once its code is whole.
     (levels 50 a_point, accepted 7 Xy 471 50 50)
     ∷ (levels 128 a_point, accepted 7 Xy 1173 128 128)
@@ -404,7 +404,7 @@ is_so input = by_reading (geometry_at max_nesting input) (geometry_agrees_lem in
     by_reading (cost, Ok x) h = (x.0.spelled, x.0.value, x.1, h.0, refl, refl, ap length h.3, sym h.1, sym h.2)
     by_reading (cost, Err cause) h = h
 
-rows_are_so : (rows : List (List ℕ × Answer)) → Answers rows → AllByRecursion (λ row. IsSo row.0 row.1) rows
+rows_are_so : (rows : List (List ℕ × Answer)) → AreAnswered rows → AllByRecursion (λ row. IsSo row.0 row.1) rows
 rows_are_so [] same = tt
 rows_are_so (row ∷ rows) same =
     let first : answer row.0 ≡ row.1 = cc in

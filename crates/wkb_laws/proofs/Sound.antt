@@ -8,7 +8,7 @@ use Rattle.wkb_laws.specs.Words.{member_body, multi_line_string_at, multi_point_
 use Rattle.wkb_geom.specs.declared.code.WkbType.TheVariants as kinds
 use Rattle.wkb_geom.specs.Reading as reading
 use Rattle.wkb_geom.proofs.Codes.{thousands_inj}
-use Rattle.wkb_laws.proofs.Heads.{Says, Opened, head_says}
+use Rattle.wkb_laws.proofs.Heads.{IsRight, Opened, head_says}
 use Rattle.wkb_laws.proofs.Bodies.{point_says, line_string_says, polygon_says, list_says}
 
 -- members that pass the test are wanted, and no others
@@ -36,7 +36,7 @@ is_passed k d h p = and_from _ _ (eq-eqb _ k p.0) (and_from _ _ (eq-eqb _ (thous
 
 module _ (room : ℕ) where
   leaf_says : (w : Part) (input : List ℕ) (k : ℕ) (l : Layout) → k ≤ 3 → Opened input k l → IsPart w k l.dimension l.has_srid
-      → Says room w input (member_body k l input)
+      → IsRight room w input (member_body k l input)
   leaf_says w input zero l few o p = let low = o.meaning.kind.low in absurd (omega arith)
   leaf_says w input (suc zero) l few o p = point_says room w input l o p
   leaf_says w input (suc (suc zero)) l few o p = line_string_says room w input l o p
@@ -44,10 +44,10 @@ module _ (room : ℕ) where
   leaf_says w input (suc (suc (suc (suc k)))) l few o p = absurd (omega arith)
 
   -- a member, by its kind
-  member_says : (k : ℕ) (d : Dimension) → k ≤ 3 → (y : List ℕ) → Says room (part k d) y (member_at k d y)
+  member_says : (k : ℕ) (d : Dimension) → k ≤ 3 → (y : List ℕ) → IsRight room (part k d) y (member_at k d y)
   member_says k d few y =
-      head_says room (part k d) y (λ r. Says room (part k d) y (then_body (layout_wanted k d r) (λ l. member_body k l y))) (λ c bad. bad)
-      (λ h o. cond_both (is_member k d h) _ _ (λ r. Says room (part k d) y (then_body r (λ l. member_body k l y)))
+      head_says room (part k d) y (λ r. IsRight room (part k d) y (then_body (layout_wanted k d r) (λ l. member_body k l y))) (λ c bad. bad)
+      (λ h o. cond_both (is_member k d h) _ _ (λ r. IsRight room (part k d) y (then_body r (λ l. member_body k l y)))
       (λ t. let p = passes k d h t in
       let own : Opened y k (laid h.order d h.has_srid) =
       subst (λ z. Opens y h.order z d h.has_srid (drop 5 y)) p.0 (subst (λ z. Opens y h.order (type_kind h.wkb_type) z h.has_srid (drop 5 y)) p.1 o) in
@@ -58,8 +58,8 @@ module _ (room : ℕ) where
   allowed k l few = record { wanted = tt; shallow = λ e. absurd (omega arith) }
 
   -- a body, by its type
-  body_says : (input : List ℕ) (collection : Layout → List ℕ → Reading Item) → ((l : Layout) → Opened input 7 l → Says room any input (collection l input))
-      → (t : WkbType) (l : Layout) → Opened input (type_kind t) l → Says room any input (body_at collection t l input)
+  body_says : (input : List ℕ) (collection : Layout → List ℕ → Reading Item) → ((l : Layout) → Opened input 7 l → IsRight room any input (collection l input))
+      → (t : WkbType) (l : Layout) → Opened input (type_kind t) l → IsRight room any input (body_at collection t l input)
   unfolding multi_point_at multi_line_string_at multi_polygon_at
   body_says input collection deeper (kinds.Point d) l o = point_says room any input l o tt
   body_says input collection deeper (kinds.LineString d) l o = line_string_says room any input l o tt
@@ -72,18 +72,19 @@ module _ (room : ℕ) where
       list_says room any input 6 l (lit< tt) o (allowed 6 l (lit≤ tt)) (member_at 3 l.dimension) (member_says 3 l.dimension (lit≤ tt))
   body_says input collection deeper (kinds.GeometryCollection d) l o = deeper l o
 
-  by_type_says : (input : List ℕ) (collection : Layout → List ℕ → Reading Item) → ((l : Layout) → Opened input 7 l → Says room any input (collection l input))
-      → Says room any input (by_type collection input)
+  by_type_says : (input : List ℕ) (collection : Layout → List ℕ → Reading Item) → ((l : Layout) → Opened input 7 l
+      → IsRight room any input (collection l input))
+      → IsRight room any input (by_type collection input)
   unfolding by_type
   by_type_says input collection deeper =
-      head_says room any input (λ r. Says room any input (then_body r (λ h. body_at collection h.wkb_type (layout_of h) input))) (λ c bad. bad)
+      head_says room any input (λ r. IsRight room any input (then_body r (λ h. body_at collection h.wkb_type (layout_of h) input))) (λ c bad. bad)
       (λ h o. body_says input collection deeper h.wkb_type (layout_of h) o)
 
-pub geometry_says : (room : ℕ) (input : List ℕ) → Says room any input (geometry_at room input)
+pub geometry_says : (room : ℕ) (input : List ℕ) → IsRight room any input (geometry_at room input)
 unfolding geometry_at collection_at
 geometry_says zero input = by_type_says zero input reading.too_deep (λ l o. too_deep o tt)
 geometry_says (suc room) input =
     let inside : room ≡ suc room - 1 = omega arith in
     by_type_says (suc room) input (collection_at (geometry_at room)) (λ l o.
     list_says (suc room) any input 7 l (lit< tt) o (record { wanted = tt; shallow = λ e. omega arith }) (geometry_at room)
-    (λ y. subst (λ z. Says z any y (geometry_at room y)) inside (geometry_says room y)))
+    (λ y. subst (λ z. IsRight z any y (geometry_at room y)) inside (geometry_says room y)))

@@ -27,12 +27,12 @@ abbrev pub HasFront : List ℕ → Type 0
 HasFront input = (s : Spelling) × (t : Value) × (rest : List ℕ) × Front input s t rest
 
 -- The input is refused.
-abbrev pub IsRefused : List ℕ → Type 0
-IsRefused input = (cause : Cause) × (turns : ℕ) × (slots : ℕ) × Refuses max_nesting any input cause turns slots
+abbrev pub HasRefusal : List ℕ → Type 0
+HasRefusal input = (cause : Cause) × (turns : ℕ) × (slots : ℕ) × Refuses max_nesting any input cause turns slots
 
 -- Every input begins with a geometry or is refused.
 abbrev pub ReadOrRefused : Type 0
-ReadOrRefused = (input : List ℕ) → HasFront input ⊎ IsRefused input
+ReadOrRefused = (input : List ℕ) → HasFront input ⊎ HasRefusal input
 
 -- No input does both.
 abbrev pub NeverBoth : Type 0

@@ -28,7 +28,7 @@ fn polygon_is_cloned<R: Abort>(rt: &R, wkb: &Wkb<'_>, case: &Case) -> Result<(),
     shows(rt, &copy?, case)
 }
 
-fn lines_are_cloned<R: Abort>(rt: &R, wkb: &Wkb<'_>, case: &Case) -> Result<(), Fail> {
+fn line_strings_are_cloned<R: Abort>(rt: &R, wkb: &Wkb<'_>, case: &Case) -> Result<(), Fail> {
     let copy = as_multi_line_string(wkb)?.clone();
     shows(rt, wkb, case)?;
     shows(rt, &copy?, case)
@@ -54,7 +54,7 @@ fn views(rt: HostRuntime) -> Result<(), Fail> {
         let wkb = read_wkb(rt.alloc(), case.input.as_slice())?;
         match wkb.geometry_type() {
             GeometryType::Polygon => polygon_is_cloned(&rt, &wkb, &case)?,
-            GeometryType::MultiLineString => lines_are_cloned(&rt, &wkb, &case)?,
+            GeometryType::MultiLineString => line_strings_are_cloned(&rt, &wkb, &case)?,
             GeometryType::MultiPolygon => polygons_are_cloned(&rt, &wkb, &case)?,
             _ => collection_is_cloned(&rt, &wkb, &case)?,
         }

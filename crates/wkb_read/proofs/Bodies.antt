@@ -1,7 +1,7 @@
 -- Geometries by their headers and kinds.
 use Rattle.wkb_read.proofs.Words.{any, max_nesting, ◌≡◌, ◌<◌, ◌-◌, ℕ, zero, suc, List, Result, Ok, Err, refl, sym, ap, ◌∙◌, subst, arith, WkbType, Layout}
 use Rattle.wkb_read.proofs.Words.{layout_of, collection_within, then_body, Cause, Fault, Head, Item, Part, Reading, free, costs, done, at_no_cost, type_kind}
-use Rattle.wkb_read.proofs.Words.{head_at, body_at, too_deep, by_type, geometry_at, Counts, Spent, Stops, geometry_inside, body_inside, counted}
+use Rattle.wkb_read.proofs.Words.{head_at, body_at, too_deep, by_type, geometry_at, Counts, Spent, Stops, geometry_inside, body_inside, cost_of}
 use Rattle.wkb_geom.specs.declared.code.WkbType.TheVariants as kinds
 use Rattle.wkb_laws.proofs.Heads.{OpensAs, head_says}
 use Rattle.wkb_view.proofs.Leaves.{line_string_free}
@@ -38,8 +38,8 @@ stops_without_header cause around bytes c h =
 
 -- a whole part that costs nothing
 pub whole_at_no_cost : {A : Type 0} (r : Part A) (x : A) (rest : List ℕ) (c : Counts) → r ≡ Ok (x, rest)
-    → costs (counted c) (done x rest) ≡ costs (counted c) (at_no_cost r)
-whole_at_no_cost r x rest c is = ap (λ (p : Part _). costs (counted c) (at_no_cost p)) (sym is)
+    → costs (cost_of c) (done x rest) ≡ costs (cost_of c) (at_no_cost r)
+whole_at_no_cost r x rest c is = ap (λ (p : Part _). costs (cost_of c) (at_no_cost p)) (sym is)
 
 -- what a header that was read says of the bytes
 pub head_opens : (input : List ℕ) (h : Head) → head_at input ≡ Ok h → OpensAs input h

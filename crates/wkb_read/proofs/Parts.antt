@@ -9,7 +9,7 @@ use Rattle.wkb_geom.specs.Values as value
 use Rattle.wkb_geom.specs.Geometries.{geometry, point, line_string, polygon, multi_point, multi_line_string, multi_polygon, collection}
 use Rattle.wkb_geom.specs.Parts.{part_geometry}
 use Rattle.wkb_geom.specs.Reading.{point_of, line_string_of}
-use Rattle.wkb_view.specs.Fitted.{fitted_lines, fitted_polygons, fitted_geometry, fitted_geometries, fitted_geometry-same}
+use Rattle.wkb_view.specs.Fitted.{fitted_line_strings, fitted_polygons, fitted_geometry, fitted_geometries, fitted_geometry-same}
 use Rattle.wkb_view.specs.Views.{point_seen, point_layout, point_value, line_string_seen, line_string_layout, multi_point_seen, multi_point_layout}
 use Rattle.wkb_view.specs.Parts.{points_of}
 use Rattle.wkb_view.proofs.Lawful.{point_is_lawful, line_string_is_lawful, multi_point_is_lawful}
@@ -45,9 +45,9 @@ pub part_means : {R T N : Type 0} (r : R → Geometry) (t : T → Geometry) (n :
     → part_geometry
     (λ p. point (dimensions (point_layout p).dimension) (point_of (point_seen p).value))
     (λ l. line_string (dimensions (line_string_layout l).dimension) (line_string_of (line_string_seen l).value))
-    (λ p. polygon (dimensions p.dimension) (fitted_lines (dimensions p.dimension) p.parts))
+    (λ p. polygon (dimensions p.dimension) (fitted_line_strings (dimensions p.dimension) p.parts))
     (λ m. multi_point (dimensions (multi_point_layout m).dimension) (points_of (multi_point_seen m).value))
-    (λ m. multi_line_string (dimensions m.dimension) (fitted_lines (dimensions m.dimension) m.parts))
+    (λ m. multi_line_string (dimensions m.dimension) (fitted_line_strings (dimensions m.dimension) m.parts))
     (λ m. multi_polygon (dimensions m.dimension) (fitted_polygons (dimensions m.dimension) m.parts))
     (λ gs. collection (dimensions (value.dimension w.value)) (geometries (map geometry_seen gs)))
     r t n part ≡ geometry_seen w

@@ -3,12 +3,12 @@ use Rattle.wkb_read.proofs.Words.{collection, member_count, listed_count, list_i
 use Rattle.wkb_read.proofs.Words.{take, drop, Ok, Err, refl, sym, ap, subst, ◌∙◌, append_assoc, append-nil, Bool, Option, length-append, length-drop, slice_get}
 use Rattle.wkb_read.proofs.Words.{AllByRecursion, ∥∥₁_elim, props, arith, Bor, Layout, any, number, Listed, Values, Item, Reading, body_start, parts_start}
 use Rattle.wkb_read.proofs.Words.{taken, spellings, values, Counts, HasHead, IsSpelled, Wkb, Whole, texts, parts_in, HoldsMembers, IsCollectionIn, AreMembers}
-use Rattle.wkb_read.proofs.Words.{IsMemberAt, geometry_inside, IsPart, BeginsAs, max_nesting}
+use Rattle.wkb_read.proofs.Words.{IsMemberAt, geometry_inside, IsFinished, BeginsAs, max_nesting}
 use Rattle.wkb_geom.specs.declared.code.WkbType.TheVariants as kinds
 use Rattle.wkb_geom.specs.Numbers.{IsNumber}
 use Rattle.wkb_geom.specs.Spellings.{SpellsEach}
 use Rattle.wkb_geom.specs.Values.{count, nest}
-use Rattle.wkb_laws.proofs.Heads.{Says, has_srid_in, item_is}
+use Rattle.wkb_laws.proofs.Heads.{IsRight, has_srid_in, item_is}
 use Rattle.wkb_laws.proofs.Bodies.{parts_text}
 use Rattle.wkb_laws.proofs.OneFront.{one_spelling}
 use Rattle.wkb_laws.proofs.Parts.{drop_front}
@@ -27,9 +27,9 @@ one_more xs x rest =
 -- what is read of bytes are their first ones, and spell it
 pub record PartRead (bytes : List ℕ) (w : Item) (rest : List ℕ) : Type 0 where
   pub whole : bytes ≡ w.text ++ rest
-  pub part : IsPart w
+  pub part : IsFinished w
 
-read_by : (levels : ℕ) (bytes : List ℕ) (r : Reading Item) → Says levels any bytes r → (w : Item) (rest : List ℕ) → r.1 ≡ Ok (w, rest)
+read_by : (levels : ℕ) (bytes : List ℕ) (r : Reading Item) → IsRight levels any bytes r → (w : Item) (rest : List ℕ) → r.1 ≡ Ok (w, rest)
     → length rest + 9 ≤ length bytes
     → PartRead bytes w rest
 read_by levels bytes (c, Ok x) h w rest e long =

@@ -3,6 +3,7 @@ use Rattle.wkb_read.proofs.Words.{◌≡◌, ℕ, ◌+◌, ◌*◌, ◌≤◌, L
 use Rattle.wkb_read.proofs.Words.{max_nesting, Item, Cost, Reading, geometry_at, Refuses, any, Tells, TellsRefusal, Agrees, geometry_agrees_lem, Counts}
 use Rattle.wkb_read.proofs.Words.{IsAtFault, Spent, AtMost, Stops, Wkb, IsNotMemoryError, IsFront, IsOnlyFront, HasNoFront, IsRefusal, TellsEach, IfRefused}
 use Rattle.wkb_read.proofs.Words.{IfMemory, CountsValue, CountsRefusal, CountsAtMost, ReadsAs}
+use Rattle.wkb_read.specs.Public.{TakesNoMemory, Reads, Costs}
 use Rattle.wkb_geom.specs.declared.error.WkbError.TheVariants as errors
 use Rattle.wkb_laws.proofs.GeometryAt.{front_is_read_lem, refusal_is_read_lem, reading_is_bounded_lem}
 use Rattle.wkb_laws.proofs.OneFront.{one_front_lem}
@@ -78,7 +79,7 @@ refused_by buf (c, Err f) h cause new is spent =
     rw (← same, ← turns, ← slots) h
 
 -- what holds of each error that tells the refusal holds of the answer
-pub if_told : (P : WkbError → Type 0) (buf : List ℕ) (e : WkbError) (refusal : Refusal) (new : Counts)
+if_told : (P : WkbError → Type 0) (buf : List ℕ) (e : WkbError) (refusal : Refusal) (new : Counts)
     → Stops refusal (reading_of buf) zero_counts new → TellsRefusal e refusal → (IsTold buf e new → P e) → IfRefused (Err e) P
 if_told P buf (errors.Memory x) refusal new h tells step = tt
 if_told P buf e (Fault cause) new h tells step =
@@ -99,12 +100,40 @@ if_memory : (e : WkbError) (P : Type 0) → P → IfMemory (Err e) P
 if_memory (errors.Memory x) P p = p
 if_memory _ P p = tt
 
-pub memory_counted : (buf : List ℕ) (e : WkbError) (refusal : Refusal) (new : Counts) → Stops refusal (reading_of buf) zero_counts new
+memory_counted : (buf : List ℕ) (e : WkbError) (refusal : Refusal) (new : Counts) → Stops refusal (reading_of buf) zero_counts new
     → IfMemory (Err e) (CountsAtMost buf new)
 memory_counted buf e refusal new h = if_memory e (CountsAtMost buf new) (at_most buf new (counted_of (reading_of buf) (Err refusal) zero_counts new h))
 
 -- an error that tells a fault is no want of memory
-pub is_not_memory : (e : WkbError) (refusal : Refusal) → TellsRefusal e refusal → IsAtFault refusal → IsNotMemoryError e
+is_not_memory : (e : WkbError) (refusal : Refusal) → TellsRefusal e refusal → IsAtFault refusal → IsNotMemoryError e
 is_not_memory (errors.Memory x) (Fault cause) tells fault = absurd tells
 is_not_memory (errors.Memory x) Memory tells fault = absurd fault
 is_not_memory _ refusal tells fault = tt
+
+-- an answer that is an error which tells the refusal
+module _ (buf : List ℕ) (e : WkbError) (refusal : Refusal) (new : Counts) (stops : Stops refusal (reading_of buf) zero_counts new)
+    (tells : TellsRefusal e refusal) where
+  pub refused_as : (TakesNoMemory buf → IsAtFault refusal) → Reads buf (Err e)
+  refused_as none = record {
+    front = tt;
+    one_front = tt;
+    lawful = tt;
+    seen = tt;
+    normal = tt;
+    writable = tt;
+    refusal = if_told (IsRefusal buf) buf e refusal new stops tells (λ t. t.refusal);
+    one_cause = if_told (TellsEach buf) buf e refusal new stops tells (λ t. t.one_cause);
+    no_front = if_told (λ e. HasNoFront buf) buf e refusal new stops tells (λ t. t.no_front);
+    no_memory = λ takes. is_not_memory e refusal tells (none takes);
+  }
+
+  pub refused_at : Costs buf (Err e) new
+  refused_at =
+      let bound = count_bounded buf (Err refusal) new stops in
+      record {
+        counts = tt;
+        refusal_counts = if_told (λ e. CountsRefusal buf new) buf e refusal new stops tells (λ t. t.counts);
+        memory_counts = memory_counted buf e refusal new stops;
+        turns_bounded = bound.0;
+        slots_bounded = bound.1;
+      }

@@ -2,8 +2,8 @@
 use Rattle.wkb_read.proofs.Words.{◌≡◌, ℕ, suc, ◌+◌, ◌≤◌, List, [], ◌∷◌, ◌++◌, length, vec_capacity, Ok, Err, refl, sym, ap, subst, ◌∙◌, append_assoc}
 use Rattle.wkb_read.proofs.Words.{length-append, arith, Bor, Item, Cost, ◌⊕◌, one_turn, Reading, costs, done, and_then, repeated, taken, Layout, IsSpelled}
 use Rattle.wkb_read.proofs.Words.{Refusal, Fault, Memory, Counts, Spent, AtMost, CanCount, Stops, Wkb, Open, Whole, Opened, IsCollectionIn, closing, list_item}
-use Rattle.wkb_read.proofs.Words.{collection_with, geometry_inside, behind_member, in_collection, outward, first_member, counted, next_turn, IsOpen, AreOpen}
-use Rattle.wkb_read.proofs.Words.{IsPart, BeginsAs}
+use Rattle.wkb_read.proofs.Words.{collection_with, geometry_inside, behind_member, in_collection, outward, first_member, cost_of, next_turn, IsOpen, AreOpen}
+use Rattle.wkb_read.proofs.Words.{IsFinished, BeginsAs}
 use Rattle.wkb_read.proofs.Algebra.{cost_is, costs-costs, and_then-costs, and_then-assoc, and_then-same, and_then-least, done_then, repeated_more}
 use Rattle.wkb_read.proofs.Algebra.{repeated_none}
 use Rattle.wkb_read.proofs.Placed.{Closed, closed, one_more, part_read}
@@ -11,14 +11,14 @@ use Rattle.wkb_view.proofs.Members.{all_more}
 
 -- what is being read inside these collections, and what comes of it in all
 pub record Reaches (os : List Open) (bytes : List ℕ) (spent : Counts) (whole : Reading Item) : Type 0 where
-  pub so_far : costs (counted spent) (and_then (geometry_inside (length os) bytes) (outward os)) ≡ whole
+  pub so_far : costs (cost_of spent) (and_then (geometry_inside (length os) bytes) (outward os)) ≡ whole
   pub stand : AreOpen os bytes
 
 -- the same of a part that is finished
 pub record Finishes (os : List Open) (m : Item) (rest : List ℕ) (spent : Counts) (whole : Reading Item) : Type 0 where
-  pub so_far : costs (counted spent) (outward os m rest) ≡ whole
+  pub so_far : costs (cost_of spent) (outward os m rest) ≡ whole
   pub stand : AreOpen os (m.text ++ rest)
-  pub part : IsPart m
+  pub part : IsFinished m
 
 turn_is : (c d : Cost) → d ≡ next_turn c → d ≡ c ⊕ one_turn
 turn_is c d e = e ∙ cost_is _ _ refl (omega arith)
@@ -33,17 +33,17 @@ moved os old new before after whole e so_far =
 
 -- a collection is opened, and its first member begins
 pub enters : (o : Open) (os : List Open) (rest : Bor (List ℕ)) (bytes : List ℕ) (mid new after : Counts) (whole : Reading Item) → Reaches os bytes mid whole
-    → BeginsAs (geometry_inside (length os) bytes) (length os) bytes (Ok (Opened o rest)) mid new → counted after ≡ next_turn (counted new)
+    → BeginsAs (geometry_inside (length os) bytes) (length os) bytes (Ok (Opened o rest)) mid new → cost_of after ≡ next_turn (cost_of new)
     → Reaches (o ∷ os) rest.now after whole
 enters o os rest bytes mid new after whole r b turn =
     let member = geometry_inside (suc (length os)) rest.now in
     let inside = in_collection (length os) o in
     record {
-      so_far = ap (λ (c : Cost). costs c (and_then member (outward (o ∷ os)))) (turn_is (counted new) (counted after) turn)
-          ∙ sym (costs-costs (counted new) one_turn (and_then member (outward (o ∷ os))))
-          ∙ ap (λ (s : Reading Item). costs (counted new) s) (ap (λ (s : Reading Item). costs one_turn s) (sym (and_then-assoc member inside (outward os)))
+      so_far = ap (λ (c : Cost). costs c (and_then member (outward (o ∷ os)))) (turn_is (cost_of new) (cost_of after) turn)
+          ∙ sym (costs-costs (cost_of new) one_turn (and_then member (outward (o ∷ os))))
+          ∙ ap (λ (s : Reading Item). costs (cost_of new) s) (ap (λ (s : Reading Item). costs one_turn s) (sym (and_then-assoc member inside (outward os)))
           ∙ sym (and_then-costs one_turn (and_then member inside) (outward os)))
-          ∙ moved os (counted mid) (counted new) (geometry_inside (length os) bytes) (first_member (length os) o rest.now) whole b.0 r.so_far;
+          ∙ moved os (cost_of mid) (cost_of new) (geometry_inside (length os) bytes) (first_member (length os) o rest.now) whole b.0 r.so_far;
       stand = (b.3, rw b.1 r.stand);
     }
 
@@ -53,14 +53,14 @@ pub finishes : (w : Wkb) (os : List Open) (rest : Bor (List ℕ)) (bytes : List 
 finishes w os rest bytes mid new whole r b =
     let p = part_read w rest bytes (length os) mid new b in
     record {
-      so_far = ap (λ (s : Reading Item). costs (counted new) s) (sym (done_then w rest.now (outward os)))
-          ∙ moved os (counted mid) (counted new) (geometry_inside (length os) bytes) (done w rest.now) whole b.0 r.so_far;
+      so_far = ap (λ (s : Reading Item). costs (cost_of new) s) (sym (done_then w rest.now (outward os)))
+          ∙ moved os (cost_of mid) (cost_of new) (geometry_inside (length os) bytes) (done w rest.now) whole b.0 r.so_far;
       stand = subst (AreOpen os) p.whole r.stand;
       part = p.part;
     }
 
 -- the counters have room for the part, and for a turn
-pub can_begin : (os : List Open) (bytes : List ℕ) (old new : Counts) (whole : Reading Item) → Reaches os bytes new (costs (counted old) whole)
+pub can_begin : (os : List Open) (bytes : List ℕ) (old new : Counts) (whole : Reading Item) → Reaches os bytes new (costs (cost_of old) whole)
     → CanCount old whole.0 → CanCount new (geometry_inside (length os) bytes).0
 can_begin os bytes old new whole r fits =
     let part = and_then-least (geometry_inside (length os) bytes) (outward os) in
@@ -70,8 +70,8 @@ can_begin os bytes old new whole r fits =
     }
 
 -- what was counted before a turn is among the whole
-pub at_most_turn : (os : List Open) (bytes : List ℕ) (old new after : Counts) (whole : Reading Item) → Reaches os bytes after (costs (counted old) whole)
-    → counted after ≡ next_turn (counted new) → AtMost old new whole.0
+pub at_most_turn : (os : List Open) (bytes : List ℕ) (old new after : Counts) (whole : Reading Item) → Reaches os bytes after (costs (cost_of old) whole)
+    → cost_of after ≡ next_turn (cost_of new) → AtMost old new whole.0
 at_most_turn os bytes old new after whole r turn = record {
   turns = omega (arith, ap (λ (s : Reading Item). s.0.turns) r.so_far, ap (λ (c : Cost). c.turns) turn);
   slots = omega (arith, ap (λ (s : Reading Item). s.0.slots) r.so_far, ap (λ (c : Cost). c.slots) turn);
@@ -79,7 +79,7 @@ at_most_turn os bytes old new after whole r turn = record {
 
 -- a part's refusal is passed outward
 pub stops_outward : (refusal : Refusal) (r : Reading Item) (f : Item → List ℕ → Reading Item) (whole : Reading Item) (old mid new : Counts)
-    → costs (counted mid) (and_then r f) ≡ costs (counted old) whole → Stops refusal r mid new → Stops refusal whole old new
+    → costs (cost_of mid) (and_then r f) ≡ costs (cost_of old) whole → Stops refusal r mid new → Stops refusal whole old new
 stops_outward (Fault cause) (c, Ok x) f whole old mid new so_far h = absurd cc
 stops_outward (Fault cause) (c, Err e) f whole old mid new so_far h = (
   sym (ap (λ (s : Reading Item). s.1) so_far) ∙ h.0,
@@ -96,7 +96,7 @@ stops_outward Memory r f whole old mid new so_far most =
     }
 
 -- all is read
-pub all_read : (w : Item) (rest : List ℕ) (whole : Reading Item) (old new : Counts) → costs (counted new) (done w rest) ≡ costs (counted old) whole
+pub all_read : (w : Item) (rest : List ℕ) (whole : Reading Item) (old new : Counts) → costs (cost_of new) (done w rest) ≡ costs (cost_of old) whole
     → ((end : List ℕ) × (whole.1 ≡ Ok (w, end))) × Spent old new whole.0
 all_read w rest whole old new e = (
   (rest, sym (ap (λ (s : Reading Item). s.1) e)),
@@ -130,7 +130,7 @@ goes_on o next os m rest n =
     ap (λ (r : Reading Item). and_then r (outward os)) one ∙ and_then-costs one_turn (and_then (member rest) inside) (outward os)
     ∙ ap (λ (r : Reading Item). costs one_turn r) (and_then-assoc (member rest) inside (outward os))
 
-more_open : (o next : Open) (m : Item) (rest : List ℕ) → IsNext o next m → IsOpen o (m.text ++ rest) → IsPart m → IsOpen next rest
+more_open : (o next : Open) (m : Item) (rest : List ℕ) → IsNext o next m → IsOpen o (m.text ++ rest) → IsFinished m → IsOpen next rest
 more_open o next m rest n h part =
     let longer : length next.members.items.items ≡ length o.members.items.items + 1 = ap length n.items ∙ length-append o.members.items.items (m ∷ []) in
     record {
@@ -144,12 +144,12 @@ more_open o next m rest n h part =
 
 -- the next member begins
 pub next_begins : (o next : Open) (os : List Open) (m : Item) (rest : List ℕ) (spent after : Counts) (whole : Reading Item) → IsNext o next m
-    → Finishes (o ∷ os) m rest spent whole → counted after ≡ next_turn (counted spent) → Reaches (next ∷ os) rest after whole
+    → Finishes (o ∷ os) m rest spent whole → cost_of after ≡ next_turn (cost_of spent) → Reaches (next ∷ os) rest after whole
 next_begins o next os m rest spent after whole n f turn =
     let r = and_then (geometry_inside (suc (length os)) rest) (outward (next ∷ os)) in
     record {
-      so_far = ap (λ (c : Cost). costs c r) (turn_is (counted spent) (counted after) turn) ∙ sym (costs-costs (counted spent) one_turn r)
-          ∙ ap (λ (s : Reading Item). costs (counted spent) s) (sym (goes_on o next os m rest n)) ∙ f.so_far;
+      so_far = ap (λ (c : Cost). costs c r) (turn_is (cost_of spent) (cost_of after) turn) ∙ sym (costs-costs (cost_of spent) one_turn r)
+          ∙ ap (λ (s : Reading Item). costs (cost_of spent) s) (sym (goes_on o next os m rest n)) ∙ f.so_far;
       stand = (more_open o next m rest n f.stand.0 f.part, rw n.bytes f.stand.1);
     }
 
@@ -174,7 +174,7 @@ completes o os m members rest spent whole none is f =
     record {
       collection = c.collection;
       finishes = record {
-        so_far = ap (λ (r : Reading Item). costs (counted spent) r) (sym out) ∙ f.so_far;
+        so_far = ap (λ (r : Reading Item). costs (cost_of spent) r) (sym out) ∙ f.so_far;
         stand = subst (AreOpen os) c.whole f.stand.1;
         part = record { spelled = c.collection.1; long = omega (arith, c.collection.0.long) };
       };

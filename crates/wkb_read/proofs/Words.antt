@@ -28,5 +28,5 @@ pub use Rattle.wkb_read.specs.Placed.{texts, parts_in, closing, HoldsMembers, Is
 pub use Rattle.wkb_read.specs.Public.{IsFront, IsOnlyFront, HasNoFront, IsRefusal, TellsEach, IfRefused, IfMemory, CountsValue, CountsRefusal, CountsAtMost}
 pub use Rattle.wkb_read.specs.Public.{AsksForNone, KindTakesNone, TakesNoMemory}
 pub use Rattle.wkb_read.specs.Seen.{geometry_seen, members_seen, seen_as_it_is}
-pub use Rattle.wkb_read.specs.Stack.{geometry_inside, behind_member, in_collection, outward, first_member, counted, next_turn, IsOpen, AreOpen, IsPart}
+pub use Rattle.wkb_read.specs.Stack.{geometry_inside, behind_member, in_collection, outward, first_member, cost_of, next_turn, IsOpen, AreOpen, IsFinished}
 pub use Rattle.wkb_read.specs.Stack.{collection_inside, body_inside, BeginsAs, ReadsAs}

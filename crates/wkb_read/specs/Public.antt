@@ -1,8 +1,10 @@
 -- What a reader's answer says of its input.
-use Rattle.std.specs.Prelude.{◌≡◌, ℕ, ◌+◌, ◌<◌, ◌≤◌, List, length, Bool, Result, Ok, Err}
+use Rattle.std.specs.Prelude.{◌≡◌, ℕ, ◌+◌, ◌*◌, ◌<◌, ◌≤◌, List, length, Bool, Result, Ok, Err, IfOk}
 use Rattle.wkb_read.specs.Words.{Endianness, Dimension, Iso, WkbError, Value, member_count}
 use Rattle.wkb_read.specs.Words.{listed_count, Spelling, any, Front, max_nesting, Cause, Refuses, Opens, srid_size, Tells, geometry_of, IsWritable, Item}
-use Rattle.wkb_read.specs.Words.{Counts}
+use Rattle.wkb_read.specs.Words.{Counts, IsGeometry, normal}
+use Rattle.wkb_read.specs.Memory.{IsNotMemory}
+use Rattle.wkb_read.specs.Seen.{geometry_seen}
 use Rattle.wkb_geom.specs.declared.error.WkbError.TheVariants as errors
 use Rattle.wkb_read.specs.declared.geometry.Wkb.{Wkb}
 
@@ -81,3 +83,25 @@ pub record KindTakesNone (k : ℕ) (srid : Bool) (buf : List ℕ) : Type 0 where
 abbrev pub TakesNoMemory : List ℕ → Type 0
 TakesNoMemory buf = (order : Endianness) (k : ℕ) (d : Dimension) (srid : Bool) (behind : List ℕ)
     → Opens buf order k d srid behind → KindTakesNone k srid buf
+
+-- What an answer says of the bytes: a geometry is the one at the front, and means what its value means; an error tells the
+-- one refusal; and want of memory is told only where memory is taken.
+pub record Reads (buf : List ℕ) (r : Result Wkb WkbError) : Type 0 where
+  pub front : IfOk r (λ w. IsFront buf w)
+  pub one_front : IfOk r (λ w. IsOnlyFront buf w)
+  pub lawful : IfOk r (λ w. IsGeometry (geometry_of w.value))
+  pub seen : IfOk r (λ w. geometry_seen w ≡ geometry_of w.value)
+  pub normal : IfOk r (λ w. normal (geometry_of w.value) ≡ w.value)
+  pub writable : IfOk r (λ w. CanBeWritten w.value)
+  pub refusal : IfRefused r (λ e. IsRefusal buf e)
+  pub one_cause : IfRefused r (λ e. TellsEach buf e)
+  pub no_front : IfRefused r (λ e. HasNoFront buf)
+  pub no_memory : TakesNoMemory buf → IsNotMemory r
+
+-- what it cost: the members and the list entries of the value, or of the refusal; and it is bounded by the bytes
+pub record Costs (buf : List ℕ) (r : Result Wkb WkbError) (c : Counts) : Type 0 where
+  pub counts : IfOk r (λ w. CountsValue w.value c)
+  pub refusal_counts : IfRefused r (λ e. CountsRefusal buf c)
+  pub memory_counts : IfMemory r (CountsAtMost buf c)
+  pub turns_bounded : 4 * c.turns ≤ length buf + 4
+  pub slots_bounded : c.slots ≤ 15 * length buf

@@ -34,8 +34,8 @@ abbrev pub first_member : ℕ → Open → List ℕ → Reading Item
 first_member around o bytes = costs one_turn (and_then (geometry_inside (suc around) bytes) (in_collection around o))
 
 -- what was counted, as a cost
-abbrev pub counted : Counts → Cost
-counted c = record { turns = c.turns; slots = c.slots }
+abbrev pub cost_of : Counts → Cost
+cost_of c = record { turns = c.turns; slots = c.slots }
 
 -- one more turn
 abbrev pub next_turn : Cost → Cost
@@ -64,7 +64,7 @@ AreOpen [] here = Unit {0}
 AreOpen (o ∷ os) here = IsOpen o here × AreOpen os o.bytes.now
 
 -- a part that was read: spelled by its bytes, and no shorter than a header and a count
-pub record IsPart (part : Item) : Type 0 where
+pub record IsFinished (part : Item) : Type 0 where
   pub spelled : IsSpelled part
   pub long : 9 ≤ length part.text
 
@@ -83,16 +83,16 @@ plain_body h bytes = body_at too_deep h.wkb_type (layout_of h) bytes
 -- what the beginning of a geometry leads to, where it is to lead to this reading
 abbrev pub BeginsAs : Reading Item → ℕ → List ℕ → Result Begun Refusal → Counts → Counts → Type 0
 BeginsAs whole around bytes (Ok (Whole w rest)) old new =
-    (costs (counted new) (done w rest.now) ≡ costs (counted old) whole) × (length rest.now + 9 ≤ length bytes)
+    (costs (cost_of new) (done w rest.now) ≡ costs (cost_of old) whole) × (length rest.now + 9 ≤ length bytes)
 BeginsAs whole around bytes (Ok (Opened o rest)) old new =
-    (costs (counted new) (first_member around o rest.now) ≡ costs (counted old) whole) × (o.bytes.now ≡ bytes) × (around < max_nesting) × IsOpen o rest.now
+    (costs (cost_of new) (first_member around o rest.now) ≡ costs (cost_of old) whole) × (o.bytes.now ≡ bytes) × (around < max_nesting) × IsOpen o rest.now
 BeginsAs whole around bytes (Err refusal) old new = Stops refusal whole old new
 
 -- what is known once a part is finished: all is, or the next part begins
 abbrev pub Settles : List Open → List Open → Item → List ℕ → Option Item → Counts → Counts → Type 0
-Settles before after finished rest (Some w) old new = (after ≡ []) × (costs (counted new) (done w rest) ≡ costs (counted old) (outward before finished rest))
+Settles before after finished rest (Some w) old new = (after ≡ []) × (costs (cost_of new) (done w rest) ≡ costs (cost_of old) (outward before finished rest))
 Settles before after finished rest None old new =
-    (costs (counted new) (and_then (geometry_inside (length after) rest) (outward after)) ≡ costs (counted old) (outward before finished rest))
+    (costs (cost_of new) (and_then (geometry_inside (length after) rest) (outward after)) ≡ costs (cost_of old) (outward before finished rest))
     × AreOpen after rest × (length after ≤ length before)
 
 -- the answer is what this reading gives, and what it cost was counted

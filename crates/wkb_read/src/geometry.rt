@@ -1,6 +1,6 @@
 //! Collections, and geometries of any kind.
 
-ghost use Rattle.wkb_read.specs.Words.{dimensions as named};
+ghost use Rattle.wkb_read.specs.Words.{dimensions as trait_dimensions};
 ghost use Rattle.wkb_read.specs.Seen.{members_seen, geometry_seen, members_lawful, geometry_lawful, one_dimension_seen};
 
 use crate::geometry_type::GeometryType as TypeName;
@@ -108,7 +108,7 @@ impl<'a> GeometryCollection<'a> {
         self.layout.dimension
     }
 
-    /// Its bytes.
+    /// The bytes of this geometry, from its order byte to its end.
     #[inline]
     pub fn buf(&self) -> &'a [u8]
         ensures text { result.now ≡ self.now.text }
@@ -143,7 +143,7 @@ impl<'a> GeometryCollection<'a> {
 }
 
 impl Dimensioned for GeometryCollection<'_> {
-    ghost dimensions = { λ c. named c.dimension };
+    ghost dimensions = { λ c. trait_dimensions c.dimension };
 
     #[inline]
     fn dim(&self) -> Dimensions {
@@ -189,25 +189,13 @@ impl<'a> GeometryCollectionTrait for GeometryCollection<'a> {
 
 impl<'a> Wkb<'a> {
     ghost use Rattle.std.specs.Prelude.{◌≡◌, IfOk, MatchOption, None, Some};
-    ghost use Rattle.wkb_read.specs.Words.{srid_of, IsCollection, IsSpelled};
-    ghost use Rattle.wkb_read.specs.Words.{whole_of, collection, dimension, IsGeometry, normal, geometry_of};
+    ghost use Rattle.wkb_read.specs.Words.{srid_of, whole_of, collection, dimension, IsCollection, IsSpelled};
     ghost use Rattle.wkb_read.specs.Types.{type_of};
-    ghost use Rattle.wkb_read.specs.Public.{TakesNoMemory, IsFront, IsOnlyFront, CanBeWritten};
-    ghost use Rattle.wkb_read.specs.Public.{HasNoFront, IsRefusal, TellsEach, IfRefused};
-    ghost use Rattle.wkb_read.specs.Memory.{IsNotMemory};
+    ghost use Rattle.wkb_read.specs.Public.{Reads};
 
     /// The geometry at the front of the bytes, as `read_wkb` answers it.
     pub fn try_new(alloc: Global, buf: &'a [u8]) -> WkbResult<Wkb<'a>>
-        ensures front { IfOk result (λ w. IsFront buf.now w) }
-        ensures one_front { IfOk result (λ w. IsOnlyFront buf.now w) }
-        ensures lawful { IfOk result (λ w. IsGeometry (geometry_of w.value)) }
-        ensures seen { IfOk result (λ w. geometry_seen w ≡ geometry_of w.value) }
-        ensures normal { IfOk result (λ w. normal (geometry_of w.value) ≡ w.value) }
-        ensures writable { IfOk result (λ w. CanBeWritten w.value) }
-        ensures refusal { IfRefused result (λ e. IsRefusal buf.now e) }
-        ensures one_cause { IfRefused result (λ e. TellsEach buf.now e) }
-        ensures no_front { IfRefused result (λ e. HasNoFront buf.now) }
-        ensures no_memory { TakesNoMemory buf.now → IsNotMemory result }
+        ensures { Reads buf.now result }
     {
         read_wkb(alloc, buf)
     }
@@ -242,7 +230,7 @@ impl<'a> Wkb<'a> {
         }
     }
 
-    /// Its bytes.
+    /// The bytes of this geometry, from its order byte to its end.
     pub fn buf(&self) -> &'a [u8]
         ensures text { result.now ≡ self.now.text }
         ensures spells { IsSpelled self.now }
@@ -304,7 +292,7 @@ impl<'a> Wkb<'a> {
 impl Dimensioned for Wkb<'_> {
     ghost use Rattle.wkb_read.specs.Words.{dimension};
 
-    ghost dimensions = { λ w. named (dimension w.value) };
+    ghost dimensions = { λ w. trait_dimensions (dimension w.value) };
 
     #[inline]
     fn dim(&self) -> Dimensions {

@@ -131,9 +131,9 @@ module _ (l : Layout) (bytes : List ℕ) (n : ℕ) (old mid : Counts) (whole : b
   unfolding polygon_at
   rings_here = list_here 3 (ring_part l) (polygon_item l)
 
-  pub lines_here : Asked 5 → IsList 5 l (member_at 2 l.dimension) (list_item l multi_line_string_with) bytes n old mid (multi_line_string_at l bytes)
+  pub line_strings_here : Asked 5 → IsList 5 l (member_at 2 l.dimension) (list_item l multi_line_string_with) bytes n old mid (multi_line_string_at l bytes)
   unfolding multi_line_string_at
-  lines_here = list_here 5 (member_at 2 l.dimension) (list_item l multi_line_string_with)
+  line_strings_here = list_here 5 (member_at 2 l.dimension) (list_item l multi_line_string_with)
 
   pub polygons_here : Asked 6 → IsList 6 l (member_at 3 l.dimension) (list_item l multi_polygon_with) bytes n old mid (multi_polygon_at l bytes)
   unfolding multi_polygon_at

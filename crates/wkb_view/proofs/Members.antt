@@ -1,7 +1,7 @@
 -- Members in lists.
 use Rattle.std.proofs.Common.{◌≡◌, ℕ, zero, suc, List, [], ◌∷◌, ◌++◌, map, Option, Some, None, refl, sym, ap, ◌∙◌, subst, ◌+◌, ◌-◌, ◌*◌, ◌≤◌, ◌<◌, length}
 use Rattle.std.proofs.Common.{take, drop, Bool, true, false, ◌&&◌, Result, Ok, Err, length-drop, length-take, arith}
-use Rattle.std.specs.Prelude.{slice_get, option_map, if◌then◌else◌, ◌==◌}
+use Rattle.std.specs.Prelude.{slice_get, option_map, if◌then◌else◌, ◌==◌, IsOk}
 use Rattle.std.specs.List.{AllByRecursion}
 use Rattle.std.proofs.lemmas.Option.{slice_get-map}
 use Rattle.std.proofs.lemmas.List.{length-map}
@@ -10,7 +10,7 @@ use Rattle.wkb_geom.specs.declared.error.Cause.TheVariants.{IncorrectType as inc
 use Rattle.wkb_geom.specs.Reading.{type_kind, type_dimension, same_dimension}
 use Rattle.wkb_view.specs.Words.{Dimension, dimensions, Spelling, Coordinate, Listed, whole_of, Item, spellings, polygon_of, Endianness, Layout, Head, Cause}
 use Rattle.wkb_view.specs.Words.{multi_point_end, body_start, point_of, taken, laid, head_at, layout_wanted, member_layout, list_of_spellings}
-use Rattle.wkb_view.specs.Fitted.{fitted_lines, fitted_polygons}
+use Rattle.wkb_view.specs.Fitted.{fitted_line_strings, fitted_polygons}
 use Rattle.wkb_view.specs.Members.{polygon_items, IsText, IsMember, AreMembers, member_item, members_in, pieces_behind, every, stride, point_ends, points_in}
 use Rattle.wkb_view.specs.Pieces.{pieces, Passed}
 use Rattle.wkb_view.specs.Ranges.{member_dimension}
@@ -41,17 +41,10 @@ module _ (k : ℕ) (l : Layout) (ends text : List ℕ) (i : ℕ) where
       same m n e = cc
 
   -- and has a layout
-  pub member_there : (t : List ℕ) (f : Cause) → AreMembers k l ends text → Some t ≡ slice_get (pieces_behind l ends text) i
-      → member_layout k l.dimension t ≡ Err f → ⊥
-  member_there t f are e is =
+  pub member_there : (t : List ℕ) → AreMembers k l ends text → Some t ≡ slice_get (pieces_behind l ends text) i → IsOk (member_layout k l.dimension t)
+  member_there t are e =
       let member = piece_form (IsMember k l.dimension) (body_start l.has_srid + 4) ends text i t are e in
-      apart member.layout f (sym member.layout_is ∙ is)
-    where
-      good : Layout → Result Layout Cause
-      good n = Ok n
-
-      apart : (m : Layout) (f : Cause) → good m ≡ Err f → ⊥
-      apart m f e = cc
+      rw member.layout_is refl
 
   -- what is made of it
   pub members_seen : {B : Type 0} (f : Item → B) (o : Option (List ℕ)) → o ≡ slice_get (pieces_behind l ends text) i
@@ -81,15 +74,15 @@ items_at f ps i o e =
     sym (slice_get-map f (polygon_items ps) i ∙ ap (option_map f) (slice_get-map (λ p. whole_of polygon p) ps i ∙ ap (option_map (λ p. whole_of polygon p)) e))
 
 fitted_at : (d : Dimension) (ps : List (Listed (List (List Coordinate)))) (i : ℕ) (o : Option (Listed (List (List Coordinate)))) → slice_get ps i ≡ o
-    → AllByRecursion (λ p. p.dimension ≡ d) ps → option_map (λ p. fitted_lines (dimensions p.dimension) p.parts) o
-    ≡ option_map (fitted_lines (dimensions d)) (option_map (λ m. polygon_of m.value) (option_map (λ p. whole_of polygon p) o))
+    → AllByRecursion (λ p. p.dimension ≡ d) ps → option_map (λ p. fitted_line_strings (dimensions p.dimension) p.parts) o
+    ≡ option_map (fitted_line_strings (dimensions d)) (option_map (λ m. polygon_of m.value) (option_map (λ p. whole_of polygon p) o))
 fitted_at d ps i None e all = refl
-fitted_at d ps i (Some p) e all = ap (λ (f : Dimension). Some (fitted_lines (dimensions f) p.parts)) (each_at (λ q. q.dimension ≡ d) ps i p all e)
+fitted_at d ps i (Some p) e all = ap (λ (f : Dimension). Some (fitted_line_strings (dimensions f) p.parts)) (each_at (λ q. q.dimension ≡ d) ps i p all e)
 
 -- the member of a multi polygon at an index, if there is one
 pub record PolygonAt (d : Dimension) (ps : List (Listed (List (List Coordinate)))) (i : ℕ) (o : Option (Listed (List (List Coordinate)))) : Type 0 where
   pub part : option_map (λ m. polygon_of m.value) (option_map (λ p. whole_of polygon p) o) ≡ slice_get (map (λ m. polygon_of m.value) (polygon_items ps)) i
-  pub value : option_map (λ p. fitted_lines (dimensions p.dimension) p.parts) o
+  pub value : option_map (λ p. fitted_line_strings (dimensions p.dimension) p.parts) o
       ≡ slice_get (fitted_polygons (dimensions d) (map (λ m. polygon_of m.value) (polygon_items ps))) i
   pub spelled : option_map (λ m. m.spelled) (option_map (λ p. whole_of polygon p) o) ≡ slice_get (list_of_spellings (spellings (polygon_items ps))) i
 
@@ -97,10 +90,10 @@ pub polygon_there : (d : Dimension) (ps : List (Listed (List (List Coordinate)))
     → AllByRecursion (λ p. p.dimension ≡ d) ps → PolygonAt d ps i o
 polygon_there d ps i o e all =
     let part = items_at (λ m. polygon_of m.value) ps i o e in
-    let fitted = slice_get-map (fitted_lines (dimensions d)) (map (λ m. polygon_of m.value) (polygon_items ps)) i in
+    let fitted = slice_get-map (fitted_line_strings (dimensions d)) (map (λ m. polygon_of m.value) (polygon_items ps)) i in
     record {
       part = part;
-      value = fitted_at d ps i o e all ∙ ap (option_map (fitted_lines (dimensions d))) part ∙ sym fitted;
+      value = fitted_at d ps i o e all ∙ ap (option_map (fitted_line_strings (dimensions d))) part ∙ sym fitted;
       spelled = items_at (λ m. m.spelled) ps i o e ∙ sym (ap (λ (ss : List Spelling). slice_get ss i) (spelled_each (polygon_items ps)));
     }
 
@@ -141,6 +134,15 @@ no_srid_by order d false b srid l e = absurd cc
 no_srid : (d : Dimension) (r : Result Head Cause) (l : Layout) → layout_wanted 1 d r ≡ Ok l → l.has_srid ≡ false
 no_srid d (Ok h) l e = no_srid_by h.order d (type_kind h.wkb_type == 1) (same_dimension (type_dimension h.wkb_type) d) h.has_srid l e
 no_srid d (Err c) l e = absurd cc
+
+-- the layout of a member has the dimension that is wanted
+pub member_laid : (k : ℕ) (d : Dimension) (bytes : List ℕ) (l : Layout) → member_layout k d bytes ≡ Ok l
+    → member_layout k d bytes ≡ Ok (laid l.order d l.has_srid)
+member_laid k d bytes l e = e ∙ ap (λ (f : Dimension). Ok (laid l.order f l.has_srid)) (member_dimension k d bytes l e)
+
+-- and that of a point is known but for the order
+pub point_laid : (d : Dimension) (bytes : List ℕ) (l : Layout) → member_layout 1 d bytes ≡ Ok l → member_layout 1 d bytes ≡ Ok (laid l.order d false)
+point_laid d bytes l e = member_laid 1 d bytes l e ∙ ap (λ (s : Bool). Ok (laid l.order d s)) (no_srid d (head_at bytes) l e)
 
 member_size : (d : Dimension) (text : List ℕ) → IsMember 1 d text → length text ≡ stride d
 member_size d text m =

@@ -4,7 +4,7 @@ use Rattle.std.proofs.lemmas.Bool.{le-ltb}
 use Rattle.wkb_geom.specs.declared.code.WkbType.TheVariants as kinds
 use Rattle.wkb_geom.specs.Spellings.{Part, any}
 use Rattle.wkb_geom.specs.Reading.{body_at, too_deep, geometry_at, by_type, layout_of}
-use Rattle.wkb_laws.proofs.Heads.{Says}
+use Rattle.wkb_laws.proofs.Heads.{IsRight}
 use Rattle.wkb_laws.proofs.Sound.{geometry_says}
 use Rattle.wkb_view.specs.Words.{Cause, Head, Layout, number, point_end, line_string_end, Item, Reading, head_at, then_body, body_start}
 use Rattle.wkb_view.specs.Words.{point_at, line_string_at, point_item, line_string_item, IsSpelled}
@@ -12,14 +12,14 @@ use Rattle.wkb_view.specs.Headers.{HasHead}
 use Rattle.wkb_view.specs.Members.{IsText}
 use Rattle.wkb_view.proofs.Leaves.{number_within}
 
-says_spelled : (w : Part) (bytes : List ℕ) (r : Reading Item) → Says 0 w bytes r → (i : Item) (rest : List ℕ) → r.1 ≡ Ok (i, rest) → IsSpelled i
+says_spelled : (w : Part) (bytes : List ℕ) (r : Reading Item) → IsRight 0 w bytes r → (i : Item) (rest : List ℕ) → r.1 ≡ Ok (i, rest) → IsSpelled i
 says_spelled w bytes (c, Ok x) h i rest e = let same : x.0 ≡ i = cc in subst IsSpelled same ∣ h.spelled ∣₁
 says_spelled w bytes (c, Err f) h i rest e = absurd cc
 
-says_body : (bytes : List ℕ) (h : Head) → head_at bytes ≡ Ok h → Says 0 any bytes (body_at too_deep h.wkb_type (layout_of h) bytes)
+says_body : (bytes : List ℕ) (h : Head) → head_at bytes ≡ Ok h → IsRight 0 any bytes (body_at too_deep h.wkb_type (layout_of h) bytes)
 unfolding geometry_at by_type
 says_body bytes h e =
-    subst (λ (r : Result Head Cause). Says 0 any bytes (then_body r (λ g. body_at too_deep g.wkb_type (layout_of g) bytes))) e (geometry_says 0 bytes)
+    subst (λ (r : Result Head Cause). IsRight 0 any bytes (then_body r (λ g. body_at too_deep g.wkb_type (layout_of g) bytes))) e (geometry_says 0 bytes)
 
 -- what is read behind a header is spelled by the bytes that were taken
 pub body_spelled : (bytes : List ℕ) (h : Head) (i : Item) (rest : List ℕ) → head_at bytes ≡ Ok h
@@ -38,11 +38,11 @@ point_text l bytes buf end head end-is long buf-is =
     record { whole = omega (arith, ap length buf-is, length-take end bytes); spells = rw cut (body_spelled bytes _ _ _ head read) }
 
 -- and of a line string
-pub line_text : (l : Layout) (bytes buf : List ℕ) (n end : ℕ) → HasHead (λ d. kinds.LineString d) l bytes → body_start l.has_srid + 4 ≤ length bytes
+pub line_string_is_text : (l : Layout) (bytes buf : List ℕ) (n end : ℕ) → HasHead (λ d. kinds.LineString d) l bytes → body_start l.has_srid + 4 ≤ length bytes
     → n ≡ number l.order 4 (drop (body_start l.has_srid) bytes) → end ≡ line_string_end l.dimension l.has_srid n → end ≤ length bytes → buf ≡ take end bytes
     → IsText 2 l buf
 unfolding line_string_at
-line_text l bytes buf n end head whole n-is end-is long buf-is =
+line_string_is_text l bytes buf n end head whole n-is end-is long buf-is =
     let at = line_string_end l.dimension l.has_srid (number l.order 4 (drop (body_start l.has_srid) bytes)) in
     let same : end ≡ at = end-is ∙ ap (line_string_end l.dimension l.has_srid) n-is in
     let counted : ltb (length bytes) (body_start l.has_srid + 4) ≡ false = le-ltb _ _ whole in

@@ -21,14 +21,14 @@ unfoldable pub fitted : Dimensions → Coordinate → Coordinate
 fitted dims c = if fits dims c then c else replicate (size dims) 0
 
 -- each coordinate of a line string, of rings or line strings, of polygons, and of a point
-abbrev pub fitted_line : Dimensions → List Coordinate → List Coordinate
-fitted_line dims = map (fitted dims)
+abbrev pub fitted_line_string : Dimensions → List Coordinate → List Coordinate
+fitted_line_string dims = map (fitted dims)
 
-abbrev pub fitted_lines : Dimensions → List (List Coordinate) → List (List Coordinate)
-fitted_lines dims = map (fitted_line dims)
+abbrev pub fitted_line_strings : Dimensions → List (List Coordinate) → List (List Coordinate)
+fitted_line_strings dims = map (fitted_line_string dims)
 
 abbrev pub fitted_polygons : Dimensions → List (List (List Coordinate)) → List (List (List Coordinate))
-fitted_polygons dims = map (fitted_lines dims)
+fitted_polygons dims = map (fitted_line_strings dims)
 
 abbrev pub fitted_point : Dimensions → Option Coordinate → Option Coordinate
 fitted_point dims o = option_map (fitted dims) o
@@ -37,10 +37,10 @@ fitted_point dims o = option_map (fitted dims) o
 abbrev mutual
   pub fitted_geometry : Geometry → Geometry
   fitted_geometry (point dims c) = point dims (fitted_point dims c)
-  fitted_geometry (line_string dims cs) = line_string dims (fitted_line dims cs)
-  fitted_geometry (polygon dims rings) = polygon dims (fitted_lines dims rings)
+  fitted_geometry (line_string dims cs) = line_string dims (fitted_line_string dims cs)
+  fitted_geometry (polygon dims rings) = polygon dims (fitted_line_strings dims rings)
   fitted_geometry (multi_point dims points) = multi_point dims (map (fitted_point dims) points)
-  fitted_geometry (multi_line_string dims lines) = multi_line_string dims (fitted_lines dims lines)
+  fitted_geometry (multi_line_string dims lines) = multi_line_string dims (fitted_line_strings dims lines)
   fitted_geometry (multi_polygon dims polygons) = multi_polygon dims (fitted_polygons dims polygons)
   fitted_geometry (collection dims gs) = collection dims (fitted_geometries gs)
   fitted_geometry (line dims start end) = line dims (fitted dims start) (fitted dims end)
@@ -97,14 +97,14 @@ list_fits : {A : Type 0} {f : A → A} {P : A → Type 0} → Fits f P → Fits 
 list_fits h [] = record { lawful = tt; same = λ _. refl }
 list_fits h (x ∷ xs) = record { lawful = ((h x).lawful, (list_fits h xs).lawful); same = λ all. rw ((h x).same all.0, (list_fits h xs).same all.1) refl }
 
-pub line_fits : (dims : Dimensions) → Fits (fitted_line dims) (AreCoordinates dims)
-line_fits dims = list_fits (coordinate_fits dims)
+pub line_string_fits : (dims : Dimensions) → Fits (fitted_line_string dims) (AreCoordinates dims)
+line_string_fits dims = list_fits (coordinate_fits dims)
 
-pub lines_fit : (dims : Dimensions) → Fits (fitted_lines dims) (AllByRecursion (AreCoordinates dims))
-lines_fit dims = list_fits (line_fits dims)
+pub line_strings_fit : (dims : Dimensions) → Fits (fitted_line_strings dims) (AllByRecursion (AreCoordinates dims))
+line_strings_fit dims = list_fits (line_string_fits dims)
 
 pub polygons_fit : (dims : Dimensions) → Fits (fitted_polygons dims) (AllByRecursion (AllByRecursion (AreCoordinates dims)))
-polygons_fit dims = list_fits (lines_fit dims)
+polygons_fit dims = list_fits (line_strings_fit dims)
 
 point_fits : (dims : Dimensions) → Fits (fitted_point dims) (IsPoint dims)
 point_fits dims None = record { lawful = tt; same = λ _. refl }
@@ -114,10 +114,10 @@ mutual
   -- every geometry is fitted to a lawful one, and a lawful one to itself
   pub geometry_fits : Fits fitted_geometry IsGeometry
   geometry_fits (point dims c) = let f = point_fits dims c in record { lawful = f.lawful; same = λ h. rw (f.same h) refl }
-  geometry_fits (line_string dims cs) = let f = line_fits dims cs in record { lawful = f.lawful; same = λ h. rw (f.same h) refl }
-  geometry_fits (polygon dims rings) = let f = lines_fit dims rings in record { lawful = f.lawful; same = λ h. rw (f.same h) refl }
+  geometry_fits (line_string dims cs) = let f = line_string_fits dims cs in record { lawful = f.lawful; same = λ h. rw (f.same h) refl }
+  geometry_fits (polygon dims rings) = let f = line_strings_fit dims rings in record { lawful = f.lawful; same = λ h. rw (f.same h) refl }
   geometry_fits (multi_point dims points) = let f = list_fits (point_fits dims) points in record { lawful = f.lawful; same = λ h. rw (f.same h) refl }
-  geometry_fits (multi_line_string dims lines) = let f = lines_fit dims lines in record { lawful = f.lawful; same = λ h. rw (f.same h) refl }
+  geometry_fits (multi_line_string dims lines) = let f = line_strings_fit dims lines in record { lawful = f.lawful; same = λ h. rw (f.same h) refl }
   geometry_fits (multi_polygon dims polygons) = let f = polygons_fit dims polygons in record { lawful = f.lawful; same = λ h. rw (f.same h) refl }
   geometry_fits (collection dims gs) = let f = geometries_fit gs in record { lawful = f.lawful; same = λ h. rw (f.same h) refl }
   geometry_fits (line dims start end) =
@@ -151,8 +151,10 @@ fitted_geometry-same g h = (geometry_fits g).same h
 -- a line string of the whole's dimension, lawful by its law, stands in the fitted list as in the list itself
 pub lawful_at : {C : Type 0} (read : C → List Coordinate) (dim : C → Dimension) (d : Dimension) (o : Option C) (parts : List (List Coordinate)) (i : ℕ)
     → ((c : C) → AreCoordinates (dimensions (dim c)) (read c)) → IfSome o (λ c. dim c ≡ d) → option_map read o ≡ slice_get parts i
-    → option_map read o ≡ slice_get (fitted_lines (dimensions d) parts) i
-lawful_at read dim d None parts i law same is = ap (option_map (fitted_line (dimensions d))) is ∙ sym (slice_get-map (fitted_line (dimensions d)) parts i)
+    → option_map read o ≡ slice_get (fitted_line_strings (dimensions d) parts) i
+lawful_at read dim d None parts i law same is = ap (option_map (fitted_line_string (dimensions d))) is
+    ∙ sym (slice_get-map (fitted_line_string (dimensions d)) parts i)
 lawful_at read dim d (Some c) parts i law same is =
-    let fits = (line_fits (dimensions d) (read c)).same (subst (λ e. AreCoordinates (dimensions e) (read c)) same (law c)) in
-    ap (λ (x : List Coordinate). Some x) (sym fits) ∙ ap (option_map (fitted_line (dimensions d))) is ∙ sym (slice_get-map (fitted_line (dimensions d)) parts i)
+    let fits = (line_string_fits (dimensions d) (read c)).same (subst (λ e. AreCoordinates (dimensions e) (read c)) same (law c)) in
+    ap (λ (x : List Coordinate). Some x) (sym fits) ∙ ap (option_map (fitted_line_string (dimensions d))) is
+    ∙ sym (slice_get-map (fitted_line_string (dimensions d)) parts i)

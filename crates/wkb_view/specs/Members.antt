@@ -93,8 +93,8 @@ abbrev pub polygon_laid : Layout → List ℕ → List ℕ → Listed (List (Lis
 polygon_laid l ends text = listed l (map (ring_in l.order l.dimension) (pieces_behind l ends text)) no_spellings text
 
 -- a multi line string by its members
-abbrev pub lines_laid : Layout → List ℕ → List ℕ → Listed (List (List Coordinate))
-lines_laid l ends text = listed l (map (λ i. line_string_of i.value) (members_in 2 l ends text)) (spellings (members_in 2 l ends text)) text
+abbrev pub line_strings_laid : Layout → List ℕ → List ℕ → Listed (List (List Coordinate))
+line_strings_laid l ends text = listed l (map (λ i. line_string_of i.value) (members_in 2 l ends text)) (spellings (members_in 2 l ends text)) text
 
 -- the geometries of polygons
 abbrev pub polygon_items : List (Listed (List (List Coordinate))) → List Item

@@ -47,8 +47,8 @@ coordinates_lawful e d (suc n) bytes h =
 pub ring_lawful : (e : Endianness) (d : Dimension) (text : List ℕ) → AreBytes text → AreCoordinates (dimensions d) (ring_in e d text)
 ring_lawful e d text h = coordinates_lawful e d (number e 4 text) (drop 4 text) (AreBytes-drop 4 text h)
 
-pub line_lawful : (l : Layout) (text : List ℕ) → AreBytes text → AreCoordinates (dimensions l.dimension) (line_string_of (line_string_item l text).value)
-line_lawful l text h = ring_lawful l.order l.dimension (drop (body_start l.has_srid) text) (AreBytes-drop (body_start l.has_srid) text h)
+pub line_string_lawful : (l : Layout) (text : List ℕ) → AreBytes text → AreCoordinates (dimensions l.dimension) (line_string_of (line_string_item l text).value)
+line_string_lawful l text h = ring_lawful l.order l.dimension (drop (body_start l.has_srid) text) (AreBytes-drop (body_start l.has_srid) text h)
 
 point_by : (l : Layout) (text ws : List ℕ) (b : Bool) → IsCoordinate (dimensions l.dimension) ws
     → IsPoint (dimensions l.dimension) (point_of (point_item_of l text ws b).value)

@@ -67,10 +67,10 @@ impl<'a> Coord<'a> {
 }
 
 impl Dimensioned for Coord<'_> {
-    ghost use Rattle.wkb_view.specs.Words.{dimensions as named};
+    ghost use Rattle.wkb_view.specs.Words.{dimensions as trait_dimensions};
     ghost use Rattle.wkb_view.specs.Coords.{coord_dimension};
 
-    ghost dimensions = { λ c. named (coord_dimension c) };
+    ghost dimensions = { λ c. trait_dimensions (coord_dimension c) };
 
     #[inline]
     fn dim(&self) -> Dimensions {

@@ -82,7 +82,7 @@ impl<'a> LineString<'a> {
         self.layout.order
     }
 
-    /// Its bytes.
+    /// The bytes of this geometry, from its order byte to its end.
     #[inline]
     pub fn buf(&self) -> &'a [u8]
         ensures text { result.now ≡ (line_string_seen self.now).text }
@@ -162,10 +162,10 @@ impl OwnSrid for LineString<'_> {
 }
 
 impl Dimensioned for LineString<'_> {
-    ghost use Rattle.wkb_view.specs.Words.{dimensions as named};
+    ghost use Rattle.wkb_view.specs.Words.{dimensions as trait_dimensions};
     ghost use Rattle.wkb_view.specs.Views.{line_string_layout};
 
-    ghost dimensions = { λ g. named (line_string_layout g).dimension };
+    ghost dimensions = { λ g. trait_dimensions (line_string_layout g).dimension };
 
     #[inline]
     fn dim(&self) -> Dimensions {
@@ -175,16 +175,16 @@ impl Dimensioned for LineString<'_> {
 
 impl<'a> LineStringTrait for LineString<'a> {
     ghost use Rattle.std.specs.Prelude.{◌≡◌, length, option_map, IfSome, ◌<◌, Some, slice_get};
-    ghost use Rattle.wkb_view.specs.Words.{dimensions as named, line_string_of, order_of};
+    ghost use Rattle.wkb_view.specs.Words.{dimensions as trait_dimensions, line_string_of, order_of};
     ghost use Rattle.wkb_view.specs.Coords.{words_seen, coordinate_text, coord_order, coord_dimension, coord_text};
-    ghost use Rattle.wkb_view.specs.Ranges.{line_lawful};
+    ghost use Rattle.wkb_view.specs.Ranges.{line_string_lawful};
     ghost use Rattle.wkb_view.specs.Views.{line_string_seen, line_string_layout, line_string_offset};
 
     type CoordType = Coord<'a>;
 
     ghost coordinates = { λ l. line_string_of (line_string_seen l).value };
 
-    ghost lawful = { λ l. line_lawful l.layout l.buf.now l.in_range };
+    ghost lawful = { λ l. line_string_lawful l.layout l.buf.now l.in_range };
 
     #[tactic(auto, using(crate::proofs::Items::ring_counted))]
     #[inline]
@@ -195,8 +195,8 @@ impl<'a> LineStringTrait for LineString<'a> {
     #[inline]
     fn coord(&self, i: usize) -> Option<Coord<'a>>
         ensures value { option_map words_seen result ≡ slice_get (line_string_of (line_string_seen self.now).value) i }
-        ensures dimensions { IfSome result (λ c. named (coord_dimension c)
-            ≡ named (line_string_layout self.now).dimension) }
+        ensures dimensions { IfSome result (λ c. trait_dimensions (coord_dimension c)
+            ≡ trait_dimensions (line_string_layout self.now).dimension) }
         ensures order { IfSome result (λ c. coord_order c ≡ order_of (line_string_seen self.now).spelled) }
         ensures bytes { IfSome result (λ c. coord_text c ≡ coordinate_text (line_string_layout self.now).dimension
             (line_string_offset self.now i) (line_string_seen self.now).text) }
@@ -208,7 +208,8 @@ impl<'a> LineStringTrait for LineString<'a> {
     fn coord_at(&self, i: usize) -> Coord<'a>
         requires { i < length (line_string_of (line_string_seen self.now).value) }
         ensures value { slice_get (line_string_of (line_string_seen self.now).value) i ≡ Some (words_seen result) }
-        ensures dimensions { named (coord_dimension result) ≡ named (line_string_layout self.now).dimension }
+        ensures dimensions { trait_dimensions (coord_dimension result)
+            ≡ trait_dimensions (line_string_layout self.now).dimension }
         ensures order { coord_order result ≡ order_of (line_string_seen self.now).spelled }
         ensures bytes { coord_text result
             ≡ coordinate_text (line_string_layout self.now).dimension
@@ -222,8 +223,8 @@ impl<'a> GeometryTrait for LineString<'a> {
     ghost use Rattle.std.specs.Prelude.{◌≡◌, refl};
     ghost use Rattle.wkb_geom.specs.declared.geom.GeometryType.TheVariants.{LineString as Handed};
     ghost use Rattle.wkb_geom.specs.Geometries.{line_string};
-    ghost use Rattle.wkb_view.specs.Words.{dimensions as named, line_string_of};
-    ghost use Rattle.wkb_view.specs.Ranges.{line_lawful};
+    ghost use Rattle.wkb_view.specs.Words.{dimensions as trait_dimensions, line_string_of};
+    ghost use Rattle.wkb_view.specs.Ranges.{line_string_lawful};
     ghost use Rattle.wkb_view.specs.Views.{line_string_seen, line_string_layout};
 
     type PointType = Point<'a>;
@@ -244,12 +245,12 @@ impl<'a> GeometryTrait for LineString<'a> {
 
     type LineType = Line<'a>;
 
-    ghost geometry = { λ l. line_string (named (line_string_layout l).dimension)
+    ghost geometry = { λ l. line_string (trait_dimensions (line_string_layout l).dimension)
         (line_string_of (line_string_seen l).value) };
 
     ghost one_dimension = { λ g. refl };
 
-    ghost lawful = { λ l. line_lawful l.layout l.buf.now l.in_range };
+    ghost lawful = { λ l. line_string_lawful l.layout l.buf.now l.in_range };
 
     #[inline]
     fn as_type(&self) -> AnyView<'_, 'a, LineString<'a>>

@@ -74,10 +74,10 @@ impl<'a> LinearRing<'a> {
 }
 
 impl Dimensioned for LinearRing<'_> {
-    ghost use Rattle.wkb_view.specs.Words.{dimensions as named};
+    ghost use Rattle.wkb_view.specs.Words.{dimensions as trait_dimensions};
     ghost use Rattle.wkb_view.specs.Coords.{ring_dimension};
 
-    ghost dimensions = { λ r. named (ring_dimension r) };
+    ghost dimensions = { λ r. trait_dimensions (ring_dimension r) };
 
     #[inline]
     fn dim(&self) -> Dimensions {
@@ -87,7 +87,7 @@ impl Dimensioned for LinearRing<'_> {
 
 impl<'a> LineStringTrait for LinearRing<'a> {
     ghost use Rattle.std.specs.Prelude.{◌≡◌, length, option_map, IfSome, ◌<◌, Some, slice_get};
-    ghost use Rattle.wkb_view.specs.Words.{dimensions as named};
+    ghost use Rattle.wkb_view.specs.Words.{dimensions as trait_dimensions};
     ghost use Rattle.wkb_view.specs.Coords.{words_seen, coordinate_text, coord_order, coord_dimension, coord_text};
     ghost use Rattle.wkb_view.specs.Coords.{ring_text, ring_order, ring_dimension, ring_seen, ring_offset};
     ghost use Rattle.wkb_view.specs.Ranges.{ring_lawful};
@@ -107,7 +107,8 @@ impl<'a> LineStringTrait for LinearRing<'a> {
     #[inline]
     fn coord(&self, i: usize) -> Option<Coord<'a>>
         ensures value { option_map words_seen result ≡ slice_get (ring_seen self.now) i }
-        ensures dimensions { IfSome result (λ c. named (coord_dimension c) ≡ named (ring_dimension self.now)) }
+        ensures dimensions { IfSome result (λ c. trait_dimensions (coord_dimension c)
+            ≡ trait_dimensions (ring_dimension self.now)) }
         ensures order { IfSome result (λ c. coord_order c ≡ ring_order self.now) }
         ensures bytes { IfSome result (λ c. coord_text c ≡ coordinate_text (ring_dimension self.now)
             (ring_offset self.now i) (ring_text self.now)) }
@@ -124,7 +125,7 @@ impl<'a> LineStringTrait for LinearRing<'a> {
     fn coord_at(&self, i: usize) -> Coord<'a>
         requires { i < length (ring_seen self.now) }
         ensures value { slice_get (ring_seen self.now) i ≡ Some (words_seen result) }
-        ensures dimensions { named (coord_dimension result) ≡ named (ring_dimension self.now) }
+        ensures dimensions { trait_dimensions (coord_dimension result) ≡ trait_dimensions (ring_dimension self.now) }
         ensures order { coord_order result ≡ ring_order self.now }
         ensures bytes { coord_text result ≡ coordinate_text (ring_dimension self.now)
             (ring_offset self.now i) (ring_text self.now) }
@@ -142,7 +143,7 @@ impl<'a> GeometryTrait for LinearRing<'a> {
     ghost use Rattle.std.specs.Prelude.{◌≡◌, refl};
     ghost use Rattle.wkb_geom.specs.declared.geom.GeometryType.TheVariants.{LineString as Handed};
     ghost use Rattle.wkb_geom.specs.Geometries.{line_string};
-    ghost use Rattle.wkb_view.specs.Words.{dimensions as named};
+    ghost use Rattle.wkb_view.specs.Words.{dimensions as trait_dimensions};
     ghost use Rattle.wkb_view.specs.Coords.{ring_dimension, ring_seen};
     ghost use Rattle.wkb_view.specs.Ranges.{ring_lawful};
 
@@ -164,7 +165,7 @@ impl<'a> GeometryTrait for LinearRing<'a> {
 
     type LineType = Line<'a>;
 
-    ghost geometry = { λ r. line_string (named (ring_dimension r)) (ring_seen r) };
+    ghost geometry = { λ r. line_string (trait_dimensions (ring_dimension r)) (ring_seen r) };
 
     ghost one_dimension = { λ g. refl };
 

@@ -1,7 +1,7 @@
 //! A multi line string.
 
 ghost use Rattle.std.specs.Prelude.{◌≡◌, ◌+◌, length, ◌≤◌, IfOk, ◌/◌, [], min, vec_capacity};
-ghost use Rattle.wkb_view.specs.Words.{dimensions as named, body_start, member_at, parts_start, taken};
+ghost use Rattle.wkb_view.specs.Words.{dimensions as trait_dimensions, body_start, member_at, parts_start, taken};
 ghost use Rattle.wkb_view.specs.Members.{parts_behind, IsMember, member_item, AreMembers, members_in};
 ghost use Rattle.wkb_view.specs.Outcome.{Freely, Surely, CanCount};
 ghost use Rattle.wkb_view.specs.Pieces.{Passed};
@@ -16,7 +16,7 @@ use crate::reserved::{Reserved, reserve};
 use std::alloc::{AllocError, Global};
 use std::marker::Model;
 use wkb_geom::{
-    Cause, Dimension, Dimensioned, Dimensions, Endianness, GeometryTrait, GeometryType, Layout,
+    Cause, Dimension, Dimensioned, Dimensions, GeometryTrait, GeometryType, Layout,
     MultiLineStringTrait, Refusal,
 };
 
@@ -33,17 +33,17 @@ impl<'a> Model for MultiLineString<'a> {
     ghost use Rattle.wkb_geom.specs.Stored.{listed_code, rings_code};
     ghost use Rattle.wkb_geom.specs.Values.{multi_line_string};
     ghost use Rattle.wkb_view.specs.Words.{body_start, whole_of, Listed, Coordinate, IsSpelled};
-    ghost use Rattle.wkb_view.specs.Members.{AreMembers, lines_laid};
+    ghost use Rattle.wkb_view.specs.Members.{AreMembers, line_strings_laid};
 
     ghost Value = { Listed (List (List Coordinate)) };
 
     ghost coded = { listed_code rings_code };
 
-    ghost view = { λ a. lines_laid a.layout a.ends.items a.buf.now };
+    ghost view = { λ a. line_strings_laid a.layout a.ends.items a.buf.now };
 
     ghost invariant = { λ a. (body_start a.layout.has_srid + 4 ≤ length a.buf.now)
         × AreMembers 2 a.layout a.ends.items a.buf.now
-        × IsSpelled (whole_of multi_line_string (lines_laid a.layout a.ends.items a.buf.now)) };
+        × IsSpelled (whole_of multi_line_string (line_strings_laid a.layout a.ends.items a.buf.now)) };
 }
 
 impl<'a> MultiLineString<'a> {
@@ -72,7 +72,7 @@ impl<'a> MultiLineString<'a> {
         self.layout.dimension
     }
 
-    /// Its bytes.
+    /// The bytes of this geometry, from its order byte to its end.
     #[inline]
     pub fn buf(&self) -> &'a [u8]
         ensures text { result.now ≡ self.now.text }
@@ -100,10 +100,7 @@ impl<'a> MultiLineString<'a> {
             Some(buf) => buf,
             None => return None,
         };
-        let layout = match Layout::of_member(2, self.layout.dimension, buf) {
-            Ok(layout) => layout,
-            Err(_) => unreachable!(),
-        };
+        let layout = Layout::of_known_member(2, self.layout.dimension, buf);
         Some(LineString::of_text(layout, buf))
     }
 
@@ -142,7 +139,7 @@ impl<'a> MultiLineString<'a> {
             Ok(ends) => ends,
             Err(_) => return Err(Refusal::Memory),
         };
-        match lines(layout, bytes, ends, count, counts) {
+        match line_strings(layout, bytes, ends, count, counts) {
             Ok((ends, rest)) => {
                 let multi_line_string = MultiLineString {
                     buf: &bytes[..bytes.len() - rest.len()],
@@ -166,7 +163,7 @@ impl OwnSrid for MultiLineString<'_> {
 }
 
 impl Dimensioned for MultiLineString<'_> {
-    ghost dimensions = { λ g. named g.dimension };
+    ghost dimensions = { λ g. trait_dimensions g.dimension };
 
     #[inline]
     fn dim(&self) -> Dimensions {
@@ -176,15 +173,15 @@ impl Dimensioned for MultiLineString<'_> {
 
 impl<'a> MultiLineStringTrait for MultiLineString<'a> {
     ghost use Rattle.std.specs.Prelude.{◌≡◌, option_map, IfSome, slice_get};
-    ghost use Rattle.wkb_view.specs.Words.{dimensions as named, line_string_of, spelling_at};
+    ghost use Rattle.wkb_view.specs.Words.{dimensions as trait_dimensions, line_string_of, spelling_at};
     ghost use Rattle.wkb_view.specs.Views.{line_string_seen, line_string_layout};
-    ghost use Rattle.wkb_view.specs.Fitted.{fitted_lines, lines_fit};
+    ghost use Rattle.wkb_view.specs.Fitted.{fitted_line_strings, line_strings_fit};
 
     type InnerLineStringType = LineString<'a>;
 
-    ghost line_strings = { λ m. fitted_lines (named m.dimension) m.parts };
+    ghost line_strings = { λ m. fitted_line_strings (trait_dimensions m.dimension) m.parts };
 
-    ghost lawful = { λ m. (lines_fit (named m.dimension) m.parts).lawful };
+    ghost lawful = { λ m. (line_strings_fit (trait_dimensions m.dimension) m.parts).lawful };
 
     #[inline]
     fn num_line_strings(&self) -> usize {
@@ -194,9 +191,10 @@ impl<'a> MultiLineStringTrait for MultiLineString<'a> {
     #[inline]
     fn line_string(&self, i: usize) -> Option<LineString<'a>>
         ensures value { option_map (λ l. line_string_of (line_string_seen l).value) result
-            ≡ slice_get (fitted_lines (named self.now.dimension) self.now.parts) i }
+            ≡ slice_get (fitted_line_strings (trait_dimensions self.now.dimension) self.now.parts) i }
         ensures part { option_map (λ l. line_string_of (line_string_seen l).value) result ≡ slice_get self.now.parts i }
-        ensures dimensions { IfSome result (λ l. named (line_string_layout l).dimension ≡ named self.now.dimension) }
+        ensures dimensions { IfSome result (λ l. trait_dimensions (line_string_layout l).dimension
+            ≡ trait_dimensions self.now.dimension) }
         ensures spelled { option_map (λ l. (line_string_seen l).spelled) result ≡ spelling_at self.now.spelled i }
     {
         self.member(i)
@@ -207,8 +205,8 @@ impl<'a> GeometryTrait for MultiLineString<'a> {
     ghost use Rattle.std.specs.Prelude.{◌≡◌, refl};
     ghost use Rattle.wkb_geom.specs.declared.geom.GeometryType.TheVariants.{MultiLineString as Handed};
     ghost use Rattle.wkb_geom.specs.Geometries.{multi_line_string};
-    ghost use Rattle.wkb_view.specs.Words.{dimensions as named};
-    ghost use Rattle.wkb_view.specs.Fitted.{fitted_lines, lines_fit};
+    ghost use Rattle.wkb_view.specs.Words.{dimensions as trait_dimensions};
+    ghost use Rattle.wkb_view.specs.Fitted.{fitted_line_strings, line_strings_fit};
 
     type PointType = Point<'a>;
 
@@ -228,11 +226,12 @@ impl<'a> GeometryTrait for MultiLineString<'a> {
 
     type LineType = Line<'a>;
 
-    ghost geometry = { λ m. multi_line_string (named m.dimension) (fitted_lines (named m.dimension) m.parts) };
+    ghost geometry = { λ m. multi_line_string (trait_dimensions m.dimension)
+        (fitted_line_strings (trait_dimensions m.dimension) m.parts) };
 
     ghost one_dimension = { λ g. refl };
 
-    ghost lawful = { λ m. (lines_fit (named m.dimension) m.parts).lawful };
+    ghost lawful = { λ m. (line_strings_fit (trait_dimensions m.dimension) m.parts).lawful };
 
     #[inline]
     fn as_type(&self) -> AnyView<'_, 'a, MultiLineString<'a>>
@@ -243,14 +242,20 @@ impl<'a> GeometryTrait for MultiLineString<'a> {
 }
 
 /// Passes the line string of this dimension at the front of the bytes.
-fn line<'a>(dimension: Dimension, bytes: &'a [u8]) -> Result<&'a [u8], Cause>
+fn line_string<'a>(dimension: Dimension, bytes: &'a [u8]) -> Result<&'a [u8], Cause>
     ensures answer { Freely (λ rest. (member_item 2 dimension (taken bytes.now rest.now), rest.now))
         result (member_at 2 dimension bytes.now) }
     ensures passed { IfOk result (λ rest. Passed 9 (IsMember 2 dimension) bytes.now rest.now) }
 {
-    let layout = match Layout::of_member(2, dimension, bytes) {
-        Ok(layout) => layout,
+    let (order, has_srid) = match Layout::of_member(2, dimension, bytes) {
+        Ok(layout) => (layout.order, layout.has_srid),
         Err(cause) => return Err(cause),
+    };
+    // Made anew, so that it doesn't go through memory.
+    let layout = Layout {
+        order,
+        dimension,
+        has_srid,
     };
     match LineString::read(layout, bytes) {
         Ok((_, rest)) => Ok(rest),
@@ -260,7 +265,7 @@ fn line<'a>(dimension: Dimension, bytes: &'a [u8]) -> Result<&'a [u8], Cause>
 
 /// Passes so many line strings, and keeps the offsets at which they end.
 #[tactic(auto, using(crate::proofs::Lists::parts_length))]
-fn lines<'a>(
+fn line_strings<'a>(
     layout: Layout,
     bytes: &'a [u8],
     mut ends: Reserved<usize>,
@@ -271,7 +276,7 @@ fn lines<'a>(
     requires empty { ends.items.items ≡ [] }
     requires room { min count (length (parts_start layout.has_srid bytes.now) / 9) ≤ vec_capacity ends.items }
     requires fits { CanCount counts.old (parts_behind (member_at 2 layout.dimension) layout count bytes.now).0 }
-    ensures lines { Surely (λ x. (members_in 2 layout x.0.items.items (taken bytes.now x.1.now), x.1.now))
+    ensures line_strings { Surely (λ x. (members_in 2 layout x.0.items.items (taken bytes.now x.1.now), x.1.now))
         result (parts_behind (member_at 2 layout.dimension) layout count bytes.now) counts.old counts.new }
     ensures ends { IfOk result (λ x. AreMembers 2 layout x.0.items.items (taken bytes.now x.1.now)) }
     ensures shorter { IfOk result (λ x. length x.1.now + body_start layout.has_srid + 4 ≤ length bytes.now) }
@@ -279,7 +284,7 @@ fn lines<'a>(
     let mut rest = layout.behind_count(bytes);
     for _ in 0..count {
         counts.turns += 1;
-        rest = line(layout.dimension, rest)?;
+        rest = line_string(layout.dimension, rest)?;
         ends.push(bytes.len() - rest.len());
     }
     Ok((ends, rest))

@@ -13,8 +13,8 @@ use crate::counts::Counts;
 use crate::own_srid::OwnSrid;
 use crate::part::part;
 use wkb_geom::{
-    Cause, Dimension, Dimensioned, Dimensions, Endianness, General, GeometryTrait, GeometryType,
-    Layout, MultiPointTrait,
+    Cause, Dimension, Dimensioned, Dimensions, General, GeometryTrait, GeometryType, Layout,
+    MultiPointTrait,
 };
 
 /// A multi point: its members have one length, and are made again from their bytes.
@@ -65,7 +65,7 @@ impl<'a> MultiPoint<'a> {
         self.layout.dimension
     }
 
-    /// Its bytes.
+    /// The bytes of this geometry, from its order byte to its end.
     #[inline]
     pub fn buf(&self) -> &'a [u8]
         ensures text { result.now ≡ (multi_point_seen self.now).text }
@@ -121,10 +121,10 @@ impl OwnSrid for MultiPoint<'_> {
 }
 
 impl Dimensioned for MultiPoint<'_> {
-    ghost use Rattle.wkb_view.specs.Words.{dimensions as named};
+    ghost use Rattle.wkb_view.specs.Words.{dimensions as trait_dimensions};
     ghost use Rattle.wkb_view.specs.Views.{multi_point_layout};
 
-    ghost dimensions = { λ g. named (multi_point_layout g).dimension };
+    ghost dimensions = { λ g. trait_dimensions (multi_point_layout g).dimension };
 
     #[inline]
     fn dim(&self) -> Dimensions {
@@ -134,7 +134,7 @@ impl Dimensioned for MultiPoint<'_> {
 
 impl<'a> MultiPointTrait for MultiPoint<'a> {
     ghost use Rattle.std.specs.Prelude.{◌≡◌, option_map, IfSome, slice_get};
-    ghost use Rattle.wkb_view.specs.Words.{dimensions as named, point_of, points_of, spelling_at};
+    ghost use Rattle.wkb_view.specs.Words.{dimensions as trait_dimensions, point_of, points_of, spelling_at};
     ghost use Rattle.wkb_view.specs.Views.{point_seen, point_layout, multi_point_seen, multi_point_layout};
     ghost use Rattle.wkb_view.specs.Ranges.{multi_point_lawful};
 
@@ -152,11 +152,12 @@ impl<'a> MultiPointTrait for MultiPoint<'a> {
 
     /// The point at an index, made again from its bytes, in its own order.
     #[tactic(auto, using(crate::proofs::Members::points_counted, crate::proofs::Items::next_within))]
+    #[inline]
     fn point(&self, i: usize) -> Option<Point<'a>>
         ensures value { option_map (λ p. point_of (point_seen p).value) result
             ≡ slice_get (points_of (multi_point_seen self.now).value) i }
-        ensures dimensions { IfSome result (λ p. named (point_layout p).dimension
-            ≡ named (multi_point_layout self.now).dimension) }
+        ensures dimensions { IfSome result (λ p. trait_dimensions (point_layout p).dimension
+            ≡ trait_dimensions (multi_point_layout self.now).dimension) }
         ensures spelled { option_map (λ p. (point_seen p).spelled) result
             ≡ spelling_at (multi_point_seen self.now).spelled i }
     {
@@ -165,10 +166,7 @@ impl<'a> MultiPointTrait for MultiPoint<'a> {
         }
         let start = self.point_offset(i as u64) as usize;
         let buf = part(self.buf, start, 5 + 8 * self.layout.dimension.width());
-        let layout = match Layout::of_member(1, self.layout.dimension, buf) {
-            Ok(layout) => layout,
-            Err(_) => unreachable!(),
-        };
+        let layout = Layout::of_known_member(1, self.layout.dimension, buf);
         Some(Point::of_text(layout, buf))
     }
 }
@@ -177,7 +175,7 @@ impl<'a> GeometryTrait for MultiPoint<'a> {
     ghost use Rattle.std.specs.Prelude.{◌≡◌, refl};
     ghost use Rattle.wkb_geom.specs.declared.geom.GeometryType.TheVariants.{MultiPoint as Handed};
     ghost use Rattle.wkb_geom.specs.Geometries.{multi_point};
-    ghost use Rattle.wkb_view.specs.Words.{dimensions as named, points_of};
+    ghost use Rattle.wkb_view.specs.Words.{dimensions as trait_dimensions, points_of};
     ghost use Rattle.wkb_view.specs.Ranges.{multi_point_lawful};
     ghost use Rattle.wkb_view.specs.Views.{multi_point_seen, multi_point_layout};
 
@@ -199,7 +197,7 @@ impl<'a> GeometryTrait for MultiPoint<'a> {
 
     type LineType = Line<'a>;
 
-    ghost geometry = { λ m. multi_point (named (multi_point_layout m).dimension)
+    ghost geometry = { λ m. multi_point (trait_dimensions (multi_point_layout m).dimension)
         (points_of (multi_point_seen m).value) };
 
     ghost one_dimension = { λ g. refl };
@@ -221,9 +219,15 @@ fn point<'a>(dimension: Dimension, bytes: &'a [u8]) -> Result<&'a [u8], Cause>
         result (member_at 1 dimension bytes.now) }
     ensures passed { IfOk result (λ rest. Passed 9 (IsMember 1 dimension) bytes.now rest.now) }
 {
-    let layout = match Layout::of_member(1, dimension, bytes) {
-        Ok(layout) => layout,
+    let order = match Layout::of_member(1, dimension, bytes) {
+        Ok(layout) => layout.order,
         Err(cause) => return Err(cause),
+    };
+    // Made anew from what is known, so that it doesn't go through memory.
+    let layout = Layout {
+        order,
+        dimension,
+        has_srid: false,
     };
     match Point::read(layout, bytes) {
         Ok((_, rest)) => Ok(rest),

@@ -3,7 +3,7 @@
 ghost use Rattle.std.specs.Prelude.{◌≡◌, ◌+◌, length, ◌≤◌, IfOk, ◌/◌, [], min, vec_capacity};
 ghost use Rattle.std.specs.List.{AllByRecursion};
 ghost use Rattle.wkb_geom.specs.Values as value;
-ghost use Rattle.wkb_view.specs.Words.{dimensions as named, body_start, member_at, parts_start, whole_of};
+ghost use Rattle.wkb_view.specs.Words.{dimensions as trait_dimensions, body_start, member_at, parts_start, whole_of};
 ghost use Rattle.wkb_view.specs.Memory.{IsNoWant};
 ghost use Rattle.wkb_view.specs.Outcome.{Gives, CanCount};
 ghost use Rattle.wkb_view.specs.Members.{parts_behind, polygon_items};
@@ -17,8 +17,8 @@ use crate::reserved::{Reserved, reserve};
 use std::alloc::{AllocError, Global};
 use std::marker::Model;
 use wkb_geom::{
-    Dimension, Dimensioned, Dimensions, Endianness, GeometryTrait, GeometryType, Layout,
-    MultiPolygonTrait, Refusal,
+    Dimension, Dimensioned, Dimensions, GeometryTrait, GeometryType, Layout, MultiPolygonTrait,
+    Refusal,
 };
 
 /// A multi polygon.
@@ -73,7 +73,7 @@ impl<'a> MultiPolygon<'a> {
         self.layout.dimension
     }
 
-    /// Its bytes.
+    /// The bytes of this geometry, from its order byte to its end.
     #[inline]
     pub fn buf(&self) -> &'a [u8]
         ensures text { result.now ≡ self.now.text }
@@ -145,7 +145,7 @@ impl OwnSrid for MultiPolygon<'_> {
 }
 
 impl Dimensioned for MultiPolygon<'_> {
-    ghost dimensions = { λ g. named g.dimension };
+    ghost dimensions = { λ g. trait_dimensions g.dimension };
 
     #[inline]
     fn dim(&self) -> Dimensions {
@@ -155,14 +155,14 @@ impl Dimensioned for MultiPolygon<'_> {
 
 impl<'a> MultiPolygonTrait for MultiPolygon<'a> {
     ghost use Rattle.std.specs.Prelude.{◌≡◌, option_map, IfSome, slice_get};
-    ghost use Rattle.wkb_view.specs.Words.{dimensions as named, spelling_at};
-    ghost use Rattle.wkb_view.specs.Fitted.{fitted_lines, fitted_polygons, polygons_fit};
+    ghost use Rattle.wkb_view.specs.Words.{dimensions as trait_dimensions, spelling_at};
+    ghost use Rattle.wkb_view.specs.Fitted.{fitted_line_strings, fitted_polygons, polygons_fit};
 
     type InnerPolygonType = Polygon<'a>;
 
-    ghost polygons = { λ m. fitted_polygons (named m.dimension) m.parts };
+    ghost polygons = { λ m. fitted_polygons (trait_dimensions m.dimension) m.parts };
 
-    ghost lawful = { λ m. (polygons_fit (named m.dimension) m.parts).lawful };
+    ghost lawful = { λ m. (polygons_fit (trait_dimensions m.dimension) m.parts).lawful };
 
     #[inline]
     fn num_polygons(&self) -> usize {
@@ -171,10 +171,11 @@ impl<'a> MultiPolygonTrait for MultiPolygon<'a> {
 
     #[inline]
     fn polygon(&self, i: usize) -> Option<&Polygon<'a>>
-        ensures value { option_map (λ p. fitted_lines (named p.now.dimension) p.now.parts) result
-            ≡ slice_get (fitted_polygons (named self.now.dimension) self.now.parts) i }
+        ensures value { option_map (λ p. fitted_line_strings (trait_dimensions p.now.dimension) p.now.parts) result
+            ≡ slice_get (fitted_polygons (trait_dimensions self.now.dimension) self.now.parts) i }
         ensures part { option_map (λ p. p.now.parts) result ≡ slice_get self.now.parts i }
-        ensures dimensions { IfSome result (λ p. named p.now.dimension ≡ named self.now.dimension) }
+        ensures dimensions { IfSome result (λ p. trait_dimensions p.now.dimension
+            ≡ trait_dimensions self.now.dimension) }
         ensures spelled { option_map (λ p. p.now.spelled) result ≡ spelling_at self.now.spelled i }
     {
         if i < self.members.len() {
@@ -189,7 +190,7 @@ impl<'a> GeometryTrait for MultiPolygon<'a> {
     ghost use Rattle.std.specs.Prelude.{◌≡◌, refl};
     ghost use Rattle.wkb_geom.specs.declared.geom.GeometryType.TheVariants.{MultiPolygon as Handed};
     ghost use Rattle.wkb_geom.specs.Geometries.{multi_polygon};
-    ghost use Rattle.wkb_view.specs.Words.{dimensions as named};
+    ghost use Rattle.wkb_view.specs.Words.{dimensions as trait_dimensions};
     ghost use Rattle.wkb_view.specs.Fitted.{fitted_polygons, polygons_fit};
 
     type PointType = Point<'a>;
@@ -210,11 +211,12 @@ impl<'a> GeometryTrait for MultiPolygon<'a> {
 
     type LineType = Line<'a>;
 
-    ghost geometry = { λ m. multi_polygon (named m.dimension) (fitted_polygons (named m.dimension) m.parts) };
+    ghost geometry = { λ m. multi_polygon (trait_dimensions m.dimension)
+        (fitted_polygons (trait_dimensions m.dimension) m.parts) };
 
     ghost one_dimension = { λ g. refl };
 
-    ghost lawful = { λ m. (polygons_fit (named m.dimension) m.parts).lawful };
+    ghost lawful = { λ m. (polygons_fit (trait_dimensions m.dimension) m.parts).lawful };
 
     #[inline]
     fn as_type(&self) -> AnyView<'_, 'a, MultiPolygon<'a>>

@@ -77,7 +77,7 @@ impl<'a> Point<'a> {
         &self.buf[self.layout.body_start()..]
     }
 
-    /// Its bytes.
+    /// The bytes of this geometry, from its order byte to its end.
     #[inline]
     pub fn buf(&self) -> &'a [u8]
         ensures text { result.now ≡ (point_seen self.now).text }
@@ -87,6 +87,7 @@ impl<'a> Point<'a> {
     }
 
     /// Its words, also where all are not-a-numbers.
+    #[inline]
     pub(crate) fn words(&self) -> Coord<'a>
         ensures words { words_seen result ≡ coordinate_in self.now }
         ensures order { coord_order result ≡ (point_layout self.now).order }
@@ -152,10 +153,10 @@ impl OwnSrid for Point<'_> {
 }
 
 impl Dimensioned for Point<'_> {
-    ghost use Rattle.wkb_view.specs.Words.{dimensions as named};
+    ghost use Rattle.wkb_view.specs.Words.{dimensions as trait_dimensions};
     ghost use Rattle.wkb_view.specs.Views.{point_layout};
 
-    ghost dimensions = { λ g. named (point_layout g).dimension };
+    ghost dimensions = { λ g. trait_dimensions (point_layout g).dimension };
 
     #[inline]
     fn dim(&self) -> Dimensions {
@@ -165,7 +166,7 @@ impl Dimensioned for Point<'_> {
 
 impl<'a> PointTrait for Point<'a> {
     ghost use Rattle.std.specs.Prelude.{◌≡◌, option_map, IfSome};
-    ghost use Rattle.wkb_view.specs.Words.{dimensions as named, body_start, point_of, order_of};
+    ghost use Rattle.wkb_view.specs.Words.{dimensions as trait_dimensions, body_start, point_of, order_of};
     ghost use Rattle.wkb_view.specs.Ranges.{point_lawful};
     ghost use Rattle.wkb_view.specs.Coords.{words_seen, coordinate_text, coord_order, coord_dimension, coord_text};
     ghost use Rattle.wkb_view.specs.Views.{point_seen, point_layout};
@@ -176,10 +177,11 @@ impl<'a> PointTrait for Point<'a> {
 
     ghost lawful = { λ p. point_lawful p.layout p.buf.now p.in_range };
 
-    #[inline]
+    #[inline(always)]
     fn coord(&self) -> Option<Coord<'a>>
         ensures value { option_map words_seen result ≡ point_of (point_seen self.now).value }
-        ensures dimensions { IfSome result (λ c. named (coord_dimension c) ≡ named (point_layout self.now).dimension) }
+        ensures dimensions { IfSome result (λ c. trait_dimensions (coord_dimension c)
+            ≡ trait_dimensions (point_layout self.now).dimension) }
         ensures order { IfSome result (λ c. coord_order c ≡ order_of (point_seen self.now).spelled) }
         ensures bytes { IfSome result (λ c. coord_text c ≡ coordinate_text (point_layout self.now).dimension
             (body_start (point_layout self.now).has_srid) (point_seen self.now).text) }
@@ -193,7 +195,7 @@ impl<'a> GeometryTrait for Point<'a> {
     ghost use Rattle.std.specs.Prelude.{◌≡◌, refl};
     ghost use Rattle.wkb_geom.specs.declared.geom.GeometryType.TheVariants.{Point as Handed};
     ghost use Rattle.wkb_geom.specs.Geometries.{point};
-    ghost use Rattle.wkb_view.specs.Words.{dimensions as named, point_of};
+    ghost use Rattle.wkb_view.specs.Words.{dimensions as trait_dimensions, point_of};
     ghost use Rattle.wkb_view.specs.Ranges.{point_lawful};
     ghost use Rattle.wkb_view.specs.Views.{point_seen, point_layout};
 
@@ -215,7 +217,7 @@ impl<'a> GeometryTrait for Point<'a> {
 
     type LineType = Line<'a>;
 
-    ghost geometry = { λ p. point (named (point_layout p).dimension) (point_of (point_seen p).value) };
+    ghost geometry = { λ p. point (trait_dimensions (point_layout p).dimension) (point_of (point_seen p).value) };
 
     ghost one_dimension = { λ g. refl };
 

@@ -1,7 +1,7 @@
 //! A polygon.
 
 ghost use Rattle.std.specs.Prelude.{◌≡◌, ◌+◌, length, ◌≤◌, IfOk, ◌/◌, [], min, vec_capacity};
-ghost use Rattle.wkb_view.specs.Words.{dimensions as named, body_start, parts_start, ring_part, taken};
+ghost use Rattle.wkb_view.specs.Words.{dimensions as trait_dimensions, body_start, parts_start, ring_part, taken};
 ghost use Rattle.wkb_view.specs.Members.{parts_behind, pieces_behind, AreRings};
 ghost use Rattle.wkb_view.specs.Outcome.{Surely, CanCount};
 
@@ -17,8 +17,8 @@ use std::alloc::{AllocError, Global};
 use std::marker::Model;
 use wkb_geom::words::u32_at;
 use wkb_geom::{
-    Cause, Dimension, Dimensioned, Dimensions, Endianness, GeometryTrait, GeometryType, Layout,
-    PolygonTrait, Refusal,
+    Cause, Dimension, Dimensioned, Dimensions, GeometryTrait, GeometryType, Layout, PolygonTrait,
+    Refusal,
 };
 
 /// A polygon: its rings by the offsets at which they end.
@@ -73,7 +73,7 @@ impl<'a> Polygon<'a> {
         self.layout.dimension
     }
 
-    /// Its bytes.
+    /// The bytes of this geometry, from its order byte to its end.
     #[inline]
     pub fn buf(&self) -> &'a [u8]
         ensures text { result.now ≡ self.now.text }
@@ -168,7 +168,7 @@ impl OwnSrid for Polygon<'_> {
 }
 
 impl Dimensioned for Polygon<'_> {
-    ghost dimensions = { λ g. named g.dimension };
+    ghost dimensions = { λ g. trait_dimensions g.dimension };
 
     #[inline]
     fn dim(&self) -> Dimensions {
@@ -178,15 +178,15 @@ impl Dimensioned for Polygon<'_> {
 
 impl<'a> PolygonTrait for Polygon<'a> {
     ghost use Rattle.std.specs.Prelude.{◌≡◌, ◌+◌, option_map, IfSome, slice_get};
-    ghost use Rattle.wkb_view.specs.Words.{dimensions as named, order_of};
+    ghost use Rattle.wkb_view.specs.Words.{dimensions as trait_dimensions, order_of};
     ghost use Rattle.wkb_view.specs.Coords.{ring_order, ring_dimension, ring_seen};
-    ghost use Rattle.wkb_view.specs.Fitted.{fitted_lines, lines_fit};
+    ghost use Rattle.wkb_view.specs.Fitted.{fitted_line_strings, line_strings_fit};
 
     type RingType = LinearRing<'a>;
 
-    ghost rings = { λ p. fitted_lines (named p.dimension) p.parts };
+    ghost rings = { λ p. fitted_line_strings (trait_dimensions p.dimension) p.parts };
 
-    ghost lawful = { λ p. (lines_fit (named p.dimension) p.parts).lawful };
+    ghost lawful = { λ p. (line_strings_fit (trait_dimensions p.dimension) p.parts).lawful };
 
     #[inline]
     fn num_interiors(&self) -> usize {
@@ -196,9 +196,10 @@ impl<'a> PolygonTrait for Polygon<'a> {
     #[inline]
     fn exterior(&self) -> Option<LinearRing<'a>>
         ensures value { option_map ring_seen result
-            ≡ slice_get (fitted_lines (named self.now.dimension) self.now.parts) 0 }
+            ≡ slice_get (fitted_line_strings (trait_dimensions self.now.dimension) self.now.parts) 0 }
         ensures part { option_map ring_seen result ≡ slice_get self.now.parts 0 }
-        ensures dimensions { IfSome result (λ r. named (ring_dimension r) ≡ named self.now.dimension) }
+        ensures dimensions { IfSome result (λ r. trait_dimensions (ring_dimension r)
+            ≡ trait_dimensions self.now.dimension) }
         ensures order { IfSome result (λ r. ring_order r ≡ order_of self.now.spelled) }
     {
         self.ring(0)
@@ -208,9 +209,10 @@ impl<'a> PolygonTrait for Polygon<'a> {
     #[inline]
     fn interior(&self, i: usize) -> Option<LinearRing<'a>>
         ensures value { option_map ring_seen result
-            ≡ slice_get (fitted_lines (named self.now.dimension) self.now.parts) (i + 1) }
+            ≡ slice_get (fitted_line_strings (trait_dimensions self.now.dimension) self.now.parts) (i + 1) }
         ensures part { option_map ring_seen result ≡ slice_get self.now.parts (i + 1) }
-        ensures dimensions { IfSome result (λ r. named (ring_dimension r) ≡ named self.now.dimension) }
+        ensures dimensions { IfSome result (λ r. trait_dimensions (ring_dimension r)
+            ≡ trait_dimensions self.now.dimension) }
         ensures order { IfSome result (λ r. ring_order r ≡ order_of self.now.spelled) }
     {
         if i < self.num_interiors() {
@@ -225,8 +227,8 @@ impl<'a> GeometryTrait for Polygon<'a> {
     ghost use Rattle.std.specs.Prelude.{◌≡◌, refl};
     ghost use Rattle.wkb_geom.specs.declared.geom.GeometryType.TheVariants.{Polygon as Handed};
     ghost use Rattle.wkb_geom.specs.Geometries.{polygon};
-    ghost use Rattle.wkb_view.specs.Words.{dimensions as named};
-    ghost use Rattle.wkb_view.specs.Fitted.{fitted_lines, lines_fit};
+    ghost use Rattle.wkb_view.specs.Words.{dimensions as trait_dimensions};
+    ghost use Rattle.wkb_view.specs.Fitted.{fitted_line_strings, line_strings_fit};
 
     type PointType = Point<'a>;
 
@@ -246,11 +248,12 @@ impl<'a> GeometryTrait for Polygon<'a> {
 
     type LineType = Line<'a>;
 
-    ghost geometry = { λ p. polygon (named p.dimension) (fitted_lines (named p.dimension) p.parts) };
+    ghost geometry = { λ p. polygon (trait_dimensions p.dimension)
+        (fitted_line_strings (trait_dimensions p.dimension) p.parts) };
 
     ghost one_dimension = { λ g. refl };
 
-    ghost lawful = { λ p. (lines_fit (named p.dimension) p.parts).lawful };
+    ghost lawful = { λ p. (line_strings_fit (trait_dimensions p.dimension) p.parts).lawful };
 
     #[inline]
     fn as_type(&self) -> AnyView<'_, 'a, Polygon<'a>>

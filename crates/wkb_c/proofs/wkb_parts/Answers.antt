@@ -5,12 +5,12 @@ use Rattle.wkb_c.proofs.Words.{front_fits, holds, entries_many}
 use Rattle.wkb_c.proofs.wkb_parts.Goals as goal
 
 pub table_of-requires : goal.table_of-requires
-table_of-requires c = record { fits = front_fits c.args.buf.now c.in-Ok.wkb (rw c.in-Ok.is at c.read_wkb_counted-answer.ensures.front) (omega arith) }
+table_of-requires c = record { fits = front_fits c.args.buf.now c.in-Ok.wkb (rw c.in-Ok.is at c.read_wkb_counted-answer.ensures.reads.front) (omega arith) }
 
 pub returns-in-Ok-table_of-clause-listed : goal.returns-in-Ok-table_of-clause-listed
 returns-in-Ok-table_of-clause-listed c = λ ok.
     let w = c.in-Ok.wkb in
-    let f = rw c.in-Ok.is at c.read_wkb_counted-answer.ensures.front in
+    let f = rw c.in-Ok.is at c.read_wkb_counted-answer.ensures.reads.front in
     record {
       s = w.spelled;
       t = w.value;

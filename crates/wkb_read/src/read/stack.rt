@@ -1,17 +1,12 @@
 //! Reading with an explicit stack of open collections.
 
 ghost use Rattle.wkb_geom.specs.declared.code.WkbType.TheVariants as kinds;
-ghost use Rattle.std.specs.Prelude.{Ok, ◌≡◌, ◌++◌, ◌∷◌, [], ◌+◌, ◌*◌, ◌<◌, ◌≤◌, ◌^◌, length, reverse, IfOk};
-ghost use Rattle.std.specs.Prelude.{IfErr};
-ghost use Rattle.wkb_read.specs.Words.{max_nesting, IsGeometry, normal, geometry_of, body_start, head_at};
-ghost use Rattle.wkb_read.specs.Words.{geometry_at};
-ghost use Rattle.wkb_read.specs.Words.{HasHead, IsNoWant, CanCount};
-ghost use Rattle.wkb_read.specs.Memory.{IsNotMemory, NeedsNone, BodyTakesNone, ReadsWithoutMemory};
-ghost use Rattle.wkb_read.specs.Public.{TakesNoMemory, IsFront, IsOnlyFront, HasNoFront, IsRefusal, TellsEach};
-ghost use Rattle.wkb_read.specs.Public.{IfRefused, IfMemory, CountsValue, CountsRefusal, CountsAtMost, CanBeWritten};
-ghost use Rattle.wkb_read.specs.Seen.{geometry_seen};
-ghost use Rattle.wkb_read.specs.Stack.{geometry_inside, collection_inside, body_inside, outward, first_member, counted};
-ghost use Rattle.wkb_read.specs.Stack.{next_turn, IsOpen, AreOpen, IsPart, BeginsAs, Settles, ReadsAs};
+ghost use Rattle.std.specs.Prelude.{Ok, ◌≡◌, ◌++◌, ◌∷◌, [], ◌+◌, ◌*◌, ◌<◌, ◌^◌, length, reverse, IfOk, IfErr};
+ghost use Rattle.wkb_read.specs.Words.{max_nesting, body_start, head_at, geometry_at, HasHead, IsNoWant, CanCount};
+ghost use Rattle.wkb_read.specs.Memory.{NeedsNone, BodyTakesNone, ReadsWithoutMemory};
+ghost use Rattle.wkb_read.specs.Public.{Reads, Costs};
+ghost use Rattle.wkb_read.specs.Stack.{geometry_inside, collection_inside, body_inside, outward, first_member, cost_of};
+ghost use Rattle.wkb_read.specs.Stack.{next_turn, IsOpen, AreOpen, IsFinished, BeginsAs, Settles, ReadsAs};
 
 use crate::geometry::{GeometryCollection, Kind, Wkb};
 use crate::read::unfinished::{Begun, Open};
@@ -126,7 +121,7 @@ pub(crate) fn enter<'a>(
 ) -> Result<(), AllocError>
     requires fits { counts.old.turns + 1 < 2 ^ 128 }
     ensures entered { IfOk result (λ done. stack.new.items ≡ stack.old.items ++ collection.entry ∷ []) }
-    ensures turn { IfOk result (λ done. counted counts.new ≡ next_turn (counted counts.old)) }
+    ensures turn { IfOk result (λ done. cost_of counts.new ≡ next_turn (cost_of counts.old)) }
     ensures stays { IfErr result (λ e. counts.new ≡ counts.old) }
 {
     stack.push(collection)?;
@@ -142,7 +137,7 @@ pub(crate) fn settle<'a>(
     rest: &'a [u8],
     counts: &mut Counts,
 ) -> Option<Wkb<'a>>
-    requires part { IsPart part }
+    requires part { IsFinished part }
     requires stand { AreOpen (reverse stack.old.items) (part.text ++ rest.now) }
     requires fits { counts.old.turns + (outward (reverse stack.old.items) part rest.now).0.turns < 2 ^ 128 }
     ensures { Settles (reverse stack.old.items) (reverse stack.new.items) part.entry rest.now
@@ -230,47 +225,36 @@ pub(crate) fn geometry<'a>(
     }
 }
 
+/// Reads as `read_wkb` says, and counts anew what it costs.
+#[inline(always)]
+fn read_and_count<'a>(alloc: Global, buf: &'a [u8], counts: &mut Counts) -> WkbResult<Wkb<'a>>
+    ensures reads { Reads buf.now result }
+    ensures costs { Costs buf.now result counts.new }
+{
+    *counts = Counts { turns: 0, slots: 0 };
+    match geometry(alloc, buf, counts) {
+        Ok(whole) => Ok(whole),
+        Err(refusal) => Err(refusal.into()),
+    }
+}
+
 /// Reads the geometry at the front of the bytes; what stands behind it is not looked at.
 ///
 /// A refusal is the first fault from left to right: `IOError` where a header or a count is cut short, `General` for a
 /// byte order, a code or a length, `IncorrectType` for a member of another kind or dimension than its multi geometry
 /// takes, `NestingDepthExceeded` for the 129th collection inside one another, `Memory` where a list is refused.
 pub fn read_wkb<'a>(alloc: Global, buf: &'a [u8]) -> WkbResult<Wkb<'a>>
-    ensures front { IfOk result (λ w. IsFront buf.now w) }
-    ensures one_front { IfOk result (λ w. IsOnlyFront buf.now w) }
-    ensures lawful { IfOk result (λ w. IsGeometry (geometry_of w.value)) }
-    ensures seen { IfOk result (λ w. geometry_seen w ≡ geometry_of w.value) }
-    ensures normal { IfOk result (λ w. normal (geometry_of w.value) ≡ w.value) }
-    ensures writable { IfOk result (λ w. CanBeWritten w.value) }
-    ensures refusal { IfRefused result (λ e. IsRefusal buf.now e) }
-    ensures one_cause { IfRefused result (λ e. TellsEach buf.now e) }
-    ensures no_front { IfRefused result (λ e. HasNoFront buf.now) }
-    ensures no_memory { TakesNoMemory buf.now → IsNotMemory result }
+    ensures { Reads buf.now result }
 {
-    read_wkb_counted(alloc, buf).0
+    read_and_count(alloc, buf, &mut Counts { turns: 0, slots: 0 })
 }
 
 /// The same as `read_wkb`, and what it cost, whatever the answer is.
 pub fn read_wkb_counted<'a>(alloc: Global, buf: &'a [u8]) -> (WkbResult<Wkb<'a>>, Counts)
-    ensures front { IfOk result.0 (λ w. IsFront buf.now w) }
-    ensures one_front { IfOk result.0 (λ w. IsOnlyFront buf.now w) }
-    ensures lawful { IfOk result.0 (λ w. IsGeometry (geometry_of w.value)) }
-    ensures seen { IfOk result.0 (λ w. geometry_seen w ≡ geometry_of w.value) }
-    ensures normal { IfOk result.0 (λ w. normal (geometry_of w.value) ≡ w.value) }
-    ensures writable { IfOk result.0 (λ w. CanBeWritten w.value) }
-    ensures refusal { IfRefused result.0 (λ e. IsRefusal buf.now e) }
-    ensures one_cause { IfRefused result.0 (λ e. TellsEach buf.now e) }
-    ensures no_front { IfRefused result.0 (λ e. HasNoFront buf.now) }
-    ensures no_memory { TakesNoMemory buf.now → IsNotMemory result.0 }
-    ensures counts { IfOk result.0 (λ w. CountsValue w.value result.1) }
-    ensures refusal_counts { IfRefused result.0 (λ e. CountsRefusal buf.now result.1) }
-    ensures memory_counts { IfMemory result.0 (CountsAtMost buf.now result.1) }
-    ensures turns_bounded { 4 * result.1.turns ≤ length buf.now + 4 }
-    ensures slots_bounded { result.1.slots ≤ 15 * length buf.now }
+    ensures reads { Reads buf.now result.0 }
+    ensures costs { Costs buf.now result.0 result.1 }
 {
     let mut counts = Counts { turns: 0, slots: 0 };
-    match geometry(alloc, buf, &mut counts) {
-        Ok(whole) => (Ok(whole), counts),
-        Err(refusal) => (Err(refusal.into()), counts),
-    }
+    let answer = read_and_count(alloc, buf, &mut counts);
+    (answer, counts)
 }

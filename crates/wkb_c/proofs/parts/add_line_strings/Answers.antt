@@ -1,4 +1,4 @@
-use Rattle.wkb_c.proofs.Common.{sym, arith, length-map, dimensions, line_string, line_string_of, line_string_seen, fitted_line}
+use Rattle.wkb_c.proofs.Common.{sym, arith, length-map, dimensions, line_string, line_string_of, line_string_seen, fitted_line_string}
 use Rattle.wkb_c.proofs.Growth.{added_fits, added_more, added_all, part_value, below_is_some, each_count}
 use Rattle.wkb_c.proofs.parts.add_line_strings.Goals as goal
 
@@ -19,7 +19,7 @@ unreachable-requires c =
       c.loop-i-test.true,
       c.num_line_strings-i-end.ensures,
       length-map c.args.multi.now.parts
-          (fitted_line (dimensions c.args.multi.now.dimension)),
+          (fitted_line_string (dimensions c.args.multi.now.dimension)),
     ))
     c.in-None.ensures.part
 
@@ -37,7 +37,7 @@ returns c =
       arith,
       c.loop-i-test.false,
       c.num_line_strings-i-end.ensures,
-      length-map c.args.multi.now.parts (fitted_line (dimensions c.args.multi.now.dimension)),
+      length-map c.args.multi.now.parts (fitted_line_string (dimensions c.args.multi.now.dimension)),
       each_count (line_string c.args.multi.now.dimension) c.args.multi.now.parts,
     ))
     c.loop-i.invariant

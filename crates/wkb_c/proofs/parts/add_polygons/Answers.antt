@@ -1,4 +1,4 @@
-use Rattle.wkb_c.proofs.Common.{sym, arith, length-map, dimensions, polygon, fitted_lines}
+use Rattle.wkb_c.proofs.Common.{sym, arith, length-map, dimensions, polygon, fitted_line_strings}
 use Rattle.wkb_c.proofs.Growth.{added_fits, added_more, added_all, part_value, below_is_some, each_count}
 use Rattle.wkb_c.proofs.parts.add_polygons.Goals as goal
 
@@ -14,7 +14,13 @@ add_polygon-requires c =
 pub unreachable-requires : goal.unreachable-requires
 unreachable-requires c =
     below_is_some _ c.loop-i.i
-    (omega (arith, c.loop-i-test.true, c.num_polygons-i-end.ensures, length-map c.args.multi.now.parts (fitted_lines (dimensions c.args.multi.now.dimension))))
+    (omega (
+      arith,
+      c.loop-i-test.true,
+      c.num_polygons-i-end.ensures,
+      length-map c.args.multi.now.parts (fitted_line_strings
+          (dimensions c.args.multi.now.dimension)),
+    ))
     c.in-None.ensures.part
 
 pub loop-i-preserved : goal.loop-i-preserved
@@ -31,7 +37,7 @@ returns c =
       arith,
       c.loop-i-test.false,
       c.num_polygons-i-end.ensures,
-      length-map c.args.multi.now.parts (fitted_lines (dimensions c.args.multi.now.dimension)),
+      length-map c.args.multi.now.parts (fitted_line_strings (dimensions c.args.multi.now.dimension)),
       each_count (polygon c.args.multi.now.dimension) c.args.multi.now.parts,
     ))
     c.loop-i.invariant

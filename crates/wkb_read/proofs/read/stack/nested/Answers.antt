@@ -1,5 +1,5 @@
 use Rattle.wkb_read.proofs.Words.{◌≡◌, ◌+◌, length, reverse, [], ◌∷◌, refl, ap, ◌∙◌, length-append, reverse-append, length-reverse, arith, Item, Reading, costs}
-use Rattle.wkb_read.proofs.Words.{Counts, counted, next_turn, first_member, outward}
+use Rattle.wkb_read.proofs.Words.{Counts, cost_of, next_turn, first_member, outward}
 use Rattle.wkb_read.proofs.Stacks.{Reaches, Finishes, can_begin, at_most_turn, enters, finishes, stops_outward, all_read}
 use Rattle.wkb_read.proofs.read.stack.nested.Goals as goal
 use Rattle.wkb_read.proofs.read.stack.nested.Goals.{After-len, In-Ok-Opened, In-Ok-Whole}
@@ -9,9 +9,9 @@ as_many c = omega (arith, length-reverse c.loop-collection.stack.items, c.loop-c
 
 -- the first member of a collection that was opened begins, and a turn is counted
 opened : (c : In-Ok-Opened) (after : Counts) → length (reverse c.loop-collection.stack.items) ≡ c.len.result
-    → counted after ≡ next_turn (counted c.begin.new.counts)
+    → cost_of after ≡ next_turn (cost_of c.begin.new.counts)
     → Reaches (c.in-Ok-Opened.collection ∷ reverse c.loop-collection.stack.items) c.in-Ok-Opened.rest.now after
-    (costs (counted c.args.counts.now) (first_member 0 c.args.outermost c.args.members.now))
+    (costs (cost_of c.args.counts.now) (first_member 0 c.args.outermost c.args.members.now))
 opened c after around turn =
     enters c.in-Ok-Opened.collection (reverse c.loop-collection.stack.items) c.in-Ok-Opened.rest c.loop-collection.bytes.now c.loop-collection.counts
     c.begin.new.counts after _ c.loop-collection.invariant.reaches (rw (c.in-Ok-Opened.field-0-is, ← around) at c.in-Ok-Opened.ensures.begins) turn
@@ -19,7 +19,7 @@ opened c after around turn =
 -- a whole part was read
 part : (c : In-Ok-Whole) → length (reverse c.loop-collection.stack.items) ≡ c.len.result
     → Finishes (reverse c.loop-collection.stack.items) c.in-Ok-Whole.part c.in-Ok-Whole.rest.now c.begin.new.counts
-    (costs (counted c.args.counts.now) (first_member 0 c.args.outermost c.args.members.now))
+    (costs (cost_of c.args.counts.now) (first_member 0 c.args.outermost c.args.members.now))
 part c around =
     finishes c.in-Ok-Whole.part (reverse c.loop-collection.stack.items) c.in-Ok-Whole.rest c.loop-collection.bytes.now c.loop-collection.counts
     c.begin.new.counts _ c.loop-collection.invariant.reaches (rw (c.in-Ok-Whole.field-0-is, ← around) at c.in-Ok-Whole.ensures.begins)

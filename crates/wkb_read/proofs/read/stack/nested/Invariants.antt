@@ -1,10 +1,10 @@
-use Rattle.wkb_read.proofs.Words.{◌≤◌, length, reverse, max_nesting, costs, counted, first_member}
+use Rattle.wkb_read.proofs.Words.{◌≤◌, length, reverse, max_nesting, costs, cost_of, first_member}
 use Rattle.wkb_read.proofs.Stacks.{Reaches}
 use Rattle.wkb_read.proofs.read.stack.nested.Given as goal
 
 abbrev pub invariant-loop-collection : goal.invariant-loop-collection
 invariant-loop-collection l = record {
-  reaches : Reaches (reverse l.stack.items) l.bytes l.counts (costs (counted l.fn.counts) (first_member 0 l.fn.outermost l.fn.members));
+  reaches : Reaches (reverse l.stack.items) l.bytes l.counts (costs (cost_of l.fn.counts) (first_member 0 l.fn.outermost l.fn.members));
   shallow : length l.stack.items ≤ max_nesting;
 }
 

@@ -1,4 +1,4 @@
-use Rattle.wkb_read.proofs.Words.{◌≡◌, ◌+◌, [], length, refl, sym, arith, ap, ◌∙◌, drop-drop, body_start, counted}
+use Rattle.wkb_read.proofs.Words.{◌≡◌, ◌+◌, [], length, refl, sym, arith, ap, ◌∙◌, drop-drop, body_start, cost_of}
 use Rattle.wkb_read.proofs.Placed.{closed, front_taken}
 use Rattle.wkb_read.proofs.Opens.{opens, without_members, first_begins}
 use Rattle.wkb_read.proofs.read.stack.open.Goals as goal
@@ -10,7 +10,7 @@ returns-then-count-eq0-clause-begins c =
     let back = rw c.body_start.ensures at c.split_at.ensures.back in
     let front = front_taken (body_start l.has_srid + 4) bytes _ _ c.in-Ok.ensures.whole (rw c.body_start.ensures at c.split_at.ensures.front) back in
     rw (c.reserve.ensures.turns, c.reserve.ensures.slots) (
-      opens l bytes c.args.around c.in-Ok.count (counted c.args.counts.now) _ _ (omega arith) c.in-Ok.ensures.whole c.in-Ok.ensures.counted back
+      opens l bytes c.args.around c.in-Ok.count (cost_of c.args.counts.now) _ _ (omega arith) c.in-Ok.ensures.whole c.in-Ok.ensures.counted back
           (without_members l bytes _ _ c.in-Ok.count _ _ c.if-count-eq0.true front (c.into_vec.ensures ∙ c.in-Ok-reserve.ensures.items)),
       omega (arith, c.split_at.ensures.back_len, c.body_start.ensures),
     )
@@ -25,7 +25,7 @@ returns-clause-begins c =
     omega (arith, c.split_at.ensures.back_len, c.body_start.ensures, c.in-Ok.ensures.whole) in
     let none : length c.in-Ok-reserve.members.items.items ≡ 0 = ap length items in
     rw (c.reserve.ensures.turns, c.reserve.ensures.slots) (
-      opens l bytes c.args.around c.in-Ok.count (counted c.args.counts.now) _ _ (omega arith) c.in-Ok.ensures.whole c.in-Ok.ensures.counted back
+      opens l bytes c.args.around c.in-Ok.count (cost_of c.args.counts.now) _ _ (omega arith) c.in-Ok.ensures.whole c.in-Ok.ensures.counted back
           (first_begins l bytes _ c.in-Ok.count _ _ (omega arith) items),
       refl,
       omega arith,

@@ -1,5 +1,5 @@
 use Rattle.wkb_read.proofs.Words.{◌≡◌, ◌<◌, ◌+◌, ◌-◌, ℕ, ◌∷◌, [], ◌++◌, length, reverse, length-append, length-reverse, refl, sym, ap, ◌∙◌, arith, vec_len}
-use Rattle.wkb_read.proofs.Words.{List, slice_set, Item, Reading, costs, Open, counted, outward}
+use Rattle.wkb_read.proofs.Words.{List, slice_set, Item, Reading, costs, Open, cost_of, outward}
 use Rattle.wkb_read.proofs.LastItem.{Top, top, popped}
 use Rattle.wkb_read.proofs.Stacks.{Reaches, Finishes, Completes, next_begins, completes}
 use Rattle.wkb_read.proofs.read.stack.settle.Goals as goal
@@ -18,7 +18,7 @@ abbrev full : After-push → Open
 full c = filled c c.in-Some.top.now.left
 
 abbrev whole : After-push → Reading Item
-whole c = costs (counted c.args.counts.now) (outward (reverse c.args.stack.now.items) c.args.part c.args.rest.now)
+whole c = costs (cost_of c.args.counts.now) (outward (reverse c.args.stack.now.items) c.args.part c.args.rest.now)
 
 finishes : (c : After-push) → Finishes (c.in-Some.top.now ∷ (on_top c).below) c.loop-top.finished c.args.rest.now c.loop-top.counts (whole c)
 finishes c = rw (on_top c).is at c.loop-top.invariant.finishes

@@ -12,17 +12,17 @@ piece-requires c =
     let p = c.self.inside in
     rw (c.body_start.ensures, c.deref.ensures.value) (in_order (IsMember 2 p.layout.dimension) _ p.ends.items p.buf.now c.self.invariant.1)
 
-pub unreachable-requires : goal.unreachable-requires
-unreachable-requires c =
+pub of_known_member-layout-requires : goal.of_known_member-layout-requires
+of_known_member-layout-requires c =
     let p = c.self.inside in
-    member_there 2 p.layout p.ends.items p.buf.now c.args.i _ _ c.self.invariant.1
-    (rw (c.body_start.ensures, c.deref.ensures.value) at c.in-Some.ensures.part) c.in-Err.ensures
+    member_there 2 p.layout p.ends.items p.buf.now c.args.i _ c.self.invariant.1
+    (rw (c.body_start.ensures, c.deref.ensures.value) at c.in-Some.ensures.part)
 
 pub of_text-requires : goal.of_text-requires
 of_text-requires c =
     let p = c.self.inside in
     member_text 2 p.layout p.ends.items p.buf.now c.args.i _ _ c.self.invariant.1
-    (rw (c.body_start.ensures, c.deref.ensures.value) at c.in-Some.ensures.part) c.in-Ok.ensures
+    (rw (c.body_start.ensures, c.deref.ensures.value) at c.in-Some.ensures.part) c.of_known_member-layout.ensures
 
 pub returns-in-None-clause-value : goal.returns-in-None-clause-value
 returns-in-None-clause-value c =
@@ -39,17 +39,20 @@ returns-in-None-clause-spelled c =
 pub returns-clause-value : goal.returns-clause-value
 returns-clause-value c =
     let p = c.self.inside in
-    rw (← c.self.view_is) (ap (λ (m : Item). Some (line_string_of m.value)) (c.of_text.ensures.item ∙ member_seen 2 p.layout.dimension _ _ c.in-Ok.ensures)
+    let known = c.of_known_member-layout.ensures in
+    rw (← c.self.view_is) (ap (λ (m : Item). Some (line_string_of m.value)) (c.of_text.ensures.item ∙ member_seen 2 p.layout.dimension _ _ known)
     ∙ members_seen 2 p.layout p.ends.items p.buf.now c.args.i (λ m. line_string_of m.value) _
     (rw (c.body_start.ensures, c.deref.ensures.value) at c.in-Some.ensures.part))
 
 pub returns-clause-spelled : goal.returns-clause-spelled
 returns-clause-spelled c =
     let p = c.self.inside in
-    rw (← c.self.view_is) (ap (λ (m : Item). Some m.spelled) (c.of_text.ensures.item ∙ member_seen 2 p.layout.dimension _ _ c.in-Ok.ensures)
+    let known = c.of_known_member-layout.ensures in
+    rw (← c.self.view_is) (ap (λ (m : Item). Some m.spelled) (c.of_text.ensures.item ∙ member_seen 2 p.layout.dimension _ _ known)
     ∙ spelling_seen 2 p.layout p.ends.items p.buf.now c.args.i _ (rw (c.body_start.ensures, c.deref.ensures.value) at c.in-Some.ensures.part))
 
 pub returns-clause-dimension : goal.returns-clause-dimension
 returns-clause-dimension c =
     let p = c.self.inside in
-    rw (← c.self.view_is) (ap (λ (l : Layout). l.dimension) c.of_text.ensures.layout ∙ member_dimension 2 p.layout.dimension _ _ c.in-Ok.ensures)
+    let known = c.of_known_member-layout.ensures in
+    rw (← c.self.view_is) (ap (λ (l : Layout). l.dimension) c.of_text.ensures.layout ∙ member_dimension 2 p.layout.dimension _ _ known)

@@ -19,33 +19,37 @@ returns-then-i-self-clause-spelled c =
     let m = c.args.self.now in
     spelling_seen 1 m.layout (point_ends m.layout m.count) m.buf.now c.args.i None (point_past m.layout m.count c.args.i m.buf.now c.if-i-self.true)
 
-pub unreachable-requires : goal.unreachable-requires
-unreachable-requires c =
+pub of_known_member-layout-requires : goal.of_known_member-layout-requires
+of_known_member-layout-requires c =
     let m = c.args.self.now in
     let text = point_text m.layout m.count c.args.i m.buf.now _ _ c.if-i-self.false c.point_offset-start.ensures (rw c.width.ensures at c.part-buf.ensures) in
-    ∥∥₁_elim m.each (hlevel props) (λ each. member_there 1 m.layout (point_ends m.layout m.count) m.buf.now c.args.i _ _ each text c.in-Err.ensures)
+    ∥∥₁_elim m.each (hlevel props) (λ each. member_there 1 m.layout (point_ends m.layout m.count) m.buf.now c.args.i _ each text)
 
 pub of_text-requires : goal.of_text-requires
 of_text-requires c =
     let m = c.args.self.now in
+    let known = c.of_known_member-layout.ensures in
     let text = point_text m.layout m.count c.args.i m.buf.now _ _ c.if-i-self.false c.point_offset-start.ensures (rw c.width.ensures at c.part-buf.ensures) in
-    ∥∥₁_elim m.each (hlevel props) (λ each. member_text 1 m.layout (point_ends m.layout m.count) m.buf.now c.args.i _ _ each text c.in-Ok.ensures)
+    ∥∥₁_elim m.each (hlevel props) (λ each. member_text 1 m.layout (point_ends m.layout m.count) m.buf.now c.args.i _ _ each text known)
 
 pub returns-clause-value : goal.returns-clause-value
 returns-clause-value c =
     let m = c.args.self.now in
+    let known = c.of_known_member-layout.ensures in
     let text = point_text m.layout m.count c.args.i m.buf.now _ _ c.if-i-self.false c.point_offset-start.ensures (rw c.width.ensures at c.part-buf.ensures) in
-    ap (λ (p : Item). Some (point_of p.value)) (c.of_text.ensures.item ∙ member_seen 1 m.layout.dimension _ _ c.in-Ok.ensures)
+    ap (λ (p : Item). Some (point_of p.value)) (c.of_text.ensures.item ∙ member_seen 1 m.layout.dimension _ _ known)
     ∙ members_seen 1 m.layout (point_ends m.layout m.count) m.buf.now c.args.i (λ p. point_of p.value) _ text
 
 pub returns-clause-spelled : goal.returns-clause-spelled
 returns-clause-spelled c =
     let m = c.args.self.now in
+    let known = c.of_known_member-layout.ensures in
     let text = point_text m.layout m.count c.args.i m.buf.now _ _ c.if-i-self.false c.point_offset-start.ensures (rw c.width.ensures at c.part-buf.ensures) in
-    ap (λ (p : Item). Some p.spelled) (c.of_text.ensures.item ∙ member_seen 1 m.layout.dimension _ _ c.in-Ok.ensures)
+    ap (λ (p : Item). Some p.spelled) (c.of_text.ensures.item ∙ member_seen 1 m.layout.dimension _ _ known)
     ∙ spelling_seen 1 m.layout (point_ends m.layout m.count) m.buf.now c.args.i _ text
 
 pub returns-clause-dimensions : goal.returns-clause-dimensions
 returns-clause-dimensions c =
     let m = c.args.self.now in
-    ap (λ (l : Layout). dimensions l.dimension) c.of_text.ensures.layout ∙ ap dimensions (member_dimension 1 m.layout.dimension _ _ c.in-Ok.ensures)
+    let known = c.of_known_member-layout.ensures in
+    ap (λ (l : Layout). dimensions l.dimension) c.of_text.ensures.layout ∙ ap dimensions (member_dimension 1 m.layout.dimension _ _ known)

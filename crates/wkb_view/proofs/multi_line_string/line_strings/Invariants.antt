@@ -2,7 +2,7 @@ use Rattle.std.proofs.Common.{◌+◌, ◌/◌, ◌≤◌, min, length, vec_capa
 use Rattle.wkb_view.specs.Words.{body_start, parts_start, member_at}
 use Rattle.wkb_view.specs.Members.{parts_behind, IsMember, member_item}
 use Rattle.wkb_view.proofs.Pieces.{SoFar}
-use Rattle.wkb_view.proofs.multi_line_string.lines.Given as goal
+use Rattle.wkb_view.proofs.multi_line_string.line_strings.Given as goal
 
 abbrev pub invariant-loop : goal.invariant-loop
 invariant-loop l = record {

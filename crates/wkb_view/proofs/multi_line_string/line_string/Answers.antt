@@ -1,21 +1,25 @@
 use Rattle.std.proofs.Common.{◌∙◌, ap}
 use Rattle.wkb_view.specs.Words.{Part, Item, at_no_cost}
+use Rattle.wkb_view.proofs.Members.{member_laid}
 use Rattle.wkb_view.proofs.Leaves.{found, line_string_free, member_gives, member_passed}
-use Rattle.wkb_view.proofs.multi_line_string.line.Goals as goal
+use Rattle.wkb_view.proofs.multi_line_string.line_string.Goals as goal
 
 pub returns-in-Ok-read-clause-answer : goal.returns-in-Ok-read-clause-answer
 returns-in-Ok-read-clause-answer c =
     let bytes = c.args.bytes.now in
+    let laid = member_laid 2 _ _ _ c.in-Ok.ensures in
     let read = c.in-Ok-read.ensures in
-    let passed = member_passed 2 c.args.dimension bytes _ _ _ c.in-Ok.ensures read.passed read.item in
-    member_gives 2 c.args.dimension bytes _ _ c.in-Ok.ensures
+    let passed = member_passed 2 c.args.dimension bytes _ _ _ laid read.passed read.item in
+    member_gives 2 c.args.dimension bytes _ _ laid
     (line_string_free _ bytes ∙ ap (λ (p : Part Item). at_no_cost p) (read.answer ∙ ap (λ (i : Item). found i c.in-Ok-read.rest.now) passed.0))
 
 pub returns-in-Err-read-clause-answer : goal.returns-in-Err-read-clause-answer
 returns-in-Err-read-clause-answer c =
     let bytes = c.args.bytes.now in
-    member_gives 2 c.args.dimension bytes _ _ c.in-Ok.ensures (line_string_free _ bytes ∙ ap (λ (p : Part Item). at_no_cost p) c.in-Err-read.ensures.answer)
+    let laid = member_laid 2 _ _ _ c.in-Ok.ensures in
+    member_gives 2 c.args.dimension bytes _ _ laid (line_string_free _ bytes ∙ ap (λ (p : Part Item). at_no_cost p) c.in-Err-read.ensures.answer)
 
 pub returns-in-Ok-read-clause-passed : goal.returns-in-Ok-read-clause-passed
 returns-in-Ok-read-clause-passed c =
-    (member_passed 2 c.args.dimension c.args.bytes.now _ _ _ c.in-Ok.ensures c.in-Ok-read.ensures.passed c.in-Ok-read.ensures.item).1
+    let laid = member_laid 2 _ _ _ c.in-Ok.ensures in
+    (member_passed 2 c.args.dimension c.args.bytes.now _ _ _ laid c.in-Ok-read.ensures.passed c.in-Ok-read.ensures.item).1

@@ -1,0 +1,112 @@
+-- The layout of a member that is known to stand at the front of the bytes, by its first byte and the flag of its code.
+use Rattle.std.proofs.Common.{◌≡◌, ℕ, ◌≤◌, List, [], ◌∷◌, length, drop, Option, Some, None, Bool, true, false, refl, sym, ap, ◌∙◌, arith, length-drop, subst}
+use Rattle.std.proofs.Common.{Result, Ok, Err}
+use Rattle.std.specs.Prelude.{IsOk, nat_lt, ◌==◌, ◌&&◌, if◌then◌else◌, slice_index_or, not}
+use Rattle.std.proofs.lemmas.Bool.{ltb-false, ne_eqb}
+use Rattle.wkb_geom.specs.declared.common.Dimension.{Dimension}
+use Rattle.wkb_geom.specs.declared.common.Endianness.{Endianness}
+use Rattle.wkb_geom.specs.declared.error.Cause.TheVariants.{EndOfInput as end_of_input, IncorrectType as incorrect_type}
+use Rattle.wkb_geom.specs.declared.header.Header.{Header as Head}
+use Rattle.wkb_geom.specs.declared.header.Layout.{Layout}
+use Rattle.wkb_geom.specs.declared.error.Cause.{Cause}
+use Rattle.wkb_geom.specs.Meanings.{has_srid_flag}
+use Rattle.wkb_geom.specs.Numbers.{number}
+use Rattle.wkb_geom.specs.Reading.{Meaning, meaning_of, type_kind, type_dimension, same_dimension, head_by_code, head_by_order, head_at}
+use Rattle.wkb_geom.specs.Reading.{order_of, laid, layout_wanted, member_layout}
+
+-- the layout of a member of this order and code
+abbrev layout_by : ℕ → Dimension → Endianness → ℕ → Layout
+layout_by k d order code = laid order d (if k == 1 then false else has_srid_flag code)
+
+-- what is known where a member stands: its order, that its code is whole, and its layout
+pub record Known (k : ℕ) (d : Dimension) (first : Option Endianness) (behind : List ℕ) (layout : Result Layout Cause) : Type 0 where
+  pub order : Endianness
+  pub order_is : first ≡ Some order
+  pub whole : 4 ≤ length behind
+  pub layout_is : layout ≡ Ok (layout_by k d order (number order 4 behind))
+
+-- the layout of a member, by the tests of its kind and its dimension, by whether a point is wanted, and by its flag
+abbrev laid_if : Endianness → Dimension → Bool → Bool → Bool → Bool → Result Layout Cause
+laid_if order d a b one srid = if (a && (b && (if one && srid then false else true))) then Ok (laid order d srid) else Err incorrect_type
+
+wanted_by : (order : Endianness) (d : Dimension) (a b one srid : Bool) → IsOk (laid_if order d a b one srid)
+    → laid_if order d a b one srid ≡ Ok (laid order d (if one then false else srid))
+wanted_by order d true true true true h = absurd cc
+wanted_by order d true true true false h = refl
+wanted_by order d true true false srid h = refl
+wanted_by order d true false one srid h = absurd cc
+wanted_by order d false b one srid h = absurd cc
+
+wanted : (k : ℕ) (d : Dimension) (h : Head) → IsOk (layout_wanted k d (Ok h))
+    → layout_wanted k d (Ok h) ≡ Ok (laid h.order d (if k == 1 then false else h.has_srid))
+wanted k d h is = wanted_by h.order d (type_kind h.wkb_type == k) (same_dimension (type_dimension h.wkb_type) d) (k == 1) h.has_srid is
+
+flag_of : (t : Bool) (m n : Meaning) → (if t then Some m else None) ≡ Some n → n.has_srid ≡ m.has_srid
+flag_of true m n e = let same : m ≡ n = cc in ap (λ (x : Meaning). x.has_srid) (sym same)
+flag_of false m n e = absurd cc
+
+-- a meaning has the flag of its code
+flag_meant : (c : ℕ) (m : Meaning) → meaning_of c ≡ Some m → m.has_srid ≡ has_srid_flag c
+unfolding meaning_of
+flag_meant c m e = flag_of _ _ m e
+
+by_code : (k : ℕ) (d : Dimension) (order : Endianness) (c : ℕ) (m : Option Meaning) → meaning_of c ≡ m → IsOk (layout_wanted k d (head_by_code order c m))
+    → layout_wanted k d (head_by_code order c m) ≡ Ok (layout_by k d order c)
+by_code k d order c None e h = absurd cc
+by_code k d order c (Some m) e h =
+    wanted k d (record { order = order; wkb_type = m.wkb_type; has_srid = m.has_srid }) h
+    ∙ ap (λ (s : Bool). Ok (laid order d (if k == 1 then false else s))) (flag_meant c m e)
+
+-- the header behind an order, by whether the bytes are too short for one
+abbrev head_if : Bool → Endianness → List ℕ → Result Head Cause
+head_if short order behind = if short then Err end_of_input else head_by_code order (number order 4 behind) (meaning_of (number order 4 behind))
+
+by_length : (k : ℕ) (d : Dimension) (order : Endianness) (behind : List ℕ) (short : Bool) → nat_lt (length behind) 4 ≡ short
+    → IsOk (layout_wanted k d (head_if short order behind)) → Known k d (Some order) behind (layout_wanted k d (head_if short order behind))
+by_length k d order behind true e h = absurd cc
+by_length k d order behind false e h = record {
+  order = order;
+  order_is = refl;
+  whole = ltb-false (length behind) 4 e;
+  layout_is = by_code k d order (number order 4 behind) (meaning_of (number order 4 behind)) refl h;
+}
+
+by_order : (k : ℕ) (d : Dimension) (first : Option Endianness) (behind : List ℕ) → IsOk (layout_wanted k d (head_by_order first behind))
+    → Known k d first behind (layout_wanted k d (head_by_order first behind))
+by_order k d None behind h = absurd cc
+by_order k d (Some order) behind h = by_length k d order behind (nat_lt (length behind) 4) refl h
+
+known : (k : ℕ) (d : Dimension) (bytes : List ℕ) → IsOk (member_layout k d bytes)
+    → Known k d (order_of (slice_index_or bytes 0 0)) (drop 1 bytes) (member_layout k d bytes)
+unfolding head_at
+known k d [] h = absurd cc
+known k d (b ∷ behind) h = by_order k d (order_of b) behind h
+
+module _ (k : ℕ) (d : Dimension) (bytes : List ℕ) (is : IsOk (member_layout k d bytes)) where
+  pub known_whole : 5 ≤ length bytes
+  known_whole = let stands = known k d bytes is in omega (arith, stands.whole, length-drop 1 bytes)
+
+  pub known_order : (o : Option Endianness) → o ≡ order_of (slice_index_or bytes 0 0) → o ≡ None → ⊥
+  known_order o e none = let stands = known k d bytes is in apart stands.order (sym stands.order_is ∙ sym e ∙ none)
+    where
+      apart : (order : Endianness) → Some order ≡ None → ⊥
+      apart order h = cc
+
+  -- by the order and the flag that were read, where the flag of a point is not
+  pub known_layout : (o : Option Endianness) (order : Endianness) (code : ℕ) (flag : Bool) → o ≡ order_of (slice_index_or bytes 0 0) → o ≡ Some order
+      → code ≡ number order 4 (drop 1 bytes) → flag ≡ (if k == 1 then false else has_srid_flag code) → member_layout k d bytes ≡ Ok (laid order d flag)
+  known_layout o order code flag e some code-is flag-is =
+      let stands = known k d bytes is in
+      let same = same_order stands.order order (sym stands.order_is ∙ sym e ∙ some) in
+      stands.layout_is ∙ ap (λ (x : Endianness). Ok (layout_by k d x (number x 4 (drop 1 bytes)))) same
+      ∙ ap (λ (c : ℕ). Ok (layout_by k d order c)) (sym code-is) ∙ ap (λ (f : Bool). Ok (laid order d f)) (sym flag-is)
+    where
+      same_order : (a b : Endianness) → Some a ≡ Some b → a ≡ b
+      same_order a b h = cc
+
+-- the flag of another member than a point is read, and that of a point is not set
+pub flag_read : (k : ℕ) (flag : Bool) → (k ≡ 1 → ⊥) → flag ≡ (if k == 1 then false else flag)
+flag_read k flag other = sym (ap (λ (one : Bool). if one then false else flag) (ne_eqb k 1 other))
+
+pub flag_known : (k : ℕ) (flag : Bool) → k ≡ 1 → not (k == 1) ≡ (if k == 1 then false else flag)
+flag_known k flag one = subst (λ (n : ℕ). not (n == 1) ≡ (if n == 1 then false else flag)) (sym one) refl
