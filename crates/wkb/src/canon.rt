@@ -55,7 +55,7 @@ fn put_text<G, K: Kind<G>>(
 fn text_as<G, K: Kind<G>>(
     alloc: Global,
     geom: &G,
-    measured: Result<u128, Fault>,
+    measured: Result<usize, Fault>,
     options: &WriteOptions,
 ) -> WkbResult<Vec<u8>>
     requires lawful { IsGeometry (K.geometry geom.now) }

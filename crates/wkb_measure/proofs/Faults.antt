@@ -1,12 +1,11 @@
 -- Faults, one after another.
-use Rattle.std.proofs.Common.{◌≡◌, ℕ, ◌<◌, ◌≤◌, ◌^◌, Option, None, refl, sym, subst, arith, ◌⊎◌, Result}
+use Rattle.std.proofs.Common.{◌≡◌, ℕ, ◌<◌, ◌≤◌, ◌^◌, Option, None, refl, arith, ◌⊎◌, min, Result, Err}
 use Rattle.std.proofs.lemmas.Bool.Decides.{nat_tests}
+use Rattle.wkb_geom.specs.declared.common.Dimensions.{Dimensions}
 use Rattle.wkb_geom.specs.declared.common.Dimensions.TheVariants.{Unknown}
 use Rattle.wkb_geom.specs.Dimensions.{size}
 use Rattle.wkb_measure.specs.declared.fault.Fault.{Fault as Found}
 use Rattle.wkb_geom.specs.Texts.{Fault, or_else, count_fault, dimensions_fault}
-use Rattle.std.specs.Prelude.{IsErrAnd}
-use Rattle.std.proofs.lemmas.Result.{err_from_is_err_and}
 use Rattle.wkb_measure.specs.declared.fault.Fault.TheVariants as found
 use Rattle.wkb_measure.specs.Measures.{Finds, Measures}
 
@@ -26,6 +25,10 @@ pub count_without_fault : (n : ℕ) → n < 2 ^ 32 → count_fault n ≡ None
 unfolding count_fault
 count_without_fault n h = grind (arith, nat_tests)
 
+pub count_below : (n : ℕ) → count_fault n ≡ None → n < 2 ^ 32
+unfolding count_fault
+count_below n h = grind (arith, nat_tests)
+
 -- the error of a dimension without a name
 pub reports_dimensions : (n : ℕ) → (n < 2) ⊎ (4 < n) → Finds (found.UnsupportedDimensions n) (dimensions_fault (Unknown n))
 unfolding dimensions_fault
@@ -39,11 +42,14 @@ pub reports_count : (n : ℕ) → 2 ^ 32 ≤ n → Finds found.Count (count_faul
 unfolding count_fault
 reports_count n h = record { is = grind (arith, nat_tests) }
 
--- what the exit of a `?` answers
-pub measured_err : (e : Found) (fault : Option Fault) (size : ℕ) (r : Result ℕ Found) → IsErrAnd r (λ y. y ≡ e) → Finds e fault → Measures fault size r
-measured_err e fault size r is reports =
-    let p = err_from_is_err_and r is in
-    let P : Found → Type 0 = λ y. Finds y fault in
-    rw p.1 (subst P (sym p.2) reports)
+-- what an exit answers
+pub measured_err : (e : Found) (fault : Option Fault) (size : ℕ) (r : Result ℕ Found) → r ≡ Err e → Finds e fault → Measures fault size r
+measured_err e fault size r is reports = rw is reports
+
+-- no dimension that can be written has more words
+pub supported_words : (d : Dimensions) → dimensions_fault d ≡ None → min (size d) 4 ≡ size d
+unfolding dimensions_fault
+supported_words (Unknown n) e = grind (arith, nat_tests)
+supported_words _ e = refl
 
 pub ruleset supported_laws = (reports_dimensions, no_fault_between, reports_count, count_without_fault)

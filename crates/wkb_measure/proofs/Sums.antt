@@ -1,21 +1,23 @@
 -- Parts one after another, as a loop meets them.
-use Rattle.std.proofs.Common.{◌≡◌, ℕ, zero, suc, ◌+◌, ◌<◌, ◌≤◌, List, [], ◌∷◌, length, take, get_or, Some, None, Result, refl, sym, ap, subst, ◌∙◌, arith}
+use Rattle.std.proofs.Common.{◌≡◌, ℕ, zero, suc, ◌+◌, ◌<◌, ◌≤◌, List, [], ◌∷◌, length, take, get_or, Some, None, Result, Err, ◌*◌, ◌^◌, refl, sym, ap}
+use Rattle.std.proofs.Common.{subst, ◌∙◌, arith}
 use Rattle.std.proofs.Common.{slice_get, add-one, take_all}
 use Rattle.std.specs.List.{sum_by}
-use Rattle.std.specs.Prelude.{IfSome, IsErrAnd}
+use Rattle.std.specs.Prelude.{IfSome}
 use Rattle.std.proofs.lemmas.List.Sums.{sum_by_more}
+use Rattle.std.proofs.lemmas.Nat.{mul-le}
 use Rattle.std.proofs.lemmas.Option.{slice_get-get_or, get_or_from_slice_get}
 use Rattle.wkb_measure.specs.declared.fault.Fault.{Fault as Found}
 use Rattle.wkb_geom.specs.Texts.{first_fault, count_fault}
 use Rattle.wkb_measure.specs.Measures.{Finds, Measures, capped}
 use Rattle.wkb_measure.specs.Bodies.{Part, parts_fault, parts_size}
 use Rattle.wkb_geom.proofs.Faults.{none_first, none_rest}
-use Rattle.wkb_measure.proofs.Faults.{reports_first, reports_rest, none_both, measured_err}
+use Rattle.wkb_measure.proofs.Faults.{count_below, reports_first, reports_rest, none_both, measured_err}
 
--- the parts before i have no fault, and the total is their sizes and the nine bytes before them
-pub record SoFar (ps : List Part) (i total : ℕ) : Type 0 where
+-- the parts before i have no fault, and the total is their sizes and the bytes that all parts begin with
+pub record SoFar (ps : List Part) (first i total : ℕ) : Type 0 where
   pub none : first_fault (λ p. p.fault) (take i ps) ≡ None
-  pub sum : total ≡ capped (9 + sum_by (λ p. p.size) (take i ps))
+  pub sum : total ≡ capped (first + sum_by (λ p. p.size) (take i ps))
 
 first_fault_step : (ps : List Part) (i : ℕ) (p : Part) → slice_get ps i ≡ Some p → first_fault (λ q. q.fault) (take i ps) ≡ None → p.fault ≡ None
     → first_fault (λ q. q.fault) (take (i + 1) ps) ≡ None
@@ -37,9 +39,11 @@ first_reports (q ∷ ps) zero p e item h r =
 first_reports (q ∷ ps) (suc i) p e item h r =
     reports_rest e q.fault (first_fault (λ s. s.fault) ps) (none_first _ _ h) (first_reports ps i p e item (none_rest q.fault _ h) r)
 
-pub parts_start : (ps : List Part) → SoFar ps 0 9
+pub parts_start : (ps : List Part) (header n : ℕ) → header < 2 ^ 8 → count_fault n ≡ None → SoFar ps (4 + header * n) 0 (4 + header * n)
 unfolding first_fault
-parts_start ps = record { none = refl; sum = omega arith }
+parts_start ps header n short counted =
+    let few = count_below n counted in
+    record { none = refl; sum = omega (arith, mul-le header n (2 ^ 8) (2 ^ 32) (omega (arith, short)) (omega (arith, few))) }
 
 no_part : Part
 no_part = record { fault = None; size = 0 }
@@ -49,9 +53,9 @@ part_there : (ps : List Part) (i : ℕ) (Q : Part → Type 0) → i < length ps 
 part_there ps i Q within told = subst (λ o. IfSome o Q) (slice_get-get_or ps i no_part within) told
 
 -- one more part
-pub parts_step : (ps : List Part) (i total n : ℕ) → i < length ps → IfSome (slice_get ps i) (λ p. (p.fault ≡ None) × (n ≡ capped p.size))
-    → SoFar ps i total → SoFar ps (i + 1) (capped (total + n))
-parts_step ps i total n within told s =
+pub parts_step : (ps : List Part) (first i total n : ℕ) → i < length ps → IfSome (slice_get ps i) (λ p. (p.fault ≡ None) × (n ≡ capped p.size))
+    → SoFar ps first i total → SoFar ps first (i + 1) (capped (total + n))
+parts_step ps first i total n within told s =
     let p = get_or ps i no_part in
     let item = slice_get-get_or ps i no_part within in
     let here = part_there ps i (λ q. (q.fault ≡ None) × (n ≡ capped q.size)) within told in
@@ -63,23 +67,26 @@ parts_step ps i total n within told s =
     }
 
 -- the fault of the count, and of a part
-pub count_reports : (ps : List Part) (n : ℕ) (e : Found) (r : Result ℕ Found) → n ≡ length ps → IsErrAnd r (λ y. y ≡ e) → Finds e (count_fault n)
-    → Measures (parts_fault ps) (parts_size ps) r
+pub count_reports : (ps : List Part) (header n : ℕ) (e : Found) (r : Result ℕ Found) → n ≡ length ps → r ≡ Err e → Finds e (count_fault n)
+    → Measures (parts_fault ps) (parts_size header ps) r
 unfolding parts_fault
-count_reports ps n e r is exit told = measured_err e _ _ r exit (reports_first e _ _ (subst (λ k. Finds e (count_fault k)) is told))
+count_reports ps header n e r is exit told = measured_err e _ _ r exit (reports_first e _ _ (subst (λ k. Finds e (count_fault k)) is told))
 
-pub part_reports : (ps : List Part) (n i total : ℕ) (e : Found) (r : Result ℕ Found) → n ≡ length ps → count_fault n ≡ None → i < length ps
-    → IfSome (slice_get ps i) (λ p. Finds e p.fault) → SoFar ps i total → IsErrAnd r (λ y. y ≡ e) → Measures (parts_fault ps) (parts_size ps) r
+pub part_reports : (ps : List Part) (header n first i total : ℕ) (e : Found) (r : Result ℕ Found) → n ≡ length ps → count_fault n ≡ None → i < length ps
+    → IfSome (slice_get ps i) (λ p. Finds e p.fault) → SoFar ps first i total → r ≡ Err e → Measures (parts_fault ps) (parts_size header ps) r
 unfolding parts_fault
-part_reports ps n i total e r is counted within told s exit =
+part_reports ps header n first i total e r is counted within told s exit =
     let here = part_there ps i (λ q. Finds e q.fault) within told in
     let item = slice_get-get_or ps i no_part within in
     measured_err e _ _ r exit (reports_rest e _ _ (ap count_fault (sym is) ∙ counted) (first_reports ps i (get_or ps i no_part) e item s.none here))
 
 -- all of the parts
-pub parts_all : (ps : List Part) (n i total : ℕ) → n ≡ length ps → count_fault n ≡ None → length ps ≤ i → SoFar ps i total
-    → (parts_fault ps ≡ None) × (total ≡ capped (parts_size ps))
+pub parts_all : (ps : List Part) (header n i total : ℕ) → n ≡ length ps → count_fault n ≡ None → length ps ≤ i → SoFar ps (4 + header * n) i total
+    → (parts_fault ps ≡ None) × (total ≡ capped (parts_size header ps))
 unfolding parts_fault parts_size
-parts_all ps n i total is counted past s =
-    let whole = take_all i ps past in
-    (none_both _ _ (ap count_fault (sym is) ∙ counted) (ap (first_fault (λ q. q.fault)) (sym whole) ∙ s.none), s.sum ∙ ap (λ l. capped (9 + sum_by (λ q. q.size) l)) whole)
+parts_all ps header n i total is counted past s =
+    let whole = take_all i ps past in (
+      none_both _ _ (ap count_fault (sym is) ∙ counted) (ap (first_fault (λ q. q.fault)) (sym whole) ∙ s.none),
+      s.sum
+          ∙ ap (λ l. capped (4 + header * n + sum_by (λ q. q.size) l)) whole ∙ ap (λ k. capped (4 + header * k + sum_by (λ q. q.size) ps)) is,
+    )

@@ -1,5 +1,6 @@
 -- A geometry's fault and size, by its header and its body.
-use Rattle.std.proofs.Common.{◌≡◌, ℕ, zero, suc, ◌+◌, ◌*◌, ◌<◌, List, [], ◌∷◌, length, map, get_or, slice_get, Option, Some, None, Result, Ok, Err, refl, sym}
+use Rattle.std.proofs.Common.{◌≡◌, ℕ, zero, suc, ◌+◌, ◌*◌, ◌<◌, ◌≤◌, List, [], ◌∷◌, length, map, get_or, slice_get, Option, Some, None, Result, Ok}
+use Rattle.std.proofs.Common.{Err, refl, sym}
 use Rattle.std.proofs.Common.{ap, subst, ◌∙◌, arith}
 use Rattle.std.specs.List.{sum_by}
 use Rattle.std.specs.Prelude.{IfSome}
@@ -7,6 +8,7 @@ use Rattle.std.proofs.lemmas.Option.{slice_get_read}
 use Rattle.std.proofs.lemmas.List.{length-map}
 use Rattle.std.proofs.lemmas.List.Sums.{sum_by-cons}
 use Rattle.wkb_geom.specs.declared.common.Dimensions.{Dimensions}
+use Rattle.wkb_geom.specs.Dimensions.{size}
 use Rattle.wkb_measure.specs.declared.fault.Fault.{Fault as Found}
 use Rattle.wkb_geom.specs.Geometries.{Geometry, Geometries, point, line_string, polygon, multi_point, multi_line_string, multi_polygon, collection, rectangle}
 use Rattle.wkb_geom.specs.Geometries.{triangle, line, no_geometries, geometry, geometries}
@@ -14,9 +16,10 @@ use Rattle.wkb_geom.specs.Sizes.{node_count, node_counts, dimensions_of, byte_si
 use Rattle.wkb_geom.specs.Texts.{Fault, or_else, first_fault, count_fault, count_geometries, dimensions_fault, coordinates_fault, rings_fault, fault}
 use Rattle.wkb_geom.specs.Texts.{fault_each}
 use Rattle.wkb_geom.proofs.Nodes.{node_count-member}
-use Rattle.wkb_measure.specs.Measures.{Finds, IsMeasured, Measures, capped}
-use Rattle.wkb_measure.specs.Bodies.{Part, parts_fault, parts_size, ring_part, line_string_part, polygon_part, member_part, members, body_fault, size_by_parts}
-use Rattle.wkb_measure.proofs.Faults.{none_both, reports_first, reports_rest}
+use Rattle.wkb_measure.specs.Measures.{Finds, IsMeasured, Measures}
+use Rattle.wkb_measure.specs.Bodies.{Part, parts_fault, parts_size, words, ring_bytes, ring_part, polygon_part, member_part, members, body_fault}
+use Rattle.wkb_measure.specs.Bodies.{body_size, size_by_parts}
+use Rattle.wkb_measure.proofs.Faults.{none_both, reports_first, reports_rest, supported_words}
 
 -- the faults and the sizes of a list's items, each as a part
 faults_of : {X : Type 0} (part : X → Part) (f : X → Option Fault) (xs : List X) → ((x : X) → (part x).fault ≡ f x)
@@ -25,19 +28,21 @@ unfolding first_fault
 faults_of part f [] same = refl
 faults_of part f (x ∷ xs) same = rw (same x, faults_of part f xs same) refl
 
-sizes_of : {X : Type 0} (part : X → Part) (s : X → ℕ) (xs : List X) → ((x : X) → (part x).size ≡ s x) → sum_by (λ p. p.size) (map part xs) ≡ sum_by s xs
-sizes_of part s [] same = refl
-sizes_of part s (x ∷ xs) same =
-    omega (arith, sum_by-cons (λ p. p.size) (part x) (map part xs), sum_by-cons s x xs, same x, sizes_of part s xs same)
+sizes_of : {X : Type 0} (header : ℕ) (part : X → Part) (s : X → ℕ) (xs : List X) → ((x : X) → header + (part x).size ≡ s x)
+    → header * length (map part xs) + sum_by (λ p. p.size) (map part xs) ≡ sum_by s xs
+sizes_of header part s [] same = omega arith
+sizes_of header part s (x ∷ xs) same =
+    omega (arith, sum_by-cons (λ p. p.size) (part x) (map part xs), sum_by-cons s x xs, same x, sizes_of header part s xs same)
 
 items_fault : {X : Type 0} (part : X → Part) (f : X → Option Fault) (xs : List X) → ((x : X) → (part x).fault ≡ f x)
     → parts_fault (map part xs) ≡ or_else (count_fault (length xs)) (first_fault f xs)
 unfolding parts_fault
 items_fault part f xs same = rw (length-map xs part, faults_of part f xs same) refl
 
-items_size : {X : Type 0} (part : X → Part) (s : X → ℕ) (xs : List X) → ((x : X) → (part x).size ≡ s x) → parts_size (map part xs) ≡ 9 + sum_by s xs
+items_size : {X : Type 0} (header : ℕ) (part : X → Part) (s : X → ℕ) (xs : List X) → ((x : X) → header + (part x).size ≡ s x)
+    → parts_size header (map part xs) ≡ 4 + sum_by s xs
 unfolding parts_size
-items_size part s xs same = ap (λ n. 9 + n) (sizes_of part s xs same)
+items_size header part s xs same = omega (arith, sizes_of header part s xs same)
 
 members_count : (gs : Geometries) → length (members gs) ≡ count_geometries gs
 members_count no_geometries = refl
@@ -48,25 +53,33 @@ unfolding first_fault
 members_faults no_geometries = refl
 members_faults (geometry g gs) = ap (or_else (fault g)) (members_faults gs)
 
-members_sizes : (gs : Geometries) → sum_by (λ p. p.size) (members gs) ≡ byte_sizes gs
+-- a geometry has a header
+pub header_within : (g : Geometry) → 5 ≤ byte_size g
+header_within (rectangle d least greatest) = omega arith
+header_within _ = omega arith
+
+members_sizes : (gs : Geometries) → 5 * length (members gs) + sum_by (λ p. p.size) (members gs) ≡ byte_sizes gs
 members_sizes no_geometries = refl
 members_sizes (geometry g gs) =
-    omega (arith, sum_by-cons (λ p. p.size) (member_part g) (members gs), members_sizes gs)
+    omega (arith, sum_by-cons (λ p. p.size) (member_part g) (members gs), members_sizes gs, header_within g)
 
 members_fault : (gs : Geometries) → parts_fault (members gs) ≡ or_else (count_fault (count_geometries gs)) (fault_each gs)
 unfolding parts_fault
 members_fault gs = rw (members_count gs, members_faults gs) refl
 
-members_size : (gs : Geometries) → parts_size (members gs) ≡ 9 + byte_sizes gs
+members_size : (gs : Geometries) → parts_size 5 (members gs) ≡ 4 + byte_sizes gs
 unfolding parts_size
-members_size gs = ap (λ n. 9 + n) (members_sizes gs)
+members_size gs = omega (arith, members_sizes gs)
+
+ring_takes : (d : Dimensions) → words d ≡ size d → (cs : List (List ℕ)) → ring_bytes d cs ≡ ring_size d cs
+ring_takes d is cs = ap (λ w. 4 + 8 * w * length cs) is
 
 -- the rings of a polygon
 rings_are : (d : Dimensions) (rings : List (List (List ℕ))) → parts_fault (map (ring_part d) rings) ≡ rings_fault rings
 rings_are d rings = items_fault (ring_part d) coordinates_fault rings (λ r. refl)
 
-rings_take : (d : Dimensions) (rings : List (List (List ℕ))) → parts_size (map (ring_part d) rings) ≡ 9 + sum_by (ring_size d) rings
-rings_take d rings = items_size (ring_part d) (ring_size d) rings (λ r. refl)
+rings_take : (d : Dimensions) (rings : List (List (List ℕ))) → words d ≡ size d → parts_size 0 (map (ring_part d) rings) ≡ 4 + sum_by (ring_size d) rings
+rings_take d rings is = items_size 0 (ring_part d) (ring_size d) rings (λ cs. omega (arith, ring_takes d is cs))
 
 alone : (a : Option Fault) → a ≡ or_else a None
 unfolding or_else
@@ -78,30 +91,32 @@ fault_by_body (point d c) = alone (dimensions_fault d)
 fault_by_body (line_string d cs) = refl
 fault_by_body (polygon d rings) = ap (or_else (dimensions_fault d)) (sym (rings_are d rings))
 fault_by_body (multi_point d points) = refl
-fault_by_body (multi_line_string d lines) = ap (or_else (dimensions_fault d)) (sym (items_fault (line_string_part d) coordinates_fault lines (λ l. refl)))
+fault_by_body (multi_line_string d lines) = ap (or_else (dimensions_fault d)) (sym (items_fault (ring_part d) coordinates_fault lines (λ l. refl)))
 fault_by_body (multi_polygon d polygons) = ap (or_else (dimensions_fault d)) (sym (items_fault (polygon_part d) rings_fault polygons (rings_are d)))
 fault_by_body (collection d gs) = ap (or_else (dimensions_fault d)) (sym (members_fault gs))
 fault_by_body (line d start end) = alone (dimensions_fault d)
 fault_by_body (rectangle d least greatest) = alone (dimensions_fault d)
 fault_by_body (triangle d first second third) = alone (dimensions_fault d)
 
-pub size_by_body : (g : Geometry) → byte_size g ≡ size_by_parts g
-size_by_body (point d c) = refl
-size_by_body (line_string d cs) = refl
-size_by_body (polygon d rings) = omega (arith, rings_take d rings)
-size_by_body (multi_point d points) = omega arith
-size_by_body (multi_line_string d lines) = omega (arith, items_size (line_string_part d) (line_string_size d) lines (λ l. refl))
-size_by_body (multi_polygon d polygons) = omega (arith, items_size (polygon_part d) (polygon_size d) polygons (λ p. omega (arith, rings_take d p)))
-size_by_body (collection d gs) = omega (arith, members_size gs)
-size_by_body (line d start end) = omega arith
-size_by_body (rectangle d least greatest) = refl
-size_by_body (triangle d first second third) = omega arith
+pub size_by_body : (g : Geometry) → words (dimensions_of g) ≡ size (dimensions_of g) → byte_size g ≡ 5 + size_by_parts g
+size_by_body (point d c) is = omega (arith, is)
+size_by_body (line_string d cs) is = omega (arith, ring_takes d is cs)
+size_by_body (polygon d rings) is = omega (arith, rings_take d rings is)
+size_by_body (multi_point d points) is = rw is (omega arith)
+size_by_body (multi_line_string d lines) is = omega (arith, items_size 5 (ring_part d) (line_string_size d) lines (λ l. omega (arith, ring_takes d is l)))
+size_by_body (multi_polygon d polygons) is = omega (arith, items_size 5 (polygon_part d) (polygon_size d) polygons (λ p. omega (arith, rings_take d p is)))
+size_by_body (collection d gs) is = omega (arith, members_size gs)
+size_by_body (line d start end) is = omega (arith, is)
+size_by_body (rectangle d least greatest) is = refl
+size_by_body (triangle d first second third) is = omega (arith, is)
 
 -- what was measured of a header and a body is measured of the geometry
 pub whole_measured : (g : Geometry) (dims : Dimensions) (r : Result ℕ Found) → dims ≡ dimensions_of g → dimensions_fault dims ≡ None
-    → Measures (body_fault g) (size_by_parts g) r → Measures (fault g) (byte_size g) r
+    → Measures (body_fault g) (size_by_parts g) r → Measures (fault g) (body_size g) r
 whole_measured g dims (Ok n) is supported h =
-    (fault_by_body g ∙ none_both _ _ (ap dimensions_fault (sym is) ∙ supported) h.0, h.1 ∙ ap capped (sym (size_by_body g)))
+    let fine = ap dimensions_fault (sym is) ∙ supported in
+    let whole = size_by_body g (supported_words (dimensions_of g) fine) in
+    (fault_by_body g ∙ none_both _ _ fine h.0, omega (arith, h.1, whole))
 whole_measured g dims (Err e) is supported h =
     subst (Finds e) (sym (fault_by_body g)) (reports_rest e _ _ (ap dimensions_fault (sym is) ∙ supported) h)
 
@@ -111,7 +126,7 @@ whole_unsupported g dims e is told =
 
 -- the same of a collection and of its members as its parts
 pub collected : (d : Dimensions) (gs : Geometries) (r : Result ℕ Found) → dimensions_fault d ≡ None
-    → Measures (parts_fault (members gs)) (parts_size (members gs)) r → IsMeasured (collection d gs) r
+    → Measures (parts_fault (members gs)) (parts_size 5 (members gs)) r → IsMeasured (collection d gs) r
 unfolding IsMeasured
 collected d gs r supported h = whole_measured (collection d gs) d r refl supported h
 

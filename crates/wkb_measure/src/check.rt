@@ -1,8 +1,8 @@
 //! The tests of one node, its dimensions and its count, and the bytes of words.
 
 ghost use Rattle.std.specs.Prelude.{◌≡◌, ◌*◌, ◌^◌, ◌<◌, None, MatchResult};
-ghost use Rattle.wkb_geom.specs.Dimensions.{size};
 ghost use Rattle.wkb_geom.specs.Texts.{dimensions_fault, count_fault};
+ghost use Rattle.wkb_measure.specs.Bodies.{words};
 ghost use Rattle.wkb_measure.specs.Measures.{Finds};
 
 use crate::fault::Fault;
@@ -40,7 +40,7 @@ pub fn check_count(n: u128) -> Result<u32, Fault>
     }
 }
 
-/// The same of a length in memory.
+/// The same, for a count that `usize` holds.
 pub fn check_len(n: usize) -> Result<u32, Fault>
     ensures { MatchResult result (λ m. (count_fault n ≡ None) × (m ≡ n))
         (λ e. Finds e (count_fault n)) }
@@ -48,11 +48,11 @@ pub fn check_len(n: usize) -> Result<u32, Fault>
     check_count(n as u128)
 }
 
-/// The bytes of the words of so many coordinates.
+/// The bytes of the words of so many coordinates. No dimension that can be written has more than four words.
 #[inline(always)]
-pub fn words_size(dim: Dimensions, n: u32) -> u128
-    ensures sum { result ≡ 8 * size dim * n }
-    ensures bound { result < 2 ^ 100 }
+pub fn words_size(dim: Dimensions, n: u32) -> usize
+    ensures sum { result ≡ 8 * words dim * n }
+    ensures bound { result < 2 ^ 40 }
 {
-    8 * dim.size() as u128 * n as u128
+    8 * dim.size().min(4) * n as usize
 }

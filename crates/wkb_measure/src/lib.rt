@@ -1,7 +1,8 @@
 //! What makes a geometry impossible to write, and the size of one that is not.
 //!
-//! A fault is met in preorder: a node's dimensions, its count, then its parts. A size is counted in
-//! `u128` and stops at the greatest, so that a later fault is met before the size is looked at.
+//! A fault is met in preorder: a node's dimensions, its count, then its parts. A size is counted
+//! behind the header, and stops at the greatest, so that a later fault is met before the size is
+//! looked at.
 #![tactic(auto)]
 
 mod check;

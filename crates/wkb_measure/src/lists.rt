@@ -1,10 +1,10 @@
-//! The members of a MultiLineString and of a MultiPolygon.
+//! The members of a MultiLineString and of a MultiPolygon, behind their headers.
 
 ghost use Rattle.std.specs.Prelude.{map};
-ghost use Rattle.wkb_measure.specs.Bodies.{line_string_part, polygon_part};
+ghost use Rattle.wkb_measure.specs.Bodies.{ring_part, polygon_part};
 
 use crate::fault::Fault;
-use crate::parts::{Parts, behind_header, measure_parts};
+use crate::parts::{Parts, measure_parts};
 use crate::rings::{Rings, measure_ring};
 use wkb_geom::{MultiLineStringTrait, MultiPolygonTrait};
 
@@ -13,15 +13,14 @@ use wkb_geom::{MultiLineStringTrait, MultiPolygonTrait};
 pub struct LineStrings<'a, M>(pub &'a M);
 
 impl<M: MultiLineStringTrait> Parts for LineStrings<'_, M> {
-    ghost parts = { λ m. map (line_string_part (M.dimensions m.0.now)) (M.line_strings m.0.now) };
+    ghost parts = { λ m. map (ring_part (M.dimensions m.0.now)) (M.line_strings m.0.now) };
 
     fn count(&self) -> u128 {
         self.0.num_line_strings() as u128
     }
 
-    fn measure_part(&self, i: usize) -> Result<u128, Fault> {
-        let member = self.0.line_string(i).unwrap();
-        behind_header(measure_ring(&member))
+    fn measure_part(&self, i: usize) -> Result<usize, Fault> {
+        measure_ring(&self.0.line_string(i).unwrap())
     }
 }
 
@@ -36,8 +35,8 @@ impl<M: MultiPolygonTrait> Parts for Polygons<'_, M> {
         self.0.num_polygons() as u128
     }
 
-    fn measure_part(&self, i: usize) -> Result<u128, Fault> {
+    fn measure_part(&self, i: usize) -> Result<usize, Fault> {
         let member = self.0.polygon(i).unwrap();
-        measure_parts(&Rings(member))
+        measure_parts(&Rings(member), 0).told()
     }
 }

@@ -1,9 +1,8 @@
 //! A polygon's rings, the exterior first.
 
 ghost use Rattle.std.specs.Prelude.{map};
-ghost use Rattle.wkb_geom.specs.Sizes.{ring_size};
 ghost use Rattle.wkb_geom.specs.Texts.{coordinates_fault};
-ghost use Rattle.wkb_measure.specs.Bodies.{ring_part};
+ghost use Rattle.wkb_measure.specs.Bodies.{ring_bytes, ring_part};
 ghost use Rattle.wkb_measure.specs.Measures.{Measures};
 
 use crate::check::{check_len, words_size};
@@ -12,10 +11,10 @@ use crate::parts::Parts;
 use wkb_geom::rings::{ring_at, ring_count};
 use wkb_geom::{LineStringTrait, PolygonTrait};
 
-/// A ring, or the body of a line string.
-pub fn measure_ring<L: LineStringTrait>(ring: &L) -> Result<u128, Fault>
+/// A ring, or what stands behind a line string's header.
+pub fn measure_ring<L: LineStringTrait>(ring: &L) -> Result<usize, Fault>
     ensures { Measures (coordinates_fault (L.coordinates ring.now))
-        (ring_size (L.dimensions ring.now) (L.coordinates ring.now)) result }
+        (ring_bytes (L.dimensions ring.now) (L.coordinates ring.now)) result }
 {
     let count = check_len(ring.num_coords())?;
     Ok(4 + words_size(ring.dim(), count))
@@ -32,7 +31,7 @@ impl<P: PolygonTrait> Parts for Rings<'_, P> {
         ring_count(self.0)
     }
 
-    fn measure_part(&self, i: usize) -> Result<u128, Fault> {
+    fn measure_part(&self, i: usize) -> Result<usize, Fault> {
         measure_ring(&ring_at(self.0, i))
     }
 }

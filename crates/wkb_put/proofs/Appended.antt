@@ -1,8 +1,6 @@
 -- Texts that are appended to a sink one after another.
-use Rattle.std.proofs.Common.{◌≡◌, ℕ, ◌≤◌, List, [], ◌++◌, length, take, drop, Option, Some, None, sym, ap, ◌∙◌, append_assoc, append-nil, arith, length-drop}
-use Rattle.std.proofs.Common.{take_all, take-append-drop, ◌-◌}
-use Rattle.std.specs.Io.KnownBytes.{Appends}
-use Rattle.wkb_put.specs.Sinks.{IsWritten}
+use Rattle.wkb_put.proofs.Words.{◌≡◌, ℕ, ◌≤◌, List, [], ◌++◌, length, take, drop, Option, Some, None, sym, ap, ◌∙◌, append_assoc, append-nil, arith}
+use Rattle.wkb_put.proofs.Words.{length-drop, take_all, take-append-drop, ◌-◌, Appends, IsWritten}
 
 pub Appends_then : (a b c : Option (List ℕ)) (s t : List ℕ) → Appends a b s → Appends b c t → Appends a c (s ++ t)
 Appends_then None b c s t p q = tt

@@ -1,11 +1,8 @@
 -- Faults, one after another.
-use Rattle.std.proofs.Common.{◌≡◌, ℕ, zero, suc, ◌<◌, ◌≤◌, ◌^◌, List, [], ◌∷◌, Option, Some, None, sym, ap, ◌∙◌, arith, slice_get}
+use Rattle.wkb_put.proofs.Words.{◌≡◌, ℕ, zero, suc, ◌<◌, ◌≤◌, ◌^◌, List, [], ◌∷◌, Option, Some, None, ap, ◌∙◌, arith, slice_get, Dimensions, none_first}
+use Rattle.wkb_put.proofs.Words.{none_rest, size, Fault, or_else, first_fault, count_fault, dimensions_fault}
 use Rattle.std.proofs.lemmas.Bool.Decides.{nat_tests}
-use Rattle.wkb_geom.specs.declared.common.Dimensions.{Dimensions}
-use Rattle.wkb_geom.specs.declared.common.Dimensions.TheVariants.{Xy, Xyz, Xym, Xyzm, Unknown}
-use Rattle.wkb_geom.proofs.Faults.{none_first, none_rest}
-use Rattle.wkb_geom.specs.Dimensions.{size}
-use Rattle.wkb_geom.specs.Texts.{Fault, or_else, first_fault, count_fault, dimensions_fault}
+use Rattle.wkb_geom.specs.declared.common.Dimensions.TheVariants.{Unknown}
 
 pub count_below : (n : ℕ) → count_fault n ≡ None → n < 2 ^ 32
 unfolding count_fault
@@ -20,27 +17,16 @@ none_both a b p q = rw p q
 pub none_at : {X : Type 0} (f : X → Option Fault) (xs : List X) (i : ℕ) (x : X) → first_fault f xs ≡ None → slice_get xs i ≡ Some x → f x ≡ None
 unfolding first_fault
 none_at f [] i x h is = cc
-none_at f (y ∷ ys) zero x h is = ap f (sym (some_is is)) ∙ none_first (f y) (first_fault f ys) h
-  where
-    some_is : {X : Type 0} {x y : X} → Some x ≡ Some y → x ≡ y
-    some_is e = cc
+none_at f (y ∷ ys) zero x h is = let same : x ≡ y = cc in ap f same ∙ none_first (f y) (first_fault f ys) h
 none_at f (y ∷ ys) (suc i) x h is = none_at f ys i x (none_rest (f y) (first_fault f ys) h) is
 
 -- a dimension with a name has two to four words
 pub supported_at_least : (d : Dimensions) → dimensions_fault d ≡ None → 2 ≤ size d
 unfolding dimensions_fault
-supported_at_least Xy h = omega arith
-supported_at_least Xyz h = omega arith
-supported_at_least Xym h = omega arith
-supported_at_least Xyzm h = omega arith
 supported_at_least (Unknown n) h = grind (arith, nat_tests)
+supported_at_least d h = omega arith
 
 pub supported_at_most : (d : Dimensions) → dimensions_fault d ≡ None → size d ≤ 4
 unfolding dimensions_fault
-supported_at_most Xy h = omega arith
-supported_at_most Xyz h = omega arith
-supported_at_most Xym h = omega arith
-supported_at_most Xyzm h = omega arith
 supported_at_most (Unknown n) h = grind (arith, nat_tests)
-
-pub ruleset supported_laws = (supported_at_most, supported_at_least)
+supported_at_most d h = omega arith

@@ -1,14 +1,9 @@
 -- Texts that are laid one after another.
-use Rattle.std.proofs.Common.{◌≡◌, ℕ, List, [], ◌++◌, Option, refl, sym, ap, ◌∙◌, subst, append_assoc, append-nil, arith, length-append, Bool, true, false}
-use Rattle.std.proofs.Common.{Result, Ok, Err}
+use Rattle.wkb_put.proofs.Words.{◌≡◌, ℕ, List, [], ◌++◌, Option, refl, sym, ap, ◌∙◌, subst, append_assoc, append-nil, arith, length-append, Bool, true, false}
+use Rattle.wkb_put.proofs.Words.{Result, Ok, Err, Appends, Stopped, IsExtended, Progress, IsLaid, IsCut, Advances, progress, IsBegun, IsWritten, Moves}
 use Rattle.std.specs.Prelude.{IsErrAnd, IfOk}
-use Rattle.std.specs.Io.KnownBytes.{Appends}
 use Rattle.std.proofs.lemmas.Result.{err_from_is_err_and}
 use Rattle.wkb_put.specs.declared.buffered.Buffered.{Buffered}
-use Rattle.wkb_put.specs.declared.buffered.Stopped.{Stopped}
-use Rattle.wkb_put.specs.Blocks.{IsExtended}
-use Rattle.wkb_put.specs.Progress.{Progress, IsLaid, IsCut, Advances, progress}
-use Rattle.wkb_put.specs.Sinks.{IsBegun, IsWritten, Moves}
 use Rattle.wkb_put.proofs.Appended.{Appends_then, Appends_none}
 
 pub laid_none : (a : Progress) → a.failed ≡ false → IsLaid a a []
@@ -104,7 +99,9 @@ pub lays_last : {a b : Progress} (c : Progress) (t : List ℕ) (r : Result (Unit
 lays_last {a = a} c t r p q = subst (λ s. Advances a c s r) (append-nil t) (lays_then c [] r p q)
 
 -- a text for which nothing waited at first, nor at the end; x is what the lent sink ends as
-pub ends : {S : Type 0} (appended : S → Option (List ℕ)) (has_failed : S → Bool) (t : List ℕ) (a : Progress) (b : Buffered S) (x : S) (r : Result (Unit {0}) Stopped) → Advances a (progress appended has_failed b) t r → a.waiting ≡ [] → IfOk r (λ _. b.block.waiting ≡ []) → (a.sink ≡ b.sink.ghost_name → x ≡ b.sink.now) → Moves a.appended (appended x) (has_failed x) t r
+pub ends : {S : Type 0} (appended : S → Option (List ℕ)) (has_failed : S → Bool) (t : List ℕ) (a : Progress) (b : Buffered S) (x : S)
+    (r : Result (Unit {0}) Stopped) → Advances a (progress appended has_failed b) t r → a.waiting ≡ [] → IfOk r (λ _. b.block.waiting ≡ [])
+    → (a.sink ≡ b.sink.ghost_name → x ≡ b.sink.now) → Moves a.appended (appended x) (has_failed x) t r
 ends appended has_failed t a b x (Ok u) p none empty known =
     let is : x ≡ b.sink.now = known (sym p.same) in
     let whole : t ≡ p.moved = ap (λ l. l ++ t) (sym none) ∙ p.whole ∙ ap (λ l. p.moved ++ l) empty ∙ append-nil p.moved in

@@ -2,8 +2,8 @@ pub mod Appended
 pub mod Behind
 pub mod Collections
 pub mod Faults
-pub mod Headers
 pub mod Loops
 pub mod Laid
 pub mod Steps
 pub mod Stores
+pub mod Words

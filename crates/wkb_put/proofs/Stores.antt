@@ -1,21 +1,12 @@
 -- Parts of a text that are stored one after another.
-use Rattle.std.proofs.Common.{◌≡◌, ℕ, zero, suc, ◌+◌, ◌-◌, ◌*◌, ◌/◌, ◌<◌, ◌≤◌, List, [], ◌∷◌, ◌++◌, length, take, drop, Some, refl, sym, ap, ◌∙◌, append_assoc}
-use Rattle.std.proofs.Common.{append-nil, arith, length-drop, slice_get, slice_index, add-one}
-use Rattle.std.specs.List.{flat_map}
-use Rattle.std.proofs.lemmas.List.{length-take-le, take-append-le}
+use Rattle.wkb_put.proofs.Words.{◌≡◌, ℕ, zero, suc, ◌+◌, ◌-◌, ◌*◌, ◌/◌, ◌<◌, ◌≤◌, List, [], ◌∷◌, ◌++◌, length, take, drop, Some, refl, sym, ap, ◌∙◌}
+use Rattle.wkb_put.proofs.Words.{append_assoc, append-nil, arith, length-drop, slice_get, slice_index, add-one, flat_map, length-take-le, take-append-le}
+use Rattle.wkb_put.proofs.Words.{take_at, Endianness, number_bytes, words_text, Waiting, IsExtended}
 use Rattle.std.proofs.Math.Nat.{mul-add, mul-le-mul_left}
 use Rattle.std.proofs.lemmas.Nat.{le-div}
-use Rattle.std.proofs.Math.Seq.{take-append-add, take-append_seam}
+use Rattle.std.proofs.Math.Seq.{take-append-add}
 use borrow.Rule.Slice.PartMut.{put_mid, mid_of, post_of}
-use Rattle.wkb_geom.specs.declared.common.Endianness.{Endianness}
-use Rattle.wkb_geom.specs.Numbers.{number_bytes}
-use Rattle.wkb_geom.specs.Texts.{words_text}
-use Rattle.wkb_put.specs.Blocks.{Waiting, IsExtended}
 use Rattle.wkb_put.proofs.Loops.{flat_map_step}
-
--- a text that was stored before what was there
-pub stored : (t rest : List ℕ) (n : ℕ) → length t ≡ n → take n (t ++ rest) ≡ t
-stored t rest n len = ap (λ k. take k (t ++ rest)) (sym len) ∙ take-append_seam t rest
 
 -- a text that was stored behind another
 pub stored_next : (all part t s : List ℕ) (at n k : ℕ) → take at all ≡ t → at ≤ length all → take n part ≡ s → n ≤ length part
@@ -33,30 +24,22 @@ pub two_words : (order : Endianness) (ws : List ℕ) → length ws ≡ 2
     → words_text order ws ≡ number_bytes order 8 (slice_index ws 0) ++ number_bytes order 8 (slice_index ws 1)
 unfolding words_text
 two_words order (x ∷ y ∷ []) h = simp append-nil refl
-two_words order [] h = absurd (omega arith)
-two_words order (x ∷ []) h = absurd (omega arith)
-two_words order (x ∷ y ∷ z ∷ rest) h = absurd (omega arith)
+two_words order ws h = absurd (omega arith)
 
 pub three_words : (order : Endianness) (ws : List ℕ) → length ws ≡ 3
     → words_text order ws ≡ (number_bytes order 8 (slice_index ws 0) ++ number_bytes order 8 (slice_index ws 1)) ++ number_bytes order 8 (slice_index ws 2)
 unfolding words_text
 three_words order (x ∷ y ∷ z ∷ []) h = simp (append-nil, append_assoc) refl
-three_words order [] h = absurd (omega arith)
-three_words order (x ∷ []) h = absurd (omega arith)
-three_words order (x ∷ y ∷ []) h = absurd (omega arith)
-three_words order (x ∷ y ∷ z ∷ w ∷ rest) h = absurd (omega arith)
+three_words order ws h = absurd (omega arith)
 
 pub four_words : (order : Endianness) (ws : List ℕ) → length ws ≡ 4
-    → words_text order ws ≡ (number_bytes order 8 (slice_index ws 0) ++ number_bytes order 8 (slice_index ws 1)) ++ (number_bytes order 8 (slice_index ws 2) ++ number_bytes order 8 (slice_index ws 3))
+    → words_text order ws ≡ (number_bytes order 8 (slice_index ws 0) ++ number_bytes order 8 (slice_index ws 1))
+    ++ (number_bytes order 8 (slice_index ws 2) ++ number_bytes order 8 (slice_index ws 3))
 unfolding words_text
 four_words order (x ∷ y ∷ z ∷ w ∷ []) h = simp (append-nil, append_assoc) refl
-four_words order [] h = absurd (omega arith)
-four_words order (x ∷ []) h = absurd (omega arith)
-four_words order (x ∷ y ∷ []) h = absurd (omega arith)
-four_words order (x ∷ y ∷ z ∷ []) h = absurd (omega arith)
-four_words order (x ∷ y ∷ z ∷ w ∷ v ∷ rest) h = absurd (omega arith)
+four_words order ws h = absurd (omega arith)
 
-pub ruleset stored_laws = (stored)
+pub ruleset stored_laws = (take_at)
 
 -- one item more of a run from one place on
 pub run_step : {X : Type 0} (f : X → List ℕ) (xs : List X) (start i : ℕ) (x : X) → slice_get xs i ≡ Some x → start ≤ i

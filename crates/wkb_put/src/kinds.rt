@@ -210,10 +210,12 @@ pub trait Items<G> {
     // The texts of the items, in order, under the order and the form of items.
     ghost texts: { Endianness → Form → G → List (List ℕ) };
 
+    /// How many items stand behind the count.
     fn count(geom: &G) -> u32
         requires { is_fine geom.now }
         ensures { (order : Endianness) (form : Form) → result ≡ length (texts order form geom.now) };
 
+    /// Puts the item at an index.
     fn put_item<S: Sink>(
         out: &mut Buffered<'_, S>,
         geom: &G,

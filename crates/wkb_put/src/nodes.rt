@@ -4,7 +4,7 @@ ghost use Rattle.std.specs.Prelude.{◌≡◌, ◌<◌, ◌≤◌, ◌^◌, ◌+
 ghost use Rattle.std.specs.Prelude.{Option, None, Err, IfSome, IfOk, IsErrAnd};
 ghost use Rattle.wkb_geom.specs.Geometries.{collection, geometries};
 ghost use Rattle.wkb_geom.specs.Texts.{text, fault, first_fault, header_text, inner};
-ghost use Rattle.wkb_put.specs.Items.{counted};
+ghost use Rattle.wkb_put.specs.Items.{counted, form_of};
 ghost use Rattle.wkb_put.specs.Progress.{Lays};
 ghost use Rattle.wkb_put.specs.Sinks.{IsIOError, Moves, Puts};
 ghost use Rattle.wkb_put.specs.declared.sizes.TheConstants.{LEAST};
@@ -24,8 +24,49 @@ use wkb_geom::{
     WkbError, WkbResult,
 };
 
+// Whether the codes are EWKB's: all that a member keeps of the form, and it goes in a register.
+#[inline(always)]
+fn has_flags(form: Form) -> bool
+    ensures { inner form ≡ form_of result }
+{
+    match form {
+        Form::Iso => false,
+        Form::Ewkb { srid: _ } => true,
+    }
+}
+
+// The form of a member.
+#[inline(always)]
+fn member_form(has_flags: bool) -> Form
+    ensures { result ≡ form_of has_flags }
+{
+    if has_flags {
+        Form::Ewkb { srid: None }
+    } else {
+        Form::Iso
+    }
+}
+
+// Puts a member: a geometry without an SRID. Not inlined, so that each level hands on the form in a register.
+#[cycle(nodes)]
+#[inline(never)]
+fn put_member<S: Sink, G: GeometryTrait>(
+    out: &mut Buffered<'_, S>,
+    geom: &G,
+    order: Endianness,
+    has_flags: bool,
+) -> Result<(), Stopped>
+    requires fault { fault (G.geometry geom.now) ≡ None }
+    requires working { S.has_failed out.old.sink.now ≡ false }
+    ensures { Lays S.appended S.has_failed out.old out.new
+        (text order (form_of has_flags) (G.geometry geom.now)) result }
+{
+    put_node(out, geom, order, member_form(has_flags))
+}
+
 // Puts a collection's header, and its members after their count.
 #[cycle(nodes)]
+#[inline(always)]
 #[tactic(auto, using(crate::proofs::Steps::node_laws))]
 fn put_members<S: Sink, G: GeometryTrait>(
     out: &mut Buffered<'_, S>,
@@ -44,13 +85,14 @@ fn put_members<S: Sink, G: GeometryTrait>(
     let count = members.len() as u32;
     out.put_head(order, form, WkbType::GeometryCollection(dim), count)?;
     for member in members {
-        put_node(out, member, order, form.inner())?;
+        put_member(out, member, order, has_flags(form))?;
     }
     Ok(())
 }
 
 // Puts a geometry of any kind.
 #[cycle(nodes)]
+#[inline(always)]
 #[tactic(auto, using(crate::proofs::Steps::node_laws))]
 fn put_node<S: Sink, G: GeometryTrait>(
     out: &mut Buffered<'_, S>,

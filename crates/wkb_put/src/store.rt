@@ -9,6 +9,7 @@ ghost use Rattle.wkb_geom.specs.Texts.{words_text};
 use byteorder::{BigEndian, ByteOrder, LittleEndian};
 use wkb_geom::{CoordTrait, Endianness, LineStringTrait};
 
+/// The four bytes of a count, a code or an SRID.
 #[inline]
 #[tactic(auto, unfolding(wkb_geom::specs::Numbers::number_bytes))]
 pub fn u32_bytes(order: Endianness, n: u32) -> [u8; 4]

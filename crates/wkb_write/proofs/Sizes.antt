@@ -12,7 +12,9 @@ use Rattle.wkb_geom.specs.Refusals.{srid_size}
 use Rattle.wkb_geom.specs.Sizes.{byte_size}
 use Rattle.wkb_geom.specs.Texts.{text, fault, refusal, size_fault, form_srid, IsForm}
 use Rattle.wkb_measure.specs.Measures.{Finds, Measures, capped}
+use Rattle.wkb_measure.specs.Bodies.{body_size}
 use Rattle.wkb_measure.proofs.Faults.{none_both, reports_first, reports_rest}
+use Rattle.wkb_measure.proofs.Whole.{header_within}
 use Rattle.wkb_laws.proofs.TextSizes.{text_has_size_lem}
 use Rattle.wkb_geom.specs.declared.error.WkbError.{WkbError}
 use Rattle.wkb_geom.specs.Errors.{TellsFault}
@@ -27,10 +29,6 @@ size_without_fault : (n : ℕ) → n < 2 ^ 64 → size_fault n ≡ None
 unfolding size_fault
 size_without_fault n h = grind (arith, nat_tests)
 
-srid_size_at_most : (srid : Bool) → srid_size srid ≤ 4
-srid_size_at_most true = omega arith
-srid_size_at_most false = omega arith
-
 -- the text of a geometry without a fault is as long as measured, and four bytes longer where it has an SRID
 measured_length : (order : Endianness) (form : Form) (g : Geometry) → IsForm form → IsGeometry g → fault g ≡ None
     → length (text order form g) ≡ byte_size g + srid_size (is_some (form_srid form))
@@ -41,35 +39,35 @@ measured_length order form g fits lawful none = text_has_size_lem order form g f
     of_flag false = refl
 
 -- what was measured without a fault
-at_ok : (measured : Result ℕ Found) (s : ℕ) (g : Geometry) → measured ≡ Ok s → Measures (fault g) (byte_size g) measured
-    → (fault g ≡ None) × (s ≡ capped (byte_size g))
-at_ok measured s g is h = subst (Measures (fault g) (byte_size g)) is h
+at_ok : (measured : Result ℕ Found) (s : ℕ) (g : Geometry) → measured ≡ Ok s → Measures (fault g) (body_size g) measured
+    → (fault g ≡ None) × (s ≡ capped (body_size g))
+at_ok measured s g is h = subst (Measures (fault g) (body_size g)) is h
 
 -- a fault is what the size refuses
 pub size_refused : (measured : Result ℕ Found) (e : Found) (form : Form) (g : Geometry) (r : Result ℕ Found) → measured ≡ Err e → IsErrAnd r (λ y. y ≡ e)
-    → Measures (fault g) (byte_size g) measured → IsSized form g r
+    → Measures (fault g) (body_size g) measured → IsSized form g r
 size_refused measured e form g r is exit h = λ order.
-    let told : Finds e (fault g) = subst (Measures (fault g) (byte_size g)) is h in
+    let told : Finds e (fault g) = subst (Measures (fault g) (body_size g)) is h in
     let p = err_from_is_err_and r exit in
     let P : Found → Type 0 = λ y. Finds y (refusal order form g) in
     rw p.1 (subst P (sym p.2) (reports_first e (fault g) _ told))
 
 -- the size that was measured is that of the text, and fits
 pub size_told : (measured : Result ℕ Found) (s total : ℕ) (form : Form) (g : Geometry) → measured ≡ Ok s → IsForm form → IsGeometry g
-    → Measures (fault g) (byte_size g) measured → total ≡ capped (s + srid_size (is_some (form_srid form))) → total < 2 ^ 64 → IsSized form g (Ok total)
+    → Measures (fault g) (body_size g) measured → total ≡ s + (5 + srid_size (is_some (form_srid form))) → total < 2 ^ 64 → IsSized form g (Ok total)
 size_told measured s total form g is srid_fits lawful h sum fits = λ order.
     let m = at_ok measured s g is h in
     let whole = measured_length order form g srid_fits lawful m.0 in
-    let exact : total ≡ length (text order form g) = omega (arith, m.1, sum, whole) in
+    let exact : total ≡ length (text order form g) = omega (arith, m.1, sum, fits, whole, header_within g) in
     (none_both (fault g) _ m.0 (size_without_fault _ (subst (λ n. n < 2 ^ 64) exact fits)), exact)
 
 -- the size that was measured does not fit
-pub size_past : (measured : Result ℕ Found) (s total : ℕ) (form : Form) (g : Geometry) → measured ≡ Ok s → IsForm form → IsGeometry g
-    → Measures (fault g) (byte_size g) measured → total ≡ capped (s + srid_size (is_some (form_srid form))) → 2 ^ 64 ≤ total → IsSized form g (Err found.Size)
-size_past measured s total form g is srid_fits lawful h sum past = λ order.
+pub size_past : (measured : Result ℕ Found) (s : ℕ) (form : Form) (g : Geometry) → measured ≡ Ok s → IsForm form → IsGeometry g
+    → Measures (fault g) (body_size g) measured → 2 ^ 64 ≤ s + (5 + srid_size (is_some (form_srid form))) → IsSized form g (Err found.Size)
+size_past measured s form g is srid_fits lawful h past = λ order.
     let m = at_ok measured s g is h in
     let whole = measured_length order form g srid_fits lawful m.0 in
-    reports_rest _ (fault g) _ m.0 (reports_size _ (omega (arith, m.1, sum, whole, srid_size_at_most (is_some (form_srid form)))))
+    reports_rest _ (fault g) _ m.0 (reports_size _ (omega (arith, m.1, past, whole, header_within g)))
 
 -- the error tells the fault that was found
 pub size_answered : (form : Form) (g : Geometry) (f : Found) (r : Result ℕ WkbError) → IsErrAnd r (λ e. TellsFault e (meaning f)) → IsSized form g (Err f)

@@ -50,7 +50,8 @@ IsSpelledAs options g r old new = IfOk r (λ _. IsSpelled options (normal g) old
 
 -- what a writer promises of a geometry under its options: what becomes of a refused one and of one that is not, and what
 -- stands appended
-pub record Writes (options : WriteOptions) (g : Geometry) (r : Result (Unit {0}) WkbError) (untouched : Type 0) (old new : Option (List ℕ)) (failed : Bool) : Type 0 where
+pub record Writes (options : WriteOptions) (g : Geometry) (r : Result (Unit {0}) WkbError) (untouched : Type 0) (old new : Option (List ℕ))
+    (failed : Bool) : Type 0 where
   pub refused : IsRefusedAs options g r untouched
   pub written : IsWrittenAs options g r old new failed
   pub spelled : IsSpelledAs options g r old new

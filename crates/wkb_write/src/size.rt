@@ -1,6 +1,6 @@
 //! The size of a text, from what was measured.
 
-ghost use Rattle.std.specs.Prelude.{◌≡◌, is_some, IsErrAnd};
+ghost use Rattle.std.specs.Prelude.{◌≡◌, ◌+◌, is_some, IsErrAnd};
 ghost use Rattle.wkb_geom.specs.Errors.{TellsFault};
 ghost use Rattle.wkb_geom.specs.Geometries.{Geometry, IsGeometry};
 ghost use Rattle.wkb_geom.specs.Refusals.{srid_size};
@@ -12,36 +12,34 @@ ghost use Rattle.wkb_write.specs.Answers.{IsSized, IsSizeOf};
 use wkb_geom::{Form, WkbError, WkbResult};
 use wkb_measure::Fault;
 
-// The bytes of the SRID that is written.
+// The bytes of the header that is written.
 #[inline]
-fn srid_size(form: Form) -> u128
-    ensures size { result ≡ srid_size (is_some (form_srid form)) }
+fn header_size(form: Form) -> usize
+    ensures size { result ≡ 5 + srid_size (is_some (form_srid form)) }
     ensures fits { IsForm form }
 {
     match form {
-        Form::Ewkb { srid: Some(_) } => 4,
-        Form::Iso | Form::Ewkb { srid: None } => 0,
+        Form::Ewkb { srid: Some(_) } => 9,
+        Form::Iso | Form::Ewkb { srid: None } => 5,
     }
 }
 
-/// The size that was measured with the SRID's bytes, where `usize` holds it.
+/// The size that was measured with the header's bytes, where `usize` holds it.
 #[inline]
-pub fn whole_size(measured: Result<u128, Fault>, form: Form) -> Result<usize, Fault>
+pub fn whole_size(measured: Result<usize, Fault>, form: Form) -> Result<usize, Fault>
     ensures size { (g : Geometry) → IsGeometry g → IsMeasured g measured → IsSized form g result }
     ensures fits { IsForm form }
 {
-    let srid = srid_size(form);
-    let total = measured?.saturating_add(srid);
-    if total <= usize::MAX as u128 {
-        Ok(total as usize)
-    } else {
-        Err(Fault::Size)
+    let header = header_size(form);
+    match measured?.checked_add(header) {
+        Some(size) => Ok(size),
+        None => Err(Fault::Size),
     }
 }
 
 /// The size of a text under the form, or the error that tells the fault.
 #[inline]
-pub fn size_of(measured: Result<u128, Fault>, form: Form) -> WkbResult<usize>
+pub fn size_of(measured: Result<usize, Fault>, form: Form) -> WkbResult<usize>
     ensures { (g : Geometry) → IsGeometry g → IsMeasured g measured → IsSizeOf form g result }
 {
     match whole_size(measured, form) {

@@ -28,7 +28,7 @@ use wkb_put::{Kind, answer, put_geometry};
 fn write_as<S: Sink, G, K: Kind<G>>(
     writer: &mut S,
     geom: &G,
-    measured: Result<u128, Fault>,
+    measured: Result<usize, Fault>,
     options: &WriteOptions,
 ) -> WkbResult<()>
     requires lawful { IsGeometry (K.geometry geom.now) }

@@ -12,4 +12,4 @@ abbrev pub decreases-measure_members : goal.decreases-measure_members
 decreases-measure_members g l = 2 * node_counts (geometries (map g.G.GeometryTrait.geometry l.geoms.now)) + 1
 
 abbrev pub invariant-measure_members-loop-geom : goal.invariant-measure_members-loop-geom
-invariant-measure_members-loop-geom g l = SoFar (members (geometries (map g.G.GeometryTrait.geometry l.geoms))) l.geom-index l.total
+invariant-measure_members-loop-geom g l = SoFar (members (geometries (map g.G.GeometryTrait.geometry l.geoms))) (4 + 5 * l.count) l.geom-index l.total

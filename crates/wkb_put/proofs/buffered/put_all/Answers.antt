@@ -1,4 +1,4 @@
-use Rattle.std.proofs.Common.{◌++◌, take, rules}
+use Rattle.wkb_put.proofs.Words.{◌++◌, take, rules}
 use Rattle.wkb_put.proofs.Appended.{taken, written_more}
 use Rattle.wkb_put.proofs.buffered.put_all.Goals as goal
 

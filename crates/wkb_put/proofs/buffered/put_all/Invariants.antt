@@ -1,5 +1,4 @@
-use Rattle.std.proofs.Common.{◌≡◌, ℕ, List, ◌++◌, length, false}
-use Rattle.wkb_put.specs.Sinks.{IsWritten}
+use Rattle.wkb_put.proofs.Words.{◌≡◌, ℕ, List, ◌++◌, length, false, IsWritten}
 use Rattle.wkb_put.proofs.buffered.put_all.Given as goal
 
 abbrev pub invariant-loop-rest : goal.invariant-loop-rest

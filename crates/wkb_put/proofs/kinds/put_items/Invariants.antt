@@ -1,10 +1,9 @@
-use Rattle.std.proofs.Common.{take}
-use Rattle.std.specs.List.{flat_map}
-use Rattle.wkb_geom.specs.Texts.{inner}
-use Rattle.wkb_put.specs.Progress.{IsLaid, progress}
+use Rattle.wkb_geom.specs.Reading.{type_kind, type_dimension}
+use Rattle.wkb_put.proofs.Words.{header_text, inner, progress}
+use Rattle.wkb_put.proofs.Loops.{HasLaid}
 use Rattle.wkb_put.proofs.kinds.put_items.Given as goal
 
 abbrev pub invariant-loop-i : goal.invariant-loop-i
-invariant-loop-i g l = record {
-  laid : IsLaid (progress g.S.Sink.appended g.S.Sink.has_failed l.initial.out) (progress g.S.Sink.appended g.S.Sink.has_failed l.out) (flat_map (λ t. t) (take l.i (g.I.Items.texts l.order (inner l.form) l.geom)));
-}
+invariant-loop-i g l =
+    HasLaid (progress g.S.Sink.appended g.S.Sink.has_failed l.fn.out) (progress g.S.Sink.appended g.S.Sink.has_failed l.out) l.order
+    (header_text l.order l.form (type_kind l.fn.kind) (type_dimension l.fn.kind)) (g.I.Items.texts l.order (inner l.form) l.geom) l.i

@@ -1,4 +1,4 @@
-use Rattle.wkb_geom.specs.Texts.{words_text}
+use Rattle.wkb_put.proofs.Words.{words_text}
 use Rattle.wkb_put.proofs.Behind.{behind, last}
 use Rattle.wkb_put.proofs.lay.lay_corner.Goals as goal
 

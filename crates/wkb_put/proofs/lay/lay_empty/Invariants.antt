@@ -1,7 +1,4 @@
-use Rattle.std.proofs.Common.{◌≡◌, ◌+◌, ◌*◌, replicate}
-use Rattle.wkb_geom.specs.Numbers.{empty_word}
-use Rattle.wkb_geom.specs.Texts.{words_text}
-use Rattle.wkb_put.specs.Blocks.{IsExtended}
+use Rattle.wkb_put.proofs.Words.{◌≡◌, ◌+◌, ◌*◌, replicate, empty_word, words_text, IsExtended}
 use Rattle.wkb_put.proofs.lay.lay_empty.Given as goal
 
 abbrev pub invariant-loop-i : goal.invariant-loop-i

@@ -1,18 +1,17 @@
-use Rattle.std.proofs.Common.{◌+◌, ◌*◌, map, take}
-use Rattle.std.specs.List.{flat_map}
-use Rattle.wkb_geom.specs.Geometries.{geometries}
-use Rattle.wkb_geom.specs.Sizes.{node_count, node_counts}
-use Rattle.wkb_geom.specs.Texts.{text, inner}
-use Rattle.wkb_put.specs.Progress.{IsLaid, progress}
+use Rattle.wkb_put.proofs.Words.{◌+◌, ◌*◌, map, geometries, node_count, node_counts, header_text, text, inner, progress}
+use Rattle.wkb_put.proofs.Loops.{HasLaid}
 use Rattle.wkb_put.proofs.nodes.+nodes.Given as goal
 
 abbrev pub decreases-put_node : goal.decreases-put_node
-decreases-put_node g l = 2 * node_count (g.G.GeometryTrait.geometry l.geom.now)
+decreases-put_node g l = 3 * node_count (g.G.GeometryTrait.geometry l.geom.now)
+
+abbrev pub decreases-put_member : goal.decreases-put_member
+decreases-put_member g l = 3 * node_count (g.G.GeometryTrait.geometry l.geom.now) + 1
 
 abbrev pub decreases-put_members : goal.decreases-put_members
-decreases-put_members g l = 2 * node_counts (geometries (map g.G.GeometryTrait.geometry l.members.now)) + 1
+decreases-put_members g l = 3 * node_counts (geometries (map g.G.GeometryTrait.geometry l.members.now)) + 2
 
 abbrev pub invariant-put_members-loop-member : goal.invariant-put_members-loop-member
-invariant-put_members-loop-member g l = record {
-  laid : IsLaid (progress g.S.Sink.appended g.S.Sink.has_failed l.initial.out) (progress g.S.Sink.appended g.S.Sink.has_failed l.out) (flat_map (λ t. t) (take l.member-index (map (λ m. text l.order (inner l.form) (g.G.GeometryTrait.geometry m)) l.members)));
-}
+invariant-put_members-loop-member g l =
+    HasLaid (progress g.S.Sink.appended g.S.Sink.has_failed l.fn.out) (progress g.S.Sink.appended g.S.Sink.has_failed l.out) l.order
+    (header_text l.order l.form 7 l.fn.dim) (map (λ m. text l.order (inner l.form) (g.G.GeometryTrait.geometry m)) l.members) l.member-index

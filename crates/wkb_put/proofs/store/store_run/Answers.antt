@@ -1,5 +1,4 @@
-use Rattle.std.proofs.Common.{◌≤◌, ◌+◌, ◌*◌, ◌-◌, rules, arith, sym, ◌∙◌}
-use Rattle.wkb_geom.specs.Texts.{words_text}
+use Rattle.wkb_put.proofs.Words.{◌≤◌, ◌+◌, ◌*◌, ◌-◌, rules, arith, sym, ◌∙◌, words_text}
 use Rattle.wkb_put.proofs.Stores.{stored_next, run_step, one_more}
 use Rattle.wkb_put.proofs.store.store_run.Goals as goal
 

@@ -1,6 +1,4 @@
-use Rattle.std.proofs.Common.{◌≡◌, ◌≤◌, ◌+◌, ◌*◌, ◌-◌, take, drop, length}
-use Rattle.std.specs.List.{flat_map}
-use Rattle.wkb_geom.specs.Texts.{words_text}
+use Rattle.wkb_put.proofs.Words.{◌≡◌, ◌≤◌, ◌+◌, ◌*◌, ◌-◌, take, drop, length, flat_map, words_text}
 use Rattle.wkb_put.proofs.store.store_run.Given as goal
 
 abbrev pub invariant-loop-i : goal.invariant-loop-i

@@ -1,4 +1,4 @@
-use Rattle.std.proofs.Common.{arith}
+use Rattle.wkb_put.proofs.Words.{arith}
 use Rattle.wkb_put.proofs.Stores.{stored_next}
 use Rattle.wkb_put.proofs.store.store_two.Goals as goal
 

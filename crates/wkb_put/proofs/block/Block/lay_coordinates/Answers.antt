@@ -1,7 +1,8 @@
-use Rattle.std.proofs.Common.{arith}
+use Rattle.wkb_put.proofs.Words.{arith}
 use Rattle.wkb_put.proofs.Stores.{block_next}
 use Rattle.wkb_put.proofs.block.Block.lay_coordinates.Goals as goal
 
 pub returns : goal.returns
 returns g c =
-    block_next _ _ _ _ c.self.inside.len c.store_coordinates-n.result c.self.view_is c.self.invariant.0 c.store_coordinates-n.auto.bytes (omega (arith, c.store_coordinates-n.ensures.len, c.requires.room)) c.store_coordinates-n.ensures.bytes
+    block_next _ _ _ _ _ _ c.self.view_is c.self.invariant.0 c.store_coordinates-n.auto.bytes
+    (omega (arith, c.store_coordinates-n.ensures.len, c.requires.room)) c.store_coordinates-n.ensures.bytes

@@ -1,4 +1,4 @@
-use Rattle.wkb_geom.specs.Texts.{polygon_text, coordinates_text}
+use Rattle.wkb_put.proofs.Words.{polygon_text, coordinates_text}
 use Rattle.wkb_put.proofs.Laid.{laid_here}
 use Rattle.wkb_put.proofs.Behind.{behind, last}
 use Rattle.wkb_put.proofs.kinds.OfRectKind.put.Goals as goal
