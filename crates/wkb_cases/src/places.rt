@@ -1,6 +1,6 @@
 //! A type of one's own that is written, as the README shows it.
 
-ghost use Rattle.std.specs.Prelude.{◌<◌, ◌^◌, ◌∷◌, [], Some};
+ghost use Rattle.std.specs.Prelude.{◌<◌, ◌^◌, Some};
 ghost use Rattle.wkb_geom.specs.declared.common.Dimensions.TheVariants.{Xy};
 
 use std::alloc::Global;

@@ -8,6 +8,7 @@ use wkb::error::General;
 use wkb::reader::{Dimension, GeometryType};
 use wkb_cases::reading::{Outcome, answer_to, read, reads, rewritten, tried, view_size};
 use wkb_cases::spelled::{bytes, with_zeros};
+use wkb_cases::texts::nested_in;
 
 #[test]
 fn no_bytes(rt: HostRuntime) -> Result<(), Fail> {
@@ -136,6 +137,8 @@ fn refused_anew(rt: HostRuntime) -> Result<(), Fail> {
         let input = bytes(text)?;
         assert_eq!(rt; tried(rt.alloc(), input.as_slice()), expected, "{text}");
     }
+    let input = nested_in(129)?;
+    assert_eq!(rt; tried(rt.alloc(), input.as_slice()), Outcome::TooDeep(128));
     Ok(())
 }
 

@@ -12,8 +12,8 @@ use wkb::writer::{
 };
 use wkb_cases::spelled::bytes;
 use wkb_cases::support::{
-    ONE, THREE, TWO, collection_of, coord_of, empty_point_of, iso, line_of, line_string_of,
-    point_of, rect_of, triangle_of, written,
+    ONE, THREE, TWO, collection_of, coord_of, empty_point_of, iso, line_of, point_of, rect_of,
+    triangle_of, written,
 };
 
 /// The big endian text of a point of 1.0 and 2.0.

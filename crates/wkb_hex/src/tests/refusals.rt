@@ -130,8 +130,9 @@ fn printed_short_causes(rt: HostRuntime) -> Result<(), Fail> {
         ),
         ("010400000001000000", "MultiPoint", "geometry", 30, 9),
     ] {
+        let fault = "General error: Invalid buffer length for";
         let said = format!(in rt.alloc();
-            "General error: Invalid buffer length for {part}: {what} would end at byte {end}, but buffer length is {len}."
+            "{fault} {part}: {what} would end at byte {end}, but buffer length is {len}."
         )?;
         assert!(rt; is_refused(rt.alloc(), input, said.as_str())?, "{input}");
     }
@@ -140,8 +141,6 @@ fn printed_short_causes(rt: HostRuntime) -> Result<(), Fail> {
 
 // What is said of a point of 1.0 and 2.0 with one bit of its code flipped, and the status.
 fn flipped_line(alloc: Global, bit: u32, code: u32) -> Result<(String, u8), AllocError> {
-    let point =
-        "refused: General error: Invalid buffer length for Point: geometry would end at byte";
     match bit {
         1 => Ok((String::from_str(alloc, "010300000000000000\n")?, 0)),
         2 => Ok((String::from_str(alloc, "010500000000000000\n")?, 0)),
