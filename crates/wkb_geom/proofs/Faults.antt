@@ -1,6 +1,7 @@
 -- Faults, one after another.
-use Rattle.std.proofs.Common.{◌≡◌, Option, Some, None, refl}
-use Rattle.wkb_geom.specs.Texts.{Fault, or_else}
+use Rattle.std.proofs.Common.{◌≡◌, ℕ, ◌<◌, ◌^◌, Option, Some, None, refl, arith}
+use Rattle.std.proofs.lemmas.Bool.Decides.{nat_tests}
+use Rattle.wkb_geom.specs.Texts.{Fault, or_else, count_fault}
 
 -- where neither of two faults is there, the first isn't
 pub none_first : (a b : Option Fault) → or_else a b ≡ None → a ≡ None
@@ -13,3 +14,13 @@ pub none_rest : (a b : Option Fault) → or_else a b ≡ None → b ≡ None
 unfolding or_else
 none_rest None b h = h
 none_rest (Some f) b h = cc
+
+-- where neither is there, none is
+pub none_both : (a b : Option Fault) → a ≡ None → b ≡ None → or_else a b ≡ None
+unfolding or_else
+none_both a b p q = rw p q
+
+-- a count without a fault
+pub count_below : (n : ℕ) → count_fault n ≡ None → n < 2 ^ 32
+unfolding count_fault
+count_below n h = grind (arith, nat_tests)

@@ -9,10 +9,6 @@ use Rattle.wkb_geom.specs.Texts.{Fault, or_else, count_fault, dimensions_fault}
 use Rattle.wkb_measure.specs.declared.fault.Fault.TheVariants as found
 use Rattle.wkb_measure.specs.Measures.{Finds, Measures}
 
-pub none_both : (a b : Option Fault) → a ≡ None → b ≡ None → or_else a b ≡ None
-unfolding or_else
-none_both a b p q = rw p q
-
 pub reports_first : (e : Found) (a b : Option Fault) → Finds e a → Finds e (or_else a b)
 unfolding or_else
 reports_first e a b r = record { is = rw r.is refl }
@@ -24,10 +20,6 @@ reports_rest e a b p r = record { is = rw p r.is }
 pub count_without_fault : (n : ℕ) → n < 2 ^ 32 → count_fault n ≡ None
 unfolding count_fault
 count_without_fault n h = grind (arith, nat_tests)
-
-pub count_below : (n : ℕ) → count_fault n ≡ None → n < 2 ^ 32
-unfolding count_fault
-count_below n h = grind (arith, nat_tests)
 
 -- the error of a dimension without a name
 pub reports_dimensions : (n : ℕ) → (n < 2) ⊎ (4 < n) → Finds (found.UnsupportedDimensions n) (dimensions_fault (Unknown n))

@@ -1,7 +1,6 @@
 -- Parts one after another, as a loop meets them.
-use Rattle.std.proofs.Common.{◌≡◌, ℕ, zero, suc, ◌+◌, ◌<◌, ◌≤◌, List, [], ◌∷◌, length, take, get_or, Some, None, Result, Err, ◌*◌, ◌^◌, refl, sym, ap}
-use Rattle.std.proofs.Common.{subst, ◌∙◌, arith}
-use Rattle.std.proofs.Common.{slice_get, add-one, take_all}
+use Rattle.std.proofs.Common.{◌≡◌, ℕ, zero, suc, ◌+◌, ◌<◌, ◌≤◌, List, [], ◌∷◌, length, take, get_or, Some, None, Result, Ok, Err, ◌*◌, ◌^◌, refl, sym, ap}
+use Rattle.std.proofs.Common.{subst, ◌∙◌, arith, slice_get, add-one, take_all}
 use Rattle.std.specs.List.{sum_by}
 use Rattle.std.specs.Prelude.{IfSome}
 use Rattle.std.proofs.lemmas.List.Sums.{sum_by_more}
@@ -11,8 +10,8 @@ use Rattle.wkb_measure.specs.declared.fault.Fault.{Fault as Found}
 use Rattle.wkb_geom.specs.Texts.{first_fault, count_fault}
 use Rattle.wkb_measure.specs.Measures.{Finds, Measures, capped}
 use Rattle.wkb_measure.specs.Bodies.{Part, parts_fault, parts_size}
-use Rattle.wkb_geom.proofs.Faults.{none_first, none_rest}
-use Rattle.wkb_measure.proofs.Faults.{count_below, reports_first, reports_rest, none_both, measured_err}
+use Rattle.wkb_geom.proofs.Faults.{none_first, none_rest, none_both, count_below}
+use Rattle.wkb_measure.proofs.Faults.{reports_first, reports_rest, measured_err}
 
 -- the parts before i have no fault, and the total is their sizes and the bytes that all parts begin with
 pub record SoFar (ps : List Part) (first i total : ℕ) : Type 0 where
@@ -48,6 +47,10 @@ parts_start ps header n short counted =
 no_part : Part
 no_part = record { fault = None; size = 0 }
 
+pub parts_begin : (ps : List Part) (first : ℕ) → SoFar ps first 0 (capped first)
+unfolding first_fault
+parts_begin ps first = record { none = refl; sum = omega arith }
+
 -- what is said of the part at i
 part_there : (ps : List Part) (i : ℕ) (Q : Part → Type 0) → i < length ps → IfSome (slice_get ps i) Q → Q (get_or ps i no_part)
 part_there ps i Q within told = subst (λ o. IfSome o Q) (slice_get-get_or ps i no_part within) told
@@ -67,15 +70,15 @@ parts_step ps first i total n within told s =
     }
 
 -- the fault of the count, and of a part
-pub count_reports : (ps : List Part) (header n : ℕ) (e : Found) (r : Result ℕ Found) → n ≡ length ps → r ≡ Err e → Finds e (count_fault n)
-    → Measures (parts_fault ps) (parts_size header ps) r
+pub count_reports : (ps : List Part) (size n : ℕ) (e : Found) (r : Result ℕ Found) → n ≡ length ps → r ≡ Err e → Finds e (count_fault n)
+    → Measures (parts_fault ps) size r
 unfolding parts_fault
-count_reports ps header n e r is exit told = measured_err e _ _ r exit (reports_first e _ _ (subst (λ k. Finds e (count_fault k)) is told))
+count_reports ps size n e r is exit told = measured_err e _ _ r exit (reports_first e _ _ (subst (λ k. Finds e (count_fault k)) is told))
 
-pub part_reports : (ps : List Part) (header n first i total : ℕ) (e : Found) (r : Result ℕ Found) → n ≡ length ps → count_fault n ≡ None → i < length ps
-    → IfSome (slice_get ps i) (λ p. Finds e p.fault) → SoFar ps first i total → r ≡ Err e → Measures (parts_fault ps) (parts_size header ps) r
+pub part_reports : (ps : List Part) (size n first i total : ℕ) (e : Found) (r : Result ℕ Found) → n ≡ length ps → count_fault n ≡ None → i < length ps
+    → IfSome (slice_get ps i) (λ p. Finds e p.fault) → SoFar ps first i total → r ≡ Err e → Measures (parts_fault ps) size r
 unfolding parts_fault
-part_reports ps header n first i total e r is counted within told s exit =
+part_reports ps size n first i total e r is counted within told s exit =
     let here = part_there ps i (λ q. Finds e q.fault) within told in
     let item = slice_get-get_or ps i no_part within in
     measured_err e _ _ r exit (reports_rest e _ _ (ap count_fault (sym is) ∙ counted) (first_reports ps i (get_or ps i no_part) e item s.none here))
@@ -87,6 +90,29 @@ unfolding parts_fault parts_size
 parts_all ps header n i total is counted past s =
     let whole = take_all i ps past in (
       none_both _ _ (ap count_fault (sym is) ∙ counted) (ap (first_fault (λ q. q.fault)) (sym whole) ∙ s.none),
-      s.sum
-          ∙ ap (λ l. capped (4 + header * n + sum_by (λ q. q.size) l)) whole ∙ ap (λ k. capped (4 + header * k + sum_by (λ q. q.size) ps)) is,
+      rw (whole, is) at s.sum,
     )
+
+-- the same behind other bytes
+pub parts_behind : (ps : List Part) (before header n i total : ℕ) → n ≡ length ps → count_fault n ≡ None → length ps ≤ i
+    → SoFar ps (before + (4 + header * n)) i total → (parts_fault ps ≡ None) × (total ≡ capped (before + parts_size header ps))
+unfolding parts_size
+parts_behind ps before header n i total is counted past s =
+    let alone = parts_all ps header n i _ is counted past (record { none = s.none; sum = refl }) in
+    (alone.0, omega (arith, s.sum, ap (λ l. sum_by (λ q. q.size) l) (take_all i ps past), ap (λ k. header * k) is))
+
+-- the answer of the last part, added to the parts before it, is that of all
+pub last_added : (ps : List Part) (before header n i total : ℕ) (r : Result ℕ Found) → n ≡ length ps → count_fault n ≡ None → length ps ≡ i + 1
+    → IfSome (slice_get ps i) (λ p. Measures p.fault (total + p.size) r) → SoFar ps (before + (4 + header * n)) i total
+    → Measures (parts_fault ps) (before + parts_size header ps) r
+last_added ps before header n i total (Ok m) is counted end told s =
+    let p = get_or ps i no_part in
+    let here = part_there ps i (λ q. (q.fault ≡ None) × (m ≡ capped (total + q.size))) (omega (arith, end)) told in
+    let part : (p.fault ≡ None) × (capped p.size ≡ capped p.size) = (here.0, refl) in
+    let there = slice_get-get_or ps i no_part (omega (arith, end)) in
+    let whole = parts_step ps _ i total (capped p.size) (omega (arith, end))
+    (subst (λ o. IfSome o (λ q. (q.fault ≡ None) × (capped p.size ≡ capped q.size))) (sym there) part) s in
+    let sum : capped (total + capped p.size) ≡ m = omega (arith, here.1) in
+    parts_behind ps before header n (i + 1) m is counted (omega (arith, end)) (subst (SoFar ps _ (i + 1)) sum whole)
+last_added ps before header n i total (Err e) is counted end told s =
+    part_reports ps (before + parts_size header ps) n _ i total e (Err e) is counted (omega (arith, end)) told s refl

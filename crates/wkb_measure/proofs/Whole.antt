@@ -1,7 +1,6 @@
 -- A geometry's fault and size, by its header and its body.
-use Rattle.std.proofs.Common.{◌≡◌, ℕ, zero, suc, ◌+◌, ◌*◌, ◌<◌, ◌≤◌, List, [], ◌∷◌, length, map, get_or, slice_get, Option, Some, None, Result, Ok}
-use Rattle.std.proofs.Common.{Err, refl, sym}
-use Rattle.std.proofs.Common.{ap, subst, ◌∙◌, arith}
+use Rattle.std.proofs.Common.{◌≡◌, ℕ, zero, suc, ◌+◌, ◌*◌, ◌<◌, ◌≤◌, List, [], ◌∷◌, length, map, get_or, slice_get, Option, Some, None, Result, Ok, Err, refl}
+use Rattle.std.proofs.Common.{sym, ap, subst, ◌∙◌, arith}
 use Rattle.std.specs.List.{sum_by}
 use Rattle.std.specs.Prelude.{IfSome}
 use Rattle.std.proofs.lemmas.Option.{slice_get_read}
@@ -15,11 +14,12 @@ use Rattle.wkb_geom.specs.Geometries.{triangle, line, no_geometries, geometry, g
 use Rattle.wkb_geom.specs.Sizes.{node_count, node_counts, dimensions_of, byte_size, byte_sizes, ring_size, line_string_size, polygon_size}
 use Rattle.wkb_geom.specs.Texts.{Fault, or_else, first_fault, count_fault, count_geometries, dimensions_fault, coordinates_fault, rings_fault, fault}
 use Rattle.wkb_geom.specs.Texts.{fault_each}
+use Rattle.wkb_geom.proofs.Faults.{none_both}
 use Rattle.wkb_geom.proofs.Nodes.{node_count-member}
-use Rattle.wkb_measure.specs.Measures.{Finds, IsMeasured, Measures}
-use Rattle.wkb_measure.specs.Bodies.{Part, parts_fault, parts_size, words, ring_bytes, ring_part, polygon_part, member_part, members, body_fault}
-use Rattle.wkb_measure.specs.Bodies.{body_size, size_by_parts}
-use Rattle.wkb_measure.proofs.Faults.{none_both, reports_first, reports_rest, supported_words}
+use Rattle.wkb_measure.specs.Measures.{Finds, IsAdded, IsMeasured, Measures, capped}
+use Rattle.wkb_measure.specs.Bodies.{Part, parts_fault, parts_size, words, ring_bytes, ring_part, polygon_part, member_part, members, body_fault, body_size}
+use Rattle.wkb_measure.specs.Bodies.{size_by_parts}
+use Rattle.wkb_measure.proofs.Faults.{reports_first, reports_rest, supported_words}
 
 -- the faults and the sizes of a list's items, each as a part
 faults_of : {X : Type 0} (part : X → Part) (f : X → Option Fault) (xs : List X) → ((x : X) → (part x).fault ≡ f x)
@@ -124,11 +124,20 @@ pub whole_unsupported : (g : Geometry) (dims : Dimensions) (e : Found) → dims 
 whole_unsupported g dims e is told =
     subst (Finds e) (sym (fault_by_body g)) (reports_first e _ _ (subst (λ d. Finds e (dimensions_fault d)) is told))
 
--- the same of a collection and of its members as its parts
-pub collected : (d : Dimensions) (gs : Geometries) (r : Result ℕ Found) → dimensions_fault d ≡ None
-    → Measures (parts_fault (members gs)) (parts_size 5 (members gs)) r → IsMeasured (collection d gs) r
-unfolding IsMeasured
-collected d gs r supported h = whole_measured (collection d gs) d r refl supported h
+-- what was measured of a collection's members as its parts is measured of the collection
+pub collected : (before : ℕ) (d : Dimensions) (gs : Geometries) (r : Result ℕ Found) → dimensions_fault d ≡ None
+    → Measures (parts_fault (members gs)) (before + parts_size 5 (members gs)) r → IsAdded before (collection d gs) r
+unfolding IsAdded
+collected before d gs (Ok n) supported h =
+    let whole = whole_measured (collection d gs) d (Ok (capped (parts_size 5 (members gs)))) refl supported (h.0, refl) in
+    (whole.0, omega (arith, h.1, whole.1))
+collected before d gs (Err e) supported h = whole_measured (collection d gs) d (Err e) refl supported h
+
+-- where nothing is before it
+pub added_alone : (g h : Geometry) (r s : Result ℕ Found) → IsAdded 0 g r → s ≡ r → g ≡ h → IsMeasured h s
+unfolding IsAdded IsMeasured
+added_alone g h (Ok n) s added is same = rw (is, ← same) (added.0, omega (arith, added.1))
+added_alone g h (Err e) s added is same = rw (is, ← same) added
 
 -- the parts of members that are lent as a slice
 pub members_length : {X : Type 0} (f : X → Geometry) (xs : List X) → length xs ≡ length (members (geometries (map f xs)))

@@ -40,14 +40,6 @@ pub fn check_count(n: u128) -> Result<u32, Fault>
     }
 }
 
-/// The same, for a count that `usize` holds.
-pub fn check_len(n: usize) -> Result<u32, Fault>
-    ensures { MatchResult result (λ m. (count_fault n ≡ None) × (m ≡ n))
-        (λ e. Finds e (count_fault n)) }
-{
-    check_count(n as u128)
-}
-
 /// The bytes of the words of so many coordinates. No dimension that can be written has more than four words.
 #[inline(always)]
 pub fn words_size(dim: Dimensions, n: u32) -> usize

@@ -7,9 +7,9 @@ ghost use Rattle.wkb_geom.specs.Sizes.{dimensions_of};
 ghost use Rattle.wkb_geom.specs.Texts.{count_fault};
 ghost use Rattle.wkb_measure.specs.Bodies.{body_fault, size_by_parts, words};
 ghost use Rattle.wkb_measure.specs.Faults.{told};
-ghost use Rattle.wkb_measure.specs.Measures.{IsMeasured, Measures};
+ghost use Rattle.wkb_measure.specs.Measures.{IsAdded, IsMeasured, Measures};
 
-use crate::check::{check_dimensions, check_len, words_size};
+use crate::check::{check_count, check_dimensions, words_size};
 use crate::fault::{Fault, Measured};
 use crate::lists::{LineStrings, Polygons};
 use crate::parts::measure_parts;
@@ -64,7 +64,7 @@ fn measure_points<M: MultiPointTrait>(geom: &M) -> Result<usize, Fault>
     ensures { Measures (count_fault (length (M.points geom.now)))
         (4 + length (M.points geom.now) * (5 + 8 * words (M.dimensions geom.now))) result }
 {
-    let count = check_len(geom.num_points())?;
+    let count = check_count(geom.num_points() as u128)?;
     Ok(4 + 5 * count as usize + words_size(geom.dim(), count))
 }
 
@@ -119,22 +119,28 @@ pub fn measure_triangle<T: TriangleTrait>(geom: &T) -> Result<usize, Fault>
     headed(geom.dim(), Ok(8 + words_size(geom.dim(), 4)))
 }
 
-// A collection of these dimensions and members.
+// Adds a collection of these dimensions and members to the bytes before it. Where the last member is a collection, it is
+// added by the last call, which the compiler makes a jump.
 #[cycle(measure)]
-fn measure_members<G: GeometryTrait>(dim: Dimensions, geoms: &[G]) -> Measured
-    ensures { IsMeasured (collection dim (geometries (map G.geometry geoms.now))) (told result) }
+fn add_members<G: GeometryTrait>(before: usize, dim: Dimensions, members: &[G]) -> Measured
+    ensures { IsAdded before (collection dim (geometries (map G.geometry members.now))) (told result) }
 {
     match check_dimensions(dim) {
         Ok(()) => {}
         Err(fault) => return Measured::from(fault),
     }
-    let count = match check_len(geoms.len()) {
+    let count = match check_count(members.len() as u128) {
         Ok(count) => count as usize,
         Err(fault) => return Measured::from(fault),
     };
-    let mut total = 4 + HEADER as usize * count;
-    for geom in geoms {
-        match measure_geometry(geom) {
+    let mut total = before.saturating_add(4 + HEADER as usize * count);
+    for (i, member) in members.iter().enumerate() {
+        if i + 1 == count {
+            if let GeometryType::GeometryCollection(inner) = member.as_type() {
+                return add_members(total, member.dim(), inner);
+            }
+        }
+        match measure_geometry(member) {
             Ok(size) => total = total.saturating_add(size),
             Err(fault) => return Measured::from(fault),
         }
@@ -157,7 +163,7 @@ pub fn measure_geometry<G: GeometryTrait>(geom: &G) -> Result<usize, Fault>
         GeometryType::MultiPoint(m) => measure_multi_point(m),
         GeometryType::MultiLineString(m) => measure_multi_line_string(m),
         GeometryType::MultiPolygon(m) => measure_multi_polygon(m),
-        GeometryType::GeometryCollection(members) => { measure_members(geom.dim(), members).told() }
+        GeometryType::GeometryCollection(members) => { add_members(0, geom.dim(), members).told() }
         GeometryType::Line(l) => measure_line(l),
         GeometryType::Rect(r) => measure_rect(r),
         GeometryType::Triangle(t) => measure_triangle(t),
@@ -165,8 +171,9 @@ pub fn measure_geometry<G: GeometryTrait>(geom: &G) -> Result<usize, Fault>
 }
 
 /// The same of a collection, whose members are of another type.
+#[tactic(auto, using(crate::proofs::Whole::added_alone))]
 pub fn measure_geometry_collection<C: GeometryCollectionTrait>(geom: &C) -> Result<usize, Fault>
     ensures measured { IsMeasured (collection (C.dimensions geom.now) (geometries (C.members geom.now))) result }
 {
-    measure_members(geom.dim(), geom.geometries()).told()
+    add_members(0, geom.dim(), geom.geometries()).told()
 }

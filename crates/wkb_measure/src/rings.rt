@@ -5,7 +5,7 @@ ghost use Rattle.wkb_geom.specs.Texts.{coordinates_fault};
 ghost use Rattle.wkb_measure.specs.Bodies.{ring_bytes, ring_part};
 ghost use Rattle.wkb_measure.specs.Measures.{Measures};
 
-use crate::check::{check_len, words_size};
+use crate::check::{check_count, words_size};
 use crate::fault::Fault;
 use crate::parts::Parts;
 use wkb_geom::rings::{ring_at, ring_count};
@@ -16,7 +16,7 @@ pub fn measure_ring<L: LineStringTrait>(ring: &L) -> Result<usize, Fault>
     ensures { Measures (coordinates_fault (L.coordinates ring.now))
         (ring_bytes (L.dimensions ring.now) (L.coordinates ring.now)) result }
 {
-    let count = check_len(ring.num_coords())?;
+    let count = check_count(ring.num_coords() as u128)?;
     Ok(4 + words_size(ring.dim(), count))
 }
 

@@ -2,9 +2,9 @@
 use Rattle.wkb_put.proofs.Words.{◌≡◌, ℕ, ◌+◌, ◌*◌, ◌<◌, List, [], ◌∷◌, ◌++◌, length, map, get_or, refl, sym, ap, ◌∙◌, arith, None, ◌^◌, Result, flat_map}
 use Rattle.wkb_put.proofs.Words.{Endianness, Form, Dimension, Dimensions, Stopped, written_dimension, Geometry, geometries, collection, node_count}
 use Rattle.wkb_put.proofs.Words.{node_counts, text, texts, fault, fault_each, first_fault, or_else, count_geometries, members_text, header_text, inner}
-use Rattle.wkb_put.proofs.Words.{dimensions_fault, Progress, Advances, counted, none_first, none_rest}
+use Rattle.wkb_put.proofs.Words.{dimensions_fault, Progress, Advances, counted, none_first, none_rest, count_below, slice_get_read}
 use Rattle.wkb_geom.proofs.Nodes.{node_count-member}
-use Rattle.wkb_put.proofs.Faults.{count_below}
+use Rattle.wkb_put.proofs.Faults.{none_at}
 use Rattle.wkb_put.proofs.Loops.{lays_counted}
 
 texts-geometries : {X : Type 0} (order : Endianness) (form : Form) (f : X → Geometry) (xs : List X)
@@ -40,7 +40,9 @@ pub collection_members : {X : Type 0} (d : Dimensions) (f : X → Geometry) (xs 
     → first_fault (λ x. fault (f x)) xs ≡ None
 collection_members d f xs none = sym (faults-geometries f xs) ∙ none_rest _ _ (none_rest (dimensions_fault d) _ none)
 
--- a member has no more nodes than all
-pub member_falls : {X : Type 0} (f : X → Geometry) (xs : List X) (i : ℕ) (x : X) → i < length xs → x ≡ get_or xs i x
-    → 3 * node_count (f x) + 1 < 3 * node_counts (geometries (map f xs)) + 2
-member_falls f xs i x within item = omega (arith, node_count-member f xs i x within, ap (λ y. node_count (f y)) item)
+-- where no member has a fault, this one has none, and no more nodes than all
+pub member_ready : {X : Type 0} (f : X → Geometry) (xs : List X) (i : ℕ) (x : X) → i < length xs → x ≡ get_or xs i x
+    → first_fault (λ y. fault (f y)) xs ≡ None → (fault (f x) ≡ None) × (3 * node_count (f x) + 1 < 3 * node_counts (geometries (map f xs)) + 2)
+member_ready f xs i x within is none =
+    let item = slice_get_read xs (length xs) i x refl within is in
+    (none_at (λ y. fault (f y)) xs i x none item, omega (arith, node_count-member f xs i x within, ap (λ y. node_count (f y)) is))

@@ -1,17 +1,8 @@
 -- Faults, one after another.
-use Rattle.wkb_put.proofs.Words.{◌≡◌, ℕ, zero, suc, ◌<◌, ◌≤◌, ◌^◌, List, [], ◌∷◌, Option, Some, None, ap, ◌∙◌, arith, slice_get, Dimensions, none_first}
-use Rattle.wkb_put.proofs.Words.{none_rest, size, Fault, or_else, first_fault, count_fault, dimensions_fault}
+use Rattle.wkb_put.proofs.Words.{◌≡◌, ℕ, zero, suc, ◌≤◌, List, [], ◌∷◌, Option, Some, None, ap, ◌∙◌, arith, slice_get, Dimensions, none_first}
+use Rattle.wkb_put.proofs.Words.{none_rest, size, Fault, first_fault, dimensions_fault}
 use Rattle.std.proofs.lemmas.Bool.Decides.{nat_tests}
 use Rattle.wkb_geom.specs.declared.common.Dimensions.TheVariants.{Unknown}
-
-pub count_below : (n : ℕ) → count_fault n ≡ None → n < 2 ^ 32
-unfolding count_fault
-count_below n h = grind (arith, nat_tests)
-
--- where neither is there, none is
-pub none_both : (a b : Option Fault) → a ≡ None → b ≡ None → or_else a b ≡ None
-unfolding or_else
-none_both a b p q = rw p q
 
 -- where no item has a fault, the item at i has none
 pub none_at : {X : Type 0} (f : X → Option Fault) (xs : List X) (i : ℕ) (x : X) → first_fault f xs ≡ None → slice_get xs i ≡ Some x → f x ≡ None

@@ -2,7 +2,7 @@
 use Rattle.wkb_put.proofs.Words.{◌≡◌, ℕ, zero, suc, ◌+◌, ◌<◌, ◌≤◌, List, [], ◌∷◌, ◌++◌, length, take, drop, Some, sym, ap, ◌∙◌, append_assoc, append-nil}
 use Rattle.wkb_put.proofs.Words.{take_all, take-append-drop, slice_get, add-one, map, get_or, Result, flat_map, length-map, get_or-map, take-take}
 use Rattle.wkb_put.proofs.Words.{slice_get_read, slice_get-get_or, Stopped, flat_map-append, Endianness, Form, Dimension, number_bytes, coordinates_text}
-use Rattle.wkb_put.proofs.Words.{words_text, header_text, members_text, counted, Progress, IsLaid, IsCut, Advances}
+use Rattle.wkb_put.proofs.Words.{words_text, header_text, members_text, counted, Progress, IsLaid, IsCut, Advances, Ok, Err}
 use Rattle.std.proofs.lemmas.List.Folds.{flat_map-map}
 use Rattle.wkb_put.proofs.Laid.{laid_then, cut_then, cut_first}
 
@@ -72,6 +72,13 @@ module _ {a b : Progress} {order : Endianness} {header : List ℕ} {texts : List
   next_cut {t = t} p item q =
       rw (flat_map_parts (λ t. t) texts (i + 1), flat_map_step (λ t. t) texts i t item, ← append_assoc, ← append_assoc, ← append_assoc)
       (cut_first _ (cut_then p.laid q))
+
+-- the answer of the last text is that of all
+pub lays_last_text : {a b : Progress} (c : Progress) {order : Endianness} {header : List ℕ} {texts : List (List ℕ)} {i : ℕ} {t : List ℕ}
+    (r : Result (Unit {0}) Stopped) → HasLaid a b order header texts i → slice_get texts i ≡ Some t → length texts ≤ i + 1 → Advances b c t r
+    → Advances a c (header ++ counted order texts) r
+lays_last_text c (Ok x) p item whole q = all_laid (next_laid p item q) whole
+lays_last_text c (Err e) p item whole q = next_cut p item q
 
 -- the same where the header or the count was cut
 pub head_cut : {a b : Progress} (order : Endianness) (header : List ℕ) (texts : List (List ℕ)) (n : ℕ) → length texts ≡ n

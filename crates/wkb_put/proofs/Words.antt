@@ -18,7 +18,7 @@ pub use Rattle.wkb_geom.specs.Sizes.{node_count, node_counts}
 pub use Rattle.wkb_geom.specs.Texts.{text, texts, fault, fault_each, count_geometries, inner, Fault}
 unfoldable pub use Rattle.wkb_geom.specs.Texts.{words_text, first_fault, or_else, members_text, header_text, dimensions_fault, count_fault, coordinates_text}
 unfoldable pub use Rattle.wkb_geom.specs.Texts.{line_string_text, point_text, point_words, polygon_text, srid_text}
-pub use Rattle.wkb_geom.proofs.Faults.{none_first, none_rest}
+pub use Rattle.wkb_geom.proofs.Faults.{none_first, none_rest, none_both, count_below}
 pub use Rattle.wkb_put.specs.Blocks.{IsExtended, Waiting}
 unfoldable pub use Rattle.wkb_put.specs.Items.{counted}
 pub use Rattle.wkb_put.specs.Progress.{Progress, Advances, IsLaid, IsCut, progress}

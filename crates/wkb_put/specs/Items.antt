@@ -1,5 +1,5 @@
 -- A count, and the texts of that many items.
-use Rattle.std.specs.Prelude.{ℕ, List, ◌++◌, length, Bool, true, false, Option, None}
+use Rattle.std.specs.Prelude.{ℕ, List, ◌++◌, length, Bool, true, false, None}
 use Rattle.std.specs.List.{flat_map}
 use Rattle.wkb_geom.specs.declared.common.Endianness.{Endianness}
 use Rattle.wkb_geom.specs.declared.common.Form.{Form}

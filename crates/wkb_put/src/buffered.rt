@@ -120,8 +120,9 @@ impl<'a, S: Sink> Buffered<'a, S> {
         lay_header(&mut self.block, order, form, kind);
         Ok(())
     }
+
     /// Puts a header of this code, and a count.
-    #[tactic(auto, using(crate::proofs::Steps::step_laws))]
+    #[tactic(auto, using(crate::proofs::Steps::step_laws, crate::proofs::Behind::behind))]
     pub fn put_head(
         &mut self,
         order: Endianness,

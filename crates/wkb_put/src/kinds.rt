@@ -12,7 +12,7 @@ ghost use Rattle.wkb_put.specs.Progress.{Lays};
 use crate::Sink;
 use crate::buffered::{Buffered, Stopped};
 use crate::lay::{lay_corner, lay_count, lay_empty, lay_header, written};
-use crate::sizes::{COORDINATE, CORNER, LINE, POINT, RECT, SHORT_TEXT, TRIANGLE};
+use crate::sizes::{COORDINATE, CORNER, LINE, POINT, RECT, TRIANGLE};
 use wkb_geom::code::WkbType;
 use wkb_geom::rings::{ring_at, ring_count};
 use wkb_geom::{
@@ -27,12 +27,6 @@ const RUN: usize = 8;
 pub trait Kind<G> {
     // What a geometry means.
     ghost geometry: { G → Geometry };
-
-    /// Whether a text of this size goes by a small block.
-    #[inline(always)]
-    fn is_short(size: usize) -> bool {
-        size <= SHORT_TEXT
-    }
 
     /// Puts a geometry that has no fault.
     fn put<S: Sink>(
@@ -52,11 +46,6 @@ pub struct OfPoint;
 #[tactic(auto, using(crate::proofs::Steps::step_laws))]
 impl<P: PointTrait> Kind<P> for OfPoint {
     ghost geometry = { λ p. point (P.dimensions p) (P.coordinate p) };
-
-    #[inline(always)]
-    fn is_short(_size: usize) -> bool {
-        true
-    }
 
     #[inline(always)]
     fn put<S: Sink>(

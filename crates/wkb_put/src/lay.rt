@@ -65,6 +65,7 @@ pub fn lay_empty(block: &mut Block<'_>, order: Endianness, dim: Dimension)
 }
 
 /// Lays a corner of a rectangle: x and y alone.
+#[tactic(auto, using(crate::proofs::Behind::behind, crate::proofs::Behind::last), unfolding(wkb_geom::specs::Texts::words_text))]
 pub fn lay_corner(block: &mut Block<'_>, order: Endianness, x: u64, y: u64)
     requires { CORNER ≤ block.old.room }
     ensures room { block.new.room + CORNER ≡ block.old.room }

@@ -15,7 +15,7 @@ use crate::buffered::{Buffered, Stopped};
 use crate::kinds::{Kind, OfLine, OfLineString, OfPoint, OfPolygon, OfRect, OfTriangle};
 use crate::lay::written;
 use crate::multi::{OfMultiLineString, OfMultiPoint, OfMultiPolygon};
-use crate::sizes::{LARGE, LEAST, SMALL};
+use crate::sizes::{LARGE, LEAST, SHORT_TEXT, SMALL};
 use std::io;
 use std::io::ErrorKind;
 use wkb_geom::code::WkbType;
@@ -64,7 +64,8 @@ fn put_member<S: Sink, G: GeometryTrait>(
     put_node(out, geom, order, member_form(has_flags))
 }
 
-// Puts a collection's header, and its members after their count.
+// Puts a collection's header, and its members after their count. The last one is put by the last call, which the compiler
+// makes a jump.
 #[cycle(nodes)]
 #[inline(always)]
 #[tactic(auto, using(crate::proofs::Steps::node_laws))]
@@ -82,12 +83,16 @@ fn put_members<S: Sink, G: GeometryTrait>(
         (header_text order form 7 dim
         ++ counted order (map (λ m. text order (inner form) (G.geometry m)) members.now)) result }
 {
-    let count = members.len() as u32;
-    out.put_head(order, form, WkbType::GeometryCollection(dim), count)?;
-    for member in members {
-        put_member(out, member, order, has_flags(form))?;
+    let count = members.len();
+    out.put_head(order, form, WkbType::GeometryCollection(dim), count as u32)?;
+    if count == 0 {
+        return Ok(());
     }
-    Ok(())
+    let last = count - 1;
+    for i in 0..last {
+        put_member(out, &members[i], order, has_flags(form))?;
+    }
+    put_member(out, &members[last], order, has_flags(form))
 }
 
 // Puts a geometry of any kind.
@@ -180,6 +185,7 @@ fn failure(error: &mut Option<io::Error>) -> WkbResult<()>
 
 // Puts a geometry, and then all that waits.
 #[inline(always)]
+#[tactic(auto, using(crate::proofs::Laid::lays_last))]
 fn finish<S: Sink, G, K: Kind<G>>(
     out: &mut Buffered<'_, S>,
     geom: &G,
@@ -241,7 +247,7 @@ pub fn put_geometry<S: Sink, G, K: Kind<G>>(
     ensures { Moves (S.appended writer.old) (S.appended writer.new) (S.has_failed writer.new)
         (text order form (K.geometry geom.now)) result }
 {
-    if K::is_short(size) {
+    if size <= SHORT_TEXT {
         let mut bytes = [0; SMALL];
         put_by::<S, G, K>(writer, &mut bytes, geom, order, form, error)
     } else {

@@ -13,7 +13,8 @@ use Rattle.wkb_geom.specs.Sizes.{byte_size}
 use Rattle.wkb_geom.specs.Texts.{text, fault, refusal, size_fault, form_srid, IsForm}
 use Rattle.wkb_measure.specs.Measures.{Finds, Measures, capped}
 use Rattle.wkb_measure.specs.Bodies.{body_size}
-use Rattle.wkb_measure.proofs.Faults.{none_both, reports_first, reports_rest}
+use Rattle.wkb_geom.proofs.Faults.{none_both}
+use Rattle.wkb_measure.proofs.Faults.{reports_first, reports_rest}
 use Rattle.wkb_measure.proofs.Whole.{header_within}
 use Rattle.wkb_laws.proofs.TextSizes.{text_has_size_lem}
 use Rattle.wkb_geom.specs.declared.error.WkbError.{WkbError}

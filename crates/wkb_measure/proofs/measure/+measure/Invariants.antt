@@ -8,8 +8,9 @@ use Rattle.wkb_measure.proofs.measure.+measure.Given as goal
 abbrev pub decreases-measure_geometry : goal.decreases-measure_geometry
 decreases-measure_geometry g l = 2 * node_count (g.G.GeometryTrait.geometry l.geom.now)
 
-abbrev pub decreases-measure_members : goal.decreases-measure_members
-decreases-measure_members g l = 2 * node_counts (geometries (map g.G.GeometryTrait.geometry l.geoms.now)) + 1
+abbrev pub decreases-add_members : goal.decreases-add_members
+decreases-add_members g l = 2 * node_counts (geometries (map g.G.GeometryTrait.geometry l.members.now)) + 1
 
-abbrev pub invariant-measure_members-loop-geom : goal.invariant-measure_members-loop-geom
-invariant-measure_members-loop-geom g l = SoFar (members (geometries (map g.G.GeometryTrait.geometry l.geoms))) (4 + 5 * l.count) l.geom-index l.total
+abbrev pub invariant-add_members-loop-i : goal.invariant-add_members-loop-i
+invariant-add_members-loop-i g l =
+    SoFar (members (geometries (map g.G.GeometryTrait.geometry l.members))) (l.before + (4 + 5 * l.count)) l.i l.total

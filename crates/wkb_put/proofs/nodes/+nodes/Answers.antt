@@ -1,8 +1,7 @@
-use Rattle.wkb_put.proofs.Words.{◌∙◌, refl, ap, length, arith, length-map, slice_get_read, node_count, fault}
-use Rattle.wkb_put.proofs.Collections.{collection_count, collection_members, lays_collection, member_falls}
-use Rattle.wkb_put.proofs.Faults.{none_at}
+use Rattle.wkb_put.proofs.Words.{◌≡◌, ◌<◌, ◌-◌, ◌∙◌, sym, ap, length, arith, length-map, node_count, fault, text, inner}
+use Rattle.wkb_put.proofs.Collections.{collection_count, collection_members, lays_collection, member_ready}
 use Rattle.wkb_put.proofs.Laid.{exits}
-use Rattle.wkb_put.proofs.Loops.{head_cut, next_cut, text_there}
+use Rattle.wkb_put.proofs.Loops.{head_cut, none_laid, all_laid, next_cut, lays_last_text, text_there}
 use Rattle.wkb_put.proofs.nodes.+nodes.Goals as goal
 
 pub put_members-returns-in_err-put_head : goal.put_members-returns-in_err-put_head
@@ -17,16 +16,36 @@ put_member-returns g t c = rw c.member_form.ensures at c.put_node.ensures
 pub put_members-put_member-requires : goal.put_members-put_member-requires
 put_members-put_member-requires g t c κs within =
     let members = c.args.members.now in
-    let item = slice_get_read members (length members) c.loop-member.member-index c.member-item.result refl c.loop-member-test.true c.member-item.is in
-    let fine = none_at (λ m. fault (g.G.GeometryTrait.geometry m)) members _ _ c.requires.fault item in
-    let falls = member_falls g.G.GeometryTrait.geometry members _ _ c.loop-member-test.true c.member-item.is in
-    (omega (arith, falls, c.decreases), assumption (fine, c.loop-member.invariant.laid.works))
+    let there : c.loop-i.i < length members = omega (arith, c.loop-i-test.true) in
+    let ready = member_ready g.G.GeometryTrait.geometry members _ _ there c.index-members-i.is c.requires.fault in
+    (omega (arith, ready.1, c.decreases), assumption (ready.0, c.loop-i.invariant.laid.works))
+
+pub put_members-put_member-requires-2 : goal.put_members-put_member-requires-2
+put_members-put_member-requires-2 g t c κs within =
+    let members = c.args.members.now in
+    let there : length members - 1 < length members = omega (arith, c.if-count-eq0.false) in
+    let ready = member_ready g.G.GeometryTrait.geometry members _ _ there c.index-members-last.is c.requires.fault in
+    (omega (arith, ready.1, c.decreases), assumption (ready.0, c.loop-i.invariant.laid.works))
+
+pub put_members-returns-then-count-eq0 : goal.put_members-returns-then-count-eq0
+put_members-returns-then-count-eq0 g t c =
+    let same = length-map c.args.members.now (λ m. text c.args.order (inner c.args.form) (g.G.GeometryTrait.geometry m)) in
+    all_laid (none_laid _ (sym same) c.in_ok-put_head.ensures) (omega (arith, same, c.if-count-eq0.true))
+
+pub put_members-returns : goal.put_members-returns
+put_members-returns g t c =
+    let members = c.args.members.now in
+    let same = length-map members (λ m. text c.args.order (inner c.args.form) (g.G.GeometryTrait.geometry m)) in
+    let there : length members - 1 < length members = omega (arith, c.if-count-eq0.false) in
+    let at_end : c.loop-i.i ≡ length members - 1 = omega (arith, c.loop-i.auto.i-end, c.loop-i-test.false) in
+    lays_last_text _ _ (rw at_end at c.loop-i.invariant) (text_there _ _ _ _ there c.index-members-last.is) (omega (arith, same, there))
+    (rw (← c.has_flags-2.ensures) at c.put_member-2.ensures)
 
 pub put_members-returns-in_err-put_member : goal.put_members-returns-in_err-put_member
 put_members-returns-in_err-put_member g t c =
+    let there : c.loop-i.i < length c.args.members.now = omega (arith, c.loop-i-test.true) in
     let cut = rw (← c.has_flags.ensures) at c.in_err-put_member.ensures in
-    exits _ _ c.from_residual-in_err-put_member.ensures.1
-    (next_cut c.loop-member.invariant (text_there _ _ _ _ c.loop-member-test.true c.member-item.is) cut)
+    exits _ _ c.from_residual-in_err-put_member.ensures.1 (next_cut c.loop-i.invariant (text_there _ _ _ _ there c.index-members-i.is) cut)
 
 pub put_node-put-requires-clause-fault : goal.put_node-put-requires-clause-fault
 put_node-put-requires-clause-fault g t c = ap fault c.in-Point.ensures.part ∙ c.requires.fault
