@@ -1,6 +1,7 @@
-/* Reads a geometry, walks its coordinates where they stand, rewrites it and compares the two; and then tries what no proof of the library sees: that no
- * byte behind the input is touched, that a refusal leaves what it was lent, that refused memory is told, and that
- * calls may run side by side. c/run compares what this prints with example.out. */
+/* Reads a geometry, walks its coordinates where they stand, rewrites it and compares the two. Then tries each call on
+ * worked cases, and what no proof of the library sees: that no byte behind the input is touched, that a refusal leaves
+ * what it was lent, that refused memory is told, and that calls may run side by side. c/run compares what this prints
+ * with example.out. */
 #define _GNU_SOURCE
 #include "wkb.h"
 #include <pthread.h>
@@ -73,34 +74,46 @@ static size_t spelled(const char *text, uint8_t *bytes) {
   return len;
 }
 
-/* What an input is answered: of an accepted one its size and the number of its parts, of a refused one its numbers. */
+/* What an input is answered: of an accepted one what was found, of a refused one its numbers. */
 typedef struct answer {
   const char *input;
   wkb_status status;
-  uint64_t size, parts;
+  wkb_found found;
   wkb_fault fault;
 } answer;
 
+#define NOTHING {0, 0, 0, false, 0, 0, 0}
+#define NO_FAULT {0, 0, 0, 0}
+
 static const answer ANSWERS[] = {
-    {"", WKB_IO_ERROR, 0, 0, {0, 0, 0, 0}},
-    {"02", WKB_INVALID_BYTE_ORDER, 0, 0, {0, 0, 0, 0}},
-    {"01 0100", WKB_IO_ERROR, 0, 0, {0, 0, 0, 0}},
-    {"01 11000000 P", WKB_CODE_OUT_OF_RANGE, 0, 0, {0, 0, 0, 17}},
-    {"01 01000010 P", WKB_CODE_OUT_OF_RANGE, 0, 0, {0, 0, 0, 268435457}},
-    {"01 01000000 P", WKB_OK, 21, 1, {0, 0, 0, 0}},
-    {"01 01000000 P ffffffff", WKB_OK, 21, 1, {0, 0, 0, 0}},
-    {"01 01000020 P", WKB_SHORT_POINT, 0, 0, {0, 25, 21, 0}},
-    {"01 02000000 0a000000 P", WKB_SHORT_LINE_STRING, 0, 0, {0, 169, 25, 0}},
-    {"01 02000000 ffffffff", WKB_SHORT_LINE_STRING, 0, 0, {0, 68719476729, 9, 0}},
-    {"01 03000000 02000000 01000000 P 00000000", WKB_OK, 33, 3, {0, 0, 0, 0}},
-    {"01 03000000 01000000 04000000 P", WKB_SHORT_LINEAR_RING, 0, 0, {1, 68, 20, 0}},
-    {"01 04000000 01000000 00 00000001 3ff0000000000000 4000000000000000", WKB_OK, 30, 2, {0, 0, 0, 0}},
-    {"01 04000000 01000000 00 20000001 3ff0000000000000 4000000000000000", WKB_INCORRECT_TYPE, 0, 0, {1, 0, 0, 0}},
-    {"01 04000000 01000000", WKB_SHORT_MULTI_POINT, 0, 0, {0, 30, 9, 0}},
-    {"01 05000000 01000000 01 02000020 e6100000 01000000 P", WKB_OK, 38, 2, {0, 0, 0, 0}},
-    {"01 06000000 01000000 01 08000000 00000000", WKB_CODE_OUT_OF_RANGE, 0, 0, {1, 0, 0, 8}},
-    {"01 07000000 ffffffff 01 07000000 ffffffff", WKB_IO_ERROR, 0, 0, {2, 0, 0, 0}},
-    {"01 07000000 02000000 01 01000020 e6100000 P 01 07000000 01000000 01 01000000 P", WKB_OK, 64, 4, {0, 0, 0, 0}},
+    {"", WKB_IO_ERROR, NOTHING, NO_FAULT},
+    {"02", WKB_INVALID_BYTE_ORDER, NOTHING, NO_FAULT},
+    {"01 0100", WKB_IO_ERROR, NOTHING, NO_FAULT},
+    {"01 11000000", WKB_CODE_OUT_OF_RANGE, NOTHING, {0, 0, 0, 17}},
+    {"01 11000000 P", WKB_CODE_OUT_OF_RANGE, NOTHING, {0, 0, 0, 17}},
+    {"01 01000010 P", WKB_CODE_OUT_OF_RANGE, NOTHING, {0, 0, 0, 268435457}},
+    {"01 01000000 P", WKB_OK, {21, 1, 0, false, WKB_POINT, WKB_XY, 2}, NO_FAULT},
+    {"01 01000000 P ffffffff", WKB_OK, {21, 1, 0, false, WKB_POINT, WKB_XY, 2}, NO_FAULT},
+    {"01 e9030020 e6100000 P 0000000000000840", WKB_OK, {33, 1, 4326, true, WKB_POINT, WKB_XYZ, 3}, NO_FAULT},
+    {"01 01000000 000000000000f03f", WKB_SHORT_POINT, NOTHING, {0, 21, 13, 0}},
+    {"01 01000020 P", WKB_SHORT_POINT, NOTHING, {0, 25, 21, 0}},
+    {"01 02000000 0a000000 P", WKB_SHORT_LINE_STRING, NOTHING, {0, 169, 25, 0}},
+    {"01 02000000 ffffffff", WKB_SHORT_LINE_STRING, NOTHING, {0, 68719476729, 9, 0}},
+    {"00 00000bba 00000001 3ff0000000000000 4000000000000000 4008000000000000 4010000000000000", WKB_OK,
+     {41, 1, 0, false, WKB_LINE_STRING, WKB_XYZM, 4}, NO_FAULT},
+    {"01 03000000 02000000 01000000 P 00000000", WKB_OK, {33, 3, 0, false, WKB_POLYGON, WKB_XY, 2}, NO_FAULT},
+    {"01 03000000 01000000 04000000 P", WKB_SHORT_LINEAR_RING, NOTHING, {1, 68, 20, 0}},
+    {"01 04000000 01000000 00 00000001 3ff0000000000000 4000000000000000", WKB_OK,
+     {30, 2, 0, false, WKB_MULTI_POINT, WKB_XY, 2}, NO_FAULT},
+    {"01 04000000 01000000 00 20000001 3ff0000000000000 4000000000000000", WKB_INCORRECT_TYPE, NOTHING, {1, 0, 0, 0}},
+    {"01 04000000 01000000", WKB_SHORT_MULTI_POINT, NOTHING, {0, 30, 9, 0}},
+    {"01 05000000 01000000 01 02000020 e6100000 01000000 P", WKB_OK,
+     {38, 2, 0, false, WKB_MULTI_LINE_STRING, WKB_XY, 2}, NO_FAULT},
+    {"01 05000000 01000000 01 ea030000 00000000", WKB_INCORRECT_TYPE, NOTHING, {1, 0, 0, 0}},
+    {"01 06000000 01000000 01 08000000 00000000", WKB_CODE_OUT_OF_RANGE, NOTHING, {1, 0, 0, 8}},
+    {"01 07000000 ffffffff 01 07000000 ffffffff", WKB_IO_ERROR, NOTHING, {2, 0, 0, 0}},
+    {"01 07000000 02000000 01 01000020 e6100000 P 01 07000000 01000000 01 01000000 P", WKB_OK,
+     {64, 4, 0, false, WKB_GEOMETRY_COLLECTION, WKB_XY, 2}, NO_FAULT},
 };
 enum { ANSWER_COUNT = sizeof ANSWERS / sizeof ANSWERS[0] };
 
@@ -114,7 +127,10 @@ static void check_is_as_told(const answer *a, const uint8_t *bytes, size_t len) 
   found_before = found, fault_before = fault;
   expect(wkb_check(bytes, len, &found, &fault) == a->status, "the status", a->input);
   if (a->status == WKB_OK) {
-    expect(found.size == a->size && found.parts == a->parts, "what was found", a->input);
+    expect(found.size == a->found.size && found.parts == a->found.parts, "the size and the parts", a->input);
+    expect(found.kind == a->found.kind && found.dimension == a->found.dimension && found.width == a->found.width,
+           "the kind and the dimension", a->input);
+    expect(found.has_srid == a->found.has_srid && found.srid == a->found.srid, "the SRID", a->input);
     expect(memcmp(&fault, &fault_before, sizeof fault) == 0, "a fault was written", a->input);
   } else {
     expect(fault.part == a->fault.part && fault.end == a->fault.end && fault.len == a->fault.len &&
@@ -127,19 +143,20 @@ static void check_is_as_told(const answer *a, const uint8_t *bytes, size_t len) 
  * refusal it stays as it was. */
 static void parts_are_as_told(const answer *a, const uint8_t *bytes, size_t len) {
   wkb_part parts[8], before[8];
-  uint64_t count = 77;
+  uint64_t count = 77, wanted = a->found.parts;
   memset(parts, 0x5a, sizeof parts), memset(before, 0x5a, sizeof before);
   if (a->status != WKB_OK) {
     expect(wkb_parts(bytes, len, parts, 8, &count) == a->status && count == 77, "not listed", a->input);
     expect(memcmp(parts, before, sizeof parts) == 0, "parts were written", a->input);
     return;
   }
-  expect(wkb_parts(bytes, len, parts, a->parts - 1, &count) == WKB_NO_ROOM && count == a->parts, "no room", a->input);
+  expect(wkb_parts(bytes, len, parts, wanted - 1, &count) == WKB_NO_ROOM && count == wanted, "no room", a->input);
   expect(memcmp(parts, before, sizeof parts) == 0, "parts were written", a->input);
-  expect(wkb_parts(bytes, len, parts, 8, &count) == WKB_OK && count == a->parts, "the parts", a->input);
+  expect(wkb_parts(bytes, len, parts, 8, &count) == WKB_OK && count == wanted, "the parts", a->input);
   for (uint64_t i = 0; i < count; i++)
     if (parts[i].kind <= WKB_LINE_STRING)
-      expect(parts[i].offset + 8 * parts[i].width * parts[i].count <= a->size, "a part goes on too far", a->input);
+      expect(parts[i].offset + 8 * parts[i].width * parts[i].count <= a->found.size, "a part that ends too far on",
+             a->input);
   expect(memcmp(parts + count, before, (8 - count) * sizeof parts[0]) == 0, "more parts were written", a->input);
 }
 
@@ -173,7 +190,7 @@ static void nothing_is_read_behind(void) {
     refusal_leaves_outputs(&ANSWERS[i], pages + page - len, len);
     parts_are_as_told(&ANSWERS[i], pages + page - len, len);
     if (ANSWERS[i].status != WKB_OK) continue;
-    for (size_t cut = 0; cut < ANSWERS[i].size; cut++) {
+    for (size_t cut = 0; cut < ANSWERS[i].found.size; cut++) {
       uint8_t *start = pages + page - cut, out[128];
       wkb_found found;
       wkb_fault fault;
@@ -243,7 +260,8 @@ static void memory_is_refused(void) {
   for (int i = 0; i < ANSWER_COUNT; i++) {
     if (ANSWERS[i].status != WKB_OK) continue;
     size_t len = spelled(ANSWERS[i].input, bytes);
-    bool takes_none = bytes[1] == WKB_POINT || bytes[1] == WKB_LINE_STRING || bytes[1] == WKB_MULTI_POINT;
+    uint8_t kind = ANSWERS[i].found.kind;
+    bool takes_none = kind == WKB_POINT || kind == WKB_LINE_STRING || kind == WKB_MULTI_POINT;
     size_t blocks = refused_in_turn(checked, bytes, len);
     expect(takes_none ? blocks == 0 : blocks > 0, "blocks of a check", ANSWERS[i].input);
     expect(refused_in_turn(written, bytes, len) > blocks, "blocks of a text", ANSWERS[i].input);
@@ -270,6 +288,130 @@ static void side_by_side(void) {
   pthread_t threads[4];
   for (int i = 0; i < 4; i++) expect(pthread_create(&threads[i], NULL, many_times, NULL) == 0, "a thread", "");
   for (int i = 0; i < 4; i++) expect(pthread_join(threads[i], NULL) == 0, "a thread's end", "");
+}
+
+/* What one input is written as. */
+typedef struct writing {
+  const char *input;
+  wkb_options options;
+  const char *encoding;
+} writing;
+
+static const writing WRITINGS[] = {
+    {"01 01000000 P", {WKB_BIG_ENDIAN, WKB_ISO, 4326}, "00 00000001 3ff0000000000000 4000000000000000"},
+    {"01 01000000 P", {WKB_LITTLE_ENDIAN, WKB_EWKB_OWN_SRID, 4326}, "01 01000000 P"},
+    {"01 01000000 P", {WKB_LITTLE_ENDIAN, WKB_EWKB_WITH_SRID, 4326}, "01 01000020 e6100000 P"},
+    {"01 e9030020 e6100000 P 0000000000000840", {WKB_LITTLE_ENDIAN, WKB_ISO, 4326},
+     "01 e9030000 P 0000000000000840"},
+    {"01 e9030020 e6100000 P 0000000000000840", {WKB_LITTLE_ENDIAN, WKB_EWKB_OWN_SRID, 0},
+     "01 010000a0 e6100000 P 0000000000000840"},
+    {"01 e9030020 e6100000 P 0000000000000840", {WKB_LITTLE_ENDIAN, WKB_EWKB_WITHOUT_SRID, 4326},
+     "01 01000080 P 0000000000000840"},
+};
+enum { WRITING_COUNT = sizeof WRITINGS / sizeof WRITINGS[0] };
+
+/* Each encoding is written, and nothing behind it; where one byte is missing only its length is told. */
+static void encodings_are_written(void) {
+  for (int i = 0; i < WRITING_COUNT; i++) {
+    const writing *w = &WRITINGS[i];
+    uint8_t bytes[64], encoding[64], out[64], before[64];
+    uint64_t size = 77;
+    size_t len = spelled(w->input, bytes), wanted = spelled(w->encoding, encoding);
+    memset(out, 0x5a, sizeof out), memset(before, 0x5a, sizeof before);
+    wkb_status status = wkb_write(bytes, len, &w->options, out, wanted - 1, &size);
+    expect(status == WKB_NO_ROOM && size == wanted, "the size that is wanted", w->encoding);
+    expect(memcmp(out, before, sizeof out) == 0, "bytes were written", w->encoding);
+    size = 77;
+    status = wkb_write(bytes, len, &w->options, out, sizeof out, &size);
+    expect(status == WKB_OK && size == wanted, "the size", w->encoding);
+    expect(memcmp(out, encoding, wanted) == 0, "the encoding", w->encoding);
+    expect(memcmp(out + wanted, before, sizeof out - wanted) == 0, "bytes behind it were written", w->encoding);
+    size = 77;
+    status = wkb_write(bytes, len, &w->options, out, wanted, &size);
+    expect(status == WKB_OK && size == wanted, "just enough room", w->encoding);
+  }
+}
+
+/* An order or a form without a name is told, and nothing is written. */
+static void options_are_unknown(void) {
+  static const wkb_options UNKNOWN[] = {{2, WKB_ISO, 4326}, {WKB_BIG_ENDIAN, 4, 4326}};
+  for (int i = 0; i < 2; i++) {
+    uint8_t bytes[64], out[64], before[64];
+    uint64_t size = 77;
+    size_t len = spelled("01 01000000 P", bytes);
+    memset(out, 0x5a, sizeof out), memset(before, 0x5a, sizeof before);
+    wkb_status status = wkb_write(bytes, len, &UNKNOWN[i], out, sizeof out, &size);
+    expect(status == WKB_UNKNOWN_OPTION && size == 77, "an unknown option", i == 0 ? "the order" : "the form");
+    expect(memcmp(out, before, sizeof out) == 0, "bytes were written", i == 0 ? "the order" : "the form");
+  }
+}
+
+/* What two inputs are answered: whether their values are equal, or why one of them is refused. */
+typedef struct comparison {
+  const char *first, *second;
+  wkb_status status;
+  bool equal;
+} comparison;
+
+static const comparison COMPARISONS[] = {
+    {"01 01000000 P", "00 00000001 3ff0000000000000 4000000000000000", WKB_OK, true},
+    {"01 e9030020 e6100000 P 0000000000000840", "01 e9030000 P 0000000000000840", WKB_OK, true},
+    {"01 01000000 P", "01 e9030020 e6100000 P 0000000000000840", WKB_OK, false},
+    {"02", "", WKB_INVALID_BYTE_ORDER, false},
+    {"01 01000000 P", "", WKB_IO_ERROR, false},
+};
+enum { COMPARISON_COUNT = sizeof COMPARISONS / sizeof COMPARISONS[0] };
+
+/* Each pair is answered, and a refusal leaves the truth value as it was. */
+static void values_are_compared(void) {
+  for (int i = 0; i < COMPARISON_COUNT; i++) {
+    const comparison *c = &COMPARISONS[i];
+    uint8_t first[64], second[64];
+    size_t first_len = spelled(c->first, first), second_len = spelled(c->second, second);
+    for (int before = 0; before < 2; before++) {
+      bool equal = before;
+      expect(wkb_same(first, first_len, second, second_len, &equal) == c->status, "the status", c->second);
+      expect(equal == (c->status == WKB_OK ? c->equal : (bool)before), "the truth value", c->second);
+    }
+  }
+}
+
+/* The table of one input's parts. */
+typedef struct listing {
+  const char *input;
+  uint64_t count;
+  wkb_part parts[5];
+} listing;
+
+static const listing LISTINGS[] = {
+    {"01 06000000 02000000 01 03000000 01000000 01000000 P"
+     " 00 20000003 000010e6 00000001 00000001 3ff0000000000000 4000000000000000", 5,
+     {{9, 2, WKB_MULTI_POLYGON, WKB_XY, 2, WKB_LITTLE_ENDIAN}, {18, 1, WKB_POLYGON, WKB_XY, 2, WKB_LITTLE_ENDIAN},
+      {22, 1, WKB_RING, WKB_XY, 2, WKB_LITTLE_ENDIAN}, {51, 1, WKB_POLYGON, WKB_XY, 2, WKB_BIG_ENDIAN},
+      {55, 1, WKB_RING, WKB_XY, 2, WKB_BIG_ENDIAN}}},
+    {"01 07000000 02000000 01 e9030020 e6100000 P 0000000000000840"
+     " 00 00000bba 00000001 3ff0000000000000 4000000000000000 4008000000000000 4010000000000000", 3,
+     {{9, 2, WKB_GEOMETRY_COLLECTION, WKB_XY, 2, WKB_LITTLE_ENDIAN}, {18, 1, WKB_POINT, WKB_XYZ, 3, WKB_LITTLE_ENDIAN},
+      {51, 1, WKB_LINE_STRING, WKB_XYZM, 4, WKB_BIG_ENDIAN}}},
+};
+enum { LISTING_COUNT = sizeof LISTINGS / sizeof LISTINGS[0] };
+
+static bool is_same_part(const wkb_part *a, const wkb_part *b) {
+  return a->offset == b->offset && a->count == b->count && a->kind == b->kind && a->dimension == b->dimension &&
+         a->width == b->width && a->order == b->order;
+}
+
+/* Each part is listed with all that is told of it. */
+static void parts_are_listed(void) {
+  for (int i = 0; i < LISTING_COUNT; i++) {
+    const listing *l = &LISTINGS[i];
+    uint8_t bytes[128];
+    wkb_part parts[5];
+    uint64_t count = 77;
+    size_t len = spelled(l->input, bytes);
+    expect(wkb_parts(bytes, len, parts, l->count, &count) == WKB_OK && count == l->count, "the parts", l->input);
+    for (uint64_t k = 0; k < count; k++) expect(is_same_part(&parts[k], &l->parts[k]), "a part", l->input);
+  }
 }
 
 /* A word of a coordinate of a part, where it stands in the input. */
@@ -325,6 +467,11 @@ static void polygons(void) {
 
 int main(void) {
   polygons();
+  encodings_are_written();
+  options_are_unknown();
+  values_are_compared();
+  parts_are_listed();
+  printf("each worked case is answered as it must be\n");
   nothing_is_read_behind();
   printf("no byte behind the input is read, and refusals leave what they were lent\n");
   memory_is_refused();

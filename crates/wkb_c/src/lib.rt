@@ -9,8 +9,6 @@ mod options;
 mod parts;
 mod room;
 mod status;
-#[cfg(test)]
-mod tests;
 mod text;
 
 ghost use Rattle.std.specs.Prelude.{◌≡◌, ◌≢◌, ◌≤◌, ◌⊎◌, MatchBool, None};

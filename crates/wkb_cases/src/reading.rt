@@ -1,6 +1,5 @@
 //! What reading the bytes of a case answers.
 
-use crate::spelled::bytes;
 use crate::support::iso;
 use std::alloc::Global;
 use std::io;
@@ -103,12 +102,6 @@ pub fn tried(alloc: Global, input: &[u8]) -> Outcome {
     outcome_of(&Wkb::try_new(alloc, input))
 }
 
-/// What `read_wkb` answers to the bytes of a text.
-pub fn reads(alloc: Global, text: &str) -> Result<Outcome, Fail> {
-    let input = bytes(text)?;
-    Ok(answer_to(alloc, input.as_slice()))
-}
-
 /// What `read_wkb_counted` answers, with its turns and slots.
 pub fn counts(alloc: Global, input: &[u8]) -> (Outcome, u128, u128) {
     let (answer, counts) = read_wkb_counted(alloc, input);
@@ -123,39 +116,6 @@ pub fn rewritten_as(alloc: Global, input: &[u8], options: &WriteOptions) -> WkbR
 /// The canonical form under ISO, little endian.
 pub fn rewritten(alloc: Global, input: &[u8]) -> WkbResult<Vec<u8>> {
     canonical(alloc, input, &iso(Endianness::LittleEndian))
-}
-
-/// Whether a text's bytes are rewritten under these options as another's.
-pub fn rewrites(
-    alloc: Global,
-    input: &str,
-    options: &WriteOptions,
-    expected: &str,
-) -> Result<bool, Fail> {
-    let input = bytes(input)?;
-    let text = canonical(alloc, input.as_slice(), options)?;
-    let expected = bytes(expected)?;
-    Ok(text.as_slice() == expected.as_slice())
-}
-
-/// The same under EWKB with the input's own SRID.
-pub fn rewrites_with_srid(
-    alloc: Global,
-    input: &str,
-    order: Endianness,
-    expected: &str,
-) -> Result<bool, Fail> {
-    let input = bytes(input)?;
-    let text = canonical_with_srid(alloc, input.as_slice(), order)?;
-    let expected = bytes(expected)?;
-    Ok(text.as_slice() == expected.as_slice())
-}
-
-/// Whether two texts' bytes have equal values.
-pub fn equal_values(alloc: Global, first: &str, second: &str) -> Result<bool, Fail> {
-    let first = bytes(first)?;
-    let second = bytes(second)?;
-    Ok(same(alloc, first.as_slice(), second.as_slice())?)
 }
 
 /// The canonical form under EWKB with the input's own SRID.

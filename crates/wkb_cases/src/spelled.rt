@@ -1,5 +1,7 @@
 //! Bytes from the text of a case.
 
+use std::io;
+use std::io::Write;
 use std::test::Fail;
 
 /// As many bytes as the longest case has: a thousand collections, one in the other, round a point.
@@ -8,8 +10,8 @@ const CAPACITY: usize = 9021;
 /// What `P` stands for: 1.0 and 2.0, little endian.
 const ONE_AND_TWO: [u8; 16] = [0, 0, 0, 0, 0, 0, 0xf0, 0x3f, 0, 0, 0, 0, 0, 0, 0, 0x40];
 
-/// The bytes of a case. Making them takes no memory, so that a test can have each growth of the call that it
-/// makes refused.
+/// The bytes of a case, or of what a call wrote. They take no memory, so that a test can have each growth of the call
+/// that it makes refused.
 #[derive(Drop)]
 pub struct Spelled {
     bytes: [u8; CAPACITY],
@@ -36,19 +38,27 @@ impl Spelled {
     }
 
     pub fn push(&mut self, byte: u8) -> Result<(), Fail> {
-        if self.len >= CAPACITY {
-            return Err(Fail::new("a case of over 9021 bytes"));
-        }
-        self.bytes[self.len] = byte;
-        self.len += 1;
-        Ok(())
+        self.extend_from_slice(&[byte])
     }
 
     pub fn extend_from_slice(&mut self, bytes: &[u8]) -> Result<(), Fail> {
-        for byte in bytes {
-            self.push(*byte)?;
+        if self.append(bytes) {
+            Ok(())
+        } else {
+            Err(Fail::new("a case of over 9021 bytes"))
         }
-        Ok(())
+    }
+
+    /// Appends bytes, and answers whether there was room for all of them.
+    pub fn append(&mut self, bytes: &[u8]) -> bool {
+        for byte in bytes {
+            if self.len >= CAPACITY {
+                return false;
+            }
+            self.bytes[self.len] = *byte;
+            self.len += 1;
+        }
+        true
     }
 
     /// Appends the bytes that a text spells in hex. Spaces are for reading, and `P` stands for the sixteen
@@ -75,6 +85,20 @@ impl Spelled {
     }
 }
 
+impl Write for Spelled {
+    fn write(&mut self, bytes: &[u8]) -> io::Result<usize> {
+        if self.append(bytes) {
+            Ok(bytes.len())
+        } else {
+            Err(io::Error::from(io::ErrorKind::WriteZero))
+        }
+    }
+
+    fn flush(&mut self) -> io::Result<()> {
+        Ok(())
+    }
+}
+
 fn byte_of(digits: [u8; 2]) -> Result<u8, Fail> {
     let mut byte = [0];
     hex::decode_to_slice(digits.as_slice(), &mut byte)?;
@@ -88,13 +112,15 @@ pub fn bytes(text: &str) -> Result<Spelled, Fail> {
     Ok(spelled)
 }
 
-/// As many zero bytes behind a text's bytes.
-pub fn with_zeros(text: &str, count: usize) -> Result<Spelled, Fail> {
-    let mut spelled = bytes(text)?;
-    for _zero in 0..count {
-        spelled.push(0)?;
+/// The hex digits of bytes.
+pub fn digits_of(bytes: &[u8]) -> Result<Spelled, Fail> {
+    let mut digits = Spelled::new();
+    for byte in bytes {
+        let mut pair = [0; 2];
+        hex::encode_to_slice([*byte], &mut pair)?;
+        digits.extend_from_slice(&pair)?;
     }
-    Ok(spelled)
+    Ok(digits)
 }
 
 /// A text's bytes, as often as said, and then another's.

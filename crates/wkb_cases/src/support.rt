@@ -5,8 +5,8 @@ use std::test::Fail;
 use wkb::Endianness;
 use wkb::error::WkbResult;
 use wkb::geom::{
-    Coord, Dimensions, Geometry, GeometryCollection, GeometryTrait, Line, LineString, Point, Rect,
-    Triangle,
+    Coord, Dimensions, Geometry, GeometryCollection, GeometryTrait, Line, LineString,
+    MultiLineString, MultiPoint, MultiPolygon, Point, Polygon, Rect, Triangle,
 };
 use wkb::writer::{Form, VecSink, WriteOptions, write_geometry};
 
@@ -50,6 +50,31 @@ pub fn line_string_of<'w>(dim: Dimensions, words: &'w [u64]) -> Result<LineStrin
     Ok(LineString::new(dim, words).ok_or("no line string")?)
 }
 
+pub fn polygon_of<'w>(dim: Dimensions, rings: &'w [LineString<'w>]) -> Result<Polygon<'w>, Fail> {
+    Ok(Polygon::new(dim, rings).ok_or("no polygon")?)
+}
+
+pub fn multi_point_of<'w>(
+    dim: Dimensions,
+    points: &'w [Point<'w>],
+) -> Result<MultiPoint<'w>, Fail> {
+    Ok(MultiPoint::new(dim, points).ok_or("no multi point")?)
+}
+
+pub fn multi_line_string_of<'w>(
+    dim: Dimensions,
+    line_strings: &'w [LineString<'w>],
+) -> Result<MultiLineString<'w>, Fail> {
+    Ok(MultiLineString::new(dim, line_strings).ok_or("no multi line string")?)
+}
+
+pub fn multi_polygon_of<'w>(
+    dim: Dimensions,
+    polygons: &'w [Polygon<'w>],
+) -> Result<MultiPolygon<'w>, Fail> {
+    Ok(MultiPolygon::new(dim, polygons).ok_or("no multi polygon")?)
+}
+
 pub fn line_of<'w>(start: Coord<'w>, end: Coord<'w>) -> Result<Line<'w>, Fail> {
     Ok(Line::new(start, end).ok_or("no line")?)
 }
@@ -66,9 +91,21 @@ pub fn triangle_of<'w>(
     Ok(Triangle::new(first, second, third).ok_or("no triangle")?)
 }
 
-/// An Xy collection of these.
-pub fn collection_of<'w>(members: Vec<Geometry<'w>>) -> Geometry<'w> {
-    Geometry::GeometryCollection(GeometryCollection::new(Dimensions::Xy, members))
+/// A collection of two.
+pub fn collection_of_two<'w>(
+    alloc: Global,
+    dim: Dimensions,
+    first: Geometry<'w>,
+    second: Geometry<'w>,
+) -> Result<Geometry<'w>, Fail> {
+    let mut members = Vec::with_capacity(alloc, 2)?;
+    members.push(first)?;
+    members.push(second)?;
+    Ok(collection_of(dim, members))
+}
+
+pub fn collection_of<'w>(dim: Dimensions, members: Vec<Geometry<'w>>) -> Geometry<'w> {
+    Geometry::GeometryCollection(GeometryCollection::new(dim, members))
 }
 
 /// The little endian ISO text of a geometry.

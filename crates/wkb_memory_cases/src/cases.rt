@@ -1,18 +1,13 @@
 //! The cases whose reading takes memory.
 
-use std::process::Abort;
 use std::test::Fail;
-use wkb::Endianness;
-use wkb::geom::GeometryTrait;
-use wkb::writer::{SliceSink, write_geometry};
 use wkb_cases::spelled::{Spelled, bytes};
-use wkb_cases::support::iso;
 use wkb_cases::texts::{MIXED_DIMENSIONS, MULTI_LINE_TWO, POLYGON_HOLE, nested_in};
 
 /// A polygon without rings in a multi polygon.
 const MULTI_POLYGON: &str = "01 06000000 01000000 01 03000000 00000000";
 
-/// What two line strings are rewritten to.
+/// What the two line strings are rewritten to.
 const TWO_LINES: &str = "01 05000000 02000000 01 02000000 01000000 P 01 02000000 00000000";
 
 /// What a collection of two dimensions and orders is rewritten to.
@@ -23,17 +18,20 @@ const TWO_MEMBERS: &str =
 const TWO_MEMBERS_EWKB: &str =
     "01 07000000 02000000 01 01000080 P 0000000000000840 01 03000000 00000000";
 
-/// How many bytes the longest text has.
-const LONGEST: usize = 1173;
+/// The program's line on the cost of a geometry of one part, and of two.
+const COST_OF_ONE: &str = "accepted turns 1 slots 1\n";
 
-/// An input, its texts under ISO and EWKB, little endian, and what reading it costs.
+const COST_OF_TWO: &str = "accepted turns 2 slots 2\n";
+
+/// An input without an SRID of its own, its encodings under ISO and EWKB, little endian, and what reading it costs: as
+/// many turns as slots, and how the program says so.
 #[derive(Drop)]
 pub struct Case {
     pub input: Spelled,
     pub iso: Spelled,
     pub ewkb: Spelled,
     pub turns: u128,
-    pub slots: u128,
+    pub cost: &'static str,
 }
 
 /// How many cases there are.
@@ -42,36 +40,35 @@ pub const CASES: usize = 5;
 /// A case by its number.
 pub fn case_at(number: usize) -> Result<Case, Fail> {
     match number {
-        0 => case_of(POLYGON_HOLE, POLYGON_HOLE, POLYGON_HOLE, 2),
-        1 => case_of(MULTI_POLYGON, MULTI_POLYGON, MULTI_POLYGON, 1),
-        2 => case_of(MULTI_LINE_TWO, TWO_LINES, TWO_LINES, 2),
-        3 => case_of(MIXED_DIMENSIONS, TWO_MEMBERS, TWO_MEMBERS_EWKB, 2),
+        0 => case_of([POLYGON_HOLE, POLYGON_HOLE, POLYGON_HOLE], 2, COST_OF_TWO),
+        1 => case_of(
+            [MULTI_POLYGON, MULTI_POLYGON, MULTI_POLYGON],
+            1,
+            COST_OF_ONE,
+        ),
+        2 => case_of([MULTI_LINE_TWO, TWO_LINES, TWO_LINES], 2, COST_OF_TWO),
+        3 => case_of(
+            [MIXED_DIMENSIONS, TWO_MEMBERS, TWO_MEMBERS_EWKB],
+            2,
+            COST_OF_TWO,
+        ),
         _ => Ok(Case {
             input: nested_in(128)?,
             iso: nested_in(128)?,
             ewkb: nested_in(128)?,
             turns: 128,
-            slots: 128,
+            cost: "accepted turns 128 slots 128\n",
         }),
     }
 }
 
-// Each of these has as many turns as slots.
-fn case_of(input: &str, iso: &str, ewkb: &str, parts: u128) -> Result<Case, Fail> {
+fn case_of(texts: [&str; 3], turns: u128, cost: &'static str) -> Result<Case, Fail> {
+    let [input, iso, ewkb] = texts;
     Ok(Case {
         input: bytes(input)?,
         iso: bytes(iso)?,
         ewkb: bytes(ewkb)?,
-        turns: parts,
-        slots: parts,
+        turns,
+        cost,
     })
-}
-
-/// A geometry shows the value of its case: it is written, without memory, as the case's text.
-pub fn shows<R: Abort, G: GeometryTrait>(rt: &R, geometry: &G, case: &Case) -> Result<(), Fail> {
-    let mut slice = [0u8; LONGEST];
-    let mut sink = SliceSink::new(&mut slice);
-    write_geometry(&mut sink, geometry, &iso(Endianness::LittleEndian))?;
-    assert_eq!(rt; sink.written(), case.iso.as_slice());
-    Ok(())
 }

@@ -1,63 +1,59 @@
 //! Each clone. The source of one that is refused answers as before.
 
-use crate::cases::{CASES, Case, case_at, shows};
-use std::alloc::Global;
-use std::process::Abort;
+use crate::cases::{CASES, Case, case_at};
 use std::test::Fail;
-use wkb::reader::{GeometryType, Wkb, read_wkb};
-use wkb_cases::reading::{as_multi_line_string, as_multi_polygon, as_polygon};
+use wkb::reader::{GeometryType, Wkb};
+use wkb_cases::reading::{as_multi_line_string, as_multi_polygon, as_polygon, read, view_size};
 
-fn is_cloned<R: Abort>(rt: &R, alloc: Global, case: &Case) -> Result<(), Fail> {
-    let wkb = read_wkb(alloc, case.input.as_slice())?;
+// Whether a geometry answers as the case does.
+fn is_case(wkb: &Wkb<'_>, case: &Case) -> bool {
+    wkb.buf() == case.input.as_slice() && view_size(wkb) == case.input.len() as u64
+}
+
+fn whole_is_cloned(wkb: &Wkb<'_>, case: &Case) -> Result<bool, Fail> {
     let copy = wkb.clone();
-    shows(rt, &wkb, case)?;
-    shows(rt, &copy?, case)
+    Ok(is_case(wkb, case) && is_case(&copy?, case))
 }
 
-#[test]
-fn whole(rt: HostRuntime) -> Result<(), Fail> {
-    for number in 0..CASES {
-        is_cloned(&rt, rt.alloc(), &case_at(number)?)?;
-    }
-    Ok(())
+fn collection_is_cloned(wkb: &Wkb<'_>, case: &Case) -> Result<bool, Fail> {
+    let copy = wkb.as_geometry_collection().ok_or("no collection")?.clone();
+    Ok(is_case(wkb, case) && is_case(&Wkb::from(copy?), case))
 }
 
-fn polygon_is_cloned<R: Abort>(rt: &R, wkb: &Wkb<'_>, case: &Case) -> Result<(), Fail> {
+fn polygon_is_cloned(wkb: &Wkb<'_>, case: &Case) -> Result<bool, Fail> {
     let copy = as_polygon(wkb)?.clone();
-    shows(rt, wkb, case)?;
-    shows(rt, &copy?, case)
+    Ok(is_case(wkb, case) && copy?.buf() == wkb.buf())
 }
 
-fn line_strings_are_cloned<R: Abort>(rt: &R, wkb: &Wkb<'_>, case: &Case) -> Result<(), Fail> {
+fn line_strings_are_cloned(wkb: &Wkb<'_>, case: &Case) -> Result<bool, Fail> {
     let copy = as_multi_line_string(wkb)?.clone();
-    shows(rt, wkb, case)?;
-    shows(rt, &copy?, case)
+    Ok(is_case(wkb, case) && copy?.buf() == wkb.buf())
 }
 
-fn polygons_are_cloned<R: Abort>(rt: &R, wkb: &Wkb<'_>, case: &Case) -> Result<(), Fail> {
+fn polygons_are_cloned(wkb: &Wkb<'_>, case: &Case) -> Result<bool, Fail> {
     let copy = as_multi_polygon(wkb)?.clone();
-    shows(rt, wkb, case)?;
-    shows(rt, &copy?, case)
+    Ok(is_case(wkb, case) && copy?.buf() == wkb.buf())
 }
 
-fn collection_is_cloned<R: Abort>(rt: &R, wkb: &Wkb<'_>, case: &Case) -> Result<(), Fail> {
-    let collection = wkb.as_geometry_collection().ok_or("no collection")?;
-    let copy = collection.clone();
-    shows(rt, wkb, case)?;
-    shows(rt, &Wkb::from(copy?), case)
+fn view_is_cloned(wkb: &Wkb<'_>, case: &Case) -> Result<bool, Fail> {
+    match wkb.geometry_type() {
+        GeometryType::Polygon => polygon_is_cloned(wkb, case),
+        GeometryType::MultiLineString => line_strings_are_cloned(wkb, case),
+        GeometryType::MultiPolygon => polygons_are_cloned(wkb, case),
+        _ => collection_is_cloned(wkb, case),
+    }
+}
+
+fn is_cloned(wkb: &Wkb<'_>, case: &Case) -> Result<bool, Fail> {
+    Ok(whole_is_cloned(wkb, case)? && view_is_cloned(wkb, case)?)
 }
 
 #[test]
-fn views(rt: HostRuntime) -> Result<(), Fail> {
+fn each_view(rt: HostRuntime) -> Result<(), Fail> {
     for number in 0..CASES {
         let case = case_at(number)?;
-        let wkb = read_wkb(rt.alloc(), case.input.as_slice())?;
-        match wkb.geometry_type() {
-            GeometryType::Polygon => polygon_is_cloned(&rt, &wkb, &case)?,
-            GeometryType::MultiLineString => line_strings_are_cloned(&rt, &wkb, &case)?,
-            GeometryType::MultiPolygon => polygons_are_cloned(&rt, &wkb, &case)?,
-            _ => collection_is_cloned(&rt, &wkb, &case)?,
-        }
+        let is_cloned = is_cloned(&read(rt.alloc(), case.input.as_slice())?, &case)?;
+        assert!(rt; is_cloned, "{number}");
     }
     Ok(())
 }

@@ -8,6 +8,10 @@ mod cases;
 #[cfg(test)]
 mod clones;
 #[cfg(test)]
+mod program;
+#[cfg(test)]
 mod reading;
 #[cfg(test)]
 mod rewriting;
+#[cfg(test)]
+mod without_memory;

@@ -1,50 +1,43 @@
 //! Each call that reads.
 
-use crate::cases::{CASES, Case, case_at, shows};
+use crate::cases::{CASES, Case, case_at};
 use std::alloc::Global;
-use std::process::Abort;
 use std::test::Fail;
-use wkb::reader::{Wkb, read_wkb, read_wkb_counted};
+use wkb_cases::reading::{Outcome, answer_to, counts, tried};
 
-fn is_read<R: Abort>(rt: &R, alloc: Global, case: &Case) -> Result<(), Fail> {
-    let wkb = read_wkb(alloc, case.input.as_slice())?;
-    shows(rt, &wkb, case)
-}
-
-#[test]
-fn read(rt: HostRuntime) -> Result<(), Fail> {
-    for number in 0..CASES {
-        is_read(&rt, rt.alloc(), &case_at(number)?)?;
+// Whether a call accepted the whole input.
+fn is_accepted(answer: Outcome, case: &Case) -> Result<bool, Fail> {
+    match answer {
+        Outcome::Accepted(size) => Ok(size == case.input.len() as u64),
+        Outcome::Memory => Err(Fail::new("out of memory")),
+        _ => Ok(false),
     }
-    Ok(())
-}
-
-fn is_tried<R: Abort>(rt: &R, alloc: Global, case: &Case) -> Result<(), Fail> {
-    let wkb = Wkb::try_new(alloc, case.input.as_slice())?;
-    shows(rt, &wkb, case)
-}
-
-#[test]
-fn tried_anew(rt: HostRuntime) -> Result<(), Fail> {
-    for number in 0..CASES {
-        is_tried(&rt, rt.alloc(), &case_at(number)?)?;
-    }
-    Ok(())
 }
 
 // Where memory is refused, neither count passes the whole run's.
-fn is_counted<R: Abort>(rt: &R, alloc: Global, case: &Case) -> Result<(), Fail> {
-    let (answer, counts) = read_wkb_counted(alloc, case.input.as_slice());
-    assert!(rt; counts.turns <= case.turns && counts.slots <= case.slots);
-    let wkb = answer?;
-    assert_eq!(rt; (counts.turns, counts.slots), (case.turns, case.slots));
-    shows(rt, &wkb, case)
+fn is_counted(alloc: Global, case: &Case) -> Result<bool, Fail> {
+    let (answer, turns, slots) = counts(alloc, case.input.as_slice());
+    if turns > case.turns || slots > case.turns {
+        return Ok(false);
+    }
+    let is_whole = turns == case.turns && slots == case.turns;
+    Ok(is_accepted(answer, case)? && is_whole)
+}
+
+fn is_read(alloc: Global, case: &Case) -> Result<bool, Fail> {
+    let input = case.input.as_slice();
+    Ok(
+        is_accepted(answer_to(alloc, input), case)?
+            && is_accepted(tried(alloc, input), case)?
+            && is_counted(alloc, case)?,
+    )
 }
 
 #[test]
-fn counted(rt: HostRuntime) -> Result<(), Fail> {
+fn each_call(rt: HostRuntime) -> Result<(), Fail> {
     for number in 0..CASES {
-        is_counted(&rt, rt.alloc(), &case_at(number)?)?;
+        let case = case_at(number)?;
+        assert!(rt; is_read(rt.alloc(), &case)?, "{number}");
     }
     Ok(())
 }

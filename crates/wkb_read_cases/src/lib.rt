@@ -1,14 +1,15 @@
-//! Worked cases of reading headers, points, line strings, polygons and cut inputs, as tests of the public
-//! calls of `wkb`. The bytes and numbers that they expect were written down before the program ran.
+//! What can't be a row of the worked cases of reading: what outlives a geometry, views as geometries, cut inputs, what
+//! clients answer, and printed texts, as tests of public calls. The bytes and numbers that they expect were written down
+//! before the program ran.
 #![tactic(auto)]
 
 #[cfg(test)]
+mod clients;
+#[cfg(test)]
 mod cut_inputs;
 #[cfg(test)]
-mod headers;
+mod equality;
 #[cfg(test)]
-mod line_strings;
+mod printed;
 #[cfg(test)]
-mod points;
-#[cfg(test)]
-mod polygons;
+mod views;

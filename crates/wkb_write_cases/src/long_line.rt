@@ -6,7 +6,7 @@ ghost use Rattle.wkb_write_cases.specs.LongLine.{at_the_origin, at_the_origin-la
 use wkb::geom::{Coord, Dimensioned, Dimensions, LineStringTrait};
 
 /// A line string at the origin, of this many coordinates.
-#[derive(Debug, Clone, Copy)]
+#[derive(Clone, Copy)]
 pub struct LongLine {
     pub count: usize,
 }

@@ -1,176 +1,178 @@
-//! Sinks, refusals of writers, and lines, rectangles and triangles.
+//! Points, rectangles and collections of a caller's own, as bytes.
 
-use crate::long_line::LongLine;
+use crate::kinds::RECT;
+use std::alloc::Global;
 use std::test::Fail;
 use wkb::Endianness;
-use wkb::error::{General, Overflow, WkbError, WkbResult};
-use wkb::geom::{Dimensions, Geometry, Rect};
+use wkb::error::WkbResult;
+use wkb::geom::{Dimensions, Geometry, LineString, LineStringTrait, Point, Rect};
 use wkb::writer::{
-    Out, Sink, SliceSink, VecSink, geometry_wkb_size, line_wkb_size, rect_wkb_size,
-    triangle_wkb_size, write_geometry, write_line, write_line_string, write_point, write_rect,
-    write_triangle,
+    Out, SliceSink, VecSink, WriteOptions, geometry_wkb_size, geometry_wkb_size_with,
+    rect_wkb_size, write_point, write_rect,
 };
-use wkb_cases::spelled::bytes;
+use wkb_cases::reading::{Outcome, answer_to, words};
+use wkb_cases::spelled::{Spelled, bytes};
 use wkb_cases::support::{
-    ONE, THREE, TWO, collection_of, coord_of, empty_point_of, iso, line_of, point_of, rect_of,
-    triangle_of, written,
+    ONE, THREE, TWO, collection_of, collection_of_two, coord_of, empty_point_of, ewkb, iso,
+    line_of, line_string_of, point_of, rect_of, written,
 };
 
-/// The big endian text of a point of 1.0 and 2.0.
+/// A point of 1.0 and 2.0, big endian.
 const POINT: &str = "00000000013ff00000000000004000000000000000";
-
-/// The text of a rectangle from (0, 0) to (1.0, 2.0).
-const RECT: &str = "01 03000000 01000000 05000000
-    0000000000000000 0000000000000000 0000000000000000 0000000000000040
-    P 000000000000f03f 0000000000000000 0000000000000000 0000000000000000";
 
 #[test]
 fn sinks(rt: HostRuntime) -> Result<(), Fail> {
     let point = point_of(Dimensions::Xy, &[ONE, TWO])?;
     let expected = bytes(POINT)?;
-    let mut out = Out::new(Vec::new(rt.alloc()));
+    let mut out = Out::new(Spelled::new());
     write_point(&mut out, &point, &iso(Endianness::BigEndian))?;
-    assert_eq!(rt; out.into_inner().as_slice(), expected.as_slice());
+    assert!(rt; out.into_inner().as_slice() == expected.as_slice());
     let mut slice = [0u8; 21];
     let mut sink = SliceSink::new(&mut slice);
     write_point(&mut sink, &point, &iso(Endianness::BigEndian))?;
-    assert_eq!(rt; sink.written(), expected.as_slice());
-    assert_eq!(rt; slice.as_slice(), expected.as_slice());
+    assert!(rt; sink.written() == expected.as_slice());
+    assert!(rt; slice.as_slice() == expected.as_slice());
     Ok(())
 }
 
-// Whether a geometry is refused for five words in a coordinate.
-fn is_refused(answer: &WkbResult<()>) -> bool {
-    matches!(
-        answer,
-        Err(WkbError::General(General::UnsupportedDimensions(5)))
-    )
+fn is_written(
+    alloc: Global,
+    point: &Point<'_>,
+    options: &WriteOptions,
+    text: &str,
+) -> Result<bool, Fail> {
+    let mut sink = VecSink::new(alloc);
+    write_point(&mut sink, point, options)?;
+    let expected = bytes(text)?;
+    Ok(sink.into_vec().as_slice() == expected.as_slice())
 }
 
+// Also the cases written-nans and ewkb-empty, and of unknown-dimensions the dimensions with a name.
 #[test]
-fn unknown_dimensions(rt: HostRuntime) -> Result<(), Fail> {
-    let mut members = Vec::new(rt.alloc());
-    members.push(Geometry::Point(empty_point_of(Dimensions::Xy)?))?;
-    members.push(Geometry::Point(empty_point_of(Dimensions::Unknown(5))?))?;
-    let mut sink = VecSink::new(rt.alloc());
-    let options = iso(Endianness::LittleEndian);
-    let answer = write_geometry(&mut sink, &collection_of(members), &options);
-    assert!(rt; is_refused(&answer));
-    assert!(rt; !sink.failed());
-    assert_eq!(rt; sink.into_vec().len(), 0);
+fn empty_point(rt: HostRuntime) -> Result<(), Fail> {
+    let nans = [0xfff8_0000_0000_0001; 2];
+    let four = [ONE, TWO, THREE, 0];
+    let little = iso(Endianness::LittleEndian);
+    for (point, options, text) in [
+        (
+            empty_point_of(Dimensions::Xy)?,
+            little,
+            "01 01000000 000000000000f87f 000000000000f87f",
+        ),
+        (
+            point_of(Dimensions::Xy, &nans)?,
+            little,
+            "01 01000000 010000000000f8ff 010000000000f8ff",
+        ),
+        (
+            empty_point_of(Dimensions::Xyz)?,
+            ewkb(None),
+            "01 01000080 000000000000f87f 000000000000f87f 000000000000f87f",
+        ),
+        (
+            point_of(Dimensions::Unknown(2), &[ONE, TWO])?,
+            little,
+            "01 01000000 P",
+        ),
+        (
+            point_of(Dimensions::Unknown(3), &[ONE, TWO, THREE])?,
+            little,
+            "01 e9030000 P 0000000000000840",
+        ),
+        (
+            point_of(Dimensions::Unknown(4), &four)?,
+            little,
+            "01 b90b0000 P 0000000000000840 0000000000000000",
+        ),
+    ] {
+        assert!(rt; is_written(rt.alloc(), &point, &options, text)?, "{text}");
+    }
     Ok(())
 }
 
-#[test]
-fn unknown_dimensions_of_a_point(rt: HostRuntime) -> Result<(), Fail> {
-    let point = Geometry::Point(empty_point_of(Dimensions::Unknown(5))?);
-    let options = iso(Endianness::LittleEndian);
-    let mut sink = VecSink::new(rt.alloc());
-    assert!(rt; is_refused(&write_geometry(&mut sink, &point, &options)));
-    assert!(rt; !sink.failed());
-    assert_eq!(rt; sink.into_vec().len(), 0);
-    let mut out = Out::new(Vec::new(rt.alloc()));
-    assert!(rt; is_refused(&write_geometry(&mut out, &point, &options)));
-    assert!(rt; !out.failed());
-    assert_eq!(rt; out.into_inner().len(), 0);
-    let mut room = [0u8; 8];
-    let mut slice = SliceSink::new(&mut room);
-    assert!(rt; is_refused(&write_geometry(&mut slice, &point, &options)));
-    assert!(rt; !slice.failed());
-    assert_eq!(rt; slice.len(), 0);
-    Ok(())
+/// Corners from (0, 0) to (1.0, 2.0), with and without other words.
+const CORNERS: [(Dimensions, &[u64], &[u64]); 5] = [
+    (Dimensions::Xy, &[0, 0], &[ONE, TWO]),
+    (Dimensions::Xyz, &[0, 0, THREE], &[ONE, TWO, THREE]),
+    (Dimensions::Xym, &[0, 0, THREE], &[ONE, TWO, ONE]),
+    (
+        Dimensions::Xyzm,
+        &[0, 0, THREE, ONE],
+        &[ONE, TWO, THREE, TWO],
+    ),
+    (
+        Dimensions::Unknown(4),
+        &[0, 0, ONE, ONE],
+        &[ONE, TWO, TWO, TWO],
+    ),
+];
+
+fn is_rect(alloc: Global, rect: Rect<'_>) -> Result<bool, Fail> {
+    let expected = bytes(RECT)?;
+    let mut sink = VecSink::new(alloc);
+    write_rect(&mut sink, &rect, &iso(Endianness::LittleEndian))?;
+    Ok(sink.into_vec().as_slice() == expected.as_slice() && rect_wkb_size(&rect)? == 93)
 }
 
-#[test]
-fn unknown_dimensions_with_a_name(rt: HostRuntime) -> Result<(), Fail> {
-    let three = point_of(Dimensions::Unknown(3), &[ONE, TWO, THREE])?;
-    let text = written(rt.alloc(), &Geometry::Point(three))?;
-    let expected = bytes("01 e9030000 P 0000000000000840")?;
-    assert_eq!(rt; text.as_slice(), expected.as_slice());
-    Ok(())
+// Its sizes under EWKB, with an SRID and without.
+fn ewkb_sizes(rect: Rect<'_>) -> WkbResult<(usize, usize)> {
+    let geometry = Geometry::Rect(rect);
+    let with_srid = geometry_wkb_size_with(&geometry, &ewkb(Some(4326)))?;
+    let without = geometry_wkb_size_with(&geometry, &ewkb(None))?;
+    Ok((with_srid, without))
 }
 
-#[test]
-fn long_line(rt: HostRuntime) -> Result<(), Fail> {
-    let line = LongLine { count: 4294967296 };
-    let mut sink = VecSink::new(rt.alloc());
-    let answer = write_line_string(&mut sink, &line, &iso(Endianness::LittleEndian));
-    assert!(rt; matches!(answer, Err(WkbError::OverflowError(Overflow::Count))));
-    assert!(rt; !sink.failed());
-    assert_eq!(rt; sink.into_vec().len(), 0);
-    Ok(())
-}
-
-// The rectangle from (0, 0) to (1.0, 2.0).
-fn small_rect() -> Result<Rect<'static>, Fail> {
-    let min = coord_of(Dimensions::Xy, &[0, 0])?;
-    let max = coord_of(Dimensions::Xy, &[ONE, TWO])?;
-    rect_of(min, max)
-}
-
+// Also the cases rect-sizes and ewkb-sizes. Of corners past Xy, x and y alone are written.
 #[test]
 fn rect(rt: HostRuntime) -> Result<(), Fail> {
-    let mut sink = VecSink::new(rt.alloc());
-    write_rect(&mut sink, &small_rect()?, &iso(Endianness::LittleEndian))?;
-    let expected = bytes(RECT)?;
-    assert_eq!(rt; sink.into_vec().as_slice(), expected.as_slice());
-    Ok(())
-}
-
-#[test]
-fn rect_sizes(rt: HostRuntime) -> Result<(), Fail> {
-    let flat = coord_of(Dimensions::Xy, &[ONE, TWO])?;
-    let full = coord_of(Dimensions::Xyzm, &[ONE, TWO, 0, 0])?;
-    assert_eq!(rt; rect_wkb_size(&rect_of(flat, flat)?)?, 93);
-    assert_eq!(rt; rect_wkb_size(&rect_of(full, full)?)?, 93);
-    assert_eq!(rt; triangle_wkb_size(&triangle_of(flat, flat, flat)?)?, 77);
-    assert_eq!(rt; line_wkb_size(&line_of(flat, flat)?)?, 41);
-    Ok(())
-}
-
-#[test]
-fn rect_cut(rt: HostRuntime) -> Result<(), Fail> {
-    let rect = small_rect()?;
-    let options = iso(Endianness::LittleEndian);
-    let expected = bytes(RECT)?;
-    let whole = expected.as_slice();
-    assert_eq!(rt; whole.len(), 93);
-    for n in 0..whole.len() {
-        let mut room = [0u8; 93];
-        let mut sink = SliceSink::new(&mut room[..n.min(93)]);
-        let answer = write_rect(&mut sink, &rect, &options);
-        assert!(rt; matches!(answer, Err(WkbError::IOError(_))), "{n}");
-        assert!(rt; sink.failed(), "{n}");
-        assert_eq!(rt; sink.written(), &whole[..n], "{n}");
+    for (dim, min, max) in CORNERS {
+        let rect = rect_of(coord_of(dim, min)?, coord_of(dim, max)?)?;
+        assert!(rt; is_rect(rt.alloc(), rect)?, "{dim:?}");
+        assert!(rt; ewkb_sizes(rect)? == (97, 93), "{dim:?}");
     }
-    let mut room = [0u8; 93];
-    let mut sink = SliceSink::new(&mut room);
-    write_rect(&mut sink, &rect, &options)?;
-    assert_eq!(rt; sink.written(), whole);
     Ok(())
 }
 
 #[test]
 fn line_triangle(rt: HostRuntime) -> Result<(), Fail> {
+    let origin = coord_of(Dimensions::Xy, &[0, 0])?;
     let corner = coord_of(Dimensions::Xy, &[ONE, TWO])?;
-    let options = iso(Endianness::LittleEndian);
-    let mut sink = VecSink::new(rt.alloc());
-    write_line(&mut sink, &line_of(corner, corner)?, &options)?;
-    let expected = bytes("01 02000000 02000000 P P")?;
-    assert_eq!(rt; sink.into_vec().as_slice(), expected.as_slice());
-    let mut sink = VecSink::new(rt.alloc());
-    write_triangle(&mut sink, &triangle_of(corner, corner, corner)?, &options)?;
-    let expected = bytes("01 03000000 01000000 04000000 P P P P")?;
-    assert_eq!(rt; sink.into_vec().as_slice(), expected.as_slice());
+    let line = Geometry::Line(line_of(corner, corner)?);
+    let rect = Geometry::Rect(rect_of(origin, corner)?);
+    let collection = collection_of_two(rt.alloc(), Dimensions::Xy, line, rect)?;
+    let mut expected = bytes("01 07000000 02000000 01 02000000 02000000 P P")?;
+    expected.spell(RECT)?;
+    assert!(rt; geometry_wkb_size(&collection)? == 143);
+    assert!(rt; written(rt.alloc(), &collection)?.as_slice() == expected.as_slice());
     Ok(())
 }
 
 #[test]
-fn line_triangle_collection(rt: HostRuntime) -> Result<(), Fail> {
-    let corner = coord_of(Dimensions::Xy, &[ONE, TWO])?;
-    let mut members = Vec::new(rt.alloc());
-    members.push(Geometry::Line(line_of(corner, corner)?))?;
-    members.push(Geometry::Rect(rect_of(corner, corner)?))?;
-    assert_eq!(rt; geometry_wkb_size(&collection_of(members))?, 143);
+fn line_plain(rt: HostRuntime) -> Result<(), Fail> {
+    let line = line_string_of(Dimensions::Xyz, &[ONE, TWO, THREE, 4, 5, 6])?;
+    assert!(rt; line.num_coords() == 2);
+    let first = line.coord(0).ok_or("no coordinate")?;
+    assert!(rt; words(&first) == (Some(ONE), Some(TWO), Some(THREE)));
+    let second = line.coord(1).ok_or("no coordinate")?;
+    assert!(rt; words(&second) == (Some(4), Some(5), Some(6)));
+    assert!(rt; line.coord(2).is_none());
+    assert!(rt; LineString::new(Dimensions::Xyz, &[0; 7]).is_none());
+    assert!(rt; line_string_of(Dimensions::Xyz, &[])?.num_coords() == 0);
+    assert!(rt; LineString::new(Dimensions::Unknown(0), &[]).is_none());
+    Ok(())
+}
+
+#[test]
+fn plain_129(rt: HostRuntime) -> Result<(), Fail> {
+    let mut geometry = Geometry::Point(point_of(Dimensions::Xy, &[ONE, TWO])?);
+    for _level in 0..129 {
+        let mut members = Vec::with_capacity(rt.alloc(), 1)?;
+        members.push(geometry)?;
+        geometry = collection_of(Dimensions::Xy, members);
+    }
+    assert!(rt; geometry_wkb_size(&geometry)? == 1182);
+    let encoding = written(rt.alloc(), &geometry)?;
+    assert!(rt; encoding.len() == 1182);
+    assert!(rt; answer_to(rt.alloc(), encoding.as_slice()) == Outcome::TooDeep(128));
     Ok(())
 }

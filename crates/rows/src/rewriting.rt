@@ -1,0 +1,35 @@
+//! Inputs that are written anew, and inputs that are compared.
+
+use crate::line::Line;
+use crate::notation::bytes;
+use crate::reading::{show_error, show_same};
+use std::alloc::Global;
+use wkb::Endianness;
+use wkb::error::WkbResult;
+use wkb_cases::reading::{rewritten, rewritten_as};
+use wkb_cases::support::iso;
+
+/// Shows what an input was rewritten to.
+pub fn show_encoding(line: &mut Line, answer: WkbResult<Vec<u8>>) {
+    match answer {
+        Ok(encoding) => line.show_bytes("", encoding.as_slice()),
+        Err(error) => show_error(line, &error),
+    }
+}
+
+/// Shows what an input that was rewritten big endian is rewritten to, little endian.
+pub fn show_there_and_back(line: &mut Line, alloc: Global, input: &[u8]) {
+    match rewritten_as(alloc, input, &iso(Endianness::BigEndian)) {
+        Ok(big) => show_encoding(line, rewritten(alloc, big.as_slice())),
+        Err(error) => show_error(line, &error),
+    }
+}
+
+/// Shows whether the two inputs round a `/` have equal values.
+pub fn show_comparison(line: &mut Line, alloc: Global, inputs: &str) {
+    let (first, second) = inputs.split_once('/').unwrap_or((inputs, ""));
+    match (bytes(alloc, first), bytes(alloc, second)) {
+        (Ok(first), Ok(second)) => show_same(line, alloc, first.as_slice(), second.as_slice()),
+        _ => line.say("not spelled"),
+    }
+}

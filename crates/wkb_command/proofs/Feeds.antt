@@ -1,0 +1,139 @@
+-- The lines of a text.
+use Rattle.std.proofs.Common.{◌≡◌, ◌≢◌, ℕ, suc, ◌<◌, ◌==◌, Bool, true, false, List, [], ◌∷◌, ◌++◌, refl, sym, ap, ◌∙◌, arith}
+use Rattle.std.specs.Prelude.{if◌then◌else◌}
+use Rattle.std.specs.Str.{IsAscii, IsUtf8}
+use Rattle.std.proofs.lemmas.Str.{IsUtf8-from_ascii}
+use Rattle.std.proofs.lemmas.Str.Ascii.{IsAscii-nil, IsAscii-cons}
+use Rattle.std.proofs.lemmas.Bool.Decides.{nat_tests}
+use Rattle.wkb_command.specs.Calls.{AreHex, AreHexOf}
+use Rattle.wkb_command.specs.Program.{without_last_feed, onto_first, split_at_feeds, lines, IsOneLine}
+use Rattle.wkb_command.proofs.Hexes.{AreHex-from, IsHex-ascii}
+
+-- ---- the last line feed
+
+no_feed : (b : ℕ) → b ≢ 10 → (b == 10) ≡ false
+no_feed b ne = grind (arith, nat_tests)
+
+pub without_last_feed-append : (xs : List ℕ) → without_last_feed (xs ++ 10 ∷ []) ≡ xs
+without_last_feed-append [] = refl
+without_last_feed-append (b ∷ []) = refl
+without_last_feed-append (b ∷ c ∷ rest) = ap (λ l. b ∷ l) (without_last_feed-append (c ∷ rest))
+
+pub without_last_feed-none : (xs : List ℕ) → ((front : List ℕ) → xs ≢ front ++ 10 ∷ []) → without_last_feed xs ≡ xs
+without_last_feed-none [] h = refl
+without_last_feed-none (b ∷ []) h =
+    let other : (b == 10) ≡ false = no_feed b (λ e. h [] (ap (λ x. x ∷ []) e)) in
+    rw other refl
+without_last_feed-none (b ∷ c ∷ rest) h =
+    ap (λ l. b ∷ l) (without_last_feed-none (c ∷ rest) (λ front e. h (b ∷ front) (ap (λ l. b ∷ l) e)))
+
+-- ---- splitting
+
+head_no_feed : (b : ℕ) (rest : List ℕ) → IsOneLine (b ∷ rest) → (b == 10) ≡ false
+head_no_feed b rest h = no_feed b (h 0 (omega arith))
+
+tail_one_line : (b : ℕ) (rest : List ℕ) → IsOneLine (b ∷ rest) → IsOneLine rest
+tail_one_line b rest h = λ i lt. h (suc i) (omega arith)
+
+pub split_at_feeds-one : (xs : List ℕ) → IsOneLine xs → split_at_feeds xs ≡ xs ∷ []
+split_at_feeds-one [] h = refl
+split_at_feeds-one (b ∷ rest) h =
+    let other : (b == 10) ≡ false = head_no_feed b rest h in
+    let later : split_at_feeds rest ≡ rest ∷ [] = split_at_feeds-one rest (tail_one_line b rest h) in
+    rw (other, later) refl
+
+pub split_at_feeds-first : (xs ys : List ℕ) → IsOneLine xs → split_at_feeds (xs ++ 10 ∷ ys) ≡ xs ∷ split_at_feeds ys
+split_at_feeds-first [] ys h = refl
+split_at_feeds-first (b ∷ rest) ys h =
+    let other : (b == 10) ≡ false = head_no_feed b rest h in
+    let later : split_at_feeds (rest ++ 10 ∷ ys) ≡ rest ∷ split_at_feeds ys = split_at_feeds-first rest ys (tail_one_line b rest h) in
+    rw (other, later) refl
+
+-- ---- hex lines are text
+
+abbrev AllAscii : List (List ℕ) → Type 0
+AllAscii [] = Unit {0}
+AllAscii (line ∷ others) = IsAscii line × AllAscii others
+
+all_ascii : (texts : List (List ℕ)) → AreHex texts → AllAscii texts
+all_ascii [] h = tt
+all_ascii (text ∷ others) h = (IsHex-ascii text h.0, all_ascii others h.1)
+
+split_step : (b : ℕ) (is_feed : Bool) (others : List (List ℕ)) → (b == 10) ≡ is_feed
+    → AllAscii (if is_feed then [] ∷ others else onto_first b others) → (b < 128) × AllAscii others
+split_step b true others e h = (grind (arith, nat_tests), h.1)
+split_step b false [] e h = (h.0 0, tt)
+split_step b false (line ∷ more) e h = (h.0 0, ((λ i. h.0 (suc i)), h.1))
+
+split_ascii : (xs : List ℕ) → AllAscii (split_at_feeds xs) → IsAscii xs
+split_ascii [] h = IsAscii-nil
+split_ascii (b ∷ rest) h =
+    let step = split_step b (b == 10) (split_at_feeds rest) refl h in
+    IsAscii-cons b rest step.0 (split_ascii rest step.1)
+
+last_step : (b : ℕ) (is_feed : Bool) → (b == 10) ≡ is_feed → IsAscii (if is_feed then [] else b ∷ []) → b < 128
+last_step b true e h = grind (arith, nat_tests)
+last_step b false e h = h 0
+
+last_ascii : (xs : List ℕ) → IsAscii (without_last_feed xs) → IsAscii xs
+last_ascii [] h = IsAscii-nil
+last_ascii (b ∷ []) h = IsAscii-cons b [] (last_step b (b == 10) refl h) IsAscii-nil
+last_ascii (b ∷ c ∷ rest) h = IsAscii-cons b (c ∷ rest) (h 0) (last_ascii (c ∷ rest) (λ i. h (suc i)))
+
+-- an input whose lines are hex is text
+pub lines_utf8 : (input : List ℕ) (inputs : List (List ℕ)) → AreHexOf (lines input) inputs → IsUtf8 input
+lines_utf8 input inputs h =
+    IsUtf8-from_ascii input (last_ascii input (split_ascii (without_last_feed input)
+    (all_ascii (lines input) (AreHex-from (lines input) inputs h))))
+
+-- ---- how many lines
+
+split_some : (ys : List ℕ) → split_at_feeds ys ≢ []
+split_some ys e = split_some_step ys e
+  where
+    onto_some : (b : ℕ) (others : List (List ℕ)) → onto_first b others ≢ []
+    onto_some b [] = λ e. cc
+    onto_some b (line ∷ more) = λ e. cc
+
+    choice_some : (b : ℕ) (is_feed : Bool) (others : List (List ℕ)) → (if is_feed then [] ∷ others else onto_first b others) ≢ []
+    choice_some b true others = λ e. cc
+    choice_some b false others = onto_some b others
+
+    split_some_step : (ys : List ℕ) → split_at_feeds ys ≢ []
+    split_some_step [] = λ e. cc
+    split_some_step (b ∷ rest) = choice_some b (b == 10) (split_at_feeds rest)
+
+pub lines-one : (input body : List ℕ) → body ≡ without_last_feed input → IsOneLine body → lines input ≡ body ∷ []
+lines-one input body is one = ap split_at_feeds (sym is) ∙ split_at_feeds-one body one
+
+pub lines-more : (input body first rest : List ℕ) → body ≡ without_last_feed input → body ≡ first ++ 10 ∷ rest → IsOneLine first
+    → lines input ≡ first ∷ split_at_feeds rest
+lines-more input body first rest is whole one =
+    ap split_at_feeds (sym is ∙ whole) ∙ split_at_feeds-first first rest one
+
+pub lines-two : (input body first rest : List ℕ) → body ≡ without_last_feed input → body ≡ first ++ 10 ∷ rest → IsOneLine first → IsOneLine rest
+    → lines input ≡ first ∷ rest ∷ []
+lines-two input body first rest is whole one last =
+    lines-more input body first rest is whole one ∙ ap (λ l. first ∷ l) (split_at_feeds-one rest last)
+
+-- a line feed in the body: not one line
+pub not_one_line : (input body first rest : List ℕ) → body ≡ without_last_feed input → body ≡ first ++ 10 ∷ rest → IsOneLine first
+    → (line : List ℕ) → lines input ≢ line ∷ []
+not_one_line input body first rest is whole one line e =
+    let more = lines-more input body first rest is whole one in
+    split_some rest (cc (more, e))
+
+-- no line feed in the body: not two lines
+pub one_not_two : (input body : List ℕ) → body ≡ without_last_feed input → IsOneLine body
+    → (first second : List ℕ) → lines input ≢ first ∷ second ∷ []
+one_not_two input body is one first second e =
+    let whole = lines-one input body is one in
+    cc (whole, e)
+
+-- two line feeds in the body: not two lines
+pub more_not_two : (input body first rest next later : List ℕ) → body ≡ without_last_feed input → body ≡ first ++ 10 ∷ rest → IsOneLine first
+    → rest ≡ next ++ 10 ∷ later → IsOneLine next
+    → (a b : List ℕ) → lines input ≢ a ∷ b ∷ []
+more_not_two input body first rest next later is whole one whole' one' a b e =
+    let all = lines-more input body first rest is whole one ∙ ap (λ l. first ∷ l) (ap split_at_feeds whole' ∙ split_at_feeds-first next later one') in
+    split_some later (cc (all, e))

@@ -1,0 +1,187 @@
+-- What is said of a refusal.
+use Rattle.std.proofs.Common.{◌≡◌, ◌≢◌, ℕ, List, [], ◌∷◌, ◌++◌, length, append_assoc, refl, sym, ◌∙◌, arith}
+use Rattle.std.proofs.Common.{Bool, true, false, Option, Some, Result, Ok, Err, ◌⊎◌, inl, inr, string_bytes, IfOk}
+use Rattle.std.specs.Prelude.{codes}
+use Rattle.std.specs.Bool.{MatchBool}
+use Rattle.std.specs.Fmt.{decimal}
+use Rattle.std.specs.declared.alloc.AllocError.{AllocError}
+use Rattle.wkb_command.specs.declared.program.Report.{Report}
+use Rattle.hex.specs.Hex.{encode_lower}
+use Rattle.wkb_geom.specs.declared.common.Endianness.{Endianness}
+use Rattle.wkb_geom.specs.declared.common.Form.TheVariants.{Iso}
+use Rattle.wkb_geom.specs.declared.error.Cause.{Cause}
+use Rattle.wkb_geom.specs.declared.error.Cause.TheVariants.{EndOfInput as end_of_input, General as general, IncorrectType as incorrect_type}
+use Rattle.wkb_geom.specs.declared.error.Cause.TheVariants.{NestingDepthExceeded as nesting_depth_exceeded}
+use Rattle.wkb_geom.specs.Texts.{IsRewriting, IsRewritingWithSrid}
+use Rattle.wkb_geom.specs.Told.{Tells}
+use Rattle.wkb.specs.Canonical.{IsTooLong, IsTooLongWithSrid, HasSrid, Accepts, IsRefused, IsSize}
+use Rattle.wkb_geom.specs.declared.error.WkbError.{WkbError}
+use Rattle.wkb_geom.specs.declared.error.WkbError.TheVariants as errors
+use Rattle.wkb_command.specs.declared.calls.HexFault.{HexFault}
+use Rattle.wkb_command.specs.declared.calls.HexFault.TheVariants.{NotHex, Wkb, Memory}
+use Rattle.wkb_command.specs.declared.program.Command.{Command}
+use Rattle.wkb_command.specs.declared.program.Command.TheVariants.{Rewrite, RewriteWithSrid, Same, Cost, Srid}
+use Rattle.wkb_command.specs.Calls.{AreHex, AreHexOf, IsHexOf, IsFaultOf, RefusedFirst, IsOversized}
+use Rattle.wkb_command.specs.Program.{Says, rewritten, rewritten_with_srid, accepted, counted_refusal, srid, too_long, refused, not_hex}
+use Rattle.wkb_command.specs.Program.{wanted_lines, Gives, IsRefusalLine, counts, TellsCause, TellsError, TellsFault}
+use Rattle.wkb.proofs.Texts.{iso_fits}
+use Rattle.wkb_command.proofs.Hexes.{AreHex-from, AreHexOf-length}
+
+pub TellsCause-from : (e : WkbError) (cause : Cause) (line : List ℕ) → Tells e cause → TellsError e line → TellsCause cause line
+TellsCause-from (errors.IOError x) end_of_input line told h = h
+TellsCause-from (errors.General g) (general k) line told h = h
+TellsCause-from (errors.IncorrectType s) incorrect_type line told h = h
+TellsCause-from (errors.NestingDepthExceeded n) (nesting_depth_exceeded m) line told h = h
+TellsCause-from _ _ line told h = absurd told
+
+-- as many texts as the command wants, all hex
+pub Gives-from : (command : Command) (texts inputs : List (List ℕ)) → length texts ≡ wanted_lines command → AreHexOf texts inputs
+    → Gives command texts inputs
+Gives-from command texts inputs wanted hex = record { wanted = AreHexOf-length texts inputs hex ∙ wanted; hex = hex }
+
+-- what is said of texts that aren't all hex
+pub says_not_hex : (command : Command) (texts : List (List ℕ)) (line : List ℕ) (status : ℕ) → ¬ AreHex texts
+    → line ≡ codes "not hex" → status ≡ 2 → Says texts command line status
+says_not_hex command texts line status h is two =
+    rw (is, two) (not_hex (λ inputs gives. h (AreHex-from texts inputs gives.hex)))
+
+-- what is said of a fault, where it is known what is said of an error
+pub says_fault : (command : Command) (texts : List (List ℕ)) (IsRefused : List (List ℕ) → WkbError → Type 0)
+    (fault : HexFault) (line : List ℕ) (status : ℕ)
+    → length texts ≡ wanted_lines command
+    → ((inputs : List (List ℕ)) (e : WkbError) → Gives command texts inputs → IsRefused inputs e → TellsError e line → Says texts command line 1)
+    → IsFaultOf texts IsRefused fault → TellsFault fault line status → Says texts command line status
+says_fault command texts IsRefused NotHex line status wanted f h told = says_not_hex command texts line status h told.0 told.1
+says_fault command texts IsRefused (Wkb e) line status wanted f h told =
+    rw told.1 (f h.0 e (Gives-from command texts h.0 wanted h.1) h.2 told.0)
+says_fault command texts IsRefused Memory line status wanted f h told = absurd told
+
+-- the first refusal, told by its error
+pub says_refused : (command : Command) (texts : List (List ℕ)) (line : List ℕ) → command ≢ Cost
+    → (inputs : List (List ℕ)) (e : WkbError) → Gives command texts inputs → RefusedFirst inputs e → TellsError e line → Says texts command line 1
+says_refused command texts line ne inputs e gives first told =
+    refused ne gives first.refusal (TellsCause-from e first.cause line first.told told)
+
+-- ---- reports
+
+pub IfOk-from : {T E : Type 0} (r : Result T E) (P Q : T → Type 0) → IfOk r P → ((x : T) → P x → Q x) → IfOk r Q
+IfOk-from (Ok x) P Q h f = f x h
+IfOk-from (Err e) P Q h f = tt
+
+-- the report says what the table says
+abbrev pub Reports : List (List ℕ) → Command → Result Report AllocError → Type 0
+Reports texts command r = IfOk r (λ report. Says texts command (string_bytes report.line) report.status)
+
+-- a fixed line
+pub reports_line : (texts : List (List ℕ)) (command : Command) (line : List ℕ) (status : ℕ) (r : Result Report AllocError)
+    → IfOk r (λ report. (string_bytes report.line ≡ line) × (report.status ≡ status)) → Says texts command line status
+    → Reports texts command r
+reports_line texts command line status r h says =
+    IfOk-from r _ _ h (λ report is. rw (is.0, is.1) says)
+
+-- a fault
+pub reports_fault : (texts : List (List ℕ)) (command : Command) (IsRefused : List (List ℕ) → WkbError → Type 0)
+    (fault : HexFault) (r : Result Report AllocError)
+    → length texts ≡ wanted_lines command
+    → ((line : List ℕ) (inputs : List (List ℕ)) (e : WkbError) → Gives command texts inputs → IsRefused inputs e → TellsError e line
+    → Says texts command line 1)
+    → IsFaultOf texts IsRefused fault
+    → IfOk r (λ report. TellsFault fault (string_bytes report.line) report.status) → Reports texts command r
+reports_fault texts command IsRefused fault r wanted f h told =
+    IfOk-from r _ _ told
+    (λ report is. says_fault command texts IsRefused fault (string_bytes report.line) report.status wanted (f (string_bytes report.line)) h is)
+
+pub reports_refusal : (texts : List (List ℕ)) (command : Command) (fault : HexFault) (r : Result Report AllocError)
+    → length texts ≡ wanted_lines command → command ≢ Cost
+    → IsFaultOf texts RefusedFirst fault
+    → IfOk r (λ report. TellsFault fault (string_bytes report.line) report.status) → Reports texts command r
+reports_refusal texts command fault r wanted ne h told =
+    reports_fault texts command RefusedFirst fault r wanted (λ line. says_refused command texts line ne) h told
+
+pub one_input : (command : Command) (text bytes : List ℕ) → wanted_lines command ≡ 1 → IsHexOf text bytes → Gives command (text ∷ []) (bytes ∷ [])
+one_input command text bytes wanted hex = record { wanted = sym wanted; hex = (hex, tt) }
+
+pub two_inputs : (first second a b : List ℕ) → IsHexOf first a → IsHexOf second b → Gives Same (first ∷ second ∷ []) (a ∷ b ∷ [])
+two_inputs first second a b hex hex' = record { wanted = refl; hex = (hex, (hex', tt)) }
+
+-- ---- how many lines are wanted
+
+pub gives_two : (texts inputs : List (List ℕ)) → ((a b : List ℕ) → texts ≢ a ∷ b ∷ []) → ¬ Gives Same texts inputs
+gives_two [] inputs h gives = let e = AreHexOf-length [] inputs gives.hex in let w = gives.wanted in absurd (omega (arith, e, w))
+gives_two (a ∷ []) inputs h gives = let e = AreHexOf-length (a ∷ []) inputs gives.hex in let w = gives.wanted in absurd (omega (arith, e, w))
+gives_two (a ∷ b ∷ []) inputs h gives = h a b refl
+gives_two (a ∷ b ∷ c ∷ rest) inputs h gives =
+    let e = AreHexOf-length (a ∷ b ∷ c ∷ rest) inputs gives.hex in let w = gives.wanted in absurd (omega (arith, e, w))
+
+gives_length_one : (texts inputs : List (List ℕ)) → length inputs ≡ 1 → AreHexOf texts inputs → ((a : List ℕ) → texts ≢ a ∷ []) → ⊥
+gives_length_one [] inputs w hex h = let e = AreHexOf-length [] inputs hex in omega (arith, e, w)
+gives_length_one (a ∷ []) inputs w hex h = h a refl
+gives_length_one (a ∷ b ∷ rest) inputs w hex h = let e = AreHexOf-length (a ∷ b ∷ rest) inputs hex in omega (arith, e, w)
+
+wants_one : (command : Command) → command ≢ Same → wanted_lines command ≡ 1
+wants_one Same ne = absurd (ne refl)
+wants_one _ ne = refl
+
+pub gives_one : (command : Command) (texts inputs : List (List ℕ)) → command ≢ Same → ((a : List ℕ) → texts ≢ a ∷ []) → ¬ Gives command texts inputs
+gives_one command texts inputs ne h gives = gives_length_one texts inputs (gives.wanted ∙ wants_one command ne) gives.hex h
+
+-- ---- what each call's answer says
+
+pub says_rewritten : (order : Endianness) (text line items : List ℕ) → line ≡ encode_lower items
+    → (bytes : List ℕ) × IsHexOf text bytes × IsRewriting order Iso bytes items → Says (text ∷ []) (Rewrite order) line 0
+says_rewritten order text line items is h = rw is (rewritten (one_input (Rewrite order) text h.0 refl h.1) h.2)
+
+pub says_rewritten_with_srid : (order : Endianness) (text line items : List ℕ) → line ≡ encode_lower items
+    → (bytes : List ℕ) × IsHexOf text bytes × IsRewritingWithSrid order bytes items → Says (text ∷ []) (RewriteWithSrid order) line 0
+says_rewritten_with_srid order text line items is h =
+    rw is (rewritten_with_srid (one_input (RewriteWithSrid order) text h.0 refl h.1) h.2)
+
+size_line : (e : WkbError) (line : List ℕ) → IsSize e → TellsError e line → IsRefusalLine line
+size_line (errors.OverflowError o) line size told = told
+size_line _ line size told = absurd size
+
+pub says_srid_refused : (order : Endianness) (text line : List ℕ) (inputs : List (List ℕ)) (e : WkbError)
+    → Gives (RewriteWithSrid order) (text ∷ []) inputs
+    → RefusedFirst inputs e ⊎ IsOversized (IsTooLongWithSrid order) inputs e
+    → TellsError e line → Says (text ∷ []) (RewriteWithSrid order) line 1
+says_srid_refused order text line inputs e gives (inl first) told =
+    says_refused (RewriteWithSrid order) (text ∷ []) line (λ is. cc) inputs e gives first told
+says_srid_refused order text line inputs e gives (inr h) told =
+    too_long (rw h.only at gives) h.long (size_line e line h.size told)
+
+pub says_iso_refused : (order : Endianness) (text line : List ℕ) (inputs : List (List ℕ)) (e : WkbError) → Gives (Rewrite order) (text ∷ []) inputs
+    → RefusedFirst inputs e ⊎ IsOversized (IsTooLong order Iso) inputs e
+    → TellsError e line → Says (text ∷ []) (Rewrite order) line 1
+says_iso_refused order text line inputs e gives (inl first) told =
+    says_refused (Rewrite order) (text ∷ []) line (λ is. cc) inputs e gives first told
+says_iso_refused order text line inputs e gives (inr h) told = absurd (iso_fits order h.bytes h.long)
+
+counts_line : (verdict : List ℕ) (turns slots : ℕ)
+    → verdict ++ (codes " turns " ++ (decimal turns ++ (codes " slots " ++ decimal slots))) ≡ counts verdict turns slots
+counts_line verdict turns slots = simp append_assoc
+
+pub says_accepted : (text line : List ℕ) (is_accepted : Bool) (turns slots : ℕ) → is_accepted ≡ true
+    → line ≡ codes "accepted" ++ (codes " turns " ++ (decimal turns ++ (codes " slots " ++ decimal slots)))
+    → (bytes : List ℕ) × IsHexOf text bytes × MatchBool is_accepted (Accepts bytes turns slots) ((cause : Cause) × IsRefused bytes cause turns slots)
+    → Says (text ∷ []) Cost line 0
+says_accepted text line is_accepted turns slots is whole h =
+    rw (whole, counts_line (codes "accepted") turns slots) (accepted (one_input Cost text h.0 refl h.1) (rw is at h.2))
+
+pub says_counted : (text line : List ℕ) (is_accepted : Bool) (turns slots : ℕ) → is_accepted ≡ false
+    → line ≡ codes "refused" ++ (codes " turns " ++ (decimal turns ++ (codes " slots " ++ decimal slots)))
+    → (bytes : List ℕ) × IsHexOf text bytes × MatchBool is_accepted (Accepts bytes turns slots) ((cause : Cause) × IsRefused bytes cause turns slots)
+    → Says (text ∷ []) Cost line 1
+says_counted text line is_accepted turns slots is whole h =
+    let refusal = rw is at h.2 in
+    rw (whole, counts_line (codes "refused") turns slots) (counted_refusal (one_input Cost text h.0 refl h.1) refusal.1)
+
+pub says_srid : (text line : List ℕ) (number : ℕ) (found : Option ℕ) → found ≡ Some number → line ≡ codes "srid " ++ decimal number
+    → (bytes : List ℕ) × IsHexOf text bytes × HasSrid bytes found → Says (text ∷ []) Srid line 0
+says_srid text line number found is whole h =
+    rw whole (srid (one_input Srid text h.0 refl h.1) (rw is at h.2))
+
+pub when_true : (b : Bool) (P Q : Type 0) → b ≡ true → MatchBool b P Q → P
+when_true b P Q is h = rw is at h
+
+pub when_false : (b : Bool) (P Q : Type 0) → b ≡ false → MatchBool b P Q → Q
+when_false b P Q is h = rw is at h

@@ -1,0 +1,69 @@
+-- Calls on hex texts.
+use Rattle.std.specs.Prelude.{◌≡◌, ℕ, ◌%◌, List, [], ◌∷◌, length, Ok}
+use Rattle.std.specs.List.{AllPass}
+use Rattle.hex.specs.Hex.{decode_of, is_hex_digit}
+use Rattle.hex.specs.declared.error.FromHexError.{FromHexError}
+use Rattle.hex.specs.declared.error.FromHexError.TheVariants.{OutOfMemory}
+use Rattle.wkb_geom.specs.declared.error.Cause.{Cause}
+use Rattle.wkb_geom.specs.Told.{Tells}
+use Rattle.wkb.specs.Canonical.{IsAccepted, IsRefused, IsSize}
+use Rattle.wkb_geom.specs.declared.error.WkbError.{WkbError}
+use Rattle.wkb_geom.specs.declared.error.WkbError.TheVariants as errors
+use Rattle.wkb_command.specs.declared.calls.HexFault.{HexFault}
+use Rattle.wkb_command.specs.declared.calls.HexFault.TheVariants.{NotHex, Wkb, Memory}
+
+-- hex digits in either case, two for each byte
+pub record IsHex (text : List ℕ) : Type 0 where
+  pub pairs : length text % 2 ≡ 0
+  pub digits : AllPass is_hex_digit text
+
+-- the text is the hex of these bytes
+pub record IsHexOf (text bytes : List ℕ) : Type 0 where
+  pub decoded : decode_of text ≡ Ok bytes
+
+-- each text is hex
+abbrev pub AreHex : List (List ℕ) → Type 0
+AreHex [] = Unit {0}
+AreHex (text ∷ others) = IsHex text × AreHex others
+
+-- each text is the hex of these bytes
+abbrev pub AreHexOf : List (List ℕ) → List (List ℕ) → Type 0
+AreHexOf [] [] = Unit {0}
+AreHexOf (text ∷ others) (bytes ∷ more) = IsHexOf text bytes × AreHexOf others more
+AreHexOf _ _ = ⊥
+
+-- the first of these inputs that is refused has this cause
+pub data FirstRefusal : List (List ℕ) → Cause → Type 0 where
+  this_one : {bytes : List ℕ} {others : List (List ℕ)} {cause : Cause} {turns slots : ℕ}
+      → IsRefused bytes cause turns slots → FirstRefusal (bytes ∷ others) cause
+  later_one : {bytes : List ℕ} {others : List (List ℕ)} {cause : Cause}
+      → IsAccepted bytes → FirstRefusal others cause → FirstRefusal (bytes ∷ others) cause
+
+-- the error tells the first refusal
+pub record RefusedFirst (inputs : List (List ℕ)) (e : WkbError) : Type 0 where
+  pub cause : Cause
+  pub refusal : FirstRefusal inputs cause
+  pub told : Tells e cause
+
+-- the only input is so long, and the error says so
+pub record IsOversized (IsLong : List ℕ → Type 0) (inputs : List (List ℕ)) (e : WkbError) : Type 0 where
+  pub bytes : List ℕ
+  pub only : inputs ≡ bytes ∷ []
+  pub long : IsLong bytes
+  pub size : IsSize e
+
+-- A fault of a call on these texts, other than want of memory: one of them isn't hex, or all of them are and what they
+-- spell is refused.
+abbrev pub IsFaultOf : List (List ℕ) → (List (List ℕ) → WkbError → Type 0) → HexFault → Type 0
+IsFaultOf texts IsRefused NotHex = ¬ AreHex texts
+IsFaultOf texts IsRefused (Wkb e) = (inputs : List (List ℕ)) × AreHexOf texts inputs × IsRefused inputs e
+IsFaultOf texts IsRefused Memory = Unit {0}
+
+-- want of memory is always `Memory`
+abbrev pub FaultOfError : WkbError → HexFault → Type 0
+FaultOfError (errors.Memory e) fault = fault ≡ Memory
+FaultOfError e fault = fault ≡ Wkb e
+
+abbrev pub FaultOfHexError : FromHexError → HexFault → Type 0
+FaultOfHexError OutOfMemory fault = fault ≡ Memory
+FaultOfHexError _ fault = fault ≡ NotHex

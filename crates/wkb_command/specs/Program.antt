@@ -1,0 +1,168 @@
+-- The program: the line that it writes and the status that it ends with, for its words and its input.
+use Rattle.std.specs.Prelude.{◌≡◌, ◌≢◌, ℕ, ◌==◌, if◌then◌else◌, codes, Some, None}
+use Rattle.std.specs.Prelude.{List, [], ◌∷◌, ◌++◌, length, EachIndex, slice_index}
+use Rattle.std.specs.Fmt.{decimal}
+use Rattle.std.specs.Io.{StartsWith}
+use Rattle.hex.specs.Hex.{encode_lower}
+use Rattle.wkb_geom.specs.declared.common.Endianness.{Endianness}
+use Rattle.wkb_geom.specs.declared.common.Endianness.TheVariants.{BigEndian, LittleEndian}
+use Rattle.wkb_geom.specs.declared.common.Form.TheVariants.{Iso}
+use Rattle.wkb_geom.specs.declared.error.Cause.{Cause}
+use Rattle.wkb_geom.specs.declared.error.Cause.TheVariants.{EndOfInput as end_of_input}
+use Rattle.wkb_geom.specs.Texts.{IsRewriting, IsRewritingWithSrid}
+use Rattle.wkb.specs.Canonical.{IsRefused, Accepts, IsTooLongWithSrid, HaveOneValue, HaveTwoValues, HasSrid}
+use Rattle.wkb_command.specs.Calls.{AreHexOf, FirstRefusal}
+use Rattle.wkb_geom.specs.declared.error.WkbError.{WkbError}
+use Rattle.wkb_geom.specs.declared.error.WkbError.TheVariants as errors
+use Rattle.wkb_command.specs.declared.calls.HexFault.{HexFault}
+use Rattle.wkb_command.specs.declared.calls.HexFault.TheVariants.{NotHex, Wkb, Memory}
+use Rattle.wkb_command.specs.declared.program.Command.{Command}
+use Rattle.wkb_command.specs.declared.program.Command.TheVariants.{Rewrite, RewriteWithSrid, Same, Cost, Srid}
+
+-- the word that asks for each command
+abbrev pub word : Command → List ℕ
+word (Rewrite LittleEndian) = codes "le"
+word (Rewrite BigEndian) = codes "be"
+word (RewriteWithSrid LittleEndian) = codes "ewkb-le"
+word (RewriteWithSrid BigEndian) = codes "ewkb-be"
+word Same = codes "same"
+word Cost = codes "cost"
+word Srid = codes "srid"
+
+abbrev pub usage : List ℕ
+usage = codes "usage: wkb_hex le|be|same|cost|srid|ewkb-le|ewkb-be"
+
+-- ---- the lines of the input
+
+abbrev pub line_feed : ℕ
+line_feed = 10
+
+-- one line feed at the very end is dropped
+abbrev pub without_last_feed : List ℕ → List ℕ
+without_last_feed [] = []
+without_last_feed (b ∷ []) = if b == line_feed then [] else b ∷ []
+without_last_feed (b ∷ c ∷ rest) = b ∷ without_last_feed (c ∷ rest)
+
+abbrev pub onto_first : ℕ → List (List ℕ) → List (List ℕ)
+onto_first b [] = (b ∷ []) ∷ []
+onto_first b (line ∷ others) = (b ∷ line) ∷ others
+
+-- split at each line feed
+abbrev pub split_at_feeds : List ℕ → List (List ℕ)
+split_at_feeds [] = [] ∷ []
+split_at_feeds (b ∷ rest) = if b == line_feed then [] ∷ split_at_feeds rest else onto_first b (split_at_feeds rest)
+
+abbrev pub lines : List ℕ → List (List ℕ)
+lines input = split_at_feeds (without_last_feed input)
+
+-- how many lines a command wants
+abbrev pub wanted_lines : Command → ℕ
+wanted_lines Same = 2
+wanted_lines _ = 1
+
+-- as many lines as the command wants, each the hex of these bytes
+pub record Gives (command : Command) (lines : List (List ℕ)) (inputs : List (List ℕ)) : Type 0 where
+  pub wanted : length inputs ≡ wanted_lines command
+  pub hex : AreHexOf lines inputs
+
+-- ---- the statuses
+
+-- of an answer
+abbrev pub status_answered : ℕ
+status_answered = 0
+
+-- of an input that is refused
+abbrev pub status_refused : ℕ
+status_refused = 1
+
+-- of other words, and of an input that isn't hex
+abbrev pub status_misused : ℕ
+status_misused = 2
+
+-- of a run without memory, input or output
+abbrev pub status_failed : ℕ
+status_failed = 3
+
+-- ---- the table of the answers
+
+abbrev pub IsOneLine : List ℕ → Type 0
+IsOneLine text = EachIndex text (λ i. slice_index text i ≢ line_feed)
+
+-- `refused: ` and the text of an error, on one line
+pub record IsRefusalLine (line : List ℕ) : Type 0 where
+  pub text : List ℕ
+  pub one_line : IsOneLine text
+  pub whole : line ≡ codes "refused: " ++ text
+
+-- what is said of a cause: the end of the input in this text, the others in the text of the error
+abbrev pub TellsCause : Cause → List ℕ → Type 0
+TellsCause end_of_input line = line ≡ codes "refused: end of input"
+TellsCause _ line = IsRefusalLine line
+
+-- the same of an error
+abbrev pub TellsError : WkbError → List ℕ → Type 0
+TellsError (errors.IOError e) line = line ≡ codes "refused: end of input"
+TellsError _ line = IsRefusalLine line
+
+-- what is said of a fault, with the status
+abbrev pub TellsFault : HexFault → List ℕ → ℕ → Type 0
+TellsFault NotHex line status = (line ≡ codes "not hex") × (status ≡ status_misused)
+TellsFault (Wkb e) line status = TellsError e line × (status ≡ status_refused)
+TellsFault Memory line status = ⊥
+
+abbrev pub counts : List ℕ → ℕ → ℕ → List ℕ
+counts verdict turns slots = verdict ++ codes " turns " ++ decimal turns ++ codes " slots " ++ decimal slots
+
+-- What is said, without its line feed, and the status, for a command and the lines of its input.
+pub data Says (lines : List (List ℕ)) : Command → List ℕ → ℕ → Type 0 where
+  rewritten : {order : Endianness} {bytes answer : List ℕ}
+      → Gives (Rewrite order) lines (bytes ∷ []) → IsRewriting order Iso bytes answer
+      → Says lines (Rewrite order) (encode_lower answer) status_answered
+  rewritten_with_srid : {order : Endianness} {bytes answer : List ℕ}
+      → Gives (RewriteWithSrid order) lines (bytes ∷ []) → IsRewritingWithSrid order bytes answer
+      → Says lines (RewriteWithSrid order) (encode_lower answer) status_answered
+  same : {first second : List ℕ}
+      → Gives Same lines (first ∷ second ∷ []) → HaveOneValue first second
+      → Says lines Same (codes "same") status_answered
+  different : {first second : List ℕ}
+      → Gives Same lines (first ∷ second ∷ []) → HaveTwoValues first second
+      → Says lines Same (codes "different") status_answered
+  accepted : {bytes : List ℕ} {turns slots : ℕ}
+      → Gives Cost lines (bytes ∷ []) → Accepts bytes turns slots
+      → Says lines Cost (counts (codes "accepted") turns slots) status_answered
+  counted_refusal : {bytes : List ℕ} {cause : Cause} {turns slots : ℕ}
+      → Gives Cost lines (bytes ∷ []) → IsRefused bytes cause turns slots
+      → Says lines Cost (counts (codes "refused") turns slots) status_refused
+  srid : {bytes : List ℕ} {number : ℕ}
+      → Gives Srid lines (bytes ∷ []) → HasSrid bytes (Some number)
+      → Says lines Srid (codes "srid " ++ decimal number) status_answered
+  no_srid : {bytes : List ℕ}
+      → Gives Srid lines (bytes ∷ []) → HasSrid bytes None
+      → Says lines Srid (codes "no srid") status_answered
+  refused : {command : Command} {inputs : List (List ℕ)} {cause : Cause} {line : List ℕ}
+      → command ≢ Cost → Gives command lines inputs → FirstRefusal inputs cause → TellsCause cause line
+      → Says lines command line status_refused
+  too_long : {order : Endianness} {bytes line : List ℕ}
+      → Gives (RewriteWithSrid order) lines (bytes ∷ []) → IsTooLongWithSrid order bytes → IsRefusalLine line
+      → Says lines (RewriteWithSrid order) line status_refused
+  not_hex : {command : Command}
+      → ((inputs : List (List ℕ)) → ¬ Gives command lines inputs)
+      → Says lines command (codes "not hex") status_misused
+
+-- the words are no command's
+abbrev pub AreNoCommand : List (List ℕ) → Type 0
+AreNoCommand words = (command : Command) → words ≢ word command ∷ []
+
+-- The line, with its line feed, and the status, for the words and the input.
+pub data Answers (words : List (List ℕ)) (input : List ℕ) : List ℕ → ℕ → Type 0 where
+  misused : AreNoCommand words → Answers words input (usage ++ line_feed ∷ []) status_misused
+  asked : {command : Command} {said : List ℕ} {status : ℕ}
+      → words ≡ word command ∷ [] → Says (lines input) command said status
+      → Answers words input (said ++ line_feed ∷ []) status
+
+-- The run wrote its whole line and ended with the line's status, or it failed and wrote a beginning of the line or
+-- of `out of memory`, perhaps empty or whole.
+pub data Ends (words : List (List ℕ)) (input : List ℕ) : ℕ → List ℕ → Type 0 where
+  answered : {line : List ℕ} {status : ℕ} → Answers words input line status → Ends words input status line
+  cut_short : {line written : List ℕ} {status : ℕ} → Answers words input line status → StartsWith line written → Ends words input status_failed written
+  out_of_memory : {written : List ℕ} → StartsWith (codes "out of memory" ++ line_feed ∷ []) written → Ends words input status_failed written

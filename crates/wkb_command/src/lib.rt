@@ -1,0 +1,7 @@
+//! What the program `wkb_hex` does: its words are a command, its input is hex lines.
+#![tactic(auto)]
+
+pub mod arguments;
+pub mod calls;
+pub mod program;
+mod transfer;

@@ -1,0 +1,58 @@
+//! Reading an input to its end, and writing a text whole.
+
+ghost use Rattle.std.specs.Prelude.{◌≡◌, IfOk, IfSome};
+ghost use Rattle.wkb_command.specs.Transfer.{WroteBeginning};
+
+use std::alloc::{AllocError, Global};
+use std::io::{Read, Write};
+
+/// The most reads of one input.
+const MAX_READS: u32 = 16_777_216;
+
+const CHUNK_SIZE: usize = 65_536;
+
+/// Why an input isn't in memory.
+#[derive(Debug, Drop)]
+pub enum ReadFault {
+    /// A read failed, or the end wasn't met in so many reads.
+    Unreadable,
+    Memory(AllocError),
+}
+
+/// The writer failed, or took nothing.
+#[derive(Debug, Clone, Copy)]
+pub struct WriteFault;
+
+/// All bytes up to the input's end. No read is tried again.
+pub fn read_to_end<R: Read>(alloc: Global, input: &mut R) -> Result<Vec<u8>, ReadFault>
+    ensures { IfOk result (λ bytes. IfSome (R.remaining input.old) (λ all. bytes.items ≡ all)) }
+{
+    let mut bytes = Vec::new(alloc);
+    let mut chunk = [0u8; CHUNK_SIZE];
+    for _ in 0..MAX_READS {
+        let Ok(count) = input.read(&mut chunk) else {
+            return Err(ReadFault::Unreadable);
+        };
+        if count == 0 {
+            return Ok(bytes);
+        }
+        bytes
+            .extend_from_slice(&chunk[..count])
+            .map_err(ReadFault::Memory)?;
+    }
+    Err(ReadFault::Unreadable)
+}
+
+/// Writes all bytes, going on with the rest after a short write. No write is tried again.
+pub fn write_whole<W: Write>(out: &mut W, bytes: &[u8]) -> Result<(), WriteFault>
+    ensures { WroteBeginning (W.contents out.old) (W.contents out.new) bytes.now result }
+{
+    let mut rest = bytes;
+    while !rest.is_empty() {
+        match out.write(rest) {
+            Ok(0) | Err(_) => return Err(WriteFault),
+            Ok(count) => rest = &rest[count..],
+        }
+    }
+    Ok(())
+}

@@ -1,0 +1,69 @@
+//! What clients answer: words of geometries in a blob, and whether a value is stored.
+
+use std::alloc::Global;
+use std::test::Fail;
+use wkb_cases::spelled::bytes;
+use wkb_cases::support::{THREE, TWO};
+use wkb_clients::collections::{Place, ring_word};
+use wkb_clients::keys::Store;
+use wkb_clients::package::word;
+
+/// Eight bytes that another format's header could have, and a big endian line string of one coordinate with a z.
+const LINE: &str = "47500001 00000000
+    00 000003ea 00000001 3ff0000000000000 4000000000000000 4008000000000000";
+
+/// The same eight bytes, and a collection of a point and of a polygon with a hole that has no coordinates.
+const POLYGON: &str = "47500001 00000000 01 07000000 02000000
+    00 000003e9 3ff0000000000000 4000000000000000 4008000000000000
+    01 03000000 02000000 01000000 P 00000000";
+
+/// The first coordinate's z behind the eight bytes.
+fn z_of_line(alloc: Global, blob: &[u8]) -> Result<Option<u64>, Fail> {
+    match word(alloc, blob, 8, 0, 2) {
+        Ok(found) => Ok(found),
+        Err(error) => Err(Fail::new(error)),
+    }
+}
+
+/// The first coordinate's y of the exterior of the second member behind the eight bytes.
+fn y_of_exterior(alloc: Global, blob: &[u8]) -> Result<Option<u64>, Fail> {
+    let at = Place {
+        member: 1,
+        ring: 0,
+        coordinate: 0,
+        word: 1,
+    };
+    match ring_word(alloc, blob, 8, at) {
+        Ok(found) => Ok(found),
+        Err(error) => Err(Fail::new(error)),
+    }
+}
+
+#[test]
+fn words_in_blobs(rt: HostRuntime) -> Result<(), Fail> {
+    let line = bytes(LINE)?;
+    let polygon = bytes(POLYGON)?;
+    assert!(rt; z_of_line(rt.alloc(), line.as_slice())? == Some(THREE));
+    assert!(rt; y_of_exterior(rt.alloc(), polygon.as_slice())? == Some(TWO));
+    Ok(())
+}
+
+/// Whether the value of a text's bytes was stored before.
+fn was_there(store: &mut Store, text: &str) -> Result<bool, Fail> {
+    let input = bytes(text)?;
+    match store.insert(input.as_slice()) {
+        Ok(was) => Ok(was),
+        Err(error) => Err(Fail::new(error)),
+    }
+}
+
+// One polygon in two spellings, of which the second has an SRID.
+#[test]
+fn same_polygons(rt: HostRuntime) -> Result<(), Fail> {
+    let mut store = Store::new(rt.alloc());
+    let little = "01 03000000 01000000 01000000 P";
+    let big = "00 20000003 000010e6 00000001 00000001 3ff0000000000000 4000000000000000";
+    assert!(rt; !was_there(&mut store, little)?);
+    assert!(rt; was_there(&mut store, big)?);
+    Ok(())
+}

@@ -1,0 +1,101 @@
+//! What is taken out of a geometry and used once that is gone, and a ring as a geometry of its own.
+
+use std::alloc::Global;
+use std::test::Fail;
+use wkb::geom::{
+    CoordTrait, GeometryTrait, GeometryType as Typed, LineStringTrait, MultiLineStringTrait,
+    PointTrait, PolygonTrait,
+};
+use wkb::reader::{Coord, GeometryType, LineString, LinearRing, Wkb};
+use wkb_cases::reading::{as_line_string, as_multi_line_string, as_point, as_polygon, read, words};
+use wkb_cases::spelled::bytes;
+use wkb_cases::support::{ONE, TWO, written};
+use wkb_cases::texts::{MULTI_LINE_TWO, POLYGON_HOLE};
+
+/// What outlives a geometry.
+#[derive(Clone, Copy)]
+enum Part<'a> {
+    Coord(Coord<'a>),
+    Ring(LinearRing<'a>),
+    LineString(LineString<'a>),
+}
+
+/// The coordinate of the point that a point hands out.
+fn coord_of<'a>(wkb: &Wkb<'a>) -> Result<Coord<'a>, Fail> {
+    let point = as_point(wkb)?;
+    match point.as_type() {
+        Typed::Point(again) => Ok(again.coord().ok_or("an empty point")?),
+        _ => Err(Fail::new("a point that is none")),
+    }
+}
+
+fn first_of<L: LineStringTrait>(line: &L) -> Result<L::CoordType, Fail> {
+    Ok(line.coord(0).ok_or("no coordinate")?)
+}
+
+fn ring_of<'a>(wkb: &Wkb<'a>) -> Result<LinearRing<'a>, Fail> {
+    Ok(as_polygon(wkb)?.exterior().ok_or("no exterior")?)
+}
+
+fn line_string_of<'a>(wkb: &Wkb<'a>) -> Result<LineString<'a>, Fail> {
+    let lines = as_multi_line_string(wkb)?;
+    Ok(lines.line_string(0).ok_or("no line string")?)
+}
+
+/// The coordinate of a point or a line string, a polygon's exterior, or the first line string.
+fn part_of<'a>(wkb: &Wkb<'a>) -> Result<Part<'a>, Fail> {
+    match wkb.geometry_type() {
+        GeometryType::Point => Ok(Part::Coord(coord_of(wkb)?)),
+        GeometryType::LineString => Ok(Part::Coord(first_of(&as_line_string(wkb)?)?)),
+        GeometryType::Polygon => Ok(Part::Ring(ring_of(wkb)?)),
+        _ => Ok(Part::LineString(line_string_of(wkb)?)),
+    }
+}
+
+// Whether a coordinate of two words answers 1.0 and 2.0 to each call.
+fn is_one_and_two<C: CoordTrait>(coord: &C) -> bool {
+    coord.dim().size() == 2
+        && words(coord) == (Some(ONE), Some(TWO), None)
+        && (coord.at(0), coord.at(1)) == (ONE, TWO)
+        && (coord.x(), coord.y()) == (ONE, TWO)
+        && coord.x_y() == (ONE, TWO)
+}
+
+// Whether the first coordinate of a part is 1.0 and 2.0.
+fn begins_with_one_and_two(part: Part<'_>) -> Result<bool, Fail> {
+    match part {
+        Part::Coord(coord) => Ok(is_one_and_two(&coord)),
+        Part::Ring(ring) => Ok(is_one_and_two(&first_of(&ring)?)),
+        Part::LineString(line_string) => Ok(is_one_and_two(&first_of(&line_string)?)),
+    }
+}
+
+// Also the cases point-lifetime and line-lifetime.
+#[test]
+fn kept_parts(rt: HostRuntime) -> Result<(), Fail> {
+    for text in [
+        "01 01000000 P",
+        "01 02000000 02000000 P P",
+        POLYGON_HOLE,
+        MULTI_LINE_TWO,
+    ] {
+        let input = bytes(text)?;
+        let part = part_of(&read(rt.alloc(), input.as_slice())?)?;
+        assert!(rt; begins_with_one_and_two(part)?, "{text}");
+    }
+    Ok(())
+}
+
+fn ring_written(alloc: Global, wkb: &Wkb<'_>) -> Result<Vec<u8>, Fail> {
+    Ok(written(alloc, &ring_of(wkb)?)?)
+}
+
+// It is a line string.
+#[test]
+fn ring_as_a_geometry(rt: HostRuntime) -> Result<(), Fail> {
+    let input = bytes(POLYGON_HOLE)?;
+    let expected = bytes("01 02000000 01000000 P")?;
+    let encoding = ring_written(rt.alloc(), &read(rt.alloc(), input.as_slice())?)?;
+    assert!(rt; encoding.as_slice() == expected.as_slice());
+    Ok(())
+}

@@ -1,0 +1,131 @@
+//! Encodings of each length round the sizes of a block, in sinks that have room for all or a part of them. Where a sink
+//! fails, the writer answers the sink's own error.
+
+use crate::answers::{Answer, writer_answer};
+use crate::sinks::{FULL, LimitedSink, Limits};
+use std::io;
+use std::test::Fail;
+use wkb::Endianness;
+use wkb::geom::{Dimensions, MultiLineString};
+use wkb::writer::{Sink, write_multi_line_string, write_point};
+use wkb_cases::spelled::{Spelled, bytes};
+use wkb_cases::support::{ONE, iso, line_string_of, multi_line_string_of, point_of};
+
+/// The words of sixty-four coordinates: a line string of so many is longer than any block.
+const WORDS: [u64; 128] = [ONE; 128];
+
+/// With fewer empty line strings before it than that, another begins at each place modulo sixteen.
+const MOST_EMPTY: usize = 16;
+
+const EMPTY: &str = "01 02000000 00000000";
+
+/// Where a sink's room ends: round the lengths of blocks, and of what goes by a small one.
+const ROOMS: [usize; 10] = [0, 1, 159, 160, 191, 192, 193, 1023, 1024, 1025];
+
+fn push_count(encoding: &mut Spelled, count: usize) -> Result<(), Fail> {
+    let count = u32::try_from(count)?;
+    encoding.extend_from_slice(&count.to_le_bytes())
+}
+
+/// The encoding of so many line strings without coordinates, one of these words, and another without, little endian.
+fn encoding_of(empty: usize, words: &[u64]) -> Result<Spelled, Fail> {
+    let mut encoding = bytes("01 05000000")?;
+    push_count(&mut encoding, empty.saturating_add(2))?;
+    for _line_string in 0..empty {
+        encoding.spell(EMPTY)?;
+    }
+    encoding.spell("01 02000000")?;
+    push_count(&mut encoding, words.len() / 2)?;
+    for word in words {
+        encoding.extend_from_slice(&word.to_le_bytes())?;
+    }
+    encoding.spell(EMPTY)?;
+    Ok(encoding)
+}
+
+// Whether a sink with so much room holds a beginning of the encoding, and the writer answers its error where that isn't
+// all.
+fn fills(multi: &MultiLineString<'_>, encoding: &[u8], room: usize, most: usize) -> bool {
+    let limits = Limits {
+        puts: usize::MAX,
+        most,
+        room,
+    };
+    let mut sink = LimitedSink::new(limits);
+    let options = iso(Endianness::LittleEndian);
+    let written = writer_answer(&write_multi_line_string(&mut sink, multi, &options));
+    let expected = if room < encoding.len() {
+        Answer::Failed(io::ErrorKind::PermissionDenied)
+    } else {
+        Answer::Written
+    };
+    written == expected
+        && encoding.starts_with(sink.taken.as_slice())
+        && sink.taken.len() == room.min(encoding.len())
+        && sink.failed() == (room < encoding.len())
+}
+
+// Whether each of the rooms is filled as it should be, and those for all bytes and for all but one; all also byte by byte.
+fn fills_all(multi: &MultiLineString<'_>, encoding: &[u8], rooms: &[usize]) -> bool {
+    for room in rooms {
+        if !fills(multi, encoding, *room, usize::MAX) {
+            return false;
+        }
+    }
+    let whole = encoding.len();
+    fills(multi, encoding, whole.saturating_sub(1), usize::MAX)
+        && fills(multi, encoding, whole, usize::MAX)
+        && fills(multi, encoding, whole, 1)
+}
+
+// So for so many line strings without coordinates, one of these words, and another without.
+fn fills_rooms(empty: usize, words: &[u64], rooms: &[usize]) -> Result<bool, Fail> {
+    if empty >= MOST_EMPTY {
+        return Ok(false);
+    }
+    let mut line_strings = [line_string_of(Dimensions::Xy, &[])?; MOST_EMPTY + 1];
+    line_strings[empty] = line_string_of(Dimensions::Xy, words)?;
+    let multi = multi_line_string_of(Dimensions::Xy, &line_strings[..empty + 2])?;
+    let encoding = encoding_of(empty, words)?;
+    Ok(fills_all(&multi, encoding.as_slice(), rooms))
+}
+
+#[test]
+fn each_length(rt: HostRuntime) -> Result<(), Fail> {
+    for empty in 0..MOST_EMPTY {
+        let mut words = WORDS.as_slice();
+        for _coordinate in 0..=WORDS.len() / 2 {
+            let len = words.len();
+            assert!(rt; fills_rooms(empty, words, &ROOMS)?, "{empty} {len}");
+            words = words.get(2..).unwrap_or(&[]);
+        }
+    }
+    Ok(())
+}
+
+#[test]
+fn each_room(rt: HostRuntime) -> Result<(), Fail> {
+    for room in 0..1100usize {
+        assert!(rt; fills_rooms(3, &WORDS, &[room])?, "{room}");
+    }
+    Ok(())
+}
+
+// The text of the sink's error is handed on too.
+#[test]
+fn own_error(rt: HostRuntime) -> Result<(), Fail> {
+    let point = point_of(Dimensions::Xy, &[ONE, ONE])?;
+    let mut sink = LimitedSink::new(Limits {
+        puts: 0,
+        most: 1,
+        room: 1,
+    });
+    match write_point(&mut sink, &point, &iso(Endianness::LittleEndian)) {
+        Err(error) => {
+            let printed = format!(in rt.alloc(); "{error}")?;
+            assert!(rt; printed.as_str() == FULL);
+        }
+        Ok(()) => assert!(rt; false),
+    }
+    Ok(())
+}

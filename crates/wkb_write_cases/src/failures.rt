@@ -1,0 +1,127 @@
+//! Each writer over sinks that take little, fail, or have no room.
+
+use crate::answers::Answer;
+use crate::kinds::{Answers, ENCODINGS, Kind, TWO_WORDS, put_kind};
+use crate::sinks::{LimitedSink, LimitedWriter, Limits};
+use std::alloc::Global;
+use std::io;
+use std::test::Fail;
+use wkb::writer::{Out, Sink, SliceSink};
+use wkb_cases::spelled::{Spelled, bytes};
+
+/// More bytes than an encoding has.
+const ROOM: usize = 128;
+
+/// What a writer answers that puts so much of an encoding into a sink, which fails by this kind of error.
+fn answer_of(len: usize, encoding: &Spelled, failure: io::ErrorKind) -> Answer {
+    if len < encoding.len() {
+        Answer::Failed(failure)
+    } else {
+        Answer::Written
+    }
+}
+
+/// Whether so many bytes were taken, and are a beginning of the encoding.
+fn is_beginning(taken: &[u8], encoding: &Spelled, len: usize) -> bool {
+    taken.len() == len && encoding.as_slice().starts_with(taken)
+}
+
+// Whether a sink takes so many bytes. Where these aren't all, it has failed, and the writer answers so.
+fn takes(
+    alloc: Global,
+    kind: Kind,
+    encoding: &Spelled,
+    limits: Limits,
+    len: usize,
+) -> Result<bool, Fail> {
+    let failure = if limits.most == 0 {
+        io::ErrorKind::WriteZero
+    } else {
+        io::ErrorKind::PermissionDenied
+    };
+    let mut sink = LimitedSink::new(limits);
+    let Answers { size: _, written } = put_kind(alloc, &mut sink, kind, TWO_WORDS)?;
+    Ok(
+        is_beginning(sink.taken.as_slice(), encoding, len)
+            && sink.failed() == (len < encoding.len())
+            && written == answer_of(len, encoding, failure),
+    )
+}
+
+#[test]
+fn failing_sinks(rt: HostRuntime) -> Result<(), Fail> {
+    for (kind, text) in ENCODINGS {
+        let encoding = bytes(text)?;
+        let room = encoding.len();
+        // A byte a call, until a call fails.
+        for puts in 0..=room {
+            let limits = Limits {
+                puts,
+                most: 1,
+                room,
+            };
+            assert!(rt;
+                takes(rt.alloc(), kind, &encoding, limits, puts)?,
+                "{text} {puts}"
+            );
+        }
+        // A short encoding is one call.
+        for (puts, most, len) in [(0, room, 0), (1, room, room), (room, 0, 0)] {
+            let limits = Limits { puts, most, room };
+            assert!(rt;
+                takes(rt.alloc(), kind, &encoding, limits, len)?,
+                "{text} {puts}"
+            );
+        }
+    }
+    Ok(())
+}
+
+// Whether an interrupted write isn't tried again.
+fn is_interrupted(alloc: Global, kind: Kind) -> Result<bool, Fail> {
+    let mut out = Out::new(LimitedWriter::new(usize::MAX, Some(1)));
+    let Answers { size: _, written } = put_kind(alloc, &mut out, kind, TWO_WORDS)?;
+    let has_failed = out.failed();
+    let writer = out.into_inner();
+    Ok(
+        written == Answer::Failed(io::ErrorKind::Interrupted)
+            && has_failed
+            && writer.writes == 1
+            && writer.taken.len() == 0,
+    )
+}
+
+#[test]
+fn failing_sinks_interrupted(rt: HostRuntime) -> Result<(), Fail> {
+    for (kind, text) in ENCODINGS {
+        assert!(rt; is_interrupted(rt.alloc(), kind)?, "{text}");
+    }
+    Ok(())
+}
+
+// Whether a slice of so many bytes takes a beginning of the encoding, and the bytes behind it stand as they were.
+fn fills(alloc: Global, kind: Kind, encoding: &Spelled, room: usize) -> Result<bool, Fail> {
+    let len = room.min(encoding.len());
+    let mut slice = [7u8; ROOM];
+    let mut sink = SliceSink::new(&mut slice[..room.min(ROOM)]);
+    let Answers { size: _, written } = put_kind(alloc, &mut sink, kind, TWO_WORDS)?;
+    let is_told = is_beginning(sink.written(), encoding, len)
+        && sink.len() == len
+        && sink.failed() == (len < encoding.len())
+        && written == answer_of(len, encoding, io::ErrorKind::WriteZero);
+    let (taken, behind) = slice.split_at(len.min(ROOM));
+    Ok(is_told && is_beginning(taken, encoding, len) && Some(behind) == [7u8; ROOM].get(len..))
+}
+
+// The case's rectangle, and each other kind.
+#[test]
+fn rect_cut(rt: HostRuntime) -> Result<(), Fail> {
+    for (kind, text) in ENCODINGS {
+        let encoding = bytes(text)?;
+        for room in 0..=encoding.len() {
+            assert!(rt; fills(rt.alloc(), kind, &encoding, room)?, "{text} {room}");
+        }
+        assert!(rt; fills(rt.alloc(), kind, &encoding, ROOM)?, "{text}");
+    }
+    Ok(())
+}

@@ -1,0 +1,55 @@
+// Preloaded into a test or a program of one thread. At each growth of memory, which the kit's allocator asks of malloc
+// or realloc, the process splits: a child goes on as if the growth were refused, and the process itself, once the child
+// has ended, with the memory. What the child writes from then on goes to the file whose descriptor stands in REPORT, and
+// behind it, between two zero bytes, its status, or its signal as a negative number.
+#include <stdio.h>
+#include <stdlib.h>
+#include <sys/wait.h>
+#include <unistd.h>
+
+extern void *__libc_malloc(size_t), *__libc_realloc(void *, size_t);
+
+enum { SECONDS = 60 };
+
+// Below zero nothing is refused: before the program begins, and in a child.
+static int report = -1;
+
+__attribute__((constructor)) static void begin(void) {
+  const char *descriptor = getenv("REPORT");
+  report = descriptor ? atoi(descriptor) : -1;
+}
+
+static void go_on_without(void) {
+  dup2(report, 1);
+  dup2(report, 2);
+  report = -1;
+  alarm(SECONDS);
+}
+
+// Nothing here asks for memory, as dprintf would.
+static void wait_for(pid_t child) {
+  int status;
+  if (child < 0 || waitpid(child, &status, 0) < 0) abort();
+  char text[16];
+  int end = WIFEXITED(status) ? WEXITSTATUS(status) : -WTERMSIG(status);
+  int length = snprintf(text, sizeof text, "%c%d%c", 0, end, 0);
+  if (write(report, text, length) != length) abort();
+}
+
+static int is_refused(void) {
+  if (report < 0) return 0;
+  off_t place = lseek(0, 0, SEEK_CUR);
+  pid_t child = fork();
+  if (child == 0) {
+    go_on_without();
+    return 1;
+  }
+  wait_for(child);
+  // What the child has read is read again.
+  lseek(0, place, SEEK_SET);
+  return 0;
+}
+
+void *malloc(size_t size) { return is_refused() ? NULL : __libc_malloc(size); }
+
+void *realloc(void *old, size_t size) { return is_refused() ? NULL : __libc_realloc(old, size); }

@@ -1,0 +1,84 @@
+#!/usr/bin/env python3
+"""The crates as the Rattle kit's command `rt` knows them, for scripts that call the prover over the libraries that are built.
+
+    tools/kit.py archive NAME FILE     proves crates/NAME, a static library, alone, and builds it into FILE
+
+Ends with 2 where a library below the crate is not built, or is older than its sources.
+"""
+import importlib.machinery
+import importlib.util
+import os
+import pathlib
+import shutil
+import subprocess
+import sys
+
+ROOT = pathlib.Path(__file__).resolve().parent.parent
+ADVICE = "`rt ci` builds all libraries; `rt lib` in crates/wkb builds those of wkb"
+
+
+def stop(why):
+    """Ends the script, which has judged nothing."""
+    print(why, file=sys.stderr)
+    sys.exit(2)
+
+
+def load():
+    """The command `rt` as a module. Its `rtlib` has the crates, and the words that the prover is called with."""
+    command = shutil.which("rt")
+    if command is None:
+        stop("the command rt of the Rattle kit is not on the PATH")
+    sys.dont_write_bytecode = True
+    loader = importlib.machinery.SourceFileLoader("rt", os.path.realpath(command))
+    module = importlib.util.module_from_spec(importlib.util.spec_from_loader("rt", loader))
+    loader.exec_module(module)
+    return module
+
+
+rt = load()
+
+
+def crate(name):
+    """The crate of this name, with those below it."""
+    folder = ROOT / "crates" / name
+    if not (folder / "src").is_dir():
+        stop(f"there is no crate {name}")
+    return rt.rtlib.Crate(str(folder), str(ROOT), {})
+
+
+def is_built(library):
+    """Whether a library is built, and is younger than its sources."""
+    built = pathlib.Path(library.rlib, "format")
+    sources = map(os.path.getmtime, rt.rtlib.files_of(library.folder))
+    return built.is_file() and max(sources) < built.stat().st_mtime
+
+
+def unbuilt(crates):
+    """The names of the libraries below these crates that are not built."""
+    return sorted({library.name for it in crates for library in it.below() if not is_built(library)})
+
+
+def prove(verb, crate, flags, folder):
+    """Runs the prover, as `check` or `build`, over the sources in a folder, which are the crate's or a copy of them."""
+    words = crate.words(flags, keeps=False)
+    how = {"cwd": folder, "stdin": subprocess.DEVNULL, "stdout": subprocess.PIPE, "stderr": subprocess.STDOUT}
+    how.update(encoding="utf-8", errors="replace")
+    return subprocess.run([*rt.rtlib.guarded(), rt.rtlib.RATTLE, verb, *words], **how)
+
+
+def archive(name, file):
+    """Proves a static library alone, and builds it into the file. Answers the status."""
+    library = crate(name)
+    missing = unbuilt([library])
+    if missing:
+        stop(f"not built, or older than the sources: {' '.join(missing)}. {ADVICE}")
+    flags = ["--jobs", str(min(4, rt.processors())), "--toolchain", f"{rt.KIT}/toolchain"]
+    ran = prove("build", library, [*flags, "--backend", "llvm", "-o", os.path.abspath(file)], library.folder)
+    print(ran.stdout, end="")
+    return ran.returncode
+
+
+if __name__ == "__main__":
+    if len(sys.argv) != 4 or sys.argv[1] != "archive":
+        stop(__doc__)
+    sys.exit(archive(*sys.argv[2:]))
