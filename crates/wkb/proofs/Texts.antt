@@ -1,8 +1,8 @@
 -- What is written of a geometry that was read.
-use Rattle.std.proofs.Common.{◌≡◌, ◌≢◌, ℕ, ◌<◌, ◌≤◌, ◌^◌, List, length, Option, Some, None, Err, ◌⊎◌, inl, inr, refl, sym, ◌∙◌, subst, arith}
+use Rattle.std.proofs.Common.{◌≡◌, ◌≢◌, ℕ, ◌<◌, ◌≤◌, ◌^◌, List, length, Option, Some, None, Err, ◌⊎◌, inl, inr, refl, sym, ap, ◌∙◌, subst, arith}
 use Rattle.std.proofs.lemmas.Bool.Decides.{nat_tests}
 use Rattle.std.specs.Bool.{Decides}
-use Rattle.std.specs.Prelude.{nat_lt, true, false, if◌then◌else◌, Bool, MatchBool, bytes_eq, Result, Ok, IfErr, IsErrAnd, MatchResult}
+use Rattle.std.specs.Prelude.{nat_lt, true, false, if◌then◌else◌, Bool, MatchBool, bytes_eq, Result, Ok, IfOk, IfErr, IsErrAnd, MatchResult}
 use Rattle.std.proofs.lemmas.Slice.Eq.{bytes_eq-Decides}
 use Rattle.wkb_geom.specs.declared.common.Endianness.{Endianness}
 use Rattle.wkb_geom.specs.declared.common.Form.{Form}
@@ -15,6 +15,7 @@ use Rattle.wkb_geom.specs.Geometries.{Geometry, geometry_of}
 use Rattle.wkb_geom.specs.Numbers.{AreBytes}
 use Rattle.wkb_geom.specs.Reading.{Item}
 use Rattle.wkb_geom.specs.Spellings.{header}
+use Rattle.wkb_geom.specs.Values.{Value}
 use Rattle.wkb_geom.specs.Texts.{Fault, unsupported_dimensions, count_overflow, size_overflow, text, fault, refusal, or_else, size_fault, IsWritable}
 use Rattle.wkb_geom.specs.Texts.{IsRewriting, IsRewritingWithSrid}
 use Rattle.wkb_laws.proofs.Rewritings.{equal_texts_lem}
@@ -23,7 +24,7 @@ use Rattle.wkb_measure.specs.Faults.{meaning}
 use Rattle.wkb_measure.specs.Measures.{Reports}
 use Rattle.wkb_write.specs.Answers.{IsSized}
 use Rattle.wkb_read.specs.Public.{IsFront, IsRefusal, CanBeWritten}
-use Rattle.wkb.specs.Canonical.{IsSize, IsAccepted, IsTooLong, IsTooLongWithSrid, HaveOneValue, HaveTwoValues}
+use Rattle.wkb.specs.Canonical.{IsSize, IsAccepted, IsTooLong, HaveOneValue, HaveTwoValues}
 
 -- a length that is a fault
 too_large_by : (n : ℕ) (f : Fault) (b : Bool) → nat_lt n (2 ^ 64) ≡ b → (if b then None else Some size_overflow) ≡ Some f → (2 ^ 64 ≤ n) × (f ≡ size_overflow)
@@ -86,13 +87,6 @@ too_long order form buf w e front writable h =
     let size = refused_size order form (geometry_of w.value) e (writable order) h in
     (record { s = w.spelled; t = w.value; rest = front.rest; front = front.front; plain = size.0; with_srid = size.1 }, size.2)
 
-pub too_long_with_srid : (order : Endianness) (srid : Option ℕ) (buf : List ℕ) (w : Item) (e : WkbError) → IsFront buf w → CanBeWritten w.value
-    → srid ≡ (header w.spelled).srid
-    → Reports e (refusal order (Ewkb srid) (geometry_of w.value)) → IsTooLongWithSrid order buf × IsSize e
-too_long_with_srid order srid buf w e front writable is h =
-    let size = refused_size order (Ewkb srid) (geometry_of w.value) e (writable order) h in
-    (record { s = w.spelled; t = w.value; rest = front.rest; front = front.front; plain = size.0; with_srid = rw is at size.1 }, size.2)
-
 -- want of memory, or what a writer refuses
 pub refused_or_long : (order : Endianness) (form : Form) (buf : List ℕ) (w : Item) (e : WkbError) → IsFront buf w → CanBeWritten w.value
     → IsMemory e ⊎ Reports e (refusal order form (geometry_of w.value))
@@ -100,12 +94,14 @@ pub refused_or_long : (order : Endianness) (form : Form) (buf : List ℕ) (w : I
 refused_or_long order form buf w e front writable (inl memory) = inl memory
 refused_or_long order form buf w e front writable (inr h) = inr (inr (too_long order form buf w e front writable h))
 
-pub refused_or_long_with_srid : (order : Endianness) (srid : Option ℕ) (buf : List ℕ) (w : Item) (e : WkbError) → IsFront buf w → CanBeWritten w.value
-    → srid ≡ (header w.spelled).srid
-    → IsMemory e ⊎ Reports e (refusal order (Ewkb srid) (geometry_of w.value))
-    → IsMemory e ⊎ (IsRefusal buf e ⊎ (IsTooLongWithSrid order buf × IsSize e))
-refused_or_long_with_srid order srid buf w e front writable is (inl memory) = inl memory
-refused_or_long_with_srid order srid buf w e front writable is (inr h) = inr (inr (too_long_with_srid order srid buf w e front writable is h))
+-- what can be written with its own SRID is refused for want of memory alone
+pub refused_alone : (order : Endianness) (srid own : Option ℕ) (buf : List ℕ) (t : Value) (e : WkbError) → srid ≡ own
+    → IsWritable order (Ewkb own) (geometry_of t)
+    → IsMemory e ⊎ Reports e (refusal order (Ewkb srid) (geometry_of t)) → IsMemory e ⊎ IsRefusal buf e
+refused_alone order srid own buf t e is writable (inl memory) = inl memory
+refused_alone order srid own buf t e is writable (inr h) =
+    let none : None ≡ Some h.fault = sym writable ∙ ap (λ o. refusal order (Ewkb o) (geometry_of t)) (sym is) ∙ h.is in
+    absurd (cc)
 
 -- under ISO no SRID is written that could make the text too long
 pub iso_fits : (order : Endianness) (buf : List ℕ) → IsTooLong order Iso buf → ⊥
@@ -159,9 +155,14 @@ compared order a b x y v w equal bytes bytes' h k is is' tested =
     let decides = subst (λ r. Decides r (v ≡ w)) (sym tested) (bytes_eq-Decides v w) in
     compared_by order a b v w equal bytes bytes' (rw is h) (rw is' k) decides
 
-pub IfErr-from : {T E : Type 0} (r : Result T E) (P : T → Type 0) (R Q : E → Type 0) → MatchResult r P R → ((e : E) → R e → Q e) → IfErr r Q
-IfErr-from (Ok x) P R Q h f = tt
-IfErr-from (Err e) P R Q h f = f e h
+-- what holds of both answers
+pub IfOk-always : {T E : Type 0} (r : Result T E) (P : Type 0) → P → IfOk r (λ _. P)
+IfOk-always (Ok x) P h = h
+IfOk-always (Err e) P h = tt
+
+pub IfErr-from : {T E : Type 0} (r : Result T E) (P Q : E → Type 0) → IfErr r P → ((e : E) → P e → Q e) → IfErr r Q
+IfErr-from (Ok x) P Q h f = tt
+IfErr-from (Err e) P Q h f = f e h
 
 -- the error that tells the fault that was found
 pub refused_as_found : {A : Type 0} (P : A → Type 0) (order : Endianness) (form : Form) (g : Geometry) (f : Found) (r : Result A WkbError)

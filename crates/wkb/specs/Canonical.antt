@@ -2,7 +2,7 @@
 use Rattle.std.specs.Prelude.{◌≡◌, ◌≢◌, ℕ, ◌^◌, ◌<◌, ◌≤◌, List, length, Option}
 use Rattle.wkb_geom.specs.declared.common.Endianness.{Endianness}
 use Rattle.wkb_geom.specs.declared.common.Form.{Form}
-use Rattle.wkb_geom.specs.declared.common.Form.TheVariants.{Iso, Ewkb}
+use Rattle.wkb_geom.specs.declared.common.Form.TheVariants.{Iso}
 use Rattle.wkb_geom.specs.declared.error.Overflow.TheVariants.{Size}
 use Rattle.wkb_geom.specs.declared.error.WkbError.{WkbError}
 use Rattle.wkb_geom.specs.declared.error.WkbError.TheVariants as errors
@@ -54,15 +54,6 @@ pub record IsTooLong (order : Endianness) (form : Form) (input : List ℕ) : Typ
   pub front : Front input s t rest
   pub plain : length (text order Iso (geometry_of t)) < 2 ^ 64
   pub with_srid : 2 ^ 64 ≤ length (text order form (geometry_of t))
-
--- the same with the SRID of the input's outermost geometry
-pub record IsTooLongWithSrid (order : Endianness) (input : List ℕ) : Type 0 where
-  pub s : Spelling
-  pub t : Value
-  pub rest : List ℕ
-  pub front : Front input s t rest
-  pub plain : length (text order Iso (geometry_of t)) < 2 ^ 64
-  pub with_srid : 2 ^ 64 ≤ length (text order (Ewkb (header s).srid) (geometry_of t))
 
 -- both inputs begin with geometries, and their values are equal
 pub record HaveOneValue (a b : List ℕ) : Type 0 where

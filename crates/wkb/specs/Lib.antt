@@ -1,1 +1,12 @@
 pub mod Canonical
+pub mod Words
+pub mod Values
+pub mod Spellings
+pub mod Refusals
+pub mod Geometries
+pub mod Texts
+pub mod Reads
+pub mod Writes
+pub mod Encodings
+pub mod Laws
+pub mod Bridges

@@ -1,9 +1,22 @@
 //! Laws over the definitions: what they say of any two inputs, and of any text.
 
-pub use wkb_laws::places::{members_stand, one_text, rings_stand, words_stand};
+ghost use Rattle.wkb.specs.Words.{AreBytes};
+
+pub use wkb_laws::encodings::{
+    equal_spelled, size_of_spelled, spelled_in_full, spelled_is_writable,
+};
+pub use wkb_laws::places::{
+    members_in_place, members_stand, one_text, one_text_of_coordinates, rings_in_place,
+    rings_stand, words_stand,
+};
 pub use wkb_laws::{
     cut_is_refused, equal_texts, equal_texts_with_own_srid, equal_texts_with_srid,
     front_is_writable, geometry_agrees, named_dimension, one_front, read_or_refused,
     refused_outward, rest_is_free, rewriting_is_fixed, rewriting_is_read, text_length, text_spells,
     work_is_bounded, written_is_read,
 };
+
+/// A slice of bytes holds bytes, each below 256, as laws ask it of what they are said of.
+pub fn are_bytes(_bytes: &[u8])
+    ensures { AreBytes _bytes.now }
+{}

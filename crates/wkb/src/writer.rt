@@ -1,5 +1,6 @@
 //! The writers, the sizes of what they write, and the sinks that they write into.
 
+pub use crate::vector::to_vec;
 pub use wkb_geom::Form;
 pub use wkb_write::{
     Out, Sink, SliceSink, VecSink, WriteOptions, geometry_collection_wkb_size, geometry_wkb_size,

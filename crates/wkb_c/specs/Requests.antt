@@ -4,7 +4,7 @@ use Rattle.wkb_geom.specs.declared.common.Endianness.{Endianness}
 use Rattle.wkb_geom.specs.declared.common.Endianness.TheVariants.{BigEndian, LittleEndian}
 use Rattle.wkb_geom.specs.declared.common.Form.TheVariants.{Iso, Ewkb}
 use Rattle.wkb_geom.specs.Texts.{IsRewriting, IsRewritingWithSrid}
-use Rattle.wkb.specs.Canonical.{IsTooLong, IsTooLongWithSrid}
+use Rattle.wkb.specs.Canonical.{IsTooLong}
 use Rattle.wkb_c.specs.declared.options.TheConstants.{BIG_ENDIAN, LITTLE_ENDIAN, ISO, EWKB_OWN_SRID, EWKB_WITH_SRID, EWKB_WITHOUT_SRID}
 use Rattle.wkb_c.specs.declared.options.Options.{Options}
 use Rattle.wkb_c.specs.declared.options.Request.{Request}
@@ -35,7 +35,7 @@ abbrev pub IsText : Request → List ℕ → List ℕ → Type 0
 IsText (Text o) input text = IsRewriting o.endianness o.form input text
 IsText (OwnSrid order) input text = IsRewritingWithSrid order input text
 
--- that text is longer than any slice
+-- that text is longer than any slice; with its own SRID no text is
 abbrev pub IsOverlong : Request → List ℕ → Type 0
 IsOverlong (Text o) input = IsTooLong o.endianness o.form input
-IsOverlong (OwnSrid order) input = IsTooLongWithSrid order input
+IsOverlong _ input = ⊥

@@ -1,8 +1,8 @@
 -- What a place means as a coordinate.
 use Rattle.std.specs.Prelude.{ℕ, List, [], ◌∷◌, refl}
 use Rattle.wkb_cases.specs.declared.places.Place.{Place}
-use Rattle.wkb_geom.specs.declared.common.Dimensions.TheVariants.{Xy}
-use Rattle.wkb_geom.specs.Geometries.{IsCoordinate}
+use Rattle.wkb.specs.Words.traits.{Xy}
+use Rattle.wkb.specs.Geometries.{IsCoordinate}
 
 abbrev pub place_words : Place → List ℕ
 place_words place = place.longitude ∷ place.latitude ∷ []

@@ -1,7 +1,9 @@
 //! A type of one's own that is written, as the README shows it.
 
-ghost use Rattle.std.specs.Prelude.{◌<◌, ◌^◌, Some};
-ghost use Rattle.wkb_geom.specs.declared.common.Dimensions.TheVariants.{Xy};
+ghost use Rattle.std.specs.Prelude.{◌≡◌, ◌<◌, ◌^◌, ◌∷◌, [], Some, IfOk};
+ghost use Rattle.wkb.specs.Words.traits.{Xy};
+ghost use Rattle.wkb.specs.Geometries.{point};
+ghost use Rattle.wkb.specs.Texts.{text};
 
 use std::alloc::Global;
 use wkb::error::WkbResult;
@@ -76,8 +78,13 @@ impl PointTrait for Place {
 }
 
 /// A place as a point, under the options.
-pub fn written(alloc: Global, place: &Place, options: &WriteOptions) -> WkbResult<Vec<u8>> {
+pub fn written(alloc: Global, place: &Place, options: &WriteOptions) -> WkbResult<Vec<u8>>
+    ensures { IfOk result (λ bytes. bytes.items ≡ text options.now.endianness options.now.form
+        (point Xy (Some (place.now.longitude ∷ place.now.latitude ∷ [])))) }
+{
     let mut sink = VecSink::new(alloc);
-    write_point(&mut sink, place, options)?;
-    Ok(sink.into_vec())
+    match write_point(&mut sink, place, options) {
+        Ok(()) => Ok(sink.into_vec()),
+        Err(e) => Err(e),
+    }
 }

@@ -1,16 +1,13 @@
 -- Views of one spelling and one value are equal.
 use Rattle.std.proofs.Common.{◌≡◌, ℕ, List, Some, sym, ap, subst, ◌∙◌, slice_get}
-use Rattle.std.proofs.Math.Logic.{∥∥₁_elim}
-use Rattle.std.proofs.Props.{props}
 use Rattle.wkb_clients.specs.Common.{Dimension, dimensions, AreBytes, Coordinate}
-use Rattle.wkb_clients.specs.Common.{line_string, polygon, Spelling, Spells, Listed, whole_of, Item, HasOneText, members_spelled, list_of_spellings, IsSpelled}
-use Rattle.wkb_clients.proofs.MembersHeld.{one_name}
+use Rattle.wkb_clients.specs.Common.{line_string, polygon, Spelling, Spells, Listed, whole_of, Item, HasOneText, members_spelled, list_of_spellings}
+use Rattle.wkb.specs.Bridges.{one_name}
 
-same_text : HasOneText → (a b : Item) → AreBytes a.text → AreBytes b.text → IsSpelled a → IsSpelled b → a.spelled ≡ b.spelled → a.value ≡ b.value
-    → a.text ≡ b.text
+same_text : HasOneText → (a b : Item) → AreBytes a.text → AreBytes b.text → Spells a.spelled a.value a.text → Spells b.spelled b.value b.text
+    → a.spelled ≡ b.spelled → a.value ≡ b.value → a.text ≡ b.text
 same_text one a b bytes bytes' spells spells' s t =
-    ∥∥₁_elim spells (hlevel props) (λ h. ∥∥₁_elim spells' (hlevel props) (λ k.
-    one a.spelled a.value a.text b.text bytes bytes' h (subst (λ u. Spells u a.value b.text) (sym s) (subst (λ v. Spells b.spelled v b.text) (sym t) k))))
+    one a.spelled a.value a.text b.text bytes bytes' spells (subst (λ u. Spells u a.value b.text) (sym s) (subst (λ v. Spells b.spelled v b.text) (sym t) spells'))
 
 some_one : {A : Type 0} (a b : A) → Some a ≡ Some b → a ≡ b
 some_one a b h = cc
@@ -32,7 +29,7 @@ pub same_polygon : HasOneText → (m n : Listed (List (List (List Coordinate))))
     → dimensions p.dimension ≡ dimensions m.dimension → dimensions q.dimension ≡ dimensions n.dimension
     → Some p.spelled ≡ slice_get (list_of_spellings (members_spelled m.spelled)) i
     → Some q.spelled ≡ slice_get (list_of_spellings (members_spelled n.spelled)) i
-    → AreBytes p.text → AreBytes q.text → IsSpelled (whole_of polygon p) → IsSpelled (whole_of polygon q) → q ≡ p
+    → AreBytes p.text → AreBytes q.text → Spells p.spelled (polygon p.dimension p.parts) p.text → Spells q.spelled (polygon q.dimension q.parts) q.text → q ≡ p
 same_polygon one m n i p q same part part' dims dims' spelled spelled' bytes bytes' spells spells' =
     let a : q.parts ≡ p.parts = at_one m n (λ l. l) i p.parts q.parts same part part' in
     let s = spelled_one m n i p.spelled q.spelled same spelled spelled' in
@@ -46,7 +43,7 @@ pub same_line_string : HasOneText → (m n : Listed (List (List Coordinate))) (i
     → dimensions d ≡ dimensions m.dimension → dimensions e ≡ dimensions n.dimension
     → Some a.spelled ≡ slice_get (list_of_spellings (members_spelled m.spelled)) i
     → Some b.spelled ≡ slice_get (list_of_spellings (members_spelled n.spelled)) i
-    → AreBytes a.text → AreBytes b.text → IsSpelled a → IsSpelled b → b ≡ a
+    → AreBytes a.text → AreBytes b.text → Spells a.spelled a.value a.text → Spells b.spelled b.value b.text → b ≡ a
 same_line_string one m n i a b d e cs ds same value value' part part' dims dims' spelled spelled' bytes bytes' spells spells' =
     let c : ds ≡ cs = at_one m n (λ l. l) i cs ds same part part' in
     let s = spelled_one m n i a.spelled b.spelled same spelled spelled' in

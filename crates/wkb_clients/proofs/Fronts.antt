@@ -1,8 +1,8 @@
 -- What the reader's clauses say of the bytes behind an offset.
-use Rattle.std.proofs.Common.{◌≡◌, ℕ, List, drop, ◌⊎◌, inl, inr, Some, None, Err, ap, subst, ◌∙◌, slice_get}
+use Rattle.std.proofs.Common.{◌≡◌, ℕ, List, drop, ◌⊎◌, Some, None, Err, ap, subst, ◌∙◌, slice_get}
 use Rattle.wkb_clients.specs.Common.{WkbError, IsMemory, Coordinate, Item}
 use Rattle.wkb_clients.specs.Common.{IsWordOf, IsFront, IsOnlyFront, HasNoFront, IfRefused}
-use Rattle.wkb_geom.specs.declared.error.WkbError.TheVariants as errors
+use Rattle.wkb.specs.Bridges as bridges
 
 -- the geometry that stands in a blob behind an offset: its bytes spell it, and no other stands there
 pub record Stands (blob : List ℕ) (offset : ℕ) (w : Item) : Type 0 where
@@ -15,18 +15,9 @@ pub stands : (blob : List ℕ) (offset : ℕ) (behind : List ℕ) (w : Item) →
 stands blob offset behind w same front only = record { front = subst (λ b. IsFront b w) same front; only = subst (λ b. IsOnlyFront b w) same only }
 
 -- of what the reader refuses, for a cause other than memory, there is none
-refused_by : (buf : List ℕ) (e : WkbError) → IfRefused (Err e) (λ _. HasNoFront buf) → IsMemory e ⊎ HasNoFront buf
-refused_by buf (errors.Memory e) h = inl tt
-refused_by buf (errors.IncorrectType s) h = inr h
-refused_by buf (errors.NotYetImplemented s) h = inr h
-refused_by buf (errors.General g) h = inr h
-refused_by buf (errors.NestingDepthExceeded n) h = inr h
-refused_by buf (errors.OverflowError o) h = inr h
-refused_by buf (errors.IOError e) h = inr h
-
 pub refused : (blob : List ℕ) (offset : ℕ) (behind : List ℕ) (e : WkbError) → behind ≡ drop offset blob → IfRefused (Err e) (λ _. HasNoFront behind)
     → IsMemory e ⊎ HasNoFront (drop offset blob)
-refused blob offset behind e same h = subst (λ b. IsMemory e ⊎ HasNoFront b) same (refused_by behind e h)
+refused blob offset behind e same h = subst (λ b. IsMemory e ⊎ HasNoFront b) same (bridges.refused (λ _. HasNoFront behind) e h)
 
 -- what is said to stand there has its spelling and its value
 pub one_value : (blob : List ℕ) (offset : ℕ) (w v : Item) → Stands blob offset w → IsFront (drop offset blob) v → v.value ≡ w.value

@@ -7,8 +7,8 @@ use Rattle.std.proofs.lemmas.List.{append-nil, map-append}
 use Rattle.wkb_clients.specs.Common.{LittleEndian, Iso, AreBytes, Value, Front}
 use Rattle.std.specs.Bool.{Decides}
 use Rattle.std.proofs.lemmas.Slice.Eq.{bytes_eq-Decides}
-use Rattle.wkb_geom.specs.Texts.{IsRewriting}
-use Rattle.wkb_laws.specs.Laws.{EqualTexts, FrontIsRead, RewritingIsRead}
+use Rattle.wkb.specs.Texts.{IsRewriting}
+use Rattle.wkb.specs.Laws.{EqualTexts, FrontIsRead, RewritingIsRead}
 use Rattle.wkb_clients.specs.Keys.{key_of, IsKey, HasOneKey, Inserts, value_in, value_read}
 
 pub is_key : (input key : List ℕ) → IsRewriting LittleEndian Iso input key → IsKey input key

@@ -2,18 +2,16 @@
 use Rattle.std.proofs.Common.{◌≡◌, ℕ, List, refl, sym, ap, ◌∙◌, arith}
 use Rattle.wkb_clients.specs.Common.{Coordinate, kind, Listed, Item, point_value}
 use Rattle.std.specs.Borrow.{Bor}
-use Rattle.wkb_geom.specs.declared.geom.GeometryType.{GeometryType}
-use Rattle.wkb_geom.specs.declared.geom.GeometryType.TheVariants.{Point, LineString, Polygon, MultiPoint, MultiLineString, MultiPolygon, GeometryCollection}
-use Rattle.wkb_geom.specs.declared.geom.GeometryType.TheVariants.{Rect, Triangle, Line}
-use Rattle.wkb_view.specs.declared.point.Point as views
-use Rattle.wkb_view.specs.declared.line_string.LineString as lines
-use Rattle.wkb_view.specs.declared.multi_point.MultiPoint as points
-use Rattle.wkb_read.specs.Views.{IsViewOf}
+use Rattle.wkb.specs.Reads.{GeometryType}
+use Rattle.wkb.specs.Reads.handed.{Point, LineString, Polygon, MultiPoint, MultiLineString, MultiPolygon, GeometryCollection}
+use Rattle.wkb.specs.Reads.handed.{Rect, Triangle, Line}
+use Rattle.wkb.specs.Reads as views
+use Rattle.wkb.specs.Reads.{IsViewOf}
 
 -- what a geometry of any kind hands out
 abbrev pub Handed : Type 0 → Type 0 → Type 0 → Type 0
 Handed R T N =
-    GeometryType views.Point lines.LineString (Listed (List (List Coordinate))) points.MultiPoint (Listed (List (List Coordinate)))
+    GeometryType views.Point views.LineString (Listed (List (List Coordinate))) views.MultiPoint (Listed (List (List Coordinate)))
     (Listed (List (List (List Coordinate)))) Item R T N
 
 -- the kind of what was handed out; the last three are never handed out
@@ -40,7 +38,7 @@ kind_handed w (Triangle t) view = absurd view
 kind_handed w (Line l) view = absurd view
 
 -- what was handed out is of no other kind
-pub not_line_string : {R T N : Type 0} (w : Item) (r : Handed R T N) → IsViewOf w r → ((l : Bor lines.LineString) → r ≡ LineString l → ⊥) → kind w.value ≡ 2 → ⊥
+pub not_line_string : {R T N : Type 0} (w : Item) (r : Handed R T N) → IsViewOf w r → ((l : Bor views.LineString) → r ≡ LineString l → ⊥) → kind w.value ≡ 2 → ⊥
 not_line_string w (LineString l) view none two = none l refl
 not_line_string w r view none two = absurd (omega (arith, kind_handed w r view, two))
 
@@ -48,3 +46,7 @@ pub not_polygon : {R T N : Type 0} (w : Item) (r : Handed R T N) → IsViewOf w 
     → kind w.value ≡ 3 → ⊥
 not_polygon w (Polygon p) view none three = none p refl
 not_polygon w r view none three = absurd (omega (arith, kind_handed w r view, three))
+
+pub not_point : {R T N : Type 0} (w : Item) (r : Handed R T N) → IsViewOf w r → ((p : Bor views.Point) → r ≡ Point p → ⊥) → kind w.value ≡ 1 → ⊥
+not_point w (Point p) view none one = none p refl
+not_point w r view none one = absurd (omega (arith, kind_handed w r view, one))

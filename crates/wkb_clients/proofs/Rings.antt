@@ -7,22 +7,16 @@ use Rattle.wkb_clients.specs.Common.{Dimension, WkbError, number, width}
 use Rattle.wkb_clients.specs.Common.{IsMemory, Coordinate, Value, Values, polygon, collection, no_members, member, members, kind, Spelling, node, Spellings}
 use Rattle.wkb_clients.specs.Common.{no_spellings, spelling, header, Spells, Listed, whole_of, Item, spellings, values, IsOneOf, IsMember, IsWordOf}
 use Rattle.wkb_clients.specs.Common.{MembersStand, RingsStand, WordsStand, members_spelled, HasNoFront}
-use Rattle.wkb_laws.proofs.Parts.{drop_front}
-use Rattle.wkb_view.specs.Coords.{ring_seen}
-use Rattle.wkb_view.specs.declared.linear_ring.LinearRing.{LinearRing}
-use Rattle.wkb_read.specs.Views.{IsCollectionOf}
+use Rattle.std.proofs.Math.Seq.{drop-append_seam}
+use Rattle.wkb.specs.Reads.{ring_seen}
+use Rattle.wkb.specs.Reads.{LinearRing}
+use Rattle.wkb.specs.Reads.{IsCollectionOf}
+use Rattle.wkb.specs.Bridges.{member_of}
 use Rattle.wkb_clients.specs.Rings.{IsRingOf, HasNoRing}
 use Rattle.wkb_clients.specs.Words.{IsRingWordAt, HasNoRingWordAt}
 use Rattle.wkb_clients.proofs.Fronts.{Stands, one_value, one_spelling, no_word, no_word_there}
 
 -- ---- members by their index
-
-pub one_of : (ms : List Item) (k : ℕ) (m : Item) → slice_get ms k ≡ Some m → IsOneOf k (spellings ms) (values ms) m.spelled m.value
-one_of [] k m is = absurd (cc)
-one_of (x ∷ ms) zero m is =
-    let same : x ≡ m = cc in
-    (ap (λ (i : Item). i.spelled) (sym same), ap (λ (i : Item). i.value) (sym same))
-one_of (x ∷ ms) (suc k) m is = one_of ms k m is
 
 none_of : (ms : List Item) (k : ℕ) (s : Spelling) (t : Value) → slice_get ms k ≡ None → IsOneOf k (spellings ms) (values ms) s t → ⊥
 none_of [] zero s t is h = h
@@ -42,23 +36,12 @@ listed : (u : Spelling) (d : Dimension) (vs : Values) (k : ℕ) (s : Spelling) (
     → IsOneOf k (members_spelled u) vs s t
 listed (node g ws ss) d vs k s t h = h
 
-unlisted : (u : Spelling) (d : Dimension) (vs : Values) (k : ℕ) (s : Spelling) (t : Value) → IsOneOf k (members_spelled u) vs s t
-    → IsMember k u (collection d vs) s t
-unlisted (node g ws ss) d vs k s t h = h
-
 -- a member of a collection is one of those that were handed out
 member_in : (w : Item) (ms : List Item) (k : ℕ) (s : Spelling) (t : Value) → IsCollectionOf w ms → IsMember k w.spelled w.value s t
     → IsOneOf k (spellings ms) (values ms) s t
 member_in w ms k s t c h =
     let inside = listed c.whole.spelled c.whole.dimension c.whole.parts k s t (subst (λ (v : Item). IsMember k v.spelled v.value s t) (sym c.is) h) in
     subst (λ vs. IsOneOf k (spellings ms) vs s t) (sym c.all.value) (subst (λ ss. IsOneOf k ss c.whole.parts s t) (sym c.all.spelled) inside)
-
-member_of : (w : Item) (ms : List Item) (k : ℕ) (m : Item) → IsCollectionOf w ms → slice_get ms k ≡ Some m → IsMember k w.spelled w.value m.spelled m.value
-member_of w ms k m c is =
-    let inside = subst (λ vs. IsOneOf k (spellings ms) vs m.spelled m.value) c.all.value (one_of ms k m is) in
-    subst (λ (v : Item). IsMember k v.spelled v.value m.spelled m.value) c.is
-    (unlisted c.whole.spelled c.whole.dimension c.whole.parts k m.spelled m.value
-    (subst (λ ss. IsOneOf k ss c.whole.parts m.spelled m.value) c.all.spelled inside))
 
 -- a member has one value
 same_one : (k : ℕ) (ss : Spellings) (vs : Values) (s u : Spelling) (t v : Value) → IsOneOf k ss vs s t → IsOneOf k ss vs u v → t ≡ v
@@ -127,7 +110,8 @@ behind_part text rest head before part after start is at =
     let all : text ++ rest ≡ (head ++ before) ++ (part ++ (after ++ rest)) =
     ap (λ t. t ++ rest) is ∙ append_assoc head (before ++ (part ++ after)) rest ∙ ap (λ t. head ++ t) (append_assoc before (part ++ after) rest)
     ∙ ap (λ t. head ++ (before ++ t)) (append_assoc part after rest) ∙ sym (append_assoc head before (part ++ (after ++ rest))) in
-    ap (drop start) all ∙ drop_front start (head ++ before) (part ++ (after ++ rest)) (omega (arith, length-append head before, at))
+    ap (drop start) all ∙ ap (λ n. drop n ((head ++ before) ++ (part ++ (after ++ rest)))) (at ∙ sym (length-append head before))
+    ∙ drop-append_seam (head ++ before) (part ++ (after ++ rest))
 
 ring_word_at : MembersStand → RingsStand → WordsStand → (blob : List ℕ) (offset k j i n x : ℕ) (w : Item) (ring : List Coordinate)
     → Stands blob offset w → IsRingOf w k j ring → IsWordOf ring i n x → IsRingWordAt blob offset k j i n x

@@ -2,10 +2,10 @@
 use Rattle.std.proofs.Common.{◌≡◌, ℕ, List, [], ◌∷◌, ◌++◌, Bool, Result, Ok, Err, None}
 use Rattle.std.specs.Prelude.{◌↔◌, MatchBool, Contains}
 use Rattle.wkb_clients.specs.Common.{LittleEndian, Xy, Iso, AreBytes, Value}
-use Rattle.wkb_clients.specs.Common.{point, Spelling, Front, max_nesting, Item, geometry_at}
-use Rattle.wkb_geom.specs.Geometries.{geometry_of}
-use Rattle.wkb_geom.specs.declared.error.Cause.{Cause}
-use Rattle.wkb_geom.specs.Texts.{text}
+use Rattle.wkb_clients.specs.Common.{point, Spelling, header, Front, max_nesting, Item, geometry_at}
+use Rattle.wkb.specs.Geometries.{geometry_of}
+use Rattle.wkb.specs.Words.{Endianness, Cause}
+use Rattle.wkb.specs.Texts.{text, IsRewritingWithSrid}
 
 -- the bytes that are written of a value, under one order and one form
 unfoldable pub key_of : Value → List ℕ
@@ -23,6 +23,11 @@ pub record IsKey (input key : List ℕ) : Type 0 where
 abbrev pub HasOneKey : Type 0
 HasOneKey = (a b x y : List ℕ) → AreBytes a → AreBytes b → (k : IsKey a x) → (l : IsKey b y)
     → (x ≡ y) ↔ (k.value ≡ l.value)
+
+-- Two inputs have one EWKB key under an order exactly if their values and their outermost SRIDs are equal.
+abbrev pub HasOneEwkbKey : Type 0
+HasOneEwkbKey = (order : Endianness) (a b x y : List ℕ) → AreBytes a → AreBytes b → (k : IsRewritingWithSrid order a x) → (l : IsRewritingWithSrid order b y)
+    → (x ≡ y) ↔ ((k.t ≡ l.t) × ((header k.s).srid ≡ (header l.s).srid))
 
 -- The value that the input begins with was stored before, and nothing changed, or it was not, and is the last one now.
 pub record Inserts (old new : List Value) (input : List ℕ) (was : Bool) : Type 0 where

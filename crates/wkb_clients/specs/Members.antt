@@ -1,13 +1,33 @@
--- The bytes of a member.
-use Rattle.std.proofs.Common.{◌≡◌, ℕ, List}
-use Rattle.wkb_clients.specs.Common.{Item, HoldsMember}
+-- The bytes of a member, of a ring, and a word of a member's ring.
+use Rattle.std.proofs.Common.{◌≡◌, ℕ, ◌+◌, ◌*◌, List, drop, Some, slice_get}
+use Rattle.wkb_clients.specs.Common.{Dimension, width, number, Coordinate, polygon, header, Listed, Item, IsMember, IsWordOf, IsFront, StandsAt, member_start}
+use Rattle.wkb_clients.specs.Common.{ring_start}
 
--- a member of this number that has these bytes
-pub record IsHeld (whole : Item) (k : ℕ) (bytes : List ℕ) : Type 0 where
+-- the bytes are the geometry's at the place of its member of this number
+abbrev pub LendsMember : Item → ℕ → List ℕ → Type 0
+LendsMember whole k bytes = StandsAt (member_start k whole.spelled whole.value) bytes whole.text
+
+-- the bytes are the polygon's at the place of the coordinates of its ring of this number, behind the ring's count
+abbrev pub LendsRing : Listed (List (List Coordinate)) → ℕ → List ℕ → Type 0
+LendsRing p j bytes = StandsAt (ring_start j p.spelled p.dimension p.parts + 4) bytes p.text
+
+-- the input begins with a geometry, and the bytes are the input's at the place of its member of this number
+pub record IsMemberOf (input : List ℕ) (k : ℕ) (bytes : List ℕ) : Type 0 where
+  pub whole : Item
+  pub front : IsFront input whole
+  pub stands : StandsAt (member_start k whole.spelled whole.value) bytes input
+
+-- Member k of the geometry is a polygon, and this is word n of coordinate i of its exterior: the number that stands, in
+-- the polygon's order, so many words behind the exterior's count.
+pub record IsCornerWord (whole : Item) (k i n w : ℕ) : Type 0 where
   pub part : Item
-  pub text_is : part.text ≡ bytes
-  pub held : HoldsMember whole k part
-
--- there is one
-abbrev pub HoldsBytes : Item → ℕ → List ℕ → Type 0
-HoldsBytes whole k bytes = ∥ IsHeld whole k bytes ∥₁
+  pub dimension : Dimension
+  pub rings : List (List Coordinate)
+  pub ring : List Coordinate
+  pub is_member : IsMember k whole.spelled whole.value part.spelled part.value
+  pub value_is : part.value ≡ polygon dimension rings
+  pub exterior : slice_get rings 0 ≡ Some ring
+  pub word : IsWordOf ring i n w
+  pub place : ℕ
+  pub place_is : place ≡ member_start k whole.spelled whole.value + ring_start 0 part.spelled dimension rings + 4 + 8 * (width dimension * i + n)
+  pub stands : number (header part.spelled).order 8 (drop place whole.text) ≡ w

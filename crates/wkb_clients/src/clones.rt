@@ -1,15 +1,13 @@
 //! Equal views answer alike. A clone is equal to its source, so it lends the same members.
 
 ghost use Rattle.std.specs.Prelude.{◌≡◌, option_map};
-ghost use Rattle.wkb_geom.specs.Numbers.{AreBytes};
-ghost use Rattle.wkb_geom.specs.Stored.{whole_of};
-ghost use Rattle.wkb_geom.specs.Values.{polygon as of_rings};
-ghost use Rattle.wkb_view.specs.Parts.{IsSpelled};
-ghost use Rattle.wkb_view.specs.Views.{line_string_seen};
+ghost use Rattle.wkb.specs.Words.{AreBytes};
+ghost use Rattle.wkb.specs.Values.{polygon as of_rings};
+ghost use Rattle.wkb.specs.Spellings.{Spells};
+ghost use Rattle.wkb.specs.Reads.{line_string_seen};
 
-use crate::members::holds_bytes;
 use wkb::geom::{GeometryCollectionTrait, MultiLineStringTrait, MultiPolygonTrait};
-use wkb::laws::one_text;
+use wkb::laws::{are_bytes, one_text, spelled_in_full};
 use wkb::reader::{GeometryCollection, LineString, MultiLineString, MultiPolygon, Polygon, Wkb};
 
 /// The geometry of one index in two equal collections: the same bytes, spelled alike, of one value.
@@ -28,17 +26,20 @@ pub fn geometries<'m, 'a>(
 // The bytes of a polygon spell it.
 fn polygon_spelled(polygon: &Polygon)
     ensures bytes { AreBytes polygon.now.text }
-    ensures spells { IsSpelled (whole_of of_rings polygon.now) }
+    ensures spells { Spells polygon.now.spelled (of_rings polygon.now.dimension polygon.now.parts) polygon.now.text }
 {
-    holds_bytes(polygon.buf());
+    spelled_in_full();
+    are_bytes(polygon.buf());
 }
 
 // The bytes of a line string spell it.
 fn line_string_spelled(line_string: &LineString)
     ensures bytes { AreBytes (line_string_seen line_string.now).text }
-    ensures spells { IsSpelled (line_string_seen line_string.now) }
+    ensures spells { Spells (line_string_seen line_string.now).spelled (line_string_seen line_string.now).value
+        (line_string_seen line_string.now).text }
 {
-    holds_bytes(line_string.buf());
+    spelled_in_full();
+    are_bytes(line_string.buf());
 }
 
 /// The same of the polygons of one index in two equal multi polygons.

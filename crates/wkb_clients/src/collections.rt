@@ -1,8 +1,9 @@
 //! A polygon's ring inside a collection that a blob holds.
 
-ghost use Rattle.std.specs.Prelude.{◌⊎◌, MatchOption, MatchResult};
-ghost use Rattle.wkb_geom.specs.Errors.{IsMemory};
-ghost use Rattle.wkb_view.specs.Coords.{ring_seen};
+ghost use Rattle.std.specs.Prelude.{◌⊎◌, IfOk, IfSome, MatchOption, MatchResult};
+ghost use Rattle.wkb.specs.Words.{IsMemory};
+ghost use Rattle.wkb.specs.Reads.{ring_seen};
+ghost use Rattle.wkb_clients.specs.Members.{IsMemberOf};
 ghost use Rattle.wkb_clients.specs.Rings.{IsRingOf, HasNoRing};
 ghost use Rattle.wkb_clients.specs.Words.{IsRingWordAt, HasNoRingWordAt};
 
@@ -10,7 +11,9 @@ use crate::package::behind;
 use std::alloc::Global;
 use wkb::error::WkbResult;
 use wkb::geom::{CoordTrait, GeometryTrait, GeometryType, LineStringTrait, PolygonTrait};
-use wkb::laws::{members_stand, rings_stand, words_stand};
+use wkb::laws::{
+    are_bytes, members_in_place, members_stand, rings_stand, spelled_in_full, words_stand,
+};
 use wkb::reader::{LinearRing, Wkb, read_wkb};
 
 /// Which word of a collection is meant, each index from 0: the member, its ring (0 is the exterior), the ring's
@@ -21,6 +24,30 @@ pub struct Place {
     pub ring: usize,
     pub coordinate: usize,
     pub word: usize,
+}
+
+/// The bytes of a member of the collection that the input begins with: a slice of the input, at the member's place.
+///
+/// None where another geometry stands there, or the collection has no such member.
+pub fn member_bytes<'a>(alloc: Global, input: &'a [u8], index: usize) -> WkbResult<Option<&'a [u8]>>
+    ensures { IfOk result (λ found. IfSome found (λ bytes. IsMemberOf input.now index bytes.now)) }
+{
+    members_in_place();
+    spelled_in_full();
+    let geometry = match read_wkb(alloc, input) {
+        Ok(geometry) => geometry,
+        Err(e) => return Err(e),
+    };
+    are_bytes(geometry.buf());
+    let GeometryType::GeometryCollection(members) = geometry.as_type() else {
+        return Ok(None);
+    };
+    let Some(found) = members.get(index) else {
+        return Ok(None);
+    };
+    let bytes = found.buf();
+    are_bytes(bytes);
+    Ok(Some(bytes))
 }
 
 /// A ring of the polygon that is a member of this collection, the exterior first.

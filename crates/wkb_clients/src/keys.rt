@@ -1,17 +1,19 @@
 //! Keys of geometries, and a store that holds each value once.
 
 ghost use Rattle.std.specs.Prelude.{◌≡◌, ◌⊎◌, [], IfOk, IfErr, MatchResult};
-ghost use Rattle.wkb_geom.specs.Errors.{IsMemory};
-ghost use Rattle.wkb_read.specs.Public.{IsRefusal};
-ghost use Rattle.wkb_clients.specs.Keys.{IsKey, HasOneKey, Inserts};
+ghost use Rattle.wkb.specs.Words.{IsMemory};
+ghost use Rattle.wkb.specs.Reads.{IsRefusal};
+ghost use Rattle.wkb.specs.Texts.{IsRewritingWithSrid};
+ghost use Rattle.wkb_clients.specs.Keys.{IsKey, HasOneKey, HasOneEwkbKey, Inserts};
 
-use crate::members::holds_bytes;
 use std::alloc::{AllocError, Global};
 use std::marker::Model;
 use wkb::Endianness;
-use wkb::canon::canonical;
+use wkb::canon::{canonical, canonical_with_srid};
 use wkb::error::{WkbError, WkbResult};
-use wkb::laws::{equal_texts, geometry_agrees, rewriting_is_read};
+use wkb::laws::{
+    are_bytes, equal_texts, equal_texts_with_own_srid, geometry_agrees, rewriting_is_read,
+};
 use wkb::writer::{Form, WriteOptions};
 
 /// The key of the geometry at the front of the bytes: equal values have equal keys, whatever their byte orders, codes
@@ -36,6 +38,23 @@ pub fn one_key()
     equal_texts();
 }
 
+/// The key of the geometry at the front of the bytes with its SRID.
+///
+/// Refused as `read_wkb` refuses the bytes.
+pub fn ewkb_key(alloc: Global, bytes: &[u8], order: Endianness) -> WkbResult<Vec<u8>>
+    ensures ok { IfOk result (λ key. IsRewritingWithSrid order bytes.now key.items) }
+    ensures err { IfErr result (λ e. IsMemory e ⊎ IsRefusal bytes.now e) }
+{
+    canonical_with_srid(alloc, bytes, order)
+}
+
+/// Two inputs have one such key exactly if their values and their outermost SRIDs are equal.
+pub fn one_ewkb_key()
+    ensures { HasOneEwkbKey }
+{
+    equal_texts_with_own_srid();
+}
+
 /// Values of geometries in the order in which they came, each once. It holds their keys, and looks at each of them.
 #[derive(Drop)]
 pub struct Store {
@@ -46,8 +65,8 @@ impl Model for Store {
     ghost use Rattle.std.specs.Prelude.{◌≡◌, List, map};
     ghost use Rattle.std.specs.List.{AllByRecursion};
     ghost use Rattle.std.specs.Coded.{coded_list};
-    ghost use Rattle.wkb_geom.specs.Stored.{value_code};
-    ghost use Rattle.wkb_geom.specs.Values.{Value as Geometry};
+    ghost use Rattle.wkb.specs.Reads.{value_code};
+    ghost use Rattle.wkb.specs.Values.{Value as Geometry};
     ghost use Rattle.wkb_clients.specs.Keys.{key_of, value_in};
 
     ghost Value = { List Geometry };
@@ -79,7 +98,7 @@ impl Store {
     {
         geometry_agrees();
         rewriting_is_read();
-        holds_bytes(bytes);
+        are_bytes(bytes);
         let key = match key(*self.keys.allocator(), bytes) {
             Ok(key) => key,
             Err(e) => return Err(e),

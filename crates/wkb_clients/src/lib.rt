@@ -6,3 +6,5 @@ pub mod collections;
 pub mod keys;
 pub mod members;
 pub mod package;
+pub mod stops;
+pub mod written;

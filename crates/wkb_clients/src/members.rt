@@ -1,33 +1,29 @@
-//! The bytes of the members of multi geometries.
+//! The bytes of the members of multi geometries, of a polygon's rings, and a word of them in place.
 
-ghost use Rattle.std.specs.Prelude.{IfSome};
-ghost use Rattle.wkb_geom.specs.Numbers.{AreBytes};
-ghost use Rattle.wkb_geom.specs.Stored.{whole_of};
-ghost use Rattle.wkb_geom.specs.Values.{multi_line_string, multi_polygon};
-ghost use Rattle.wkb_view.specs.Views.{multi_point_seen};
-ghost use Rattle.wkb_clients.specs.Members.{HoldsBytes};
+ghost use Rattle.std.specs.Prelude.{◌+◌, IfSome};
+ghost use Rattle.wkb.specs.Reads.{whole_of, multi_point_seen};
+ghost use Rattle.wkb.specs.Values.{multi_line_string, multi_polygon};
+ghost use Rattle.wkb_clients.specs.Members.{LendsMember, LendsRing, IsCornerWord};
 
-use wkb::geom::{MultiLineStringTrait, MultiPointTrait, MultiPolygonTrait};
-use wkb::laws::{members_stand, one_text};
-use wkb::reader::{MultiLineString, MultiPoint, MultiPolygon};
-
-// A slice of bytes holds bytes.
-pub(crate) fn holds_bytes(_bytes: &[u8])
-    ensures { AreBytes _bytes.now }
-{}
+use wkb::geom::{
+    CoordTrait, LineStringTrait, MultiLineStringTrait, MultiPointTrait, MultiPolygonTrait,
+    PolygonTrait,
+};
+use wkb::laws::{are_bytes, members_in_place, rings_in_place, spelled_in_full, words_stand};
+use wkb::reader::{MultiLineString, MultiPoint, MultiPolygon, Polygon};
 
 /// The bytes of a point of a multi point, if there is one of this index: they stand in those of the multi point, behind
 /// its count and the points before.
 pub fn point_bytes<'a>(multi: &MultiPoint<'a>, i: usize) -> Option<&'a [u8]>
-    ensures { IfSome result (λ bytes. HoldsBytes (multi_point_seen multi.now) i bytes.now) }
+    ensures { IfSome result (λ bytes. LendsMember (multi_point_seen multi.now) i bytes.now) }
 {
-    one_text();
-    members_stand();
-    holds_bytes(multi.buf());
+    members_in_place();
+    spelled_in_full();
+    are_bytes(multi.buf());
     match multi.point(i) {
         Some(point) => {
             let bytes = point.buf();
-            holds_bytes(bytes);
+            are_bytes(bytes);
             Some(bytes)
         }
         None => None,
@@ -36,15 +32,15 @@ pub fn point_bytes<'a>(multi: &MultiPoint<'a>, i: usize) -> Option<&'a [u8]>
 
 /// The same of a line string of a multi line string.
 pub fn line_string_bytes<'a>(multi: &MultiLineString<'a>, i: usize) -> Option<&'a [u8]>
-    ensures { IfSome result (λ bytes. HoldsBytes (whole_of multi_line_string multi.now) i bytes.now) }
+    ensures { IfSome result (λ bytes. LendsMember (whole_of multi_line_string multi.now) i bytes.now) }
 {
-    one_text();
-    members_stand();
-    holds_bytes(multi.buf());
+    members_in_place();
+    spelled_in_full();
+    are_bytes(multi.buf());
     match multi.line_string(i) {
         Some(line_string) => {
             let bytes = line_string.buf();
-            holds_bytes(bytes);
+            are_bytes(bytes);
             Some(bytes)
         }
         None => None,
@@ -53,17 +49,63 @@ pub fn line_string_bytes<'a>(multi: &MultiLineString<'a>, i: usize) -> Option<&'
 
 /// The same of a polygon of a multi polygon.
 pub fn polygon_bytes<'a>(multi: &MultiPolygon<'a>, i: usize) -> Option<&'a [u8]>
-    ensures { IfSome result (λ bytes. HoldsBytes (whole_of multi_polygon multi.now) i bytes.now) }
+    ensures { IfSome result (λ bytes. LendsMember (whole_of multi_polygon multi.now) i bytes.now) }
 {
-    one_text();
-    members_stand();
-    holds_bytes(multi.buf());
+    members_in_place();
+    spelled_in_full();
+    are_bytes(multi.buf());
     match multi.polygon(i) {
         Some(polygon) => {
             let bytes = polygon.buf();
-            holds_bytes(bytes);
+            are_bytes(bytes);
             Some(bytes)
         }
         None => None,
     }
+}
+
+/// The bytes of the coordinates of a polygon's interior, if there is one of this index: they stand in those of the
+/// polygon, behind the rings before and the interior's own count.
+pub fn interior_bytes<'a>(polygon: &Polygon<'a>, i: usize) -> Option<&'a [u8]>
+    ensures { IfSome result (λ bytes. LendsRing polygon.now (i + 1) bytes.now) }
+{
+    rings_in_place();
+    spelled_in_full();
+    are_bytes(polygon.buf());
+    match polygon.interior(i) {
+        Some(ring) => Some(ring.coords_slice()),
+        None => None,
+    }
+}
+
+/// A word of a coordinate of the exterior of a polygon of a multi polygon, if there is one: it stands in the bytes of the
+/// multi polygon, at an offset that the sizes of what is before it tell.
+pub fn corner_word(
+    multi: &MultiPolygon,
+    member: usize,
+    coordinate: usize,
+    word: usize,
+) -> Option<u64>
+    ensures { IfSome result (λ w. IsCornerWord (whole_of multi_polygon multi.now) member coordinate word w) }
+{
+    members_in_place();
+    rings_in_place();
+    spelled_in_full();
+    words_stand();
+    are_bytes(multi.buf());
+    let Some(polygon) = multi.polygon(member) else {
+        return None;
+    };
+    are_bytes(polygon.buf());
+    let Some(ring) = polygon.exterior() else {
+        return None;
+    };
+    let _coordinates = ring.coords_slice();
+    let Some(coord) = ring.coord(coordinate) else {
+        return None;
+    };
+    let Some(word) = coord.nth(word) else {
+        return None;
+    };
+    Some(word)
 }

@@ -1,7 +1,7 @@
 //! A line string in a blob, behind a header that is another format's, as in a GeoPackage.
 
 ghost use Rattle.std.specs.Prelude.{◌≡◌, ◌⊎◌, drop, MatchOption, MatchResult};
-ghost use Rattle.wkb_geom.specs.Errors.{IsMemory};
+ghost use Rattle.wkb.specs.Words.{IsMemory};
 ghost use Rattle.wkb_clients.specs.Words.{IsWordAt, HasNoWordAt};
 
 use std::alloc::Global;

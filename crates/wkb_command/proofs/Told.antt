@@ -14,7 +14,7 @@ use Rattle.wkb_geom.specs.declared.error.Cause.TheVariants.{EndOfInput as end_of
 use Rattle.wkb_geom.specs.declared.error.Cause.TheVariants.{NestingDepthExceeded as nesting_depth_exceeded}
 use Rattle.wkb_geom.specs.Texts.{IsRewriting, IsRewritingWithSrid}
 use Rattle.wkb_geom.specs.Told.{Tells}
-use Rattle.wkb.specs.Canonical.{IsTooLong, IsTooLongWithSrid, HasSrid, Accepts, IsRefused, IsSize}
+use Rattle.wkb.specs.Canonical.{IsTooLong, HasSrid, Accepts, IsRefused}
 use Rattle.wkb_geom.specs.declared.error.WkbError.{WkbError}
 use Rattle.wkb_geom.specs.declared.error.WkbError.TheVariants as errors
 use Rattle.wkb_command.specs.declared.calls.HexFault.{HexFault}
@@ -22,7 +22,7 @@ use Rattle.wkb_command.specs.declared.calls.HexFault.TheVariants.{NotHex, Wkb, M
 use Rattle.wkb_command.specs.declared.program.Command.{Command}
 use Rattle.wkb_command.specs.declared.program.Command.TheVariants.{Rewrite, RewriteWithSrid, Same, Cost, Srid}
 use Rattle.wkb_command.specs.Calls.{AreHex, AreHexOf, IsHexOf, IsFaultOf, RefusedFirst, IsOversized}
-use Rattle.wkb_command.specs.Program.{Says, rewritten, rewritten_with_srid, accepted, counted_refusal, srid, too_long, refused, not_hex}
+use Rattle.wkb_command.specs.Program.{Says, rewritten, rewritten_with_srid, accepted, counted_refusal, srid, refused, not_hex}
 use Rattle.wkb_command.specs.Program.{wanted_lines, Gives, IsRefusalLine, counts, TellsCause, TellsError, TellsFault}
 use Rattle.wkb.proofs.Texts.{iso_fits}
 use Rattle.wkb_command.proofs.Hexes.{AreHex-from, AreHexOf-length}
@@ -135,19 +135,6 @@ pub says_rewritten_with_srid : (order : Endianness) (text line items : List ℕ)
     → (bytes : List ℕ) × IsHexOf text bytes × IsRewritingWithSrid order bytes items → Says (text ∷ []) (RewriteWithSrid order) line 0
 says_rewritten_with_srid order text line items is h =
     rw is (rewritten_with_srid (one_input (RewriteWithSrid order) text h.0 refl h.1) h.2)
-
-size_line : (e : WkbError) (line : List ℕ) → IsSize e → TellsError e line → IsRefusalLine line
-size_line (errors.OverflowError o) line size told = told
-size_line _ line size told = absurd size
-
-pub says_srid_refused : (order : Endianness) (text line : List ℕ) (inputs : List (List ℕ)) (e : WkbError)
-    → Gives (RewriteWithSrid order) (text ∷ []) inputs
-    → RefusedFirst inputs e ⊎ IsOversized (IsTooLongWithSrid order) inputs e
-    → TellsError e line → Says (text ∷ []) (RewriteWithSrid order) line 1
-says_srid_refused order text line inputs e gives (inl first) told =
-    says_refused (RewriteWithSrid order) (text ∷ []) line (λ is. cc) inputs e gives first told
-says_srid_refused order text line inputs e gives (inr h) told =
-    too_long (rw h.only at gives) h.long (size_line e line h.size told)
 
 pub says_iso_refused : (order : Endianness) (text line : List ℕ) (inputs : List (List ℕ)) (e : WkbError) → Gives (Rewrite order) (text ∷ []) inputs
     → RefusedFirst inputs e ⊎ IsOversized (IsTooLong order Iso) inputs e

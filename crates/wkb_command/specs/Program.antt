@@ -10,7 +10,7 @@ use Rattle.wkb_geom.specs.declared.common.Form.TheVariants.{Iso}
 use Rattle.wkb_geom.specs.declared.error.Cause.{Cause}
 use Rattle.wkb_geom.specs.declared.error.Cause.TheVariants.{EndOfInput as end_of_input}
 use Rattle.wkb_geom.specs.Texts.{IsRewriting, IsRewritingWithSrid}
-use Rattle.wkb.specs.Canonical.{IsRefused, Accepts, IsTooLongWithSrid, HaveOneValue, HaveTwoValues, HasSrid}
+use Rattle.wkb.specs.Canonical.{IsRefused, Accepts, HaveOneValue, HaveTwoValues, HasSrid}
 use Rattle.wkb_command.specs.Calls.{AreHexOf, FirstRefusal}
 use Rattle.wkb_geom.specs.declared.error.WkbError.{WkbError}
 use Rattle.wkb_geom.specs.declared.error.WkbError.TheVariants as errors
@@ -142,9 +142,6 @@ pub data Says (lines : List (List ℕ)) : Command → List ℕ → ℕ → Type 
   refused : {command : Command} {inputs : List (List ℕ)} {cause : Cause} {line : List ℕ}
       → command ≢ Cost → Gives command lines inputs → FirstRefusal inputs cause → TellsCause cause line
       → Says lines command line status_refused
-  too_long : {order : Endianness} {bytes line : List ℕ}
-      → Gives (RewriteWithSrid order) lines (bytes ∷ []) → IsTooLongWithSrid order bytes → IsRefusalLine line
-      → Says lines (RewriteWithSrid order) line status_refused
   not_hex : {command : Command}
       → ((inputs : List (List ℕ)) → ¬ Gives command lines inputs)
       → Says lines command (codes "not hex") status_misused

@@ -5,7 +5,7 @@
 ghost use Rattle.std.specs.Prelude.{◌≡◌, ◌∷◌, [], ℕ, List, ◌⊎◌, IfOk, IfErr, MatchBool};
 ghost use Rattle.wkb_geom.specs.declared.error.Cause.{Cause};
 ghost use Rattle.wkb_geom.specs.Texts.{IsRewriting, IsRewritingWithSrid};
-ghost use Rattle.wkb.specs.Canonical.{IsTooLong, IsTooLongWithSrid, HaveOneValue, HaveTwoValues};
+ghost use Rattle.wkb.specs.Canonical.{IsTooLong, HaveOneValue, HaveTwoValues};
 ghost use Rattle.wkb.specs.Canonical.{HasSrid, Accepts, IsRefused};
 ghost use Rattle.wkb_command.specs.Calls.{IsHex, IsHexOf, IsFaultOf, RefusedFirst, IsOversized};
 ghost use Rattle.wkb_command.specs.Calls.{FaultOfError, FaultOfHexError};
@@ -85,7 +85,7 @@ pub fn rewrite_hex(alloc: Global, text: &str, options: &WriteOptions) -> Result<
 
 /// The rewriting under EWKB, with the geometry's own SRID where it has one.
 ///
-/// Refused as `rewrite_hex` refuses.
+/// `Wkb` tells what the reader refuses.
 pub fn rewrite_hex_with_srid(
     alloc: Global,
     text: &str,
@@ -93,8 +93,7 @@ pub fn rewrite_hex_with_srid(
 ) -> Result<Vec<u8>, HexFault>
     ensures ok { IfOk result (λ answer. (bytes : List ℕ) × IsHexOf text.now bytes
         × IsRewritingWithSrid order bytes answer.items) }
-    ensures err { IfErr result (IsFaultOf (text.now ∷ []) (λ inputs e. RefusedFirst inputs e
-        ⊎ IsOversized (IsTooLongWithSrid order) inputs e)) }
+    ensures err { IfErr result (IsFaultOf (text.now ∷ []) RefusedFirst) }
 {
     let bytes = decoded(alloc, text)?;
     Ok(canonical_with_srid(alloc, bytes.as_slice(), order)?)

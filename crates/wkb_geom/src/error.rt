@@ -1,7 +1,7 @@
 //! The errors of reading and writing.
 
 ghost use Rattle.std.specs.Prelude.{◌≡◌};
-ghost use Rattle.wkb_geom.specs.declared.error.WkbError.TheVariants.{IOError};
+ghost use Rattle.wkb_geom.specs.declared.error.WkbError.TheVariants.{IOError, Memory};
 ghost use Rattle.wkb_geom.specs.Told.{Tells, TellsRefusal};
 
 use std::alloc::AllocError;
@@ -99,6 +99,15 @@ impl From<io::Error> for WkbError {
 
     fn from(e: io::Error) -> WkbError {
         WkbError::IOError(e)
+    }
+}
+
+/// Want of memory, as an allocation of a caller's own meets it.
+impl From<AllocError> for WkbError {
+    ghost from_gives = { λ e result. result ≡ Memory e };
+
+    fn from(e: AllocError) -> WkbError {
+        WkbError::Memory(e)
     }
 }
 

@@ -23,7 +23,8 @@ use Rattle.wkb_laws.proofs.Heads.{refused_as, ItemIs, IsRight, Opened, count_in,
 use Rattle.wkb_laws.proofs.Lists.{count-each, each_sum, each_same, by_list_kind, whole_by, list_behind}
 use Rattle.wkb_laws.proofs.Lengths.{value_size-least, spelled_length}
 
-coordinate_is : (order : Endianness) (d : Dimension) (y : List ℕ) → 8 * width d ≤ length y
+-- a coordinate is the words of its bytes
+pub coordinate_is : (order : Endianness) (d : Dimension) (y : List ℕ) → 8 * width d ≤ length y
     → SpellsCoordinate order d (coordinate order d y) (take (8 * width d) y)
 coordinate_is order d y h = record {
   len = length-items 8 (number order 8) (width d) y;
@@ -31,7 +32,7 @@ coordinate_is order d y h = record {
 }
 
 -- a count and that many coordinates are all of a text that ends with them
-coordinates_are : (order : Endianness) (d : Dimension) (c : List ℕ) → length c ≡ 4 + 8 * width d * number order 4 c
+pub coordinates_are : (order : Endianness) (d : Dimension) (c : List ℕ) → length c ≡ 4 + 8 * width d * number order 4 c
     → SpellsCoordinates order d (ring_in order d c) c
 coordinates_are order d c h =
     let n = number order 4 c in

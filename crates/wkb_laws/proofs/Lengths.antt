@@ -7,13 +7,14 @@ use Rattle.wkb_laws.specs.Words.{Endianness, Dimension, Xy, Form, Iso, Ewkb, Are
 use Rattle.wkb_laws.specs.Words.{multi_point, multi_line_string, multi_polygon, collection, Values, no_members, member, kind, dimension, members, header}
 use Rattle.wkb_laws.specs.Words.{Spelling, node, Spellings, no_spellings, spelling, SpellsCoordinate, SpellsCoordinates, SpellsBody, Part, member_part, Spells}
 use Rattle.wkb_laws.specs.Words.{SpellsEach, srid_count, srid_count_each, Front, srid_size, Geometry, IsGeometry, normal, geometry_of, or_else, size_fault}
-use Rattle.wkb_laws.specs.Words.{form_srid, inner, text, fault, IsForm, IsWritable}
+use Rattle.wkb_laws.specs.Words.{form_srid, inner, text, fault, refusal, IsForm, IsWritable}
 use Rattle.wkb_laws.specs.Written.{written, HasOptions, AllHaveOptions}
+use Rattle.wkb_laws.specs.Encodings.{IsRewritable, SpelledIsWritable}
 use Rattle.wkb_laws.specs.Laws.{LengthOfText, LengthOfFront, FrontIsWritable, EwkbIsWritable, SizeIsRefused, OwnSridIsWritable}
 use Rattle.wkb_laws.proofs.Parts.{then_length, each_len, header_length}
 use Rattle.wkb_laws.proofs.Lists.{each_sum, each_same}
 use Rattle.wkb_laws.proofs.TextSpells.{inner_fits, text_spells, written_has_options}
-use Rattle.wkb_laws.proofs.Values.{front_good, front_srid, normal-geometry_of, lawful-geometry_of}
+use Rattle.wkb_laws.proofs.Values.{Good, spelled_good, front_good, front_bytes, outer_fits, normal-geometry_of, lawful-geometry_of}
 
 -- the bytes of a ring behind its four bytes of count
 abbrev coordinates_size : Dimension → List Coordinate → ℕ
@@ -59,7 +60,7 @@ value_size-members (multi_line_string d l) = ap (λ z. 9 + z) (sym (each_sum (li
 value_size-members (multi_polygon d l) = ap (λ z. 9 + z) (sym (each_sum (polygon d) each_size refl (λ rings. 5 + rings_size d rings) (λ a ts. refl) l))
 value_size-members _ = omega arith
 
-each_length : {A : Type 0} (P : A → List ℕ → Type 0) (size : A → ℕ) → ((a : A) (x : List ℕ) → P a x → length x ≡ size a) → (l : List A) (x : List ℕ)
+pub each_length : {A : Type 0} (P : A → List ℕ → Type 0) (size : A → ℕ) → ((a : A) (x : List ℕ) → P a x → length x ≡ size a) → (l : List A) (x : List ℕ)
     → IsEach P l x → length x ≡ sum_by size l
 each_length P size one [] x h = ap length h
 each_length P size one (a ∷ l) x h =
@@ -125,42 +126,69 @@ pub length_of_text_lem : LengthOfText
 length_of_text_lem order other form g h lawful fine =
     omega (arith, text_length order form g h lawful fine, text_length other Iso g tt lawful fine)
 
-pub length_of_front_lem : LengthOfFront
-length_of_front_lem order input s t rest b f =
-    let good = front_good input s t rest b f in
+-- what bytes spell is written in as many, less four for each SRID
+spelled_written : (order : Endianness) (s : Spelling) (t : Value) (x : List ℕ) → AreBytes x → Spells s t x
+    → length x ≡ length (text order Iso (geometry_of t)) + 4 * srid_count s
+spelled_written order s t x b h =
+    let good = spelled_good s t x b h in
     let written : length (text order Iso (geometry_of t)) ≡ value_size (normal (geometry_of t)) + 0 =
     text_length order Iso (geometry_of t) tt (lawful-geometry_of t good.0) good.1 in
-    omega (arith, spelled_length s t f.front f.spelled, ap value_size (normal-geometry_of t good.0))
+    omega (arith, spelled_length s t x h, ap value_size (normal-geometry_of t good.0))
+
+pub length_of_front_lem : LengthOfFront
+length_of_front_lem order input s t rest b f = spelled_written order s t f.front (front_bytes input s t rest b f) f.spelled
+
+-- what is refused of a good value is its length alone
+size_refused : (order : Endianness) (form : Form) (t : Value) → Good t → refusal order form (geometry_of t) ≡ size_fault (length (text order form (geometry_of t)))
+unfolding or_else
+size_refused order form t good = ap (λ z. or_else z (size_fault (length (text order form (geometry_of t))))) good.1
 
 pub size_is_refused_lem : SizeIsRefused
-unfolding or_else
-size_is_refused_lem order form input s t rest b f =
-    ap (λ z. or_else z (size_fault (length (text order form (geometry_of t))))) (front_good input s t rest b f).1
+size_is_refused_lem order form input s t rest b f = size_refused order form t (front_good input s t rest b f)
 
--- a front's text under a form is no longer than the front where the form has no SRID that the front hasn't
-fits : (order : Endianness) (form : Form) (input : List ℕ) (s : Spelling) (t : Value) (rest : List ℕ) → AreBytes input → length input < 2 ^ 64
-    → Front input s t rest → IsForm form → ◌≤◌ (if is_some (form_srid form) then 1 else 0) (srid_count s) → IsWritable order form (geometry_of t)
+-- a value is written in no more bytes than spell it where the form has no SRID that the spelling hasn't
+fits : (order : Endianness) (form : Form) (s : Spelling) (t : Value) (x : List ℕ) → AreBytes x → length x < 2 ^ 64
+    → Spells s t x → IsForm form → ◌≤◌ (if is_some (form_srid form) then 1 else 0) (srid_count s) → IsWritable order form (geometry_of t)
 unfolding size_fault
-fits order form input s t rest b small f form_is fewer =
-    let good = front_good input s t rest b f in
-    let long = spelled_length s t f.front f.spelled in
-    let whole : length input ≡ length f.front + length rest = ap length f.whole ∙ length-append f.front rest in
+fits order form s t x b small h form_is fewer =
+    let good = spelled_good s t x b h in
+    let long = spelled_length s t x h in
     let len = text_length order form (geometry_of t) form_is (lawful-geometry_of t good.0) good.1 in
     let same : value_size (normal (geometry_of t)) ≡ value_size t = ap value_size (normal-geometry_of t good.0) in
-    size_is_refused_lem order form input s t rest b f ∙ cond-true (nat_lt (length (text order form (geometry_of t))) (2 ^ 64)) _ _ (lt-ltb _ _ (omega arith))
+    size_refused order form t good ∙ cond-true (nat_lt (length (text order form (geometry_of t))) (2 ^ 64)) _ _ (lt-ltb _ _ (omega arith))
+
+outer_counted : (s : Spelling) → ◌≤◌ (if is_some (header s).srid then 1 else 0) (srid_count s)
+outer_counted (node h own ss) = omega arith
+
+pub spelled_is_writable_lem : SpelledIsWritable
+spelled_is_writable_lem s t x b small h =
+    let good = spelled_good s t x b h in
+    let srid = outer_fits s t x b h in
+    record {
+      lawful = lawful-geometry_of t good.0;
+      normal_is = normal-geometry_of t good.0;
+      iso = λ order. fits order Iso s t x b small h tt (omega arith);
+      size = λ order. spelled_written order s t x b h;
+      ewkb = λ order. fits order (Ewkb None) s t x b small h tt (omega arith);
+      own_form = srid;
+      own_srid = λ order. fits order (Ewkb (header s).srid) s t x b small h srid (outer_counted s);
+    }
+
+-- so is what an input begins with
+front_writable : (input : List ℕ) (s : Spelling) (t : Value) (rest : List ℕ) → AreBytes input → length input < 2 ^ 64 → (f : Front input s t rest)
+    → IsRewritable s t f.front
+front_writable input s t rest b small f =
+    spelled_is_writable_lem s t f.front (front_bytes input s t rest b f) (omega (arith, small, ap length f.whole, length-append f.front rest)) f.spelled
 
 pub front_is_writable_lem : FrontIsWritable
 front_is_writable_lem order input s t rest b small f =
-    let good = front_good input s t rest b f in
-    (lawful-geometry_of t good.0, normal-geometry_of t good.0, fits order Iso input s t rest b small f tt (omega arith))
+    let w = front_writable input s t rest b small f in
+    (w.lawful, w.normal_is, w.iso order)
 
 pub ewkb_is_writable_lem : EwkbIsWritable
-ewkb_is_writable_lem order input s t rest b small f = fits order (Ewkb None) input s t rest b small f tt (omega arith)
+ewkb_is_writable_lem order input s t rest b small f = (front_writable input s t rest b small f).ewkb order
 
 pub own_srid_is_writable_lem : OwnSridIsWritable
 own_srid_is_writable_lem order input s t rest b small f =
-    let srid = front_srid input s t rest b f in
-    (srid, fits order (Ewkb (header s).srid) input s t rest b small f srid (outer_counted s))
-  where
-    outer_counted : (s : Spelling) → ◌≤◌ (if is_some (header s).srid then 1 else 0) (srid_count s)
-    outer_counted (node h own ss) = omega arith
+    let w = front_writable input s t rest b small f in
+    (w.own_form, w.own_srid order)

@@ -15,5 +15,6 @@ pub mod GeometryAt
 pub mod Outcomes
 pub mod Cut
 pub mod Rows
+pub mod Spelled
 pub mod OneText
 pub mod PartsInPlace

@@ -7,7 +7,7 @@ use Rattle.wkb_laws.specs.Words.{Endianness, BigEndian, LittleEndian, Dimension,
 use Rattle.wkb_laws.specs.Words.{Value, Values, point, line_string, polygon, no_members, member, kind, dimension, members, Header, Spelling, node, Spellings}
 use Rattle.wkb_laws.specs.Words.{no_spellings, spelling, IsHeader, IsSrid, SpellsCoordinate, SpellsCoordinates, SpellsBody, Part, member_part, Spells}
 use Rattle.wkb_laws.specs.Words.{SpellsEach}
-use Rattle.wkb_laws.specs.Places.{HasOneText}
+use Rattle.wkb_laws.specs.Places.{HasOneText, HaveOneText, CoordinateHasOneText}
 use Rattle.wkb_laws.proofs.Values.{AreBytes-front, AreBytes-rest}
 
 -- two texts of a form are one
@@ -108,3 +108,9 @@ mutual
 
 pub one_text_lem : HasOneText
 one_text_lem s t x y bytes bytes' h k = (spells_fixed s t).same x y h k bytes bytes'
+
+pub coordinates_lem : HaveOneText
+coordinates_lem order d cs x y bytes bytes' h k = (coordinates_fixed order d cs).same x y h k bytes bytes'
+
+pub coordinate_lem : CoordinateHasOneText
+coordinate_lem order d c x y bytes bytes' h k = (coordinate_fixed order d c).same x y h k bytes bytes'

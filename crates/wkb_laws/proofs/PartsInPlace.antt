@@ -3,11 +3,15 @@ use Rattle.std.proofs.Common.{◌≡◌, ℕ, zero, suc, ◌+◌, ◌*◌, List,
 use Rattle.std.proofs.Common.{length-append, arith, slice_get, is_some, drop-drop}
 use Rattle.wkb_laws.specs.Words.{Then, Endianness, Dimension, number, width, IsEach, Coordinate, Value, Values, point, line_string, polygon, no_members, member}
 use Rattle.wkb_laws.specs.Words.{kind, dimension, members, count, Header, Spelling, node, Spellings, no_spellings, spelling, header, IsHeader}
-use Rattle.wkb_laws.specs.Words.{SpellsCoordinates, SpellsBody, Part, member_part, Spells, SpellsEach, srid_size, coordinate}
-use Rattle.wkb_laws.specs.Places.{behind_count, IsOneOf, IsMember, AreGeometries, HoldsMember, MembersStand, HoldsRing, RingsStand, WordsStand}
-use Rattle.wkb_laws.specs.Places.{LineStringWordsStand}
-use Rattle.wkb_laws.proofs.Parts.{then_append, drop_front, item_at, header_length}
+use Rattle.wkb_laws.specs.Words.{SpellsCoordinates, SpellsBody, Part, any, member_part, Spells, SpellsEach, srid_size, ring_end, coordinate, AreBytes}
+use Rattle.wkb_laws.specs.Places.{behind_count, IsOneOf, IsMember, first_spellings, first_values, ring_start, StandsAt, HoldsMember, MembersStand, HoldsRing}
+use Rattle.wkb_laws.specs.Places.{RingsStand, MembersInPlace, RingsInPlace, WordsStand, LineStringWordsStand}
+use Rattle.wkb_laws.proofs.Parts.{then_append, take_front, drop_front, item_at, header_length}
+use Rattle.wkb_laws.proofs.Values.{AreBytes-front, AreBytes-rest}
+use Rattle.wkb_laws.proofs.Lengths.{each_length, coordinates_length}
 use Rattle.wkb_laws.proofs.Complete.{ring_read}
+use Rattle.wkb_laws.proofs.OneText.{one_text_lem, coordinates_lem}
+use Rattle.wkb_laws.proofs.Spelled.{first_length}
 
 -- a header and a count
 head_len : (g : Header) (k : ℕ) (d : Dimension) (header count : List ℕ) → IsHeader g k d header → length count ≡ 4
@@ -90,6 +94,7 @@ rings_lem whole d rings j ring h value_is is = rings_of whole.text whole.spelled
         ap (λ t. t ++ body.rest) f.whole ∙ append_assoc f.before (f.item ++ f.after) body.rest
         ∙ ap (λ t. f.before ++ t) (append_assoc f.item f.after body.rest) in
         let behind = then_append counted body.rest ∙ ap (λ t. counted.front ++ t) items in
+        let head = head_len g 3 d h.front counted.front h.first counted.first.len in
         record {
           start = length (h.front ++ counted.front) + length f.before;
           head = h.front ++ counted.front;
@@ -104,26 +109,25 @@ rings_lem whole d rings j ring h value_is is = rings_of whole.text whole.spelled
           others = f.others;
           parts = h.whole ∙ ap (λ t. h.front ++ t) (body.whole ∙ behind)
               ∙ sym (append_assoc h.front counted.front (f.before ++ (f.item ++ (f.after ++ body.rest))));
-          counted = head_len g 3 d h.front counted.front h.first counted.first.len;
+          counted = head;
           start_is = refl;
+          place = omega (
+            arith,
+            head,
+            each_length (SpellsCoordinates g.order d) (λ cs. ring_end d (length cs)) (coordinates_length g.order d) (take j rings) f.before f.others,
+          );
         }
 
 -- ---- members
 
 -- one member's text among those of the others
 member_at : (w : Part) (k : ℕ) (ss : Spellings) (ts : Values) (s : Spelling) (t : Value) (bytes : List ℕ) → SpellsEach w ss ts bytes → IsOneOf k ss ts s t
-    → Among (AreGeometries k) (Spells s t) bytes
+    → Among (SpellsEach any (first_spellings k ss) (first_values k ts)) (Spells s t) bytes
 member_at w zero (spelling a ss) (member v ts) s t bytes h is =
-    first_is h (subst (λ u. Spells u t h.front) (sym is.0) (subst (λ u. Spells a u h.front) (sym is.1) h.first.0))
-    (record { spellings = no_spellings; values = no_members; many = refl; spelled = refl })
+    first_is h (subst (λ u. Spells u t h.front) (sym is.0) (subst (λ u. Spells a u h.front) (sym is.1) h.first.0)) refl
 member_at w (suc k) (spelling a ss) (member v ts) s t bytes h is =
     let f = member_at w k ss ts s t h.rest h.second is in
-    later_is h f (record {
-      spellings = spelling a f.others.spellings;
-      values = member v f.others.values;
-      many = omega (arith, f.others.many);
-      spelled = record { front = h.front; rest = f.before; whole = refl; first = (h.first.0, tt); second = f.others.spelled };
-    })
+    later_is h f (record { front = h.front; rest = f.before; whole = refl; first = (h.first.0, tt); second = f.others })
 member_at w _ _ _ s t bytes h is = absurd is
 
 -- a geometry has one of its members; what has none holds no bytes for them
@@ -144,7 +148,8 @@ members_by : (text : List ℕ) (u : Spelling) (v : Value) (k : ℕ) (s : Spellin
     → (bytes : List ℕ) × HoldsMember (record { text = text; spelled = u; value = v }) k (record { text = bytes; spelled = s; value = t })
 members_by text (node g own ss) v k s t h is =
     let body = h.second in
-    let f = member_at (member_part (kind v) (dimension v)) k ss (members v) s t body.rest body.second is in (
+    let f = member_at (member_part (kind v) (dimension v)) k ss (members v) s t body.rest body.second is in
+    let counted = head_len g (kind v) (dimension v) h.front body.front h.first (count_len g.order own v k ss s t body.front is body.first) in (
       f.item,
       record {
         start = length (h.front ++ body.front) + length f.before;
@@ -156,10 +161,48 @@ members_by text (node g own ss) v k s t h is =
         others = f.others;
         parts = h.whole ∙ ap (λ x. h.front ++ x) (body.whole ∙ ap (λ x. body.front ++ x) f.whole)
             ∙ sym (append_assoc h.front body.front (f.before ++ (f.item ++ f.after)));
-        counted = head_len g (kind v) (dimension v) h.front body.front h.first (count_len g.order own v k ss s t body.front is body.first);
+        counted = counted;
         start_is = refl;
+        place = omega (arith, counted, first_length k ss (members v) f.before f.others);
       },
     )
 
 pub members_lem : MembersStand
 members_lem whole k s t h is = members_by whole.text whole.spelled whole.value k s t h is
+
+-- ---- whatever spells a part is the whole's bytes at its place
+
+inner_bytes : (a b c d : List ℕ) → AreBytes (a ++ (b ++ (c ++ d))) → AreBytes c
+inner_bytes a b c d h = AreBytes-front c d (AreBytes-rest b (c ++ d) (AreBytes-rest a (b ++ (c ++ d)) h))
+
+placed : (whole head before part after : List ℕ) (start : ℕ) → whole ≡ head ++ (before ++ (part ++ after)) → start ≡ length head + length before
+    → StandsAt start part whole
+placed whole head before part after start is at =
+    let all : whole ≡ (head ++ before) ++ (part ++ after) = is ∙ sym (append_assoc head before (part ++ after)) in
+    let front : length (head ++ before) ≡ start = length-append head before ∙ sym at in
+    record {
+      within = omega (arith, front, ap length all, length-append (head ++ before) (part ++ after), length-append part after);
+      is = ap (take (length part)) (ap (drop start) all ∙ drop_front start (head ++ before) (part ++ after) front) ∙ take_front (length part) part after refl;
+    }
+
+pub members_in_place_lem : MembersInPlace
+members_in_place_lem whole k part b b' h h' is =
+    let m = members_lem whole k part.spelled part.value h is in
+    let held = m.1 in
+    let inside = inner_bytes held.head held.before m.0 held.after (subst AreBytes held.parts b) in
+    let same : m.0 ≡ part.text = one_text_lem part.spelled part.value m.0 part.text inside b' held.spells h' in
+    subst (λ n. StandsAt n part.text whole.text) held.place
+    (subst (λ x. StandsAt held.start x whole.text) same (placed whole.text held.head held.before m.0 held.after held.start held.parts held.start_is))
+
+pub rings_in_place_lem : RingsInPlace
+rings_in_place_lem whole d rings j ring bytes b b' h h' value_is is =
+    let held = rings_lem whole d rings j ring h value_is is in
+    let one : polygon held.dimension held.rings ≡ polygon d rings = sym held.value_is ∙ value_is in
+    let dimension_is : held.dimension ≡ d = cc in
+    let rings_are : held.rings ≡ rings = cc in
+    let inside = inner_bytes held.head held.before held.bytes held.after (subst AreBytes held.parts b) in
+    let spelled = subst (λ e. SpellsCoordinates (header whole.spelled).order e ring held.bytes) dimension_is held.spells in
+    let same : held.bytes ≡ bytes = coordinates_lem (header whole.spelled).order d ring held.bytes bytes inside b' spelled h' in
+    let place : held.start ≡ ring_start j whole.spelled d rings = held.place ∙ (λ i. ring_start j whole.spelled (dimension_is i) (rings_are i)) in
+    subst (λ n. StandsAt n bytes whole.text) place
+    (subst (λ x. StandsAt held.start x whole.text) same (placed whole.text held.head held.before held.bytes held.after held.start held.parts held.start_is))

@@ -2,11 +2,12 @@
 use Rattle.std.proofs.Common.{◌≡◌, ℕ, List, [], ◌++◌, refl, sym, ap, ◌∙◌, subst, append-nil}
 use Rattle.wkb_laws.specs.Words.{Endianness, Form, Ewkb, AreBytes, Value, Spelling, node, header, Spells, Front, geometry_of, form_srid, text, IsForm}
 use Rattle.wkb_laws.specs.Written.{written, HasOptions}
+use Rattle.wkb_laws.specs.Encodings.{EqualSpelled, EqualSpelledWithSrid}
 use Rattle.wkb_laws.specs.Laws.{TextSpells, WrittenIsRead, EqualTexts, EqualTextsWithSrid, EqualTextsWithOwnSrid, RestIsFree, BytesAreRead, RewritingIsRead}
 use Rattle.wkb_laws.specs.Laws.{RewritingIsFixed, RewritingWithSridIsFixed}
 use Rattle.wkb_laws.proofs.OneFront.{one_spelling, one_front_lem}
 use Rattle.wkb_laws.proofs.TextSpells.{text_spells, written_has_options}
-use Rattle.wkb_laws.proofs.Values.{Good, front_good, front_srid, normal-geometry_of, lawful-geometry_of}
+use Rattle.wkb_laws.proofs.Values.{Good, spelled_good, front_good, front_bytes, front_srid, normal-geometry_of, lawful-geometry_of}
 
 outer_srid : (order : Endianness) (form : Form) (s : Spelling) → HasOptions order form s → (header s).srid ≡ form_srid form
 outer_srid order form (node h words ss) k = k.1
@@ -35,17 +36,25 @@ written_is_read_lem order form g rest h lawful fine shallow =
     let spelled = text_spells order form g h lawful fine in
     (written order form g, record { front = text order form g; whole = refl; spelled = spelled; shallow = shallow }, written_has_options order form g)
 
-pub equal_texts_lem : EqualTexts
-equal_texts_lem order form a b s u t v rest more h ab bb f g = (
-  λ e. (one_text order form form t v h h (front_good a s t rest ab f) (front_good b u v more bb g) e).0,
+pub equal_spelled_lem : EqualSpelled
+equal_spelled_lem order form s u t v x y h b b' a a' = (
+  λ e. (one_text order form form t v h h (spelled_good s t x b a) (spelled_good u v y b' a') e).0,
   λ e. ap (λ z. text order form (geometry_of z)) e,
 )
 
-pub equal_texts_with_srid_lem : EqualTextsWithSrid
-equal_texts_with_srid_lem order i j a b s u t v rest more h k ab bb f g = (
-  λ e. one_text order (Ewkb i) (Ewkb j) t v h k (front_good a s t rest ab f) (front_good b u v more bb g) e,
+pub equal_spelled_with_srid_lem : EqualSpelledWithSrid
+equal_spelled_with_srid_lem order i j s u t v x y h k b b' a a' = (
+  λ e. one_text order (Ewkb i) (Ewkb j) t v h k (spelled_good s t x b a) (spelled_good u v y b' a') e,
   λ e. ap (λ z. text order (Ewkb i) (geometry_of z)) e.0 ∙ ap (λ z. text order (Ewkb z) (geometry_of v)) e.1,
 )
+
+pub equal_texts_lem : EqualTexts
+equal_texts_lem order form a b s u t v rest more h ab bb f g =
+    equal_spelled_lem order form s u t v f.front g.front h (front_bytes a s t rest ab f) (front_bytes b u v more bb g) f.spelled g.spelled
+
+pub equal_texts_with_srid_lem : EqualTextsWithSrid
+equal_texts_with_srid_lem order i j a b s u t v rest more h k ab bb f g =
+    equal_spelled_with_srid_lem order i j s u t v f.front g.front h k (front_bytes a s t rest ab f) (front_bytes b u v more bb g) f.spelled g.spelled
 
 pub rest_is_free_lem : RestIsFree
 rest_is_free_lem input s t rest more f = record { front = f.front; whole = refl; spelled = f.spelled; shallow = f.shallow }

@@ -168,22 +168,27 @@ mutual
       ((first.0, others.0), or_else-none _ _ first.1 others.1)
   each_spelled_good w _ _ x b a = absurd a
 
-pub front_good : (input : List ℕ) (s : Spelling) (t : Value) (rest : List ℕ) → AreBytes input → Front input s t rest → Good t
-front_good input s t rest b f = spelled_good s t f.front (AreBytes-front f.front rest (subst AreBytes f.whole b)) f.spelled
+-- the bytes that an input begins with
+pub front_bytes : (input : List ℕ) (s : Spelling) (t : Value) (rest : List ℕ) → AreBytes input → (f : Front input s t rest) → AreBytes f.front
+front_bytes input s t rest b f = AreBytes-front f.front rest (subst AreBytes f.whole b)
 
--- the outermost SRID is four bytes' number
+pub front_good : (input : List ℕ) (s : Spelling) (t : Value) (rest : List ℕ) → AreBytes input → Front input s t rest → Good t
+front_good input s t rest b f = spelled_good s t f.front (front_bytes input s t rest b f) f.spelled
+
+-- an SRID is four bytes' number
 srid_fits : (order : Endianness) (srid : Option ℕ) (x : List ℕ) → AreBytes x → IsSrid order srid x → IsForm (Ewkb srid)
 srid_fits order None x b h = tt
 srid_fits order (Some n) x b h = number-lt order 4 n x h b
 
-outer_fits : (s : Spelling) (t : Value) (x : List ℕ) → AreBytes x → Spells s t x → IsForm (Ewkb (header s).srid)
+-- so is the outermost of what bytes spell
+pub outer_fits : (s : Spelling) (t : Value) (x : List ℕ) → AreBytes x → Spells s t x → IsForm (Ewkb (header s).srid)
 outer_fits (node h own ss) t x b a =
     let first = a.first in
     let behind : AreBytes (first.code_field ++ first.srid_field) = λ i. (subst AreBytes first.whole (bytes_of a b).0) (suc i) in
     srid_fits h.order h.srid first.srid_field (AreBytes-rest first.code_field first.srid_field behind) first.srid
 
 pub front_srid : (input : List ℕ) (s : Spelling) (t : Value) (rest : List ℕ) → AreBytes input → Front input s t rest → IsForm (Ewkb (header s).srid)
-front_srid input s t rest b f = outer_fits s t f.front (AreBytes-front f.front rest (subst AreBytes f.whole b)) f.spelled
+front_srid input s t rest b f = outer_fits s t f.front (front_bytes input s t rest b f) f.spelled
 
 pub same_dimension : (d : Dimension) → written_dimension (dimensions d) ≡ d
 same_dimension d = ap (λ z. unwrap_or z Xy) (named_dimension_lem d)

@@ -1,11 +1,23 @@
 -- Where the parts of a geometry stand in its bytes.
-use Rattle.std.proofs.Common.{◌≡◌, ℕ, zero, suc, ◌+◌, ◌*◌, List, ◌++◌, length, drop, take, Some, slice_get}
-use Rattle.wkb_laws.specs.Words.{Endianness, Dimension, AreBytes, number, width, IsEach, Coordinate, Value, Values, line_string, polygon, member, members}
-use Rattle.wkb_laws.specs.Words.{count, Spelling, node, Spellings, spelling, header, has_srid, any, SpellsCoordinates, Spells, SpellsEach, srid_size, Item}
+use Rattle.std.proofs.Common.{◌≡◌, ℕ, zero, suc, ◌+◌, ◌*◌, ◌≤◌, List, ◌++◌, length, drop, take, Some, slice_get, sum_by}
+use Rattle.wkb_laws.specs.Words.{Endianness, Dimension, AreBytes, number, width, IsEach, Coordinate, Value, Values, line_string, polygon, no_members, member}
+use Rattle.wkb_laws.specs.Words.{members, Spelling, node, Spellings, no_spellings, spelling, header, has_srid, any, SpellsCoordinate, SpellsCoordinates, Spells}
+use Rattle.wkb_laws.specs.Words.{SpellsEach, srid_size, ring_end, Item}
+use Rattle.wkb_laws.specs.Encodings.{spelled_size}
 
 -- A spelling and a value leave no byte open.
 abbrev pub HasOneText : Type 0
 HasOneText = (s : Spelling) (t : Value) (x y : List ℕ) → AreBytes x → AreBytes y → Spells s t x → Spells s t y → x ≡ y
+
+-- A count and coordinates leave no byte open either, as a line string or a ring has them,
+abbrev pub HaveOneText : Type 0
+HaveOneText = (order : Endianness) (d : Dimension) (cs : List Coordinate) (x y : List ℕ) → AreBytes x → AreBytes y
+    → SpellsCoordinates order d cs x → SpellsCoordinates order d cs y → x ≡ y
+
+-- nor does a coordinate by itself.
+abbrev pub CoordinateHasOneText : Type 0
+CoordinateHasOneText = (order : Endianness) (d : Dimension) (c : Coordinate) (x y : List ℕ) → AreBytes x → AreBytes y
+    → SpellsCoordinate order d c x → SpellsCoordinate order d c y → x ≡ y
 
 -- how many bytes stand before the parts of a geometry with a count: the order byte, the code, the SRID and the count
 abbrev pub behind_count : Spelling → ℕ
@@ -21,15 +33,42 @@ IsOneOf _ _ _ s' t' = ⊥
 abbrev pub IsMember : ℕ → Spelling → Value → Spelling → Value → Type 0
 IsMember k (node h words ss) t s' t' = IsOneOf k ss (members t) s' t'
 
--- the bytes of so many geometries, one behind the other
-pub record AreGeometries (k : ℕ) (bytes : List ℕ) : Type 0 where
-  pub spellings : Spellings
-  pub values : Values
-  pub many : count values ≡ k
-  pub spelled : SpellsEach any spellings values bytes
+-- the first so many spellings, and the first so many values
+abbrev pub first_spellings : ℕ → Spellings → Spellings
+first_spellings zero ss = no_spellings
+first_spellings (suc k) no_spellings = no_spellings
+first_spellings (suc k) (spelling s ss) = spelling s (first_spellings k ss)
 
--- A geometry's bytes are its head up to the count, those of k members, those of this one, and others. It starts where
--- the k members end.
+abbrev pub first_values : ℕ → Values → Values
+first_values zero ts = no_members
+first_values (suc k) no_members = no_members
+first_values (suc k) (member t ts) = member t (first_values k ts)
+
+-- the bytes are those of the first k members, one behind the other
+abbrev pub SpellsFirst : ℕ → Spelling → Value → List ℕ → Type 0
+SpellsFirst k (node h words ss) t bytes = SpellsEach any (first_spellings k ss) (first_values k (members t)) bytes
+
+-- the number of these bytes
+abbrev pub first_size : ℕ → Spellings → Values → ℕ
+first_size zero ss ts = 0
+first_size (suc k) (spelling s ss) (member t ts) = spelled_size s t + first_size k ss ts
+first_size (suc k) ss ts = 0
+
+-- where the member of this number begins: behind the count and the members before it
+abbrev pub member_start : ℕ → Spelling → Value → ℕ
+member_start k (node h words ss) t = behind_count (node h words ss) + first_size k ss (members t)
+
+-- where the ring of this number begins: behind the count and the rings before it
+abbrev pub ring_start : ℕ → Spelling → Dimension → List (List Coordinate) → ℕ
+ring_start j s d rings = behind_count s + sum_by (λ cs. ring_end d (length cs)) (take j rings)
+
+-- the bytes of a part stand in those of the whole, from an offset on
+pub record StandsAt (start : ℕ) (part whole : List ℕ) : Type 0 where
+  pub within : start + length part ≤ length whole
+  pub is : take (length part) (drop start whole) ≡ part
+
+-- A geometry's bytes are its head up to the count, those of the first k members, those of this one, and others. It
+-- starts where the first k members end.
 pub record HoldsMember (whole : Item) (k : ℕ) (part : Item) : Type 0 where
   pub start : ℕ
   pub head : List ℕ
@@ -37,10 +76,11 @@ pub record HoldsMember (whole : Item) (k : ℕ) (part : Item) : Type 0 where
   pub after : List ℕ
   pub is : IsMember k whole.spelled whole.value part.spelled part.value
   pub spells : Spells part.spelled part.value part.text
-  pub others : AreGeometries k before
+  pub others : SpellsFirst k whole.spelled whole.value before
   pub parts : whole.text ≡ head ++ (before ++ (part.text ++ after))
   pub counted : length head ≡ behind_count whole.spelled
   pub start_is : start ≡ length head + length before
+  pub place : start ≡ member_start k whole.spelled whole.value
 
 -- Whatever spells a geometry with members holds the bytes of each.
 abbrev pub MembersStand : Type 0
@@ -65,12 +105,28 @@ pub record HoldsRing (whole : Item) (j : ℕ) (ring : List Coordinate) : Type 0 
   pub parts : whole.text ≡ head ++ (before ++ (bytes ++ after))
   pub counted : length head ≡ behind_count whole.spelled
   pub start_is : start ≡ length head + length before
+  pub place : start ≡ ring_start j whole.spelled dimension rings
 
 -- Whatever spells a polygon holds the bytes of each ring.
 abbrev pub RingsStand : Type 0
 RingsStand = (whole : Item) (d : Dimension) (rings : List (List Coordinate)) (j : ℕ) (ring : List Coordinate)
     → Spells whole.spelled whole.value whole.text → whole.value ≡ polygon d rings → slice_get rings j ≡ Some ring
     → HoldsRing whole j ring
+
+-- The bytes that spell a member are those of the whole at its place, and no others.
+abbrev pub MembersInPlace : Type 0
+MembersInPlace = (whole : Item) (k : ℕ) (part : Item) → AreBytes whole.text → AreBytes part.text
+    → Spells whole.spelled whole.value whole.text → Spells part.spelled part.value part.text
+    → IsMember k whole.spelled whole.value part.spelled part.value
+    → StandsAt (member_start k whole.spelled whole.value) part.text whole.text
+
+-- So it is with the bytes that spell a ring, in the order of its polygon.
+abbrev pub RingsInPlace : Type 0
+RingsInPlace = (whole : Item) (d : Dimension) (rings : List (List Coordinate)) (j : ℕ) (ring : List Coordinate) (bytes : List ℕ)
+    → AreBytes whole.text → AreBytes bytes
+    → Spells whole.spelled whole.value whole.text → SpellsCoordinates (header whole.spelled).order d ring bytes
+    → whole.value ≡ polygon d rings → slice_get rings j ≡ Some ring
+    → StandsAt (ring_start j whole.spelled d rings) bytes whole.text
 
 -- the word of this number of the coordinate of this number
 pub record IsWordOf (coordinates : List Coordinate) (i n w : ℕ) : Type 0 where

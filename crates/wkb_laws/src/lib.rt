@@ -9,6 +9,7 @@ ghost use Rattle.wkb_laws.specs.Laws.{SizeIsRefused, OwnSridIsWritable, Rewritin
 ghost use Rattle.wkb_laws.specs.Laws.{RewritingWithSridIsFixed, EqualTexts, EqualTextsWithSrid};
 ghost use Rattle.wkb_laws.specs.Laws.{EqualTextsWithOwnSrid, NamedDimension};
 
+pub mod encodings;
 pub mod places;
 
 /// An input begins with at most one geometry.

@@ -1,11 +1,18 @@
 //! Laws of places: where the bytes of members, rings and words stand in those of a geometry.
 
-ghost use Rattle.wkb_laws.specs.Places.{HasOneText, MembersStand, RingsStand, WordsStand, LineStringWordsStand};
+ghost use Rattle.wkb_laws.specs.Places.{HasOneText, HaveOneText, CoordinateHasOneText, MembersStand, RingsStand};
+ghost use Rattle.wkb_laws.specs.Places.{MembersInPlace, RingsInPlace, WordsStand, LineStringWordsStand};
 
 /// A spelling and a value have one text: whatever bytes spell both are the same bytes.
 #[tactic(auto, using(crate::proofs::OneText::one_text_lem))]
 pub fn one_text()
     ensures { HasOneText }
+{}
+
+/// Coordinates have one text in an order and a dimension: two rings of the same coordinates have the same bytes.
+pub fn one_text_of_coordinates()
+    ensures counted { HaveOneText }
+    ensures one { CoordinateHasOneText }
 {}
 
 /// Members stand behind the count of their geometry, one behind the other, in their order.
@@ -19,6 +26,16 @@ pub fn members_stand()
 #[tactic(auto, using(crate::proofs::PartsInPlace::rings_lem))]
 pub fn rings_stand()
     ensures { RingsStand }
+{}
+
+/// The bytes that spell a member are those of the whole at its place: behind the count and the members before it.
+pub fn members_in_place()
+    ensures { MembersInPlace }
+{}
+
+/// The bytes that spell a ring are those of its polygon at its place: behind the count and the rings before it.
+pub fn rings_in_place()
+    ensures { RingsInPlace }
 {}
 
 /// The words of coordinates stand behind their count, eight bytes each.

@@ -1,5 +1,5 @@
 -- The runs of words, one by one and joined again.
-use Rattle.std.proofs.Common.{◌≡◌, ℕ, zero, suc, ◌+◌, ◌*◌, ◌/◌, ◌%◌, ◌<◌, ◌≤◌, refl, sym, ap, ◌∙◌, arith}
+use Rattle.std.proofs.Common.{◌≡◌, ℕ, zero, suc, ◌+◌, ◌-◌, ◌*◌, ◌/◌, ◌%◌, ◌<◌, ◌≤◌, refl, sym, ap, ◌∙◌, arith}
 use Rattle.std.proofs.Common.{List, [], ◌∷◌, ◌++◌, length, take, drop, length-drop, Some, None, slice_get}
 use Rattle.std.proofs.Math.Nat.{div-mul-le_self, mul-le-mul_right, zero-mul}
 use Rattle.std.proofs.lemmas.List.{drop-drop, take-append-drop}
@@ -44,5 +44,19 @@ concat-runs width (suc count) words whole =
 pub concat-coordinates_in : (d : Dimensions) (words : List ℕ) → length words % size d ≡ 0 → concat (coordinates_in d words) ≡ words
 concat-coordinates_in d words whole =
     concat-runs (size d) (length words / size d) words (omega (arith, div-add-mod' (length words) (size d)))
+
+-- a coordinate that there is ends within the words
+pub coordinate_within : (d : Dimensions) (words : List ℕ) (i width : ℕ) → width ≡ size d → i < length (coordinates_in d words) → i * width + width ≤ length words
+coordinate_within d words i width wide h =
+    let count = length-runs (size d) (length words / size d) words in
+    rw wide (run_within (size d) i words (omega (arith, count, h)))
+
+-- and stands there
+pub coordinate_at : (d : Dimensions) (words : List ℕ) (i width : ℕ) → width ≡ size d → i < length (coordinates_in d words)
+    → slice_get (coordinates_in d words) i ≡ Some (take (i * width + width - i * width) (drop (i * width) words))
+coordinate_at d words i width wide h =
+    let count = length-runs (size d) (length words / size d) words in
+    rw wide (slice_get-runs (size d) (length words / size d) i words (omega (arith, count, h))
+    ∙ ap (λ (n : ℕ). Some (take n (drop (i * size d) words))) (omega arith))
 
 pub ruleset runs_laws = (length-runs, slice_get-runs, slice_get-runs_past, run_within, concat-coordinates_in)

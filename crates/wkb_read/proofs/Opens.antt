@@ -2,7 +2,10 @@
 use Rattle.wkb_read.proofs.Words.{◌≡◌, ℕ, suc, ◌+◌, ◌-◌, ◌/◌, ◌≤◌, ◌<◌, min, List, [], length, drop, false, ltb, refl, sym, ap, ◌∙◌, arith, drop-drop, number}
 use Rattle.wkb_read.proofs.Words.{Item, Cost, ◌⊕◌, one_turn, Reading, costs, done, and_then, repeated, slots_of, collection_at, body_start, taken, Layout}
 use Rattle.wkb_read.proofs.Words.{closing, list_item, collection_with, max_nesting, geometry_inside, behind_member, collection_inside}
-use Rattle.std.proofs.lemmas.Bool.{le-ltb}
+use Rattle.wkb_read.proofs.Words.{Err, Cause, Fault, Counts, Stops}
+use Rattle.wkb_geom.specs.declared.error.Cause.TheVariants.{EndOfInput as end_of_input, NestingDepthExceeded as nesting_depth_exceeded}
+use Rattle.std.proofs.Common.{true}
+use Rattle.std.proofs.lemmas.Bool.{le-ltb, lt-ltb}
 use Rattle.wkb_read.proofs.Algebra.{cost_is, costs-costs, repeated_more, repeated_none}
 
 -- so many entries more are asked for as there can be members
@@ -36,3 +39,32 @@ pub first_begins : (l : Layout) (bytes rest : List ℕ) (n : ℕ) (member : List
 first_begins l bytes rest n member members some empty =
     let k : n ≡ suc (n - 1) = omega arith in
     rw empty (sym (ap (λ (i : ℕ). and_then (repeated i member rest) (closing l bytes)) k ∙ repeated_more (n - 1) member rest (closing l bytes)))
+
+-- ---- what is answered before the list is there
+
+pub too_many_around : (l : Layout) (bytes : List ℕ) (around : ℕ) (c : Counts) → 128 ≤ around
+    → Stops (Fault (nesting_depth_exceeded 128)) (collection_inside around l bytes) c c
+too_many_around l bytes around c deep =
+    let level : max_nesting - around ≡ 0 = omega arith in rw level (refl, record { turns = omega arith; slots = omega arith })
+
+pub count_missing : (l : Layout) (bytes : List ℕ) (around : ℕ) (cause : Cause) (c : Counts) → around < 128 → length bytes < body_start l.has_srid + 4
+    → cause ≡ end_of_input → Stops (Fault cause) (collection_inside around l bytes) c c
+unfolding collection_at
+count_missing l bytes around cause c shallow short is =
+    let cut : ltb (length bytes) (body_start l.has_srid + 4) ≡ true = lt-ltb _ _ short in
+    let level : max_nesting - around ≡ suc (max_nesting - suc around) = omega arith in
+    rw (level, cut) (ap (λ (f : Cause). Err f) (sym is), record { turns = omega arith; slots = omega arith })
+
+asked_by : {A : Type 0} (entries : ℕ) (r : Reading A) → entries ≤ (costs (slots_of entries) r).0.slots
+asked_by entries (c, answer) = omega arith
+
+-- the entries that are asked for are among the cost
+pub members_asked : (l : Layout) (bytes : List ℕ) (around n : ℕ) (rest : List ℕ) → around < 128 → body_start l.has_srid + 4 ≤ length bytes
+    → n ≡ number l.order 4 (drop (body_start l.has_srid) bytes) → rest ≡ drop (body_start l.has_srid + 4) bytes
+    → min n (length rest / 9) ≤ (collection_inside around l bytes).0.slots
+unfolding collection_at
+members_asked l bytes around n rest shallow whole n-is rest-is =
+    let long : ltb (length bytes) (body_start l.has_srid + 4) ≡ false = le-ltb _ _ whole in
+    let level : max_nesting - around ≡ suc (max_nesting - suc around) = omega arith in
+    rw (level, long, ← n-is, drop-drop 4 (body_start l.has_srid) bytes, ← rest-is)
+    (asked_by (min n (length rest / 9)) (and_then (repeated n (geometry_inside (suc around)) rest) (closing l bytes)))

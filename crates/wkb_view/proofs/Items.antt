@@ -70,6 +70,13 @@ empty_by l text ws false = refl
 pub empty_is : (l : Layout) (text : List ℕ) → is_none (point_of (point_item l text).value) ≡ all_nan (point_words_in l text)
 empty_is l text = empty_by l text _ _
 
+text_by : (l : Layout) (text ws : List ℕ) (b : Bool) → (point_item_of l text ws b).text ≡ text
+text_by l text ws true = refl
+text_by l text ws false = refl
+
+pub point_text_is : (l : Layout) (text : List ℕ) → (point_item l text).text ≡ text
+point_text_is l text = text_by l text _ _
+
 srid_by : (l : Layout) (text ws : List ℕ) (b : Bool) → (header (point_item_of l text ws b).spelled).srid ≡ srid_in l.order l.has_srid text
 srid_by l text ws true = refl
 srid_by l text ws false = refl

@@ -5,3 +5,4 @@ pub mod Lists
 pub mod Members
 pub mod Pieces
 pub mod SpelledRead
+pub mod Asked

@@ -29,11 +29,15 @@ pub struct LinearRing<'a> {
 impl<'a> LinearRing<'a> {
     ghost use Rattle.std.specs.Prelude.{◌≡◌, length, ◌≤◌, drop};
     ghost use Rattle.wkb_view.specs.Coords.{ring_text, ring_order, ring_dimension, ring_seen, ring_offset};
+    ghost use Rattle.wkb_view.specs.Words.{AreBytes, ring_end};
+    ghost use Rattle.wkb_geom.specs.Spellings.{SpellsCoordinates};
 
     /// The number of its bytes: of its count and its coordinates.
+    #[tactic(auto, using(crate::proofs::Items::ring_counted))]
     #[inline]
     pub fn size(&self) -> u64
-        ensures { result ≡ length (ring_text self.now) }
+        ensures bytes { result ≡ length (ring_text self.now) }
+        ensures end { result ≡ ring_end (ring_dimension self.now) (length (ring_seen self.now)) }
     {
         self.bytes.len() as u64
     }
@@ -59,7 +63,10 @@ impl<'a> LinearRing<'a> {
     /// The bytes of its coordinates, behind the count.
     #[inline]
     pub fn coords_slice(&self) -> &'a [u8]
-        ensures { result.now ≡ drop 4 (ring_text self.now) }
+        ensures text { result.now ≡ drop 4 (ring_text self.now) }
+        ensures spells { SpellsCoordinates (ring_order self.now) (ring_dimension self.now) (ring_seen self.now)
+            (ring_text self.now) }
+        ensures bytes { AreBytes (ring_text self.now) }
     {
         &self.bytes[4..]
     }

@@ -133,9 +133,11 @@ impl Dimensioned for MultiPoint<'_> {
 }
 
 impl<'a> MultiPointTrait for MultiPoint<'a> {
-    ghost use Rattle.std.specs.Prelude.{◌≡◌, option_map, IfSome, slice_get};
+    ghost use Rattle.std.specs.Prelude.{◌≡◌, option_map, IfSome, slice_get, take, drop};
     ghost use Rattle.wkb_view.specs.Words.{dimensions as trait_dimensions, point_of, points_of, spelling_at};
+    ghost use Rattle.wkb_view.specs.Members.{stride};
     ghost use Rattle.wkb_view.specs.Views.{point_seen, point_layout, multi_point_seen, multi_point_layout};
+    ghost use Rattle.wkb_view.specs.Views.{multi_point_offset};
     ghost use Rattle.wkb_view.specs.Ranges.{multi_point_lawful};
 
     type InnerPointType = Point<'a>;
@@ -160,6 +162,8 @@ impl<'a> MultiPointTrait for MultiPoint<'a> {
             ≡ trait_dimensions (multi_point_layout self.now).dimension) }
         ensures spelled { option_map (λ p. (point_seen p).spelled) result
             ≡ spelling_at (multi_point_seen self.now).spelled i }
+        ensures bytes { IfSome result (λ p. (point_seen p).text ≡ take (stride (multi_point_layout self.now).dimension)
+            (drop (multi_point_offset self.now i) (multi_point_seen self.now).text)) }
     {
         if i >= self.count as usize {
             return None;

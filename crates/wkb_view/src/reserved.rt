@@ -11,8 +11,18 @@ pub struct Reserved<T> {
     pub items: Vec<T>,
 }
 
-/// A list for so many parts, of which each takes `least` bytes at least: it asks for no more entries than the remaining
-/// bytes can hold, and counts them as slots before it asks.
+/// How many entries a list asks for: as many as the count claims, but no more than the remaining bytes can hold where
+/// each part takes `least` bytes at least.
+#[inline]
+fn bounded_capacity(count: u32, remaining: usize, least: usize) -> usize
+    requires { 0 < least }
+    ensures { result ≡ min count (remaining / least) }
+{
+    (count as usize).min(remaining / least)
+}
+
+/// A list for so many parts, of which each takes `least` bytes at least: it counts the entries that it asks for as slots
+/// before it asks.
 #[inline]
 pub fn reserve<T>(
     alloc: Global,
@@ -29,7 +39,7 @@ pub fn reserve<T>(
     ensures capacity { IfOk result (λ r. vec_capacity r.items ≡ min count (remaining / least)) }
     ensures succeeds { min count (remaining / least) ≡ 0 → IsOk result }
 {
-    let capacity = (count as usize).min(remaining / least);
+    let capacity = bounded_capacity(count, remaining, least);
     counts.slots += capacity as u128;
     let items = Vec::with_capacity(alloc, capacity)?;
     Ok(Reserved { items })

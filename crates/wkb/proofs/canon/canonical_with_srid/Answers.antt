@@ -1,7 +1,12 @@
-use Rattle.wkb.proofs.Texts.{IfErr-from, refused_or_long_with_srid}
+use Rattle.std.proofs.Common.{arith}
+use Rattle.wkb_laws.proofs.Lengths.{own_srid_is_writable_lem}
+use Rattle.wkb.proofs.Texts.{IfErr-from, refused_alone}
 use Rattle.wkb.proofs.canon.canonical_with_srid.Goals as goal
 
 pub returns-in-Ok-clause-err : goal.returns-in-Ok-clause-err
 returns-in-Ok-clause-err c =
-    IfErr-from _ _ _ _ c.rewriting.ensures
-    (λ e. refused_or_long_with_srid _ _ c.args.buf.now c.in-Ok.wkb e c.in-Ok.ensures.front c.in-Ok.ensures.writable c.srid.ensures)
+    let buf = c.args.buf.now in
+    let w = c.in-Ok.wkb in
+    let f = c.in-Ok.ensures.front in
+    let fits = own_srid_is_writable_lem c.args.order buf w.spelled w.value f.rest (λ i. (c.type_inv.buf i).fits) (omega arith) f.front in
+    IfErr-from c.rewriting.result _ _ c.rewriting.ensures.err (λ e. refused_alone c.args.order _ _ buf w.value e c.srid.ensures fits.1)

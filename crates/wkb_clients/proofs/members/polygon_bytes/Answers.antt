@@ -1,6 +1,7 @@
-use Rattle.std.proofs.Common.{refl, ap}
-use Rattle.wkb_clients.specs.Common.{whole_of, polygon, multi_polygon}
-use Rattle.wkb_clients.proofs.MembersHeld.{holds_bytes, one_name}
+use Rattle.std.proofs.Common.{sym, subst}
+use Rattle.wkb_clients.specs.Common.{AreBytes, whole_of, polygon, multi_polygon}
+use Rattle.wkb_clients.specs.Members.{LendsMember}
+use Rattle.wkb_clients.proofs.Lent.{lends_member, polygon_member}
 use Rattle.wkb_clients.proofs.members.polygon_bytes.Goals as goal
 
 pub returns-in-Some : goal.returns-in-Some
@@ -8,6 +9,8 @@ returns-in-Some c =
     let m = c.args.multi.now in
     let p = c.in-Some.polygon.now in
     let o = c.in-Some.ensures in
-    holds_bytes (polygon m.dimension) c.one_text.ensures c.members_stand.ensures (whole_of multi_polygon m) m.parts c.args.i (whole_of polygon p) p.parts
-    c.buf.result.now c.buf-bytes.result.now refl (ap (λ d. polygon d p.parts) (one_name _ _ o.dimensions)) c.holds_bytes.ensures c.holds_bytes-in-Some.ensures
-    c.buf.ensures.text c.buf-bytes.ensures.text o.spelled o.part c.buf.ensures.spells c.buf-bytes.ensures.spells
+    subst (LendsMember (whole_of multi_polygon m) c.args.i) (sym c.buf-bytes.ensures.text)
+    (lends_member c.spelled_in_full.ensures c.members_in_place.ensures (whole_of multi_polygon m) c.args.i (whole_of polygon p)
+    (polygon_member m c.args.i p o.dimensions o.spelled o.part)
+    (subst AreBytes c.buf.ensures.text c.are_bytes.ensures) (subst AreBytes c.buf-bytes.ensures.text c.are_bytes-in-Some.ensures)
+    c.buf.ensures.spells c.buf-bytes.ensures.spells)

@@ -1,7 +1,7 @@
 use Rattle.std.proofs.Common.{refl, ap, ◌∙◌, ◌∷◌, []}
 use Rattle.hex.specs.Hex.{encode_lower}
 use Rattle.wkb_command.specs.declared.program.Command.TheVariants.{RewriteWithSrid}
-use Rattle.wkb_command.proofs.Told.{says_rewritten_with_srid, says_srid_refused, reports_fault}
+use Rattle.wkb_command.proofs.Told.{says_rewritten_with_srid, reports_refusal}
 use Rattle.wkb_command.proofs.program.rewriting_with_srid.Goals as goal
 
 pub returns-in_ok-encode-in-Ok : goal.returns-in_ok-encode-in-Ok
@@ -10,5 +10,5 @@ returns-in_ok-encode-in-Ok c =
 
 pub returns-in-Err : goal.returns-in-Err
 returns-in-Err c =
-    reports_fault (c.args.text.now ∷ []) (RewriteWithSrid c.args.order) _ c.in-Err.fault c.fault_report.result refl
-    (says_srid_refused c.args.order c.args.text.now) c.in-Err.ensures.err c.fault_report.ensures
+    reports_refusal (c.args.text.now ∷ []) (RewriteWithSrid c.args.order) c.in-Err.fault c.fault_report.result refl (λ is. cc)
+    c.in-Err.ensures.err c.fault_report.ensures

@@ -1,7 +1,7 @@
 use Rattle.std.proofs.Common.{arith}
 use Rattle.std.proofs.lemmas.Result.{err_from_is_err_and}
 use Rattle.wkb_view.specs.Words.{Fault}
-use Rattle.wkb_view.proofs.Lists.{freely, part_costs, part_stops}
+use Rattle.wkb_view.proofs.Lists.{parts_length, freely, part_costs, part_stops}
 use Rattle.wkb_view.proofs.Pieces.{pieces_next, pieces_read}
 use Rattle.wkb_view.proofs.multi_line_string.line_strings.Goals as goal
 
@@ -26,3 +26,17 @@ returns-clause-line_strings c = let r = pieces_read c.loop-test.false c.loop.inv
 
 pub returns-clause-ends : goal.returns-clause-ends
 returns-clause-ends c = (pieces_read c.loop-test.false c.loop.invariant.so_far).2
+
+pub push-requires : goal.push-requires
+push-requires c =
+    let so_far = c.loop.invariant.so_far in
+    omega (
+      arith,
+      c.loop.invariant.room,
+      so_far.as_many,
+      so_far.taken_in_all,
+      c.in_ok-rest.ensures.passed.shorter,
+      c.loop-test.true,
+      c.requires.whole,
+      parts_length c.args.layout.has_srid c.args.bytes.now,
+    )

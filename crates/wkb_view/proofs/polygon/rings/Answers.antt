@@ -1,7 +1,7 @@
 use Rattle.std.proofs.Common.{List, ℕ, ap, map-id, arith}
 use Rattle.std.proofs.lemmas.Result.{err_from_is_err_and}
 use Rattle.wkb_view.specs.Words.{Fault, Part, at_no_cost}
-use Rattle.wkb_view.proofs.Lists.{freely, part_costs, part_stops}
+use Rattle.wkb_view.proofs.Lists.{parts_length, freely, part_costs, part_stops}
 use Rattle.wkb_view.proofs.Pieces.{pieces_next, pieces_read}
 use Rattle.wkb_view.proofs.polygon.rings.Goals as goal
 
@@ -27,3 +27,17 @@ returns-clause-rings c = let r = pieces_read c.loop-test.false c.loop.invariant.
 
 pub returns-clause-ends : goal.returns-clause-ends
 returns-clause-ends c = (pieces_read c.loop-test.false c.loop.invariant.so_far).2
+
+pub push-requires : goal.push-requires
+push-requires c =
+    let so_far = c.loop.invariant.so_far in
+    omega (
+      arith,
+      c.loop.invariant.room,
+      so_far.as_many,
+      so_far.taken_in_all,
+      c.in_ok-rest.ensures.passed.shorter,
+      c.loop-test.true,
+      c.requires.whole,
+      parts_length c.args.layout.has_srid c.args.bytes.now,
+    )

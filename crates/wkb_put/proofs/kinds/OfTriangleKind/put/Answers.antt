@@ -1,6 +1,7 @@
-use Rattle.wkb_put.proofs.Words.{polygon_text, coordinates_text}
+use Rattle.wkb_put.proofs.Words.{arith, polygon_text, coordinates_text}
 use Rattle.wkb_put.proofs.Laid.{laid_here}
 use Rattle.wkb_put.proofs.Behind.{behind, last}
+use Rattle.wkb_put.proofs.Faults.{supported_at_least, supported_at_most}
 use Rattle.wkb_put.proofs.kinds.OfTriangleKind.put.Goals as goal
 
 pub returns : goal.returns
@@ -13,3 +14,39 @@ returns g c =
     (behind c.lay_coordinate.ensures.bytes
     (behind c.lay_coordinate-2.ensures.bytes
     (behind c.lay_coordinate-3.ensures.bytes (last c.lay_coordinate-4.ensures.bytes)))))))))
+
+pub lay_coordinate-requires-clause-least : goal.lay_coordinate-requires-clause-least
+lay_coordinate-requires-clause-least g c = rw c.first-first.ensures.dimensions (supported_at_least _ c.requires.fault)
+
+pub lay_coordinate-requires-clause-most : goal.lay_coordinate-requires-clause-most
+lay_coordinate-requires-clause-most g c = rw c.first-first.ensures.dimensions (supported_at_most _ c.requires.fault)
+
+pub lay_coordinate-requires-clause-room : goal.lay_coordinate-requires-clause-room
+lay_coordinate-requires-clause-room g c = omega (arith, c.in_ok-make_room.ensures.room)
+
+pub lay_coordinate-requires-2-clause-least : goal.lay_coordinate-requires-2-clause-least
+lay_coordinate-requires-2-clause-least g c = rw c.second.ensures.dimensions (supported_at_least _ c.requires.fault)
+
+pub lay_coordinate-requires-2-clause-most : goal.lay_coordinate-requires-2-clause-most
+lay_coordinate-requires-2-clause-most g c = rw c.second.ensures.dimensions (supported_at_most _ c.requires.fault)
+
+pub lay_coordinate-requires-2-clause-room : goal.lay_coordinate-requires-2-clause-room
+lay_coordinate-requires-2-clause-room g c = omega (arith, c.in_ok-make_room.ensures.room)
+
+pub lay_coordinate-requires-3-clause-least : goal.lay_coordinate-requires-3-clause-least
+lay_coordinate-requires-3-clause-least g c = rw c.third.ensures.dimensions (supported_at_least _ c.requires.fault)
+
+pub lay_coordinate-requires-3-clause-most : goal.lay_coordinate-requires-3-clause-most
+lay_coordinate-requires-3-clause-most g c = rw c.third.ensures.dimensions (supported_at_most _ c.requires.fault)
+
+pub lay_coordinate-requires-3-clause-room : goal.lay_coordinate-requires-3-clause-room
+lay_coordinate-requires-3-clause-room g c = omega (arith, c.in_ok-make_room.ensures.room)
+
+pub lay_coordinate-requires-4-clause-least : goal.lay_coordinate-requires-4-clause-least
+lay_coordinate-requires-4-clause-least g c = rw c.first-first.ensures.dimensions (supported_at_least _ c.requires.fault)
+
+pub lay_coordinate-requires-4-clause-most : goal.lay_coordinate-requires-4-clause-most
+lay_coordinate-requires-4-clause-most g c = rw c.first-first.ensures.dimensions (supported_at_most _ c.requires.fault)
+
+pub lay_coordinate-requires-4-clause-room : goal.lay_coordinate-requires-4-clause-room
+lay_coordinate-requires-4-clause-room g c = omega (arith, c.in_ok-make_room.ensures.room)

@@ -1,6 +1,6 @@
 use Rattle.wkb_read.proofs.Words.{◌≡◌, ◌+◌, [], length, refl, sym, arith, ap, ◌∙◌, drop-drop, body_start, cost_of}
 use Rattle.wkb_read.proofs.Placed.{closed, front_taken}
-use Rattle.wkb_read.proofs.Opens.{opens, without_members, first_begins}
+use Rattle.wkb_read.proofs.Opens.{opens, without_members, first_begins, too_many_around, count_missing, members_asked}
 use Rattle.wkb_read.proofs.read.stack.open.Goals as goal
 
 pub returns-then-count-eq0-clause-begins : goal.returns-then-count-eq0-clause-begins
@@ -48,3 +48,30 @@ invariant_of-whole c =
     rw (c.into_vec.ensures ∙ c.in-Ok-reserve.ensures.items, front)
     (closed c.args.layout bytes [] _ c.requires.head (sym c.in-Ok.ensures.counted ∙ c.if-count-eq0.true) c.in-Ok.ensures.whole
     (drop-drop 4 start bytes ∙ sym back) tt).collection
+
+pub returns-then-around-ge-MAX_WKB_NESTING_DEPTH-clause-begins : goal.returns-then-around-ge-MAX_WKB_NESTING_DEPTH-clause-begins
+returns-then-around-ge-MAX_WKB_NESTING_DEPTH-clause-begins c =
+    too_many_around c.args.layout c.args.bytes.now c.args.around c.args.counts.now c.if-around-ge-MAX_WKB_NESTING_DEPTH.true
+
+pub returns-in-Err-clause-begins : goal.returns-in-Err-clause-begins
+returns-in-Err-clause-begins c =
+    count_missing c.args.layout c.args.bytes.now c.args.around c.in-Err.cause c.args.counts.now c.if-around-ge-MAX_WKB_NESTING_DEPTH.false
+    c.in-Err.ensures.short.1 c.in-Err.ensures.short.0
+
+pub reserve-requires-clause-fits : goal.reserve-requires-clause-fits
+reserve-requires-clause-fits c =
+    let back = rw c.body_start.ensures at c.split_at.ensures.back in
+    let asked = members_asked c.args.layout c.args.bytes.now c.args.around c.in-Ok.count _ (omega arith) c.in-Ok.ensures.whole c.in-Ok.ensures.counted back in
+    omega (arith, asked, c.requires.fits.slots)
+
+pub returns-in-Err-reserve-clause-begins : goal.returns-in-Err-reserve-clause-begins
+returns-in-Err-reserve-clause-begins c =
+    let back = rw c.body_start.ensures at c.split_at.ensures.back in
+    let asked = members_asked c.args.layout c.args.bytes.now c.args.around c.in-Ok.count _ (omega arith) c.in-Ok.ensures.whole c.in-Ok.ensures.counted back in
+    record { turns = omega (arith, c.reserve.ensures.turns); slots = omega (arith, c.reserve.ensures.slots, asked) }
+
+pub returns-in-Err-reserve-clause-no_memory : goal.returns-in-Err-reserve-clause-no_memory
+returns-in-Err-reserve-clause-no_memory c = λ short. absurd (omega (arith, short, c.in-Ok.ensures.whole))
+
+pub returns-clause-no_memory : goal.returns-clause-no_memory
+returns-clause-no_memory c = λ short. absurd (omega (arith, short, c.in-Ok.ensures.whole))

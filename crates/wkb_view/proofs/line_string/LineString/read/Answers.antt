@@ -3,6 +3,7 @@ use Rattle.wkb_view.specs.Words.{AreBytes, body_start}
 use Rattle.wkb_view.specs.Ranges.{AreBytes-take}
 use Rattle.wkb_view.proofs.Leaves.{number_within, passed_by}
 use Rattle.wkb_view.proofs.SpelledRead.{line_string_is_text}
+use Rattle.wkb_view.proofs.Asked.{coordinates_cut, line_string_short, line_string_found}
 use Rattle.wkb_view.proofs.line_string.LineString.read.Goals as goal
 
 pub invariant_of-line_string-clause-counted : goal.invariant_of-line_string-clause-counted
@@ -26,3 +27,16 @@ returns-clause-passed c =
     (omega arith) c.split_at.ensures.back
     (line_string_is_text c.args.layout c.args.bytes.now _ c.in-Ok.count _ c.requires.head c.in-Ok.ensures.whole c.in-Ok.ensures.counted
     (rw (c.width.ensures, c.body_start.ensures) (omega arith)) (omega arith) refl)
+
+pub returns-in-Err-clause-answer : goal.returns-in-Err-clause-answer
+returns-in-Err-clause-answer c = coordinates_cut c.args.layout c.args.bytes.now c.in-Err.cause c.in-Err.ensures.short.1 c.in-Err.ensures.short.0
+
+pub returns-then-bytes-end-clause-answer : goal.returns-then-bytes-end-clause-answer
+returns-then-bytes-end-clause-answer c =
+    line_string_short c.args.layout c.args.bytes.now c.in-Ok.count (c.body_start.result + 4 + 8 * c.width.result * c.in-Ok.count)
+    c.in-Ok.ensures.whole c.in-Ok.ensures.counted (rw (c.width.ensures, c.body_start.ensures) (omega arith)) c.if-bytes-end.true
+
+pub returns-clause-answer : goal.returns-clause-answer
+returns-clause-answer c =
+    line_string_found c.args.layout c.args.bytes.now c.in-Ok.count (c.body_start.result + 4 + 8 * c.width.result * c.in-Ok.count)
+    c.in-Ok.ensures.whole c.in-Ok.ensures.counted (rw (c.width.ensures, c.body_start.ensures) (omega arith)) _ _ c.if-bytes-end.false c.split_at.ensures.front c.split_at.ensures.back

@@ -1,9 +1,10 @@
-use Rattle.std.proofs.Common.{◌∙◌, Some, None, ap}
+use Rattle.std.proofs.Common.{◌∙◌, Some, None, ap, take, drop}
 use Rattle.std.proofs.Math.Logic.{∥∥₁_elim}
 use Rattle.std.proofs.Props.{props}
 use Rattle.wkb_view.specs.Words.{Item, Layout, dimensions, point_of}
-use Rattle.wkb_view.specs.Members.{point_ends}
+use Rattle.wkb_view.specs.Members.{point_ends, stride}
 use Rattle.wkb_view.specs.Ranges.{member_dimension}
+use Rattle.wkb_view.proofs.Items.{point_text_is}
 use Rattle.wkb_view.proofs.Leaves.{member_seen}
 use Rattle.wkb_view.proofs.Members.{member_text, member_there, members_seen, spelling_seen, point_text, point_past}
 use Rattle.wkb_view.proofs.multi_point.MultiPointMultiPointTrait.point.Goals as goal
@@ -53,3 +54,9 @@ returns-clause-dimensions c =
     let m = c.args.self.now in
     let known = c.of_known_member-layout.ensures in
     ap (λ (l : Layout). dimensions l.dimension) c.of_text.ensures.layout ∙ ap dimensions (member_dimension 1 m.layout.dimension _ _ known)
+
+pub returns-clause-bytes : goal.returns-clause-bytes
+returns-clause-bytes c =
+    let m = c.args.self.now in
+    ap (λ (p : Item). p.text) c.of_text.ensures.item ∙ point_text_is _ _ ∙ (rw c.width.ensures at c.part-buf.ensures)
+    ∙ ap (λ n. take (stride m.layout.dimension) (drop n m.buf.now)) c.point_offset-start.ensures

@@ -1,0 +1,28 @@
+-- What the reader promises, and what its views show.
+pub use Rattle.wkb_geom.specs.Reading.{Item, spellings, values, point_of, line_string_of, polygon_of, coordinate, coordinates, ring_in}
+unfoldable pub use Rattle.wkb_geom.specs.Reading.{geometry_at}
+pub use Rattle.wkb_geom.specs.Stored.{Listed, whole_of, value_code, rings_code, polygons_code, item_code, listed_code}
+pub use Rattle.wkb_read.specs.Public.{IsFront, IsOnlyFront, HasNoFront, IsRefusal, TellsEach, IfRefused, IfMemory, CountsValue, CountsRefusal}
+pub use Rattle.wkb_read.specs.Public.{CountsAtMost, CanBeWritten, AsksForNone, KindTakesNone, TakesNoMemory, Reads, Costs}
+pub use Rattle.wkb_read.specs.Seen.{geometry_seen, members_seen, geometry_lawful, members_lawful, one_dimension_seen, seen_as_it_is}
+pub use Rattle.wkb_read.specs.Seen.{members_as_they_are}
+pub use Rattle.wkb_read.specs.Views.{IsCollectionOf, IsViewOf}
+pub use Rattle.wkb_read.specs.Placed.{texts, HoldsMembers, IsCollectionIn, AreMembers, IsMemberAt}
+pub use Rattle.wkb_view.specs.Coords.{words_seen, ring_seen, coordinate_text, coord_order, coord_dimension, coord_text, ring_order, ring_dimension}
+pub use Rattle.wkb_view.specs.Coords.{ring_text, ring_offset}
+pub use Rattle.wkb_view.specs.Views.{point_seen, line_string_seen, multi_point_seen, point_layout, line_string_layout, multi_point_layout}
+pub use Rattle.wkb_view.specs.Views.{coordinate_in, line_string_offset, multi_point_offset, point_value}
+pub use Rattle.wkb_view.specs.Parts.{list_of_values, srid_of, order_of, IsCollection, points_of, members_spelled, list_of_spellings, IsSpelled}
+pub use Rattle.wkb_view.specs.Parts.{spelling_at}
+pub use Rattle.wkb_view.specs.Members.{stride}
+pub use Rattle.wkb_view.specs.Fitted.{fitted_line_string, fitted_line_strings, fitted_polygons, fitted_point, fitted_geometry, fitted_geometries}
+pub use Rattle.wkb_view.specs.Fitted.{fitted_geometry-same}
+pub use Rattle.wkb_read.specs.declared.geometry.Wkb.{Wkb}
+pub use Rattle.wkb_view.specs.declared.coord.Coord.{Coord}
+pub use Rattle.wkb_view.specs.declared.counts.Counts.{Counts}
+pub use Rattle.wkb_view.specs.declared.line_string.LineString.{LineString}
+pub use Rattle.wkb_view.specs.declared.linear_ring.LinearRing.{LinearRing}
+pub use Rattle.wkb_view.specs.declared.multi_point.MultiPoint.{MultiPoint}
+pub use Rattle.wkb_view.specs.declared.point.Point.{Point}
+pub use Rattle.wkb_geom.specs.declared.geom.GeometryType.{GeometryType}
+pub use Rattle.wkb_geom.specs.declared.geom.GeometryType.TheVariants as handed

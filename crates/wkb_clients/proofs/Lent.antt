@@ -1,0 +1,78 @@
+-- The bytes that views lend, at their places.
+use Rattle.std.proofs.Common.{◌≡◌, ℕ, ◌+◌, ◌*◌, ◌≤◌, List, length, drop, Some, refl, sym, ap, subst, ◌∙◌, slice_get, drop-drop, length-append, arith}
+use Rattle.wkb_clients.specs.Common.{width, dimensions, AreBytes, number, Coordinate, Value, polygon, multi_polygon, each, members, SpellsCoordinates, Listed, Item}
+use Rattle.wkb_clients.specs.Common.{whole_of, IsSpelled, spelling_at, order_of, LinearRing, ring_seen, ring_text, ring_order, ring_dimension, IsMember}
+use Rattle.wkb_clients.specs.Common.{SpelledInFull, MembersInPlace, RingsInPlace, WordsStand, IsWordOf, StandsAt, member_start, ring_start}
+use Rattle.wkb.specs.Bridges.{one_name, member_at, rest_stands, stands_within, begins_there}
+use Rattle.wkb_clients.specs.Members.{LendsMember, LendsRing, IsCornerWord}
+
+-- a member that a view shows
+pub lends_member : SpelledInFull → MembersInPlace → (whole : Item) (k : ℕ) (part : Item) → IsMember k whole.spelled whole.value part.spelled part.value
+    → AreBytes whole.text → AreBytes part.text → IsSpelled whole → IsSpelled part → LendsMember whole k part.text
+lends_member full place whole k part member bytes bytes' spells spells' =
+    place whole k part bytes bytes' (full whole.spelled whole.value whole.text spells) (full part.spelled part.value part.text spells') member
+
+-- a member of a multi geometry
+pub member_of_list : {A : Type 0} (f : A → Value) (whole : Item) (l : List A) (k : ℕ) (part : Item) (a : A)
+    → members whole.value ≡ each f l → part.value ≡ f a → Some part.spelled ≡ spelling_at whole.spelled k → Some a ≡ slice_get l k
+    → IsMember k whole.spelled whole.value part.spelled part.value
+member_of_list f whole l k part a same value spelled of =
+    subst (λ v. IsMember k whole.spelled whole.value part.spelled v) (sym value) (member_at f whole.spelled whole.value l k part.spelled a same spelled of)
+
+-- a polygon's ring: it spells its coordinates in the polygon's order and dimension, at its place
+pub record IsRingAt (p : Listed (List (List Coordinate))) (j : ℕ) (r : LinearRing) : Type 0 where
+  pub spelled : SpellsCoordinates (order_of p.spelled) p.dimension (ring_seen r) (ring_text r)
+  pub stands : StandsAt (ring_start j p.spelled p.dimension p.parts) (ring_text r) p.text
+  pub at : Some (ring_seen r) ≡ slice_get p.parts j
+
+pub ring_at : SpelledInFull → RingsInPlace → (p : Listed (List (List Coordinate))) (j : ℕ) (r : LinearRing) → AreBytes p.text
+    → IsSpelled (whole_of polygon p) → SpellsCoordinates (ring_order r) (ring_dimension r) (ring_seen r) (ring_text r) → AreBytes (ring_text r)
+    → ring_order r ≡ order_of p.spelled → dimensions (ring_dimension r) ≡ dimensions p.dimension → Some (ring_seen r) ≡ slice_get p.parts j → IsRingAt p j r
+ring_at full place p j r bytes spells coordinates bytes' order dims at =
+    let same = one_name (ring_dimension r) p.dimension dims in
+    let here = subst (λ e. SpellsCoordinates e p.dimension (ring_seen r) (ring_text r)) order
+    (subst (λ d. SpellsCoordinates (ring_order r) d (ring_seen r) (ring_text r)) same coordinates) in
+    let whole = full p.spelled (polygon p.dimension p.parts) p.text spells in
+    record {
+      spelled = here;
+      stands = place (whole_of polygon p) p.dimension p.parts j (ring_seen r) (ring_text r) bytes bytes' whole here refl (sym at);
+      at = at;
+    }
+
+pub lends_ring : (p : Listed (List (List Coordinate))) (j : ℕ) (r : LinearRing) (bytes : List ℕ) → IsRingAt p j r → bytes ≡ drop 4 (ring_text r)
+    → LendsRing p j bytes
+lends_ring p j r bytes h is =
+    let c = h.spelled in
+    let long : 4 ≤ length (ring_text r) = omega (arith, c.first.len, ap length c.whole, length-append c.front c.rest) in
+    subst (LendsRing p j) (sym is) (stands_within (rest_stands 4 (ring_text r) long) h.stands)
+
+-- a polygon of a multi polygon is its member
+pub polygon_member : (m : Listed (List (List (List Coordinate)))) (k : ℕ) (p : Listed (List (List Coordinate))) → dimensions p.dimension ≡ dimensions m.dimension
+    → Some p.spelled ≡ spelling_at m.spelled k → Some p.parts ≡ slice_get m.parts k
+    → IsMember k m.spelled (multi_polygon m.dimension m.parts) p.spelled (polygon p.dimension p.parts)
+polygon_member m k p same spelled of =
+    subst (λ d. IsMember k m.spelled (multi_polygon m.dimension m.parts) p.spelled (polygon d p.parts)) (sym (one_name p.dimension m.dimension same))
+    (member_at (polygon m.dimension) m.spelled (multi_polygon m.dimension m.parts) m.parts k p.spelled p.parts refl spelled of)
+
+-- a word of the exterior of a polygon that is a member
+pub corner_word : WordsStand → (whole : Item) (k i n w : ℕ) (p : Listed (List (List Coordinate))) (r : LinearRing)
+    → IsMember k whole.spelled whole.value p.spelled (polygon p.dimension p.parts) → LendsMember whole k p.text → IsRingAt p 0 r
+    → IsWordOf (ring_seen r) i n w → IsCornerWord whole k i n w
+corner_word words whole k i n w p r member lends ring word =
+    let start = member_start k whole.spelled whole.value + ring_start 0 p.spelled p.dimension p.parts in
+    let here = 4 + 8 * (width p.dimension * i + n) in
+    let rest = drop (length (ring_text r)) (drop start whole.text) in
+    record {
+      part = whole_of polygon p;
+      dimension = p.dimension;
+      rings = p.parts;
+      ring = ring_seen r;
+      is_member = member;
+      value_is = refl;
+      exterior = sym ring.at;
+      word = word;
+      place = start + here;
+      place_is = omega arith;
+      stands = ap (number (order_of p.spelled) 8) (sym (drop-drop here start whole.text) ∙ ap (drop here) (begins_there (stands_within ring.stands lends)))
+          ∙ words (order_of p.spelled) p.dimension (ring_seen r) (ring_text r) rest i n w ring.spelled word;
+    }

@@ -1,0 +1,7 @@
+use Rattle.wkb_clients.specs.Common.{polygon}
+use Rattle.wkb_clients.proofs.clones.polygon_spelled.Goals as goal
+
+pub returns-clause-spells : goal.returns-clause-spells
+returns-clause-spells c =
+    let p = c.args.polygon.now in
+    c.spelled_in_full.ensures p.spelled (polygon p.dimension p.parts) p.text c.buf.ensures.spells
