@@ -1,7 +1,7 @@
 // Preloaded into a test or a program of one thread. At each growth of memory, which the kit's allocator asks of malloc
-// or realloc, the process splits: a child goes on as if the growth were refused, and the process itself, once the child
-// has ended, with the memory. What the child writes from then on goes to the file whose descriptor stands in REPORT, and
-// behind it, between two zero bytes, its status, or its signal as a negative number.
+// or realloc, the process splits: a child goes on as if the growth were refused, and the process itself, once the
+// child has ended, with the memory. What the child writes from then on goes to the file whose descriptor stands in
+// REPORT, and behind it, between two zero bytes, its status, or its signal as a negative number.
 #include <stdio.h>
 #include <stdlib.h>
 #include <sys/wait.h>
