@@ -65,7 +65,7 @@ fn fills(multi: &MultiLineString<'_>, encoding: &[u8], room: usize, most: usize)
         && sink.failed() == (room < encoding.len())
 }
 
-// Whether each of the rooms is filled as it should be, and those for all bytes and for all but one; all also byte by byte.
+// Whether each of the rooms is filled as it should be, and those for all bytes and all but one; all also byte by byte.
 fn fills_all(multi: &MultiLineString<'_>, encoding: &[u8], rooms: &[usize]) -> bool {
     for room in rooms {
         if !fills(multi, encoding, *room, usize::MAX) {
