@@ -173,6 +173,10 @@ fn plain_129(rt: HostRuntime) -> Result<(), Fail> {
     assert!(rt; geometry_wkb_size(&geometry)? == 1182);
     let encoding = written(rt.alloc(), &geometry)?;
     assert!(rt; encoding.len() == 1182);
-    assert!(rt; answer_to(rt.alloc(), encoding.as_slice()) == Outcome::TooDeep(128));
+    let answer = answer_to(rt.alloc(), encoding.as_slice());
+    if answer == Outcome::Memory {
+        return Err(Fail::new("out of memory"));
+    }
+    assert!(rt; answer == Outcome::TooDeep(128));
     Ok(())
 }
