@@ -1,4 +1,4 @@
-"""Well-Known Binary from Python: the calls of wkb.h through ctypes.
+"""Well-Known Binary from Python: the calls of wkb.h through ctypes, over anything with the buffer protocol.
 
     library = Library("libwkb.so")
     library.check(data).parts
@@ -11,13 +11,18 @@ import enum
 import struct
 import sys
 
+try:
+    import numpy
+except ImportError:
+    numpy = None
+
 BIG_ENDIAN, LITTLE_ENDIAN = range(2)
 ISO, EWKB_OWN_SRID, EWKB_WITH_SRID, EWKB_WITHOUT_SRID = range(4)
 
 Status = enum.IntEnum(
     "Status",
     "OK NO_MEMORY NO_ROOM UNKNOWN_OPTION SIZE_OVERFLOW IO_ERROR INVALID_BYTE_ORDER CODE_OUT_OF_RANGE INCORRECT_TYPE "
-    "NESTING_DEPTH_EXCEEDED SHORT_POINT SHORT_LINE_STRING SHORT_MULTI_POINT SHORT_LINEAR_RING",
+    "NESTING_DEPTH_EXCEEDED SHORT_POINT SHORT_LINE_STRING SHORT_MULTI_POINT SHORT_LINEAR_RING NULL_ROW BAD_OFFSETS",
     start=0,
 )
 Kind = enum.IntEnum(
@@ -53,38 +58,82 @@ class Fault(ctypes.Structure):
 
 
 class Part(ctypes.Structure):
-    """A geometry or a ring, and where its coordinates, rings or members begin."""
+    """A geometry or a ring: where it stands, and where its coordinates, rings or members begin."""
 
     _fields_ = [
+        ("begin", ctypes.c_uint64),
+        ("end", ctypes.c_uint64),
         ("offset", ctypes.c_uint64),
         ("count", ctypes.c_uint64),
-        ("kind", ctypes.c_uint8),
-        ("dimension", ctypes.c_uint8),
-        ("width", ctypes.c_uint8),
-        ("order", ctypes.c_uint8),
+        ("next", ctypes.c_uint64),
+        ("srid", ctypes.c_uint32),
+        ("has_srid", ctypes.c_uint32),
+        ("kind", ctypes.c_uint16),
+        ("dimension", ctypes.c_uint16),
+        ("width", ctypes.c_uint16),
+        ("order", ctypes.c_uint16),
     ]
 
 
 class Options(ctypes.Structure):
-    """The order and the form of a text."""
+    """The order and the form of an encoding."""
 
     _fields_ = [("order", ctypes.c_uint32), ("form", ctypes.c_uint32), ("srid", ctypes.c_uint32)]
 
 
 class Refused(ValueError):
-    """Some bytes are refused, or a call was; `fault` has the numbers where `check` refused them."""
+    """Some bytes are refused: `status` says why, `fault` has the numbers, and `which` tells the input, 1 or 2."""
 
-    def __init__(self, status, fault=None):
-        super().__init__(Status(status).name)
-        self.status = Status(status)
-        self.fault = fault
+    def __init__(self, status, fault, which=1):
+        self.status, self.fault, self.which = Status(status), fault, which
+        text = f"{self.status.name} in part {fault.part}" + (" of the second" if which == 2 else "")
+        if self.status == Status.CODE_OUT_OF_RANGE:
+            text += f": code {fault.code}"
+        if self.status >= Status.SHORT_POINT:
+            text += f", which would end at {fault.end} of {fault.len}"
+        super().__init__(text)
 
 
-def accept(status, fault=None):
+class View:
+    """Bytes as the library takes them, by their address. A copy stands for bytes that aren't in one piece, and, where
+    numpy isn't there, for those that can't be written and aren't a whole `bytes`."""
+
+    def __init__(self, data):
+        view = memoryview(data)
+        view = (view if view.c_contiguous else memoryview(view.tobytes())).cast("B")
+        self.len = view.nbytes
+        if self.len == 0:
+            self.holder = ctypes.create_string_buffer(1)
+        elif not view.readonly:
+            self.holder = (ctypes.c_char * self.len).from_buffer(view)
+        elif numpy is not None:
+            self.array = numpy.frombuffer(view, "u1")
+            self.holder = ctypes.c_void_p(self.array.ctypes.data)
+        else:
+            whole = view.obj
+            is_whole = isinstance(whole, bytes) and len(whole) == self.len
+            self.holder = ctypes.c_char_p(whole if is_whole else view.tobytes())
+
+    def arguments(self):
+        """The two arguments of a call."""
+        return ctypes.cast(self.holder, ctypes.c_void_p), self.len
+
+
+def number(value, name, limit):
+    """A number that the library takes as it is: in Python another one would be cut to its low bits."""
+    if not 0 <= value < limit:
+        raise ValueError(f"{name} {value} is not below {limit}")
+    return value
+
+
+def accept(status, fault=None, which=1):
+    """Raises what a status tells, if it tells a failure."""
     if status == Status.NO_MEMORY:
-        raise MemoryError
+        raise MemoryError("malloc answered null")
+    if status >= Status.IO_ERROR:
+        raise Refused(status, fault, which)
     if status != Status.OK:
-        raise Refused(status, fault)
+        raise ValueError(Status(status).name)
 
 
 class Library:
@@ -92,49 +141,84 @@ class Library:
 
     def __init__(self, path):
         self.library = ctypes.CDLL(path)
-        data = [ctypes.c_char_p, ctypes.c_size_t]
-        pointer = ctypes.POINTER
-        self.library.wkb_check.argtypes = data + [pointer(Found), pointer(Fault)]
-        self.library.wkb_write.argtypes = data + [pointer(Options)] + data + [pointer(ctypes.c_uint64)]
-        self.library.wkb_same.argtypes = data + data + [pointer(ctypes.c_bool)]
-        self.library.wkb_parts.argtypes = data + [pointer(Part), ctypes.c_size_t, pointer(ctypes.c_uint64)]
+        data, pointer = [ctypes.c_void_p, ctypes.c_size_t], ctypes.POINTER
+        fault, size = pointer(Fault), pointer(ctypes.c_uint64)
+        self.library.wkb_raw_check.argtypes = data + [pointer(Found), fault]
+        self.library.wkb_raw_write.argtypes = data + [pointer(Options)] + data + [size, fault]
+        self.library.wkb_raw_same.argtypes = data + data + [pointer(ctypes.c_bool), fault, pointer(ctypes.c_uint32)]
+        self.library.wkb_raw_column_check.argtypes = data * 4
+        self.library.wkb_raw_column_check.restype = None
+        self.library.wkb_raw_parts.argtypes = data + [pointer(Part), ctypes.c_size_t, size, fault]
 
     def check(self, data):
         """What stands at the front of the bytes."""
         found, fault = Found(), Fault()
-        accept(self.library.wkb_check(data, len(data), found, fault), fault)
+        accept(self.library.wkb_raw_check(*View(data).arguments(), found, fault), fault)
         return found
 
     def write(self, data, order=LITTLE_ENDIAN, form=ISO, srid=0):
-        """The text under these options of the geometry at the front of the bytes."""
-        options, size, room = Options(order, form, srid), ctypes.c_uint64(), len(data) + 4
-        while True:
-            text = ctypes.create_string_buffer(room)
-            status = self.library.wkb_write(data, len(data), options, text, room, size)
-            if status != Status.NO_ROOM:
-                accept(status)
-                return text.raw[: size.value]
-            room = size.value
+        """The encoding under these options of the geometry at the front of the bytes."""
+        view, size, fault = View(data), ctypes.c_uint64(), Fault()
+        options = Options(number(order, "order", 2), number(form, "form", 4), number(srid, "SRID", 2**32))
+        out = ctypes.create_string_buffer(view.len + 4)
+        accept(self.library.wkb_raw_write(*view.arguments(), options, out, len(out), size, fault), fault)
+        return out.raw[: size.value]
 
     def same(self, first, second):
         """Whether both begin with geometries of one value."""
-        equal = ctypes.c_bool()
-        accept(self.library.wkb_same(first, len(first), second, len(second), equal))
+        equal, fault, which = ctypes.c_bool(), Fault(), ctypes.c_uint32()
+        a, b = View(first), View(second)
+        status = self.library.wkb_raw_same(*a.arguments(), *b.arguments(), equal, fault, which)
+        accept(status, fault, which.value)
         return equal.value
 
     def parts(self, data):
         """The parts of the geometry at the front of the bytes, in preorder."""
-        parts, count = (Part * self.check(data).parts)(), ctypes.c_uint64()
-        accept(self.library.wkb_parts(data, len(data), parts, len(parts), count))
-        return parts
+        view, count, fault, room = View(data), ctypes.c_uint64(), Fault(), 16
+        while True:
+            table = (Part * room)()
+            status = self.library.wkb_raw_parts(*view.arguments(), table, room, count, fault)
+            if status != Status.NO_ROOM:
+                accept(status, fault)
+                return table[: count.value]
+            room = count.value
+
+
+    def check_column(self, data, offsets, validity=None):
+        """The status of each row of a column as Arrow has it, a byte a row; offsets are eight bytes each, one more than
+        there are rows, and validity has a bit a row."""
+        view, starts, bits = View(data), View(offsets), View(validity if validity is not None else b"")
+        count, rest = divmod(starts.len, 8)
+        rows = max(count - 1, 0)
+        if rest or (validity is not None and 8 * bits.len < rows):
+            raise ValueError(f"{starts.len} bytes of offsets and {bits.len} of validity are no column")
+        statuses = ctypes.create_string_buffer(max(rows, 1))
+        lent = (*view.arguments(), starts.arguments()[0], count, *bits.arguments())
+        self.library.wkb_raw_column_check(*lent, ctypes.cast(statuses, ctypes.c_void_p), rows)
+        return statuses.raw[:rows]
 
 
 def words(data, part):
-    """The bytes of a part's coordinates where they stand in the data: nothing is copied.
+    """The bytes of a part's coordinates where they stand in the data: nothing is copied."""
+    if part.kind > Kind.LINE_STRING:
+        raise ValueError(f"a {Kind(part.kind).name} has no coordinates of its own, but {part.count} rings or members")
+    return memoryview(data).cast("B")[part.offset : part.offset + 8 * part.width * part.count]
 
-    `numpy.frombuffer(words(data, part), ">f8" if part.order == BIG_ENDIAN else "<f8").reshape(-1, part.width)`
-    """
-    return memoryview(data)[part.offset : part.offset + 8 * part.width * part.count]
+
+def coordinates(data, part):
+    """The coordinates of a part: a view of the data where numpy is there, else a list of tuples."""
+    order = ">" if part.order == BIG_ENDIAN else "<"
+    if numpy is not None:
+        return numpy.frombuffer(words(data, part), order + "f8").reshape(-1, part.width)
+    return list(struct.iter_unpack(order + "d" * part.width, words(data, part)))
+
+
+def raised(call, *arguments):
+    """What a call raises, in one line."""
+    try:
+        return f"answered {call(*arguments)}"
+    except Exception as error:
+        return f"{type(error).__name__}: {error}"
 
 
 def show(library):
@@ -142,15 +226,22 @@ def show(library):
     polygon = bytes.fromhex("0020000003000010e600000001000000013ff00000000000004000000000000000")
     found = library.check(polygon)
     print(Kind(found.kind).name, "of", found.parts, "parts in", found.size, "bytes, SRID", found.srid)
-    ring = library.parts(polygon)[1]
-    print(Kind(ring.kind).name, "at", ring.offset, *struct.iter_unpack(">dd", words(polygon, ring)))
+    whole, ring = library.parts(polygon)
+    points = [tuple(map(float, point)) for point in coordinates(polygon, ring)]
+    print(Kind(ring.kind).name, "from", ring.begin, "to", ring.end, *points)
     text = library.write(polygon)
     print(text.hex())
-    print("one value" if library.same(polygon, text) else "two values")
-    try:
-        library.check(polygon[:-1])
-    except Refused as refused:
-        print(refused, "in part", refused.fault.part, "which would end at", refused.fault.end, "of", refused.fault.len)
+    print("one value" if library.same(memoryview(bytearray(polygon)), text) else "two values")
+    print(library.write(text + b"....", LITTLE_ENDIAN, EWKB_WITH_SRID, 4326).hex())
+    ends = struct.pack("=5q", 0, 33, 62, 99, 62)
+    print(*(Status(s).name for s in library.check_column(polygon + text, ends, b"\x0d")))
+    print(raised(library.check, polygon[:-1]))
+    print(raised(library.check, bytes.fromhex("0111000000")))
+    print(raised(library.same, polygon, b""))
+    print(raised(library.write, polygon, 2**32))
+    print(raised(library.write, polygon, BIG_ENDIAN, EWKB_WITH_SRID, -1))
+    print(raised(words, polygon, whole))
+    print(raised(library.check, memoryview(polygon)[::2]))
 
 
 if __name__ == "__main__":

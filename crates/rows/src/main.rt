@@ -9,6 +9,7 @@
 //! an input is empty or read by half, and if a wrong answer passes for a right one.
 #![tactic(auto)]
 
+mod check;
 mod command;
 mod line;
 mod members;

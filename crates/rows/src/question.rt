@@ -1,5 +1,6 @@
 //! What a row can ask, by its words.
 
+use crate::check::show_check;
 use crate::command::show_run;
 use crate::line::Line;
 use crate::members::show_members;
@@ -54,6 +55,7 @@ fn show_of_bytes(line: &mut Line, alloc: Global, question: &str, input: &[u8]) {
     }
     match question {
         "reading" => show_reading(line, alloc, input),
+        "check" => show_check(line, alloc, input),
         "be then le" => show_there_and_back(line, alloc, input),
         "own srid le" => {
             show_encoding(line, with_own_srid(alloc, input, Endianness::LittleEndian))

@@ -16,7 +16,7 @@ pub fn show_error(line: &mut Line, error: &WkbError) {
 }
 
 /// Shows how a reading ended.
-fn show_outcome(line: &mut Line, outcome: Outcome) {
+pub fn show_outcome(line: &mut Line, outcome: Outcome) {
     match outcome {
         Outcome::Accepted(size) => line.show("accepted, size ", size),
         Outcome::EndOfInput => line.say("IOError"),

@@ -1,8 +1,9 @@
 -- What is written of a geometry that was read.
-use Rattle.std.proofs.Common.{◌≡◌, ◌≢◌, ℕ, ◌<◌, ◌≤◌, ◌^◌, List, length, Option, Some, None, Err, ◌⊎◌, inl, inr, refl, sym, ap, ◌∙◌, subst, arith}
+use Rattle.std.proofs.Common.{◌≡◌, ◌≢◌, ℕ, ◌<◌, ◌≤◌, ◌^◌, List, length, Option, Some, None, Err, ◌⊎◌, inl, inr, refl}
+use Rattle.std.proofs.Common.{sym, ap, ◌∙◌, subst, arith}
 use Rattle.std.proofs.lemmas.Bool.Decides.{nat_tests}
 use Rattle.std.specs.Bool.{Decides}
-use Rattle.std.specs.Prelude.{nat_lt, true, false, if◌then◌else◌, Bool, MatchBool, bytes_eq, Result, Ok, IfOk, IfErr, IsErrAnd, MatchResult}
+use Rattle.std.specs.Prelude.{nat_lt, true, false, if◌then◌else◌, Bool, MatchBool, bytes_eq, Result, Ok, IfErr}
 use Rattle.std.proofs.lemmas.Slice.Eq.{bytes_eq-Decides}
 use Rattle.wkb_geom.specs.declared.common.Endianness.{Endianness}
 use Rattle.wkb_geom.specs.declared.common.Form.{Form}
@@ -16,13 +17,13 @@ use Rattle.wkb_geom.specs.Numbers.{AreBytes}
 use Rattle.wkb_geom.specs.Reading.{Item}
 use Rattle.wkb_geom.specs.Spellings.{header}
 use Rattle.wkb_geom.specs.Values.{Value}
-use Rattle.wkb_geom.specs.Texts.{Fault, unsupported_dimensions, count_overflow, size_overflow, text, fault, refusal, or_else, size_fault, IsWritable}
+use Rattle.wkb_geom.specs.Texts.{text, fault, refusal, or_else, size_fault, IsWritable}
 use Rattle.wkb_geom.specs.Texts.{IsRewriting, IsRewritingWithSrid}
 use Rattle.wkb_laws.proofs.Rewritings.{equal_texts_lem}
-use Rattle.wkb_measure.specs.declared.fault.Fault.{Fault as Found}
-use Rattle.wkb_measure.specs.Faults.{meaning}
-use Rattle.wkb_measure.specs.Measures.{Reports}
-use Rattle.wkb_write.specs.Answers.{IsSized}
+use Rattle.wkb_geom.specs.declared.error.Fault.{Fault}
+use Rattle.wkb_geom.specs.declared.error.Fault.TheVariants.{UnsupportedDimensions as unsupported_dimensions}
+use Rattle.wkb_geom.specs.declared.error.Fault.TheVariants.{Count as count_overflow, Size as size_overflow}
+use Rattle.wkb_write.specs.Measures.{Reports}
 use Rattle.wkb_read.specs.Public.{IsFront, IsRefusal, CanBeWritten}
 use Rattle.wkb.specs.Canonical.{IsSize, IsAccepted, IsTooLong, HaveOneValue, HaveTwoValues}
 
@@ -155,18 +156,6 @@ compared order a b x y v w equal bytes bytes' h k is is' tested =
     let decides = subst (λ r. Decides r (v ≡ w)) (sym tested) (bytes_eq-Decides v w) in
     compared_by order a b v w equal bytes bytes' (rw is h) (rw is' k) decides
 
--- what holds of both answers
-pub IfOk-always : {T E : Type 0} (r : Result T E) (P : Type 0) → P → IfOk r (λ _. P)
-IfOk-always (Ok x) P h = h
-IfOk-always (Err e) P h = tt
-
 pub IfErr-from : {T E : Type 0} (r : Result T E) (P Q : E → Type 0) → IfErr r P → ((e : E) → P e → Q e) → IfErr r Q
 IfErr-from (Ok x) P Q h f = tt
 IfErr-from (Err e) P Q h f = f e h
-
--- the error that tells the fault that was found
-pub refused_as_found : {A : Type 0} (P : A → Type 0) (order : Endianness) (form : Form) (g : Geometry) (f : Found) (r : Result A WkbError)
-    → IsErrAnd r (λ e. TellsFault e (meaning f)) → IsSized form g (Err f)
-    → MatchResult r P (λ e. IsMemory e ⊎ Reports e (refusal order form g))
-refused_as_found P order form g f (Err e) tells size = inr (record { fault = meaning f; is = (size order).is; told = tells })
-refused_as_found P order form g f (Ok x) tells size = absurd tells

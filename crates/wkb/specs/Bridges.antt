@@ -1,6 +1,8 @@
 -- What joins the clauses of calls to each other, so that no client proves it anew.
-use Rattle.std.proofs.Common.{◌≡◌, ℕ, zero, suc, ◌+◌, ◌-◌, ◌≤◌, List, [], ◌∷◌, Option, Some, None, Result, Ok, Err, Bool, ◌⊎◌, inl, inr, refl, sym, ap, subst}
-use Rattle.std.proofs.Common.{slice_get, ◌++◌, ◌∙◌, length, take, drop, append-nil, drop-drop, take-append-drop, length-append, length-drop, take_all, take-take, arith}
+use Rattle.std.proofs.Common.{◌≡◌, ℕ, zero, suc, ◌+◌, ◌-◌, ◌≤◌, List, [], ◌∷◌, Option, Some, None, Result, Ok, Err}
+use Rattle.std.proofs.Common.{Bool, ◌⊎◌, inl, inr, refl, sym, ap, subst}
+use Rattle.std.proofs.Common.{slice_get, ◌++◌, ◌∙◌, length, take, drop, append-nil, drop-drop, take-append-drop}
+use Rattle.std.proofs.Common.{length-append, length-drop, take_all, take-take, arith}
 use Rattle.std.proofs.Math.Seq.{take-append_seam}
 use Rattle.std.proofs.lemmas.List.{drop-take}
 use Rattle.std.specs.Prelude.{IfOk}
@@ -11,7 +13,8 @@ use Rattle.wkb.specs.Values.{Value, Values, each, members, collection, nest}
 use Rattle.wkb.specs.Spellings.{Spelling, node, Spellings, no_spellings, spelling, Front, max_nesting, HasOptions}
 use Rattle.wkb.specs.Geometries.{Geometry, normal}
 use Rattle.wkb.specs.Texts.{Fault, text, refusal}
-use Rattle.wkb.specs.Reads.{Item, spellings, values, IfRefused, IsFront, IsCollectionOf, list_of_spellings, members_spelled, spelling_at}
+use Rattle.wkb.specs.Reads.{Item, spellings, values, IfRefused, IsFront, IsCollectionOf, list_of_spellings}
+use Rattle.wkb.specs.Reads.{members_spelled, spelling_at}
 use Rattle.wkb.specs.Writes.{Writes, WriteOptions, IsSpelled}
 use Rattle.wkb.specs.Laws.{IsOneOf, IsMember, StandsAt}
 

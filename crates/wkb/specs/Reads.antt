@@ -1,21 +1,29 @@
 -- What the reader promises, and what its views show.
-pub use Rattle.wkb_geom.specs.Reading.{Item, spellings, values, point_of, line_string_of, polygon_of, coordinate, coordinates, ring_in}
+pub use Rattle.wkb_geom.specs.Reading.{Item, spellings, values, point_of, line_string_of, polygon_of, coordinate}
+pub use Rattle.wkb_geom.specs.Reading.{coordinates, ring_in}
 unfoldable pub use Rattle.wkb_geom.specs.Reading.{geometry_at}
 pub use Rattle.wkb_geom.specs.Stored.{Listed, whole_of, value_code, rings_code, polygons_code, item_code, listed_code}
-pub use Rattle.wkb_read.specs.Public.{IsFront, IsOnlyFront, HasNoFront, IsRefusal, TellsEach, IfRefused, IfMemory, CountsValue, CountsRefusal}
-pub use Rattle.wkb_read.specs.Public.{CountsAtMost, CanBeWritten, AsksForNone, KindTakesNone, TakesNoMemory, Reads, Costs}
-pub use Rattle.wkb_read.specs.Seen.{geometry_seen, members_seen, geometry_lawful, members_lawful, one_dimension_seen, seen_as_it_is}
+pub use Rattle.wkb_read.specs.Public.{IsFront, IsOnlyFront, HasNoFront, IsRefusal, TellsEach, IfRefused, IfMemory}
+pub use Rattle.wkb_read.specs.Public.{CountsValue, CountsRefusal}
+pub use Rattle.wkb_read.specs.Public.{CountsAtMost, CanBeWritten, AsksForNone, KindTakesNone, TakesNoMemory, Reads}
+pub use Rattle.wkb_read.specs.Public.{Costs}
+pub use Rattle.wkb_read.specs.Seen.{geometry_seen, members_seen, geometry_lawful, members_lawful, one_dimension_seen}
+pub use Rattle.wkb_read.specs.Seen.{seen_as_it_is}
 pub use Rattle.wkb_read.specs.Seen.{members_as_they_are}
 pub use Rattle.wkb_read.specs.Views.{IsCollectionOf, IsViewOf}
 pub use Rattle.wkb_read.specs.Placed.{texts, HoldsMembers, IsCollectionIn, AreMembers, IsMemberAt}
-pub use Rattle.wkb_view.specs.Coords.{words_seen, ring_seen, coordinate_text, coord_order, coord_dimension, coord_text, ring_order, ring_dimension}
+pub use Rattle.wkb_view.specs.Coords.{words_seen, ring_seen, coordinate_text, coord_order, coord_dimension, coord_text}
+pub use Rattle.wkb_view.specs.Coords.{ring_order, ring_dimension}
 pub use Rattle.wkb_view.specs.Coords.{ring_text, ring_offset}
-pub use Rattle.wkb_view.specs.Views.{point_seen, line_string_seen, multi_point_seen, point_layout, line_string_layout, multi_point_layout}
+pub use Rattle.wkb_view.specs.Views.{point_seen, line_string_seen, multi_point_seen, point_layout, line_string_layout}
+pub use Rattle.wkb_view.specs.Views.{multi_point_layout}
 pub use Rattle.wkb_view.specs.Views.{coordinate_in, line_string_offset, multi_point_offset, point_value}
-pub use Rattle.wkb_view.specs.Parts.{list_of_values, srid_of, order_of, IsCollection, points_of, members_spelled, list_of_spellings, IsSpelled}
+pub use Rattle.wkb_view.specs.Parts.{list_of_values, srid_of, order_of, IsCollection, points_of, members_spelled}
+pub use Rattle.wkb_view.specs.Parts.{list_of_spellings, IsSpelled}
 pub use Rattle.wkb_view.specs.Parts.{spelling_at}
 pub use Rattle.wkb_view.specs.Members.{stride}
-pub use Rattle.wkb_view.specs.Fitted.{fitted_line_string, fitted_line_strings, fitted_polygons, fitted_point, fitted_geometry, fitted_geometries}
+pub use Rattle.wkb_view.specs.Fitted.{fitted_line_string, fitted_line_strings, fitted_polygons, fitted_point}
+pub use Rattle.wkb_view.specs.Fitted.{fitted_geometry, fitted_geometries}
 pub use Rattle.wkb_view.specs.Fitted.{fitted_geometry-same}
 pub use Rattle.wkb_read.specs.declared.geometry.Wkb.{Wkb}
 pub use Rattle.wkb_view.specs.declared.coord.Coord.{Coord}

@@ -1,4 +1,7 @@
 -- What bytes mean.
-pub use Rattle.wkb_geom.specs.Values.{Coordinate, Value, point, line_string, polygon, multi_point, multi_line_string, multi_polygon, collection}
-pub use Rattle.wkb_geom.specs.Values.{Values, no_members, member, kind, dimension, each, members, count, nest, nest_each, member_count}
-pub use Rattle.wkb_geom.specs.Values.{member_count_each, listed_count, listed_count_each, IsCoordinate, IsPoint, AreCoordinates, IsValue, AreValues}
+pub use Rattle.wkb_geom.specs.Values.{Coordinate, Value, point, line_string, polygon, multi_point, multi_line_string}
+pub use Rattle.wkb_geom.specs.Values.{multi_polygon, collection}
+pub use Rattle.wkb_geom.specs.Values.{Values, no_members, member, kind, dimension, each, members, count, nest}
+pub use Rattle.wkb_geom.specs.Values.{nest_each, member_count}
+pub use Rattle.wkb_geom.specs.Values.{member_count_each, listed_count, listed_count_each, IsCoordinate, IsPoint}
+pub use Rattle.wkb_geom.specs.Values.{AreCoordinates, IsValue, AreValues}

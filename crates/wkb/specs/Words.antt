@@ -13,6 +13,7 @@ pub use Rattle.wkb_geom.specs.declared.error.Cause.TheVariants as causes
 pub use Rattle.wkb_geom.specs.declared.common.Dimensions.TheVariants as traits
 pub use Rattle.wkb_geom.specs.Numbers.{AreBytes, IsU32, IsWord, is_nan, all_nan, empty_word, order_byte, IsNumber}
 unfoldable pub use Rattle.wkb_geom.specs.Numbers.{number, number_bytes}
-pub use Rattle.wkb_geom.specs.Dimensions.{width, has_z, has_m, size, dimension_of_size, named, written_dimension, dimensions}
+pub use Rattle.wkb_geom.specs.Dimensions.{width, has_z, has_m, size, dimension_of_size, named, written_dimension}
+pub use Rattle.wkb_geom.specs.Dimensions.{dimensions}
 pub use Rattle.wkb_geom.specs.Errors.{TellsFault, IsMemory}
 pub use Rattle.wkb_geom.specs.Told.{Tells}

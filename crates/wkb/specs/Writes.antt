@@ -1,5 +1,5 @@
 -- What sizes and writers promise, and what becomes of a sink.
 pub use Rattle.wkb_write.specs.Answers.{IsSizeOf, IsRefusedAs, IsWrittenAs, IsSpelled, IsSpelledAs, Writes}
-pub use Rattle.wkb_measure.specs.Measures.{Reports}
-pub use Rattle.wkb_put.specs.Sinks.{IsIOError, IsWritten, IsBegun, Puts}
-pub use Rattle.wkb_write.specs.declared.options.WriteOptions.{WriteOptions}
+pub use Rattle.wkb_write.specs.Measures.{Reports}
+pub use Rattle.wkb_sink.specs.Sinks.{IsIOError, IsWritten, IsBegun, Puts}
+pub use Rattle.wkb_write.specs.declared.writable.WriteOptions.{WriteOptions}

@@ -4,19 +4,18 @@ ghost use Rattle.std.specs.Prelude.{◌≡◌, ◌⊎◌, IfOk, IfErr, MatchBool
 ghost use Rattle.wkb_geom.specs.Errors.{IsMemory};
 ghost use Rattle.wkb_geom.specs.Geometries.{geometry_of, IsGeometry};
 ghost use Rattle.wkb_geom.specs.Texts.{IsRewriting, IsRewritingWithSrid};
-ghost use Rattle.wkb_measure.specs.Measures.{Reports};
+ghost use Rattle.wkb_write.specs.Measures.{Reports};
 ghost use Rattle.wkb_read.specs.Public.{IsRefusal};
-ghost use Rattle.wkb.specs.Encodings.{encoding, refusal_of};
+ghost use Rattle.wkb_write.specs.Answers.{encoding, refusal_of};
 ghost use Rattle.wkb.specs.Canonical.{IsAccepted, IsSize, IsTooLong, HaveOneValue, HaveTwoValues};
 
 use crate::laws::are_bytes;
-use crate::vector::to_vec;
 use std::alloc::Global;
 use wkb_geom::error::WkbResult;
 use wkb_geom::{Endianness, Form};
 use wkb_read::geometry::Wkb;
 use wkb_read::read::stack::read_wkb;
-use wkb_write::WriteOptions;
+use wkb_write::{WriteOptions, to_vec};
 
 /// The text of a geometry that was read.
 fn rewriting(alloc: Global, wkb: &Wkb<'_>, options: &WriteOptions) -> WkbResult<Vec<u8>>

@@ -1,6 +1,6 @@
 //! Well-Known Binary: the reader, the writer, and the canonical form of what was read.
 //!
-//! All names but `canon`, `writer::to_vec` and `laws::are_bytes` are re-exports of the crates below.
+//! All names but `canon` and `laws::are_bytes` are re-exports of the crates below.
 #![tactic(auto)]
 
 pub mod canon;
@@ -8,7 +8,6 @@ pub mod error;
 pub mod geom;
 pub mod laws;
 pub mod reader;
-mod vector;
 pub mod writer;
 
 pub use wkb_geom::Endianness;

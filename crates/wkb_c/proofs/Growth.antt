@@ -1,9 +1,16 @@
 -- How a table grows by the members of a geometry, and by the rings of a polygon.
-use Rattle.wkb_c.proofs.Common.{◌≡◌, ℕ, zero, suc, ◌+◌, ◌≤◌, ◌<◌, ◌^◌, List, [], ◌∷◌, ◌++◌, length, drop, Option, Some, None, refl, sym, ap, subst, ◌∙◌}
-use Rattle.wkb_c.proofs.Common.{append_assoc, append-nil, arith, Result, Ok, Err, IfOk, slice_get, slice_index, Dimension, dimensions, order_byte, Item}
-use Rattle.wkb_c.proofs.Common.{spellings, values, ring_end, Header, Spelling, node, Spellings, no_spellings, spelling, Spells, Coordinate, Value, Values}
-use Rattle.wkb_c.proofs.Common.{point, line_string, polygon, multi_point, multi_line_string, multi_polygon, collection, no_members, member, members, count}
-use Rattle.wkb_c.proofs.Common.{each, kind, dimension, nodes, nodes_all, point_of, point_seen, value_seen, IsSpelled, order_of, srid_of, list_of_values}
+use Rattle.wkb_c.proofs.Common.{◌≡◌, ℕ, zero, suc, ◌+◌, ◌≤◌, ◌<◌, ◌^◌, List, [], ◌∷◌, ◌++◌, length, drop, Option, Some}
+use Rattle.wkb_c.proofs.Common.{None, refl, sym, ap, subst, ◌∙◌}
+use Rattle.wkb_c.proofs.Common.{append_assoc, append-nil, arith, Result, Ok, Err, IfOk, slice_get, slice_index}
+use Rattle.wkb_c.proofs.Common.{Dimension, dimensions, order_byte, Item}
+use Rattle.std.proofs.Common.{set}
+use Rattle.std.specs.Prelude.{slice_index_or}
+use Rattle.wkb_c.proofs.Common.{spellings, values, ring_end, Header, Spelling, node, Spellings, no_spellings, spelling}
+use Rattle.wkb_c.proofs.Common.{Spells, Coordinate, Value, Values}
+use Rattle.wkb_c.proofs.Common.{point, line_string, polygon, multi_point, multi_line_string, multi_polygon, collection}
+use Rattle.wkb_c.proofs.Common.{no_members, member, members, count}
+use Rattle.wkb_c.proofs.Common.{length-append, ◌*◌, width, header, each, kind, dimension, nodes, nodes_all, point_of}
+use Rattle.wkb_c.proofs.Common.{point_seen, value_seen, IsSpelled, order_of, srid_of, list_of_values}
 use Rattle.wkb_c.proofs.Common.{list_of_spellings, members_spelled}
 use Rattle.std.proofs.Math.Logic.{∥∥₁_elim}
 use Rattle.std.proofs.Props.{props}
@@ -12,8 +19,13 @@ use Rattle.wkb_read.specs.Views.{IsCollectionOf}
 use Rattle.wkb_view.specs.declared.point.Point as views
 use Rattle.wkb_c.specs.declared.parts.Part.{Part}
 use Rattle.wkb_c.specs.declared.parts.Table.{Table}
-use Rattle.wkb_c.specs.Tables.{entry, entries, ring_entries, member_entries, rings_size, rings_of, body_size, leading, count_of, size, sizes}
-use Rattle.wkb_c.specs.Growing.{Grows, Lists, ListsMembers, HasMembers, header_size, spellings_from, values_from, Added, RingsAdded}
+use Rattle.wkb_c.specs.Tables.{entry, entries, ring_entries, member_entries, rings_size, rings_of, body_size, leading}
+use Rattle.wkb_c.specs.Tables.{count_of, size, sizes}
+use Rattle.wkb_c.specs.Tables.{entry_count, entry_counts}
+use Rattle.wkb_c.specs.declared.parts.PartHead.{PartHead}
+use Rattle.wkb_c.specs.Growing.{Grows, Lists, ListsMembers, HasMembers, header_size, spellings_from, values_from, Added}
+use Rattle.wkb_c.specs.Growing.{RingsAdded}
+use Rattle.wkb_c.specs.Growing.{IsHead, Opens, Closes, closed, added_entry}
 
 -- ---- dimensions
 
@@ -44,54 +56,93 @@ past_values no_members (suc i) past = refl
 past_values (member t ts) zero past = absurd (omega arith)
 past_values (member t ts) (suc i) past = past_values ts i (omega arith)
 
-none_listed : (at : ℕ) (ss : Spellings) → member_entries at ss no_members ≡ []
-none_listed at no_spellings = refl
-none_listed at (spelling s ss) = refl
+none_listed : (index at : ℕ) (ss : Spellings) → member_entries index at ss no_members ≡ []
+none_listed index at no_spellings = refl
+none_listed index at (spelling s ss) = refl
+
+none_counted : (ss : Spellings) → entry_counts ss no_members ≡ 0
+none_counted no_spellings = refl
+none_counted (spelling s ss) = refl
 
 none_sized : (ss : Spellings) → sizes ss no_members ≡ 0
 none_sized no_spellings = refl
 none_sized (spelling s ss) = refl
 
 pub added_none : (ss : Spellings) (ts : Values) (t : Table) → Added ss ts t 0 t
-added_none ss ts t = record { parts = refl; next = refl }
+added_none ss ts t = record { parts = refl; at = refl }
+
+-- ---- how many entries there are
+
+pub rings_many : (d : Dimension) (order index at : ℕ) (rings : List (List Coordinate)) → length (ring_entries d order index at rings) ≡ length rings
+rings_many d order index at [] = refl
+rings_many d order index at (cs ∷ rings) = omega (arith, rings_many d order (index + 1) (at + ring_end d (length cs)) rings)
+
+mutual
+  pub entries_are : (index at : ℕ) (s : Spelling) (t : Value) → length (entries index at s t) ≡ entry_count s t
+  entries_are index at (node h words ss) t =
+      omega (
+        arith,
+        length-append (ring_entries (dimension t) (order_byte h.order) (index + 1) (at + leading h t) (rings_of t))
+            (member_entries (index + 1) (at + leading h t) ss (members t)),
+        rings_many (dimension t) (order_byte h.order) (index + 1) (at + leading h t) (rings_of t),
+        members_are (index + 1) (at + leading h t) ss (members t),
+      )
+
+  pub members_are : (index at : ℕ) (ss : Spellings) (ts : Values) → length (member_entries index at ss ts) ≡ entry_counts ss ts
+  members_are index at no_spellings ts = refl
+  members_are index at (spelling s ss) no_members = refl
+  members_are index at (spelling s ss) (member t ts) =
+      omega (
+        arith,
+        length-append (entries index at s t) (member_entries (index + entry_count s t) (at + size s t) ss ts),
+        entries_are index at s t,
+        members_are (index + entry_count s t) (at + size s t) ss ts,
+      )
+
+-- so many more entries are there than before
+grown : (old new : Table) (added : List Part) (bytes : ℕ) → Grows old new added bytes
+    → length new.parts.items ≡ length old.parts.items + length added
+grown old new added bytes g = ap length g.parts ∙ length-append old.parts.items added
 
 sizes_from : (ss : Spellings) (ts : Values) (i : ℕ) (s : Spelling) (t : Value) → slice_get (list_of_spellings ss) i ≡ Some s
     → slice_get (list_of_values ts) i ≡ Some t
     → sizes (spellings_from i ss) (values_from i ts) ≡ size s t + sizes (spellings_from (suc i) ss) (values_from (suc i) ts)
 sizes_from ss ts i s t this that = rw (from_spelling ss i s this, from_value ts i t that) refl
 
-entries_from : (at : ℕ) (ss : Spellings) (ts : Values) (i : ℕ) (s : Spelling) (t : Value) → slice_get (list_of_spellings ss) i ≡ Some s
+entries_from : (index at : ℕ) (ss : Spellings) (ts : Values) (i : ℕ) (s : Spelling) (t : Value) → slice_get (list_of_spellings ss) i ≡ Some s
     → slice_get (list_of_values ts) i ≡ Some t
-    → member_entries at (spellings_from i ss) (values_from i ts) ≡ entries at s t ++ member_entries (at + size s t) (spellings_from (suc i) ss)
-    (values_from (suc i) ts)
-entries_from at ss ts i s t this that = rw (from_spelling ss i s this, from_value ts i t that) refl
+    → member_entries index at (spellings_from i ss) (values_from i ts) ≡ entries index at s t
+    ++ member_entries (index + entry_count s t) (at + size s t) (spellings_from (suc i) ss) (values_from (suc i) ts)
+entries_from index at ss ts i s t this that = rw (from_spelling ss i s this, from_value ts i t that) refl
 
 pub added_fits : (ss : Spellings) (ts : Values) (start : Table) (i : ℕ) (now : Table) (s : Spelling) (t : Value) → Added ss ts start i now
-    → slice_get (list_of_spellings ss) i ≡ Some s → slice_get (list_of_values ts) i ≡ Some t → start.next + sizes ss ts < 2 ^ 63 → now.next + size s t < 2 ^ 63
-added_fits ss ts start i now s t a this that fits = omega (arith, a.next, fits, sizes_from ss ts i s t this that)
+    → slice_get (list_of_spellings ss) i ≡ Some s → slice_get (list_of_values ts) i ≡ Some t → start.at + sizes ss ts < 2 ^ 63 → now.at + size s t < 2 ^ 63
+added_fits ss ts start i now s t a this that fits = omega (arith, a.at, fits, sizes_from ss ts i s t this that)
 
 pub added_more : (ss : Spellings) (ts : Values) (start : Table) (i : ℕ) (now then : Table) (s : Spelling) (t : Value) → Added ss ts start i now
     → slice_get (list_of_spellings ss) i ≡ Some s → slice_get (list_of_values ts) i ≡ Some t → Lists now then s t → Added ss ts start (i + 1) then
 added_more ss ts start i now then s t a this that l =
     let rest = spellings_from (suc i) ss in
     let others = values_from (suc i) ts in
+    let many = length now.parts.items in
     let k : suc i ≡ i + 1 = omega arith in
+    let longer : length then.parts.items ≡ many + entry_count s t = omega (arith, grown _ _ _ _ l, entries_are many now.at s t) in
     subst (λ (j : ℕ). Added ss ts start j then) k (record {
-      parts = ap (λ (x : List Part). x ++ member_entries then.next rest others) l.parts
-          ∙ ap (λ (n : ℕ). (now.parts.items ++ entries now.next s t) ++ member_entries n rest others) l.next
-          ∙ append_assoc now.parts.items (entries now.next s t) (member_entries (now.next + size s t) rest others)
-          ∙ ap (λ (x : List Part). now.parts.items ++ x) (sym (entries_from now.next ss ts i s t this that))
+      parts = (λ x. l.parts x ++ member_entries (longer x) (l.at x) rest others)
+          ∙ append_assoc now.parts.items (entries many now.at s t) (member_entries (many + entry_count s t) (now.at + size s t) rest others)
+          ∙ ap (λ (x : List Part). now.parts.items ++ x) (sym (entries_from many now.at ss ts i s t this that))
           ∙ a.parts;
-      next = omega (arith, l.next, a.next, sizes_from ss ts i s t this that);
+      at = omega (arith, l.at, a.at, sizes_from ss ts i s t this that);
     })
 
 pub added_all : (ss : Spellings) (ts : Values) (start : Table) (i : ℕ) (now : Table) → count ts ≤ i → Added ss ts start i now → ListsMembers start now ss ts
 added_all ss ts start i now past a =
     let none = past_values ts i past in
+    let many = length now.parts.items in
     record {
       parts = sym (append-nil now.parts.items) ∙ ap (λ (x : List Part). now.parts.items ++ x)
-          (sym (ap (member_entries now.next (spellings_from i ss)) none ∙ none_listed now.next (spellings_from i ss))) ∙ a.parts;
-      next = omega (arith, a.next, ap (sizes (spellings_from i ss)) none, none_sized (spellings_from i ss));
+          (sym (ap (member_entries many now.at (spellings_from i ss)) none ∙ none_listed many now.at (spellings_from i ss))) ∙ a.parts;
+      at = omega (arith, a.at, ap (sizes (spellings_from i ss)) none, none_sized (spellings_from i ss));
     }
 
 pub each_get : {A : Type 0} (f : A → Value) (l : List A) (i : ℕ) (a : A) → Some a ≡ slice_get l i → slice_get (list_of_values (each f l)) i ≡ Some (f a)
@@ -147,29 +198,96 @@ leads h (collection d ts) m = omega arith
 
 -- the bytes of a geometry that has members
 pub members_fit : (s : Spelling) (t : Value) (at : ℕ) → HasMembers t → at + size s t < 2 ^ 63
-    → (at + (header_size (srid_of s) + 4) + 0 < 2 ^ 63) × (at + (header_size (srid_of s) + 4) + sizes (members_spelled s) (members t) < 2 ^ 63)
-members_fit (node h words ss) t at m fits = (omega (arith, fits, leads h t m), omega (arith, fits, leads h t m, no_body t m))
+    → (at + leading (header s) t + 0 < 2 ^ 63) × (at + leading (header s) t + sizes (members_spelled s) (members t) < 2 ^ 63)
+members_fit (node h words ss) t at m fits = (omega (arith, fits), omega (arith, fits, no_body t m))
 
-pub listed_whole : (s : Spelling) (t : Value) (old mid new : Table) (n : ℕ) → HasMembers t → n ≡ count_of t
-    → Grows old mid (entry (kind t) (dimension t) (order_byte (order_of s)) (old.next + (header_size (srid_of s) + 4)) n ∷ []) (header_size (srid_of s) + 4)
-    → ListsMembers mid new (members_spelled s) (members t) → Lists old new s t
-listed_whole (node h words ss) t old mid new n m counted first rest =
-    let at : old.next + leading h t ≡ mid.next = omega (arith, first.next, leads h t m) in
+-- the head of such a geometry
+pub whole_head : (s : Spelling) (t : Value) (head : PartHead) → HasMembers t → head.kind ≡ kind t → head.dimension ≡ dimension t
+    → head.srid ≡ srid_of s → head.order ≡ order_byte (order_of s) → head.leading ≡ header_size (srid_of s) + 4 → IsHead s t head
+whole_head (node h words ss) t head m kind_is dimension_is srid_is order_is lead = record {
+  kind_is = kind_is;
+  dimension_is = dimension_is;
+  srid_is = srid_is;
+  order_is = order_is;
+  leading_is = lead ∙ sym (leads h t m);
+}
+
+pub opens_fits : (s : Spelling) (t : Value) (head : PartHead) (at : ℕ) → HasMembers t → IsHead s t head → at + size s t < 2 ^ 63
+    → at + head.leading + 0 < 2 ^ 63
+opens_fits s t head at m is fits = omega (arith, is.leading_is, (members_fit s t at m fits).0)
+
+-- a part that has neither rings nor members
+pub listed_leaf : (s : Spelling) (t : Value) (old new : Table) (head : PartHead) (n body : ℕ) → IsHead s t head → n ≡ count_of t
+    → rings_of t ≡ [] → members t ≡ no_members → body ≡ body_size t
+    → Grows old new (added_entry (length old.parts.items) old.at head body n ∷ []) (head.leading + body) → Lists old new s t
+listed_leaf (node h words ss) t old new head n body is counted no_ring no_member sized g =
+    let index = length old.parts.items in
+    let at = old.at + leading h t in
+    let no_entry : member_entries (index + 1) at ss (members t) ≡ [] = ap (member_entries (index + 1) at ss) no_member ∙ none_listed (index + 1) at ss in
+    let one : entry_count (node h words ss) t ≡ 1 =
+    omega (arith, ap length no_ring, ap (entry_counts ss) no_member, none_counted ss) in
+    let bytes : head.leading + body ≡ size (node h words ss) t =
+    omega (arith, is.leading_is, sized, ap (sizes ss) no_member, none_sized ss) in
     record {
-      parts = rest.parts ∙ ap (λ (x : List Part). x ++ member_entries mid.next ss (members t)) first.parts
-          ∙ append_assoc old.parts.items (entry (kind t) (dimension t) (order_byte h.order) (old.next + (header_size h.srid + 4)) n ∷ [])
-          (member_entries mid.next ss (members t))
-          ∙ ap (λ (k : ℕ). old.parts.items ++ (entry (kind t) (dimension t) (order_byte h.order) (old.next + k) n ∷ member_entries mid.next ss (members t)))
-          (sym (leads h t m))
-          ∙ ap (λ (k : ℕ). old.parts.items ++ (entry (kind t) (dimension t) (order_byte h.order) (old.next + leading h t) k
-          ∷ member_entries mid.next ss (members t))) counted
-          ∙ ap (λ (k : ℕ). old.parts.items ++ (entry (kind t) (dimension t) (order_byte h.order) (old.next + leading h t) (count_of t)
-          ∷ member_entries k ss (members t))) (sym at)
-          ∙ ap (λ (r : List (List Coordinate)). old.parts.items ++ (entry (kind t) (dimension t) (order_byte h.order) (old.next + leading h t) (count_of t)
-          ∷ (ring_entries (dimension t) (order_byte h.order) (old.next + leading h t) r ++ member_entries (old.next + leading h t) ss (members t))))
-          (sym (no_rings t m));
-      next = omega (arith, rest.next, first.next, leads h t m, no_body t m);
+      parts = g.parts ∙ (λ i. old.parts.items ++ (entry (is.kind_is i) (is.dimension_is i) (is.srid_is i) (is.order_is i)
+          (record { begin = old.at; offset = old.at + is.leading_is i; end = old.at + bytes i; next = index + (sym one) i }) (counted i)
+          ∷ (ring_entries (dimension t) (order_byte h.order) (index + 1) at (sym no_ring i) ++ sym no_entry i)));
+      at = omega (arith, g.at, bytes);
     }
+
+-- a part that has rings or members, once these were added and it was closed
+listed_open : (s : Spelling) (t : Value) (old mid late new : Table) (n index bytes : ℕ) (inner : List Part) → n ≡ count_of t
+    → index ≡ length old.parts.items → Opens old mid s t n → Grows mid late inner bytes → Closes late new index
+    → inner ≡ ring_entries (dimension t) (order_byte (order_of s)) (length mid.parts.items) mid.at (rings_of t)
+    ++ member_entries (length mid.parts.items) mid.at (members_spelled s) (members t)
+    → bytes ≡ body_size t + sizes (members_spelled s) (members t) → Lists old new s t
+listed_open (node h words ss) t old mid late new n index bytes inner counted at_index o g shut same sized =
+    let is = o.head_is in
+    let before = length old.parts.items in
+    let e = added_entry before old.at o.head 0 n in
+    let first : length mid.parts.items ≡ before + 1 = grown _ _ _ _ o.grows in
+    let begins : mid.at ≡ old.at + leading h t = omega (arith, o.grows.at, is.leading_is) in
+    let inside : inner ≡ ring_entries (dimension t) (order_byte h.order) (before + 1) (old.at + leading h t) (rings_of t)
+    ++ member_entries (before + 1) (old.at + leading h t) ss (members t) =
+    same ∙ (λ i. ring_entries (dimension t) (order_byte h.order) (first i) (begins i) (rings_of t) ++ member_entries (first i) (begins i) ss (members t)) in
+    let ends : late.at ≡ old.at + size (node h words ss) t = omega (arith, g.at, begins, sized) in
+    let many : length late.parts.items ≡ before + entry_count (node h words ss) t =
+    omega (
+      arith,
+      grown _ _ _ _ g,
+      first,
+      ap length inside,
+      length-append (ring_entries (dimension t) (order_byte h.order) (before + 1) (old.at + leading h t) (rings_of t))
+          (member_entries (before + 1) (old.at + leading h t) ss (members t)),
+      rings_many (dimension t) (order_byte h.order) (before + 1) (old.at + leading h t) (rings_of t),
+      members_are (before + 1) (old.at + leading h t) ss (members t),
+    ) in
+    let whole : late.parts.items ≡ old.parts.items ++ (e ∷ inner) =
+    g.parts ∙ ap (λ (x : List Part). x ++ inner) o.grows.parts ∙ append_assoc old.parts.items (e ∷ []) inner in
+    record {
+      parts = shut.parts old.parts.items inner e whole at_index
+          ∙ (λ i. old.parts.items ++ (entry (is.kind_is i) (is.dimension_is i) (is.srid_is i) (is.order_is i)
+          (record { begin = old.at; offset = old.at + is.leading_is i; end = ends i; next = many i }) (counted i) ∷ inside i));
+      at = shut.at ∙ ends;
+    }
+
+pub listed_whole : (s : Spelling) (t : Value) (old mid late new : Table) (n index : ℕ) → HasMembers t → n ≡ count_of t
+    → index ≡ length old.parts.items → Opens old mid s t n → ListsMembers mid late (members_spelled s) (members t) → Closes late new index
+    → Lists old new s t
+listed_whole s t old mid late new n index m counted at_index o g shut =
+    listed_open s t old mid late new n index _ _ counted at_index o g shut
+    (λ i. ring_entries (dimension t) (order_byte (order_of s)) (length mid.parts.items) mid.at (sym (no_rings t m) i)
+    ++ member_entries (length mid.parts.items) mid.at (members_spelled s) (members t))
+    (omega (arith, no_body t m))
+
+-- so it is of the geometry that a view is a view of
+pub listed_view : (w v : Item) (old mid late new : Table) (n index : ℕ) → v ≡ w → HasMembers v.value → n ≡ count_of v.value
+    → index ≡ length old.parts.items → Opens old mid w.spelled w.value n → ListsMembers mid late (members_spelled v.spelled) (members v.value)
+    → Closes late new index → Lists old new w.spelled w.value
+listed_view w v old mid late new n index is m counted at_index o g shut =
+    listed_whole w.spelled w.value old mid late new n index (subst (λ (x : Item). HasMembers x.value) is m)
+    (counted ∙ ap (λ (x : Item). count_of x.value) is) at_index o
+    (subst (λ (x : Item). ListsMembers mid late (members_spelled x.spelled) (members x.value)) is g) shut
 
 -- ---- rings
 
@@ -185,42 +303,56 @@ drop_past (x ∷ rings) zero past = absurd (omega arith)
 drop_past (x ∷ rings) (suc i) past = drop_past rings i (omega arith)
 
 pub rings_none : (d : Dimension) (order : ℕ) (rings : List (List Coordinate)) (t : Table) → RingsAdded d order rings t 0 t
-rings_none d order rings t = record { parts = refl; next = refl }
+rings_none d order rings t = record { parts = refl; at = refl }
 
 pub rings_fit : (d e : Dimension) (order : ℕ) (rings : List (List Coordinate)) (start : Table) (i : ℕ) (now : Table) (ring : List Coordinate)
     → dimensions e ≡ dimensions d
-    → RingsAdded d order rings start i now → Some ring ≡ slice_get rings i → start.next + rings_size d rings < 2 ^ 63
-    → now.next + ring_end e (length ring) < 2 ^ 63
+    → RingsAdded d order rings start i now → Some ring ≡ slice_get rings i → start.at + rings_size d rings < 2 ^ 63
+    → now.at + ring_end e (length ring) < 2 ^ 63
 rings_fit d e order rings start i now ring same a is fits =
-    omega (arith, a.next, fits, ap (rings_size d) (drop_ring rings i ring is), ap (λ (x : Dimension). ring_end x (length ring)) (one_name e d same))
+    omega (arith, a.at, fits, ap (rings_size d) (drop_ring rings i ring is), ap (λ (x : Dimension). ring_end x (length ring)) (one_name e d same))
+
+pub listed_ring : (d : Dimension) (order n : ℕ) (ring : List Coordinate) (old new : Table) (head : PartHead) (body : ℕ) → head.kind ≡ 0
+    → head.dimension ≡ d → head.srid ≡ None → head.order ≡ order → head.leading ≡ 4 → n ≡ length ring → body ≡ 8 * width d * length ring
+    → Grows old new (added_entry (length old.parts.items) old.at head body n ∷ []) (head.leading + body)
+    → Grows old new (ring_entries d order (length old.parts.items) old.at (ring ∷ [])) (ring_end d (length ring))
+listed_ring d order n ring old new head body kind_is dimension_is srid_is order_is leading_is counted sized g =
+    let bytes : head.leading + body ≡ ring_end d (length ring) = omega (arith, leading_is, sized) in
+    record {
+      parts = g.parts ∙ (λ i. old.parts.items ++ (entry (kind_is i) (dimension_is i) (srid_is i) (order_is i)
+          (record { begin = old.at; offset = old.at + leading_is i; end = old.at + bytes i; next = length old.parts.items + 1 }) (counted i) ∷ []));
+      at = omega (arith, g.at, bytes);
+    }
 
 pub rings_more : (d e : Dimension) (order : ℕ) (rings : List (List Coordinate)) (start : Table) (i : ℕ) (now then : Table) (ring : List Coordinate)
     → dimensions e ≡ dimensions d
     → RingsAdded d order rings start i now → Some ring ≡ slice_get rings i
-    → Grows now then (entry 0 e order (now.next + 4) (length ring) ∷ []) (ring_end e (length ring)) → RingsAdded d order rings start (i + 1) then
-rings_more d e order rings start i now then ring same a is grown =
-    let g : Grows now then (entry 0 d order (now.next + 4) (length ring) ∷ []) (ring_end d (length ring)) =
-    subst (λ (x : Dimension). Grows now then (entry 0 x order (now.next + 4) (length ring) ∷ []) (ring_end x (length ring))) (one_name e d same) grown in
+    → Grows now then (ring_entries e order (length now.parts.items) now.at (ring ∷ [])) (ring_end e (length ring)) → RingsAdded d order rings start (i + 1) then
+rings_more d e order rings start i now then ring same a is grows =
+    let many = length now.parts.items in
+    let g : Grows now then (ring_entries d order many now.at (ring ∷ [])) (ring_end d (length ring)) =
+    subst (λ (x : Dimension). Grows now then (ring_entries x order many now.at (ring ∷ [])) (ring_end x (length ring))) (one_name e d same) grows in
     let rest = drop (suc i) rings in
-    let one = entry 0 d order (now.next + 4) (length ring) ∷ [] in
+    let one = ring_entries d order many now.at (ring ∷ []) in
+    let longer : length then.parts.items ≡ many + 1 = grown _ _ _ _ g in
     let k : suc i ≡ i + 1 = omega arith in
     subst (λ (j : ℕ). RingsAdded d order rings start j then) k (record {
-      parts = ap (λ (x : List Part). x ++ ring_entries d order then.next rest) g.parts
-          ∙ ap (λ (n : ℕ). (now.parts.items ++ one) ++ ring_entries d order n rest) g.next
-          ∙ append_assoc now.parts.items one (ring_entries d order (now.next + ring_end d (length ring)) rest)
-          ∙ ap (λ (r : List (List Coordinate)). now.parts.items ++ ring_entries d order now.next r) (sym (drop_ring rings i ring is))
+      parts = (λ x. g.parts x ++ ring_entries d order (longer x) (g.at x) rest)
+          ∙ append_assoc now.parts.items one (ring_entries d order (many + 1) (now.at + ring_end d (length ring)) rest)
+          ∙ ap (λ (r : List (List Coordinate)). now.parts.items ++ ring_entries d order many now.at r) (sym (drop_ring rings i ring is))
           ∙ a.parts;
-      next = omega (arith, g.next, a.next, ap (rings_size d) (drop_ring rings i ring is));
+      at = omega (arith, g.at, a.at, ap (rings_size d) (drop_ring rings i ring is));
     })
 
 pub rings_all : (d : Dimension) (order : ℕ) (rings : List (List Coordinate)) (start : Table) (i : ℕ) (now : Table) → length rings ≤ i
     → RingsAdded d order rings start i now
-    → Grows start now (ring_entries d order start.next rings) (rings_size d rings)
+    → Grows start now (ring_entries d order (length start.parts.items) start.at rings) (rings_size d rings)
 rings_all d order rings start i now past a =
     let none = drop_past rings i past in
     record {
-      parts = sym (append-nil now.parts.items) ∙ ap (λ (r : List (List Coordinate)). now.parts.items ++ ring_entries d order now.next r) (sym none) ∙ a.parts;
-      next = omega (arith, a.next, ap (rings_size d) none);
+      parts = sym (append-nil now.parts.items)
+          ∙ ap (λ (r : List (List Coordinate)). now.parts.items ++ ring_entries d order (length now.parts.items) now.at r) (sym none) ∙ a.parts;
+      at = omega (arith, a.at, ap (rings_size d) none);
     }
 
 -- ---- the first byte
@@ -245,27 +377,26 @@ rings_are_few d (cs ∷ rings) = omega (arith, rings_are_few d rings)
 
 -- ---- a polygon
 
-pub listed_polygon : (s : Spelling) (d : Dimension) (rings : List (List Coordinate)) (old mid new : Table) (n order lead : ℕ) → n ≡ length rings
-    → order ≡ order_byte (order_of s) → lead ≡ header_size (srid_of s) + 4
-    → Grows old mid (entry 3 d order (old.next + lead) n ∷ []) (lead + 0) → Grows mid new (ring_entries d order mid.next rings) (rings_size d rings)
+pub polygon_head : (s : Spelling) (d : Dimension) (rings : List (List Coordinate)) (head : PartHead) → head.kind ≡ 3 → head.dimension ≡ d
+    → head.srid ≡ srid_of s → head.order ≡ order_byte (order_of s) → head.leading ≡ header_size (srid_of s) + 4 → IsHead s (polygon d rings) head
+polygon_head (node h words ss) d rings head kind_is dimension_is srid_is order_is lead = record {
+  kind_is = kind_is;
+  dimension_is = dimension_is;
+  srid_is = srid_is;
+  order_is = order_is;
+  leading_is = omega (arith, lead);
+}
+
+pub listed_polygon : (s : Spelling) (d : Dimension) (rings : List (List Coordinate)) (old mid late new : Table) (n order index : ℕ) → n ≡ length rings
+    → index ≡ length old.parts.items → order ≡ order_byte (order_of s) → Opens old mid s (polygon d rings) n
+    → Grows mid late (ring_entries d order (length mid.parts.items) mid.at rings) (rings_size d rings) → Closes late new index
     → Lists old new s (polygon d rings)
-listed_polygon (node h words ss) d rings old mid new n order lead counted ordered leads first rest =
-    let at = old.next + leading h (polygon d rings) in
-    let begins : mid.next ≡ at = omega (arith, first.next, leads) in
-    let offset : old.next + lead ≡ at = omega (arith, leads) in
-    record {
-      parts = rest.parts ∙ ap (λ (x : List Part). x ++ ring_entries d order mid.next rings) first.parts
-          ∙ append_assoc old.parts.items (entry 3 d order (old.next + lead) n ∷ []) (ring_entries d order mid.next rings)
-          ∙ ap (λ (k : ℕ). old.parts.items ++ (entry 3 d order k n ∷ ring_entries d order mid.next rings)) offset
-          ∙ ap (λ (k : ℕ). old.parts.items ++ (entry 3 d order at k ∷ ring_entries d order mid.next rings)) counted
-          ∙ ap (λ (k : ℕ). old.parts.items ++ (entry 3 d order at (length rings) ∷ ring_entries d order k rings)) begins
-          ∙ ap (λ (k : ℕ). old.parts.items ++ (entry 3 d k at (length rings) ∷ ring_entries d k at rings)) ordered
-          ∙ ap (λ (x : List Part). old.parts.items ++ (entry 3 d (order_byte h.order) at (length rings) ∷ x))
-          (sym (append-nil (ring_entries d (order_byte h.order) at rings)))
-          ∙ ap (λ (x : List Part). old.parts.items ++ (entry 3 d (order_byte h.order) at (length rings) ∷ (ring_entries d (order_byte h.order) at rings ++ x)))
-          (sym (none_listed at ss));
-      next = omega (arith, rest.next, first.next, leads, none_sized ss);
-    }
+listed_polygon (node h words ss) d rings old mid late new n order index counted at_index ordered o g shut =
+    let many = length mid.parts.items in
+    listed_open (node h words ss) (polygon d rings) old mid late new n index _ _ counted at_index o g shut
+    (sym (append-nil (ring_entries d order many mid.at rings))
+    ∙ (λ i. ring_entries d (ordered i) many mid.at rings ++ sym (none_listed many mid.at ss) i))
+    (omega (arith, none_sized ss))
 
 pub polygon_fits : (s : Spelling) (d : Dimension) (rings : List (List Coordinate)) (at : ℕ) → at + size s (polygon d rings) < 2 ^ 63 → length rings < 2 ^ 63
 polygon_fits (node h words ss) d rings at fits = omega (arith, fits, rings_are_few d rings)
@@ -296,25 +427,25 @@ collection_valued w ms c = c.all.value ∙ ap (λ (x : Item). members x.value) c
 collection_has : (w : Item) (ms : List Item) → IsCollectionOf w ms → HasMembers w.value
 collection_has w ms c = subst (λ (x : Item). HasMembers x.value) c.is (omega arith)
 
-pub collection_fits : (w : Item) (ms : List Item) (old mid : Table) (added : List Part) → IsCollectionOf w ms → old.next + size w.spelled w.value < 2 ^ 63
-    → Grows old mid added (header_size (srid_of w.spelled) + 4) → mid.next + sizes (spellings ms) (values ms) < 2 ^ 63
-collection_fits w ms old mid added c fits first =
+pub collection_fits : (w : Item) (ms : List Item) (old mid : Table) (n : ℕ) → IsCollectionOf w ms → old.at + size w.spelled w.value < 2 ^ 63
+    → Opens old mid w.spelled w.value n → mid.at + sizes (spellings ms) (values ms) < 2 ^ 63
+collection_fits w ms old mid n c fits o =
     omega (
       arith,
-      first.next,
-      (members_fit w.spelled w.value old.next (collection_has w ms c) fits).1,
+      o.grows.at,
+      o.head_is.leading_is,
+      (members_fit w.spelled w.value old.at (collection_has w ms c) fits).1,
       ap (λ (x : Spellings). sizes x (values ms)) (collection_spelled w ms c),
       ap (sizes (members_spelled w.spelled)) (collection_valued w ms c),
     )
 
-pub listed_collection : (w : Item) (ms : List Item) (old mid new : Table) (n : ℕ) → IsCollectionOf w ms → n ≡ count_of w.value
-    → Grows old mid (entry (kind w.value) (dimension w.value) (order_byte (order_of w.spelled)) (old.next + (header_size (srid_of w.spelled) + 4)) n ∷ [])
-    (header_size (srid_of w.spelled) + 4)
-    → ListsMembers mid new (spellings ms) (values ms) → Lists old new w.spelled w.value
-listed_collection w ms old mid new n c counted first rest =
-    listed_whole w.spelled w.value old mid new n (collection_has w ms c) counted first
-    (subst (λ (x : Values). ListsMembers mid new (members_spelled w.spelled) x) (collection_valued w ms c)
-    (subst (λ (x : Spellings). ListsMembers mid new x (values ms)) (collection_spelled w ms c) rest))
+pub listed_collection : (w : Item) (ms : List Item) (old mid late new : Table) (n index : ℕ) → IsCollectionOf w ms → n ≡ length ms
+    → index ≡ length old.parts.items → Opens old mid w.spelled w.value n → ListsMembers mid late (spellings ms) (values ms) → Closes late new index
+    → Lists old new w.spelled w.value
+listed_collection w ms old mid late new n index c counted at_index o g shut =
+    listed_whole w.spelled w.value old mid late new n index (collection_has w ms c) (counted ∙ collection_counted w ms c) at_index o
+    (subst (λ (x : Values). ListsMembers mid late (members_spelled w.spelled) x) (collection_valued w ms c)
+    (subst (λ (x : Spellings). ListsMembers mid late x (values ms)) (collection_spelled w ms c) g)) shut
 
 -- a member has no more nodes than all of them
 pub member_nodes : (ms : List Item) (i : ℕ) (m : Item) → slice_get ms i ≡ Some m → nodes m.value ≤ nodes_all (values ms)
@@ -333,3 +464,22 @@ point_value l d i p is same =
 pub if_ok : {X E : Type 0} (r : Result X E) (P Q : X → Type 0) → ((x : X) → P x → Q x) → IfOk r P → IfOk r Q
 if_ok (Ok x) P Q f h = f x h
 if_ok (Err e) P Q f h = tt
+
+-- ---- closing a part
+
+set_there : (before after : List Part) (p x : Part) → set (before ++ (p ∷ after)) (length before) x ≡ before ++ (x ∷ after)
+set_there [] after p x = refl
+set_there (y ∷ before) after p x = ap (λ l. y ∷ l) (set_there before after p x)
+
+got_there : (before after : List Part) (p q : Part) → slice_index_or (before ++ (p ∷ after)) (length before) q ≡ p
+got_there [] after p q = refl
+got_there (y ∷ before) after p q = got_there before after p q
+
+pub closes : (old new : Table) (index many : ℕ) (q : Part) → q ≡ slice_index_or old.parts.items index q → many ≡ length old.parts.items
+    → new.parts.items ≡ set old.parts.items index (closed old.at many q) → new.at ≡ old.at → Closes old new index
+closes old new index many q is counted written same = record {
+  parts = λ before after p whole there.
+      let same_part : q ≡ p = is ∙ (λ i. slice_index_or (whole i) (there i) q) ∙ got_there before after p q in
+      written ∙ (λ i. set (whole i) (there i) (closed old.at (counted i) (same_part i))) ∙ set_there before after p _;
+  at = same;
+}

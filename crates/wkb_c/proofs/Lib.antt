@@ -2,3 +2,4 @@ mod Common
 mod Telling
 mod Growth
 mod Words
+mod Rows

@@ -1,22 +1,29 @@
 -- What is told of an answer of the reader.
-use Rattle.wkb_c.proofs.Common.{◌≡◌, ◌≢◌, ℕ, ◌+◌, ◌≤◌, List, length, refl, sym, ap, arith, ◌⊎◌, inl, inr, Bool, is_some, unwrap_or, width, Item, header, kind}
+use Rattle.wkb_c.proofs.Common.{◌≡◌, ◌≢◌, ℕ, ◌+◌, ◌≤◌, ◌<◌, List, length, refl, sym, ap, arith, ◌⊎◌, inl, inr, Bool}
+use Rattle.wkb_c.proofs.Common.{is_some, unwrap_or, width, Item, header, kind}
 use Rattle.wkb_c.proofs.Common.{dimension, member_count, IsFront, IsRefusal, TakesNoMemory}
 use Rattle.wkb_geom.specs.Codes.{thousands}
-use Rattle.wkb_geom.specs.declared.error.General.{General as Fault}
-use Rattle.wkb_geom.specs.declared.error.General.TheVariants.{UnsupportedDimensions, CodeOutOfRange, InvalidByteOrder, ShortPoint, ShortLineString}
+use Rattle.wkb_geom.specs.declared.error.General.{General as Bad}
+use Rattle.wkb_geom.specs.declared.error.General.TheVariants.{UnsupportedDimensions, CodeOutOfRange, InvalidByteOrder}
+use Rattle.wkb_geom.specs.declared.error.General.TheVariants.{ShortPoint, ShortLineString}
 use Rattle.wkb_geom.specs.declared.error.General.TheVariants.{ShortLinearRing, ShortMultiPoint}
 use Rattle.wkb_geom.specs.declared.error.WkbError.{WkbError}
-use Rattle.wkb_geom.specs.declared.error.WkbError.TheVariants.{IncorrectType, NotYetImplemented, General, NestingDepthExceeded, IOError, OverflowError, Memory}
+use Rattle.wkb_geom.specs.declared.error.WkbError.TheVariants.{IncorrectType, NotYetImplemented, General}
+use Rattle.wkb_geom.specs.declared.error.WkbError.TheVariants.{NestingDepthExceeded, IOError, OverflowError, Memory}
 use Rattle.wkb_geom.specs.Told.{Tells}
 use Rattle.wkb_geom.specs.Errors.{IsMemory}
 use Rattle.wkb_geom.specs.declared.error.Cause.{Cause}
-use Rattle.wkb_geom.specs.declared.error.Cause.TheVariants.{EndOfInput as end_of_input, General as general, IncorrectType as incorrect_type}
+use Rattle.wkb_geom.specs.declared.error.Cause.TheVariants.{EndOfInput as end_of_input, General as general}
+use Rattle.wkb_geom.specs.declared.error.Cause.TheVariants.{IncorrectType as incorrect_type}
 use Rattle.wkb_geom.specs.declared.error.Cause.TheVariants.{NestingDepthExceeded as nesting_depth_exceeded}
 use Rattle.wkb_read.specs.Memory.{IsNotMemoryError}
-use Rattle.wkb.specs.Canonical.{IsAccepted}
+use Rattle.wkb.specs.Canonical.{IsAccepted, IsSize}
+use Rattle.wkb_laws.proofs.Outcomes.{never_both_lem}
+use Rattle.wkb_c.specs.declared.options.Request.{Request}
+use Rattle.wkb_c.specs.Requests.{IsOverlong}
 use Rattle.wkb_c.specs.declared.found.Found.{Found}
 use Rattle.wkb_c.specs.Checks.{IsFound, HoldsNoList}
-use Rattle.wkb_c.specs.Statuses.{status_of, general_status, fault_of, general_fault, IsRefusedAs, IsRefusedInTurn}
+use Rattle.wkb_c.specs.Statuses.{status_of, general_status, fault_of, general_fault}
 use Rattle.wkb_c.specs.Told.{status_told, fault_told}
 
 -- an error that tells a cause has its status
@@ -35,7 +42,7 @@ fault_tells part (IncorrectType s) incorrect_type told = refl
 fault_tells part (NestingDepthExceeded n) (nesting_depth_exceeded m) told = refl
 fault_tells part _ _ told = absurd told
 
-general_is_late : (g : Fault) → 5 ≤ general_status g
+general_is_late : (g : Bad) → 5 ≤ general_status g
 general_is_late InvalidByteOrder = omega arith
 general_is_late (CodeOutOfRange code) = omega arith
 general_is_late (UnsupportedDimensions n) = omega arith
@@ -54,8 +61,22 @@ cause_is_late (nesting_depth_exceeded n) = omega arith
 pub refusal_is_late : (e : WkbError) (cause : Cause) → Tells e cause → 5 ≤ status_told e
 refusal_is_late e cause told = rw (status_tells e cause told) (cause_is_late cause)
 
+general_is_small : (g : Bad) → general_status g < 14
+general_is_small InvalidByteOrder = omega arith
+general_is_small (CodeOutOfRange code) = omega arith
+general_is_small (UnsupportedDimensions n) = omega arith
+general_is_small (ShortPoint end len) = omega arith
+general_is_small (ShortLineString end len) = omega arith
+general_is_small (ShortMultiPoint end len) = omega arith
+general_is_small (ShortLinearRing end len) = omega arith
+
+-- the statuses of errors are the first ones
+pub told_is_small : (e : WkbError) → status_told e < 14
+told_is_small (General g) = general_is_small g
+told_is_small _ = omega arith
+
 -- an error that isn't want of memory has another status
-general_is_other : (g : Fault) → general_status g ≢ 1
+general_is_other : (g : Bad) → general_status g ≢ 1
 general_is_other g is = omega (arith, is, general_is_late g)
 
 pub other_is_other : (e : WkbError) → IsNotMemoryError e → status_told e ≢ 1
@@ -71,19 +92,30 @@ memory_is_told : (e : WkbError) → IsMemory e → status_told e ≡ 1
 memory_is_told (Memory e) is = refl
 memory_is_told _ is = absurd is
 
--- a refusal has the status of its cause
-pub refused_as : (buf : List ℕ) (e : WkbError) → IsRefusal buf e → IsRefusedAs buf (status_told e)
-refused_as buf e r = record { cause = r.cause; turns = r.turns; slots = r.slots; refuses = r.refuses; status_is = status_tells e r.cause r.tells }
+-- what is read is accepted
+pub front_is_accepted : (buf : List ℕ) (w : Item) → IsFront buf w → IsAccepted buf
+front_is_accepted buf w f = record { s = w.spelled; t = w.value; rest = f.rest; front = f.front }
 
--- so has that of one of two inputs
-refused_one : (a b : List ℕ) (e : WkbError) → IsRefusal a e ⊎ (IsAccepted a × IsRefusal b e) → IsRefusedInTurn a b (status_told e)
-refused_one a b e (inl first) = inl (refused_as a e first)
-refused_one a b e (inr second) = inr (second.0, refused_as b e second.1)
+-- what is accepted isn't refused
+pub no_refusal : (buf : List ℕ) (e : WkbError) → IsAccepted buf → IsRefusal buf e → ⊥
+no_refusal buf e a r = never_both_lem buf a.s a.t a.rest r.cause r.turns r.slots a.front r.refuses
 
-pub refused_in_turn : (a b : List ℕ) (e : WkbError) → IsMemory e ⊎ (IsRefusal a e ⊎ (IsAccepted a × IsRefusal b e)) → status_told e ≢ 1
-    → IsRefusedInTurn a b (status_told e)
-refused_in_turn a b e (inl memory) other = absurd (other (memory_is_told e memory))
-refused_in_turn a b e (inr refused) other = refused_one a b e refused
+-- of what is accepted an encoding is refused for want of memory or for its length
+pub refused_encoding : (request : Request) (buf : List ℕ) (e : WkbError) → IsAccepted buf
+    → IsMemory e ⊎ (IsRefusal buf e ⊎ (IsOverlong request buf × IsSize e)) → (status_told e ≡ 1) ⊎ ((status_told e ≡ 4) × IsOverlong request buf)
+refused_encoding request buf e a (inl memory) = inl (memory_is_told e memory)
+refused_encoding request buf e a (inr (inl refusal)) = absurd (no_refusal buf e a refusal)
+refused_encoding request buf (OverflowError o) a (inr (inr long)) = inr (refl, long.0)
+refused_encoding request buf _ a (inr (inr long)) = absurd long.1
+
+is_early : (e : WkbError) (P : Type 0) → (status_told e ≡ 1) ⊎ ((status_told e ≡ 4) × P) → 5 ≤ status_told e → ⊥
+is_early e P (inl one) late = omega (arith, one, late)
+is_early e P (inr four) late = omega (arith, four.0, late)
+
+-- so its status is none of a refusal
+pub encoding_is_early : (request : Request) (buf : List ℕ) (e : WkbError) → IsAccepted buf
+    → IsMemory e ⊎ (IsRefusal buf e ⊎ (IsOverlong request buf × IsSize e)) → 5 ≤ status_told e → ⊥
+encoding_is_early request buf e a refused late = is_early e (IsOverlong request buf) (refused_encoding request buf e a refused) late
 
 -- points, line strings and multi points take no memory
 kind_without_list : (k : ℕ) (srid : Bool) (buf : List ℕ) → (k ≡ 1) ⊎ ((k ≡ 2) ⊎ (k ≡ 4)) → (k ≢ 3) × (k ≢ 5) × (k ≢ 6) × (k ≢ 7)

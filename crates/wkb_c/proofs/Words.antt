@@ -1,16 +1,23 @@
 -- The words of a geometry's parts stand where its table says.
-use Rattle.wkb_c.proofs.Common.{◌≡◌, ℕ, zero, suc, ◌+◌, ◌*◌, List, [], ◌∷◌, ◌++◌, length, drop, Option, Some, None, refl, sym, ap, ◌∙◌, append_assoc}
-use Rattle.wkb_c.proofs.Common.{append-nil, length-append, ◌<◌, ◌^◌, arith, drop-drop, slice_get, is_some, sum_by, Dimension, width, IsNumber, number}
-use Rattle.wkb_c.proofs.Common.{order_byte, srid_size, ring_end, Header, Spelling, node, Spellings, no_spellings, spelling, IsHeader, IsSrid, SpellsCoordinate}
-use Rattle.wkb_c.proofs.Common.{SpellsCoordinates, SpellsBody, Wanted, Spells, SpellsEach, Coordinate, Value, Values, point, line_string, polygon, multi_point}
-use Rattle.wkb_c.proofs.Common.{multi_line_string, multi_polygon, collection, no_members, member, members, each, kind, dimension, member_count}
+use Rattle.wkb_c.proofs.Common.{◌≡◌, ℕ, zero, suc, ◌+◌, ◌*◌, List, [], ◌∷◌, ◌++◌, length, drop, Option, Some, None}
+use Rattle.wkb_c.proofs.Common.{refl, sym, ap, ◌∙◌, append_assoc}
+use Rattle.wkb_c.proofs.Common.{append-nil, length-append, ◌<◌, ◌^◌, arith, drop-drop, slice_get, is_some, sum_by}
+use Rattle.wkb_c.proofs.Common.{Dimension, width, IsNumber, number}
+use Rattle.wkb_c.proofs.Common.{order_byte, srid_size, ring_end, Header, Spelling, node, Spellings, no_spellings}
+use Rattle.wkb_c.proofs.Common.{spelling, IsHeader, IsSrid, SpellsCoordinate}
+use Rattle.wkb_c.proofs.Common.{SpellsCoordinates, SpellsBody, Wanted, Spells, SpellsEach, Coordinate, Value, Values}
+use Rattle.wkb_c.proofs.Common.{point, line_string, polygon, multi_point}
+use Rattle.wkb_c.proofs.Common.{multi_line_string, multi_polygon, collection, no_members, member, members, each, kind}
+use Rattle.wkb_c.proofs.Common.{dimension, member_count}
 use Rattle.wkb_c.proofs.Common.{member_count_each, Item, IsFront}
 use Rattle.std.proofs.lemmas.List.Sums.{sum_by-cons}
 use Rattle.wkb_geom.specs.declared.common.Endianness.{Endianness}
 use Rattle.wkb_geom.specs.Grammar.{IsEach}
 use Rattle.wkb_laws.proofs.Parts.{drop_front, number-front}
 use Rattle.wkb_c.specs.declared.parts.Part.{Part}
-use Rattle.wkb_c.specs.Tables.{Piece, entry, entries, ring_entries, member_entries, rings_size, rings_of, body_size, leading, count_of, size, sizes}
+use Rattle.wkb_c.proofs.Growth.{entries_are}
+use Rattle.wkb_c.specs.Tables.{Place, Piece, entry, place, ring_place, entry_count, entry_counts, entries, ring_entries}
+use Rattle.wkb_c.specs.Tables.{member_entries, rings_size, rings_of, body_size, leading, count_of, size, sizes}
 use Rattle.wkb_c.specs.Tables.{coordinates_of, ring_pieces, pieces, member_pieces, HoldsWords, HoldEach}
 
 -- ---- lengths
@@ -129,18 +136,20 @@ coordinate_at order d (x ∷ cs) bytes rest (suc i) n w c h this that =
     ∙ drop_front (8 * width d) h.front (h.rest ++ rest) (coordinate_length order d x h.front h.first))
     ∙ coordinate_at order d cs h.rest rest i n w c h.second this that
 
-holds_words : (input : List ℕ) (k : ℕ) (d : Dimension) (order : Endianness) (at n : ℕ) (cs : List Coordinate) (bytes rest : List ℕ)
-    → drop at input ≡ bytes ++ rest
-    → IsEach (SpellsCoordinate order d) cs bytes → HoldsWords input (entry k d (order_byte order) at n) (record { order = order; coordinates = cs })
-holds_words input k d order at n cs bytes rest stands each i m w c this that =
+holds_words : (input : List ℕ) (k : ℕ) (d : Dimension) (srid : Option ℕ) (order : Endianness) (p : Place) (n : ℕ) (cs : List Coordinate)
+    (bytes rest : List ℕ) → drop p.offset input ≡ bytes ++ rest
+    → IsEach (SpellsCoordinate order d) cs bytes → HoldsWords input (entry k d srid (order_byte order) p n) order cs
+holds_words input k d srid order p n cs bytes rest stands each i m w c this that =
+    let at = p.offset in
     let j = 8 * (width d * i + m) in
     ap (number order 8) (sym (drop-drop j at input)) ∙ ap (λ (y : List ℕ). number order 8 (drop j y)) stands
     ∙ coordinate_at order d cs bytes rest i m w c each this that
 
-holds_one : (input : List ℕ) (k : ℕ) (d : Dimension) (order : Endianness) (at n : ℕ) (c : Coordinate) (bytes rest : List ℕ) → drop at input ≡ bytes ++ rest
-    → SpellsCoordinate order d c bytes → HoldsWords input (entry k d (order_byte order) at n) (record { order = order; coordinates = c ∷ [] })
-holds_one input k d order at n c bytes rest stands one =
-    holds_words input k d order at n (c ∷ []) bytes rest stands
+holds_one : (input : List ℕ) (k : ℕ) (d : Dimension) (srid : Option ℕ) (order : Endianness) (p : Place) (n : ℕ) (c : Coordinate) (bytes rest : List ℕ)
+    → drop p.offset input ≡ bytes ++ rest
+    → SpellsCoordinate order d c bytes → HoldsWords input (entry k d srid (order_byte order) p n) order (c ∷ [])
+holds_one input k d srid order p n c bytes rest stands one =
+    holds_words input k d srid order p n (c ∷ []) bytes rest stands
     (record { front = bytes; rest = []; whole = sym (append-nil bytes); first = one; second = refl })
 
 -- ---- parts
@@ -151,59 +160,66 @@ each_append input [] qs (x ∷ xs) ys f g = absurd f
 each_append input (p ∷ ps) qs [] ys f g = absurd f
 each_append input (p ∷ ps) qs (x ∷ xs) ys f g = (f.0, each_append input ps qs xs ys f.1 g)
 
-rings_hold : (input : List ℕ) (order : Endianness) (d : Dimension) (rings : List (List Coordinate)) (at : ℕ) (bytes rest : List ℕ)
+rings_hold : (input : List ℕ) (order : Endianness) (d : Dimension) (rings : List (List Coordinate)) (index at : ℕ) (bytes rest : List ℕ)
     → drop at input ≡ bytes ++ rest
-    → IsEach (SpellsCoordinates order d) rings bytes → HoldEach input (ring_entries d (order_byte order) at rings) (ring_pieces order rings)
-rings_hold input order d [] at bytes rest stands h = tt
-rings_hold input order d (cs ∷ rings) at bytes rest stands h =
+    → IsEach (SpellsCoordinates order d) rings bytes → HoldEach input (ring_entries d (order_byte order) index at rings) (ring_pieces order d rings)
+rings_hold input order d [] index at bytes rest stands h = tt
+rings_hold input order d (cs ∷ rings) index at bytes rest stands h =
     let here = before input at bytes h.front h.rest rest stands h.whole in
-    let inside = behind input at 4 h.front h.first.front h.first.rest (h.rest ++ rest) here h.first.whole h.first.first.len in (
-      holds_words input 0 d order (at + 4) (length cs) cs h.first.rest (h.rest ++ rest) inside h.first.second,
-      rings_hold input order d rings (at + ring_end d (length cs)) h.rest rest
-          (behind input at (ring_end d (length cs)) bytes h.front h.rest rest stands h.whole (ring_length order d cs h.front h.first)) h.second,
+    let inside = behind input at 4 h.front h.first.front h.first.rest (h.rest ++ rest) here h.first.whole h.first.first.len in
+    let long = ring_length order d cs h.front h.first in (
+      record {
+        bytes = h.front;
+        rest = h.rest ++ rest;
+        stand = here;
+        end_is = (omega (arith, long));
+        spell = h.first;
+        words = holds_words input 0 d None order (ring_place d index at (length cs)) (length cs) cs h.first.rest (h.rest ++ rest) inside h.first.second;
+      },
+      rings_hold input order d rings (index + 1) (at + ring_end d (length cs)) h.rest rest
+          (behind input at (ring_end d (length cs)) bytes h.front h.rest rest stands h.whole long) h.second,
     )
 
 -- a body, behind a header of so many bytes
-own_holds : (input : List ℕ) (h : Header) (words : List ℕ) (t : Value) (at : ℕ) (bytes rest : List ℕ)
+own_holds : (input : List ℕ) (h : Header) (words : List ℕ) (s : Spelling) (t : Value) (index at : ℕ) (bytes rest : List ℕ)
     → drop (at + (5 + srid_size (is_some h.srid))) input ≡ bytes ++ rest → SpellsBody h.order words t bytes
-    → HoldsWords input (entry (kind t) (dimension t) (order_byte h.order) (at + leading h t) (count_of t))
-    (record { order = h.order; coordinates = coordinates_of words t })
-own_holds input h words (point d None) at bytes rest stands b =
-    holds_one input 1 d h.order (at + (5 + srid_size (is_some h.srid))) 1 words bytes rest stands b.1
-own_holds input h words (point d (Some c)) at bytes rest stands b =
-    holds_one input 1 d h.order (at + (5 + srid_size (is_some h.srid))) 1 c bytes rest stands b.2
-own_holds input h words (line_string d cs) at bytes rest stands b =
+    → HoldsWords input (entry (kind t) (dimension t) h.srid (order_byte h.order) (place index at h s t) (count_of t)) h.order (coordinates_of words t)
+own_holds input h words s (point d None) index at bytes rest stands b =
+    holds_one input 1 d h.srid h.order (place index at h s (point d None)) 1 words bytes rest stands b.1
+own_holds input h words s (point d (Some c)) index at bytes rest stands b =
+    holds_one input 1 d h.srid h.order (place index at h s (point d (Some c))) 1 c bytes rest stands b.2
+own_holds input h words s (line_string d cs) index at bytes rest stands b =
     let start = at + (5 + srid_size (is_some h.srid)) in
-    holds_words input 2 d h.order (at + (9 + srid_size (is_some h.srid))) (length cs) cs b.1.rest rest
+    holds_words input 2 d h.srid h.order (place index at h s (line_string d cs)) (length cs) cs b.1.rest rest
     (moved input (b.1.rest ++ rest) (start + 4) (at + (9 + srid_size (is_some h.srid))) (omega arith)
     (behind input start 4 bytes b.1.front b.1.rest rest stands b.1.whole b.1.first.len)) b.1.second
-own_holds input h words (polygon d rings) at bytes rest stands b = λ i n w c this that. absurd (cc)
-own_holds input h words (multi_point d points) at bytes rest stands b = λ i n w c this that. absurd (cc)
-own_holds input h words (multi_line_string d lines) at bytes rest stands b = λ i n w c this that. absurd (cc)
-own_holds input h words (multi_polygon d polygons) at bytes rest stands b = λ i n w c this that. absurd (cc)
-own_holds input h words (collection d ts) at bytes rest stands b = λ i n w c this that. absurd (cc)
+own_holds input h words s (polygon d rings) index at bytes rest stands b = λ i n w c this that. absurd (cc)
+own_holds input h words s (multi_point d points) index at bytes rest stands b = λ i n w c this that. absurd (cc)
+own_holds input h words s (multi_line_string d lines) index at bytes rest stands b = λ i n w c this that. absurd (cc)
+own_holds input h words s (multi_polygon d polygons) index at bytes rest stands b = λ i n w c this that. absurd (cc)
+own_holds input h words s (collection d ts) index at bytes rest stands b = λ i n w c this that. absurd (cc)
 
-own_rings_hold : (input : List ℕ) (h : Header) (words : List ℕ) (t : Value) (at : ℕ) (bytes rest : List ℕ)
+own_rings_hold : (input : List ℕ) (h : Header) (words : List ℕ) (t : Value) (index at : ℕ) (bytes rest : List ℕ)
     → drop (at + (5 + srid_size (is_some h.srid))) input ≡ bytes ++ rest → SpellsBody h.order words t bytes
-    → HoldEach input (ring_entries (dimension t) (order_byte h.order) (at + leading h t) (rings_of t)) (ring_pieces h.order (rings_of t))
-own_rings_hold input h words (point d c) at bytes rest stands b = tt
-own_rings_hold input h words (line_string d cs) at bytes rest stands b = tt
-own_rings_hold input h words (polygon d rings) at bytes rest stands b =
+    → HoldEach input (ring_entries (dimension t) (order_byte h.order) index (at + leading h t) (rings_of t)) (ring_pieces h.order (dimension t) (rings_of t))
+own_rings_hold input h words (point d c) index at bytes rest stands b = tt
+own_rings_hold input h words (line_string d cs) index at bytes rest stands b = tt
+own_rings_hold input h words (polygon d rings) index at bytes rest stands b =
     let start = at + (5 + srid_size (is_some h.srid)) in
-    rings_hold input h.order d rings (at + (9 + srid_size (is_some h.srid))) b.1.rest rest
+    rings_hold input h.order d rings index (at + (9 + srid_size (is_some h.srid))) b.1.rest rest
     (moved input (b.1.rest ++ rest) (start + 4) (at + (9 + srid_size (is_some h.srid))) (omega arith)
     (behind input start 4 bytes b.1.front b.1.rest rest stands b.1.whole b.1.first.len)) b.1.second
-own_rings_hold input h words (multi_point d points) at bytes rest stands b = tt
-own_rings_hold input h words (multi_line_string d lines) at bytes rest stands b = tt
-own_rings_hold input h words (multi_polygon d polygons) at bytes rest stands b = tt
-own_rings_hold input h words (collection d ts) at bytes rest stands b = tt
+own_rings_hold input h words (multi_point d points) index at bytes rest stands b = tt
+own_rings_hold input h words (multi_line_string d lines) index at bytes rest stands b = tt
+own_rings_hold input h words (multi_polygon d polygons) index at bytes rest stands b = tt
+own_rings_hold input h words (collection d ts) index at bytes rest stands b = tt
 
-no_members_hold : (input : List ℕ) (at : ℕ) (ss : Spellings) → HoldEach input (member_entries at ss no_members) (member_pieces ss no_members)
-no_members_hold input at no_spellings = tt
-no_members_hold input at (spelling s ss) = tt
+no_members_hold : (input : List ℕ) (index at : ℕ) (ss : Spellings) → HoldEach input (member_entries index at ss no_members) (member_pieces ss no_members)
+no_members_hold input index at no_spellings = tt
+no_members_hold input index at (spelling s ss) = tt
 
-abbrev MembersHold : List ℕ → Header → Spellings → Value → ℕ → Type 0
-MembersHold input h ss t at = HoldEach input (member_entries (at + leading h t) ss (members t)) (member_pieces ss (members t))
+abbrev MembersHold : List ℕ → Header → Spellings → Value → ℕ → ℕ → Type 0
+MembersHold input h ss t index at = HoldEach input (member_entries index (at + leading h t) ss (members t)) (member_pieces ss (members t))
 
 -- the members stand behind a count
 behind_count : (input : List ℕ) (h : Header) (at : ℕ) (count inner rest : List ℕ)
@@ -214,39 +230,50 @@ behind_count input h at count inner rest stands four =
     moved input (inner ++ rest) (start + 4) (at + (9 + srid_size (is_some h.srid))) (omega arith)
     (behind input start 4 (count ++ inner) count inner rest stands refl four)
 
-own_members_hold : (input : List ℕ) (h : Header) (words : List ℕ) (ss : Spellings) (t : Value) (at : ℕ) (body inner rest : List ℕ)
+own_members_hold : (input : List ℕ) (h : Header) (words : List ℕ) (ss : Spellings) (t : Value) (index at : ℕ) (body inner rest : List ℕ)
     → drop (at + (5 + srid_size (is_some h.srid))) input ≡ (body ++ inner) ++ rest → SpellsBody h.order words t body
-    → (drop (at + leading h t) input ≡ inner ++ rest → MembersHold input h ss t at) → MembersHold input h ss t at
-own_members_hold input h words ss (point d c) at body inner rest stands b each = no_members_hold input _ ss
-own_members_hold input h words ss (line_string d cs) at body inner rest stands b each = no_members_hold input _ ss
-own_members_hold input h words ss (polygon d rings) at body inner rest stands b each = no_members_hold input _ ss
-own_members_hold input h words ss (multi_point d points) at body inner rest stands b each = each (behind_count input h at body inner rest stands b.1.len)
-own_members_hold input h words ss (multi_line_string d lines) at body inner rest stands b each = each (behind_count input h at body inner rest stands b.1.len)
-own_members_hold input h words ss (multi_polygon d polygons) at body inner rest stands b each = each (behind_count input h at body inner rest stands b.1.len)
-own_members_hold input h words ss (collection d ts) at body inner rest stands b each = each (behind_count input h at body inner rest stands b.1.len)
+    → (drop (at + leading h t) input ≡ inner ++ rest → MembersHold input h ss t index at) → MembersHold input h ss t index at
+own_members_hold input h words ss (point d c) index at body inner rest stands b each = no_members_hold input index _ ss
+own_members_hold input h words ss (line_string d cs) index at body inner rest stands b each = no_members_hold input index _ ss
+own_members_hold input h words ss (polygon d rings) index at body inner rest stands b each = no_members_hold input index _ ss
+own_members_hold input h words ss (multi_point d points) index at body inner rest stands b each =
+    each (behind_count input h at body inner rest stands b.1.len)
+own_members_hold input h words ss (multi_line_string d lines) index at body inner rest stands b each =
+    each (behind_count input h at body inner rest stands b.1.len)
+own_members_hold input h words ss (multi_polygon d polygons) index at body inner rest stands b each =
+    each (behind_count input h at body inner rest stands b.1.len)
+own_members_hold input h words ss (collection d ts) index at body inner rest stands b each =
+    each (behind_count input h at body inner rest stands b.1.len)
 
 mutual
-  pub holds : (input : List ℕ) (s : Spelling) (t : Value) (at : ℕ) (bytes rest : List ℕ) → drop at input ≡ bytes ++ rest → Spells s t bytes
-      → HoldEach input (entries at s t) (pieces s t)
-  holds input (node h words ss) t at bytes rest stands sp =
+  pub holds : (input : List ℕ) (s : Spelling) (t : Value) (index at : ℕ) (bytes rest : List ℕ) → drop at input ≡ bytes ++ rest → Spells s t bytes
+      → HoldEach input (entries index at s t) (pieces s t)
+  holds input (node h words ss) t index at bytes rest stands sp =
       let inside = behind input at (5 + srid_size (is_some h.srid)) bytes sp.front sp.rest rest stands sp.whole
       (header_length h (kind t) (dimension t) sp.front sp.first) in
       let body = before input (at + (5 + srid_size (is_some h.srid))) sp.rest sp.second.front sp.second.rest rest inside sp.second.whole in
       let whole = inside ∙ ap (λ (x : List ℕ). x ++ rest) sp.second.whole in (
-        own_holds input h words t at sp.second.front (sp.second.rest ++ rest) body sp.second.first,
-        each_append input _ _ _ _ (own_rings_hold input h words t at sp.second.front (sp.second.rest ++ rest) body sp.second.first)
-            (own_members_hold input h words ss t at sp.second.front sp.second.rest rest whole sp.second.first
-            (λ there. each_holds input _ ss (members t) (at + leading h t) sp.second.rest rest there sp.second.second)),
+        record {
+          bytes = bytes;
+          rest = rest;
+          stand = stands;
+          end_is = (omega (arith, spelled_size (node h words ss) t bytes sp));
+          spell = sp;
+          words = own_holds input h words (node h words ss) t index at sp.second.front (sp.second.rest ++ rest) body sp.second.first;
+        },
+        each_append input _ _ _ _ (own_rings_hold input h words t (index + 1) at sp.second.front (sp.second.rest ++ rest) body sp.second.first)
+            (own_members_hold input h words ss t (index + 1) at sp.second.front sp.second.rest rest whole sp.second.first
+            (λ there. each_holds input _ ss (members t) (index + 1) (at + leading h t) sp.second.rest rest there sp.second.second)),
       )
 
-  each_holds : (input : List ℕ) (w : Wanted) (ss : Spellings) (ts : Values) (at : ℕ) (bytes rest : List ℕ) → drop at input ≡ bytes ++ rest
+  each_holds : (input : List ℕ) (w : Wanted) (ss : Spellings) (ts : Values) (index at : ℕ) (bytes rest : List ℕ) → drop at input ≡ bytes ++ rest
       → SpellsEach w ss ts bytes
-      → HoldEach input (member_entries at ss ts) (member_pieces ss ts)
-  each_holds input w no_spellings ts at bytes rest stands sp = tt
-  each_holds input w (spelling s ss) no_members at bytes rest stands sp = tt
-  each_holds input w (spelling s ss) (member t ts) at bytes rest stands sp =
-      each_append input _ _ _ _ (holds input s t at sp.front (sp.rest ++ rest) (before input at bytes sp.front sp.rest rest stands sp.whole) sp.first.0)
-      (each_holds input w ss ts (at + size s t) sp.rest rest
+      → HoldEach input (member_entries index at ss ts) (member_pieces ss ts)
+  each_holds input w no_spellings ts index at bytes rest stands sp = tt
+  each_holds input w (spelling s ss) no_members index at bytes rest stands sp = tt
+  each_holds input w (spelling s ss) (member t ts) index at bytes rest stands sp =
+      each_append input _ _ _ _ (holds input s t index at sp.front (sp.rest ++ rest) (before input at bytes sp.front sp.rest rest stands sp.whole) sp.first.0)
+      (each_holds input w ss ts (index + entry_count s t) (at + size s t) sp.rest rest
       (behind input at (size s t) bytes sp.front sp.rest rest stands sp.whole (spelled_size s t sp.front sp.first.0)) sp.second)
 
 -- ---- the front of an input
@@ -256,10 +283,6 @@ front_fits buf w f short =
     omega (arith, short, ap length f.front.whole, length-append f.front.front f.rest, spelled_size w.spelled w.value f.front.front f.front.spelled)
 
 -- ---- how many parts there are
-
-rings_many : (d : Dimension) (order at : ℕ) (rings : List (List Coordinate)) → length (ring_entries d order at rings) ≡ length rings
-rings_many d order at [] = refl
-rings_many d order at (cs ∷ rings) = omega (arith, rings_many d order (at + ring_end d (length cs)) rings)
 
 point_count : (d : Dimension) (points : List (Option Coordinate)) → member_count_each (each (point d) points) ≡ length points
 point_count d [] = refl
@@ -284,26 +307,14 @@ own_count (multi_polygon d polygons) = omega (arith, polygon_count d polygons)
 own_count (collection d ts) = omega arith
 
 mutual
-  pub entries_many : (s : Spelling) (t : Value) (at : ℕ) (bytes : List ℕ) → Spells s t bytes → length (entries at s t) ≡ suc (member_count t)
-  entries_many (node h words ss) t at bytes sp =
-      omega (
-        arith,
-        length-append (ring_entries (dimension t) (order_byte h.order) (at + leading h t) (rings_of t)) (member_entries (at + leading h t) ss (members t)),
-        rings_many (dimension t) (order_byte h.order) (at + leading h t) (rings_of t),
-        members_many _ ss (members t) (at + leading h t) sp.second.rest sp.second.second,
-        own_count t,
-      )
+  counted : (s : Spelling) (t : Value) (bytes : List ℕ) → Spells s t bytes → entry_count s t ≡ suc (member_count t)
+  counted (node h words ss) t bytes sp = omega (arith, members_counted _ ss (members t) sp.second.rest sp.second.second, own_count t)
 
-  members_many : (w : Wanted) (ss : Spellings) (ts : Values) (at : ℕ) (bytes : List ℕ) → SpellsEach w ss ts bytes
-      → length (member_entries at ss ts) ≡ member_count_each ts
-  members_many w no_spellings no_members at bytes sp = refl
-  members_many w no_spellings (member t ts) at bytes sp = absurd sp
-  members_many w (spelling s ss) no_members at bytes sp = absurd sp
-  members_many w (spelling s ss) (member t ts) at bytes sp =
-      omega (
-        arith,
-        length-append (entries at s t) (member_entries (at + size s t) ss ts),
-        entries_many s t at sp.front sp.first.0,
-        members_many w ss ts
-            (at + size s t) sp.rest sp.second,
-      )
+  members_counted : (w : Wanted) (ss : Spellings) (ts : Values) (bytes : List ℕ) → SpellsEach w ss ts bytes → entry_counts ss ts ≡ member_count_each ts
+  members_counted w no_spellings no_members bytes sp = refl
+  members_counted w no_spellings (member t ts) bytes sp = absurd sp
+  members_counted w (spelling s ss) no_members bytes sp = absurd sp
+  members_counted w (spelling s ss) (member t ts) bytes sp = omega (arith, counted s t sp.front sp.first.0, members_counted w ss ts sp.rest sp.second)
+
+pub entries_many : (s : Spelling) (t : Value) (bytes : List ℕ) → Spells s t bytes → length (entries 0 0 s t) ≡ suc (member_count t)
+entries_many s t bytes sp = entries_are 0 0 s t ∙ counted s t bytes sp

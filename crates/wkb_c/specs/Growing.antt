@@ -1,29 +1,74 @@
 -- How a table grows.
-use Rattle.std.specs.Prelude.{◌≡◌, ℕ, ◌+◌, ◌<◌, zero, suc, List, ◌++◌, drop, Option, is_some}
+use Rattle.std.specs.Prelude.{◌≡◌, ℕ, ◌+◌, ◌<◌, zero, suc, List, [], ◌∷◌, ◌++◌, length, drop, Option, is_some}
 use Rattle.wkb_geom.specs.declared.common.Dimension.{Dimension}
+use Rattle.wkb_geom.specs.Numbers.{order_byte}
 use Rattle.wkb_geom.specs.Refusals.{srid_size}
-use Rattle.wkb_geom.specs.Values.{Coordinate, Value, Values, no_members, member, kind}
-use Rattle.wkb_geom.specs.Spellings.{Spelling, Spellings, no_spellings, spelling}
+use Rattle.wkb_geom.specs.Values.{Coordinate, Value, Values, no_members, member, kind, dimension}
+use Rattle.wkb_geom.specs.Spellings.{Spelling, Spellings, no_spellings, spelling, header}
 use Rattle.wkb_c.specs.declared.parts.Part.{Part}
+use Rattle.wkb_c.specs.declared.parts.PartHead.{PartHead}
 use Rattle.wkb_c.specs.declared.parts.Table.{Table}
-use Rattle.wkb_c.specs.Tables.{entries, ring_entries, member_entries, rings_size, size, sizes}
+use Rattle.wkb_c.specs.Tables.{entry, leading, entries, ring_entries, member_entries, rings_size, size, sizes}
 
 -- these entries were added, and the next part begins so many bytes further on
 pub record Grows (old new : Table) (added : List Part) (bytes : ℕ) : Type 0 where
   pub parts : new.parts.items ≡ old.parts.items ++ added
-  pub next : new.next ≡ old.next + bytes
+  pub at : new.at ≡ old.at + bytes
 
 -- the entries of this geometry were added
 abbrev pub Lists : Table → Table → Spelling → Value → Type 0
-Lists old new s t = Grows old new (entries old.next s t) (size s t)
+Lists old new s t = Grows old new (entries (length old.parts.items) old.at s t) (size s t)
 
 -- the entries of these members were added
 abbrev pub ListsMembers : Table → Table → Spellings → Values → Type 0
-ListsMembers old new ss ts = Grows old new (member_entries old.next ss ts) (sizes ss ts)
+ListsMembers old new ss ts = Grows old new (member_entries (length old.parts.items) old.at ss ts) (sizes ss ts)
+
+-- the entry of a part that has this index and this head, begins at this byte, and has no rings or members yet
+abbrev pub added_entry : ℕ → ℕ → PartHead → ℕ → ℕ → Part
+added_entry index at head coordinates count =
+    entry head.kind head.dimension head.srid head.order
+    (record { begin = at; offset = at + head.leading; end = at + (head.leading + coordinates); next = index + 1 })
+    count
+
+-- the same part, which ends at this byte, and its own parts before this index
+abbrev pub closed : ℕ → ℕ → Part → Part
+closed at index p = record {
+  begin = p.begin;
+  end = at;
+  offset = p.offset;
+  count = p.count;
+  next = index;
+  srid = p.srid;
+  has_srid = p.has_srid;
+  kind = p.kind;
+  dimension = p.dimension;
+  width = p.width;
+  order = p.order;
+}
+
+-- the part at the index ends where the last part does, and no other has changed
+pub record Closes (old new : Table) (index : ℕ) : Type 0 where
+  pub parts : (before after : List Part) (p : Part) → old.parts.items ≡ before ++ (p ∷ after) → index ≡ length before
+      → new.parts.items ≡ before ++ (closed old.at (length old.parts.items) p ∷ after)
+  pub at : new.at ≡ old.at
 
 -- a geometry of a kind that has members
 abbrev pub HasMembers : Value → Type 0
 HasMembers t = 3 < kind t
+
+-- what stands before the coordinates, rings or members of this geometry
+pub record IsHead (s : Spelling) (t : Value) (head : PartHead) : Type 0 where
+  pub kind_is : head.kind ≡ kind t
+  pub dimension_is : head.dimension ≡ dimension t
+  pub srid_is : head.srid ≡ (header s).srid
+  pub order_is : head.order ≡ order_byte (header s).order
+  pub leading_is : head.leading ≡ leading (header s) t
+
+-- the entry of this geometry was added, with so many rings or members, but not those
+pub record Opens (old new : Table) (s : Spelling) (t : Value) (n : ℕ) : Type 0 where
+  pub head : PartHead
+  pub head_is : IsHead s t head
+  pub grows : Grows old new (added_entry (length old.parts.items) old.at head 0 n ∷ []) (head.leading + 0)
 
 -- the bytes of a header
 abbrev pub header_size : Option ℕ → ℕ
@@ -42,10 +87,12 @@ values_from (suc i) (member t ts) = values_from i ts
 
 -- of these members those below a number were added
 pub record Added (ss : Spellings) (ts : Values) (start : Table) (i : ℕ) (now : Table) : Type 0 where
-  pub parts : now.parts.items ++ member_entries now.next (spellings_from i ss) (values_from i ts) ≡ start.parts.items ++ member_entries start.next ss ts
-  pub next : now.next + sizes (spellings_from i ss) (values_from i ts) ≡ start.next + sizes ss ts
+  pub parts : now.parts.items ++ member_entries (length now.parts.items) now.at (spellings_from i ss) (values_from i ts)
+      ≡ start.parts.items ++ member_entries (length start.parts.items) start.at ss ts
+  pub at : now.at + sizes (spellings_from i ss) (values_from i ts) ≡ start.at + sizes ss ts
 
 -- of these rings those below a number were added
 pub record RingsAdded (d : Dimension) (order : ℕ) (rings : List (List Coordinate)) (start : Table) (i : ℕ) (now : Table) : Type 0 where
-  pub parts : now.parts.items ++ ring_entries d order now.next (drop i rings) ≡ start.parts.items ++ ring_entries d order start.next rings
-  pub next : now.next + rings_size d (drop i rings) ≡ start.next + rings_size d rings
+  pub parts : now.parts.items ++ ring_entries d order (length now.parts.items) now.at (drop i rings)
+      ≡ start.parts.items ++ ring_entries d order (length start.parts.items) start.at rings
+  pub at : now.at + rings_size d (drop i rings) ≡ start.at + rings_size d rings

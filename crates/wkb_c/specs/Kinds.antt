@@ -1,7 +1,8 @@
 -- The numbers of the kinds.
 use Rattle.std.specs.Prelude.{ℕ}
 use Rattle.wkb_read.specs.declared.geometry_type.GeometryType.{GeometryType}
-use Rattle.wkb_read.specs.declared.geometry_type.GeometryType.TheVariants.{Point, LineString, Polygon, MultiPoint, MultiLineString, MultiPolygon}
+use Rattle.wkb_read.specs.declared.geometry_type.GeometryType.TheVariants.{Point, LineString, Polygon, MultiPoint}
+use Rattle.wkb_read.specs.declared.geometry_type.GeometryType.TheVariants.{MultiLineString, MultiPolygon}
 use Rattle.wkb_read.specs.declared.geometry_type.GeometryType.TheVariants.{GeometryCollection}
 
 -- the number of a kind, as in the codes

@@ -1,4 +1,5 @@
 pub mod Checks
+pub mod Columns
 pub mod Kinds
 pub mod Requests
 pub mod Room

@@ -5,7 +5,8 @@ use Rattle.wkb_geom.specs.declared.common.Endianness.TheVariants.{BigEndian, Lit
 use Rattle.wkb_geom.specs.declared.common.Form.TheVariants.{Iso, Ewkb}
 use Rattle.wkb_geom.specs.Texts.{IsRewriting, IsRewritingWithSrid}
 use Rattle.wkb.specs.Canonical.{IsTooLong}
-use Rattle.wkb_c.specs.declared.options.TheConstants.{BIG_ENDIAN, LITTLE_ENDIAN, ISO, EWKB_OWN_SRID, EWKB_WITH_SRID, EWKB_WITHOUT_SRID}
+use Rattle.wkb_c.specs.declared.options.TheConstants.{BIG_ENDIAN, LITTLE_ENDIAN, ISO, EWKB_OWN_SRID, EWKB_WITH_SRID}
+use Rattle.wkb_c.specs.declared.options.TheConstants.{EWKB_WITHOUT_SRID}
 use Rattle.wkb_c.specs.declared.options.Options.{Options}
 use Rattle.wkb_c.specs.declared.options.Request.{Request}
 use Rattle.wkb_c.specs.declared.options.Request.TheVariants.{Text, OwnSrid}

@@ -1,17 +1,21 @@
 -- The status that tells a refusal, and its numbers.
 use Rattle.std.specs.Prelude.{◌≡◌, ◌⊎◌, ℕ, List}
 use Rattle.wkb_geom.specs.declared.error.General.{General}
-use Rattle.wkb_geom.specs.declared.error.General.TheVariants.{UnsupportedDimensions, CodeOutOfRange, InvalidByteOrder, ShortPoint, ShortLineString}
+use Rattle.wkb_geom.specs.declared.error.General.TheVariants.{UnsupportedDimensions, CodeOutOfRange, InvalidByteOrder}
+use Rattle.wkb_geom.specs.declared.error.General.TheVariants.{ShortPoint, ShortLineString}
 use Rattle.wkb_geom.specs.declared.error.General.TheVariants.{ShortLinearRing, ShortMultiPoint}
 use Rattle.wkb_geom.specs.Spellings.{any}
 use Rattle.wkb_geom.specs.Fronts.{max_nesting}
 use Rattle.wkb_geom.specs.declared.error.Cause.{Cause}
-use Rattle.wkb_geom.specs.declared.error.Cause.TheVariants.{EndOfInput as end_of_input, General as general, IncorrectType as incorrect_type}
+use Rattle.wkb_geom.specs.declared.error.Cause.TheVariants.{EndOfInput as end_of_input, General as general}
+use Rattle.wkb_geom.specs.declared.error.Cause.TheVariants.{IncorrectType as incorrect_type}
 use Rattle.wkb_geom.specs.declared.error.Cause.TheVariants.{NestingDepthExceeded as nesting_depth_exceeded}
 use Rattle.wkb_geom.specs.Refusals.{Refuses}
 use Rattle.wkb.specs.Canonical.{IsAccepted}
-use Rattle.wkb_c.specs.declared.status.TheConstants.{IO_ERROR, INVALID_BYTE_ORDER, CODE_OUT_OF_RANGE, INCORRECT_TYPE, NESTING_DEPTH_EXCEEDED, SHORT_POINT}
-use Rattle.wkb_c.specs.declared.status.TheConstants.{SHORT_LINE_STRING, SHORT_MULTI_POINT, SHORT_LINEAR_RING}
+use Rattle.wkb_c.specs.declared.status.TheConstants.{IO_ERROR, INVALID_BYTE_ORDER, CODE_OUT_OF_RANGE, INCORRECT_TYPE}
+use Rattle.wkb_c.specs.declared.status.TheConstants.{NESTING_DEPTH_EXCEEDED, SHORT_POINT}
+use Rattle.wkb_c.specs.declared.status.TheConstants.{SHORT_LINE_STRING, SHORT_MULTI_POINT, SHORT_LINEAR_RING, FIRST}
+use Rattle.wkb_c.specs.declared.status.TheConstants.{SECOND}
 use Rattle.wkb_c.specs.declared.fault.Fault.{Fault}
 
 -- the status of a fault of the bytes (no reading refuses an unsupported dimension)
@@ -54,14 +58,6 @@ abbrev pub fault_of : ℕ → Cause → Fault
 fault_of part (general g) = general_fault part g
 fault_of part _ = plain_fault part
 
--- the input is refused, and the status tells why
-pub record IsRefusedAs (input : List ℕ) (status : ℕ) : Type 0 where
-  pub cause : Cause
-  pub turns : ℕ
-  pub slots : ℕ
-  pub refuses : Refuses max_nesting any input cause turns slots
-  pub status_is : status ≡ status_of cause
-
 -- the input is refused, the status tells why, and the fault tells which part, and its numbers
 pub record IsFault (input : List ℕ) (status : ℕ) (fault : Fault) : Type 0 where
   pub cause : Cause
@@ -71,6 +67,8 @@ pub record IsFault (input : List ℕ) (status : ℕ) (fault : Fault) : Type 0 wh
   pub status_is : status ≡ status_of cause
   pub fault_is : fault ≡ fault_of turns cause
 
--- the first input is refused, or it begins with a geometry and the second is refused; the status tells why
-abbrev pub IsRefusedInTurn : List ℕ → List ℕ → ℕ → Type 0
-IsRefusedInTurn a b status = IsRefusedAs a status ⊎ (IsAccepted a × IsRefusedAs b status)
+-- the first input is refused, or it begins with a geometry and the second is refused; the status and the fault tell
+-- why, and `which` the input
+abbrev pub IsRefusedInTurn : List ℕ → List ℕ → ℕ → Fault → ℕ → Type 0
+IsRefusedInTurn a b status fault which =
+    (IsFault a status fault × (which ≡ FIRST)) ⊎ (IsAccepted a × IsFault b status fault × (which ≡ SECOND))

@@ -1,9 +1,11 @@
 -- The status and the numbers of an error.
 use Rattle.std.specs.Prelude.{ℕ}
 use Rattle.wkb_geom.specs.declared.error.WkbError.{WkbError}
-use Rattle.wkb_geom.specs.declared.error.WkbError.TheVariants.{IncorrectType, NotYetImplemented, General, NestingDepthExceeded, IOError, OverflowError, Memory}
+use Rattle.wkb_geom.specs.declared.error.WkbError.TheVariants.{IncorrectType, NotYetImplemented, General}
+use Rattle.wkb_geom.specs.declared.error.WkbError.TheVariants.{NestingDepthExceeded, IOError, OverflowError, Memory}
 use Rattle.wkb_c.specs.Statuses.{general_status, general_fault, plain_fault}
-use Rattle.wkb_c.specs.declared.status.TheConstants.{NO_MEMORY, SIZE_OVERFLOW, IO_ERROR, INCORRECT_TYPE, NESTING_DEPTH_EXCEEDED}
+use Rattle.wkb_c.specs.declared.status.TheConstants.{NO_MEMORY, SIZE_OVERFLOW, IO_ERROR, INCORRECT_TYPE}
+use Rattle.wkb_c.specs.declared.status.TheConstants.{NESTING_DEPTH_EXCEEDED}
 use Rattle.wkb_c.specs.declared.fault.Fault.{Fault}
 
 -- the status that tells an error

@@ -1,13 +1,18 @@
 //! Where and why some bytes are refused.
 
-ghost use Rattle.std.specs.Prelude.{◌≡◌};
+ghost use Rattle.std.specs.Prelude.{◌≡◌, ◌≢◌, ◌⊎◌, ◌≤◌, ◌<◌};
+ghost use Rattle.wkb.specs.Canonical.{IsAccepted};
+ghost use Rattle.wkb_c.specs.Statuses.{IsFault};
 ghost use Rattle.wkb_c.specs.Told.{status_told, fault_told};
 
 use crate::status::{
     CODE_OUT_OF_RANGE, INCORRECT_TYPE, INVALID_BYTE_ORDER, IO_ERROR, NESTING_DEPTH_EXCEEDED,
-    NO_MEMORY, SHORT_LINE_STRING, SHORT_LINEAR_RING, SHORT_MULTI_POINT, SHORT_POINT, SIZE_OVERFLOW,
+    NO_MEMORY, OK, SHORT_LINE_STRING, SHORT_LINEAR_RING, SHORT_MULTI_POINT, SHORT_POINT,
+    SIZE_OVERFLOW,
 };
+use std::alloc::Global;
 use wkb::error::{General, WkbError};
+use wkb::reader::read_wkb_counted;
 
 /// The numbers of a refusal.
 #[repr(C)]
@@ -63,5 +68,35 @@ pub fn fault_of(part: u64, error: &WkbError) -> Fault
         end,
         len,
         code,
+    }
+}
+
+/// The status of an error, and its numbers where it isn't want of memory.
+pub fn tell(part: u64, error: &WkbError, fault: &mut Fault) -> u32
+    ensures status { result ≡ status_told error.now }
+    ensures small { result < 14 }
+    ensures numbers { result ≢ NO_MEMORY → fault.new ≡ fault_told part error.now }
+    ensures kept { result ≡ NO_MEMORY → fault.new ≡ fault.old }
+{
+    let status = status_of(error);
+    if status != NO_MEMORY {
+        *fault = fault_of(part, error);
+    }
+    status
+}
+
+/// `OK` where a geometry stands at the front of the bytes; else the refusal's status, and its
+/// numbers.
+pub fn refusal_of(alloc: Global, buf: &[u8], fault: &mut Fault) -> u32
+    ensures accepted { result ≡ OK → IsAccepted buf.now }
+    ensures refused { result ≢ OK → result ≢ NO_MEMORY → IsFault buf.now result fault.new }
+    ensures late { result ≢ OK → result ≢ NO_MEMORY → IO_ERROR ≤ result }
+    ensures small { result < 14 }
+    ensures kept { (result ≡ OK) ⊎ (result ≡ NO_MEMORY) → fault.new ≡ fault.old }
+{
+    let (answer, counts) = read_wkb_counted(alloc, buf);
+    match answer {
+        Ok(_wkb) => OK,
+        Err(e) => tell(counts.turns as u64, &e, fault),
     }
 }

@@ -5,15 +5,15 @@ ghost use Rattle.std.specs.Prelude.{IfOk, IfSome};
 ghost use Rattle.wkb_geom.specs.Dimensions.{width as words, dimensions as trait_dimensions};
 ghost use Rattle.wkb_geom.specs.Reading.{spellings, values};
 ghost use Rattle.wkb_geom.specs.Refusals.{ring_end};
-ghost use Rattle.wkb_geom.specs.Numbers.{order_byte};
-ghost use Rattle.wkb_geom.specs.Values.{kind, dimension, members, polygon as polygon_of};
+ghost use Rattle.wkb_geom.specs.Values.{members, polygon as polygon_of};
 ghost use Rattle.wkb_geom.specs.Values.{multi_line_string as line_strings_of, multi_polygon as polygons_of};
 ghost use Rattle.wkb_geom.specs.Stored.{whole_of};
 ghost use Rattle.wkb_view.specs.Coords.{ring_seen, ring_dimension};
-ghost use Rattle.wkb_view.specs.Parts.{order_of, srid_of, members_spelled};
+ghost use Rattle.wkb_view.specs.Parts.{members_spelled};
 ghost use Rattle.wkb_view.specs.Views.{point_seen, line_string_seen, multi_point_seen};
-ghost use Rattle.wkb_c.specs.Tables.{entry, entries, ring_entries, rings_size, size, sizes, count_of};
-ghost use Rattle.wkb_c.specs.Growing.{Grows, Lists, ListsMembers, HasMembers, header_size as header_bytes};
+ghost use Rattle.wkb_c.specs.Tables.{entries, ring_entries, rings_size, size, sizes};
+ghost use Rattle.wkb_c.specs.Growing.{Grows, Lists, ListsMembers, HasMembers, IsHead, Opens, Closes, added_entry};
+ghost use Rattle.wkb_c.specs.Growing.{header_size as header_bytes};
 
 use crate::found::{dimension_number, kind_number, width};
 use std::alloc::{AllocError, Global};
@@ -27,36 +27,47 @@ use wkb::reader::{
 };
 use wkb_view::own_srid::OwnSrid;
 
-/// A geometry, or a ring of a polygon.
+/// A geometry, or a ring of a polygon. It has no padding.
 #[repr(C)]
 #[derive(Clone, Copy)]
 pub struct Part {
-    /// Where its coordinates, rings or members begin, in bytes from the front of the input.
+    /// Its first byte, counted from the front of the input.
+    pub begin: u64,
+    /// One past its last byte.
+    pub end: u64,
+    /// Where its coordinates, rings or members begin.
     pub offset: u64,
     /// How many it has; a point has one coordinate.
     pub count: u64,
+    /// The index of the entry after those of its own rings and members.
+    pub next: u64,
+    /// Its own SRID, or 0.
+    pub srid: u32,
+    /// 1 where it has an SRID, else 0.
+    pub has_srid: u32,
     /// The number of its kind, as in the codes; 0 is a ring.
-    pub kind: u8,
+    pub kind: u16,
     /// The number of its dimension, as the thousands of a code.
-    pub dimension: u8,
+    pub dimension: u16,
     /// The words of a coordinate.
-    pub width: u8,
+    pub width: u16,
     /// The byte that tells its order.
-    pub order: u8,
+    pub order: u16,
 }
 
 /// The parts that are listed, and the byte at which the next one begins.
 #[derive(Drop)]
 pub struct Table {
     pub parts: Vec<Part>,
-    pub next: u64,
+    pub at: u64,
 }
 
-/// What stands in front of a part's coordinates, rings or members.
+/// What stands before a part's coordinates, rings or members.
 #[derive(Clone, Copy)]
-pub struct Front {
+pub struct PartHead {
     pub kind: u8,
     pub dimension: Dimension,
+    pub srid: Option<u32>,
     pub order: u8,
     /// The bytes of its header and its count.
     pub leading: u64,
@@ -69,76 +80,102 @@ fn header_size(srid: Option<u32>) -> u64
     if srid.is_some() { 9 } else { 5 }
 }
 
-/// Adds a part of so many coordinates, rings or members, and passes over its front and its coordinates.
-fn add(table: &mut Table, front: Front, count: u64, coordinates: u64) -> Result<(), AllocError>
-    requires fits { table.old.next + front.leading + coordinates < 2 ^ 63 }
-    ensures { IfOk result (λ done. Grows table.old table.new (entry front.kind front.dimension front.order
-        (table.old.next + front.leading) count ∷ []) (front.leading + coordinates)) }
+/// Adds a part of so many coordinates, rings or members, and passes over its head and coordinates.
+///
+/// A part that has rings or members is open until `close`.
+fn add(table: &mut Table, head: PartHead, count: u64, coordinates: u64) -> Result<(), AllocError>
+    requires fits { table.old.at + head.leading + coordinates < 2 ^ 63 }
+    ensures { IfOk result (λ done. Grows table.old table.new
+        (added_entry (length table.old.parts.items) table.old.at head coordinates count ∷ [])
+        (head.leading + coordinates)) }
 {
-    let offset = table.next + front.leading;
+    let begin = table.at;
+    let offset = begin + head.leading;
+    let end = offset + coordinates;
+    let next = table.parts.len() as u64 + 1;
     table.parts.push(Part {
+        begin,
+        end,
         offset,
         count,
-        kind: front.kind,
-        dimension: dimension_number(front.dimension),
-        width: width(front.dimension),
-        order: front.order,
+        next,
+        srid: head.srid.unwrap_or(0),
+        has_srid: if head.srid.is_some() { 1 } else { 0 },
+        kind: head.kind as u16,
+        dimension: dimension_number(head.dimension) as u16,
+        width: width(head.dimension) as u16,
+        order: head.order as u16,
     })?;
-    table.next = offset + coordinates;
+    table.at = end;
     Ok(())
 }
 
+/// Ends the part at the index where the last of its rings or members ends.
+fn close(table: &mut Table, index: usize)
+    requires { index < length table.old.parts.items }
+    ensures { Closes table.old table.new index }
+{
+    let mut part = table.parts[index];
+    part.end = table.at;
+    part.next = table.parts.len() as u64;
+    table.parts[index] = part;
+}
+
 fn add_point(table: &mut Table, point: &Point<'_>) -> Result<(), AllocError>
-    requires fits { table.old.next + size (point_seen point.now).spelled (point_seen point.now).value < 2 ^ 63 }
+    requires fits { table.old.at + size (point_seen point.now).spelled (point_seen point.now).value < 2 ^ 63 }
     ensures { IfOk result (λ done. Lists table.old table.new (point_seen point.now).spelled
         (point_seen point.now).value) }
 {
-    let front = Front {
+    let head = PartHead {
         kind: 1,
         dimension: point.dimension(),
+        srid: point.srid(),
         order: point.byte_order().into(),
         leading: header_size(point.srid()),
     };
-    add(table, front, 1, 8 * width(point.dimension()) as u64)
+    add(table, head, 1, 8 * width(point.dimension()) as u64)
 }
 
 fn add_line_string(table: &mut Table, line: &LineString<'_>) -> Result<(), AllocError>
-    requires fits { table.old.next + size (line_string_seen line.now).spelled (line_string_seen line.now).value
+    requires fits { table.old.at + size (line_string_seen line.now).spelled (line_string_seen line.now).value
         < 2 ^ 63 }
     ensures { IfOk result (λ done. Lists table.old table.new (line_string_seen line.now).spelled
         (line_string_seen line.now).value) }
 {
-    let front = Front {
+    let head = PartHead {
         kind: 2,
         dimension: line.dimension(),
+        srid: line.srid(),
         order: line.byte_order().into(),
         leading: header_size(line.srid()) + 4,
     };
     let count = line.num_coords() as u64;
     add(
         table,
-        front,
+        head,
         count,
         8 * width(line.dimension()) as u64 * count,
     )
 }
 
 fn add_ring(table: &mut Table, ring: &LinearRing<'_>, order: u8) -> Result<(), AllocError>
-    requires fits { table.old.next + ring_end (ring_dimension ring.now) (length (ring_seen ring.now)) < 2 ^ 63 }
-    ensures { IfOk result (λ done. Grows table.old table.new (entry 0 (ring_dimension ring.now) order
-        (table.old.next + 4) (length (ring_seen ring.now)) ∷ []) (ring_end (ring_dimension ring.now) (length
-        (ring_seen ring.now)))) }
+    requires fits { table.old.at + ring_end (ring_dimension ring.now) (length (ring_seen ring.now)) < 2 ^ 63 }
+    ensures { IfOk result (λ done. Grows table.old table.new
+        (ring_entries (ring_dimension ring.now) order (length table.old.parts.items) table.old.at
+        (ring_seen ring.now ∷ []))
+        (ring_end (ring_dimension ring.now) (length (ring_seen ring.now)))) }
 {
-    let front = Front {
+    let head = PartHead {
         kind: 0,
         dimension: ring.dimension(),
+        srid: None,
         order,
         leading: 4,
     };
     let count = ring.num_coords() as u64;
     add(
         table,
-        front,
+        head,
         count,
         8 * width(ring.dimension()) as u64 * count,
     )
@@ -170,9 +207,9 @@ fn ring<'a>(polygon: &Polygon<'a>, i: usize) -> Option<LinearRing<'a>>
 
 /// Adds the rings of a polygon.
 fn add_rings(table: &mut Table, polygon: &Polygon<'_>, order: u8) -> Result<(), AllocError>
-    requires fits { table.old.next + rings_size polygon.now.dimension polygon.now.parts < 2 ^ 63 }
+    requires fits { table.old.at + rings_size polygon.now.dimension polygon.now.parts < 2 ^ 63 }
     ensures { IfOk result (λ done. Grows table.old table.new
-        (ring_entries polygon.now.dimension order table.old.next polygon.now.parts)
+        (ring_entries polygon.now.dimension order (length table.old.parts.items) table.old.at polygon.now.parts)
         (rings_size polygon.now.dimension polygon.now.parts)) }
 {
     for i in 0..num_rings(polygon) {
@@ -193,24 +230,28 @@ fn first_byte(buf: &[u8]) -> u8
 }
 
 fn add_polygon(table: &mut Table, polygon: &Polygon<'_>) -> Result<(), AllocError>
-    requires fits { table.old.next + size (whole_of polygon_of polygon.now).spelled
+    requires fits { table.old.at + size (whole_of polygon_of polygon.now).spelled
         (whole_of polygon_of polygon.now).value < 2 ^ 63 }
     ensures { IfOk result (λ done. Lists table.old table.new (whole_of polygon_of polygon.now).spelled
         (whole_of polygon_of polygon.now).value) }
 {
-    let front = Front {
+    let head = PartHead {
         kind: 3,
         dimension: polygon.dimension(),
+        srid: polygon.srid(),
         order: first_byte(polygon.buf()),
         leading: header_size(polygon.srid()) + 4,
     };
-    add(table, front, num_rings(polygon) as u64, 0)?;
-    add_rings(table, polygon, front.order)
+    let index = table.parts.len();
+    add(table, head, num_rings(polygon) as u64, 0)?;
+    add_rings(table, polygon, head.order)?;
+    close(table, index);
+    Ok(())
 }
 
 /// Adds the members of a multi point.
 fn add_points(table: &mut Table, multi: &MultiPoint<'_>) -> Result<(), AllocError>
-    requires fits { table.old.next + sizes (members_spelled (multi_point_seen multi.now).spelled) (members
+    requires fits { table.old.at + sizes (members_spelled (multi_point_seen multi.now).spelled) (members
         (multi_point_seen multi.now).value) < 2 ^ 63 }
     ensures { IfOk result (λ done. ListsMembers table.old table.new (members_spelled
         (multi_point_seen multi.now).spelled) (members (multi_point_seen multi.now).value)) }
@@ -226,7 +267,7 @@ fn add_points(table: &mut Table, multi: &MultiPoint<'_>) -> Result<(), AllocErro
 
 /// Adds the members of a multi line string.
 fn add_line_strings(table: &mut Table, multi: &MultiLineString<'_>) -> Result<(), AllocError>
-    requires fits { table.old.next + sizes (members_spelled multi.now.spelled) (members
+    requires fits { table.old.at + sizes (members_spelled multi.now.spelled) (members
         (whole_of line_strings_of multi.now).value) < 2 ^ 63 }
     ensures { IfOk result (λ done. ListsMembers table.old table.new (members_spelled multi.now.spelled) (members
         (whole_of line_strings_of multi.now).value)) }
@@ -242,7 +283,7 @@ fn add_line_strings(table: &mut Table, multi: &MultiLineString<'_>) -> Result<()
 
 /// Adds the members of a multi polygon.
 fn add_polygons(table: &mut Table, multi: &MultiPolygon<'_>) -> Result<(), AllocError>
-    requires fits { table.old.next + sizes (members_spelled multi.now.spelled) (members
+    requires fits { table.old.at + sizes (members_spelled multi.now.spelled) (members
         (whole_of polygons_of multi.now).value) < 2 ^ 63 }
     ensures { IfOk result (λ done. ListsMembers table.old table.new (members_spelled multi.now.spelled) (members
         (whole_of polygons_of multi.now).value)) }
@@ -259,7 +300,7 @@ fn add_polygons(table: &mut Table, multi: &MultiPolygon<'_>) -> Result<(), Alloc
 /// Adds the members of a collection.
 #[cycle(table)]
 fn add_members(table: &mut Table, members: &[Wkb<'_>]) -> Result<(), AllocError>
-    requires fits { table.old.next + sizes (spellings members.now) (values members.now) < 2 ^ 63 }
+    requires fits { table.old.at + sizes (spellings members.now) (values members.now) < 2 ^ 63 }
     ensures { IfOk result (λ done. ListsMembers table.old table.new (spellings members.now) (values members.now)) }
 {
     for member in members {
@@ -268,58 +309,64 @@ fn add_members(table: &mut Table, members: &[Wkb<'_>]) -> Result<(), AllocError>
     Ok(())
 }
 
-/// What stands in front of the members of a geometry that has some.
-fn front_of(wkb: &Wkb<'_>) -> Front
-    ensures kind { result.kind ≡ kind wkb.now.value }
-    ensures dimension { result.dimension ≡ dimension wkb.now.value }
-    ensures order { result.order ≡ order_byte (order_of wkb.now.spelled) }
-    ensures leading { result.leading ≡ header_bytes (srid_of wkb.now.spelled) + 4 }
+/// What stands before the members of a geometry that has some.
+fn head_of(wkb: &Wkb<'_>) -> PartHead
+    requires { HasMembers wkb.now.value }
+    ensures { IsHead wkb.now.spelled wkb.now.value result }
 {
-    Front {
+    let srid = wkb.srid();
+    PartHead {
         kind: kind_number(wkb.geometry_type()),
         dimension: wkb.dimension(),
+        srid,
         order: first_byte(wkb.buf()),
-        leading: header_size(wkb.srid()) + 4,
+        leading: header_size(srid) + 4,
     }
 }
 
 /// Adds a geometry that has members, of which there are so many, but not these.
 fn add_whole(table: &mut Table, wkb: &Wkb<'_>, count: usize) -> Result<(), AllocError>
-    requires fits { table.old.next + size wkb.now.spelled wkb.now.value < 2 ^ 63 }
-    requires counted { count ≡ count_of wkb.now.value }
+    requires fits { table.old.at + size wkb.now.spelled wkb.now.value < 2 ^ 63 }
     requires holds { HasMembers wkb.now.value }
-    ensures { IfOk result (λ done. Grows table.old table.new (entry (kind wkb.now.value) (dimension wkb.now.value)
-        (order_byte (order_of wkb.now.spelled)) (table.old.next + (header_bytes
-        (srid_of wkb.now.spelled) + 4)) count ∷ []) (header_bytes (srid_of wkb.now.spelled) + 4)) }
+    ensures { IfOk result (λ done. Opens table.old table.new wkb.now.spelled wkb.now.value count) }
 {
-    add(table, front_of(wkb), count as u64, 0)
+    add(table, head_of(wkb), count as u64, 0)
 }
 
 /// Adds a geometry of any kind.
 #[cycle(table)]
 fn add_geometry(table: &mut Table, wkb: &Wkb<'_>) -> Result<(), AllocError>
-    requires fits { table.old.next + size wkb.now.spelled wkb.now.value < 2 ^ 63 }
+    requires fits { table.old.at + size wkb.now.spelled wkb.now.value < 2 ^ 63 }
     ensures { IfOk result (λ done. Lists table.old table.new wkb.now.spelled wkb.now.value) }
 {
+    let index = table.parts.len();
     match wkb.as_type() {
         GeometryType::Point(point) => add_point(table, point),
         GeometryType::LineString(line) => add_line_string(table, line),
         GeometryType::Polygon(polygon) => add_polygon(table, polygon),
         GeometryType::MultiPoint(multi) => {
             add_whole(table, wkb, multi.num_points())?;
-            add_points(table, multi)
+            add_points(table, multi)?;
+            close(table, index);
+            Ok(())
         }
         GeometryType::MultiLineString(multi) => {
             add_whole(table, wkb, multi.num_line_strings())?;
-            add_line_strings(table, multi)
+            add_line_strings(table, multi)?;
+            close(table, index);
+            Ok(())
         }
         GeometryType::MultiPolygon(multi) => {
             add_whole(table, wkb, multi.num_polygons())?;
-            add_polygons(table, multi)
+            add_polygons(table, multi)?;
+            close(table, index);
+            Ok(())
         }
         GeometryType::GeometryCollection(members) => {
             add_whole(table, wkb, members.len())?;
-            add_members(table, members)
+            add_members(table, members)?;
+            close(table, index);
+            Ok(())
         }
         GeometryType::Line(_) => unreachable!(),
         GeometryType::Rect(_) => unreachable!(),
@@ -330,11 +377,11 @@ fn add_geometry(table: &mut Table, wkb: &Wkb<'_>) -> Result<(), AllocError>
 /// The parts of a geometry, of which there are so many.
 pub fn table_of(alloc: Global, wkb: &Wkb<'_>, count: usize) -> Result<Vec<Part>, AllocError>
     requires fits { size wkb.now.spelled wkb.now.value < 2 ^ 63 }
-    ensures { IfOk result (λ parts. parts.items ≡ entries 0 wkb.now.spelled wkb.now.value) }
+    ensures { IfOk result (λ parts. parts.items ≡ entries 0 0 wkb.now.spelled wkb.now.value) }
 {
     let mut table = Table {
         parts: Vec::with_capacity(alloc, count)?,
-        next: 0,
+        at: 0,
     };
     add_geometry(&mut table, wkb)?;
     Ok(table.parts)

@@ -41,3 +41,15 @@ pub const SHORT_MULTI_POINT: u32 = 12;
 
 /// The coordinates of a ring go on past the input.
 pub const SHORT_LINEAR_RING: u32 = 13;
+
+/// Of two inputs the first is refused.
+pub const FIRST: u32 = 1;
+
+/// Of two inputs the second is refused.
+pub const SECOND: u32 = 2;
+
+/// A row of a column is null.
+pub const NULL_ROW: u32 = 14;
+
+/// The offsets of a row fall, or pass the end of the data.
+pub const BAD_OFFSETS: u32 = 15;

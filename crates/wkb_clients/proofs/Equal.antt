@@ -1,7 +1,8 @@
 -- Views of one spelling and one value are equal.
 use Rattle.std.proofs.Common.{◌≡◌, ℕ, List, Some, sym, ap, subst, ◌∙◌, slice_get}
 use Rattle.wkb_clients.specs.Common.{Dimension, dimensions, AreBytes, Coordinate}
-use Rattle.wkb_clients.specs.Common.{line_string, polygon, Spelling, Spells, Listed, whole_of, Item, HasOneText, members_spelled, list_of_spellings}
+use Rattle.wkb_clients.specs.Common.{line_string, polygon, Spelling, Spells, Listed, whole_of, Item, HasOneText}
+use Rattle.wkb_clients.specs.Common.{members_spelled, list_of_spellings}
 use Rattle.wkb.specs.Bridges.{one_name}
 
 same_text : HasOneText → (a b : Item) → AreBytes a.text → AreBytes b.text → Spells a.spelled a.value a.text → Spells b.spelled b.value b.text

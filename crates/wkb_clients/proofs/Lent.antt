@@ -1,8 +1,12 @@
 -- The bytes that views lend, at their places.
-use Rattle.std.proofs.Common.{◌≡◌, ℕ, ◌+◌, ◌*◌, ◌≤◌, List, length, drop, Some, refl, sym, ap, subst, ◌∙◌, slice_get, drop-drop, length-append, arith}
-use Rattle.wkb_clients.specs.Common.{width, dimensions, AreBytes, number, Coordinate, Value, polygon, multi_polygon, each, members, SpellsCoordinates, Listed, Item}
-use Rattle.wkb_clients.specs.Common.{whole_of, IsSpelled, spelling_at, order_of, LinearRing, ring_seen, ring_text, ring_order, ring_dimension, IsMember}
-use Rattle.wkb_clients.specs.Common.{SpelledInFull, MembersInPlace, RingsInPlace, WordsStand, IsWordOf, StandsAt, member_start, ring_start}
+use Rattle.std.proofs.Common.{◌≡◌, ℕ, ◌+◌, ◌*◌, ◌≤◌, List, length, drop, Some, refl, sym, ap, subst, ◌∙◌, slice_get}
+use Rattle.std.proofs.Common.{drop-drop, length-append, arith}
+use Rattle.wkb_clients.specs.Common.{width, dimensions, AreBytes, number, Coordinate, Value, polygon, multi_polygon}
+use Rattle.wkb_clients.specs.Common.{each, members, SpellsCoordinates, Listed, Item}
+use Rattle.wkb_clients.specs.Common.{whole_of, IsSpelled, spelling_at, order_of, LinearRing, ring_seen, ring_text}
+use Rattle.wkb_clients.specs.Common.{ring_order, ring_dimension, IsMember}
+use Rattle.wkb_clients.specs.Common.{SpelledInFull, MembersInPlace, RingsInPlace, WordsStand, IsWordOf, StandsAt}
+use Rattle.wkb_clients.specs.Common.{member_start, ring_start}
 use Rattle.wkb.specs.Bridges.{one_name, member_at, rest_stands, stands_within, begins_there}
 use Rattle.wkb_clients.specs.Members.{LendsMember, LendsRing, IsCornerWord}
 

@@ -1,11 +1,14 @@
 -- Rings of polygons in a collection, and their words.
-use Rattle.std.proofs.Common.{◌≡◌, ℕ, zero, suc, ◌+◌, ◌*◌, List, [], ◌∷◌, ◌++◌, length, drop, Option, Some, None, ◌⊎◌, inl, inr, refl, sym, ap, subst}
+use Rattle.std.proofs.Common.{◌≡◌, ℕ, zero, suc, ◌+◌, ◌*◌, List, [], ◌∷◌, ◌++◌, length, drop, Option, Some, None, ◌⊎◌}
+use Rattle.std.proofs.Common.{inl, inr, refl, sym, ap, subst}
 use Rattle.std.proofs.Common.{◌∙◌, append_assoc, length-append, arith, slice_get}
 use Rattle.std.specs.Prelude.{option_map, MatchOption}
 use Rattle.std.proofs.lemmas.List.{drop-drop}
 use Rattle.wkb_clients.specs.Common.{Dimension, WkbError, number, width}
-use Rattle.wkb_clients.specs.Common.{IsMemory, Coordinate, Value, Values, polygon, collection, no_members, member, members, kind, Spelling, node, Spellings}
-use Rattle.wkb_clients.specs.Common.{no_spellings, spelling, header, Spells, Listed, whole_of, Item, spellings, values, IsOneOf, IsMember, IsWordOf}
+use Rattle.wkb_clients.specs.Common.{IsMemory, Coordinate, Value, Values, polygon, collection, no_members, member}
+use Rattle.wkb_clients.specs.Common.{members, kind, Spelling, node, Spellings}
+use Rattle.wkb_clients.specs.Common.{no_spellings, spelling, header, Spells, Listed, whole_of, Item, spellings, values}
+use Rattle.wkb_clients.specs.Common.{IsOneOf, IsMember, IsWordOf}
 use Rattle.wkb_clients.specs.Common.{MembersStand, RingsStand, WordsStand, members_spelled, HasNoFront}
 use Rattle.std.proofs.Math.Seq.{drop-append_seam}
 use Rattle.wkb.specs.Reads.{ring_seen}

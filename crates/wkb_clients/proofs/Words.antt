@@ -1,8 +1,10 @@
 -- Words of a line string, found and missing.
-use Rattle.std.proofs.Common.{◌≡◌, ℕ, ◌+◌, ◌*◌, List, [], drop, Option, Some, None, ◌⊎◌, inl, inr, sym, ap, subst, ◌∙◌, arith, slice_get}
+use Rattle.std.proofs.Common.{◌≡◌, ℕ, ◌+◌, ◌*◌, List, [], drop, Option, Some, None, ◌⊎◌, inl, inr, sym, ap, subst, ◌∙◌}
+use Rattle.std.proofs.Common.{arith, slice_get}
 use Rattle.std.specs.Prelude.{MatchOption}
 use Rattle.std.proofs.lemmas.List.{drop-drop}
-use Rattle.wkb_clients.specs.Common.{Dimension, number, width, Coordinate, Value, line_string, kind, WkbError, IsMemory, header, Spells, HasNoFront}
+use Rattle.wkb_clients.specs.Common.{Dimension, number, width, Coordinate, Value, line_string, kind, WkbError, IsMemory}
+use Rattle.wkb_clients.specs.Common.{header, Spells, HasNoFront}
 use Rattle.wkb_clients.specs.Common.{Item, behind_count, IsWordOf, LineStringWordsStand}
 use Rattle.wkb_clients.specs.Words.{IsWordAt, HasNoWordAt}
 use Rattle.wkb_clients.proofs.Fronts.{Stands, one_value, no_word, no_word_there}

@@ -1,10 +1,18 @@
 -- The words that most files here need, passed on from one place. Declares nothing.
-pub use Rattle.wkb.specs.Words.{width, dimensions, IsMemory, AreBytes, number, Dimension, LittleEndian, Xy, Iso, WkbError, all_nan}
-pub use Rattle.wkb.specs.Values.{Coordinate, Value, polygon, line_string, Values, collection, kind, point, members, no_members, member, each, dimension, nest}
+pub use Rattle.wkb.specs.Words.{width, dimensions, IsMemory, AreBytes, number, Dimension, LittleEndian, Xy, Iso}
+pub use Rattle.wkb.specs.Words.{WkbError, all_nan}
+pub use Rattle.wkb.specs.Values.{Coordinate, Value, polygon, line_string, Values, collection, kind, point, members}
+pub use Rattle.wkb.specs.Values.{no_members, member, each, dimension, nest}
 pub use Rattle.wkb.specs.Values.{multi_polygon, multi_line_string}
-pub use Rattle.wkb.specs.Spellings.{Front, max_nesting, Spelling, Spells, SpellsCoordinates, header, node, Spellings, no_spellings, spelling}
-pub use Rattle.wkb.specs.Reads.{Item, geometry_at, spellings, values, point_of, line_string_of, whole_of, Listed, HasNoFront, IsFront, IsOnlyFront, IfRefused}
-pub use Rattle.wkb.specs.Reads.{members_spelled, list_of_spellings, IsSpelled, points_of, point_value, line_string_seen, point_seen, multi_point_seen}
-pub use Rattle.wkb.specs.Reads.{order_of, spelling_at, IsCollectionOf, LinearRing, words_seen, ring_seen, ring_text, ring_order, ring_dimension}
-pub use Rattle.wkb.specs.Laws.{IsWordOf, IsMember, HoldsMember, behind_count, IsOneOf, MembersStand, HasOneText, HoldsRing, RingsStand, WordsStand}
-pub use Rattle.wkb.specs.Laws.{LineStringWordsStand, SpelledInFull, StandsAt, MembersInPlace, RingsInPlace, member_start, ring_start}
+pub use Rattle.wkb.specs.Spellings.{Front, max_nesting, Spelling, Spells, SpellsCoordinates, header, node, Spellings}
+pub use Rattle.wkb.specs.Spellings.{no_spellings, spelling}
+pub use Rattle.wkb.specs.Reads.{Item, geometry_at, spellings, values, point_of, line_string_of, whole_of, Listed}
+pub use Rattle.wkb.specs.Reads.{HasNoFront, IsFront, IsOnlyFront, IfRefused}
+pub use Rattle.wkb.specs.Reads.{members_spelled, list_of_spellings, IsSpelled, points_of, point_value, line_string_seen}
+pub use Rattle.wkb.specs.Reads.{point_seen, multi_point_seen}
+pub use Rattle.wkb.specs.Reads.{order_of, spelling_at, IsCollectionOf, LinearRing, words_seen, ring_seen, ring_text}
+pub use Rattle.wkb.specs.Reads.{ring_order, ring_dimension}
+pub use Rattle.wkb.specs.Laws.{IsWordOf, IsMember, HoldsMember, behind_count, IsOneOf, MembersStand, HasOneText}
+pub use Rattle.wkb.specs.Laws.{HoldsRing, RingsStand, WordsStand}
+pub use Rattle.wkb.specs.Laws.{LineStringWordsStand, SpelledInFull, StandsAt, MembersInPlace, RingsInPlace}
+pub use Rattle.wkb.specs.Laws.{member_start, ring_start}

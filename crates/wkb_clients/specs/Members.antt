@@ -1,6 +1,7 @@
 -- The bytes of a member, of a ring, and a word of a member's ring.
 use Rattle.std.proofs.Common.{◌≡◌, ℕ, ◌+◌, ◌*◌, List, drop, Some, slice_get}
-use Rattle.wkb_clients.specs.Common.{Dimension, width, number, Coordinate, polygon, header, Listed, Item, IsMember, IsWordOf, IsFront, StandsAt, member_start}
+use Rattle.wkb_clients.specs.Common.{Dimension, width, number, Coordinate, polygon, header, Listed, Item, IsMember}
+use Rattle.wkb_clients.specs.Common.{IsWordOf, IsFront, StandsAt, member_start}
 use Rattle.wkb_clients.specs.Common.{ring_start}
 
 -- the bytes are the geometry's at the place of its member of this number

@@ -1,6 +1,7 @@
 -- Words of geometries that stand in a blob, behind an offset.
 use Rattle.std.proofs.Common.{◌≡◌, ℕ, ◌+◌, ◌*◌, List, drop}
-use Rattle.wkb_clients.specs.Common.{Dimension, number, width, Coordinate, Values, line_string, collection, header, Item}
+use Rattle.wkb_clients.specs.Common.{Dimension, number, width, Coordinate, Values, line_string, collection, header}
+use Rattle.wkb_clients.specs.Common.{Item}
 use Rattle.wkb_clients.specs.Common.{behind_count, IsWordOf, HoldsMember, HoldsRing, IsFront}
 
 -- Behind the offset stands a line string, and this is word n of its coordinate i: the number that stands, in the line

@@ -15,7 +15,8 @@ use Rattle.wkb_geom.specs.declared.error.WkbError.{WkbError}
 use Rattle.wkb_geom.specs.declared.error.WkbError.TheVariants as errors
 use Rattle.wkb_command.specs.declared.calls.HexFault.{HexFault}
 use Rattle.wkb_command.specs.declared.calls.HexFault.TheVariants.{NotHex, Memory}
-use Rattle.wkb_command.specs.Calls.{IsHex, IsHexOf, AreHexOf, IsFaultOf, FirstRefusal, RefusedFirst, IsOversized, this_one, later_one}
+use Rattle.wkb_command.specs.Calls.{IsHex, IsHexOf, AreHexOf, IsFaultOf, FirstRefusal, RefusedFirst, IsOversized}
+use Rattle.wkb_command.specs.Calls.{this_one, later_one}
 use Rattle.wkb_command.specs.Calls.{FaultOfError, FaultOfHexError}
 use Rattle.wkb_command.proofs.Hexes.{not_hex}
 

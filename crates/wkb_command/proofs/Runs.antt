@@ -1,10 +1,11 @@
 -- How a run ends.
-use Rattle.std.proofs.Common.{◌≡◌, ℕ, List, Option, Some, None, IfSome, IfOk, Result, string_bytes, sym}
-use Rattle.std.specs.Io.{StartsWith}
+use Rattle.std.proofs.Common.{◌≡◌, ℕ, List, [], ◌∷◌, ◌++◌, Option, Some, None, IfSome, IfOk, Result, sym}
 use Rattle.std.specs.declared.alloc.AllocError.{AllocError}
+use Rattle.wkb_command.specs.declared.program.Command.{Command}
 use Rattle.wkb_command.specs.declared.program.Report.{Report}
+use Rattle.wkb_command.specs.Reports.{said}
 use Rattle.wkb_command.proofs.Told.{IfOk-from}
-use Rattle.wkb_command.specs.Program.{Answers, Ends, answered, cut_short}
+use Rattle.wkb_command.specs.Program.{line_feed, Answers, Ends, answered, asked, word, Says, lines}
 
 pub IfSome-any : (o : Option (List ℕ)) (P : List ℕ → Type 0) → ((x : List ℕ) → P x) → IfSome o P
 IfSome-any None P f = tt
@@ -15,15 +16,17 @@ pub IfSome-read : (o : Option (List ℕ)) (P : List ℕ → Type 0) (read : List
 IfSome-read None P read is h = tt
 IfSome-read (Some x) P read is h = rw (sym is) h
 
-pub ends_answered : (words : List (List ℕ)) (input line text written : List ℕ) (status : ℕ) → text ≡ line → written ≡ text
+pub ends_answered : (words : List (List ℕ)) (input line written : List ℕ) (status : ℕ) → written ≡ line
     → Answers words input line status → Ends words input status written
-ends_answered words input line text written status is whole h = rw (whole, is) (answered h)
-
-pub ends_cut_short : (words : List (List ℕ)) (input line text written : List ℕ) (status : ℕ) → text ≡ line → StartsWith text written
-    → Answers words input line status → Ends words input 3 written
-ends_cut_short words input line text written status is begins h = cut_short h (rw is at begins)
+ends_answered words input line written status is h = rw is (answered h)
 
 pub fixed_answer : (words : List (List ℕ)) (input line : List ℕ) (status : ℕ) (r : Result Report AllocError)
-    → IfOk r (λ report. (string_bytes report.line ≡ line) × (report.status ≡ status)) → Answers words input line status
-    → IfOk r (λ report. Answers words input (string_bytes report.line) report.status)
-fixed_answer words input line status r h said = IfOk-from r _ _ h (λ report is. rw (is.0, is.1) said)
+    → IfOk r (λ report. (said report.line ≡ line) × (report.status ≡ status))
+    → Answers words input (line ++ line_feed ∷ []) status
+    → IfOk r (λ report. Answers words input (said report.line ++ line_feed ∷ []) report.status)
+fixed_answer words input line status r h answers = IfOk-from r _ _ h (λ report is. rw (is.0, is.1) answers)
+
+pub said_answer : (words : List (List ℕ)) (input : List ℕ) (command : Command) (r : Result Report AllocError) → words ≡ word command ∷ []
+    → IfOk r (λ report. Says (lines input) command (said report.line) report.status)
+    → IfOk r (λ report. Answers words input (said report.line ++ line_feed ∷ []) report.status)
+said_answer words input command r is h = IfOk-from r _ _ h (λ report says. asked is says)

@@ -1,16 +1,18 @@
 -- What is said of a refusal.
 use Rattle.std.proofs.Common.{◌≡◌, ◌≢◌, ℕ, List, [], ◌∷◌, ◌++◌, length, append_assoc, refl, sym, ◌∙◌, arith}
-use Rattle.std.proofs.Common.{Bool, true, false, Option, Some, Result, Ok, Err, ◌⊎◌, inl, inr, string_bytes, IfOk}
+use Rattle.std.proofs.Common.{Bool, true, false, Option, Some, Result, Ok, Err, ◌⊎◌, inl, inr, IfOk}
 use Rattle.std.specs.Prelude.{codes}
 use Rattle.std.specs.Bool.{MatchBool}
 use Rattle.std.specs.Fmt.{decimal}
 use Rattle.std.specs.declared.alloc.AllocError.{AllocError}
 use Rattle.wkb_command.specs.declared.program.Report.{Report}
+use Rattle.wkb_command.specs.Reports.{said}
 use Rattle.hex.specs.Hex.{encode_lower}
 use Rattle.wkb_geom.specs.declared.common.Endianness.{Endianness}
 use Rattle.wkb_geom.specs.declared.common.Form.TheVariants.{Iso}
 use Rattle.wkb_geom.specs.declared.error.Cause.{Cause}
-use Rattle.wkb_geom.specs.declared.error.Cause.TheVariants.{EndOfInput as end_of_input, General as general, IncorrectType as incorrect_type}
+use Rattle.wkb_geom.specs.declared.error.Cause.TheVariants.{EndOfInput as end_of_input, General as general}
+use Rattle.wkb_geom.specs.declared.error.Cause.TheVariants.{IncorrectType as incorrect_type}
 use Rattle.wkb_geom.specs.declared.error.Cause.TheVariants.{NestingDepthExceeded as nesting_depth_exceeded}
 use Rattle.wkb_geom.specs.Texts.{IsRewriting, IsRewritingWithSrid}
 use Rattle.wkb_geom.specs.Told.{Tells}
@@ -22,8 +24,9 @@ use Rattle.wkb_command.specs.declared.calls.HexFault.TheVariants.{NotHex, Wkb, M
 use Rattle.wkb_command.specs.declared.program.Command.{Command}
 use Rattle.wkb_command.specs.declared.program.Command.TheVariants.{Rewrite, RewriteWithSrid, Same, Cost, Srid}
 use Rattle.wkb_command.specs.Calls.{AreHex, AreHexOf, IsHexOf, IsFaultOf, RefusedFirst, IsOversized}
-use Rattle.wkb_command.specs.Program.{Says, rewritten, rewritten_with_srid, accepted, counted_refusal, srid, refused, not_hex}
-use Rattle.wkb_command.specs.Program.{wanted_lines, Gives, IsRefusalLine, counts, TellsCause, TellsError, TellsFault}
+use Rattle.wkb_command.specs.Program.{Says, rewritten, rewritten_with_srid, accepted, counted_refusal, srid, refused}
+use Rattle.wkb_command.specs.Program.{not_hex}
+use Rattle.wkb_command.specs.Program.{wanted_lines, Gives, counts, TellsCause, TellsError, TellsFault}
 use Rattle.wkb.proofs.Texts.{iso_fits}
 use Rattle.wkb_command.proofs.Hexes.{AreHex-from, AreHexOf-length}
 
@@ -70,11 +73,11 @@ IfOk-from (Err e) P Q h f = tt
 
 -- the report says what the table says
 abbrev pub Reports : List (List ℕ) → Command → Result Report AllocError → Type 0
-Reports texts command r = IfOk r (λ report. Says texts command (string_bytes report.line) report.status)
+Reports texts command r = IfOk r (λ report. Says texts command (said report.line) report.status)
 
 -- a fixed line
 pub reports_line : (texts : List (List ℕ)) (command : Command) (line : List ℕ) (status : ℕ) (r : Result Report AllocError)
-    → IfOk r (λ report. (string_bytes report.line ≡ line) × (report.status ≡ status)) → Says texts command line status
+    → IfOk r (λ report. (said report.line ≡ line) × (report.status ≡ status)) → Says texts command line status
     → Reports texts command r
 reports_line texts command line status r h says =
     IfOk-from r _ _ h (λ report is. rw (is.0, is.1) says)
@@ -86,15 +89,15 @@ pub reports_fault : (texts : List (List ℕ)) (command : Command) (IsRefused : L
     → ((line : List ℕ) (inputs : List (List ℕ)) (e : WkbError) → Gives command texts inputs → IsRefused inputs e → TellsError e line
     → Says texts command line 1)
     → IsFaultOf texts IsRefused fault
-    → IfOk r (λ report. TellsFault fault (string_bytes report.line) report.status) → Reports texts command r
+    → IfOk r (λ report. TellsFault fault (said report.line) report.status) → Reports texts command r
 reports_fault texts command IsRefused fault r wanted f h told =
     IfOk-from r _ _ told
-    (λ report is. says_fault command texts IsRefused fault (string_bytes report.line) report.status wanted (f (string_bytes report.line)) h is)
+    (λ report is. says_fault command texts IsRefused fault (said report.line) report.status wanted (f (said report.line)) h is)
 
 pub reports_refusal : (texts : List (List ℕ)) (command : Command) (fault : HexFault) (r : Result Report AllocError)
     → length texts ≡ wanted_lines command → command ≢ Cost
     → IsFaultOf texts RefusedFirst fault
-    → IfOk r (λ report. TellsFault fault (string_bytes report.line) report.status) → Reports texts command r
+    → IfOk r (λ report. TellsFault fault (said report.line) report.status) → Reports texts command r
 reports_refusal texts command fault r wanted ne h told =
     reports_fault texts command RefusedFirst fault r wanted (λ line. says_refused command texts line ne) h told
 

@@ -1,13 +1,16 @@
 //! The program: one command over the hex lines of its input.
 
-ghost use Rattle.std.specs.Prelude.{◌≡◌, ◌≢◌, ◌∷◌, [], ℕ, List, map, codes};
+ghost use Rattle.std.specs.Prelude.{◌≡◌, ◌≢◌, ◌∷◌, ◌++◌, [], ℕ, List, map, codes};
 ghost use Rattle.std.specs.Prelude.{IfOk, IfSome, MatchOption, string_bytes};
 ghost use Rattle.std.specs.Io.KnownBytes.{Appends};
 ghost use Rattle.wkb_command.specs.Program.{word, AreNoCommand, without_last_feed, lines, IsOneLine};
 ghost use Rattle.wkb_command.specs.Program.{status_misused, status_refused, TellsError, TellsFault, Says, Answers, Ends};
+ghost use Rattle.wkb_command.specs.Program.{line_feed};
+ghost use Rattle.wkb_command.specs.Reports.{said, told};
+ghost use Rattle.wkb_command.specs.Transfer.{WroteBeginning};
 
 use crate::calls::{HexFault, cost_hex, rewrite_hex, rewrite_hex_with_srid, same_hex, srid_hex};
-use crate::transfer::{ReadFault, read_to_end, write_whole};
+use crate::transfer::{ReadFault, WriteFault, read_to_end, write_hex_line, write_whole};
 use std::alloc::{AllocError, Global};
 use std::io::{Read, Write};
 use std::str;
@@ -24,7 +27,7 @@ const MISUSED: u8 = 2;
 /// The status of a run without memory, input or output.
 pub const FAILED: u8 = 3;
 
-const USAGE: &str = "usage: wkb_hex le|be|same|cost|srid|ewkb-le|ewkb-be\n";
+const USAGE: &str = "usage: wkb_hex le|be|same|cost|srid|ewkb-le|ewkb-be";
 
 /// What the program is asked.
 #[derive(Clone, Copy)]
@@ -64,25 +67,46 @@ impl Command {
     }
 }
 
-/// A line and the status that goes with it.
+/// What is said on a line.
+#[derive(Drop)]
+enum Line {
+    /// A printed text.
+    Text(String),
+    /// An encoding. Its hex is written piece by piece, and never in memory as a whole.
+    Hex(Vec<u8>),
+}
+
+impl Line {
+    /// Writes a text as it is, and hex with a line feed.
+    fn write_to<W: Write>(&self, out: &mut W) -> Result<(), WriteFault>
+        ensures { WroteBeginning (W.contents out.old) (W.contents out.new) (told self.now) result }
+    {
+        match self {
+            Line::Text(text) => write_whole(out, text.as_bytes()),
+            Line::Hex(bytes) => write_hex_line(out, bytes.as_slice()),
+        }
+    }
+}
+
+/// A line, without its line feed, and the status that goes with it.
 #[derive(Drop)]
 struct Report {
-    line: String,
+    line: Line,
     status: u8,
 }
 
 impl Report {
     fn new(alloc: Global, line: &str, status: u8) -> Result<Report, AllocError>
-        ensures { IfOk result (λ report. (string_bytes report.line ≡ line.now) × (report.status ≡ status)) }
+        ensures { IfOk result (λ report. (said report.line ≡ line.now) × (report.status ≡ status)) }
     {
         Ok(Report {
-            line: String::from_str(alloc, line)?,
+            line: Line::Text(String::from_str(alloc, line)?),
             status,
         })
     }
 
     fn not_hex(alloc: Global) -> Result<Report, AllocError>
-        ensures { IfOk result (λ report. (string_bytes report.line ≡ codes "not hex")
+        ensures { IfOk result (λ report. (said report.line ≡ codes "not hex")
             × (report.status ≡ status_misused)) }
     {
         Report::new(alloc, "not hex", MISUSED)
@@ -102,7 +126,7 @@ fn first_line(text: &str) -> &str
 
 /// `refused: ` and the error's text.
 fn refusal(alloc: Global, error: &WkbError) -> Result<Report, AllocError>
-    ensures { IfOk result (λ report. TellsError error.now (string_bytes report.line)
+    ensures { IfOk result (λ report. TellsError error.now (said report.line)
         × (report.status ≡ status_refused)) }
 {
     if let WkbError::IOError(_) = error {
@@ -112,14 +136,14 @@ fn refusal(alloc: Global, error: &WkbError) -> Result<Report, AllocError>
     let mut line = String::from_str(alloc, "refused: ")?;
     line.push_str(first_line(text.as_str()))?;
     Ok(Report {
-        line,
+        line: Line::Text(line),
         status: REFUSED,
     })
 }
 
 /// What is said where a call has no answer.
 fn fault_report(alloc: Global, fault: HexFault) -> Result<Report, AllocError>
-    ensures { IfOk result (λ report. TellsFault fault (string_bytes report.line) report.status) }
+    ensures { IfOk result (λ report. TellsFault fault (said report.line) report.status) }
 {
     match fault {
         HexFault::NotHex => Report::not_hex(alloc),
@@ -130,7 +154,7 @@ fn fault_report(alloc: Global, fault: HexFault) -> Result<Report, AllocError>
 
 fn rewriting(alloc: Global, order: Endianness, text: &str) -> Result<Report, AllocError>
     ensures { IfOk result (λ report. Says (text.now ∷ []) (Command.Rewrite order)
-        (string_bytes report.line) report.status) }
+        (said report.line) report.status) }
 {
     let options = WriteOptions {
         endianness: order,
@@ -138,7 +162,7 @@ fn rewriting(alloc: Global, order: Endianness, text: &str) -> Result<Report, All
     };
     match rewrite_hex(alloc, text, &options) {
         Ok(bytes) => Ok(Report {
-            line: hex::encode(alloc, bytes.as_slice())?,
+            line: Line::Hex(bytes),
             status: ANSWERED,
         }),
         Err(fault) => fault_report(alloc, fault),
@@ -147,11 +171,11 @@ fn rewriting(alloc: Global, order: Endianness, text: &str) -> Result<Report, All
 
 fn rewriting_with_srid(alloc: Global, order: Endianness, text: &str) -> Result<Report, AllocError>
     ensures { IfOk result (λ report. Says (text.now ∷ []) (Command.RewriteWithSrid order)
-        (string_bytes report.line) report.status) }
+        (said report.line) report.status) }
 {
     match rewrite_hex_with_srid(alloc, text, order) {
         Ok(bytes) => Ok(Report {
-            line: hex::encode(alloc, bytes.as_slice())?,
+            line: Line::Hex(bytes),
             status: ANSWERED,
         }),
         Err(fault) => fault_report(alloc, fault),
@@ -160,7 +184,7 @@ fn rewriting_with_srid(alloc: Global, order: Endianness, text: &str) -> Result<R
 
 fn comparison(alloc: Global, first: &str, second: &str) -> Result<Report, AllocError>
     ensures { IfOk result (λ report. Says (first.now ∷ second.now ∷ []) Command.Same
-        (string_bytes report.line) report.status) }
+        (said report.line) report.status) }
 {
     let equal = match same_hex(alloc, first, second) {
         Ok(equal) => equal,
@@ -174,7 +198,7 @@ fn comparison(alloc: Global, first: &str, second: &str) -> Result<Report, AllocE
 }
 
 fn cost(alloc: Global, text: &str) -> Result<Report, AllocError>
-    ensures { IfOk result (λ report. Says (text.now ∷ []) Command.Cost (string_bytes report.line) report.status) }
+    ensures { IfOk result (λ report. Says (text.now ∷ []) Command.Cost (said report.line) report.status) }
 {
     let cost = match cost_hex(alloc, text) {
         Ok(cost) => cost,
@@ -184,23 +208,23 @@ fn cost(alloc: Global, text: &str) -> Result<Report, AllocError>
     let slots = cost.counts.slots;
     if cost.accepted {
         Ok(Report {
-            line: format!(in alloc; "accepted turns {turns} slots {slots}")?,
+            line: Line::Text(format!(in alloc; "accepted turns {turns} slots {slots}")?),
             status: ANSWERED,
         })
     } else {
         Ok(Report {
-            line: format!(in alloc; "refused turns {turns} slots {slots}")?,
+            line: Line::Text(format!(in alloc; "refused turns {turns} slots {slots}")?),
             status: REFUSED,
         })
     }
 }
 
 fn srid(alloc: Global, text: &str) -> Result<Report, AllocError>
-    ensures { IfOk result (λ report. Says (text.now ∷ []) Command.Srid (string_bytes report.line) report.status) }
+    ensures { IfOk result (λ report. Says (text.now ∷ []) Command.Srid (said report.line) report.status) }
 {
     match srid_hex(alloc, text) {
         Ok(Some(srid)) => Ok(Report {
-            line: format!(in alloc; "srid {srid}")?,
+            line: Line::Text(format!(in alloc; "srid {srid}")?),
             status: ANSWERED,
         }),
         Ok(None) => Report::new(alloc, "no srid", ANSWERED),
@@ -244,7 +268,7 @@ fn two_lines(text: &str) -> Option<(&str, &str)>
 }
 
 fn report_on_line(alloc: Global, command: Command, line: &str) -> Result<Report, AllocError>
-    ensures { IfOk result (λ report. Says (line.now ∷ []) command (string_bytes report.line) report.status) }
+    ensures { IfOk result (λ report. Says (line.now ∷ []) command (said report.line) report.status) }
 {
     match command {
         Command::Rewrite(order) => rewriting(alloc, order, line),
@@ -257,7 +281,7 @@ fn report_on_line(alloc: Global, command: Command, line: &str) -> Result<Report,
 
 /// What the command says of its input, without a line feed.
 fn report_on_input(alloc: Global, command: Command, input: &[u8]) -> Result<Report, AllocError>
-    ensures { IfOk result (λ report. Says (lines input.now) command (string_bytes report.line) report.status) }
+    ensures { IfOk result (λ report. Says (lines input.now) command (said report.line) report.status) }
 {
     let Ok(text) = str::from_utf8(input) else {
         return Report::not_hex(alloc);
@@ -274,25 +298,32 @@ fn report_on_input(alloc: Global, command: Command, input: &[u8]) -> Result<Repo
     }
 }
 
-/// The whole line.
-fn answer(alloc: Global, command: Command, input: &[u8]) -> Result<Report, AllocError>
-    ensures { (words : List (List ℕ)) → words ≡ word command ∷ []
-        → IfOk result (λ report. Answers words input.now (string_bytes report.line) report.status) }
+/// Puts the line feed behind a text. That of hex is written with its last digits.
+fn ended(report: Result<Report, AllocError>) -> Result<Report, AllocError>
+    ensures { (words : List (List ℕ)) (input : List ℕ)
+        → IfOk report (λ report. Answers words input (said report.line ++ line_feed ∷ []) report.status)
+        → IfOk result (λ report. Answers words input (told report.line) report.status) }
 {
-    let mut report = report_on_input(alloc, command, input)?;
-    report.line.push('\n')?;
-    Ok(report)
+    let Report { line, status } = report?;
+    let line = match line {
+        Line::Text(mut text) => {
+            text.push('\n')?;
+            Line::Text(text)
+        }
+        Line::Hex(bytes) => Line::Hex(bytes),
+    };
+    Ok(Report { line, status })
 }
 
-/// Writes the line, or that memory is wanted, and answers the status.
+/// Writes what is said and a line feed, or that memory is wanted, and answers the status.
 fn tell<W: Write>(report: Result<Report, AllocError>, out: &mut W) -> u8
     ensures { (written : List ℕ) × Appends (W.contents out.old) (W.contents out.new) written
         × ((words : List (List ℕ)) (input : List ℕ)
-        → IfOk report (λ report. Answers words input (string_bytes report.line) report.status)
+        → IfOk report (λ report. Answers words input (said report.line ++ line_feed ∷ []) report.status)
         → Ends words input result written) }
 {
-    match report {
-        Ok(report) => match write_whole(out, report.line.as_bytes()) {
+    match ended(report) {
+        Ok(report) => match report.line.write_to(out) {
             Ok(()) => report.status,
             Err(_) => FAILED,
         },
@@ -322,5 +353,5 @@ pub fn run<R: Read, W: Write>(alloc: Global, words: &[String], input: &mut R, ou
         Err(ReadFault::Memory(error)) => return tell(Err(error), out),
         Err(ReadFault::Unreadable) => return FAILED,
     };
-    tell(answer(alloc, command, bytes.as_slice()), out)
+    tell(report_on_input(alloc, command, bytes.as_slice()), out)
 }

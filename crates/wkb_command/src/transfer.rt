@@ -1,7 +1,9 @@
 //! Reading an input to its end, and writing a text whole.
 
-ghost use Rattle.std.specs.Prelude.{◌≡◌, IfOk, IfSome};
+ghost use Rattle.std.specs.Prelude.{◌≡◌, ◌≤◌, ◌*◌, ◌++◌, ◌∷◌, [], IfOk, IfSome, length, take};
+ghost use Rattle.hex.specs.Hex.{encode_lower};
 ghost use Rattle.wkb_command.specs.Transfer.{WroteBeginning};
+ghost use Rattle.wkb_command.specs.Program.{line_feed};
 
 use std::alloc::{AllocError, Global};
 use std::io::{Read, Write};
@@ -10,6 +12,12 @@ use std::io::{Read, Write};
 const MAX_READS: u32 = 16_777_216;
 
 const CHUNK_SIZE: usize = 65_536;
+
+/// How many bytes are encoded at once.
+const PIECE_SIZE: usize = 32_768;
+
+/// The digits of a piece, and a line feed.
+const DIGITS_SIZE: usize = 65_537;
 
 /// Why an input isn't in memory.
 #[derive(Debug, Drop)]
@@ -55,4 +63,34 @@ pub fn write_whole<W: Write>(out: &mut W, bytes: &[u8]) -> Result<(), WriteFault
         }
     }
     Ok(())
+}
+
+/// Encodes a piece into the first digits.
+fn encode_piece(piece: &[u8], digits: &mut [u8])
+    requires { 2 * length piece.now ≤ length digits.old }
+    ensures hex { take (2 * length piece.now) digits.new ≡ encode_lower piece.now }
+    ensures room { length digits.new ≡ length digits.old }
+{
+    let Ok(()) = hex::encode_to_slice(piece, &mut digits[..2 * piece.len()]) else {
+        unreachable!();
+    };
+}
+
+/// Writes bytes as a line of hex, piece by piece. It takes no memory.
+pub fn write_hex_line<W: Write>(out: &mut W, bytes: &[u8]) -> Result<(), WriteFault>
+    ensures { WroteBeginning (W.contents out.old) (W.contents out.new)
+        (encode_lower bytes.now ++ line_feed ∷ []) result }
+{
+    let mut digits = [0u8; DIGITS_SIZE];
+    let mut rest = bytes;
+    while rest.len() > PIECE_SIZE {
+        let (piece, behind) = rest.split_at(PIECE_SIZE);
+        encode_piece(piece, &mut digits);
+        write_whole(out, &digits[..2 * PIECE_SIZE])?;
+        rest = behind;
+    }
+    encode_piece(rest, &mut digits);
+    let end = 2 * rest.len();
+    digits[end] = b'\n';
+    write_whole(out, &digits[..end + 1])
 }

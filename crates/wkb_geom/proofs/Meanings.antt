@@ -1,5 +1,6 @@
 -- What codes stand for: the number is taken apart flag by flag, and what is read is the one meaning.
-use Rattle.std.proofs.Common.{◌≡◌, ◌⊎◌, ℕ, zero, suc, ◌+◌, ◌-◌, ◌*◌, ◌/◌, ◌%◌, ◌<◌, ◌≤◌, Option, Some, None, Bool, true, false, refl, sym, ap, ◌∙◌, subst}
+use Rattle.std.proofs.Common.{◌≡◌, ◌⊎◌, ℕ, zero, suc, ◌+◌, ◌-◌, ◌*◌, ◌/◌, ◌%◌, ◌<◌, ◌≤◌, Option, Some, None, Bool, true}
+use Rattle.std.proofs.Common.{false, refl, sym, ap, ◌∙◌, subst}
 use Rattle.std.proofs.Common.{arith, inl, inr}
 use Rattle.std.specs.Prelude.{nat_le, ◌&&◌, ◌||◌, if◌then◌else◌}
 use Rattle.std.proofs.lemmas.Bool.{ltb-true, leb-true, lt-ltb}
@@ -8,7 +9,8 @@ use Rattle.wkb_geom.specs.declared.common.Dimension.{Dimension}
 use Rattle.wkb_geom.specs.declared.code.WkbType.{WkbType}
 use Rattle.wkb_geom.specs.Dimensions.{has_z, has_m}
 use Rattle.wkb_geom.specs.Codes.{Code, flag, thousands, z_flag, m_flag, srid_flag}
-use Rattle.wkb_geom.specs.Reading.{Meaning, type_kind, type_dimension, meaning_of, meaning_with, without, in_table, type_of, dimension_with, iso_dimension}
+use Rattle.wkb_geom.specs.Reading.{Meaning, type_kind, type_dimension, meaning_of, meaning_with, without, in_table}
+use Rattle.wkb_geom.specs.Reading.{type_of, dimension_with, iso_dimension}
 use Rattle.wkb_geom.specs.Meanings.{HasNoMeaning, has_srid_flag}
 use Rattle.wkb_geom.proofs.Codes.{bit, flag-bit, bit-most, thousands-most, one_meaning}
 

@@ -1,6 +1,7 @@
 -- The definitions at worked examples: what codes mean, what is written, what values it stands for, and what is not
 -- written.
-use Rattle.std.proofs.Common.{◌≡◌, ℕ, zero, suc, List, [], ◌∷◌, ◌++◌, length, map, replicate, Option, Some, None, Bool, true, false, refl}
+use Rattle.std.proofs.Common.{◌≡◌, ℕ, zero, suc, List, [], ◌∷◌, ◌++◌, length, map, replicate, Option, Some, None, Bool}
+use Rattle.std.proofs.Common.{true, false, refl}
 use Rattle.wkb_geom.specs.declared.common.Endianness.{Endianness}
 use Rattle.wkb_geom.specs.declared.common.Endianness.TheVariants.{BigEndian, LittleEndian}
 use Rattle.wkb_geom.specs.declared.common.Dimension.TheVariants.{Xy, Xyz, Xyzm}
@@ -12,11 +13,14 @@ use Rattle.wkb_geom.specs.declared.code.WkbType.TheVariants as kinds
 use Rattle.wkb_geom.specs.Numbers.{is_nan, number_bytes, empty_word}
 use Rattle.wkb_geom.specs.Values as value
 use Rattle.wkb_geom.specs.Values.{Coordinate, Value}
-use Rattle.wkb_geom.specs.Geometries.{Geometry, Geometries, point, line_string, polygon, multi_point, multi_line_string, multi_polygon, collection, line}
+use Rattle.wkb_geom.specs.Geometries.{Geometry, Geometries, point, line_string, polygon, multi_point, multi_line_string}
+use Rattle.wkb_geom.specs.Geometries.{multi_polygon, collection, line}
 use Rattle.wkb_geom.specs.Geometries.{rectangle, triangle, no_geometries, geometry, normal}
 use Rattle.wkb_geom.specs.Sizes.{byte_size}
-use Rattle.wkb_geom.specs.Texts.{text, fault, refusal, unsupported_dimensions, count_overflow, code_of, srid_text, header_text, words_text, coordinates_text}
-use Rattle.wkb_geom.specs.Texts.{point_words, point_text, line_string_text, polygon_text, members_text, or_else, dimensions_fault, count_fault}
+use Rattle.wkb_geom.specs.Texts.{text, fault, refusal, unsupported_dimensions, count_overflow, code_of, srid_text}
+use Rattle.wkb_geom.specs.Texts.{header_text, words_text, coordinates_text}
+use Rattle.wkb_geom.specs.Texts.{point_words, point_text, line_string_text, polygon_text, members_text, or_else}
+use Rattle.wkb_geom.specs.Texts.{dimensions_fault, count_fault}
 use Rattle.wkb_geom.specs.Reading.{Meaning, meaning_of}
 use Rattle.wkb_geom.proofs.Hex.{hex, copies}
 

@@ -21,6 +21,27 @@ const M_FLAG: u32 = 0x4000_0000;
 /// The flag of an SRID.
 const SRID_FLAG: u32 = 0x2000_0000;
 
+/// The number of a point's kind.
+pub const POINT: u32 = 1;
+
+/// The number of a line string's kind.
+pub const LINE_STRING: u32 = 2;
+
+/// The number of a polygon's kind.
+pub const POLYGON: u32 = 3;
+
+/// The number of a multi point's kind.
+pub const MULTI_POINT: u32 = 4;
+
+/// The number of a multi line string's kind.
+pub const MULTI_LINE_STRING: u32 = 5;
+
+/// The number of a multi polygon's kind.
+pub const MULTI_POLYGON: u32 = 6;
+
+/// The number of a collection's kind.
+pub const GEOMETRY_COLLECTION: u32 = 7;
+
 /// A kind with its dimension.
 #[derive(Clone, Copy, Debug, PartialEq)]
 pub enum WkbType {
@@ -63,20 +84,11 @@ fn of_thousands(thousands: u32) -> Dimension
 fn joined(z: bool, m: bool, iso: Dimension) -> Dimension
     ensures { result ≡ dimension_with (z || has_z iso) (m || has_m iso) }
 {
-    match (z, m, iso) {
-        (false, false, Dimension::Xy) => Dimension::Xy,
-        (false, false, Dimension::Xyz) => Dimension::Xyz,
-        (false, false, Dimension::Xym) => Dimension::Xym,
-        (false, false, Dimension::Xyzm) => Dimension::Xyzm,
-        (true, false, Dimension::Xy) => Dimension::Xyz,
-        (true, false, Dimension::Xyz) => Dimension::Xyz,
-        (true, false, Dimension::Xym) => Dimension::Xyzm,
-        (true, false, Dimension::Xyzm) => Dimension::Xyzm,
-        (false, true, Dimension::Xy) => Dimension::Xym,
-        (false, true, Dimension::Xyz) => Dimension::Xyzm,
-        (false, true, Dimension::Xym) => Dimension::Xym,
-        (false, true, Dimension::Xyzm) => Dimension::Xyzm,
-        (true, true, _) => Dimension::Xyzm,
+    match (z || iso.has_z(), m || iso.has_m()) {
+        (false, false) => Dimension::Xy,
+        (true, false) => Dimension::Xyz,
+        (false, true) => Dimension::Xym,
+        (true, true) => Dimension::Xyzm,
     }
 }
 
@@ -91,20 +103,14 @@ fn is_in_table(n: u32) -> bool
 fn of_kind(kind: u32, dimension: Dimension) -> WkbType
     ensures { result ≡ type_of kind dimension }
 {
-    if kind == 1 {
-        WkbType::Point(dimension)
-    } else if kind == 2 {
-        WkbType::LineString(dimension)
-    } else if kind == 3 {
-        WkbType::Polygon(dimension)
-    } else if kind == 4 {
-        WkbType::MultiPoint(dimension)
-    } else if kind == 5 {
-        WkbType::MultiLineString(dimension)
-    } else if kind == 6 {
-        WkbType::MultiPolygon(dimension)
-    } else {
-        WkbType::GeometryCollection(dimension)
+    match kind {
+        POINT => WkbType::Point(dimension),
+        LINE_STRING => WkbType::LineString(dimension),
+        POLYGON => WkbType::Polygon(dimension),
+        MULTI_POINT => WkbType::MultiPoint(dimension),
+        MULTI_LINE_STRING => WkbType::MultiLineString(dimension),
+        MULTI_POLYGON => WkbType::MultiPolygon(dimension),
+        _ => WkbType::GeometryCollection(dimension),
     }
 }
 
@@ -166,13 +172,13 @@ impl WkbType {
         ensures { result ≡ type_kind self }
     {
         match self {
-            WkbType::Point(_) => 1,
-            WkbType::LineString(_) => 2,
-            WkbType::Polygon(_) => 3,
-            WkbType::MultiPoint(_) => 4,
-            WkbType::MultiLineString(_) => 5,
-            WkbType::MultiPolygon(_) => 6,
-            WkbType::GeometryCollection(_) => 7,
+            WkbType::Point(_) => POINT,
+            WkbType::LineString(_) => LINE_STRING,
+            WkbType::Polygon(_) => POLYGON,
+            WkbType::MultiPoint(_) => MULTI_POINT,
+            WkbType::MultiLineString(_) => MULTI_LINE_STRING,
+            WkbType::MultiPolygon(_) => MULTI_POLYGON,
+            WkbType::GeometryCollection(_) => GEOMETRY_COLLECTION,
         }
     }
 
@@ -195,12 +201,9 @@ impl WkbType {
     pub fn ewkb_code(self, srid: bool) -> u32
         ensures { result ≡ ewkb_code (type_kind self) (type_dimension self) srid }
     {
-        let (z, m) = match self.dimension() {
-            Dimension::Xy => (0, 0),
-            Dimension::Xyz => (Z_FLAG, 0),
-            Dimension::Xym => (0, M_FLAG),
-            Dimension::Xyzm => (Z_FLAG, M_FLAG),
-        };
+        let dimension = self.dimension();
+        let z = if dimension.has_z() { Z_FLAG } else { 0 };
+        let m = if dimension.has_m() { M_FLAG } else { 0 };
         let srid = if srid { SRID_FLAG } else { 0 };
         z + m + srid + self.kind()
     }

@@ -1,10 +1,10 @@
 //! Byte orders, dimensions and the two written forms.
 
 ghost use Rattle.std.specs.Prelude.{◌≡◌};
-ghost use Rattle.wkb_geom.specs.Dimensions.{size, width, dimensions};
+ghost use Rattle.wkb_geom.specs.Dimensions.{size, width, has_z, has_m, dimensions};
 ghost use Rattle.wkb_geom.specs.Meanings.{HasOrder, IsNamed};
 ghost use Rattle.wkb_geom.specs.Numbers.{order_byte};
-ghost use Rattle.wkb_geom.specs.Reading.{same_dimension, order_of};
+ghost use Rattle.wkb_geom.specs.Reading.{order_of};
 ghost use Rattle.wkb_geom.specs.Texts.{form_srid, inner};
 
 use crate::error::{General, WkbError};
@@ -54,16 +54,23 @@ impl Dimension {
         }
     }
 
-    /// Whether the other has the same name.
-    pub fn is(self, other: Dimension) -> bool
-        ensures { result ≡ same_dimension self other }
+    /// Whether there is a z.
+    pub fn has_z(self) -> bool
+        ensures { result ≡ has_z self }
     {
-        match (self, other) {
-            (Dimension::Xy, Dimension::Xy) => true,
-            (Dimension::Xyz, Dimension::Xyz) => true,
-            (Dimension::Xym, Dimension::Xym) => true,
-            (Dimension::Xyzm, Dimension::Xyzm) => true,
-            _ => false,
+        match self {
+            Dimension::Xyz | Dimension::Xyzm => true,
+            Dimension::Xy | Dimension::Xym => false,
+        }
+    }
+
+    /// Whether there is an m.
+    pub fn has_m(self) -> bool
+        ensures { result ≡ has_m self }
+    {
+        match self {
+            Dimension::Xym | Dimension::Xyzm => true,
+            Dimension::Xy | Dimension::Xyz => false,
         }
     }
 }

@@ -2,6 +2,8 @@
 
 ghost use Rattle.std.specs.Prelude.{◌≡◌};
 ghost use Rattle.wkb_geom.specs.declared.error.WkbError.TheVariants.{IOError, Memory};
+ghost use Rattle.wkb_geom.specs.declared.error.Refusal.TheVariants as refusals;
+ghost use Rattle.wkb_geom.specs.Errors.{TellsFault};
 ghost use Rattle.wkb_geom.specs.Told.{Tells, TellsRefusal};
 
 use std::alloc::AllocError;
@@ -52,6 +54,17 @@ pub enum Cause {
 pub enum Refusal {
     Fault(Cause),
     Memory,
+}
+
+/// Why a geometry is not written: the first fault in preorder, else its size.
+#[derive(Debug, Clone, Copy)]
+pub enum Fault {
+    /// A geometry has this many numbers in a coordinate, and no name for its dimension.
+    UnsupportedDimensions(usize),
+    /// A count past 4294967295.
+    Count,
+    /// The length of the whole text does not fit `usize`.
+    Size,
 }
 
 /// What is too large to be written.
@@ -111,6 +124,24 @@ impl From<AllocError> for WkbError {
     }
 }
 
+/// A fault of the bytes stops the reader.
+impl From<Cause> for Refusal {
+    ghost from_gives = { λ cause refusal. refusal ≡ refusals.Fault cause };
+
+    fn from(cause: Cause) -> Refusal {
+        Refusal::Fault(cause)
+    }
+}
+
+/// Memory that was refused stops the reader.
+impl From<AllocError> for Refusal {
+    ghost from_gives = { λ e refusal. refusal ≡ refusals.Memory };
+
+    fn from(_: AllocError) -> Refusal {
+        Refusal::Memory
+    }
+}
+
 /// The error that tells why bytes are refused.
 impl From<Cause> for WkbError {
     ghost from_gives = { λ cause e. Tells e cause };
@@ -121,6 +152,21 @@ impl From<Cause> for WkbError {
             Cause::General(general) => WkbError::General(general),
             Cause::IncorrectType => WkbError::IncorrectType("multi geometry member"),
             Cause::NestingDepthExceeded(most) => WkbError::NestingDepthExceeded(most),
+        }
+    }
+}
+
+/// The error that tells why a geometry is not written.
+impl From<Fault> for WkbError {
+    ghost from_gives = { λ fault e. TellsFault e fault };
+
+    #[cold]
+    #[inline(never)]
+    fn from(fault: Fault) -> WkbError {
+        match fault {
+            Fault::UnsupportedDimensions(n) => WkbError::General(General::UnsupportedDimensions(n)),
+            Fault::Count => WkbError::OverflowError(Overflow::Count),
+            Fault::Size => WkbError::OverflowError(Overflow::Size),
         }
     }
 }

@@ -2,10 +2,10 @@
 //! which its ghost members name, and whose parts have the dimension of the whole: that is proved at each
 //! `impl`. Ordinates are the 64 bits of a binary64, never a float.
 
-ghost use Rattle.std.specs.Prelude.{◌≡◌, ℕ, ◌+◌, ◌-◌, ◌<◌, ◌≤◌, List, length, map, Option, IfSome, All, slice_get};
+ghost use Rattle.std.specs.Prelude.{◌≡◌, ℕ, ◌+◌, ◌-◌, ◌<◌, ◌≤◌, List, length, map, Option, None, IfSome, All, slice_get};
 ghost use Rattle.std.specs.Prelude.{slice_index};
 ghost use Rattle.std.specs.Option.{option_map};
-ghost use Rattle.std.specs.List.{AllByRecursion};
+ghost use Rattle.std.specs.List.{AllByRecursion, flat_map};
 ghost use Rattle.wkb_geom.specs.declared.common.Dimensions.{Dimensions};
 ghost use Rattle.wkb_geom.specs.Dimensions.{size};
 ghost use Rattle.wkb_geom.specs.Geometries.{Geometry, point, line_string, polygon, multi_point, multi_line_string};
@@ -13,8 +13,9 @@ ghost use Rattle.wkb_geom.specs.Geometries.{multi_polygon, collection, rectangle
 ghost use Rattle.wkb_geom.specs.Geometries.{IsCoordinate, IsPoint, AreCoordinates, IsGeometry, AreGeometries};
 ghost use Rattle.wkb_geom.specs.Parts.{part_geometry};
 ghost use Rattle.wkb_geom.specs.Sizes.{dimensions_of};
+ghost use Rattle.wkb_geom.specs.Texts.{words_text, text, fault};
 
-use crate::Dimensions;
+use crate::{Dimensions, Endianness, Form};
 
 /// What has a dimension.
 pub trait Dimensioned: Drop {
@@ -95,6 +96,17 @@ pub trait LineStringTrait: Dimensioned {
         requires { i < length (coordinates self.now) }
         ensures value { slice_get (coordinates self.now) i ≡ Some (Self.CoordType.words result) }
         ensures dimensions { Self.CoordType.dimensions result ≡ Self.dimensions self.now };
+
+    /// The coordinates as they are written in this order, without a count, where memory holds them so.
+    ///
+    /// What is lent can be written in one copy. No implementation has to write this method: without it each
+    /// coordinate is asked for.
+    #[inline]
+    fn standing(&self, _order: Endianness) -> Option<&[u8]>
+        ensures { IfSome result (λ bytes. bytes.now ≡ flat_map (words_text _order) (coordinates self.now)) }
+    {
+        None
+    }
 
     ghost lawful: { (l : Self) → AreCoordinates (Self.dimensions l) (coordinates l) };
 }
@@ -342,6 +354,18 @@ pub trait GeometryTrait: Dimensioned + Sized {
             (Self.TriangleType.first_words t) (Self.TriangleType.second_words t) (Self.TriangleType.third_words t))
             (λ l. line (Self.LineType.dimensions l) (Self.LineType.start_words l) (Self.LineType.end_words l))
             result ≡ geometry self.now };
+
+    /// The whole encoding in this order and form, where memory holds it so.
+    ///
+    /// What is lent can be written in one copy. No implementation has to write this method: without it the geometry is
+    /// written by its parts.
+    #[inline]
+    fn whole(&self, _order: Endianness, _form: Form) -> Option<&[u8]>
+        ensures encoding { IfSome result (λ bytes. bytes.now ≡ text _order _form (geometry self.now)) }
+        ensures writable { IfSome result (λ bytes. fault (geometry self.now) ≡ None) }
+    {
+        None
+    }
 
     // What it means has the dimension that it answers.
     ghost one_dimension: { (g : Self) → dimensions_of (geometry g) ≡ Self.dimensions g };

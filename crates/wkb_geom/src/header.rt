@@ -1,9 +1,27 @@
 //! What stands in front of a body: order, code and SRID; and the count behind them.
 
-use crate::code::{WkbGeometryCode, WkbType};
-use crate::common::{Dimension, Endianness};
+use crate::code::{POINT, WkbGeometryCode, WkbType};
+use crate::common::{Dimension, Endianness, Form};
 use crate::error::{Cause, General};
-use crate::words::u32_at;
+use crate::words::{COUNT, u32_at};
+
+/// The bytes of an order.
+const ORDER: usize = 1;
+
+/// The bytes of a code.
+const CODE: usize = 4;
+
+/// The bytes of an SRID.
+const SRID: usize = 4;
+
+/// The bytes of a header without an SRID, as it is written of each member.
+pub const MEMBER_HEADER: usize = ORDER + CODE;
+
+/// The bytes of a header with an SRID.
+pub const LONGEST_HEADER: usize = MEMBER_HEADER + SRID;
+
+/// The fewest bytes of a member: a header, and a count.
+pub const LEAST_MEMBER: usize = MEMBER_HEADER + COUNT;
 
 /// What stands in front of a body.
 #[derive(Clone, Copy, Debug)]
@@ -37,10 +55,10 @@ impl Header {
         let Some(order) = Endianness::of_byte(*first) else {
             return Err(Cause::General(General::InvalidByteOrder));
         };
-        if bytes.len() < 5 {
+        if bytes.len() < MEMBER_HEADER {
             return Err(Cause::EndOfInput);
         }
-        let number = u32_at(bytes, 1, order);
+        let number = u32_at(bytes, ORDER, order);
         let code = WkbGeometryCode::new(number);
         match code.meaning() {
             Some(wkb_type) => Ok(Header {
@@ -66,10 +84,12 @@ impl Header {
 }
 
 impl Layout {
-    ghost use Rattle.std.specs.Prelude.{◌≡◌, ◌+◌, ◌<◌, ◌≤◌, Ok, IsOk, IfOk, IfErr, length, drop};
-    ghost use Rattle.wkb_geom.specs.Numbers.{number};
+    ghost use Rattle.std.specs.Prelude.{◌≡◌, ◌+◌, ◌<◌, ◌≤◌, Ok, IsOk, IfOk, IfErr, length, drop, true, false, None};
+    ghost use Rattle.wkb_geom.specs.Numbers.{number, AreBytes};
     ghost use Rattle.wkb_geom.specs.declared.error.Cause.TheVariants.{EndOfInput as end_of_input};
     ghost use Rattle.wkb_geom.specs.Reading.{body_start, member_layout, parts_start, srid_in};
+    ghost use Rattle.wkb_geom.specs.Reading.{type_kind, type_dimension};
+    ghost use Rattle.wkb_geom.specs.Texts.{code_of, form_srid};
 
     /// The layout of the member of this kind and dimension at the front of the bytes, whose order and flag are its own.
     ///
@@ -78,14 +98,11 @@ impl Layout {
     pub fn of_member(kind: u32, dimension: Dimension, bytes: &[u8]) -> Result<Layout, Cause>
         ensures { member_layout kind dimension bytes.now ≡ result }
     {
-        let header = match Header::read(bytes) {
-            Ok(header) => header,
-            Err(cause) => return Err(cause),
-        };
+        let header = Header::read(bytes)?;
         let wkb_type = header.wkb_type;
         let is_member = wkb_type.kind() == kind
-            && wkb_type.dimension().is(dimension)
-            && !(kind == 1 && header.has_srid);
+            && wkb_type.dimension() == dimension
+            && !(kind == POINT && header.has_srid);
         if !is_member {
             return Err(Cause::IncorrectType);
         }
@@ -105,12 +122,36 @@ impl Layout {
         let Some(order) = Endianness::of_byte(bytes[0]) else {
             unreachable!()
         };
-        let code = WkbGeometryCode::new(u32_at(bytes, 1, order));
+        let code = WkbGeometryCode::new(u32_at(bytes, ORDER, order));
         Layout {
             order,
             dimension,
-            has_srid: kind != 1 && code.has_srid(),
+            has_srid: kind != POINT && code.has_srid(),
         }
+    }
+
+    /// Whether a geometry of this type, which is laid out so, begins with the header that is written of it in this
+    /// order and form. False of one that has an SRID or is to have one.
+    #[tactic(auto, unfolding(crate::specs::Texts::code_of))]
+    #[inline]
+    pub fn begins_as(self, wkb_type: WkbType, buf: &[u8], order: Endianness, form: Form) -> bool
+        requires { 5 ≤ length buf.now }
+        ensures order { result ≡ true → self.order ≡ order }
+        ensures plain { result ≡ true → self.has_srid ≡ false }
+        ensures form { result ≡ true → form_srid form ≡ None }
+        ensures code { result ≡ true → number order 4 (drop 1 buf.now)
+            ≡ code_of form (type_kind wkb_type) (type_dimension wkb_type) }
+        ensures bytes { AreBytes buf.now }
+    {
+        if self.order != order || self.has_srid {
+            return false;
+        }
+        let code = match form {
+            Form::Iso => u32::from(wkb_type),
+            Form::Ewkb { srid: None } => wkb_type.ewkb_code(false),
+            Form::Ewkb { srid: Some(_) } => return false,
+        };
+        u32_at(buf, ORDER, order) == code
     }
 
     /// How many bytes stand before the body: order, code, and the SRID where there is one.
@@ -118,7 +159,11 @@ impl Layout {
     pub fn body_start(self) -> usize
         ensures { result ≡ body_start self.has_srid }
     {
-        if self.has_srid { 9 } else { 5 }
+        if self.has_srid {
+            LONGEST_HEADER
+        } else {
+            MEMBER_HEADER
+        }
     }
 
     /// The SRID in the bytes of a geometry that is laid out so, where it has one.
@@ -128,7 +173,7 @@ impl Layout {
         ensures { result ≡ srid_in self.order self.has_srid buf.now }
     {
         if self.has_srid {
-            Some(u32_at(buf, 5, self.order))
+            Some(u32_at(buf, MEMBER_HEADER, self.order))
         } else {
             None
         }
@@ -142,7 +187,7 @@ impl Layout {
         ensures short { IfErr result (λ e. (e ≡ end_of_input) × (length bytes.now < body_start self.has_srid + 4)) }
     {
         let at = self.body_start();
-        if bytes.len() < at + 4 {
+        if bytes.len() < at + COUNT {
             return Err(Cause::EndOfInput);
         }
         Ok(u32_at(bytes, at, self.order))
@@ -154,6 +199,6 @@ impl Layout {
         requires { body_start self.has_srid + 4 ≤ length bytes.now }
         ensures { result.now ≡ parts_start self.has_srid bytes.now }
     {
-        &bytes[self.body_start()..][4..]
+        &bytes[self.body_start()..][COUNT..]
     }
 }

@@ -1,25 +1,37 @@
 -- Reading from left to right, behind a header: points, line strings, polygons, and lists of members.
-use Rattle.std.proofs.Common.{◌≡◌, ℕ, zero, suc, ◌+◌, ◌-◌, ◌*◌, ◌≤◌, List, [], ◌∷◌, ◌++◌, length, take, drop, map, Some, None, Ok, Err, Bool, true, false}
-use Rattle.std.proofs.Common.{nat_lt, if◌then◌else◌, refl, sym, ap, ◌∙◌, subst, append_assoc, append-nil, arith, length-append, length-drop, take-append-drop}
+use Rattle.std.proofs.Common.{◌≡◌, ℕ, zero, suc, ◌+◌, ◌-◌, ◌*◌, ◌≤◌, List, [], ◌∷◌, ◌++◌, length, take, drop, map, Some}
+use Rattle.std.proofs.Common.{None, Ok, Err, Bool, true, false}
+use Rattle.std.proofs.Common.{nat_lt, if◌then◌else◌, refl, sym, ap, ◌∙◌, subst, append_assoc, append-nil, arith}
+use Rattle.std.proofs.Common.{length-append, length-drop, take-append-drop}
 use Rattle.std.proofs.Common.{length-take-le, take_all, ltb-true, ltb-false, ◌<◌, ◌==◌, ◌&&◌, eqb-true, eq-eqb}
 use Rattle.std.proofs.lemmas.Bool.{cond_both, and_parts, and_from, false_from_ne_true, both_ways}
 use Rattle.std.proofs.lemmas.List.{length-map}
-use Rattle.wkb_laws.specs.Words.{Endianness, Dimension, Layout, end_of_input, general, ShortLinearRing, IsNumber, number, all_nan, width, IsEach, point}
-use Rattle.wkb_laws.specs.Words.{line_string, polygon, no_spellings, SpellsCoordinate, SpellsCoordinates, Part, IsPart, point_end, line_string_end, ring_end}
-use Rattle.wkb_laws.specs.Words.{slots_asked, IsAllowed, RefusesRings, no_ring_count, short_ring, later_ring, short_point, short_line_string, bad_ring, Cost}
-use Rattle.wkb_laws.specs.Words.{free, Reading, body_start, parts_start, coordinate, coordinates, ring_in, ring_part, and_then, at_no_cost, costs, done}
-use Rattle.wkb_laws.specs.Words.{line_string_at, line_string_body, one_turn, parts_body, point_at, point_item_of, polygon_at, polygon_item, repeated, ring_at}
-use Rattle.wkb_laws.specs.Words.{slots_of, taken, Cause, Value, multi_point, multi_line_string, multi_polygon, collection, Values, no_members, member, kind}
-use Rattle.wkb_laws.specs.Words.{dimension, members, each, count, nest, nest_each, member_count, member_count_each, listed_count, listed_count_each, Spellings}
-use Rattle.wkb_laws.specs.Words.{spelling, SpellsBody, part, member_part, SpellsEach, multi_point_end, room_inside, Opens, Counts, bad_member}
-use Rattle.wkb_laws.specs.Words.{short_multi_point, RefusesEach, this_member, later_member, Item, spellings, values, line_string_of, list_item, point_of}
+use Rattle.wkb_laws.specs.Words.{Endianness, Dimension, Layout, end_of_input, general, ShortLinearRing, IsNumber}
+use Rattle.wkb_laws.specs.Words.{number, all_nan, width, IsEach, point}
+use Rattle.wkb_laws.specs.Words.{line_string, polygon, no_spellings, SpellsCoordinate, SpellsCoordinates, Part, IsPart}
+use Rattle.wkb_laws.specs.Words.{point_end, line_string_end, ring_end}
+use Rattle.wkb_laws.specs.Words.{slots_asked, IsAllowed, RefusesRings, no_ring_count, short_ring, later_ring}
+use Rattle.wkb_laws.specs.Words.{short_point, short_line_string, bad_ring, Cost}
+use Rattle.wkb_laws.specs.Words.{free, Reading, body_start, parts_start, coordinate, coordinates, ring_in, ring_part}
+use Rattle.wkb_laws.specs.Words.{and_then, at_no_cost, costs, done}
+use Rattle.wkb_laws.specs.Words.{line_string_at, line_string_body, one_turn, parts_body, point_at, point_item_of}
+use Rattle.wkb_laws.specs.Words.{polygon_at, polygon_item, repeated, ring_at}
+use Rattle.wkb_laws.specs.Words.{slots_of, taken, Cause, Value, multi_point, multi_line_string, multi_polygon}
+use Rattle.wkb_laws.specs.Words.{collection, Values, no_members, member, kind}
+use Rattle.wkb_laws.specs.Words.{dimension, members, each, count, nest, nest_each, member_count, member_count_each}
+use Rattle.wkb_laws.specs.Words.{listed_count, listed_count_each, Spellings}
+use Rattle.wkb_laws.specs.Words.{spelling, SpellsBody, part, member_part, SpellsEach, multi_point_end, room_inside}
+use Rattle.wkb_laws.specs.Words.{Opens, Counts, bad_member}
+use Rattle.wkb_laws.specs.Words.{short_multi_point, RefusesEach, this_member, later_member, Item, spellings, values}
+use Rattle.wkb_laws.specs.Words.{line_string_of, list_item, point_of}
 use Rattle.wkb_laws.specs.Words.{polygon_of}
 use Rattle.wkb_laws.specs.Words.{spelled_in, with_count, length-items}
 use Rattle.wkb_geom.specs.Reading as reading
 use Rattle.wkb_laws.specs.Laws.{listed_inside}
 use Rattle.wkb_laws.proofs.Parts.{then_length, items_are, number-take, number_begins, take_front, drop_front}
 use Rattle.wkb_laws.proofs.Bounds.{each_long, coordinates_long, member_count-members}
-use Rattle.wkb_laws.proofs.Heads.{refused_as, ItemIs, IsRight, Opened, count_in, counts_here, count_says, number_in, item_is}
+use Rattle.wkb_laws.proofs.Heads.{refused_as, ItemIs, IsRight, Opened, count_in, counts_here, count_says, number_in}
+use Rattle.wkb_laws.proofs.Heads.{item_is}
 use Rattle.wkb_laws.proofs.Lists.{count-each, each_sum, each_same, by_list_kind, whole_by, list_behind}
 use Rattle.wkb_laws.proofs.Lengths.{value_size-least, spelled_length}
 

@@ -1,10 +1,16 @@
 -- Members and list entries are bounded by the bytes.
-use Rattle.std.proofs.Common.{◌≡◌, ℕ, ◌+◌, ◌*◌, ◌<◌, ◌≤◌, List, [], ◌∷◌, ◌++◌, length, Bool, refl, sym, ap, ◌∙◌, arith, length-append, lit≤, mul-le-mul_left}
-use Rattle.wkb_laws.specs.Words.{Endianness, Dimension, IsEach, Coordinate, Value, point, line_string, polygon, multi_point, multi_line_string, multi_polygon}
-use Rattle.wkb_laws.specs.Words.{collection, Values, no_members, member, kind, dimension, members, member_count, member_count_each, listed_count}
-use Rattle.wkb_laws.specs.Words.{listed_count_each, Spelling, node, Spellings, no_spellings, spelling, SpellsCoordinates, SpellsBody, Part, any, part}
-use Rattle.wkb_laws.specs.Words.{member_part, Spells, SpellsEach, FrontWithin, Cause, slots_asked, room_inside, IsAllowed, Counts, RefusesRings, no_ring_count}
-use Rattle.wkb_laws.specs.Words.{short_ring, later_ring, Refuses, bad_ring, bad_member, RefusesEach, this_member, later_member}
+use Rattle.std.proofs.Common.{◌≡◌, ℕ, ◌+◌, ◌*◌, ◌<◌, ◌≤◌, List, [], ◌∷◌, ◌++◌, length, Bool, refl, sym, ap, ◌∙◌, arith}
+use Rattle.std.proofs.Common.{length-append, lit≤, mul-le-mul_left}
+use Rattle.wkb_laws.specs.Words.{Endianness, Dimension, IsEach, Coordinate, Value, point, line_string, polygon}
+use Rattle.wkb_laws.specs.Words.{multi_point, multi_line_string, multi_polygon}
+use Rattle.wkb_laws.specs.Words.{collection, Values, no_members, member, kind, dimension, members, member_count}
+use Rattle.wkb_laws.specs.Words.{member_count_each, listed_count}
+use Rattle.wkb_laws.specs.Words.{listed_count_each, Spelling, node, Spellings, no_spellings, spelling}
+use Rattle.wkb_laws.specs.Words.{SpellsCoordinates, SpellsBody, Part, any, part}
+use Rattle.wkb_laws.specs.Words.{member_part, Spells, SpellsEach, FrontWithin, Cause, slots_asked, room_inside}
+use Rattle.wkb_laws.specs.Words.{IsAllowed, Counts, RefusesRings, no_ring_count}
+use Rattle.wkb_laws.specs.Words.{short_ring, later_ring, Refuses, bad_ring, bad_member, RefusesEach, this_member}
+use Rattle.wkb_laws.specs.Words.{later_member}
 use Rattle.wkb_laws.specs.Laws.{FrontIsBounded, RefusalIsBounded}
 use Rattle.wkb_laws.proofs.Parts.{then_length, length-opens, header_length}
 use Rattle.wkb_laws.proofs.Lists.{each_sum, each_same, by_list_kind, IsWanted}

@@ -1,30 +1,47 @@
 -- Every front and every refusal is what reading from left to right answers.
-use Rattle.std.proofs.Common.{◌≡◌, ℕ, zero, suc, ◌<◌, ◌≤◌, List, [], ◌∷◌, length, Some, None, Ok, Err, Result, Bool, nat_lt, refl, sym, ap, ◌∙◌, arith, lt-ltb}
-use Rattle.std.proofs.Common.{le-ltb, ◌≢◌, ◌+◌, ◌-◌, ◌*◌, ◌++◌, take, drop, map, Option, true, false, is_some, ◌==◌, if◌then◌else◌, subst, append_assoc}
+use Rattle.std.proofs.Common.{◌≡◌, ℕ, zero, suc, ◌<◌, ◌≤◌, List, [], ◌∷◌, length, Some, None, Ok, Err, Result, Bool}
+use Rattle.std.proofs.Common.{nat_lt, refl, sym, ap, ◌∙◌, arith, lt-ltb}
+use Rattle.std.proofs.Common.{le-ltb, ◌≢◌, ◌+◌, ◌-◌, ◌*◌, ◌++◌, take, drop, map, Option, true, false, is_some, ◌==◌}
+use Rattle.std.proofs.Common.{if◌then◌else◌, subst, append_assoc}
 use Rattle.std.proofs.Common.{append-nil, length-append, drop-drop, lit<, lit≤}
 use Rattle.std.proofs.lemmas.Bool.{cond-true, cond-false, false_from_ne_true}
-use Rattle.wkb_laws.specs.Words.{Endianness, BigEndian, LittleEndian, Dimension, Head, Layout, WkbType, Cause, end_of_input, general, incorrect_type}
-use Rattle.wkb_laws.specs.Words.{InvalidByteOrder, IsNumber, order_byte, Code, Begins, Part, any, part, IsPart, Opens, Reading, Item, type_kind, type_dimension}
-use Rattle.wkb_laws.specs.Words.{type_of, layout_of, laid, head_at, head_by_order, head_by_code, meaning, meaning_of, then_body, member_body, layout_wanted}
-use Rattle.wkb_laws.specs.Words.{body_at, collection_within, by_type, geometry_at, is_member, member_at, refused, ShortLinearRing, number, all_nan, width}
-use Rattle.wkb_laws.specs.Words.{IsEach, Coordinate, Value, point, line_string, polygon, multi_point, multi_line_string, multi_polygon, collection, Values}
-use Rattle.wkb_laws.specs.Words.{no_members, member, each, count, nest, nest_each, members, kind, dimension, member_count, member_count_each, listed_count}
-use Rattle.wkb_laws.specs.Words.{Header, Spelling, node, Spellings, no_spellings, spelling, IsSrid, SpellsCoordinate, SpellsCoordinates, Spells, SpellsEach}
-use Rattle.wkb_laws.specs.Words.{member_part, has_srid, FrontWithin, srid_size, point_end, line_string_end, multi_point_end, ring_end, slots_asked, room_inside}
-use Rattle.wkb_laws.specs.Words.{IsAllowed, Counts, Cost, free, body_start, parts_start, ◌⊕◌, with_count, ring_part, parts_body, coordinate, coordinates}
-use Rattle.wkb_laws.specs.Words.{ring_in, items, spellings, values, and_then, at_no_cost, collection_at, costs, done, line_string_of, line_string_at}
+use Rattle.wkb_laws.specs.Words.{Endianness, BigEndian, LittleEndian, Dimension, Head, Layout, WkbType, Cause}
+use Rattle.wkb_laws.specs.Words.{end_of_input, general, incorrect_type}
+use Rattle.wkb_laws.specs.Words.{InvalidByteOrder, IsNumber, order_byte, Code, Begins, Part, any, part, IsPart, Opens}
+use Rattle.wkb_laws.specs.Words.{Reading, Item, type_kind, type_dimension}
+use Rattle.wkb_laws.specs.Words.{type_of, layout_of, laid, head_at, head_by_order, head_by_code, meaning, meaning_of}
+use Rattle.wkb_laws.specs.Words.{then_body, member_body, layout_wanted}
+use Rattle.wkb_laws.specs.Words.{body_at, collection_within, by_type, geometry_at, is_member, member_at, refused}
+use Rattle.wkb_laws.specs.Words.{ShortLinearRing, number, all_nan, width}
+use Rattle.wkb_laws.specs.Words.{IsEach, Coordinate, Value, point, line_string, polygon, multi_point, multi_line_string}
+use Rattle.wkb_laws.specs.Words.{multi_polygon, collection, Values}
+use Rattle.wkb_laws.specs.Words.{no_members, member, each, count, nest, nest_each, members, kind, dimension}
+use Rattle.wkb_laws.specs.Words.{member_count, member_count_each, listed_count}
+use Rattle.wkb_laws.specs.Words.{Header, Spelling, node, Spellings, no_spellings, spelling, IsSrid, SpellsCoordinate}
+use Rattle.wkb_laws.specs.Words.{SpellsCoordinates, Spells, SpellsEach}
+use Rattle.wkb_laws.specs.Words.{member_part, has_srid, FrontWithin, srid_size, point_end, line_string_end}
+use Rattle.wkb_laws.specs.Words.{multi_point_end, ring_end, slots_asked, room_inside}
+use Rattle.wkb_laws.specs.Words.{IsAllowed, Counts, Cost, free, body_start, parts_start, ◌⊕◌, with_count, ring_part}
+use Rattle.wkb_laws.specs.Words.{parts_body, coordinate, coordinates}
+use Rattle.wkb_laws.specs.Words.{ring_in, items, spellings, values, and_then, at_no_cost, collection_at, costs, done}
+use Rattle.wkb_laws.specs.Words.{line_string_of, line_string_at}
 use Rattle.wkb_laws.specs.Words.{line_string_body}
-use Rattle.wkb_laws.specs.Words.{line_string_item, list_item, multi_line_string_at, multi_point_at, multi_polygon_at, one_turn, point_at, point_item}
-use Rattle.wkb_laws.specs.Words.{point_item_of, point_of, polygon_at, polygon_item, polygon_of, repeated, ring_at, slots_of, spelled_in, srid_in, taken}
-use Rattle.wkb_laws.specs.Words.{RefusesRings, no_ring_count, short_ring, later_ring, Refuses, no_order_byte, bad_order_byte, no_code, bad_code, wrong_part}
-use Rattle.wkb_laws.specs.Words.{too_deep, short_point, no_count, short_line_string, short_multi_point, bad_ring, bad_member, RefusesEach, this_member}
+use Rattle.wkb_laws.specs.Words.{line_string_item, list_item, multi_line_string_at, multi_point_at, multi_polygon_at}
+use Rattle.wkb_laws.specs.Words.{one_turn, point_at, point_item}
+use Rattle.wkb_laws.specs.Words.{point_item_of, point_of, polygon_at, polygon_item, polygon_of, repeated, ring_at}
+use Rattle.wkb_laws.specs.Words.{slots_of, spelled_in, srid_in, taken}
+use Rattle.wkb_laws.specs.Words.{RefusesRings, no_ring_count, short_ring, later_ring, Refuses, no_order_byte}
+use Rattle.wkb_laws.specs.Words.{bad_order_byte, no_code, bad_code, wrong_part}
+use Rattle.wkb_laws.specs.Words.{too_deep, short_point, no_count, short_line_string, short_multi_point, bad_ring}
+use Rattle.wkb_laws.specs.Words.{bad_member, RefusesEach, this_member}
 use Rattle.wkb_laws.specs.Words.{later_member}
 use Rattle.wkb_geom.specs.declared.code.WkbType.TheVariants as kinds
 use Rattle.wkb_geom.specs.Reading as reading
 use Rattle.wkb_geom.proofs.Codes.{one_meaning}
 use Rattle.wkb_geom.proofs.Meanings.{meaning_holds, type_kind-type_of}
 use Rattle.wkb_laws.specs.Laws.{listed_inside}
-use Rattle.wkb_laws.proofs.Parts.{then_length, then_append, begins_number, number-front, take_front, drop_front, items_read, length-opens, header_length}
+use Rattle.wkb_laws.proofs.Parts.{then_length, then_append, begins_number, number-front, take_front, drop_front}
+use Rattle.wkb_laws.proofs.Parts.{items_read, length-opens, header_length}
 use Rattle.wkb_laws.proofs.Parts.{srid_length}
 use Rattle.wkb_laws.proofs.Lists.{IsWanted, by_list_kind, whole_by, list_behind, count-each, each_same}
 use Rattle.wkb_laws.proofs.Sound.{passes, is_passed}

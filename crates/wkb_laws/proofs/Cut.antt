@@ -1,8 +1,12 @@
 -- A proper beginning of a geometry is refused as an input that ends too early.
-use Rattle.std.proofs.Common.{◌⊎◌, ℕ, ◌+◌, List, [], ◌++◌, length, sym, ap, ◌∙◌, subst, append_assoc, arith, inl, inr, length-append, Bool, append-nil}
-use Rattle.wkb_laws.specs.Words.{Endianness, Dimension, ShortPoint, ShortLineString, ShortLinearRing, ShortMultiPoint, Begins, Value, listed_count, Spelling}
-use Rattle.wkb_laws.specs.Words.{Part, any, Front, FrontWithin, max_nesting, Cause, end_of_input, general, slots_asked, Opens, Counts, RefusesRings, later_ring}
-use Rattle.wkb_laws.specs.Words.{Refuses, bad_order_byte, bad_code, wrong_part, too_deep, bad_ring, bad_member, RefusesEach, this_member, later_member}
+use Rattle.std.proofs.Common.{◌⊎◌, ℕ, ◌+◌, List, [], ◌++◌, length, sym, ap, ◌∙◌, subst, append_assoc, arith, inl, inr}
+use Rattle.std.proofs.Common.{length-append, Bool, append-nil}
+use Rattle.wkb_laws.specs.Words.{Endianness, Dimension, ShortPoint, ShortLineString, ShortLinearRing, ShortMultiPoint}
+use Rattle.wkb_laws.specs.Words.{Begins, Value, listed_count, Spelling}
+use Rattle.wkb_laws.specs.Words.{Part, any, Front, FrontWithin, max_nesting, Cause, end_of_input, general, slots_asked}
+use Rattle.wkb_laws.specs.Words.{Opens, Counts, RefusesRings, later_ring}
+use Rattle.wkb_laws.specs.Words.{Refuses, bad_order_byte, bad_code, wrong_part, too_deep, bad_ring, bad_member}
+use Rattle.wkb_laws.specs.Words.{RefusesEach, this_member, later_member}
 use Rattle.wkb_laws.specs.Laws.{HasFront, HasRefusal, IsCut, CutIsRefused}
 use Rattle.wkb_laws.proofs.OneFront.{one_front_lem}
 use Rattle.wkb_laws.proofs.Outcomes.{read_or_refused_lem, never_both_lem}

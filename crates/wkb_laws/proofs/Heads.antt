@@ -1,13 +1,19 @@
 -- Reading from left to right, up to the body: what a reading says of its input, and its opening and its count.
-use Rattle.std.proofs.Common.{◌≡◌, ◌≢◌, ℕ, zero, suc, ◌+◌, ◌≤◌, List, [], ◌∷◌, ◌++◌, length, take, drop, Some, Ok, Err, Result, Bool, true, false, is_some}
-use Rattle.std.proofs.Common.{nat_lt, refl, sym, ap, ◌∙◌, subst, append_assoc, arith, length-drop, take-append-drop, length-take-le, drop-drop, ltb-true}
+use Rattle.std.proofs.Common.{◌≡◌, ◌≢◌, ℕ, zero, suc, ◌+◌, ◌≤◌, List, [], ◌∷◌, ◌++◌, length, take, drop, Some, Ok, Err}
+use Rattle.std.proofs.Common.{Result, Bool, true, false, is_some}
+use Rattle.std.proofs.Common.{nat_lt, refl, sym, ap, ◌∙◌, subst, append_assoc, arith, length-drop, take-append-drop}
+use Rattle.std.proofs.Common.{length-take-le, drop-drop, ltb-true}
 use Rattle.std.proofs.Common.{ltb-false}
 use Rattle.std.proofs.lemmas.Bool.{cond_both}
 use Rattle.std.proofs.lemmas.List.{drop-append-le}
-use Rattle.wkb_laws.specs.Words.{Endianness, BigEndian, LittleEndian, Dimension, Head, Layout, Cause, number, order_byte, Code, Begins, Value, kind, dimension}
-use Rattle.wkb_laws.specs.Words.{members, nest, member_count, listed_count, Header, IsHeader, IsSrid, Spellings, SpellsBody, Spells, SpellsEach, Part}
-use Rattle.wkb_laws.specs.Words.{member_part, IsPart, has_srid, srid_size, Opens, IsAllowed, Counts, Refuses, no_order_byte, bad_order_byte, no_code, bad_code}
-use Rattle.wkb_laws.specs.Words.{no_count, Cost, Reading, Item, type_kind, layout_of, body_start, parts_start, head_at, head_by_order, head_by_code, with_count}
+use Rattle.wkb_laws.specs.Words.{Endianness, BigEndian, LittleEndian, Dimension, Head, Layout, Cause, number}
+use Rattle.wkb_laws.specs.Words.{order_byte, Code, Begins, Value, kind, dimension}
+use Rattle.wkb_laws.specs.Words.{members, nest, member_count, listed_count, Header, IsHeader, IsSrid, Spellings}
+use Rattle.wkb_laws.specs.Words.{SpellsBody, Spells, SpellsEach, Part}
+use Rattle.wkb_laws.specs.Words.{member_part, IsPart, has_srid, srid_size, Opens, IsAllowed, Counts, Refuses}
+use Rattle.wkb_laws.specs.Words.{no_order_byte, bad_order_byte, no_code, bad_code}
+use Rattle.wkb_laws.specs.Words.{no_count, Cost, Reading, Item, type_kind, layout_of, body_start, parts_start, head_at}
+use Rattle.wkb_laws.specs.Words.{head_by_order, head_by_code, with_count}
 use Rattle.wkb_laws.specs.Words.{srid_in, spelled_in}
 use Rattle.wkb_geom.proofs.Meanings.{meaning_holds}
 use Rattle.wkb_laws.proofs.Parts.{number-more, number_begins, begins_number, number-take, length-opens}

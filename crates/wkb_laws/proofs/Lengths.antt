@@ -1,20 +1,27 @@
 -- How long a text is.
-use Rattle.std.proofs.Common.{◌≡◌, ℕ, ◌+◌, ◌*◌, ◌<◌, ◌≤◌, ◌^◌, List, [], ◌∷◌, length, Some, None, Bool, true, false, refl, sym, ap, ◌∙◌, arith, length-append}
+use Rattle.std.proofs.Common.{◌≡◌, ℕ, ◌+◌, ◌*◌, ◌<◌, ◌≤◌, ◌^◌, List, [], ◌∷◌, length, Some, None, Bool, true, false}
+use Rattle.std.proofs.Common.{refl, sym, ap, ◌∙◌, arith, length-append}
 use Rattle.std.proofs.Common.{sum_by, is_some, if◌then◌else◌, nat_lt, lt-ltb}
 use Rattle.std.proofs.lemmas.List.Sums.{sum_by-cons}
 use Rattle.std.proofs.lemmas.Bool.{cond-true}
-use Rattle.wkb_laws.specs.Words.{Endianness, Dimension, Xy, Form, Iso, Ewkb, AreBytes, IsNumber, width, IsEach, Coordinate, Value, point, line_string, polygon}
-use Rattle.wkb_laws.specs.Words.{multi_point, multi_line_string, multi_polygon, collection, Values, no_members, member, kind, dimension, members, header}
-use Rattle.wkb_laws.specs.Words.{Spelling, node, Spellings, no_spellings, spelling, SpellsCoordinate, SpellsCoordinates, SpellsBody, Part, member_part, Spells}
-use Rattle.wkb_laws.specs.Words.{SpellsEach, srid_count, srid_count_each, Front, srid_size, Geometry, IsGeometry, normal, geometry_of, or_else, size_fault}
+use Rattle.wkb_laws.specs.Words.{Endianness, Dimension, Xy, Form, Iso, Ewkb, AreBytes, IsNumber, width, IsEach}
+use Rattle.wkb_laws.specs.Words.{Coordinate, Value, point, line_string, polygon}
+use Rattle.wkb_laws.specs.Words.{multi_point, multi_line_string, multi_polygon, collection, Values, no_members, member}
+use Rattle.wkb_laws.specs.Words.{kind, dimension, members, header}
+use Rattle.wkb_laws.specs.Words.{Spelling, node, Spellings, no_spellings, spelling, SpellsCoordinate, SpellsCoordinates}
+use Rattle.wkb_laws.specs.Words.{SpellsBody, Part, member_part, Spells}
+use Rattle.wkb_laws.specs.Words.{SpellsEach, srid_count, srid_count_each, Front, srid_size, Geometry, IsGeometry}
+use Rattle.wkb_laws.specs.Words.{normal, geometry_of, or_else, size_fault}
 use Rattle.wkb_laws.specs.Words.{form_srid, inner, text, fault, refusal, IsForm, IsWritable}
 use Rattle.wkb_laws.specs.Written.{written, HasOptions, AllHaveOptions}
 use Rattle.wkb_laws.specs.Encodings.{IsRewritable, SpelledIsWritable}
-use Rattle.wkb_laws.specs.Laws.{LengthOfText, LengthOfFront, FrontIsWritable, EwkbIsWritable, SizeIsRefused, OwnSridIsWritable}
+use Rattle.wkb_laws.specs.Laws.{LengthOfText, LengthOfFront, FrontIsWritable, EwkbIsWritable, SizeIsRefused}
+use Rattle.wkb_laws.specs.Laws.{OwnSridIsWritable}
 use Rattle.wkb_laws.proofs.Parts.{then_length, each_len, header_length}
 use Rattle.wkb_laws.proofs.Lists.{each_sum, each_same}
 use Rattle.wkb_laws.proofs.TextSpells.{inner_fits, text_spells, written_has_options}
-use Rattle.wkb_laws.proofs.Values.{Good, spelled_good, front_good, front_bytes, outer_fits, normal-geometry_of, lawful-geometry_of}
+use Rattle.wkb_laws.proofs.Values.{Good, spelled_good, front_good, front_bytes, outer_fits, normal-geometry_of}
+use Rattle.wkb_laws.proofs.Values.{lawful-geometry_of}
 
 -- the bytes of a ring behind its four bytes of count
 abbrev coordinates_size : Dimension → List Coordinate → ℕ

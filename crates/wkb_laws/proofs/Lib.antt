@@ -18,3 +18,4 @@ pub mod Rows
 pub mod Spelled
 pub mod OneText
 pub mod PartsInPlace
+pub mod TextBytes

@@ -1,10 +1,13 @@
 -- Lists of values, what holds of all items, and the kinds that are lists of members.
-use Rattle.std.proofs.Common.{ℕ, sum_by, ◌+◌, ◌*◌, sym, ap, ◌∙◌, ◌≡◌, List, [], ◌∷◌, length, refl, arith, zero, suc, ◌<◌, ◌≤◌, ◌==◌, ◌&&◌, nat_lt}
+use Rattle.std.proofs.Common.{ℕ, sum_by, ◌+◌, ◌*◌, sym, ap, ◌∙◌, ◌≡◌, List, [], ◌∷◌, length, refl, arith, zero, suc}
+use Rattle.std.proofs.Common.{◌<◌, ◌≤◌, ◌==◌, ◌&&◌, nat_lt}
 use Rattle.std.proofs.Common.{if◌then◌else◌}
 use Rattle.std.proofs.lemmas.List.Sums.{sum_by-cons}
 use Rattle.std.specs.List.{AllByRecursion}
-use Rattle.wkb_laws.specs.Words.{Values, no_members, member, Value, each, count, Dimension, Layout, general, ShortMultiPoint, Part, any, part, multi_point_end}
-use Rattle.wkb_laws.specs.Words.{Reading, Item, collection_with, list_item, multi_line_string_with, multi_point_with, multi_polygon_with, parts_body, refused}
+use Rattle.wkb_laws.specs.Words.{Values, no_members, member, Value, each, count, Dimension, Layout, general}
+use Rattle.wkb_laws.specs.Words.{ShortMultiPoint, Part, any, part, multi_point_end}
+use Rattle.wkb_laws.specs.Words.{Reading, Item, collection_with, list_item, multi_line_string_with, multi_point_with}
+use Rattle.wkb_laws.specs.Words.{multi_polygon_with, parts_body, refused}
 
 -- what follows for one follows for all
 pub all_imply : {A : Type 0} (P Q : A → Type 0) → ((a : A) → P a → Q a) → (l : List A) → AllByRecursion P l → AllByRecursion Q l

@@ -1,11 +1,15 @@
 -- A spelling and a value leave no byte open.
-use Rattle.std.proofs.Common.{◌≡◌, ℕ, zero, suc, ◌+◌, ◌*◌, ◌^◌, ◌<◌, List, [], ◌∷◌, ◌++◌, length, Option, Some, None, refl, sym, ap, subst, ◌∙◌, arith, ◌/◌}
+use Rattle.std.proofs.Common.{◌≡◌, ℕ, zero, suc, ◌+◌, ◌*◌, ◌^◌, ◌<◌, List, [], ◌∷◌, ◌++◌, length, Option, Some, None}
+use Rattle.std.proofs.Common.{refl, sym, ap, subst, ◌∙◌, arith, ◌/◌}
 use Rattle.std.proofs.lemmas.Nat.{div-mul-add}
 use Rattle.byteorder.specs.Endian.{big_from, little_from}
 use Rattle.byteorder.specs.Numbers.{big_from-cons, little_from-cons, big_from-lt}
-use Rattle.wkb_laws.specs.Words.{Endianness, BigEndian, LittleEndian, Dimension, AreBytes, IsNumber, number, order_byte, Then, IsEach, IsCounted, Coordinate}
-use Rattle.wkb_laws.specs.Words.{Value, Values, point, line_string, polygon, no_members, member, kind, dimension, members, Header, Spelling, node, Spellings}
-use Rattle.wkb_laws.specs.Words.{no_spellings, spelling, IsHeader, IsSrid, SpellsCoordinate, SpellsCoordinates, SpellsBody, Part, member_part, Spells}
+use Rattle.wkb_laws.specs.Words.{Endianness, BigEndian, LittleEndian, Dimension, AreBytes, IsNumber, number, order_byte}
+use Rattle.wkb_laws.specs.Words.{Then, IsEach, IsCounted, Coordinate}
+use Rattle.wkb_laws.specs.Words.{Value, Values, point, line_string, polygon, no_members, member, kind, dimension}
+use Rattle.wkb_laws.specs.Words.{members, Header, Spelling, node, Spellings}
+use Rattle.wkb_laws.specs.Words.{no_spellings, spelling, IsHeader, IsSrid, SpellsCoordinate, SpellsCoordinates}
+use Rattle.wkb_laws.specs.Words.{SpellsBody, Part, member_part, Spells}
 use Rattle.wkb_laws.specs.Words.{SpellsEach}
 use Rattle.wkb_laws.specs.Places.{HasOneText, HaveOneText, CoordinateHasOneText}
 use Rattle.wkb_laws.proofs.Values.{AreBytes-front, AreBytes-rest}
@@ -38,7 +42,7 @@ little_fixed (suc n) (a ∷ x) (b ∷ y) l m e h k =
     rw (digit, tail) refl
 little_fixed _ _ _ l m e h k = absurd (omega arith)
 
-number_fixed : (order : Endianness) (n v : ℕ) → Fixed (IsNumber order n v)
+pub number_fixed : (order : Endianness) (n v : ℕ) → Fixed (IsNumber order n v)
 unfolding number
 number_fixed BigEndian n v = record { same = λ x y a b h k. big_fixed n x y a.len b.len (a.value ∙ sym b.value) h k }
 number_fixed LittleEndian n v = record { same = λ x y a b h k. little_fixed n x y a.len b.len (a.value ∙ sym b.value) h k }

@@ -1,9 +1,13 @@
 -- Every input has a front or exactly one refusal, and never both.
-use Rattle.std.proofs.Common.{◌≡◌, ◌⊎◌, ℕ, suc, ◌+◌, ◌≤◌, List, ◌++◌, refl, sym, ap, ◌∙◌, subst, arith, inl, inr, Ok, Err}
-use Rattle.wkb_laws.specs.Words.{Values, no_members, member, count, nest_each, member_count_each, Spellings, no_spellings, spelling, Part, any, SpellsEach}
-use Rattle.wkb_laws.specs.Words.{Cause, room_inside, Refuses, bad_member, RefusesEach, this_member, later_member, Reading, Item}
+use Rattle.std.proofs.Common.{◌≡◌, ◌⊎◌, ℕ, suc, ◌+◌, ◌≤◌, List, ◌++◌, refl, sym, ap, ◌∙◌, subst, arith, inl, inr, Ok}
+use Rattle.std.proofs.Common.{Err}
+use Rattle.wkb_laws.specs.Words.{Values, no_members, member, count, nest_each, member_count_each, Spellings}
+use Rattle.wkb_laws.specs.Words.{no_spellings, spelling, Part, any, SpellsEach}
+use Rattle.wkb_laws.specs.Words.{Cause, room_inside, Refuses, bad_member, RefusesEach, this_member, later_member}
+use Rattle.wkb_laws.specs.Words.{Reading, Item}
 use Rattle.wkb_geom.specs.Reading as reading
-use Rattle.wkb_laws.specs.Laws.{Agrees, HasFront, HasRefusal, ReadOrRefused, NeverBoth, OneRefusal, listed_inside, RefusedOutward}
+use Rattle.wkb_laws.specs.Laws.{Agrees, HasFront, HasRefusal, ReadOrRefused, NeverBoth, OneRefusal, listed_inside}
+use Rattle.wkb_laws.specs.Laws.{RefusedOutward}
 use Rattle.wkb_laws.proofs.Parts.{then_append}
 use Rattle.wkb_laws.proofs.Bodies.{refused_each}
 use Rattle.wkb_laws.proofs.GeometryAt.{geometry_agrees_lem, front_is_read_lem, refusal_is_read_lem}

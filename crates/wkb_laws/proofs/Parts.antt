@@ -1,9 +1,12 @@
 -- The front of a list, what is read there, and what stands in front of a body.
-use Rattle.std.proofs.Common.{slice_get, Some, drop-drop, ◌≡◌, ℕ, zero, suc, ◌+◌, ◌*◌, ◌≤◌, List, [], ◌∷◌, ◌++◌, append_assoc, length, take, drop, refl, sym}
-use Rattle.std.proofs.Common.{ap, ◌∙◌, subst, arith, length-drop, length-append, take-append-drop, length-take-le, take-add, Option, None, Bool, is_some}
+use Rattle.std.proofs.Common.{slice_get, Some, drop-drop, ◌≡◌, ℕ, zero, suc, ◌+◌, ◌*◌, ◌≤◌, List, [], ◌∷◌, ◌++◌}
+use Rattle.std.proofs.Common.{append_assoc, length, take, drop, refl, sym}
+use Rattle.std.proofs.Common.{ap, ◌∙◌, subst, arith, length-drop, length-append, take-append-drop, length-take-le}
+use Rattle.std.proofs.Common.{take-add, Option, None, Bool, is_some}
 use Rattle.std.proofs.Math.Seq.{take-append_seam, drop-append_seam}
 use Rattle.byteorder.specs.Numbers.{big_from-append, little_from-append}
-use Rattle.wkb_laws.specs.Words.{Then, Endianness, BigEndian, LittleEndian, IsNumber, number, IsEach, Begins, Dimension, Header, IsHeader, IsSrid, srid_size}
+use Rattle.wkb_laws.specs.Words.{Then, Endianness, BigEndian, LittleEndian, IsNumber, number, IsEach, Begins, Dimension}
+use Rattle.wkb_laws.specs.Words.{Header, IsHeader, IsSrid, srid_size}
 use Rattle.wkb_laws.specs.Words.{Opens}
 use Rattle.wkb_geom.specs.Items.{number-take as number_taken}
 pub use Rattle.wkb_geom.specs.Reading.{items}

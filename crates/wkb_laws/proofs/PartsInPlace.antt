@@ -1,10 +1,15 @@
 -- The parts of a geometry in its bytes, where they stand.
-use Rattle.std.proofs.Common.{◌≡◌, ℕ, zero, suc, ◌+◌, ◌*◌, List, [], ◌∷◌, ◌++◌, length, take, drop, Some, refl, sym, ap, subst, ◌∙◌, append_assoc}
+use Rattle.std.proofs.Common.{◌≡◌, ℕ, zero, suc, ◌+◌, ◌*◌, List, [], ◌∷◌, ◌++◌, length, take, drop, Some, refl, sym, ap}
+use Rattle.std.proofs.Common.{subst, ◌∙◌, append_assoc}
 use Rattle.std.proofs.Common.{length-append, arith, slice_get, is_some, drop-drop}
-use Rattle.wkb_laws.specs.Words.{Then, Endianness, Dimension, number, width, IsEach, Coordinate, Value, Values, point, line_string, polygon, no_members, member}
-use Rattle.wkb_laws.specs.Words.{kind, dimension, members, count, Header, Spelling, node, Spellings, no_spellings, spelling, header, IsHeader}
-use Rattle.wkb_laws.specs.Words.{SpellsCoordinates, SpellsBody, Part, any, member_part, Spells, SpellsEach, srid_size, ring_end, coordinate, AreBytes}
-use Rattle.wkb_laws.specs.Places.{behind_count, IsOneOf, IsMember, first_spellings, first_values, ring_start, StandsAt, HoldsMember, MembersStand, HoldsRing}
+use Rattle.wkb_laws.specs.Words.{Then, Endianness, Dimension, number, width, IsEach, Coordinate, Value, Values, point}
+use Rattle.wkb_laws.specs.Words.{line_string, polygon, no_members, member}
+use Rattle.wkb_laws.specs.Words.{kind, dimension, members, count, Header, Spelling, node, Spellings, no_spellings}
+use Rattle.wkb_laws.specs.Words.{spelling, header, IsHeader}
+use Rattle.wkb_laws.specs.Words.{SpellsCoordinates, SpellsBody, Part, any, member_part, Spells, SpellsEach, srid_size}
+use Rattle.wkb_laws.specs.Words.{ring_end, coordinate, AreBytes}
+use Rattle.wkb_laws.specs.Places.{behind_count, IsOneOf, IsMember, first_spellings, first_values, ring_start, StandsAt}
+use Rattle.wkb_laws.specs.Places.{HoldsMember, MembersStand, HoldsRing}
 use Rattle.wkb_laws.specs.Places.{RingsStand, MembersInPlace, RingsInPlace, WordsStand, LineStringWordsStand}
 use Rattle.wkb_laws.proofs.Parts.{then_append, take_front, drop_front, item_at, header_length}
 use Rattle.wkb_laws.proofs.Values.{AreBytes-front, AreBytes-rest}

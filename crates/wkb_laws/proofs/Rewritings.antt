@@ -1,13 +1,16 @@
 -- Values and outermost SRIDs are equal exactly where their texts are.
 use Rattle.std.proofs.Common.{◌≡◌, ℕ, List, [], ◌++◌, refl, sym, ap, ◌∙◌, subst, append-nil}
-use Rattle.wkb_laws.specs.Words.{Endianness, Form, Ewkb, AreBytes, Value, Spelling, node, header, Spells, Front, geometry_of, form_srid, text, IsForm}
+use Rattle.wkb_laws.specs.Words.{Endianness, Form, Ewkb, AreBytes, Value, Spelling, node, header, Spells, Front}
+use Rattle.wkb_laws.specs.Words.{geometry_of, form_srid, text, IsForm}
 use Rattle.wkb_laws.specs.Written.{written, HasOptions}
 use Rattle.wkb_laws.specs.Encodings.{EqualSpelled, EqualSpelledWithSrid}
-use Rattle.wkb_laws.specs.Laws.{TextSpells, WrittenIsRead, EqualTexts, EqualTextsWithSrid, EqualTextsWithOwnSrid, RestIsFree, BytesAreRead, RewritingIsRead}
+use Rattle.wkb_laws.specs.Laws.{TextSpells, WrittenIsRead, EqualTexts, EqualTextsWithSrid, EqualTextsWithOwnSrid}
+use Rattle.wkb_laws.specs.Laws.{RestIsFree, BytesAreRead, RewritingIsRead}
 use Rattle.wkb_laws.specs.Laws.{RewritingIsFixed, RewritingWithSridIsFixed}
 use Rattle.wkb_laws.proofs.OneFront.{one_spelling, one_front_lem}
 use Rattle.wkb_laws.proofs.TextSpells.{text_spells, written_has_options}
-use Rattle.wkb_laws.proofs.Values.{Good, spelled_good, front_good, front_bytes, front_srid, normal-geometry_of, lawful-geometry_of}
+use Rattle.wkb_laws.proofs.Values.{Good, spelled_good, front_good, front_bytes, front_srid, normal-geometry_of}
+use Rattle.wkb_laws.proofs.Values.{lawful-geometry_of}
 
 outer_srid : (order : Endianness) (form : Form) (s : Spelling) → HasOptions order form s → (header s).srid ≡ form_srid form
 outer_srid order form (node h words ss) k = k.1

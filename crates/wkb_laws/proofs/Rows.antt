@@ -1,15 +1,23 @@
 -- The definitions at worked inputs: what reading computes there, which is what the relations say, and what is written
 -- for it.
-use Rattle.std.proofs.Common.{◌≡◌, ℕ, zero, suc, ◌+◌, ◌*◌, List, [], ◌∷◌, ◌++◌, length, take, map, replicate, Option, Some, None, Bool, true, false, refl, sym}
+use Rattle.std.proofs.Common.{◌≡◌, ℕ, zero, suc, ◌+◌, ◌*◌, List, [], ◌∷◌, ◌++◌, length, take, map, replicate, Option}
+use Rattle.std.proofs.Common.{Some, None, Bool, true, false, refl, sym}
 use Rattle.std.proofs.Common.{ap, subst, Ok, Err, ◌&&◌}
 use Rattle.std.specs.List.{AllByRecursion}
-use Rattle.wkb_laws.specs.Words.{Coordinate, Dimension, Xy, Xyz, Xyzm, Endianness, BigEndian, LittleEndian, Form, Iso, Ewkb, CodeOutOfRange, InvalidByteOrder}
-use Rattle.wkb_laws.specs.Words.{ShortPoint, ShortLineString, ShortLinearRing, ShortMultiPoint, number, number_bytes, Value, kind, dimension, member_count}
-use Rattle.wkb_laws.specs.Words.{listed_count, point, line_string, polygon, multi_point, multi_line_string, multi_polygon, collection, member, no_members, any}
-use Rattle.wkb_laws.specs.Words.{header, Spelling, node, Spellings, no_spellings, spelling, max_nesting, Front, Cause, end_of_input, general, incorrect_type}
-use Rattle.wkb_laws.specs.Words.{nesting_depth_exceeded, Refuses, geometry_of, text, code_of, srid_text, header_text, words_text, coordinates_text, point_words}
-use Rattle.wkb_laws.specs.Words.{point_text, line_string_text, polygon_text, members_text, Reading, Item, geometry_at, by_type, head_at, meaning_of, point_at}
-use Rattle.wkb_laws.specs.Words.{line_string_at, ring_at, polygon_at, multi_point_at, multi_line_string_at, multi_polygon_at, collection_at, repeated}
+use Rattle.wkb_laws.specs.Words.{Coordinate, Dimension, Xy, Xyz, Xyzm, Endianness, BigEndian, LittleEndian, Form, Iso}
+use Rattle.wkb_laws.specs.Words.{Ewkb, CodeOutOfRange, InvalidByteOrder}
+use Rattle.wkb_laws.specs.Words.{ShortPoint, ShortLineString, ShortLinearRing, ShortMultiPoint, number, number_bytes}
+use Rattle.wkb_laws.specs.Words.{Value, kind, dimension, member_count}
+use Rattle.wkb_laws.specs.Words.{listed_count, point, line_string, polygon, multi_point, multi_line_string}
+use Rattle.wkb_laws.specs.Words.{multi_polygon, collection, member, no_members, any}
+use Rattle.wkb_laws.specs.Words.{header, Spelling, node, Spellings, no_spellings, spelling, max_nesting, Front, Cause}
+use Rattle.wkb_laws.specs.Words.{end_of_input, general, incorrect_type}
+use Rattle.wkb_laws.specs.Words.{nesting_depth_exceeded, Refuses, geometry_of, text, code_of, srid_text, header_text}
+use Rattle.wkb_laws.specs.Words.{words_text, coordinates_text, point_words}
+use Rattle.wkb_laws.specs.Words.{point_text, line_string_text, polygon_text, members_text, Reading, Item, geometry_at}
+use Rattle.wkb_laws.specs.Words.{by_type, head_at, meaning_of, point_at}
+use Rattle.wkb_laws.specs.Words.{line_string_at, ring_at, polygon_at, multi_point_at, multi_line_string_at}
+use Rattle.wkb_laws.specs.Words.{multi_polygon_at, collection_at, repeated}
 use Rattle.wkb_geom.proofs.Hex.{hex, copies}
 use Rattle.wkb_laws.specs.Laws.{Agrees}
 use Rattle.wkb_laws.proofs.GeometryAt.{geometry_agrees_lem}

@@ -1,12 +1,15 @@
 -- What is known to be spelled is so in full, and by how many bytes.
-use Rattle.std.proofs.Common.{◌≡◌, ℕ, zero, suc, ◌+◌, ◌*◌, List, [], length, Ok, Err, refl, sym, ap, subst, ◌∙◌, append-nil, arith, sum_by}
+use Rattle.std.proofs.Common.{◌≡◌, ℕ, zero, suc, ◌+◌, ◌*◌, List, [], length, Ok, Err, refl, sym, ap, subst, ◌∙◌}
+use Rattle.std.proofs.Common.{append-nil, arith, sum_by}
 use Rattle.std.proofs.Math.Logic.{∥∥₁_elim}
 use Rattle.std.proofs.Props.{props}
 use Rattle.std.specs.Coded.{Coded-set}
 use Rattle.wkb_geom.specs.Stored.{item_code}
 use Rattle.wkb_geom.specs.Reading as reading
-use Rattle.wkb_laws.specs.Words.{Dimension, Xy, width, size, dimensions, Value, Values, point, line_string, polygon, multi_point, multi_line_string, multi_polygon}
-use Rattle.wkb_laws.specs.Words.{collection, no_members, member, nest, Spelling, Spellings, no_spellings, spelling, Spells, SpellsEach, any, srid_count}
+use Rattle.wkb_laws.specs.Words.{Dimension, Xy, width, size, dimensions, Value, Values, point, line_string, polygon}
+use Rattle.wkb_laws.specs.Words.{multi_point, multi_line_string, multi_polygon}
+use Rattle.wkb_laws.specs.Words.{collection, no_members, member, nest, Spelling, Spellings, no_spellings, spelling}
+use Rattle.wkb_laws.specs.Words.{Spells, SpellsEach, any, srid_count}
 use Rattle.wkb_laws.specs.Words.{geometry_of, geometries_of, byte_size, byte_sizes, Reading, Item, geometry_at}
 use Rattle.wkb_laws.specs.Encodings.{SpelledInFull, SizeOfSpelled}
 use Rattle.wkb_laws.specs.Places.{first_spellings, first_values, first_size}

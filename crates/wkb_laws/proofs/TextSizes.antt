@@ -1,9 +1,12 @@
 -- A text is as long as the size of its geometry says.
-use Rattle.std.proofs.Common.{◌≡◌, ◌+◌, ◌*◌, [], ◌∷◌, length, map, None, refl, ap, ◌∙◌, arith, sum_by, is_some, if◌then◌else◌}
+use Rattle.std.proofs.Common.{◌≡◌, ◌+◌, ◌*◌, [], ◌∷◌, length, map, None, refl, ap, ◌∙◌, arith, sum_by, is_some}
+use Rattle.std.proofs.Common.{if◌then◌else◌}
 use Rattle.std.proofs.lemmas.List.{length-map}
-use Rattle.wkb_laws.specs.Words.{size, Geometry, Geometries, line, rectangle, triangle, no_geometries, geometry, normal, normal_each, normal_point}
+use Rattle.wkb_laws.specs.Words.{size, Geometry, Geometries, line, rectangle, triangle, no_geometries, geometry, normal}
+use Rattle.wkb_laws.specs.Words.{normal_each, normal_point}
 use Rattle.wkb_laws.specs.Words.{triangle_ring, byte_size, byte_sizes, form_srid, fault, fault_each}
-use Rattle.wkb_geom.specs.Geometries.{point, line_string, polygon, multi_point, multi_line_string, multi_polygon, collection}
+use Rattle.wkb_geom.specs.Geometries.{point, line_string, polygon, multi_point, multi_line_string, multi_polygon}
+use Rattle.wkb_geom.specs.Geometries.{collection}
 use Rattle.wkb_laws.specs.Laws.{TextHasSize}
 use Rattle.wkb_laws.proofs.Values.{or_else_parts, width-written_dimension}
 use Rattle.wkb_laws.proofs.Lengths.{value_size, each_size, text_length}

@@ -1,25 +1,37 @@
 -- The text that is written spells the normal value.
-use Rattle.std.proofs.Common.{◌≡◌, ℕ, ◌<◌, ◌≤◌, ◌^◌, [], Bool, true, false, refl, sym, ap, ◌∙◌, arith, is_some, append-nil, zero, suc, ◌+◌, List, ◌∷◌, ◌++◌}
-use Rattle.std.proofs.Common.{length, map, replicate, Option, Some, None, subst, lit<, lit≤, slice_index, nat_lt, if◌then◌else◌, flat_map, ltb-true}
+use Rattle.std.proofs.Common.{◌≡◌, ℕ, ◌<◌, ◌≤◌, ◌^◌, [], Bool, true, false, refl, sym, ap, ◌∙◌, arith, is_some}
+use Rattle.std.proofs.Common.{append-nil, zero, suc, ◌+◌, List, ◌∷◌, ◌++◌}
+use Rattle.std.proofs.Common.{length, map, replicate, Option, Some, None, subst, lit<, lit≤, slice_index, nat_lt}
+use Rattle.std.proofs.Common.{if◌then◌else◌, flat_map, ltb-true}
 use Rattle.std.proofs.lemmas.List.{length-map}
 use Rattle.std.proofs.lemmas.Bool.{cond_both}
 use Rattle.std.specs.List.{AllByRecursion}
 use Rattle.std.proofs.Math.Bool.{or-false}
-use Rattle.byteorder.specs.Numbers.{big_number-reads_back, little_number-reads_back, length-bytes_high_first, length-bytes_low_first}
+use Rattle.byteorder.specs.Numbers.{big_number-reads_back, little_number-reads_back, length-bytes_high_first}
+use Rattle.byteorder.specs.Numbers.{length-bytes_low_first}
 use Rattle.byteorder.specs.Endian.{big_number, little_number}
-use Rattle.wkb_laws.specs.Words.{Endianness, BigEndian, LittleEndian, Dimension, Xy, Form, Iso, Ewkb, number, IsNumber, number_bytes, has_z, has_m, Code}
-use Rattle.wkb_laws.specs.Words.{form_srid, code_of, Xyzm, Dimensions, IsWord, all_nan, empty_word, width, written_dimension, IsEach, IsCounted, Coordinate}
-use Rattle.wkb_laws.specs.Words.{Value, each, kind, dimension, members, count, Spelling, node, Spellings, no_spellings, IsHeader, IsSrid, SpellsCoordinate}
-use Rattle.wkb_laws.specs.Words.{SpellsCoordinates, SpellsBody, Part, any, part, member_part, IsPart, has_srid, Spells, SpellsEach, Geometry, line, rectangle}
-use Rattle.wkb_laws.specs.Words.{triangle, Geometries, no_geometries, geometry, IsGeometry, AreGeometries, rectangle_ring, triangle_ring, normal_point, normal}
-use Rattle.wkb_laws.specs.Words.{normal_each, point_words, inner, srid_text, header_text, words_text, coordinates_text, point_text, line_string_text}
-use Rattle.wkb_laws.specs.Words.{polygon_text, members_text, count_geometries, text, texts, or_else, dimensions_fault, count_fault, first_fault}
+use Rattle.wkb_laws.specs.Words.{Endianness, BigEndian, LittleEndian, Dimension, Xy, Form, Iso, Ewkb, number, IsNumber}
+use Rattle.wkb_laws.specs.Words.{number_bytes, has_z, has_m, Code}
+use Rattle.wkb_laws.specs.Words.{form_srid, code_of, Xyzm, Dimensions, IsWord, all_nan, empty_word, width}
+use Rattle.wkb_laws.specs.Words.{written_dimension, IsEach, IsCounted, Coordinate}
+use Rattle.wkb_laws.specs.Words.{Value, each, kind, dimension, members, count, Spelling, node, Spellings, no_spellings}
+use Rattle.wkb_laws.specs.Words.{IsHeader, IsSrid, SpellsCoordinate}
+use Rattle.wkb_laws.specs.Words.{SpellsCoordinates, SpellsBody, Part, any, part, member_part, IsPart, has_srid, Spells}
+use Rattle.wkb_laws.specs.Words.{SpellsEach, Geometry, line, rectangle}
+use Rattle.wkb_laws.specs.Words.{triangle, Geometries, no_geometries, geometry, IsGeometry, AreGeometries}
+use Rattle.wkb_laws.specs.Words.{rectangle_ring, triangle_ring, normal_point, normal}
+use Rattle.wkb_laws.specs.Words.{normal_each, point_words, inner, srid_text, header_text, words_text, coordinates_text}
+use Rattle.wkb_laws.specs.Words.{point_text, line_string_text}
+use Rattle.wkb_laws.specs.Words.{polygon_text, members_text, count_geometries, text, texts, or_else, dimensions_fault}
+use Rattle.wkb_laws.specs.Words.{count_fault, first_fault}
 use Rattle.wkb_laws.specs.Words.{coordinates_fault, rings_fault, fault, fault_each, IsForm, Fault, count_overflow}
 use Rattle.wkb_geom.specs.Values as value
 use Rattle.wkb_geom.proofs.Codes.{flag-bit, bit-most, thousands-most}
-use Rattle.wkb_geom.specs.Geometries.{point, line_string, polygon, multi_point, multi_line_string, multi_polygon, collection, IsCoordinate, IsPoint}
+use Rattle.wkb_geom.specs.Geometries.{point, line_string, polygon, multi_point, multi_line_string, multi_polygon}
+use Rattle.wkb_geom.specs.Geometries.{collection, IsCoordinate, IsPoint}
 use Rattle.wkb_geom.specs.Geometries.{AreCoordinates}
-use Rattle.wkb_laws.specs.Written.{written_header, empty_words, each_spelling, written_point, written_plain, written, written_each, HasOptions, AllHaveOptions}
+use Rattle.wkb_laws.specs.Written.{written_header, empty_words, each_spelling, written_point, written_plain, written}
+use Rattle.wkb_laws.specs.Written.{written_each, HasOptions, AllHaveOptions}
 use Rattle.wkb_laws.proofs.Lists.{all_imply}
 use Rattle.wkb_laws.proofs.Values.{or_else_parts, width-written_dimension, GoodLine, GoodRings}
 

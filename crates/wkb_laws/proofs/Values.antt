@@ -1,15 +1,22 @@
 -- What bytes spell is a value, and it can be written: its words and counts are in their ranges, and nothing of it is a fault.
-use Rattle.std.proofs.Common.{◌≡◌, Option, Some, None, refl, sym, is_some, unwrap_or, ◌==◌, if◌then◌else◌, eqb-true, ℕ, zero, suc, ◌+◌, ◌<◌, ◌^◌, List, [], ◌∷◌}
+use Rattle.std.proofs.Common.{◌≡◌, Option, Some, None, refl, sym, is_some, unwrap_or, ◌==◌, if◌then◌else◌, eqb-true, ℕ}
+use Rattle.std.proofs.Common.{zero, suc, ◌+◌, ◌<◌, ◌^◌, List, [], ◌∷◌}
 use Rattle.std.proofs.Common.{◌++◌, length, map, true, false, ap, ◌∙◌, subst, lit<, nat_lt, lt-ltb}
 use Rattle.std.proofs.lemmas.Bool.{cond_both}
 use Rattle.std.specs.List.{AllByRecursion}
 use Rattle.byteorder.specs.Numbers.{big_from-lt, little_from-lt}
-use Rattle.wkb_laws.specs.Words.{Then, Dimension, Xy, Xyz, Xyzm, Dimensions, width, size, written_dimension, Fault, unsupported_dimensions, or_else}
-use Rattle.wkb_laws.specs.Words.{dimensions_fault, Endianness, BigEndian, LittleEndian, Xym, number, AreBytes, IsNumber, IsWord, all_nan, dimensions, IsEach}
-use Rattle.wkb_laws.specs.Words.{IsCounted, Coordinate, Value, point, line_string, polygon, multi_point, multi_line_string, multi_polygon, collection, Values}
-use Rattle.wkb_laws.specs.Words.{no_members, member, kind, dimension, members, each, count, IsCoordinate, IsPoint, AreCoordinates, IsValue, AreValues, header}
-use Rattle.wkb_laws.specs.Words.{IsSrid, Spelling, node, Spellings, no_spellings, spelling, SpellsCoordinate, SpellsCoordinates, SpellsBody, Part, member_part}
-use Rattle.wkb_laws.specs.Words.{Spells, SpellsEach, normal, normal_each, normal_point, geometry_of, geometries_of, Ewkb, Front, IsForm, count_fault}
+use Rattle.wkb_laws.specs.Words.{Then, Dimension, Xy, Xyz, Xyzm, Dimensions, width, size, written_dimension, Fault}
+use Rattle.wkb_laws.specs.Words.{unsupported_dimensions, or_else}
+use Rattle.wkb_laws.specs.Words.{dimensions_fault, Endianness, BigEndian, LittleEndian, Xym, number, AreBytes, IsNumber}
+use Rattle.wkb_laws.specs.Words.{IsWord, all_nan, dimensions, IsEach}
+use Rattle.wkb_laws.specs.Words.{IsCounted, Coordinate, Value, point, line_string, polygon, multi_point}
+use Rattle.wkb_laws.specs.Words.{multi_line_string, multi_polygon, collection, Values}
+use Rattle.wkb_laws.specs.Words.{no_members, member, kind, dimension, members, each, count, IsCoordinate, IsPoint}
+use Rattle.wkb_laws.specs.Words.{AreCoordinates, IsValue, AreValues, header}
+use Rattle.wkb_laws.specs.Words.{IsSrid, Spelling, node, Spellings, no_spellings, spelling, SpellsCoordinate}
+use Rattle.wkb_laws.specs.Words.{SpellsCoordinates, SpellsBody, Part, member_part}
+use Rattle.wkb_laws.specs.Words.{Spells, SpellsEach, normal, normal_each, normal_point, geometry_of, geometries_of}
+use Rattle.wkb_laws.specs.Words.{Ewkb, Front, IsForm, count_fault}
 use Rattle.wkb_laws.specs.Words.{first_fault, coordinates_fault, rings_fault, fault, fault_each, count_geometries}
 use Rattle.wkb_geom.specs.declared.common.Dimensions.TheVariants as asked
 use Rattle.wkb_geom.specs.Geometries as geometry

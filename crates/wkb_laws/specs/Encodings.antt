@@ -1,6 +1,7 @@
 -- Laws of bytes that spell a value, however deep its collections nest: they serve every view in hand.
 use Rattle.std.proofs.Common.{◌≡◌, ◌↔◌, ℕ, ◌+◌, ◌*◌, ◌<◌, ◌^◌, List, length, Option, None}
-use Rattle.wkb_laws.specs.Words.{Endianness, Form, Iso, Ewkb, AreBytes, Value, Spelling, header, srid_count, Spells, IsGeometry, normal, geometry_of, byte_size}
+use Rattle.wkb_laws.specs.Words.{Endianness, Form, Iso, Ewkb, AreBytes, Value, Spelling, header, srid_count, Spells}
+use Rattle.wkb_laws.specs.Words.{IsGeometry, normal, geometry_of, byte_size}
 use Rattle.wkb_laws.specs.Words.{text, IsForm, IsWritable}
 
 -- the bytes of a value by its spelling: its size in ISO codes, and four for each SRID

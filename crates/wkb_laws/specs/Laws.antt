@@ -1,10 +1,15 @@
 -- The laws, as statements.
-use Rattle.std.proofs.Common.{Some, Ok, Err, ◌≡◌, ◌↔◌, ◌⊎◌, ℕ, suc, ◌+◌, ◌*◌, ◌-◌, ◌≤◌, ◌<◌, List, [], ◌++◌, length, None, Bool, ◌^◌, is_some, if◌then◌else◌}
+use Rattle.std.proofs.Common.{Some, Ok, Err, ◌≡◌, ◌↔◌, ◌⊎◌, ℕ, suc, ◌+◌, ◌*◌, ◌-◌, ◌≤◌, ◌<◌, List, [], ◌++◌, length}
+use Rattle.std.proofs.Common.{None, Bool, ◌^◌, is_some, if◌then◌else◌}
 use Rattle.std.proofs.Common.{Option}
-use Rattle.wkb_laws.specs.Words.{Endianness, Dimension, Form, Iso, Ewkb, AreBytes, Value, Values, no_members, member, count, nest, nest_each, member_count}
-use Rattle.wkb_laws.specs.Words.{member_count_each, listed_count, Spelling, Spellings, Spells, SpellsEach, Part, any, srid_count, header, Front, max_nesting}
-use Rattle.wkb_laws.specs.Words.{ShortPoint, ShortLineString, ShortLinearRing, ShortMultiPoint, Cause, end_of_input, general, slots_asked, Counts, Refuses}
-use Rattle.wkb_laws.specs.Words.{named, dimensions, Geometry, IsGeometry, normal, geometry_of, byte_size, text, fault, size_fault, refusal, form_srid, IsForm}
+use Rattle.wkb_laws.specs.Words.{Endianness, Dimension, Form, Iso, Ewkb, AreBytes, Value, Values, no_members, member}
+use Rattle.wkb_laws.specs.Words.{count, nest, nest_each, member_count}
+use Rattle.wkb_laws.specs.Words.{member_count_each, listed_count, Spelling, Spellings, Spells, SpellsEach, Part, any}
+use Rattle.wkb_laws.specs.Words.{srid_count, header, Front, max_nesting}
+use Rattle.wkb_laws.specs.Words.{ShortPoint, ShortLineString, ShortLinearRing, ShortMultiPoint, Cause, end_of_input}
+use Rattle.wkb_laws.specs.Words.{general, slots_asked, Counts, Refuses}
+use Rattle.wkb_laws.specs.Words.{named, dimensions, Geometry, IsGeometry, normal, geometry_of, byte_size, text, fault}
+use Rattle.wkb_laws.specs.Words.{size_fault, refusal, form_srid, IsForm}
 use Rattle.wkb_laws.specs.Words.{IsWritable, IsRewriting, IsRewritingWithSrid, Reading, Item, geometry_at}
 use Rattle.wkb_laws.specs.Written.{HasOptions}
 

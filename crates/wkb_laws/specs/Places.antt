@@ -1,7 +1,9 @@
 -- Where the parts of a geometry stand in its bytes.
 use Rattle.std.proofs.Common.{◌≡◌, ℕ, zero, suc, ◌+◌, ◌*◌, ◌≤◌, List, ◌++◌, length, drop, take, Some, slice_get, sum_by}
-use Rattle.wkb_laws.specs.Words.{Endianness, Dimension, AreBytes, number, width, IsEach, Coordinate, Value, Values, line_string, polygon, no_members, member}
-use Rattle.wkb_laws.specs.Words.{members, Spelling, node, Spellings, no_spellings, spelling, header, has_srid, any, SpellsCoordinate, SpellsCoordinates, Spells}
+use Rattle.wkb_laws.specs.Words.{Endianness, Dimension, AreBytes, number, width, IsEach, Coordinate, Value, Values}
+use Rattle.wkb_laws.specs.Words.{line_string, polygon, no_members, member}
+use Rattle.wkb_laws.specs.Words.{members, Spelling, node, Spellings, no_spellings, spelling, header, has_srid, any}
+use Rattle.wkb_laws.specs.Words.{SpellsCoordinate, SpellsCoordinates, Spells}
 use Rattle.wkb_laws.specs.Words.{SpellsEach, srid_size, ring_end, Item}
 use Rattle.wkb_laws.specs.Encodings.{spelled_size}
 

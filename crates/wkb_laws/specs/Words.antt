@@ -1,41 +1,67 @@
 -- The words of the field, passed on from one place. Declares nothing.
-pub use Rattle.wkb_geom.specs.declared.common.{Endianness.Endianness, Endianness.TheVariants.BigEndian, Endianness.TheVariants.LittleEndian}
-pub use Rattle.wkb_geom.specs.declared.common.{Dimension.Dimension, Dimensions.Dimensions, Form.Form, Form.TheVariants.Iso, Form.TheVariants.Ewkb}
+pub use Rattle.wkb_geom.specs.declared.common.{Endianness.Endianness, Endianness.TheVariants.BigEndian}
+pub use Rattle.wkb_geom.specs.declared.common.{Endianness.TheVariants.LittleEndian}
+pub use Rattle.wkb_geom.specs.declared.common.{Dimension.Dimension, Dimensions.Dimensions, Form.Form}
+pub use Rattle.wkb_geom.specs.declared.common.{Form.TheVariants.Iso, Form.TheVariants.Ewkb}
 pub use Rattle.wkb_geom.specs.declared.common.Dimension.TheVariants.{Xy, Xyz, Xym, Xyzm}
-pub use Rattle.wkb_geom.specs.declared.{code.WkbType.WkbType, header.Header.Header as Head, header.Layout.Layout, error.Cause.Cause}
-pub use Rattle.wkb_geom.specs.declared.error.Cause.TheVariants.{EndOfInput as end_of_input, General as general, IncorrectType as incorrect_type}
+pub use Rattle.wkb_geom.specs.declared.{code.WkbType.WkbType, header.Header.Header as Head, header.Layout.Layout}
+pub use Rattle.wkb_geom.specs.declared.{error.Cause.Cause}
+pub use Rattle.wkb_geom.specs.declared.error.Cause.TheVariants.{EndOfInput as end_of_input, General as general}
+pub use Rattle.wkb_geom.specs.declared.error.Cause.TheVariants.{IncorrectType as incorrect_type}
 pub use Rattle.wkb_geom.specs.declared.error.Cause.TheVariants.{NestingDepthExceeded as nesting_depth_exceeded}
-pub use Rattle.wkb_geom.specs.declared.error.General.TheVariants.{CodeOutOfRange, InvalidByteOrder, ShortPoint, ShortLineString}
+pub use Rattle.wkb_geom.specs.declared.error.General.TheVariants.{CodeOutOfRange, InvalidByteOrder, ShortPoint}
+pub use Rattle.wkb_geom.specs.declared.error.General.TheVariants.{ShortLineString}
 pub use Rattle.wkb_geom.specs.declared.error.General.TheVariants.{ShortLinearRing, ShortMultiPoint}
 pub use Rattle.wkb_geom.specs.Numbers.{AreBytes, IsNumber, IsWord, order_byte, all_nan, empty_word}
 unfoldable pub use Rattle.wkb_geom.specs.Numbers.{number, number_bytes}
 pub use Rattle.wkb_geom.specs.Dimensions.{width, size, named, dimensions, written_dimension, has_z, has_m}
 pub use Rattle.wkb_geom.specs.Codes.{Code, thousands}
 pub use Rattle.wkb_geom.specs.Grammar.{Then, Begins, IsEach, IsCounted}
-pub use Rattle.wkb_geom.specs.Values.{Coordinate, Value, point, line_string, polygon, multi_point, multi_line_string, multi_polygon, collection, Values}
-pub use Rattle.wkb_geom.specs.Values.{no_members, member, kind, dimension, members, each, count, nest, nest_each, member_count, member_count_each, listed_count}
+pub use Rattle.wkb_geom.specs.Values.{Coordinate, Value, point, line_string, polygon, multi_point, multi_line_string}
+pub use Rattle.wkb_geom.specs.Values.{multi_polygon, collection, Values}
+pub use Rattle.wkb_geom.specs.Values.{no_members, member, kind, dimension, members, each, count, nest, nest_each}
+pub use Rattle.wkb_geom.specs.Values.{member_count, member_count_each, listed_count}
 pub use Rattle.wkb_geom.specs.Values.{listed_count_each, IsCoordinate, IsPoint, AreCoordinates, IsValue, AreValues}
-pub use Rattle.wkb_geom.specs.Spellings.{Header, header, has_srid, Spelling, node, Spellings, no_spellings, spelling, srid_count, srid_count_each, IsHeader}
-pub use Rattle.wkb_geom.specs.Spellings.{IsSrid, SpellsCoordinate, SpellsCoordinates, SpellsBody, Spells, SpellsEach, Part, any, part, member_part, IsPart}
+pub use Rattle.wkb_geom.specs.Spellings.{Header, header, has_srid, Spelling, node, Spellings, no_spellings, spelling}
+pub use Rattle.wkb_geom.specs.Spellings.{srid_count, srid_count_each, IsHeader}
+pub use Rattle.wkb_geom.specs.Spellings.{IsSrid, SpellsCoordinate, SpellsCoordinates, SpellsBody, Spells, SpellsEach}
+pub use Rattle.wkb_geom.specs.Spellings.{Part, any, part, member_part, IsPart}
 pub use Rattle.wkb_geom.specs.Fronts.{Front, FrontWithin, max_nesting}
-pub use Rattle.wkb_geom.specs.Refusals.{srid_size, point_end, line_string_end, multi_point_end, ring_end, slots_asked, room_inside, Opens, IsAllowed, Counts}
-pub use Rattle.wkb_geom.specs.Refusals.{RefusesRings, no_ring_count, short_ring, later_ring, Refuses, no_order_byte, bad_order_byte, no_code, bad_code}
-pub use Rattle.wkb_geom.specs.Refusals.{wrong_part, too_deep, short_point, no_count, short_line_string, short_multi_point, bad_ring, bad_member, RefusesEach}
+pub use Rattle.wkb_geom.specs.Refusals.{srid_size, point_end, line_string_end, multi_point_end, ring_end, slots_asked}
+pub use Rattle.wkb_geom.specs.Refusals.{room_inside, Opens, IsAllowed, Counts}
+pub use Rattle.wkb_geom.specs.Refusals.{RefusesRings, no_ring_count, short_ring, later_ring, Refuses, no_order_byte}
+pub use Rattle.wkb_geom.specs.Refusals.{bad_order_byte, no_code, bad_code}
+pub use Rattle.wkb_geom.specs.Refusals.{wrong_part, too_deep, short_point, no_count, short_line_string}
+pub use Rattle.wkb_geom.specs.Refusals.{short_multi_point, bad_ring, bad_member, RefusesEach}
 pub use Rattle.wkb_geom.specs.Refusals.{this_member, later_member}
-pub use Rattle.wkb_geom.specs.Geometries.{Geometry, Geometries, no_geometries, geometry, IsGeometry, AreGeometries, normal, normal_each, normal_point}
-pub use Rattle.wkb_geom.specs.Geometries.{geometry_of, geometries_of, rectangle_ring, triangle_ring, line, rectangle, triangle}
-pub use Rattle.wkb_geom.specs.Texts.{text, texts, form_srid, inner, count_geometries, IsForm, IsWritable, IsRewriting, IsRewritingWithSrid, Fault, fault}
-pub use Rattle.wkb_geom.specs.Texts.{fault_each, coordinates_fault, rings_fault, refusal, count_overflow, unsupported_dimensions}
-unfoldable pub use Rattle.wkb_geom.specs.Texts.{code_of, or_else, dimensions_fault, count_fault, first_fault, size_fault, point_words, srid_text, header_text}
-unfoldable pub use Rattle.wkb_geom.specs.Texts.{words_text, coordinates_text, point_text, line_string_text, polygon_text, members_text}
-pub use Rattle.wkb_geom.specs.Reading.{Cost, Reading, Item, type_kind, type_dimension, type_of, layout_of, laid, free, body_start, parts_start, head_by_code}
-pub use Rattle.wkb_geom.specs.Reading.{ring_part, at_no_cost, list_item, polygon_item, spellings, values, and_then, costs, done, line_string_of, one_turn}
+pub use Rattle.wkb_geom.specs.Geometries.{Geometry, Geometries, no_geometries, geometry, IsGeometry, AreGeometries}
+pub use Rattle.wkb_geom.specs.Geometries.{normal, normal_each, normal_point}
+pub use Rattle.wkb_geom.specs.Geometries.{geometry_of, geometries_of, rectangle_ring, triangle_ring, line, rectangle}
+pub use Rattle.wkb_geom.specs.Geometries.{triangle}
+pub use Rattle.wkb_geom.specs.Texts.{text, texts, form_srid, inner, count_geometries, IsForm, IsWritable, IsRewriting}
+pub use Rattle.wkb_geom.specs.Texts.{IsRewritingWithSrid, fault}
+pub use Rattle.wkb_geom.specs.Texts.{fault_each, coordinates_fault, rings_fault, refusal}
+unfoldable pub use Rattle.wkb_geom.specs.Texts.{code_of, or_else, dimensions_fault, count_fault, first_fault}
+unfoldable pub use Rattle.wkb_geom.specs.Texts.{size_fault, point_words, srid_text, header_text}
+unfoldable pub use Rattle.wkb_geom.specs.Texts.{words_text, coordinates_text, point_text, line_string_text}
+unfoldable pub use Rattle.wkb_geom.specs.Texts.{polygon_text, members_text}
+pub use Rattle.wkb_geom.specs.Reading.{Cost, Reading, Item, type_kind, type_dimension, type_of, layout_of, laid, free}
+pub use Rattle.wkb_geom.specs.Reading.{body_start, parts_start, head_by_code}
+pub use Rattle.wkb_geom.specs.Reading.{ring_part, at_no_cost, list_item, polygon_item, spellings, values, and_then}
+pub use Rattle.wkb_geom.specs.Reading.{costs, done, line_string_of, one_turn}
 pub use Rattle.wkb_geom.specs.Reading.{point_of}
-pub use Rattle.wkb_geom.specs.Reading.{polygon_of, slots_of, spelled_in, taken, with_count, ◌⊕◌, body_at, collection_within, parts_body, coordinate}
-pub use Rattle.wkb_geom.specs.Reading.{coordinates, ring_in, items, line_string_body, line_string_item, point_item, point_item_of, srid_in}
-pub use Rattle.wkb_geom.specs.Reading.{head_by_order, meaning, then_body, member_body, layout_wanted, is_member, member_at, refused, collection_with}
+pub use Rattle.wkb_geom.specs.Reading.{polygon_of, slots_of, spelled_in, taken, with_count, ◌⊕◌, body_at}
+pub use Rattle.wkb_geom.specs.Reading.{collection_within, parts_body, coordinate}
+pub use Rattle.wkb_geom.specs.Reading.{coordinates, ring_in, items, line_string_body, line_string_item, point_item}
+pub use Rattle.wkb_geom.specs.Reading.{point_item_of, srid_in}
+pub use Rattle.wkb_geom.specs.Reading.{head_by_order, meaning, then_body, member_body, layout_wanted, is_member}
+pub use Rattle.wkb_geom.specs.Reading.{member_at, refused, collection_with}
 pub use Rattle.wkb_geom.specs.Reading.{multi_line_string_with, multi_point_with, multi_polygon_with}
-unfoldable pub use Rattle.wkb_geom.specs.Reading.{geometry_at, point_at, repeated, ring_at, collection_at, line_string_at, multi_line_string_at, multi_point_at}
+unfoldable pub use Rattle.wkb_geom.specs.Reading.{geometry_at, point_at, repeated, ring_at, collection_at}
+unfoldable pub use Rattle.wkb_geom.specs.Reading.{line_string_at, multi_line_string_at, multi_point_at}
 unfoldable pub use Rattle.wkb_geom.specs.Reading.{multi_polygon_at, polygon_at, head_at, meaning_of, by_type}
 pub use Rattle.wkb_geom.specs.Sizes.{byte_size, byte_sizes}
 pub use Rattle.wkb_geom.specs.Items.{length-items}
+pub use Rattle.wkb_geom.specs.declared.error.Fault.{Fault}
+pub use Rattle.wkb_geom.specs.declared.error.Fault.TheVariants.{UnsupportedDimensions as unsupported_dimensions}
+pub use Rattle.wkb_geom.specs.declared.error.Fault.TheVariants.{Count as count_overflow}

@@ -1,5 +1,6 @@
 -- The part of a slice at an index, if there is one.
-use Rattle.std.proofs.Common.{◌≡◌, ℕ, ◌<◌, List, length, map, All, Option, Some, None, Bor, is_some, IfSome, option_map, option_copied, slice_index_or, slice_get}
+use Rattle.std.proofs.Common.{◌≡◌, ℕ, ◌<◌, List, length, map, All, Option, Some, None, Bor, is_some, IfSome, option_map}
+use Rattle.std.proofs.Common.{option_copied, slice_index_or, slice_get}
 use Rattle.std.proofs.Common.{true, false, nat_lt, refl, sym, ap, ◌∙◌, subst, arith}
 use Rattle.std.proofs.lemmas.Bool.Decides.{nat_tests}
 use Rattle.std.proofs.lemmas.Option.{slice_get-map, slice_get_past, slice_get_read}

@@ -2,23 +2,28 @@
 use Rattle.std.specs.Prelude.{◌≡◌, List, [], ◌∷◌, map, refl}
 use Rattle.std.proofs.Common.{ap, ◌∙◌, sym, subst}
 use Rattle.wkb_geom.specs.declared.common.Dimensions.{Dimensions}
-use Rattle.wkb_geom.specs.Geometries.{Geometry, point, line_string, polygon, multi_point, multi_line_string, multi_polygon}
+use Rattle.wkb_geom.specs.Geometries.{Geometry, point, line_string, polygon, multi_point, multi_line_string}
+use Rattle.wkb_geom.specs.Geometries.{multi_polygon}
 use Rattle.wkb_geom.specs.Geometries.{collection, rectangle, triangle, line, geometries, IsGeometry, AreGeometries}
 use Rattle.wkb_geom.specs.Sizes.{dimensions_of}
 use Rattle.wkb_plain.specs.declared.geometry.Geometry.{Geometry as PlainGeometry}
 use Rattle.wkb_plain.specs.declared.geometry.Geometry.TheOpen.{Geometry-F, GeometryCollection-F}
-use Rattle.wkb_plain.specs.declared.geometry.Geometry.TheOpen.{Point, LineString, Polygon, MultiPoint, MultiLineString, MultiPolygon}
+use Rattle.wkb_plain.specs.declared.geometry.Geometry.TheOpen.{Point, LineString, Polygon, MultiPoint, MultiLineString}
+use Rattle.wkb_plain.specs.declared.geometry.Geometry.TheOpen.{MultiPolygon}
 use Rattle.wkb_plain.specs.declared.geometry.Geometry.TheOpen.{GeometryCollection, Rect, Triangle, Line}
 use Rattle.wkb_plain.specs.declared.geometry.Geometry.TheViews.{out-Geometry}
-use Rattle.wkb_plain.specs.declared.geometry.Geometry.TheFolds.{fold-Geometry, fold_out-Geometry, map-Geometry, ind-Geometry, fold-roll-Geometry}
-use Rattle.wkb_plain.specs.declared.geometry.Geometry.TheFolds.{fold-GeometryCollection, fold_out-GeometryCollection, map-GeometryCollection}
+use Rattle.wkb_plain.specs.declared.geometry.Geometry.TheFolds.{fold-Geometry, fold_out-Geometry, map-Geometry}
+use Rattle.wkb_plain.specs.declared.geometry.Geometry.TheFolds.{ind-Geometry, fold-roll-Geometry}
+use Rattle.wkb_plain.specs.declared.geometry.Geometry.TheFolds.{fold-GeometryCollection, fold_out-GeometryCollection}
+use Rattle.wkb_plain.specs.declared.geometry.Geometry.TheFolds.{map-GeometryCollection}
 use Rattle.wkb_plain.specs.declared.geometry.Geometry.TheFolds.{fold-roll-GeometryCollection}
 use Rattle.wkb_plain.specs.declared.geometry.GeometryCollection.{GeometryCollection as PlainCollection}
 use Rattle.wkb_plain.specs.Kinds.{point_dimensions, point_coordinate, point_lawful}
 use Rattle.wkb_plain.specs.Kinds.{line_string_dimensions, line_string_coordinates, line_string_lawful}
 use Rattle.wkb_plain.specs.Kinds.{polygon_dimensions, polygon_rings, polygon_lawful}
 use Rattle.wkb_plain.specs.Kinds.{multi_point_dimensions, multi_point_points, multi_point_lawful}
-use Rattle.wkb_plain.specs.Kinds.{multi_line_string_dimensions, multi_line_string_line_strings, multi_line_string_lawful}
+use Rattle.wkb_plain.specs.Kinds.{multi_line_string_dimensions, multi_line_string_line_strings}
+use Rattle.wkb_plain.specs.Kinds.{multi_line_string_lawful}
 use Rattle.wkb_plain.specs.Kinds.{multi_polygon_dimensions, multi_polygon_polygons, multi_polygon_lawful}
 use Rattle.wkb_plain.specs.Kinds.{line_dimensions, line_start, line_end, line_lawful}
 use Rattle.wkb_plain.specs.Kinds.{rect_dimensions, rect_min, rect_max, rect_lawful}

@@ -1,5 +1,6 @@
 -- The runs of a line string's words, each a coordinate.
-use Rattle.std.proofs.Common.{ℕ, zero, suc, ◌*◌, ◌/◌, ◌≤◌, List, [], ◌∷◌, length, take, drop, All, arith, length-drop, length-take}
+use Rattle.std.proofs.Common.{ℕ, zero, suc, ◌*◌, ◌/◌, ◌≤◌, List, [], ◌∷◌, length, take, drop, All, arith, length-drop}
+use Rattle.std.proofs.Common.{length-take}
 use Rattle.std.proofs.Math.Nat.{div-mul-le_self}
 use Rattle.std.proofs.lemmas.List.Elements.{All-take, All-drop, recursion_from_All}
 use Rattle.wkb_geom.specs.Numbers.{IsWord}

@@ -1,9 +1,10 @@
 -- Geometries by their headers and kinds.
-use Rattle.wkb_read.proofs.Words.{any, max_nesting, ◌≡◌, ◌<◌, ◌-◌, ℕ, zero, suc, List, Result, Ok, Err, refl, sym, ap, ◌∙◌, subst, arith, WkbType, Layout}
-use Rattle.wkb_read.proofs.Words.{layout_of, collection_within, then_body, Cause, Fault, Head, Item, Part, Reading, free, costs, done, at_no_cost, type_kind}
-use Rattle.wkb_read.proofs.Words.{head_at, body_at, too_deep, by_type, geometry_at, Counts, Spent, Stops, geometry_inside, body_inside, cost_of}
-use Rattle.wkb_read.specs.Memory.{TypeTakesNone, BodyTakesNone}
-use Rattle.wkb_read.specs.Stack.{plain_body}
+use Rattle.wkb_read.proofs.Words.{any, max_nesting, ◌≡◌, ◌<◌, ◌-◌, ℕ, zero, suc, List, Result, Ok, Err, refl, sym, ap}
+use Rattle.wkb_read.proofs.Words.{◌∙◌, subst, arith, WkbType, Layout}
+use Rattle.wkb_read.proofs.Words.{layout_of, collection_within, then_body, Cause, Fault, Head, Item, Part, Reading}
+use Rattle.wkb_read.proofs.Words.{free, costs, done, at_no_cost, type_kind}
+use Rattle.wkb_read.proofs.Words.{head_at, body_at, too_deep, by_type, geometry_at, Counts, Spent, Stops}
+use Rattle.wkb_read.proofs.Words.{geometry_inside, body_inside, cost_of}
 use Rattle.wkb_geom.specs.declared.code.WkbType.TheVariants as kinds
 use Rattle.wkb_laws.proofs.Heads.{OpensAs, head_says}
 use Rattle.wkb_view.proofs.Leaves.{line_string_free}
@@ -48,10 +49,3 @@ pub head_opens : (input : List ℕ) (h : Head) → head_at input ≡ Ok h → Op
 head_opens input h e =
     head_says 0 any input (λ r. r ≡ Ok h → OpensAs input h) (λ c bad is. absurd cc)
     (λ g opens is. let same : g ≡ h = cc in subst (λ (f : Head). OpensAs input f) same opens) e
-
--- what stands behind a header whose type and layout are known
-pub plain_is : (h : Head) (t : WkbType) (l : Layout) (bytes : List ℕ) → h.wkb_type ≡ t → l ≡ layout_of h → plain_body h bytes ≡ body_at too_deep t l bytes
-plain_is h t l bytes is laid = λ i. body_at too_deep (is i) (sym laid i) bytes
-
-pub takes_none_is : (h : Head) (t : WkbType) (l : Layout) (bytes : List ℕ) → h.wkb_type ≡ t → l ≡ layout_of h → BodyTakesNone h bytes → TypeTakesNone t l bytes
-takes_none_is h t l bytes is laid none = subst (λ (T : Type 0). T) (λ i. TypeTakesNone (is i) (sym laid i) bytes) none

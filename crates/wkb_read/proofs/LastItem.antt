@@ -1,5 +1,6 @@
 -- A list by its last item: the top of a stack.
-use Rattle.wkb_read.proofs.Words.{◌≡◌, ℕ, suc, List, [], ◌∷◌, ◌++◌, length, take, slice_index_or, slice_set, reverse, sym, ap, ◌∙◌, arith, length-append}
+use Rattle.wkb_read.proofs.Words.{◌≡◌, ℕ, suc, List, [], ◌∷◌, ◌++◌, length, take, slice_index_or, slice_set, reverse}
+use Rattle.wkb_read.proofs.Words.{sym, ap, ◌∙◌, arith, length-append}
 use Rattle.wkb_read.proofs.Words.{length-set, take_all, take-suc, take-suc-set, reverse-append, length-reverse}
 
 backwards : {A : Type 0} (xs front : List A) (o : A) → xs ≡ front ++ o ∷ [] → reverse xs ≡ o ∷ reverse front

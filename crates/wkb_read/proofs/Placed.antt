@@ -1,8 +1,12 @@
 -- The bytes of the members of open collections.
-use Rattle.wkb_read.proofs.Words.{collection, member_count, listed_count, list_item, collection_with, Head, ◌≡◌, ℕ, ◌+◌, ◌-◌, ◌≤◌, List, [], ◌∷◌, ◌++◌, length}
-use Rattle.wkb_read.proofs.Words.{take, drop, Ok, Err, refl, sym, ap, subst, ◌∙◌, append_assoc, append-nil, Bool, Option, length-append, length-drop, slice_get}
-use Rattle.wkb_read.proofs.Words.{AllByRecursion, ∥∥₁_elim, props, arith, Bor, Layout, any, number, Listed, Values, Item, Reading, body_start, parts_start}
-use Rattle.wkb_read.proofs.Words.{taken, spellings, values, Counts, HasHead, IsSpelled, Wkb, Whole, texts, parts_in, HoldsMembers, IsCollectionIn, AreMembers}
+use Rattle.wkb_read.proofs.Words.{collection, member_count, listed_count, list_item, collection_with, Head, ◌≡◌, ℕ, ◌+◌}
+use Rattle.wkb_read.proofs.Words.{◌-◌, ◌≤◌, List, [], ◌∷◌, ◌++◌, length}
+use Rattle.wkb_read.proofs.Words.{take, drop, Ok, Err, refl, sym, ap, subst, ◌∙◌, append_assoc, append-nil, Bool}
+use Rattle.wkb_read.proofs.Words.{Option, length-append, length-drop, slice_get}
+use Rattle.wkb_read.proofs.Words.{AllByRecursion, ∥∥₁_elim, props, arith, Bor, Layout, any, number, Listed, Values}
+use Rattle.wkb_read.proofs.Words.{Item, Reading, body_start, parts_start}
+use Rattle.wkb_read.proofs.Words.{taken, spellings, values, Counts, HasHead, IsSpelled, Wkb, Whole, texts, parts_in}
+use Rattle.wkb_read.proofs.Words.{HoldsMembers, IsCollectionIn, AreMembers}
 use Rattle.wkb_read.proofs.Words.{IsMemberAt, geometry_inside, IsFinished, BeginsAs, max_nesting}
 use Rattle.wkb_geom.specs.declared.code.WkbType.TheVariants as kinds
 use Rattle.wkb_geom.specs.Numbers.{IsNumber}

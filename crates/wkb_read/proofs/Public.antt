@@ -1,7 +1,10 @@
 -- What reading from left to right says of fronts and refusals.
-use Rattle.wkb_read.proofs.Words.{◌≡◌, ℕ, ◌+◌, ◌*◌, ◌≤◌, List, length, Result, Ok, Err, ap, ◌∙◌, subst, arith, Cause, Refusal, Fault, Memory, WkbError}
-use Rattle.wkb_read.proofs.Words.{max_nesting, Item, Cost, Reading, geometry_at, Refuses, any, Tells, TellsRefusal, Agrees, geometry_agrees_lem, Counts}
-use Rattle.wkb_read.proofs.Words.{IsAtFault, Spent, AtMost, Stops, Wkb, IsNotMemoryError, IsFront, IsOnlyFront, HasNoFront, IsRefusal, TellsEach, IfRefused}
+use Rattle.wkb_read.proofs.Words.{◌≡◌, ℕ, ◌+◌, ◌*◌, ◌≤◌, List, length, Result, Ok, Err, ap, ◌∙◌, subst, arith, Cause}
+use Rattle.wkb_read.proofs.Words.{Refusal, Fault, Memory, WkbError}
+use Rattle.wkb_read.proofs.Words.{max_nesting, Item, Cost, Reading, geometry_at, Refuses, any, Tells, TellsRefusal}
+use Rattle.wkb_read.proofs.Words.{Agrees, geometry_agrees_lem, Counts}
+use Rattle.wkb_read.proofs.Words.{IsAtFault, Spent, AtMost, Stops, Wkb, IsNotMemoryError, IsFront, IsOnlyFront}
+use Rattle.wkb_read.proofs.Words.{HasNoFront, IsRefusal, TellsEach, IfRefused}
 use Rattle.wkb_read.proofs.Words.{IfMemory, CountsValue, CountsRefusal, CountsAtMost, ReadsAs}
 use Rattle.wkb_read.specs.Public.{TakesNoMemory, Reads, Costs}
 use Rattle.wkb_geom.specs.declared.error.WkbError.TheVariants as errors

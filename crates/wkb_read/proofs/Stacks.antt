@@ -1,12 +1,18 @@
 -- Open collections, as a part of one is finished.
-use Rattle.wkb_read.proofs.Words.{◌≡◌, ℕ, suc, ◌+◌, ◌≤◌, List, [], ◌∷◌, ◌++◌, length, vec_capacity, Ok, Err, refl, sym, ap, subst, ◌∙◌, append_assoc}
-use Rattle.wkb_read.proofs.Words.{length-append, arith, Bor, Item, Cost, ◌⊕◌, one_turn, Reading, costs, done, and_then, repeated, taken, Layout, IsSpelled}
-use Rattle.wkb_read.proofs.Words.{Refusal, Fault, Memory, Counts, Spent, AtMost, CanCount, Stops, Wkb, Open, Whole, Opened, IsCollectionIn, closing, list_item}
-use Rattle.wkb_read.proofs.Words.{collection_with, geometry_inside, behind_member, in_collection, outward, first_member, cost_of, next_turn, IsOpen, AreOpen}
+use Rattle.wkb_read.proofs.Words.{◌≡◌, ℕ, suc, ◌+◌, ◌≤◌, List, [], ◌∷◌, ◌++◌, length, Ok, Err, refl, sym, ap, subst}
+use Rattle.wkb_read.proofs.Words.{◌∙◌, append_assoc}
+use Rattle.wkb_read.proofs.Words.{length-append, arith, Bor, Item, Cost, ◌⊕◌, one_turn, Reading, costs, done, and_then}
+use Rattle.wkb_read.proofs.Words.{repeated, taken, Layout, IsSpelled}
+use Rattle.wkb_read.proofs.Words.{Refusal, Fault, Memory, Counts, Spent, AtMost, CanCount, Stops, Wkb, Open, Whole}
+use Rattle.wkb_read.proofs.Words.{Opened, IsCollectionIn, closing, list_item}
+use Rattle.wkb_read.proofs.Words.{collection_with, geometry_inside, behind_member, in_collection, outward, first_member}
+use Rattle.wkb_read.proofs.Words.{cost_of, next_turn, IsOpen, AreOpen}
 use Rattle.wkb_read.proofs.Words.{IsFinished, BeginsAs}
-use Rattle.wkb_read.proofs.Algebra.{cost_is, costs-costs, and_then-costs, and_then-assoc, and_then-same, and_then-least, done_then, repeated_more}
+use Rattle.wkb_read.proofs.Algebra.{cost_is, costs-costs, and_then-costs, and_then-assoc, and_then-same, and_then-least}
+use Rattle.wkb_read.proofs.Algebra.{done_then, repeated_more}
 use Rattle.wkb_read.proofs.Algebra.{repeated_none}
 use Rattle.wkb_read.proofs.Placed.{Closed, closed, one_more, part_read}
+use Rattle.wkb_view.specs.Entries.{entries, room}
 use Rattle.wkb_view.proofs.Members.{all_more}
 
 -- what is being read inside these collections, and what comes of it in all
@@ -110,8 +116,8 @@ pub record IsNext (o next : Open) (m : Item) : Type 0 where
   pub left : o.left ≡ suc next.left
   pub layout : next.layout ≡ o.layout
   pub bytes : next.bytes.now ≡ o.bytes.now
-  pub items : next.members.items.items ≡ o.members.items.items ++ m ∷ []
-  pub capacity : vec_capacity o.members.items ≤ vec_capacity next.members.items
+  pub items : entries next.members ≡ entries o.members ++ m ∷ []
+  pub capacity : room o.members ≤ room next.members
 
 member_more : (member : List ℕ → Reading Item) (l : Layout) (bytes : List ℕ) (n : ℕ) (front : List Item) (m : Item) (rest : List ℕ)
     → behind_member member l bytes (suc n) front m rest ≡ costs one_turn (and_then (member rest) (behind_member member l bytes n (front ++ m ∷ [])))
@@ -126,18 +132,18 @@ goes_on o next os m rest n =
     let member = geometry_inside (suc (length os)) in
     let inside = in_collection (length os) next in
     let one : in_collection (length os) o m rest ≡ costs one_turn (and_then (member rest) inside) =
-    rw (n.left, n.layout, n.bytes, n.items) (member_more member o.layout o.bytes.now next.left o.members.items.items m rest) in
+    rw (n.left, n.layout, n.bytes, n.items) (member_more member o.layout o.bytes.now next.left (entries o.members) m rest) in
     ap (λ (r : Reading Item). and_then r (outward os)) one ∙ and_then-costs one_turn (and_then (member rest) inside) (outward os)
     ∙ ap (λ (r : Reading Item). costs one_turn r) (and_then-assoc (member rest) inside (outward os))
 
 more_open : (o next : Open) (m : Item) (rest : List ℕ) → IsNext o next m → IsOpen o (m.text ++ rest) → IsFinished m → IsOpen next rest
 more_open o next m rest n h part =
-    let longer : length next.members.items.items ≡ length o.members.items.items + 1 = ap length n.items ∙ length-append o.members.items.items (m ∷ []) in
+    let longer : length (entries next.members) ≡ length (entries o.members) + 1 = ap length n.items ∙ length-append (entries o.members) (m ∷ []) in
     record {
       head = rw (n.layout, n.bytes) h.head;
       count = rw (n.layout, n.bytes) (h.count ∙ omega (arith, longer, n.left));
-      behind = rw (n.layout, n.bytes, n.items) (h.behind ∙ sym (one_more o.members.items.items m rest));
-      each = rw n.items (all_more IsSpelled o.members.items.items m h.each part.spelled);
+      behind = rw (n.layout, n.bytes, n.items) (h.behind ∙ sym (one_more (entries o.members) m rest));
+      each = rw n.items (all_more IsSpelled (entries o.members) m h.each part.spelled);
       within = rw (n.layout, n.bytes) (omega (arith, longer, h.within, part.long, length-append m.text rest));
       room = rw (n.layout, n.bytes) (omega (arith, longer, n.left, n.capacity, h.room));
     }
@@ -159,11 +165,11 @@ pub record Completes (o : Open) (os : List Open) (members : List Item) (rest : L
   pub finishes : Finishes os (list_item o.layout collection_with members (taken o.bytes.now rest)) rest spent whole
 
 pub completes : (o : Open) (os : List Open) (m : Item) (members : List Item) (rest : List ℕ) (spent : Counts) (whole : Reading Item) → o.left ≡ 0
-    → members ≡ o.members.items.items ++ m ∷ [] → Finishes (o ∷ os) m rest spent whole → Completes o os members rest spent whole
+    → members ≡ entries o.members ++ m ∷ [] → Finishes (o ∷ os) m rest spent whole → Completes o os members rest spent whole
 completes o os m members rest spent whole none is f =
     let member = geometry_inside (suc (length os)) in
     let h = f.stand.0 in
-    let front = o.members.items.items in
+    let front = entries o.members in
     let c : Closed o.layout o.bytes.now members rest = rw is (closed o.layout o.bytes.now (front ++ m ∷ []) rest h.head
     (h.count ∙ omega (arith, none, length-append front (m ∷ []))) (omega (arith, h.within)) (h.behind ∙ sym (one_more front m rest))
     (all_more IsSpelled front m h.each f.part.spelled)) in

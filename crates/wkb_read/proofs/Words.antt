@@ -1,7 +1,10 @@
 -- The words that the proofs of this crate share, passed on from one place. Declares nothing.
-pub use Rattle.std.proofs.Common.{◌≡◌, ℕ, zero, suc, ◌+◌, ◌-◌, ◌*◌, ◌/◌, ◌<◌, ◌≤◌, min, List, [], ◌∷◌, ◌++◌, length, take, drop, map, reverse, slice_set}
-pub use Rattle.std.proofs.Common.{slice_index_or, vec_len, Bool, false, ltb, Option, Some, None, Result, Ok, Err, refl, sym, ap, subst, ◌∙◌, append_assoc}
-pub use Rattle.std.proofs.Common.{append-nil, length-append, length-drop, length-set, take_all, take-suc, take-suc-set, add_assoc, zero-add, arith, rules}
+pub use Rattle.std.proofs.Common.{◌≡◌, ℕ, zero, suc, ◌+◌, ◌-◌, ◌*◌, ◌/◌, ◌<◌, ◌≤◌, min, List, [], ◌∷◌, ◌++◌, length}
+pub use Rattle.std.proofs.Common.{take, drop, map, reverse, slice_set}
+pub use Rattle.std.proofs.Common.{slice_index_or, vec_len, Bool, false, ltb, Option, Some, None, Result, Ok, Err, refl}
+pub use Rattle.std.proofs.Common.{sym, ap, subst, ◌∙◌, append_assoc}
+pub use Rattle.std.proofs.Common.{append-nil, length-append, length-drop, length-set, take_all, take-suc, take-suc-set}
+pub use Rattle.std.proofs.Common.{add_assoc, zero-add, arith, rules}
 pub use Rattle.std.specs.Prelude.{vec_capacity, slice_get}
 pub use Rattle.std.specs.Borrow.{Bor}
 pub use Rattle.std.specs.List.{AllByRecursion}
@@ -12,11 +15,16 @@ pub use Rattle.std.proofs.Props.{props}
 pub use Rattle.wkb_geom.specs.declared.common.Endianness.TheVariants.{LittleEndian}
 pub use Rattle.wkb_geom.specs.declared.error.Refusal.TheVariants.{Fault, Memory}
 pub use Rattle.wkb_geom.specs.Reading.{◌⊕◌, slots_of, then_body}
-pub use Rattle.wkb_read.specs.Words.{WkbType, Endianness, Cause, Refusal, WkbError, Head, Layout, max_nesting, Geometry, Geometries, geometries, geometry_of}
-pub use Rattle.wkb_read.specs.Words.{geometries_of, IsGeometry, number, Item, Cost, free, one_turn, Part, Reading, costs, done, list_item, collection_with}
-pub use Rattle.wkb_read.specs.Words.{collection_within, layout_of, laid, at_no_cost, and_then, taken, body_start, parts_start, type_kind, type_dimension}
-pub use Rattle.wkb_read.specs.Words.{too_deep, body_at, values, spellings, Refuses, srid_size, any, Listed, Tells, TellsRefusal, Coordinate, Value, Values}
-pub use Rattle.wkb_read.specs.Words.{collection, member_count, listed_count, Counts, HasHead, IsAtFault, Spent, AtMost, CanCount, Stops, IsSpelled}
+pub use Rattle.wkb_read.specs.Words.{WkbType, Endianness, Cause, Refusal, WkbError, Head, Layout, max_nesting, Geometry}
+pub use Rattle.wkb_read.specs.Words.{Geometries, geometries, geometry_of}
+pub use Rattle.wkb_read.specs.Words.{geometries_of, IsGeometry, number, Item, Cost, free, one_turn, Part, Reading}
+pub use Rattle.wkb_read.specs.Words.{costs, done, list_item, collection_with}
+pub use Rattle.wkb_read.specs.Words.{collection_within, layout_of, laid, at_no_cost, and_then, taken, body_start}
+pub use Rattle.wkb_read.specs.Words.{parts_start, type_kind, type_dimension}
+pub use Rattle.wkb_read.specs.Words.{too_deep, body_at, values, spellings, Refuses, srid_size, any, Listed, Tells}
+pub use Rattle.wkb_read.specs.Words.{TellsRefusal, Coordinate, Value, Values}
+pub use Rattle.wkb_read.specs.Words.{collection, member_count, listed_count, Counts, HasHead, IsAtFault, Spent, AtMost}
+pub use Rattle.wkb_read.specs.Words.{CanCount, Stops, IsSpelled}
 unfoldable pub use Rattle.wkb_read.specs.Words.{repeated, by_type, geometry_at, collection_at, head_at}
 pub use Rattle.wkb_laws.specs.Laws.{Agrees}
 pub use Rattle.wkb_laws.proofs.GeometryAt.{geometry_agrees_lem}
@@ -25,8 +33,10 @@ pub use Rattle.wkb_read.specs.declared.read.unfinished.Begun.TheVariants.{Whole,
 pub use Rattle.wkb_read.specs.declared.read.unfinished.Open.{Open}
 pub use Rattle.wkb_read.specs.Memory.{IsNotMemoryError, TypeTakesNone, ReadsWithoutMemory}
 pub use Rattle.wkb_read.specs.Placed.{texts, parts_in, closing, HoldsMembers, IsCollectionIn, AreMembers, IsMemberAt}
-pub use Rattle.wkb_read.specs.Public.{IsFront, IsOnlyFront, HasNoFront, IsRefusal, TellsEach, IfRefused, IfMemory, CountsValue, CountsRefusal, CountsAtMost}
+pub use Rattle.wkb_read.specs.Public.{IsFront, IsOnlyFront, HasNoFront, IsRefusal, TellsEach, IfRefused, IfMemory}
+pub use Rattle.wkb_read.specs.Public.{CountsValue, CountsRefusal, CountsAtMost}
 pub use Rattle.wkb_read.specs.Public.{AsksForNone, KindTakesNone, TakesNoMemory}
 pub use Rattle.wkb_read.specs.Seen.{geometry_seen, members_seen, seen_as_it_is}
-pub use Rattle.wkb_read.specs.Stack.{geometry_inside, behind_member, in_collection, outward, first_member, cost_of, next_turn, IsOpen, AreOpen, IsFinished}
+pub use Rattle.wkb_read.specs.Stack.{geometry_inside, behind_member, in_collection, outward, first_member, cost_of}
+pub use Rattle.wkb_read.specs.Stack.{next_turn, IsOpen, AreOpen, IsFinished}
 pub use Rattle.wkb_read.specs.Stack.{collection_inside, body_inside, BeginsAs, ReadsAs}

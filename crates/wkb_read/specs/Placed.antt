@@ -3,7 +3,8 @@ use Rattle.std.specs.Prelude.{◌≡◌, ℕ, ◌+◌, ◌≤◌, List, [], ◌�
 use Rattle.std.specs.Option.{is_some}
 use Rattle.wkb_read.specs.Words.{Layout, Values, Listed, Item, Reading, done}
 use Rattle.std.specs.List.{AllByRecursion}
-use Rattle.wkb_read.specs.Words.{list_item, collection_with, spelled_in, taken, body_start, parts_start, spellings, values, srid_of}
+use Rattle.wkb_read.specs.Words.{list_item, collection_with, spelled_in, taken, body_start, parts_start, spellings}
+use Rattle.wkb_read.specs.Words.{values, srid_of}
 use Rattle.wkb_read.specs.Words.{members_spelled, IsSpelled}
 
 -- the collection that a text is, by its layout and its members, as a view of it holds it

@@ -1,7 +1,8 @@
 -- What a reader's answer says of its input.
 use Rattle.std.specs.Prelude.{◌≡◌, ℕ, ◌+◌, ◌*◌, ◌<◌, ◌≤◌, List, length, Bool, Result, Ok, Err, IfOk}
 use Rattle.wkb_read.specs.Words.{Endianness, Dimension, Iso, WkbError, Value, member_count}
-use Rattle.wkb_read.specs.Words.{listed_count, Spelling, any, Front, max_nesting, Cause, Refuses, Opens, srid_size, Tells, geometry_of, IsWritable, Item}
+use Rattle.wkb_read.specs.Words.{listed_count, Spelling, any, Front, max_nesting, Cause, Refuses, Opens, srid_size}
+use Rattle.wkb_read.specs.Words.{Tells, geometry_of, IsWritable, Item}
 use Rattle.wkb_read.specs.Words.{Counts, IsGeometry, normal}
 use Rattle.wkb_read.specs.Memory.{IsNotMemory}
 use Rattle.wkb_read.specs.Seen.{geometry_seen}

@@ -1,7 +1,8 @@
 -- What a geometry of any kind means to a caller of the geometry traits: the geometry of its value, with every
 -- coordinate fitted. Of a geometry that was read it is the geometry of its value as it stands.
 use Rattle.std.specs.Prelude.{◌≡◌, List, ◌∷◌, map}
-use Rattle.wkb_read.specs.Words.{dimensions, Value, Values, Geometry, geometries, geometry_of, geometries_of, IsGeometry, AreGeometries}
+use Rattle.wkb_read.specs.Words.{dimensions, Value, Values, Geometry, geometries, geometry_of, geometries_of}
+use Rattle.wkb_read.specs.Words.{IsGeometry, AreGeometries}
 use Rattle.wkb_read.specs.Words.{Item, list_of_values}
 use Rattle.std.proofs.Common.{refl, ap, ◌∙◌}
 use Rattle.wkb_geom.specs.Values as value

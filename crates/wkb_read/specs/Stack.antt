@@ -1,10 +1,14 @@
 -- The collections that are open around what is read, and how reading goes on once it is read.
-use Rattle.std.specs.Prelude.{◌≡◌, ℕ, suc, ◌<◌, ◌+◌, ◌-◌, ◌*◌, ◌/◌, ◌≤◌, min, List, [], ◌∷◌, ◌++◌, length, vec_capacity, drop, Result, Ok, Err, Option, Some}
+use Rattle.std.specs.Prelude.{◌≡◌, ℕ, suc, ◌<◌, ◌+◌, ◌-◌, ◌*◌, ◌/◌, ◌≤◌, min, List, [], ◌∷◌, ◌++◌, length, drop, Result}
+use Rattle.std.specs.Prelude.{Ok, Err, Option, Some}
 use Rattle.std.specs.Prelude.{None}
 use Rattle.std.specs.List.{AllByRecursion}
-use Rattle.wkb_read.specs.Words.{Refusal, Head, Layout, max_nesting, number, Item, Cost, Reading, costs, one_turn, done, and_then}
-use Rattle.wkb_read.specs.Words.{repeated, collection_within, layout_of, too_deep, body_at, body_start, parts_start, geometry_at, Counts, HasHead, Spent, Stops}
+use Rattle.wkb_read.specs.Words.{Refusal, Head, Layout, max_nesting, number, Item, Cost, Reading, costs, one_turn, done}
+use Rattle.wkb_read.specs.Words.{and_then}
+use Rattle.wkb_read.specs.Words.{repeated, collection_within, layout_of, body_at, body_start, parts_start, geometry_at}
+use Rattle.wkb_read.specs.Words.{Counts, HasHead, Spent, Stops}
 use Rattle.wkb_read.specs.Words.{IsSpelled}
+use Rattle.wkb_view.specs.Entries.{entries, room}
 use Rattle.wkb_geom.specs.declared.code.WkbType.TheVariants as kinds
 use Rattle.wkb_read.specs.declared.geometry.Wkb.{Wkb}
 use Rattle.wkb_read.specs.declared.read.unfinished.Open.{Open}
@@ -22,7 +26,7 @@ behind_member member l bytes left front x rest = and_then (repeated left member 
 
 -- the same of an open collection inside so many others
 abbrev pub in_collection : ℕ → Open → Item → List ℕ → Reading Item
-in_collection around o = behind_member (geometry_inside (suc around)) o.layout o.bytes.now o.left o.members.items.items
+in_collection around o = behind_member (geometry_inside (suc around)) o.layout o.bytes.now o.left (entries o.members)
 
 -- what comes of a finished part inside these collections, the innermost first
 abbrev pub outward : List Open → Item → List ℕ → Reading Item
@@ -46,17 +50,17 @@ abbrev pub members_start : Open → ℕ
 members_start o = body_start o.layout.has_srid + 4
 
 abbrev pub members_count : Open → ℕ
-members_count o = length o.members.items.items + 1 + o.left
+members_count o = length (entries o.members) + 1 + o.left
 
 -- Behind an open collection's count stand its members so far, each spelled by its bytes, and then these bytes, with which
 -- the current one begins; and its list has room for the others.
 pub record IsOpen (o : Open) (here : List ℕ) : Type 0 where
   pub head : HasHead (λ d. kinds.GeometryCollection d) o.layout o.bytes.now
   pub count : number o.layout.order 4 (drop (body_start o.layout.has_srid) o.bytes.now) ≡ members_count o
-  pub behind : parts_start o.layout.has_srid o.bytes.now ≡ texts o.members.items.items ++ here
-  pub each : AllByRecursion IsSpelled o.members.items.items
-  pub within : 9 * length o.members.items.items + length here + members_start o ≤ length o.bytes.now
-  pub room : min (members_count o) ((length o.bytes.now - members_start o) / 9) ≤ vec_capacity o.members.items
+  pub behind : parts_start o.layout.has_srid o.bytes.now ≡ texts (entries o.members) ++ here
+  pub each : AllByRecursion IsSpelled (entries o.members)
+  pub within : 9 * length (entries o.members) + length here + members_start o ≤ length o.bytes.now
+  pub room : min (members_count o) ((length o.bytes.now - members_start o) / 9) ≤ room o.members
 
 -- so it is of each of them: its current member began where the next inner one did
 abbrev pub AreOpen : List Open → List ℕ → Type 0
@@ -75,10 +79,6 @@ collection_inside around l bytes = collection_within (max_nesting - around) l by
 -- what comes of what stands behind a header
 abbrev pub body_inside : ℕ → Head → List ℕ → Reading Item
 body_inside around h bytes = body_at (collection_within (max_nesting - around)) h.wkb_type (layout_of h) bytes
-
--- the same of what is no collection
-abbrev pub plain_body : Head → List ℕ → Reading Item
-plain_body h bytes = body_at too_deep h.wkb_type (layout_of h) bytes
 
 -- what the beginning of a geometry leads to, where it is to lead to this reading
 abbrev pub BeginsAs : Reading Item → ℕ → List ℕ → Result Begun Refusal → Counts → Counts → Type 0

@@ -1,9 +1,11 @@
 -- What `as_type` of a geometry of any kind hands out: the view of its kind, or the members of a collection.
 use Rattle.std.specs.Prelude.{◌≡◌, List}
-use Rattle.wkb_read.specs.Words.{Coordinate, Values, polygon, multi_line_string, multi_polygon, collection, Listed, whole_of, Item, point_seen}
+use Rattle.wkb_read.specs.Words.{Coordinate, Values, polygon, multi_line_string, multi_polygon, collection, Listed}
+use Rattle.wkb_read.specs.Words.{whole_of, Item, point_seen}
 use Rattle.wkb_read.specs.Words.{line_string_seen, multi_point_seen}
 use Rattle.wkb_geom.specs.declared.geom.GeometryType.{GeometryType}
-use Rattle.wkb_geom.specs.declared.geom.GeometryType.TheVariants.{Point, LineString, Polygon, MultiPoint, MultiLineString, MultiPolygon, GeometryCollection}
+use Rattle.wkb_geom.specs.declared.geom.GeometryType.TheVariants.{Point, LineString, Polygon, MultiPoint}
+use Rattle.wkb_geom.specs.declared.geom.GeometryType.TheVariants.{MultiLineString, MultiPolygon, GeometryCollection}
 use Rattle.wkb_view.specs.declared.point.Point as views
 use Rattle.wkb_view.specs.declared.line_string.LineString as lines
 use Rattle.wkb_view.specs.declared.multi_point.MultiPoint as points

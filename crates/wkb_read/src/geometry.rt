@@ -9,8 +9,8 @@ use std::alloc::{AllocError, Global};
 use std::marker::Model;
 use wkb_geom::error::WkbResult;
 use wkb_geom::{
-    Dimension, Dimensioned, Dimensions, GeometryCollectionTrait, GeometryTrait, GeometryType,
-    Layout,
+    Dimension, Dimensioned, Dimensions, Endianness, Form, GeometryCollectionTrait, GeometryTrait,
+    GeometryType, Layout,
 };
 use wkb_plain::{Line, Rect, Triangle};
 use wkb_view::any::AnyView;
@@ -326,6 +326,17 @@ impl<'a> GeometryTrait for Wkb<'a> {
     ghost one_dimension = { one_dimension_seen };
 
     ghost lawful = { geometry_lawful };
+
+    /// The whole encoding, where memory holds it so: of what has no members, since these have headers of their own.
+    #[inline]
+    fn whole(&self, order: Endianness, form: Form) -> Option<&[u8]> {
+        match &self.kind {
+            Kind::Point(point) => point.whole(order, form),
+            Kind::LineString(line_string) => line_string.whole(order, form),
+            Kind::Polygon(polygon) => polygon.whole(order, form),
+            _ => None,
+        }
+    }
 
     fn as_type(&self) -> AnyView<'_, 'a, Wkb<'a>>
         ensures view { IsViewOf self.now result }

@@ -2,4 +2,3 @@
 
 pub mod stack;
 pub(crate) mod unfinished;
-pub(crate) mod whole;

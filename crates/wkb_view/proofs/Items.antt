@@ -1,5 +1,6 @@
 -- Words and coordinates at their offsets.
-use Rattle.std.proofs.Common.{◌≡◌, ℕ, zero, suc, ◌+◌, ◌-◌, ◌*◌, ◌≤◌, ◌<◌, List, length, take, drop, Some, refl, sym, ap, ◌∙◌}
+use Rattle.std.proofs.Common.{◌≡◌, ℕ, zero, suc, ◌+◌, ◌-◌, ◌*◌, ◌≤◌, ◌<◌, List, length, take, drop, Some, refl, sym, ap}
+use Rattle.std.proofs.Common.{◌∙◌}
 use Rattle.std.proofs.Common.{get_or, arith, Bool, true, false}
 use Rattle.std.specs.Prelude.{slice_get, is_none}
 use Rattle.std.proofs.lemmas.List.{drop-drop, drop-take}
@@ -7,7 +8,8 @@ use Rattle.std.proofs.lemmas.Option.{get_or_from_slice_get}
 use Rattle.std.proofs.Math.Nat.{mul-le-mul_left, mul-le-mul_right, mul-add}
 use Rattle.wkb_geom.specs.Spellings.{header}
 use Rattle.wkb_geom.specs.Reading.{point_words_in}
-use Rattle.wkb_view.specs.Words.{Endianness, Dimension, Xy, Xyz, Xym, Xyzm, number, width, number-take, length-items, items, coordinate, coordinates}
+use Rattle.wkb_view.specs.Words.{Endianness, Dimension, Xy, Xyz, Xym, Xyzm, number, width, number-take, length-items}
+use Rattle.wkb_view.specs.Words.{items, coordinate, coordinates}
 use Rattle.wkb_view.specs.Words.{ring_in, Layout, is_nan, all_nan, point_of, point_item, point_item_of, srid_in}
 
 pub items_at : {A : Type 0} (size : ℕ) (item : List ℕ → A) (n i : ℕ) (xs : List ℕ) → i < n

@@ -6,7 +6,8 @@ use Rattle.wkb_view.specs.declared.point.Point.{Point}
 use Rattle.wkb_view.specs.declared.line_string.LineString.{LineString}
 use Rattle.wkb_view.specs.declared.multi_point.MultiPoint.{MultiPoint}
 use Rattle.wkb_view.specs.Ranges.{point_lawful, line_string_lawful, multi_point_lawful}
-use Rattle.wkb_view.specs.Views.{point_seen, point_layout, line_string_seen, line_string_layout, multi_point_seen, multi_point_layout}
+use Rattle.wkb_view.specs.Views.{point_seen, point_layout, line_string_seen, line_string_layout, multi_point_seen}
+use Rattle.wkb_view.specs.Views.{multi_point_layout}
 
 pub point_is_lawful : (p : Point) → IsPoint (dimensions (point_layout p).dimension) (point_of (point_seen p).value)
 point_is_lawful p = point_lawful p.layout p.buf.now p.in_range

@@ -1,9 +1,11 @@
 -- Points, line strings and rings: what a text that was cut behind them says, and what they cost.
-use Rattle.std.proofs.Common.{◌≡◌, ℕ, zero, suc, ◌-◌, ◌+◌, ◌≤◌, Bool, true, false, cond, ltb, List, [], ◌∷◌, length, take, drop, Option, Some, None}
+use Rattle.std.proofs.Common.{◌≡◌, ℕ, zero, suc, ◌-◌, ◌+◌, ◌≤◌, Bool, true, false, cond, ltb, List, [], ◌∷◌, length}
+use Rattle.std.proofs.Common.{take, drop, Option, Some, None}
 use Rattle.std.proofs.Common.{Ok, refl, sym, ap, ◌∙◌, length-take, length-drop, arith}
 use Rattle.std.proofs.lemmas.Bool.{le-ltb}
 use Rattle.wkb_geom.specs.Reading.{order_of, head_by_order}
-use Rattle.wkb_view.specs.Words.{Endianness, Dimension, Layout, number, number-take, ring_end, Item, Part, Reading, free}
+use Rattle.wkb_view.specs.Words.{Endianness, Dimension, Layout, number, number-take, ring_end, Item, Part, Reading}
+use Rattle.wkb_view.specs.Words.{free}
 use Rattle.wkb_view.specs.Words.{at_no_cost, head_at, taken, line_string_at, layout_wanted}
 use Rattle.wkb_view.specs.Words.{member_layout, member_body, member_at, then_body}
 use Rattle.wkb_view.specs.Members.{item_of, IsText, IsMember, layout_said, member_item}

@@ -6,3 +6,5 @@ pub mod Members
 pub mod Pieces
 pub mod SpelledRead
 pub mod Asked
+mod Standing
+mod Whole

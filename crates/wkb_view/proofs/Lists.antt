@@ -1,15 +1,20 @@
 -- Parts read one after the other, as a loop does, and lists of them behind a count.
-use Rattle.std.proofs.Common.{◌≡◌, ℕ, suc, ◌+◌, ◌-◌, ◌*◌, ◌≤◌, ◌<◌, List, [], ◌∷◌, ◌++◌, Ok, Err, refl, sym, ap, ◌∙◌, append_assoc, arith, Bool, false}
+use Rattle.std.proofs.Common.{◌≡◌, ℕ, suc, ◌+◌, ◌-◌, ◌*◌, ◌≤◌, ◌<◌, List, [], ◌∷◌, ◌++◌, Ok, Err, refl, sym, ap, ◌∙◌}
+use Rattle.std.proofs.Common.{append_assoc, arith, Bool, false}
 use Rattle.std.proofs.Common.{length, drop, ltb, length-drop}
 use Rattle.std.proofs.lemmas.List.{append-nil}
 use Rattle.std.proofs.lemmas.Bool.{le-ltb}
-use Rattle.wkb_view.specs.Words.{Cause, Refusal, Fault, Memory, Cost, free, one_turn, Part, Reading, costs, done, and_then, repeated, Layout, Item, number}
-use Rattle.wkb_view.specs.Words.{multi_point_end, slots_asked, slots_of, taken, body_start, parts_start, list_at, list_item, ring_part, member_at}
-use Rattle.wkb_view.specs.Words.{width, parts_body, polygon_item, multi_point_with, multi_line_string_with, multi_polygon_with}
+use Rattle.wkb_view.specs.Words.{Cause, Refusal, Fault, Memory, Cost, free, one_turn, Part, Reading, costs, done}
+use Rattle.wkb_view.specs.Words.{and_then, repeated, Layout, Item, number}
+use Rattle.wkb_view.specs.Words.{multi_point_end, slots_asked, slots_of, taken, body_start, parts_start, list_at}
+use Rattle.wkb_view.specs.Words.{list_item, ring_part, member_at}
+use Rattle.wkb_view.specs.Words.{width, parts_body, polygon_item, multi_point_with, multi_line_string_with}
+use Rattle.wkb_view.specs.Words.{multi_polygon_with}
 use Rattle.wkb_view.specs.Words.{polygon_at, multi_point_at, multi_line_string_at, multi_polygon_at}
 use Rattle.wkb_view.specs.declared.counts.Counts.{Counts}
 use Rattle.wkb_view.specs.Outcome.{Spent, CanCount, Stops}
 use Rattle.wkb_view.specs.Members.{parts_behind}
+use Rattle.wkb_view.specs.Entries.{count_in}
 
 -- what was spent since the start and what is still to be read make up the whole
 pub record Leads {A : Type 0} (start now : Counts) (left whole : Reading A) : Type 0 where
@@ -117,15 +122,15 @@ pub record IsList {A : Type 0} (k : ℕ) (l : Layout) (part : List ℕ → Readi
 
 -- a count that is there, and the entries that were asked for
 module _ (l : Layout) (bytes : List ℕ) (n : ℕ) (old mid : Counts) (whole : body_start l.has_srid + 4 ≤ length bytes)
-    (counted : n ≡ number l.order 4 (drop (body_start l.has_srid) bytes)) (turns : mid.turns ≡ old.turns) where
+    (counted : n ≡ count_in l bytes) (turns : mid.turns ≡ old.turns) where
   abbrev Asked : ℕ → Type 0
-  Asked k = mid.slots ≡ old.slots + slots_asked k n (length bytes - (body_start l.has_srid + 4))
+  Asked k = mid.slots ≡ old.slots + slots_asked k (count_in l bytes) (length bytes - (body_start l.has_srid + 4))
 
   list_here : {A : Type 0} (k : ℕ) (part : List ℕ → Reading A) (end : List A → List ℕ → Item) → Asked k
       → IsList k l part end bytes n old mid (list_at k l part end bytes)
   list_here k part end slots =
       let long : ltb (length bytes) (body_start l.has_srid + 4) ≡ false = le-ltb _ _ whole in
-      record { is = rw (long, ← counted) refl; turns = turns; slots = rw (parts_length l.has_srid bytes) slots }
+      record { is = rw (long, ← counted) refl; turns = turns; slots = rw (counted, parts_length l.has_srid bytes) slots }
 
   pub rings_here : Asked 3 → IsList 3 l (ring_part l) (polygon_item l) bytes n old mid (polygon_at l bytes)
   unfolding polygon_at

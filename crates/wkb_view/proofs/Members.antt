@@ -1,5 +1,6 @@
 -- Members in lists.
-use Rattle.std.proofs.Common.{◌≡◌, ℕ, zero, suc, List, [], ◌∷◌, ◌++◌, map, Option, Some, None, refl, sym, ap, ◌∙◌, subst, ◌+◌, ◌-◌, ◌*◌, ◌≤◌, ◌<◌, length}
+use Rattle.std.proofs.Common.{◌≡◌, ℕ, zero, suc, List, [], ◌∷◌, ◌++◌, map, Option, Some, None, refl, sym, ap, ◌∙◌}
+use Rattle.std.proofs.Common.{subst, ◌+◌, ◌-◌, ◌*◌, ◌≤◌, ◌<◌, length}
 use Rattle.std.proofs.Common.{take, drop, Bool, true, false, ◌&&◌, Result, Ok, Err, length-drop, length-take, arith}
 use Rattle.std.specs.Prelude.{slice_get, option_map, if◌then◌else◌, ◌==◌, IsOk}
 use Rattle.std.specs.List.{AllByRecursion}
@@ -8,10 +9,13 @@ use Rattle.std.proofs.lemmas.List.{length-map}
 use Rattle.wkb_geom.specs.Values.{polygon}
 use Rattle.wkb_geom.specs.declared.error.Cause.TheVariants.{IncorrectType as incorrect_type}
 use Rattle.wkb_geom.specs.Reading.{type_kind, type_dimension, same_dimension}
-use Rattle.wkb_view.specs.Words.{Dimension, dimensions, Spelling, Coordinate, Listed, whole_of, Item, spellings, polygon_of, Endianness, Layout, Head, Cause}
-use Rattle.wkb_view.specs.Words.{multi_point_end, body_start, point_of, taken, laid, head_at, layout_wanted, member_layout, list_of_spellings}
+use Rattle.wkb_view.specs.Words.{Dimension, dimensions, Spelling, Coordinate, Listed, whole_of, Item, spellings}
+use Rattle.wkb_view.specs.Words.{polygon_of, Endianness, Layout, Head, Cause}
+use Rattle.wkb_view.specs.Words.{multi_point_end, body_start, point_of, taken, laid, head_at, layout_wanted}
+use Rattle.wkb_view.specs.Words.{member_layout, list_of_spellings}
 use Rattle.wkb_view.specs.Fitted.{fitted_line_strings, fitted_polygons}
-use Rattle.wkb_view.specs.Members.{polygon_items, IsText, IsMember, AreMembers, member_item, members_in, pieces_behind, every, stride, point_ends, points_in}
+use Rattle.wkb_view.specs.Members.{polygon_items, IsText, IsMember, AreMembers, member_item, members_in, pieces_behind}
+use Rattle.wkb_view.specs.Members.{every, stride, point_ends, points_in}
 use Rattle.wkb_view.specs.Pieces.{pieces, Passed}
 use Rattle.wkb_view.specs.Ranges.{member_dimension}
 use Rattle.wkb_view.proofs.Pieces.{parts_counted, pieces_past, piece_form, piece_seen, last_end}

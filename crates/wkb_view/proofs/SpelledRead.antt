@@ -1,12 +1,14 @@
 -- What was read is spelled by its bytes.
-use Rattle.std.proofs.Common.{◌≡◌, ℕ, ◌+◌, ◌≤◌, ltb, List, length, take, drop, false, Result, Ok, Err, refl, ap, ◌∙◌, subst, length-take, arith}
+use Rattle.std.proofs.Common.{◌≡◌, ℕ, ◌+◌, ◌≤◌, ltb, List, length, take, drop, false, Result, Ok, Err, refl, ap, ◌∙◌}
+use Rattle.std.proofs.Common.{subst, length-take, arith}
 use Rattle.std.proofs.lemmas.Bool.{le-ltb}
 use Rattle.wkb_geom.specs.declared.code.WkbType.TheVariants as kinds
 use Rattle.wkb_geom.specs.Spellings.{Part, any}
 use Rattle.wkb_geom.specs.Reading.{body_at, too_deep, geometry_at, by_type, layout_of}
 use Rattle.wkb_laws.proofs.Heads.{IsRight}
 use Rattle.wkb_laws.proofs.Sound.{geometry_says}
-use Rattle.wkb_view.specs.Words.{Cause, Head, Layout, number, point_end, line_string_end, Item, Reading, head_at, then_body, body_start}
+use Rattle.wkb_view.specs.Words.{Cause, Head, Layout, number, point_end, line_string_end, Item, Reading, head_at}
+use Rattle.wkb_view.specs.Words.{then_body, body_start}
 use Rattle.wkb_view.specs.Words.{point_at, line_string_at, point_item, line_string_item, IsSpelled}
 use Rattle.wkb_view.specs.Headers.{HasHead}
 use Rattle.wkb_view.specs.Members.{IsText}

@@ -1,6 +1,7 @@
 -- Coordinates that fit their dimensions: one that is lawful stays as it is, any other becomes the zero coordinate. So a
 -- geometry of any value, also one that no input spells, is lawful.
-use Rattle.std.proofs.Common.{◌≡◌, ℕ, zero, suc, ◌^◌, List, [], ◌∷◌, length, map, Bool, true, false, Option, Some, None, refl, sym, ap, ◌∙◌, subst, arith}
+use Rattle.std.proofs.Common.{◌≡◌, ℕ, zero, suc, ◌^◌, List, [], ◌∷◌, length, map, Bool, true, false, Option, Some, None}
+use Rattle.std.proofs.Common.{refl, sym, ap, ◌∙◌, subst, arith}
 use Rattle.std.specs.Prelude.{nat_lt, ◌==◌, ◌&&◌, if◌then◌else◌, slice_get}
 use Rattle.std.specs.List.{AllByRecursion, list_all}
 use Rattle.std.specs.Option.{option_map, IfSome}
@@ -9,8 +10,10 @@ use Rattle.std.proofs.lemmas.Option.{slice_get-map}
 use Rattle.std.proofs.Math.ListN.{replicate}
 use Rattle.std.proofs.lemmas.Bool.{and_parts, eqb-true, eq-eqb, ltb-true, lt-ltb}
 use Rattle.wkb_geom.specs.declared.common.Dimensions.{Dimensions}
-use Rattle.wkb_geom.specs.Geometries.{Geometry, point, line_string, polygon, multi_point, multi_line_string, multi_polygon, collection, line, rectangle}
-use Rattle.wkb_geom.specs.Geometries.{triangle, Geometries, no_geometries, geometry, IsCoordinate, IsPoint, AreCoordinates, IsGeometry, AreGeometries}
+use Rattle.wkb_geom.specs.Geometries.{Geometry, point, line_string, polygon, multi_point, multi_line_string}
+use Rattle.wkb_geom.specs.Geometries.{multi_polygon, collection, line, rectangle}
+use Rattle.wkb_geom.specs.Geometries.{triangle, Geometries, no_geometries, geometry, IsCoordinate, IsPoint}
+use Rattle.wkb_geom.specs.Geometries.{AreCoordinates, IsGeometry, AreGeometries}
 use Rattle.wkb_view.specs.Words.{Dimension, Coordinate, size, dimensions, IsWord}
 
 -- whether there are as many words as the dimensions say, each in range

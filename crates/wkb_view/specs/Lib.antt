@@ -1,4 +1,5 @@
 pub mod Coords
+pub mod Entries
 pub mod Fitted
 pub mod Headers
 pub mod Members

@@ -1,9 +1,13 @@
 -- The parts of a geometry by their texts: the rings of a polygon, and the members of multi geometries, each with an order, a code and an SRID of its own.
-use Rattle.std.specs.Prelude.{◌≡◌, ℕ, zero, suc, ◌+◌, ◌*◌, List, [], ◌∷◌, map, length, drop, false, Result, Ok, Err, if◌then◌else◌, ◌==◌}
+use Rattle.std.specs.Prelude.{◌≡◌, ℕ, zero, suc, ◌+◌, ◌*◌, List, [], ◌∷◌, map, length, drop, false, Result, Ok, Err}
+use Rattle.std.specs.Prelude.{if◌then◌else◌, ◌==◌}
 use Rattle.wkb_geom.specs.Values.{polygon}
-use Rattle.wkb_view.specs.Words.{Layout, Dimension, BigEndian, Cause, Coordinate, number, width, point_end, line_string_end, Spellings, no_spellings, Listed}
-use Rattle.wkb_view.specs.Words.{whole_of, Reading, repeated, Item, spellings, laid, body_start, parts_start, spelled_in, point_item, line_string_item}
-use Rattle.wkb_view.specs.Words.{ring_in, list_item, line_string_of, polygon_of, multi_point_with, member_layout, IsSpelled}
+use Rattle.wkb_view.specs.Words.{Layout, Dimension, BigEndian, Cause, Coordinate, number, width, point_end}
+use Rattle.wkb_view.specs.Words.{line_string_end, Spellings, no_spellings, Listed}
+use Rattle.wkb_view.specs.Words.{whole_of, Reading, repeated, Item, spellings, laid, body_start, parts_start}
+use Rattle.wkb_view.specs.Words.{spelled_in, point_item, line_string_item}
+use Rattle.wkb_view.specs.Words.{ring_in, list_item, line_string_of, polygon_of, multi_point_with, member_layout}
+use Rattle.wkb_view.specs.Words.{IsSpelled}
 use Rattle.wkb_view.specs.Pieces.{pieces, ArePieces, IsRing}
 
 -- the point (k = 1) or the line string (k = 2) of a text that is laid out so

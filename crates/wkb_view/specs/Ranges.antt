@@ -1,13 +1,17 @@
 -- What is read of bytes is lawful: each word is below 2^64, and a coordinate has as many as its dimension says.
-use Rattle.std.proofs.Common.{◌≡◌, ℕ, zero, suc, ◌+◌, ◌-◌, ◌*◌, ◌<◌, ◌^◌, List, [], ◌∷◌, take, drop, map, lit<, Result, Ok, Err, Bool, true, false}
+use Rattle.std.proofs.Common.{◌≡◌, ℕ, zero, suc, ◌+◌, ◌-◌, ◌*◌, ◌<◌, ◌^◌, List, [], ◌∷◌, take, drop, map, lit<, Result}
+use Rattle.std.proofs.Common.{Ok, Err, Bool, true, false}
 use Rattle.std.proofs.Common.{if◌then◌else◌, refl, sym, ap, ◌∙◌, subst, arith}
 use Rattle.std.proofs.lemmas.List.{get_or-drop}
 use Rattle.std.specs.List.{AllByRecursion}
 use Rattle.wkb_geom.specs.Geometries.{IsCoordinate, IsPoint, AreCoordinates}
 use Rattle.wkb_geom.specs.declared.error.Cause.TheVariants.{IncorrectType as incorrect_type}
-use Rattle.wkb_view.specs.Words.{Endianness, BigEndian, LittleEndian, Dimension, Xy, Xyz, Xym, Xyzm, Layout, width, size, dimensions, number, all_nan, Head}
-use Rattle.wkb_view.specs.Words.{Cause, AreBytes, IsWord, length-items, items, coordinate, coordinates, head_at, laid, body_start, point_of, point_item}
-use Rattle.wkb_view.specs.Words.{point_item_of, line_string_of, line_string_item, ring_in, layout_wanted, member_layout, points_of}
+use Rattle.wkb_view.specs.Words.{Endianness, BigEndian, LittleEndian, Dimension, Xy, Xyz, Xym, Xyzm, Layout, width}
+use Rattle.wkb_view.specs.Words.{size, dimensions, number, all_nan, Head}
+use Rattle.wkb_view.specs.Words.{Cause, AreBytes, IsWord, length-items, items, coordinate, coordinates, head_at, laid}
+use Rattle.wkb_view.specs.Words.{body_start, point_of, point_item}
+use Rattle.wkb_view.specs.Words.{point_item_of, line_string_of, line_string_item, ring_in, layout_wanted, member_layout}
+use Rattle.wkb_view.specs.Words.{points_of}
 use Rattle.wkb_view.specs.Members.{layout_said, member_item, point_ends, multi_point_item}
 use Rattle.wkb_view.specs.Pieces.{pieces}
 use Rattle.byteorder.specs.Numbers.{big_from-lt, little_from-lt}

@@ -1,6 +1,7 @@
 -- What the views stand for.
 use Rattle.std.proofs.Common.{◌≡◌, ℕ, ◌+◌, ◌*◌, List, drop, Bool, true, false, refl}
-use Rattle.wkb_view.specs.Words.{Layout, Coordinate, width, all_nan, Item, coordinate, point_item, point_item_of, point_of, line_string_item, body_start}
+use Rattle.wkb_view.specs.Words.{Layout, Coordinate, width, all_nan, Item, coordinate, point_item, point_item_of}
+use Rattle.wkb_view.specs.Words.{point_of, line_string_item, body_start}
 use Rattle.wkb_geom.specs.Values.{point}
 use Rattle.wkb_view.specs.declared.point.Point.{Point}
 use Rattle.wkb_view.specs.declared.line_string.LineString.{LineString}

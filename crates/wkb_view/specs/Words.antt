@@ -18,11 +18,16 @@ pub use Rattle.wkb_geom.specs.Refusals.{point_end, line_string_end, multi_point_
 pub use Rattle.wkb_geom.specs.Values.{Coordinate}
 pub use Rattle.wkb_geom.specs.Spellings.{Spelling, Spellings, no_spellings}
 pub use Rattle.wkb_geom.specs.Stored.{Listed, whole_of}
-pub use Rattle.wkb_geom.specs.Reading.{Cost, free, one_turn, slots_of, Part, Reading, at_no_cost, done, refused, costs, and_then, then_body, items}
-pub use Rattle.wkb_geom.specs.Reading.{coordinate, coordinates, ring_in, Item, spellings, laid, body_start, parts_start, srid_in, spelled_in, taken}
-pub use Rattle.wkb_geom.specs.Reading.{point_item, point_item_of, line_string_item, polygon_item, list_item, point_of, line_string_of, polygon_of}
-pub use Rattle.wkb_geom.specs.Reading.{multi_point_with, multi_line_string_with, multi_polygon_with, ring_part, parts_body, list_at}
+pub use Rattle.wkb_geom.specs.Reading.{Cost, free, one_turn, slots_of, Part, Reading, at_no_cost, done, refused, costs}
+pub use Rattle.wkb_geom.specs.Reading.{and_then, then_body, items}
+pub use Rattle.wkb_geom.specs.Reading.{coordinate, coordinates, ring_in, Item, spellings, laid, body_start, parts_start}
+pub use Rattle.wkb_geom.specs.Reading.{srid_in, spelled_in, taken}
+pub use Rattle.wkb_geom.specs.Reading.{point_item, point_item_of, line_string_item, polygon_item, list_item, point_of}
+pub use Rattle.wkb_geom.specs.Reading.{line_string_of, polygon_of}
+pub use Rattle.wkb_geom.specs.Reading.{multi_point_with, multi_line_string_with, multi_polygon_with, ring_part}
+pub use Rattle.wkb_geom.specs.Reading.{parts_body, list_at}
 pub use Rattle.wkb_geom.specs.Reading.{layout_wanted, member_layout, member_body, member_at}
 unfoldable pub use Rattle.wkb_geom.specs.Reading.{repeated, head_at, point_at, line_string_at, ring_at, polygon_at}
 unfoldable pub use Rattle.wkb_geom.specs.Reading.{multi_point_at, multi_line_string_at, multi_polygon_at}
-pub use Rattle.wkb_view.specs.Parts.{list_of_values, srid_of, order_of, IsCollection, points_of, members_spelled, list_of_spellings, IsSpelled, spelling_at}
+pub use Rattle.wkb_view.specs.Parts.{list_of_values, srid_of, order_of, IsCollection, points_of, members_spelled}
+pub use Rattle.wkb_view.specs.Parts.{list_of_spellings, IsSpelled, spelling_at}

@@ -9,10 +9,11 @@ use crate::any::{
 use crate::coord::Coord;
 use crate::linear_ring::LinearRing;
 use crate::own_srid::OwnSrid;
-use wkb_geom::words::u32_at;
+use wkb_geom::code::WkbType;
+use wkb_geom::words::{COUNT, u32_at};
 use wkb_geom::{
-    Cause, Dimension, Dimensioned, Dimensions, Endianness, General, GeometryTrait, GeometryType,
-    Layout, LineStringTrait,
+    Cause, Dimension, Dimensioned, Dimensions, Endianness, Form, General, GeometryTrait,
+    GeometryType, Layout, LineStringTrait,
 };
 
 /// A line string.
@@ -71,7 +72,7 @@ impl<'a> LineString<'a> {
         ensures { result.now ≡ drop (body_start (line_string_layout self.now).has_srid + 4)
             (line_string_seen self.now).text }
     {
-        &self.buf[self.layout.body_start() + 4..]
+        &self.buf[self.layout.body_start() + COUNT..]
     }
 
     /// The order of its numbers.
@@ -117,13 +118,9 @@ impl<'a> LineString<'a> {
         ensures passed { IfOk result (λ x. Passed 9 (IsText 2 layout) bytes.now x.1.now) }
         ensures shorter { IfOk result (λ x. length x.1.now + 9 ≤ length bytes.now) }
     {
-        let count = match layout.count(bytes) {
-            Ok(count) => count,
-            Err(cause) => return Err(cause),
-        };
-        let end = layout.body_start() as u64
-            + 4
-            + 8 * layout.dimension.width() as u64 * count as u64;
+        let count = layout.count(bytes)?;
+        let start = layout.body_start() + COUNT;
+        let end = start as u64 + 8 * layout.dimension.width() as u64 * count as u64;
         if (bytes.len() as u64) < end {
             return Err(Cause::General(General::ShortLineString {
                 end,
@@ -193,6 +190,15 @@ impl<'a> LineStringTrait for LineString<'a> {
     }
 
     #[inline]
+    fn standing(&self, order: Endianness) -> Option<&[u8]> {
+        if self.layout.order == order {
+            Some(self.coords_slice())
+        } else {
+            None
+        }
+    }
+
+    #[inline]
     fn coord(&self, i: usize) -> Option<Coord<'a>>
         ensures value { option_map words_seen result ≡ slice_get (line_string_of (line_string_seen self.now).value) i }
         ensures dimensions { IfSome result (λ c. trait_dimensions (coord_dimension c)
@@ -251,6 +257,16 @@ impl<'a> GeometryTrait for LineString<'a> {
     ghost one_dimension = { λ g. refl };
 
     ghost lawful = { λ l. line_string_lawful l.layout l.buf.now l.in_range };
+
+    #[inline]
+    fn whole(&self, order: Endianness, form: Form) -> Option<&[u8]> {
+        let wkb_type = WkbType::LineString(self.layout.dimension);
+        if self.layout.begins_as(wkb_type, self.buf, order, form) {
+            Some(self.buf)
+        } else {
+            None
+        }
+    }
 
     #[inline]
     fn as_type(&self) -> AnyView<'_, 'a, LineString<'a>>

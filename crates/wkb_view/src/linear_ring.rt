@@ -8,7 +8,7 @@ ghost use Rattle.wkb_view.specs.Pieces.{IsRing, Passed};
 use crate::any::{Line, MultiLineString, MultiPoint, MultiPolygon, Point, Polygon, Rect, Triangle};
 use crate::coord::Coord;
 use crate::part::part;
-use wkb_geom::words::u32_at;
+use wkb_geom::words::{COUNT, u32_at};
 use wkb_geom::{
     Cause, Dimension, Dimensioned, Dimensions, Endianness, General, GeometryTrait, GeometryType,
     LineStringTrait,
@@ -49,7 +49,7 @@ impl<'a> LinearRing<'a> {
         requires { i ≤ length (ring_seen self.now) }
         ensures { result ≡ ring_offset self.now i }
     {
-        4 + 8 * self.dimension.width() as u64 * i
+        COUNT as u64 + 8 * self.dimension.width() as u64 * i
     }
 
     /// Its dimension.
@@ -68,7 +68,7 @@ impl<'a> LinearRing<'a> {
             (ring_text self.now) }
         ensures bytes { AreBytes (ring_text self.now) }
     {
-        &self.bytes[4..]
+        &self.bytes[COUNT..]
     }
 
     /// The order of its numbers.
@@ -109,6 +109,15 @@ impl<'a> LineStringTrait for LinearRing<'a> {
     #[inline]
     fn num_coords(&self) -> usize {
         self.count as usize
+    }
+
+    #[inline]
+    fn standing(&self, order: Endianness) -> Option<&[u8]> {
+        if self.order == order {
+            Some(self.coords_slice())
+        } else {
+            None
+        }
     }
 
     #[inline]
@@ -211,11 +220,11 @@ pub(crate) fn ring<'a>(
     ensures answer { Answers (λ rest. (taken bytes.now rest.now, rest.now)) result (ring_at order dimension bytes.now) }
     ensures passed { IfOk result (λ rest. Passed 4 (IsRing order dimension) bytes.now rest.now) }
 {
-    if bytes.len() < 4 {
+    if bytes.len() < COUNT {
         return Err(Cause::EndOfInput);
     }
     let count = u32_at(bytes, 0, order);
-    let end = 4 + 8 * dimension.width() as u64 * count as u64;
+    let end = COUNT as u64 + 8 * dimension.width() as u64 * count as u64;
     if (bytes.len() as u64) < end {
         return Err(Cause::General(General::ShortLinearRing {
             end,

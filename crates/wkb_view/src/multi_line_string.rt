@@ -1,9 +1,10 @@
 //! A multi line string.
 
-ghost use Rattle.std.specs.Prelude.{◌≡◌, ◌+◌, length, ◌≤◌, IfOk, ◌/◌, [], min, vec_capacity};
+ghost use Rattle.std.specs.Prelude.{◌≡◌, ◌+◌, length, ◌≤◌, IfOk, ◌/◌, [], min};
 ghost use Rattle.wkb_view.specs.Words.{dimensions as trait_dimensions, body_start, member_at, parts_start, taken};
 ghost use Rattle.wkb_view.specs.Members.{parts_behind, IsMember, member_item, AreMembers, members_in};
 ghost use Rattle.wkb_view.specs.Outcome.{Freely, Surely, CanCount};
+ghost use Rattle.wkb_view.specs.Entries.{entries, room};
 ghost use Rattle.wkb_view.specs.Pieces.{Passed};
 
 use crate::any::{
@@ -12,9 +13,12 @@ use crate::any::{
 use crate::counts::Counts;
 use crate::own_srid::OwnSrid;
 use crate::part::piece;
-use crate::reserved::{Reserved, reserve};
+use crate::reserved::{Reserved, counted_list};
 use std::alloc::{AllocError, Global};
 use std::marker::Model;
+use wkb_geom::code::LINE_STRING;
+use wkb_geom::header::LEAST_MEMBER;
+use wkb_geom::words::COUNT;
 use wkb_geom::{
     Cause, Dimension, Dimensioned, Dimensions, GeometryTrait, GeometryType, Layout,
     MultiLineStringTrait, Refusal,
@@ -96,11 +100,8 @@ impl<'a> MultiLineString<'a> {
         ensures dimension { IfSome result (λ l. (line_string_layout l).dimension ≡ self.now.dimension) }
         ensures spelled { option_map (λ l. (line_string_seen l).spelled) result ≡ spelling_at self.now.spelled i }
     {
-        let buf = match piece(self.buf, self.layout.body_start() + 4, &self.ends, i) {
-            Some(buf) => buf,
-            None => return None,
-        };
-        let layout = Layout::of_known_member(2, self.layout.dimension, buf);
+        let buf = piece(self.buf, self.layout.body_start() + COUNT, &self.ends, i)?;
+        let layout = Layout::of_known_member(LINE_STRING, self.layout.dimension, buf);
         Some(LineString::of_text(layout, buf))
     }
 
@@ -130,26 +131,14 @@ impl<'a> MultiLineString<'a> {
         ensures shorter { IfOk result (λ x. length x.1.now + 9 ≤ length bytes.now) }
         ensures no_memory { (multi_line_string_at layout bytes.now).0.slots ≡ 0 → IsNoWant result }
     {
-        let count = match layout.count(bytes) {
-            Ok(count) => count,
-            Err(cause) => return Err(Refusal::Fault(cause)),
+        let (count, ends) = counted_list(alloc, layout, bytes, LEAST_MEMBER, counts)?;
+        let (ends, rest) = line_strings(layout, bytes, ends, count, counts)?;
+        let multi_line_string = MultiLineString {
+            buf: &bytes[..bytes.len() - rest.len()],
+            layout,
+            ends: ends.into_vec(),
         };
-        let remaining = bytes.len() - (layout.body_start() + 4);
-        let ends = match reserve(alloc, count, remaining, 9, counts) {
-            Ok(ends) => ends,
-            Err(_) => return Err(Refusal::Memory),
-        };
-        match line_strings(layout, bytes, ends, count, counts) {
-            Ok((ends, rest)) => {
-                let multi_line_string = MultiLineString {
-                    buf: &bytes[..bytes.len() - rest.len()],
-                    layout,
-                    ends: ends.into_vec(),
-                };
-                Ok((multi_line_string, rest))
-            }
-            Err(cause) => Err(Refusal::Fault(cause)),
-        }
+        Ok((multi_line_string, rest))
     }
 }
 
@@ -247,20 +236,15 @@ fn line_string<'a>(dimension: Dimension, bytes: &'a [u8]) -> Result<&'a [u8], Ca
         result (member_at 2 dimension bytes.now) }
     ensures passed { IfOk result (λ rest. Passed 9 (IsMember 2 dimension) bytes.now rest.now) }
 {
-    let (order, has_srid) = match Layout::of_member(2, dimension, bytes) {
-        Ok(layout) => (layout.order, layout.has_srid),
-        Err(cause) => return Err(cause),
-    };
+    let member = Layout::of_member(LINE_STRING, dimension, bytes)?;
     // Made anew, so that it doesn't go through memory.
     let layout = Layout {
-        order,
+        order: member.order,
         dimension,
-        has_srid,
+        has_srid: member.has_srid,
     };
-    match LineString::read(layout, bytes) {
-        Ok((_, rest)) => Ok(rest),
-        Err(cause) => Err(cause),
-    }
+    let (_, rest) = LineString::read(layout, bytes)?;
+    Ok(rest)
 }
 
 /// Passes so many line strings, and keeps the offsets at which they end.
@@ -273,12 +257,12 @@ fn line_strings<'a>(
     counts: &mut Counts,
 ) -> Result<(Reserved<usize>, &'a [u8]), Cause>
     requires whole { body_start layout.has_srid + 4 ≤ length bytes.now }
-    requires empty { ends.items.items ≡ [] }
-    requires room { min count (length (parts_start layout.has_srid bytes.now) / 9) ≤ vec_capacity ends.items }
+    requires empty { entries ends ≡ [] }
+    requires room { min count (length (parts_start layout.has_srid bytes.now) / 9) ≤ room ends }
     requires fits { CanCount counts.old (parts_behind (member_at 2 layout.dimension) layout count bytes.now).0 }
-    ensures line_strings { Surely (λ x. (members_in 2 layout x.0.items.items (taken bytes.now x.1.now), x.1.now))
+    ensures line_strings { Surely (λ x. (members_in 2 layout (entries x.0) (taken bytes.now x.1.now), x.1.now))
         result (parts_behind (member_at 2 layout.dimension) layout count bytes.now) counts.old counts.new }
-    ensures ends { IfOk result (λ x. AreMembers 2 layout x.0.items.items (taken bytes.now x.1.now)) }
+    ensures ends { IfOk result (λ x. AreMembers 2 layout (entries x.0) (taken bytes.now x.1.now)) }
     ensures shorter { IfOk result (λ x. length x.1.now + body_start layout.has_srid + 4 ≤ length bytes.now) }
 {
     let mut rest = layout.behind_count(bytes);

@@ -12,6 +12,9 @@ use crate::any::{
 use crate::counts::Counts;
 use crate::own_srid::OwnSrid;
 use crate::part::part;
+use wkb_geom::code::POINT;
+use wkb_geom::header::MEMBER_HEADER;
+use wkb_geom::words::COUNT;
 use wkb_geom::{
     Cause, Dimension, Dimensioned, Dimensions, General, GeometryTrait, GeometryType, Layout,
     MultiPointTrait,
@@ -53,8 +56,9 @@ impl<'a> MultiPoint<'a> {
         requires { i ≤ length (points_of (multi_point_seen self.now).value) }
         ensures { result ≡ multi_point_offset self.now i }
     {
-        let start = self.layout.body_start() as u64 + 4;
-        start + (5 + 8 * self.layout.dimension.width() as u64) * i
+        let start = self.layout.body_start() + COUNT;
+        let member = MEMBER_HEADER + 8 * self.layout.dimension.width();
+        start as u64 + member as u64 * i
     }
 
     /// Its dimension.
@@ -87,25 +91,19 @@ impl<'a> MultiPoint<'a> {
             result (multi_point_at layout bytes.now) counts.old counts.new }
         ensures shorter { IfOk result (λ x. length x.1.now + 9 ≤ length bytes.now) }
     {
-        let count = match layout.count(bytes) {
-            Ok(count) => count,
-            Err(cause) => return Err(cause),
-        };
-        let start = layout.body_start() + 4;
-        let end = start as u64 + (5 + 8 * layout.dimension.width() as u64) * count as u64;
+        let count = layout.count(bytes)?;
+        let start = layout.body_start() + COUNT;
+        let member = MEMBER_HEADER + 8 * layout.dimension.width();
+        let end = start as u64 + member as u64 * count as u64;
         if (bytes.len() as u64) < end {
             return Err(Cause::General(General::ShortMultiPoint {
                 end,
                 len: bytes.len(),
             }));
         }
-        match points(layout, bytes, count, counts) {
-            Ok(rest) => {
-                let buf = &bytes[..bytes.len() - rest.len()];
-                Ok((MultiPoint { buf, layout, count }, rest))
-            }
-            Err(cause) => Err(cause),
-        }
+        let rest = points(layout, bytes, count, counts)?;
+        let buf = &bytes[..bytes.len() - rest.len()];
+        Ok((MultiPoint { buf, layout, count }, rest))
     }
 }
 
@@ -169,8 +167,9 @@ impl<'a> MultiPointTrait for MultiPoint<'a> {
             return None;
         }
         let start = self.point_offset(i as u64) as usize;
-        let buf = part(self.buf, start, 5 + 8 * self.layout.dimension.width());
-        let layout = Layout::of_known_member(1, self.layout.dimension, buf);
+        let member = MEMBER_HEADER + 8 * self.layout.dimension.width();
+        let buf = part(self.buf, start, member);
+        let layout = Layout::of_known_member(POINT, self.layout.dimension, buf);
         Some(Point::of_text(layout, buf))
     }
 }
@@ -223,20 +222,15 @@ fn point<'a>(dimension: Dimension, bytes: &'a [u8]) -> Result<&'a [u8], Cause>
         result (member_at 1 dimension bytes.now) }
     ensures passed { IfOk result (λ rest. Passed 9 (IsMember 1 dimension) bytes.now rest.now) }
 {
-    let order = match Layout::of_member(1, dimension, bytes) {
-        Ok(layout) => layout.order,
-        Err(cause) => return Err(cause),
-    };
+    let member = Layout::of_member(POINT, dimension, bytes)?;
     // Made anew from what is known, so that it doesn't go through memory.
     let layout = Layout {
-        order,
+        order: member.order,
         dimension,
         has_srid: false,
     };
-    match Point::read(layout, bytes) {
-        Ok((_, rest)) => Ok(rest),
-        Err(cause) => Err(cause),
-    }
+    let (_, rest) = Point::read(layout, bytes)?;
+    Ok(rest)
 }
 
 /// Passes so many points.

@@ -1,21 +1,24 @@
 //! A multi polygon.
 
-ghost use Rattle.std.specs.Prelude.{◌≡◌, ◌+◌, length, ◌≤◌, IfOk, ◌/◌, [], min, vec_capacity};
+ghost use Rattle.std.specs.Prelude.{◌≡◌, ◌+◌, length, ◌≤◌, IfOk, ◌/◌, [], min};
 ghost use Rattle.std.specs.List.{AllByRecursion};
 ghost use Rattle.wkb_geom.specs.Values as value;
 ghost use Rattle.wkb_view.specs.Words.{dimensions as trait_dimensions, body_start, member_at, parts_start, whole_of};
 ghost use Rattle.wkb_view.specs.Memory.{IsNoWant};
 ghost use Rattle.wkb_view.specs.Outcome.{Gives, CanCount};
 ghost use Rattle.wkb_view.specs.Members.{parts_behind, polygon_items};
+ghost use Rattle.wkb_view.specs.Entries.{entries, room};
 
 use crate::any::{
     AnyView, Line, LineString, MultiLineString, MultiPoint, Point, Polygon, Rect, Triangle,
 };
 use crate::counts::Counts;
 use crate::own_srid::OwnSrid;
-use crate::reserved::{Reserved, reserve};
+use crate::reserved::{Reserved, counted_list};
 use std::alloc::{AllocError, Global};
 use std::marker::Model;
+use wkb_geom::code::POLYGON;
+use wkb_geom::header::LEAST_MEMBER;
 use wkb_geom::{
     Dimension, Dimensioned, Dimensions, GeometryTrait, GeometryType, Layout, MultiPolygonTrait,
     Refusal,
@@ -112,26 +115,14 @@ impl<'a> MultiPolygon<'a> {
         ensures shorter { IfOk result (λ x. length x.1.now + 9 ≤ length bytes.now) }
         ensures no_memory { (multi_polygon_at layout bytes.now).0.slots ≡ 0 → IsNoWant result }
     {
-        let count = match layout.count(bytes) {
-            Ok(count) => count,
-            Err(cause) => return Err(Refusal::Fault(cause)),
+        let (count, members) = counted_list(alloc, layout, bytes, LEAST_MEMBER, counts)?;
+        let (members, rest) = polygons(alloc, layout, bytes, members, count, counts)?;
+        let multi_polygon = MultiPolygon {
+            buf: &bytes[..bytes.len() - rest.len()],
+            layout,
+            members: members.into_vec(),
         };
-        let remaining = bytes.len() - (layout.body_start() + 4);
-        let members = match reserve(alloc, count, remaining, 9, counts) {
-            Ok(members) => members,
-            Err(_) => return Err(Refusal::Memory),
-        };
-        match polygons(alloc, layout, bytes, members, count, counts) {
-            Ok((members, rest)) => {
-                let multi_polygon = MultiPolygon {
-                    buf: &bytes[..bytes.len() - rest.len()],
-                    layout,
-                    members: members.into_vec(),
-                };
-                Ok((multi_polygon, rest))
-            }
-            Err(refusal) => Err(refusal),
-        }
+        Ok((multi_polygon, rest))
     }
 }
 
@@ -240,10 +231,8 @@ fn member<'a>(
     ensures shorter { IfOk result (λ x. length x.1.now + 9 ≤ length bytes.now) }
     ensures no_memory { (member_at 3 dimension bytes.now).0.slots ≡ 0 → IsNoWant result }
 {
-    match Layout::of_member(3, dimension, bytes) {
-        Ok(layout) => Polygon::read(alloc, layout, bytes, counts),
-        Err(cause) => Err(Refusal::Fault(cause)),
-    }
+    let layout = Layout::of_member(POLYGON, dimension, bytes)?;
+    Polygon::read(alloc, layout, bytes, counts)
 }
 
 /// So many polygons, and the bytes after them.
@@ -256,11 +245,11 @@ fn polygons<'a>(
     counts: &mut Counts,
 ) -> Result<(Reserved<Polygon<'a>>, &'a [u8]), Refusal>
     requires whole { body_start layout.has_srid + 4 ≤ length bytes.now }
-    requires empty { members.items.items ≡ [] }
-    requires room { min count (length (parts_start layout.has_srid bytes.now) / 9) ≤ vec_capacity members.items }
+    requires empty { entries members ≡ [] }
+    requires room { min count (length (parts_start layout.has_srid bytes.now) / 9) ≤ room members }
     requires fits { CanCount counts.old (parts_behind (member_at 3 layout.dimension) layout count bytes.now).0 }
-    ensures dimension { IfOk result (λ x. AllByRecursion (λ p. p.dimension ≡ layout.dimension) x.0.items.items) }
-    ensures polygons { Gives (λ x. (polygon_items x.0.items.items, x.1.now))
+    ensures dimension { IfOk result (λ x. AllByRecursion (λ p. p.dimension ≡ layout.dimension) (entries x.0)) }
+    ensures polygons { Gives (λ x. (polygon_items (entries x.0), x.1.now))
         result (parts_behind (member_at 3 layout.dimension) layout count bytes.now) counts.old counts.new }
     ensures shorter { IfOk result (λ x. length x.1.now ≤ length (parts_start layout.has_srid bytes.now)) }
     ensures no_memory { (parts_behind (member_at 3 layout.dimension) layout count bytes.now).0.slots ≡ 0
@@ -269,13 +258,9 @@ fn polygons<'a>(
     let mut rest = layout.behind_count(bytes);
     for _ in 0..count {
         counts.turns += 1;
-        match member(alloc, layout.dimension, rest, counts) {
-            Ok((polygon, after)) => {
-                members.push(polygon);
-                rest = after;
-            }
-            Err(refusal) => return Err(refusal),
-        }
+        let (polygon, after) = member(alloc, layout.dimension, rest, counts)?;
+        members.push(polygon);
+        rest = after;
     }
     Ok((members, rest))
 }

@@ -9,9 +9,10 @@ use crate::any::{
 use crate::coord::Coord;
 use crate::own_srid::OwnSrid;
 use crate::part::part;
+use wkb_geom::code::WkbType;
 use wkb_geom::{
-    Cause, Dimension, Dimensioned, Dimensions, Endianness, General, GeometryTrait, GeometryType,
-    Layout, PointTrait,
+    Cause, Dimension, Dimensioned, Dimensions, Endianness, Form, General, GeometryTrait,
+    GeometryType, Layout, PointTrait,
 };
 
 /// A point, which may be empty.
@@ -222,6 +223,16 @@ impl<'a> GeometryTrait for Point<'a> {
     ghost one_dimension = { λ g. refl };
 
     ghost lawful = { λ p. point_lawful p.layout p.buf.now p.in_range };
+
+    #[inline]
+    fn whole(&self, order: Endianness, form: Form) -> Option<&[u8]> {
+        let wkb_type = WkbType::Point(self.layout.dimension);
+        if !self.layout.begins_as(wkb_type, self.buf, order, form) {
+            return None;
+        }
+        let is_empty = self.words().is_nan();
+        if is_empty { None } else { Some(self.buf) }
+    }
 
     #[inline]
     fn as_type(&self) -> AnyView<'_, 'a, Point<'a>>

@@ -1,9 +1,10 @@
 //! A polygon.
 
-ghost use Rattle.std.specs.Prelude.{◌≡◌, ◌+◌, length, ◌≤◌, IfOk, ◌/◌, [], min, vec_capacity};
+ghost use Rattle.std.specs.Prelude.{◌≡◌, ◌+◌, length, ◌≤◌, IfOk, ◌/◌, [], min};
 ghost use Rattle.wkb_view.specs.Words.{dimensions as trait_dimensions, body_start, parts_start, ring_part, taken};
 ghost use Rattle.wkb_view.specs.Members.{parts_behind, pieces_behind, AreRings};
 ghost use Rattle.wkb_view.specs.Outcome.{Surely, CanCount};
+ghost use Rattle.wkb_view.specs.Entries.{entries, room};
 
 use crate::any::{
     AnyView, Line, LineString, MultiLineString, MultiPoint, MultiPolygon, Point, Rect, Triangle,
@@ -12,13 +13,14 @@ use crate::counts::Counts;
 use crate::linear_ring::{LinearRing, ring};
 use crate::own_srid::OwnSrid;
 use crate::part::piece;
-use crate::reserved::{Reserved, reserve};
+use crate::reserved::{Reserved, counted_list};
 use std::alloc::{AllocError, Global};
 use std::marker::Model;
-use wkb_geom::words::u32_at;
+use wkb_geom::code::WkbType;
+use wkb_geom::words::{COUNT, u32_at};
 use wkb_geom::{
-    Cause, Dimension, Dimensioned, Dimensions, GeometryTrait, GeometryType, Layout, PolygonTrait,
-    Refusal,
+    Cause, Dimension, Dimensioned, Dimensions, Endianness, Form, GeometryTrait, GeometryType,
+    Layout, PolygonTrait, Refusal,
 };
 
 /// A polygon: its rings by the offsets at which they end.
@@ -96,10 +98,7 @@ impl<'a> Polygon<'a> {
         ensures dimension { IfSome result (λ r. ring_dimension r ≡ self.now.dimension) }
         ensures order { IfSome result (λ r. ring_order r ≡ order_of self.now.spelled) }
     {
-        let bytes = match piece(self.buf, self.layout.body_start() + 4, &self.ends, i) {
-            Some(bytes) => bytes,
-            None => return None,
-        };
+        let bytes = piece(self.buf, self.layout.body_start() + COUNT, &self.ends, i)?;
         Some(LinearRing {
             bytes,
             order: self.layout.order,
@@ -135,26 +134,14 @@ impl<'a> Polygon<'a> {
         ensures shorter { IfOk result (λ x. length x.1.now + 9 ≤ length bytes.now) }
         ensures no_memory { (polygon_at layout bytes.now).0.slots ≡ 0 → IsNoWant result }
     {
-        let count = match layout.count(bytes) {
-            Ok(count) => count,
-            Err(cause) => return Err(Refusal::Fault(cause)),
+        let (count, ends) = counted_list(alloc, layout, bytes, COUNT, counts)?;
+        let (ends, rest) = rings(layout, bytes, ends, count, counts)?;
+        let polygon = Polygon {
+            buf: &bytes[..bytes.len() - rest.len()],
+            layout,
+            ends: ends.into_vec(),
         };
-        let remaining = bytes.len() - (layout.body_start() + 4);
-        let ends = match reserve(alloc, count, remaining, 4, counts) {
-            Ok(ends) => ends,
-            Err(_) => return Err(Refusal::Memory),
-        };
-        match rings(layout, bytes, ends, count, counts) {
-            Ok((ends, rest)) => {
-                let polygon = Polygon {
-                    buf: &bytes[..bytes.len() - rest.len()],
-                    layout,
-                    ends: ends.into_vec(),
-                };
-                Ok((polygon, rest))
-            }
-            Err(cause) => Err(Refusal::Fault(cause)),
-        }
+        Ok((polygon, rest))
     }
 }
 
@@ -256,6 +243,16 @@ impl<'a> GeometryTrait for Polygon<'a> {
     ghost lawful = { λ p. (line_strings_fit (trait_dimensions p.dimension) p.parts).lawful };
 
     #[inline]
+    fn whole(&self, order: Endianness, form: Form) -> Option<&[u8]> {
+        let wkb_type = WkbType::Polygon(self.layout.dimension);
+        if self.layout.begins_as(wkb_type, self.buf, order, form) {
+            Some(self.buf)
+        } else {
+            None
+        }
+    }
+
+    #[inline]
     fn as_type(&self) -> AnyView<'_, 'a, Polygon<'a>>
         ensures view { result ≡ Handed self.entry }
     {
@@ -272,12 +269,12 @@ fn rings<'a>(
     counts: &mut Counts,
 ) -> Result<(Reserved<usize>, &'a [u8]), Cause>
     requires whole { body_start layout.has_srid + 4 ≤ length bytes.now }
-    requires empty { ends.items.items ≡ [] }
-    requires room { min count (length (parts_start layout.has_srid bytes.now) / 4) ≤ vec_capacity ends.items }
+    requires empty { entries ends ≡ [] }
+    requires room { min count (length (parts_start layout.has_srid bytes.now) / 4) ≤ room ends }
     requires fits { CanCount counts.old (parts_behind (ring_part layout) layout count bytes.now).0 }
-    ensures rings { Surely (λ x. (pieces_behind layout x.0.items.items (taken bytes.now x.1.now), x.1.now))
+    ensures rings { Surely (λ x. (pieces_behind layout (entries x.0) (taken bytes.now x.1.now), x.1.now))
         result (parts_behind (ring_part layout) layout count bytes.now) counts.old counts.new }
-    ensures ends { IfOk result (λ x. AreRings layout x.0.items.items (taken bytes.now x.1.now)) }
+    ensures ends { IfOk result (λ x. AreRings layout (entries x.0) (taken bytes.now x.1.now)) }
     ensures shorter { IfOk result (λ x. length x.1.now + body_start layout.has_srid + 4 ≤ length bytes.now) }
 {
     let mut rest = layout.behind_count(bytes);

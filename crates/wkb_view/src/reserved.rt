@@ -1,18 +1,46 @@
-//! A list whose entries are asked for once.
+//! Lists whose entries are asked for once, behind a count.
 
-ghost use Rattle.std.specs.Prelude.{◌≡◌, ◌++◌, ◌∷◌, [], ◌+◌, ◌<◌, ◌≤◌, ◌/◌, ◌^◌, min, vec_capacity, length, IfOk, IsOk};
+ghost use Rattle.std.specs.Prelude.{◌≡◌, ◌+◌, ◌-◌, ◌<◌, ◌≤◌, ◌/◌, ◌^◌, [], min, length, IfOk, IfErr};
+ghost use Rattle.wkb_view.specs.Words.{body_start};
+ghost use Rattle.wkb_view.specs.Entries.{entries, room, count_in, entries_asked, HasNoList};
+ghost use Rattle.wkb_view.specs.Memory.{IsNoWant};
 
 use crate::counts::Counts;
-use std::alloc::{AllocError, Global};
+use std::alloc::Global;
+use wkb_geom::words::COUNT;
+use wkb_geom::{Layout, Refusal};
 
 /// A list that was given all its room when it was made, so that a push asks for none.
 #[derive(Drop)]
 pub struct Reserved<T> {
-    pub items: Vec<T>,
+    items: Vec<T>,
+}
+
+impl<T> Reserved<T> {
+    ghost use Rattle.std.specs.Prelude.{◌≡◌, ◌++◌, ◌∷◌, [], ◌<◌, length};
+    ghost use Rattle.wkb_view.specs.Entries.{entries, room};
+
+    /// Adds an entry, for which there is room.
+    #[inline]
+    pub fn push(&mut self, entry: T)
+        requires { length (entries self.old) < room self.old }
+        ensures entries { entries self.new ≡ entries self.old ++ entry ∷ [] }
+        ensures room { room self.new ≡ room self.old }
+    {
+        self.items.push_reserved(entry);
+    }
+
+    /// The entries as an ordinary list.
+    #[inline]
+    pub fn into_vec(self) -> Vec<T>
+        ensures { result.items ≡ entries self }
+    {
+        self.items
+    }
 }
 
 /// How many entries a list asks for: as many as the count claims, but no more than the remaining bytes can hold where
-/// each part takes `least` bytes at least.
+/// each part has `least` bytes at least.
 #[inline]
 fn bounded_capacity(count: u32, remaining: usize, least: usize) -> usize
     requires { 0 < least }
@@ -21,49 +49,31 @@ fn bounded_capacity(count: u32, remaining: usize, least: usize) -> usize
     (count as usize).min(remaining / least)
 }
 
-/// A list for so many parts, of which each takes `least` bytes at least: it counts the entries that it asks for as slots
-/// before it asks.
+/// The count at the beginning of a body, and a list for so many parts, of which each has `least` bytes at least: the
+/// entries that the list asks for are counted as slots before it asks.
 #[inline]
-pub fn reserve<T>(
+pub fn counted_list<T>(
     alloc: Global,
-    count: u32,
-    remaining: usize,
+    layout: Layout,
+    bytes: &[u8],
     least: usize,
     counts: &mut Counts,
-) -> Result<Reserved<T>, AllocError>
+) -> Result<(u32, Reserved<T>), Refusal>
     requires least { 0 < least }
-    requires fits { counts.old.slots + min count (remaining / least) < 2 ^ 128 }
-    ensures slots { counts.new.slots ≡ counts.old.slots + min count (remaining / least) }
+    requires fits { counts.old.slots + entries_asked least layout bytes.now < 2 ^ 128 }
+    ensures slots { counts.new.slots ≡ counts.old.slots + entries_asked least layout bytes.now }
     ensures turns { counts.new.turns ≡ counts.old.turns }
-    ensures items { IfOk result (λ r. r.items.items ≡ []) }
-    ensures capacity { IfOk result (λ r. vec_capacity r.items ≡ min count (remaining / least)) }
-    ensures succeeds { min count (remaining / least) ≡ 0 → IsOk result }
+    ensures count { IfOk result (λ x. x.0 ≡ count_in layout bytes.now) }
+    ensures whole { IfOk result (λ x. body_start layout.has_srid + 4 ≤ length bytes.now) }
+    ensures empty { IfOk result (λ x. entries x.1 ≡ []) }
+    ensures room { IfOk result (λ x. room x.1 ≡ entries_asked least layout bytes.now) }
+    ensures no_list { IfErr result (λ refusal. HasNoList layout bytes.now refusal) }
+    ensures no_memory { entries_asked least layout bytes.now ≡ 0 → IsNoWant result }
 {
+    let count = layout.count(bytes)?;
+    let remaining = bytes.len() - (layout.body_start() + COUNT);
     let capacity = bounded_capacity(count, remaining, least);
     counts.slots += capacity as u128;
     let items = Vec::with_capacity(alloc, capacity)?;
-    Ok(Reserved { items })
-}
-
-impl<T> Reserved<T> {
-    /// Adds an entry, for which there is room.
-    #[inline]
-    pub fn push(&mut self, entry: T)
-        requires { length self.old.items.items < vec_capacity self.old.items }
-        ensures items { self.new.items.items ≡ self.old.items.items ++ entry ∷ [] }
-        ensures capacity { vec_capacity self.old.items ≤ vec_capacity self.new.items }
-    {
-        match self.items.push(entry) {
-            Ok(()) => (),
-            Err(_) => unreachable!(),
-        }
-    }
-
-    /// The entries as an ordinary list.
-    #[inline]
-    pub fn into_vec(self) -> Vec<T>
-        ensures { result.items ≡ self.items.items }
-    {
-        self.items
-    }
+    Ok((count, Reserved { items }))
 }

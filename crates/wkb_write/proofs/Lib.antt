@@ -1,2 +1,10 @@
+pub mod Collections
+pub mod Faults
+pub mod Loops
+pub mod Prelude
 pub mod Sizes
+pub mod Steps
+pub mod Sums
+pub mod Supported
+pub mod Whole
 pub mod Writing

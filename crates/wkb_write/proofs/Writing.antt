@@ -1,48 +1,64 @@
 -- What a writer answers, from what the size under its options answered.
-use Rattle.std.proofs.Common.{◌≡◌, ℕ, Bool, List, Option, None, Result, Ok, Err, sym, subst, ◌∙◌}
+use Rattle.std.proofs.Common.{◌≡◌, ℕ, ◌<◌, ◌^◌, Bool, true, List, length, Option, None, Result, Ok, Err, sym, subst}
+use Rattle.std.proofs.Common.{◌∙◌}
 use Rattle.std.specs.Prelude.{IsErrAnd}
 use Rattle.wkb_geom.specs.declared.common.Endianness.TheVariants.{LittleEndian}
 use Rattle.wkb_geom.specs.declared.common.Form.{Form}
 use Rattle.wkb_geom.specs.declared.error.WkbError.{WkbError}
 use Rattle.wkb_geom.specs.Errors.{TellsFault}
 use Rattle.wkb_geom.specs.Geometries.{Geometry, IsGeometry}
-use Rattle.wkb_geom.specs.Texts.{text, fault, refusal, IsForm}
+use Rattle.wkb_geom.specs.Texts.{fault, refusal, IsForm}
 use Rattle.wkb_laws.proofs.Rewritings.{text_spells_lem}
-use Rattle.wkb_geom.proofs.Faults.{none_first}
-use Rattle.wkb_measure.specs.declared.fault.Fault.{Fault as Found}
-use Rattle.wkb_measure.specs.Faults.{meaning}
-use Rattle.wkb_put.specs.Sinks.{Puts}
-use Rattle.wkb_write.specs.declared.options.WriteOptions.{WriteOptions}
-use Rattle.wkb_write.specs.Answers.{IsSized, IsRefusedAs, IsSpelledAs, Writes}
+use Rattle.wkb_geom.proofs.Faults.{none_first, none_both}
+use Rattle.wkb_write.proofs.Sizes.{size_without_fault}
+use Rattle.wkb_geom.specs.declared.error.Fault.{Fault}
+use Rattle.wkb_sink.specs.Sinks.{IsBegun, IsIOError, Puts}
+use Rattle.wkb_write.specs.declared.writable.WriteOptions.{WriteOptions}
+use Rattle.wkb_write.specs.Answers.{encoding, refusal_of, IsSized, IsRefusedAs, IsSpelledAs, Writes}
 
 -- where there is a size there is no fault
 pub no_fault : (form : Form) (g : Geometry) (n : ℕ) → IsSized form g (Ok n) → fault g ≡ None
 no_fault form g n size = none_first (fault g) _ (size LittleEndian).0
 
 -- the fault of the size is the writer's
-pub refused_as : (o : WriteOptions) (g : Geometry) (f : Found) (r : Result (Unit {0}) WkbError) (untouched : Type 0) → IsSized o.form g (Err f)
-    → IsErrAnd r (λ e. TellsFault e (meaning f)) → untouched → IsRefusedAs o g r untouched
+pub refused_as : (o : WriteOptions) (g : Geometry) (f : Fault) (r : Result (Unit {0}) WkbError) (untouched : Type 0) → IsSized o.form g (Err f)
+    → IsErrAnd r (λ e. TellsFault e f) → untouched → IsRefusedAs o g r untouched
 refused_as o g f r untouched size tells kept = λ h is.
     let both = sym (size o.endianness).is ∙ is in
-    let same : meaning f ≡ h = cc in
+    let same : f ≡ h = cc in
     (subst (λ k. IsErrAnd r (λ e. TellsFault e k)) same tells, kept)
 
 -- what has a fault is refused
-pub not_written : {A : Type 0} (o : WriteOptions) (g : Geometry) (f : Found) → IsSized o.form g (Err f) → refusal o.endianness o.form g ≡ None → A
+pub not_written : {A : Type 0} (o : WriteOptions) (g : Geometry) (f : Fault) → IsSized o.form g (Err f) → refusal o.endianness o.form g ≡ None → A
 not_written o g f size none = let both = sym (size o.endianness).is ∙ none in absurd cc
 
-pub not_refused : (o : WriteOptions) (g : Geometry) (n : ℕ) (r : Result (Unit {0}) WkbError) (untouched : Type 0) → IsSized o.form g (Ok n)
-    → IsRefusedAs o g r untouched
-not_refused o g n r untouched size = λ f is.
-    let both = sym (size o.endianness).0 ∙ is in absurd cc
-
 -- the text that was put spells the normal value
-pub spelled_as : (o : WriteOptions) (g : Geometry) (n : ℕ) (r : Result (Unit {0}) WkbError) (old new : Option (List ℕ)) (failed : Bool)
-    → IsSized o.form g (Ok n) → IsGeometry g → IsForm o.form → Puts old new failed (text o.endianness o.form g) r → IsSpelledAs o g r old new
-spelled_as o g n (Ok u) old new failed size lawful fits puts =
-    let s = text_spells_lem o.endianness o.form g fits lawful (no_fault o.form g n size) in
-    record { text = text o.endianness o.form g; spelling = s.0; spelled = s.1; options_kept = s.2; appended = puts.0.appended }
-spelled_as o g n (Err e) old new failed size lawful fits puts = tt
+pub spelled_as : (o : WriteOptions) (g : Geometry) (r : Result (Unit {0}) WkbError) (old new : Option (List ℕ)) (failed : Bool)
+    → fault g ≡ None → IsGeometry g → IsForm o.form → Puts old new failed (encoding o g) r → IsSpelledAs o g r old new
+spelled_as o g (Ok u) old new failed none lawful fits puts =
+    let s = text_spells_lem o.endianness o.form g fits lawful none in
+    record { text = encoding o g; spelling = s.0; spelled = s.1; options_kept = s.2; appended = puts.0.appended }
+spelled_as o g (Err e) old new failed none lawful fits puts = tt
+
+-- what was put of a geometry that isn't refused was written
+pub put_writes : {o : WriteOptions} {g : Geometry} {r : Result (Unit {0}) WkbError} {untouched : Type 0} {old new : Option (List ℕ)} {failed : Bool}
+    → refusal_of o g ≡ None → IsGeometry g → IsForm o.form → Puts old new failed (encoding o g) r → Writes o g r untouched old new failed
+put_writes {o} {g} {r} {untouched} {old} {new} {failed} none lawful fits puts = record {
+  refused = λ f is. absurd (cc);
+  written = λ _. puts;
+  spelled = spelled_as o g r old new failed (none_first _ _ none) lawful fits puts;
+}
+
+-- bytes that stand in memory are not refused for their length
+pub lent_fits : (o : WriteOptions) (g : Geometry) (bytes : List ℕ) → bytes ≡ encoding o g → fault g ≡ None → length bytes < 2 ^ 64 → refusal_of o g ≡ None
+lent_fits o g bytes is none fits =
+    none_both (fault g) _ none (size_without_fault (length (encoding o g)) (subst (λ t. length t < 2 ^ 64) is fits))
+
+-- what a sink answered to bytes that it didn't take
+pub stops : {old new : Option (List ℕ)} {failed : Bool} {bytes : List ℕ} (r : Result (Unit {0}) WkbError) → IsErrAnd r (λ e. IsIOError e)
+    → IsBegun old new bytes → failed ≡ true → Puts old new failed bytes r
+stops (Ok u) never begun is = absurd never
+stops (Err e) tells begun is = (tells, begun, is)
 
 -- and what was refused did not
 pub not_spelled : (o : WriteOptions) (g : Geometry) (r : Result (Unit {0}) WkbError) (old new : Option (List ℕ)) (P : WkbError → Type 0)

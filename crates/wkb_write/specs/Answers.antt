@@ -8,12 +8,20 @@ use Rattle.wkb_geom.specs.Errors.{TellsFault}
 use Rattle.wkb_geom.specs.Geometries.{Geometry, normal}
 use Rattle.wkb_geom.specs.Values.{Value}
 use Rattle.wkb_geom.specs.Spellings.{Spelling, Spells}
-use Rattle.wkb_geom.specs.Texts.{Fault, refusal, text}
+use Rattle.wkb_geom.specs.Texts.{refusal, text}
 use Rattle.wkb_laws.specs.Written.{HasOptions}
-use Rattle.wkb_measure.specs.Measures.{Reports, Finds}
-use Rattle.wkb_measure.specs.declared.fault.Fault.{Fault as Found}
-use Rattle.wkb_put.specs.Sinks.{Puts}
-use Rattle.wkb_write.specs.declared.options.WriteOptions.{WriteOptions}
+use Rattle.wkb_write.specs.Measures.{Reports, Finds}
+use Rattle.wkb_geom.specs.declared.error.Fault.{Fault}
+use Rattle.wkb_sink.specs.Sinks.{Puts}
+use Rattle.wkb_write.specs.declared.writable.WriteOptions.{WriteOptions}
+
+-- a geometry's one encoding under some options
+abbrev pub encoding : WriteOptions → Geometry → List ℕ
+encoding options g = text options.endianness options.form g
+
+-- why there is none: the first fault, else the size
+abbrev pub refusal_of : WriteOptions → Geometry → Option Fault
+refusal_of options g = refusal options.endianness options.form g
 
 -- the answer is the length of the text, in either order, or the error that tells what is refused
 abbrev pub IsSizeOf : Form → Geometry → Result ℕ WkbError → Type 0
@@ -21,7 +29,7 @@ IsSizeOf form g r =
     (order : Endianness) → MatchResult r (λ n. (refusal order form g ≡ None) × (n ≡ length (text order form g))) (λ e. Reports e (refusal order form g))
 
 -- the same with the fault itself
-abbrev pub IsSized : Form → Geometry → Result ℕ Found → Type 0
+abbrev pub IsSized : Form → Geometry → Result ℕ Fault → Type 0
 IsSized form g r =
     (order : Endianness) → MatchResult r (λ n. (refusal order form g ≡ None) × (n ≡ length (text order form g))) (λ e. Finds e (refusal order form g))
 

@@ -1,1 +1,5 @@
 pub mod Answers
+pub mod Bodies
+pub mod Counted
+pub mod Measures
+pub mod Words

@@ -3,23 +3,39 @@
 //!
 //! A writer tests the whole geometry first, and refuses what the size under the same options
 //! refuses, by the same error.
+//!
+//! A file for each kind says what it means, how it is measured and put, and has its size and its writer. What they
+//! share: `writable` (the trait of kinds, and the way from it to a writer), `items` (the trait of what stands after a
+//! count, and its two loops) and `measure`.
 #![tactic(auto)]
 
-mod options;
-mod size;
-mod writer;
+mod common;
+mod geometry;
+mod geometry_collection;
+mod items;
+mod lent;
+mod line;
+mod line_string;
+mod measure;
+mod multi_line_string;
+mod multi_point;
+mod multi_polygon;
+mod point;
+mod polygon;
+mod rect;
+mod triangle;
+mod writable;
 
-pub use options::WriteOptions;
-pub use size::{refused, whole_size};
-pub use wkb_put::{Out, Sink, SliceSink, VecSink};
-pub use writer::geometry::{geometry_wkb_size, geometry_wkb_size_with, write_geometry};
-pub use writer::geometry_collection::{geometry_collection_wkb_size, write_geometry_collection};
-pub use writer::line::{line_wkb_size, write_line};
-pub use writer::line_string::{line_string_wkb_size, write_line_string};
-pub use writer::multi_line_string::{multi_line_string_wkb_size, write_multi_line_string};
-pub use writer::multi_point::{multi_point_wkb_size, write_multi_point};
-pub use writer::multi_polygon::{multi_polygon_wkb_size, write_multi_polygon};
-pub use writer::point::{point_wkb_size, write_point};
-pub use writer::polygon::{polygon_wkb_size, write_polygon};
-pub use writer::rect::{rect_wkb_size, write_rect};
-pub use writer::triangle::{triangle_wkb_size, write_triangle};
+pub use geometry::{geometry_wkb_size, geometry_wkb_size_with, to_vec, write_geometry};
+pub use geometry_collection::{geometry_collection_wkb_size, write_geometry_collection};
+pub use line::{line_wkb_size, write_line};
+pub use line_string::{line_string_wkb_size, write_line_string};
+pub use multi_line_string::{multi_line_string_wkb_size, write_multi_line_string};
+pub use multi_point::{multi_point_wkb_size, write_multi_point};
+pub use multi_polygon::{multi_polygon_wkb_size, write_multi_polygon};
+pub use point::{point_wkb_size, write_point};
+pub use polygon::{polygon_wkb_size, write_polygon};
+pub use rect::{rect_wkb_size, write_rect};
+pub use triangle::{triangle_wkb_size, write_triangle};
+pub use wkb_sink::{Out, Sink, SliceSink, VecSink};
+pub use writable::WriteOptions;

@@ -10,12 +10,19 @@ ghost use Rattle.wkb_read.specs.Stack.{next_turn, IsOpen, AreOpen, IsFinished, B
 
 use crate::geometry::{GeometryCollection, Kind, Wkb};
 use crate::read::unfinished::{Begun, Open};
-use crate::read::whole::{leaf_body, parts_body};
 use std::alloc::{AllocError, Global};
 use wkb_geom::code::WkbType;
+use wkb_geom::header::LEAST_MEMBER;
+use wkb_geom::words::COUNT;
 use wkb_geom::{Cause, Header, Layout, Refusal, WkbResult};
 use wkb_view::counts::Counts;
-use wkb_view::reserved::reserve;
+use wkb_view::line_string::LineString;
+use wkb_view::multi_line_string::MultiLineString;
+use wkb_view::multi_point::MultiPoint;
+use wkb_view::multi_polygon::MultiPolygon;
+use wkb_view::point::Point;
+use wkb_view::polygon::Polygon;
+use wkb_view::reserved::counted_list;
 
 /// How many collections may be open around a geometry.
 pub const MAX_WKB_NESTING_DEPTH: usize = 128;
@@ -38,15 +45,8 @@ pub(crate) fn open<'a>(
     if around >= MAX_WKB_NESTING_DEPTH {
         return Err(Refusal::Fault(Cause::NestingDepthExceeded(MAX_WKB_NESTING_DEPTH)));
     }
-    let count = match layout.count(bytes) {
-        Ok(count) => count,
-        Err(cause) => return Err(Refusal::Fault(cause)),
-    };
-    let (buf, rest) = bytes.split_at(layout.body_start() + 4);
-    let members = match reserve(alloc, count, rest.len(), 9, counts) {
-        Ok(members) => members,
-        Err(_) => return Err(Refusal::Memory),
-    };
+    let (count, members) = counted_list(alloc, layout, bytes, LEAST_MEMBER, counts)?;
+    let (buf, rest) = bytes.split_at(layout.body_start() + COUNT);
     if count == 0 {
         let whole = Wkb {
             kind: Kind::GeometryCollection(GeometryCollection {
@@ -81,17 +81,35 @@ pub(crate) fn body<'a>(
     ensures begins { BeginsAs (body_inside around header bytes.now) around bytes.now result counts.old counts.new }
     ensures no_memory { BodyTakesNone header bytes.now → NeedsNone result }
 {
-    match header.wkb_type {
-        WkbType::Point(_) | WkbType::LineString(_) => match leaf_body(header, bytes) {
-            Ok((whole, rest)) => Ok(Begun::Whole(whole, rest)),
-            Err(cause) => Err(Refusal::Fault(cause)),
+    let layout = header.layout();
+    let (kind, rest) = match header.wkb_type {
+        WkbType::Point(_) => match Point::read(layout, bytes) {
+            Ok((point, rest)) => (Kind::Point(point), rest),
+            Err(cause) => return Err(Refusal::Fault(cause)),
         },
-        WkbType::GeometryCollection(_) => open(alloc, around, header.layout(), bytes, counts),
-        _ => match parts_body(alloc, header, bytes, counts) {
-            Ok((whole, rest)) => Ok(Begun::Whole(whole, rest)),
-            Err(refusal) => Err(refusal),
+        WkbType::LineString(_) => match LineString::read(layout, bytes) {
+            Ok((line_string, rest)) => (Kind::LineString(line_string), rest),
+            Err(cause) => return Err(Refusal::Fault(cause)),
         },
-    }
+        WkbType::Polygon(_) => match Polygon::read(alloc, layout, bytes, counts) {
+            Ok((polygon, rest)) => (Kind::Polygon(polygon), rest),
+            Err(refusal) => return Err(refusal),
+        },
+        WkbType::MultiPoint(_) => match MultiPoint::read(layout, bytes, counts) {
+            Ok((multi, rest)) => (Kind::MultiPoint(multi), rest),
+            Err(cause) => return Err(Refusal::Fault(cause)),
+        },
+        WkbType::MultiLineString(_) => match MultiLineString::read(alloc, layout, bytes, counts) {
+            Ok((multi, rest)) => (Kind::MultiLineString(multi), rest),
+            Err(refusal) => return Err(refusal),
+        },
+        WkbType::MultiPolygon(_) => match MultiPolygon::read(alloc, layout, bytes, counts) {
+            Ok((multi, rest)) => (Kind::MultiPolygon(multi), rest),
+            Err(refusal) => return Err(refusal),
+        },
+        WkbType::GeometryCollection(_) => return open(alloc, around, layout, bytes, counts),
+    };
+    Ok(Begun::Whole(Wkb { kind }, rest))
 }
 
 /// Reads what stands at the front of the bytes, inside so many open collections: a whole geometry, or
@@ -107,10 +125,8 @@ pub(crate) fn begin<'a>(
     ensures begins { BeginsAs (geometry_inside around bytes.now) around bytes.now result counts.old counts.new }
     ensures no_memory { ReadsWithoutMemory bytes.now → NeedsNone result }
 {
-    match Header::read(bytes) {
-        Ok(header) => body(alloc, around, header, bytes, counts),
-        Err(cause) => Err(Refusal::Fault(cause)),
-    }
+    let header = Header::read(bytes)?;
+    body(alloc, around, header, bytes, counts)
 }
 
 /// Puts a collection that was opened on the stack: its first member begins.
@@ -185,16 +201,12 @@ pub(crate) fn nested<'a>(
     ensures { ReadsAs (first_member 0 outermost.entry members.now) result counts.old counts.new }
 {
     let mut stack: Vec<Open<'a>> = Vec::new(alloc);
-    if let Err(_) = enter(&mut stack, outermost, counts) {
-        return Err(Refusal::Memory);
-    }
+    enter(&mut stack, outermost, counts)?;
     let mut bytes = members;
     loop {
         match begin(alloc, stack.len(), bytes, counts) {
             Ok(Begun::Opened(collection, rest)) => {
-                if let Err(_) = enter(&mut stack, collection, counts) {
-                    return Err(Refusal::Memory);
-                }
+                enter(&mut stack, collection, counts)?;
                 bytes = rest;
             }
             Ok(Begun::Whole(part, rest)) => {

@@ -3,7 +3,7 @@ use Rattle.std.specs.Prelude.{IfOk, IfErr}
 use Rattle.wkb_geom.specs.Errors.{IsMemory}
 use Rattle.wkb_geom.specs.Texts.{text, refusal}
 use Rattle.wkb_read.specs.Seen.{seen_as_it_is}
-use Rattle.wkb_measure.specs.Measures.{Reports}
+use Rattle.wkb_write.specs.Measures.{Reports}
 use Rattle.wkb.proofs.canon.rewriting.Goals as goal
 
 pub returns-clause-ok : goal.returns-clause-ok

@@ -1,20 +1,11 @@
-use Rattle.wkb_c.proofs.Common.{arith, refl, length}
+use Rattle.wkb_c.proofs.Common.{arith, refl, length, ◌∙◌, length-map, dimensions, whole_of, multi_line_string}
+use Rattle.wkb_c.proofs.Common.{multi_polygon, multi_point_seen}
+use Rattle.wkb_c.proofs.Common.{fitted_line_string, fitted_line_strings}
 use Rattle.std.proofs.lemmas.Option.{slice_get_read}
-use Rattle.wkb_c.proofs.Growth.{collection_counted, listed_collection, if_ok, added_fits, added_more, added_all, item_spelling, item_value, items_count}
+use Rattle.wkb_c.proofs.Growth.{listed_collection, listed_view, added_fits, added_more, added_all, item_spelling}
+use Rattle.wkb_c.proofs.Growth.{item_value, items_count}
 use Rattle.wkb_c.proofs.Growth.{member_nodes}
 use Rattle.wkb_c.proofs.parts.+table.Goals as goal
-
-pub add_geometry-add_whole-requires-in-GeometryCollection-clause-counted : goal.add_geometry-add_whole-requires-in-GeometryCollection-clause-counted
-add_geometry-add_whole-requires-in-GeometryCollection-clause-counted t c = collection_counted _ _ c.in-GeometryCollection.ensures.view
-
-pub add_geometry-returns-in_ok-add_whole-in-GeometryCollection : goal.add_geometry-returns-in_ok-add_whole-in-GeometryCollection
-add_geometry-returns-in_ok-add_whole-in-GeometryCollection t c =
-    let view = c.in-GeometryCollection.ensures.view in
-    let ms = c.in-GeometryCollection.members.now in
-    if_ok c.add_members.result _ _
-    (λ done rest. listed_collection c.args.wkb.now ms c.args.table.now c.add_whole-in-GeometryCollection.new.table c.add_members.new.table _ view
-    (collection_counted _ _ view) c.in_ok-add_whole-in-GeometryCollection.ensures rest)
-    c.add_members.ensures
 
 pub add_members-add_geometry-requires : goal.add_members-add_geometry-requires
 add_members-add_geometry-requires t c =
@@ -37,3 +28,34 @@ add_members-loop-member-preserved t c =
 pub add_members-returns : goal.add_members-returns
 add_members-returns t c =
     added_all _ _ _ c.loop-member.member-index _ (omega (arith, c.loop-member-test.false, items_count c.args.members.now)) c.loop-member.invariant
+
+pub add_geometry-returns-in_ok-add_points-in-MultiPoint : goal.add_geometry-returns-in_ok-add_points-in-MultiPoint
+add_geometry-returns-in_ok-add_points-in-MultiPoint t c =
+    listed_view c.args.wkb.now (multi_point_seen c.in-MultiPoint.multi.now) c.args.table.now _ _ c.close.new.table _ _ c.in-MultiPoint.ensures.view (omega arith)
+    (omega (arith, c.num_points.ensures)) (c.len-index.ensures ∙ c.args.table.now.parts.ok.0) c.in_ok-add_whole-in-MultiPoint.ensures
+    c.in_ok-add_points-in-MultiPoint.ensures c.close.ensures
+
+pub add_geometry-returns-in_ok-add_line_strings-in-MultiLineString : goal.add_geometry-returns-in_ok-add_line_strings-in-MultiLineString
+add_geometry-returns-in_ok-add_line_strings-in-MultiLineString t c =
+    let m = c.in-MultiLineString.multi.now in
+    let k = c.close-in-MultiLineString in
+    listed_view c.args.wkb.now (whole_of multi_line_string m) c.args.table.now _ _ k.new.table _ _ c.in-MultiLineString.ensures.view (omega arith)
+    (omega (arith, c.num_line_strings.ensures, length-map m.parts (fitted_line_string (dimensions m.dimension))))
+    (c.len-index.ensures ∙ c.args.table.now.parts.ok.0) c.in_ok-add_whole-in-MultiLineString.ensures
+    c.in_ok-add_line_strings-in-MultiLineString.ensures k.ensures
+
+pub add_geometry-returns-in_ok-add_polygons-in-MultiPolygon : goal.add_geometry-returns-in_ok-add_polygons-in-MultiPolygon
+add_geometry-returns-in_ok-add_polygons-in-MultiPolygon t c =
+    let m = c.in-MultiPolygon.multi.now in
+    let k = c.close-in-MultiPolygon in
+    listed_view c.args.wkb.now (whole_of multi_polygon m) c.args.table.now _ _ k.new.table _ _ c.in-MultiPolygon.ensures.view (omega arith)
+    (omega (arith, c.num_polygons.ensures, length-map m.parts (fitted_line_strings (dimensions m.dimension))))
+    (c.len-index.ensures ∙ c.args.table.now.parts.ok.0) c.in_ok-add_whole-in-MultiPolygon.ensures
+    c.in_ok-add_polygons-in-MultiPolygon.ensures k.ensures
+
+pub add_geometry-returns-in_ok-add_members-in-GeometryCollection : goal.add_geometry-returns-in_ok-add_members-in-GeometryCollection
+add_geometry-returns-in_ok-add_members-in-GeometryCollection t c =
+    let k = c.close-in-GeometryCollection in
+    listed_collection c.args.wkb.now c.in-GeometryCollection.members.now c.args.table.now _ _ k.new.table _ _ c.in-GeometryCollection.ensures.view
+    refl (c.len-index.ensures ∙ c.args.table.now.parts.ok.0) c.in_ok-add_whole-in-GeometryCollection.ensures
+    c.in_ok-add_members-in-GeometryCollection.ensures k.ensures

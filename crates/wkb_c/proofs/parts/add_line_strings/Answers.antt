@@ -1,4 +1,5 @@
-use Rattle.wkb_c.proofs.Common.{sym, arith, length-map, dimensions, line_string, line_string_of, line_string_seen, fitted_line_string}
+use Rattle.wkb_c.proofs.Common.{sym, arith, length-map, dimensions, line_string, line_string_of, line_string_seen}
+use Rattle.wkb_c.proofs.Common.{fitted_line_string}
 use Rattle.wkb_c.proofs.Growth.{added_fits, added_more, added_all, part_value, below_is_some, each_count}
 use Rattle.wkb_c.proofs.parts.add_line_strings.Goals as goal
 

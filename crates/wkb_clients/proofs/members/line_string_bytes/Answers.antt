@@ -1,5 +1,6 @@
 use Rattle.std.proofs.Common.{refl, ap, sym, subst}
-use Rattle.wkb_clients.specs.Common.{AreBytes, whole_of, line_string, multi_line_string, line_string_of, line_string_seen}
+use Rattle.wkb_clients.specs.Common.{AreBytes, whole_of, line_string, multi_line_string, line_string_of}
+use Rattle.wkb_clients.specs.Common.{line_string_seen}
 use Rattle.wkb.specs.Bridges.{one_name}
 use Rattle.wkb_clients.specs.Members.{LendsMember}
 use Rattle.wkb_clients.proofs.Lent.{lends_member, member_of_list}

@@ -1,5 +1,6 @@
 use Rattle.std.proofs.Common.{refl, ap, sym, subst, ◌∙◌}
-use Rattle.wkb_clients.specs.Common.{AreBytes, point, dimension, point_of, points_of, point_seen, multi_point_seen, point_value}
+use Rattle.wkb_clients.specs.Common.{AreBytes, point, dimension, point_of, points_of, point_seen, multi_point_seen}
+use Rattle.wkb_clients.specs.Common.{point_value}
 use Rattle.wkb.specs.Bridges.{one_name}
 use Rattle.wkb_clients.specs.Members.{LendsMember}
 use Rattle.wkb_clients.proofs.Lent.{lends_member, member_of_list}

@@ -2,7 +2,7 @@ use Rattle.std.proofs.Common.{refl, ℕ, List, [], map, string_bytes}
 use Rattle.std.specs.Io.KnownBytes.{Appends}
 use Rattle.std.proofs.KnownBytes.{Appends-nil}
 use Rattle.wkb_command.specs.Program.{Ends, out_of_memory, misused}
-use Rattle.wkb_command.proofs.Runs.{IfSome-any, IfSome-read, fixed_answer}
+use Rattle.wkb_command.proofs.Runs.{IfSome-any, IfSome-read, fixed_answer, said_answer}
 use Rattle.wkb_command.proofs.program.run.Goals as goal
 
 pub returns-in_default-clause-ends : goal.returns-in_default-clause-ends
@@ -32,7 +32,7 @@ returns-clause-ends g c =
     × Appends (g.W.Write.contents c.args.out.now) (g.W.Write.contents c.tell-2.new.out) written
     × Ends (map string_bytes c.args.words.now) text c.tell-2.result written in
     IfSome-read _ P c.in-Ok.bytes.items c.in-Ok.ensures
-    (told.0, told.1, told.2 _ c.in-Ok.bytes.items (rw c.as_slice.ensures.value at (c.answer.ensures _ c.in-Some.ensures)))
+    (told.0, told.1, told.2 _ c.in-Ok.bytes.items (said_answer _ _ c.in-Some.command _ c.in-Some.ensures (rw c.as_slice.ensures.value at c.report_on_input.ensures)))
 
 pub returns-in-Err-Unreadable-clause-words_first : goal.returns-in-Err-Unreadable-clause-words_first
 returns-in-Err-Unreadable-clause-words_first g c = λ none. absurd (none _ c.in-Some.ensures)

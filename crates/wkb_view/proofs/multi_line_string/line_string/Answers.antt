@@ -1,25 +1,28 @@
 use Rattle.std.proofs.Common.{◌∙◌, ap}
+use Rattle.std.proofs.lemmas.Result.{err_from_is_err_and}
 use Rattle.wkb_view.specs.Words.{Part, Item, at_no_cost}
 use Rattle.wkb_view.proofs.Members.{member_laid}
 use Rattle.wkb_view.proofs.Leaves.{found, line_string_free, member_gives, member_passed}
 use Rattle.wkb_view.proofs.multi_line_string.line_string.Goals as goal
 
-pub returns-in-Ok-read-clause-answer : goal.returns-in-Ok-read-clause-answer
-returns-in-Ok-read-clause-answer c =
+pub returns-clause-answer : goal.returns-clause-answer
+returns-clause-answer c =
     let bytes = c.args.bytes.now in
-    let laid = member_laid 2 _ _ _ c.in-Ok.ensures in
-    let read = c.in-Ok-read.ensures in
+    let laid = member_laid 2 _ _ _ c.in_ok-member.ensures in
+    let read = c.in_ok-rest.ensures in
     let passed = member_passed 2 c.args.dimension bytes _ _ _ laid read.passed read.item in
     member_gives 2 c.args.dimension bytes _ _ laid
-    (line_string_free _ bytes ∙ ap (λ (p : Part Item). at_no_cost p) (read.answer ∙ ap (λ (i : Item). found i c.in-Ok-read.rest.now) passed.0))
+    (line_string_free _ bytes ∙ ap (λ (p : Part Item). at_no_cost p) (read.answer ∙ ap (λ (i : Item). found i c.in_ok-rest.rest.now) passed.0))
 
-pub returns-in-Err-read-clause-answer : goal.returns-in-Err-read-clause-answer
-returns-in-Err-read-clause-answer c =
+pub returns-in_err-rest-clause-answer : goal.returns-in_err-rest-clause-answer
+returns-in_err-rest-clause-answer c =
     let bytes = c.args.bytes.now in
-    let laid = member_laid 2 _ _ _ c.in-Ok.ensures in
-    member_gives 2 c.args.dimension bytes _ _ laid (line_string_free _ bytes ∙ ap (λ (p : Part Item). at_no_cost p) c.in-Err-read.ensures.answer)
+    let laid = member_laid 2 _ _ _ c.in_ok-member.ensures in
+    let p = err_from_is_err_and c.from_residual-in_err-rest.result c.from_residual-in_err-rest.ensures.1 in
+    rw (p.1, p.2)
+    (member_gives 2 c.args.dimension bytes _ _ laid (line_string_free _ bytes ∙ ap (λ (r : Part Item). at_no_cost r) c.in_err-rest.ensures.answer))
 
-pub returns-in-Ok-read-clause-passed : goal.returns-in-Ok-read-clause-passed
-returns-in-Ok-read-clause-passed c =
-    let laid = member_laid 2 _ _ _ c.in-Ok.ensures in
-    (member_passed 2 c.args.dimension c.args.bytes.now _ _ _ laid c.in-Ok-read.ensures.passed c.in-Ok-read.ensures.item).1
+pub returns-clause-passed : goal.returns-clause-passed
+returns-clause-passed c =
+    let laid = member_laid 2 _ _ _ c.in_ok-member.ensures in
+    (member_passed 2 c.args.dimension c.args.bytes.now _ _ _ laid c.in_ok-rest.ensures.passed c.in_ok-rest.ensures.item).1

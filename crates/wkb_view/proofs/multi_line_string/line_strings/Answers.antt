@@ -17,8 +17,8 @@ pub loop-preserved : goal.loop-preserved
 loop-preserved c =
     let gives = freely _ _ _ c.in_ok-rest.ensures.answer in
     record {
-      so_far = rw c.push.ensures.items (pieces_next _ _ (omega arith) c.loop-test.true c.loop.invariant.so_far gives.0 gives.1 c.in_ok-rest.ensures.passed);
-      room = omega (arith, c.push.ensures.capacity, c.loop.invariant.room);
+      so_far = rw c.push.ensures.entries (pieces_next _ _ (omega arith) c.loop-test.true c.loop.invariant.so_far gives.0 gives.1 c.in_ok-rest.ensures.passed);
+      room = omega (arith, c.push.ensures.room, c.loop.invariant.room);
     }
 
 pub returns-clause-line_strings : goal.returns-clause-line_strings

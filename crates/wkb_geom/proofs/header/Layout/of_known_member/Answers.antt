@@ -11,12 +11,12 @@ unreachable-requires c = known_order c.args.kind c.args.dimension c.args.bytes.n
 pub u32_at-requires : goal.u32_at-requires
 u32_at-requires c = known_whole c.args.kind c.args.dimension c.args.bytes.now c.requires
 
-pub returns-then-kind-ne1 : goal.returns-then-kind-ne1
-returns-then-kind-ne1 c =
+pub returns-then-kind-ne-POINT : goal.returns-then-kind-ne-POINT
+returns-then-kind-ne-POINT c =
     known_layout c.args.kind c.args.dimension c.args.bytes.now c.requires _ c.in-Some.order c.u32_at.result _ c.of_byte.ensures c.in-Some.is c.u32_at.ensures
-    (rw (← c.new-code.ensures, ← c.has_srid.ensures.flag) (flag_read c.args.kind _ c.if-kind-ne1.true))
+    (rw (← c.new-code.ensures, ← c.has_srid.ensures.flag) (flag_read c.args.kind _ c.if-kind-ne-POINT.true))
 
-pub returns-else-kind-ne1 : goal.returns-else-kind-ne1
-returns-else-kind-ne1 c =
+pub returns-else-kind-ne-POINT : goal.returns-else-kind-ne-POINT
+returns-else-kind-ne-POINT c =
     known_layout c.args.kind c.args.dimension c.args.bytes.now c.requires _ c.in-Some.order c.u32_at.result _ c.of_byte.ensures c.in-Some.is c.u32_at.ensures
-    (flag_known c.args.kind _ c.if-kind-ne1.false)
+    (flag_known c.args.kind _ c.if-kind-ne-POINT.false)

@@ -3,7 +3,8 @@ use Rattle.std.proofs.lemmas.Bool.{false≢true}
 use Rattle.std.proofs.lemmas.List.{get_or_default}
 use Rattle.wkb_geom.specs.Numbers.{IsWord}
 use Rattle.wkb_plain.proofs.coord.Coord.new.Goals as goal
-use Rattle.wkb_plain.proofs.coord.Coord.new.Goals.{then-width-eq0-via-then-width-eq0, then-width-eq0-via-else-width-eq0+then-words-width}
+use Rattle.wkb_plain.proofs.coord.Coord.new.Goals.{then-width-eq0-via-then-width-eq0}
+use Rattle.wkb_plain.proofs.coord.Coord.new.Goals.{then-width-eq0-via-else-width-eq0+then-words-width}
 
 pub returns-then-width-eq0-clause-some : goal.returns-then-width-eq0-clause-some
 returns-then-width-eq0-clause-some c = (

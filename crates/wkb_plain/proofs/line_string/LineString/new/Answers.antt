@@ -4,7 +4,8 @@ use Rattle.std.proofs.lemmas.List.{get_or_default}
 use Rattle.wkb_geom.specs.Numbers.{IsWord}
 use Rattle.wkb_plain.proofs.Runs.{concat-coordinates_in}
 use Rattle.wkb_plain.proofs.line_string.LineString.new.Goals as goal
-use Rattle.wkb_plain.proofs.line_string.LineString.new.Goals.{then-width-eq0-via-then-width-eq0, then-width-eq0-via-else-width-eq0+then-words-width-ne0}
+use Rattle.wkb_plain.proofs.line_string.LineString.new.Goals.{then-width-eq0-via-then-width-eq0}
+use Rattle.wkb_plain.proofs.line_string.LineString.new.Goals.{then-width-eq0-via-else-width-eq0+then-words-width-ne0}
 
 pub returns-then-width-eq0-clause-some : goal.returns-then-width-eq0-clause-some
 returns-then-width-eq0-clause-some c = (

@@ -1,6 +1,9 @@
-use Rattle.wkb_read.proofs.Words.{◌≡◌, ◌+◌, length, reverse, [], ◌∷◌, refl, ap, ◌∙◌, length-append, reverse-append, length-reverse, arith, Item, Reading, costs}
+use Rattle.wkb_read.proofs.Words.{◌≡◌, ◌+◌, length, reverse, [], ◌∷◌, refl, ap, ◌∙◌, length-append, reverse-append}
+use Rattle.wkb_read.proofs.Words.{length-reverse, arith, Item, Reading, costs}
 use Rattle.wkb_read.proofs.Words.{Counts, cost_of, next_turn, first_member, outward}
-use Rattle.wkb_read.proofs.Stacks.{Reaches, Finishes, can_begin, at_most_turn, enters, finishes, stops_outward, all_read}
+use Rattle.wkb_read.proofs.Stacks.{Reaches, Finishes, can_begin, at_most_turn, enters, finishes, stops_outward}
+use Rattle.wkb_read.proofs.Stacks.{all_read}
+use Rattle.std.proofs.lemmas.Result.{err_from_is_err_and}
 use Rattle.wkb_read.proofs.read.stack.nested.Goals as goal
 use Rattle.wkb_read.proofs.read.stack.nested.Goals.{After-len, In-Ok-Opened, In-Ok-Whole}
 
@@ -35,11 +38,13 @@ enter-requires-in-Ok-Opened c =
     let after : Counts = record { turns = c.begin.new.counts.turns + 1; slots = c.begin.new.counts.slots } in
     record { fits = omega (arith, ap (λ (s : Reading Item). s.0.turns) (opened p.In-Ok-Opened after (as_many p.After-len) refl).so_far, c.requires.fits.turns) }
 
-pub returns-in-Err-enter : goal.returns-in-Err-enter
-returns-in-Err-enter c =
-    let p = goal.at.returns-in-Err-enter c in
+pub returns-in_err-enter-in-Ok-Opened : goal.returns-in_err-enter-in-Ok-Opened
+returns-in_err-enter-in-Ok-Opened c =
+    let p = goal.at.returns-in_err-enter-in-Ok-Opened c in
     let after : Counts = record { turns = c.begin.new.counts.turns + 1; slots = c.begin.new.counts.slots } in
-    rw c.in-Err-enter.ensures.stays (at_most_turn _ _ c.args.counts.now c.begin.new.counts after _ (opened p.In-Ok-Opened after (as_many p.After-len) refl)
+    let stopped = err_from_is_err_and c.from_residual-in_err-enter-in-Ok-Opened.result c.from_residual-in_err-enter-in-Ok-Opened.ensures.1 in
+    rw (stopped.1, stopped.2, c.in_err-enter-in-Ok-Opened.ensures.stays)
+    (at_most_turn _ _ c.args.counts.now c.begin.new.counts after _ (opened p.In-Ok-Opened after (as_many p.After-len) refl)
     refl)
 
 pub loop-collection-preserved-in-Ok-Opened : goal.loop-collection-preserved-in-Ok-Opened
@@ -47,12 +52,12 @@ loop-collection-preserved-in-Ok-Opened c =
     let p = goal.at.loop-collection-preserved-in-Ok-Opened c in
     let items = c.loop-collection.stack.items in
     let begun = rw c.in-Ok-Opened.field-0-is at c.in-Ok-Opened.ensures.begins in
-    let entered = c.in_default-enter.ensures.entered in
+    let entered = c.in_ok-enter-in-Ok-Opened.ensures.entered in
     let longer = length-append items (c.in-Ok-Opened.collection ∷ []) in
     let new : reverse c.enter-in-Ok-Opened.new.stack.items ≡ c.in-Ok-Opened.collection ∷ reverse items =
     ap reverse entered ∙ reverse-append items (c.in-Ok-Opened.collection ∷ []) in
     record {
-      reaches = rw new (opened p.In-Ok-Opened _ (as_many p.After-len) c.in_default-enter.ensures.turn);
+      reaches = rw new (opened p.In-Ok-Opened _ (as_many p.After-len) c.in_ok-enter-in-Ok-Opened.ensures.turn);
       shallow = omega (arith, ap length entered, longer, as_many p.After-len, length-reverse items, begun.2);
     }
 
@@ -71,14 +76,14 @@ returns-in-Some c =
 pub loop-collection-preserved : goal.loop-collection-preserved
 loop-collection-preserved c =
     let p = goal.at.loop-collection-preserved c in
-    let after = c.in_default-settle.ensures in
+    let after = c.in_default.ensures in
     let now = length-reverse c.settle.new.stack.items in
     record {
       reaches = record { so_far = after.0 ∙ (part p.In-Ok-Whole (as_many p.After-len)).so_far; stand = after.1 };
       shallow = omega (arith, after.2, now, length-reverse c.loop-collection.stack.items, c.loop-collection.invariant.shallow);
     }
 
-pub returns-in-Err-begin : goal.returns-in-Err-begin
-returns-in-Err-begin c =
-    stops_outward c.in-Err-begin.refusal _ (outward (reverse c.loop-collection.stack.items)) _ c.args.counts.now c.loop-collection.counts c.begin.new.counts
-    c.loop-collection.invariant.reaches.so_far (rw (as_many (goal.at.returns-in-Err-begin c).After-len) c.in-Err-begin.ensures.begins)
+pub returns-in-Err : goal.returns-in-Err
+returns-in-Err c =
+    stops_outward c.in-Err.refusal _ (outward (reverse c.loop-collection.stack.items)) _ c.args.counts.now c.loop-collection.counts c.begin.new.counts
+    c.loop-collection.invariant.reaches.so_far (rw (as_many (goal.at.returns-in-Err c).After-len) c.in-Err.ensures.begins)

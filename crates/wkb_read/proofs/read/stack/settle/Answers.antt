@@ -1,5 +1,7 @@
-use Rattle.wkb_read.proofs.Words.{◌≡◌, ◌<◌, ◌+◌, ◌-◌, ℕ, ◌∷◌, [], ◌++◌, length, reverse, length-append, length-reverse, refl, sym, ap, ◌∙◌, arith, vec_len}
+use Rattle.wkb_read.proofs.Words.{◌≡◌, ◌<◌, ◌+◌, ◌-◌, ℕ, ◌∷◌, [], ◌++◌, length, reverse, length-append, length-reverse}
+use Rattle.wkb_read.proofs.Words.{refl, sym, ap, ◌∙◌, arith, vec_len}
 use Rattle.wkb_read.proofs.Words.{List, slice_set, Item, Reading, costs, Open, cost_of, outward}
+use Rattle.wkb_view.specs.Entries.{entries}
 use Rattle.wkb_read.proofs.LastItem.{Top, top, popped}
 use Rattle.wkb_read.proofs.Stacks.{Reaches, Finishes, Completes, next_begins, completes}
 use Rattle.wkb_read.proofs.read.stack.settle.Goals as goal
@@ -29,7 +31,7 @@ begins : (c : After-push) → 0 < c.in-Some.top.now.left
 begins c more =
     let o = c.in-Some.top.now in
     next_begins o (filled c (o.left - 1)) (on_top c).below c.loop-top.finished c.args.rest.now c.loop-top.counts _ (whole c)
-    (record { left = omega (arith, more); layout = refl; bytes = refl; items = c.push.ensures.items; capacity = c.push.ensures.capacity }) (finishes c) refl
+    (record { left = omega (arith, more); layout = refl; bytes = refl; items = c.push.ensures.entries; capacity = omega (arith, c.push.ensures.room) }) (finishes c) refl
 
 pub overflow_add-counts : goal.overflow_add-counts
 overflow_add-counts c =
@@ -48,11 +50,11 @@ taken_off : (c : After-push) (ys : List Open) (z : Open) → slice_set c.loop-to
     → (full c ≡ z) × ((on_top c).below ≡ reverse ys)
 taken_off c ys z e = popped c.loop-top.stack.items ys (vec_len c.loop-top.stack - 1) c.in-Some.top.now (full c) z (on_top c) e
 
-all_in : (c : After-push) (z : Open) (members : List Item) → full c ≡ z → members ≡ z.members.items.items → c.in-Some.top.now.left ≡ 0
+all_in : (c : After-push) (z : Open) (members : List Item) → full c ≡ z → members ≡ entries z.members → c.in-Some.top.now.left ≡ 0
     → Completes c.in-Some.top.now (on_top c).below members c.args.rest.now c.loop-top.counts (whole c)
 all_in c z members same is none =
     completes c.in-Some.top.now (on_top c).below c.loop-top.finished members c.args.rest.now c.loop-top.counts (whole c) none
-    (is ∙ ap (λ (o : Open). o.members.items.items) (sym same) ∙ c.push.ensures.items) (finishes c)
+    (is ∙ ap (λ (o : Open). entries o.members) (sym same) ∙ c.push.ensures.entries) (finishes c)
 
 pub slice_bounds-finished-count : goal.slice_bounds-finished-count
 slice_bounds-finished-count c =

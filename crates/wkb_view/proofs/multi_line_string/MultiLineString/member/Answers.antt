@@ -16,25 +16,19 @@ pub of_known_member-layout-requires : goal.of_known_member-layout-requires
 of_known_member-layout-requires c =
     let p = c.self.inside in
     member_there 2 p.layout p.ends.items p.buf.now c.args.i _ c.self.invariant.1
-    (rw (c.body_start.ensures, c.deref.ensures.value) at c.in-Some.ensures.part)
+    (rw (c.body_start.ensures, c.deref.ensures.value) at c.in_ok-buf.ensures.part)
 
 pub of_text-requires : goal.of_text-requires
 of_text-requires c =
     let p = c.self.inside in
     member_text 2 p.layout p.ends.items p.buf.now c.args.i _ _ c.self.invariant.1
-    (rw (c.body_start.ensures, c.deref.ensures.value) at c.in-Some.ensures.part) c.of_known_member-layout.ensures
+    (rw (c.body_start.ensures, c.deref.ensures.value) at c.in_ok-buf.ensures.part) c.of_known_member-layout.ensures
 
-pub returns-in-None-clause-value : goal.returns-in-None-clause-value
-returns-in-None-clause-value c =
+pub returns-in_err-buf-clause-spelled : goal.returns-in_err-buf-clause-spelled
+returns-in_err-buf-clause-spelled c =
     let p = c.self.inside in
-    rw (← c.self.view_is) (members_seen 2 p.layout p.ends.items p.buf.now c.args.i (λ m. line_string_of m.value) _
-    (rw (c.body_start.ensures, c.deref.ensures.value) at c.in-None.ensures.part))
-
-pub returns-in-None-clause-spelled : goal.returns-in-None-clause-spelled
-returns-in-None-clause-spelled c =
-    let p = c.self.inside in
-    rw (← c.self.view_is) (spelling_seen 2 p.layout p.ends.items p.buf.now c.args.i _
-    (rw (c.body_start.ensures, c.deref.ensures.value) at c.in-None.ensures.part))
+    rw (c.from_residual.ensures, ← c.self.view_is) (spelling_seen 2 p.layout p.ends.items p.buf.now c.args.i _
+    (rw (c.body_start.ensures, c.deref.ensures.value) at c.in_err-buf.ensures.part))
 
 pub returns-clause-value : goal.returns-clause-value
 returns-clause-value c =
@@ -42,14 +36,14 @@ returns-clause-value c =
     let known = c.of_known_member-layout.ensures in
     rw (← c.self.view_is) (ap (λ (m : Item). Some (line_string_of m.value)) (c.of_text.ensures.item ∙ member_seen 2 p.layout.dimension _ _ known)
     ∙ members_seen 2 p.layout p.ends.items p.buf.now c.args.i (λ m. line_string_of m.value) _
-    (rw (c.body_start.ensures, c.deref.ensures.value) at c.in-Some.ensures.part))
+    (rw (c.body_start.ensures, c.deref.ensures.value) at c.in_ok-buf.ensures.part))
 
 pub returns-clause-spelled : goal.returns-clause-spelled
 returns-clause-spelled c =
     let p = c.self.inside in
     let known = c.of_known_member-layout.ensures in
     rw (← c.self.view_is) (ap (λ (m : Item). Some m.spelled) (c.of_text.ensures.item ∙ member_seen 2 p.layout.dimension _ _ known)
-    ∙ spelling_seen 2 p.layout p.ends.items p.buf.now c.args.i _ (rw (c.body_start.ensures, c.deref.ensures.value) at c.in-Some.ensures.part))
+    ∙ spelling_seen 2 p.layout p.ends.items p.buf.now c.args.i _ (rw (c.body_start.ensures, c.deref.ensures.value) at c.in_ok-buf.ensures.part))
 
 pub returns-clause-dimension : goal.returns-clause-dimension
 returns-clause-dimension c =

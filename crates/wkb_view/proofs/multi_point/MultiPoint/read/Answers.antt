@@ -1,4 +1,5 @@
 use Rattle.std.proofs.Common.{rules, ◌-◌, length, length-take, arith}
+use Rattle.std.proofs.lemmas.Result.{err_from_is_err_and}
 use Rattle.wkb_view.specs.Words.{Fault}
 use Rattle.wkb_view.specs.Ranges.{AreBytes-take}
 use Rattle.wkb_view.proofs.Lists.{points_here, list_fits, list_reads, list_stops}
@@ -8,32 +9,33 @@ use Rattle.wkb_view.proofs.multi_point.MultiPoint.read.Goals as goal
 pub points-requires-clause-fits : goal.points-requires-clause-fits
 points-requires-clause-fits c =
     list_fits
-    (points_here c.args.layout c.args.bytes.now c.in-Ok.count _ _ c.args.counts.now c.in-Ok.ensures.whole c.in-Ok.ensures.counted
+    (points_here c.args.layout c.args.bytes.now c.in_ok-count.count _ _ c.args.counts.now c.in_ok-count.ensures.whole c.in_ok-count.ensures.counted
     c.body_start-start.ensures c.width.ensures c.if-bytes-end.false) c.requires.fits
 
 pub invariant_of-result : goal.invariant_of-result
 invariant_of-result c =
     let bytes = c.args.bytes.now in
-    let e = c.in-Ok-points.ensures.points in
+    let e = c.in_ok-rest.ensures.points in
     let read = list_reads _ _ _
-    (points_here c.args.layout c.args.bytes.now c.in-Ok.count _ _ c.args.counts.now c.in-Ok.ensures.whole c.in-Ok.ensures.counted
+    (points_here c.args.layout c.args.bytes.now c.in_ok-count.count _ _ c.args.counts.now c.in_ok-count.ensures.whole c.in_ok-count.ensures.counted
     c.body_start-start.ensures c.width.ensures c.if-bytes-end.false) e.0 e.1 in
     record {
-      whole = omega (arith, c.in-Ok-points.ensures.end, length-take (length bytes - length c.in-Ok-points.rest.now) bytes);
+      whole = omega (arith, c.in_ok-rest.ensures.end, length-take (length bytes - length c.in_ok-rest.rest.now) bytes);
       in_range = AreBytes-take _ bytes (λ i. search rules);
       spells = body_spelled bytes _ _ _ c.requires.head read.0;
-      each = ∣ c.in-Ok-points.ensures.each ∣₁;
+      each = ∣ c.in_ok-rest.ensures.each ∣₁;
     }
 
-pub returns-in-Ok-points-clause-answer : goal.returns-in-Ok-points-clause-answer
-returns-in-Ok-points-clause-answer c =
-    let e = c.in-Ok-points.ensures.points in
+pub returns-clause-answer : goal.returns-clause-answer
+returns-clause-answer c =
+    let e = c.in_ok-rest.ensures.points in
     list_reads _ _ _
-    (points_here c.args.layout c.args.bytes.now c.in-Ok.count _ _ c.args.counts.now c.in-Ok.ensures.whole c.in-Ok.ensures.counted
+    (points_here c.args.layout c.args.bytes.now c.in_ok-count.count _ _ c.args.counts.now c.in_ok-count.ensures.whole c.in_ok-count.ensures.counted
     c.body_start-start.ensures c.width.ensures c.if-bytes-end.false) e.0 e.1
 
-pub returns-in-Err-points-clause-answer : goal.returns-in-Err-points-clause-answer
-returns-in-Err-points-clause-answer c =
-    list_stops (Fault c.in-Err-points.cause) _
-    (points_here c.args.layout c.args.bytes.now c.in-Ok.count _ _ c.args.counts.now c.in-Ok.ensures.whole c.in-Ok.ensures.counted
-    c.body_start-start.ensures c.width.ensures c.if-bytes-end.false) c.in-Err-points.ensures.points
+pub returns-in_err-rest-clause-answer : goal.returns-in_err-rest-clause-answer
+returns-in_err-rest-clause-answer c =
+    let p = err_from_is_err_and c.from_residual-in_err-rest.result c.from_residual-in_err-rest.ensures.1 in
+    rw (p.1, p.2) (list_stops (Fault c.in_err-rest.field-0.0) _
+    (points_here c.args.layout c.args.bytes.now c.in_ok-count.count _ _ c.args.counts.now c.in_ok-count.ensures.whole c.in_ok-count.ensures.counted
+    c.body_start-start.ensures c.width.ensures c.if-bytes-end.false) c.in_err-rest.ensures.points)

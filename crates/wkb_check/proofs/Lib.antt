@@ -1,0 +1,9 @@
+pub mod Skimming
+pub mod Closing
+pub mod Walking
+pub mod Reading
+pub mod Each
+pub mod Bounds
+pub mod Opening
+pub mod Marks
+pub mod Public

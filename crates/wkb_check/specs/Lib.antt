@@ -1,0 +1,4 @@
+pub mod Skims
+pub mod Passes
+pub mod Counted
+pub mod Public

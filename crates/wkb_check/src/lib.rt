@@ -1,0 +1,10 @@
+//! A check of Well-Known Binary that takes no memory: what the reader accepts, or why and where it refuses, by one walk
+//! over the bytes with a fixed stack of counts.
+#![tactic(auto)]
+
+mod answer;
+mod nested;
+mod place;
+mod skip;
+
+pub use answer::{Found, Refused, check};

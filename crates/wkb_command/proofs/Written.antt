@@ -1,0 +1,115 @@
+-- What stands where a line is written in parts, and its hex in pieces.
+use Rattle.std.proofs.Common.{◌≡◌, ℕ, ◌<◌, ◌*◌, ◌+◌, List, [], ◌∷◌, ◌++◌, length, take, drop, slice_set, append_assoc}
+use Rattle.std.proofs.Common.{◌/◌, ◌%◌, slice_index, Option, Result, Ok, Err, refl, sym, ap, ◌∙◌, arith}
+use Rattle.std.specs.Prelude.{OnOk}
+use Rattle.std.specs.Result.{IsErr}
+use Rattle.std.specs.Io.{StartsWith}
+use Rattle.std.specs.Io.KnownBytes.{Appends}
+use Rattle.std.proofs.KnownBytes.{Appends-trans, starts_with_rest}
+use Rattle.std.proofs.lemmas.Grind.{common_steps}
+use Rattle.std.proofs.lemmas.List.{take_more_set}
+use Rattle.hex.specs.Hex.{encode_with, encode_lower, lower_digits}
+use Rattle.hex.proofs.HexLemmas.{length-encode_with}
+use Rattle.wkb_command.specs.Program.{line_feed}
+use Rattle.wkb_command.specs.Transfer.{WroteBeginning}
+
+-- ---- hex
+
+-- the hex of two texts, one behind the other
+encode_with-append : (table front rest : List ℕ)
+    → encode_with table (front ++ rest) ≡ encode_with table front ++ encode_with table rest
+unfolding encode_with
+encode_with-append table [] rest = refl
+encode_with-append table (b ∷ front) rest = let h = encode_with-append table front rest in
+    ap (λ l. slice_index table (b / 16) ∷ slice_index table (b % 16) ∷ l) h
+
+-- a piece of the rest is written
+pub piece_written : (before written rest piece behind bytes : List ℕ) → written ≡ encode_lower piece → rest ≡ piece ++ behind
+    → before ++ encode_lower rest ≡ encode_lower bytes
+    → (before ++ written) ++ encode_lower behind ≡ encode_lower bytes
+piece_written before written rest piece behind bytes wrote parts h =
+    append_assoc before written (encode_lower behind)
+    ∙ ap (λ l. before ++ (l ++ encode_lower behind)) wrote
+    ∙ ap (λ l. before ++ l) (sym (encode_with-append lower_digits piece behind) ∙ ap encode_lower (sym parts))
+    ∙ h
+
+-- the digits of a piece, as many as are written
+pub digits_of_piece : (digits piece : List ℕ) (count : ℕ) → take (2 * length piece) digits ≡ encode_lower piece
+    → 2 * length piece ≡ count → take count digits ≡ encode_lower piece
+digits_of_piece digits piece count hex is = rw (sym is) hex
+
+pub count_of_digits : (digits piece : List ℕ) (count : ℕ) → take (2 * length piece) digits ≡ encode_lower piece
+    → 2 * length piece ≡ count → count ≡ length (take count digits)
+count_of_digits digits piece count hex is =
+    sym (ap length (digits_of_piece digits piece count hex is) ∙ length-encode_with lower_digits piece ∙ is)
+
+-- the digits of the last piece, and a line feed
+pub digits_and_feed : (digits piece : List ℕ) → take (2 * length piece) digits ≡ encode_lower piece
+    → 2 * length piece < length digits
+    → take (2 * length piece + 1) (slice_set digits (2 * length piece) line_feed) ≡ encode_lower piece ++ line_feed ∷ []
+digits_and_feed digits piece hex fits =
+    take_more_set digits (2 * length piece) line_feed fits ∙ ap (λ l. l ++ line_feed ∷ []) hex
+
+-- the last part of the line
+pub last_part : (before rest bytes text : List ℕ) → text ≡ encode_lower rest ++ line_feed ∷ []
+    → before ++ encode_lower rest ≡ encode_lower bytes → before ++ text ≡ encode_lower bytes ++ line_feed ∷ []
+last_part before rest bytes text is h =
+    ap (λ l. before ++ l) is ∙ sym (append_assoc before (encode_lower rest) (line_feed ∷ [])) ∙ ap (λ l. l ++ line_feed ∷ []) h
+
+-- a part that isn't the last one
+pub part_and_more : (before rest piece behind bytes text : List ℕ) → text ≡ encode_lower piece → rest ≡ piece ++ behind
+    → before ++ encode_lower rest ≡ encode_lower bytes
+    → before ++ (text ++ (encode_lower behind ++ line_feed ∷ [])) ≡ encode_lower bytes ++ line_feed ∷ []
+part_and_more before rest piece behind bytes text is parts h =
+    sym (append_assoc before text (encode_lower behind ++ line_feed ∷ []))
+    ∙ sym (append_assoc (before ++ text) (encode_lower behind) (line_feed ∷ []))
+    ∙ ap (λ l. l ++ line_feed ∷ []) (piece_written before text rest piece behind bytes is parts h)
+
+-- ---- lines in parts
+
+starts_with_front : (front rest : List ℕ) → StartsWith (front ++ rest) front
+starts_with_front front rest = grind (arith, common_steps)
+
+starts_before : (part behind written : List ℕ) → StartsWith part written → StartsWith (part ++ behind) written
+starts_before part behind written h =
+    let rest = drop (length written) part in
+    let whole : part ++ behind ≡ written ++ (rest ++ behind) =
+    ap (λ l. l ++ behind) (starts_with_rest part written h) ∙ append_assoc written rest behind in
+    rw whole (starts_with_front written (rest ++ behind))
+
+starts_behind : (front part written : List ℕ) → StartsWith part written → StartsWith (front ++ part) (front ++ written)
+starts_behind front part written h =
+    let rest = drop (length written) part in
+    let whole : front ++ part ≡ (front ++ written) ++ rest =
+    ap (λ l. front ++ l) (starts_with_rest part written h) ∙ sym (append_assoc front written rest) in
+    rw whole (starts_with_front (front ++ written) rest)
+
+OnOk-from : {T E : Type 0} (r : Result T E) (P Q : Type 0) → OnOk r P → (P → Q) → OnOk r Q
+OnOk-from (Ok x) P Q h f = f h
+OnOk-from (Err e) P Q h f = tt
+
+OnOk-never : {T E : Type 0} (r : Result T E) (P : Type 0) → IsErr r → OnOk r P
+OnOk-never (Ok x) P h = absurd cc
+OnOk-never (Err e) P h = tt
+
+-- the last part, or a beginning of it, is written behind the others
+pub wrote_last : {T E : Type 0} (old mid new : Option (List ℕ)) (front part line : List ℕ) (r : Result T E)
+    → Appends old mid front → front ++ part ≡ line → WroteBeginning mid new part r → WroteBeginning old new line r
+wrote_last old mid new front part line r before is wrote = record {
+  written = front ++ wrote.written;
+  appended = Appends-trans _ _ _ _ _ before wrote.appended;
+  beginning = rw (sym is) (starts_behind front part wrote.written wrote.beginning);
+  whole = OnOk-from r _ _ wrote.whole (λ all. ap (λ l. front ++ l) all ∙ is);
+}
+
+-- the writer failed within a part
+pub wrote_no_more : {T E T' E' : Type 0} (old mid new : Option (List ℕ)) (front part behind line : List ℕ) (r : Result T E)
+    (ended : Result T' E') → Appends old mid front → front ++ (part ++ behind) ≡ line → WroteBeginning mid new part r
+    → IsErr ended → WroteBeginning old new line ended
+wrote_no_more old mid new front part behind line r ended before is wrote failed = record {
+  written = front ++ wrote.written;
+  appended = Appends-trans _ _ _ _ _ before wrote.appended;
+  beginning =
+      rw (sym is) (starts_behind front (part ++ behind) wrote.written (starts_before part behind wrote.written wrote.beginning));
+  whole = OnOk-never ended _ failed;
+}

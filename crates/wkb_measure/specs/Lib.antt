@@ -1,3 +1,0 @@
-pub mod Bodies
-pub mod Faults
-pub mod Measures

@@ -1,9 +1,0 @@
-pub mod Appended
-pub mod Behind
-pub mod Collections
-pub mod Faults
-pub mod Loops
-pub mod Laid
-pub mod Steps
-pub mod Stores
-pub mod Words

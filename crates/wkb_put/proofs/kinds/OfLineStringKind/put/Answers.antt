@@ -1,8 +1,0 @@
-use Rattle.wkb_put.proofs.Words.{line_string_text}
-use Rattle.wkb_put.proofs.Laid.{lays_then}
-use Rattle.wkb_put.proofs.kinds.OfLineStringKind.put.Goals as goal
-
-pub returns : goal.returns
-unfolding line_string_text
-returns g c =
-    rw (← c.dim.ensures, ← c.written.ensures) (lays_then _ _ _ c.in_ok-put_header.ensures c.put_coordinates.ensures)

@@ -1,5 +1,0 @@
-pub mod Blocks
-pub mod Items
-pub mod Held
-pub mod Progress
-pub mod Sinks

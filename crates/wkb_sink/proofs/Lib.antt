@@ -1,0 +1,6 @@
+pub mod Appended
+pub mod Behind
+pub mod Laid
+pub mod Prelude
+pub mod Steps
+pub mod Stores

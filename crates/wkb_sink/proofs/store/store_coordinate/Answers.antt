@@ -1,0 +1,24 @@
+use Rattle.wkb_sink.proofs.Prelude.{◌≡◌, arith, length}
+use Rattle.wkb_sink.proofs.Stores.{stored_next, two_words, three_words, four_words}
+use Rattle.wkb_sink.proofs.store.store_coordinate.Goals as goal
+
+pub returns-in-2 : goal.returns-in-2
+returns-in-2 g c =
+    let words = g.C.CoordTrait.words c.args.coord.now in
+    let len : length words ≡ 2 = omega (arith, (g.met.C.CoordTrait.lawful c.args.coord.now).len) in
+    rw (c.in-2.is, two_words c.args.order words len, ← c.x.ensures, ← c.y.ensures) c.store_two.ensures
+
+pub returns-in-3 : goal.returns-in-3
+returns-in-3 g c =
+    let words = g.C.CoordTrait.words c.args.coord.now in
+    let len : length words ≡ 3 = omega (arith, (g.met.C.CoordTrait.lawful c.args.coord.now).len) in
+    rw (c.in-3.is, three_words c.args.order words len, ← c.x.ensures, ← c.y.ensures, ← c.at.ensures)
+    (stored_next _ _ _ _ 16 8 _ c.store_two.ensures (omega arith) c.store_word.ensures (omega arith))
+
+pub returns-in_default : goal.returns-in_default
+returns-in_default g c =
+    let words = g.C.CoordTrait.words c.args.coord.now in
+    let wide : c.args.width ≡ 4 = omega arith in
+    let len : length words ≡ 4 = omega (arith, (g.met.C.CoordTrait.lawful c.args.coord.now).len) in
+    rw (wide, four_words c.args.order words len, ← c.x.ensures, ← c.y.ensures, ← c.at-in_default.ensures, ← c.at-in_default-2.ensures)
+    (stored_next _ _ _ _ 16 16 _ c.store_two.ensures (omega arith) c.store_two-in_default.ensures (omega arith))

@@ -1,0 +1,4 @@
+pub mod Blocks
+pub mod Held
+pub mod Progress
+pub mod Sinks

@@ -1,0 +1,200 @@
+//! Bytes that wait to go to a sink together, and the parts of an encoding that are laid there.
+
+ghost use Rattle.std.specs.Prelude.{◌≡◌, ◌+◌, ◌-◌, ◌*◌, ◌≤◌, ◌∷◌, [], length, take, drop, replicate};
+ghost use Rattle.std.specs.List.{flat_map};
+ghost use Rattle.wkb_geom.specs.Dimensions.{size, width, written_dimension};
+ghost use Rattle.wkb_geom.specs.Numbers.{number_bytes, empty_word};
+ghost use Rattle.wkb_geom.specs.Reading.{type_kind, type_dimension};
+ghost use Rattle.wkb_geom.specs.Texts.{code_of, header_text, words_text};
+ghost use Rattle.wkb_geom.specs.declared.header.TheConstants.{LONGEST_HEADER};
+ghost use Rattle.wkb_geom.specs.declared.words.TheConstants.{COUNT};
+ghost use Rattle.wkb_sink.specs.Blocks.{Waiting, IsExtended};
+ghost use Rattle.wkb_sink.specs.declared.block.TheConstants.{LEAST};
+
+use crate::store::{store_coordinate, store_coordinates, store_word, u32_bytes};
+use std::marker::Model;
+use wkb_geom::code::WkbType;
+use wkb_geom::header::LONGEST_HEADER;
+use wkb_geom::words::COUNT;
+use wkb_geom::{CoordTrait, Dimension, Dimensions, EMPTY_WORD, Endianness, Form, LineStringTrait};
+
+/// The bytes of a corner: x and y.
+pub const CORNER: usize = 16;
+
+/// The bytes of the longest coordinate, which has four words.
+pub const COORDINATE: usize = 32;
+
+/// Every block holds at least so many bytes: the most that are laid in one piece, which a triangle is.
+pub const LEAST: usize = LONGEST_HEADER + 2 * COUNT + 4 * COORDINATE;
+
+/// Bytes that are laid in a lent slice and not yet given to a sink.
+#[derive(Drop)]
+pub struct Block<'a> {
+    bytes: &'a mut [u8],
+    len: usize,
+}
+
+impl<'a> Model for Block<'a> {
+    ghost Value = { Waiting };
+
+    ghost view = { λ b. record { waiting = take b.len b.bytes.now; room = length b.bytes.now - b.len } };
+
+    ghost invariant = { λ b. (b.len ≤ length b.bytes.now) × (LEAST ≤ length b.bytes.now) };
+}
+
+impl<'a> Block<'a> {
+    /// An empty block, over as many bytes as it can hold.
+    #[inline]
+    pub fn over(bytes: &'a mut [u8]) -> Block<'a>
+        requires { LEAST ≤ length bytes.old }
+        ensures { result.waiting ≡ [] }
+    {
+        Block { bytes, len: 0 }
+    }
+
+    /// How many bytes more the block holds.
+    #[inline]
+    pub fn room(&self) -> usize
+        ensures room { result ≡ self.now.room }
+        ensures least { LEAST ≤ length self.now.waiting + self.now.room }
+    {
+        self.bytes.len() - self.len
+    }
+
+    /// The bytes that wait.
+    #[inline]
+    pub fn waiting(&self) -> &[u8]
+        ensures { result.now ≡ self.now.waiting }
+    {
+        &self.bytes[..self.len]
+    }
+
+    /// Forgets the bytes that wait, once a sink has them.
+    #[inline]
+    pub fn clear(&mut self)
+        ensures empty { self.new.waiting ≡ [] }
+        ensures room { LEAST ≤ self.new.room }
+    {
+        self.len = 0;
+    }
+
+    /// Lays bytes as they are.
+    #[inline]
+    pub fn lay(&mut self, bytes: &[u8])
+        requires { length bytes.now ≤ self.old.room }
+        ensures room { self.new.room + length bytes.now ≡ self.old.room }
+        ensures bytes { IsExtended self.old.waiting self.new.waiting bytes.now }
+    {
+        let end = self.len + bytes.len();
+        self.bytes[self.len..end].copy_from_slice(bytes);
+        self.len = end;
+    }
+
+    /// Lays a word in its eight bytes.
+    #[inline]
+    pub fn lay_word(&mut self, order: Endianness, word: u64)
+        requires { 8 ≤ self.old.room }
+        ensures room { self.new.room + 8 ≡ self.old.room }
+        ensures bytes { IsExtended self.old.waiting self.new.waiting (number_bytes order 8 word) }
+    {
+        store_word(&mut self.bytes[self.len..], order, word);
+        self.len += 8;
+    }
+
+    /// Lays a coordinate of two, three or four words.
+    #[inline(always)]
+    pub fn lay_coordinate<C: CoordTrait>(&mut self, coord: &C, order: Endianness)
+        requires least { 2 ≤ size (C.dimensions coord.now) }
+        requires most { size (C.dimensions coord.now) ≤ 4 }
+        requires room { COORDINATE ≤ self.old.room }
+        ensures room { self.old.room ≤ self.new.room + COORDINATE }
+        ensures bytes { IsExtended self.old.waiting self.new.waiting (words_text order (C.words coord.now)) }
+    {
+        let width = coord.dim().size();
+        store_coordinate(&mut self.bytes[self.len..], coord, width, order);
+        self.len += 8 * width;
+    }
+
+    /// Lays the coordinates between two places.
+    #[inline]
+    pub fn lay_coordinates<L: LineStringTrait>(
+        &mut self,
+        line: &L,
+        from: usize,
+        to: usize,
+        order: Endianness,
+    )
+        requires order { from ≤ to }
+        requires within { to ≤ length (L.coordinates line.now) }
+        requires least { 2 ≤ size (L.dimensions line.now) }
+        requires most { size (L.dimensions line.now) ≤ 4 }
+        requires room { 8 * size (L.dimensions line.now) * (to - from) ≤ self.old.room }
+        ensures { IsExtended self.old.waiting self.new.waiting
+            (flat_map (words_text order) (drop from (take to (L.coordinates line.now)))) }
+    {
+        let n = store_coordinates(&mut self.bytes[self.len..], line, from, to, order);
+        self.len += n;
+    }
+}
+
+/// The dimension that is written; Xy where there is none.
+pub fn written(dim: Dimensions) -> Dimension
+    ensures { result ≡ written_dimension dim }
+{
+    Dimension::try_from(dim).unwrap_or(Dimension::Xy)
+}
+
+#[tactic(auto, unfolding(wkb_geom::specs::Texts::code_of))]
+fn code(form: Form, kind: WkbType) -> u32
+    ensures { result ≡ code_of form (type_kind kind) (type_dimension kind) }
+{
+    match form {
+        Form::Iso => u32::from(kind),
+        Form::Ewkb { srid } => kind.ewkb_code(srid.is_some()),
+    }
+}
+
+/// Lays a count, or an SRID.
+pub fn lay_count(block: &mut Block<'_>, order: Endianness, n: u32)
+    requires { COUNT ≤ block.old.room }
+    ensures room { block.new.room + COUNT ≡ block.old.room }
+    ensures bytes { IsExtended block.old.waiting block.new.waiting (number_bytes order 4 n) }
+{
+    block.lay(&u32_bytes(order, n));
+}
+
+/// Lays the order's byte, the code, and the SRID where there is one.
+#[inline(always)]
+pub fn lay_header(block: &mut Block<'_>, order: Endianness, form: Form, kind: WkbType)
+    requires { LONGEST_HEADER ≤ block.old.room }
+    ensures room { block.old.room ≤ block.new.room + LONGEST_HEADER }
+    ensures bytes { IsExtended block.old.waiting block.new.waiting
+        (header_text order form (type_kind kind) (type_dimension kind)) }
+{
+    block.lay(&[u8::from(order)]);
+    lay_count(block, order, code(form, kind));
+    if let Some(srid) = form.srid() {
+        lay_count(block, order, srid);
+    }
+}
+
+/// Lays the words of a point without a coordinate.
+pub fn lay_empty(block: &mut Block<'_>, order: Endianness, dim: Dimension)
+    requires { COORDINATE ≤ block.old.room }
+    ensures { IsExtended block.old.waiting block.new.waiting (words_text order (replicate (width dim) empty_word)) }
+{
+    for _i in 0..dim.width() {
+        block.lay_word(order, EMPTY_WORD);
+    }
+}
+
+/// Lays a corner of a rectangle: x and y alone.
+#[tactic(auto, using(crate::proofs::Behind::behind, crate::proofs::Behind::last), unfolding(wkb_geom::specs::Texts::words_text))]
+pub fn lay_corner(block: &mut Block<'_>, order: Endianness, x: u64, y: u64)
+    requires { CORNER ≤ block.old.room }
+    ensures room { block.new.room + CORNER ≡ block.old.room }
+    ensures bytes { IsExtended block.old.waiting block.new.waiting (words_text order (x ∷ y ∷ [])) }
+{
+    block.lay_word(order, x);
+    block.lay_word(order, y);
+}

@@ -1,0 +1,167 @@
+//! Bytes to a sink, by blocks.
+
+ghost use Rattle.std.specs.Prelude.{◌≡◌, ◌≤◌, ◌++◌, [], false, IfOk};
+ghost use Rattle.wkb_geom.specs.Numbers.{number_bytes};
+ghost use Rattle.wkb_geom.specs.Reading.{type_kind, type_dimension};
+ghost use Rattle.wkb_geom.specs.Texts.{header_text};
+ghost use Rattle.wkb_sink.specs.Progress.{Lays};
+ghost use Rattle.wkb_sink.specs.Sinks.{PutsOrStops};
+
+use crate::Sink;
+use crate::block::{Block, LEAST, lay_count, lay_header};
+use std::io;
+use wkb_geom::code::WkbType;
+use wkb_geom::header::LONGEST_HEADER;
+use wkb_geom::words::COUNT;
+use wkb_geom::{Endianness, Form};
+
+/// The sink failed. Its error is kept in one place, where it had one: an `io::Error` is too large to be handed on by
+/// each step.
+#[derive(Debug, Clone, Copy)]
+pub struct Stopped;
+
+/// A sink behind a block, and the place where its error is kept.
+#[derive(Drop)]
+pub struct Buffered<'a, S: Sink> {
+    pub sink: &'a mut S,
+    pub block: Block<'a>,
+    pub error: &'a mut Option<io::Error>,
+}
+
+/// Puts all of the bytes, or as many as the sink takes before it fails: by an error, or by taking no byte.
+#[inline(always)]
+pub fn put_all<S: Sink>(sink: &mut S, bytes: &[u8]) -> Result<(), Option<io::Error>>
+    requires { S.has_failed sink.old ≡ false }
+    ensures { PutsOrStops (S.appended sink.old) (S.appended sink.new) (S.has_failed sink.new) bytes.now result }
+{
+    let mut rest = bytes;
+    while !rest.is_empty() {
+        match sink.put(rest) {
+            Ok(0) => return Err(None),
+            Ok(n) => rest = &rest[n..],
+            Err(e) => return Err(Some(e)),
+        }
+    }
+    Ok(())
+}
+
+impl<'a, S: Sink> Buffered<'a, S> {
+    /// Puts what waits.
+    #[inline(never)]
+    #[tactic(auto, using(crate::proofs::Steps::flush_laws))]
+    pub fn flush(&mut self) -> Result<(), Stopped>
+        requires { S.has_failed self.old.sink.now ≡ false }
+        ensures laid { Lays S.appended S.has_failed self.old self.new [] result }
+        ensures empty { IfOk result (λ _. self.new.block.waiting ≡ []) }
+        ensures room { IfOk result (λ _. LEAST ≤ self.new.block.room) }
+    {
+        match put_all(self.sink, self.block.waiting()) {
+            Ok(()) => {
+                self.block.clear();
+                Ok(())
+            }
+            Err(error) => {
+                *self.error = error;
+                Err(Stopped)
+            }
+        }
+    }
+
+    /// Sees that the block has room for so many bytes.
+    #[inline]
+    pub fn make_room(&mut self, n: usize) -> Result<(), Stopped>
+        requires fits { n ≤ LEAST }
+        requires working { S.has_failed self.old.sink.now ≡ false }
+        ensures laid { Lays S.appended S.has_failed self.old self.new [] result }
+        ensures room { IfOk result (λ _. n ≤ self.new.block.room) }
+    {
+        if self.block.room() < n {
+            self.flush()
+        } else {
+            Ok(())
+        }
+    }
+
+    /// Puts bytes as they are: by the block where they fit, else what waits and then they alone.
+    #[inline]
+    #[tactic(auto, using(crate::proofs::Steps::step_laws))]
+    pub fn put_bytes(&mut self, bytes: &[u8]) -> Result<(), Stopped>
+        requires working { S.has_failed self.old.sink.now ≡ false }
+        ensures { Lays S.appended S.has_failed self.old self.new bytes.now result }
+    {
+        if bytes.len() <= self.block.room() {
+            self.block.lay(bytes);
+            Ok(())
+        } else {
+            self.put_past(bytes)
+        }
+    }
+
+    // Puts what waits, and then bytes by themselves where the whole block is too short for them.
+    #[inline(never)]
+    #[tactic(auto, using(crate::proofs::Steps::step_laws))]
+    fn put_past(&mut self, bytes: &[u8]) -> Result<(), Stopped>
+        requires working { S.has_failed self.old.sink.now ≡ false }
+        ensures { Lays S.appended S.has_failed self.old self.new bytes.now result }
+    {
+        self.flush()?;
+        if bytes.len() <= self.block.room() {
+            self.block.lay(bytes);
+            return Ok(());
+        }
+        match put_all(self.sink, bytes) {
+            Ok(()) => Ok(()),
+            Err(error) => {
+                *self.error = error;
+                Err(Stopped)
+            }
+        }
+    }
+
+    /// Puts a count.
+    #[tactic(auto, using(crate::proofs::Steps::step_laws))]
+    pub fn put_count(&mut self, order: Endianness, n: u32) -> Result<(), Stopped>
+        requires working { S.has_failed self.old.sink.now ≡ false }
+        ensures { Lays S.appended S.has_failed self.old self.new (number_bytes order 4 n) result }
+    {
+        self.make_room(COUNT)?;
+        lay_count(&mut self.block, order, n);
+        Ok(())
+    }
+
+    /// Puts a header of this code.
+    #[tactic(auto, using(crate::proofs::Steps::step_laws))]
+    pub fn put_header(
+        &mut self,
+        order: Endianness,
+        form: Form,
+        kind: WkbType,
+    ) -> Result<(), Stopped>
+        requires working { S.has_failed self.old.sink.now ≡ false }
+        ensures { Lays S.appended S.has_failed self.old self.new
+            (header_text order form (type_kind kind) (type_dimension kind)) result }
+    {
+        self.make_room(LONGEST_HEADER)?;
+        lay_header(&mut self.block, order, form, kind);
+        Ok(())
+    }
+
+    /// Puts a header of this code, and a count.
+    #[tactic(auto, using(crate::proofs::Steps::step_laws, crate::proofs::Behind::behind))]
+    pub fn put_head(
+        &mut self,
+        order: Endianness,
+        form: Form,
+        kind: WkbType,
+        n: u32,
+    ) -> Result<(), Stopped>
+        requires working { S.has_failed self.old.sink.now ≡ false }
+        ensures { Lays S.appended S.has_failed self.old self.new
+            (header_text order form (type_kind kind) (type_dimension kind) ++ number_bytes order 4 n) result }
+    {
+        self.make_room(LONGEST_HEADER + COUNT)?;
+        lay_header(&mut self.block, order, form, kind);
+        lay_count(&mut self.block, order, n);
+        Ok(())
+    }
+}

@@ -1,0 +1,244 @@
+//! Where bytes are written to.
+
+ghost use Rattle.std.specs.Prelude.{◌≡◌, ◌||◌, ◌+◌, ◌≤◌, ◌-◌, min, ℕ, Bool, false, List, [], length, take};
+ghost use Rattle.std.specs.Prelude.{Option, None, Some, IsOk, IfOk, vec_capacity};
+ghost use Rattle.std.specs.Io.{WritesAtMost};
+ghost use Rattle.std.specs.Io.KnownBytes.{WriteAppends};
+ghost use Rattle.wkb_sink.specs.Held.{Outward, Growing, Lent};
+ghost use Rattle.wkb_sink.specs.Sinks.{put_fails};
+
+use std::alloc::{AllocError, Global};
+use std::io;
+use std::io::Write;
+use std::marker::Model;
+
+/// A place for bytes, which may take a part of what it is given.
+pub trait Sink {
+    // The bytes that stand appended, where the sink tells them.
+    ghost appended: { Self → Option (List ℕ) } = { λ _. None };
+
+    // Whether the sink has failed.
+    ghost has_failed: { Self → Bool };
+
+    /// Appends the first bytes, as many as it answers. An error appends nothing. An error, or no
+    /// byte taken of some, is a failure, and lasts.
+    fn put(&mut self, bytes: &[u8]) -> io::Result<usize>
+        ensures bound { WritesAtMost result bytes.now }
+        ensures bytes { WriteAppends (appended self.old) (appended self.new) result bytes.now }
+        ensures failure { has_failed self.new ≡ (has_failed self.old || put_fails (length bytes.now) result) };
+
+    /// Whether a put has failed: what stands is then a beginning at most.
+    fn failed(&self) -> bool
+        ensures { result ≡ has_failed self.now };
+}
+
+/// A sink over a writer: one write for each put, which isn't tried again where it was interrupted.
+#[derive(Drop)]
+pub struct Out<W> {
+    writer: W,
+    has_failed: bool,
+}
+
+impl<W> Model for Out<W> {
+    ghost Value = { Outward W };
+
+    ghost view = { λ o. record { writer = o.writer; failed = o.has_failed } };
+}
+
+impl<W: Write> Out<W> {
+    /// A sink over this writer, with nothing written.
+    pub fn new(writer: W) -> Out<W>
+        ensures writer { result.writer ≡ writer }
+        ensures failed { result.failed ≡ false }
+    {
+        Out {
+            writer,
+            has_failed: false,
+        }
+    }
+
+    /// The writer, with all that was written to it.
+    pub fn into_inner(self) -> W
+        ensures { result ≡ self.writer }
+    {
+        let Out {
+            writer,
+            has_failed: _,
+        } = self;
+        writer
+    }
+}
+
+impl<W: Write> Sink for Out<W> {
+    ghost appended = { λ o. W.contents o.writer };
+
+    ghost has_failed = { λ o. o.failed };
+
+    fn put(&mut self, bytes: &[u8]) -> io::Result<usize> {
+        let result = self.writer.write(bytes);
+        match &result {
+            Ok(0) if !bytes.is_empty() => self.has_failed = true,
+            Ok(_) => {}
+            Err(_) => self.has_failed = true,
+        }
+        result
+    }
+
+    fn failed(&self) -> bool {
+        self.has_failed
+    }
+}
+
+/// A sink in memory, which grows.
+#[derive(Drop)]
+pub struct VecSink {
+    bytes: Vec<u8>,
+    has_failed: bool,
+}
+
+impl Model for VecSink {
+    ghost Value = { Growing };
+
+    ghost view = { λ s. record { bytes = s.bytes.items; capacity = vec_capacity s.bytes; failed = s.has_failed } };
+}
+
+impl VecSink {
+    /// An empty sink, which asks for memory as bytes come.
+    pub fn new(alloc: Global) -> VecSink
+        ensures bytes { result.bytes ≡ [] }
+        ensures failed { result.failed ≡ false }
+    {
+        VecSink {
+            bytes: Vec::new(alloc),
+            has_failed: false,
+        }
+    }
+
+    /// A sink whose first n bytes ask for no more memory. Fails where there is none for them.
+    pub fn with_capacity(alloc: Global, n: usize) -> Result<VecSink, AllocError>
+        ensures bytes { IfOk result (λ s. s.bytes ≡ []) }
+        ensures capacity { IfOk result (λ s. n ≤ s.capacity) }
+        ensures failed { IfOk result (λ s. s.failed ≡ false) }
+    {
+        let bytes = Vec::with_capacity(alloc, n)?;
+        Ok(VecSink {
+            bytes,
+            has_failed: false,
+        })
+    }
+
+    /// The bytes that stand.
+    pub fn into_vec(self) -> Vec<u8>
+        ensures { result.items ≡ self.bytes }
+    {
+        let VecSink {
+            bytes,
+            has_failed: _,
+        } = self;
+        bytes
+    }
+}
+
+impl Sink for VecSink {
+    ghost appended = { λ s. Some s.bytes };
+
+    ghost has_failed = { λ s. s.failed };
+
+    fn put(&mut self, bytes: &[u8]) -> io::Result<usize>
+        ensures bound { WritesAtMost result bytes.now }
+        ensures bytes { WriteAppends (Some self.old.bytes) (Some self.new.bytes) result bytes.now }
+        ensures failure { self.new.failed ≡ (self.old.failed || put_fails (length bytes.now) result) }
+        ensures whole { IfOk result (λ n. n ≡ length bytes.now) }
+        ensures room { length self.old.bytes + length bytes.now ≤ self.old.capacity → IsOk result }
+        ensures capacity { self.old.capacity ≤ self.new.capacity }
+    {
+        match self.bytes.extend_from_slice(bytes) {
+            Ok(()) => Ok(bytes.len()),
+            Err(e) => {
+                self.has_failed = true;
+                Err(io::Error::from(e))
+            }
+        }
+    }
+
+    fn failed(&self) -> bool {
+        self.has_failed
+    }
+}
+
+/// A sink over a lent slice, which takes as many bytes as fit.
+#[derive(Drop)]
+pub struct SliceSink<'a> {
+    slice: &'a mut [u8],
+    len: usize,
+    has_failed: bool,
+}
+
+impl<'a> Model for SliceSink<'a> {
+    ghost Value = { Lent };
+
+    ghost view = { λ s. record {
+      bytes = take s.len s.slice.now;
+      room = length s.slice.now - s.len;
+      failed = s.has_failed;
+    } };
+
+    ghost invariant = { λ s. s.len ≤ length s.slice.now };
+}
+
+impl<'a> SliceSink<'a> {
+    /// A sink that fills the slice from its front, and leaves what it doesn't fill as it was.
+    pub fn new(slice: &'a mut [u8]) -> SliceSink<'a>
+        ensures bytes { result.bytes ≡ [] }
+        ensures room { result.room ≡ length slice.old }
+        ensures failed { result.failed ≡ false }
+    {
+        SliceSink {
+            slice,
+            len: 0,
+            has_failed: false,
+        }
+    }
+
+    /// The number of bytes that stand.
+    pub fn len(&self) -> usize
+        ensures { result ≡ length self.now.bytes }
+    {
+        self.len
+    }
+
+    /// The bytes that stand.
+    pub fn written(&self) -> &[u8]
+        ensures { result.now ≡ self.now.bytes }
+    {
+        &self.slice[..self.len]
+    }
+}
+
+impl Sink for SliceSink<'_> {
+    ghost appended = { λ s. Some s.bytes };
+
+    ghost has_failed = { λ s. s.failed };
+
+    fn put(&mut self, bytes: &[u8]) -> io::Result<usize>
+        ensures bound { WritesAtMost result bytes.now }
+        ensures bytes { WriteAppends (Some self.old.bytes) (Some self.new.bytes) result bytes.now }
+        ensures failure { self.new.failed ≡ (self.old.failed || put_fails (length bytes.now) result) }
+        ensures most { IfOk result (λ n. n ≡ min (length bytes.now) self.old.room) }
+        ensures room { IfOk result (λ n. self.new.room ≡ self.old.room - n) }
+        ensures ok { IsOk result }
+    {
+        let room = self.slice.len() - self.len;
+        let n = bytes.len().min(room);
+        self.slice[self.len..self.len + n].copy_from_slice(&bytes[..n]);
+        self.len += n;
+        if n == 0 && !bytes.is_empty() {
+            self.has_failed = true;
+        }
+        Ok(n)
+    }
+
+    fn failed(&self) -> bool {
+        self.has_failed
+    }
+}

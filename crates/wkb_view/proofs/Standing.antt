@@ -1,0 +1,74 @@
+-- Bytes that are read as coordinates in an order are what is written of these coordinates in that order.
+use Rattle.std.proofs.Common.{◌≡◌, ℕ, zero, suc, ◌+◌, ◌*◌, ◌≤◌, ◌<◌, ◌/◌, ◌^◌, List, length, take, drop, lit<, refl}
+use Rattle.std.proofs.Common.{sym, ◌∙◌, arith}
+use Rattle.std.proofs.Common.{length-drop, take_all, take-add}
+use Rattle.std.proofs.Math.Nat.{mod-lt}
+use Rattle.std.specs.Int.{byte_at, bytes_high_first, bytes_low_first}
+use Rattle.std.specs.List.{flat_map}
+use Rattle.wkb_geom.specs.Numbers.{number_bytes}
+use Rattle.wkb_geom.specs.Texts.{words_text}
+use Rattle.wkb_view.specs.Words.{Endianness, BigEndian, LittleEndian, Dimension, AreBytes, number, width, items}
+use Rattle.wkb_view.specs.Words.{coordinate, coordinates, ring_in}
+use Rattle.wkb_view.specs.Ranges.{AreBytes-take, AreBytes-drop}
+use Rattle.wkb_laws.proofs.OneText.{number_fixed}
+use Rattle.wkb_laws.proofs.Parts.{number-take as number_taken}
+use Rattle.wkb_laws.proofs.TextSpells.{IsNumber-number_bytes}
+use Rattle.wkb_laws.proofs.Values.{number-lt}
+
+byte_small : (k x : ℕ) → byte_at k x < 256
+byte_small zero x = mod-lt x (lit< tt)
+byte_small (suc k) x = mod-lt (x / 256 ^ suc k) (lit< tt)
+
+high_are_bytes : (n x : ℕ) → AreBytes (bytes_high_first n x)
+high_are_bytes zero x i = lit< tt
+high_are_bytes (suc n) x zero = byte_small n x
+high_are_bytes (suc n) x (suc i) = high_are_bytes n x i
+
+low_are_bytes : (j n x : ℕ) → AreBytes (bytes_low_first j n x)
+low_are_bytes j zero x i = lit< tt
+low_are_bytes j (suc n) x zero = byte_small j x
+low_are_bytes j (suc n) x (suc i) = low_are_bytes (suc j) n x i
+
+number_is_bytes : (order : Endianness) (n x : ℕ) → AreBytes (number_bytes order n x)
+unfolding number_bytes
+number_is_bytes BigEndian n x = high_are_bytes n x
+number_is_bytes LittleEndian n x = low_are_bytes 0 n x
+
+-- the bytes of the number that is read off the first bytes are these
+pub number_stands : (order : Endianness) (n : ℕ) (y : List ℕ) → AreBytes y → n ≤ length y → number_bytes order n (number order n y) ≡ take n y
+number_stands order n y h long =
+    let is = number_taken order n y long in
+    let bytes = AreBytes-take n y h in
+    (number_fixed order n (number order n y)).same (number_bytes order n (number order n y)) (take n y)
+    (IsNumber-number_bytes order n (number order n y) (number-lt order n (number order n y) (take n y) is bytes)) is
+    (number_is_bytes order n (number order n y)) bytes
+
+-- where it is so of each item, it is of n of them
+items_stand : {A : Type 0} (size : ℕ) (item : List ℕ → A) (f : A → List ℕ)
+    → ((y : List ℕ) → AreBytes y → size ≤ length y → f (item y) ≡ take size y)
+    → (n : ℕ) (y : List ℕ) → AreBytes y → size * n ≤ length y → flat_map f (items size item n y) ≡ take (size * n) y
+items_stand size item f one zero y h long = let e : size * 0 ≡ 0 = omega arith in rw e refl
+items_stand size item f one (suc n) y h long =
+    let e : size * suc n ≡ size + size * n = omega arith in
+    let first : f (item y) ≡ take size y = one y h (omega (arith, long, e)) in
+    let rest : flat_map f (items size item n (drop size y)) ≡ take (size * n) (drop size y) =
+    items_stand size item f one n (drop size y) (AreBytes-drop size y h) (omega (arith, long, e, length-drop size y)) in
+    rw (e, first, rest) (sym (take-add size (size * n) y))
+
+pub words_stand : (order : Endianness) (d : Dimension) (y : List ℕ) → AreBytes y → 8 * width d ≤ length y
+    → words_text order (coordinate order d y) ≡ take (8 * width d) y
+unfolding words_text
+words_stand order d y h long = items_stand 8 (number order 8) (number_bytes order 8) (number_stands order 8) (width d) y h long
+
+pub coordinates_stand : (order : Endianness) (d : Dimension) (n : ℕ) (y : List ℕ) → AreBytes y → 8 * width d * n ≤ length y
+    → flat_map (words_text order) (coordinates order d n y) ≡ take (8 * width d * n) y
+coordinates_stand order d n y h long = items_stand (8 * width d) (coordinate order d) (words_text order) (words_stand order d) n y h long
+
+-- a ring's coordinates are all that stands behind its count
+pub ring_stands : (order : Endianness) (d : Dimension) (text : List ℕ) → AreBytes text → length text ≡ 4 + 8 * width d * number order 4 text
+    → drop 4 text ≡ flat_map (words_text order) (ring_in order d text)
+ring_stands order d text h whole =
+    let n = number order 4 text in
+    let len = length-drop 4 text in
+    sym (coordinates_stand order d n (drop 4 text) (AreBytes-drop 4 text h) (omega (arith, whole, len))
+    ∙ take_all (8 * width d * n) (drop 4 text) (omega (arith, whole, len)))

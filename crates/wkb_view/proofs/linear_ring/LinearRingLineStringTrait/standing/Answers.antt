@@ -1,0 +1,15 @@
+use Rattle.std.proofs.Common.{rules, ◌≡◌, ◌+◌, ◌*◌, ap, ◌∙◌}
+use Rattle.std.specs.List.{flat_map}
+use Rattle.wkb_geom.specs.Texts.{words_text}
+use Rattle.wkb_view.specs.Words.{width}
+use Rattle.wkb_view.specs.Coords.{ring_seen}
+use Rattle.wkb_view.proofs.Standing.{ring_stands}
+use Rattle.wkb_view.proofs.linear_ring.LinearRingLineStringTrait.standing.Goals as goal
+
+pub returns-then-eq : goal.returns-then-eq
+returns-then-eq c =
+    let r = c.args.self.now in
+    let same : r.order ≡ c.args.order = search rules in
+    c.coords_slice.ensures.text
+    ∙ ring_stands r.order r.dimension r.bytes.now r.in_range (r.whole ∙ ap (λ k. 4 + 8 * width r.dimension * k) r.counted)
+    ∙ ap (λ o. flat_map (words_text o) (ring_seen r)) same

@@ -1,0 +1,27 @@
+-- The words that the proofs of this crate share, passed on from one place. Declares nothing.
+pub use Rattle.wkb_geom.specs.declared.error.Fault.{Fault}
+pub use Rattle.std.proofs.Common.{◌≡◌, ℕ, ◌≤◌, List, [], ◌++◌, length, take, drop, Option, Some, None, sym, ap, ◌∙◌}
+pub use Rattle.std.proofs.Common.{append_assoc, append-nil, arith}
+pub use Rattle.std.proofs.Common.{take_all, take-append-drop, ◌-◌, ◌+◌, refl, ◌*◌, ◌<◌, ◌∷◌, map, get_or, ◌^◌, Result}
+pub use Rattle.std.proofs.Common.{zero, suc}
+pub use Rattle.std.proofs.Common.{slice_get, Ok, Err, add-one, rules}
+pub use Rattle.std.proofs.lemmas.List.{length-map, get_or-map, take-take}
+pub use Rattle.std.proofs.lemmas.List.Concat.{flat_map-append}
+pub use Rattle.std.proofs.lemmas.Option.{slice_get_read, slice_get-get_or}
+pub use Rattle.std.specs.List.{flat_map}
+pub use Rattle.wkb_geom.specs.declared.common.Dimension.{Dimension}
+pub use Rattle.wkb_geom.specs.declared.common.Dimensions.{Dimensions}
+pub use Rattle.wkb_geom.specs.declared.common.Endianness.{Endianness}
+pub use Rattle.wkb_geom.specs.declared.common.Form.{Form}
+pub use Rattle.wkb_geom.specs.Dimensions.{written_dimension, size}
+pub use Rattle.wkb_geom.specs.Geometries.{Geometry, geometries, collection}
+pub use Rattle.wkb_geom.specs.Numbers.{number_bytes}
+pub use Rattle.wkb_geom.specs.Sizes.{node_count, node_counts}
+pub use Rattle.wkb_geom.specs.Texts.{text, texts, fault, fault_each, count_geometries, inner}
+unfoldable pub use Rattle.wkb_geom.specs.Texts.{words_text, first_fault, or_else, members_text, header_text}
+unfoldable pub use Rattle.wkb_geom.specs.Texts.{dimensions_fault, coordinates_text}
+unfoldable pub use Rattle.wkb_geom.specs.Texts.{line_string_text, point_text, point_words, polygon_text}
+pub use Rattle.wkb_geom.proofs.Faults.{none_first, none_rest, none_both, count_below}
+unfoldable pub use Rattle.wkb_write.specs.Counted.{counted}
+pub use Rattle.wkb_sink.specs.Progress.{Progress, Advances, IsLaid, IsCut, progress}
+pub use Rattle.wkb_sink.specs.declared.buffered.Stopped.{Stopped}

@@ -1,0 +1,88 @@
+use Rattle.wkb_write.proofs.Prelude.{◌≡◌, ◌<◌, ◌-◌, ◌∙◌, sym, ap, length, arith, length-map, node_count, fault, text}
+use Rattle.wkb_write.proofs.Prelude.{inner}
+use Rattle.wkb_write.proofs.Collections.{collection_count, collection_members, lays_collection, member_ready}
+use Rattle.wkb_sink.proofs.Laid.{exits}
+use Rattle.wkb_write.proofs.Loops.{head_cut, none_laid, all_laid, next_cut, lays_last_text, text_there}
+use Rattle.wkb_write.proofs.geometry.+put.Goals as goal
+
+pub put_members-returns-in_err-put_head : goal.put_members-returns-in_err-put_head
+put_members-returns-in_err-put_head g t c = exits _ _ c.from_residual.ensures.1 (head_cut _ _ _ _ (length-map _ _) c.in_err-put_head.ensures)
+
+pub put_member-put_any-requires : goal.put_member-put_any-requires
+put_member-put_any-requires g t c κs within = (omega (arith, c.decreases), assumption (c.requires.fault, c.requires.working))
+
+pub put_member-returns : goal.put_member-returns
+put_member-returns g t c = rw c.member_form.ensures at c.put_any.ensures
+
+pub put_members-put_member-requires : goal.put_members-put_member-requires
+put_members-put_member-requires g t c κs within =
+    let members = c.args.members.now in
+    let there : c.loop-i.i < length members = omega (arith, c.loop-i-test.true) in
+    let ready = member_ready g.G.GeometryTrait.geometry members _ _ there c.index-members-i.is c.requires.fault in
+    (omega (arith, ready.1, c.decreases), assumption (ready.0, c.loop-i.invariant.laid.works))
+
+pub put_members-put_member-requires-2 : goal.put_members-put_member-requires-2
+put_members-put_member-requires-2 g t c κs within =
+    let members = c.args.members.now in
+    let there : length members - 1 < length members = omega (arith, c.if-count-eq0.false) in
+    let ready = member_ready g.G.GeometryTrait.geometry members _ _ there c.index-members-last.is c.requires.fault in
+    (omega (arith, ready.1, c.decreases), assumption (ready.0, c.loop-i.invariant.laid.works))
+
+pub put_members-returns-then-count-eq0 : goal.put_members-returns-then-count-eq0
+put_members-returns-then-count-eq0 g t c =
+    let same = length-map c.args.members.now (λ m. text c.args.order (inner c.args.form) (g.G.GeometryTrait.geometry m)) in
+    all_laid (none_laid _ (sym same) c.in_ok-put_head.ensures) (omega (arith, same, c.if-count-eq0.true))
+
+pub put_members-returns : goal.put_members-returns
+put_members-returns g t c =
+    let members = c.args.members.now in
+    let same = length-map members (λ m. text c.args.order (inner c.args.form) (g.G.GeometryTrait.geometry m)) in
+    let there : length members - 1 < length members = omega (arith, c.if-count-eq0.false) in
+    let at_end : c.loop-i.i ≡ length members - 1 = omega (arith, c.loop-i.auto.i-end, c.loop-i-test.false) in
+    lays_last_text _ _ (rw at_end at c.loop-i.invariant) (text_there _ _ _ _ there c.index-members-last.is) (omega (arith, same, there))
+    (rw (← c.has_flags-2.ensures) at c.put_member-2.ensures)
+
+pub put_members-returns-in_err-put_member : goal.put_members-returns-in_err-put_member
+put_members-returns-in_err-put_member g t c =
+    let there : c.loop-i.i < length c.args.members.now = omega (arith, c.loop-i-test.true) in
+    let cut = rw (← c.has_flags.ensures) at c.in_err-put_member.ensures in
+    exits _ _ c.from_residual-in_err-put_member.ensures.1 (next_cut c.loop-i.invariant (text_there _ _ _ _ there c.index-members-i.is) cut)
+
+pub put_any-put-requires-clause-fault : goal.put_any-put-requires-clause-fault
+put_any-put-requires-clause-fault g t c = ap fault c.in-Point.ensures.part ∙ c.requires.fault
+
+pub put_any-put-requires-in-LineString-clause-fault : goal.put_any-put-requires-in-LineString-clause-fault
+put_any-put-requires-in-LineString-clause-fault g t c = ap fault c.in-LineString.ensures.part ∙ c.requires.fault
+
+pub put_any-put-requires-in-Polygon-clause-fault : goal.put_any-put-requires-in-Polygon-clause-fault
+put_any-put-requires-in-Polygon-clause-fault g t c = ap fault c.in-Polygon.ensures.part ∙ c.requires.fault
+
+pub put_any-put-requires-in-MultiPoint-clause-fault : goal.put_any-put-requires-in-MultiPoint-clause-fault
+put_any-put-requires-in-MultiPoint-clause-fault g t c = ap fault c.in-MultiPoint.ensures.part ∙ c.requires.fault
+
+pub put_any-put-requires-in-MultiLineString-clause-fault : goal.put_any-put-requires-in-MultiLineString-clause-fault
+put_any-put-requires-in-MultiLineString-clause-fault g t c = ap fault c.in-MultiLineString.ensures.part ∙ c.requires.fault
+
+pub put_any-put-requires-in-MultiPolygon-clause-fault : goal.put_any-put-requires-in-MultiPolygon-clause-fault
+put_any-put-requires-in-MultiPolygon-clause-fault g t c = ap fault c.in-MultiPolygon.ensures.part ∙ c.requires.fault
+
+pub put_any-put-requires-in-Rect-clause-fault : goal.put_any-put-requires-in-Rect-clause-fault
+put_any-put-requires-in-Rect-clause-fault g t c = ap fault c.in-Rect.ensures.part ∙ c.requires.fault
+
+pub put_any-put-requires-in-Triangle-clause-fault : goal.put_any-put-requires-in-Triangle-clause-fault
+put_any-put-requires-in-Triangle-clause-fault g t c = ap fault c.in-Triangle.ensures.part ∙ c.requires.fault
+
+pub put_any-put-requires-in-Line-clause-fault : goal.put_any-put-requires-in-Line-clause-fault
+put_any-put-requires-in-Line-clause-fault g t c = ap fault c.in-Line.ensures.part ∙ c.requires.fault
+
+pub put_any-put_members-requires : goal.put_any-put_members-requires
+put_any-put_members-requires g t c κs within =
+    let members = c.in-GeometryCollection.members.now in
+    let none = ap fault c.in-GeometryCollection.ensures.part ∙ c.requires.fault in
+    let few = collection_count (g.G.Dimensioned.dimensions c.args.geom.now) g.G.GeometryTrait.geometry members none in
+    let fine = collection_members (g.G.Dimensioned.dimensions c.args.geom.now) g.G.GeometryTrait.geometry members none in
+    (omega (arith, ap node_count c.in-GeometryCollection.ensures.part, c.decreases), assumption (few, fine, c.requires.working))
+
+pub put_any-returns-in-GeometryCollection : goal.put_any-returns-in-GeometryCollection
+put_any-returns-in-GeometryCollection g t c =
+    lays_collection _ _ _ _ _ _ _ c.put_members.ensures c.written.ensures c.dim.ensures c.in-GeometryCollection.ensures.part

@@ -1,0 +1,22 @@
+use Rattle.std.proofs.Common.{◌∙◌, ◌+◌, ap, arith}
+use Rattle.wkb_write.specs.Measures.{IsMeasured}
+use Rattle.wkb_write.proofs.Sizes.{size_refused, size_told, size_past}
+use Rattle.wkb_write.proofs.measure.whole_size.Goals as goal
+
+pub returns-in_err-measured-clause-size : goal.returns-in_err-measured-clause-size
+unfolding IsMeasured
+returns-in_err-measured-clause-size c = λ g lawful told.
+    size_refused _ _ c.args.form g _ c.in_err-measured.was c.from_residual.ensures.1 told
+
+pub returns-in-Some-clause-size : goal.returns-in-Some-clause-size
+unfolding IsMeasured
+returns-in-Some-clause-size c = λ g lawful told.
+    let sum = c.in-Some.ensures.1 ∙ ap (λ n. c.in_ok-measured.field-0 + n) c.header_size-header.ensures.size in
+    size_told _ _ _ c.args.form g c.in_ok-measured.was c.header_size-header.ensures.fits lawful told sum
+    (omega (arith, c.in-Some.ensures.0, c.in-Some.ensures.1))
+
+pub returns-in-None-clause-size : goal.returns-in-None-clause-size
+unfolding IsMeasured
+returns-in-None-clause-size c = λ g lawful told.
+    size_past _ _ c.args.form g c.in_ok-measured.was c.header_size-header.ensures.fits lawful told
+    (omega (arith, c.in-None.ensures, c.header_size-header.ensures.size))

@@ -1,0 +1,44 @@
+-- What makes a geometry impossible to write, and its size.
+use Rattle.std.specs.Prelude.{◌≡◌, ℕ, ◌+◌, ◌-◌, ◌^◌, min, Option, Some, None, Result, Ok, Err, MatchResult}
+use Rattle.wkb_geom.specs.declared.error.WkbError.{WkbError}
+use Rattle.wkb_geom.specs.Errors.{TellsFault}
+use Rattle.wkb_geom.specs.Geometries.{Geometry}
+use Rattle.wkb_geom.specs.Texts.{fault}
+use Rattle.wkb_geom.specs.declared.error.Fault.{Fault}
+use Rattle.wkb_geom.specs.declared.error.Fault.TheVariants as fault
+use Rattle.wkb_write.specs.declared.measure.Measured.{Measured}
+use Rattle.wkb_write.specs.declared.measure.Measured.TheVariants as measured
+use Rattle.wkb_write.specs.Bodies.{body_size}
+
+-- what was measured, as a result
+abbrev pub result_of : Measured → Result ℕ Fault
+result_of (measured.Bytes n) = Ok n
+result_of (measured.UnsupportedDimensions n) = Err (fault.UnsupportedDimensions n)
+result_of measured.Count = Err fault.Count
+result_of measured.Size = Err fault.Size
+
+-- the error tells the fault
+pub record Reports (e : WkbError) (f : Option Fault) : Type 0 where
+  pub fault : Fault
+  pub is : f ≡ Some fault
+  pub told : TellsFault e fault
+
+-- what was found is the fault
+pub record Finds (e : Fault) (f : Option Fault) : Type 0 where
+  pub is : f ≡ Some e
+
+-- a number that `usize` holds, or its greatest
+abbrev pub capped : ℕ → ℕ
+capped n = min n (2 ^ 64 - 1)
+
+-- there is no fault, and the answer is the size, or the greatest `usize` where that is less
+abbrev pub Measures : Option Fault → ℕ → Result ℕ Fault → Type 0
+Measures fault size r = MatchResult r (λ n. (fault ≡ None) × (n ≡ capped size)) (λ e. Finds e fault)
+
+-- the geometry's own fault, and the size of what stands behind its header
+unfoldable pub IsMeasured : Geometry → Result ℕ Fault → Type 0
+IsMeasured g r = Measures (fault g) (body_size g) r
+
+-- the same, where the size is added to the bytes before it
+unfoldable pub IsAdded : ℕ → Geometry → Result ℕ Fault → Type 0
+IsAdded before g r = Measures (fault g) (before + body_size g) r

@@ -1,0 +1,281 @@
+//! A geometry of any kind, and the members of a collection: their recursion, in measuring and in putting.
+
+ghost use Rattle.std.specs.Prelude.{◌≡◌, ◌<◌, ◌^◌, ◌++◌, ◌⊎◌, None, IfOk, IfErr, false, length, map};
+ghost use Rattle.wkb_write.specs.Words.{encoding, refusal_of, Iso, IsMemory, collection, geometries, fault, first_fault};
+ghost use Rattle.wkb_write.specs.Words.{header_text, inner, text, Lays, IsSizeOf, Writes, counted};
+ghost use Rattle.wkb_write.specs.Words.{form_of, IsAdded, IsMeasured, Reports, result_of};
+
+use crate::lent::{lent_encoding, write_whole};
+use crate::line::{LineKind, write_line};
+use crate::line_string::{LineStringKind, write_line_string};
+use crate::measure::{Measured, check_count, check_dimensions};
+use crate::multi_line_string::{MultiLineStringKind, write_multi_line_string};
+use crate::multi_point::{MultiPointKind, write_multi_point};
+use crate::multi_polygon::{MultiPolygonKind, write_multi_polygon};
+use crate::point::{PointKind, write_point};
+use crate::polygon::{PolygonKind, write_polygon};
+use crate::rect::{RectKind, write_rect};
+use crate::triangle::{TriangleKind, write_triangle};
+use crate::writable::{Put, Writable, size_as, vec_as, write_as};
+use crate::{Sink, WriteOptions};
+use std::alloc::Global;
+use wkb_geom::code::WkbType;
+use wkb_geom::header::MEMBER_HEADER;
+use wkb_geom::{
+    Dimension, Dimensioned, Dimensions, Endianness, Fault, Form, GeometryTrait, GeometryType,
+    WkbResult,
+};
+use wkb_sink::Buffered;
+use wkb_sink::block::written;
+
+// Adds a collection of these dimensions and members to the bytes before it. Where the last member is a collection, it is
+// added by the last call, which the compiler makes a jump.
+#[cycle(measure)]
+pub fn add_members<G: GeometryTrait>(before: usize, dim: Dimensions, members: &[G]) -> Measured
+    ensures { IsAdded before (collection dim (geometries (map G.geometry members.now))) (result_of result) }
+{
+    match check_dimensions(dim) {
+        Ok(()) => {}
+        Err(fault) => return Measured::from(fault),
+    }
+    let count = match check_count(members.len() as u128) {
+        Ok(count) => count as usize,
+        Err(fault) => return Measured::from(fault),
+    };
+    let mut total = before.saturating_add(4 + MEMBER_HEADER * count);
+    for (i, member) in members.iter().enumerate() {
+        if i + 1 == count {
+            if let GeometryType::GeometryCollection(inner) = member.as_type() {
+                return add_members(total, member.dim(), inner);
+            }
+        }
+        match measure_geometry(member) {
+            Ok(size) => total = total.saturating_add(size),
+            Err(fault) => return Measured::from(fault),
+        }
+    }
+    Measured::Bytes(total)
+}
+
+// The bytes of a geometry after its header, or its first fault. `usize::MAX` stands for all that are more: with a header
+// none of them fits.
+#[cycle(measure)]
+#[inline(always)]
+fn measure_geometry<G: GeometryTrait>(geom: &G) -> Result<usize, Fault>
+    ensures measured { IsMeasured (G.geometry geom.now) result }
+{
+    match geom.as_type() {
+        GeometryType::Point(p) => PointKind::measure(p),
+        GeometryType::LineString(l) => LineStringKind::measure(l),
+        GeometryType::Polygon(p) => PolygonKind::measure(p),
+        GeometryType::MultiPoint(m) => MultiPointKind::measure(m),
+        GeometryType::MultiLineString(m) => MultiLineStringKind::measure(m),
+        GeometryType::MultiPolygon(m) => MultiPolygonKind::measure(m),
+        GeometryType::GeometryCollection(members) => {
+            add_members(0, geom.dim(), members).result()
+        }
+        GeometryType::Line(l) => LineKind::measure(l),
+        GeometryType::Rect(r) => RectKind::measure(r),
+        GeometryType::Triangle(t) => TriangleKind::measure(t),
+    }
+}
+
+// Whether the codes are EWKB's: all that a member keeps of the form, and it goes in a register.
+#[inline(always)]
+fn has_flags(form: Form) -> bool
+    ensures { inner form ≡ form_of result }
+{
+    match form {
+        Form::Iso => false,
+        Form::Ewkb { srid: _ } => true,
+    }
+}
+
+// The form of a member.
+#[inline(always)]
+fn member_form(has_flags: bool) -> Form
+    ensures { result ≡ form_of has_flags }
+{
+    if has_flags {
+        Form::Ewkb { srid: None }
+    } else {
+        Form::Iso
+    }
+}
+
+// Puts a member: a geometry without an SRID. Not inlined, so that each level hands on the form in a register.
+#[cycle(put)]
+#[inline(never)]
+fn put_member<S: Sink, G: GeometryTrait>(
+    out: &mut Buffered<'_, S>,
+    geom: &G,
+    order: Endianness,
+    has_flags: bool,
+) -> Put
+    requires fault { fault (G.geometry geom.now) ≡ None }
+    requires working { S.has_failed out.old.sink.now ≡ false }
+    ensures { Lays S.appended S.has_failed out.old out.new
+        (text order (form_of has_flags) (G.geometry geom.now)) result }
+{
+    put_any(out, geom, order, member_form(has_flags))
+}
+
+// Puts a collection's header, and its members after their count. The last one is put by the last call, which the compiler
+// makes a jump.
+#[cycle(put)]
+#[inline(always)]
+#[tactic(auto, using(crate::proofs::Steps::node_laws))]
+pub fn put_members<S: Sink, G: GeometryTrait>(
+    out: &mut Buffered<'_, S>,
+    members: &[G],
+    order: Endianness,
+    form: Form,
+    dim: Dimension,
+) -> Put
+    requires count { length members.now < 2 ^ 32 }
+    requires fault { first_fault (λ m. fault (G.geometry m)) members.now ≡ None }
+    requires working { S.has_failed out.old.sink.now ≡ false }
+    ensures { Lays S.appended S.has_failed out.old out.new
+        (header_text order form 7 dim
+        ++ counted order (map (λ m. text order (inner form) (G.geometry m)) members.now)) result }
+{
+    let count = members.len();
+    out.put_head(order, form, WkbType::GeometryCollection(dim), count as u32)?;
+    if count == 0 {
+        return Ok(());
+    }
+    let last = count - 1;
+    for i in 0..last {
+        put_member(out, &members[i], order, has_flags(form))?;
+    }
+    put_member(out, &members[last], order, has_flags(form))
+}
+
+// Puts a geometry of any kind.
+#[cycle(put)]
+#[inline(always)]
+#[tactic(auto, using(crate::proofs::Steps::node_laws))]
+fn put_any<S: Sink, G: GeometryTrait>(
+    out: &mut Buffered<'_, S>,
+    geom: &G,
+    order: Endianness,
+    form: Form,
+) -> Put
+    requires fault { fault (G.geometry geom.now) ≡ None }
+    requires working { S.has_failed out.old.sink.now ≡ false }
+    ensures { Lays S.appended S.has_failed out.old out.new (text order form (G.geometry geom.now)) result }
+{
+    match geom.as_type() {
+        GeometryType::Point(p) => PointKind::put(out, p, order, form),
+        GeometryType::LineString(l) => LineStringKind::put(out, l, order, form),
+        GeometryType::Polygon(p) => PolygonKind::put(out, p, order, form),
+        GeometryType::MultiPoint(m) => MultiPointKind::put(out, m, order, form),
+        GeometryType::MultiLineString(m) => MultiLineStringKind::put(out, m, order, form),
+        GeometryType::MultiPolygon(m) => MultiPolygonKind::put(out, m, order, form),
+        GeometryType::Rect(r) => RectKind::put(out, r, order, form),
+        GeometryType::Triangle(t) => TriangleKind::put(out, t, order, form),
+        GeometryType::Line(l) => LineKind::put(out, l, order, form),
+        GeometryType::GeometryCollection(members) => {
+            put_members(out, members, order, form, written(geom.dim()))
+        }
+    }
+}
+
+/// A geometry of any kind.
+pub struct GeometryKind;
+
+impl<G: GeometryTrait> Writable<G> for GeometryKind {
+    ghost geometry = { λ g. G.geometry g };
+
+    ghost lawful = { λ g. G.lawful g };
+
+    #[inline(always)]
+    fn measure(geom: &G) -> Result<usize, Fault> {
+        measure_geometry(geom)
+    }
+
+    fn put<S: Sink>(out: &mut Buffered<'_, S>, geom: &G, order: Endianness, form: Form) -> Put {
+        put_any(out, geom, order, form)
+    }
+}
+
+/// The size of a geometry in ISO codes, in bytes.
+///
+/// Refused by the first of these in preorder: dimensions that can't be written
+/// (`General(UnsupportedDimensions)`), a count that four bytes don't hold (`OverflowError(Count)`).
+/// Where there is none, a size that `usize` doesn't hold is refused (`OverflowError(Size)`).
+#[inline]
+pub fn geometry_wkb_size<G: GeometryTrait>(geom: &G) -> WkbResult<usize>
+    ensures size { IsSizeOf Iso (G.geometry geom.now) result }
+{
+    size_as::<G, GeometryKind>(geom, Form::Iso)
+}
+
+/// The size of a geometry under the options: four bytes more where they have an SRID.
+///
+/// Refused as `geometry_wkb_size` refuses it, and where the SRID's bytes make it pass `usize`.
+#[inline]
+pub fn geometry_wkb_size_with<G: GeometryTrait>(
+    geom: &G,
+    options: &WriteOptions,
+) -> WkbResult<usize>
+    ensures size { IsSizeOf options.now.form (G.geometry geom.now) result }
+{
+    size_as::<G, GeometryKind>(geom, options.form)
+}
+
+/// Writes a geometry. The whole of it is tested before a byte is put.
+///
+/// Refused as `geometry_wkb_size_with` refuses it under the same options, with the sink untouched.
+/// `IOError` where the sink fails: a beginning of the text then stands.
+#[inline(always)]
+pub fn write_geometry<S: Sink, G: GeometryTrait>(
+    writer: &mut S,
+    geom: &G,
+    options: &WriteOptions,
+) -> WkbResult<()>
+    requires working { S.has_failed writer.old ≡ false }
+    ensures { Writes options.now (G.geometry geom.now) result
+        (writer.new ≡ writer.old) (S.appended writer.old) (S.appended writer.new) (S.has_failed writer.new) }
+{
+    if let Some(encoding) = lent_encoding(geom, options) {
+        return write_whole(writer, geom, encoding, options);
+    }
+    match geom.as_type() {
+        GeometryType::Point(p) => write_point(writer, p, options),
+        GeometryType::LineString(l) => write_line_string(writer, l, options),
+        GeometryType::Polygon(p) => write_polygon(writer, p, options),
+        GeometryType::MultiPoint(m) => write_multi_point(writer, m, options),
+        GeometryType::MultiLineString(m) => write_multi_line_string(writer, m, options),
+        GeometryType::MultiPolygon(m) => write_multi_polygon(writer, m, options),
+        GeometryType::GeometryCollection(_) => write_as::<S, G, GeometryKind>(
+            writer, geom, options,
+        ),
+        GeometryType::Line(l) => write_line(writer, l, options),
+        GeometryType::Rect(r) => write_rect(writer, r, options),
+        GeometryType::Triangle(t) => write_triangle(writer, t, options),
+    }
+}
+
+/// The encoding of a geometry under the options, in a vector of its size.
+///
+/// Refused as `geometry_wkb_size_with` refuses it under the same options, or `Memory`.
+#[inline(always)]
+pub fn to_vec<G: GeometryTrait>(
+    alloc: Global,
+    geom: &G,
+    options: &WriteOptions,
+) -> WkbResult<Vec<u8>>
+    ensures ok { IfOk result (λ out. out.items ≡ encoding options.now (G.geometry geom.now)) }
+    ensures writable { IfOk result (λ _. refusal_of options.now (G.geometry geom.now) ≡ None) }
+    ensures err { IfErr result (λ e. IsMemory e ⊎ Reports e (refusal_of options.now (G.geometry geom.now))) }
+{
+    if let Some(encoding) = lent_encoding(geom, options) {
+        return Ok(Vec::from_slice(alloc, encoding)?);
+    }
+    match geom.as_type() {
+        // By itself a point needs no call.
+        GeometryType::Point(p) => vec_as::<G::PointType, PointKind>(alloc, p, options),
+        _ => vec_as::<G, GeometryKind>(alloc, geom, options),
+    }
+}

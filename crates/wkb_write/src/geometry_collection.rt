@@ -1,0 +1,50 @@
+//! A collection, whose members are of another type than the collection.
+
+ghost use Rattle.std.specs.Prelude.{◌≡◌, false};
+ghost use Rattle.wkb_write.specs.Words.{Iso, collection, geometries, IsSizeOf, Writes};
+
+use crate::common::*;
+use crate::geometry::{add_members, put_members};
+use wkb_geom::GeometryCollectionTrait;
+
+/// A collection, whose members are of another type.
+pub struct GeometryCollectionKind;
+
+#[tactic(auto, using(crate::proofs::Whole::added_alone))]
+impl<C: GeometryCollectionTrait> Writable<C> for GeometryCollectionKind {
+    ghost geometry = { λ c. collection (C.dimensions c) (geometries (C.members c)) };
+
+    ghost lawful = { λ g. C.lawful g };
+
+    #[inline(always)]
+    fn measure(geom: &C) -> Result<usize, Fault> {
+        add_members(0, geom.dim(), geom.geometries()).result()
+    }
+
+    fn put<S: Sink>(out: &mut Buffered<'_, S>, geom: &C, order: Endianness, form: Form) -> Put {
+        let dim = written(geom.dim());
+        put_members(out, geom.geometries(), order, form, dim)
+    }
+}
+
+/// The size of a GeometryCollection in ISO codes.
+/// Refuses as `geometry_wkb_size`.
+pub fn geometry_collection_wkb_size<C: GeometryCollectionTrait>(geom: &C) -> WkbResult<usize>
+    ensures size { IsSizeOf Iso (collection (C.dimensions geom.now) (geometries (C.members geom.now))) result }
+{
+    size_as::<C, GeometryCollectionKind>(geom, Form::Iso)
+}
+
+/// Writes a GeometryCollection. The whole of it is tested before a byte is put.
+/// Refuses and fails as `write_geometry`.
+pub fn write_geometry_collection<S: Sink, C: GeometryCollectionTrait>(
+    writer: &mut S,
+    geom: &C,
+    options: &WriteOptions,
+) -> WkbResult<()>
+    requires working { S.has_failed writer.old ≡ false }
+    ensures { Writes options.now (collection (C.dimensions geom.now) (geometries (C.members geom.now))) result
+        (writer.new ≡ writer.old) (S.appended writer.old) (S.appended writer.new) (S.has_failed writer.new) }
+{
+    write_as::<S, C, GeometryCollectionKind>(writer, geom, options)
+}

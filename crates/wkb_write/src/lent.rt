@@ -1,0 +1,50 @@
+//! Geometries whose whole encoding stands in memory: it is written in one copy.
+
+ghost use Rattle.std.specs.Prelude.{◌≡◌, None, IfSome, false, length};
+ghost use Rattle.wkb_write.specs.Words.{encoding, refusal_of, Writes};
+
+use crate::measure::header_size;
+use crate::writable::sink_error;
+use crate::{Sink, WriteOptions};
+use wkb_geom::{GeometryTrait, WkbResult};
+use wkb_sink::buffered::put_all;
+
+// The length of what stands in memory fits `usize`: so it is never refused for its size.
+#[inline(always)]
+fn length(bytes: &[u8]) -> usize
+    ensures { result ≡ length bytes.now }
+{
+    bytes.len()
+}
+
+/// The encoding of a geometry under the options, where the geometry lends it.
+#[inline(always)]
+pub fn lent_encoding<'a, G: GeometryTrait>(geom: &'a G, options: &WriteOptions) -> Option<&'a [u8]>
+    ensures encoding { IfSome result (λ bytes. bytes.now ≡ encoding options.now (G.geometry geom.now)) }
+    ensures writable { IfSome result (λ _. refusal_of options.now (G.geometry geom.now) ≡ None) }
+{
+    let encoding = geom.whole(options.endianness, options.form)?;
+    length(encoding);
+    Some(encoding)
+}
+
+/// Writes a geometry by its encoding, which stands in memory.
+#[inline(always)]
+pub fn write_whole<S: Sink, G: GeometryTrait>(
+    writer: &mut S,
+    geom: &G,
+    bytes: &[u8],
+    options: &WriteOptions,
+) -> WkbResult<()>
+    requires encoding { bytes.now ≡ encoding options.now (G.geometry geom.now) }
+    requires writable { refusal_of options.now (G.geometry geom.now) ≡ None }
+    requires working { S.has_failed writer.old ≡ false }
+    ensures { Writes options.now (G.geometry geom.now) result
+        (writer.new ≡ writer.old) (S.appended writer.old) (S.appended writer.new) (S.has_failed writer.new) }
+{
+    header_size(options.form);
+    match put_all(writer, bytes) {
+        Ok(()) => Ok(()),
+        Err(mut error) => sink_error(&mut error),
+    }
+}

@@ -1,0 +1,60 @@
+//! A line, which is written as a line string of its two ends.
+
+ghost use Rattle.std.specs.Prelude.{◌≡◌, false};
+ghost use Rattle.wkb_write.specs.Words.{Iso, line, IsSizeOf, Writes};
+
+use crate::common::*;
+use crate::measure::{behind_header, words_size};
+use wkb_geom::LineTrait;
+use wkb_geom::header::LONGEST_HEADER;
+use wkb_geom::words::COUNT;
+use wkb_sink::block::{COORDINATE, lay_count, lay_header};
+
+/// A line, which is put as a line string of its two ends.
+pub struct LineKind;
+
+#[tactic(auto, using(crate::proofs::Steps::step_laws))]
+impl<L: LineTrait> Writable<L> for LineKind {
+    ghost geometry = { λ l. line (L.dimensions l) (L.start_words l) (L.end_words l) };
+
+    ghost lawful = { λ g. L.lawful g };
+
+    #[inline(always)]
+    fn measure(geom: &L) -> Result<usize, Fault> {
+        behind_header(geom.dim(), Ok(4 + words_size(geom.dim(), 2)))
+    }
+
+    fn put<S: Sink>(out: &mut Buffered<'_, S>, geom: &L, order: Endianness, form: Form) -> Put {
+        let kind = WkbType::LineString(written(geom.dim()));
+        out.make_room(LONGEST_HEADER + COUNT + 2 * COORDINATE)?;
+        lay_header(&mut out.block, order, form, kind);
+        lay_count(&mut out.block, order, 2);
+        out.block.lay_coordinate(&geom.start(), order);
+        out.block.lay_coordinate(&geom.end(), order);
+        Ok(())
+    }
+}
+
+/// The size of a line, as a line string of two coordinates, in ISO codes.
+/// Refuses as `geometry_wkb_size`.
+pub fn line_wkb_size<L: LineTrait>(geom: &L) -> WkbResult<usize>
+    ensures size { IsSizeOf Iso
+        (line (L.dimensions geom.now) (L.start_words geom.now) (L.end_words geom.now)) result }
+{
+    size_as::<L, LineKind>(geom, Form::Iso)
+}
+
+/// Writes a line, as a line string of two coordinates.
+/// Refuses and fails as `write_geometry`.
+pub fn write_line<S: Sink, L: LineTrait>(
+    writer: &mut S,
+    geom: &L,
+    options: &WriteOptions,
+) -> WkbResult<()>
+    requires working { S.has_failed writer.old ≡ false }
+    ensures { Writes options.now
+        (line (L.dimensions geom.now) (L.start_words geom.now) (L.end_words geom.now)) result
+        (writer.new ≡ writer.old) (S.appended writer.old) (S.appended writer.new) (S.has_failed writer.new) }
+{
+    write_as::<S, L, LineKind>(writer, geom, options)
+}

@@ -1,0 +1,97 @@
+//! A line string: its coordinates, which a ring has too.
+
+ghost use Rattle.std.specs.Prelude.{◌≡◌, ◌<◌, ◌^◌, None, false, length};
+ghost use Rattle.wkb_write.specs.Words.{Iso, line_string, coordinates_fault, coordinates_text};
+ghost use Rattle.wkb_write.specs.Words.{dimensions_fault, Lays, IsSizeOf, Writes, ring_bytes, Measures};
+
+use crate::common::*;
+use crate::measure::{behind_header, check_count, words_size};
+use wkb_geom::LineStringTrait;
+use wkb_sink::block::{COORDINATE, CORNER};
+
+/// As many coordinates make a run: for so many or more of two words the block has room before some of them are laid.
+const RUN: usize = 8;
+
+/// Measures the coordinates of a line string or a ring, with their count.
+pub fn measure_coordinates<L: LineStringTrait>(line: &L) -> Result<usize, Fault>
+    ensures { Measures (coordinates_fault (L.coordinates line.now))
+        (ring_bytes (L.dimensions line.now) (L.coordinates line.now)) result }
+{
+    let count = check_count(line.num_coords() as u128)?;
+    Ok(4 + words_size(line.dim(), count))
+}
+
+/// Puts the coordinates of a line string or a ring, after their count.
+#[tactic(auto, using(crate::proofs::Steps::step_laws), unfolding(wkb_geom::specs::Texts::coordinates_text))]
+pub fn put_coordinates<S: Sink, L: LineStringTrait>(
+    out: &mut Buffered<'_, S>,
+    line: &L,
+    order: Endianness,
+) -> Put
+    requires supported { dimensions_fault (L.dimensions line.now) ≡ None }
+    requires count { length (L.coordinates line.now) < 2 ^ 32 }
+    requires working { S.has_failed out.old.sink.now ≡ false }
+    ensures { Lays S.appended S.has_failed out.old out.new (coordinates_text order (L.coordinates line.now)) result }
+{
+    let count = line.num_coords();
+    let bytes = 8 * line.dim().size();
+    out.put_count(order, count as u32)?;
+    if let Some(bytes) = line.standing(order) {
+        return out.put_bytes(bytes);
+    }
+    let mut done = 0;
+    while done < count {
+        let least = if count - done < RUN {
+            COORDINATE
+        } else {
+            RUN * CORNER
+        };
+        out.make_room(least)?;
+        let next = count.min(done + out.block.room() / bytes);
+        out.block.lay_coordinates(line, done, next, order);
+        done = next;
+    }
+    Ok(())
+}
+
+/// A line string.
+pub struct LineStringKind;
+
+#[tactic(auto, using(crate::proofs::Steps::node_laws), unfolding(wkb_geom::specs::Texts::line_string_text))]
+impl<L: LineStringTrait> Writable<L> for LineStringKind {
+    ghost geometry = { λ l. line_string (L.dimensions l) (L.coordinates l) };
+
+    ghost lawful = { λ g. L.lawful g };
+
+    #[inline(always)]
+    fn measure(geom: &L) -> Result<usize, Fault> {
+        behind_header(geom.dim(), measure_coordinates(geom))
+    }
+
+    fn put<S: Sink>(out: &mut Buffered<'_, S>, geom: &L, order: Endianness, form: Form) -> Put {
+        out.put_header(order, form, WkbType::LineString(written(geom.dim())))?;
+        put_coordinates(out, geom, order)
+    }
+}
+
+/// The size of a line string in ISO codes.
+/// Refuses as `geometry_wkb_size`.
+pub fn line_string_wkb_size<L: LineStringTrait>(geom: &L) -> WkbResult<usize>
+    ensures size { IsSizeOf Iso (line_string (L.dimensions geom.now) (L.coordinates geom.now)) result }
+{
+    size_as::<L, LineStringKind>(geom, Form::Iso)
+}
+
+/// Writes a line string.
+/// Refuses and fails as `write_geometry`.
+pub fn write_line_string<S: Sink, L: LineStringTrait>(
+    writer: &mut S,
+    geom: &L,
+    options: &WriteOptions,
+) -> WkbResult<()>
+    requires working { S.has_failed writer.old ≡ false }
+    ensures { Writes options.now (line_string (L.dimensions geom.now) (L.coordinates geom.now)) result
+        (writer.new ≡ writer.old) (S.appended writer.old) (S.appended writer.new) (S.has_failed writer.new) }
+{
+    write_as::<S, L, LineStringKind>(writer, geom, options)
+}

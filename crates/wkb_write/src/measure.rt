@@ -1,0 +1,153 @@
+//! Measuring: the first fault of a geometry, or the size of its encoding.
+//!
+//! A fault is met in preorder: a geometry's dimensions, its count, then its items. Only the bytes after the header are
+//! measured, and the greatest `usize` stands for all sizes from there on: with a header none of them fits.
+
+ghost use Rattle.std.specs.Prelude.{◌≡◌, ◌+◌, ◌*◌, ◌^◌, ◌<◌, None, Err, is_some, MatchResult, IsErrAnd};
+ghost use Rattle.wkb_geom.specs.Errors.{TellsFault};
+ghost use Rattle.wkb_geom.specs.Geometries.{Geometry, IsGeometry};
+ghost use Rattle.wkb_geom.specs.Refusals.{srid_size};
+ghost use Rattle.wkb_geom.specs.Sizes.{dimensions_of};
+ghost use Rattle.wkb_geom.specs.Texts.{count_fault, dimensions_fault, form_srid, IsForm};
+ghost use Rattle.wkb_write.specs.Answers.{IsSized, IsSizeOf};
+ghost use Rattle.wkb_write.specs.Bodies.{body_fault, size_by_parts, words};
+ghost use Rattle.wkb_write.specs.Measures.{Finds, IsMeasured, Measures, result_of};
+
+use wkb_geom::header::{LONGEST_HEADER, MEMBER_HEADER};
+use wkb_geom::{Dimensions, Fault, Form, WkbError, WkbResult};
+
+/// So many bytes, or the fault, in two words: these come back in registers. A `Result` of the two takes three, and
+/// comes back in memory.
+#[derive(Debug, Clone, Copy)]
+pub enum Measured {
+    Bytes(usize),
+    UnsupportedDimensions(usize),
+    Count,
+    Size,
+}
+
+impl Measured {
+    /// The same as a `Result`.
+    #[inline(always)]
+    pub fn result(self) -> Result<usize, Fault>
+        ensures { result ≡ result_of self }
+    {
+        match self {
+            Measured::Bytes(n) => Ok(n),
+            Measured::UnsupportedDimensions(n) => Err(Fault::UnsupportedDimensions(n)),
+            Measured::Count => Err(Fault::Count),
+            Measured::Size => Err(Fault::Size),
+        }
+    }
+}
+
+impl From<Fault> for Measured {
+    ghost from_gives = { λ fault measured. result_of measured ≡ Err fault };
+
+    #[inline(always)]
+    fn from(fault: Fault) -> Measured {
+        match fault {
+            Fault::UnsupportedDimensions(n) => Measured::UnsupportedDimensions(n),
+            Fault::Count => Measured::Count,
+            Fault::Size => Measured::Size,
+        }
+    }
+}
+
+/// Refuses dimensions that can't be written.
+#[inline(always)]
+#[tactic(auto, using(crate::proofs::Faults::supported_laws), unfolding(wkb_geom::specs::Texts::dimensions_fault))]
+pub fn check_dimensions(dim: Dimensions) -> Result<(), Fault>
+    ensures { MatchResult result (λ _. dimensions_fault dim ≡ None)
+        (λ e. Finds e (dimensions_fault dim)) }
+{
+    match dim {
+        Dimensions::Unknown(n) => {
+            if n < 2 || 4 < n {
+                Err(Fault::UnsupportedDimensions(n))
+            } else {
+                Ok(())
+            }
+        }
+        _ => Ok(()),
+    }
+}
+
+/// A count, where four bytes hold it.
+#[tactic(auto, using(crate::proofs::Faults::supported_laws))]
+pub fn check_count(n: u128) -> Result<u32, Fault>
+    ensures { MatchResult result (λ m. (count_fault n ≡ None) × (m ≡ n))
+        (λ e. Finds e (count_fault n)) }
+{
+    if n <= u32::MAX as u128 {
+        Ok(n as u32)
+    } else {
+        Err(Fault::Count)
+    }
+}
+
+/// The bytes of the words of so many coordinates. No dimension that can be written has more than four words.
+#[inline(always)]
+pub fn words_size(dim: Dimensions, n: u32) -> usize
+    ensures sum { result ≡ 8 * words dim * n }
+    ensures bound { result < 2 ^ 40 }
+{
+    8 * dim.size().min(4) * n as usize
+}
+
+/// A geometry of these dimensions, by what was measured of it otherwise.
+#[inline(always)]
+pub fn behind_header(dim: Dimensions, body: Result<usize, Fault>) -> Result<usize, Fault>
+    ensures { (g : Geometry) → dim ≡ dimensions_of g
+        → Measures (body_fault g) (size_by_parts g) body → IsMeasured g result }
+{
+    match check_dimensions(dim) {
+        Ok(()) => body,
+        Err(fault) => Err(fault),
+    }
+}
+
+/// The bytes of the header that is written.
+#[inline]
+pub fn header_size(form: Form) -> usize
+    ensures size { result ≡ 5 + srid_size (is_some (form_srid form)) }
+    ensures fits { IsForm form }
+{
+    match form {
+        Form::Ewkb { srid: Some(_) } => LONGEST_HEADER,
+        Form::Iso | Form::Ewkb { srid: None } => MEMBER_HEADER,
+    }
+}
+
+/// The size that was measured with the header's bytes, where `usize` holds it.
+#[inline]
+pub fn whole_size(measured: Result<usize, Fault>, form: Form) -> Result<usize, Fault>
+    ensures size { (g : Geometry) → IsGeometry g → IsMeasured g measured → IsSized form g result }
+    ensures fits { IsForm form }
+{
+    let header = header_size(form);
+    match measured?.checked_add(header) {
+        Some(size) => Ok(size),
+        None => Err(Fault::Size),
+    }
+}
+
+/// The size of a text under the form, or the error that tells the fault.
+#[inline]
+pub fn size_of(measured: Result<usize, Fault>, form: Form) -> WkbResult<usize>
+    ensures { (g : Geometry) → IsGeometry g → IsMeasured g measured → IsSizeOf form g result }
+{
+    match whole_size(measured, form) {
+        Ok(size) => Ok(size),
+        Err(fault) => refused(fault),
+    }
+}
+
+/// The error that tells the fault. Not inlined: an error takes more room than all else in its callers.
+#[cold]
+#[inline(never)]
+pub fn refused<T>(fault: Fault) -> WkbResult<T>
+    ensures { IsErrAnd result (λ e. TellsFault e fault) }
+{
+    Err(WkbError::from(fault))
+}

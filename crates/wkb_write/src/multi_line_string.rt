@@ -1,0 +1,83 @@
+//! A multi line string.
+
+ghost use Rattle.std.specs.Prelude.{◌≡◌, None, false, map};
+ghost use Rattle.wkb_write.specs.Words.{Iso, line_string, multi_line_string, fault, text, IsSizeOf, Writes};
+ghost use Rattle.wkb_write.specs.Words.{ring_part};
+
+use crate::common::*;
+use crate::items::{Items, measure_items, put_items};
+use crate::line_string::{LineStringKind, measure_coordinates};
+use crate::measure::behind_header;
+use wkb_geom::MultiLineStringTrait;
+use wkb_geom::header::MEMBER_HEADER;
+
+/// A multi line string.
+pub struct MultiLineStringKind;
+
+#[tactic(auto, using(crate::proofs::Steps::node_laws))]
+impl<M: MultiLineStringTrait> Writable<M> for MultiLineStringKind {
+    ghost geometry = { λ m. multi_line_string (M.dimensions m) (M.line_strings m) };
+
+    ghost lawful = { λ g. M.lawful g };
+
+    #[inline(always)]
+    fn measure(geom: &M) -> Result<usize, Fault> {
+        let body = measure_items::<M, MultiLineStringKind>(geom, MEMBER_HEADER as u8).result();
+        behind_header(geom.dim(), body)
+    }
+
+    fn put<S: Sink>(out: &mut Buffered<'_, S>, geom: &M, order: Endianness, form: Form) -> Put {
+        let kind = WkbType::MultiLineString(written(geom.dim()));
+        put_items::<S, M, MultiLineStringKind>(out, geom, order, form, kind)
+    }
+}
+
+#[tactic(auto, using(crate::proofs::Steps::item_laws))]
+impl<M: MultiLineStringTrait> Items<M> for MultiLineStringKind {
+    ghost is_fine = { λ m. fault (multi_line_string (M.dimensions m) (M.line_strings m)) ≡ None };
+
+    ghost measures = { λ m. map (ring_part (M.dimensions m)) (M.line_strings m) };
+
+    ghost texts = { λ order form m. map (λ c. text order form (line_string (M.dimensions m) c)) (M.line_strings m) };
+
+    fn count(geom: &M) -> u128 {
+        geom.num_line_strings() as u128
+    }
+
+    fn measure_item(geom: &M, i: usize) -> Result<usize, Fault> {
+        measure_coordinates(&geom.line_string(i).unwrap())
+    }
+
+    fn put_item<S: Sink>(
+        out: &mut Buffered<'_, S>,
+        geom: &M,
+        i: usize,
+        order: Endianness,
+        form: Form,
+    ) -> Put {
+        let line_string = geom.line_string(i).unwrap();
+        LineStringKind::put(out, &line_string, order, form)
+    }
+}
+
+/// The size of a MultiLineString in ISO codes.
+/// Refuses as `geometry_wkb_size`.
+pub fn multi_line_string_wkb_size<M: MultiLineStringTrait>(geom: &M) -> WkbResult<usize>
+    ensures size { IsSizeOf Iso (multi_line_string (M.dimensions geom.now) (M.line_strings geom.now)) result }
+{
+    size_as::<M, MultiLineStringKind>(geom, Form::Iso)
+}
+
+/// Writes a MultiLineString.
+/// Refuses and fails as `write_geometry`.
+pub fn write_multi_line_string<S: Sink, M: MultiLineStringTrait>(
+    writer: &mut S,
+    geom: &M,
+    options: &WriteOptions,
+) -> WkbResult<()>
+    requires working { S.has_failed writer.old ≡ false }
+    ensures { Writes options.now (multi_line_string (M.dimensions geom.now) (M.line_strings geom.now)) result
+        (writer.new ≡ writer.old) (S.appended writer.old) (S.appended writer.new) (S.has_failed writer.new) }
+{
+    write_as::<S, M, MultiLineStringKind>(writer, geom, options)
+}

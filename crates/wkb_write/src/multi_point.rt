@@ -1,0 +1,92 @@
+//! A multi point.
+
+ghost use Rattle.std.specs.Prelude.{◌≡◌, None, false, map, length, ◌+◌, ◌*◌};
+ghost use Rattle.wkb_write.specs.Words.{Iso, multi_point, point, count_fault, fault, text, IsSizeOf, Writes};
+ghost use Rattle.wkb_write.specs.Words.{point_part, words, Measures};
+
+use crate::common::*;
+use crate::items::{Items, put_items};
+use crate::measure::{behind_header, check_count, words_size};
+use crate::point::PointKind;
+use wkb_geom::MultiPointTrait;
+use wkb_geom::header::MEMBER_HEADER;
+
+/// A multi point.
+pub struct MultiPointKind;
+
+#[tactic(auto, using(crate::proofs::Steps::node_laws))]
+impl<M: MultiPointTrait> Writable<M> for MultiPointKind {
+    ghost geometry = { λ m. multi_point (M.dimensions m) (M.points m) };
+
+    ghost lawful = { λ g. M.lawful g };
+
+    #[inline(always)]
+    fn measure(geom: &M) -> Result<usize, Fault> {
+        behind_header(geom.dim(), measure_points(geom))
+    }
+
+    fn put<S: Sink>(out: &mut Buffered<'_, S>, geom: &M, order: Endianness, form: Form) -> Put {
+        let kind = WkbType::MultiPoint(written(geom.dim()));
+        put_items::<S, M, MultiPointKind>(out, geom, order, form, kind)
+    }
+}
+
+#[tactic(auto, using(crate::proofs::Steps::item_laws))]
+impl<M: MultiPointTrait> Items<M> for MultiPointKind {
+    ghost is_fine = { λ m. fault (multi_point (M.dimensions m) (M.points m)) ≡ None };
+
+    ghost measures = { λ m. map (point_part (M.dimensions m)) (M.points m) };
+
+    ghost texts = { λ order form m. map (λ c. text order form (point (M.dimensions m) c)) (M.points m) };
+
+    fn count(geom: &M) -> u128 {
+        geom.num_points() as u128
+    }
+
+    fn measure_item(geom: &M, i: usize) -> Result<usize, Fault> {
+        let point = geom.point(i).unwrap();
+        Ok(words_size(point.dim(), 1))
+    }
+
+    fn put_item<S: Sink>(
+        out: &mut Buffered<'_, S>,
+        geom: &M,
+        i: usize,
+        order: Endianness,
+        form: Form,
+    ) -> Put {
+        let point = geom.point(i).unwrap();
+        PointKind::put(out, &point, order, form)
+    }
+}
+
+// A count and points: by their number, since all are of one size.
+fn measure_points<M: MultiPointTrait>(geom: &M) -> Result<usize, Fault>
+    ensures { Measures (count_fault (length (M.points geom.now)))
+        (4 + length (M.points geom.now) * (5 + 8 * words (M.dimensions geom.now))) result }
+{
+    let count = check_count(geom.num_points() as u128)?;
+    Ok(4 + MEMBER_HEADER * count as usize + words_size(geom.dim(), count))
+}
+
+/// The size of a MultiPoint in ISO codes.
+/// Refuses as `geometry_wkb_size`.
+pub fn multi_point_wkb_size<M: MultiPointTrait>(geom: &M) -> WkbResult<usize>
+    ensures size { IsSizeOf Iso (multi_point (M.dimensions geom.now) (M.points geom.now)) result }
+{
+    size_as::<M, MultiPointKind>(geom, Form::Iso)
+}
+
+/// Writes a MultiPoint.
+/// Refuses and fails as `write_geometry`.
+pub fn write_multi_point<S: Sink, M: MultiPointTrait>(
+    writer: &mut S,
+    geom: &M,
+    options: &WriteOptions,
+) -> WkbResult<()>
+    requires working { S.has_failed writer.old ≡ false }
+    ensures { Writes options.now (multi_point (M.dimensions geom.now) (M.points geom.now)) result
+        (writer.new ≡ writer.old) (S.appended writer.old) (S.appended writer.new) (S.has_failed writer.new) }
+{
+    write_as::<S, M, MultiPointKind>(writer, geom, options)
+}

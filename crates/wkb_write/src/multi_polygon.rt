@@ -1,0 +1,84 @@
+//! A multi polygon.
+
+ghost use Rattle.std.specs.Prelude.{◌≡◌, None, false, map};
+ghost use Rattle.wkb_write.specs.Words.{Iso, multi_polygon, polygon, fault, text, IsSizeOf, Writes};
+ghost use Rattle.wkb_write.specs.Words.{polygon_part};
+
+use crate::common::*;
+use crate::items::{Items, measure_items, put_items};
+use crate::measure::behind_header;
+use crate::polygon::PolygonKind;
+use wkb_geom::MultiPolygonTrait;
+use wkb_geom::header::MEMBER_HEADER;
+
+/// A multi polygon.
+pub struct MultiPolygonKind;
+
+#[tactic(auto, using(crate::proofs::Steps::node_laws))]
+impl<M: MultiPolygonTrait> Writable<M> for MultiPolygonKind {
+    ghost geometry = { λ m. multi_polygon (M.dimensions m) (M.polygons m) };
+
+    ghost lawful = { λ g. M.lawful g };
+
+    #[inline(always)]
+    fn measure(geom: &M) -> Result<usize, Fault> {
+        let body = measure_items::<M, MultiPolygonKind>(geom, MEMBER_HEADER as u8).result();
+        behind_header(geom.dim(), body)
+    }
+
+    fn put<S: Sink>(out: &mut Buffered<'_, S>, geom: &M, order: Endianness, form: Form) -> Put {
+        let kind = WkbType::MultiPolygon(written(geom.dim()));
+        put_items::<S, M, MultiPolygonKind>(out, geom, order, form, kind)
+    }
+}
+
+#[tactic(auto, using(crate::proofs::Steps::item_laws))]
+impl<M: MultiPolygonTrait> Items<M> for MultiPolygonKind {
+    ghost is_fine = { λ m. fault (multi_polygon (M.dimensions m) (M.polygons m)) ≡ None };
+
+    ghost measures = { λ m. map (polygon_part (M.dimensions m)) (M.polygons m) };
+
+    ghost texts = { λ order form m. map (λ c. text order form (polygon (M.dimensions m) c)) (M.polygons m) };
+
+    fn count(geom: &M) -> u128 {
+        geom.num_polygons() as u128
+    }
+
+    fn measure_item(geom: &M, i: usize) -> Result<usize, Fault> {
+        let polygon = geom.polygon(i).unwrap();
+        measure_items::<M::InnerPolygonType, PolygonKind>(polygon, 0).result()
+    }
+
+    fn put_item<S: Sink>(
+        out: &mut Buffered<'_, S>,
+        geom: &M,
+        i: usize,
+        order: Endianness,
+        form: Form,
+    ) -> Put {
+        let polygon = geom.polygon(i).unwrap();
+        PolygonKind::put(out, polygon, order, form)
+    }
+}
+
+/// The size of a MultiPolygon in ISO codes.
+/// Refuses as `geometry_wkb_size`.
+pub fn multi_polygon_wkb_size<M: MultiPolygonTrait>(geom: &M) -> WkbResult<usize>
+    ensures size { IsSizeOf Iso (multi_polygon (M.dimensions geom.now) (M.polygons geom.now)) result }
+{
+    size_as::<M, MultiPolygonKind>(geom, Form::Iso)
+}
+
+/// Writes a MultiPolygon.
+/// Refuses and fails as `write_geometry`.
+pub fn write_multi_polygon<S: Sink, M: MultiPolygonTrait>(
+    writer: &mut S,
+    geom: &M,
+    options: &WriteOptions,
+) -> WkbResult<()>
+    requires working { S.has_failed writer.old ≡ false }
+    ensures { Writes options.now (multi_polygon (M.dimensions geom.now) (M.polygons geom.now)) result
+        (writer.new ≡ writer.old) (S.appended writer.old) (S.appended writer.new) (S.has_failed writer.new) }
+{
+    write_as::<S, M, MultiPolygonKind>(writer, geom, options)
+}

@@ -1,0 +1,70 @@
+//! A point: what it means, its measure, how it is put, its size and its writer.
+
+ghost use Rattle.std.specs.Prelude.{◌≡◌, false, ℕ, List, Option};
+ghost use Rattle.wkb_write.specs.Words.{Iso, point, IsPoint, IsMeasured, IsSizeOf, Writes};
+
+use crate::common::*;
+use crate::measure::{behind_header, size_of, words_size};
+use wkb_geom::header::LONGEST_HEADER;
+use wkb_geom::{Dimensions, PointTrait};
+use wkb_sink::block::{COORDINATE, lay_empty, lay_header};
+
+/// A point, empty or not.
+pub struct PointKind;
+
+/// What is measured of a point of these dimensions, whatever its words.
+#[inline(always)]
+fn measure_point(dim: Dimensions) -> Result<usize, Fault>
+    ensures { (c : Option (List ℕ)) → IsMeasured (point dim c) result }
+{
+    behind_header(dim, Ok(words_size(dim, 1)))
+}
+
+#[tactic(auto, using(crate::proofs::Steps::step_laws))]
+impl<P: PointTrait> Writable<P> for PointKind {
+    ghost geometry = { λ p. point (P.dimensions p) (P.coordinate p) };
+
+    ghost lawful = { λ g. P.lawful g };
+
+    #[inline(always)]
+    fn measure(geom: &P) -> Result<usize, Fault> {
+        measure_point(geom.dim())
+    }
+
+    #[inline(always)]
+    fn put<S: Sink>(out: &mut Buffered<'_, S>, geom: &P, order: Endianness, form: Form) -> Put {
+        let dim = written(geom.dim());
+        out.make_room(LONGEST_HEADER + COORDINATE)?;
+        lay_header(&mut out.block, order, form, WkbType::Point(dim));
+        match geom.coord() {
+            Some(coord) => out.block.lay_coordinate(&coord, order),
+            None => lay_empty(&mut out.block, order, dim),
+        }
+        Ok(())
+    }
+}
+
+/// The size of a point of these dimensions in ISO codes, whatever its words.
+///
+/// Refused where the dimensions can't be written.
+#[inline]
+pub fn point_wkb_size(dim: Dimensions) -> WkbResult<usize>
+    ensures size { (c : Option (List ℕ)) → IsPoint dim c → IsSizeOf Iso (point dim c) result }
+{
+    size_of(measure_point(dim), Form::Iso)
+}
+
+/// Writes a point, an empty point as not-a-numbers.
+/// Refuses and fails as `write_geometry`.
+#[inline(always)]
+pub fn write_point<S: Sink, P: PointTrait>(
+    writer: &mut S,
+    geom: &P,
+    options: &WriteOptions,
+) -> WkbResult<()>
+    requires working { S.has_failed writer.old ≡ false }
+    ensures { Writes options.now (point (P.dimensions geom.now) (P.coordinate geom.now)) result
+        (writer.new ≡ writer.old) (S.appended writer.old) (S.appended writer.new) (S.has_failed writer.new) }
+{
+    write_as::<S, P, PointKind>(writer, geom, options)
+}

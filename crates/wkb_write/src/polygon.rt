@@ -1,0 +1,81 @@
+//! A polygon: its rings, the exterior first.
+
+ghost use Rattle.std.specs.Prelude.{◌≡◌, None, false, map};
+ghost use Rattle.wkb_write.specs.Words.{Iso, polygon, coordinates_text, fault, IsSizeOf, Writes, ring_part};
+
+use crate::common::*;
+use crate::items::{Items, measure_items, put_items};
+use crate::line_string::{measure_coordinates, put_coordinates};
+use crate::measure::behind_header;
+use wkb_geom::PolygonTrait;
+use wkb_geom::rings::{ring_at, ring_count};
+
+/// A polygon.
+pub struct PolygonKind;
+
+#[tactic(auto, using(crate::proofs::Steps::node_laws), unfolding(wkb_geom::specs::Texts::polygon_text))]
+impl<P: PolygonTrait> Writable<P> for PolygonKind {
+    ghost geometry = { λ p. polygon (P.dimensions p) (P.rings p) };
+
+    ghost lawful = { λ g. P.lawful g };
+
+    #[inline(always)]
+    fn measure(geom: &P) -> Result<usize, Fault> {
+        let body = measure_items::<P, PolygonKind>(geom, 0).result();
+        behind_header(geom.dim(), body)
+    }
+
+    fn put<S: Sink>(out: &mut Buffered<'_, S>, geom: &P, order: Endianness, form: Form) -> Put {
+        let kind = WkbType::Polygon(written(geom.dim()));
+        put_items::<S, P, PolygonKind>(out, geom, order, form, kind)
+    }
+}
+
+#[tactic(auto, using(crate::proofs::Steps::item_laws))]
+impl<P: PolygonTrait> Items<P> for PolygonKind {
+    ghost is_fine = { λ p. fault (polygon (P.dimensions p) (P.rings p)) ≡ None };
+
+    ghost measures = { λ p. map (ring_part (P.dimensions p)) (P.rings p) };
+
+    ghost texts = { λ order form p. map (coordinates_text order) (P.rings p) };
+
+    fn count(geom: &P) -> u128 {
+        ring_count(geom)
+    }
+
+    fn measure_item(geom: &P, i: usize) -> Result<usize, Fault> {
+        measure_coordinates(&ring_at(geom, i))
+    }
+
+    fn put_item<S: Sink>(
+        out: &mut Buffered<'_, S>,
+        geom: &P,
+        i: usize,
+        order: Endianness,
+        _form: Form,
+    ) -> Put {
+        put_coordinates(out, &ring_at(geom, i), order)
+    }
+}
+
+/// The size of a polygon, the exterior first, in ISO codes.
+/// Refuses as `geometry_wkb_size`.
+pub fn polygon_wkb_size<P: PolygonTrait>(geom: &P) -> WkbResult<usize>
+    ensures size { IsSizeOf Iso (polygon (P.dimensions geom.now) (P.rings geom.now)) result }
+{
+    size_as::<P, PolygonKind>(geom, Form::Iso)
+}
+
+/// Writes a polygon, the exterior first.
+/// Refuses and fails as `write_geometry`.
+pub fn write_polygon<S: Sink, P: PolygonTrait>(
+    writer: &mut S,
+    geom: &P,
+    options: &WriteOptions,
+) -> WkbResult<()>
+    requires working { S.has_failed writer.old ≡ false }
+    ensures { Writes options.now (polygon (P.dimensions geom.now) (P.rings geom.now)) result
+        (writer.new ≡ writer.old) (S.appended writer.old) (S.appended writer.new) (S.has_failed writer.new) }
+{
+    write_as::<S, P, PolygonKind>(writer, geom, options)
+}

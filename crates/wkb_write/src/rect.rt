@@ -1,0 +1,65 @@
+//! A rectangle, which is written as a polygon of one ring of x and y alone.
+
+ghost use Rattle.std.specs.Prelude.{◌≡◌, false};
+ghost use Rattle.wkb_write.specs.Words.{Iso, rectangle, IsSizeOf, Writes};
+
+use crate::common::*;
+use crate::measure::behind_header;
+use wkb_geom::header::LONGEST_HEADER;
+use wkb_geom::words::COUNT;
+use wkb_geom::{CoordTrait, Dimension, RectTrait};
+use wkb_sink::block::{CORNER, lay_corner, lay_count, lay_header};
+
+/// A rectangle, which is put as a polygon of one ring of x and y alone.
+pub struct RectKind;
+
+#[tactic(auto, using(crate::proofs::Steps::step_laws))]
+impl<R: RectTrait> Writable<R> for RectKind {
+    ghost geometry = { λ r. rectangle (R.dimensions r) (R.min_words r) (R.max_words r) };
+
+    ghost lawful = { λ g. R.lawful g };
+
+    #[inline(always)]
+    fn measure(geom: &R) -> Result<usize, Fault> {
+        behind_header(geom.dim(), Ok(88))
+    }
+
+    fn put<S: Sink>(out: &mut Buffered<'_, S>, geom: &R, order: Endianness, form: Form) -> Put {
+        let (x0, y0) = geom.min().x_y();
+        let (x1, y1) = geom.max().x_y();
+        out.make_room(LONGEST_HEADER + 2 * COUNT + 5 * CORNER)?;
+        lay_header(&mut out.block, order, form, WkbType::Polygon(Dimension::Xy));
+        lay_count(&mut out.block, order, 1);
+        lay_count(&mut out.block, order, 5);
+        lay_corner(&mut out.block, order, x0, y0);
+        lay_corner(&mut out.block, order, x0, y1);
+        lay_corner(&mut out.block, order, x1, y1);
+        lay_corner(&mut out.block, order, x1, y0);
+        lay_corner(&mut out.block, order, x0, y0);
+        Ok(())
+    }
+}
+
+/// The size of a rectangle, as a polygon of one ring, with x and y alone, in ISO codes.
+/// Refuses as `geometry_wkb_size`.
+pub fn rect_wkb_size<R: RectTrait>(geom: &R) -> WkbResult<usize>
+    ensures size { IsSizeOf Iso
+        (rectangle (R.dimensions geom.now) (R.min_words geom.now) (R.max_words geom.now)) result }
+{
+    size_as::<R, RectKind>(geom, Form::Iso)
+}
+
+/// Writes a rectangle, as a polygon of one ring, with x and y alone.
+/// Refuses and fails as `write_geometry`.
+pub fn write_rect<S: Sink, R: RectTrait>(
+    writer: &mut S,
+    geom: &R,
+    options: &WriteOptions,
+) -> WkbResult<()>
+    requires working { S.has_failed writer.old ≡ false }
+    ensures { Writes options.now
+        (rectangle (R.dimensions geom.now) (R.min_words geom.now) (R.max_words geom.now)) result
+        (writer.new ≡ writer.old) (S.appended writer.old) (S.appended writer.new) (S.has_failed writer.new) }
+{
+    write_as::<S, R, RectKind>(writer, geom, options)
+}

@@ -1,0 +1,67 @@
+//! A triangle, which is written as a polygon of one ring that ends as it begins.
+
+ghost use Rattle.std.specs.Prelude.{◌≡◌, false};
+ghost use Rattle.wkb_write.specs.Words.{Iso, triangle, IsSizeOf, Writes};
+
+use crate::common::*;
+use crate::measure::{behind_header, words_size};
+use wkb_geom::TriangleTrait;
+use wkb_geom::header::LONGEST_HEADER;
+use wkb_geom::words::COUNT;
+use wkb_sink::block::{COORDINATE, lay_count, lay_header};
+
+/// A triangle, which is put as a polygon of one ring, which ends as it begins.
+pub struct TriangleKind;
+
+#[tactic(auto, using(crate::proofs::Steps::step_laws))]
+impl<T: TriangleTrait> Writable<T> for TriangleKind {
+    ghost geometry = { λ t. triangle (T.dimensions t) (T.first_words t) (T.second_words t) (T.third_words t) };
+
+    ghost lawful = { λ g. T.lawful g };
+
+    #[inline(always)]
+    fn measure(geom: &T) -> Result<usize, Fault> {
+        behind_header(geom.dim(), Ok(8 + words_size(geom.dim(), 4)))
+    }
+
+    fn put<S: Sink>(out: &mut Buffered<'_, S>, geom: &T, order: Endianness, form: Form) -> Put {
+        let kind = WkbType::Polygon(written(geom.dim()));
+        let first = geom.first();
+        out.make_room(LONGEST_HEADER + 2 * COUNT + 4 * COORDINATE)?;
+        lay_header(&mut out.block, order, form, kind);
+        lay_count(&mut out.block, order, 1);
+        lay_count(&mut out.block, order, 4);
+        out.block.lay_coordinate(&first, order);
+        out.block.lay_coordinate(&geom.second(), order);
+        out.block.lay_coordinate(&geom.third(), order);
+        out.block.lay_coordinate(&first, order);
+        Ok(())
+    }
+}
+
+/// The size of a triangle, as a polygon of one ring, in ISO codes.
+/// Refuses as `geometry_wkb_size`.
+pub fn triangle_wkb_size<T: TriangleTrait>(geom: &T) -> WkbResult<usize>
+    ensures size { IsSizeOf Iso
+        (triangle (T.dimensions geom.now) (T.first_words geom.now)
+        (T.second_words geom.now) (T.third_words geom.now))
+        result }
+{
+    size_as::<T, TriangleKind>(geom, Form::Iso)
+}
+
+/// Writes a triangle, as a polygon of one ring.
+/// Refuses and fails as `write_geometry`.
+pub fn write_triangle<S: Sink, T: TriangleTrait>(
+    writer: &mut S,
+    geom: &T,
+    options: &WriteOptions,
+) -> WkbResult<()>
+    requires working { S.has_failed writer.old ≡ false }
+    ensures { Writes options.now
+        (triangle (T.dimensions geom.now) (T.first_words geom.now)
+        (T.second_words geom.now) (T.third_words geom.now)) result
+        (writer.new ≡ writer.old) (S.appended writer.old) (S.appended writer.new) (S.has_failed writer.new) }
+{
+    write_as::<S, T, TriangleKind>(writer, geom, options)
+}

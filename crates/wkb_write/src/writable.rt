@@ -1,0 +1,206 @@
+//! What each kind says of itself, and what comes of it: a size, a writer, and an encoding in a vector.
+
+ghost use Rattle.std.specs.Prelude.{◌≡◌, ◌⊎◌, ◌≤◌, Bool, false, ℕ, List, length};
+ghost use Rattle.std.specs.Prelude.{Option, None, Err, IfSome, IfOk, IfErr, IsErrAnd};
+ghost use Rattle.wkb_geom.specs.declared.common.Endianness.TheVariants.{LittleEndian};
+ghost use Rattle.wkb_geom.specs.declared.common.Form.TheVariants.{Iso};
+ghost use Rattle.wkb_geom.specs.Errors.{IsMemory};
+ghost use Rattle.wkb_geom.specs.Geometries.{Geometry, IsGeometry};
+ghost use Rattle.wkb_geom.specs.Texts.{fault, text};
+ghost use Rattle.wkb_sink.specs.Progress.{Lays};
+ghost use Rattle.wkb_sink.specs.Sinks.{IsIOError, PutsOrStops, Puts};
+ghost use Rattle.wkb_sink.specs.declared.block.TheConstants.{LEAST};
+ghost use Rattle.wkb_write.specs.Answers.{encoding, refusal_of, IsSizeOf, Writes};
+ghost use Rattle.wkb_write.specs.Measures.{IsMeasured, Reports};
+
+use crate::measure::{refused, size_of, whole_size};
+use crate::{Sink, VecSink};
+use std::alloc::{AllocError, Global};
+use std::io;
+use std::io::ErrorKind;
+use wkb_geom::{Endianness, Fault, Form, WkbError, WkbResult};
+use wkb_sink::block::{Block, LEAST};
+use wkb_sink::{Buffered, Stopped};
+
+/// The byte order and the form of what is written: by default little endian, in ISO codes.
+#[derive(Debug, Clone, Copy)]
+pub struct WriteOptions {
+    pub endianness: Endianness,
+    pub form: Form,
+}
+
+impl Default for WriteOptions {
+    ghost is_default = { λ o. (o.endianness ≡ LittleEndian) × (o.form ≡ Iso) };
+
+    fn default() -> WriteOptions {
+        WriteOptions {
+            endianness: Endianness::default(),
+            form: Form::default(),
+        }
+    }
+}
+
+/// What comes of putting: nothing, or the sink stopped.
+pub type Put = Result<(), Stopped>;
+
+/// How the geometries of a kind are measured and put.
+pub trait Writable<G> {
+    // What a geometry means.
+    ghost geometry: { G → Geometry };
+
+    /// The bytes after the header, or the first fault.
+    fn measure(geom: &G) -> Result<usize, Fault>
+        ensures { IsMeasured (geometry geom.now) result };
+
+    /// Puts a geometry that has no fault.
+    fn put<S: Sink>(out: &mut Buffered<'_, S>, geom: &G, order: Endianness, form: Form) -> Put
+        requires fault { fault (geometry geom.now) ≡ None }
+        requires working { S.has_failed out.old.sink.now ≡ false }
+        ensures { Lays S.appended S.has_failed out.old out.new (text order form (geometry geom.now)) result };
+
+    // Every coordinate fits the dimension.
+    ghost lawful: { (g : G) → IsGeometry (geometry g) };
+}
+
+// To make a block takes time by its size. An encoding of at most so many bytes goes by a small block.
+const SHORT: usize = 172;
+
+const SMALL: usize = 192;
+
+const LARGE: usize = 1024;
+
+// Puts a geometry by a block over these bytes, and then all that waits there.
+#[inline(always)]
+fn put_through<S: Sink, G, K: Writable<G>>(
+    writer: &mut S,
+    bytes: &mut [u8],
+    geom: &G,
+    order: Endianness,
+    form: Form,
+    error: &mut Option<io::Error>,
+) -> Put
+    requires least { LEAST ≤ length bytes.old }
+    requires fault { fault (K.geometry geom.now) ≡ None }
+    requires working { S.has_failed writer.old ≡ false }
+    ensures { PutsOrStops (S.appended writer.old) (S.appended writer.new) (S.has_failed writer.new)
+        (text order form (K.geometry geom.now)) result }
+{
+    let mut out = Buffered {
+        sink: writer,
+        block: Block::over(bytes),
+        error,
+    };
+    let put = match K::put(&mut out, geom, order, form) {
+        Ok(()) => out.flush(),
+        Err(Stopped) => Err(Stopped),
+    };
+    let Buffered {
+        sink: _sink,
+        block: _,
+        error: _,
+    } = out;
+    put
+}
+
+// Puts a geometry that has no fault, by a block for the size of its encoding. Where the sink fails by an error, that is
+// kept.
+#[inline(always)]
+fn put_sized<S: Sink, G, K: Writable<G>>(
+    writer: &mut S,
+    geom: &G,
+    options: &WriteOptions,
+    size: usize,
+    error: &mut Option<io::Error>,
+) -> Put
+    requires fault { fault (K.geometry geom.now) ≡ None }
+    requires working { S.has_failed writer.old ≡ false }
+    ensures { PutsOrStops (S.appended writer.old) (S.appended writer.new) (S.has_failed writer.new)
+        (encoding options.now (K.geometry geom.now)) result }
+{
+    let WriteOptions { endianness, form } = *options;
+    if size <= SHORT {
+        let mut bytes = [0; SMALL];
+        put_through::<S, G, K>(writer, &mut bytes, geom, endianness, form, error)
+    } else {
+        let mut bytes = [0; LARGE];
+        put_through::<S, G, K>(writer, &mut bytes, geom, endianness, form, error)
+    }
+}
+
+/// The size of a geometry of a kind, under the form.
+#[inline(always)]
+pub fn size_as<G, K: Writable<G>>(geom: &G, form: Form) -> WkbResult<usize>
+    ensures { IsSizeOf form (K.geometry geom.now) result }
+{
+    size_of(K::measure(geom), form)
+}
+
+/// Writes a geometry of a kind: measures the whole of it, and then puts it.
+#[inline(always)]
+pub fn write_as<S: Sink, G, K: Writable<G>>(
+    writer: &mut S,
+    geom: &G,
+    options: &WriteOptions,
+) -> WkbResult<()>
+    requires { S.has_failed writer.old ≡ false }
+    ensures { Writes options.now (K.geometry geom.now) result
+        (writer.new ≡ writer.old) (S.appended writer.old) (S.appended writer.new) (S.has_failed writer.new) }
+{
+    let measured = K::measure(geom);
+    match whole_size(measured, options.form) {
+        Ok(size) => {
+            let mut error = None;
+            let put = put_sized::<S, G, K>(writer, geom, options, size, &mut error);
+            wkb_result(put, &mut error)
+        }
+        Err(fault) => refused(fault),
+    }
+}
+
+// The answer to the caller: where the sink stopped, its own error, or that it took no byte.
+#[inline(always)]
+fn wkb_result(put: Put, error: &mut Option<io::Error>) -> WkbResult<()>
+    ensures { (old new : Option (List ℕ)) (failed : Bool) (text : List ℕ)
+        → PutsOrStops old new failed text put → Puts old new failed text result }
+{
+    match put {
+        Ok(()) => Ok(()),
+        Err(Stopped) => sink_error(error),
+    }
+}
+
+/// The sink's own error, or that it took no byte. Not inlined: an error takes more room than all else in its callers.
+#[cold]
+#[inline(never)]
+pub fn sink_error(error: &mut Option<io::Error>) -> WkbResult<()>
+    ensures kind { IsErrAnd result (λ e. IsIOError e) }
+    ensures own { IfSome error.old (λ e. result ≡ Err (WkbError.IOError e)) }
+{
+    match error.take() {
+        Some(error) => Err(WkbError::IOError(error)),
+        None => Err(WkbError::IOError(io::Error::from(ErrorKind::WriteZero))),
+    }
+}
+
+/// The encoding of a geometry of a kind, in a vector whose memory is asked for at once.
+#[inline(always)]
+pub fn vec_as<G, K: Writable<G>>(
+    alloc: Global,
+    geom: &G,
+    options: &WriteOptions,
+) -> WkbResult<Vec<u8>>
+    ensures ok { IfOk result (λ out. out.items ≡ encoding options.now (K.geometry geom.now)) }
+    ensures writable { IfOk result (λ _. refusal_of options.now (K.geometry geom.now) ≡ None) }
+    ensures err { IfErr result (λ e. IsMemory e ⊎ Reports e (refusal_of options.now (K.geometry geom.now))) }
+{
+    let size = match whole_size(K::measure(geom), options.form) {
+        Ok(size) => size,
+        Err(fault) => return refused(fault),
+    };
+    let mut sink = VecSink::with_capacity(alloc, size)?;
+    match put_sized::<VecSink, G, K>(&mut sink, geom, options, size, &mut None) {
+        Ok(()) => Ok(sink.into_vec()),
+        // This sink fails only for want of memory.
+        Err(Stopped) => Err(WkbError::from(AllocError)),
+    }
+}
