@@ -84,6 +84,10 @@ fn of_thousands(thousands: u32) -> Dimension
 fn joined(z: bool, m: bool, iso: Dimension) -> Dimension
     ensures { result ≡ dimension_with (z || has_z iso) (m || has_m iso) }
 {
+    // Most codes have no flag.
+    if !z && !m {
+        return iso;
+    }
     match (z || iso.has_z(), m || iso.has_m()) {
         (false, false) => Dimension::Xy,
         (true, false) => Dimension::Xyz,
