@@ -12,7 +12,7 @@ use Rattle.wkb_geom.specs.declared.error.WkbError.TheVariants as errors
 use Rattle.wkb.specs.Values.{Value, Values, each, members, collection, nest}
 use Rattle.wkb.specs.Spellings.{Spelling, node, Spellings, no_spellings, spelling, Front, max_nesting, HasOptions}
 use Rattle.wkb.specs.Geometries.{Geometry, normal}
-use Rattle.wkb.specs.Texts.{Fault, text, refusal}
+use Rattle.wkb.specs.Encodings.{Fault, encoding, refusal}
 use Rattle.wkb.specs.Reads.{Item, spellings, values, IfRefused, IsFront, IsCollectionOf, list_of_spellings}
 use Rattle.wkb.specs.Reads.{members_spelled, spelling_at}
 use Rattle.wkb.specs.Writes.{Writes, WriteOptions, IsSpelled}
@@ -75,20 +75,20 @@ member_of w ms k m c is =
 -- what a writer that answers Ok was not refused
 appended_by : (options : WriteOptions) (g : Geometry) (x : Unit {0}) (untouched : Type 0) (old new : Option (List ℕ)) (failed : Bool) (o : Option Fault)
     → refusal options.endianness options.form g ≡ o → Writes options g (Ok x) untouched old new failed
-    → Appends old new (text options.endianness options.form g)
+    → Appends old new (encoding options.endianness options.form g)
 appended_by options g x untouched old new failed None is w = (w.written is).0.appended
 appended_by options g x untouched old new failed (Some f) is w = absurd ((w.refused f is).0)
 
--- At Ok the text was appended.
+-- At Ok the encoding was appended.
 pub appended : {options : WriteOptions} {g : Geometry} {r : Result (Unit {0}) WkbError} {x : Unit {0}} {untouched : Type 0} {old new : Option (List ℕ)} {failed : Bool}
-    → Writes options g r untouched old new failed → r ≡ Ok x → Appends old new (text options.endianness options.form g)
+    → Writes options g r untouched old new failed → r ≡ Ok x → Appends old new (encoding options.endianness options.form g)
 appended {options = options} {g = g} {x = x} {untouched = untouched} {old = old} {new = new} {failed = failed} w is =
     appended_by options g x untouched old new failed _ refl (subst (λ q. Writes options g q untouched old new failed) is w)
 
--- So a sink that held nothing holds the text.
-pub text_alone : {options : WriteOptions} {g : Geometry} {r : Result (Unit {0}) WkbError} {x : Unit {0}} {untouched : Type 0} {old new : List ℕ} {failed : Bool}
-    → old ≡ [] → Writes options g r untouched (Some old) (Some new) failed → r ≡ Ok x → new ≡ text options.endianness options.form g
-text_alone {options = options} {g = g} empty w is = appended w is ∙ ap (λ l. l ++ text options.endianness options.form g) empty
+-- So a sink that held nothing holds the encoding.
+pub encoding_alone : {options : WriteOptions} {g : Geometry} {r : Result (Unit {0}) WkbError} {x : Unit {0}} {untouched : Type 0} {old new : List ℕ} {failed : Bool}
+    → old ≡ [] → Writes options g r untouched (Some old) (Some new) failed → r ≡ Ok x → new ≡ encoding options.endianness options.form g
+encoding_alone {options = options} {g = g} empty w is = appended w is ∙ ap (λ l. l ++ encoding options.endianness options.form g) empty
 
 -- what is said of an Ok holds of an answer that is one
 of_ok : {A E : Type 0} (r : Result A E) (x : A) (P : A → Type 0) → r ≡ Ok x → IfOk r P → P x
@@ -101,19 +101,19 @@ pub read_again : {options : WriteOptions} {g : Geometry} {r : Result (Unit {0}) 
 read_again {options = options} {g = g} {r = r} {x = x} {old = old} {new = new} empty w is shallow =
     let h : IsSpelled options (normal g) (Some old) (Some new) = of_ok r x (λ _. IsSpelled options (normal g) (Some old) (Some new)) is w.spelled in (
       h.spelling,
-      record { front = h.text; whole = h.appended ∙ ap (λ l. l ++ h.text) empty ∙ sym (append-nil h.text); spelled = h.spelled; shallow = shallow },
+      record { front = h.encoding; whole = h.appended ∙ ap (λ l. l ++ h.encoding) empty ∙ sym (append-nil h.encoding); spelled = h.spelled; shallow = shallow },
       h.options_kept,
     )
 
 -- ---- where bytes stand
 
 -- What an input begins with stands at its beginning.
-pub front_stands : {buf : List ℕ} {w : Item} → IsFront buf w → StandsAt 0 w.text buf
+pub front_stands : {buf : List ℕ} {w : Item} → IsFront buf w → StandsAt 0 w.encoding buf
 front_stands {buf = buf} {w = w} f =
-    let whole : buf ≡ w.text ++ f.rest = f.front.whole ∙ ap (λ t. t ++ f.rest) f.text_is in
+    let whole : buf ≡ w.encoding ++ f.rest = f.front.whole ∙ ap (λ t. t ++ f.rest) f.encoding_is in
     record {
-      within = omega (arith, ap length whole, length-append w.text f.rest);
-      is = ap (take (length w.text)) whole ∙ take-append_seam w.text f.rest;
+      within = omega (arith, ap length whole, length-append w.encoding f.rest);
+      is = ap (take (length w.encoding)) whole ∙ take-append_seam w.encoding f.rest;
     }
 
 -- The bytes behind an offset stand there.

@@ -12,7 +12,7 @@ use Rattle.wkb_geom.specs.Fronts.{Front, max_nesting}
 use Rattle.wkb_geom.specs.declared.error.Cause.{Cause}
 use Rattle.wkb_geom.specs.Refusals.{Refuses}
 use Rattle.wkb_geom.specs.Geometries.{geometry_of}
-use Rattle.wkb_geom.specs.Texts.{text}
+use Rattle.wkb_geom.specs.Encodings.{encoding}
 
 abbrev pub IsSize : WkbError → Type 0
 IsSize (errors.OverflowError o) = o ≡ Size
@@ -52,8 +52,8 @@ pub record IsTooLong (order : Endianness) (form : Form) (input : List ℕ) : Typ
   pub t : Value
   pub rest : List ℕ
   pub front : Front input s t rest
-  pub plain : length (text order Iso (geometry_of t)) < 2 ^ 64
-  pub with_srid : 2 ^ 64 ≤ length (text order form (geometry_of t))
+  pub plain : length (encoding order Iso (geometry_of t)) < 2 ^ 64
+  pub with_srid : 2 ^ 64 ≤ length (encoding order form (geometry_of t))
 
 -- both inputs begin with geometries, and their values are equal
 pub record HaveOneValue (a b : List ℕ) : Type 0 where

@@ -3,15 +3,15 @@ pub use Rattle.wkb_laws.specs.Laws.{HasOneFront, RestIsFree, BytesAreRead, HasFr
 pub use Rattle.wkb_laws.specs.Laws.{NeverBoth, OneRefusal, listed_inside}
 pub use Rattle.wkb_laws.specs.Laws.{RefusedOutward, IsCut, CutIsRefused, Agrees, GeometryAgrees, FrontIsRead}
 pub use Rattle.wkb_laws.specs.Laws.{RefusalIsRead, FrontIsBounded}
-pub use Rattle.wkb_laws.specs.Laws.{RefusalIsBounded, ReadingIsBounded, TextSpells, WrittenIsRead, TextHasSize}
-pub use Rattle.wkb_laws.specs.Laws.{LengthOfText, LengthOfFront}
+pub use Rattle.wkb_laws.specs.Laws.{RefusalIsBounded, ReadingIsBounded, EncodingSpells, WrittenIsRead, EncodingHasSize}
+pub use Rattle.wkb_laws.specs.Laws.{LengthOfEncoding, LengthOfFront}
 pub use Rattle.wkb_laws.specs.Laws.{FrontIsWritable, EwkbIsWritable, SizeIsRefused, OwnSridIsWritable, RewritingIsRead}
 pub use Rattle.wkb_laws.specs.Laws.{RewritingIsFixed}
-pub use Rattle.wkb_laws.specs.Laws.{RewritingWithSridIsFixed, EqualTexts, EqualTextsWithSrid, EqualTextsWithOwnSrid}
+pub use Rattle.wkb_laws.specs.Laws.{RewritingWithSridIsFixed, EqualEncodings, EqualEncodingsWithSrid, EqualEncodingsWithOwnSrid}
 pub use Rattle.wkb_laws.specs.Laws.{NamedDimension}
 pub use Rattle.wkb_laws.specs.Encodings.{spelled_size, SpelledInFull, SizeOfSpelled, IsRewritable, SpelledIsWritable}
 pub use Rattle.wkb_laws.specs.Encodings.{EqualSpelled, EqualSpelledWithSrid}
-pub use Rattle.wkb_laws.specs.Places.{HasOneText, HaveOneText, CoordinateHasOneText, behind_count, IsOneOf, IsMember}
+pub use Rattle.wkb_laws.specs.Places.{HasOneEncoding, HaveOneEncoding, CoordinateHasOneEncoding, behind_count, IsOneOf, IsMember}
 pub use Rattle.wkb_laws.specs.Places.{first_spellings, first_values}
 pub use Rattle.wkb_laws.specs.Places.{SpellsFirst, first_size, member_start, ring_start, StandsAt, HoldsMember}
 pub use Rattle.wkb_laws.specs.Places.{MembersStand, HoldsRing, RingsStand}

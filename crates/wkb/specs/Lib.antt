@@ -4,9 +4,8 @@ pub mod Values
 pub mod Spellings
 pub mod Refusals
 pub mod Geometries
-pub mod Texts
+pub mod Encodings
 pub mod Reads
 pub mod Writes
-pub mod Encodings
 pub mod Laws
 pub mod Bridges

@@ -11,10 +11,10 @@ pub use Rattle.wkb_read.specs.Seen.{geometry_seen, members_seen, geometry_lawful
 pub use Rattle.wkb_read.specs.Seen.{seen_as_it_is}
 pub use Rattle.wkb_read.specs.Seen.{members_as_they_are}
 pub use Rattle.wkb_read.specs.Views.{IsCollectionOf, IsViewOf}
-pub use Rattle.wkb_read.specs.Placed.{texts, HoldsMembers, IsCollectionIn, AreMembers, IsMemberAt}
-pub use Rattle.wkb_view.specs.Coords.{words_seen, ring_seen, coordinate_text, coord_order, coord_dimension, coord_text}
+pub use Rattle.wkb_read.specs.Placed.{encodings, HoldsMembers, IsCollectionIn, AreMembers, IsMemberAt}
+pub use Rattle.wkb_view.specs.Coords.{words_seen, ring_seen, coordinate_encoding, coord_order, coord_dimension, coord_encoding}
 pub use Rattle.wkb_view.specs.Coords.{ring_order, ring_dimension}
-pub use Rattle.wkb_view.specs.Coords.{ring_text, ring_offset}
+pub use Rattle.wkb_view.specs.Coords.{ring_encoding, ring_offset}
 pub use Rattle.wkb_view.specs.Views.{point_seen, line_string_seen, multi_point_seen, point_layout, line_string_layout}
 pub use Rattle.wkb_view.specs.Views.{multi_point_layout}
 pub use Rattle.wkb_view.specs.Views.{coordinate_in, line_string_offset, multi_point_offset, point_value}

@@ -2,7 +2,7 @@
 pub use Rattle.wkb_geom.specs.Grammar.{Then, Begins, IsEach, IsCounted}
 pub use Rattle.wkb_geom.specs.Spellings.{Header, Spelling, node, Spellings, no_spellings, spelling, header, has_srid}
 pub use Rattle.wkb_geom.specs.Spellings.{srid_count, srid_count_each}
-pub use Rattle.wkb_geom.specs.Spellings.{IsSrid, IsHeader, SpellsCoordinate, SpellsCoordinates, SpellsBody, Part, any}
+pub use Rattle.wkb_geom.specs.Spellings.{IsSrid, IsHeader, SpellsCoordinate, SpellsCoordinates, SpellsBody, Wanted, any}
 pub use Rattle.wkb_geom.specs.Spellings.{part, member_part, IsPart}
 pub use Rattle.wkb_geom.specs.Spellings.{Spells, SpellsEach}
 pub use Rattle.wkb_geom.specs.Fronts.{max_nesting, FrontWithin, Front}

@@ -1,12 +1,12 @@
-//! The canonical form: the one text of the value that was read.
+//! The canonical form: the one encoding of the value that was read.
 
 ghost use Rattle.std.specs.Prelude.{◌≡◌, ◌⊎◌, IfOk, IfErr, MatchBool};
 ghost use Rattle.wkb_geom.specs.Errors.{IsMemory};
 ghost use Rattle.wkb_geom.specs.Geometries.{geometry_of, IsGeometry};
-ghost use Rattle.wkb_geom.specs.Texts.{IsRewriting, IsRewritingWithSrid};
+ghost use Rattle.wkb_geom.specs.Encodings.{IsRewriting, IsRewritingWithSrid};
 ghost use Rattle.wkb_write.specs.Measures.{Reports};
 ghost use Rattle.wkb_read.specs.Public.{IsRefusal};
-ghost use Rattle.wkb_write.specs.Answers.{encoding, refusal_of};
+ghost use Rattle.wkb_write.specs.Answers.{encoding_of, refusal_of};
 ghost use Rattle.wkb.specs.Canonical.{IsAccepted, IsSize, IsTooLong, HaveOneValue, HaveTwoValues};
 
 use crate::laws::are_bytes;
@@ -17,21 +17,21 @@ use wkb_read::geometry::Wkb;
 use wkb_read::read::stack::read_wkb;
 use wkb_write::{WriteOptions, to_vec};
 
-/// The text of a geometry that was read.
+/// The encoding of a geometry that was read.
 fn rewriting(alloc: Global, wkb: &Wkb<'_>, options: &WriteOptions) -> WkbResult<Vec<u8>>
     requires lawful { IsGeometry (geometry_of wkb.now.value) }
-    ensures ok { IfOk result (λ out. out.items ≡ encoding options.now (geometry_of wkb.now.value)) }
+    ensures ok { IfOk result (λ out. out.items ≡ encoding_of options.now (geometry_of wkb.now.value)) }
     ensures err { IfErr result (λ e. IsMemory e ⊎ Reports e (refusal_of options.now (geometry_of wkb.now.value))) }
 {
     to_vec(alloc, wkb, options)
 }
 
-/// The text under the options of the geometry at the front of the bytes.
+/// The encoding under the options of the geometry at the front of the bytes.
 ///
 /// Refused as `read_wkb` refuses the bytes. `OverflowError(Size)` where the SRID's four bytes make
-/// the text pass `usize`.
+/// the encoding pass `usize`.
 pub fn canonical(alloc: Global, buf: &[u8], options: &WriteOptions) -> WkbResult<Vec<u8>>
-    ensures ok { IfOk result (λ text. IsRewriting options.now.endianness options.now.form buf.now text.items) }
+    ensures ok { IfOk result (λ encoding. IsRewriting options.now.endianness options.now.form buf.now encoding.items) }
     ensures err { IfErr result (λ e. IsMemory e ⊎ (IsRefusal buf.now e
         ⊎ (IsTooLong options.now.endianness options.now.form buf.now × IsSize e))) }
 {
@@ -41,11 +41,11 @@ pub fn canonical(alloc: Global, buf: &[u8], options: &WriteOptions) -> WkbResult
     }
 }
 
-/// The text under EWKB with the geometry's own SRID, where it has one.
+/// The encoding under EWKB with the geometry's own SRID, where it has one.
 ///
 /// Refused as `read_wkb` refuses the bytes: what is written is no longer than what was read.
 pub fn canonical_with_srid(alloc: Global, buf: &[u8], order: Endianness) -> WkbResult<Vec<u8>>
-    ensures ok { IfOk result (λ text. IsRewritingWithSrid order buf.now text.items) }
+    ensures ok { IfOk result (λ encoding. IsRewritingWithSrid order buf.now encoding.items) }
     ensures err { IfErr result (λ e. IsMemory e ⊎ IsRefusal buf.now e) }
 {
     match read_wkb(alloc, buf) {
@@ -75,11 +75,11 @@ pub fn same(alloc: Global, a: &[u8], b: &[u8]) -> WkbResult<bool>
         form: Form::Iso,
     };
     let first = match canonical(alloc, a, &options) {
-        Ok(text) => text,
+        Ok(encoding) => encoding,
         Err(e) => return Err(e),
     };
     let second = match canonical(alloc, b, &options) {
-        Ok(text) => text,
+        Ok(encoding) => encoding,
         Err(e) => return Err(e),
     };
     Ok(first.as_slice() == second.as_slice())

@@ -1,4 +1,4 @@
-//! Laws over the definitions: what they say of any two inputs, and of any text.
+//! Laws over the definitions: what they say of any two inputs, and of any encoding.
 
 ghost use Rattle.wkb.specs.Words.{AreBytes};
 
@@ -6,13 +6,13 @@ pub use wkb_laws::encodings::{
     equal_spelled, size_of_spelled, spelled_in_full, spelled_is_writable,
 };
 pub use wkb_laws::places::{
-    members_in_place, members_stand, one_text, one_text_of_coordinates, rings_in_place,
+    members_in_place, members_stand, one_encoding, one_encoding_of_coordinates, rings_in_place,
     rings_stand, words_stand,
 };
 pub use wkb_laws::{
-    cut_is_refused, equal_texts, equal_texts_with_own_srid, equal_texts_with_srid,
+    cut_is_refused, equal_encodings, equal_encodings_with_own_srid, equal_encodings_with_srid,
     front_is_writable, geometry_agrees, named_dimension, one_front, read_or_refused,
-    refused_outward, rest_is_free, rewriting_is_fixed, rewriting_is_read, text_length, text_spells,
+    refused_outward, rest_is_free, rewriting_is_fixed, rewriting_is_read, encoding_length, encoding_spells,
     work_is_bounded, written_is_read,
 };
 

@@ -10,7 +10,7 @@ pub use Rattle.wkb_geom.specs.Reading.{Item, spellings, values, point_of, line_s
 pub use Rattle.wkb_geom.specs.Refusals.{ring_end, srid_size}
 pub use Rattle.wkb_geom.specs.Spellings.{Header, Spelling, node, Spellings, no_spellings, spelling, Spells, header}
 pub use Rattle.wkb_geom.specs.Spellings.{IsHeader, IsSrid, SpellsCoordinate}
-pub use Rattle.wkb_geom.specs.Spellings.{SpellsCoordinates, SpellsBody, Part as Wanted, SpellsEach}
+pub use Rattle.wkb_geom.specs.Spellings.{SpellsCoordinates, SpellsBody, Wanted, SpellsEach}
 pub use Rattle.wkb_geom.specs.Stored.{whole_of}
 pub use Rattle.wkb_geom.specs.Values.{members, kind, dimension, point, line_string, polygon, multi_line_string}
 pub use Rattle.wkb_geom.specs.Values.{multi_polygon, member_count, Coordinate, Value}

@@ -357,13 +357,13 @@ rings_all d order rings start i now past a =
 
 -- ---- the first byte
 
-first_of : (s : Spelling) (t : Value) (text : List ℕ) → Spells s t text → (0 < length text) × (slice_index text 0 ≡ order_byte (order_of s))
-first_of (node h words ss) t text spelled =
+first_of : (s : Spelling) (t : Value) (encoding : List ℕ) → Spells s t encoding → (0 < length encoding) × (slice_index encoding 0 ≡ order_byte (order_of s))
+first_of (node h words ss) t encoding spelled =
     let whole = spelled.whole ∙ ap (λ (x : List ℕ). x ++ spelled.rest) spelled.first.whole in
     (omega (arith, ap length whole), ap (λ (x : List ℕ). slice_index x 0) whole)
 
-pub first_is_order : (w : Item) → IsSpelled w → (0 < length w.text) × (slice_index w.text 0 ≡ order_byte (order_of w.spelled))
-first_is_order w is = ∥∥₁_elim is (hlevel props) (λ spelled. first_of w.spelled w.value w.text spelled)
+pub first_is_order : (w : Item) → IsSpelled w → (0 < length w.encoding) × (slice_index w.encoding 0 ≡ order_byte (order_of w.spelled))
+first_is_order w is = ∥∥₁_elim is (hlevel props) (λ spelled. first_of w.spelled w.value w.encoding spelled)
 
 -- ---- how many rings there are
 

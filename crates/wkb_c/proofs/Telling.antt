@@ -135,7 +135,7 @@ no_list_no_memory buf none order k d srid behind opens =
 
 -- what is told of a geometry that was read
 pub found_at_front : (buf : List ℕ) (w : Item) (f : Found) (turns : ℕ) → IsFront buf w → turns ≡ member_count w.value
-    → f.size ≡ length w.text → f.parts ≡ 1 + turns → f.kind ≡ kind w.value → f.dimension ≡ thousands (dimension w.value)
+    → f.size ≡ length w.encoding → f.parts ≡ 1 + turns → f.kind ≡ kind w.value → f.dimension ≡ thousands (dimension w.value)
     → f.width ≡ width (dimension w.value) → f.has_srid ≡ is_some (header w.spelled).srid → f.srid ≡ unwrap_or (header w.spelled).srid 0
     → IsFound buf f
 found_at_front buf w f turns front counted size parts kind_is dimension_is width_is has_srid srid = record {
@@ -143,7 +143,7 @@ found_at_front buf w f turns front counted size parts kind_is dimension_is width
   t = w.value;
   rest = front.rest;
   front = front.front;
-  size_is = (rw (sym front.text_is) at size);
+  size_is = (rw (sym front.encoding_is) at size);
   parts_are = (omega (arith, parts, counted));
   kind_is = kind_is;
   dimension_is = dimension_is;

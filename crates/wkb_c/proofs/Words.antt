@@ -88,12 +88,12 @@ mutual
 
 -- ---- places
 
-before : (input : List ℕ) (at : ℕ) (text a b rest : List ℕ) → drop at input ≡ text ++ rest → text ≡ a ++ b → drop at input ≡ a ++ (b ++ rest)
-before input at text a b rest stands whole = stands ∙ ap (λ (x : List ℕ). x ++ rest) whole ∙ append_assoc a b rest
+before : (input : List ℕ) (at : ℕ) (encoding a b rest : List ℕ) → drop at input ≡ encoding ++ rest → encoding ≡ a ++ b → drop at input ≡ a ++ (b ++ rest)
+before input at encoding a b rest stands whole = stands ∙ ap (λ (x : List ℕ). x ++ rest) whole ∙ append_assoc a b rest
 
-behind : (input : List ℕ) (at k : ℕ) (text a b rest : List ℕ) → drop at input ≡ text ++ rest → text ≡ a ++ b → length a ≡ k → drop (at + k) input ≡ b ++ rest
-behind input at k text a b rest stands whole long =
-    sym (drop-drop k at input) ∙ ap (drop k) (before input at text a b rest stands whole) ∙ drop_front k a (b ++ rest) long
+behind : (input : List ℕ) (at k : ℕ) (encoding a b rest : List ℕ) → drop at input ≡ encoding ++ rest → encoding ≡ a ++ b → length a ≡ k → drop (at + k) input ≡ b ++ rest
+behind input at k encoding a b rest stands whole long =
+    sym (drop-drop k at input) ∙ ap (drop k) (before input at encoding a b rest stands whole) ∙ drop_front k a (b ++ rest) long
 
 moved : (input rest : List ℕ) (m n : ℕ) → m ≡ n → drop m input ≡ rest → drop n input ≡ rest
 moved input rest m n same stands = ap (λ (k : ℕ). drop k input) (sym same) ∙ stands

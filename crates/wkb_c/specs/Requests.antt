@@ -1,15 +1,15 @@
--- Which text is asked for.
+-- Which encoding is asked for.
 use Rattle.std.specs.Prelude.{ℕ, List, Option, Some, None, ◌==◌, if◌then◌else◌}
 use Rattle.wkb_geom.specs.declared.common.Endianness.{Endianness}
 use Rattle.wkb_geom.specs.declared.common.Endianness.TheVariants.{BigEndian, LittleEndian}
 use Rattle.wkb_geom.specs.declared.common.Form.TheVariants.{Iso, Ewkb}
-use Rattle.wkb_geom.specs.Texts.{IsRewriting, IsRewritingWithSrid}
+use Rattle.wkb_geom.specs.Encodings.{IsRewriting, IsRewritingWithSrid}
 use Rattle.wkb.specs.Canonical.{IsTooLong}
 use Rattle.wkb_c.specs.declared.options.TheConstants.{BIG_ENDIAN, LITTLE_ENDIAN, ISO, EWKB_OWN_SRID, EWKB_WITH_SRID}
 use Rattle.wkb_c.specs.declared.options.TheConstants.{EWKB_WITHOUT_SRID}
 use Rattle.wkb_c.specs.declared.options.Options.{Options}
 use Rattle.wkb_c.specs.declared.options.Request.{Request}
-use Rattle.wkb_c.specs.declared.options.Request.TheVariants.{Text, OwnSrid}
+use Rattle.wkb_c.specs.declared.options.Request.TheVariants.{Encoding, OwnSrid}
 
 -- the order of this number
 abbrev pub order_of : ℕ → Option Endianness
@@ -18,10 +18,10 @@ order_of n = if n == BIG_ENDIAN then Some BigEndian else (if n == LITTLE_ENDIAN 
 -- what the options ask for in this order
 abbrev pub form_of : Options → Endianness → Option Request
 form_of o order =
-    if o.form == ISO then Some (Text (record { endianness = order; form = Iso }))
+    if o.form == ISO then Some (Encoding (record { endianness = order; form = Iso }))
     else (if o.form == EWKB_OWN_SRID then Some (OwnSrid order)
-    else (if o.form == EWKB_WITH_SRID then Some (Text (record { endianness = order; form = Ewkb (Some o.srid) }))
-    else (if o.form == EWKB_WITHOUT_SRID then Some (Text (record { endianness = order; form = Ewkb None })) else None)))
+    else (if o.form == EWKB_WITH_SRID then Some (Encoding (record { endianness = order; form = Ewkb (Some o.srid) }))
+    else (if o.form == EWKB_WITHOUT_SRID then Some (Encoding (record { endianness = order; form = Ewkb None })) else None)))
 
 -- what the options ask for, where their numbers mean something
 abbrev pub request_in : Options → Option Endianness → Option Request
@@ -31,12 +31,12 @@ request_in o None = None
 abbrev pub request_of : Options → Option Request
 request_of o = request_in o (order_of o.order)
 
--- the text that is asked for of the geometry at the front of the input
-abbrev pub IsText : Request → List ℕ → List ℕ → Type 0
-IsText (Text o) input text = IsRewriting o.endianness o.form input text
-IsText (OwnSrid order) input text = IsRewritingWithSrid order input text
+-- the encoding that is asked for of the geometry at the front of the input
+abbrev pub IsRequested : Request → List ℕ → List ℕ → Type 0
+IsRequested (Encoding o) input encoding = IsRewriting o.endianness o.form input encoding
+IsRequested (OwnSrid order) input encoding = IsRewritingWithSrid order input encoding
 
--- that text is longer than any slice; with its own SRID no text is
+-- that encoding is longer than any slice; with its own SRID no encoding is
 abbrev pub IsOverlong : Request → List ℕ → Type 0
-IsOverlong (Text o) input = IsTooLong o.endianness o.form input
+IsOverlong (Encoding o) input = IsTooLong o.endianness o.form input
 IsOverlong _ input = ⊥

@@ -71,7 +71,7 @@ pub fn width(dimension: Dimension) -> u8
 /// What is told of a geometry with so many rings and members.
 pub fn found_of(wkb: &Wkb<'_>, members: u64) -> Found
     requires { members < 2 ^ 63 }
-    ensures size { result.size ≡ length wkb.now.text }
+    ensures size { result.size ≡ length wkb.now.encoding }
     ensures parts { result.parts ≡ 1 + members }
     ensures kind { result.kind ≡ kind wkb.now.value }
     ensures dimension { result.dimension ≡ thousands (dimension wkb.now.value) }

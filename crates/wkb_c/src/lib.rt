@@ -10,7 +10,7 @@ mod options;
 mod parts;
 mod room;
 mod status;
-mod text;
+mod encoding;
 
 ghost use Rattle.std.specs.Prelude.{◌≡◌, ◌≢◌, ◌≤◌, ◌<◌, ◌⊎◌, ◌↔◌, MatchBool, None, length};
 ghost use Rattle.wkb.specs.Canonical.{HaveOneValue, HaveTwoValues};
@@ -29,7 +29,7 @@ use parts::{Part, table_of};
 use room::hand_out;
 use status::{FIRST, IO_ERROR, NO_MEMORY, NO_ROOM, OK, SECOND, SIZE_OVERFLOW, UNKNOWN_OPTION};
 use std::alloc::Global;
-use text::text_of;
+use encoding::requested;
 use wkb::canon::same;
 use wkb::reader::read_wkb_counted;
 
@@ -89,8 +89,8 @@ pub extern "C" fn wkb_raw_write(
     if refusal != OK {
         return refusal;
     }
-    match text_of(alloc, buf, request) {
-        Ok(text) => hand_out(text.as_slice(), out, size),
+    match requested(alloc, buf, request) {
+        Ok(encoding) => hand_out(encoding.as_slice(), out, size),
         Err(e) => status_of(&e),
     }
 }

@@ -1,4 +1,4 @@
-//! What text is asked for.
+//! What encoding is asked for.
 
 ghost use Rattle.std.specs.Prelude.{◌≡◌};
 ghost use Rattle.wkb_c.specs.Requests.{order_of, request_of};
@@ -24,7 +24,7 @@ pub const EWKB_WITH_SRID: u32 = 2;
 /// EWKB without an SRID.
 pub const EWKB_WITHOUT_SRID: u32 = 3;
 
-/// The order and the form of a text, by their numbers.
+/// The order and the form of an encoding, by their numbers.
 #[repr(C)]
 #[derive(Clone, Copy)]
 pub struct Options {
@@ -34,12 +34,12 @@ pub struct Options {
     pub srid: u32,
 }
 
-/// The text that is asked for.
+/// The encoding that is asked for.
 #[derive(Clone, Copy)]
 pub enum Request {
-    /// The text under these options.
-    Text(WriteOptions),
-    /// The text under EWKB with the geometry's own SRID.
+    /// The encoding under these options.
+    Encoding(WriteOptions),
+    /// The encoding under EWKB with the geometry's own SRID.
     OwnSrid(Endianness),
 }
 
@@ -68,5 +68,5 @@ pub fn requested(options: &Options) -> Option<Request>
         EWKB_WITHOUT_SRID => Form::Ewkb { srid: None },
         _ => return None,
     };
-    Some(Request::Text(WriteOptions { endianness, form }))
+    Some(Request::Encoding(WriteOptions { endianness, form }))
 }

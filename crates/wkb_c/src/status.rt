@@ -12,7 +12,7 @@ pub const NO_ROOM: u32 = 2;
 /// The options name no order or no form.
 pub const UNKNOWN_OPTION: u32 = 3;
 
-/// The text would be longer than any slice.
+/// The encoding would be longer than any slice.
 pub const SIZE_OVERFLOW: u32 = 4;
 
 /// The input ends inside a header or before a count.

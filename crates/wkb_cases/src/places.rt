@@ -3,7 +3,7 @@
 ghost use Rattle.std.specs.Prelude.{◌≡◌, ◌<◌, ◌^◌, ◌∷◌, [], Some, IfOk};
 ghost use Rattle.wkb.specs.Words.traits.{Xy};
 ghost use Rattle.wkb.specs.Geometries.{point};
-ghost use Rattle.wkb.specs.Texts.{text};
+ghost use Rattle.wkb.specs.Encodings.{text};
 
 use std::alloc::Global;
 use wkb::error::WkbResult;

@@ -8,7 +8,7 @@ use Rattle.wkb_geom.specs.declared.header.Layout.{Layout}
 use Rattle.wkb_geom.specs.Dimensions.{width}
 use Rattle.wkb_geom.specs.Numbers.{number}
 use Rattle.wkb_geom.specs.Refusals.{point_end, line_string_end, ring_end}
-use Rattle.wkb_geom.specs.Reading.{Reading, Part, Item, body_start, parts_start}
+use Rattle.wkb_geom.specs.Reading.{Reading, Outcome, Item, body_start, parts_start}
 unfoldable use Rattle.wkb_geom.specs.Reading.{point_at, line_string_at, ring_at}
 use Rattle.wkb_check.specs.Skims.{Skim, after, onward, leaf, count_at, skim_point, skim_line_string, skim_ring}
 unfoldable use Rattle.wkb_check.specs.Skims.{skims, skim_geometry}
@@ -35,7 +35,7 @@ point_held : (l : Layout) (bytes : List ℕ) → Held bytes (skim_point l bytes)
 unfolding point_at
 point_held l bytes =
     let end = point_end l.dimension l.has_srid in
-    cond_both (nat_lt (length bytes) end) _ _ (λ (p : Part Item). Held bytes (leaf 1 bytes p)) (λ t. nothing bytes)
+    cond_both (nat_lt (length bytes) end) _ _ (λ (p : Outcome Item). Held bytes (leaf 1 bytes p)) (λ t. nothing bytes)
     (λ t. gone_held bytes 1 end (omega (arith, wide l.dimension 1)) (ltb-false _ _ t))
 
 line_string_held : (l : Layout) (bytes : List ℕ) → Held bytes (skim_line_string l bytes)
@@ -44,7 +44,7 @@ line_string_held l bytes =
     let n = count_at l bytes in
     let end = line_string_end l.dimension l.has_srid n in
     cond_both (nat_lt (length bytes) (body_start l.has_srid + 4)) _ _ (λ (r : Reading Item). Held bytes (leaf n bytes r.1)) (λ t. nothing bytes)
-    (λ t. cond_both (nat_lt (length bytes) end) _ _ (λ (p : Part Item). Held bytes (leaf n bytes p)) (λ t. nothing bytes)
+    (λ t. cond_both (nat_lt (length bytes) end) _ _ (λ (p : Outcome Item). Held bytes (leaf n bytes p)) (λ t. nothing bytes)
     (λ t. gone_held bytes n end (omega (arith, wide l.dimension n)) (ltb-false _ _ t)))
 
 ring_held : (l : Layout) (bytes : List ℕ) → Held bytes (skim_ring l bytes)
@@ -52,8 +52,8 @@ unfolding ring_at
 ring_held l bytes =
     let n = number l.order 4 bytes in
     let end = ring_end l.dimension n in
-    cond_both (nat_lt (length bytes) 4) _ _ (λ (p : Part (List ℕ)). Held bytes (leaf n bytes p)) (λ t. nothing bytes)
-    (λ t. cond_both (nat_lt (length bytes) end) _ _ (λ (p : Part (List ℕ)). Held bytes (leaf n bytes p)) (λ t. nothing bytes)
+    cond_both (nat_lt (length bytes) 4) _ _ (λ (p : Outcome (List ℕ)). Held bytes (leaf n bytes p)) (λ t. nothing bytes)
+    (λ t. cond_both (nat_lt (length bytes) end) _ _ (λ (p : Outcome (List ℕ)). Held bytes (leaf n bytes p)) (λ t. nothing bytes)
     (λ t. gone_held bytes n end (omega (arith, wide l.dimension n)) (ltb-false _ _ t)))
 
 -- ---- parts

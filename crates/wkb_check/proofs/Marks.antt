@@ -3,10 +3,10 @@ use Rattle.std.proofs.Common.{◌≡◌, ℕ, zero, suc, ◌+◌, List, ◌++◌
 use Rattle.std.proofs.Common.{arith}
 use Rattle.std.proofs.Common.{Bool, nat_lt, le-ltb, lt-ltb, if◌then◌else◌, length-append}
 use Rattle.std.proofs.lemmas.Bool.{cond-true, cond-false}
-use Rattle.wkb_geom.specs.Reading.{Part as Answer}
+use Rattle.wkb_geom.specs.Reading.{Outcome}
 use Rattle.wkb_laws.specs.Words.{Endianness, Dimension, Layout, Cause, end_of_input, general, ShortLinearRing, number}
 use Rattle.wkb_laws.specs.Words.{Coordinate, Value, kind, dimension}
-use Rattle.wkb_laws.specs.Words.{Spelling, has_srid, SpellsCoordinates, Part, any, part, IsPart, FrontWithin, ring_end}
+use Rattle.wkb_laws.specs.Words.{Spelling, has_srid, SpellsCoordinates, Wanted, any, part, IsPart, FrontWithin, ring_end}
 use Rattle.wkb_laws.specs.Words.{RefusesRings, no_ring_count, short_ring}
 use Rattle.wkb_laws.specs.Words.{later_ring, Refuses, bad_ring, bad_member, RefusesEach, this_member, later_member}
 use Rattle.wkb_laws.specs.Words.{Reading, Item, laid, parts_start, member_at}
@@ -29,7 +29,7 @@ abbrev IsMarked : List ℕ → Skim → Type 0
 IsMarked bytes (t, Ok rest) = Unit {0}
 IsMarked bytes (t, Err e) = t.0 ≡ 0 → e.1 ≡ length bytes
 
-leaf_marked : {A : Type 0} (n : ℕ) (bytes : List ℕ) (p : Answer A) → IsMarked bytes (leaf n bytes p)
+leaf_marked : {A : Type 0} (n : ℕ) (bytes : List ℕ) (p : Outcome A) → IsMarked bytes (leaf n bytes p)
 leaf_marked n bytes (Ok x) = tt
 leaf_marked n bytes (Err c) = λ z. refl
 
@@ -42,7 +42,7 @@ unfolding skims
 behind_marked bytes start zero one = tt
 behind_marked bytes start (suc n) one = begun_marked bytes (onward (one start) (skims n one))
 
-part_marked : (room : ℕ) (w : Part) (bytes : List ℕ) → IsMarked bytes (skimmer room w bytes)
+part_marked : (room : ℕ) (w : Wanted) (bytes : List ℕ) → IsMarked bytes (skimmer room w bytes)
 part_marked room any bytes =
     geometry_holds IsMarked (λ bytes c z. refl) (λ l bytes. leaf_marked 1 bytes (point_at l bytes))
     (λ l bytes. leaf_marked (count_at l bytes) bytes (line_string_at l bytes).1) (λ l bytes. leaf_marked (number l.order 4 bytes) bytes (ring_at l.order l.dimension bytes))
@@ -59,20 +59,20 @@ own_mark bytes s passed left c marked e =
 
 -- ---- a part, as it is read
 
-abbrev reader : ℕ → Part → List ℕ → Reading Item
+abbrev reader : ℕ → Wanted → List ℕ → Reading Item
 reader room any = geometry_at room
 reader room (part k d) = member_at k d
 
 -- the skim of its reading, whose coordinates are counted in some way
-record IsPassed (room : ℕ) (w : Part) : Type 0 where
+record IsPassed (room : ℕ) (w : Wanted) : Type 0 where
   pub many : Item → ℕ
   pub skim : (bytes : List ℕ) → IsSkim many (reader room w bytes) (skimmer room w bytes)
 
-is_passed : (room : ℕ) (w : Part) → IsWanted w → IsPassed room w
+is_passed : (room : ℕ) (w : Wanted) → IsWanted w → IsPassed room w
 is_passed room any good = record { many = _; skim = geometry_skim room }
 is_passed room (part k d) good = let w = wanted_skim k d good in record { many = w.0; skim = w.1 }
 
-refused_itself : (room : ℕ) (w : Part) (input : List ℕ) (c : Cause) (slots : ℕ) → IsWanted w → Refuses room w input c 0 slots
+refused_itself : (room : ℕ) (w : Wanted) (input : List ℕ) (c : Cause) (slots : ℕ) → IsWanted w → Refuses room w input c 0 slots
     → (skimmer room w input).1 ≡ Err (c, length input)
 refused_itself room any input c slots good r =
     let p = is_passed room any good in
@@ -83,7 +83,7 @@ refused_itself room (part k d) input c slots good r =
     let s = subst (λ (a : Reading Item). IsSkim p.many a (skimmer room (part k d) input)) (refusal_read r good) (p.skim input) in
     own_mark input (skimmer room (part k d) input) s.0 s.1 c (part_marked room (part k d) input) s.2
 
-passed_over : (room : ℕ) (w : Part) (input : List ℕ) (s : Spelling) (t : Value) (rest : List ℕ) → IsWanted w → FrontWithin room input s t rest
+passed_over : (room : ℕ) (w : Wanted) (input : List ℕ) (s : Spelling) (t : Value) (rest : List ℕ) → IsWanted w → FrontWithin room input s t rest
     → IsPart w (kind t) (dimension t) (has_srid s) → (skimmer room w input).1 ≡ Ok rest
 passed_over room any input s t rest good f p =
     let q = is_passed room any good in
@@ -112,7 +112,7 @@ module _ (n : ℕ) (one : List ℕ → Skim) (bytes : List ℕ) where
   unfolding skims
   first_passed rest is = onward_passed (one bytes) (skims n one) rest is
 
-leaf_left : {A : Type 0} (n : ℕ) (bytes : List ℕ) (c : Cause) (p : Answer A) → p ≡ Err c → (leaf n bytes p).1 ≡ Err (c, length bytes)
+leaf_left : {A : Type 0} (n : ℕ) (bytes : List ℕ) (c : Cause) (p : Outcome A) → p ≡ Err c → (leaf n bytes p).1 ≡ Err (c, length bytes)
 leaf_left n bytes c p e = ap (λ p. (leaf n bytes p).1) e
 
 ring_passed : (l : Layout) (ring : List Coordinate) (input rest x : List ℕ) → input ≡ x ++ rest → SpellsCoordinates l.order l.dimension ring x
@@ -124,7 +124,7 @@ ring_passed l ring input rest x whole h =
     let long : length x ≡ end = coordinates_length l.order d ring x h in
     let many : number l.order 4 input ≡ length ring = ap (number l.order 4) whole ∙ (ring_read l.order d ring x rest h).many in
     let size : length input ≡ length x + length rest = ap length whole ∙ length-append x rest in
-    let cut : Answer (List ℕ) = Ok (take end input, drop end input) in
+    let cut : Outcome (List ℕ) = Ok (take end input, drop end input) in
     let found : ring_at l.order d input ≡ cut = cond-false (nat_lt (length input) 4) _ _ (le-ltb (length input) 4 (omega arith))
     ∙ ap (λ z. if nat_lt (length input) (ring_end d z) then Err (general (ShortLinearRing (ring_end d z) (length input)))
     else Ok (take (ring_end d z) input, drop (ring_end d z) input)) many
@@ -150,7 +150,7 @@ rings_marked {d} {order} {input = input} srid (later_ring {more = more} {rest = 
     ∙ rings_marked srid r
 
 mutual
-  pub refusal_marked : {room : ℕ} {w : Part} {input : List ℕ} {cause : Cause} {begun slots : ℕ} (r : Refuses room w input cause begun slots) → IsWanted w
+  pub refusal_marked : {room : ℕ} {w : Wanted} {input : List ℕ} {cause : Cause} {begun slots : ℕ} (r : Refuses room w input cause begun slots) → IsWanted w
       → (skimmer room w input).1 ≡ Err (cause, left_in r)
   refusal_marked (bad_ring {srid = srid} c h) good = ap (λ (s : Skim). s.1) (rings_counted c) ∙ rings_marked srid h
   refusal_marked {room} {w = any} {input = input} (bad_member {k = k} {n = n} {order = order} {d = d} {srid = srid} {rest = rest} c low long h) good =
@@ -160,7 +160,7 @@ mutual
   refusal_marked {room} {w = part l e} (bad_member {k = k} c low long h) good = let same = (c.allowed.wanted).0 in absurd (omega arith)
   refusal_marked {room} {w = w} {input = input} {cause = cause} {slots = slots} r good = refused_itself room w input cause slots good r
 
-  each_marked : {room : ℕ} {w : Part} {n : ℕ} {input : List ℕ} {cause : Cause} {begun slots : ℕ} (r : RefusesEach room w n input cause begun slots) → IsWanted w
+  each_marked : {room : ℕ} {w : Wanted} {n : ℕ} {input : List ℕ} {cause : Cause} {begun slots : ℕ} (r : RefusesEach room w n input cause begun slots) → IsWanted w
       → (skims n (skimmer room w) input).1 ≡ Err (cause, left_in_each r)
   each_marked {room} {w} {input = input} (this_member {more = more} h) good = first_refused more (skimmer room w) input _ (refusal_marked h good)
   each_marked {room} {w} {input = input} (later_member {more = more} {rest = rest} {s = s} {t = t} f p h) good =

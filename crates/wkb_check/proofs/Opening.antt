@@ -7,7 +7,7 @@ use Rattle.wkb_geom.specs.declared.code.WkbType.TheVariants as kinds
 use Rattle.wkb_geom.proofs.Codes.{one_meaning}
 use Rattle.wkb_geom.proofs.Meanings.{meaning_holds}
 use Rattle.wkb_laws.specs.Words.{Endianness, BigEndian, LittleEndian, Dimension, Head, Layout, WkbType, number}
-use Rattle.wkb_laws.specs.Words.{order_byte, Code, Part, any}
+use Rattle.wkb_laws.specs.Words.{order_byte, Code, Wanted, any}
 use Rattle.wkb_laws.specs.Words.{part, member_part, srid_size, multi_point_end, room_inside, Opens, Counts, type_kind}
 use Rattle.wkb_laws.specs.Words.{type_dimension, type_of, laid}
 use Rattle.wkb_laws.specs.Words.{body_start, parts_start, head_by_code, head_by_order, meaning, is_member}
@@ -57,11 +57,11 @@ record CountRead (input : List ℕ) (l : Layout) (n : ℕ) (rest : List ℕ) : T
   pub behind : rest ≡ parts_start l.has_srid input
 
 -- what passes over a part
-abbrev pub skimmer : ℕ → Part → List ℕ → Skim
+abbrev pub skimmer : ℕ → Wanted → List ℕ → Skim
 skimmer room any = skim_geometry room
 skimmer room (part k d) = skim_member k d
 
-module _ {room n : ℕ} {w : Part} {input rest : List ℕ} {order : Endianness} {k : ℕ} {d : Dimension} {srid : Bool}
+module _ {room n : ℕ} {w : Wanted} {input rest : List ℕ} {order : Endianness} {k : ℕ} {d : Dimension} {srid : Bool}
     (c : Counts room w input order k d srid n rest) where
   count_read : CountRead input (laid order d srid) n rest
   count_read =
@@ -81,7 +81,7 @@ module _ {room n : ℕ} {w : Part} {input rest : List ℕ} {order : Endianness} 
   counted_list one = list_there (laid order d srid) one input n rest count_read.many count_read.long count_read.behind
 
 -- the rings of a polygon
-pub rings_counted : {room n : ℕ} {w : Part} {input rest : List ℕ} {order : Endianness} {d : Dimension} {srid : Bool}
+pub rings_counted : {room n : ℕ} {w : Wanted} {input rest : List ℕ} {order : Endianness} {d : Dimension} {srid : Bool}
     → Counts room w input order 3 d srid n rest → skimmer room w input ≡ skims n (skim_ring (laid order d srid)) rest
 rings_counted {room} {w = any} {input = input} {order = order} {d = d} {srid = srid} c =
     geometry_is room input ∙ ap (skim_headed (skim_collection room) input) (head_opened c.opens) ∙ counted_list c (skim_ring (laid order d srid))

@@ -16,7 +16,7 @@ use Rattle.wkb_geom.specs.Items.{length-items}
 use Rattle.wkb_geom.specs.Numbers.{number, all_nan}
 use Rattle.wkb_geom.specs.Dimensions.{width}
 use Rattle.wkb_geom.specs.Refusals.{point_end, line_string_end, multi_point_end, ring_end, slots_asked}
-use Rattle.wkb_geom.specs.Reading.{Cost, Reading, Item, at_no_cost, and_then, costs, done, one_turn, slots_of, taken}
+use Rattle.wkb_geom.specs.Reading.{Cost, Reading, Item, at_no_cost, and_then, costs, done, one_turn, slots_of, consumed}
 use Rattle.wkb_geom.specs.Reading.{body_start, parts_start}
 use Rattle.wkb_geom.specs.Reading.{list_at, ring_part, ring_in, coordinate, point_item_of, point_words_in, polygon_item}
 use Rattle.wkb_geom.specs.Reading.{list_item, values}
@@ -42,32 +42,32 @@ IsSkim many (cost, Err c) s = (passed : ℕ) × (left : ℕ) × (s ≡ ((cost.tu
 -- ---- what holds no part
 
 -- the words of an empty point are one coordinate
-point_counts : (l : Layout) (text words : List ℕ) (empty : Bool) → coordinate_count (point_item_of l text words empty).value ≡ 1
-point_counts l text words true = refl
-point_counts l text words false = refl
+point_counts : (l : Layout) (encoding words : List ℕ) (empty : Bool) → coordinate_count (point_item_of l encoding words empty).value ≡ 1
+point_counts l encoding words true = refl
+point_counts l encoding words false = refl
 
-point_skim : (many : Item → ℕ) → ((l : Layout) (text words : List ℕ) (empty : Bool) → many (point_item_of l text words empty) ≡ 1)
+point_skim : (many : Item → ℕ) → ((l : Layout) (encoding words : List ℕ) (empty : Bool) → many (point_item_of l encoding words empty) ≡ 1)
     → (l : Layout) (bytes : List ℕ) → IsSkim many (at_no_cost (point_at l bytes)) (skim_point l bytes)
 unfolding point_at
 point_skim many one l bytes =
     let end = point_end l.dimension l.has_srid in
     cond_both (nat_lt (length bytes) end) _ _ (λ p. IsSkim many (at_no_cost p) (leaf 1 bytes p))
     (λ t. (0, length bytes, refl))
-    (λ t. let text = take end bytes in
-    let words = point_words_in l text in
-    λ i. ((0, sym (one l text words (all_nan words)) i), Ok (drop end bytes)))
+    (λ t. let encoding = take end bytes in
+    let words = point_words_in l encoding in
+    λ i. ((0, sym (one l encoding words (all_nan words)) i), Ok (drop end bytes)))
 
--- a ring by its text has as many coordinates as its count says
+-- a ring by its encoding has as many coordinates as its count says
 ring_many : (order : Endianness) (d : Dimension) (start end : ℕ) (bytes : List ℕ) → start + 4 ≤ end → end ≤ length bytes
     → number order 4 (drop start bytes) ≡ length (ring_in order d (drop start (take end bytes)))
 ring_many order d start end bytes counted whole =
-    let text = take end bytes in
-    let size : length text ≡ end = length-take-le end bytes whole in
-    number_in order start bytes text (drop end bytes) (sym (take-append-drop end bytes)) (omega arith)
-    ∙ sym (length-items (8 * width d) (coordinate order d) (number order 4 (drop start text)) (drop 4 (drop start text)))
+    let encoding = take end bytes in
+    let size : length encoding ≡ end = length-take-le end bytes whole in
+    number_in order start bytes encoding (drop end bytes) (sym (take-append-drop end bytes)) (omega arith)
+    ∙ sym (length-items (8 * width d) (coordinate order d) (number order 4 (drop start encoding)) (drop 4 (drop start encoding)))
 
-line_string_skim : (many : Item → ℕ) → ((l : Layout) (text : List ℕ)
-    → many (Rattle.wkb_geom.specs.Reading.line_string_item l text) ≡ length (ring_in l.order l.dimension (drop (body_start l.has_srid) text)))
+line_string_skim : (many : Item → ℕ) → ((l : Layout) (encoding : List ℕ)
+    → many (Rattle.wkb_geom.specs.Reading.line_string_item l encoding) ≡ length (ring_in l.order l.dimension (drop (body_start l.has_srid) encoding)))
     → (l : Layout) (bytes : List ℕ) → IsSkim many (line_string_at l bytes) (skim_line_string l bytes)
 unfolding line_string_at
 line_string_skim many own l bytes =
@@ -80,12 +80,12 @@ line_string_skim many own l bytes =
     (λ s. let counted = ring_many l.order l.dimension start end bytes (omega arith) (ltb-false _ _ s) in
     λ i. ((0, (counted ∙ sym (own l (take end bytes))) i), Ok (drop end bytes))))
 
-ring_skim : (l : Layout) (bytes : List ℕ) → IsSkim (λ text. length (ring_in l.order l.dimension text)) (ring_part l bytes) (skim_ring l bytes)
+ring_skim : (l : Layout) (bytes : List ℕ) → IsSkim (λ encoding. length (ring_in l.order l.dimension encoding)) (ring_part l bytes) (skim_ring l bytes)
 unfolding ring_at
 ring_skim l bytes =
     let n = number l.order 4 bytes in
     let end = ring_end l.dimension n in
-    let many : List ℕ → ℕ = λ text. length (ring_in l.order l.dimension text) in
+    let many : List ℕ → ℕ = λ encoding. length (ring_in l.order l.dimension encoding) in
     cond_both (nat_lt (length bytes) 4) _ _ (λ p. IsSkim many (at_no_cost p) (leaf n bytes p))
     (λ t. (0, length bytes, refl))
     (λ t. cond_both (nat_lt (length bytes) end) _ _ (λ p. IsSkim many (at_no_cost p) (leaf n bytes p))
@@ -123,16 +123,16 @@ module _ {A : Type 0} (many : A → ℕ) where
   parts_skim part skim one zero bytes = refl
   parts_skim part skim one (suc n) bytes = next_skim n (part bytes) (skim bytes) (repeated n part) (skims n skim) (one bytes) (parts_skim part skim one n)
 
-  pub whole_skim : (whole : List A → List ℕ → Item) (total : Item → ℕ) → ((parts : List A) (text : List ℕ) → total (whole parts text) ≡ sum_by many parts)
+  pub whole_skim : (whole : List A → List ℕ → Item) (total : Item → ℕ) → ((parts : List A) (encoding : List ℕ) → total (whole parts encoding) ≡ sum_by many parts)
       → (n : ℕ) (bytes : List ℕ) (r : Reading (List A)) (s : Skim) → IsSkim (sum_by many) r s
-      → IsSkim total (costs (slots_of n) (and_then r (λ parts rest. done (whole parts (taken bytes rest)) rest))) s
+      → IsSkim total (costs (slots_of n) (and_then r (λ parts rest. done (whole parts (consumed bytes rest)) rest))) s
   whole_skim whole total sum n bytes (c, Ok x) s e =
       let turns : c.turns ≡ 0 + (c.turns + 0) = omega arith in
-      e ∙ (λ i. ((turns i, sym (sum x.0 (taken bytes x.1)) i), Ok x.1))
+      e ∙ (λ i. ((turns i, sym (sum x.0 (consumed bytes x.1)) i), Ok x.1))
   whole_skim whole total sum n bytes (c, Err e) s h = (h.0, h.1, h.2 ∙ (λ i. ((sym (zero-add c.turns) i, h.0), Err (e, h.1))))
 
   list_skim : (part : List ℕ → Reading A) (skim : List ℕ → Skim) → ((bytes : List ℕ) → IsSkim many (part bytes) (skim bytes))
-      → (whole : List A → List ℕ → Item) (total : Item → ℕ) → ((parts : List A) (text : List ℕ) → total (whole parts text) ≡ sum_by many parts)
+      → (whole : List A → List ℕ → Item) (total : Item → ℕ) → ((parts : List A) (encoding : List ℕ) → total (whole parts encoding) ≡ sum_by many parts)
       → (k : ℕ) (l : Layout) (bytes : List ℕ) → IsSkim total (list_at k l part whole bytes) (skim_list l skim bytes)
   list_skim part skim one whole total sum k l bytes =
       cond_skim total (nat_lt (length bytes) (body_start l.has_srid + 4)) _ _ _ _ (0, length bytes, refl)
@@ -162,14 +162,14 @@ line_count i = length (line_string_of i.value)
 abbrev rings_count : Item → ℕ
 rings_count i = sum_by length (polygon_of i.value)
 
-polygon_skim : (total : Item → ℕ) → ((l : Layout) (rings : List (List ℕ)) (text : List ℕ)
-    → total (polygon_item l rings text) ≡ sum_by length (map (ring_in l.order l.dimension) rings))
+polygon_skim : (total : Item → ℕ) → ((l : Layout) (rings : List (List ℕ)) (encoding : List ℕ)
+    → total (polygon_item l rings encoding) ≡ sum_by length (map (ring_in l.order l.dimension) rings))
     → (l : Layout) (bytes : List ℕ) → IsSkim total (polygon_at l bytes) (skim_polygon l bytes)
 unfolding polygon_at
 polygon_skim total own l bytes =
-    let many : List ℕ → ℕ = λ text. length (ring_in l.order l.dimension text) in
+    let many : List ℕ → ℕ = λ encoding. length (ring_in l.order l.dimension encoding) in
     list_skim many (ring_part l) (skim_ring l) (ring_skim l) (polygon_item l) total
-    (λ rings text. own l rings text ∙ mapped_sum length (ring_in l.order l.dimension) rings) 3 l bytes
+    (λ rings encoding. own l rings encoding ∙ mapped_sum length (ring_in l.order l.dimension) rings) 3 l bytes
 
 member_skim : (k : ℕ) (d : Dimension) (total : Item → ℕ) → ((l : Layout) (bytes : List ℕ) → IsSkim total (member_body k l bytes) (skim_member_body k l bytes))
     → (bytes : List ℕ) → IsSkim total (member_at k d bytes) (skim_member k d bytes)
@@ -179,13 +179,13 @@ member_skim k d total body bytes = laid_skim (member_layout k d bytes) where
   laid_skim (Err c) = (0, length bytes, refl)
 
 points_skim : (d : Dimension) (bytes : List ℕ) → IsSkim (λ i. 1) (member_at 1 d bytes) (skim_member 1 d bytes)
-points_skim d bytes = member_skim 1 d (λ i. 1) (point_skim (λ i. 1) (λ l text words empty. refl)) bytes
+points_skim d bytes = member_skim 1 d (λ i. 1) (point_skim (λ i. 1) (λ l encoding words empty. refl)) bytes
 
 lines_skim : (d : Dimension) (bytes : List ℕ) → IsSkim line_count (member_at 2 d bytes) (skim_member 2 d bytes)
-lines_skim d bytes = member_skim 2 d line_count (line_string_skim line_count (λ l text. refl)) bytes
+lines_skim d bytes = member_skim 2 d line_count (line_string_skim line_count (λ l encoding. refl)) bytes
 
 polygons_skim : (d : Dimension) (bytes : List ℕ) → IsSkim rings_count (member_at 3 d bytes) (skim_member 3 d bytes)
-polygons_skim d bytes = member_skim 3 d rings_count (polygon_skim rings_count (λ l rings text. refl)) bytes
+polygons_skim d bytes = member_skim 3 d rings_count (polygon_skim rings_count (λ l rings encoding. refl)) bytes
 
 multi_point_skim : (l : Layout) (bytes : List ℕ) → IsSkim counted (multi_point_at l bytes) (skim_multi_point l bytes)
 unfolding multi_point_at
@@ -193,7 +193,7 @@ multi_point_skim l bytes =
     let n = count_at l bytes in
     cond_skim counted (nat_lt (length bytes) (body_start l.has_srid + 4)) _ _ _ _ (0, length bytes, refl)
     (cond_skim counted (nat_lt (length bytes) (multi_point_end l.dimension l.has_srid n)) _ _ _ _ (0, length bytes, refl)
-    (whole_skim (λ i. 1) (list_item l multi_point_with) counted (λ parts text. mapped_ones (λ i. point_of i.value) parts)
+    (whole_skim (λ i. 1) (list_item l multi_point_with) counted (λ parts encoding. mapped_ones (λ i. point_of i.value) parts)
     (slots_asked 4 n (length (parts_start l.has_srid bytes))) bytes _ _
     (parts_skim (λ i. 1) (member_at 1 l.dimension) (skim_member 1 l.dimension) (points_skim l.dimension) n (parts_start l.has_srid bytes))))
 
@@ -201,25 +201,25 @@ multi_line_string_skim : (l : Layout) (bytes : List ℕ) → IsSkim counted (mul
 unfolding multi_line_string_at
 multi_line_string_skim l bytes =
     list_skim line_count (member_at 2 l.dimension) (skim_member 2 l.dimension) (lines_skim l.dimension) (list_item l multi_line_string_with) counted
-    (λ parts text. mapped_sum length (λ i. line_string_of i.value) parts) 5 l bytes
+    (λ parts encoding. mapped_sum length (λ i. line_string_of i.value) parts) 5 l bytes
 
 multi_polygon_skim : (l : Layout) (bytes : List ℕ) → IsSkim counted (multi_polygon_at l bytes) (skim_multi 3 l bytes)
 unfolding multi_polygon_at
 multi_polygon_skim l bytes =
     list_skim rings_count (member_at 3 l.dimension) (skim_member 3 l.dimension) (polygons_skim l.dimension) (list_item l multi_polygon_with) counted
-    (λ parts text. mapped_sum (λ rings. sum_by length rings) (λ i. polygon_of i.value) parts) 6 l bytes
+    (λ parts encoding. mapped_sum (λ rings. sum_by length rings) (λ i. polygon_of i.value) parts) 6 l bytes
 
 collection_skim : (part : List ℕ → Reading Item) (skim : List ℕ → Skim) → ((bytes : List ℕ) → IsSkim counted (part bytes) (skim bytes))
     → (l : Layout) (bytes : List ℕ) → IsSkim counted (collection_at part l bytes) (skim_list l skim bytes)
 unfolding collection_at
-collection_skim part skim one l bytes = list_skim counted part skim one (list_item l collection_with) counted (λ parts text. values_sum parts) 7 l bytes
+collection_skim part skim one l bytes = list_skim counted part skim one (list_item l collection_with) counted (λ parts encoding. values_sum parts) 7 l bytes
 
 module _ (collection : Layout → List ℕ → Reading Item) (skim : Layout → List ℕ → Skim)
     (one : (l : Layout) (bytes : List ℕ) → IsSkim counted (collection l bytes) (skim l bytes)) where
   body_skim : (t : WkbType) (l : Layout) (bytes : List ℕ) → IsSkim counted (body_at collection t l bytes) (skim_body skim t l bytes)
   body_skim (kinds.Point d) l bytes = point_skim counted point_counts l bytes
-  body_skim (kinds.LineString d) l bytes = line_string_skim counted (λ l text. refl) l bytes
-  body_skim (kinds.Polygon d) l bytes = polygon_skim counted (λ l rings text. refl) l bytes
+  body_skim (kinds.LineString d) l bytes = line_string_skim counted (λ l encoding. refl) l bytes
+  body_skim (kinds.Polygon d) l bytes = polygon_skim counted (λ l rings encoding. refl) l bytes
   body_skim (kinds.MultiPoint d) l bytes = multi_point_skim l bytes
   body_skim (kinds.MultiLineString d) l bytes = multi_line_string_skim l bytes
   body_skim (kinds.MultiPolygon d) l bytes = multi_polygon_skim l bytes
@@ -243,7 +243,7 @@ geometry_skim (suc room) bytes =
 
 -- a member that is wanted, whose coordinates are counted by its kind
 pub wanted_skim : (k : ℕ) (d : Dimension) → k ≤ 3 → (many : Item → ℕ) × ((bytes : List ℕ) → IsSkim many (member_at k d bytes) (skim_member k d bytes))
-wanted_skim zero d few = (rings_count, member_skim 0 d rings_count (polygon_skim rings_count (λ l rings text. refl)))
+wanted_skim zero d few = (rings_count, member_skim 0 d rings_count (polygon_skim rings_count (λ l rings encoding. refl)))
 wanted_skim (suc zero) d few = ((λ i. 1), points_skim d)
 wanted_skim (suc (suc zero)) d few = (line_count, lines_skim d)
 wanted_skim (suc (suc (suc zero))) d few = (rings_count, polygons_skim d)

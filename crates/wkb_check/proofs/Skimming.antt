@@ -8,7 +8,7 @@ use Rattle.wkb_geom.specs.declared.error.General.TheVariants.{ShortMultiPoint}
 use Rattle.wkb_geom.specs.declared.header.Layout.{Layout}
 use Rattle.wkb_geom.specs.Dimensions.{width}
 use Rattle.wkb_geom.specs.Refusals.{multi_point_end}
-use Rattle.wkb_geom.specs.Reading.{Part, body_start, parts_start}
+use Rattle.wkb_geom.specs.Reading.{Outcome, body_start, parts_start}
 use Rattle.wkb_check.specs.Skims.{Tally, ◌⊕◌, Skim, after, onward, leaf, stop, skim_list, skim_multi_point, skim_member}
 use Rattle.wkb_check.specs.Skims.{count_at}
 unfoldable use Rattle.wkb_check.specs.Skims.{skims}
@@ -39,7 +39,7 @@ left_is s t e = ap (λ (z : Skim). z.1) e
 
 -- ---- what holds no part
 
-pub leaf_read : {A : Type 0} (t : Tally) (n : ℕ) (bytes rest : List ℕ) (p : Part A) → left_of p ≡ Ok rest
+pub leaf_read : {A : Type 0} (t : Tally) (n : ℕ) (bytes rest : List ℕ) (p : Outcome A) → left_of p ≡ Ok rest
     → after t (leaf n bytes p) ≡ ((t.0, t.1 + n), Ok rest)
 leaf_read t n bytes rest (Ok x) e =
     let none : t.0 + 0 ≡ t.0 = omega arith in
@@ -47,12 +47,12 @@ leaf_read t n bytes rest (Ok x) e =
     λ i. ((none i, t.1 + n), Ok (same i))
 leaf_read t n bytes rest (Err c) e = absurd cc
 
-pub leaf_stops : {A : Type 0} (t : Tally) (n : ℕ) (bytes : List ℕ) (c : Cause) (p : Part A) → left_of p ≡ Err c
+pub leaf_stops : {A : Type 0} (t : Tally) (n : ℕ) (bytes : List ℕ) (c : Cause) (p : Outcome A) → left_of p ≡ Err c
     → after t (leaf n bytes p) ≡ (t, Err (c, length bytes))
 leaf_stops t n bytes c (Ok x) e = absurd cc
 leaf_stops t n bytes c (Err d) e = let same : d ≡ c = cc in λ i. (tally_none t i, Err (same i, length bytes))
 
-pub leaf_many : {A : Type 0} (n : ℕ) (bytes rest : List ℕ) (p : Part A) → left_of p ≡ Ok rest → (leaf n bytes p).0.1 ≡ n
+pub leaf_many : {A : Type 0} (n : ℕ) (bytes rest : List ℕ) (p : Outcome A) → left_of p ≡ Ok rest → (leaf n bytes p).0.1 ≡ n
 leaf_many n bytes rest (Ok x) e = refl
 leaf_many n bytes rest (Err c) e = absurd cc
 

@@ -3,7 +3,7 @@ use Rattle.std.specs.Prelude.{ℕ, ◌+◌, List, length, sum_by}
 use Rattle.wkb_geom.specs.declared.common.Dimension.{Dimension}
 use Rattle.wkb_geom.specs.declared.common.Endianness.{Endianness}
 use Rattle.wkb_geom.specs.declared.error.Cause.{Cause}
-use Rattle.wkb_geom.specs.Spellings.{Part}
+use Rattle.wkb_geom.specs.Spellings.{Wanted}
 use Rattle.wkb_geom.specs.Values.{Value, Values, point, line_string, polygon, multi_point, multi_line_string}
 use Rattle.wkb_geom.specs.Values.{multi_polygon, collection, no_members, member}
 use Rattle.wkb_geom.specs.Refusals.{RefusesRings, later_ring, Refuses, bad_ring, bad_member, RefusesEach, this_member}
@@ -33,12 +33,12 @@ left_in_rings {input = input} _ = length input
 -- How many bytes the input has from the refused part on: from the refused ring or member on, where it is refused for
 -- one, else all.
 abbrev mutual
-  pub left_in : {room : ℕ} {w : Part} {input : List ℕ} {cause : Cause} {begun slots : ℕ} → Refuses room w input cause begun slots → ℕ
+  pub left_in : {room : ℕ} {w : Wanted} {input : List ℕ} {cause : Cause} {begun slots : ℕ} → Refuses room w input cause begun slots → ℕ
   left_in (bad_ring counts refused) = left_in_rings refused
   left_in (bad_member counts low fits refused) = left_in_each refused
   left_in {input = input} _ = length input
 
-  pub left_in_each : {room : ℕ} {w : Part} {n : ℕ} {input : List ℕ} {cause : Cause} {begun slots : ℕ}
+  pub left_in_each : {room : ℕ} {w : Wanted} {n : ℕ} {input : List ℕ} {cause : Cause} {begun slots : ℕ}
       → RefusesEach room w n input cause begun slots → ℕ
   left_in_each (this_member refused) = left_in refused
   left_in_each (later_member front wanted refused) = left_in_each refused

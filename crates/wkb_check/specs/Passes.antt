@@ -1,7 +1,7 @@
 -- What the check's functions answer, in the words of a skim.
 use Rattle.std.specs.Prelude.{◌≡◌, ℕ, ◌+◌, ◌<◌, ◌^◌, List, length, take, reverse, Bool, true, false, Result, Ok, Err}
 use Rattle.wkb_geom.specs.declared.error.Cause.{Cause}
-use Rattle.wkb_geom.specs.Reading.{Part}
+use Rattle.wkb_geom.specs.Reading.{Outcome}
 use Rattle.wkb_check.specs.declared.place.Place.{Place}
 use Rattle.wkb_check.specs.Skims.{Tally, Skim, after, onward, inside, outward}
 
@@ -15,12 +15,12 @@ pub record Fits (p : Place) (s : Skim) : Type 0 where
   pub coordinates : p.coordinates + s.0.1 < 2 ^ 64
 
 -- the bytes behind a part that is read, or its fault
-abbrev pub left_of : {A : Type 0} → Part A → Result (List ℕ) Cause
+abbrev pub left_of : {A : Type 0} → Outcome A → Result (List ℕ) Cause
 left_of (Ok x) = Ok x.1
 left_of (Err c) = Err c
 
 -- the answer is what is left of a part that is read
-abbrev pub Leaves : {A X : Type 0} → (X → List ℕ) → Result X Cause → Part A → Type 0
+abbrev pub Leaves : {A X : Type 0} → (X → List ℕ) → Result X Cause → Outcome A → Type 0
 Leaves view (Ok x) p = left_of p ≡ Ok (view x)
 Leaves view (Err c) p = left_of p ≡ Err c
 

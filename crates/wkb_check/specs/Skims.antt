@@ -14,7 +14,7 @@ use Rattle.wkb_geom.specs.declared.header.Layout.{Layout}
 use Rattle.wkb_geom.specs.Fronts.{max_nesting}
 use Rattle.wkb_geom.specs.Numbers.{number}
 use Rattle.wkb_geom.specs.Refusals.{multi_point_end}
-use Rattle.wkb_geom.specs.Reading.{Part, body_start, parts_start, layout_of, head_at, member_layout}
+use Rattle.wkb_geom.specs.Reading.{Outcome, body_start, parts_start, layout_of, head_at, member_layout}
 unfoldable use Rattle.wkb_geom.specs.Reading.{point_at, line_string_at, ring_at}
 
 -- parts that are begun, and coordinates that are passed
@@ -43,7 +43,7 @@ abbrev pub stop : List ℕ → Cause → Skim
 stop bytes c = ((0, 0), Err (c, length bytes))
 
 -- a part of so many coordinates, as it is read
-abbrev pub leaf : {A : Type 0} → ℕ → List ℕ → Part A → Skim
+abbrev pub leaf : {A : Type 0} → ℕ → List ℕ → Outcome A → Skim
 leaf n bytes (Ok x) = ((0, n), Ok x.1)
 leaf n bytes (Err c) = stop bytes c
 

@@ -8,8 +8,8 @@ use Rattle.std.proofs.lemmas.List.{append-nil, map-append}
 use Rattle.wkb_clients.specs.Common.{LittleEndian, Iso, AreBytes, Value, Front}
 use Rattle.std.specs.Bool.{Decides}
 use Rattle.std.proofs.lemmas.Slice.Eq.{bytes_eq-Decides}
-use Rattle.wkb.specs.Texts.{IsRewriting}
-use Rattle.wkb.specs.Laws.{EqualTexts, FrontIsRead, RewritingIsRead}
+use Rattle.wkb.specs.Encodings.{IsRewriting}
+use Rattle.wkb.specs.Laws.{EqualEncodings, FrontIsRead, RewritingIsRead}
 use Rattle.wkb_clients.specs.Keys.{key_of, IsKey, HasOneKey, Inserts, value_in, value_read}
 
 pub is_key : (input key : List ℕ) → IsRewriting LittleEndian Iso input key → IsKey input key
@@ -20,7 +20,7 @@ pub IfOk-map : {T E : Type 0} (r : Result T E) (P Q : T → Type 0) → ((x : T)
 IfOk-map (Ok x) P Q f h = f x h
 IfOk-map (Err e) P Q f h = tt
 
-pub one_key_lem : EqualTexts → HasOneKey
+pub one_key_lem : EqualEncodings → HasOneKey
 unfolding key_of
 one_key_lem law a b x y bytes bytes' k l =
     let same = law LittleEndian Iso a b k.spelled l.spelled k.value l.value k.rest l.rest tt bytes bytes' k.front l.front in

@@ -3,7 +3,7 @@ use Rattle.std.proofs.Common.{◌≡◌, ℕ, ◌+◌, ◌*◌, ◌≤◌, List,
 use Rattle.std.proofs.Common.{drop-drop, length-append, arith}
 use Rattle.wkb_clients.specs.Common.{width, dimensions, AreBytes, number, Coordinate, Value, polygon, multi_polygon}
 use Rattle.wkb_clients.specs.Common.{each, members, SpellsCoordinates, Listed, Item}
-use Rattle.wkb_clients.specs.Common.{whole_of, IsSpelled, spelling_at, order_of, LinearRing, ring_seen, ring_text}
+use Rattle.wkb_clients.specs.Common.{whole_of, IsSpelled, spelling_at, order_of, LinearRing, ring_seen, ring_encoding}
 use Rattle.wkb_clients.specs.Common.{ring_order, ring_dimension, IsMember}
 use Rattle.wkb_clients.specs.Common.{SpelledInFull, MembersInPlace, RingsInPlace, WordsStand, IsWordOf, StandsAt}
 use Rattle.wkb_clients.specs.Common.{member_start, ring_start}
@@ -12,9 +12,9 @@ use Rattle.wkb_clients.specs.Members.{LendsMember, LendsRing, IsCornerWord}
 
 -- a member that a view shows
 pub lends_member : SpelledInFull → MembersInPlace → (whole : Item) (k : ℕ) (part : Item) → IsMember k whole.spelled whole.value part.spelled part.value
-    → AreBytes whole.text → AreBytes part.text → IsSpelled whole → IsSpelled part → LendsMember whole k part.text
+    → AreBytes whole.encoding → AreBytes part.encoding → IsSpelled whole → IsSpelled part → LendsMember whole k part.encoding
 lends_member full place whole k part member bytes bytes' spells spells' =
-    place whole k part bytes bytes' (full whole.spelled whole.value whole.text spells) (full part.spelled part.value part.text spells') member
+    place whole k part bytes bytes' (full whole.spelled whole.value whole.encoding spells) (full part.spelled part.value part.encoding spells') member
 
 -- a member of a multi geometry
 pub member_of_list : {A : Type 0} (f : A → Value) (whole : Item) (l : List A) (k : ℕ) (part : Item) (a : A)
@@ -25,30 +25,30 @@ member_of_list f whole l k part a same value spelled of =
 
 -- a polygon's ring: it spells its coordinates in the polygon's order and dimension, at its place
 pub record IsRingAt (p : Listed (List (List Coordinate))) (j : ℕ) (r : LinearRing) : Type 0 where
-  pub spelled : SpellsCoordinates (order_of p.spelled) p.dimension (ring_seen r) (ring_text r)
-  pub stands : StandsAt (ring_start j p.spelled p.dimension p.parts) (ring_text r) p.text
+  pub spelled : SpellsCoordinates (order_of p.spelled) p.dimension (ring_seen r) (ring_encoding r)
+  pub stands : StandsAt (ring_start j p.spelled p.dimension p.parts) (ring_encoding r) p.encoding
   pub at : Some (ring_seen r) ≡ slice_get p.parts j
 
-pub ring_at : SpelledInFull → RingsInPlace → (p : Listed (List (List Coordinate))) (j : ℕ) (r : LinearRing) → AreBytes p.text
-    → IsSpelled (whole_of polygon p) → SpellsCoordinates (ring_order r) (ring_dimension r) (ring_seen r) (ring_text r) → AreBytes (ring_text r)
+pub ring_at : SpelledInFull → RingsInPlace → (p : Listed (List (List Coordinate))) (j : ℕ) (r : LinearRing) → AreBytes p.encoding
+    → IsSpelled (whole_of polygon p) → SpellsCoordinates (ring_order r) (ring_dimension r) (ring_seen r) (ring_encoding r) → AreBytes (ring_encoding r)
     → ring_order r ≡ order_of p.spelled → dimensions (ring_dimension r) ≡ dimensions p.dimension → Some (ring_seen r) ≡ slice_get p.parts j → IsRingAt p j r
 ring_at full place p j r bytes spells coordinates bytes' order dims at =
     let same = one_name (ring_dimension r) p.dimension dims in
-    let here = subst (λ e. SpellsCoordinates e p.dimension (ring_seen r) (ring_text r)) order
-    (subst (λ d. SpellsCoordinates (ring_order r) d (ring_seen r) (ring_text r)) same coordinates) in
-    let whole = full p.spelled (polygon p.dimension p.parts) p.text spells in
+    let here = subst (λ e. SpellsCoordinates e p.dimension (ring_seen r) (ring_encoding r)) order
+    (subst (λ d. SpellsCoordinates (ring_order r) d (ring_seen r) (ring_encoding r)) same coordinates) in
+    let whole = full p.spelled (polygon p.dimension p.parts) p.encoding spells in
     record {
       spelled = here;
-      stands = place (whole_of polygon p) p.dimension p.parts j (ring_seen r) (ring_text r) bytes bytes' whole here refl (sym at);
+      stands = place (whole_of polygon p) p.dimension p.parts j (ring_seen r) (ring_encoding r) bytes bytes' whole here refl (sym at);
       at = at;
     }
 
-pub lends_ring : (p : Listed (List (List Coordinate))) (j : ℕ) (r : LinearRing) (bytes : List ℕ) → IsRingAt p j r → bytes ≡ drop 4 (ring_text r)
+pub lends_ring : (p : Listed (List (List Coordinate))) (j : ℕ) (r : LinearRing) (bytes : List ℕ) → IsRingAt p j r → bytes ≡ drop 4 (ring_encoding r)
     → LendsRing p j bytes
 lends_ring p j r bytes h is =
     let c = h.spelled in
-    let long : 4 ≤ length (ring_text r) = omega (arith, c.first.len, ap length c.whole, length-append c.front c.rest) in
-    subst (LendsRing p j) (sym is) (stands_within (rest_stands 4 (ring_text r) long) h.stands)
+    let long : 4 ≤ length (ring_encoding r) = omega (arith, c.first.len, ap length c.whole, length-append c.front c.rest) in
+    subst (LendsRing p j) (sym is) (stands_within (rest_stands 4 (ring_encoding r) long) h.stands)
 
 -- a polygon of a multi polygon is its member
 pub polygon_member : (m : Listed (List (List (List Coordinate)))) (k : ℕ) (p : Listed (List (List Coordinate))) → dimensions p.dimension ≡ dimensions m.dimension
@@ -60,12 +60,12 @@ polygon_member m k p same spelled of =
 
 -- a word of the exterior of a polygon that is a member
 pub corner_word : WordsStand → (whole : Item) (k i n w : ℕ) (p : Listed (List (List Coordinate))) (r : LinearRing)
-    → IsMember k whole.spelled whole.value p.spelled (polygon p.dimension p.parts) → LendsMember whole k p.text → IsRingAt p 0 r
+    → IsMember k whole.spelled whole.value p.spelled (polygon p.dimension p.parts) → LendsMember whole k p.encoding → IsRingAt p 0 r
     → IsWordOf (ring_seen r) i n w → IsCornerWord whole k i n w
 corner_word words whole k i n w p r member lends ring word =
     let start = member_start k whole.spelled whole.value + ring_start 0 p.spelled p.dimension p.parts in
     let here = 4 + 8 * (width p.dimension * i + n) in
-    let rest = drop (length (ring_text r)) (drop start whole.text) in
+    let rest = drop (length (ring_encoding r)) (drop start whole.encoding) in
     record {
       part = whole_of polygon p;
       dimension = p.dimension;
@@ -77,6 +77,6 @@ corner_word words whole k i n w p r member lends ring word =
       word = word;
       place = start + here;
       place_is = omega arith;
-      stands = ap (number (order_of p.spelled) 8) (sym (drop-drop here start whole.text) ∙ ap (drop here) (begins_there (stands_within ring.stands lends)))
-          ∙ words (order_of p.spelled) p.dimension (ring_seen r) (ring_text r) rest i n w ring.spelled word;
+      stands = ap (number (order_of p.spelled) 8) (sym (drop-drop here start whole.encoding) ∙ ap (drop here) (begins_there (stands_within ring.stands lends)))
+          ∙ words (order_of p.spelled) p.dimension (ring_seen r) (ring_encoding r) rest i n w ring.spelled word;
     }

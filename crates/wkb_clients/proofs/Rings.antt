@@ -106,11 +106,11 @@ ring_or_none w ms k j m p None c is view found =
 
 -- ---- words
 
--- what stands behind a part of a text
-behind_part : (text rest head before part after : List ℕ) (start : ℕ) → text ≡ head ++ (before ++ (part ++ after)) → start ≡ length head + length before
-    → drop start (text ++ rest) ≡ part ++ (after ++ rest)
-behind_part text rest head before part after start is at =
-    let all : text ++ rest ≡ (head ++ before) ++ (part ++ (after ++ rest)) =
+-- what stands behind a part of an encoding
+behind_part : (encoding rest head before part after : List ℕ) (start : ℕ) → encoding ≡ head ++ (before ++ (part ++ after)) → start ≡ length head + length before
+    → drop start (encoding ++ rest) ≡ part ++ (after ++ rest)
+behind_part encoding rest head before part after start is at =
+    let all : encoding ++ rest ≡ (head ++ before) ++ (part ++ (after ++ rest)) =
     ap (λ t. t ++ rest) is ∙ append_assoc head (before ++ (part ++ after)) rest ∙ ap (λ t. head ++ t) (append_assoc before (part ++ after) rest)
     ∙ ap (λ t. head ++ (before ++ t)) (append_assoc part after rest) ∙ sym (append_assoc head before (part ++ (after ++ rest))) in
     ap (drop start) all ∙ ap (λ n. drop n ((head ++ before) ++ (part ++ (after ++ rest)))) (at ∙ sym (length-append head before))
@@ -120,15 +120,15 @@ ring_word_at : MembersStand → RingsStand → WordsStand → (blob : List ℕ) 
     → Stands blob offset w → IsRingOf w k j ring → IsWordOf ring i n x → IsRingWordAt blob offset k j i n x
 ring_word_at members rings words blob offset k j i n x w ring there of word =
     let f = there.front in
-    let spells = subst (λ t. Spells w.spelled w.value t) f.text_is f.front.spelled in
+    let spells = subst (λ t. Spells w.spelled w.value t) f.encoding_is f.front.spelled in
     let m = members w k of.spelled (polygon of.of_polygon of.rings) spells of.is_member in
-    let part : Item = record { text = m.0; spelled = of.spelled; value = polygon of.of_polygon of.rings } in
+    let part : Item = record { encoding = m.0; spelled = of.spelled; value = polygon of.of_polygon of.rings } in
     let p = m.1 in
     let r = rings part of.of_polygon of.rings j ring p.spells refl of.is in
     let here = 4 + 8 * (width r.dimension * i + n) in
-    let whole : drop offset blob ≡ w.text ++ f.rest = f.front.whole ∙ ap (λ t. t ++ f.rest) f.text_is in
+    let whole : drop offset blob ≡ w.encoding ++ f.rest = f.front.whole ∙ ap (λ t. t ++ f.rest) f.encoding_is in
     let in_whole : drop p.start (drop offset blob) ≡ m.0 ++ (p.after ++ f.rest) =
-    ap (drop p.start) whole ∙ behind_part w.text f.rest p.head p.before m.0 p.after p.start p.parts p.start_is in
+    ap (drop p.start) whole ∙ behind_part w.encoding f.rest p.head p.before m.0 p.after p.start p.parts p.start_is in
     let in_part : drop r.start (drop p.start (drop offset blob)) ≡ r.bytes ++ (r.after ++ (p.after ++ f.rest)) =
     ap (drop r.start) in_whole ∙ behind_part m.0 (p.after ++ f.rest) r.head r.before r.bytes r.after r.start r.parts r.start_is in
     let at : drop (offset + p.start + r.start + here) blob ≡ drop here (drop r.start (drop p.start (drop offset blob))) =

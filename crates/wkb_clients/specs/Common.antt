@@ -10,9 +10,9 @@ pub use Rattle.wkb.specs.Reads.{Item, geometry_at, spellings, values, point_of, 
 pub use Rattle.wkb.specs.Reads.{HasNoFront, IsFront, IsOnlyFront, IfRefused}
 pub use Rattle.wkb.specs.Reads.{members_spelled, list_of_spellings, IsSpelled, points_of, point_value, line_string_seen}
 pub use Rattle.wkb.specs.Reads.{point_seen, multi_point_seen}
-pub use Rattle.wkb.specs.Reads.{order_of, spelling_at, IsCollectionOf, LinearRing, words_seen, ring_seen, ring_text}
+pub use Rattle.wkb.specs.Reads.{order_of, spelling_at, IsCollectionOf, LinearRing, words_seen, ring_seen, ring_encoding}
 pub use Rattle.wkb.specs.Reads.{ring_order, ring_dimension}
-pub use Rattle.wkb.specs.Laws.{IsWordOf, IsMember, HoldsMember, behind_count, IsOneOf, MembersStand, HasOneText}
+pub use Rattle.wkb.specs.Laws.{IsWordOf, IsMember, HoldsMember, behind_count, IsOneOf, MembersStand, HasOneEncoding}
 pub use Rattle.wkb.specs.Laws.{HoldsRing, RingsStand, WordsStand}
 pub use Rattle.wkb.specs.Laws.{LineStringWordsStand, SpelledInFull, StandsAt, MembersInPlace, RingsInPlace}
 pub use Rattle.wkb.specs.Laws.{member_start, ring_start}

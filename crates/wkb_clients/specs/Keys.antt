@@ -5,11 +5,11 @@ use Rattle.wkb_clients.specs.Common.{LittleEndian, Xy, Iso, AreBytes, Value}
 use Rattle.wkb_clients.specs.Common.{point, Spelling, header, Front, max_nesting, Item, geometry_at}
 use Rattle.wkb.specs.Geometries.{geometry_of}
 use Rattle.wkb.specs.Words.{Endianness, Cause}
-use Rattle.wkb.specs.Texts.{text, IsRewritingWithSrid}
+use Rattle.wkb.specs.Encodings.{encoding, IsRewritingWithSrid}
 
 -- the bytes that are written of a value, under one order and one form
 unfoldable pub key_of : Value → List ℕ
-key_of t = text LittleEndian Iso (geometry_of t)
+key_of t = encoding LittleEndian Iso (geometry_of t)
 
 -- the key of the geometry that the input begins with
 pub record IsKey (input key : List ℕ) : Type 0 where

@@ -6,11 +6,11 @@ use Rattle.wkb_clients.specs.Common.{ring_start}
 
 -- the bytes are the geometry's at the place of its member of this number
 abbrev pub LendsMember : Item → ℕ → List ℕ → Type 0
-LendsMember whole k bytes = StandsAt (member_start k whole.spelled whole.value) bytes whole.text
+LendsMember whole k bytes = StandsAt (member_start k whole.spelled whole.value) bytes whole.encoding
 
 -- the bytes are the polygon's at the place of the coordinates of its ring of this number, behind the ring's count
 abbrev pub LendsRing : Listed (List (List Coordinate)) → ℕ → List ℕ → Type 0
-LendsRing p j bytes = StandsAt (ring_start j p.spelled p.dimension p.parts + 4) bytes p.text
+LendsRing p j bytes = StandsAt (ring_start j p.spelled p.dimension p.parts + 4) bytes p.encoding
 
 -- the input begins with a geometry, and the bytes are the input's at the place of its member of this number
 pub record IsMemberOf (input : List ℕ) (k : ℕ) (bytes : List ℕ) : Type 0 where
@@ -31,4 +31,4 @@ pub record IsCornerWord (whole : Item) (k i n w : ℕ) : Type 0 where
   pub word : IsWordOf ring i n w
   pub place : ℕ
   pub place_is : place ≡ member_start k whole.spelled whole.value + ring_start 0 part.spelled dimension rings + 4 + 8 * (width dimension * i + n)
-  pub stands : number (header part.spelled).order 8 (drop place whole.text) ≡ w
+  pub stands : number (header part.spelled).order 8 (drop place whole.encoding) ≡ w

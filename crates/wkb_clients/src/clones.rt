@@ -7,7 +7,7 @@ ghost use Rattle.wkb.specs.Spellings.{Spells};
 ghost use Rattle.wkb.specs.Reads.{line_string_seen};
 
 use wkb::geom::{GeometryCollectionTrait, MultiLineStringTrait, MultiPolygonTrait};
-use wkb::laws::{are_bytes, one_text, spelled_in_full};
+use wkb::laws::{are_bytes, one_encoding, spelled_in_full};
 use wkb::reader::{GeometryCollection, LineString, MultiLineString, MultiPolygon, Polygon, Wkb};
 
 /// The geometry of one index in two equal collections: the same bytes, spelled alike, of one value.
@@ -25,8 +25,8 @@ pub fn geometries<'m, 'a>(
 
 // The bytes of a polygon spell it.
 fn polygon_spelled(polygon: &Polygon)
-    ensures bytes { AreBytes polygon.now.text }
-    ensures spells { Spells polygon.now.spelled (of_rings polygon.now.dimension polygon.now.parts) polygon.now.text }
+    ensures bytes { AreBytes polygon.now.encoding }
+    ensures spells { Spells polygon.now.spelled (of_rings polygon.now.dimension polygon.now.parts) polygon.now.encoding }
 {
     spelled_in_full();
     are_bytes(polygon.buf());
@@ -34,9 +34,9 @@ fn polygon_spelled(polygon: &Polygon)
 
 // The bytes of a line string spell it.
 fn line_string_spelled(line_string: &LineString)
-    ensures bytes { AreBytes (line_string_seen line_string.now).text }
+    ensures bytes { AreBytes (line_string_seen line_string.now).encoding }
     ensures spells { Spells (line_string_seen line_string.now).spelled (line_string_seen line_string.now).value
-        (line_string_seen line_string.now).text }
+        (line_string_seen line_string.now).encoding }
 {
     spelled_in_full();
     are_bytes(line_string.buf());
@@ -51,7 +51,7 @@ pub fn polygons<'m, 'a>(
     requires { clone.now ≡ source.now }
     ensures { option_map (λ p. p.now) result.1 ≡ option_map (λ p. p.now) result.0 }
 {
-    one_text();
+    one_encoding();
     match (source.polygon(i), clone.polygon(i)) {
         (Some(one), Some(other)) => {
             polygon_spelled(one);
@@ -71,7 +71,7 @@ pub fn line_strings<'a>(
     requires { clone.now ≡ source.now }
     ensures { option_map line_string_seen result.1 ≡ option_map line_string_seen result.0 }
 {
-    one_text();
+    one_encoding();
     match (source.line_string(i), clone.line_string(i)) {
         (Some(one), Some(other)) => {
             line_string_spelled(&one);

@@ -3,7 +3,7 @@
 ghost use Rattle.std.specs.Prelude.{◌≡◌, ◌⊎◌, [], IfOk, IfErr, MatchResult};
 ghost use Rattle.wkb.specs.Words.{IsMemory};
 ghost use Rattle.wkb.specs.Reads.{IsRefusal};
-ghost use Rattle.wkb.specs.Texts.{IsRewritingWithSrid};
+ghost use Rattle.wkb.specs.Encodings.{IsRewritingWithSrid};
 ghost use Rattle.wkb_clients.specs.Keys.{IsKey, HasOneKey, HasOneEwkbKey, Inserts};
 
 use std::alloc::{AllocError, Global};
@@ -12,7 +12,7 @@ use wkb::Endianness;
 use wkb::canon::{canonical, canonical_with_srid};
 use wkb::error::{WkbError, WkbResult};
 use wkb::laws::{
-    are_bytes, equal_texts, equal_texts_with_own_srid, geometry_agrees, rewriting_is_read,
+    are_bytes, equal_encodings, equal_encodings_with_own_srid, geometry_agrees, rewriting_is_read,
 };
 use wkb::writer::{Form, WriteOptions};
 
@@ -35,7 +35,7 @@ pub fn key(alloc: Global, bytes: &[u8]) -> WkbResult<Vec<u8>>
 pub fn one_key()
     ensures { HasOneKey }
 {
-    equal_texts();
+    equal_encodings();
 }
 
 /// The key of the geometry at the front of the bytes with its SRID.
@@ -52,7 +52,7 @@ pub fn ewkb_key(alloc: Global, bytes: &[u8], order: Endianness) -> WkbResult<Vec
 pub fn one_ewkb_key()
     ensures { HasOneEwkbKey }
 {
-    equal_texts_with_own_srid();
+    equal_encodings_with_own_srid();
 }
 
 /// Values of geometries in the order in which they came, each once. It holds their keys, and looks at each of them.

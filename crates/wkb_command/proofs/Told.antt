@@ -14,7 +14,7 @@ use Rattle.wkb_geom.specs.declared.error.Cause.{Cause}
 use Rattle.wkb_geom.specs.declared.error.Cause.TheVariants.{EndOfInput as end_of_input, General as general}
 use Rattle.wkb_geom.specs.declared.error.Cause.TheVariants.{IncorrectType as incorrect_type}
 use Rattle.wkb_geom.specs.declared.error.Cause.TheVariants.{NestingDepthExceeded as nesting_depth_exceeded}
-use Rattle.wkb_geom.specs.Texts.{IsRewriting, IsRewritingWithSrid}
+use Rattle.wkb_geom.specs.Encodings.{IsRewriting, IsRewritingWithSrid}
 use Rattle.wkb_geom.specs.Told.{Tells}
 use Rattle.wkb.specs.Canonical.{IsTooLong, HasSrid, Accepts, IsRefused}
 use Rattle.wkb_geom.specs.declared.error.WkbError.{WkbError}

@@ -9,7 +9,7 @@ use Rattle.wkb_geom.specs.declared.common.Endianness.TheVariants.{BigEndian, Lit
 use Rattle.wkb_geom.specs.declared.common.Form.TheVariants.{Iso}
 use Rattle.wkb_geom.specs.declared.error.Cause.{Cause}
 use Rattle.wkb_geom.specs.declared.error.Cause.TheVariants.{EndOfInput as end_of_input}
-use Rattle.wkb_geom.specs.Texts.{IsRewriting, IsRewritingWithSrid}
+use Rattle.wkb_geom.specs.Encodings.{IsRewriting, IsRewritingWithSrid}
 use Rattle.wkb.specs.Canonical.{IsRefused, Accepts, HaveOneValue, HaveTwoValues, HasSrid}
 use Rattle.wkb_command.specs.Calls.{AreHexOf, FirstRefusal}
 use Rattle.wkb_geom.specs.declared.error.WkbError.{WkbError}

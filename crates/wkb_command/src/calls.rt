@@ -4,7 +4,7 @@
 
 ghost use Rattle.std.specs.Prelude.{◌≡◌, ◌∷◌, [], ℕ, List, ◌⊎◌, IfOk, IfErr, MatchBool};
 ghost use Rattle.wkb_geom.specs.declared.error.Cause.{Cause};
-ghost use Rattle.wkb_geom.specs.Texts.{IsRewriting, IsRewritingWithSrid};
+ghost use Rattle.wkb_geom.specs.Encodings.{IsRewriting, IsRewritingWithSrid};
 ghost use Rattle.wkb.specs.Canonical.{IsTooLong, HaveOneValue, HaveTwoValues};
 ghost use Rattle.wkb.specs.Canonical.{HasSrid, Accepts, IsRefused};
 ghost use Rattle.wkb_command.specs.Calls.{IsHex, IsHexOf, IsFaultOf, RefusedFirst, IsOversized};

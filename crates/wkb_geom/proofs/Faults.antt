@@ -1,7 +1,7 @@
 -- Faults, one after another.
 use Rattle.std.proofs.Common.{◌≡◌, ℕ, ◌<◌, ◌^◌, Option, Some, None, refl, arith}
 use Rattle.std.proofs.lemmas.Bool.Decides.{nat_tests}
-use Rattle.wkb_geom.specs.Texts.{Fault, or_else, count_fault}
+use Rattle.wkb_geom.specs.Encodings.{Fault, or_else, count_fault}
 
 -- where neither of two faults is there, the first isn't
 pub none_first : (a b : Option Fault) → or_else a b ≡ None → a ≡ None

@@ -17,10 +17,10 @@ use Rattle.wkb_geom.specs.Geometries.{Geometry, Geometries, point, line_string, 
 use Rattle.wkb_geom.specs.Geometries.{multi_polygon, collection, line}
 use Rattle.wkb_geom.specs.Geometries.{rectangle, triangle, no_geometries, geometry, normal}
 use Rattle.wkb_geom.specs.Sizes.{byte_size}
-use Rattle.wkb_geom.specs.Texts.{text, fault, refusal, unsupported_dimensions, count_overflow, code_of, srid_text}
-use Rattle.wkb_geom.specs.Texts.{header_text, words_text, coordinates_text}
-use Rattle.wkb_geom.specs.Texts.{point_words, point_text, line_string_text, polygon_text, members_text, or_else}
-use Rattle.wkb_geom.specs.Texts.{dimensions_fault, count_fault}
+use Rattle.wkb_geom.specs.Encodings.{encoding, fault, refusal, unsupported_dimensions, count_overflow, code_of, srid_encoding}
+use Rattle.wkb_geom.specs.Encodings.{header_encoding, words_encoding, coordinates_encoding}
+use Rattle.wkb_geom.specs.Encodings.{point_words, point_encoding, line_string_encoding, polygon_encoding, members_encoding, or_else}
+use Rattle.wkb_geom.specs.Encodings.{dimensions_fault, count_fault}
 use Rattle.wkb_geom.specs.Reading.{Meaning, meaning_of}
 use Rattle.wkb_geom.proofs.Hex.{hex, copies}
 
@@ -80,16 +80,16 @@ zero_word = hex "0000000000000000"
 abbrev corners : List ℕ
 corners = copies 3 zero_word ++ hex "0000000000000040" ++ P ++ hex "000000000000f03f" ++ copies 3 zero_word
 
--- under these options each geometry has this text
-texts : Endianness → Form → List (Geometry × List ℕ) → List (List ℕ)
-unfolding number_bytes code_of srid_text header_text words_text coordinates_text point_words point_text line_string_text polygon_text members_text
-texts order form rows = map (λ row. text order form row.0) rows
+-- under these options each geometry has this encoding
+encodings : Endianness → Form → List (Geometry × List ℕ) → List (List ℕ)
+unfolding number_bytes code_of srid_encoding header_encoding words_encoding coordinates_encoding point_words point_encoding line_string_encoding polygon_encoding members_encoding
+encodings order form rows = map (λ row. encoding order form row.0) rows
 
-abbrev Texts : Endianness → Form → List (Geometry × List ℕ) → Type 0
-Texts order form rows = texts order form rows ≡ map (λ row. row.1) rows
+abbrev Encodings : Endianness → Form → List (Geometry × List ℕ) → Type 0
+Encodings order form rows = encodings order form rows ≡ map (λ row. row.1) rows
 
 -- Each kind under ISO, the lowest byte first. A point keeps its words, an empty one has the empty word in each place, and a rectangle is a polygon of x and y.
-iso_texts : Texts LittleEndian Iso (
+iso_encodings : Encodings LittleEndian Iso (
     (point asked.Xy (Some one_two), hex "01 01000000" ++ P)
     ∷ (point asked.Xy None, hex "01 01000000 000000000000f87f 000000000000f87f")
     ∷ (point asked.Xy (Some nans), hex "01 01000000 010000000000f8ff 010000000000f8ff")
@@ -106,38 +106,38 @@ iso_texts : Texts LittleEndian Iso (
     ∷ (triangle asked.Xy one_two one_two one_two, hex "01 03000000 01000000 04000000" ++ copies 4 P)
     ∷ (rectangle asked.Xyzm (0 ∷ 0 ∷ 7 ∷ 7 ∷ []) (one_two ++ (7 ∷ 7 ∷ [])), hex "01 03000000 01000000 05000000" ++ corners)
     ∷ [])
-unfolding texts
-iso_texts = refl
+unfolding encodings
+iso_encodings = refl
 
 -- The highest byte first.
-big_texts : Texts BigEndian Iso (
+big_encodings : Encodings BigEndian Iso (
     (point asked.Xy (Some one_two), hex "00 00000001 3ff0000000000000 4000000000000000")
     ∷ [])
-unfolding texts
-big_texts = refl
+unfolding encodings
+big_encodings = refl
 
 -- Under EWKB without an SRID.
-ewkb_texts : Texts LittleEndian (Ewkb None) (
+ewkb_encodings : Encodings LittleEndian (Ewkb None) (
     (point asked.Xyz None, hex "01 01000080 000000000000f87f 000000000000f87f 000000000000f87f")
     ∷ (two_dimensions, hex "01 07000000 02000000 01 01000080" ++ P ++ hex "0000000000000840 01 03000000 00000000")
     ∷ [])
-unfolding texts
-ewkb_texts = refl
+unfolding encodings
+ewkb_encodings = refl
 
 -- With an SRID, which stands on the outermost geometry alone.
-srid_texts : Texts LittleEndian (Ewkb (Some 4326)) (
+srid_encodings : Encodings LittleEndian (Ewkb (Some 4326)) (
     (two_dimensions, hex "01 07000020 e6100000 02000000 01 01000080" ++ P ++ hex "0000000000000840 01 03000000 00000000")
     ∷ (point asked.Xyz (Some one_two_three), hex "01 010000a0 e6100000" ++ P ++ hex "0000000000000840")
     ∷ [])
-unfolding texts
-srid_texts = refl
+unfolding encodings
+srid_encodings = refl
 
 -- The same, the highest byte first.
-big_srid_texts : Texts BigEndian (Ewkb (Some 4326)) (
+big_srid_encodings : Encodings BigEndian (Ewkb (Some 4326)) (
     (point asked.Xyz (Some one_two_three), hex "00 a0000001 000010e6 3ff0000000000000 4000000000000000 4008000000000000")
     ∷ [])
-unfolding texts
-big_srid_texts = refl
+unfolding encodings
+big_srid_encodings = refl
 
 -- so many collections of one member each, one in another
 nested : ℕ → Geometry → Geometry
@@ -147,7 +147,7 @@ nested (suc n) g = collection asked.Xy (together (nested n g ∷ []))
 abbrev corner : Coordinate
 corner = replicate 4 0
 
--- How long these texts are: deeper than can be read too, and four bytes more with an SRID.
+-- How long these encodings are: deeper than can be read too, and four bytes more with an SRID.
 sizes : map byte_size (
     rectangle asked.Xy (0 ∷ 0 ∷ []) one_two
     ∷ rectangle asked.Xyzm corner corner
@@ -160,10 +160,10 @@ unfolding nested
 sizes = refl
 
 lengths : map length (
-    texts LittleEndian (Ewkb (Some 4326)) ((rectangle asked.Xyzm corner corner, []) ∷ [])
-    ++ texts LittleEndian (Ewkb None) ((rectangle asked.Xyzm corner corner, []) ∷ [])
-    ++ texts LittleEndian Iso ((nested 129 (point asked.Xy None), []) ∷ [])) ≡ 97 ∷ 93 ∷ 1182 ∷ []
-unfolding texts nested
+    encodings LittleEndian (Ewkb (Some 4326)) ((rectangle asked.Xyzm corner corner, []) ∷ [])
+    ++ encodings LittleEndian (Ewkb None) ((rectangle asked.Xyzm corner corner, []) ∷ [])
+    ++ encodings LittleEndian Iso ((nested 129 (point asked.Xy None), []) ∷ [])) ≡ 97 ∷ 93 ∷ 1182 ∷ []
+unfolding encodings nested
 lengths = refl
 
 -- The value that a geometry stands for.

@@ -7,7 +7,7 @@ pub mod Spellings
 pub mod Fronts
 pub mod Refusals
 pub mod Geometries
-pub mod Texts
+pub mod Encodings
 pub mod Told
 pub mod Errors
 pub mod Reading

@@ -5,7 +5,7 @@ ghost use Rattle.wkb_geom.specs.Dimensions.{size, width, has_z, has_m, dimension
 ghost use Rattle.wkb_geom.specs.Meanings.{HasOrder, IsNamed};
 ghost use Rattle.wkb_geom.specs.Numbers.{order_byte};
 ghost use Rattle.wkb_geom.specs.Reading.{order_of};
-ghost use Rattle.wkb_geom.specs.Texts.{form_srid, inner};
+ghost use Rattle.wkb_geom.specs.Encodings.{form_srid, inner};
 
 use crate::error::{General, WkbError};
 

@@ -63,7 +63,7 @@ pub enum Fault {
     UnsupportedDimensions(usize),
     /// A count past 4294967295.
     Count,
-    /// The length of the whole text does not fit `usize`.
+    /// The length of the whole encoding does not fit `usize`.
     Size,
 }
 
@@ -73,7 +73,7 @@ pub enum Overflow {
     /// A count past 4294967295.
     #[error("count does not fit 32 bits")]
     Count,
-    /// The length of the whole text, in bytes.
+    /// The length of the whole encoding, in bytes.
     #[error("size does not fit usize")]
     Size,
 }

@@ -13,7 +13,7 @@ ghost use Rattle.wkb_geom.specs.Geometries.{multi_polygon, collection, rectangle
 ghost use Rattle.wkb_geom.specs.Geometries.{IsCoordinate, IsPoint, AreCoordinates, IsGeometry, AreGeometries};
 ghost use Rattle.wkb_geom.specs.Parts.{part_geometry};
 ghost use Rattle.wkb_geom.specs.Sizes.{dimensions_of};
-ghost use Rattle.wkb_geom.specs.Texts.{words_text, text, fault};
+ghost use Rattle.wkb_geom.specs.Encodings.{words_encoding, encoding, fault};
 
 use crate::{Dimensions, Endianness, Form};
 
@@ -103,7 +103,7 @@ pub trait LineStringTrait: Dimensioned {
     /// coordinate is asked for.
     #[inline]
     fn standing(&self, _order: Endianness) -> Option<&[u8]>
-        ensures { IfSome result (λ bytes. bytes.now ≡ flat_map (words_text _order) (coordinates self.now)) }
+        ensures { IfSome result (λ bytes. bytes.now ≡ flat_map (words_encoding _order) (coordinates self.now)) }
     {
         None
     }
@@ -361,7 +361,7 @@ pub trait GeometryTrait: Dimensioned + Sized {
     /// written by its parts.
     #[inline]
     fn whole(&self, _order: Endianness, _form: Form) -> Option<&[u8]>
-        ensures encoding { IfSome result (λ bytes. bytes.now ≡ text _order _form (geometry self.now)) }
+        ensures encoding { IfSome result (λ bytes. bytes.now ≡ encoding _order _form (geometry self.now)) }
         ensures writable { IfSome result (λ bytes. fault (geometry self.now) ≡ None) }
     {
         None

@@ -89,7 +89,7 @@ impl Layout {
     ghost use Rattle.wkb_geom.specs.declared.error.Cause.TheVariants.{EndOfInput as end_of_input};
     ghost use Rattle.wkb_geom.specs.Reading.{body_start, member_layout, parts_start, srid_in};
     ghost use Rattle.wkb_geom.specs.Reading.{type_kind, type_dimension};
-    ghost use Rattle.wkb_geom.specs.Texts.{code_of, form_srid};
+    ghost use Rattle.wkb_geom.specs.Encodings.{code_of, form_srid};
 
     /// The layout of the member of this kind and dimension at the front of the bytes, whose order and flag are its own.
     ///
@@ -132,7 +132,7 @@ impl Layout {
 
     /// Whether a geometry of this type, which is laid out so, begins with the header that is written of it in this
     /// order and form. False of one that has an SRID or is to have one.
-    #[tactic(auto, unfolding(crate::specs::Texts::code_of))]
+    #[tactic(auto, unfolding(crate::specs::Encodings::code_of))]
     #[inline]
     pub fn begins_as(self, wkb_type: WkbType, buf: &[u8], order: Endianness, form: Form) -> bool
         requires { 5 ≤ length buf.now }

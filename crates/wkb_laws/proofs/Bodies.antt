@@ -8,7 +8,7 @@ use Rattle.std.proofs.lemmas.Bool.{cond_both, and_parts, and_from, false_from_ne
 use Rattle.std.proofs.lemmas.List.{length-map}
 use Rattle.wkb_laws.specs.Words.{Endianness, Dimension, Layout, end_of_input, general, ShortLinearRing, IsNumber}
 use Rattle.wkb_laws.specs.Words.{number, all_nan, width, IsEach, point}
-use Rattle.wkb_laws.specs.Words.{line_string, polygon, no_spellings, SpellsCoordinate, SpellsCoordinates, Part, IsPart}
+use Rattle.wkb_laws.specs.Words.{line_string, polygon, no_spellings, SpellsCoordinate, SpellsCoordinates, Wanted, IsPart}
 use Rattle.wkb_laws.specs.Words.{point_end, line_string_end, ring_end}
 use Rattle.wkb_laws.specs.Words.{slots_asked, IsAllowed, RefusesRings, no_ring_count, short_ring, later_ring}
 use Rattle.wkb_laws.specs.Words.{short_point, short_line_string, bad_ring, Cost}
@@ -16,7 +16,7 @@ use Rattle.wkb_laws.specs.Words.{free, Reading, body_start, parts_start, coordin
 use Rattle.wkb_laws.specs.Words.{and_then, at_no_cost, costs, done}
 use Rattle.wkb_laws.specs.Words.{line_string_at, line_string_body, one_turn, parts_body, point_at, point_item_of}
 use Rattle.wkb_laws.specs.Words.{polygon_at, polygon_item, repeated, ring_at}
-use Rattle.wkb_laws.specs.Words.{slots_of, taken, Cause, Value, multi_point, multi_line_string, multi_polygon}
+use Rattle.wkb_laws.specs.Words.{slots_of, consumed, Cause, Value, multi_point, multi_line_string, multi_polygon}
 use Rattle.wkb_laws.specs.Words.{collection, Values, no_members, member, kind}
 use Rattle.wkb_laws.specs.Words.{dimension, members, each, count, nest, nest_each, member_count, member_count_each}
 use Rattle.wkb_laws.specs.Words.{listed_count, listed_count_each, Spellings}
@@ -43,7 +43,7 @@ coordinate_is order d y h = record {
   words = items_are (IsNumber order 8) 8 (number order 8) (number-take order 8) (width d) y h;
 }
 
--- a count and that many coordinates are all of a text that ends with them
+-- a count and that many coordinates are all of an encoding that ends with them
 pub coordinates_are : (order : Endianness) (d : Dimension) (c : List ℕ) → length c ≡ 4 + 8 * width d * number order 4 c
     → SpellsCoordinates order d (ring_in order d c) c
 coordinates_are order d c h =
@@ -70,11 +70,11 @@ cut : (n : ℕ) (input : List ℕ) → n ≤ length input → Cut n input
 cut n input h = record { whole = sym (take-append-drop n input); len = length-take-le n input h }
 
 -- so many rings
-pub record RingsAre (order : Endianness) (d : Dimension) (n : ℕ) (input : List ℕ) (texts : List (List ℕ)) (rest : List ℕ) (cost : Cost) : Type 0 where
-  pub many : length texts ≡ n
+pub record RingsAre (order : Endianness) (d : Dimension) (n : ℕ) (input : List ℕ) (encodings : List (List ℕ)) (rest : List ℕ) (cost : Cost) : Type 0 where
+  pub many : length encodings ≡ n
   pub front : List ℕ
   pub whole : input ≡ front ++ rest
-  pub spelled : IsEach (SpellsCoordinates order d) (map (ring_in order d) texts) front
+  pub spelled : IsEach (SpellsCoordinates order d) (map (ring_in order d) encodings) front
   pub turns : cost.turns ≡ n
   pub slots : cost.slots ≡ 0
 
@@ -106,7 +106,7 @@ module _ (l : Layout) where
   rings_say (suc n) input =
       let end = ring_end l.dimension (number l.order 4 input) in
       let short = Err (general (ShortLinearRing end (length input))) in
-      let Q : reading.Part (List ℕ) → Type 0 = λ r. RingsSay (suc n) input (costs one_turn (and_then (free, r)
+      let Q : reading.Outcome (List ℕ) → Type 0 = λ r. RingsSay (suc n) input (costs one_turn (and_then (free, r)
       (λ x rest. and_then (repeated n (ring_part l) rest) (λ xs after. done (x ∷ xs) after)))) in
       cond_both (nat_lt (length input) 4) (Err end_of_input) (if nat_lt (length input) end then short else Ok (take end input, drop end input)) Q
       (λ t. (no_ring_count (ltb-true (length input) 4 t), refl))
@@ -121,17 +121,17 @@ module _ (l : Layout) where
       ∙ ap (ring_end l.dimension) same))
       (rings_say n (drop end input))))
 
--- the text of a geometry whose parts stand in front of the rest
-pub record PartsText (l : Layout) (input front after : List ℕ) : Type 0 where
-  pub whole : input ≡ taken input after ++ after
-  pub body : drop (body_start l.has_srid) (taken input after) ≡ take 4 (drop (body_start l.has_srid) input) ++ front
-  pub long : body_start l.has_srid ≤ length (taken input after)
+-- the encoding of a geometry whose parts stand in front of the rest
+pub record PartsEncoding (l : Layout) (input front after : List ℕ) : Type 0 where
+  pub whole : input ≡ consumed input after ++ after
+  pub body : drop (body_start l.has_srid) (consumed input after) ≡ take 4 (drop (body_start l.has_srid) input) ++ front
+  pub long : body_start l.has_srid ≤ length (consumed input after)
   pub number : IsNumber l.order 4 (count_in l input) (take 4 (drop (body_start l.has_srid) input))
   pub len : length (parts_start l.has_srid input) ≡ length front + length after
 
-pub parts_text : (l : Layout) (input front after : List ℕ) → body_start l.has_srid + 4 ≤ length input → parts_start l.has_srid input ≡ front ++ after
-    → PartsText l input front after
-parts_text l input front after enough e =
+pub parts_encoding : (l : Layout) (input front after : List ℕ) → body_start l.has_srid + 4 ≤ length input → parts_start l.has_srid input ≡ front ++ after
+    → PartsEncoding l input front after
+parts_encoding l input front after enough e =
     let start = body_start l.has_srid in
     let c = drop start input in
     let y = take start input ++ (take 4 c ++ front) in
@@ -140,7 +140,7 @@ parts_text l input front after enough e =
     ∙ ap (λ z. take start input ++ z) (sym (take-append-drop 4 c) ∙ ap (λ z. take 4 c ++ z) e ∙ sym (append_assoc (take 4 c) front after))
     ∙ sym (append_assoc (take start input) (take 4 c ++ front) after) in
     let n : length input - length after ≡ length y = omega (arith, ap length shape, length-append y after) in
-    let same : taken input after ≡ y = ap (λ z. take z input) n ∙ ap (take (length y)) shape ∙ take_front (length y) y after refl in
+    let same : consumed input after ≡ y = ap (λ z. take z input) n ∙ ap (take (length y)) shape ∙ take_front (length y) y after refl in
     let first : length (take start input) ≡ start = length-take-le start input (omega arith) in
     record {
       whole = shape ∙ ap (λ z. z ++ after) (sym same);
@@ -153,7 +153,7 @@ parts_text l input front after enough e =
 pub asked_all : (n remaining : ℕ) → 4 * n ≤ remaining → slots_asked 3 n remaining ≡ n
 asked_all n remaining h = omega arith
 
-module _ (room : ℕ) (w : Part) (input : List ℕ) (l : Layout) where
+module _ (room : ℕ) (w : Wanted) (input : List ℕ) (l : Layout) where
   point_is : (x rest words : List ℕ) (all : Bool) → Opened input 1 l → IsPart w 1 l.dimension l.has_srid → input ≡ x ++ rest → body_start l.has_srid ≤ length x
       → SpellsCoordinate l.order l.dimension words (drop (body_start l.has_srid) x) → all_nan words ≡ all
       → ItemIs room w input (point_item_of l x words all) rest free
@@ -200,16 +200,16 @@ module _ (room : ℕ) (w : Part) (input : List ℕ) (l : Layout) where
   polygon_end : (r : Reading (List (List ℕ))) → Opened input 3 l → IsAllowed room w 3 l.dimension l.has_srid → body_start l.has_srid + 4 ≤ length input
       → RingsSay l (count_in l input) (parts_start l.has_srid input) r
       → IsRight room w input (costs (slots_of (slots_asked 3 (count_in l input) (length (parts_start l.has_srid input))))
-      (and_then r (λ rings after. done (polygon_item l rings (taken input after)) after)))
+      (and_then r (λ rings after. done (polygon_item l rings (consumed input after)) after)))
   polygon_end (cost, Ok x) o allowed enough says =
       let field = take 4 (drop (body_start l.has_srid) input) in
-      let parts = parts_text l input says.front x.1 enough says.whole in
+      let parts = parts_encoding l input says.front x.1 enough says.whole in
       let rings = map (ring_in l.order l.dimension) x.0 in
       let many : length rings ≡ count_in l input = length-map x.0 (ring_in l.order l.dimension) ∙ says.many in
       let counted = subst (λ z. IsNumber l.order 4 z field) (sym many) parts.number in
       let long = each_long (SpellsCoordinates l.order l.dimension) 4 (coordinates_long l.order l.dimension) rings says.front says.spelled in
       let fits : 4 * count_in l input ≤ length (parts_start l.has_srid input) = omega (arith, parts.len) in
-      item_is room w input (taken input x.1) x.1 l [] no_spellings (polygon l.dimension rings)
+      item_is room w input (consumed input x.1) x.1 l [] no_spellings (polygon l.dimension rings)
       (field ++ says.front) [] _ o allowed.wanted parts.whole parts.long
       (parts.body ∙ sym (append-nil _))
       (refl, record { front = field; rest = says.front; whole = refl; first = counted; second = says.spelled })
@@ -225,14 +225,14 @@ module _ (room : ℕ) (w : Part) (input : List ℕ) (l : Layout) where
       (λ enough. polygon_end _ o allowed enough (rings_say l _ (parts_start l.has_srid input)))
 
 -- a member has at least nine bytes
-pub each_nine : (w : Part) (ss : Spellings) (ts : Values) (x : List ℕ) → SpellsEach w ss ts x → 9 * count ts ≤ length x
+pub each_nine : (w : Wanted) (ss : Spellings) (ts : Values) (x : List ℕ) → SpellsEach w ss ts x → 9 * count ts ≤ length x
 each_nine w no_spellings no_members x a = omega arith
 each_nine w (spelling s ss) (member t ts) x a =
     omega (arith, each_nine w ss ts a.rest a.second, value_size-least t, spelled_length s t a.front a.first.0, then_length a)
 each_nine w _ _ x a = absurd a
 
 -- so many members
-pub record ItemsAre (room : ℕ) (w : Part) (n : ℕ) (input : List ℕ) (items : List Item) (rest : List ℕ) (cost : Cost) : Type 0 where
+pub record ItemsAre (room : ℕ) (w : Wanted) (n : ℕ) (input : List ℕ) (items : List Item) (rest : List ℕ) (cost : Cost) : Type 0 where
   pub many : count (values items) ≡ n
   pub front : List ℕ
   pub whole : input ≡ front ++ rest
@@ -241,30 +241,30 @@ pub record ItemsAre (room : ℕ) (w : Part) (n : ℕ) (input : List ℕ) (items 
   pub turns : cost.turns ≡ member_count_each (values items)
   pub slots : cost.slots ≡ listed_inside (values items)
 
-abbrev pub EachSay : ℕ → Part → ℕ → List ℕ → Reading (List Item) → Type 0
+abbrev pub EachSay : ℕ → Wanted → ℕ → List ℕ → Reading (List Item) → Type 0
 EachSay room w n input (cost, Ok x) = ItemsAre room w n input x.0 x.1 cost
 EachSay room w n input (cost, Err cause) = RefusesEach room w n input cause cost.turns cost.slots
 
-pub refused_each : {room : ℕ} {w : Part} {n m : ℕ} {input : List ℕ} {cause : Cause} {a b c d : ℕ} → n ≡ m → a ≡ c → b ≡ d
+pub refused_each : {room : ℕ} {w : Wanted} {n m : ℕ} {input : List ℕ} {cause : Cause} {a b c d : ℕ} → n ≡ m → a ≡ c → b ≡ d
     → RefusesEach room w n input cause a b → RefusesEach room w m input cause c d
 refused_each {room} {w} {input = input} {cause = cause} e f g r = subst (λ T. T) (λ i. RefusesEach room w (e i) input cause (f i) (g i)) r
 
-module _ (room : ℕ) (w : Part) where
+module _ (room : ℕ) (w : Wanted) where
   member_then : (n : ℕ) (input : List ℕ) (i : Item) (rest : List ℕ) (spent : Cost) (r : Reading (List Item)) → ItemIs room w input i rest spent
       → EachSay room w n rest r → EachSay room w (suc n) input (costs one_turn (costs spent (and_then r (λ xs after. done (i ∷ xs) after))))
   member_then n input i rest spent (cost, Ok xs) is h =
       record {
         many = omega arith;
-        front = i.text ++ h.front;
-        whole = is.whole ∙ ap (λ z. i.text ++ z) h.whole ∙ sym (append_assoc i.text h.front xs.1);
-        spelled = record { front = i.text; rest = h.front; whole = refl; first = (is.spelled, is.wanted); second = h.spelled };
+        front = i.encoding ++ h.front;
+        whole = is.whole ∙ ap (λ z. i.encoding ++ z) h.whole ∙ sym (append_assoc i.encoding h.front xs.1);
+        spelled = record { front = i.encoding; rest = h.front; whole = refl; first = (is.spelled, is.wanted); second = h.spelled };
         shallow = omega arith;
         turns = omega arith;
         slots = omega arith;
       }
   member_then n input i rest spent (cost, Err cause) is h =
       refused_each refl (omega arith) (omega arith)
-      (later_member (record { front = i.text; whole = is.whole; spelled = is.spelled; shallow = is.shallow }) is.wanted h)
+      (later_member (record { front = i.encoding; whole = is.whole; spelled = is.spelled; shallow = is.shallow }) is.wanted h)
 
   each_step : (n : ℕ) (input : List ℕ) (r : Reading Item) (more : List ℕ → Reading (List Item)) → IsRight room w input r
       → ((rest : List ℕ) → EachSay room w n rest (more rest))
@@ -342,7 +342,7 @@ makes k d low high =
     (λ l x h. (refl, refl, refl)) k low high
 
 -- a list of this kind and dimension, whose members were read
-record ListIs (room : ℕ) (w : Part) (input : List ℕ) (l : Layout) (ss : Spellings) (field front : List ℕ) (remaining : ℕ) (cost : Cost) (k : ℕ) (d : Dimension)
+record ListIs (room : ℕ) (w : Wanted) (input : List ℕ) (l : Layout) (ss : Spellings) (field front : List ℕ) (remaining : ℕ) (cost : Cost) (k : ℕ) (d : Dimension)
     (vs : Values) : Type 0 where
   pub low : 3 < k
   pub opens : Opens input l.order k d l.has_srid (drop 5 input)
@@ -354,12 +354,12 @@ record ListIs (room : ℕ) (w : Part) (input : List ℕ) (l : Layout) (ss : Spel
   pub turns : cost.turns ≡ member_count_each vs
   pub slots : cost.slots ≡ slots_asked k (count vs) remaining + listed_inside vs
 
-module _ (room : ℕ) (w : Part) (input : List ℕ) (k : ℕ) (l : Layout) where
+module _ (room : ℕ) (w : Wanted) (input : List ℕ) (k : ℕ) (l : Layout) where
   -- the geometry of its members
   list_is : (x rest : List ℕ) (ss : Spellings) (vs : Values) (t : Value) (field front : List ℕ) (remaining : ℕ) (cost : Cost)
       → kind t ≡ k → dimension t ≡ l.dimension → members t ≡ vs → ListIs room w input l ss field front remaining cost k l.dimension vs
       → input ≡ x ++ rest → body_start l.has_srid ≤ length x → drop (body_start l.has_srid) x ≡ field ++ front
-      → ItemIs room w input (record { text = x; spelled = spelled_in l x [] ss; value = t }) rest cost
+      → ItemIs room w input (record { encoding = x; spelled = spelled_in l x [] ss; value = t }) rest cost
   list_is x rest ss vs t field front remaining cost same_kind same_d same is e long cut =
       let own = subst (λ T. T) (λ i. ListIs room w input l ss field front remaining cost (sym same_kind i) (sym same_d i) (sym same i)) is in
       item_is room w input x rest l [] ss t field front cost own.opens own.allowed.wanted e long cut
@@ -371,16 +371,16 @@ module _ (room : ℕ) (w : Part) (input : List ℕ) (k : ℕ) (l : Layout) where
         → body_start l.has_srid + 4 ≤ length input
         → EachSay (room_inside k room) (member_part k l.dimension) (count_in l input) (parts_start l.has_srid input) r
         → IsRight room w input (costs (slots_of (slots_asked k (count_in l input) (length (parts_start l.has_srid input))))
-        (and_then r (λ items after. done (list_item l (whole_by k) items (taken input after)) after)))
+        (and_then r (λ items after. done (list_item l (whole_by k) items (consumed input after)) after)))
     parts_say (cost, Ok x) long enough says =
-        let parts = parts_text l input says.front x.1 enough says.whole in
+        let parts = parts_encoding l input says.front x.1 enough says.whole in
         let made = makes k l.dimension low o.meaning.kind.high x.0 says.front says.spelled in
         let nine = each_nine (member_part k l.dimension) (spellings x.0) (values x.0) says.front says.spelled in
         let remaining = length (parts_start l.has_srid input) in
         let fits : 9 * count (values x.0) ≤ remaining = omega (arith, parts.len) in
         let asked = ap (λ z. slots_asked k z remaining) says.many in
         let field = take 4 (drop (body_start l.has_srid) input) in
-        list_is (taken input x.1) x.1 (spellings x.0) (values x.0) (whole_by k l.dimension x.0) field says.front remaining _ made.0 made.1 made.2
+        list_is (consumed input x.1) x.1 (spellings x.0) (values x.0) (whole_by k l.dimension x.0) field says.front remaining _ made.0 made.1 made.2
         (record {
           low = low;
           opens = o;

@@ -6,7 +6,7 @@ use Rattle.wkb_laws.specs.Words.{multi_point, multi_line_string, multi_polygon}
 use Rattle.wkb_laws.specs.Words.{collection, Values, no_members, member, kind, dimension, members, member_count}
 use Rattle.wkb_laws.specs.Words.{member_count_each, listed_count}
 use Rattle.wkb_laws.specs.Words.{listed_count_each, Spelling, node, Spellings, no_spellings, spelling}
-use Rattle.wkb_laws.specs.Words.{SpellsCoordinates, SpellsBody, Part, any, part}
+use Rattle.wkb_laws.specs.Words.{SpellsCoordinates, SpellsBody, Wanted, any, part}
 use Rattle.wkb_laws.specs.Words.{member_part, Spells, SpellsEach, FrontWithin, Cause, slots_asked, room_inside}
 use Rattle.wkb_laws.specs.Words.{IsAllowed, Counts, RefusesRings, no_ring_count}
 use Rattle.wkb_laws.specs.Words.{short_ring, later_ring, Refuses, bad_ring, bad_member, RefusesEach, this_member}
@@ -59,7 +59,7 @@ mutual
       let tail = each_spelled_long (member_part (kind t) (dimension t)) ss (members t) a.second.rest a.second.second in
       omega (arith, header_length h (kind t) (dimension t) a.front a.first, then_length a, then_length a.second, member_count-members t)
 
-  pub each_spelled_long : (w : Part) (ss : Spellings) (ts : Values) (x : List ℕ) → SpellsEach w ss ts x → 4 * member_count_each ts ≤ length x
+  pub each_spelled_long : (w : Wanted) (ss : Spellings) (ts : Values) (x : List ℕ) → SpellsEach w ss ts x → 4 * member_count_each ts ≤ length x
   each_spelled_long w no_spellings no_members x a = omega arith
   each_spelled_long w (spelling s ss) (member t ts) x a =
       omega (arith, each_spelled_long w ss ts a.rest a.second, spelled_long s t a.front a.first.0, then_length a)
@@ -72,7 +72,7 @@ front_is_bounded_lem input s t rest f =
     let whole : length input ≡ length f.front + length rest = ap length f.whole ∙ length-append f.front rest in
     (omega arith, omega arith)
 
-length-counts : {room : ℕ} {w : Part} {input rest : List ℕ} {order : Endianness} {k : ℕ} {d : Dimension} {srid : Bool} {n : ℕ}
+length-counts : {room : ℕ} {w : Wanted} {input rest : List ℕ} {order : Endianness} {k : ℕ} {d : Dimension} {srid : Bool} {n : ℕ}
     → Counts room w input order k d srid n rest → 9 + length rest ≤ length input
 length-counts {rest = rest} c =
     omega (arith, length-opens c.opens, length-append c.srid_field (c.count_field ++ rest), length-append c.count_field rest)
@@ -89,13 +89,13 @@ front_long : {room : ℕ} {input : List ℕ} {s : Spelling} {t : Value} {rest : 
 front_long {s = s} {t = t} {rest = rest} f = omega (arith, spelled_long s t f.front f.spelled, ap length f.whole, length-append f.front rest)
 
 mutual
-  pub refused_turns : {room : ℕ} {w : Part} {input : List ℕ} {cause : Cause} {begun slots : ℕ} → Refuses room w input cause begun slots
+  pub refused_turns : {room : ℕ} {w : Wanted} {input : List ℕ} {cause : Cause} {begun slots : ℕ} → Refuses room w input cause begun slots
       → 4 * begun ≤ length input
   refused_turns (bad_ring c r) = let inside = rings_begun r in let long = length-counts c in omega arith
   refused_turns (bad_member c low enough r) = let inside = each_refused_turns r in let long = length-counts c in omega arith
   refused_turns _ = omega arith
 
-  pub each_refused_turns : {room : ℕ} {w : Part} {n : ℕ} {input : List ℕ} {cause : Cause} {begun slots : ℕ} → RefusesEach room w n input cause begun slots
+  pub each_refused_turns : {room : ℕ} {w : Wanted} {n : ℕ} {input : List ℕ} {cause : Cause} {begun slots : ℕ} → RefusesEach room w n input cause begun slots
       → 4 * begun ≤ length input + 4
   each_refused_turns (this_member r) = let inside = refused_turns r in omega arith
   each_refused_turns (later_member f p r) = let inside = each_refused_turns r in let long = front_long f in omega arith
@@ -105,11 +105,11 @@ slots_asked-members : (k n remaining : ℕ) → 3 < k → k ≤ 7 → 9 * slots_
 slots_asked-members k n remaining = by_list_kind (λ z. 9 * slots_asked z n remaining ≤ remaining) (omega arith) (omega arith) (omega arith) (omega arith) k
 
 -- nine times the entries for each byte: one for each collection that may be open, and five for the rest
-abbrev share : Part → ℕ → ℕ
+abbrev share : Wanted → ℕ → ℕ
 share any room = room + 5
 share (part k d) room = 3
 
-share-least : (w : Part) (room : ℕ) → 3 ≤ share w room
+share-least : (w : Wanted) (room : ℕ) → 3 ≤ share w room
 share-least any room = omega arith
 share-least (part k d) room = omega arith
 
@@ -125,7 +125,7 @@ list_share inner outer asked slots rest len more ask fits inside =
     omega (arith, mul-le-mul_left len more, mul-le-mul_left (inner + 1) fits)
 
 -- the members that are wanted behind a count
-pub wanted_inside : (w : Part) (room k : ℕ) (d : Dimension) (srid : Bool) → IsWanted w → IsAllowed room w k d srid → 3 < k → k ≤ 7 → IsWanted (member_part k d)
+pub wanted_inside : (w : Wanted) (room k : ℕ) (d : Dimension) (srid : Bool) → IsWanted w → IsAllowed room w k d srid → 3 < k → k ≤ 7 → IsWanted (member_part k d)
 wanted_inside (part wanted e) room k d srid good allowed low high = let same = (allowed.wanted).0 in absurd (omega arith)
 wanted_inside any room k d srid good allowed low high = by_list_kind (λ z. IsWanted (member_part z d)) (lit≤ tt) (lit≤ tt) (lit≤ tt) tt k low high
 
@@ -135,7 +135,7 @@ own_share s front rest len own slots h pays inside fits =
     omega (arith, mul-le-mul_left s fits, mul-le-mul_left front h)
 
 mutual
-  pub refused_slots : {room : ℕ} {w : Part} {input : List ℕ} {cause : Cause} {begun slots : ℕ} → Refuses room w input cause begun slots → IsWanted w
+  pub refused_slots : {room : ℕ} {w : Wanted} {input : List ℕ} {cause : Cause} {begun slots : ℕ} → Refuses room w input cause begun slots → IsWanted w
       → 9 * slots ≤ share w room * length input
   refused_slots {room} {w} {input} (bad_ring {n = n} {rest = rest} c r) good =
       let asked = slots_asked 3 n (length rest) in
@@ -150,7 +150,7 @@ mutual
       (each_refused_slots r (wanted_inside any room k d srid good c.allowed low high))
   refused_slots _ good = omega arith
 
-  pub each_refused_slots : {room : ℕ} {w : Part} {n : ℕ} {input : List ℕ} {cause : Cause} {begun slots : ℕ} → RefusesEach room w n input cause begun slots
+  pub each_refused_slots : {room : ℕ} {w : Wanted} {n : ℕ} {input : List ℕ} {cause : Cause} {begun slots : ℕ} → RefusesEach room w n input cause begun slots
       → IsWanted w → 9 * slots ≤ share w room * length input
   each_refused_slots (this_member r) good = refused_slots r good
   each_refused_slots {room} {w} {input = input} (later_member {slots = slots} {rest = rest} {t = t} f p r) good =

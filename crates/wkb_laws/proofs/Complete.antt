@@ -7,7 +7,7 @@ use Rattle.std.proofs.Common.{append-nil, length-append, drop-drop, lit<, lit≤
 use Rattle.std.proofs.lemmas.Bool.{cond-true, cond-false, false_from_ne_true}
 use Rattle.wkb_laws.specs.Words.{Endianness, BigEndian, LittleEndian, Dimension, Head, Layout, WkbType, Cause}
 use Rattle.wkb_laws.specs.Words.{end_of_input, general, incorrect_type}
-use Rattle.wkb_laws.specs.Words.{InvalidByteOrder, IsNumber, order_byte, Code, Begins, Part, any, part, IsPart, Opens}
+use Rattle.wkb_laws.specs.Words.{InvalidByteOrder, IsNumber, order_byte, Code, Begins, Wanted, any, part, IsPart, Opens}
 use Rattle.wkb_laws.specs.Words.{Reading, Item, type_kind, type_dimension}
 use Rattle.wkb_laws.specs.Words.{type_of, layout_of, laid, head_at, head_by_order, head_by_code, meaning, meaning_of}
 use Rattle.wkb_laws.specs.Words.{then_body, member_body, layout_wanted}
@@ -29,7 +29,7 @@ use Rattle.wkb_laws.specs.Words.{line_string_body}
 use Rattle.wkb_laws.specs.Words.{line_string_item, list_item, multi_line_string_at, multi_point_at, multi_polygon_at}
 use Rattle.wkb_laws.specs.Words.{one_turn, point_at, point_item}
 use Rattle.wkb_laws.specs.Words.{point_item_of, point_of, polygon_at, polygon_item, polygon_of, repeated, ring_at}
-use Rattle.wkb_laws.specs.Words.{slots_of, spelled_in, srid_in, taken}
+use Rattle.wkb_laws.specs.Words.{slots_of, spelled_in, srid_in, consumed}
 use Rattle.wkb_laws.specs.Words.{RefusesRings, no_ring_count, short_ring, later_ring, Refuses, no_order_byte}
 use Rattle.wkb_laws.specs.Words.{bad_order_byte, no_code, bad_code, wrong_part}
 use Rattle.wkb_laws.specs.Words.{too_deep, short_point, no_count, short_line_string, short_multi_point, bad_ring}
@@ -95,22 +95,22 @@ head_cut (suc zero) rest h short = cond-true (nat_lt (length rest) 4) _ _ (lt-lt
 head_cut (suc (suc n)) rest h short = absurd (omega arith)
 
 -- the reader of a part, where so many collections more may be opened
-abbrev reader : ℕ → Part → List ℕ → Reading Item
+abbrev reader : ℕ → Wanted → List ℕ → Reading Item
 reader room any = geometry_at room
 reader room (part k d) = member_at k d
 
 -- what it answers by a head
-abbrev read_by : ℕ → Part → List ℕ → Result Head Cause → Reading Item
+abbrev read_by : ℕ → Wanted → List ℕ → Result Head Cause → Reading Item
 read_by room any input r = then_body r (λ h. body_at (collection_within room) h.wkb_type (layout_of h) input)
 read_by room (part k d) input r = then_body (layout_wanted k d r) (λ l. member_body k l input)
 
-reader_by : (room : ℕ) (w : Part) (input : List ℕ) → reader room w input ≡ read_by room w input (head_at input)
+reader_by : (room : ℕ) (w : Wanted) (input : List ℕ) → reader room w input ≡ read_by room w input (head_at input)
 unfolding geometry_at by_type
 reader_by zero any input = refl
 reader_by (suc room) any input = refl
 reader_by room (part k d) input = refl
 
-faulty : (room : ℕ) (w : Part) (input : List ℕ) (cause : Cause) → head_at input ≡ Err cause → reader room w input ≡ refused cause
+faulty : (room : ℕ) (w : Wanted) (input : List ℕ) (cause : Cause) → head_at input ≡ Err cause → reader room w input ≡ refused cause
 faulty room any input cause e = reader_by room any input ∙ ap (read_by room any input) e
 faulty room (part k d) input cause e = ap (read_by room (part k d) input) e
 
@@ -125,7 +125,7 @@ module _ {input rest : List ℕ} {order : Endianness} {k : ℕ} {d : Dimension} 
   same_type : (type_kind (type_of k d) ≡ k) × (type_dimension (type_of k d) ≡ d)
   same_type = type_kind-type_of k d o.meaning.kind.low o.meaning.kind.high
 
-  opened : (room : ℕ) (w : Part) → IsWanted w → IsPart w k d srid
+  opened : (room : ℕ) (w : Wanted) → IsWanted w → IsPart w k d srid
       → reader room w input ≡ body_at (collection_within room) (type_of k d) (laid order d srid) input
   opened room any good p =
       reader_by room any input ∙ ap (read_by room any input) (head_opened o)
@@ -138,7 +138,7 @@ module _ {input rest : List ℕ} {order : Endianness} {k : ℕ} {d : Dimension} 
       ∙ (λ i. member_body (sym p.0 i) (laid order (sym p.1 i) srid) input)
       ∙ member_body_is (collection_within room) k d (laid order d srid) input o.meaning.kind.low few
 
-  unwanted : (room : ℕ) (w : Part) → (IsPart w k d srid → ⊥) → reader room w input ≡ refused incorrect_type
+  unwanted : (room : ℕ) (w : Wanted) → (IsPart w k d srid → ⊥) → reader room w input ≡ refused incorrect_type
   unwanted room any n = absurd (n tt)
   unwanted room (part l e) n =
       let not = false_from_ne_true _ (λ t. let p = passes l e (head_of order k d srid) t in n (sym same_type.0 ∙ p.0, sym same_type.1 ∙ p.1, p.2)) in
@@ -173,7 +173,7 @@ pub record CountRead (input : List ℕ) (l : Layout) (n : ℕ) (rest : List ℕ)
   pub many : count_in l input ≡ n
   pub behind : parts_start l.has_srid input ≡ rest
 
-module _ {room n : ℕ} {w : Part} {input rest : List ℕ} {order : Endianness} {k : ℕ} {d : Dimension} {srid : Bool}
+module _ {room n : ℕ} {w : Wanted} {input rest : List ℕ} {order : Endianness} {k : ℕ} {d : Dimension} {srid : Bool}
     (c : Counts room w input order k d srid n rest) where
   count_read : CountRead input (laid order d srid) n rest
   count_read =
@@ -209,13 +209,13 @@ list_counted room k l input n low high long =
 -- what is answered of so many parts, by what the parts are read as
 parts_read : {A : Type 0} (k : ℕ) (l : Layout) (part_at : List ℕ → Reading A) (whole : List A → List ℕ → Item) (input rest : List ℕ) (n : ℕ)
     (r : Reading (List A)) → parts_start l.has_srid input ≡ rest → repeated n part_at rest ≡ r → parts_body k l part_at whole input n
-    ≡ costs (slots_of (slots_asked k n (length rest))) (and_then r (λ parts after. done (whole parts (taken input after)) after))
+    ≡ costs (slots_of (slots_asked k n (length rest))) (and_then r (λ parts after. done (whole parts (consumed input after)) after))
 parts_read k l part_at whole input rest n r e same =
     ap (λ z. costs (slots_of (slots_asked k n (length z)))
-    (and_then (repeated n part_at z) (λ parts after. done (whole parts (taken input after)) after))) e
-    ∙ ap (λ z. costs (slots_of (slots_asked k n (length rest))) (and_then z (λ parts after. done (whole parts (taken input after)) after))) same
+    (and_then (repeated n part_at z) (λ parts after. done (whole parts (consumed input after)) after))) e
+    ∙ ap (λ z. costs (slots_of (slots_asked k n (length rest))) (and_then z (λ parts after. done (whole parts (consumed input after)) after))) same
 
-taken_front : (x rest : List ℕ) → taken (x ++ rest) rest ≡ x
+taken_front : (x rest : List ℕ) → consumed (x ++ rest) rest ≡ x
 taken_front x rest =
     let n : length (x ++ rest) - length rest ≡ length x = omega (arith, length-append x rest) in
     ap (λ z. take z (x ++ rest)) n ∙ take_front (length x) x rest refl
@@ -240,7 +240,7 @@ ring_read order d cs x y h =
     (λ c x y is. (coordinate_length order d c x is, coordinate_read order d c x y is)) cs h.rest y h.second in
     record { many = many; is = (λ i. coordinates order d (many i) (behind i)) ∙ read }
 
--- a ring that stands in front is read as its text
+-- a ring that stands in front is read as its encoding
 ring_found : (order : Endianness) (d : Dimension) (ring : List Coordinate) (x rest : List ℕ) → SpellsCoordinates order d ring x
     → ring_at order d (x ++ rest) ≡ Ok (x, rest)
 unfolding ring_at
@@ -258,9 +258,9 @@ ring_found order d ring x rest h =
 
 -- what several parts are read as, with the parts
 record RingsFound (l : Layout) (rings : List (List Coordinate)) (input rest : List ℕ) : Type 0 where
-  pub texts : List (List ℕ)
-  pub read : repeated (length rings) (ring_part l) input ≡ (record { turns = length rings; slots = 0 }, Ok (texts, rest))
-  pub are : map (ring_in l.order l.dimension) texts ≡ rings
+  pub encodings : List (List ℕ)
+  pub read : repeated (length rings) (ring_part l) input ≡ (record { turns = length rings; slots = 0 }, Ok (encodings, rest))
+  pub are : map (ring_in l.order l.dimension) encodings ≡ rings
 
 -- so many parts, where the first is refused, and where it is read
 module _ {A : Type 0} (part_at : List ℕ → Reading A) (n : ℕ) (input : List ℕ) where
@@ -277,14 +277,14 @@ module _ {A : Type 0} (part_at : List ℕ → Reading A) (n : ℕ) (input : List
   then_parts rest x c r first others = ap next_part first ∙ ap (λ z. costs one_turn (costs c (and_then z (λ xs after. done (x ∷ xs) after)))) others
 
 -- the same answer at equal costs
-at_cost : {A : Type 0} {r : reading.Part A} {a b c d : ℕ} → a ≡ c → b ≡ d
+at_cost : {A : Type 0} {r : reading.Outcome A} {a b c d : ℕ} → a ≡ c → b ≡ d
     → ◌≡◌ {A = Reading A} (record { turns = a; slots = b }, r) (record { turns = c; slots = d }, r)
 at_cost {r = r} e f = λ i. (record { turns = e i; slots = f i }, r)
 
 rings_found : (l : Layout) (rings : List (List Coordinate)) (x rest : List ℕ) → IsEach (SpellsCoordinates l.order l.dimension) rings x
     → RingsFound l rings (x ++ rest) rest
 unfolding repeated
-rings_found l [] x rest h = record { texts = []; read = ap (λ z. done [] (z ++ rest)) h; are = refl }
+rings_found l [] x rest h = record { encodings = []; read = ap (λ z. done [] (z ++ rest)) h; are = refl }
 rings_found l (ring ∷ rings) x rest h =
     let others = rings_found l rings h.rest rest h.second in
     let shape : x ++ rest ≡ h.front ++ (h.rest ++ rest) = then_append h rest in
@@ -292,13 +292,13 @@ rings_found l (ring ∷ rings) x rest h =
     let head : ring_in l.order l.dimension h.front ≡ ring =
     ap (ring_in l.order l.dimension) (sym (append-nil h.front)) ∙ (ring_read l.order l.dimension ring h.front [] h.first).is in
     record {
-      texts = h.front ∷ others.texts;
+      encodings = h.front ∷ others.encodings;
       read = then_parts (ring_part l) (length rings) (x ++ rest) (h.rest ++ rest) h.front free _ (ap (ring_part l) shape ∙ ap at_no_cost found) others.read
           ∙ at_cost (omega arith) refl;
       are = λ i. head i ∷ others.are i;
     }
 
--- ---- the text of a geometry, as its parts are read
+-- ---- the encoding of a geometry, as its parts are read
 
 srid_read : (order : Endianness) (srid : Option ℕ) (field x y : List ℕ) → IsSrid order srid field → drop 5 x ≡ field ++ y
     → srid_in order (is_some srid) x ≡ srid
@@ -306,7 +306,7 @@ srid_read order None field x y is e = refl
 srid_read order (Some v) field x y is e = ap Some (ap (number order 4) e ∙ number-front order 4 v field y is)
 
 -- what has no members has no spellings of any, and no bytes
-alone : (w : Part) (ss : Spellings) (m : List ℕ) → SpellsEach w ss no_members m → (no_spellings ≡ ss) × (m ≡ [])
+alone : (w : Wanted) (ss : Spellings) (m : List ℕ) → SpellsEach w ss no_members m → (no_spellings ≡ ss) × (m ≡ [])
 alone w no_spellings m h = (refl, h)
 alone w (spelling s ss) m h = absurd h
 
@@ -345,7 +345,7 @@ whole_is _ found low e = absurd (omega arith)
 
 -- a geometry as it is answered
 abbrev pub found : Spelling → Value → List ℕ → List ℕ → Reading Item
-found s t x rest = (record { turns = member_count t; slots = listed_count t }, Ok (record { text = x; spelled = s; value = t }, rest))
+found s t x rest = (record { turns = member_count t; slots = listed_count t }, Ok (record { encoding = x; spelled = s; value = t }, rest))
 
 -- what several members are read as, with the items
 record MembersFound (part_at : List ℕ → Reading Item) (ss : Spellings) (ts : Values) (input rest : List ℕ) : Type 0 where
@@ -360,8 +360,8 @@ module _ (h : Header) (own : List ℕ) (ss : Spellings) (t : Value) (x : List �
       ap (drop (body_start (is_some h.srid))) a.whole
       ∙ drop_front (body_start (is_some h.srid)) a.front a.rest (header_length h (kind t) (dimension t) a.front a.first) ∙ a.second.whole
 
-  text_length : length x ≡ body_start (is_some h.srid) + (length a.second.front + length a.second.rest)
-  text_length = omega (arith, then_length a, header_length h (kind t) (dimension t) a.front a.first, then_length a.second)
+  encoding_length : length x ≡ body_start (is_some h.srid) + (length a.second.front + length a.second.rest)
+  encoding_length = omega (arith, then_length a, header_length h (kind t) (dimension t) a.front a.first, then_length a.second)
 
   head_whole : x ≡ order_byte h.order ∷ (a.first.code_field ++ (a.first.srid_field ++ a.rest))
   head_whole =
@@ -391,7 +391,7 @@ module _ (h : Header) (own : List ℕ) (ss : Spellings) (t : Value) (x : List �
       let srid = srid_read h.order h.srid is.srid_field x a.rest is.srid behind in
       λ i. node (record { order = h.order; code = code i; srid = srid i }) (same_words i) (same_others i)
 
-  module _ (room : ℕ) (w : Part) (good : IsWanted w) (rest : List ℕ) (shallow : nest t ≤ room) (p : IsPart w (kind t) (dimension t) (is_some h.srid)) where
+  module _ (room : ℕ) (w : Wanted) (good : IsWanted w) (rest : List ℕ) (shallow : nest t ≤ room) (p : IsPart w (kind t) (dimension t) (is_some h.srid)) where
     is_allowed : IsAllowed room w (kind t) (dimension t) (is_some h.srid)
     is_allowed = record { wanted = p; shallow = λ e. let deep = nest_collection t e in omega arith }
 
@@ -420,7 +420,7 @@ module _ (h : Header) (own : List ℕ) (ss : Spellings) (t : Value) (x : List �
         let c = front_counts n a.second.front [] (sym (append-nil a.second.front)) body.1 in
         let inside = each_spelled_length (member_part k (dimension t)) ss (members t) a.second.rest a.second.second in
         let enough : k ≡ 4 → multi_point_end l.dimension l.has_srid n ≤ length (x ++ rest) =
-        λ four. omega (arith, length-append x rest, points_long t four, body.1.len, text_length) in
+        λ four. omega (arith, length-append x rest, points_long t four, body.1.len, encoding_length) in
         let nine = each_nine (member_part k (dimension t)) ss (members t) a.second.rest a.second.second in
         let slots = list_slots t (length behind) low (omega (arith, length-append a.second.rest rest)) in
         let turns = list_turns t low in
@@ -432,9 +432,9 @@ module _ (h : Header) (own : List ℕ) (ss : Spellings) (t : Value) (x : List �
         (count_read c).behind f.read
         ∙ at_cost (omega arith) (omega arith)
         ∙ (λ i. (cost, Ok (list_item l (whole_by k) f.items (taken_front x rest i), rest)))
-        ∙ (λ i. (cost, Ok (record { text = x; spelled = spelled i; value = value i }, rest)))
+        ∙ (λ i. (cost, Ok (record { encoding = x; spelled = spelled i; value = value i }, rest)))
 
-module _ (room : ℕ) (w : Part) (good : IsWanted w) (h : Header) (own : List ℕ) (ss : Spellings) (x rest : List ℕ) (d : Dimension) where
+module _ (room : ℕ) (w : Wanted) (good : IsWanted w) (h : Header) (own : List ℕ) (ss : Spellings) (x rest : List ℕ) (d : Dimension) where
   -- a point, by its words and whether all of them are not-a-numbers
   point_by : (c : Option Coordinate) (a : Spells (node h own ss) (point d c) x) (words : List ℕ) (all : Bool) → SpellsCoordinate h.order d words a.second.front
       → all_nan words ≡ all
@@ -445,7 +445,7 @@ module _ (room : ℕ) (w : Part) (good : IsWanted w) (h : Header) (own : List �
       let end = point_end d (is_some h.srid) in
       let none = alone _ ss a.second.rest a.second.second in
       let long = coordinate_length h.order d words a.second.front spelled in
-      let len : length x ≡ end = omega (arith, text_length h own ss (point d c) x a, ap length none.1) in
+      let len : length x ≡ end = omega (arith, encoding_length h own ss (point d c) x a, ap length none.1) in
       let is = ap (coordinate h.order d) (body_cut h own ss (point d c) x a) ∙ coordinate_read h.order d words a.second.front a.second.rest spelled in
       opened (opens h own ss (point d c) x a rest) room w good p
       ∙ ap at_no_cost (cond-false (nat_lt (length (x ++ rest)) end) _ _ (le-ltb _ _ (omega (arith, length-append x rest)))
@@ -461,14 +461,14 @@ module _ (room : ℕ) (w : Part) (good : IsWanted w) (h : Header) (own : List �
       let none = alone _ ss a.second.rest a.second.second in
       let read = ring_read h.order d cs a.second.front a.second.rest body in
       let long = coordinates_length h.order d cs a.second.front body in
-      let len : length x ≡ end = omega (arith, text_length h own ss (line_string d cs) x a, ap length none.1) in
+      let len : length x ≡ end = omega (arith, encoding_length h own ss (line_string d cs) x a, ap length none.1) in
       let c = front_counts h own ss (line_string d cs) x a room w good rest (omega arith) p (length cs) body.front body.rest body.whole body.first in
       let spelled = spelling_read h own ss (line_string d cs) x a [] no_spellings (sym a.second.first.0) none.0 in
       let ring : ring_in h.order d (drop (body_start (is_some h.srid)) x) ≡ cs = ap (ring_in h.order d) (body_cut h own ss (line_string d cs) x a) ∙ read.is in
       counted c good (λ e. omega arith)
       ∙ ap at_no_cost (cond-false (nat_lt (length (x ++ rest)) end) _ _ (le-ltb _ _ (omega (arith, length-append x rest)))
       ∙ (λ i. Ok (line_string_item l (take_front end x rest len i), drop_front end x rest len i)))
-      ∙ (λ i. (free, Ok (record { text = x; spelled = spelled i; value = line_string d (ring i) }, rest)))
+      ∙ (λ i. (free, Ok (record { encoding = x; spelled = spelled i; value = line_string d (ring i) }, rest)))
 
   polygon_by : (rings : List (List Coordinate)) → Spells (node h own ss) (polygon d rings) x → IsPart w 3 d (is_some h.srid)
       → reader room w (x ++ rest) ≡ found (node h own ss) (polygon d rings) x rest
@@ -486,24 +486,24 @@ module _ (room : ℕ) (w : Part) (good : IsWanted w) (h : Header) (own : List �
       counted c good (λ e. omega arith)
       ∙ parts_read 3 l (ring_part l) (polygon_item l) (x ++ rest) (body.rest ++ more) (length rings) _ (count_read c).behind f.read
       ∙ at_cost (omega arith) (omega (arith, asked))
-      ∙ (λ i. (cost, Ok (polygon_item l f.texts (taken (x ++ rest) (none.1 i ++ rest)), none.1 i ++ rest)))
-      ∙ (λ i. (cost, Ok (polygon_item l f.texts (taken_front x rest i), rest)))
-      ∙ (λ i. (cost, Ok (record { text = x; spelled = spelled i; value = polygon d (f.are i) }, rest)))
+      ∙ (λ i. (cost, Ok (polygon_item l f.encodings (consumed (x ++ rest) (none.1 i ++ rest)), none.1 i ++ rest)))
+      ∙ (λ i. (cost, Ok (polygon_item l f.encodings (taken_front x rest i), rest)))
+      ∙ (λ i. (cost, Ok (record { encoding = x; spelled = spelled i; value = polygon d (f.are i) }, rest)))
 
 -- A front is what a reader of such parts answers.
 mutual
   unfolding repeated
 
-  pub front_at : (room : ℕ) (w : Part) → IsWanted w → (s : Spelling) (t : Value) (x rest : List ℕ) → Spells s t x → nest t ≤ room
+  pub front_at : (room : ℕ) (w : Wanted) → IsWanted w → (s : Spelling) (t : Value) (x rest : List ℕ) → Spells s t x → nest t ≤ room
       → IsPart w (kind t) (dimension t) (has_srid s) → reader room w (x ++ rest) ≡ found s t x rest
   front_at room w good (node h own ss) (point d None) x rest a shallow p =
       let spelled = spelling_read h own ss (point d None) x a own no_spellings refl (alone _ ss a.second.rest a.second.second).0 in
       point_by room w good h own ss x rest d None a own true a.second.first.1 a.second.first.0 p
-      ∙ (λ i. (free, Ok (record { text = x; spelled = spelled i; value = point d None }, rest)))
+      ∙ (λ i. (free, Ok (record { encoding = x; spelled = spelled i; value = point d None }, rest)))
   front_at room w good (node h own ss) (point d (Some c)) x rest a shallow p =
       let spelled = spelling_read h own ss (point d (Some c)) x a [] no_spellings (sym a.second.first.0) (alone _ ss a.second.rest a.second.second).0 in
       point_by room w good h own ss x rest d (Some c) a c false a.second.first.2 a.second.first.1 p
-      ∙ (λ i. (free, Ok (record { text = x; spelled = spelled i; value = point d (Some c) }, rest)))
+      ∙ (λ i. (free, Ok (record { encoding = x; spelled = spelled i; value = point d (Some c) }, rest)))
   front_at room w good (node h own ss) (line_string d cs) x rest a shallow p = line_string_by room w good h own ss x rest d cs a p
   front_at room w good (node h own ss) (polygon d rings) x rest a shallow p = polygon_by room w good h own ss x rest d rings a p
   front_at room w good (node h own ss) t x rest a shallow p =
@@ -513,7 +513,7 @@ mutual
       (members_at (room_inside (kind t) room) (member_part (kind t) (dimension t)) inside ss (members t) a.second.rest rest a.second.second
       (nest_inside t room shallow))
 
-  members_at : (room : ℕ) (w : Part) → IsWanted w → (ss : Spellings) (ts : Values) (x rest : List ℕ) → SpellsEach w ss ts x → nest_each ts ≤ room
+  members_at : (room : ℕ) (w : Wanted) → IsWanted w → (ss : Spellings) (ts : Values) (x rest : List ℕ) → SpellsEach w ss ts x → nest_each ts ≤ room
       → MembersFound (reader room w) ss ts (x ++ rest) rest
   members_at room w good no_spellings no_members x rest a shallow =
       record { items = []; read = ap (λ z. done [] (z ++ rest)) a; same_spellings = refl; same_values = refl }
@@ -523,7 +523,7 @@ mutual
       let first = front_at room w good s t a.front (a.rest ++ rest) a.first.0 (omega arith) a.first.1 in
       let many : 1 + count ts ≡ suc (count ts) = omega arith in
       record {
-        items = record { text = a.front; spelled = s; value = t } ∷ others.items;
+        items = record { encoding = a.front; spelled = s; value = t } ∷ others.items;
         read = ap (λ n. repeated n (reader room w) (x ++ rest)) many
             ∙ then_parts (reader room w) (count ts) (x ++ rest) (a.rest ++ rest) _ _ _ (ap (reader room w) shape ∙ first) others.read
             ∙ at_cost (omega arith) (omega arith);
@@ -532,7 +532,7 @@ mutual
       }
   members_at room w good _ _ x rest a shallow = absurd a
 
-pub front_read : (room : ℕ) (w : Part) → IsWanted w → (input : List ℕ) (s : Spelling) (t : Value) (rest : List ℕ) → (f : FrontWithin room input s t rest)
+pub front_read : (room : ℕ) (w : Wanted) → IsWanted w → (input : List ℕ) (s : Spelling) (t : Value) (rest : List ℕ) → (f : FrontWithin room input s t rest)
     → IsPart w (kind t) (dimension t) (has_srid s) → reader room w input ≡ found s t f.front rest
 front_read room w good input s t rest f p = ap (reader room w) f.whole ∙ front_at room w good s t f.front rest f.spelled f.shallow p
 
@@ -563,7 +563,7 @@ rings_refused {order} {d} {input = input} srid (later_ring {more = more} {begun 
 mutual
   unfolding point_at head_at
 
-  pub refusal_read : {room : ℕ} {w : Part} {input : List ℕ} {cause : Cause} {begun slots : ℕ} → Refuses room w input cause begun slots → IsWanted w
+  pub refusal_read : {room : ℕ} {w : Wanted} {input : List ℕ} {cause : Cause} {begun slots : ℕ} → Refuses room w input cause begun slots → IsWanted w
       → reader room w input ≡ refusal begun slots cause
   refusal_read {room} {w} no_order_byte good = faulty room w [] _ refl
   refusal_read {room} {w} (bad_order_byte {first = first} {rest = rest} h) good = faulty room w _ _ (head_misordered first rest h)
@@ -595,7 +595,7 @@ mutual
       ∙ parts_read k l (reader (room_inside k room) (member_part k d)) (list_item l (whole_by k)) input rest n _ (count_read c).behind members
       ∙ at_cost (omega arith) refl
 
-  each_refusal_read : {room : ℕ} {w : Part} {n : ℕ} {input : List ℕ} {cause : Cause} {begun slots : ℕ} → RefusesEach room w n input cause begun slots
+  each_refusal_read : {room : ℕ} {w : Wanted} {n : ℕ} {input : List ℕ} {cause : Cause} {begun slots : ℕ} → RefusesEach room w n input cause begun slots
       → IsWanted w → repeated n (reader room w) input ≡ refusal begun slots cause
   each_refusal_read {room} {w} {input = input} (this_member {more = more} h) good =
       part_refused (reader room w) more input _ _ (refusal_read h good) ∙ at_cost refl (omega arith)

@@ -3,7 +3,7 @@ use Rattle.std.proofs.Common.{◌⊎◌, ℕ, ◌+◌, List, [], ◌++◌, lengt
 use Rattle.std.proofs.Common.{length-append, Bool, append-nil}
 use Rattle.wkb_laws.specs.Words.{Endianness, Dimension, ShortPoint, ShortLineString, ShortLinearRing, ShortMultiPoint}
 use Rattle.wkb_laws.specs.Words.{Begins, Value, listed_count, Spelling}
-use Rattle.wkb_laws.specs.Words.{Part, any, Front, FrontWithin, max_nesting, Cause, end_of_input, general, slots_asked}
+use Rattle.wkb_laws.specs.Words.{Wanted, any, Front, FrontWithin, max_nesting, Cause, end_of_input, general, slots_asked}
 use Rattle.wkb_laws.specs.Words.{Opens, Counts, RefusesRings, later_ring}
 use Rattle.wkb_laws.specs.Words.{Refuses, bad_order_byte, bad_code, wrong_part, too_deep, bad_ring, bad_member}
 use Rattle.wkb_laws.specs.Words.{RefusesEach, this_member, later_member}
@@ -19,7 +19,7 @@ opens_more : {input rest : List ℕ} {order : Endianness} {k : ℕ} {d : Dimensi
     → Opens (input ++ y) order k d srid (rest ++ y)
 opens_more y o = record { code = o.code; behind = o.behind ++ y; whole = ap (λ z. z ++ y) o.whole; number = begins_more y o.number; meaning = o.meaning }
 
-counts_more : {room : ℕ} {w : Part} {input rest : List ℕ} {order : Endianness} {k : ℕ} {d : Dimension} {n : ℕ} {srid : Bool} (y : List ℕ)
+counts_more : {room : ℕ} {w : Wanted} {input rest : List ℕ} {order : Endianness} {k : ℕ} {d : Dimension} {n : ℕ} {srid : Bool} (y : List ℕ)
     → Counts room w input order k d srid n rest → Counts room w (input ++ y) order k d srid n (rest ++ y)
 counts_more {input = input} {rest = rest} {order = order} {k = k} {d = d} {srid = srid} y c = record {
   srid_field = c.srid_field;
@@ -42,7 +42,7 @@ rings_cut _ = tt
 
 -- A refusal for another reason than an early end stays, with its turns, whatever comes behind.
 mutual
-  lasts : {room : ℕ} {w : Part} {input : List ℕ} {cause : Cause} {begun slots : ℕ} → Refuses room w input cause begun slots → (y : List ℕ) → (IsCut cause → ⊥)
+  lasts : {room : ℕ} {w : Wanted} {input : List ℕ} {cause : Cause} {begun slots : ℕ} → Refuses room w input cause begun slots → (y : List ℕ) → (IsCut cause → ⊥)
       → (z : ℕ) × Refuses room w (input ++ y) cause begun z
   lasts (bad_order_byte h) y n = (0, bad_order_byte h)
   lasts (bad_code {order = order} {behind = behind} e b none) y n =
@@ -55,7 +55,7 @@ mutual
       (slots_asked k m (length (rest ++ y)) + more.0, bad_member (counts_more y c) low (λ e. let fits = long e in omega (arith, length-append input y)) more.1)
   lasts _ y n = absurd (n tt)
 
-  each_lasts : {room : ℕ} {w : Part} {n : ℕ} {input : List ℕ} {cause : Cause} {begun slots : ℕ} → RefusesEach room w n input cause begun slots → (y : List ℕ)
+  each_lasts : {room : ℕ} {w : Wanted} {n : ℕ} {input : List ℕ} {cause : Cause} {begun slots : ℕ} → RefusesEach room w n input cause begun slots → (y : List ℕ)
       → (IsCut cause → ⊥) → (z : ℕ) × RefusesEach room w n (input ++ y) cause begun z
   each_lasts (this_member r) y n = let more = lasts r y n in (more.0, this_member more.1)
   each_lasts (later_member {t = t} f p r) y n = let more = each_lasts r y n in (listed_count t + more.0, later_member (front_more y f) p more.1)

@@ -8,7 +8,7 @@ use Rattle.wkb_laws.proofs.Sound.{geometry_says}
 use Rattle.wkb_laws.proofs.Complete.{front_read, refusal_read}
 
 agrees : (input : List ℕ) (r : Reading Item) → IsRight max_nesting any input r → Agrees input r
-agrees input (cost, Ok x) h = (record { front = x.0.text; whole = h.whole; spelled = h.spelled; shallow = h.shallow }, h.turns, h.slots, refl)
+agrees input (cost, Ok x) h = (record { front = x.0.encoding; whole = h.whole; spelled = h.spelled; shallow = h.shallow }, h.turns, h.slots, refl)
 agrees input (cost, Err cause) h = h
 
 pub geometry_agrees_lem : GeometryAgrees

@@ -9,7 +9,7 @@ use Rattle.std.proofs.lemmas.List.{drop-append-le}
 use Rattle.wkb_laws.specs.Words.{Endianness, BigEndian, LittleEndian, Dimension, Head, Layout, Cause, number}
 use Rattle.wkb_laws.specs.Words.{order_byte, Code, Begins, Value, kind, dimension}
 use Rattle.wkb_laws.specs.Words.{members, nest, member_count, listed_count, Header, IsHeader, IsSrid, Spellings}
-use Rattle.wkb_laws.specs.Words.{SpellsBody, Spells, SpellsEach, Part}
+use Rattle.wkb_laws.specs.Words.{SpellsBody, Spells, SpellsEach, Wanted}
 use Rattle.wkb_laws.specs.Words.{member_part, IsPart, has_srid, srid_size, Opens, IsAllowed, Counts, Refuses}
 use Rattle.wkb_laws.specs.Words.{no_order_byte, bad_order_byte, no_code, bad_code}
 use Rattle.wkb_laws.specs.Words.{no_count, Cost, Reading, Item, type_kind, layout_of, body_start, parts_start, head_at}
@@ -19,20 +19,20 @@ use Rattle.wkb_geom.proofs.Meanings.{meaning_holds}
 use Rattle.wkb_laws.proofs.Parts.{number-more, number_begins, begins_number, number-take, length-opens}
 
 -- what a reading says of the input: a front with its counts, or the refusal with its counts
-pub record ItemIs (room : ℕ) (w : Part) (input : List ℕ) (i : Item) (rest : List ℕ) (cost : Cost) : Type 0 where
-  pub whole : input ≡ i.text ++ rest
-  pub spelled : Spells i.spelled i.value i.text
+pub record ItemIs (room : ℕ) (w : Wanted) (input : List ℕ) (i : Item) (rest : List ℕ) (cost : Cost) : Type 0 where
+  pub whole : input ≡ i.encoding ++ rest
+  pub spelled : Spells i.spelled i.value i.encoding
   pub shallow : nest i.value ≤ room
   pub wanted : IsPart w (kind i.value) (dimension i.value) (has_srid i.spelled)
   pub turns : cost.turns ≡ member_count i.value
   pub slots : cost.slots ≡ listed_count i.value
 
-abbrev pub IsRight : ℕ → Part → List ℕ → Reading Item → Type 0
+abbrev pub IsRight : ℕ → Wanted → List ℕ → Reading Item → Type 0
 IsRight room w input (cost, Ok x) = ItemIs room w input x.0 x.1 cost
 IsRight room w input (cost, Err cause) = Refuses room w input cause cost.turns cost.slots
 
 -- the same refusal with equal counts
-pub refused_as : {room : ℕ} {w : Part} {input : List ℕ} {cause : Cause} {a b c d : ℕ} → a ≡ c → b ≡ d → Refuses room w input cause a b
+pub refused_as : {room : ℕ} {w : Wanted} {input : List ℕ} {cause : Cause} {a b c d : ℕ} → a ≡ c → b ≡ d → Refuses room w input cause a b
     → Refuses room w input cause c d
 refused_as {room} {w} {input} {cause} e f r = subst (λ T. T) (λ i. Refuses room w input cause (e i) (f i)) r
 
@@ -45,7 +45,7 @@ abbrev pub OpensAs : List ℕ → Head → Type 0
 OpensAs input h = Opened input (type_kind h.wkb_type) (layout_of h)
 
 -- what holds of each fault in front of a body, and of each head that the input opens with, holds of what is read there
-module _ (room : ℕ) (w : Part) where
+module _ (room : ℕ) (w : Wanted) where
   head_by : (order : Endianness) (first : ℕ) (behind : List ℕ) (Q : Result Head Cause → Type 0) → first ≡ order_byte order → first ≤ 1
       → ((c : Cause) → Refuses room w (first ∷ behind) c 0 0 → Q (Err c)) → ((h : Head) → OpensAs (first ∷ behind) h → Q (Ok h))
       → Q (head_by_order (Some order) behind)
@@ -69,7 +69,7 @@ module _ (room : ℕ) (w : Part) where
 abbrev pub count_in : Layout → List ℕ → ℕ
 count_in l input = number l.order 4 (drop (body_start l.has_srid) input)
 
-module _ (room : ℕ) (w : Part) (input : List ℕ) (k : ℕ) (l : Layout) (o : Opened input k l) (allowed : IsAllowed room w k l.dimension l.has_srid) where
+module _ (room : ℕ) (w : Wanted) (input : List ℕ) (k : ℕ) (l : Layout) (o : Opened input k l) (allowed : IsAllowed room w k l.dimension l.has_srid) where
   -- the bytes with an allowed opening, an SRID and a count
   pub counts_here : body_start l.has_srid + 4 ≤ length input
       → Counts room w input l.order k l.dimension l.has_srid (count_in l input) (parts_start l.has_srid input)
@@ -96,16 +96,16 @@ module _ (room : ℕ) (w : Part) (input : List ℕ) (k : ℕ) (l : Layout) (o : 
       (λ t. let short = ltb-true _ _ t in no_count o not1 allowed (omega (arith, length-opens o)))
       (λ t. each (ltb-false _ _ t))
 
--- a number inside a text is the same in the input that begins with it
+-- a number inside an encoding is the same in the input that begins with it
 pub number_in : (order : Endianness) (a : ℕ) (input x rest : List ℕ) → input ≡ x ++ rest → a + 4 ≤ length x
     → number order 4 (drop a input) ≡ number order 4 (drop a x)
 number_in order a input x rest e h =
     ap (λ z. number order 4 (drop a z)) e ∙ ap (number order 4) (drop-append-le a x rest (omega arith))
     ∙ number-more order 4 (drop a x) rest (omega (arith, length-drop a x))
 
--- the header that a text begins with
-abbrev text_header : Layout → List ℕ → Header
-text_header l x = record { order = l.order; code = number l.order 4 (drop 1 x); srid = srid_in l.order l.has_srid x }
+-- the header that an encoding begins with
+abbrev encoding_header : Layout → List ℕ → Header
+encoding_header l x = record { order = l.order; code = number l.order 4 (drop 1 x); srid = srid_in l.order l.has_srid x }
 
 pub has_srid_in : (order : Endianness) (srid : Bool) (x : List ℕ) → srid ≡ is_some (srid_in order srid x)
 has_srid_in order true x = refl
@@ -116,10 +116,10 @@ srid_is : (order : Endianness) (srid : Bool) (x : List ℕ) → srid_size srid �
 srid_is order true x h = number-take order 4 (drop 5 x) h
 srid_is order false x h = refl
 
-text_head : (input x rest : List ℕ) (k : ℕ) (d : Dimension) (l : Layout) → Opens input l.order k d l.has_srid (drop 5 input) → input ≡ x ++ rest
-    → body_start l.has_srid ≤ length x → Begins (IsHeader (text_header l x) k d) x (drop (body_start l.has_srid) x)
-text_head input [] rest k d l o e long = absurd (omega arith)
-text_head input (a ∷ y) rest k d l o e long =
+encoding_head : (input x rest : List ℕ) (k : ℕ) (d : Dimension) (l : Layout) → Opens input l.order k d l.has_srid (drop 5 input) → input ≡ x ++ rest
+    → body_start l.has_srid ≤ length x → Begins (IsHeader (encoding_header l x) k d) x (drop (body_start l.has_srid) x)
+encoding_head input [] rest k d l o e long = absurd (omega arith)
+encoding_head input (a ∷ y) rest k d l o e long =
     let both : a ∷ (y ++ rest) ≡ order_byte l.order ∷ o.behind = sym e ∙ o.whole in
     let head : a ≡ order_byte l.order = cc in
     let tail : y ++ rest ≡ o.behind = cc in
@@ -141,15 +141,15 @@ text_head input (a ∷ y) rest k d l o e long =
       };
     }
 
--- Where a text stands behind the opening, in front of the rest, and its body spells a value, the text is that value's.
-pub item_is : (room : ℕ) (w : Part) (input x rest : List ℕ) (l : Layout) (own : List ℕ) (ss : Spellings) (t : Value) (b m : List ℕ) (cost : Cost)
+-- Where an encoding stands behind the opening, in front of the rest, and its body spells a value, the encoding is that value's.
+pub item_is : (room : ℕ) (w : Wanted) (input x rest : List ℕ) (l : Layout) (own : List ℕ) (ss : Spellings) (t : Value) (b m : List ℕ) (cost : Cost)
     → Opens input l.order (kind t) (dimension t) l.has_srid (drop 5 input) → IsPart w (kind t) (dimension t) l.has_srid
     → input ≡ x ++ rest → body_start l.has_srid ≤ length x → drop (body_start l.has_srid) x ≡ b ++ m
     → SpellsBody l.order own t b → SpellsEach (member_part (kind t) (dimension t)) ss (members t) m → nest t ≤ room
     → cost.turns ≡ member_count t → cost.slots ≡ listed_count t
-    → ItemIs room w input (record { text = x; spelled = spelled_in l x own ss; value = t }) rest cost
+    → ItemIs room w input (record { encoding = x; spelled = spelled_in l x own ss; value = t }) rest cost
 item_is room w input x rest l own ss t b m cost o p e long cut body each shallow turns slots =
-    let head = text_head input x rest (kind t) (dimension t) l o e long in
+    let head = encoding_head input x rest (kind t) (dimension t) l o e long in
     record {
       whole = e;
       spelled = record {

@@ -1,4 +1,4 @@
--- How long a text is.
+-- How long an encoding is.
 use Rattle.std.proofs.Common.{◌≡◌, ℕ, ◌+◌, ◌*◌, ◌<◌, ◌≤◌, ◌^◌, List, [], ◌∷◌, length, Some, None, Bool, true, false}
 use Rattle.std.proofs.Common.{refl, sym, ap, ◌∙◌, arith, length-append}
 use Rattle.std.proofs.Common.{sum_by, is_some, if◌then◌else◌, nat_lt, lt-ltb}
@@ -9,17 +9,17 @@ use Rattle.wkb_laws.specs.Words.{Coordinate, Value, point, line_string, polygon}
 use Rattle.wkb_laws.specs.Words.{multi_point, multi_line_string, multi_polygon, collection, Values, no_members, member}
 use Rattle.wkb_laws.specs.Words.{kind, dimension, members, header}
 use Rattle.wkb_laws.specs.Words.{Spelling, node, Spellings, no_spellings, spelling, SpellsCoordinate, SpellsCoordinates}
-use Rattle.wkb_laws.specs.Words.{SpellsBody, Part, member_part, Spells}
+use Rattle.wkb_laws.specs.Words.{SpellsBody, Wanted, member_part, Spells}
 use Rattle.wkb_laws.specs.Words.{SpellsEach, srid_count, srid_count_each, Front, srid_size, Geometry, IsGeometry}
 use Rattle.wkb_laws.specs.Words.{normal, geometry_of, or_else, size_fault}
-use Rattle.wkb_laws.specs.Words.{form_srid, inner, text, fault, refusal, IsForm, IsWritable}
+use Rattle.wkb_laws.specs.Words.{form_srid, inner, encoding, fault, refusal, IsForm, IsWritable}
 use Rattle.wkb_laws.specs.Written.{written, HasOptions, AllHaveOptions}
 use Rattle.wkb_laws.specs.Encodings.{IsRewritable, SpelledIsWritable}
-use Rattle.wkb_laws.specs.Laws.{LengthOfText, LengthOfFront, FrontIsWritable, EwkbIsWritable, SizeIsRefused}
+use Rattle.wkb_laws.specs.Laws.{LengthOfEncoding, LengthOfFront, FrontIsWritable, EwkbIsWritable, SizeIsRefused}
 use Rattle.wkb_laws.specs.Laws.{OwnSridIsWritable}
 use Rattle.wkb_laws.proofs.Parts.{then_length, each_len, header_length}
 use Rattle.wkb_laws.proofs.Lists.{each_sum, each_same}
-use Rattle.wkb_laws.proofs.TextSpells.{inner_fits, text_spells, written_has_options}
+use Rattle.wkb_laws.proofs.EncodingSpells.{inner_fits, encoding_spells, written_has_options}
 use Rattle.wkb_laws.proofs.Values.{Good, spelled_good, front_good, front_bytes, outer_fits, normal-geometry_of}
 use Rattle.wkb_laws.proofs.Values.{lawful-geometry_of}
 
@@ -95,7 +95,7 @@ srid_size_is : (b : Bool) → srid_size b ≡ 4 * (if b then 1 else 0)
 srid_size_is true = refl
 srid_size_is false = refl
 
--- a text is as long as its value asks for, and four bytes for each SRID
+-- an encoding is as long as its value asks for, and four bytes for each SRID
 mutual
   pub spelled_length : (s : Spelling) (t : Value) (x : List ℕ) → Spells s t x → length x ≡ value_size t + 4 * srid_count s
   spelled_length (node h own ss) t x a =
@@ -104,7 +104,7 @@ mutual
       let tail = each_spelled_length (member_part (kind t) (dimension t)) ss (members t) a.second.rest a.second.second in
       omega (arith, then_length a, then_length a.second, value_size-members t, srid_size_is (is_some h.srid))
 
-  pub each_spelled_length : (w : Part) (ss : Spellings) (ts : Values) (x : List ℕ) → SpellsEach w ss ts x → length x ≡ each_size ts + 4 * srid_count_each ss
+  pub each_spelled_length : (w : Wanted) (ss : Spellings) (ts : Values) (x : List ℕ) → SpellsEach w ss ts x → length x ≡ each_size ts + 4 * srid_count_each ss
   each_spelled_length w no_spellings no_members x a = ap length a
   each_spelled_length w (spelling s ss) (member t ts) x a =
       omega (arith, each_spelled_length w ss ts a.rest a.second, spelled_length s t a.front a.first.0, then_length a)
@@ -123,32 +123,32 @@ mutual
       let mine : ◌≡◌ {A = ℕ} (if is_some h.srid then 1 else 0) (if is_some (form_srid form) then 1 else 0) = ap (λ z. if is_some z then 1 else 0) k.1 in
       omega (arith, no_srids order (inner form) ss (inner_fits form).1 k.2)
 
-pub text_length : (order : Endianness) (form : Form) (g : Geometry) → IsForm form → IsGeometry g → fault g ≡ None
-    → length (text order form g) ≡ value_size (normal g) + 4 * (if is_some (form_srid form) then 1 else 0)
-text_length order form g h lawful fine =
+pub encoding_length : (order : Endianness) (form : Form) (g : Geometry) → IsForm form → IsGeometry g → fault g ≡ None
+    → length (encoding order form g) ≡ value_size (normal g) + 4 * (if is_some (form_srid form) then 1 else 0)
+encoding_length order form g h lawful fine =
     let one = srid_counted order form (written order form g) (written_has_options order form g) in
-    omega (arith, spelled_length (written order form g) (normal g) (text order form g) (text_spells order form g h lawful fine))
+    omega (arith, spelled_length (written order form g) (normal g) (encoding order form g) (encoding_spells order form g h lawful fine))
 
-pub length_of_text_lem : LengthOfText
-length_of_text_lem order other form g h lawful fine =
-    omega (arith, text_length order form g h lawful fine, text_length other Iso g tt lawful fine)
+pub length_of_encoding_lem : LengthOfEncoding
+length_of_encoding_lem order other form g h lawful fine =
+    omega (arith, encoding_length order form g h lawful fine, encoding_length other Iso g tt lawful fine)
 
 -- what bytes spell is written in as many, less four for each SRID
 spelled_written : (order : Endianness) (s : Spelling) (t : Value) (x : List ℕ) → AreBytes x → Spells s t x
-    → length x ≡ length (text order Iso (geometry_of t)) + 4 * srid_count s
+    → length x ≡ length (encoding order Iso (geometry_of t)) + 4 * srid_count s
 spelled_written order s t x b h =
     let good = spelled_good s t x b h in
-    let written : length (text order Iso (geometry_of t)) ≡ value_size (normal (geometry_of t)) + 0 =
-    text_length order Iso (geometry_of t) tt (lawful-geometry_of t good.0) good.1 in
+    let written : length (encoding order Iso (geometry_of t)) ≡ value_size (normal (geometry_of t)) + 0 =
+    encoding_length order Iso (geometry_of t) tt (lawful-geometry_of t good.0) good.1 in
     omega (arith, spelled_length s t x h, ap value_size (normal-geometry_of t good.0))
 
 pub length_of_front_lem : LengthOfFront
 length_of_front_lem order input s t rest b f = spelled_written order s t f.front (front_bytes input s t rest b f) f.spelled
 
 -- what is refused of a good value is its length alone
-size_refused : (order : Endianness) (form : Form) (t : Value) → Good t → refusal order form (geometry_of t) ≡ size_fault (length (text order form (geometry_of t)))
+size_refused : (order : Endianness) (form : Form) (t : Value) → Good t → refusal order form (geometry_of t) ≡ size_fault (length (encoding order form (geometry_of t)))
 unfolding or_else
-size_refused order form t good = ap (λ z. or_else z (size_fault (length (text order form (geometry_of t))))) good.1
+size_refused order form t good = ap (λ z. or_else z (size_fault (length (encoding order form (geometry_of t))))) good.1
 
 pub size_is_refused_lem : SizeIsRefused
 size_is_refused_lem order form input s t rest b f = size_refused order form t (front_good input s t rest b f)
@@ -160,9 +160,9 @@ unfolding size_fault
 fits order form s t x b small h form_is fewer =
     let good = spelled_good s t x b h in
     let long = spelled_length s t x h in
-    let len = text_length order form (geometry_of t) form_is (lawful-geometry_of t good.0) good.1 in
+    let len = encoding_length order form (geometry_of t) form_is (lawful-geometry_of t good.0) good.1 in
     let same : value_size (normal (geometry_of t)) ≡ value_size t = ap value_size (normal-geometry_of t good.0) in
-    size_refused order form t good ∙ cond-true (nat_lt (length (text order form (geometry_of t))) (2 ^ 64)) _ _ (lt-ltb _ _ (omega arith))
+    size_refused order form t good ∙ cond-true (nat_lt (length (encoding order form (geometry_of t))) (2 ^ 64)) _ _ (lt-ltb _ _ (omega arith))
 
 outer_counted : (s : Spelling) → ◌≤◌ (if is_some (header s).srid then 1 else 0) (srid_count s)
 outer_counted (node h own ss) = omega arith

@@ -1,11 +1,11 @@
 pub mod OneFront
 pub mod Parts
 pub mod Lists
-pub mod TextSpells
+pub mod EncodingSpells
 pub mod Values
 pub mod Rewritings
 pub mod Lengths
-pub mod TextSizes
+pub mod EncodingSizes
 pub mod Bounds
 pub mod Heads
 pub mod Bodies
@@ -16,6 +16,6 @@ pub mod Outcomes
 pub mod Cut
 pub mod Rows
 pub mod Spelled
-pub mod OneText
+pub mod OneEncoding
 pub mod PartsInPlace
-pub mod TextBytes
+pub mod EncodingBytes

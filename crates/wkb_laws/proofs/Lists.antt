@@ -5,7 +5,7 @@ use Rattle.std.proofs.Common.{if◌then◌else◌}
 use Rattle.std.proofs.lemmas.List.Sums.{sum_by-cons}
 use Rattle.std.specs.List.{AllByRecursion}
 use Rattle.wkb_laws.specs.Words.{Values, no_members, member, Value, each, count, Dimension, Layout, general}
-use Rattle.wkb_laws.specs.Words.{ShortMultiPoint, Part, any, part, multi_point_end}
+use Rattle.wkb_laws.specs.Words.{ShortMultiPoint, Wanted, any, part, multi_point_end}
 use Rattle.wkb_laws.specs.Words.{Reading, Item, collection_with, list_item, multi_line_string_with, multi_point_with}
 use Rattle.wkb_laws.specs.Words.{multi_polygon_with, parts_body, refused}
 
@@ -36,7 +36,7 @@ by_list_kind Q a b c d (suc (suc (suc (suc (suc (suc (suc zero))))))) low high =
 by_list_kind Q a b c d _ low high = absurd (omega arith)
 
 -- a part that is a member: of any kind, or a point, a line string or a polygon
-abbrev pub IsWanted : Part → Type 0
+abbrev pub IsWanted : Wanted → Type 0
 IsWanted any = Unit {0}
 IsWanted (part k d) = k ≤ 3
 

@@ -2,7 +2,7 @@
 use Rattle.std.proofs.Common.{◌≡◌, ◌⊎◌, ℕ, suc, ◌+◌, ◌≤◌, List, ◌++◌, refl, sym, ap, ◌∙◌, subst, arith, inl, inr, Ok}
 use Rattle.std.proofs.Common.{Err}
 use Rattle.wkb_laws.specs.Words.{Values, no_members, member, count, nest_each, member_count_each, Spellings}
-use Rattle.wkb_laws.specs.Words.{no_spellings, spelling, Part, any, SpellsEach}
+use Rattle.wkb_laws.specs.Words.{no_spellings, spelling, Wanted, any, SpellsEach}
 use Rattle.wkb_laws.specs.Words.{Cause, room_inside, Refuses, bad_member, RefusesEach, this_member, later_member}
 use Rattle.wkb_laws.specs.Words.{Reading, Item}
 use Rattle.wkb_geom.specs.Reading as reading
@@ -22,17 +22,17 @@ read_or_refused_lem input = either input _ (geometry_agrees_lem input)
 pub never_both_lem : NeverBoth
 never_both_lem input s t rest cause turns slots f r =
     let both = sym (front_is_read_lem input s t rest f) ∙ refusal_is_read_lem input cause turns slots r in
-    let answers : ◌≡◌ {A = reading.Part Item} (Ok (record { text = f.front; spelled = s; value = t }, rest)) (Err cause) = ap (λ z. z.1) both in
+    let answers : ◌≡◌ {A = reading.Outcome Item} (Ok (record { encoding = f.front; spelled = s; value = t }, rest)) (Err cause) = ap (λ z. z.1) both in
     cc
 
 pub one_refusal_lem : OneRefusal
 one_refusal_lem input cause other turns turns' slots slots' r q =
     let same = sym (refusal_is_read_lem input cause turns slots r) ∙ refusal_is_read_lem input other turns' slots' q in
-    let answers : ◌≡◌ {A = reading.Part Item} (Err cause) (Err other) = ap (λ z. z.1) same in
+    let answers : ◌≡◌ {A = reading.Outcome Item} (Err cause) (Err other) = ap (λ z. z.1) same in
     (cc, ap (λ z. z.0.turns) same, ap (λ z. z.0.slots) same)
 
 -- a refused member behind some that are spelled
-refused_behind : (room : ℕ) (w : Part) (more : ℕ) (ss : Spellings) (ts : Values) (input x rest : List ℕ) (c : Cause) (b z : ℕ)
+refused_behind : (room : ℕ) (w : Wanted) (more : ℕ) (ss : Spellings) (ts : Values) (input x rest : List ℕ) (c : Cause) (b z : ℕ)
     → input ≡ x ++ rest → SpellsEach w ss ts x → nest_each ts ≤ room → Refuses room w rest c b z
     → RefusesEach room w (count ts + suc more) input c (member_count_each ts + (1 + b)) (listed_inside ts + z)
 refused_behind room w more no_spellings no_members input x rest c b z e h shallow r =

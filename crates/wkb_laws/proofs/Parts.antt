@@ -11,7 +11,7 @@ use Rattle.wkb_laws.specs.Words.{Opens}
 use Rattle.wkb_geom.specs.Items.{number-take as number_taken}
 pub use Rattle.wkb_geom.specs.Reading.{items}
 
--- how long a text of two parts is, and what it is in front of others
+-- how long an encoding of two parts is, and what it is in front of others
 pub then_length : {P Q : List ℕ → Type 0} {x : List ℕ} (a : Then P Q x) → length x ≡ length a.front + length a.rest
 then_length a = ap length a.whole ∙ length-append a.front a.rest
 

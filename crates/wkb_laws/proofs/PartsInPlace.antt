@@ -6,7 +6,7 @@ use Rattle.wkb_laws.specs.Words.{Then, Endianness, Dimension, number, width, IsE
 use Rattle.wkb_laws.specs.Words.{line_string, polygon, no_members, member}
 use Rattle.wkb_laws.specs.Words.{kind, dimension, members, count, Header, Spelling, node, Spellings, no_spellings}
 use Rattle.wkb_laws.specs.Words.{spelling, header, IsHeader}
-use Rattle.wkb_laws.specs.Words.{SpellsCoordinates, SpellsBody, Part, any, member_part, Spells, SpellsEach, srid_size}
+use Rattle.wkb_laws.specs.Words.{SpellsCoordinates, SpellsBody, Wanted, any, member_part, Spells, SpellsEach, srid_size}
 use Rattle.wkb_laws.specs.Words.{ring_end, coordinate, AreBytes}
 use Rattle.wkb_laws.specs.Places.{behind_count, IsOneOf, IsMember, first_spellings, first_values, ring_start, StandsAt}
 use Rattle.wkb_laws.specs.Places.{HoldsMember, MembersStand, HoldsRing}
@@ -15,7 +15,7 @@ use Rattle.wkb_laws.proofs.Parts.{then_append, take_front, drop_front, item_at, 
 use Rattle.wkb_laws.proofs.Values.{AreBytes-front, AreBytes-rest}
 use Rattle.wkb_laws.proofs.Lengths.{each_length, coordinates_length}
 use Rattle.wkb_laws.proofs.Complete.{ring_read}
-use Rattle.wkb_laws.proofs.OneText.{one_text_lem, coordinates_lem}
+use Rattle.wkb_laws.proofs.OneEncoding.{one_encoding_lem, coordinates_lem}
 use Rattle.wkb_laws.proofs.Spelled.{first_length}
 
 -- a header and a count
@@ -25,7 +25,7 @@ head_len g k d header count h four = omega (arith, length-append header count, h
 
 -- ---- items one behind another
 
--- the text of one item among those of others
+-- the encoding of one item among those of others
 record Among (Others P : List ℕ → Type 0) (bytes : List ℕ) : Type 0 where
   pub before : List ℕ
   pub item : List ℕ
@@ -86,12 +86,12 @@ line_string_words_lem (node g own ss) d cs bytes rest i n w h is =
 -- ---- rings
 
 pub rings_lem : RingsStand
-rings_lem whole d rings j ring h value_is is = rings_of whole.text whole.spelled whole.value d rings j ring h value_is is
+rings_lem whole d rings j ring h value_is is = rings_of whole.encoding whole.spelled whole.value d rings j ring h value_is is
   where
-    rings_of : (text : List ℕ) (s : Spelling) (t : Value) (d : Dimension) (rings : List (List Coordinate)) (j : ℕ) (ring : List Coordinate)
-        → Spells s t text → t ≡ polygon d rings → slice_get rings j ≡ Some ring → HoldsRing (record { text = text; spelled = s; value = t }) j ring
-    rings_of text (node g own ss) t d rings j ring spelled value_is is =
-        let h = subst (λ v. Spells (node g own ss) v text) value_is spelled in
+    rings_of : (encoding : List ℕ) (s : Spelling) (t : Value) (d : Dimension) (rings : List (List Coordinate)) (j : ℕ) (ring : List Coordinate)
+        → Spells s t encoding → t ≡ polygon d rings → slice_get rings j ≡ Some ring → HoldsRing (record { encoding = encoding; spelled = s; value = t }) j ring
+    rings_of encoding (node g own ss) t d rings j ring spelled value_is is =
+        let h = subst (λ v. Spells (node g own ss) v encoding) value_is spelled in
         let body = h.second in
         let counted = body.first.1 in
         let f = each_at (SpellsCoordinates g.order d) rings j ring counted.rest counted.second is in
@@ -125,8 +125,8 @@ rings_lem whole d rings j ring h value_is is = rings_of whole.text whole.spelled
 
 -- ---- members
 
--- one member's text among those of the others
-member_at : (w : Part) (k : ℕ) (ss : Spellings) (ts : Values) (s : Spelling) (t : Value) (bytes : List ℕ) → SpellsEach w ss ts bytes → IsOneOf k ss ts s t
+-- one member's encoding among those of the others
+member_at : (w : Wanted) (k : ℕ) (ss : Spellings) (ts : Values) (s : Spelling) (t : Value) (bytes : List ℕ) → SpellsEach w ss ts bytes → IsOneOf k ss ts s t
     → Among (SpellsEach any (first_spellings k ss) (first_values k ts)) (Spells s t) bytes
 member_at w zero (spelling a ss) (member v ts) s t bytes h is =
     first_is h (subst (λ u. Spells u t h.front) (sym is.0) (subst (λ u. Spells a u h.front) (sym is.1) h.first.0)) refl
@@ -149,9 +149,9 @@ count_len order own (line_string d cs) k ss s t bytes is h = absurd (has_none k 
 count_len order own (polygon d rings) k ss s t bytes is h = absurd (has_none k ss s t is)
 count_len order own _ k ss s t bytes is h = h.1.len
 
-members_by : (text : List ℕ) (u : Spelling) (v : Value) (k : ℕ) (s : Spelling) (t : Value) → Spells u v text → IsMember k u v s t
-    → (bytes : List ℕ) × HoldsMember (record { text = text; spelled = u; value = v }) k (record { text = bytes; spelled = s; value = t })
-members_by text (node g own ss) v k s t h is =
+members_by : (encoding : List ℕ) (u : Spelling) (v : Value) (k : ℕ) (s : Spelling) (t : Value) → Spells u v encoding → IsMember k u v s t
+    → (bytes : List ℕ) × HoldsMember (record { encoding = encoding; spelled = u; value = v }) k (record { encoding = bytes; spelled = s; value = t })
+members_by encoding (node g own ss) v k s t h is =
     let body = h.second in
     let f = member_at (member_part (kind v) (dimension v)) k ss (members v) s t body.rest body.second is in
     let counted = head_len g (kind v) (dimension v) h.front body.front h.first (count_len g.order own v k ss s t body.front is body.first) in (
@@ -173,7 +173,7 @@ members_by text (node g own ss) v k s t h is =
     )
 
 pub members_lem : MembersStand
-members_lem whole k s t h is = members_by whole.text whole.spelled whole.value k s t h is
+members_lem whole k s t h is = members_by whole.encoding whole.spelled whole.value k s t h is
 
 -- ---- whatever spells a part is the whole's bytes at its place
 
@@ -195,9 +195,9 @@ members_in_place_lem whole k part b b' h h' is =
     let m = members_lem whole k part.spelled part.value h is in
     let held = m.1 in
     let inside = inner_bytes held.head held.before m.0 held.after (subst AreBytes held.parts b) in
-    let same : m.0 ≡ part.text = one_text_lem part.spelled part.value m.0 part.text inside b' held.spells h' in
-    subst (λ n. StandsAt n part.text whole.text) held.place
-    (subst (λ x. StandsAt held.start x whole.text) same (placed whole.text held.head held.before m.0 held.after held.start held.parts held.start_is))
+    let same : m.0 ≡ part.encoding = one_encoding_lem part.spelled part.value m.0 part.encoding inside b' held.spells h' in
+    subst (λ n. StandsAt n part.encoding whole.encoding) held.place
+    (subst (λ x. StandsAt held.start x whole.encoding) same (placed whole.encoding held.head held.before m.0 held.after held.start held.parts held.start_is))
 
 pub rings_in_place_lem : RingsInPlace
 rings_in_place_lem whole d rings j ring bytes b b' h h' value_is is =
@@ -209,5 +209,5 @@ rings_in_place_lem whole d rings j ring bytes b b' h h' value_is is =
     let spelled = subst (λ e. SpellsCoordinates (header whole.spelled).order e ring held.bytes) dimension_is held.spells in
     let same : held.bytes ≡ bytes = coordinates_lem (header whole.spelled).order d ring held.bytes bytes inside b' spelled h' in
     let place : held.start ≡ ring_start j whole.spelled d rings = held.place ∙ (λ i. ring_start j whole.spelled (dimension_is i) (rings_are i)) in
-    subst (λ n. StandsAt n bytes whole.text) place
-    (subst (λ x. StandsAt held.start x whole.text) same (placed whole.text held.head held.before held.bytes held.after held.start held.parts held.start_is))
+    subst (λ n. StandsAt n bytes whole.encoding) place
+    (subst (λ x. StandsAt held.start x whole.encoding) same (placed whole.encoding held.head held.before held.bytes held.after held.start held.parts held.start_is))

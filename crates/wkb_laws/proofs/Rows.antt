@@ -12,9 +12,9 @@ use Rattle.wkb_laws.specs.Words.{listed_count, point, line_string, polygon, mult
 use Rattle.wkb_laws.specs.Words.{multi_polygon, collection, member, no_members, any}
 use Rattle.wkb_laws.specs.Words.{header, Spelling, node, Spellings, no_spellings, spelling, max_nesting, Front, Cause}
 use Rattle.wkb_laws.specs.Words.{end_of_input, general, incorrect_type}
-use Rattle.wkb_laws.specs.Words.{nesting_depth_exceeded, Refuses, geometry_of, text, code_of, srid_text, header_text}
-use Rattle.wkb_laws.specs.Words.{words_text, coordinates_text, point_words}
-use Rattle.wkb_laws.specs.Words.{point_text, line_string_text, polygon_text, members_text, Reading, Item, geometry_at}
+use Rattle.wkb_laws.specs.Words.{nesting_depth_exceeded, Refuses, geometry_of, encoding, code_of, srid_encoding, header_encoding}
+use Rattle.wkb_laws.specs.Words.{words_encoding, coordinates_encoding, point_words}
+use Rattle.wkb_laws.specs.Words.{point_encoding, line_string_encoding, polygon_encoding, members_encoding, Reading, Item, geometry_at}
 use Rattle.wkb_laws.specs.Words.{by_type, head_at, meaning_of, point_at}
 use Rattle.wkb_laws.specs.Words.{line_string_at, ring_at, polygon_at, multi_point_at, multi_line_string_at}
 use Rattle.wkb_laws.specs.Words.{multi_polygon_at, collection_at, repeated}
@@ -28,7 +28,7 @@ data Answer : Type 0 where
   refused : Cause → ℕ → ℕ → Answer
 
 abbrev answer_of : Reading Item → Answer
-answer_of (cost, Ok x) = accepted (kind x.0.value) (dimension x.0.value) (length x.0.text) cost.turns cost.slots
+answer_of (cost, Ok x) = accepted (kind x.0.value) (dimension x.0.value) (length x.0.encoding) cost.turns cost.slots
 answer_of (cost, Err cause) = refused cause cost.turns cost.slots
 
 -- what an input is read as, computed
@@ -266,8 +266,8 @@ own_srids = refl
 
 -- what is written for a value, computed
 written : Endianness → Form → Value → List ℕ
-unfolding number_bytes code_of srid_text header_text words_text coordinates_text point_words point_text line_string_text polygon_text members_text
-written order form t = text order form (geometry_of t)
+unfolding number_bytes code_of srid_encoding header_encoding words_encoding coordinates_encoding point_words point_encoding line_string_encoding polygon_encoding members_encoding
+written order form t = encoding order form (geometry_of t)
 
 -- what an input is rewritten to, under this form or with its own outermost SRID
 rewritten : Endianness → Form → List ℕ → Option (List ℕ)
@@ -344,7 +344,7 @@ bytes_behind = hex "ffffffff"
 
 length_of : List ℕ → Option ℕ
 unfolding read
-length_of input = of_item (λ i. length i.text) (read input)
+length_of input = of_item (λ i. length i.encoding) (read input)
 
 abbrev again : Option (List ℕ) → Option (List ℕ)
 again None = None

@@ -3,7 +3,7 @@ use Rattle.std.proofs.Common.{◌≡◌, ℕ, zero, suc, ◌-◌, ◌≤◌, Lis
 use Rattle.std.proofs.Common.{refl, ap, subst, arith, lit<, lit≤}
 use Rattle.std.proofs.Common.{eqb-true, eq-eqb}
 use Rattle.std.proofs.lemmas.Bool.{and_parts, and_from, both_ways, cond_both}
-use Rattle.wkb_laws.specs.Words.{Dimension, Head, Layout, WkbType, thousands, Part, any, part, IsPart, Opens, IsAllowed}
+use Rattle.wkb_laws.specs.Words.{Dimension, Head, Layout, WkbType, thousands, Wanted, any, part, IsPart, Opens, IsAllowed}
 use Rattle.wkb_laws.specs.Words.{too_deep, wrong_part, Reading, Item}
 use Rattle.wkb_laws.specs.Words.{type_kind, type_dimension, laid, layout_of, body_at, by_type, collection_at}
 use Rattle.wkb_laws.specs.Words.{geometry_at, is_member, layout_wanted, member_at}
@@ -38,7 +38,7 @@ pub is_passed : (k : ℕ) (d : Dimension) (h : Head) → IsWantedHead k d h → 
 is_passed k d h p = and_from _ _ (eq-eqb _ k p.0) (and_from _ _ (eq-eqb _ (thousands d) (ap thousands p.1)) (may_stand k h.has_srid p.2))
 
 module _ (room : ℕ) where
-  leaf_says : (w : Part) (input : List ℕ) (k : ℕ) (l : Layout) → k ≤ 3 → Opened input k l → IsPart w k l.dimension l.has_srid
+  leaf_says : (w : Wanted) (input : List ℕ) (k : ℕ) (l : Layout) → k ≤ 3 → Opened input k l → IsPart w k l.dimension l.has_srid
       → IsRight room w input (member_body k l input)
   leaf_says w input zero l few o p = let low = o.meaning.kind.low in absurd (omega arith)
   leaf_says w input (suc zero) l few o p = point_says room w input l o p

@@ -23,14 +23,14 @@ use Rattle.wkb_laws.proofs.Complete.{found, front_at}
 full_by : (s : Spelling) (t : Value) (bytes : List ℕ) (r : Reading Item) → IsRight (nest t) any bytes r → ∥ Spells s t bytes ∥₁
     → (Spells s t bytes → r ≡ found s t bytes []) → Spells s t bytes
 full_by s t bytes (cost, Ok x) right spelled read =
-    let item : Item = record { text = bytes; spelled = s; value = t } in
+    let item : Item = record { encoding = bytes; spelled = s; value = t } in
     let same : x.0 ≡ item = ∥∥₁_elim spelled (Coded-set item_code x.0 item) (λ h.
-    let answers : ◌≡◌ {A = reading.Part Item} (Ok x) (Ok (item, [])) = ap (λ z. z.1) (read h) in
+    let answers : ◌≡◌ {A = reading.Outcome Item} (Ok x) (Ok (item, [])) = ap (λ z. z.1) (read h) in
     let one : ◌≡◌ {A = Item × List ℕ} x (item, []) = cc in
     ap (λ z. z.0) one) in
-    subst (λ (i : Item). Spells i.spelled i.value i.text) same right.spelled
+    subst (λ (i : Item). Spells i.spelled i.value i.encoding) same right.spelled
 full_by s t bytes (cost, Err cause) right spelled read = absurd (∥∥₁_elim spelled (hlevel props) (λ h.
-    let answers : ◌≡◌ {A = reading.Part Item} (Err cause) (Ok (record { text = bytes; spelled = s; value = t }, [])) = ap (λ z. z.1) (read h) in
+    let answers : ◌≡◌ {A = reading.Outcome Item} (Err cause) (Ok (record { encoding = bytes; spelled = s; value = t }, [])) = ap (λ z. z.1) (read h) in
     absurd cc))
 
 pub in_full_lem : SpelledInFull

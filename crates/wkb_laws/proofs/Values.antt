@@ -14,7 +14,7 @@ use Rattle.wkb_laws.specs.Words.{multi_line_string, multi_polygon, collection, V
 use Rattle.wkb_laws.specs.Words.{no_members, member, kind, dimension, members, each, count, IsCoordinate, IsPoint}
 use Rattle.wkb_laws.specs.Words.{AreCoordinates, IsValue, AreValues, header}
 use Rattle.wkb_laws.specs.Words.{IsSrid, Spelling, node, Spellings, no_spellings, spelling, SpellsCoordinate}
-use Rattle.wkb_laws.specs.Words.{SpellsCoordinates, SpellsBody, Part, member_part}
+use Rattle.wkb_laws.specs.Words.{SpellsCoordinates, SpellsBody, Wanted, member_part}
 use Rattle.wkb_laws.specs.Words.{Spells, SpellsEach, normal, normal_each, normal_point, geometry_of, geometries_of}
 use Rattle.wkb_laws.specs.Words.{Ewkb, Front, IsForm, count_fault}
 use Rattle.wkb_laws.specs.Words.{first_fault, coordinates_fault, rings_fault, fault, fault_each, count_geometries}
@@ -166,7 +166,7 @@ mutual
       value_good h.order own t a.second.front bytes.0 a.second.first
       (each_spelled_good (member_part (kind t) (dimension t)) ss (members t) a.second.rest bytes.1 a.second.second)
 
-  pub each_spelled_good : (w : Part) (ss : Spellings) (ts : Values) (x : List ℕ) → AreBytes x → SpellsEach w ss ts x → GoodEach ts
+  pub each_spelled_good : (w : Wanted) (ss : Spellings) (ts : Values) (x : List ℕ) → AreBytes x → SpellsEach w ss ts x → GoodEach ts
   each_spelled_good w no_spellings no_members x b a = (tt, refl)
   each_spelled_good w (spelling s ss) (member t ts) x b a =
       let bytes = bytes_of a b in

@@ -2,7 +2,7 @@
 use Rattle.std.proofs.Common.{◌≡◌, ◌↔◌, ℕ, ◌+◌, ◌*◌, ◌<◌, ◌^◌, List, length, Option, None}
 use Rattle.wkb_laws.specs.Words.{Endianness, Form, Iso, Ewkb, AreBytes, Value, Spelling, header, srid_count, Spells}
 use Rattle.wkb_laws.specs.Words.{IsGeometry, normal, geometry_of, byte_size}
-use Rattle.wkb_laws.specs.Words.{text, IsForm, IsWritable}
+use Rattle.wkb_laws.specs.Words.{encoding, IsForm, IsWritable}
 
 -- the bytes of a value by its spelling: its size in ISO codes, and four for each SRID
 abbrev pub spelled_size : Spelling → Value → ℕ
@@ -22,7 +22,7 @@ pub record IsRewritable (s : Spelling) (t : Value) (bytes : List ℕ) : Type 0 w
   pub lawful : IsGeometry (geometry_of t)
   pub normal_is : normal (geometry_of t) ≡ t
   pub iso : (order : Endianness) → IsWritable order Iso (geometry_of t)
-  pub size : (order : Endianness) → length bytes ≡ length (text order Iso (geometry_of t)) + 4 * srid_count s
+  pub size : (order : Endianness) → length bytes ≡ length (encoding order Iso (geometry_of t)) + 4 * srid_count s
   pub ewkb : (order : Endianness) → IsWritable order (Ewkb None) (geometry_of t)
   pub own_form : IsForm (Ewkb (header s).srid)
   pub own_srid : (order : Endianness) → IsWritable order (Ewkb (header s).srid) (geometry_of t)
@@ -36,10 +36,10 @@ SpelledIsWritable =
 abbrev pub EqualSpelled : Type 0
 EqualSpelled = (order : Endianness) (form : Form) (s u : Spelling) (t v : Value) (x y : List ℕ)
     → IsForm form → AreBytes x → AreBytes y → Spells s t x → Spells u v y
-    → (text order form (geometry_of t) ≡ text order form (geometry_of v)) ↔ (t ≡ v)
+    → (encoding order form (geometry_of t) ≡ encoding order form (geometry_of v)) ↔ (t ≡ v)
 
 -- The same under EWKB, where each is written with some SRID or without one.
 abbrev pub EqualSpelledWithSrid : Type 0
 EqualSpelledWithSrid = (order : Endianness) (i j : Option ℕ) (s u : Spelling) (t v : Value) (x y : List ℕ)
     → IsForm (Ewkb i) → IsForm (Ewkb j) → AreBytes x → AreBytes y → Spells s t x → Spells u v y
-    → (text order (Ewkb i) (geometry_of t) ≡ text order (Ewkb j) (geometry_of v)) ↔ ((t ≡ v) × (i ≡ j))
+    → (encoding order (Ewkb i) (geometry_of t) ≡ encoding order (Ewkb j) (geometry_of v)) ↔ ((t ≡ v) × (i ≡ j))

@@ -4,11 +4,11 @@ use Rattle.std.proofs.Common.{None, Bool, ◌^◌, is_some, if◌then◌else◌}
 use Rattle.std.proofs.Common.{Option}
 use Rattle.wkb_laws.specs.Words.{Endianness, Dimension, Form, Iso, Ewkb, AreBytes, Value, Values, no_members, member}
 use Rattle.wkb_laws.specs.Words.{count, nest, nest_each, member_count}
-use Rattle.wkb_laws.specs.Words.{member_count_each, listed_count, Spelling, Spellings, Spells, SpellsEach, Part, any}
+use Rattle.wkb_laws.specs.Words.{member_count_each, listed_count, Spelling, Spellings, Spells, SpellsEach, Wanted, any}
 use Rattle.wkb_laws.specs.Words.{srid_count, header, Front, max_nesting}
 use Rattle.wkb_laws.specs.Words.{ShortPoint, ShortLineString, ShortLinearRing, ShortMultiPoint, Cause, end_of_input}
 use Rattle.wkb_laws.specs.Words.{general, slots_asked, Counts, Refuses}
-use Rattle.wkb_laws.specs.Words.{named, dimensions, Geometry, IsGeometry, normal, geometry_of, byte_size, text, fault}
+use Rattle.wkb_laws.specs.Words.{named, dimensions, Geometry, IsGeometry, normal, geometry_of, byte_size, encoding, fault}
 use Rattle.wkb_laws.specs.Words.{size_fault, refusal, form_srid, IsForm}
 use Rattle.wkb_laws.specs.Words.{IsWritable, IsRewriting, IsRewritingWithSrid, Reading, Item, geometry_at}
 use Rattle.wkb_laws.specs.Written.{HasOptions}
@@ -58,7 +58,7 @@ listed_inside (member t ts) = listed_count t + listed_inside ts
 -- A member's refusal is that of the collection round it, once the members before it are counted, itself, and the
 -- collection's own list.
 abbrev pub RefusedOutward : Type 0
-RefusedOutward = (room : ℕ) (w : Part) (input : List ℕ) (order : Endianness) (d : Dimension) (srid : Bool) (n : ℕ) (behind : List ℕ)
+RefusedOutward = (room : ℕ) (w : Wanted) (input : List ℕ) (order : Endianness) (d : Dimension) (srid : Bool) (n : ℕ) (behind : List ℕ)
     (more : ℕ) (ss : Spellings) (ts : Values) (x rest : List ℕ) (cause : Cause) (turns slots : ℕ)
     → Counts room w input order 7 d srid n behind → behind ≡ x ++ rest → SpellsEach any ss ts x → nest_each ts ≤ room - 1
     → n ≡ count ts + suc more
@@ -83,7 +83,7 @@ CutIsRefused = (input : List ℕ) (s : Spelling) (t : Value) (rest x y : List �
 -- own
 abbrev pub Agrees : List ℕ → Reading Item → Type 0
 Agrees input (cost, Ok x) =
-    (f : Front input x.0.spelled x.0.value x.1) × (cost.turns ≡ member_count x.0.value) × (cost.slots ≡ listed_count x.0.value) × (f.front ≡ x.0.text)
+    (f : Front input x.0.spelled x.0.value x.1) × (cost.turns ≡ member_count x.0.value) × (cost.slots ≡ listed_count x.0.value) × (f.front ≡ x.0.encoding)
 Agrees input (cost, Err cause) = Refuses max_nesting any input cause cost.turns cost.slots
 
 -- So is what it answers for every input.
@@ -93,7 +93,7 @@ GeometryAgrees = (input : List ℕ) → Agrees input (geometry_at max_nesting in
 -- A front is what reading answers, with its bytes, its turns and its entries.
 abbrev pub FrontIsRead : Type 0
 FrontIsRead = (input : List ℕ) (s : Spelling) (t : Value) (rest : List ℕ) → (f : Front input s t rest)
-    → geometry_at max_nesting input ≡ (record { turns = member_count t; slots = listed_count t }, Ok (record { text = f.front; spelled = s; value = t }, rest))
+    → geometry_at max_nesting input ≡ (record { turns = member_count t; slots = listed_count t }, Ok (record { encoding = f.front; spelled = s; value = t }, rest))
 
 -- A refusal is what reading answers.
 abbrev pub RefusalIsRead : Type 0
@@ -115,33 +115,33 @@ abbrev pub ReadingIsBounded : Type 0
 ReadingIsBounded = (input : List ℕ)
     → (4 * (geometry_at max_nesting input).0.turns ≤ length input + 4) × ((geometry_at max_nesting input).0.slots ≤ 15 * length input)
 
--- The text of a geometry without a fault spells its normal value, each geometry in the order of the options, the
+-- The encoding of a geometry without a fault spells its normal value, each geometry in the order of the options, the
 -- outermost with their SRID and no other with one.
-abbrev pub TextSpells : Type 0
-TextSpells = (order : Endianness) (form : Form) (g : Geometry) → IsForm form → IsGeometry g → fault g ≡ None
-    → (s : Spelling) × Spells s (normal g) (text order form g) × HasOptions order form s
+abbrev pub EncodingSpells : Type 0
+EncodingSpells = (order : Endianness) (form : Form) (g : Geometry) → IsForm form → IsGeometry g → fault g ≡ None
+    → (s : Spelling) × Spells s (normal g) (encoding order form g) × HasOptions order form s
 
 -- So it is read again as that value, in the order and with the SRID of the options, whatever follows it, unless its
 -- collections are nested too deep.
 abbrev pub WrittenIsRead : Type 0
 WrittenIsRead = (order : Endianness) (form : Form) (g : Geometry) (rest : List ℕ) → IsForm form → IsGeometry g → fault g ≡ None
     → nest (normal g) ≤ max_nesting
-    → (s : Spelling) × Front (text order form g ++ rest) s (normal g) rest × HasOptions order form s
+    → (s : Spelling) × Front (encoding order form g ++ rest) s (normal g) rest × HasOptions order form s
 
--- A text is as long as its geometry's size says, and four bytes longer where an SRID is written.
-abbrev pub TextHasSize : Type 0
-TextHasSize = (order : Endianness) (form : Form) (g : Geometry) → IsForm form → IsGeometry g → fault g ≡ None
-    → length (text order form g) ≡ byte_size g + 4 * (if is_some (form_srid form) then 1 else 0)
+-- An encoding is as long as its geometry's size says, and four bytes longer where an SRID is written.
+abbrev pub EncodingHasSize : Type 0
+EncodingHasSize = (order : Endianness) (form : Form) (g : Geometry) → IsForm form → IsGeometry g → fault g ≡ None
+    → length (encoding order form g) ≡ byte_size g + 4 * (if is_some (form_srid form) then 1 else 0)
 
--- A text has the same length in either order, and four bytes more where an SRID is written.
-abbrev pub LengthOfText : Type 0
-LengthOfText = (order other : Endianness) (form : Form) (g : Geometry) → IsForm form → IsGeometry g → fault g ≡ None
-    → length (text order form g) ≡ length (text other Iso g) + 4 * (if is_some (form_srid form) then 1 else 0)
+-- An encoding has the same length in either order, and four bytes more where an SRID is written.
+abbrev pub LengthOfEncoding : Type 0
+LengthOfEncoding = (order other : Endianness) (form : Form) (g : Geometry) → IsForm form → IsGeometry g → fault g ≡ None
+    → length (encoding order form g) ≡ length (encoding other Iso g) + 4 * (if is_some (form_srid form) then 1 else 0)
 
 -- A geometry that was read is written in as many bytes, less four for each SRID in it.
 abbrev pub LengthOfFront : Type 0
 LengthOfFront = (order : Endianness) (input : List ℕ) (s : Spelling) (t : Value) (rest : List ℕ) → AreBytes input → (f : Front input s t rest)
-    → length f.front ≡ length (text order Iso (geometry_of t)) + 4 * srid_count s
+    → length f.front ≡ length (encoding order Iso (geometry_of t)) + 4 * srid_count s
 
 -- A value that was read is a lawful geometry that can be written, and its own normal value.
 abbrev pub FrontIsWritable : Type 0
@@ -155,10 +155,10 @@ EwkbIsWritable =
     (order : Endianness) (input : List ℕ) (s : Spelling) (t : Value) (rest : List ℕ) → AreBytes input → length input < 2 ^ 64 → Front input s t rest
     → IsWritable order (Ewkb None) (geometry_of t)
 
--- With any SRID it is refused for its size alone: where usize doesn't measure its text.
+-- With any SRID it is refused for its size alone: where usize doesn't measure its encoding.
 abbrev pub SizeIsRefused : Type 0
 SizeIsRefused = (order : Endianness) (form : Form) (input : List ℕ) (s : Spelling) (t : Value) (rest : List ℕ) → AreBytes input → Front input s t rest
-    → refusal order form (geometry_of t) ≡ size_fault (length (text order form (geometry_of t)))
+    → refusal order form (geometry_of t) ≡ size_fault (length (encoding order form (geometry_of t)))
 
 -- The SRID of its outermost geometry fits four bytes, and with it the value can be written.
 abbrev pub OwnSridIsWritable : Type 0
@@ -170,7 +170,7 @@ OwnSridIsWritable =
 abbrev pub RewritingIsRead : Type 0
 RewritingIsRead =
     (order : Endianness) (form : Form) (input : List ℕ) (s : Spelling) (t : Value) (rest more : List ℕ) → IsForm form → AreBytes input → Front input s t rest
-    → (u : Spelling) × Front (text order form (geometry_of t) ++ more) u t more × HasOptions order form u
+    → (u : Spelling) × Front (encoding order form (geometry_of t) ++ more) u t more × HasOptions order form u
 
 -- A rewriting is its own rewriting under the same options, and has no other.
 abbrev pub RewritingIsFixed : Type 0
@@ -183,22 +183,22 @@ RewritingWithSridIsFixed = (order : Endianness) (input out : List ℕ) → AreBy
     → IsRewritingWithSrid order out out × ((again : List ℕ) → IsRewritingWithSrid order out again → again ≡ out)
 
 -- Two inputs have equal values exactly where these are written alike.
-abbrev pub EqualTexts : Type 0
-EqualTexts = (order : Endianness) (form : Form) (a b : List ℕ) (s u : Spelling) (t v : Value) (rest more : List ℕ)
+abbrev pub EqualEncodings : Type 0
+EqualEncodings = (order : Endianness) (form : Form) (a b : List ℕ) (s u : Spelling) (t v : Value) (rest more : List ℕ)
     → IsForm form → AreBytes a → AreBytes b → Front a s t rest → Front b u v more
-    → (text order form (geometry_of t) ≡ text order form (geometry_of v)) ↔ (t ≡ v)
+    → (encoding order form (geometry_of t) ≡ encoding order form (geometry_of v)) ↔ (t ≡ v)
 
 -- The same under EWKB, where each is written with some SRID or without one.
-abbrev pub EqualTextsWithSrid : Type 0
-EqualTextsWithSrid = (order : Endianness) (i j : Option ℕ) (a b : List ℕ) (s u : Spelling) (t v : Value) (rest more : List ℕ)
+abbrev pub EqualEncodingsWithSrid : Type 0
+EqualEncodingsWithSrid = (order : Endianness) (i j : Option ℕ) (a b : List ℕ) (s u : Spelling) (t v : Value) (rest more : List ℕ)
     → IsForm (Ewkb i) → IsForm (Ewkb j) → AreBytes a → AreBytes b → Front a s t rest → Front b u v more
-    → (text order (Ewkb i) (geometry_of t) ≡ text order (Ewkb j) (geometry_of v)) ↔ ((t ≡ v) × (i ≡ j))
+    → (encoding order (Ewkb i) (geometry_of t) ≡ encoding order (Ewkb j) (geometry_of v)) ↔ ((t ≡ v) × (i ≡ j))
 
 -- Two inputs have equal values and equal outermost SRIDs exactly where they are written alike with their own SRIDs.
-abbrev pub EqualTextsWithOwnSrid : Type 0
-EqualTextsWithOwnSrid =
+abbrev pub EqualEncodingsWithOwnSrid : Type 0
+EqualEncodingsWithOwnSrid =
     (order : Endianness) (a b : List ℕ) (s u : Spelling) (t v : Value) (rest more : List ℕ) → AreBytes a → AreBytes b → Front a s t rest → Front b u v more
-    → (text order (Ewkb (header s).srid) (geometry_of t) ≡ text order (Ewkb (header u).srid) (geometry_of v)) ↔ ((t ≡ v) × ((header s).srid ≡ (header u).srid))
+    → (encoding order (Ewkb (header s).srid) (geometry_of t) ≡ encoding order (Ewkb (header u).srid) (geometry_of v)) ↔ ((t ≡ v) × ((header s).srid ≡ (header u).srid))
 
 -- A dimension's name is its own.
 abbrev pub NamedDimension : Type 0

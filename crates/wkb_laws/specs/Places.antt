@@ -8,17 +8,17 @@ use Rattle.wkb_laws.specs.Words.{SpellsEach, srid_size, ring_end, Item}
 use Rattle.wkb_laws.specs.Encodings.{spelled_size}
 
 -- A spelling and a value leave no byte open.
-abbrev pub HasOneText : Type 0
-HasOneText = (s : Spelling) (t : Value) (x y : List ℕ) → AreBytes x → AreBytes y → Spells s t x → Spells s t y → x ≡ y
+abbrev pub HasOneEncoding : Type 0
+HasOneEncoding = (s : Spelling) (t : Value) (x y : List ℕ) → AreBytes x → AreBytes y → Spells s t x → Spells s t y → x ≡ y
 
 -- A count and coordinates leave no byte open either, as a line string or a ring has them,
-abbrev pub HaveOneText : Type 0
-HaveOneText = (order : Endianness) (d : Dimension) (cs : List Coordinate) (x y : List ℕ) → AreBytes x → AreBytes y
+abbrev pub HaveOneEncoding : Type 0
+HaveOneEncoding = (order : Endianness) (d : Dimension) (cs : List Coordinate) (x y : List ℕ) → AreBytes x → AreBytes y
     → SpellsCoordinates order d cs x → SpellsCoordinates order d cs y → x ≡ y
 
 -- nor does a coordinate by itself.
-abbrev pub CoordinateHasOneText : Type 0
-CoordinateHasOneText = (order : Endianness) (d : Dimension) (c : Coordinate) (x y : List ℕ) → AreBytes x → AreBytes y
+abbrev pub CoordinateHasOneEncoding : Type 0
+CoordinateHasOneEncoding = (order : Endianness) (d : Dimension) (c : Coordinate) (x y : List ℕ) → AreBytes x → AreBytes y
     → SpellsCoordinate order d c x → SpellsCoordinate order d c y → x ≡ y
 
 -- how many bytes stand before the parts of a geometry with a count: the order byte, the code, the SRID and the count
@@ -77,9 +77,9 @@ pub record HoldsMember (whole : Item) (k : ℕ) (part : Item) : Type 0 where
   pub before : List ℕ
   pub after : List ℕ
   pub is : IsMember k whole.spelled whole.value part.spelled part.value
-  pub spells : Spells part.spelled part.value part.text
+  pub spells : Spells part.spelled part.value part.encoding
   pub others : SpellsFirst k whole.spelled whole.value before
-  pub parts : whole.text ≡ head ++ (before ++ (part.text ++ after))
+  pub parts : whole.encoding ≡ head ++ (before ++ (part.encoding ++ after))
   pub counted : length head ≡ behind_count whole.spelled
   pub start_is : start ≡ length head + length before
   pub place : start ≡ member_start k whole.spelled whole.value
@@ -87,8 +87,8 @@ pub record HoldsMember (whole : Item) (k : ℕ) (part : Item) : Type 0 where
 -- Whatever spells a geometry with members holds the bytes of each.
 abbrev pub MembersStand : Type 0
 MembersStand = (whole : Item) (k : ℕ) (s : Spelling) (t : Value)
-    → Spells whole.spelled whole.value whole.text → IsMember k whole.spelled whole.value s t
-    → (bytes : List ℕ) × HoldsMember whole k (record { text = bytes; spelled = s; value = t })
+    → Spells whole.spelled whole.value whole.encoding → IsMember k whole.spelled whole.value s t
+    → (bytes : List ℕ) × HoldsMember whole k (record { encoding = bytes; spelled = s; value = t })
 
 -- A polygon's bytes are its head up to the count, those of j rings, those of this one, which are a count and its
 -- coordinates in the polygon's order, and others. It starts where the j rings end.
@@ -104,7 +104,7 @@ pub record HoldsRing (whole : Item) (j : ℕ) (ring : List Coordinate) : Type 0 
   pub is : slice_get rings j ≡ Some ring
   pub spells : SpellsCoordinates (header whole.spelled).order dimension ring bytes
   pub others : IsEach (SpellsCoordinates (header whole.spelled).order dimension) (take j rings) before
-  pub parts : whole.text ≡ head ++ (before ++ (bytes ++ after))
+  pub parts : whole.encoding ≡ head ++ (before ++ (bytes ++ after))
   pub counted : length head ≡ behind_count whole.spelled
   pub start_is : start ≡ length head + length before
   pub place : start ≡ ring_start j whole.spelled dimension rings
@@ -112,23 +112,23 @@ pub record HoldsRing (whole : Item) (j : ℕ) (ring : List Coordinate) : Type 0 
 -- Whatever spells a polygon holds the bytes of each ring.
 abbrev pub RingsStand : Type 0
 RingsStand = (whole : Item) (d : Dimension) (rings : List (List Coordinate)) (j : ℕ) (ring : List Coordinate)
-    → Spells whole.spelled whole.value whole.text → whole.value ≡ polygon d rings → slice_get rings j ≡ Some ring
+    → Spells whole.spelled whole.value whole.encoding → whole.value ≡ polygon d rings → slice_get rings j ≡ Some ring
     → HoldsRing whole j ring
 
 -- The bytes that spell a member are those of the whole at its place, and no others.
 abbrev pub MembersInPlace : Type 0
-MembersInPlace = (whole : Item) (k : ℕ) (part : Item) → AreBytes whole.text → AreBytes part.text
-    → Spells whole.spelled whole.value whole.text → Spells part.spelled part.value part.text
+MembersInPlace = (whole : Item) (k : ℕ) (part : Item) → AreBytes whole.encoding → AreBytes part.encoding
+    → Spells whole.spelled whole.value whole.encoding → Spells part.spelled part.value part.encoding
     → IsMember k whole.spelled whole.value part.spelled part.value
-    → StandsAt (member_start k whole.spelled whole.value) part.text whole.text
+    → StandsAt (member_start k whole.spelled whole.value) part.encoding whole.encoding
 
 -- So it is with the bytes that spell a ring, in the order of its polygon.
 abbrev pub RingsInPlace : Type 0
 RingsInPlace = (whole : Item) (d : Dimension) (rings : List (List Coordinate)) (j : ℕ) (ring : List Coordinate) (bytes : List ℕ)
-    → AreBytes whole.text → AreBytes bytes
-    → Spells whole.spelled whole.value whole.text → SpellsCoordinates (header whole.spelled).order d ring bytes
+    → AreBytes whole.encoding → AreBytes bytes
+    → Spells whole.spelled whole.value whole.encoding → SpellsCoordinates (header whole.spelled).order d ring bytes
     → whole.value ≡ polygon d rings → slice_get rings j ≡ Some ring
-    → StandsAt (ring_start j whole.spelled d rings) bytes whole.text
+    → StandsAt (ring_start j whole.spelled d rings) bytes whole.encoding
 
 -- the word of this number of the coordinate of this number
 pub record IsWordOf (coordinates : List Coordinate) (i n w : ℕ) : Type 0 where

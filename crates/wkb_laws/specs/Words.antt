@@ -25,7 +25,7 @@ pub use Rattle.wkb_geom.specs.Values.{listed_count_each, IsCoordinate, IsPoint, 
 pub use Rattle.wkb_geom.specs.Spellings.{Header, header, has_srid, Spelling, node, Spellings, no_spellings, spelling}
 pub use Rattle.wkb_geom.specs.Spellings.{srid_count, srid_count_each, IsHeader}
 pub use Rattle.wkb_geom.specs.Spellings.{IsSrid, SpellsCoordinate, SpellsCoordinates, SpellsBody, Spells, SpellsEach}
-pub use Rattle.wkb_geom.specs.Spellings.{Part, any, part, member_part, IsPart}
+pub use Rattle.wkb_geom.specs.Spellings.{Wanted, any, part, member_part, IsPart}
 pub use Rattle.wkb_geom.specs.Fronts.{Front, FrontWithin, max_nesting}
 pub use Rattle.wkb_geom.specs.Refusals.{srid_size, point_end, line_string_end, multi_point_end, ring_end, slots_asked}
 pub use Rattle.wkb_geom.specs.Refusals.{room_inside, Opens, IsAllowed, Counts}
@@ -38,19 +38,19 @@ pub use Rattle.wkb_geom.specs.Geometries.{Geometry, Geometries, no_geometries, g
 pub use Rattle.wkb_geom.specs.Geometries.{normal, normal_each, normal_point}
 pub use Rattle.wkb_geom.specs.Geometries.{geometry_of, geometries_of, rectangle_ring, triangle_ring, line, rectangle}
 pub use Rattle.wkb_geom.specs.Geometries.{triangle}
-pub use Rattle.wkb_geom.specs.Texts.{text, texts, form_srid, inner, count_geometries, IsForm, IsWritable, IsRewriting}
-pub use Rattle.wkb_geom.specs.Texts.{IsRewritingWithSrid, fault}
-pub use Rattle.wkb_geom.specs.Texts.{fault_each, coordinates_fault, rings_fault, refusal}
-unfoldable pub use Rattle.wkb_geom.specs.Texts.{code_of, or_else, dimensions_fault, count_fault, first_fault}
-unfoldable pub use Rattle.wkb_geom.specs.Texts.{size_fault, point_words, srid_text, header_text}
-unfoldable pub use Rattle.wkb_geom.specs.Texts.{words_text, coordinates_text, point_text, line_string_text}
-unfoldable pub use Rattle.wkb_geom.specs.Texts.{polygon_text, members_text}
+pub use Rattle.wkb_geom.specs.Encodings.{encoding, encodings, form_srid, inner, count_geometries, IsForm, IsWritable, IsRewriting}
+pub use Rattle.wkb_geom.specs.Encodings.{IsRewritingWithSrid, fault}
+pub use Rattle.wkb_geom.specs.Encodings.{fault_each, coordinates_fault, rings_fault, refusal}
+unfoldable pub use Rattle.wkb_geom.specs.Encodings.{code_of, or_else, dimensions_fault, count_fault, first_fault}
+unfoldable pub use Rattle.wkb_geom.specs.Encodings.{size_fault, point_words, srid_encoding, header_encoding}
+unfoldable pub use Rattle.wkb_geom.specs.Encodings.{words_encoding, coordinates_encoding, point_encoding, line_string_encoding}
+unfoldable pub use Rattle.wkb_geom.specs.Encodings.{polygon_encoding, members_encoding}
 pub use Rattle.wkb_geom.specs.Reading.{Cost, Reading, Item, type_kind, type_dimension, type_of, layout_of, laid, free}
 pub use Rattle.wkb_geom.specs.Reading.{body_start, parts_start, head_by_code}
 pub use Rattle.wkb_geom.specs.Reading.{ring_part, at_no_cost, list_item, polygon_item, spellings, values, and_then}
 pub use Rattle.wkb_geom.specs.Reading.{costs, done, line_string_of, one_turn}
 pub use Rattle.wkb_geom.specs.Reading.{point_of}
-pub use Rattle.wkb_geom.specs.Reading.{polygon_of, slots_of, spelled_in, taken, with_count, ◌⊕◌, body_at}
+pub use Rattle.wkb_geom.specs.Reading.{polygon_of, slots_of, spelled_in, consumed, with_count, ◌⊕◌, body_at}
 pub use Rattle.wkb_geom.specs.Reading.{collection_within, parts_body, coordinate}
 pub use Rattle.wkb_geom.specs.Reading.{coordinates, ring_in, items, line_string_body, line_string_item, point_item}
 pub use Rattle.wkb_geom.specs.Reading.{point_item_of, srid_in}

@@ -3,11 +3,11 @@
 
 ghost use Rattle.wkb_laws.specs.Laws.{HasOneFront, RestIsFree, BytesAreRead, ReadOrRefused, NeverBoth, OneRefusal};
 ghost use Rattle.wkb_laws.specs.Laws.{RefusedOutward, CutIsRefused, GeometryAgrees, FrontIsRead, RefusalIsRead};
-ghost use Rattle.wkb_laws.specs.Laws.{FrontIsBounded, RefusalIsBounded, ReadingIsBounded, TextSpells, WrittenIsRead};
-ghost use Rattle.wkb_laws.specs.Laws.{TextHasSize, LengthOfText, LengthOfFront, FrontIsWritable, EwkbIsWritable};
+ghost use Rattle.wkb_laws.specs.Laws.{FrontIsBounded, RefusalIsBounded, ReadingIsBounded, EncodingSpells, WrittenIsRead};
+ghost use Rattle.wkb_laws.specs.Laws.{EncodingHasSize, LengthOfEncoding, LengthOfFront, FrontIsWritable, EwkbIsWritable};
 ghost use Rattle.wkb_laws.specs.Laws.{SizeIsRefused, OwnSridIsWritable, RewritingIsRead, RewritingIsFixed};
-ghost use Rattle.wkb_laws.specs.Laws.{RewritingWithSridIsFixed, EqualTexts, EqualTextsWithSrid};
-ghost use Rattle.wkb_laws.specs.Laws.{EqualTextsWithOwnSrid, NamedDimension};
+ghost use Rattle.wkb_laws.specs.Laws.{RewritingWithSridIsFixed, EqualEncodings, EqualEncodingsWithSrid};
+ghost use Rattle.wkb_laws.specs.Laws.{EqualEncodingsWithOwnSrid, NamedDimension};
 
 pub mod encodings;
 pub mod places;
@@ -56,9 +56,9 @@ pub fn work_is_bounded()
 {}
 
 /// What is written spells the normal value, with the options' order and SRID.
-#[tactic(auto, using(crate::proofs::Rewritings::text_spells_lem))]
-pub fn text_spells()
-    ensures { TextSpells }
+#[tactic(auto, using(crate::proofs::Rewritings::encoding_spells_lem))]
+pub fn encoding_spells()
+    ensures { EncodingSpells }
 {}
 
 /// What is written is read again, whatever follows it.
@@ -67,16 +67,16 @@ pub fn written_is_read()
     ensures { WrittenIsRead }
 {}
 
-/// A text's length is its geometry's size, in either order, and a geometry that was read is written in its own length,
+/// An encoding's length is its geometry's size, in either order, and a geometry that was read is written in its own length,
 /// less four bytes for each SRID.
-pub fn text_length()
-    ensures size { TextHasSize }
-    ensures text { LengthOfText }
+pub fn encoding_length()
+    ensures size { EncodingHasSize }
+    ensures encoding { LengthOfEncoding }
     ensures front { LengthOfFront }
 {}
 
 /// A geometry that was read is its own normal value, and can be written unless an SRID that it did not have makes its
-/// text too long.
+/// encoding too long.
 pub fn front_is_writable()
     ensures iso { FrontIsWritable }
     ensures ewkb { EwkbIsWritable }
@@ -96,18 +96,18 @@ pub fn rewriting_is_fixed()
 {}
 
 /// Two inputs have equal values exactly where they are rewritten alike.
-pub fn equal_texts()
-    ensures { EqualTexts }
+pub fn equal_encodings()
+    ensures { EqualEncodings }
 {}
 
 /// The same where each is rewritten with an SRID.
-pub fn equal_texts_with_srid()
-    ensures { EqualTextsWithSrid }
+pub fn equal_encodings_with_srid()
+    ensures { EqualEncodingsWithSrid }
 {}
 
 /// Two inputs are rewritten alike with their own SRIDs exactly where values and outermost SRIDs are equal.
-pub fn equal_texts_with_own_srid()
-    ensures { EqualTextsWithOwnSrid }
+pub fn equal_encodings_with_own_srid()
+    ensures { EqualEncodingsWithOwnSrid }
 {}
 
 /// A dimension that was made a caller's dimension is named again.

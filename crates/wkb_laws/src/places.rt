@@ -1,18 +1,18 @@
 //! Laws of places: where the bytes of members, rings and words stand in those of a geometry.
 
-ghost use Rattle.wkb_laws.specs.Places.{HasOneText, HaveOneText, CoordinateHasOneText, MembersStand, RingsStand};
+ghost use Rattle.wkb_laws.specs.Places.{HasOneEncoding, HaveOneEncoding, CoordinateHasOneEncoding, MembersStand, RingsStand};
 ghost use Rattle.wkb_laws.specs.Places.{MembersInPlace, RingsInPlace, WordsStand, LineStringWordsStand};
 
-/// A spelling and a value have one text: whatever bytes spell both are the same bytes.
-#[tactic(auto, using(crate::proofs::OneText::one_text_lem))]
-pub fn one_text()
-    ensures { HasOneText }
+/// A spelling and a value have one encoding: whatever bytes spell both are the same bytes.
+#[tactic(auto, using(crate::proofs::OneEncoding::one_encoding_lem))]
+pub fn one_encoding()
+    ensures { HasOneEncoding }
 {}
 
-/// Coordinates have one text in an order and a dimension: two rings of the same coordinates have the same bytes.
-pub fn one_text_of_coordinates()
-    ensures counted { HaveOneText }
-    ensures one { CoordinateHasOneText }
+/// Coordinates have one encoding in an order and a dimension: two rings of the same coordinates have the same bytes.
+pub fn one_encoding_of_coordinates()
+    ensures counted { HaveOneEncoding }
+    ensures one { CoordinateHasOneEncoding }
 {}
 
 /// Members stand behind the count of their geometry, one behind the other, in their order.

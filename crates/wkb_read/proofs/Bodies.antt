@@ -1,7 +1,7 @@
 -- Geometries by their headers and kinds.
 use Rattle.wkb_read.proofs.Words.{any, max_nesting, ◌≡◌, ◌<◌, ◌-◌, ℕ, zero, suc, List, Result, Ok, Err, refl, sym, ap}
 use Rattle.wkb_read.proofs.Words.{◌∙◌, subst, arith, WkbType, Layout}
-use Rattle.wkb_read.proofs.Words.{layout_of, collection_within, then_body, Cause, Fault, Head, Item, Part, Reading}
+use Rattle.wkb_read.proofs.Words.{layout_of, collection_within, then_body, Cause, Fault, Head, Item, Outcome, Reading}
 use Rattle.wkb_read.proofs.Words.{free, costs, done, at_no_cost, type_kind}
 use Rattle.wkb_read.proofs.Words.{head_at, body_at, too_deep, by_type, geometry_at, Counts, Spent, Stops}
 use Rattle.wkb_read.proofs.Words.{geometry_inside, body_inside, cost_of}
@@ -30,7 +30,7 @@ leaf_free around _ l bytes leaf = absurd (omega (arith, leaf))
 nothing_spent : (c : Counts) → Spent c c free
 nothing_spent c = record { turns = omega arith; slots = omega arith }
 
-pub stops_at_no_cost : {A : Type 0} (cause : Cause) (r : Part A) (c : Counts) → r ≡ Err cause → Stops (Fault cause) (at_no_cost r) c c
+pub stops_at_no_cost : {A : Type 0} (cause : Cause) (r : Outcome A) (c : Counts) → r ≡ Err cause → Stops (Fault cause) (at_no_cost r) c c
 stops_at_no_cost cause r c h = (h, nothing_spent c)
 
 pub stops_without_header : (cause : Cause) (around : ℕ) (bytes : List ℕ) (c : Counts) → head_at bytes ≡ Err cause
@@ -40,9 +40,9 @@ stops_without_header cause around bytes c h =
     subst (λ (r : Reading Item). Stops (Fault cause) r c c) (sym none) (refl, nothing_spent c)
 
 -- a whole part that costs nothing
-pub whole_at_no_cost : {A : Type 0} (r : Part A) (x : A) (rest : List ℕ) (c : Counts) → r ≡ Ok (x, rest)
+pub whole_at_no_cost : {A : Type 0} (r : Outcome A) (x : A) (rest : List ℕ) (c : Counts) → r ≡ Ok (x, rest)
     → costs (cost_of c) (done x rest) ≡ costs (cost_of c) (at_no_cost r)
-whole_at_no_cost r x rest c is = ap (λ (p : Part _). costs (cost_of c) (at_no_cost p)) (sym is)
+whole_at_no_cost r x rest c is = ap (λ (p : Outcome _). costs (cost_of c) (at_no_cost p)) (sym is)
 
 -- what a header that was read says of the bytes
 pub head_opens : (input : List ℕ) (h : Head) → head_at input ≡ Ok h → OpensAs input h

@@ -2,7 +2,7 @@
 use Rattle.wkb_read.proofs.Words.{◌≡◌, ℕ, suc, ◌+◌, ◌-◌, ◌≤◌, ◌<◌, List, [], length, drop, false, ltb, refl, sym, ap}
 use Rattle.wkb_read.proofs.Words.{◌∙◌, arith, drop-drop, number}
 use Rattle.wkb_read.proofs.Words.{Item, Cost, ◌⊕◌, one_turn, Reading, costs, done, and_then, repeated, slots_of}
-use Rattle.wkb_read.proofs.Words.{collection_at, body_start, taken, Layout}
+use Rattle.wkb_read.proofs.Words.{collection_at, body_start, consumed, Layout}
 use Rattle.wkb_read.proofs.Words.{closing, list_item, collection_with, max_nesting, geometry_inside, behind_member}
 use Rattle.wkb_read.proofs.Words.{collection_inside}
 use Rattle.wkb_read.proofs.Words.{Fault, Counts, Stops}
@@ -33,9 +33,9 @@ opens l bytes around n spent rest r shallow whole n-is rest-is r-is =
     ∙ rw (r-is, level, long, ← parts_length l.has_srid bytes, ← n-is, drop-drop 4 (body_start l.has_srid) bytes, ← rest-is) refl
 
 -- one without members is whole
-pub without_members : (l : Layout) (bytes text rest : List ℕ) (n : ℕ) (member : List ℕ → Reading Item) (members : List Item) → n ≡ 0 → text ≡ taken bytes rest
-    → members ≡ [] → done (list_item l collection_with members text) rest ≡ and_then (repeated n member rest) (closing l bytes)
-without_members l bytes text rest n member members none text-is empty = rw (none, text-is, empty) (sym (repeated_none member rest (closing l bytes)))
+pub without_members : (l : Layout) (bytes encoding rest : List ℕ) (n : ℕ) (member : List ℕ → Reading Item) (members : List Item) → n ≡ 0 → encoding ≡ consumed bytes rest
+    → members ≡ [] → done (list_item l collection_with members encoding) rest ≡ and_then (repeated n member rest) (closing l bytes)
+without_members l bytes encoding rest n member members none encoding-is empty = rw (none, encoding-is, empty) (sym (repeated_none member rest (closing l bytes)))
 
 -- one with members goes on with the first
 pub first_begins : (l : Layout) (bytes rest : List ℕ) (n : ℕ) (member : List ℕ → Reading Item) (members : List Item) → 0 < n → members ≡ []

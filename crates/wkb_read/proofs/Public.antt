@@ -42,13 +42,13 @@ pub record IsRead (buf : List ℕ) (w : Item) (new : Counts) : Type 0 where
 only_front : (buf : List ℕ) (w : Item) → IsFront buf w → IsOnlyFront buf w
 only_front buf w p = λ s t rest f.
     let one = one_front_lem buf s w.spelled t w.value rest p.rest f p.front in
-    (one.0 ∙ p.text_is, one.1, one.2)
+    (one.0 ∙ p.encoding_is, one.1, one.2)
 
 read_by : (buf : List ℕ) (r : Reading Item) → Agrees buf r → (w : Item) (rest : List ℕ) (new : Counts) → r.1 ≡ Ok (w, rest) → Spent zero_counts new r.0
     → IsRead buf w new
 read_by buf (c, Ok x) h w rest new is spent =
     let item : x.0 ≡ w = cc in
-    let front : IsFront buf x.0 = record { rest = x.1; front = h.0; text_is = h.3 } in
+    let front : IsFront buf x.0 = record { rest = x.1; front = h.0; encoding_is = h.3 } in
     subst (λ (i : Item). IsRead buf i new) item
     (record { front = front; one_front = only_front buf x.0 front; counts = (omega (arith, spent.turns, h.1), omega (arith, spent.slots, h.2)) })
 read_by buf (c, Err f) h w rest new is spent = absurd cc

@@ -2,7 +2,7 @@
 use Rattle.wkb_read.proofs.Words.{◌≡◌, ℕ, suc, ◌+◌, ◌≤◌, List, [], ◌∷◌, ◌++◌, length, Ok, Err, refl, sym, ap, subst}
 use Rattle.wkb_read.proofs.Words.{◌∙◌, append_assoc}
 use Rattle.wkb_read.proofs.Words.{length-append, arith, Bor, Item, Cost, ◌⊕◌, one_turn, Reading, costs, done, and_then}
-use Rattle.wkb_read.proofs.Words.{repeated, taken, Layout, IsSpelled}
+use Rattle.wkb_read.proofs.Words.{repeated, consumed, Layout, IsSpelled}
 use Rattle.wkb_read.proofs.Words.{Refusal, Fault, Memory, Counts, Spent, AtMost, CanCount, Stops, Wkb, Open, Whole}
 use Rattle.wkb_read.proofs.Words.{Opened, IsCollectionIn, closing, list_item}
 use Rattle.wkb_read.proofs.Words.{collection_with, geometry_inside, behind_member, in_collection, outward, first_member}
@@ -23,7 +23,7 @@ pub record Reaches (os : List Open) (bytes : List ℕ) (spent : Counts) (whole :
 -- the same of a part that is finished
 pub record Finishes (os : List Open) (m : Item) (rest : List ℕ) (spent : Counts) (whole : Reading Item) : Type 0 where
   pub so_far : costs (cost_of spent) (outward os m rest) ≡ whole
-  pub stand : AreOpen os (m.text ++ rest)
+  pub stand : AreOpen os (m.encoding ++ rest)
   pub part : IsFinished m
 
 turn_is : (c d : Cost) → d ≡ next_turn c → d ≡ c ⊕ one_turn
@@ -136,7 +136,7 @@ goes_on o next os m rest n =
     ap (λ (r : Reading Item). and_then r (outward os)) one ∙ and_then-costs one_turn (and_then (member rest) inside) (outward os)
     ∙ ap (λ (r : Reading Item). costs one_turn r) (and_then-assoc (member rest) inside (outward os))
 
-more_open : (o next : Open) (m : Item) (rest : List ℕ) → IsNext o next m → IsOpen o (m.text ++ rest) → IsFinished m → IsOpen next rest
+more_open : (o next : Open) (m : Item) (rest : List ℕ) → IsNext o next m → IsOpen o (m.encoding ++ rest) → IsFinished m → IsOpen next rest
 more_open o next m rest n h part =
     let longer : length (entries next.members) ≡ length (entries o.members) + 1 = ap length n.items ∙ length-append (entries o.members) (m ∷ []) in
     record {
@@ -144,7 +144,7 @@ more_open o next m rest n h part =
       count = rw (n.layout, n.bytes) (h.count ∙ omega (arith, longer, n.left));
       behind = rw (n.layout, n.bytes, n.items) (h.behind ∙ sym (one_more (entries o.members) m rest));
       each = rw n.items (all_more IsSpelled (entries o.members) m h.each part.spelled);
-      within = rw (n.layout, n.bytes) (omega (arith, longer, h.within, part.long, length-append m.text rest));
+      within = rw (n.layout, n.bytes) (omega (arith, longer, h.within, part.long, length-append m.encoding rest));
       room = rw (n.layout, n.bytes) (omega (arith, longer, n.left, n.capacity, h.room));
     }
 
@@ -161,8 +161,8 @@ next_begins o next os m rest spent after whole n f turn =
 
 -- a collection that has all its members, and is a finished part itself
 pub record Completes (o : Open) (os : List Open) (members : List Item) (rest : List ℕ) (spent : Counts) (whole : Reading Item) : Type 0 where
-  pub collection : IsCollectionIn o.layout members (taken o.bytes.now rest)
-  pub finishes : Finishes os (list_item o.layout collection_with members (taken o.bytes.now rest)) rest spent whole
+  pub collection : IsCollectionIn o.layout members (consumed o.bytes.now rest)
+  pub finishes : Finishes os (list_item o.layout collection_with members (consumed o.bytes.now rest)) rest spent whole
 
 pub completes : (o : Open) (os : List Open) (m : Item) (members : List Item) (rest : List ℕ) (spent : Counts) (whole : Reading Item) → o.left ≡ 0
     → members ≡ entries o.members ++ m ∷ [] → Finishes (o ∷ os) m rest spent whole → Completes o os members rest spent whole
@@ -173,10 +173,10 @@ completes o os m members rest spent whole none is f =
     let c : Closed o.layout o.bytes.now members rest = rw is (closed o.layout o.bytes.now (front ++ m ∷ []) rest h.head
     (h.count ∙ omega (arith, none, length-append front (m ∷ []))) (omega (arith, h.within)) (h.behind ∙ sym (one_more front m rest))
     (all_more IsSpelled front m h.each f.part.spelled)) in
-    let text = taken o.bytes.now rest in
+    let encoding = consumed o.bytes.now rest in
     let last : in_collection (length os) o m rest ≡ closing o.layout o.bytes.now members rest =
     rw (none, is) (repeated_none member rest (λ xs after. closing o.layout o.bytes.now (front ++ m ∷ xs) after)) in
-    let out = ap (λ (r : Reading Item). and_then r (outward os)) last ∙ done_then (list_item o.layout collection_with members text) rest (outward os) in
+    let out = ap (λ (r : Reading Item). and_then r (outward os)) last ∙ done_then (list_item o.layout collection_with members encoding) rest (outward os) in
     record {
       collection = c.collection;
       finishes = record {

@@ -17,9 +17,9 @@ pub use Rattle.wkb_geom.specs.declared.error.Refusal.TheVariants.{Fault, Memory}
 pub use Rattle.wkb_geom.specs.Reading.{◌⊕◌, slots_of, then_body}
 pub use Rattle.wkb_read.specs.Words.{WkbType, Endianness, Cause, Refusal, WkbError, Head, Layout, max_nesting, Geometry}
 pub use Rattle.wkb_read.specs.Words.{Geometries, geometries, geometry_of}
-pub use Rattle.wkb_read.specs.Words.{geometries_of, IsGeometry, number, Item, Cost, free, one_turn, Part, Reading}
+pub use Rattle.wkb_read.specs.Words.{geometries_of, IsGeometry, number, Item, Cost, free, one_turn, Outcome, Reading}
 pub use Rattle.wkb_read.specs.Words.{costs, done, list_item, collection_with}
-pub use Rattle.wkb_read.specs.Words.{collection_within, layout_of, laid, at_no_cost, and_then, taken, body_start}
+pub use Rattle.wkb_read.specs.Words.{collection_within, layout_of, laid, at_no_cost, and_then, consumed, body_start}
 pub use Rattle.wkb_read.specs.Words.{parts_start, type_kind, type_dimension}
 pub use Rattle.wkb_read.specs.Words.{too_deep, body_at, values, spellings, Refuses, srid_size, any, Listed, Tells}
 pub use Rattle.wkb_read.specs.Words.{TellsRefusal, Coordinate, Value, Values}
@@ -32,7 +32,7 @@ pub use Rattle.wkb_read.specs.declared.geometry.Wkb.{Wkb}
 pub use Rattle.wkb_read.specs.declared.read.unfinished.Begun.TheVariants.{Whole, Opened}
 pub use Rattle.wkb_read.specs.declared.read.unfinished.Open.{Open}
 pub use Rattle.wkb_read.specs.Memory.{IsNotMemoryError, TypeTakesNone, ReadsWithoutMemory}
-pub use Rattle.wkb_read.specs.Placed.{texts, parts_in, closing, HoldsMembers, IsCollectionIn, AreMembers, IsMemberAt}
+pub use Rattle.wkb_read.specs.Placed.{encodings, parts_in, closing, HoldsMembers, IsCollectionIn, AreMembers, IsMemberAt}
 pub use Rattle.wkb_read.specs.Public.{IsFront, IsOnlyFront, HasNoFront, IsRefusal, TellsEach, IfRefused, IfMemory}
 pub use Rattle.wkb_read.specs.Public.{CountsValue, CountsRefusal, CountsAtMost}
 pub use Rattle.wkb_read.specs.Public.{AsksForNone, KindTakesNone, TakesNoMemory}

@@ -3,41 +3,41 @@ use Rattle.std.specs.Prelude.{◌≡◌, ℕ, ◌+◌, ◌≤◌, List, [], ◌�
 use Rattle.std.specs.Option.{is_some}
 use Rattle.wkb_read.specs.Words.{Layout, Values, Listed, Item, Reading, done}
 use Rattle.std.specs.List.{AllByRecursion}
-use Rattle.wkb_read.specs.Words.{list_item, collection_with, spelled_in, taken, body_start, parts_start, spellings}
+use Rattle.wkb_read.specs.Words.{list_item, collection_with, spelled_in, consumed, body_start, parts_start, spellings}
 use Rattle.wkb_read.specs.Words.{values, srid_of}
 use Rattle.wkb_read.specs.Words.{members_spelled, IsSpelled}
 
--- the collection that a text is, by its layout and its members, as a view of it holds it
+-- the collection that an encoding is, by its layout and its members, as a view of it holds it
 abbrev pub parts_in : Layout → List Item → List ℕ → Listed Values
-parts_in l members text = record {
-  text = text;
-  spelled = spelled_in l text [] (spellings members);
+parts_in l members encoding = record {
+  encoding = encoding;
+  spelled = spelled_in l encoding [] (spellings members);
   dimension = l.dimension;
   parts = values members;
 }
 
 -- what is read once a collection that began with these bytes has all its members
 abbrev pub closing : Layout → List ℕ → List Item → List ℕ → Reading Item
-closing l bytes members after = done (list_item l collection_with members (taken bytes after)) after
+closing l bytes members after = done (list_item l collection_with members (consumed bytes after)) after
 
 -- the bytes of these geometries, one behind the other
-abbrev pub texts : List Item → List ℕ
-texts [] = []
-texts (m ∷ ms) = m.text ++ texts ms
+abbrev pub encodings : List Item → List ℕ
+encodings [] = []
+encodings (m ∷ ms) = m.encoding ++ encodings ms
 
 -- behind a collection's count stand its members, one behind the other, each spelled by its bytes, and nothing else
-pub record HoldsMembers (has_srid : Bool) (text : List ℕ) (members : List Item) : Type 0 where
-  pub long : body_start has_srid + 4 ≤ length text
-  pub behind : parts_start has_srid text ≡ texts members
+pub record HoldsMembers (has_srid : Bool) (encoding : List ℕ) (members : List Item) : Type 0 where
+  pub long : body_start has_srid + 4 ≤ length encoding
+  pub behind : parts_start has_srid encoding ≡ encodings members
   pub each : AllByRecursion IsSpelled members
 
--- so it is with this text, which spells the collection
+-- so it is with this encoding, which spells the collection
 abbrev pub IsCollectionIn : Layout → List Item → List ℕ → Type 0
-IsCollectionIn l members text = HoldsMembers l.has_srid text members × IsSpelled (list_item l collection_with members text)
+IsCollectionIn l members encoding = HoldsMembers l.has_srid encoding members × IsSpelled (list_item l collection_with members encoding)
 
 -- the members of a collection, by their bytes, their spellings and their values
 pub record AreMembers (whole : Listed Values) (members : List Item) : Type 0 where
-  pub bytes : HoldsMembers (is_some (srid_of whole.spelled)) whole.text members
+  pub bytes : HoldsMembers (is_some (srid_of whole.spelled)) whole.encoding members
   pub spelled : spellings members ≡ members_spelled whole.spelled
   pub value : values members ≡ whole.parts
 

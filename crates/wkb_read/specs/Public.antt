@@ -13,12 +13,12 @@ use Rattle.wkb_read.specs.declared.geometry.Wkb.{Wkb}
 pub record IsFront (buf : List ℕ) (w : Item) : Type 0 where
   pub rest : List ℕ
   pub front : Front buf w.spelled w.value rest
-  pub text_is : front.front ≡ w.text
+  pub encoding_is : front.front ≡ w.encoding
 
 -- whatever geometry the input begins with has these bytes, this spelling and this value
 abbrev pub IsOnlyFront : List ℕ → Item → Type 0
 IsOnlyFront buf w = (s : Spelling) (t : Value) (rest : List ℕ) → (f : Front buf s t rest)
-    → (f.front ≡ w.text) × (s ≡ w.spelled) × (t ≡ w.value)
+    → (f.front ≡ w.encoding) × (s ≡ w.spelled) × (t ≡ w.value)
 
 -- the input begins with no geometry
 abbrev pub HasNoFront : List ℕ → Type 0

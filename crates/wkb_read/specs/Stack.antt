@@ -14,7 +14,7 @@ use Rattle.wkb_read.specs.declared.geometry.Wkb.{Wkb}
 use Rattle.wkb_read.specs.declared.read.unfinished.Open.{Open}
 use Rattle.wkb_read.specs.declared.read.unfinished.Begun.{Begun}
 use Rattle.wkb_read.specs.declared.read.unfinished.Begun.TheVariants.{Whole, Opened}
-use Rattle.wkb_read.specs.Placed.{texts, closing}
+use Rattle.wkb_read.specs.Placed.{encodings, closing}
 
 -- a geometry inside so many open collections
 abbrev pub geometry_inside : ℕ → List ℕ → Reading Item
@@ -57,7 +57,7 @@ members_count o = length (entries o.members) + 1 + o.left
 pub record IsOpen (o : Open) (here : List ℕ) : Type 0 where
   pub head : HasHead (λ d. kinds.GeometryCollection d) o.layout o.bytes.now
   pub count : number o.layout.order 4 (drop (body_start o.layout.has_srid) o.bytes.now) ≡ members_count o
-  pub behind : parts_start o.layout.has_srid o.bytes.now ≡ texts (entries o.members) ++ here
+  pub behind : parts_start o.layout.has_srid o.bytes.now ≡ encodings (entries o.members) ++ here
   pub each : AllByRecursion IsSpelled (entries o.members)
   pub within : 9 * length (entries o.members) + length here + members_start o ≤ length o.bytes.now
   pub room : min (members_count o) ((length o.bytes.now - members_start o) / 9) ≤ room o.members
@@ -70,7 +70,7 @@ AreOpen (o ∷ os) here = IsOpen o here × AreOpen os o.bytes.now
 -- a part that was read: spelled by its bytes, and no shorter than a header and a count
 pub record IsFinished (part : Item) : Type 0 where
   pub spelled : IsSpelled part
-  pub long : 9 ≤ length part.text
+  pub long : 9 ≤ length part.encoding
 
 -- what comes of a collection that is laid out so, inside so many others
 abbrev pub collection_inside : ℕ → Layout → List ℕ → Reading Item

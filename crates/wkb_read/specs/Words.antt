@@ -13,8 +13,8 @@ pub use Rattle.wkb_geom.specs.Fronts.{Front, max_nesting}
 pub use Rattle.wkb_geom.specs.Geometries.{Geometry, Geometries, geometries, geometry_of, geometries_of, normal}
 pub use Rattle.wkb_geom.specs.Geometries.{IsGeometry, AreGeometries}
 pub use Rattle.wkb_geom.specs.Numbers.{number}
-pub use Rattle.wkb_geom.specs.Reading.{Item, Cost, Part, Reading, free, one_turn, costs, done, at_no_cost, and_then}
-pub use Rattle.wkb_geom.specs.Reading.{taken, body_start, parts_start}
+pub use Rattle.wkb_geom.specs.Reading.{Item, Cost, Outcome, Reading, free, one_turn, costs, done, at_no_cost, and_then}
+pub use Rattle.wkb_geom.specs.Reading.{consumed, body_start, parts_start}
 pub use Rattle.wkb_geom.specs.Reading.{type_kind, type_dimension, layout_of, laid, list_item, collection_with}
 pub use Rattle.wkb_geom.specs.Reading.{collection_within, spelled_in, spellings, values}
 pub use Rattle.wkb_geom.specs.Reading.{too_deep, body_at}
@@ -23,7 +23,7 @@ unfoldable pub use Rattle.wkb_geom.specs.Reading.{collection_at, by_type, geomet
 pub use Rattle.wkb_geom.specs.Refusals.{Refuses, Opens, srid_size}
 pub use Rattle.wkb_geom.specs.Spellings.{Spelling, any}
 pub use Rattle.wkb_geom.specs.Stored.{Listed, whole_of, listed_code, values_code, item_code}
-pub use Rattle.wkb_geom.specs.Texts.{IsWritable}
+pub use Rattle.wkb_geom.specs.Encodings.{IsWritable}
 pub use Rattle.wkb_geom.specs.Told.{Tells, TellsRefusal}
 pub use Rattle.wkb_geom.specs.Values.{Coordinate, Value, Values, polygon, multi_line_string, multi_polygon, collection}
 pub use Rattle.wkb_geom.specs.Values.{dimension, no_members, member}

@@ -95,7 +95,7 @@ impl<'a> GeometryCollection<'a> {
     /// The number of its bytes.
     #[inline]
     pub fn size(&self) -> u64
-        ensures { result ≡ length self.now.text }
+        ensures { result ≡ length self.now.encoding }
     {
         self.buf.len() as u64
     }
@@ -111,7 +111,7 @@ impl<'a> GeometryCollection<'a> {
     /// The bytes of this geometry, from its order byte to its end.
     #[inline]
     pub fn buf(&self) -> &'a [u8]
-        ensures text { result.now ≡ self.now.text }
+        ensures encoding { result.now ≡ self.now.encoding }
         ensures spells { IsSpelled (whole_of collection self.now) }
     {
         self.buf
@@ -232,7 +232,7 @@ impl<'a> Wkb<'a> {
 
     /// The bytes of this geometry, from its order byte to its end.
     pub fn buf(&self) -> &'a [u8]
-        ensures text { result.now ≡ self.now.text }
+        ensures encoding { result.now ≡ self.now.encoding }
         ensures spells { IsSpelled self.now }
     {
         match &self.kind {

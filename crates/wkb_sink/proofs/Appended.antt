@@ -1,4 +1,4 @@
--- Texts that are appended to a sink one after another.
+-- Encodings that are appended to a sink one after another.
 use Rattle.wkb_sink.proofs.Prelude.{◌≡◌, ℕ, ◌≤◌, List, ◌++◌, length, take, drop, Option, sym, ap, ◌∙◌, append_assoc}
 use Rattle.wkb_sink.proofs.Prelude.{arith}
 use Rattle.std.proofs.KnownBytes.{Appends-trans}

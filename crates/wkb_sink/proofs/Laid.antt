@@ -1,4 +1,4 @@
--- Texts that are laid one after another.
+-- Encodings that are laid one after another.
 use Rattle.wkb_sink.proofs.Prelude.{◌≡◌, ℕ, List, [], ◌++◌, Option, refl, sym, ap, ◌∙◌, subst, append_assoc, append-nil}
 use Rattle.wkb_sink.proofs.Prelude.{arith, length-append, Bool, true, false}
 use Rattle.wkb_sink.proofs.Prelude.{Result, Ok, Err, Appends, Stopped, IsExtended, Progress, IsLaid, IsCut, Advances}
@@ -22,7 +22,7 @@ laid_then {a = a} {b = b} {c = c} {s = s} {t = t} p q = record {
   appended = Appends-trans _ _ _ _ _ p.appended q.appended;
 }
 
--- what the text begins with was cut
+-- what the encoding begins with was cut
 pub cut_first : {a b : Progress} {s : List ℕ} (t : List ℕ) → IsCut a b s → IsCut a b (s ++ t)
 cut_first {a = a} {s = s} t p = record {
   same = p.same;
@@ -65,7 +65,7 @@ pub lays_then : {a b : Progress} (c : Progress) {s : List ℕ} (t : List ℕ) (r
 lays_then c t (Ok x) p q = laid_then p q
 lays_then c t (Err e) p q = cut_then p q
 
--- a text that was laid in the block once there was room
+-- an encoding that was laid in the block once there was room
 pub laid_here : {a : Progress} {n : ℕ} {o : Option (List ℕ)} {failed : Bool} {w v t : List ℕ}
     → IsLaid a (record { sink = n; appended = o; failed = failed; waiting = w }) [] → IsExtended w v t
     → IsLaid a (record { sink = n; appended = o; failed = failed; waiting = v }) t
@@ -127,11 +127,11 @@ past_cut n b c s f w bytes before empty p stopped = cut_then before (record {
   appended = p.appended;
 })
 
--- the whole of a text, and then what waits
+-- the whole of an encoding, and then what waits
 pub lays_last : {a b : Progress} (c : Progress) (t : List ℕ) (r : Result (Unit {0}) Stopped) → IsLaid a b t → Advances b c [] r → Advances a c t r
 lays_last {a = a} c t r p q = subst (λ s. Advances a c s r) (append-nil t) (lays_then c [] r p q)
 
--- a text for which nothing waited at first, nor at the end; x is what the lent sink ends as
+-- an encoding for which nothing waited at first, nor at the end; x is what the lent sink ends as
 pub ends : {S : Type 0} (appended : S → Option (List ℕ)) (has_failed : S → Bool) (t : List ℕ) (a : Progress) (b : Buffered S) (x : S)
     (r : Result (Unit {0}) Stopped) → Advances a (progress appended has_failed b) t r → a.waiting ≡ [] → IfOk r (λ _. b.block.waiting ≡ [])
     → (a.sink ≡ b.sink.ghost_name → x ≡ b.sink.now) → PutsOrStops a.appended (appended x) (has_failed x) t r

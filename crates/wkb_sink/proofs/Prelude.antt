@@ -11,8 +11,8 @@ pub use Rattle.std.specs.Io.KnownBytes.{Appends}
 pub use Rattle.std.specs.List.{flat_map}
 pub use Rattle.wkb_geom.specs.declared.common.Endianness.{Endianness}
 pub use Rattle.wkb_geom.specs.Numbers.{number_bytes, empty_word}
-unfoldable pub use Rattle.wkb_geom.specs.Texts.{words_text, header_text}
-unfoldable pub use Rattle.wkb_geom.specs.Texts.{srid_text}
+unfoldable pub use Rattle.wkb_geom.specs.Encodings.{words_encoding, header_encoding}
+unfoldable pub use Rattle.wkb_geom.specs.Encodings.{srid_encoding}
 pub use Rattle.wkb_sink.specs.Blocks.{IsExtended, Waiting}
 pub use Rattle.wkb_sink.specs.Progress.{Progress, Advances, IsLaid, IsCut, progress}
 pub use Rattle.wkb_sink.specs.Sinks.{IsWritten, IsBegun, PutsOrStops}

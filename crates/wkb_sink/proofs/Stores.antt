@@ -1,15 +1,15 @@
--- Parts of a text that are stored one after another.
+-- Parts of an encoding that are stored one after another.
 use Rattle.wkb_sink.proofs.Prelude.{◌≡◌, ℕ, zero, suc, ◌+◌, ◌-◌, ◌*◌, ◌/◌, ◌<◌, ◌≤◌, List, [], ◌∷◌, ◌++◌, length, take}
 use Rattle.wkb_sink.proofs.Prelude.{drop, Some, refl, sym, ap, ◌∙◌}
 use Rattle.wkb_sink.proofs.Prelude.{append_assoc, append-nil, arith, length-drop, slice_get, slice_index, add-one}
 use Rattle.wkb_sink.proofs.Prelude.{flat_map, length-take-le, take-append-le}
-use Rattle.wkb_sink.proofs.Prelude.{take_at, Endianness, number_bytes, words_text, Waiting, IsExtended}
+use Rattle.wkb_sink.proofs.Prelude.{take_at, Endianness, number_bytes, words_encoding, Waiting, IsExtended}
 use Rattle.std.proofs.Math.Nat.{mul-add, mul-le-mul_left}
 use Rattle.std.proofs.lemmas.Nat.{le-div}
 use Rattle.std.proofs.Math.Seq.{take-append-add}
 use borrow.Rule.Slice.PartMut.{put_mid, mid_of, post_of}
 
--- a text that was stored behind another
+-- an encoding that was stored behind another
 pub stored_next : (all part t s : List ℕ) (at n k : ℕ) → take at all ≡ t → at ≤ length all → take n part ≡ s → n ≤ length part
     → take (at + n) (put_mid at k all part) ≡ t ++ s
 stored_next all part t s at n k is fits part_is part_fits =
@@ -22,21 +22,21 @@ stored_next all part t s at n k is fits part_is part_fits =
 
 -- the words of two to four, one after another
 pub two_words : (order : Endianness) (ws : List ℕ) → length ws ≡ 2
-    → words_text order ws ≡ number_bytes order 8 (slice_index ws 0) ++ number_bytes order 8 (slice_index ws 1)
-unfolding words_text
+    → words_encoding order ws ≡ number_bytes order 8 (slice_index ws 0) ++ number_bytes order 8 (slice_index ws 1)
+unfolding words_encoding
 two_words order (x ∷ y ∷ []) h = simp append-nil refl
 two_words order ws h = absurd (omega arith)
 
 pub three_words : (order : Endianness) (ws : List ℕ) → length ws ≡ 3
-    → words_text order ws ≡ (number_bytes order 8 (slice_index ws 0) ++ number_bytes order 8 (slice_index ws 1)) ++ number_bytes order 8 (slice_index ws 2)
-unfolding words_text
+    → words_encoding order ws ≡ (number_bytes order 8 (slice_index ws 0) ++ number_bytes order 8 (slice_index ws 1)) ++ number_bytes order 8 (slice_index ws 2)
+unfolding words_encoding
 three_words order (x ∷ y ∷ z ∷ []) h = simp (append-nil, append_assoc) refl
 three_words order ws h = absurd (omega arith)
 
 pub four_words : (order : Endianness) (ws : List ℕ) → length ws ≡ 4
-    → words_text order ws ≡ (number_bytes order 8 (slice_index ws 0) ++ number_bytes order 8 (slice_index ws 1))
+    → words_encoding order ws ≡ (number_bytes order 8 (slice_index ws 0) ++ number_bytes order 8 (slice_index ws 1))
     ++ (number_bytes order 8 (slice_index ws 2) ++ number_bytes order 8 (slice_index ws 3))
-unfolding words_text
+unfolding words_encoding
 four_words order (x ∷ y ∷ z ∷ w ∷ []) h = simp (append-nil, append_assoc) refl
 four_words order ws h = absurd (omega arith)
 
@@ -57,7 +57,7 @@ run_step f (y ∷ ys) zero i x item h = flat_map_step f (y ∷ ys) i x item
 run_step f (y ∷ ys) (suc start) zero x item h = absurd (omega arith)
 run_step f (y ∷ ys) (suc start) (suc i) x item h = rw add-one (rw add-one at (run_step f ys start i x item (omega arith)))
 
--- a text that was stored behind the bytes that wait in a block
+-- an encoding that was stored behind the bytes that wait in a block
 pub block_next : (old : Waiting) (bytes part s : List ℕ) (len n : ℕ) → record { waiting = take len bytes; room = length bytes - len } ≡ old
     → len ≤ length bytes → length part ≡ length (mid_of len (length bytes - len) bytes) → n ≤ old.room → take n part ≡ s
     → IsExtended old.waiting (take (len + n) (put_mid len (length bytes - len) bytes part)) s

@@ -6,6 +6,6 @@ pub record Waiting : Type 0 where
   pub waiting : List ℕ
   pub room : ℕ
 
--- what waited, and the text behind it
-pub record IsExtended (old new text : List ℕ) : Type 0 where
-  pub is : new ≡ old ++ text
+-- what waited, and the encoding behind it
+pub record IsExtended (old new encoding : List ℕ) : Type 0 where
+  pub is : new ≡ old ++ encoding

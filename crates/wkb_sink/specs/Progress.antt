@@ -1,4 +1,4 @@
--- How far a text has come on its way through a block to a sink.
+-- How far an encoding has come on its way through a block to a sink.
 use Rattle.std.specs.Prelude.{◌≡◌, ℕ, ◌<◌, Bool, true, false, List, ◌++◌, length, Option, Result, MatchResult}
 use Rattle.std.specs.Io.KnownBytes.{Appends}
 use Rattle.wkb_sink.specs.declared.buffered.Buffered.{Buffered}
@@ -11,27 +11,27 @@ pub record Progress : Type 0 where
   pub failed : Bool
   pub waiting : List ℕ
 
--- the text was laid behind what waited, the first of these bytes were appended, and the sink works
-pub record IsLaid (old new : Progress) (text : List ℕ) : Type 0 where
+-- the encoding was laid behind what waited, the first of these bytes were appended, and the sink works
+pub record IsLaid (old new : Progress) (encoding : List ℕ) : Type 0 where
   pub same : new.sink ≡ old.sink
   pub works : new.failed ≡ false
   pub moved : List ℕ
-  pub whole : old.waiting ++ text ≡ moved ++ new.waiting
+  pub whole : old.waiting ++ encoding ≡ moved ++ new.waiting
   pub appended : Appends old.appended new.appended moved
 
--- the sink failed, and a beginning of what waited and the text, shorter than both, was appended
-pub record IsCut (old new : Progress) (text : List ℕ) : Type 0 where
+-- the sink failed, and a beginning of what waited and the encoding, shorter than both, was appended
+pub record IsCut (old new : Progress) (encoding : List ℕ) : Type 0 where
   pub same : new.sink ≡ old.sink
   pub stopped : new.failed ≡ true
   pub front : List ℕ
   pub rest : List ℕ
-  pub whole : old.waiting ++ text ≡ front ++ rest
+  pub whole : old.waiting ++ encoding ≡ front ++ rest
   pub left : 0 < length rest
   pub appended : Appends old.appended new.appended front
 
--- the text was laid, or the sink failed
+-- the encoding was laid, or the sink failed
 abbrev pub Advances : Progress → Progress → List ℕ → Result (Unit {0}) Stopped → Type 0
-Advances old new text r = MatchResult r (λ _. IsLaid old new text) (λ _. IsCut old new text)
+Advances old new encoding r = MatchResult r (λ _. IsLaid old new encoding) (λ _. IsCut old new encoding)
 
 -- how far it has come with this sink and block, by the sink's ghost members
 abbrev pub progress : {S : Type 0} → (S → Option (List ℕ)) → (S → Bool) → Buffered S → Progress
@@ -40,4 +40,4 @@ progress appended has_failed out =
 
 -- the same of a sink and a block before a step and after it
 abbrev pub Lays : {S : Type 0} → (S → Option (List ℕ)) → (S → Bool) → Buffered S → Buffered S → List ℕ → Result (Unit {0}) Stopped → Type 0
-Lays appended has_failed old new text r = Advances (progress appended has_failed old) (progress appended has_failed new) text r
+Lays appended has_failed old new encoding r = Advances (progress appended has_failed old) (progress appended has_failed new) encoding r

@@ -14,24 +14,24 @@ abbrev pub IsIOError : WkbError → Type 0
 IsIOError (errors.IOError e) = Unit {0}
 IsIOError _ = ⊥
 
--- the text was appended, once
-pub record IsWritten (old new : Option (List ℕ)) (text : List ℕ) : Type 0 where
-  pub appended : Appends old new text
+-- the encoding was appended, once
+pub record IsWritten (old new : Option (List ℕ)) (encoding : List ℕ) : Type 0 where
+  pub appended : Appends old new encoding
 
--- a beginning of the text, shorter than the text, was appended
-pub record IsBegun (old new : Option (List ℕ)) (text : List ℕ) : Type 0 where
+-- a beginning of the encoding, shorter than the encoding, was appended
+pub record IsBegun (old new : Option (List ℕ)) (encoding : List ℕ) : Type 0 where
   pub front : List ℕ
   pub rest : List ℕ
-  pub whole : text ≡ front ++ rest
+  pub whole : encoding ≡ front ++ rest
   pub left : 0 < length rest
   pub appended : Appends old new front
 
--- a writer that wrote the text, or an error for which the sink failed
+-- a writer that wrote the encoding, or an error for which the sink failed
 abbrev pub Puts : Option (List ℕ) → Option (List ℕ) → Bool → List ℕ → Result (Unit {0}) WkbError → Type 0
-Puts old new failed text r =
-    MatchResult r (λ _. IsWritten old new text × (failed ≡ false)) (λ e. IsIOError e × IsBegun old new text × (failed ≡ true))
+Puts old new failed encoding r =
+    MatchResult r (λ _. IsWritten old new encoding × (failed ≡ false)) (λ e. IsIOError e × IsBegun old new encoding × (failed ≡ true))
 
 -- the same of a step inside
 abbrev pub PutsOrStops : {E : Type 0} → Option (List ℕ) → Option (List ℕ) → Bool → List ℕ → Result (Unit {0}) E → Type 0
-PutsOrStops old new failed text r =
-    MatchResult r (λ _. IsWritten old new text × (failed ≡ false)) (λ _. IsBegun old new text × (failed ≡ true))
+PutsOrStops old new failed encoding r =
+    MatchResult r (λ _. IsWritten old new encoding × (failed ≡ false)) (λ _. IsBegun old new encoding × (failed ≡ true))

@@ -5,7 +5,7 @@ ghost use Rattle.std.specs.List.{flat_map};
 ghost use Rattle.wkb_geom.specs.Dimensions.{size, width, written_dimension};
 ghost use Rattle.wkb_geom.specs.Numbers.{number_bytes, empty_word};
 ghost use Rattle.wkb_geom.specs.Reading.{type_kind, type_dimension};
-ghost use Rattle.wkb_geom.specs.Texts.{code_of, header_text, words_text};
+ghost use Rattle.wkb_geom.specs.Encodings.{code_of, header_encoding, words_encoding};
 ghost use Rattle.wkb_geom.specs.declared.header.TheConstants.{LONGEST_HEADER};
 ghost use Rattle.wkb_geom.specs.declared.words.TheConstants.{COUNT};
 ghost use Rattle.wkb_sink.specs.Blocks.{Waiting, IsExtended};
@@ -108,7 +108,7 @@ impl<'a> Block<'a> {
         requires most { size (C.dimensions coord.now) ≤ 4 }
         requires room { COORDINATE ≤ self.old.room }
         ensures room { self.old.room ≤ self.new.room + COORDINATE }
-        ensures bytes { IsExtended self.old.waiting self.new.waiting (words_text order (C.words coord.now)) }
+        ensures bytes { IsExtended self.old.waiting self.new.waiting (words_encoding order (C.words coord.now)) }
     {
         let width = coord.dim().size();
         store_coordinate(&mut self.bytes[self.len..], coord, width, order);
@@ -130,7 +130,7 @@ impl<'a> Block<'a> {
         requires most { size (L.dimensions line.now) ≤ 4 }
         requires room { 8 * size (L.dimensions line.now) * (to - from) ≤ self.old.room }
         ensures { IsExtended self.old.waiting self.new.waiting
-            (flat_map (words_text order) (drop from (take to (L.coordinates line.now)))) }
+            (flat_map (words_encoding order) (drop from (take to (L.coordinates line.now)))) }
     {
         let n = store_coordinates(&mut self.bytes[self.len..], line, from, to, order);
         self.len += n;
@@ -144,7 +144,7 @@ pub fn written(dim: Dimensions) -> Dimension
     Dimension::try_from(dim).unwrap_or(Dimension::Xy)
 }
 
-#[tactic(auto, unfolding(wkb_geom::specs::Texts::code_of))]
+#[tactic(auto, unfolding(wkb_geom::specs::Encodings::code_of))]
 fn code(form: Form, kind: WkbType) -> u32
     ensures { result ≡ code_of form (type_kind kind) (type_dimension kind) }
 {
@@ -169,7 +169,7 @@ pub fn lay_header(block: &mut Block<'_>, order: Endianness, form: Form, kind: Wk
     requires { LONGEST_HEADER ≤ block.old.room }
     ensures room { block.old.room ≤ block.new.room + LONGEST_HEADER }
     ensures bytes { IsExtended block.old.waiting block.new.waiting
-        (header_text order form (type_kind kind) (type_dimension kind)) }
+        (header_encoding order form (type_kind kind) (type_dimension kind)) }
 {
     block.lay(&[u8::from(order)]);
     lay_count(block, order, code(form, kind));
@@ -181,7 +181,7 @@ pub fn lay_header(block: &mut Block<'_>, order: Endianness, form: Form, kind: Wk
 /// Lays the words of a point without a coordinate.
 pub fn lay_empty(block: &mut Block<'_>, order: Endianness, dim: Dimension)
     requires { COORDINATE ≤ block.old.room }
-    ensures { IsExtended block.old.waiting block.new.waiting (words_text order (replicate (width dim) empty_word)) }
+    ensures { IsExtended block.old.waiting block.new.waiting (words_encoding order (replicate (width dim) empty_word)) }
 {
     for _i in 0..dim.width() {
         block.lay_word(order, EMPTY_WORD);
@@ -189,11 +189,11 @@ pub fn lay_empty(block: &mut Block<'_>, order: Endianness, dim: Dimension)
 }
 
 /// Lays a corner of a rectangle: x and y alone.
-#[tactic(auto, using(crate::proofs::Behind::behind, crate::proofs::Behind::last), unfolding(wkb_geom::specs::Texts::words_text))]
+#[tactic(auto, using(crate::proofs::Behind::behind, crate::proofs::Behind::last), unfolding(wkb_geom::specs::Encodings::words_encoding))]
 pub fn lay_corner(block: &mut Block<'_>, order: Endianness, x: u64, y: u64)
     requires { CORNER ≤ block.old.room }
     ensures room { block.new.room + CORNER ≡ block.old.room }
-    ensures bytes { IsExtended block.old.waiting block.new.waiting (words_text order (x ∷ y ∷ [])) }
+    ensures bytes { IsExtended block.old.waiting block.new.waiting (words_encoding order (x ∷ y ∷ [])) }
 {
     block.lay_word(order, x);
     block.lay_word(order, y);

@@ -3,7 +3,7 @@
 ghost use Rattle.std.specs.Prelude.{◌≡◌, ◌≤◌, ◌++◌, [], false, IfOk};
 ghost use Rattle.wkb_geom.specs.Numbers.{number_bytes};
 ghost use Rattle.wkb_geom.specs.Reading.{type_kind, type_dimension};
-ghost use Rattle.wkb_geom.specs.Texts.{header_text};
+ghost use Rattle.wkb_geom.specs.Encodings.{header_encoding};
 ghost use Rattle.wkb_sink.specs.Progress.{Lays};
 ghost use Rattle.wkb_sink.specs.Sinks.{PutsOrStops};
 
@@ -139,7 +139,7 @@ impl<'a, S: Sink> Buffered<'a, S> {
     ) -> Result<(), Stopped>
         requires working { S.has_failed self.old.sink.now ≡ false }
         ensures { Lays S.appended S.has_failed self.old self.new
-            (header_text order form (type_kind kind) (type_dimension kind)) result }
+            (header_encoding order form (type_kind kind) (type_dimension kind)) result }
     {
         self.make_room(LONGEST_HEADER)?;
         lay_header(&mut self.block, order, form, kind);
@@ -157,7 +157,7 @@ impl<'a, S: Sink> Buffered<'a, S> {
     ) -> Result<(), Stopped>
         requires working { S.has_failed self.old.sink.now ≡ false }
         ensures { Lays S.appended S.has_failed self.old self.new
-            (header_text order form (type_kind kind) (type_dimension kind) ++ number_bytes order 4 n) result }
+            (header_encoding order form (type_kind kind) (type_dimension kind) ++ number_bytes order 4 n) result }
     {
         self.make_room(LONGEST_HEADER + COUNT)?;
         lay_header(&mut self.block, order, form, kind);

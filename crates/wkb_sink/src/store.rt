@@ -4,7 +4,7 @@ ghost use Rattle.std.specs.Prelude.{◌≡◌, ◌-◌, ◌*◌, ◌≤◌, ◌+
 ghost use Rattle.std.specs.List.{flat_map};
 ghost use Rattle.wkb_geom.specs.Dimensions.{size};
 ghost use Rattle.wkb_geom.specs.Numbers.{number_bytes};
-ghost use Rattle.wkb_geom.specs.Texts.{words_text};
+ghost use Rattle.wkb_geom.specs.Encodings.{words_encoding};
 
 use byteorder::{BigEndian, ByteOrder, LittleEndian};
 use wkb_geom::{CoordTrait, Endianness, LineStringTrait};
@@ -52,7 +52,7 @@ pub fn store_coordinate<C: CoordTrait>(bytes: &mut [u8], coord: &C, width: usize
     requires least { 2 ≤ width }
     requires most { width ≤ 4 }
     requires room { 8 * width ≤ length bytes.old }
-    ensures { take (8 * width) bytes.new ≡ words_text order (C.words coord.now) }
+    ensures { take (8 * width) bytes.new ≡ words_encoding order (C.words coord.now) }
 {
     store_two(bytes, order, coord.x(), coord.y());
     match width {
@@ -80,7 +80,7 @@ fn store_run<L: LineStringTrait>(
     requires most { size (L.dimensions line.now) ≤ 4 }
     requires room { 8 * width * (to - from) ≤ length bytes.old }
     ensures len { result ≤ 8 * width * (to - from) }
-    ensures bytes { take result bytes.new ≡ flat_map (words_text order) (drop from (take to (L.coordinates line.now))) }
+    ensures bytes { take result bytes.new ≡ flat_map (words_encoding order) (drop from (take to (L.coordinates line.now))) }
 {
     let mut at = 0;
     for i in from..to {
@@ -106,7 +106,7 @@ pub fn store_coordinates<L: LineStringTrait>(
     requires most { size (L.dimensions line.now) ≤ 4 }
     requires room { 8 * size (L.dimensions line.now) * (to - from) ≤ length bytes.old }
     ensures len { result ≤ 8 * size (L.dimensions line.now) * (to - from) }
-    ensures bytes { take result bytes.new ≡ flat_map (words_text order) (drop from (take to (L.coordinates line.now))) }
+    ensures bytes { take result bytes.new ≡ flat_map (words_encoding order) (drop from (take to (L.coordinates line.now))) }
 {
     let width = line.dim().size();
     match order {

@@ -45,10 +45,10 @@ module _ (l : Layout) (bytes : List ℕ) where
         let cut : ltb (length bytes) end ≡ true = lt-ltb _ _ short in
         rw (there, ← counted, ← end-is, cut) refl
 
-    pub line_string_found : (text rest : List ℕ) → end ≤ length bytes → text ≡ take end bytes → rest ≡ drop end bytes
-        → (line_string_at l bytes).1 ≡ Ok (line_string_item l text, rest)
+    pub line_string_found : (encoding rest : List ℕ) → end ≤ length bytes → encoding ≡ take end bytes → rest ≡ drop end bytes
+        → (line_string_at l bytes).1 ≡ Ok (line_string_item l encoding, rest)
     unfolding line_string_at
-    line_string_found text rest enough text-is rest-is =
+    line_string_found encoding rest enough encoding-is rest-is =
         let there : ltb (length bytes) (body_start l.has_srid + 4) ≡ false = le-ltb _ _ whole in
         let long : ltb (length bytes) end ≡ false = le-ltb _ _ enough in
-        rw (there, ← counted, ← end-is, long, text-is, rest-is) refl
+        rw (there, ← counted, ← end-is, long, encoding-is, rest-is) refl

@@ -37,15 +37,15 @@ words-take e (suc n) m xs h =
     rw (number-take e 8 m xs (omega arith), inner, words-take e n (m - 8) (drop 8 xs) (omega arith)) refl
 
 -- the coordinate between two offsets
-pub coordinate_between : (e : Endianness) (d : Dimension) (n i start : ℕ) (text : List ℕ) → i < n
-    → Some (coordinate e d (take (8 * width d) (drop (start + 8 * width d * i) text))) ≡ slice_get (coordinates e d n (drop start text)) i
-coordinate_between e d n i start text h =
-    ap (λ (ws : List ℕ). Some ws) (words-take e (width d) (8 * width d) (drop (start + 8 * width d * i) text) (omega arith)
-    ∙ ap (λ (t : List ℕ). coordinate e d t) (sym (drop-drop (8 * width d * i) start text)))
-    ∙ sym (items_at (8 * width d) (coordinate e d) n i (drop start text) h)
+pub coordinate_between : (e : Endianness) (d : Dimension) (n i start : ℕ) (encoding : List ℕ) → i < n
+    → Some (coordinate e d (take (8 * width d) (drop (start + 8 * width d * i) encoding))) ≡ slice_get (coordinates e d n (drop start encoding)) i
+coordinate_between e d n i start encoding h =
+    ap (λ (ws : List ℕ). Some ws) (words-take e (width d) (8 * width d) (drop (start + 8 * width d * i) encoding) (omega arith)
+    ∙ ap (λ (t : List ℕ). coordinate e d t) (sym (drop-drop (8 * width d * i) start encoding)))
+    ∙ sym (items_at (8 * width d) (coordinate e d) n i (drop start encoding) h)
 
-pub ring_counted : (e : Endianness) (d : Dimension) (text : List ℕ) → length (ring_in e d text) ≡ number e 4 text
-ring_counted e d text = length-items (8 * width d) (coordinate e d) (number e 4 text) (drop 4 text)
+pub ring_counted : (e : Endianness) (d : Dimension) (encoding : List ℕ) → length (ring_in e d encoding) ≡ number e 4 encoding
+ring_counted e d encoding = length-items (8 * width d) (coordinate e d) (number e 4 encoding) (drop 4 encoding)
 
 pub width-within : (d : Dimension) → (2 ≤ width d) × (width d ≤ 4)
 width-within Xy = (omega arith, omega arith)
@@ -65,27 +65,27 @@ next_within size i n lt = let b : size * (i + 1) ≤ size * n = mul-le-mul_left 
 
 -- ---- points that are empty, and those that are not
 
-empty_by : (l : Layout) (text ws : List ℕ) (b : Bool) → is_none (point_of (point_item_of l text ws b).value) ≡ b
-empty_by l text ws true = refl
-empty_by l text ws false = refl
+empty_by : (l : Layout) (encoding ws : List ℕ) (b : Bool) → is_none (point_of (point_item_of l encoding ws b).value) ≡ b
+empty_by l encoding ws true = refl
+empty_by l encoding ws false = refl
 
-pub empty_is : (l : Layout) (text : List ℕ) → is_none (point_of (point_item l text).value) ≡ all_nan (point_words_in l text)
-empty_is l text = empty_by l text _ _
+pub empty_is : (l : Layout) (encoding : List ℕ) → is_none (point_of (point_item l encoding).value) ≡ all_nan (point_words_in l encoding)
+empty_is l encoding = empty_by l encoding _ _
 
-text_by : (l : Layout) (text ws : List ℕ) (b : Bool) → (point_item_of l text ws b).text ≡ text
-text_by l text ws true = refl
-text_by l text ws false = refl
+encoding_by : (l : Layout) (encoding ws : List ℕ) (b : Bool) → (point_item_of l encoding ws b).encoding ≡ encoding
+encoding_by l encoding ws true = refl
+encoding_by l encoding ws false = refl
 
-pub point_text_is : (l : Layout) (text : List ℕ) → (point_item l text).text ≡ text
-point_text_is l text = text_by l text _ _
+pub point_encoding_is : (l : Layout) (encoding : List ℕ) → (point_item l encoding).encoding ≡ encoding
+point_encoding_is l encoding = encoding_by l encoding _ _
 
-srid_by : (l : Layout) (text ws : List ℕ) (b : Bool) → (header (point_item_of l text ws b).spelled).srid ≡ srid_in l.order l.has_srid text
-srid_by l text ws true = refl
-srid_by l text ws false = refl
+srid_by : (l : Layout) (encoding ws : List ℕ) (b : Bool) → (header (point_item_of l encoding ws b).spelled).srid ≡ srid_in l.order l.has_srid encoding
+srid_by l encoding ws true = refl
+srid_by l encoding ws false = refl
 
-pub srid_is : (l : Layout) (text : List ℕ) → (header (point_item l text).spelled).srid ≡ srid_in l.order l.has_srid text
-srid_is l text = srid_by l text _ _
+pub srid_is : (l : Layout) (encoding : List ℕ) → (header (point_item l encoding).spelled).srid ≡ srid_in l.order l.has_srid encoding
+srid_is l encoding = srid_by l encoding _ _
 
-pub coordinate_is : (l : Layout) (text : List ℕ) (b : Bool) → b ≡ all_nan (point_words_in l text)
-    → point_of (point_item_of l text (point_words_in l text) b).value ≡ point_of (point_item l text).value
-coordinate_is l text b h = ap (λ (c : Bool). point_of (point_item_of l text (point_words_in l text) c).value) h
+pub coordinate_is : (l : Layout) (encoding : List ℕ) (b : Bool) → b ≡ all_nan (point_words_in l encoding)
+    → point_of (point_item_of l encoding (point_words_in l encoding) b).value ≡ point_of (point_item l encoding).value
+coordinate_is l encoding b h = ap (λ (c : Bool). point_of (point_item_of l encoding (point_words_in l encoding) c).value) h

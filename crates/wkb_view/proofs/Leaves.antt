@@ -1,18 +1,18 @@
--- Points, line strings and rings: what a text that was cut behind them says, and what they cost.
+-- Points, line strings and rings: what an encoding that was cut behind them says, and what they cost.
 use Rattle.std.proofs.Common.{◌≡◌, ℕ, zero, suc, ◌-◌, ◌+◌, ◌≤◌, Bool, true, false, cond, ltb, List, [], ◌∷◌, length}
 use Rattle.std.proofs.Common.{take, drop, Option, Some, None}
 use Rattle.std.proofs.Common.{Ok, refl, sym, ap, ◌∙◌, length-take, length-drop, arith}
 use Rattle.std.proofs.lemmas.Bool.{le-ltb}
 use Rattle.wkb_geom.specs.Reading.{order_of, head_by_order}
-use Rattle.wkb_view.specs.Words.{Endianness, Dimension, Layout, number, number-take, ring_end, Item, Part, Reading}
+use Rattle.wkb_view.specs.Words.{Endianness, Dimension, Layout, number, number-take, ring_end, Item, Outcome, Reading}
 use Rattle.wkb_view.specs.Words.{free}
-use Rattle.wkb_view.specs.Words.{at_no_cost, head_at, taken, line_string_at, layout_wanted}
+use Rattle.wkb_view.specs.Words.{at_no_cost, head_at, consumed, line_string_at, layout_wanted}
 use Rattle.wkb_view.specs.Words.{member_layout, member_body, member_at, then_body}
-use Rattle.wkb_view.specs.Members.{item_of, IsText, IsMember, layout_said, member_item}
+use Rattle.wkb_view.specs.Members.{item_of, IsEncoding, IsMember, layout_said, member_item}
 use Rattle.wkb_view.specs.Pieces.{Passed, IsRing}
 use Rattle.wkb_view.proofs.Pieces.{drop-of-take}
 
--- a number within the text that was taken
+-- a number within the encoding that was taken
 pub number_within : (order : Endianness) (at end : ℕ) (bytes : List ℕ) → at + 4 ≤ end
     → number order 4 (drop at (take end bytes)) ≡ number order 4 (drop at bytes)
 number_within order at end bytes h =
@@ -41,9 +41,9 @@ pub line_string_free : (l : Layout) (bytes : List ℕ) → line_string_at l byte
 unfolding line_string_at
 line_string_free l bytes = ap (λ c. (c, (line_string_at l bytes).1)) (free_by _ _ _ refl refl)
 
--- ---- what was passed, by the text that was taken
+-- ---- what was passed, by the encoding that was taken
 
-abbrev pub found : Item → List ℕ → Part Item
+abbrev pub found : Item → List ℕ → Outcome Item
 found i rest = Ok (i, rest)
 
 pub passed_by : {P : List ℕ → Type 0} (least : ℕ) (bytes rest : List ℕ) (end : ℕ) → least ≤ end → end ≤ length bytes → rest ≡ drop end bytes
@@ -68,15 +68,15 @@ member_gives k d bytes l r e is = ap (λ s. then_body s (λ m. member_body k m b
 
 -- a member that was read, as it was passed
 pub member_passed : (k : ℕ) (d : Dimension) (bytes : List ℕ) (l : Layout) (x : Item) (rest : List ℕ) → member_layout k d bytes ≡ Ok l
-    → Passed 9 (IsText k l) bytes rest → x ≡ item_of k l (taken bytes rest) → (x ≡ member_item k d (taken bytes rest)) × Passed 9 (IsMember k d) bytes rest
+    → Passed 9 (IsEncoding k l) bytes rest → x ≡ item_of k l (consumed bytes rest) → (x ≡ member_item k d (consumed bytes rest)) × Passed 9 (IsMember k d) bytes rest
 member_passed k d bytes l x rest e passed is =
     let shorter = passed.shorter in
-    let layout : member_layout k d (taken bytes rest) ≡ Ok l =
+    let layout : member_layout k d (consumed bytes rest) ≡ Ok l =
     ap (layout_wanted k d) (head-take (length bytes - length rest) bytes (omega arith) (omega arith)) ∙ e in (
-      is ∙ ap (λ s. item_of k (layout_said d s) (taken bytes rest)) (sym layout),
-      record { shorter = passed.shorter; rest_is = passed.rest_is; form = record { layout = l; layout_is = layout; text_is = passed.form } },
+      is ∙ ap (λ s. item_of k (layout_said d s) (consumed bytes rest)) (sym layout),
+      record { shorter = passed.shorter; rest_is = passed.rest_is; form = record { layout = l; layout_is = layout; encoding_is = passed.form } },
     )
 
 -- a member is seen by its layout
-pub member_seen : (k : ℕ) (d : Dimension) (text : List ℕ) (l : Layout) → member_layout k d text ≡ Ok l → item_of k l text ≡ member_item k d text
-member_seen k d text l e = ap (λ r. item_of k (layout_said d r) text) (sym e)
+pub member_seen : (k : ℕ) (d : Dimension) (encoding : List ℕ) (l : Layout) → member_layout k d encoding ≡ Ok l → item_of k l encoding ≡ member_item k d encoding
+member_seen k d encoding l e = ap (λ r. item_of k (layout_said d r) encoding) (sym e)

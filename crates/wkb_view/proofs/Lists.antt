@@ -4,9 +4,9 @@ use Rattle.std.proofs.Common.{append_assoc, arith, Bool, false}
 use Rattle.std.proofs.Common.{length, drop, ltb, length-drop}
 use Rattle.std.proofs.lemmas.List.{append-nil}
 use Rattle.std.proofs.lemmas.Bool.{le-ltb}
-use Rattle.wkb_view.specs.Words.{Cause, Refusal, Fault, Memory, Cost, free, one_turn, Part, Reading, costs, done}
+use Rattle.wkb_view.specs.Words.{Cause, Refusal, Fault, Memory, Cost, free, one_turn, Outcome, Reading, costs, done}
 use Rattle.wkb_view.specs.Words.{and_then, repeated, Layout, Item, number}
-use Rattle.wkb_view.specs.Words.{multi_point_end, slots_asked, slots_of, taken, body_start, parts_start, list_at}
+use Rattle.wkb_view.specs.Words.{multi_point_end, slots_asked, slots_of, consumed, body_start, parts_start, list_at}
 use Rattle.wkb_view.specs.Words.{list_item, ring_part, member_at}
 use Rattle.wkb_view.specs.Words.{width, parts_body, polygon_item, multi_point_with, multi_line_string_with}
 use Rattle.wkb_view.specs.Words.{multi_polygon_with}
@@ -36,7 +36,7 @@ abbrev pub begun : Counts → Counts
 begun c = record { turns = c.turns + 1; slots = c.slots }
 
 -- what costs nothing spends nothing
-pub freely : {A : Type 0} (r : Reading A) (p : Part A) (c : Counts) → r ≡ (free, p) → (r.1 ≡ p) × Spent c c r.0
+pub freely : {A : Type 0} (r : Reading A) (p : Outcome A) (c : Counts) → r ≡ (free, p) → (r.1 ≡ p) × Spent c c r.0
 freely {A = A} r p c is = (ap (λ (q : Reading A). q.1) is, rw is (record { turns = omega arith; slots = omega arith }))
 
 module _ {A : Type 0} {start : Counts} {whole : Reading (List A)} where
@@ -158,7 +158,7 @@ points_here l bytes n s w old whole counted s-is w-is enough =
 module _ {A : Type 0} (end : List A → List ℕ → Item) (bytes : List ℕ) (old mid : Counts) where
   -- the parts that were read, made into the whole
   abbrev made : ℕ → Reading (List A) → Reading Item
-  made capacity r = costs (slots_of capacity) (and_then r (λ xs after. done (end xs (taken bytes after)) after))
+  made capacity r = costs (slots_of capacity) (and_then r (λ xs after. done (end xs (consumed bytes after)) after))
 
   fits_by : (capacity : ℕ) (r : Reading (List A)) → mid.turns ≡ old.turns → mid.slots ≡ old.slots + capacity → CanCount old (made capacity r).0
       → CanCount mid r.0
@@ -166,11 +166,11 @@ module _ {A : Type 0} (end : List A → List ℕ → Item) (bytes : List ℕ) (o
   fits_by capacity (c, Err f) turns slots h = record { turns = omega (arith, h.turns); slots = omega (arith, h.slots) }
 
   reads_by : (capacity : ℕ) (new : Counts) (parts : List A) (rest : List ℕ) (r : Reading (List A)) → mid.turns ≡ old.turns → mid.slots ≡ old.slots + capacity
-      → r.1 ≡ Ok (parts, rest) → Spent mid new r.0 → ((made capacity r).1 ≡ Ok (end parts (taken bytes rest), rest)) × Spent old new (made capacity r).0
+      → r.1 ≡ Ok (parts, rest) → Spent mid new r.0 → ((made capacity r).1 ≡ Ok (end parts (consumed bytes rest), rest)) × Spent old new (made capacity r).0
   reads_by capacity new parts rest (c, Err f) turns slots is spent = absurd cc
   reads_by capacity new parts rest (c, Ok x) turns slots is spent =
       let same : x ≡ (parts, rest) = cc in (
-        ap (λ (y : List A × List ℕ). Ok (end y.0 (taken bytes y.1), y.1)) same,
+        ap (λ (y : List A × List ℕ). Ok (end y.0 (consumed bytes y.1), y.1)) same,
         record { turns = omega (arith, spent.turns); slots = omega (arith, spent.slots) },
       )
 
@@ -194,7 +194,7 @@ module _ {A : Type 0} {k n : ℕ} {l : Layout} {part : List ℕ → Reading A} {
   -- a list whose parts are read
   pub list_reads : (new : Counts) (parts : List A) (rest : List ℕ) → IsList k l part end bytes n old mid whole
       → (parts_behind part l n bytes).1 ≡ Ok (parts, rest) → Spent mid new (parts_behind part l n bytes).0
-      → (whole.1 ≡ Ok (end parts (taken bytes rest), rest)) × Spent old new whole.0
+      → (whole.1 ≡ Ok (end parts (consumed bytes rest), rest)) × Spent old new whole.0
   list_reads new parts rest h is spent = rw h.is (reads_by end bytes old mid _ new parts rest (parts_behind part l n bytes) h.turns h.slots is spent)
 
   -- a list whose parts stop

@@ -11,10 +11,10 @@ use Rattle.wkb_geom.specs.declared.error.Cause.TheVariants.{IncorrectType as inc
 use Rattle.wkb_geom.specs.Reading.{type_kind, type_dimension, same_dimension}
 use Rattle.wkb_view.specs.Words.{Dimension, dimensions, Spelling, Coordinate, Listed, whole_of, Item, spellings}
 use Rattle.wkb_view.specs.Words.{polygon_of, Endianness, Layout, Head, Cause}
-use Rattle.wkb_view.specs.Words.{multi_point_end, body_start, point_of, taken, laid, head_at, layout_wanted}
+use Rattle.wkb_view.specs.Words.{multi_point_end, body_start, point_of, consumed, laid, head_at, layout_wanted}
 use Rattle.wkb_view.specs.Words.{member_layout, list_of_spellings}
 use Rattle.wkb_view.specs.Fitted.{fitted_line_strings, fitted_polygons}
-use Rattle.wkb_view.specs.Members.{polygon_items, IsText, IsMember, AreMembers, member_item, members_in, pieces_behind}
+use Rattle.wkb_view.specs.Members.{polygon_items, IsEncoding, IsMember, AreMembers, member_item, members_in, pieces_behind}
 use Rattle.wkb_view.specs.Members.{every, stride, point_ends, points_in}
 use Rattle.wkb_view.specs.Pieces.{pieces, Passed}
 use Rattle.wkb_view.specs.Ranges.{member_dimension}
@@ -27,16 +27,16 @@ spelled_each (m ∷ ms) = ap (λ (ss : List Spelling). m.spelled ∷ ss) (spelle
 
 -- ---- the members that pieces are
 
-pub members_counted : {B : Type 0} (f : Item → B) (k : ℕ) (l : Layout) (ends text : List ℕ) → length (map f (members_in k l ends text)) ≡ length ends
-members_counted f k l ends text = length-map (members_in k l ends text) f ∙ parts_counted (member_item k l.dimension) (body_start l.has_srid + 4) ends text
+pub members_counted : {B : Type 0} (f : Item → B) (k : ℕ) (l : Layout) (ends encoding : List ℕ) → length (map f (members_in k l ends encoding)) ≡ length ends
+members_counted f k l ends encoding = length-map (members_in k l ends encoding) f ∙ parts_counted (member_item k l.dimension) (body_start l.has_srid + 4) ends encoding
 
-module _ (k : ℕ) (l : Layout) (ends text : List ℕ) (i : ℕ) where
-  -- one that is handed out has the text that its layout says
-  pub member_text : (t : List ℕ) (m : Layout) → AreMembers k l ends text → Some t ≡ slice_get (pieces_behind l ends text) i
-      → member_layout k l.dimension t ≡ Ok m → IsText k m t
-  member_text t m are e is =
-      let member = piece_form (IsMember k l.dimension) (body_start l.has_srid + 4) ends text i t are e in
-      subst (λ n. IsText k n t) (same member.layout m (sym member.layout_is ∙ is)) member.text_is
+module _ (k : ℕ) (l : Layout) (ends encoding : List ℕ) (i : ℕ) where
+  -- one that is handed out has the encoding that its layout says
+  pub member_encoding : (t : List ℕ) (m : Layout) → AreMembers k l ends encoding → Some t ≡ slice_get (pieces_behind l ends encoding) i
+      → member_layout k l.dimension t ≡ Ok m → IsEncoding k m t
+  member_encoding t m are e is =
+      let member = piece_form (IsMember k l.dimension) (body_start l.has_srid + 4) ends encoding i t are e in
+      subst (λ n. IsEncoding k n t) (same member.layout m (sym member.layout_is ∙ is)) member.encoding_is
     where
       good : Layout → Result Layout Cause
       good n = Ok n
@@ -45,22 +45,22 @@ module _ (k : ℕ) (l : Layout) (ends text : List ℕ) (i : ℕ) where
       same m n e = cc
 
   -- and has a layout
-  pub member_there : (t : List ℕ) → AreMembers k l ends text → Some t ≡ slice_get (pieces_behind l ends text) i → IsOk (member_layout k l.dimension t)
+  pub member_there : (t : List ℕ) → AreMembers k l ends encoding → Some t ≡ slice_get (pieces_behind l ends encoding) i → IsOk (member_layout k l.dimension t)
   member_there t are e =
-      let member = piece_form (IsMember k l.dimension) (body_start l.has_srid + 4) ends text i t are e in
+      let member = piece_form (IsMember k l.dimension) (body_start l.has_srid + 4) ends encoding i t are e in
       rw member.layout_is refl
 
   -- what is made of it
-  pub members_seen : {B : Type 0} (f : Item → B) (o : Option (List ℕ)) → o ≡ slice_get (pieces_behind l ends text) i
-      → option_map f (option_map (member_item k l.dimension) o) ≡ slice_get (map f (members_in k l ends text)) i
+  pub members_seen : {B : Type 0} (f : Item → B) (o : Option (List ℕ)) → o ≡ slice_get (pieces_behind l ends encoding) i
+      → option_map f (option_map (member_item k l.dimension) o) ≡ slice_get (map f (members_in k l ends encoding)) i
   members_seen f o e =
-      ap (option_map f) (piece_seen (member_item k l.dimension) (body_start l.has_srid + 4) ends text i o e)
-      ∙ sym (slice_get-map f (members_in k l ends text) i)
+      ap (option_map f) (piece_seen (member_item k l.dimension) (body_start l.has_srid + 4) ends encoding i o e)
+      ∙ sym (slice_get-map f (members_in k l ends encoding) i)
 
   -- and its spelling
-  pub spelling_seen : (o : Option (List ℕ)) → o ≡ slice_get (pieces_behind l ends text) i
-      → option_map (λ m. m.spelled) (option_map (member_item k l.dimension) o) ≡ slice_get (list_of_spellings (spellings (members_in k l ends text))) i
-  spelling_seen o e = members_seen (λ m. m.spelled) o e ∙ sym (ap (λ (ss : List Spelling). slice_get ss i) (spelled_each (members_in k l ends text)))
+  pub spelling_seen : (o : Option (List ℕ)) → o ≡ slice_get (pieces_behind l ends encoding) i
+      → option_map (λ m. m.spelled) (option_map (member_item k l.dimension) o) ≡ slice_get (list_of_spellings (spellings (members_in k l ends encoding))) i
+  spelling_seen o e = members_seen (λ m. m.spelled) o e ∙ sym (ap (λ (ss : List Spelling). slice_get ss i) (spelled_each (members_in k l ends encoding)))
 
 -- what holds of each member holds with one more
 pub all_more : {A : Type 0} (P : A → Type 0) (xs : List A) (x : A) → AllByRecursion P xs → P x → AllByRecursion P (xs ++ x ∷ [])
@@ -116,15 +116,15 @@ every-next start size zero end e = ap (λ (k : ℕ). k ∷ []) (omega arith)
 every-next start size (suc n) end e = ap (λ (r : List ℕ). (start + size) ∷ r) (every-next (start + size) size n end (omega arith))
 
 -- the part at an index
-pub every_at : (start size n i : ℕ) (text : List ℕ) → i < n
-    → slice_get (pieces start (every start size n) text) i ≡ Some (take size (drop (start + size * i) text))
-every_at start size zero i text lt = absurd (omega arith)
-every_at start size (suc n) zero text lt =
+pub every_at : (start size n i : ℕ) (encoding : List ℕ) → i < n
+    → slice_get (pieces start (every start size n) encoding) i ≡ Some (take size (drop (start + size * i) encoding))
+every_at start size zero i encoding lt = absurd (omega arith)
+every_at start size (suc n) zero encoding lt =
     let k : start + size - start ≡ size = omega arith in
     let z : start ≡ start + size * 0 = omega arith in
-    ap (λ (m : ℕ). Some (take m (drop start text))) k ∙ ap (λ (m : ℕ). Some (take size (drop m text))) z
-every_at start size (suc n) (suc i) text lt =
-    every_at (start + size) size n i text (omega arith) ∙ ap (λ (m : ℕ). Some (take size (drop m text))) (omega arith)
+    ap (λ (m : ℕ). Some (take m (drop start encoding))) k ∙ ap (λ (m : ℕ). Some (take size (drop m encoding))) z
+every_at start size (suc n) (suc i) encoding lt =
+    every_at (start + size) size n i encoding (omega arith) ∙ ap (λ (m : ℕ). Some (take size (drop m encoding))) (omega arith)
 
 -- ---- a member has no SRID, so that it has the size of all
 
@@ -148,11 +148,11 @@ member_laid k d bytes l e = e ∙ ap (λ (f : Dimension). Ok (laid l.order f l.h
 pub point_laid : (d : Dimension) (bytes : List ℕ) (l : Layout) → member_layout 1 d bytes ≡ Ok l → member_layout 1 d bytes ≡ Ok (laid l.order d false)
 point_laid d bytes l e = member_laid 1 d bytes l e ∙ ap (λ (s : Bool). Ok (laid l.order d s)) (no_srid d (head_at bytes) l e)
 
-member_size : (d : Dimension) (text : List ℕ) → IsMember 1 d text → length text ≡ stride d
-member_size d text m =
-    let same : m.layout.dimension ≡ d = member_dimension 1 d text m.layout m.layout_is in
-    let none : m.layout.has_srid ≡ false = no_srid d (head_at text) m.layout m.layout_is in
-    rw (same, none) at m.text_is.whole ∙ omega arith
+member_size : (d : Dimension) (encoding : List ℕ) → IsMember 1 d encoding → length encoding ≡ stride d
+member_size d encoding m =
+    let same : m.layout.dimension ≡ d = member_dimension 1 d encoding m.layout m.layout_is in
+    let none : m.layout.has_srid ≡ false = no_srid d (head_at encoding) m.layout m.layout_is in
+    rw (same, none) at m.encoding_is.whole ∙ omega arith
 
 -- a member more
 pub ends_next : (l : Layout) (i : ℕ) (bytes rest after : List ℕ) → rest ≡ drop (last_end (body_start l.has_srid + 4) (point_ends l i)) bytes
@@ -162,7 +162,7 @@ ends_next l i bytes rest after rest-is within passed =
     let start = body_start l.has_srid + 4 in
     let last = last_end-every start (stride l.dimension) i in
     let long = ap length rest-is ∙ length-drop (last_end start (point_ends l i)) bytes in
-    let size = member_size l.dimension (taken rest after) passed.form in
+    let size = member_size l.dimension (consumed rest after) passed.form in
     let shorter = passed.shorter in
     let one : i + 1 ≡ suc i = omega arith in
     ap (point_ends l) one ∙ every-next start (stride l.dimension) i (length bytes - length after) (omega (arith, length-take (length rest - length after) rest))
@@ -176,12 +176,12 @@ points_end l i bytes rest rest-is within =
 
 -- ---- members by their index
 
-pub points_counted : (l : Layout) (n : ℕ) (text : List ℕ) → length (map (λ i. point_of i.value) (points_in l n text)) ≡ n
-points_counted l n text = members_counted (λ i. point_of i.value) 1 l (point_ends l n) text ∙ length-every (body_start l.has_srid + 4) (stride l.dimension) n
+pub points_counted : (l : Layout) (n : ℕ) (encoding : List ℕ) → length (map (λ i. point_of i.value) (points_in l n encoding)) ≡ n
+points_counted l n encoding = members_counted (λ i. point_of i.value) 1 l (point_ends l n) encoding ∙ length-every (body_start l.has_srid + 4) (stride l.dimension) n
 
-pub point_text : (l : Layout) (n i : ℕ) (buf : List ℕ) (start : ℕ) (part : List ℕ) → i < n → start ≡ body_start l.has_srid + 4 + stride l.dimension * i
+pub point_encoding : (l : Layout) (n i : ℕ) (buf : List ℕ) (start : ℕ) (part : List ℕ) → i < n → start ≡ body_start l.has_srid + 4 + stride l.dimension * i
     → part ≡ take (stride l.dimension) (drop start buf) → Some part ≡ slice_get (pieces_behind l (point_ends l n) buf) i
-point_text l n i buf start part lt start-is part-is =
+point_encoding l n i buf start part lt start-is part-is =
     ap (λ (t : List ℕ). Some t) (part-is ∙ ap (λ (k : ℕ). take (stride l.dimension) (drop k buf)) start-is)
     ∙ sym (every_at (body_start l.has_srid + 4) (stride l.dimension) n i buf lt)
 

@@ -5,7 +5,7 @@ use Rattle.std.proofs.Common.{get_or, arith, ◌*◌, ◌++◌, Ok, length-appen
 use Rattle.std.specs.Prelude.{slice_get, option_map}
 use Rattle.std.proofs.lemmas.List.{length-map, drop-drop, drop-take, take-take}
 use Rattle.std.proofs.lemmas.Option.{slice_get_past, slice_get-map}
-use Rattle.wkb_view.specs.Words.{Reading, taken}
+use Rattle.wkb_view.specs.Words.{Reading, consumed}
 use Rattle.wkb_view.specs.Pieces.{pieces, ArePieces, AreInOrder, IsPiece, Passed}
 use Rattle.wkb_view.specs.declared.counts.Counts.{Counts}
 use Rattle.wkb_view.specs.Outcome.{Spent}
@@ -14,55 +14,55 @@ use Rattle.wkb_view.proofs.Lists.{begun, Loop, next_part, parts_end}
 -- ---- the part at an index
 
 -- it stands from s to t
-pub record Between (start : ℕ) (ends text : List ℕ) (i s t : ℕ) : Type 0 where
+pub record Between (start : ℕ) (ends encoding : List ℕ) (i s t : ℕ) : Type 0 where
   pub ordered : s ≤ t
-  pub within : s + (t - s) ≤ length text
-  pub item : slice_get (pieces start ends text) i ≡ Some (take (t - s) (drop s text))
+  pub within : s + (t - s) ≤ length encoding
+  pub item : slice_get (pieces start ends encoding) i ≡ Some (take (t - s) (drop s encoding))
 
-between : (start : ℕ) (ends text : List ℕ) (i : ℕ) → AreInOrder start ends text → i < length ends
-    → Between start ends text i (get_or (start ∷ ends) i 0) (get_or ends i 0)
-between start [] text i h lt = absurd (omega arith)
-between start (x ∷ ends) text zero h lt = record { ordered = omega (arith, h.0.ordered); within = omega (arith, h.0.ordered, h.0.within); item = refl }
-between start (x ∷ ends) text (suc i) h lt =
-    let b = between x ends text i h.1 (omega arith) in
+between : (start : ℕ) (ends encoding : List ℕ) (i : ℕ) → AreInOrder start ends encoding → i < length ends
+    → Between start ends encoding i (get_or (start ∷ ends) i 0) (get_or ends i 0)
+between start [] encoding i h lt = absurd (omega arith)
+between start (x ∷ ends) encoding zero h lt = record { ordered = omega (arith, h.0.ordered); within = omega (arith, h.0.ordered, h.0.within); item = refl }
+between start (x ∷ ends) encoding (suc i) h lt =
+    let b = between x ends encoding i h.1 (omega arith) in
     record { ordered = b.ordered; within = b.within; item = b.item }
 
-pub part_is : (start : ℕ) (ends text : List ℕ) (i s : ℕ) → AreInOrder start ends text → i < length ends → s ≡ get_or (start ∷ ends) i 0
-    → Between start ends text i s (get_or ends i 0)
-part_is start ends text i s stand lt s-is = subst (λ (k : ℕ). Between start ends text i k (get_or ends i 0)) (sym s-is) (between start ends text i stand lt)
+pub part_is : (start : ℕ) (ends encoding : List ℕ) (i s : ℕ) → AreInOrder start ends encoding → i < length ends → s ≡ get_or (start ∷ ends) i 0
+    → Between start ends encoding i s (get_or ends i 0)
+part_is start ends encoding i s stand lt s-is = subst (λ (k : ℕ). Between start ends encoding i k (get_or ends i 0)) (sym s-is) (between start ends encoding i stand lt)
 
-pieces_counted : (start : ℕ) (ends text : List ℕ) → length (pieces start ends text) ≡ length ends
-pieces_counted start [] text = refl
-pieces_counted start (x ∷ ends) text = ap suc (pieces_counted x ends text)
+pieces_counted : (start : ℕ) (ends encoding : List ℕ) → length (pieces start ends encoding) ≡ length ends
+pieces_counted start [] encoding = refl
+pieces_counted start (x ∷ ends) encoding = ap suc (pieces_counted x ends encoding)
 
-pub pieces_past : (start : ℕ) (ends text : List ℕ) (i : ℕ) → length ends ≤ i → None ≡ slice_get (pieces start ends text) i
-pieces_past start ends text i h = sym (slice_get_past (pieces start ends text) i (omega (arith, pieces_counted start ends text)))
+pub pieces_past : (start : ℕ) (ends encoding : List ℕ) (i : ℕ) → length ends ≤ i → None ≡ slice_get (pieces start ends encoding) i
+pieces_past start ends encoding i h = sym (slice_get_past (pieces start ends encoding) i (omega (arith, pieces_counted start ends encoding)))
 
-pub parts_counted : {A : Type 0} (seen : List ℕ → A) (start : ℕ) (ends text : List ℕ) → length (map seen (pieces start ends text)) ≡ length ends
-parts_counted seen start ends text = length-map (pieces start ends text) seen ∙ pieces_counted start ends text
+pub parts_counted : {A : Type 0} (seen : List ℕ → A) (start : ℕ) (ends encoding : List ℕ) → length (map seen (pieces start ends encoding)) ≡ length ends
+parts_counted seen start ends encoding = length-map (pieces start ends encoding) seen ∙ pieces_counted start ends encoding
 
-pub pieces_within : (P : List ℕ → Type 0) (start : ℕ) (ends text : List ℕ) → ArePieces P start ends text → start ≤ length text
-pieces_within P start [] text h = h
-pieces_within P start (x ∷ ends) text h = omega (arith, h.0.ordered, h.0.within)
+pub pieces_within : (P : List ℕ → Type 0) (start : ℕ) (ends encoding : List ℕ) → ArePieces P start ends encoding → start ≤ length encoding
+pieces_within P start [] encoding h = h
+pieces_within P start (x ∷ ends) encoding h = omega (arith, h.0.ordered, h.0.within)
 
 -- ---- by the part that is handed out
 
 -- parts of one form stand in order
-pub in_order : (P : List ℕ → Type 0) (start : ℕ) (ends text : List ℕ) → ArePieces P start ends text → AreInOrder start ends text
-in_order P start [] text h = h
-in_order P start (x ∷ ends) text h = (record { ordered = h.0.ordered; within = h.0.within; form = tt }, in_order P x ends text h.1)
+pub in_order : (P : List ℕ → Type 0) (start : ℕ) (ends encoding : List ℕ) → ArePieces P start ends encoding → AreInOrder start ends encoding
+in_order P start [] encoding h = h
+in_order P start (x ∷ ends) encoding h = (record { ordered = h.0.ordered; within = h.0.within; form = tt }, in_order P x ends encoding h.1)
 
 -- the part that is handed out has the form
-pub piece_form : (P : List ℕ → Type 0) (start : ℕ) (ends text : List ℕ) (i : ℕ) (t : List ℕ) → ArePieces P start ends text
-    → Some t ≡ slice_get (pieces start ends text) i → P t
-piece_form P start [] text i t h e = absurd cc
-piece_form P start (x ∷ ends) text zero t h e = let same : take (x - start) (drop start text) ≡ t = cc in subst P same h.0.form
-piece_form P start (x ∷ ends) text (suc i) t h e = piece_form P x ends text i t h.1 e
+pub piece_form : (P : List ℕ → Type 0) (start : ℕ) (ends encoding : List ℕ) (i : ℕ) (t : List ℕ) → ArePieces P start ends encoding
+    → Some t ≡ slice_get (pieces start ends encoding) i → P t
+piece_form P start [] encoding i t h e = absurd cc
+piece_form P start (x ∷ ends) encoding zero t h e = let same : take (x - start) (drop start encoding) ≡ t = cc in subst P same h.0.form
+piece_form P start (x ∷ ends) encoding (suc i) t h e = piece_form P x ends encoding i t h.1 e
 
 -- and is seen as the item at its index
-pub piece_seen : {A : Type 0} (seen : List ℕ → A) (start : ℕ) (ends text : List ℕ) (i : ℕ) (o : Option (List ℕ)) → o ≡ slice_get (pieces start ends text) i
-    → option_map seen o ≡ slice_get (map seen (pieces start ends text)) i
-piece_seen seen start ends text i o e = ap (option_map seen) e ∙ sym (slice_get-map seen (pieces start ends text) i)
+pub piece_seen : {A : Type 0} (seen : List ℕ → A) (start : ℕ) (ends encoding : List ℕ) (i : ℕ) (o : Option (List ℕ)) → o ≡ slice_get (pieces start ends encoding) i
+    → option_map seen o ≡ slice_get (map seen (pieces start ends encoding)) i
+piece_seen seen start ends encoding i o e = ap (option_map seen) e ∙ sym (slice_get-map seen (pieces start ends encoding) i)
 
 -- ---- one piece more
 
@@ -75,41 +75,41 @@ last_end-push : (start : ℕ) (ends : List ℕ) (end : ℕ) → last_end start (
 last_end-push start [] end = refl
 last_end-push start (e ∷ ends) end = last_end-push e ends end
 
-pieces-push : {A : Type 0} (seen : List ℕ → A) (start : ℕ) (ends : List ℕ) (end : ℕ) (text : List ℕ)
-    → map seen (pieces start (ends ++ end ∷ []) text)
-    ≡ map seen (pieces start ends text) ++ seen (take (end - last_end start ends) (drop (last_end start ends) text)) ∷ []
-pieces-push seen start [] end text = refl
-pieces-push {A = A} seen start (e ∷ ends) end text = ap (λ (r : List A). seen (take (e - start) (drop start text)) ∷ r) (pieces-push seen e ends end text)
+pieces-push : {A : Type 0} (seen : List ℕ → A) (start : ℕ) (ends : List ℕ) (end : ℕ) (encoding : List ℕ)
+    → map seen (pieces start (ends ++ end ∷ []) encoding)
+    ≡ map seen (pieces start ends encoding) ++ seen (take (end - last_end start ends) (drop (last_end start ends) encoding)) ∷ []
+pieces-push seen start [] end encoding = refl
+pieces-push {A = A} seen start (e ∷ ends) end encoding = ap (λ (r : List A). seen (take (e - start) (drop start encoding)) ∷ r) (pieces-push seen e ends end encoding)
 
-ArePieces-push : (P : List ℕ → Type 0) (start : ℕ) (ends : List ℕ) (end : ℕ) (text : List ℕ) → ArePieces P start ends text
-    → IsPiece P (last_end start ends) end text → ArePieces P start (ends ++ end ∷ []) text
-ArePieces-push P start [] end text h r = (r, r.within)
-ArePieces-push P start (x ∷ ends) end text h r = (h.0, ArePieces-push P x ends end text h.1 r)
+ArePieces-push : (P : List ℕ → Type 0) (start : ℕ) (ends : List ℕ) (end : ℕ) (encoding : List ℕ) → ArePieces P start ends encoding
+    → IsPiece P (last_end start ends) end encoding → ArePieces P start (ends ++ end ∷ []) encoding
+ArePieces-push P start [] end encoding h r = (r, r.within)
+ArePieces-push P start (x ∷ ends) end encoding h r = (h.0, ArePieces-push P x ends end encoding h.1 r)
 
--- ---- the same over the text that was taken
+-- ---- the same over the encoding that was taken
 
 pub drop-of-take : (start n : ℕ) (xs : List ℕ) → start ≤ n → drop start (take n xs) ≡ take (n - start) (drop start xs)
 drop-of-take start n xs h =
     let e : start + (n - start) ≡ n = omega arith in
     subst (λ (k : ℕ). drop start (take k xs) ≡ take (n - start) (drop start xs)) e (drop-take start (n - start) xs)
 
-start-le-last_end : (P : List ℕ → Type 0) (start : ℕ) (ends text : List ℕ) → ArePieces P start ends text → start ≤ last_end start ends
-start-le-last_end P start [] text h = omega arith
-start-le-last_end P start (x ∷ ends) text h = omega (arith, start-le-last_end P x ends text h.1, h.0.ordered)
+start-le-last_end : (P : List ℕ → Type 0) (start : ℕ) (ends encoding : List ℕ) → ArePieces P start ends encoding → start ≤ last_end start ends
+start-le-last_end P start [] encoding h = omega arith
+start-le-last_end P start (x ∷ ends) encoding h = omega (arith, start-le-last_end P x ends encoding h.1, h.0.ordered)
 
-pieces-take : (P : List ℕ → Type 0) (start : ℕ) (ends : List ℕ) (n : ℕ) (text : List ℕ) → ArePieces P start ends text → last_end start ends ≤ n
-    → (pieces start ends (take n text) ≡ pieces start ends text) × ArePieces P start ends (take n text)
-pieces-take P start [] n text h le = (refl, omega (arith, length-take n text))
-pieces-take P start (x ∷ ends) n text h le =
-    let low = start-le-last_end P x ends text h.1 in
-    let inner = drop-of-take start n text (omega (arith, h.0.ordered)) in
-    let same = ap (λ (t : List ℕ). take (x - start) t) inner ∙ take-take (x - start) (n - start) (drop start text) (omega (arith, h.0.ordered)) in
-    let later = pieces-take P x ends n text h.1 le in (
+pieces-take : (P : List ℕ → Type 0) (start : ℕ) (ends : List ℕ) (n : ℕ) (encoding : List ℕ) → ArePieces P start ends encoding → last_end start ends ≤ n
+    → (pieces start ends (take n encoding) ≡ pieces start ends encoding) × ArePieces P start ends (take n encoding)
+pieces-take P start [] n encoding h le = (refl, omega (arith, length-take n encoding))
+pieces-take P start (x ∷ ends) n encoding h le =
+    let low = start-le-last_end P x ends encoding h.1 in
+    let inner = drop-of-take start n encoding (omega (arith, h.0.ordered)) in
+    let same = ap (λ (t : List ℕ). take (x - start) t) inner ∙ take-take (x - start) (n - start) (drop start encoding) (omega (arith, h.0.ordered)) in
+    let later = pieces-take P x ends n encoding h.1 le in (
       rw (same, later.0) refl,
-      (record { ordered = h.0.ordered; within = omega (arith, length-take n text, h.0.within); form = subst P (sym same) h.0.form }, later.1),
+      (record { ordered = h.0.ordered; within = omega (arith, length-take n encoding, h.0.within); form = subst P (sym same) h.0.form }, later.1),
     )
 
--- after i of so many parts, each seen by its text
+-- after i of so many parts, each seen by its encoding
 pub record SoFar {A : Type 0} (least : ℕ) (P : List ℕ → Type 0) (seen : List ℕ → A) (part : List ℕ → Reading A) (start count i : ℕ) (bytes ends rest : List ℕ)
     (began now : Counts) (whole : Reading (List A)) : Type 0 where
   pub left : Loop part count i (map seen (pieces start ends bytes)) rest began now whole
@@ -122,7 +122,7 @@ pub record SoFar {A : Type 0} (least : ℕ) (P : List ℕ → Type 0) (seen : Li
 module _ {A : Type 0} {least : ℕ} {P : List ℕ → Type 0} {seen : List ℕ → A} {part : List ℕ → Reading A} {start count : ℕ} {bytes : List ℕ}
     {began old : Counts} {i : ℕ} {ends rest : List ℕ} {whole : Reading (List A)} where
   pub pieces_next : (after : List ℕ) (new : Counts) → 4 ≤ least → i < count → SoFar least P seen part start count i bytes ends rest began old whole
-      → (part rest).1 ≡ Ok (seen (taken rest after), after) → Spent (begun old) new (part rest).0 → Passed least P rest after
+      → (part rest).1 ≡ Ok (seen (consumed rest after), after) → Spent (begun old) new (part rest).0 → Passed least P rest after
       → SoFar least P seen part start count (i + 1) bytes (ends ++ (length bytes - length after) ∷ []) after began new whole
   pieces_next after new four lt so_far is spent passed =
       let last = last_end start ends in
@@ -131,15 +131,15 @@ module _ {A : Type 0} {least : ℕ} {P : List ℕ → Type 0} {seen : List ℕ �
       let long : length rest ≡ length bytes - last = ap length so_far.rest_is ∙ length-drop last bytes in
       let shorter = passed.shorter in
       let end_is : end ≡ last + size = omega (arith, so_far.within) in
-      let same_piece : take (end - last) (drop last bytes) ≡ taken rest after =
+      let same_piece : take (end - last) (drop last bytes) ≡ consumed rest after =
       rw (← so_far.rest_is) (ap (λ (n : ℕ). take n rest) (omega (arith, so_far.within))) in
-      let pushed : map seen (pieces start (ends ++ end ∷ []) bytes) ≡ map seen (pieces start ends bytes) ++ seen (taken rest after) ∷ [] =
+      let pushed : map seen (pieces start (ends ++ end ∷ []) bytes) ≡ map seen (pieces start ends bytes) ++ seen (consumed rest after) ∷ [] =
       pieces-push seen start ends end bytes ∙ ap (λ (t : List ℕ). map seen (pieces start ends bytes) ++ seen t ∷ []) same_piece in
       let piece : IsPiece P last end bytes = record { ordered = omega arith; within = omega arith; form = subst P (sym same_piece) passed.form } in
       let end_at = last_end-push start ends end in
       let more : length (ends ++ end ∷ []) ≡ length ends + 1 = length-append ends (end ∷ []) in
       record {
-        left = rw pushed (next_part new (seen (taken rest after)) after lt so_far.left is spent);
+        left = rw pushed (next_part new (seen (consumed rest after)) after lt so_far.left is spent);
         stand = ArePieces-push P start ends end bytes so_far.stand piece;
         rest_is = passed.rest_is ∙ ap (λ (b : List ℕ). drop size b) so_far.rest_is ∙ drop-drop size last bytes
             ∙ ap (λ (n : ℕ). drop n bytes) (sym end_is ∙ sym end_at);
@@ -148,9 +148,9 @@ module _ {A : Type 0} {least : ℕ} {P : List ℕ → Type 0} {seen : List ℕ �
         as_many = omega (arith, more, so_far.as_many);
       }
 
-  -- what was read, in the text that was taken
+  -- what was read, in the encoding that was taken
   pub pieces_read : count ≤ i → SoFar least P seen part start count i bytes ends rest began old whole
-      → (whole.1 ≡ Ok (map seen (pieces start ends (taken bytes rest)), rest)) × Spent began old whole.0 × ArePieces P start ends (taken bytes rest)
+      → (whole.1 ≡ Ok (map seen (pieces start ends (consumed bytes rest)), rest)) × Spent began old whole.0 × ArePieces P start ends (consumed bytes rest)
   pieces_read le so_far =
       let last = last_end start ends in
       let cut : length bytes - length rest ≡ last = omega (arith, ap length so_far.rest_is ∙ length-drop last bytes, so_far.within) in

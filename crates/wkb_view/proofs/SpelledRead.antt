@@ -3,7 +3,7 @@ use Rattle.std.proofs.Common.{◌≡◌, ℕ, ◌+◌, ◌≤◌, ltb, List, len
 use Rattle.std.proofs.Common.{subst, length-take, arith}
 use Rattle.std.proofs.lemmas.Bool.{le-ltb}
 use Rattle.wkb_geom.specs.declared.code.WkbType.TheVariants as kinds
-use Rattle.wkb_geom.specs.Spellings.{Part, any}
+use Rattle.wkb_geom.specs.Spellings.{Wanted, any}
 use Rattle.wkb_geom.specs.Reading.{body_at, too_deep, geometry_at, by_type, layout_of}
 use Rattle.wkb_laws.proofs.Heads.{IsRight}
 use Rattle.wkb_laws.proofs.Sound.{geometry_says}
@@ -11,10 +11,10 @@ use Rattle.wkb_view.specs.Words.{Cause, Head, Layout, number, point_end, line_st
 use Rattle.wkb_view.specs.Words.{then_body, body_start}
 use Rattle.wkb_view.specs.Words.{point_at, line_string_at, point_item, line_string_item, IsSpelled}
 use Rattle.wkb_view.specs.Headers.{HasHead}
-use Rattle.wkb_view.specs.Members.{IsText}
+use Rattle.wkb_view.specs.Members.{IsEncoding}
 use Rattle.wkb_view.proofs.Leaves.{number_within}
 
-says_spelled : (w : Part) (bytes : List ℕ) (r : Reading Item) → IsRight 0 w bytes r → (i : Item) (rest : List ℕ) → r.1 ≡ Ok (i, rest) → IsSpelled i
+says_spelled : (w : Wanted) (bytes : List ℕ) (r : Reading Item) → IsRight 0 w bytes r → (i : Item) (rest : List ℕ) → r.1 ≡ Ok (i, rest) → IsSpelled i
 says_spelled w bytes (c, Ok x) h i rest e = let same : x.0 ≡ i = cc in subst IsSpelled same ∣ h.spelled ∣₁
 says_spelled w bytes (c, Err f) h i rest e = absurd cc
 
@@ -28,11 +28,11 @@ pub body_spelled : (bytes : List ℕ) (h : Head) (i : Item) (rest : List ℕ) �
     → (body_at too_deep h.wkb_type (layout_of h) bytes).1 ≡ Ok (i, rest) → IsSpelled i
 body_spelled bytes h i rest e is = says_spelled any bytes (body_at too_deep h.wkb_type (layout_of h) bytes) (says_body bytes h e) i rest is
 
--- the text of a point that was read
-pub point_text : (l : Layout) (bytes buf : List ℕ) (end : ℕ) → HasHead (λ d. kinds.Point d) l bytes → end ≡ point_end l.dimension l.has_srid
-    → end ≤ length bytes → buf ≡ take end bytes → IsText 1 l buf
+-- the encoding of a point that was read
+pub point_encoding : (l : Layout) (bytes buf : List ℕ) (end : ℕ) → HasHead (λ d. kinds.Point d) l bytes → end ≡ point_end l.dimension l.has_srid
+    → end ≤ length bytes → buf ≡ take end bytes → IsEncoding 1 l buf
 unfolding point_at
-point_text l bytes buf end head end-is long buf-is =
+point_encoding l bytes buf end head end-is long buf-is =
     let at = point_end l.dimension l.has_srid in
     let there : ltb (length bytes) at ≡ false = le-ltb _ _ (omega arith) in
     let cut : buf ≡ take at bytes = buf-is ∙ ap (λ (n : ℕ). take n bytes) end-is in
@@ -40,11 +40,11 @@ point_text l bytes buf end head end-is long buf-is =
     record { whole = omega (arith, ap length buf-is, length-take end bytes); spells = rw cut (body_spelled bytes _ _ _ head read) }
 
 -- and of a line string
-pub line_string_is_text : (l : Layout) (bytes buf : List ℕ) (n end : ℕ) → HasHead (λ d. kinds.LineString d) l bytes → body_start l.has_srid + 4 ≤ length bytes
+pub line_string_is_encoding : (l : Layout) (bytes buf : List ℕ) (n end : ℕ) → HasHead (λ d. kinds.LineString d) l bytes → body_start l.has_srid + 4 ≤ length bytes
     → n ≡ number l.order 4 (drop (body_start l.has_srid) bytes) → end ≡ line_string_end l.dimension l.has_srid n → end ≤ length bytes → buf ≡ take end bytes
-    → IsText 2 l buf
+    → IsEncoding 2 l buf
 unfolding line_string_at
-line_string_is_text l bytes buf n end head whole n-is end-is long buf-is =
+line_string_is_encoding l bytes buf n end head whole n-is end-is long buf-is =
     let at = line_string_end l.dimension l.has_srid (number l.order 4 (drop (body_start l.has_srid) bytes)) in
     let same : end ≡ at = end-is ∙ ap (line_string_end l.dimension l.has_srid) n-is in
     let counted : ltb (length bytes) (body_start l.has_srid + 4) ≡ false = le-ltb _ _ whole in

@@ -6,13 +6,13 @@ use Rattle.std.proofs.Math.Nat.{mod-lt}
 use Rattle.std.specs.Int.{byte_at, bytes_high_first, bytes_low_first}
 use Rattle.std.specs.List.{flat_map}
 use Rattle.wkb_geom.specs.Numbers.{number_bytes}
-use Rattle.wkb_geom.specs.Texts.{words_text}
+use Rattle.wkb_geom.specs.Encodings.{words_encoding}
 use Rattle.wkb_view.specs.Words.{Endianness, BigEndian, LittleEndian, Dimension, AreBytes, number, width, items}
 use Rattle.wkb_view.specs.Words.{coordinate, coordinates, ring_in}
 use Rattle.wkb_view.specs.Ranges.{AreBytes-take, AreBytes-drop}
-use Rattle.wkb_laws.proofs.OneText.{number_fixed}
+use Rattle.wkb_laws.proofs.OneEncoding.{number_fixed}
 use Rattle.wkb_laws.proofs.Parts.{number-take as number_taken}
-use Rattle.wkb_laws.proofs.TextSpells.{IsNumber-number_bytes}
+use Rattle.wkb_laws.proofs.EncodingSpells.{IsNumber-number_bytes}
 use Rattle.wkb_laws.proofs.Values.{number-lt}
 
 byte_small : (k x : ℕ) → byte_at k x < 256
@@ -56,19 +56,19 @@ items_stand size item f one (suc n) y h long =
     rw (e, first, rest) (sym (take-add size (size * n) y))
 
 pub words_stand : (order : Endianness) (d : Dimension) (y : List ℕ) → AreBytes y → 8 * width d ≤ length y
-    → words_text order (coordinate order d y) ≡ take (8 * width d) y
-unfolding words_text
+    → words_encoding order (coordinate order d y) ≡ take (8 * width d) y
+unfolding words_encoding
 words_stand order d y h long = items_stand 8 (number order 8) (number_bytes order 8) (number_stands order 8) (width d) y h long
 
 pub coordinates_stand : (order : Endianness) (d : Dimension) (n : ℕ) (y : List ℕ) → AreBytes y → 8 * width d * n ≤ length y
-    → flat_map (words_text order) (coordinates order d n y) ≡ take (8 * width d * n) y
-coordinates_stand order d n y h long = items_stand (8 * width d) (coordinate order d) (words_text order) (words_stand order d) n y h long
+    → flat_map (words_encoding order) (coordinates order d n y) ≡ take (8 * width d * n) y
+coordinates_stand order d n y h long = items_stand (8 * width d) (coordinate order d) (words_encoding order) (words_stand order d) n y h long
 
 -- a ring's coordinates are all that stands behind its count
-pub ring_stands : (order : Endianness) (d : Dimension) (text : List ℕ) → AreBytes text → length text ≡ 4 + 8 * width d * number order 4 text
-    → drop 4 text ≡ flat_map (words_text order) (ring_in order d text)
-ring_stands order d text h whole =
-    let n = number order 4 text in
-    let len = length-drop 4 text in
-    sym (coordinates_stand order d n (drop 4 text) (AreBytes-drop 4 text h) (omega (arith, whole, len))
-    ∙ take_all (8 * width d * n) (drop 4 text) (omega (arith, whole, len)))
+pub ring_stands : (order : Endianness) (d : Dimension) (encoding : List ℕ) → AreBytes encoding → length encoding ≡ 4 + 8 * width d * number order 4 encoding
+    → drop 4 encoding ≡ flat_map (words_encoding order) (ring_in order d encoding)
+ring_stands order d encoding h whole =
+    let n = number order 4 encoding in
+    let len = length-drop 4 encoding in
+    sym (coordinates_stand order d n (drop 4 encoding) (AreBytes-drop 4 encoding h) (omega (arith, whole, len))
+    ∙ take_all (8 * width d * n) (drop 4 encoding) (omega (arith, whole, len)))

@@ -1,14 +1,14 @@
--- Views whose header is the one that is written are their own texts.
+-- Views whose header is the one that is written are their own encodings.
 use Rattle.std.proofs.Common.{◌≡◌, ℕ, List, [], drop, None, Some, false, Bool, refl, sym, subst}
 use Rattle.wkb_geom.specs.declared.common.Form.{Form}
 use Rattle.wkb_geom.specs.declared.common.Form.TheVariants.{Iso, Ewkb}
 use Rattle.wkb_geom.specs.Values as value
 use Rattle.wkb_geom.specs.Geometries.{Geometry, point, line_string, polygon, geometry_of}
-use Rattle.wkb_geom.specs.Texts.{form_srid, code_of, text, fault, dimensions_fault, IsForm}
+use Rattle.wkb_geom.specs.Encodings.{form_srid, code_of, encoding, fault, dimensions_fault, IsForm}
 use Rattle.wkb_geom.specs.Reading.{point_words_in}
 use Rattle.wkb_laws.specs.Written.{written, written_plain}
 use Rattle.wkb_laws.proofs.Spelled.{in_full_lem}
-use Rattle.wkb_laws.proofs.TextBytes.{as_written}
+use Rattle.wkb_laws.proofs.EncodingBytes.{as_written}
 use Rattle.wkb_laws.proofs.Values.{same_dimension, spelled_good, lawful-geometry_of}
 use Rattle.wkb_view.specs.Words.{Endianness, Dimension, Xy, Xyz, Xym, Xyzm, Coordinate, AreBytes, number, Layout, Item}
 use Rattle.wkb_view.specs.Words.{no_spellings, spelled_in, all_nan, dimensions, IsSpelled}
@@ -33,16 +33,16 @@ is_form (Ewkb (Some srid)) e = absurd cc
 
 -- bytes in memory that spell a value as it is written
 pub record IsWhole (bytes : List ℕ) (order : Endianness) (form : Form) (g : Geometry) : Type 0 where
-  pub encoding : bytes ≡ text order form g
+  pub encoding : bytes ≡ encoding order form g
   pub writable : fault g ≡ None
 
-is_whole : (i : Item) (order : Endianness) (form : Form) → form_srid form ≡ None → AreBytes i.text → IsSpelled i
-    → i.spelled ≡ written order form (geometry_of i.value) → IsWhole i.text order form (geometry_of i.value)
+is_whole : (i : Item) (order : Endianness) (form : Form) → form_srid form ≡ None → AreBytes i.encoding → IsSpelled i
+    → i.spelled ≡ written order form (geometry_of i.value) → IsWhole i.encoding order form (geometry_of i.value)
 is_whole i order form plain range spells same =
-    let full = in_full_lem i.spelled i.value i.text spells in
+    let full = in_full_lem i.spelled i.value i.encoding spells in
     record {
-      encoding = as_written order form i.spelled i.value i.text (is_form form plain) range full same;
-      writable = (spelled_good i.spelled i.value i.text range full).1;
+      encoding = as_written order form i.spelled i.value i.encoding (is_form form plain) range full same;
+      writable = (spelled_good i.spelled i.value i.encoding range full).1;
     }
 
 module _ (l : Layout) (bytes : List ℕ) (order : Endianness) (form : Form) (range : AreBytes bytes) where
@@ -63,7 +63,7 @@ module _ (l : Layout) (bytes : List ℕ) (order : Endianness) (form : Form) (ran
 
   -- a polygon, whose rings are fitted
   pub polygon_whole : (rings : List (List Coordinate))
-      → IsSpelled (record { text = bytes; spelled = spelled_in l bytes [] no_spellings; value = value.polygon l.dimension rings })
+      → IsSpelled (record { encoding = bytes; spelled = spelled_in l bytes [] no_spellings; value = value.polygon l.dimension rings })
       → HasWrittenHeader 3 l bytes order form
       → IsWhole bytes order form (polygon (dimensions l.dimension) (fitted_line_strings (dimensions l.dimension) rings))
   polygon_whole rings spells h =
@@ -73,7 +73,7 @@ module _ (l : Layout) (bytes : List ℕ) (order : Endianness) (form : Form) (ran
       let good = spelled_good spelled t bytes range (in_full_lem spelled t bytes spells) in
       let same = (line_strings_fit (dimensions d) rings).same (lawful-geometry_of t good.0) in
       subst (λ (parts : List (List Coordinate)). IsWhole bytes order form (polygon (dimensions d) parts)) (sym same)
-      (is_whole (record { text = bytes; spelled = spelled; value = t }) order form h.form_is range spells
+      (is_whole (record { encoding = bytes; spelled = spelled; value = t }) order form h.form_is range spells
       (rw (same_dimension d) (plain_spelled 3 l bytes order form h)))
 
 pub named_dimension : (d : Dimension) → dimensions_fault (dimensions d) ≡ None

@@ -11,8 +11,8 @@ abbrev pub ring_seen : LinearRing → List Coordinate
 ring_seen r = ring_in r.order r.dimension r.bytes.now
 
 -- the bytes of the coordinate that begins at an offset
-abbrev pub coordinate_text : Dimension → ℕ → List ℕ → List ℕ
-coordinate_text d start text = take (8 * width d) (drop start text)
+abbrev pub coordinate_encoding : Dimension → ℕ → List ℕ → List ℕ
+coordinate_encoding d start encoding = take (8 * width d) (drop start encoding)
 
 -- the order, the dimension and the bytes of a coordinate
 abbrev pub coord_order : Coord → Endianness
@@ -21,8 +21,8 @@ coord_order c = c.order
 abbrev pub coord_dimension : Coord → Dimension
 coord_dimension c = c.dimension
 
-abbrev pub coord_text : Coord → List ℕ
-coord_text c = c.bytes.now
+abbrev pub coord_encoding : Coord → List ℕ
+coord_encoding c = c.bytes.now
 
 -- the same of a ring: a count and its coordinates
 abbrev pub ring_order : LinearRing → Endianness
@@ -31,8 +31,8 @@ ring_order r = r.order
 abbrev pub ring_dimension : LinearRing → Dimension
 ring_dimension r = r.dimension
 
-abbrev pub ring_text : LinearRing → List ℕ
-ring_text r = r.bytes.now
+abbrev pub ring_encoding : LinearRing → List ℕ
+ring_encoding r = r.bytes.now
 
 -- where the coordinate at an index begins in a ring's bytes
 abbrev pub ring_offset : LinearRing → ℕ → ℕ

@@ -1,4 +1,4 @@
--- The parts of a geometry by their texts: the rings of a polygon, and the members of multi geometries, each with an order, a code and an SRID of its own.
+-- The parts of a geometry by their encodings: the rings of a polygon, and the members of multi geometries, each with an order, a code and an SRID of its own.
 use Rattle.std.specs.Prelude.{◌≡◌, ℕ, zero, suc, ◌+◌, ◌*◌, List, [], ◌∷◌, map, length, drop, false, Result, Ok, Err}
 use Rattle.std.specs.Prelude.{if◌then◌else◌, ◌==◌}
 use Rattle.wkb_geom.specs.Values.{polygon}
@@ -10,34 +10,34 @@ use Rattle.wkb_view.specs.Words.{ring_in, list_item, line_string_of, polygon_of,
 use Rattle.wkb_view.specs.Words.{IsSpelled}
 use Rattle.wkb_view.specs.Pieces.{pieces, ArePieces, IsRing}
 
--- the point (k = 1) or the line string (k = 2) of a text that is laid out so
+-- the point (k = 1) or the line string (k = 2) of an encoding that is laid out so
 abbrev pub item_of : ℕ → Layout → List ℕ → Item
-item_of k l text = if k == 1 then point_item l text else line_string_item l text
+item_of k l encoding = if k == 1 then point_item l encoding else line_string_item l encoding
 
 -- where it ends
 abbrev pub item_end : ℕ → Layout → List ℕ → ℕ
-item_end k l text =
-    if k == 1 then point_end l.dimension l.has_srid else line_string_end l.dimension l.has_srid (number l.order 4 (drop (body_start l.has_srid) text))
+item_end k l encoding =
+    if k == 1 then point_end l.dimension l.has_srid else line_string_end l.dimension l.has_srid (number l.order 4 (drop (body_start l.has_srid) encoding))
 
--- the text is that of such a geometry
-pub record IsText (k : ℕ) (l : Layout) (text : List ℕ) : Type 0 where
-  pub whole : length text ≡ item_end k l text
-  pub spells : IsSpelled (item_of k l text)
+-- the encoding is that of such a geometry
+pub record IsEncoding (k : ℕ) (l : Layout) (encoding : List ℕ) : Type 0 where
+  pub whole : length encoding ≡ item_end k l encoding
+  pub spells : IsSpelled (item_of k l encoding)
 
--- the text is that of a member of this kind and dimension
-pub record IsMember (k : ℕ) (d : Dimension) (text : List ℕ) : Type 0 where
+-- the encoding is that of a member of this kind and dimension
+pub record IsMember (k : ℕ) (d : Dimension) (encoding : List ℕ) : Type 0 where
   pub layout : Layout
-  pub layout_is : member_layout k d text ≡ Ok layout
-  pub text_is : IsText k layout text
+  pub layout_is : member_layout k d encoding ≡ Ok layout
+  pub encoding_is : IsEncoding k layout encoding
 
 -- the layout that is said; where there is none, any
 abbrev pub layout_said : Dimension → Result Layout Cause → Layout
 layout_said d (Ok l) = l
 layout_said d (Err c) = laid BigEndian d false
 
--- the member that a text is
+-- the member that an encoding is
 abbrev pub member_item : ℕ → Dimension → List ℕ → Item
-member_item k d text = item_of k (layout_said d (member_layout k d text)) text
+member_item k d encoding = item_of k (layout_said d (member_layout k d encoding)) encoding
 
 -- ---- parts behind a count, by the offsets at which they end
 
@@ -45,21 +45,21 @@ member_item k d text = item_of k (layout_said d (member_layout k d text)) text
 abbrev pub parts_behind : {A : Type 0} → (List ℕ → Reading A) → Layout → ℕ → List ℕ → Reading (List A)
 parts_behind part l n bytes = repeated n part (parts_start l.has_srid bytes)
 
--- the texts of the parts
+-- the encodings of the parts
 abbrev pub pieces_behind : Layout → List ℕ → List ℕ → List (List ℕ)
-pieces_behind l ends text = pieces (body_start l.has_srid + 4) ends text
+pieces_behind l ends encoding = pieces (body_start l.has_srid + 4) ends encoding
 
 -- each is a ring
 abbrev pub AreRings : Layout → List ℕ → List ℕ → Type 0
-AreRings l ends text = ArePieces (IsRing l.order l.dimension) (body_start l.has_srid + 4) ends text
+AreRings l ends encoding = ArePieces (IsRing l.order l.dimension) (body_start l.has_srid + 4) ends encoding
 
 -- each is a member of this kind
 abbrev pub AreMembers : ℕ → Layout → List ℕ → List ℕ → Type 0
-AreMembers k l ends text = ArePieces (IsMember k l.dimension) (body_start l.has_srid + 4) ends text
+AreMembers k l ends encoding = ArePieces (IsMember k l.dimension) (body_start l.has_srid + 4) ends encoding
 
 -- the members that they are
 abbrev pub members_in : ℕ → Layout → List ℕ → List ℕ → List Item
-members_in k l ends text = map (member_item k l.dimension) (pieces_behind l ends text)
+members_in k l ends encoding = map (member_item k l.dimension) (pieces_behind l ends encoding)
 
 -- the offsets at which so many parts of one size end
 abbrev pub every : ℕ → ℕ → ℕ → List ℕ
@@ -76,29 +76,29 @@ point_ends l n = every (body_start l.has_srid + 4) (stride l.dimension) n
 
 -- so many points stand behind the count
 abbrev pub ArePoints : Layout → ℕ → List ℕ → Type 0
-ArePoints l n text = AreMembers 1 l (point_ends l n) text
+ArePoints l n encoding = AreMembers 1 l (point_ends l n) encoding
 
 -- they are these
 abbrev pub points_in : Layout → ℕ → List ℕ → List Item
-points_in l n text = members_in 1 l (point_ends l n) text
+points_in l n encoding = members_in 1 l (point_ends l n) encoding
 
 -- ---- what a view stands for: by its layout, where its parts end or what they are, and its bytes
 
--- a multi point by its text
+-- a multi point by its encoding
 abbrev pub multi_point_item : Layout → ℕ → List ℕ → Item
-multi_point_item l n text = list_item l multi_point_with (points_in l n text) text
+multi_point_item l n encoding = list_item l multi_point_with (points_in l n encoding) encoding
 
 -- a geometry with these parts and members
 abbrev pub listed : {A : Type 0} → Layout → A → Spellings → List ℕ → Listed A
-listed l parts members text = record { text = text; spelled = spelled_in l text [] members; dimension = l.dimension; parts = parts }
+listed l parts members encoding = record { encoding = encoding; spelled = spelled_in l encoding [] members; dimension = l.dimension; parts = parts }
 
 -- a polygon by its rings
 abbrev pub polygon_laid : Layout → List ℕ → List ℕ → Listed (List (List Coordinate))
-polygon_laid l ends text = listed l (map (ring_in l.order l.dimension) (pieces_behind l ends text)) no_spellings text
+polygon_laid l ends encoding = listed l (map (ring_in l.order l.dimension) (pieces_behind l ends encoding)) no_spellings encoding
 
 -- a multi line string by its members
 abbrev pub line_strings_laid : Layout → List ℕ → List ℕ → Listed (List (List Coordinate))
-line_strings_laid l ends text = listed l (map (λ i. line_string_of i.value) (members_in 2 l ends text)) (spellings (members_in 2 l ends text)) text
+line_strings_laid l ends encoding = listed l (map (λ i. line_string_of i.value) (members_in 2 l ends encoding)) (spellings (members_in 2 l ends encoding)) encoding
 
 -- the geometries of polygons
 abbrev pub polygon_items : List (Listed (List (List Coordinate))) → List Item
@@ -106,4 +106,4 @@ polygon_items ps = map (λ p. whole_of polygon p) ps
 
 -- a multi polygon by its members
 abbrev pub polygons_laid : Layout → List (Listed (List (List Coordinate))) → List ℕ → Listed (List (List (List Coordinate)))
-polygons_laid l members text = listed l (map (λ i. polygon_of i.value) (polygon_items members)) (spellings (polygon_items members)) text
+polygons_laid l members encoding = listed l (map (λ i. polygon_of i.value) (polygon_items members)) (spellings (polygon_items members)) encoding

@@ -48,22 +48,22 @@ coordinates_lawful e d zero bytes h = tt
 coordinates_lawful e d (suc n) bytes h =
     (coordinate_lawful e d bytes h, coordinates_lawful e d n (drop (8 * width d) bytes) (AreBytes-drop (8 * width d) bytes h))
 
-pub ring_lawful : (e : Endianness) (d : Dimension) (text : List ℕ) → AreBytes text → AreCoordinates (dimensions d) (ring_in e d text)
-ring_lawful e d text h = coordinates_lawful e d (number e 4 text) (drop 4 text) (AreBytes-drop 4 text h)
+pub ring_lawful : (e : Endianness) (d : Dimension) (encoding : List ℕ) → AreBytes encoding → AreCoordinates (dimensions d) (ring_in e d encoding)
+ring_lawful e d encoding h = coordinates_lawful e d (number e 4 encoding) (drop 4 encoding) (AreBytes-drop 4 encoding h)
 
-pub line_string_lawful : (l : Layout) (text : List ℕ) → AreBytes text → AreCoordinates (dimensions l.dimension) (line_string_of (line_string_item l text).value)
-line_string_lawful l text h = ring_lawful l.order l.dimension (drop (body_start l.has_srid) text) (AreBytes-drop (body_start l.has_srid) text h)
+pub line_string_lawful : (l : Layout) (encoding : List ℕ) → AreBytes encoding → AreCoordinates (dimensions l.dimension) (line_string_of (line_string_item l encoding).value)
+line_string_lawful l encoding h = ring_lawful l.order l.dimension (drop (body_start l.has_srid) encoding) (AreBytes-drop (body_start l.has_srid) encoding h)
 
-point_by : (l : Layout) (text ws : List ℕ) (b : Bool) → IsCoordinate (dimensions l.dimension) ws
-    → IsPoint (dimensions l.dimension) (point_of (point_item_of l text ws b).value)
-point_by l text ws true h = tt
-point_by l text ws false h = h
+point_by : (l : Layout) (encoding ws : List ℕ) (b : Bool) → IsCoordinate (dimensions l.dimension) ws
+    → IsPoint (dimensions l.dimension) (point_of (point_item_of l encoding ws b).value)
+point_by l encoding ws true h = tt
+point_by l encoding ws false h = h
 
-pub point_lawful : (l : Layout) (text : List ℕ) → AreBytes text → IsPoint (dimensions l.dimension) (point_of (point_item l text).value)
-point_lawful l text h =
-    let words = drop (body_start l.has_srid) text in
-    point_by l text _ (all_nan (coordinate l.order l.dimension words))
-    (coordinate_lawful l.order l.dimension words (AreBytes-drop (body_start l.has_srid) text h))
+pub point_lawful : (l : Layout) (encoding : List ℕ) → AreBytes encoding → IsPoint (dimensions l.dimension) (point_of (point_item l encoding).value)
+point_lawful l encoding h =
+    let words = drop (body_start l.has_srid) encoding in
+    point_by l encoding _ (all_nan (coordinate l.order l.dimension words))
+    (coordinate_lawful l.order l.dimension words (AreBytes-drop (body_start l.has_srid) encoding h))
 
 dimension_by : (order : Endianness) (d : Dimension) (srid b : Bool) (l : Layout) → (if b then Ok (laid order d srid) else Err incorrect_type) ≡ Ok l
     → l.dimension ≡ d
@@ -75,20 +75,20 @@ wanted_by k d (Ok h) l e = dimension_by h.order d h.has_srid _ l e
 wanted_by k d (Err c) l e = absurd cc
 
 -- a member has the dimension of the whole
-pub member_dimension : (k : ℕ) (d : Dimension) (text : List ℕ) (l : Layout) → member_layout k d text ≡ Ok l → l.dimension ≡ d
-member_dimension k d text l e = wanted_by k d (head_at text) l e
+pub member_dimension : (k : ℕ) (d : Dimension) (encoding : List ℕ) (l : Layout) → member_layout k d encoding ≡ Ok l → l.dimension ≡ d
+member_dimension k d encoding l e = wanted_by k d (head_at encoding) l e
 
-member_by : (d : Dimension) (text : List ℕ) (r : Result Layout Cause) → ((l : Layout) → r ≡ Ok l → l.dimension ≡ d) → AreBytes text
-    → IsPoint (dimensions d) (point_of (point_item (layout_said d r) text).value)
-member_by d text (Ok l) same h = subst (λ e. IsPoint (dimensions e) (point_of (point_item l text).value)) (same l refl) (point_lawful l text h)
-member_by d text (Err c) same h = point_lawful (laid BigEndian d false) text h
+member_by : (d : Dimension) (encoding : List ℕ) (r : Result Layout Cause) → ((l : Layout) → r ≡ Ok l → l.dimension ≡ d) → AreBytes encoding
+    → IsPoint (dimensions d) (point_of (point_item (layout_said d r) encoding).value)
+member_by d encoding (Ok l) same h = subst (λ e. IsPoint (dimensions e) (point_of (point_item l encoding).value)) (same l refl) (point_lawful l encoding h)
+member_by d encoding (Err c) same h = point_lawful (laid BigEndian d false) encoding h
 
-points_lawful : (d : Dimension) (start : ℕ) (ends text : List ℕ) → AreBytes text
-    → AllByRecursion (IsPoint (dimensions d)) (map (λ i. point_of i.value) (map (member_item 1 d) (pieces start ends text)))
-points_lawful d start [] text h = tt
-points_lawful d start (end ∷ ends) text h =
-    (member_by d _ _ (member_dimension 1 d _) (AreBytes-take (end - start) (drop start text) (AreBytes-drop start text h)), points_lawful d end ends text h)
+points_lawful : (d : Dimension) (start : ℕ) (ends encoding : List ℕ) → AreBytes encoding
+    → AllByRecursion (IsPoint (dimensions d)) (map (λ i. point_of i.value) (map (member_item 1 d) (pieces start ends encoding)))
+points_lawful d start [] encoding h = tt
+points_lawful d start (end ∷ ends) encoding h =
+    (member_by d _ _ (member_dimension 1 d _) (AreBytes-take (end - start) (drop start encoding) (AreBytes-drop start encoding h)), points_lawful d end ends encoding h)
 
-pub multi_point_lawful : (l : Layout) (n : ℕ) (text : List ℕ) → AreBytes text
-    → AllByRecursion (IsPoint (dimensions l.dimension)) (points_of (multi_point_item l n text).value)
-multi_point_lawful l n text h = points_lawful l.dimension (body_start l.has_srid + 4) (point_ends l n) text h
+pub multi_point_lawful : (l : Layout) (n : ℕ) (encoding : List ℕ) → AreBytes encoding
+    → AllByRecursion (IsPoint (dimensions l.dimension)) (points_of (multi_point_item l n encoding).value)
+multi_point_lawful l n encoding h = points_lawful l.dimension (body_start l.has_srid + 4) (point_ends l n) encoding h

@@ -39,10 +39,10 @@ line_string_offset l i = body_start l.layout.has_srid + 4 + 8 * width l.layout.d
 abbrev pub multi_point_offset : MultiPoint → ℕ → ℕ
 multi_point_offset m i = body_start m.layout.has_srid + 4 + stride m.layout.dimension * i
 
-value_by : (l : Layout) (text words : List ℕ) (empty : Bool)
-    → (point_item_of l text words empty).value ≡ point l.dimension (point_of (point_item_of l text words empty).value)
-value_by l text words true = refl
-value_by l text words false = refl
+value_by : (l : Layout) (encoding words : List ℕ) (empty : Bool)
+    → (point_item_of l encoding words empty).value ≡ point l.dimension (point_of (point_item_of l encoding words empty).value)
+value_by l encoding words true = refl
+value_by l encoding words false = refl
 
 -- a point's value is that of its coordinate, if it has one
 pub point_value : (p : Point) → (point_seen p).value ≡ point (point_layout p).dimension (point_of (point_seen p).value)

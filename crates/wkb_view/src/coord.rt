@@ -19,7 +19,7 @@ pub struct Coord<'a> {
 impl<'a> Coord<'a> {
     ghost use Rattle.std.specs.Prelude.{◌≡◌, ◌*◌, length};
     ghost use Rattle.wkb_view.specs.Words.{width, all_nan};
-    ghost use Rattle.wkb_view.specs.Coords.{words_seen, coord_order, coord_dimension, coord_text};
+    ghost use Rattle.wkb_view.specs.Coords.{words_seen, coord_order, coord_dimension, coord_encoding};
     ghost use Rattle.wkb_geom.specs.Spellings.{SpellsCoordinate};
 
     /// The order of its numbers.
@@ -33,9 +33,9 @@ impl<'a> Coord<'a> {
     /// The bytes of its words.
     #[inline]
     pub fn coord_slice(&self) -> &'a [u8]
-        ensures text { result.now ≡ coord_text self.now }
+        ensures encoding { result.now ≡ coord_encoding self.now }
         ensures spells { SpellsCoordinate (coord_order self.now) (coord_dimension self.now) (words_seen self.now)
-            (coord_text self.now) }
+            (coord_encoding self.now) }
     {
         self.bytes
     }
@@ -51,7 +51,7 @@ impl<'a> Coord<'a> {
     /// The number of its bytes.
     #[inline]
     pub fn size(&self) -> u64
-        ensures bytes { result ≡ length (coord_text self.now) }
+        ensures bytes { result ≡ length (coord_encoding self.now) }
         ensures words { result ≡ 8 * width (coord_dimension self.now) }
     {
         self.bytes.len() as u64

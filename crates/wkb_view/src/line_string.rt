@@ -34,17 +34,17 @@ impl<'a> LineString<'a> {
     ghost use Rattle.wkb_geom.specs.declared.code.WkbType.TheVariants as kinds;
     ghost use Rattle.wkb_view.specs.Words.{body_start, line_string_of, line_string_at, line_string_item, taken};
     ghost use Rattle.wkb_view.specs.Parts.{IsSpelled, order_of};
-    ghost use Rattle.wkb_view.specs.Coords.{ring_text, ring_order, ring_dimension};
+    ghost use Rattle.wkb_view.specs.Coords.{ring_encoding, ring_order, ring_dimension};
     ghost use Rattle.wkb_view.specs.Views.{line_string_seen, line_string_layout, line_string_offset};
     ghost use Rattle.wkb_view.specs.Headers.{HasHead};
     ghost use Rattle.wkb_view.specs.Outcome.{Answers};
-    ghost use Rattle.wkb_view.specs.Members.{IsText};
+    ghost use Rattle.wkb_view.specs.Members.{IsEncoding};
     ghost use Rattle.wkb_view.specs.Pieces.{Passed};
 
     /// The number of its bytes.
     #[inline]
     pub fn size(&self) -> u64
-        ensures { result ≡ length (line_string_seen self.now).text }
+        ensures { result ≡ length (line_string_seen self.now).encoding }
     {
         self.buf.len() as u64
     }
@@ -70,7 +70,7 @@ impl<'a> LineString<'a> {
     #[inline]
     pub fn coords_slice(&self) -> &'a [u8]
         ensures { result.now ≡ drop (body_start (line_string_layout self.now).has_srid + 4)
-            (line_string_seen self.now).text }
+            (line_string_seen self.now).encoding }
     {
         &self.buf[self.layout.body_start() + COUNT..]
     }
@@ -86,7 +86,7 @@ impl<'a> LineString<'a> {
     /// The bytes of this geometry, from its order byte to its end.
     #[inline]
     pub fn buf(&self) -> &'a [u8]
-        ensures text { result.now ≡ (line_string_seen self.now).text }
+        ensures encoding { result.now ≡ (line_string_seen self.now).encoding }
         ensures spells { IsSpelled (line_string_seen self.now) }
     {
         self.buf
@@ -95,8 +95,8 @@ impl<'a> LineString<'a> {
     /// Its count and its coordinates, as a ring has them.
     #[inline]
     fn ring(&self) -> LinearRing<'a>
-        ensures text { ring_text result
-            ≡ drop (body_start (line_string_layout self.now).has_srid) (line_string_seen self.now).text }
+        ensures encoding { ring_encoding result
+            ≡ drop (body_start (line_string_layout self.now).has_srid) (line_string_seen self.now).encoding }
         ensures order { ring_order result ≡ (line_string_layout self.now).order }
         ensures dimension { ring_dimension result ≡ (line_string_layout self.now).dimension }
     {
@@ -115,7 +115,7 @@ impl<'a> LineString<'a> {
         requires head { HasHead (λ d. kinds.LineString d) layout bytes.now }
         ensures answer { Answers (λ x. (line_string_seen x.0, x.1.now)) result (line_string_at layout bytes.now).1 }
         ensures item { IfOk result (λ x. line_string_seen x.0 ≡ line_string_item layout (taken bytes.now x.1.now)) }
-        ensures passed { IfOk result (λ x. Passed 9 (IsText 2 layout) bytes.now x.1.now) }
+        ensures passed { IfOk result (λ x. Passed 9 (IsEncoding 2 layout) bytes.now x.1.now) }
         ensures shorter { IfOk result (λ x. length x.1.now + 9 ≤ length bytes.now) }
     {
         let count = layout.count(bytes)?;
@@ -134,8 +134,8 @@ impl<'a> LineString<'a> {
 
     /// The line string that stands in these bytes, a member of a multi line string.
     #[inline]
-    pub(crate) fn of_text(layout: Layout, buf: &'a [u8]) -> LineString<'a>
-        requires { IsText 2 layout buf.now }
+    pub(crate) fn of_encoding(layout: Layout, buf: &'a [u8]) -> LineString<'a>
+        requires { IsEncoding 2 layout buf.now }
         ensures item { line_string_seen result ≡ line_string_item layout buf.now }
         ensures layout { line_string_layout result ≡ layout }
     {
@@ -173,7 +173,7 @@ impl Dimensioned for LineString<'_> {
 impl<'a> LineStringTrait for LineString<'a> {
     ghost use Rattle.std.specs.Prelude.{◌≡◌, length, option_map, IfSome, ◌<◌, Some, slice_get};
     ghost use Rattle.wkb_view.specs.Words.{dimensions as trait_dimensions, line_string_of, order_of};
-    ghost use Rattle.wkb_view.specs.Coords.{words_seen, coordinate_text, coord_order, coord_dimension, coord_text};
+    ghost use Rattle.wkb_view.specs.Coords.{words_seen, coordinate_encoding, coord_order, coord_dimension, coord_encoding};
     ghost use Rattle.wkb_view.specs.Ranges.{line_string_lawful};
     ghost use Rattle.wkb_view.specs.Views.{line_string_seen, line_string_layout, line_string_offset};
 
@@ -204,8 +204,8 @@ impl<'a> LineStringTrait for LineString<'a> {
         ensures dimensions { IfSome result (λ c. trait_dimensions (coord_dimension c)
             ≡ trait_dimensions (line_string_layout self.now).dimension) }
         ensures order { IfSome result (λ c. coord_order c ≡ order_of (line_string_seen self.now).spelled) }
-        ensures bytes { IfSome result (λ c. coord_text c ≡ coordinate_text (line_string_layout self.now).dimension
-            (line_string_offset self.now i) (line_string_seen self.now).text) }
+        ensures bytes { IfSome result (λ c. coord_encoding c ≡ coordinate_encoding (line_string_layout self.now).dimension
+            (line_string_offset self.now i) (line_string_seen self.now).encoding) }
     {
         self.ring().coord(i)
     }
@@ -217,9 +217,9 @@ impl<'a> LineStringTrait for LineString<'a> {
         ensures dimensions { trait_dimensions (coord_dimension result)
             ≡ trait_dimensions (line_string_layout self.now).dimension }
         ensures order { coord_order result ≡ order_of (line_string_seen self.now).spelled }
-        ensures bytes { coord_text result
-            ≡ coordinate_text (line_string_layout self.now).dimension
-            (line_string_offset self.now i) (line_string_seen self.now).text }
+        ensures bytes { coord_encoding result
+            ≡ coordinate_encoding (line_string_layout self.now).dimension
+            (line_string_offset self.now i) (line_string_seen self.now).encoding }
     {
         self.ring().coord_at(i)
     }

@@ -28,7 +28,7 @@ pub struct LinearRing<'a> {
 
 impl<'a> LinearRing<'a> {
     ghost use Rattle.std.specs.Prelude.{◌≡◌, length, ◌≤◌, drop};
-    ghost use Rattle.wkb_view.specs.Coords.{ring_text, ring_order, ring_dimension, ring_seen, ring_offset};
+    ghost use Rattle.wkb_view.specs.Coords.{ring_encoding, ring_order, ring_dimension, ring_seen, ring_offset};
     ghost use Rattle.wkb_view.specs.Words.{AreBytes, ring_end};
     ghost use Rattle.wkb_geom.specs.Spellings.{SpellsCoordinates};
 
@@ -36,7 +36,7 @@ impl<'a> LinearRing<'a> {
     #[tactic(auto, using(crate::proofs::Items::ring_counted))]
     #[inline]
     pub fn size(&self) -> u64
-        ensures bytes { result ≡ length (ring_text self.now) }
+        ensures bytes { result ≡ length (ring_encoding self.now) }
         ensures end { result ≡ ring_end (ring_dimension self.now) (length (ring_seen self.now)) }
     {
         self.bytes.len() as u64
@@ -63,10 +63,10 @@ impl<'a> LinearRing<'a> {
     /// The bytes of its coordinates, behind the count.
     #[inline]
     pub fn coords_slice(&self) -> &'a [u8]
-        ensures text { result.now ≡ drop 4 (ring_text self.now) }
+        ensures encoding { result.now ≡ drop 4 (ring_encoding self.now) }
         ensures spells { SpellsCoordinates (ring_order self.now) (ring_dimension self.now) (ring_seen self.now)
-            (ring_text self.now) }
-        ensures bytes { AreBytes (ring_text self.now) }
+            (ring_encoding self.now) }
+        ensures bytes { AreBytes (ring_encoding self.now) }
     {
         &self.bytes[COUNT..]
     }
@@ -95,8 +95,8 @@ impl Dimensioned for LinearRing<'_> {
 impl<'a> LineStringTrait for LinearRing<'a> {
     ghost use Rattle.std.specs.Prelude.{◌≡◌, length, option_map, IfSome, ◌<◌, Some, slice_get};
     ghost use Rattle.wkb_view.specs.Words.{dimensions as trait_dimensions};
-    ghost use Rattle.wkb_view.specs.Coords.{words_seen, coordinate_text, coord_order, coord_dimension, coord_text};
-    ghost use Rattle.wkb_view.specs.Coords.{ring_text, ring_order, ring_dimension, ring_seen, ring_offset};
+    ghost use Rattle.wkb_view.specs.Coords.{words_seen, coordinate_encoding, coord_order, coord_dimension, coord_encoding};
+    ghost use Rattle.wkb_view.specs.Coords.{ring_encoding, ring_order, ring_dimension, ring_seen, ring_offset};
     ghost use Rattle.wkb_view.specs.Ranges.{ring_lawful};
 
     type CoordType = Coord<'a>;
@@ -126,8 +126,8 @@ impl<'a> LineStringTrait for LinearRing<'a> {
         ensures dimensions { IfSome result (λ c. trait_dimensions (coord_dimension c)
             ≡ trait_dimensions (ring_dimension self.now)) }
         ensures order { IfSome result (λ c. coord_order c ≡ ring_order self.now) }
-        ensures bytes { IfSome result (λ c. coord_text c ≡ coordinate_text (ring_dimension self.now)
-            (ring_offset self.now i) (ring_text self.now)) }
+        ensures bytes { IfSome result (λ c. coord_encoding c ≡ coordinate_encoding (ring_dimension self.now)
+            (ring_offset self.now i) (ring_encoding self.now)) }
     {
         if i < self.num_coords() {
             Some(self.coord_at(i))
@@ -143,8 +143,8 @@ impl<'a> LineStringTrait for LinearRing<'a> {
         ensures value { slice_get (ring_seen self.now) i ≡ Some (words_seen result) }
         ensures dimensions { trait_dimensions (coord_dimension result) ≡ trait_dimensions (ring_dimension self.now) }
         ensures order { coord_order result ≡ ring_order self.now }
-        ensures bytes { coord_text result ≡ coordinate_text (ring_dimension self.now)
-            (ring_offset self.now i) (ring_text self.now) }
+        ensures bytes { coord_encoding result ≡ coordinate_encoding (ring_dimension self.now)
+            (ring_offset self.now i) (ring_encoding self.now) }
     {
         let start = self.coord_offset(i as u64) as usize;
         Coord {

@@ -63,7 +63,7 @@ impl<'a> MultiLineString<'a> {
     /// The number of its bytes.
     #[inline]
     pub fn size(&self) -> u64
-        ensures { result ≡ length self.now.text }
+        ensures { result ≡ length self.now.encoding }
     {
         self.buf.len() as u64
     }
@@ -79,7 +79,7 @@ impl<'a> MultiLineString<'a> {
     /// The bytes of this geometry, from its order byte to its end.
     #[inline]
     pub fn buf(&self) -> &'a [u8]
-        ensures text { result.now ≡ self.now.text }
+        ensures encoding { result.now ≡ self.now.encoding }
         ensures spells { IsSpelled (whole_of multi_line_string self.now) }
     {
         self.buf
@@ -102,7 +102,7 @@ impl<'a> MultiLineString<'a> {
     {
         let buf = piece(self.buf, self.layout.body_start() + COUNT, &self.ends, i)?;
         let layout = Layout::of_known_member(LINE_STRING, self.layout.dimension, buf);
-        Some(LineString::of_text(layout, buf))
+        Some(LineString::of_encoding(layout, buf))
     }
 
     /// The same multi line string, with a list of its own.

@@ -44,7 +44,7 @@ impl<'a> MultiPoint<'a> {
     /// The number of its bytes.
     #[inline]
     pub fn size(&self) -> u64
-        ensures { result ≡ length (multi_point_seen self.now).text }
+        ensures { result ≡ length (multi_point_seen self.now).encoding }
     {
         self.buf.len() as u64
     }
@@ -72,7 +72,7 @@ impl<'a> MultiPoint<'a> {
     /// The bytes of this geometry, from its order byte to its end.
     #[inline]
     pub fn buf(&self) -> &'a [u8]
-        ensures text { result.now ≡ (multi_point_seen self.now).text }
+        ensures encoding { result.now ≡ (multi_point_seen self.now).encoding }
         ensures spells { IsSpelled (multi_point_seen self.now) }
     {
         self.buf
@@ -160,8 +160,8 @@ impl<'a> MultiPointTrait for MultiPoint<'a> {
             ≡ trait_dimensions (multi_point_layout self.now).dimension) }
         ensures spelled { option_map (λ p. (point_seen p).spelled) result
             ≡ spelling_at (multi_point_seen self.now).spelled i }
-        ensures bytes { IfSome result (λ p. (point_seen p).text ≡ take (stride (multi_point_layout self.now).dimension)
-            (drop (multi_point_offset self.now i) (multi_point_seen self.now).text)) }
+        ensures bytes { IfSome result (λ p. (point_seen p).encoding ≡ take (stride (multi_point_layout self.now).dimension)
+            (drop (multi_point_offset self.now i) (multi_point_seen self.now).encoding)) }
     {
         if i >= self.count as usize {
             return None;
@@ -170,7 +170,7 @@ impl<'a> MultiPointTrait for MultiPoint<'a> {
         let member = MEMBER_HEADER + 8 * self.layout.dimension.width();
         let buf = part(self.buf, start, member);
         let layout = Layout::of_known_member(POINT, self.layout.dimension, buf);
-        Some(Point::of_text(layout, buf))
+        Some(Point::of_encoding(layout, buf))
     }
 }
 

@@ -63,7 +63,7 @@ impl<'a> MultiPolygon<'a> {
     /// The number of its bytes.
     #[inline]
     pub fn size(&self) -> u64
-        ensures { result ≡ length self.now.text }
+        ensures { result ≡ length self.now.encoding }
     {
         self.buf.len() as u64
     }
@@ -79,7 +79,7 @@ impl<'a> MultiPolygon<'a> {
     /// The bytes of this geometry, from its order byte to its end.
     #[inline]
     pub fn buf(&self) -> &'a [u8]
-        ensures text { result.now ≡ self.now.text }
+        ensures encoding { result.now ≡ self.now.encoding }
         ensures spells { IsSpelled (whole_of multi_polygon self.now) }
     {
         self.buf

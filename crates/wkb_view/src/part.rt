@@ -1,4 +1,4 @@
-//! Parts of a text.
+//! Parts of an encoding.
 
 ghost use Rattle.std.specs.Prelude.{◌≡◌, ◌+◌, ◌<◌, ◌≤◌, ◌∷◌, get_or, length, take, drop, IfSome, option_map, slice_get};
 ghost use Rattle.wkb_geom.specs.Numbers.{AreBytes};

@@ -30,17 +30,17 @@ impl<'a> Point<'a> {
     ghost use Rattle.wkb_geom.specs.Values as value;
     ghost use Rattle.wkb_geom.specs.declared.code.WkbType.TheVariants as kinds;
     ghost use Rattle.wkb_view.specs.Words.{body_start, point_of, point_at, point_item, taken, IsSpelled, order_of};
-    ghost use Rattle.wkb_view.specs.Coords.{words_seen, coordinate_text, coord_order, coord_dimension, coord_text};
+    ghost use Rattle.wkb_view.specs.Coords.{words_seen, coordinate_encoding, coord_order, coord_dimension, coord_encoding};
     ghost use Rattle.wkb_view.specs.Views.{coordinate_in, point_seen, point_layout};
     ghost use Rattle.wkb_view.specs.Headers.{HasHead};
-    ghost use Rattle.wkb_view.specs.Members.{IsText};
+    ghost use Rattle.wkb_view.specs.Members.{IsEncoding};
     ghost use Rattle.wkb_view.specs.Pieces.{Passed};
     ghost use Rattle.wkb_view.specs.Outcome.{Answers};
 
     /// The number of its bytes.
     #[inline]
     pub fn size(&self) -> u64
-        ensures { result ≡ length (point_seen self.now).text }
+        ensures { result ≡ length (point_seen self.now).encoding }
     {
         self.buf.len() as u64
     }
@@ -73,7 +73,7 @@ impl<'a> Point<'a> {
     /// The bytes of its words, also where all are not-a-numbers.
     #[inline]
     pub fn coord_slice(&self) -> &'a [u8]
-        ensures { result.now ≡ drop (body_start (point_layout self.now).has_srid) (point_seen self.now).text }
+        ensures { result.now ≡ drop (body_start (point_layout self.now).has_srid) (point_seen self.now).encoding }
     {
         &self.buf[self.layout.body_start()..]
     }
@@ -81,7 +81,7 @@ impl<'a> Point<'a> {
     /// The bytes of this geometry, from its order byte to its end.
     #[inline]
     pub fn buf(&self) -> &'a [u8]
-        ensures text { result.now ≡ (point_seen self.now).text }
+        ensures encoding { result.now ≡ (point_seen self.now).encoding }
         ensures spells { IsSpelled (point_seen self.now) }
     {
         self.buf
@@ -93,9 +93,9 @@ impl<'a> Point<'a> {
         ensures words { words_seen result ≡ coordinate_in self.now }
         ensures order { coord_order result ≡ (point_layout self.now).order }
         ensures dimension { coord_dimension result ≡ (point_layout self.now).dimension }
-        ensures bytes { coord_text result
-            ≡ coordinate_text (point_layout self.now).dimension
-            (body_start (point_layout self.now).has_srid) (point_seen self.now).text }
+        ensures bytes { coord_encoding result
+            ≡ coordinate_encoding (point_layout self.now).dimension
+            (body_start (point_layout self.now).has_srid) (point_seen self.now).encoding }
     {
         Coord {
             bytes: part(
@@ -115,7 +115,7 @@ impl<'a> Point<'a> {
         requires head { HasHead (λ d. kinds.Point d) layout bytes.now }
         ensures answer { Answers (λ x. (point_seen x.0, x.1.now)) result (point_at layout bytes.now) }
         ensures item { IfOk result (λ x. point_seen x.0 ≡ point_item layout (taken bytes.now x.1.now)) }
-        ensures passed { IfOk result (λ x. Passed 9 (IsText 1 layout) bytes.now x.1.now) }
+        ensures passed { IfOk result (λ x. Passed 9 (IsEncoding 1 layout) bytes.now x.1.now) }
         ensures shorter { IfOk result (λ x. length x.1.now + 9 ≤ length bytes.now) }
     {
         let end = layout.body_start() + 8 * layout.dimension.width();
@@ -132,8 +132,8 @@ impl<'a> Point<'a> {
 
     /// The point that stands in these bytes, a member of a multi point.
     #[inline]
-    pub(crate) fn of_text(layout: Layout, buf: &'a [u8]) -> Point<'a>
-        requires { IsText 1 layout buf.now }
+    pub(crate) fn of_encoding(layout: Layout, buf: &'a [u8]) -> Point<'a>
+        requires { IsEncoding 1 layout buf.now }
         ensures item { point_seen result ≡ point_item layout buf.now }
         ensures layout { point_layout result ≡ layout }
     {
@@ -169,7 +169,7 @@ impl<'a> PointTrait for Point<'a> {
     ghost use Rattle.std.specs.Prelude.{◌≡◌, option_map, IfSome};
     ghost use Rattle.wkb_view.specs.Words.{dimensions as trait_dimensions, body_start, point_of, order_of};
     ghost use Rattle.wkb_view.specs.Ranges.{point_lawful};
-    ghost use Rattle.wkb_view.specs.Coords.{words_seen, coordinate_text, coord_order, coord_dimension, coord_text};
+    ghost use Rattle.wkb_view.specs.Coords.{words_seen, coordinate_encoding, coord_order, coord_dimension, coord_encoding};
     ghost use Rattle.wkb_view.specs.Views.{point_seen, point_layout};
 
     type CoordType = Coord<'a>;
@@ -184,8 +184,8 @@ impl<'a> PointTrait for Point<'a> {
         ensures dimensions { IfSome result (λ c. trait_dimensions (coord_dimension c)
             ≡ trait_dimensions (point_layout self.now).dimension) }
         ensures order { IfSome result (λ c. coord_order c ≡ order_of (point_seen self.now).spelled) }
-        ensures bytes { IfSome result (λ c. coord_text c ≡ coordinate_text (point_layout self.now).dimension
-            (body_start (point_layout self.now).has_srid) (point_seen self.now).text) }
+        ensures bytes { IfSome result (λ c. coord_encoding c ≡ coordinate_encoding (point_layout self.now).dimension
+            (body_start (point_layout self.now).has_srid) (point_seen self.now).encoding) }
     {
         let words = self.words();
         if words.is_nan() { None } else { Some(words) }

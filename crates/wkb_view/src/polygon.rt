@@ -62,7 +62,7 @@ impl<'a> Polygon<'a> {
     /// The number of its bytes.
     #[inline]
     pub fn size(&self) -> u64
-        ensures { result ≡ length self.now.text }
+        ensures { result ≡ length self.now.encoding }
     {
         self.buf.len() as u64
     }
@@ -78,7 +78,7 @@ impl<'a> Polygon<'a> {
     /// The bytes of this geometry, from its order byte to its end.
     #[inline]
     pub fn buf(&self) -> &'a [u8]
-        ensures text { result.now ≡ self.now.text }
+        ensures encoding { result.now ≡ self.now.encoding }
         ensures spells { IsSpelled (whole_of polygon self.now) }
     {
         self.buf

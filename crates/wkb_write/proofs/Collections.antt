@@ -3,18 +3,18 @@ use Rattle.wkb_write.proofs.Prelude.{◌≡◌, ℕ, ◌+◌, ◌*◌, ◌<◌, 
 use Rattle.wkb_write.proofs.Prelude.{◌∙◌, arith, None, ◌^◌, Result, flat_map}
 use Rattle.wkb_write.proofs.Prelude.{Endianness, Form, Dimension, Dimensions, Stopped, written_dimension, Geometry}
 use Rattle.wkb_write.proofs.Prelude.{geometries, collection, node_count}
-use Rattle.wkb_write.proofs.Prelude.{node_counts, text, texts, fault, fault_each, first_fault, or_else}
-use Rattle.wkb_write.proofs.Prelude.{count_geometries, members_text, header_text, inner}
+use Rattle.wkb_write.proofs.Prelude.{node_counts, encoding, encodings, fault, fault_each, first_fault, or_else}
+use Rattle.wkb_write.proofs.Prelude.{count_geometries, members_encoding, header_encoding, inner}
 use Rattle.wkb_write.proofs.Prelude.{dimensions_fault, Progress, Advances, counted, none_first, none_rest, count_below}
 use Rattle.wkb_write.proofs.Prelude.{slice_get_read}
 use Rattle.wkb_geom.proofs.Nodes.{node_count-member}
 use Rattle.wkb_write.proofs.Supported.{none_at}
 use Rattle.wkb_write.proofs.Loops.{lays_counted}
 
-texts-geometries : {X : Type 0} (order : Endianness) (form : Form) (f : X → Geometry) (xs : List X)
-    → texts order form (geometries (map f xs)) ≡ flat_map (λ x. text order form (f x)) xs
-texts-geometries order form f [] = refl
-texts-geometries order form f (x ∷ xs) = ap (λ l. text order form (f x) ++ l) (texts-geometries order form f xs)
+encodings-geometries : {X : Type 0} (order : Endianness) (form : Form) (f : X → Geometry) (xs : List X)
+    → encodings order form (geometries (map f xs)) ≡ flat_map (λ x. encoding order form (f x)) xs
+encodings-geometries order form f [] = refl
+encodings-geometries order form f (x ∷ xs) = ap (λ l. encoding order form (f x) ++ l) (encodings-geometries order form f xs)
 
 count-geometries : {X : Type 0} (f : X → Geometry) (xs : List X) → count_geometries (geometries (map f xs)) ≡ length xs
 count-geometries f [] = refl
@@ -25,15 +25,15 @@ unfolding first_fault
 faults-geometries f [] = refl
 faults-geometries f (x ∷ xs) = ap (or_else (fault (f x))) (faults-geometries f xs)
 
--- the text of a geometry that is a collection of these members
+-- the encoding of a geometry that is a collection of these members
 pub lays_collection : {X : Type 0} {d read : Dimensions} {named : Dimension} {geo : Geometry} (a b : Progress) (r : Result (Unit {0}) Stopped)
     (order : Endianness) (form : Form) (f : X → Geometry) (xs : List X)
-    → Advances a b (header_text order form 7 named ++ counted order (map (λ x. text order (inner form) (f x)) xs)) r
-    → named ≡ written_dimension read → read ≡ d → collection d (geometries (map f xs)) ≡ geo → Advances a b (text order form geo) r
-unfolding members_text
+    → Advances a b (header_encoding order form 7 named ++ counted order (map (λ x. encoding order (inner form) (f x)) xs)) r
+    → named ≡ written_dimension read → read ≡ d → collection d (geometries (map f xs)) ≡ geo → Advances a b (encoding order form geo) r
+unfolding members_encoding
 lays_collection a b r order form f xs p name same is =
-    rw (← is, ← same, ← name, count-geometries f xs, texts-geometries order (inner form) f xs)
-    (lays_counted a b r order _ (λ x. text order (inner form) (f x)) xs p)
+    rw (← is, ← same, ← name, count-geometries f xs, encodings-geometries order (inner form) f xs)
+    (lays_counted a b r order _ (λ x. encoding order (inner form) (f x)) xs p)
 
 -- a collection without a fault has a count that four bytes hold, and members without a fault
 pub collection_count : {X : Type 0} (d : Dimensions) (f : X → Geometry) (xs : List X) → fault (collection d (geometries (map f xs))) ≡ None

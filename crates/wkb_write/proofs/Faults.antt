@@ -5,7 +5,7 @@ use Rattle.wkb_geom.specs.declared.common.Dimensions.{Dimensions}
 use Rattle.wkb_geom.specs.declared.common.Dimensions.TheVariants.{Unknown}
 use Rattle.wkb_geom.specs.Dimensions.{size}
 use Rattle.wkb_geom.specs.declared.error.Fault.{Fault}
-use Rattle.wkb_geom.specs.Texts.{or_else, count_fault, dimensions_fault}
+use Rattle.wkb_geom.specs.Encodings.{or_else, count_fault, dimensions_fault}
 use Rattle.wkb_geom.specs.declared.error.Fault.TheVariants as found
 use Rattle.wkb_write.specs.Measures.{Finds, Measures}
 

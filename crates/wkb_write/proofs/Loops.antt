@@ -1,11 +1,11 @@
--- The steps of a loop that lays the texts of a list's items.
+-- The steps of a loop that lays the encodings of a list's items.
 use Rattle.wkb_write.proofs.Prelude.{◌≡◌, ℕ, zero, suc, ◌+◌, ◌<◌, ◌≤◌, List, [], ◌∷◌, ◌++◌, length, take, drop, Some}
 use Rattle.wkb_write.proofs.Prelude.{sym, ap, ◌∙◌, append_assoc, append-nil}
 use Rattle.wkb_write.proofs.Prelude.{take_all, take-append-drop, slice_get, add-one, map, get_or, Result, flat_map}
 use Rattle.wkb_write.proofs.Prelude.{length-map, get_or-map, take-take}
 use Rattle.wkb_write.proofs.Prelude.{slice_get_read, slice_get-get_or, Stopped, flat_map-append, Endianness, Form}
-use Rattle.wkb_write.proofs.Prelude.{Dimension, number_bytes, coordinates_text}
-use Rattle.wkb_write.proofs.Prelude.{words_text, header_text, members_text, counted, Progress, IsLaid, IsCut, Advances}
+use Rattle.wkb_write.proofs.Prelude.{Dimension, number_bytes, coordinates_encoding}
+use Rattle.wkb_write.proofs.Prelude.{words_encoding, header_encoding, members_encoding, counted, Progress, IsLaid, IsCut, Advances}
 use Rattle.wkb_write.proofs.Prelude.{Ok, Err}
 use Rattle.std.proofs.lemmas.List.Folds.{flat_map-map}
 use Rattle.wkb_sink.proofs.Stores.{flat_map_step}
@@ -16,77 +16,77 @@ flat_map_parts f xs i = ap (flat_map f) (sym (take-append-drop i xs)) ∙ flat_m
 
 -- the count of these coordinates, and the first of them were laid
 pub record HasRun (a b : Progress) (order : Endianness) (cs : List (List ℕ)) (i : ℕ) : Type 0 where
-  pub laid : IsLaid a b (number_bytes order 4 (length cs) ++ flat_map (words_text order) (take i cs))
+  pub laid : IsLaid a b (number_bytes order 4 (length cs) ++ flat_map (words_encoding order) (take i cs))
 
 pub no_run : {a b : Progress} {order : Endianness} {cs : List (List ℕ)} (n : ℕ) → n ≡ length cs → IsLaid a b (number_bytes order 4 n) → HasRun a b order cs 0
 no_run n is p = record { laid = rw (← is, append-nil) p }
 
 module _ {a b : Progress} {order : Endianness} {cs : List (List ℕ)} {i : ℕ} where
-  pub next_run : {c : Progress} {j : ℕ} → HasRun a b order cs i → i ≤ j → IsLaid b c (flat_map (words_text order) (drop i (take j cs))) → HasRun a c order cs j
+  pub next_run : {c : Progress} {j : ℕ} → HasRun a b order cs i → i ≤ j → IsLaid b c (flat_map (words_encoding order) (drop i (take j cs))) → HasRun a c order cs j
   next_run {j = j} p h q =
-      record { laid = rw (flat_map_parts (words_text order) (take j cs) i, take-take i j cs h, ← append_assoc) (laid_then p.laid q) }
+      record { laid = rw (flat_map_parts (words_encoding order) (take j cs) i, take-take i j cs h, ← append_assoc) (laid_then p.laid q) }
 
-  pub whole_run : HasRun a b order cs i → length cs ≤ i → IsLaid a b (coordinates_text order cs)
-  unfolding coordinates_text
+  pub whole_run : HasRun a b order cs i → length cs ≤ i → IsLaid a b (coordinates_encoding order cs)
+  unfolding coordinates_encoding
   whole_run p past = rw take_all at p.laid
 
-  pub run_cut : {c : Progress} → HasRun a b order cs i → IsCut b c [] → IsCut a c (coordinates_text order cs)
-  unfolding coordinates_text
-  run_cut p q = rw (flat_map_parts (words_text order) cs i, ← append_assoc) (cut_then p.laid (cut_first _ q))
+  pub run_cut : {c : Progress} → HasRun a b order cs i → IsCut b c [] → IsCut a c (coordinates_encoding order cs)
+  unfolding coordinates_encoding
+  run_cut p q = rw (flat_map_parts (words_encoding order) cs i, ← append_assoc) (cut_then p.laid (cut_first _ q))
 
--- a header, a count and the texts of items, told by the items
+-- a header, a count and the encodings of items, told by the items
 pub lays_counted : {X : Type 0} (a b : Progress) (r : Result (Unit {0}) Stopped) (order : Endianness) (header : List ℕ) (f : X → List ℕ) (xs : List X)
     → Advances a b (header ++ counted order (map f xs)) r → Advances a b (header ++ (number_bytes order 4 (length xs) ++ flat_map f xs)) r
 unfolding counted
 lays_counted a b r order header f xs p = rw (← length-map xs f, ← flat_map-map (λ t. t) f xs) p
 
 pub lays_members : {X : Type 0} (a b : Progress) (r : Result (Unit {0}) Stopped) (order : Endianness) (form : Form) (k : ℕ) (d : Dimension) (f : X → List ℕ)
-    (xs : List X) → Advances a b (header_text order form k d ++ counted order (map f xs)) r
-    → Advances a b (members_text order form k d (length xs) (flat_map f xs)) r
-unfolding members_text
+    (xs : List X) → Advances a b (header_encoding order form k d ++ counted order (map f xs)) r
+    → Advances a b (members_encoding order form k d (length xs) (flat_map f xs)) r
+unfolding members_encoding
 lays_members a b r order form k d f xs p = lays_counted a b r order _ f xs p
 
--- a header, the count of these texts, and the first of them were laid
-pub record HasLaid (a b : Progress) (order : Endianness) (header : List ℕ) (texts : List (List ℕ)) (i : ℕ) : Type 0 where
-  pub laid : IsLaid a b ((header ++ number_bytes order 4 (length texts)) ++ flat_map (λ t. t) (take i texts))
+-- a header, the count of these encodings, and the first of them were laid
+pub record HasLaid (a b : Progress) (order : Endianness) (header : List ℕ) (encodings : List (List ℕ)) (i : ℕ) : Type 0 where
+  pub laid : IsLaid a b ((header ++ number_bytes order 4 (length encodings)) ++ flat_map (λ t. t) (take i encodings))
 
-pub none_laid : {a b : Progress} {order : Endianness} {header : List ℕ} {texts : List (List ℕ)} (n : ℕ) → n ≡ length texts
-    → IsLaid a b (header ++ number_bytes order 4 n) → HasLaid a b order header texts 0
+pub none_laid : {a b : Progress} {order : Endianness} {header : List ℕ} {encodings : List (List ℕ)} (n : ℕ) → n ≡ length encodings
+    → IsLaid a b (header ++ number_bytes order 4 n) → HasLaid a b order header encodings 0
 none_laid n is p = record { laid = rw (← is, append-nil) p }
 
-module _ {a b : Progress} {order : Endianness} {header : List ℕ} {texts : List (List ℕ)} {i : ℕ} where
-  pub next_laid : {c : Progress} {t : List ℕ} → HasLaid a b order header texts i → slice_get texts i ≡ Some t → IsLaid b c t
-      → HasLaid a c order header texts (i + 1)
-  next_laid {t = t} p item q = record { laid = rw (flat_map_step (λ t. t) texts i t item, ← append_assoc) (laid_then p.laid q) }
+module _ {a b : Progress} {order : Endianness} {header : List ℕ} {encodings : List (List ℕ)} {i : ℕ} where
+  pub next_laid : {c : Progress} {t : List ℕ} → HasLaid a b order header encodings i → slice_get encodings i ≡ Some t → IsLaid b c t
+      → HasLaid a c order header encodings (i + 1)
+  next_laid {t = t} p item q = record { laid = rw (flat_map_step (λ t. t) encodings i t item, ← append_assoc) (laid_then p.laid q) }
 
-  pub all_laid : HasLaid a b order header texts i → length texts ≤ i → IsLaid a b (header ++ counted order texts)
+  pub all_laid : HasLaid a b order header encodings i → length encodings ≤ i → IsLaid a b (header ++ counted order encodings)
   unfolding counted
   all_laid p past = rw (← append_assoc) (rw take_all at p.laid)
 
-  -- where one of the texts was cut, the whole was
-  pub next_cut : {c : Progress} {t : List ℕ} → HasLaid a b order header texts i → slice_get texts i ≡ Some t → IsCut b c t
-      → IsCut a c (header ++ counted order texts)
+  -- where one of the encodings was cut, the whole was
+  pub next_cut : {c : Progress} {t : List ℕ} → HasLaid a b order header encodings i → slice_get encodings i ≡ Some t → IsCut b c t
+      → IsCut a c (header ++ counted order encodings)
   unfolding counted
   next_cut {t = t} p item q =
-      rw (flat_map_parts (λ t. t) texts (i + 1), flat_map_step (λ t. t) texts i t item, ← append_assoc, ← append_assoc, ← append_assoc)
+      rw (flat_map_parts (λ t. t) encodings (i + 1), flat_map_step (λ t. t) encodings i t item, ← append_assoc, ← append_assoc, ← append_assoc)
       (cut_first _ (cut_then p.laid q))
 
--- the answer of the last text is that of all
-pub lays_last_text : {a b : Progress} (c : Progress) {order : Endianness} {header : List ℕ} {texts : List (List ℕ)} {i : ℕ} {t : List ℕ}
-    (r : Result (Unit {0}) Stopped) → HasLaid a b order header texts i → slice_get texts i ≡ Some t → length texts ≤ i + 1 → Advances b c t r
-    → Advances a c (header ++ counted order texts) r
-lays_last_text c (Ok x) p item whole q = all_laid (next_laid p item q) whole
-lays_last_text c (Err e) p item whole q = next_cut p item q
+-- the answer of the last encoding is that of all
+pub lays_last_encoding : {a b : Progress} (c : Progress) {order : Endianness} {header : List ℕ} {encodings : List (List ℕ)} {i : ℕ} {t : List ℕ}
+    (r : Result (Unit {0}) Stopped) → HasLaid a b order header encodings i → slice_get encodings i ≡ Some t → length encodings ≤ i + 1 → Advances b c t r
+    → Advances a c (header ++ counted order encodings) r
+lays_last_encoding c (Ok x) p item whole q = all_laid (next_laid p item q) whole
+lays_last_encoding c (Err e) p item whole q = next_cut p item q
 
 -- the same where the header or the count was cut
-pub head_cut : {a b : Progress} (order : Endianness) (header : List ℕ) (texts : List (List ℕ)) (n : ℕ) → length texts ≡ n
-    → IsCut a b (header ++ number_bytes order 4 n) → IsCut a b (header ++ counted order texts)
+pub head_cut : {a b : Progress} (order : Endianness) (header : List ℕ) (encodings : List (List ℕ)) (n : ℕ) → length encodings ≡ n
+    → IsCut a b (header ++ number_bytes order 4 n) → IsCut a b (header ++ counted order encodings)
 unfolding counted
-head_cut order header texts n is p = rw (is, ← append_assoc) (cut_first _ p)
+head_cut order header encodings n is p = rw (is, ← append_assoc) (cut_first _ p)
 
--- the text of an item stands at the item's place
-pub text_there : {X : Type 0} (f : X → List ℕ) (xs : List X) (i : ℕ) (x : X) → i < length xs → x ≡ get_or xs i x → slice_get (map f xs) i ≡ Some (f x)
-text_there f xs i x within is =
+-- the encoding of an item stands at the item's place
+pub encoding_there : {X : Type 0} (f : X → List ℕ) (xs : List X) (i : ℕ) (x : X) → i < length xs → x ≡ get_or xs i x → slice_get (map f xs) i ≡ Some (f x)
+encoding_there f xs i x within is =
     slice_get_read (map f xs) (length xs) i (f x) (sym (length-map xs f)) within (ap f is ∙ sym (get_or-map f xs i x (f x) within))
 
-pub ruleset loop_laws = (slice_get-get_or, length-map, text_there, none_laid, next_laid, all_laid, next_cut, head_cut, no_run, next_run, whole_run, run_cut)
+pub ruleset loop_laws = (slice_get-get_or, length-map, encoding_there, none_laid, next_laid, all_laid, next_cut, head_cut, no_run, next_run, whole_run, run_cut)

@@ -17,10 +17,10 @@ pub use Rattle.wkb_geom.specs.Dimensions.{written_dimension, size}
 pub use Rattle.wkb_geom.specs.Geometries.{Geometry, geometries, collection}
 pub use Rattle.wkb_geom.specs.Numbers.{number_bytes}
 pub use Rattle.wkb_geom.specs.Sizes.{node_count, node_counts}
-pub use Rattle.wkb_geom.specs.Texts.{text, texts, fault, fault_each, count_geometries, inner}
-unfoldable pub use Rattle.wkb_geom.specs.Texts.{words_text, first_fault, or_else, members_text, header_text}
-unfoldable pub use Rattle.wkb_geom.specs.Texts.{dimensions_fault, coordinates_text}
-unfoldable pub use Rattle.wkb_geom.specs.Texts.{line_string_text, point_text, point_words, polygon_text}
+pub use Rattle.wkb_geom.specs.Encodings.{encoding, encodings, fault, fault_each, count_geometries, inner}
+unfoldable pub use Rattle.wkb_geom.specs.Encodings.{words_encoding, first_fault, or_else, members_encoding, header_encoding}
+unfoldable pub use Rattle.wkb_geom.specs.Encodings.{dimensions_fault, coordinates_encoding}
+unfoldable pub use Rattle.wkb_geom.specs.Encodings.{line_string_encoding, point_encoding, point_words, polygon_encoding}
 pub use Rattle.wkb_geom.proofs.Faults.{none_first, none_rest, none_both, count_below}
 unfoldable pub use Rattle.wkb_write.specs.Counted.{counted}
 pub use Rattle.wkb_sink.specs.Progress.{Progress, Advances, IsLaid, IsCut, progress}

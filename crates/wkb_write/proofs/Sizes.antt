@@ -1,4 +1,4 @@
--- The length of a text, from what was measured.
+-- The length of an encoding, from what was measured.
 use Rattle.std.proofs.Common.{◌≡◌, ℕ, ◌+◌, ◌<◌, ◌≤◌, ◌^◌, ◌*◌, ◌∙◌, ap, length, Bool, true, false, None, Result, Ok}
 use Rattle.std.proofs.Common.{Err, refl, sym, subst, arith}
 use Rattle.std.specs.Prelude.{IsErrAnd, is_some, if◌then◌else◌}
@@ -11,13 +11,13 @@ use Rattle.wkb_geom.specs.declared.error.Fault.TheVariants as found
 use Rattle.wkb_geom.specs.Geometries.{Geometry, IsGeometry}
 use Rattle.wkb_geom.specs.Refusals.{srid_size}
 use Rattle.wkb_geom.specs.Sizes.{byte_size}
-use Rattle.wkb_geom.specs.Texts.{text, fault, refusal, size_fault, form_srid, IsForm}
+use Rattle.wkb_geom.specs.Encodings.{encoding, fault, refusal, size_fault, form_srid, IsForm}
 use Rattle.wkb_write.specs.Measures.{Finds, Measures, capped}
 use Rattle.wkb_write.specs.Bodies.{body_size}
 use Rattle.wkb_geom.proofs.Faults.{none_both}
 use Rattle.wkb_write.proofs.Faults.{reports_first, reports_rest}
 use Rattle.wkb_write.proofs.Whole.{header_within}
-use Rattle.wkb_laws.proofs.TextSizes.{text_has_size_lem}
+use Rattle.wkb_laws.proofs.EncodingSizes.{encoding_has_size_lem}
 use Rattle.wkb_geom.specs.declared.error.WkbError.{WkbError}
 use Rattle.wkb_geom.specs.Errors.{TellsFault}
 use Rattle.wkb_write.specs.Answers.{IsSized, IsSizeOf}
@@ -30,10 +30,10 @@ pub size_without_fault : (n : ℕ) → n < 2 ^ 64 → size_fault n ≡ None
 unfolding size_fault
 size_without_fault n h = grind (arith, nat_tests)
 
--- the text of a geometry without a fault is as long as measured, and four bytes longer where it has an SRID
+-- the encoding of a geometry without a fault is as long as measured, and four bytes longer where it has an SRID
 measured_length : (order : Endianness) (form : Form) (g : Geometry) → IsForm form → IsGeometry g → fault g ≡ None
-    → length (text order form g) ≡ byte_size g + srid_size (is_some (form_srid form))
-measured_length order form g fits lawful none = text_has_size_lem order form g fits lawful none ∙ ap (λ n. byte_size g + n) (of_flag (is_some (form_srid form)))
+    → length (encoding order form g) ≡ byte_size g + srid_size (is_some (form_srid form))
+measured_length order form g fits lawful none = encoding_has_size_lem order form g fits lawful none ∙ ap (λ n. byte_size g + n) (of_flag (is_some (form_srid form)))
   where
     of_flag : (srid : Bool) → 4 * (if srid then 1 else 0) ≡ srid_size srid
     of_flag true = refl
@@ -53,13 +53,13 @@ size_refused measured e form g r is exit h = λ order.
     let P : Fault → Type 0 = λ y. Finds y (refusal order form g) in
     rw p.1 (subst P (sym p.2) (reports_first e (fault g) _ told))
 
--- the size that was measured is that of the text, and fits
+-- the size that was measured is that of the encoding, and fits
 pub size_told : (measured : Result ℕ Fault) (s total : ℕ) (form : Form) (g : Geometry) → measured ≡ Ok s → IsForm form → IsGeometry g
     → Measures (fault g) (body_size g) measured → total ≡ s + (5 + srid_size (is_some (form_srid form))) → total < 2 ^ 64 → IsSized form g (Ok total)
 size_told measured s total form g is srid_fits lawful h sum fits = λ order.
     let m = at_ok measured s g is h in
     let whole = measured_length order form g srid_fits lawful m.0 in
-    let exact : total ≡ length (text order form g) = omega (arith, m.1, sum, fits, whole, header_within g) in
+    let exact : total ≡ length (encoding order form g) = omega (arith, m.1, sum, fits, whole, header_within g) in
     (none_both (fault g) _ m.0 (size_without_fault _ (subst (λ n. n < 2 ^ 64) exact fits)), exact)
 
 -- the size that was measured does not fit

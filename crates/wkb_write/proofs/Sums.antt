@@ -8,7 +8,7 @@ use Rattle.std.proofs.lemmas.List.Sums.{sum_by_more}
 use Rattle.std.proofs.lemmas.Nat.{mul-le}
 use Rattle.std.proofs.lemmas.Option.{slice_get-get_or, get_or_from_slice_get}
 use Rattle.wkb_geom.specs.declared.error.Fault.{Fault}
-use Rattle.wkb_geom.specs.Texts.{first_fault, count_fault}
+use Rattle.wkb_geom.specs.Encodings.{first_fault, count_fault}
 use Rattle.wkb_write.specs.Measures.{Finds, Measures, capped}
 use Rattle.wkb_write.specs.Bodies.{Measure, parts_fault, parts_size}
 use Rattle.wkb_geom.proofs.Faults.{none_first, none_rest, none_both, count_below}

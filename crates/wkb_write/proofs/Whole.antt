@@ -15,9 +15,9 @@ use Rattle.wkb_geom.specs.Geometries.{multi_polygon, collection, rectangle}
 use Rattle.wkb_geom.specs.Geometries.{triangle, line, no_geometries, geometry, geometries}
 use Rattle.wkb_geom.specs.Sizes.{node_count, node_counts, dimensions_of, byte_size, byte_sizes, ring_size}
 use Rattle.wkb_geom.specs.Sizes.{line_string_size, polygon_size}
-use Rattle.wkb_geom.specs.Texts.{or_else, first_fault, count_fault, count_geometries, dimensions_fault}
-use Rattle.wkb_geom.specs.Texts.{coordinates_fault, rings_fault, fault}
-use Rattle.wkb_geom.specs.Texts.{fault_each}
+use Rattle.wkb_geom.specs.Encodings.{or_else, first_fault, count_fault, count_geometries, dimensions_fault}
+use Rattle.wkb_geom.specs.Encodings.{coordinates_fault, rings_fault, fault}
+use Rattle.wkb_geom.specs.Encodings.{fault_each}
 use Rattle.wkb_geom.proofs.Faults.{none_both}
 use Rattle.wkb_geom.proofs.Nodes.{node_count-member}
 use Rattle.wkb_write.specs.Measures.{Finds, IsAdded, IsMeasured, Measures, capped}

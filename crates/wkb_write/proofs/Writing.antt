@@ -7,14 +7,14 @@ use Rattle.wkb_geom.specs.declared.common.Form.{Form}
 use Rattle.wkb_geom.specs.declared.error.WkbError.{WkbError}
 use Rattle.wkb_geom.specs.Errors.{TellsFault}
 use Rattle.wkb_geom.specs.Geometries.{Geometry, IsGeometry}
-use Rattle.wkb_geom.specs.Texts.{fault, refusal, IsForm}
-use Rattle.wkb_laws.proofs.Rewritings.{text_spells_lem}
+use Rattle.wkb_geom.specs.Encodings.{fault, refusal, IsForm}
+use Rattle.wkb_laws.proofs.Rewritings.{encoding_spells_lem}
 use Rattle.wkb_geom.proofs.Faults.{none_first, none_both}
 use Rattle.wkb_write.proofs.Sizes.{size_without_fault}
 use Rattle.wkb_geom.specs.declared.error.Fault.{Fault}
 use Rattle.wkb_sink.specs.Sinks.{IsBegun, IsIOError, Puts}
 use Rattle.wkb_write.specs.declared.writable.WriteOptions.{WriteOptions}
-use Rattle.wkb_write.specs.Answers.{encoding, refusal_of, IsSized, IsRefusedAs, IsSpelledAs, Writes}
+use Rattle.wkb_write.specs.Answers.{encoding_of, refusal_of, IsSized, IsRefusedAs, IsSpelledAs, Writes}
 
 -- where there is a size there is no fault
 pub no_fault : (form : Form) (g : Geometry) (n : ℕ) → IsSized form g (Ok n) → fault g ≡ None
@@ -32,17 +32,17 @@ refused_as o g f r untouched size tells kept = λ h is.
 pub not_written : {A : Type 0} (o : WriteOptions) (g : Geometry) (f : Fault) → IsSized o.form g (Err f) → refusal o.endianness o.form g ≡ None → A
 not_written o g f size none = let both = sym (size o.endianness).is ∙ none in absurd cc
 
--- the text that was put spells the normal value
+-- the encoding that was put spells the normal value
 pub spelled_as : (o : WriteOptions) (g : Geometry) (r : Result (Unit {0}) WkbError) (old new : Option (List ℕ)) (failed : Bool)
-    → fault g ≡ None → IsGeometry g → IsForm o.form → Puts old new failed (encoding o g) r → IsSpelledAs o g r old new
+    → fault g ≡ None → IsGeometry g → IsForm o.form → Puts old new failed (encoding_of o g) r → IsSpelledAs o g r old new
 spelled_as o g (Ok u) old new failed none lawful fits puts =
-    let s = text_spells_lem o.endianness o.form g fits lawful none in
-    record { text = encoding o g; spelling = s.0; spelled = s.1; options_kept = s.2; appended = puts.0.appended }
+    let s = encoding_spells_lem o.endianness o.form g fits lawful none in
+    record { encoding = encoding_of o g; spelling = s.0; spelled = s.1; options_kept = s.2; appended = puts.0.appended }
 spelled_as o g (Err e) old new failed none lawful fits puts = tt
 
 -- what was put of a geometry that isn't refused was written
 pub put_writes : {o : WriteOptions} {g : Geometry} {r : Result (Unit {0}) WkbError} {untouched : Type 0} {old new : Option (List ℕ)} {failed : Bool}
-    → refusal_of o g ≡ None → IsGeometry g → IsForm o.form → Puts old new failed (encoding o g) r → Writes o g r untouched old new failed
+    → refusal_of o g ≡ None → IsGeometry g → IsForm o.form → Puts old new failed (encoding_of o g) r → Writes o g r untouched old new failed
 put_writes {o} {g} {r} {untouched} {old} {new} {failed} none lawful fits puts = record {
   refused = λ f is. absurd (cc);
   written = λ _. puts;
@@ -50,9 +50,9 @@ put_writes {o} {g} {r} {untouched} {old} {new} {failed} none lawful fits puts = 
 }
 
 -- bytes that stand in memory are not refused for their length
-pub lent_fits : (o : WriteOptions) (g : Geometry) (bytes : List ℕ) → bytes ≡ encoding o g → fault g ≡ None → length bytes < 2 ^ 64 → refusal_of o g ≡ None
+pub lent_fits : (o : WriteOptions) (g : Geometry) (bytes : List ℕ) → bytes ≡ encoding_of o g → fault g ≡ None → length bytes < 2 ^ 64 → refusal_of o g ≡ None
 lent_fits o g bytes is none fits =
-    none_both (fault g) _ none (size_without_fault (length (encoding o g)) (subst (λ t. length t < 2 ^ 64) is fits))
+    none_both (fault g) _ none (size_without_fault (length (encoding_of o g)) (subst (λ t. length t < 2 ^ 64) is fits))
 
 -- what a sink answered to bytes that it didn't take
 pub stops : {old new : Option (List ℕ)} {failed : Bool} {bytes : List ℕ} (r : Result (Unit {0}) WkbError) → IsErrAnd r (λ e. IsIOError e)

@@ -8,7 +8,7 @@ use Rattle.wkb_geom.specs.Errors.{TellsFault}
 use Rattle.wkb_geom.specs.Geometries.{Geometry, normal}
 use Rattle.wkb_geom.specs.Values.{Value}
 use Rattle.wkb_geom.specs.Spellings.{Spelling, Spells}
-use Rattle.wkb_geom.specs.Texts.{refusal, text}
+use Rattle.wkb_geom.specs.Encodings.{refusal, encoding}
 use Rattle.wkb_laws.specs.Written.{HasOptions}
 use Rattle.wkb_write.specs.Measures.{Reports, Finds}
 use Rattle.wkb_geom.specs.declared.error.Fault.{Fault}
@@ -16,22 +16,22 @@ use Rattle.wkb_sink.specs.Sinks.{Puts}
 use Rattle.wkb_write.specs.declared.writable.WriteOptions.{WriteOptions}
 
 -- a geometry's one encoding under some options
-abbrev pub encoding : WriteOptions → Geometry → List ℕ
-encoding options g = text options.endianness options.form g
+abbrev pub encoding_of : WriteOptions → Geometry → List ℕ
+encoding_of options g = encoding options.endianness options.form g
 
 -- why there is none: the first fault, else the size
 abbrev pub refusal_of : WriteOptions → Geometry → Option Fault
 refusal_of options g = refusal options.endianness options.form g
 
--- the answer is the length of the text, in either order, or the error that tells what is refused
+-- the answer is the length of the encoding, in either order, or the error that tells what is refused
 abbrev pub IsSizeOf : Form → Geometry → Result ℕ WkbError → Type 0
 IsSizeOf form g r =
-    (order : Endianness) → MatchResult r (λ n. (refusal order form g ≡ None) × (n ≡ length (text order form g))) (λ e. Reports e (refusal order form g))
+    (order : Endianness) → MatchResult r (λ n. (refusal order form g ≡ None) × (n ≡ length (encoding order form g))) (λ e. Reports e (refusal order form g))
 
 -- the same with the fault itself
 abbrev pub IsSized : Form → Geometry → Result ℕ Fault → Type 0
 IsSized form g r =
-    (order : Endianness) → MatchResult r (λ n. (refusal order form g ≡ None) × (n ≡ length (text order form g))) (λ e. Finds e (refusal order form g))
+    (order : Endianness) → MatchResult r (λ n. (refusal order form g ≡ None) × (n ≡ length (encoding order form g))) (λ e. Finds e (refusal order form g))
 
 -- what is refused is answered by the error that tells it, and the sink is untouched
 abbrev pub IsRefusedAs : WriteOptions → Geometry → Result (Unit {0}) WkbError → Type 0 → Type 0
@@ -41,16 +41,16 @@ IsRefusedAs options g r untouched =
 -- what is not refused is put to the sink, whole at Ok
 abbrev pub IsWrittenAs : WriteOptions → Geometry → Result (Unit {0}) WkbError → Option (List ℕ) → Option (List ℕ) → Bool → Type 0
 IsWrittenAs options g r old new failed =
-    refusal options.endianness options.form g ≡ None → Puts old new failed (text options.endianness options.form g) r
+    refusal options.endianness options.form g ≡ None → Puts old new failed (encoding options.endianness options.form g) r
 
 -- bytes that spell the value were appended, once: each geometry in the options' order, the outermost with their SRID and
 -- no other with one
 pub record IsSpelled (options : WriteOptions) (t : Value) (old new : Option (List ℕ)) : Type 0 where
-  pub text : List ℕ
+  pub encoding : List ℕ
   pub spelling : Spelling
-  pub spelled : Spells spelling t text
+  pub spelled : Spells spelling t encoding
   pub options_kept : HasOptions options.endianness options.form spelling
-  pub appended : Appends old new text
+  pub appended : Appends old new encoding
 
 -- what stands appended at Ok spells the value that the geometry stands for
 abbrev pub IsSpelledAs : WriteOptions → Geometry → Result (Unit {0}) WkbError → Option (List ℕ) → Option (List ℕ) → Type 0

@@ -9,7 +9,7 @@ use Rattle.wkb_geom.specs.Geometries.{Geometry, Geometries, point, line_string, 
 use Rattle.wkb_geom.specs.Geometries.{multi_polygon, collection, rectangle}
 use Rattle.wkb_geom.specs.Geometries.{triangle, line, no_geometries, geometry}
 use Rattle.wkb_geom.specs.Sizes.{byte_size}
-use Rattle.wkb_geom.specs.Texts.{or_else, count_fault, first_fault, coordinates_fault, fault}
+use Rattle.wkb_geom.specs.Encodings.{or_else, count_fault, first_fault, coordinates_fault, fault}
 
 -- the first fault and the bytes of a part
 pub record Measure : Type 0 where

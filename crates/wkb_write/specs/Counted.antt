@@ -1,4 +1,4 @@
--- A count, and the texts of that many items.
+-- A count, and the encodings of that many items.
 use Rattle.std.specs.Prelude.{ℕ, List, ◌++◌, length, Bool, true, false, None}
 use Rattle.std.specs.List.{flat_map}
 use Rattle.wkb_geom.specs.declared.common.Endianness.{Endianness}
@@ -12,4 +12,4 @@ form_of true = Ewkb None
 form_of false = Iso
 
 unfoldable pub counted : Endianness → List (List ℕ) → List ℕ
-counted order texts = number_bytes order 4 (length texts) ++ flat_map (λ t. t) texts
+counted order encodings = number_bytes order 4 (length encodings) ++ flat_map (λ t. t) encodings

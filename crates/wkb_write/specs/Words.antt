@@ -3,13 +3,13 @@ pub use Rattle.wkb_geom.specs.Errors.{IsMemory}
 pub use Rattle.wkb_geom.specs.Geometries.{IsPoint, collection, geometries, line, line_string, multi_line_string}
 pub use Rattle.wkb_geom.specs.Geometries.{multi_point, multi_polygon, point, polygon, rectangle, triangle}
 pub use Rattle.wkb_geom.specs.Reading.{type_dimension, type_kind}
-pub use Rattle.wkb_geom.specs.Texts.{coordinates_fault, coordinates_text, count_fault, dimensions_fault, fault}
-pub use Rattle.wkb_geom.specs.Texts.{first_fault, header_text, inner, refusal, text}
+pub use Rattle.wkb_geom.specs.Encodings.{coordinates_fault, coordinates_encoding, count_fault, dimensions_fault, fault}
+pub use Rattle.wkb_geom.specs.Encodings.{first_fault, header_encoding, inner, refusal, encoding}
 pub use Rattle.wkb_geom.specs.declared.common.Endianness.{Endianness}
 pub use Rattle.wkb_geom.specs.declared.common.Form.{Form}
 pub use Rattle.wkb_geom.specs.declared.common.Form.TheVariants.{Iso}
 pub use Rattle.wkb_sink.specs.Progress.{Lays}
-pub use Rattle.wkb_write.specs.Answers.{encoding, refusal_of, IsSizeOf, Writes}
+pub use Rattle.wkb_write.specs.Answers.{encoding_of, refusal_of, IsSizeOf, Writes}
 pub use Rattle.wkb_write.specs.Bodies.{Measure, parts_fault, parts_size, point_part, polygon_part, ring_bytes}
 pub use Rattle.wkb_write.specs.Bodies.{ring_part, words}
 pub use Rattle.wkb_write.specs.Counted.{counted, form_of}

@@ -1,8 +1,8 @@
 //! A geometry of any kind, and the members of a collection: their recursion, in measuring and in putting.
 
 ghost use Rattle.std.specs.Prelude.{◌≡◌, ◌<◌, ◌^◌, ◌++◌, ◌⊎◌, None, IfOk, IfErr, false, length, map};
-ghost use Rattle.wkb_write.specs.Words.{encoding, refusal_of, Iso, IsMemory, collection, geometries, fault, first_fault};
-ghost use Rattle.wkb_write.specs.Words.{header_text, inner, text, Lays, IsSizeOf, Writes, counted};
+ghost use Rattle.wkb_write.specs.Words.{encoding_of, refusal_of, Iso, IsMemory, collection, geometries, fault, first_fault};
+ghost use Rattle.wkb_write.specs.Words.{header_encoding, inner, encoding, Lays, IsSizeOf, Writes, counted};
 ghost use Rattle.wkb_write.specs.Words.{form_of, IsAdded, IsMeasured, Reports, result_of};
 
 use crate::lent::{lent_encoding, write_whole};
@@ -115,7 +115,7 @@ fn put_member<S: Sink, G: GeometryTrait>(
     requires fault { fault (G.geometry geom.now) ≡ None }
     requires working { S.has_failed out.old.sink.now ≡ false }
     ensures { Lays S.appended S.has_failed out.old out.new
-        (text order (form_of has_flags) (G.geometry geom.now)) result }
+        (encoding order (form_of has_flags) (G.geometry geom.now)) result }
 {
     put_any(out, geom, order, member_form(has_flags))
 }
@@ -136,8 +136,8 @@ pub fn put_members<S: Sink, G: GeometryTrait>(
     requires fault { first_fault (λ m. fault (G.geometry m)) members.now ≡ None }
     requires working { S.has_failed out.old.sink.now ≡ false }
     ensures { Lays S.appended S.has_failed out.old out.new
-        (header_text order form 7 dim
-        ++ counted order (map (λ m. text order (inner form) (G.geometry m)) members.now)) result }
+        (header_encoding order form 7 dim
+        ++ counted order (map (λ m. encoding order (inner form) (G.geometry m)) members.now)) result }
 {
     let count = members.len();
     out.put_head(order, form, WkbType::GeometryCollection(dim), count as u32)?;
@@ -163,7 +163,7 @@ fn put_any<S: Sink, G: GeometryTrait>(
 ) -> Put
     requires fault { fault (G.geometry geom.now) ≡ None }
     requires working { S.has_failed out.old.sink.now ≡ false }
-    ensures { Lays S.appended S.has_failed out.old out.new (text order form (G.geometry geom.now)) result }
+    ensures { Lays S.appended S.has_failed out.old out.new (encoding order form (G.geometry geom.now)) result }
 {
     match geom.as_type() {
         GeometryType::Point(p) => PointKind::put(out, p, order, form),
@@ -227,7 +227,7 @@ pub fn geometry_wkb_size_with<G: GeometryTrait>(
 /// Writes a geometry. The whole of it is tested before a byte is put.
 ///
 /// Refused as `geometry_wkb_size_with` refuses it under the same options, with the sink untouched.
-/// `IOError` where the sink fails: a beginning of the text then stands.
+/// `IOError` where the sink fails: a beginning of the encoding then stands.
 #[inline(always)]
 pub fn write_geometry<S: Sink, G: GeometryTrait>(
     writer: &mut S,
@@ -266,7 +266,7 @@ pub fn to_vec<G: GeometryTrait>(
     geom: &G,
     options: &WriteOptions,
 ) -> WkbResult<Vec<u8>>
-    ensures ok { IfOk result (λ out. out.items ≡ encoding options.now (G.geometry geom.now)) }
+    ensures ok { IfOk result (λ out. out.items ≡ encoding_of options.now (G.geometry geom.now)) }
     ensures writable { IfOk result (λ _. refusal_of options.now (G.geometry geom.now) ≡ None) }
     ensures err { IfErr result (λ e. IsMemory e ⊎ Reports e (refusal_of options.now (G.geometry geom.now))) }
 {

@@ -1,7 +1,7 @@
 //! Items behind a count: the rings of a polygon, the members of a multi geometry.
 
 ghost use Rattle.std.specs.Prelude.{◌≡◌, ◌<◌, ◌^◌, ◌++◌, ℕ, List, [], false, length, get_or, IfSome, slice_get};
-ghost use Rattle.wkb_write.specs.Words.{Endianness, Form, type_kind, type_dimension, header_text, inner};
+ghost use Rattle.wkb_write.specs.Words.{Endianness, Form, type_kind, type_dimension, header_encoding, inner};
 ghost use Rattle.wkb_write.specs.Words.{Lays, Measure, parts_fault, parts_size, counted, Measures, result_of};
 
 use crate::Sink;
@@ -19,13 +19,13 @@ pub trait Items<G> {
     // The fault and the size of each item, in order.
     ghost measures: { G → List Measure };
 
-    // The texts of the items, in order, under the order and the form of items.
-    ghost texts: { Endianness → Form → G → List (List ℕ) };
+    // The encodings of the items, in order, under the order and the form of items.
+    ghost encodings: { Endianness → Form → G → List (List ℕ) };
 
     /// How many items stand behind the count.
     fn count(geom: &G) -> u128
         ensures measured { result ≡ length (measures geom.now) }
-        ensures put { (order : Endianness) (form : Form) → result ≡ length (texts order form geom.now) }
+        ensures put { (order : Endianness) (form : Form) → result ≡ length (encodings order form geom.now) }
         ensures few { is_fine geom.now → result < 2 ^ 32 };
 
     /// The fault of the item at an index, or its bytes without its header.
@@ -42,9 +42,9 @@ pub trait Items<G> {
         form: Form,
     ) -> Put
         requires fine { is_fine geom.now }
-        requires within { i < length (texts order form geom.now) }
+        requires within { i < length (encodings order form geom.now) }
         requires working { S.has_failed out.old.sink.now ≡ false }
-        ensures { Lays S.appended S.has_failed out.old out.new (get_or (texts order form geom.now) i []) result };
+        ensures { Lays S.appended S.has_failed out.old out.new (get_or (encodings order form geom.now) i []) result };
 }
 
 /// Measures the count and the items in order, each behind a header of so many bytes.
@@ -77,8 +77,8 @@ pub fn put_items<S: Sink, G, I: Items<G>>(
     requires fine { I.is_fine geom.now }
     requires working { S.has_failed out.old.sink.now ≡ false }
     ensures { Lays S.appended S.has_failed out.old out.new
-        (header_text order form (type_kind kind) (type_dimension kind)
-        ++ counted order (I.texts order (inner form) geom.now)) result }
+        (header_encoding order form (type_kind kind) (type_dimension kind)
+        ++ counted order (I.encodings order (inner form) geom.now)) result }
 {
     let count = I::count(geom) as u32;
     out.put_head(order, form, kind, count)?;

@@ -1,7 +1,7 @@
 //! Geometries whose whole encoding stands in memory: it is written in one copy.
 
 ghost use Rattle.std.specs.Prelude.{◌≡◌, None, IfSome, false, length};
-ghost use Rattle.wkb_write.specs.Words.{encoding, refusal_of, Writes};
+ghost use Rattle.wkb_write.specs.Words.{encoding_of, refusal_of, Writes};
 
 use crate::measure::header_size;
 use crate::writable::sink_error;
@@ -20,7 +20,7 @@ fn length(bytes: &[u8]) -> usize
 /// The encoding of a geometry under the options, where the geometry lends it.
 #[inline(always)]
 pub fn lent_encoding<'a, G: GeometryTrait>(geom: &'a G, options: &WriteOptions) -> Option<&'a [u8]>
-    ensures encoding { IfSome result (λ bytes. bytes.now ≡ encoding options.now (G.geometry geom.now)) }
+    ensures encoding { IfSome result (λ bytes. bytes.now ≡ encoding_of options.now (G.geometry geom.now)) }
     ensures writable { IfSome result (λ _. refusal_of options.now (G.geometry geom.now) ≡ None) }
 {
     let encoding = geom.whole(options.endianness, options.form)?;
@@ -36,7 +36,7 @@ pub fn write_whole<S: Sink, G: GeometryTrait>(
     bytes: &[u8],
     options: &WriteOptions,
 ) -> WkbResult<()>
-    requires encoding { bytes.now ≡ encoding options.now (G.geometry geom.now) }
+    requires encoding { bytes.now ≡ encoding_of options.now (G.geometry geom.now) }
     requires writable { refusal_of options.now (G.geometry geom.now) ≡ None }
     requires working { S.has_failed writer.old ≡ false }
     ensures { Writes options.now (G.geometry geom.now) result

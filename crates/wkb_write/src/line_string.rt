@@ -1,7 +1,7 @@
 //! A line string: its coordinates, which a ring has too.
 
 ghost use Rattle.std.specs.Prelude.{◌≡◌, ◌<◌, ◌^◌, None, false, length};
-ghost use Rattle.wkb_write.specs.Words.{Iso, line_string, coordinates_fault, coordinates_text};
+ghost use Rattle.wkb_write.specs.Words.{Iso, line_string, coordinates_fault, coordinates_encoding};
 ghost use Rattle.wkb_write.specs.Words.{dimensions_fault, Lays, IsSizeOf, Writes, ring_bytes, Measures};
 
 use crate::common::*;
@@ -22,7 +22,7 @@ pub fn measure_coordinates<L: LineStringTrait>(line: &L) -> Result<usize, Fault>
 }
 
 /// Puts the coordinates of a line string or a ring, after their count.
-#[tactic(auto, using(crate::proofs::Steps::step_laws), unfolding(wkb_geom::specs::Texts::coordinates_text))]
+#[tactic(auto, using(crate::proofs::Steps::step_laws), unfolding(wkb_geom::specs::Encodings::coordinates_encoding))]
 pub fn put_coordinates<S: Sink, L: LineStringTrait>(
     out: &mut Buffered<'_, S>,
     line: &L,
@@ -31,7 +31,7 @@ pub fn put_coordinates<S: Sink, L: LineStringTrait>(
     requires supported { dimensions_fault (L.dimensions line.now) ≡ None }
     requires count { length (L.coordinates line.now) < 2 ^ 32 }
     requires working { S.has_failed out.old.sink.now ≡ false }
-    ensures { Lays S.appended S.has_failed out.old out.new (coordinates_text order (L.coordinates line.now)) result }
+    ensures { Lays S.appended S.has_failed out.old out.new (coordinates_encoding order (L.coordinates line.now)) result }
 {
     let count = line.num_coords();
     let bytes = 8 * line.dim().size();
@@ -57,7 +57,7 @@ pub fn put_coordinates<S: Sink, L: LineStringTrait>(
 /// A line string.
 pub struct LineStringKind;
 
-#[tactic(auto, using(crate::proofs::Steps::node_laws), unfolding(wkb_geom::specs::Texts::line_string_text))]
+#[tactic(auto, using(crate::proofs::Steps::node_laws), unfolding(wkb_geom::specs::Encodings::line_string_encoding))]
 impl<L: LineStringTrait> Writable<L> for LineStringKind {
     ghost geometry = { λ l. line_string (L.dimensions l) (L.coordinates l) };
 

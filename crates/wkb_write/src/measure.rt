@@ -8,7 +8,7 @@ ghost use Rattle.wkb_geom.specs.Errors.{TellsFault};
 ghost use Rattle.wkb_geom.specs.Geometries.{Geometry, IsGeometry};
 ghost use Rattle.wkb_geom.specs.Refusals.{srid_size};
 ghost use Rattle.wkb_geom.specs.Sizes.{dimensions_of};
-ghost use Rattle.wkb_geom.specs.Texts.{count_fault, dimensions_fault, form_srid, IsForm};
+ghost use Rattle.wkb_geom.specs.Encodings.{count_fault, dimensions_fault, form_srid, IsForm};
 ghost use Rattle.wkb_write.specs.Answers.{IsSized, IsSizeOf};
 ghost use Rattle.wkb_write.specs.Bodies.{body_fault, size_by_parts, words};
 ghost use Rattle.wkb_write.specs.Measures.{Finds, IsMeasured, Measures, result_of};
@@ -56,7 +56,7 @@ impl From<Fault> for Measured {
 
 /// Refuses dimensions that can't be written.
 #[inline(always)]
-#[tactic(auto, using(crate::proofs::Faults::supported_laws), unfolding(wkb_geom::specs::Texts::dimensions_fault))]
+#[tactic(auto, using(crate::proofs::Faults::supported_laws), unfolding(wkb_geom::specs::Encodings::dimensions_fault))]
 pub fn check_dimensions(dim: Dimensions) -> Result<(), Fault>
     ensures { MatchResult result (λ _. dimensions_fault dim ≡ None)
         (λ e. Finds e (dimensions_fault dim)) }
@@ -132,7 +132,7 @@ pub fn whole_size(measured: Result<usize, Fault>, form: Form) -> Result<usize, F
     }
 }
 
-/// The size of a text under the form, or the error that tells the fault.
+/// The size of an encoding under the form, or the error that tells the fault.
 #[inline]
 pub fn size_of(measured: Result<usize, Fault>, form: Form) -> WkbResult<usize>
     ensures { (g : Geometry) → IsGeometry g → IsMeasured g measured → IsSizeOf form g result }

@@ -1,7 +1,7 @@
 //! A multi line string.
 
 ghost use Rattle.std.specs.Prelude.{◌≡◌, None, false, map};
-ghost use Rattle.wkb_write.specs.Words.{Iso, line_string, multi_line_string, fault, text, IsSizeOf, Writes};
+ghost use Rattle.wkb_write.specs.Words.{Iso, line_string, multi_line_string, fault, encoding, IsSizeOf, Writes};
 ghost use Rattle.wkb_write.specs.Words.{ring_part};
 
 use crate::common::*;
@@ -38,7 +38,7 @@ impl<M: MultiLineStringTrait> Items<M> for MultiLineStringKind {
 
     ghost measures = { λ m. map (ring_part (M.dimensions m)) (M.line_strings m) };
 
-    ghost texts = { λ order form m. map (λ c. text order form (line_string (M.dimensions m) c)) (M.line_strings m) };
+    ghost encodings = { λ order form m. map (λ c. encoding order form (line_string (M.dimensions m) c)) (M.line_strings m) };
 
     fn count(geom: &M) -> u128 {
         geom.num_line_strings() as u128

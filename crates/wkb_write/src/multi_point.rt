@@ -1,7 +1,7 @@
 //! A multi point.
 
 ghost use Rattle.std.specs.Prelude.{◌≡◌, None, false, map, length, ◌+◌, ◌*◌};
-ghost use Rattle.wkb_write.specs.Words.{Iso, multi_point, point, count_fault, fault, text, IsSizeOf, Writes};
+ghost use Rattle.wkb_write.specs.Words.{Iso, multi_point, point, count_fault, fault, encoding, IsSizeOf, Writes};
 ghost use Rattle.wkb_write.specs.Words.{point_part, words, Measures};
 
 use crate::common::*;
@@ -37,7 +37,7 @@ impl<M: MultiPointTrait> Items<M> for MultiPointKind {
 
     ghost measures = { λ m. map (point_part (M.dimensions m)) (M.points m) };
 
-    ghost texts = { λ order form m. map (λ c. text order form (point (M.dimensions m) c)) (M.points m) };
+    ghost encodings = { λ order form m. map (λ c. encoding order form (point (M.dimensions m) c)) (M.points m) };
 
     fn count(geom: &M) -> u128 {
         geom.num_points() as u128

@@ -1,7 +1,7 @@
 //! A multi polygon.
 
 ghost use Rattle.std.specs.Prelude.{◌≡◌, None, false, map};
-ghost use Rattle.wkb_write.specs.Words.{Iso, multi_polygon, polygon, fault, text, IsSizeOf, Writes};
+ghost use Rattle.wkb_write.specs.Words.{Iso, multi_polygon, polygon, fault, encoding, IsSizeOf, Writes};
 ghost use Rattle.wkb_write.specs.Words.{polygon_part};
 
 use crate::common::*;
@@ -38,7 +38,7 @@ impl<M: MultiPolygonTrait> Items<M> for MultiPolygonKind {
 
     ghost measures = { λ m. map (polygon_part (M.dimensions m)) (M.polygons m) };
 
-    ghost texts = { λ order form m. map (λ c. text order form (polygon (M.dimensions m) c)) (M.polygons m) };
+    ghost encodings = { λ order form m. map (λ c. encoding order form (polygon (M.dimensions m) c)) (M.polygons m) };
 
     fn count(geom: &M) -> u128 {
         geom.num_polygons() as u128

@@ -1,7 +1,7 @@
 //! A polygon: its rings, the exterior first.
 
 ghost use Rattle.std.specs.Prelude.{◌≡◌, None, false, map};
-ghost use Rattle.wkb_write.specs.Words.{Iso, polygon, coordinates_text, fault, IsSizeOf, Writes, ring_part};
+ghost use Rattle.wkb_write.specs.Words.{Iso, polygon, coordinates_encoding, fault, IsSizeOf, Writes, ring_part};
 
 use crate::common::*;
 use crate::items::{Items, measure_items, put_items};
@@ -13,7 +13,7 @@ use wkb_geom::rings::{ring_at, ring_count};
 /// A polygon.
 pub struct PolygonKind;
 
-#[tactic(auto, using(crate::proofs::Steps::node_laws), unfolding(wkb_geom::specs::Texts::polygon_text))]
+#[tactic(auto, using(crate::proofs::Steps::node_laws), unfolding(wkb_geom::specs::Encodings::polygon_encoding))]
 impl<P: PolygonTrait> Writable<P> for PolygonKind {
     ghost geometry = { λ p. polygon (P.dimensions p) (P.rings p) };
 
@@ -37,7 +37,7 @@ impl<P: PolygonTrait> Items<P> for PolygonKind {
 
     ghost measures = { λ p. map (ring_part (P.dimensions p)) (P.rings p) };
 
-    ghost texts = { λ order form p. map (coordinates_text order) (P.rings p) };
+    ghost encodings = { λ order form p. map (coordinates_encoding order) (P.rings p) };
 
     fn count(geom: &P) -> u128 {
         ring_count(geom)

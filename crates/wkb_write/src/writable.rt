@@ -6,11 +6,11 @@ ghost use Rattle.wkb_geom.specs.declared.common.Endianness.TheVariants.{LittleEn
 ghost use Rattle.wkb_geom.specs.declared.common.Form.TheVariants.{Iso};
 ghost use Rattle.wkb_geom.specs.Errors.{IsMemory};
 ghost use Rattle.wkb_geom.specs.Geometries.{Geometry, IsGeometry};
-ghost use Rattle.wkb_geom.specs.Texts.{fault, text};
+ghost use Rattle.wkb_geom.specs.Encodings.{fault, encoding};
 ghost use Rattle.wkb_sink.specs.Progress.{Lays};
 ghost use Rattle.wkb_sink.specs.Sinks.{IsIOError, PutsOrStops, Puts};
 ghost use Rattle.wkb_sink.specs.declared.block.TheConstants.{LEAST};
-ghost use Rattle.wkb_write.specs.Answers.{encoding, refusal_of, IsSizeOf, Writes};
+ghost use Rattle.wkb_write.specs.Answers.{encoding_of, refusal_of, IsSizeOf, Writes};
 ghost use Rattle.wkb_write.specs.Measures.{IsMeasured, Reports};
 
 use crate::measure::{refused, size_of, whole_size};
@@ -56,7 +56,7 @@ pub trait Writable<G> {
     fn put<S: Sink>(out: &mut Buffered<'_, S>, geom: &G, order: Endianness, form: Form) -> Put
         requires fault { fault (geometry geom.now) ≡ None }
         requires working { S.has_failed out.old.sink.now ≡ false }
-        ensures { Lays S.appended S.has_failed out.old out.new (text order form (geometry geom.now)) result };
+        ensures { Lays S.appended S.has_failed out.old out.new (encoding order form (geometry geom.now)) result };
 
     // Every coordinate fits the dimension.
     ghost lawful: { (g : G) → IsGeometry (geometry g) };
@@ -83,7 +83,7 @@ fn put_through<S: Sink, G, K: Writable<G>>(
     requires fault { fault (K.geometry geom.now) ≡ None }
     requires working { S.has_failed writer.old ≡ false }
     ensures { PutsOrStops (S.appended writer.old) (S.appended writer.new) (S.has_failed writer.new)
-        (text order form (K.geometry geom.now)) result }
+        (encoding order form (K.geometry geom.now)) result }
 {
     let mut out = Buffered {
         sink: writer,
@@ -115,7 +115,7 @@ fn put_sized<S: Sink, G, K: Writable<G>>(
     requires fault { fault (K.geometry geom.now) ≡ None }
     requires working { S.has_failed writer.old ≡ false }
     ensures { PutsOrStops (S.appended writer.old) (S.appended writer.new) (S.has_failed writer.new)
-        (encoding options.now (K.geometry geom.now)) result }
+        (encoding_of options.now (K.geometry geom.now)) result }
 {
     let WriteOptions { endianness, form } = *options;
     if size <= SHORT {
@@ -160,8 +160,8 @@ pub fn write_as<S: Sink, G, K: Writable<G>>(
 // The answer to the caller: where the sink stopped, its own error, or that it took no byte.
 #[inline(always)]
 fn wkb_result(put: Put, error: &mut Option<io::Error>) -> WkbResult<()>
-    ensures { (old new : Option (List ℕ)) (failed : Bool) (text : List ℕ)
-        → PutsOrStops old new failed text put → Puts old new failed text result }
+    ensures { (old new : Option (List ℕ)) (failed : Bool) (encoding : List ℕ)
+        → PutsOrStops old new failed encoding put → Puts old new failed encoding result }
 {
     match put {
         Ok(()) => Ok(()),
@@ -189,7 +189,7 @@ pub fn vec_as<G, K: Writable<G>>(
     geom: &G,
     options: &WriteOptions,
 ) -> WkbResult<Vec<u8>>
-    ensures ok { IfOk result (λ out. out.items ≡ encoding options.now (K.geometry geom.now)) }
+    ensures ok { IfOk result (λ out. out.items ≡ encoding_of options.now (K.geometry geom.now)) }
     ensures writable { IfOk result (λ _. refusal_of options.now (K.geometry geom.now) ≡ None) }
     ensures err { IfErr result (λ e. IsMemory e ⊎ Reports e (refusal_of options.now (K.geometry geom.now))) }
 {

@@ -154,7 +154,7 @@ pub(crate) fn settle<'a>(
     counts: &mut Counts,
 ) -> Option<Wkb<'a>>
     requires part { IsFinished part }
-    requires stand { AreOpen (reverse stack.old.items) (part.text ++ rest.now) }
+    requires stand { AreOpen (reverse stack.old.items) (part.encoding ++ rest.now) }
     requires fits { counts.old.turns + (outward (reverse stack.old.items) part rest.now).0.turns < 2 ^ 128 }
     ensures { Settles (reverse stack.old.items) (reverse stack.new.items) part.entry rest.now
         result counts.old counts.new }

@@ -1,4 +1,4 @@
-use Rattle.wkb.proofs.Texts.{IfErr-from, refused_or_long}
+use Rattle.wkb.proofs.Encodings.{IfErr-from, refused_or_long}
 use Rattle.wkb.proofs.canon.canonical.Goals as goal
 
 pub returns-in-Ok-clause-err : goal.returns-in-Ok-clause-err

@@ -1,6 +1,6 @@
 use Rattle.std.proofs.Common.{arith}
 use Rattle.wkb_laws.proofs.Lengths.{own_srid_is_writable_lem}
-use Rattle.wkb.proofs.Texts.{IfErr-from, refused_alone}
+use Rattle.wkb.proofs.Encodings.{IfErr-from, refused_alone}
 use Rattle.wkb.proofs.canon.canonical_with_srid.Goals as goal
 
 pub returns-in-Ok-clause-err : goal.returns-in-Ok-clause-err

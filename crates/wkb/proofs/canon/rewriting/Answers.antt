@@ -1,7 +1,7 @@
 use Rattle.std.proofs.Common.{◌≡◌, ◌⊎◌, subst}
 use Rattle.std.specs.Prelude.{IfOk, IfErr}
 use Rattle.wkb_geom.specs.Errors.{IsMemory}
-use Rattle.wkb_geom.specs.Texts.{text, refusal}
+use Rattle.wkb_geom.specs.Encodings.{encoding, refusal}
 use Rattle.wkb_read.specs.Seen.{seen_as_it_is}
 use Rattle.wkb_write.specs.Measures.{Reports}
 use Rattle.wkb.proofs.canon.rewriting.Goals as goal
@@ -9,7 +9,7 @@ use Rattle.wkb.proofs.canon.rewriting.Goals as goal
 pub returns-clause-ok : goal.returns-clause-ok
 returns-clause-ok c =
     let options = c.args.options.now in
-    subst (λ g. IfOk c.to_vec.result (λ out. out.items ≡ text options.endianness options.form g))
+    subst (λ g. IfOk c.to_vec.result (λ out. out.items ≡ encoding options.endianness options.form g))
     (seen_as_it_is c.args.wkb.now c.requires.lawful) c.to_vec.ensures.ok
 
 pub returns-clause-err : goal.returns-clause-err

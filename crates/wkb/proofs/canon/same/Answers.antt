@@ -1,4 +1,4 @@
-use Rattle.wkb.proofs.Texts.{compared}
+use Rattle.wkb.proofs.Encodings.{compared}
 use Rattle.wkb.proofs.canon.same.Goals as goal
 
 pub returns-clause-ok : goal.returns-clause-ok

@@ -4,4 +4,4 @@ use Rattle.wkb_clients.proofs.clones.polygon_spelled.Goals as goal
 pub returns-clause-spells : goal.returns-clause-spells
 returns-clause-spells c =
     let p = c.args.polygon.now in
-    c.spelled_in_full.ensures p.spelled (polygon p.dimension p.parts) p.text c.buf.ensures.spells
+    c.spelled_in_full.ensures p.spelled (polygon p.dimension p.parts) p.encoding c.buf.ensures.spells

@@ -12,9 +12,9 @@ returns-in-Some c =
     let whole = whole_of multi_line_string m in
     let l = line_string_seen c.in-Some.line_string in
     let o = c.in-Some.ensures in
-    subst (LendsMember whole c.args.i) (sym c.buf-bytes.ensures.text)
+    subst (LendsMember whole c.args.i) (sym c.buf-bytes.ensures.encoding)
     (lends_member c.spelled_in_full.ensures c.members_in_place.ensures whole c.args.i l
     (member_of_list (line_string m.dimension) whole m.parts c.args.i l (line_string_of l.value) refl
     (ap (λ d. line_string d (line_string_of l.value)) (one_name _ _ o.dimensions)) o.spelled o.part)
-    (subst AreBytes c.buf.ensures.text c.are_bytes.ensures) (subst AreBytes c.buf-bytes.ensures.text c.are_bytes-in-Some.ensures)
+    (subst AreBytes c.buf.ensures.encoding c.are_bytes.ensures) (subst AreBytes c.buf-bytes.ensures.encoding c.are_bytes-in-Some.ensures)
     c.buf.ensures.spells c.buf-bytes.ensures.spells)

@@ -11,9 +11,9 @@ returns-in-Some c =
     let m = multi_point_seen c.args.multi.now in
     let p = point_seen c.in-Some.point in
     let o = c.in-Some.ensures in
-    subst (LendsMember m c.args.i) (sym c.buf-bytes.ensures.text)
+    subst (LendsMember m c.args.i) (sym c.buf-bytes.ensures.encoding)
     (lends_member c.spelled_in_full.ensures c.members_in_place.ensures m c.args.i p
     (member_of_list (point (dimension m.value)) m (points_of m.value) c.args.i p (point_of p.value) refl
     (point_value c.in-Some.point ∙ ap (λ d. point d (point_of p.value)) (one_name _ _ o.dimensions)) o.spelled o.value)
-    (subst AreBytes c.buf.ensures.text c.are_bytes.ensures) (subst AreBytes c.buf-bytes.ensures.text c.are_bytes-in-Some.ensures)
+    (subst AreBytes c.buf.ensures.encoding c.are_bytes.ensures) (subst AreBytes c.buf-bytes.ensures.encoding c.are_bytes-in-Some.ensures)
     c.buf.ensures.spells c.buf-bytes.ensures.spells)

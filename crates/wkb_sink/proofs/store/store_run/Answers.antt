@@ -1,4 +1,4 @@
-use Rattle.wkb_sink.proofs.Prelude.{◌≤◌, ◌+◌, ◌*◌, ◌-◌, rules, arith, sym, ◌∙◌, words_text}
+use Rattle.wkb_sink.proofs.Prelude.{◌≤◌, ◌+◌, ◌*◌, ◌-◌, rules, arith, sym, ◌∙◌, words_encoding}
 use Rattle.wkb_sink.proofs.Stores.{stored_next, run_step, one_more}
 use Rattle.wkb_sink.proofs.store.store_run.Goals as goal
 
@@ -14,5 +14,5 @@ loop-i-preserved g c =
       past = omega arith;
       stored =
           stored_next _ _ _ _ c.loop-i.at _ _ before.stored (omega (arith, room)) c.store_coordinate.ensures (omega (arith, room))
-          ∙ sym (run_step (words_text c.args.order) coordinates c.args.from c.loop-i.i _ c.coord_at.ensures.value before.past);
+          ∙ sym (run_step (words_encoding c.args.order) coordinates c.args.from c.loop-i.i _ c.coord_at.ensures.value before.past);
     }

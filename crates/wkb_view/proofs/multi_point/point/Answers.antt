@@ -1,5 +1,5 @@
 use Rattle.std.proofs.Common.{◌∙◌, ap}
-use Rattle.wkb_view.specs.Words.{Part, Item, at_no_cost}
+use Rattle.wkb_view.specs.Words.{Outcome, Item, at_no_cost}
 use Rattle.wkb_view.proofs.Members.{point_laid}
 use Rattle.wkb_view.proofs.Leaves.{found, member_gives, member_passed}
 use Rattle.wkb_view.proofs.multi_point.point.Goals as goal
@@ -11,7 +11,7 @@ returns-clause-answer c =
     let read = c.in_ok-rest.ensures in
     let passed = member_passed 1 c.args.dimension bytes _ _ _ laid read.passed read.item in
     member_gives 1 c.args.dimension bytes _ _ laid
-    (ap (λ (p : Part Item). at_no_cost p) (read.answer ∙ ap (λ (i : Item). found i c.in_ok-rest.rest.now) passed.0))
+    (ap (λ (p : Outcome Item). at_no_cost p) (read.answer ∙ ap (λ (i : Item). found i c.in_ok-rest.rest.now) passed.0))
 
 pub returns-clause-passed : goal.returns-clause-passed
 returns-clause-passed c =

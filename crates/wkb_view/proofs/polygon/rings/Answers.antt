@@ -1,6 +1,6 @@
 use Rattle.std.proofs.Common.{List, ℕ, ap, map-id, arith}
 use Rattle.std.proofs.lemmas.Result.{err_from_is_err_and}
-use Rattle.wkb_view.specs.Words.{Fault, Part, at_no_cost}
+use Rattle.wkb_view.specs.Words.{Fault, Outcome, at_no_cost}
 use Rattle.wkb_view.proofs.Lists.{parts_length, freely, part_costs, part_stops}
 use Rattle.wkb_view.proofs.Pieces.{pieces_next, pieces_read}
 use Rattle.wkb_view.proofs.polygon.rings.Goals as goal
@@ -12,11 +12,11 @@ pub returns-in_err-rest-clause-rings : goal.returns-in_err-rest-clause-rings
 returns-in_err-rest-clause-rings c =
     let p = err_from_is_err_and c.from_residual.result c.from_residual.ensures.1 in
     rw (p.1, p.2) (part_stops (Fault c.in_err-rest.field-0.0) _ c.loop-test.true c.loop.invariant.so_far.left
-    (freely _ _ _ (ap (λ (r : Part (List ℕ)). at_no_cost r) c.in_err-rest.ensures.answer)))
+    (freely _ _ _ (ap (λ (r : Outcome (List ℕ)). at_no_cost r) c.in_err-rest.ensures.answer)))
 
 pub loop-preserved : goal.loop-preserved
 loop-preserved c =
-    let gives = freely _ _ _ (ap (λ (r : Part (List ℕ)). at_no_cost r) c.in_ok-rest.ensures.answer) in
+    let gives = freely _ _ _ (ap (λ (r : Outcome (List ℕ)). at_no_cost r) c.in_ok-rest.ensures.answer) in
     record {
       so_far = rw c.push.ensures.entries (pieces_next _ _ (omega arith) c.loop-test.true c.loop.invariant.so_far gives.0 gives.1 c.in_ok-rest.ensures.passed);
       room = omega (arith, c.push.ensures.room, c.loop.invariant.room);

@@ -1,8 +1,8 @@
-use Rattle.wkb_write.proofs.Prelude.{◌≡◌, ◌<◌, ◌-◌, ◌∙◌, sym, ap, length, arith, length-map, node_count, fault, text}
+use Rattle.wkb_write.proofs.Prelude.{◌≡◌, ◌<◌, ◌-◌, ◌∙◌, sym, ap, length, arith, length-map, node_count, fault, encoding}
 use Rattle.wkb_write.proofs.Prelude.{inner}
 use Rattle.wkb_write.proofs.Collections.{collection_count, collection_members, lays_collection, member_ready}
 use Rattle.wkb_sink.proofs.Laid.{exits}
-use Rattle.wkb_write.proofs.Loops.{head_cut, none_laid, all_laid, next_cut, lays_last_text, text_there}
+use Rattle.wkb_write.proofs.Loops.{head_cut, none_laid, all_laid, next_cut, lays_last_encoding, encoding_there}
 use Rattle.wkb_write.proofs.geometry.+put.Goals as goal
 
 pub put_members-returns-in_err-put_head : goal.put_members-returns-in_err-put_head
@@ -30,23 +30,23 @@ put_members-put_member-requires-2 g t c κs within =
 
 pub put_members-returns-then-count-eq0 : goal.put_members-returns-then-count-eq0
 put_members-returns-then-count-eq0 g t c =
-    let same = length-map c.args.members.now (λ m. text c.args.order (inner c.args.form) (g.G.GeometryTrait.geometry m)) in
+    let same = length-map c.args.members.now (λ m. encoding c.args.order (inner c.args.form) (g.G.GeometryTrait.geometry m)) in
     all_laid (none_laid _ (sym same) c.in_ok-put_head.ensures) (omega (arith, same, c.if-count-eq0.true))
 
 pub put_members-returns : goal.put_members-returns
 put_members-returns g t c =
     let members = c.args.members.now in
-    let same = length-map members (λ m. text c.args.order (inner c.args.form) (g.G.GeometryTrait.geometry m)) in
+    let same = length-map members (λ m. encoding c.args.order (inner c.args.form) (g.G.GeometryTrait.geometry m)) in
     let there : length members - 1 < length members = omega (arith, c.if-count-eq0.false) in
     let at_end : c.loop-i.i ≡ length members - 1 = omega (arith, c.loop-i.auto.i-end, c.loop-i-test.false) in
-    lays_last_text _ _ (rw at_end at c.loop-i.invariant) (text_there _ _ _ _ there c.index-members-last.is) (omega (arith, same, there))
+    lays_last_encoding _ _ (rw at_end at c.loop-i.invariant) (encoding_there _ _ _ _ there c.index-members-last.is) (omega (arith, same, there))
     (rw (← c.has_flags-2.ensures) at c.put_member-2.ensures)
 
 pub put_members-returns-in_err-put_member : goal.put_members-returns-in_err-put_member
 put_members-returns-in_err-put_member g t c =
     let there : c.loop-i.i < length c.args.members.now = omega (arith, c.loop-i-test.true) in
     let cut = rw (← c.has_flags.ensures) at c.in_err-put_member.ensures in
-    exits _ _ c.from_residual-in_err-put_member.ensures.1 (next_cut c.loop-i.invariant (text_there _ _ _ _ there c.index-members-i.is) cut)
+    exits _ _ c.from_residual-in_err-put_member.ensures.1 (next_cut c.loop-i.invariant (encoding_there _ _ _ _ there c.index-members-i.is) cut)
 
 pub put_any-put-requires-clause-fault : goal.put_any-put-requires-clause-fault
 put_any-put-requires-clause-fault g t c = ap fault c.in-Point.ensures.part ∙ c.requires.fault

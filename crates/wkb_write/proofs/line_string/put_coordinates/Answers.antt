@@ -1,10 +1,10 @@
-use Rattle.wkb_write.proofs.Prelude.{arith, coordinates_text}
+use Rattle.wkb_write.proofs.Prelude.{arith, coordinates_encoding}
 use Rattle.wkb_sink.proofs.Laid.{exits, cut_first, laid_here}
 use Rattle.wkb_write.proofs.Loops.{no_run, next_run, whole_run, run_cut}
 use Rattle.wkb_write.proofs.line_string.put_coordinates.Goals as goal
 
 pub returns-in_err-put_count : goal.returns-in_err-put_count
-unfolding coordinates_text
+unfolding coordinates_encoding
 returns-in_err-put_count g c = exits _ _ c.from_residual.ensures.1 (cut_first _ (rw c.num_coords-count.ensures at c.in_err-put_count.ensures))
 
 pub loop-done-init : goal.loop-done-init

@@ -60,7 +60,7 @@ pub slice_bounds-finished-count : goal.slice_bounds-finished-count
 slice_bounds-finished-count c =
     let p = (goal.at.slice_bounds-finished-count c).After-push in
     rw (sym (taken_off p _ _ c.in-Some-pop.ensures.items).0)
-    (omega (arith, (finishes p).stand.0.within, length-append c.loop-top.finished.text c.args.rest.now))
+    (omega (arith, (finishes p).stand.0.within, length-append c.loop-top.finished.encoding c.args.rest.now))
 
 pub invariant_of-finished : goal.invariant_of-finished
 invariant_of-finished c =

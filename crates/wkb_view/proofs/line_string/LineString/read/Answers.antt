@@ -2,7 +2,7 @@ use Rattle.std.proofs.Common.{rules, subst, ◌+◌, ◌*◌, sym, ◌∙◌, re
 use Rattle.wkb_view.specs.Words.{AreBytes, body_start}
 use Rattle.wkb_view.specs.Ranges.{AreBytes-take}
 use Rattle.wkb_view.proofs.Leaves.{number_within, passed_by}
-use Rattle.wkb_view.proofs.SpelledRead.{line_string_is_text}
+use Rattle.wkb_view.proofs.SpelledRead.{line_string_is_encoding}
 use Rattle.wkb_view.proofs.Asked.{line_string_short, line_string_found}
 use Rattle.wkb_view.proofs.line_string.LineString.read.Goals as goal
 
@@ -18,14 +18,14 @@ invariant_of-line_string-clause-in_range c = subst AreBytes (sym c.split_at.ensu
 
 pub invariant_of-line_string-clause-spells : goal.invariant_of-line_string-clause-spells
 invariant_of-line_string-clause-spells c =
-    (line_string_is_text c.args.layout c.args.bytes.now _ c.in_ok-count.count _ c.requires.head c.in_ok-count.ensures.whole c.in_ok-count.ensures.counted
+    (line_string_is_encoding c.args.layout c.args.bytes.now _ c.in_ok-count.count _ c.requires.head c.in_ok-count.ensures.whole c.in_ok-count.ensures.counted
     (rw (c.width.ensures, c.body_start-start.ensures) (omega arith)) (omega arith) c.split_at.ensures.front).spells
 
 pub returns-clause-passed : goal.returns-clause-passed
 returns-clause-passed c =
     passed_by 9 c.args.bytes.now _ (c.body_start-start.result + 4 + 8 * c.width.result * c.in_ok-count.count) (omega (arith, c.body_start-start.ensures))
     (omega arith) c.split_at.ensures.back
-    (line_string_is_text c.args.layout c.args.bytes.now _ c.in_ok-count.count _ c.requires.head c.in_ok-count.ensures.whole c.in_ok-count.ensures.counted
+    (line_string_is_encoding c.args.layout c.args.bytes.now _ c.in_ok-count.count _ c.requires.head c.in_ok-count.ensures.whole c.in_ok-count.ensures.counted
     (rw (c.width.ensures, c.body_start-start.ensures) (omega arith)) (omega arith) refl)
 
 pub returns-then-bytes-end-clause-answer : goal.returns-then-bytes-end-clause-answer

@@ -1,6 +1,6 @@
 use Rattle.std.proofs.Common.{rules, arith, ◌≡◌, ◌+◌, ◌*◌, ℕ, length, drop, sym, ap, ◌∙◌, length-drop, drop-drop}
 use Rattle.std.specs.List.{flat_map}
-use Rattle.wkb_geom.specs.Texts.{words_text}
+use Rattle.wkb_geom.specs.Encodings.{words_encoding}
 use Rattle.wkb_view.specs.Words.{width, body_start, ring_in}
 use Rattle.wkb_view.specs.Ranges.{AreBytes-drop}
 use Rattle.wkb_view.proofs.Standing.{ring_stands}
@@ -17,4 +17,4 @@ returns-then-eq c =
     ∙ sym (drop-drop 4 start l.buf.now ∙ ap (λ (k : ℕ). drop k l.buf.now) (omega arith))
     ∙ ring_stands l.layout.order l.layout.dimension ring (AreBytes-drop start l.buf.now l.in_range)
     (len ∙ ap (λ k. 4 + 8 * width l.layout.dimension * k) l.counted)
-    ∙ ap (λ o. flat_map (words_text o) (ring_in l.layout.order l.layout.dimension ring)) same
+    ∙ ap (λ o. flat_map (words_encoding o) (ring_in l.layout.order l.layout.dimension ring)) same

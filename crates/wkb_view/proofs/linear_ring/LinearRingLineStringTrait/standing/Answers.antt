@@ -1,6 +1,6 @@
 use Rattle.std.proofs.Common.{rules, ◌≡◌, ◌+◌, ◌*◌, ap, ◌∙◌}
 use Rattle.std.specs.List.{flat_map}
-use Rattle.wkb_geom.specs.Texts.{words_text}
+use Rattle.wkb_geom.specs.Encodings.{words_encoding}
 use Rattle.wkb_view.specs.Words.{width}
 use Rattle.wkb_view.specs.Coords.{ring_seen}
 use Rattle.wkb_view.proofs.Standing.{ring_stands}
@@ -10,6 +10,6 @@ pub returns-then-eq : goal.returns-then-eq
 returns-then-eq c =
     let r = c.args.self.now in
     let same : r.order ≡ c.args.order = search rules in
-    c.coords_slice.ensures.text
+    c.coords_slice.ensures.encoding
     ∙ ring_stands r.order r.dimension r.bytes.now r.in_range (r.whole ∙ ap (λ k. 4 + 8 * width r.dimension * k) r.counted)
-    ∙ ap (λ o. flat_map (words_text o) (ring_seen r)) same
+    ∙ ap (λ o. flat_map (words_encoding o) (ring_seen r)) same

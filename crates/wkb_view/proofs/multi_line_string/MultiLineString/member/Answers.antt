@@ -3,7 +3,7 @@ use Rattle.wkb_view.specs.Words.{Item, Layout, line_string_of}
 use Rattle.wkb_view.specs.Members.{IsMember}
 use Rattle.wkb_view.specs.Ranges.{member_dimension}
 use Rattle.wkb_view.proofs.Leaves.{member_seen}
-use Rattle.wkb_view.proofs.Members.{member_text, member_there, members_seen, spelling_seen}
+use Rattle.wkb_view.proofs.Members.{member_encoding, member_there, members_seen, spelling_seen}
 use Rattle.wkb_view.proofs.Pieces.{in_order}
 use Rattle.wkb_view.proofs.multi_line_string.MultiLineString.member.Goals as goal
 
@@ -18,10 +18,10 @@ of_known_member-layout-requires c =
     member_there 2 p.layout p.ends.items p.buf.now c.args.i _ c.self.invariant.1
     (rw (c.body_start.ensures, c.deref.ensures.value) at c.in_ok-buf.ensures.part)
 
-pub of_text-requires : goal.of_text-requires
-of_text-requires c =
+pub of_encoding-requires : goal.of_encoding-requires
+of_encoding-requires c =
     let p = c.self.inside in
-    member_text 2 p.layout p.ends.items p.buf.now c.args.i _ _ c.self.invariant.1
+    member_encoding 2 p.layout p.ends.items p.buf.now c.args.i _ _ c.self.invariant.1
     (rw (c.body_start.ensures, c.deref.ensures.value) at c.in_ok-buf.ensures.part) c.of_known_member-layout.ensures
 
 pub returns-in_err-buf-clause-spelled : goal.returns-in_err-buf-clause-spelled
@@ -34,7 +34,7 @@ pub returns-clause-value : goal.returns-clause-value
 returns-clause-value c =
     let p = c.self.inside in
     let known = c.of_known_member-layout.ensures in
-    rw (← c.self.view_is) (ap (λ (m : Item). Some (line_string_of m.value)) (c.of_text.ensures.item ∙ member_seen 2 p.layout.dimension _ _ known)
+    rw (← c.self.view_is) (ap (λ (m : Item). Some (line_string_of m.value)) (c.of_encoding.ensures.item ∙ member_seen 2 p.layout.dimension _ _ known)
     ∙ members_seen 2 p.layout p.ends.items p.buf.now c.args.i (λ m. line_string_of m.value) _
     (rw (c.body_start.ensures, c.deref.ensures.value) at c.in_ok-buf.ensures.part))
 
@@ -42,11 +42,11 @@ pub returns-clause-spelled : goal.returns-clause-spelled
 returns-clause-spelled c =
     let p = c.self.inside in
     let known = c.of_known_member-layout.ensures in
-    rw (← c.self.view_is) (ap (λ (m : Item). Some m.spelled) (c.of_text.ensures.item ∙ member_seen 2 p.layout.dimension _ _ known)
+    rw (← c.self.view_is) (ap (λ (m : Item). Some m.spelled) (c.of_encoding.ensures.item ∙ member_seen 2 p.layout.dimension _ _ known)
     ∙ spelling_seen 2 p.layout p.ends.items p.buf.now c.args.i _ (rw (c.body_start.ensures, c.deref.ensures.value) at c.in_ok-buf.ensures.part))
 
 pub returns-clause-dimension : goal.returns-clause-dimension
 returns-clause-dimension c =
     let p = c.self.inside in
     let known = c.of_known_member-layout.ensures in
-    rw (← c.self.view_is) (ap (λ (l : Layout). l.dimension) c.of_text.ensures.layout ∙ member_dimension 2 p.layout.dimension _ _ known)
+    rw (← c.self.view_is) (ap (λ (l : Layout). l.dimension) c.of_encoding.ensures.layout ∙ member_dimension 2 p.layout.dimension _ _ known)

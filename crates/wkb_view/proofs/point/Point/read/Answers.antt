@@ -3,7 +3,7 @@ use Rattle.wkb_view.specs.Words.{AreBytes}
 use Rattle.wkb_view.specs.Ranges.{AreBytes-take}
 use Rattle.wkb_view.proofs.Items.{width-within}
 use Rattle.wkb_view.proofs.Leaves.{passed_by}
-use Rattle.wkb_view.proofs.SpelledRead.{point_text}
+use Rattle.wkb_view.proofs.SpelledRead.{point_encoding}
 use Rattle.wkb_view.proofs.point.Point.read.Goals as goal
 
 pub invariant_of-point-clause-in_range : goal.invariant_of-point-clause-in_range
@@ -11,7 +11,7 @@ invariant_of-point-clause-in_range c = subst AreBytes (sym c.split_at.ensures.fr
 
 pub invariant_of-point-clause-spells : goal.invariant_of-point-clause-spells
 invariant_of-point-clause-spells c =
-    (point_text c.args.layout c.args.bytes.now _ _ c.requires.head (rw (c.body_start.ensures, c.width.ensures) refl)
+    (point_encoding c.args.layout c.args.bytes.now _ _ c.requires.head (rw (c.body_start.ensures, c.width.ensures) refl)
     (omega arith) c.split_at.ensures.front).spells
 
 pub returns-clause-passed : goal.returns-clause-passed
@@ -19,4 +19,4 @@ returns-clause-passed c =
     let wide = (width-within c.args.layout.dimension).0 in
     passed_by 9 c.args.bytes.now _ (c.body_start.result + 8 * c.width.result) (omega (arith, c.body_start.ensures, c.width.ensures))
     (omega arith) c.split_at.ensures.back
-    (point_text c.args.layout c.args.bytes.now _ _ c.requires.head (rw (c.body_start.ensures, c.width.ensures) refl) (omega arith) refl)
+    (point_encoding c.args.layout c.args.bytes.now _ _ c.requires.head (rw (c.body_start.ensures, c.width.ensures) refl) (omega arith) refl)

@@ -1,10 +1,10 @@
-use Rattle.wkb_write.proofs.Prelude.{line_string_text, coordinates_text}
+use Rattle.wkb_write.proofs.Prelude.{line_string_encoding, coordinates_encoding}
 use Rattle.wkb_sink.proofs.Laid.{laid_here}
 use Rattle.wkb_sink.proofs.Behind.{behind, last}
 use Rattle.wkb_write.proofs.line.LineKindWritable.put.Goals as goal
 
 pub returns : goal.returns
-unfolding line_string_text coordinates_text
+unfolding line_string_encoding coordinates_encoding
 returns g c =
     rw (← c.dim.ensures, ← c.written.ensures, ← c.start.ensures.value, ← c.end.ensures.value)
     (laid_here c.in_ok-make_room.ensures.laid (behind c.lay_header.ensures.bytes

@@ -1,16 +1,16 @@
-use Rattle.wkb_write.proofs.Prelude.{point_text, point_words}
+use Rattle.wkb_write.proofs.Prelude.{point_encoding, point_words}
 use Rattle.wkb_sink.proofs.Laid.{laid_here}
 use Rattle.wkb_sink.proofs.Behind.{behind}
 use Rattle.wkb_write.proofs.point.PointKindWritable.put.Goals as goal
 
 pub returns-in-Some : goal.returns-in-Some
-unfolding point_text point_words
+unfolding point_encoding point_words
 returns-in-Some g c =
     rw (← c.dim.ensures, ← c.written-dim.ensures, ← c.in-Some.ensures.value)
     (laid_here c.in_ok-make_room.ensures.laid (behind c.lay_header.ensures.bytes c.lay_coordinate.ensures.bytes))
 
 pub returns-in-None : goal.returns-in-None
-unfolding point_text point_words
+unfolding point_encoding point_words
 returns-in-None g c =
     rw (← c.dim.ensures, ← c.written-dim.ensures, ← c.in-None.ensures.value)
     (laid_here c.in_ok-make_room.ensures.laid (behind c.lay_header.ensures.bytes c.lay_empty.ensures))

@@ -1,10 +1,10 @@
-use Rattle.wkb_write.proofs.Prelude.{polygon_text, coordinates_text}
+use Rattle.wkb_write.proofs.Prelude.{polygon_encoding, coordinates_encoding}
 use Rattle.wkb_sink.proofs.Laid.{laid_here}
 use Rattle.wkb_sink.proofs.Behind.{behind, last}
 use Rattle.wkb_write.proofs.rect.RectKindWritable.put.Goals as goal
 
 pub returns : goal.returns
-unfolding polygon_text coordinates_text
+unfolding polygon_encoding coordinates_encoding
 returns g c =
     rw (← c.min.ensures.value, ← c.max.ensures.value, ← c.x_y-x0.ensures.x, ← c.x_y-x0.ensures.y, ← c.x_y-x1.ensures.x, ← c.x_y-x1.ensures.y)
     (laid_here c.in_ok-make_room.ensures.laid (behind c.lay_header.ensures.bytes

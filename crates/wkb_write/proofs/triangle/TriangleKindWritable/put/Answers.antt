@@ -1,11 +1,11 @@
-use Rattle.wkb_write.proofs.Prelude.{arith, polygon_text, coordinates_text}
+use Rattle.wkb_write.proofs.Prelude.{arith, polygon_encoding, coordinates_encoding}
 use Rattle.wkb_sink.proofs.Laid.{laid_here}
 use Rattle.wkb_sink.proofs.Behind.{behind, last}
 use Rattle.wkb_write.proofs.Supported.{supported_at_least, supported_at_most}
 use Rattle.wkb_write.proofs.triangle.TriangleKindWritable.put.Goals as goal
 
 pub returns : goal.returns
-unfolding polygon_text coordinates_text
+unfolding polygon_encoding coordinates_encoding
 returns g c =
     rw (← c.dim.ensures, ← c.written.ensures, ← c.first-first.ensures.value, ← c.second.ensures.value, ← c.third.ensures.value)
     (laid_here c.in_ok-make_room.ensures.laid (behind c.lay_header.ensures.bytes

@@ -1,4 +1,4 @@
--- The text that is written spells the normal value.
+-- The encoding that is written spells the normal value.
 use Rattle.std.proofs.Common.{◌≡◌, ℕ, ◌<◌, ◌≤◌, ◌^◌, [], Bool, true, false, refl, sym, ap, ◌∙◌, arith, is_some}
 use Rattle.std.proofs.Common.{append-nil, zero, suc, ◌+◌, List, ◌∷◌, ◌++◌}
 use Rattle.std.proofs.Common.{length, map, replicate, Option, Some, None, subst, lit<, lit≤, slice_index, nat_lt}
@@ -16,13 +16,13 @@ use Rattle.wkb_laws.specs.Words.{form_srid, code_of, Xyzm, Dimensions, IsWord, a
 use Rattle.wkb_laws.specs.Words.{written_dimension, IsEach, IsCounted, Coordinate}
 use Rattle.wkb_laws.specs.Words.{Value, each, kind, dimension, members, count, Spelling, node, Spellings, no_spellings}
 use Rattle.wkb_laws.specs.Words.{IsHeader, IsSrid, SpellsCoordinate}
-use Rattle.wkb_laws.specs.Words.{SpellsCoordinates, SpellsBody, Part, any, part, member_part, IsPart, has_srid, Spells}
+use Rattle.wkb_laws.specs.Words.{SpellsCoordinates, SpellsBody, Wanted, any, part, member_part, IsPart, has_srid, Spells}
 use Rattle.wkb_laws.specs.Words.{SpellsEach, Geometry, line, rectangle}
 use Rattle.wkb_laws.specs.Words.{triangle, Geometries, no_geometries, geometry, IsGeometry, AreGeometries}
 use Rattle.wkb_laws.specs.Words.{rectangle_ring, triangle_ring, normal_point, normal}
-use Rattle.wkb_laws.specs.Words.{normal_each, point_words, inner, srid_text, header_text, words_text, coordinates_text}
-use Rattle.wkb_laws.specs.Words.{point_text, line_string_text}
-use Rattle.wkb_laws.specs.Words.{polygon_text, members_text, count_geometries, text, texts, or_else, dimensions_fault}
+use Rattle.wkb_laws.specs.Words.{normal_each, point_words, inner, srid_encoding, header_encoding, words_encoding, coordinates_encoding}
+use Rattle.wkb_laws.specs.Words.{point_encoding, line_string_encoding}
+use Rattle.wkb_laws.specs.Words.{polygon_encoding, members_encoding, count_geometries, encoding, encodings, or_else, dimensions_fault}
 use Rattle.wkb_laws.specs.Words.{count_fault, first_fault}
 use Rattle.wkb_laws.specs.Words.{coordinates_fault, rings_fault, fault, fault_each, IsForm, Fault, count_overflow}
 use Rattle.wkb_geom.specs.Values as value
@@ -71,15 +71,15 @@ count_fits : (n : ℕ) → count_fault n ≡ None → n < 256 ^ 4
 unfolding count_fault
 count_fits n = cond_both (nat_lt n (2 ^ 32)) None (Some count_overflow) (λ z. z ≡ None → n < 256 ^ 4) (λ t e. ltb-true n (2 ^ 32) t) (λ f e. cc)
 
--- a list of items, each with a text that spells it
+-- a list of items, each with an encoding that spells it
 module _ {A : Type 0} (P : A → List ℕ → Type 0) (f : A → List ℕ) (good : A → Type 0) (one : (a : A) → good a → P a (f a)) where
   IsEach-flat_map : (l : List A) → AllByRecursion good l → IsEach P l (flat_map f l)
   IsEach-flat_map [] h = refl
   IsEach-flat_map (a ∷ l) h = record { front = f a; rest = flat_map f l; whole = refl; first = one a h.0; second = IsEach-flat_map l h.1 }
 
-  IsCounted-text : (order : Endianness) (l : List A) → count_fault (length l) ≡ None → AllByRecursion good l
+  IsCounted-encoding : (order : Endianness) (l : List A) → count_fault (length l) ≡ None → AllByRecursion good l
       → IsCounted order P l (number_bytes order 4 (length l) ++ flat_map f l)
-  IsCounted-text order l fits h = record {
+  IsCounted-encoding order l fits h = record {
     front = number_bytes order 4 (length l);
     rest = flat_map f l;
     whole = refl;
@@ -106,92 +106,92 @@ MayHave d None = Unit {0}
 MayHave d (Some c) = value.IsCoordinate d c
 
 module _ (order : Endianness) where
-  SpellsCoordinate-text : (d : Dimension) (c : Coordinate) → value.IsCoordinate d c → SpellsCoordinate order d c (words_text order c)
-  unfolding words_text
-  SpellsCoordinate-text d c h =
+  SpellsCoordinate-encoding : (d : Dimension) (c : Coordinate) → value.IsCoordinate d c → SpellsCoordinate order d c (words_encoding order c)
+  unfolding words_encoding
+  SpellsCoordinate-encoding d c h =
       record { len = h.len; words = IsEach-flat_map (IsNumber order 8) (number_bytes order 8) IsWord (IsNumber-number_bytes order 8) c h.words }
 
-  SpellsCoordinates-text : (d : Dimension) (cs : List Coordinate) → GoodLine d cs → SpellsCoordinates order d cs (coordinates_text order cs)
-  unfolding coordinates_text
-  SpellsCoordinates-text d cs good =
-      IsCounted-text (SpellsCoordinate order d) (words_text order) (value.IsCoordinate d) (SpellsCoordinate-text d) order cs good.1 good.0
+  SpellsCoordinates-encoding : (d : Dimension) (cs : List Coordinate) → GoodLine d cs → SpellsCoordinates order d cs (coordinates_encoding order cs)
+  unfolding coordinates_encoding
+  SpellsCoordinates-encoding d cs good =
+      IsCounted-encoding (SpellsCoordinate order d) (words_encoding order) (value.IsCoordinate d) (SpellsCoordinate-encoding d) order cs good.1 good.0
 
   point_body : (d : Dimension) (c : Coordinate) (b : Bool) → all_nan c ≡ b → value.IsCoordinate d c
-      → SpellsBody order (if b then c else []) (value.point d (if b then None else Some c)) (words_text order c)
-  point_body d c true e h = (e, SpellsCoordinate-text d c h)
-  point_body d c false e h = (refl, e, SpellsCoordinate-text d c h)
+      → SpellsBody order (if b then c else []) (value.point d (if b then None else Some c)) (words_encoding order c)
+  point_body d c true e h = (e, SpellsCoordinate-encoding d c h)
+  point_body d c false e h = (refl, e, SpellsCoordinate-encoding d c h)
 
-IsSrid-text : (order : Endianness) (form : Form) → IsForm form → IsSrid order (form_srid form) (srid_text order (form_srid form))
-unfolding srid_text
-IsSrid-text order Iso h = refl
-IsSrid-text order (Ewkb None) h = refl
-IsSrid-text order (Ewkb (Some srid)) h = IsNumber-number_bytes order 4 srid h
+IsSrid-encoding : (order : Endianness) (form : Form) → IsForm form → IsSrid order (form_srid form) (srid_encoding order (form_srid form))
+unfolding srid_encoding
+IsSrid-encoding order Iso h = refl
+IsSrid-encoding order (Ewkb None) h = refl
+IsSrid-encoding order (Ewkb (Some srid)) h = IsNumber-number_bytes order 4 srid h
 
 module _ (order : Endianness) (form : Form) (h : IsForm form) where
-  IsHeader-text : (k : ℕ) (d : Dimension) → 1 ≤ k → k ≤ 7 → IsHeader (written_header order form k d) k d (header_text order form k d)
-  unfolding header_text
-  IsHeader-text k d low high = record {
+  IsHeader-encoding : (k : ℕ) (d : Dimension) → 1 ≤ k → k ≤ 7 → IsHeader (written_header order form k d) k d (header_encoding order form k d)
+  unfolding header_encoding
+  IsHeader-encoding k d low high = record {
     code_field = number_bytes order 4 (code_of form k d);
-    srid_field = srid_text order (form_srid form);
+    srid_field = srid_encoding order (form_srid form);
     whole = refl;
     code = IsNumber-number_bytes order 4 (code_of form k d) (code_of-lt form k d high);
     meaning = Code-code_of form k d low high;
-    srid = IsSrid-text order form h;
+    srid = IsSrid-encoding order form h;
   }
 
   -- a geometry: its header, its body up to its members, and these
   all_spells : (own : List ℕ) (ss : Spellings) (t : Value) (body inside behind : List ℕ) → 1 ≤ kind t → kind t ≤ 7 → behind ≡ body ++ inside
       → SpellsBody order own t body → SpellsEach (member_part (kind t) (dimension t)) ss (members t) inside
-      → Spells (node (written_header order form (kind t) (dimension t)) own ss) t (header_text order form (kind t) (dimension t) ++ behind)
+      → Spells (node (written_header order form (kind t) (dimension t)) own ss) t (header_encoding order form (kind t) (dimension t) ++ behind)
   all_spells own ss t body inside behind low high whole first second = record {
-    front = header_text order form (kind t) (dimension t);
+    front = header_encoding order form (kind t) (dimension t);
     rest = behind;
     whole = refl;
-    first = IsHeader-text (kind t) (dimension t) low high;
+    first = IsHeader-encoding (kind t) (dimension t) low high;
     second = record { front = body; rest = inside; whole = whole; first = first; second = second };
   }
 
   point_spells : (d : Dimension) (c : Option Coordinate) → MayHave d c
-      → Spells (written_point order form d c) (value.point d (normal_point c)) (point_text order form d c)
-  unfolding point_text point_words
+      → Spells (written_point order form d c) (value.point d (normal_point c)) (point_encoding order form d c)
+  unfolding point_encoding point_words
   point_spells d None fits =
       let empty = empty_coordinate d in
       let words = replicate (width d) empty_word in
-      all_spells words no_spellings (value.point d None) (words_text order words) [] _ (lit≤ tt) (lit≤ tt) (sym (append-nil _))
-      (empty.0, SpellsCoordinate-text order d words empty.1) refl
+      all_spells words no_spellings (value.point d None) (words_encoding order words) [] _ (lit≤ tt) (lit≤ tt) (sym (append-nil _))
+      (empty.0, SpellsCoordinate-encoding order d words empty.1) refl
   point_spells d (Some c) fits =
-      all_spells (empty_words d (Some c)) no_spellings (value.point d (normal_point (Some c))) (words_text order c) [] _ (lit≤ tt) (lit≤ tt)
+      all_spells (empty_words d (Some c)) no_spellings (value.point d (normal_point (Some c))) (words_encoding order c) [] _ (lit≤ tt) (lit≤ tt)
       (sym (append-nil _))
       (point_body order d c (all_nan c) refl fits) refl
 
   line_string_spells : (d : Dimension) (cs : List Coordinate) → GoodLine d cs
-      → Spells (written_plain order form 2 d) (value.line_string d cs) (line_string_text order form d cs)
-  unfolding line_string_text
+      → Spells (written_plain order form 2 d) (value.line_string d cs) (line_string_encoding order form d cs)
+  unfolding line_string_encoding
   line_string_spells d cs good =
-      all_spells [] no_spellings (value.line_string d cs) (coordinates_text order cs) [] _ (lit≤ tt) (lit≤ tt) (sym (append-nil _))
-      (refl, SpellsCoordinates-text order d cs good) refl
+      all_spells [] no_spellings (value.line_string d cs) (coordinates_encoding order cs) [] _ (lit≤ tt) (lit≤ tt) (sym (append-nil _))
+      (refl, SpellsCoordinates-encoding order d cs good) refl
 
   polygon_spells : (d : Dimension) (rings : List (List Coordinate)) → GoodRings d rings
-      → Spells (written_plain order form 3 d) (value.polygon d rings) (polygon_text order form d rings)
-  unfolding polygon_text
+      → Spells (written_plain order form 3 d) (value.polygon d rings) (polygon_encoding order form d rings)
+  unfolding polygon_encoding
   polygon_spells d rings good =
       let parts = or_else_parts _ _ good.1 in
       let each_good = all_good (value.AreCoordinates d) coordinates_fault rings good.0 parts.1 in
       all_spells [] no_spellings (value.polygon d rings) _ [] _ (lit≤ tt) (lit≤ tt) (sym (append-nil _)) (
         refl,
-        IsCounted-text (SpellsCoordinates order d) (coordinates_text order) (GoodLine d)
-            (SpellsCoordinates-text order d) order rings parts.0 each_good,
+        IsCounted-encoding (SpellsCoordinates order d) (coordinates_encoding order) (GoodLine d)
+            (SpellsCoordinates-encoding order d) order rings parts.0 each_good,
       ) refl
 
   -- a geometry with members
   list_spells : (t : Value) (n : ℕ) (ss : Spellings) (inside : List ℕ) → 1 ≤ kind t → kind t ≤ 7 → SpellsBody order [] t (number_bytes order 4 n)
       → SpellsEach (member_part (kind t) (dimension t)) ss (members t) inside
-      → Spells (node (written_header order form (kind t) (dimension t)) [] ss) t (members_text order form (kind t) (dimension t) n inside)
-  unfolding members_text
+      → Spells (node (written_header order form (kind t) (dimension t)) [] ss) t (members_encoding order form (kind t) (dimension t) n inside)
+  unfolding members_encoding
   list_spells t n ss inside low high body each = all_spells [] ss t (number_bytes order 4 n) inside _ low high refl body each
 
--- a list of members, each with a text that spells it
-members_spell : {A : Type 0} (w : Part) (f : A → Value) (spell : A → Spelling) (t : A → List ℕ) (good : A → Type 0)
+-- a list of members, each with an encoding that spells it
+members_spell : {A : Type 0} (w : Wanted) (f : A → Value) (spell : A → Spelling) (t : A → List ℕ) (good : A → Type 0)
     → ((a : A) → good a → Spells (spell a) (f a) (t a) × IsPart w (kind (f a)) (dimension (f a)) (has_srid (spell a)))
     → (l : List A) → AllByRecursion good l → SpellsEach w (each_spelling spell l) (each f l) (flat_map t l)
 members_spell w f spell t good one [] h = refl
@@ -251,21 +251,21 @@ ring_short a b c d (e ∷ []) h = refl
 ring_short a b c d (e ∷ f ∷ more) h = absurd (omega arith)
 
 mutual
-  pub text_spells : (order : Endianness) (form : Form) (g : Geometry) → IsForm form → IsGeometry g → fault g ≡ None
-      → Spells (written order form g) (normal g) (text order form g)
-  text_spells order form (point dims c) h good e = point_spells order form h (written_dimension dims) c (point_fits dims e c good)
-  text_spells order form (line_string dims cs) h good e =
+  pub encoding_spells : (order : Endianness) (form : Form) (g : Geometry) → IsForm form → IsGeometry g → fault g ≡ None
+      → Spells (written order form g) (normal g) (encoding order form g)
+  encoding_spells order form (point dims c) h good e = point_spells order form h (written_dimension dims) c (point_fits dims e c good)
+  encoding_spells order form (line_string dims cs) h good e =
       let parts = or_else_parts _ _ e in
       line_string_spells order form h (written_dimension dims) cs (coordinates_fit dims parts.0 cs good, parts.1)
-  text_spells order form (polygon dims rings) h good e =
+  encoding_spells order form (polygon dims rings) h good e =
       let parts = or_else_parts _ _ e in
       polygon_spells order form h (written_dimension dims) rings (rings_fit dims parts.0 rings good, parts.1)
-  text_spells order form (multi_point dims points) h good e =
+  encoding_spells order form (multi_point dims points) h good e =
       let parts = or_else_parts _ _ e in
       let d = written_dimension dims in
       let inside = inner_fits form in
       let spell = written_point order (inner form) d in
-      let writes = point_text order (inner form) d in
+      let writes = point_encoding order (inner form) d in
       let number = IsNumber-number_bytes order 4 (length points) (count_fits _ parts.1) in
       list_spells order form h (normal (multi_point dims points)) (length points) _ _ (lit≤ tt) (lit≤ tt)
       (refl, subst (λ n. IsNumber order 4 n (number_bytes order 4 (length points))) (sym (length-map points normal_point)) number)
@@ -273,52 +273,52 @@ mutual
       (members_spell (part 1 d) (λ c. value.point d (normal_point c)) spell writes (MayHave d)
       (λ c fits. (point_spells order (inner form) inside.0 d c fits, (refl, refl, λ one. inside.1))) points
       (all_imply _ _ (point_fits dims parts.0) points good)))
-  text_spells order form (multi_line_string dims lines) h good e =
+  encoding_spells order form (multi_line_string dims lines) h good e =
       let parts = or_else_parts _ _ e in
       let more = or_else_parts _ _ parts.1 in
       let d = written_dimension dims in
       let inside = inner_fits form in
       list_spells order form h (normal (multi_line_string dims lines)) (length lines) _ _ (lit≤ tt) (lit≤ tt)
       (refl, IsNumber-number_bytes order 4 (length lines) (count_fits _ more.0))
-      (members_spell (part 2 d) (value.line_string d) (λ l. written_plain order (inner form) 2 d) (line_string_text order (inner form) d) (GoodLine d)
+      (members_spell (part 2 d) (value.line_string d) (λ l. written_plain order (inner form) 2 d) (line_string_encoding order (inner form) d) (GoodLine d)
       (λ cs fits. (line_string_spells order (inner form) inside.0 d cs fits, (refl, refl, λ one. inside.1)))
       lines (all_good _ coordinates_fault lines (all_imply _ _ (coordinates_fit dims parts.0) lines good) more.1))
-  text_spells order form (multi_polygon dims polygons) h good e =
+  encoding_spells order form (multi_polygon dims polygons) h good e =
       let parts = or_else_parts _ _ e in
       let more = or_else_parts _ _ parts.1 in
       let d = written_dimension dims in
       let inside = inner_fits form in
       list_spells order form h (normal (multi_polygon dims polygons)) (length polygons) _ _ (lit≤ tt) (lit≤ tt)
       (refl, IsNumber-number_bytes order 4 (length polygons) (count_fits _ more.0))
-      (members_spell (part 3 d) (value.polygon d) (λ p. written_plain order (inner form) 3 d) (polygon_text order (inner form) d) (GoodRings d)
+      (members_spell (part 3 d) (value.polygon d) (λ p. written_plain order (inner form) 3 d) (polygon_encoding order (inner form) d) (GoodRings d)
       (λ rings fits. (polygon_spells order (inner form) inside.0 d rings fits, (refl, refl, λ one. inside.1)))
       polygons (all_good _ rings_fault polygons (all_imply _ _ (rings_fit dims parts.0) polygons good) more.1))
-  text_spells order form (collection dims gs) h good e =
+  encoding_spells order form (collection dims gs) h good e =
       let parts = or_else_parts _ _ e in
       let more = or_else_parts _ _ parts.1 in
       let number = IsNumber-number_bytes order 4 (count_geometries gs) (count_fits _ more.0) in
       list_spells order form h (normal (collection dims gs)) (count_geometries gs) _ _ (lit≤ tt) (lit≤ tt)
       (refl, subst (λ n. IsNumber order 4 n (number_bytes order 4 (count_geometries gs))) (sym (count_normal_each gs)) number)
-      (texts_spell order (inner form) gs (inner_fits form).0 good more.1)
-  text_spells order form (line dims start end) h good e =
+      (encodings_spell order (inner form) gs (inner_fits form).0 good more.1)
+  encoding_spells order form (line dims start end) h good e =
       let fits = coordinate_fits dims e in
       line_string_spells order form h (written_dimension dims) (start ∷ end ∷ []) ((fits start good.0, (fits end good.1, tt)), line_short start end)
-  text_spells order form (rectangle dims least greatest) h good e =
+  encoding_spells order form (rectangle dims least greatest) h good e =
       polygon_spells order form h Xy (rectangle_ring least greatest ∷ [])
       ((rectangle_fits least greatest (good.0).words (good.1).words, tt), ring_short _ _ _ _ (_ ∷ []) (lit≤ tt))
-  text_spells order form (triangle dims first second third) h good e =
+  encoding_spells order form (triangle dims first second third) h good e =
       let fits = coordinate_fits dims e in
       let start = fits first good.0 in
       polygon_spells order form h (written_dimension dims) (triangle_ring first second third ∷ [])
       (((start, (fits second good.1, (fits third good.2, (start, tt)))), tt), ring_short _ _ _ _ [] (lit≤ tt))
 
-  pub texts_spell : (order : Endianness) (form : Form) (gs : Geometries) → IsForm form → AreGeometries gs → fault_each gs ≡ None
-      → SpellsEach any (written_each order form gs) (normal_each gs) (texts order form gs)
-  texts_spell order form no_geometries h good e = refl
-  texts_spell order form (geometry g gs) h good e =
+  pub encodings_spell : (order : Endianness) (form : Form) (gs : Geometries) → IsForm form → AreGeometries gs → fault_each gs ≡ None
+      → SpellsEach any (written_each order form gs) (normal_each gs) (encodings order form gs)
+  encodings_spell order form no_geometries h good e = refl
+  encodings_spell order form (geometry g gs) h good e =
       let parts = or_else_parts _ _ e in
-      let first = text_spells order form g h good.0 parts.0 in
-      record { front = text order form g; rest = texts order form gs; whole = refl; first = (first, tt); second = texts_spell order form gs h good.1 parts.1 }
+      let first = encoding_spells order form g h good.0 parts.0 in
+      record { front = encoding order form g; rest = encodings order form gs; whole = refl; first = (first, tt); second = encodings_spell order form gs h good.1 parts.1 }
 
 each_has_options : {A : Type 0} (order : Endianness) (form : Form) (f : A → Spelling) → ((a : A) → HasOptions order form (f a)) → (l : List A)
     → AllHaveOptions order form (each_spelling f l)

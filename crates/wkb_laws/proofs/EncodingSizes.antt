@@ -1,4 +1,4 @@
--- A text is as long as the size of its geometry says.
+-- An encoding is as long as the size of its geometry says.
 use Rattle.std.proofs.Common.{◌≡◌, ◌+◌, ◌*◌, [], ◌∷◌, length, map, None, refl, ap, ◌∙◌, arith, sum_by, is_some}
 use Rattle.std.proofs.Common.{if◌then◌else◌}
 use Rattle.std.proofs.lemmas.List.{length-map}
@@ -7,9 +7,9 @@ use Rattle.wkb_laws.specs.Words.{normal_each, normal_point}
 use Rattle.wkb_laws.specs.Words.{triangle_ring, byte_size, byte_sizes, form_srid, fault, fault_each}
 use Rattle.wkb_geom.specs.Geometries.{point, line_string, polygon, multi_point, multi_line_string, multi_polygon}
 use Rattle.wkb_geom.specs.Geometries.{collection}
-use Rattle.wkb_laws.specs.Laws.{TextHasSize}
+use Rattle.wkb_laws.specs.Laws.{EncodingHasSize}
 use Rattle.wkb_laws.proofs.Values.{or_else_parts, width-written_dimension}
-use Rattle.wkb_laws.proofs.Lengths.{value_size, each_size, text_length}
+use Rattle.wkb_laws.proofs.Lengths.{value_size, each_size, encoding_length}
 
 mutual
   size_of_normal : (g : Geometry) → fault g ≡ None → value_size (normal g) ≡ byte_size g
@@ -34,6 +34,6 @@ mutual
   sizes_of_normal (geometry g gs) e =
       omega (arith, sizes_of_normal gs (or_else_parts _ _ e).1, size_of_normal g (or_else_parts _ _ e).0)
 
-pub text_has_size_lem : TextHasSize
-text_has_size_lem order form g h lawful fine =
-    text_length order form g h lawful fine ∙ ap (λ n. n + 4 * (if is_some (form_srid form) then 1 else 0)) (size_of_normal g fine)
+pub encoding_has_size_lem : EncodingHasSize
+encoding_has_size_lem order form g h lawful fine =
+    encoding_length order form g h lawful fine ∙ ap (λ n. n + 4 * (if is_some (form_srid form) then 1 else 0)) (size_of_normal g fine)

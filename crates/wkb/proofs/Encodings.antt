@@ -17,9 +17,9 @@ use Rattle.wkb_geom.specs.Numbers.{AreBytes}
 use Rattle.wkb_geom.specs.Reading.{Item}
 use Rattle.wkb_geom.specs.Spellings.{header}
 use Rattle.wkb_geom.specs.Values.{Value}
-use Rattle.wkb_geom.specs.Texts.{text, fault, refusal, or_else, size_fault, IsWritable}
-use Rattle.wkb_geom.specs.Texts.{IsRewriting, IsRewritingWithSrid}
-use Rattle.wkb_laws.proofs.Rewritings.{equal_texts_lem}
+use Rattle.wkb_geom.specs.Encodings.{encoding, fault, refusal, or_else, size_fault, IsWritable}
+use Rattle.wkb_geom.specs.Encodings.{IsRewriting, IsRewritingWithSrid}
+use Rattle.wkb_laws.proofs.Rewritings.{equal_encodings_lem}
 use Rattle.wkb_geom.specs.declared.error.Fault.{Fault}
 use Rattle.wkb_geom.specs.declared.error.Fault.TheVariants.{UnsupportedDimensions as unsupported_dimensions}
 use Rattle.wkb_geom.specs.declared.error.Fault.TheVariants.{Count as count_overflow, Size as size_overflow}
@@ -61,23 +61,23 @@ size_error _ size_overflow is told = absurd told
 size_error e count_overflow is told = absurd (cc)
 size_error e (unsupported_dimensions n) is told = absurd (cc)
 
--- Where the ISO text of a geometry can be written, what is refused in another form is its length.
+-- Where the ISO encoding of a geometry can be written, what is refused in another form is its length.
 refused_size : (order : Endianness) (form : Form) (g : Geometry) (e : WkbError) → IsWritable order Iso g → Reports e (refusal order form g)
-    → (length (text order Iso g) < 2 ^ 64) × (2 ^ 64 ≤ length (text order form g)) × IsSize e
+    → (length (encoding order Iso g) < 2 ^ 64) × (2 ^ 64 ≤ length (encoding order form g)) × IsSize e
 refused_size order form g e writable h =
-    let iso = first_none (fault g) (size_fault (length (text order Iso g))) writable in
-    let size = none_first (fault g) (size_fault (length (text order form g))) h.fault iso.0 h.is in
-    let large = too_large (length (text order form g)) h.fault size in
-    (fits (length (text order Iso g)) iso.1, large.0, size_error e h.fault large.1 h.told)
+    let iso = first_none (fault g) (size_fault (length (encoding order Iso g))) writable in
+    let size = none_first (fault g) (size_fault (length (encoding order form g))) h.fault iso.0 h.is in
+    let large = too_large (length (encoding order form g)) h.fault size in
+    (fits (length (encoding order Iso g)) iso.1, large.0, size_error e h.fault large.1 h.told)
 
--- the text of a geometry that was read
-pub rewriting : (order : Endianness) (form : Form) (buf out : List ℕ) (w : Item) → IsFront buf w → out ≡ text order form (geometry_of w.value)
+-- the encoding of a geometry that was read
+pub rewriting : (order : Endianness) (form : Form) (buf out : List ℕ) (w : Item) → IsFront buf w → out ≡ encoding order form (geometry_of w.value)
     → IsRewriting order form buf out
 rewriting order form buf out w front written =
     record { s = w.spelled; t = w.value; rest = front.rest; front = front.front; written = written }
 
 pub rewriting_with_srid : (order : Endianness) (buf out : List ℕ) (w : Item) (srid : Option ℕ) → IsFront buf w → srid ≡ (header w.spelled).srid
-    → out ≡ text order (Ewkb srid) (geometry_of w.value) → IsRewritingWithSrid order buf out
+    → out ≡ encoding order (Ewkb srid) (geometry_of w.value) → IsRewritingWithSrid order buf out
 rewriting_with_srid order buf out w srid front is written =
     record { s = w.spelled; t = w.value; rest = front.rest; front = front.front; written = rw is at written }
 
@@ -104,7 +104,7 @@ refused_alone order srid own buf t e is writable (inr h) =
     let none : None ≡ Some h.fault = sym writable ∙ ap (λ o. refusal order (Ewkb o) (geometry_of t)) (sym is) ∙ h.is in
     absurd (cc)
 
--- under ISO no SRID is written that could make the text too long
+-- under ISO no SRID is written that could make the encoding too long
 pub iso_fits : (order : Endianness) (buf : List ℕ) → IsTooLong order Iso buf → ⊥
 iso_fits order buf h = let low = h.plain in let high = h.with_srid in omega (arith, low, high)
 
@@ -122,7 +122,7 @@ accepted order form buf out h = record { s = h.s; t = h.t; rest = h.rest; front 
 pub have_one_value : (order : Endianness) (a b x y : List ℕ) → AreBytes a → AreBytes b → IsRewriting order Iso a x → IsRewriting order Iso b y
     → x ≡ y → HaveOneValue a b
 have_one_value order a b x y bytes bytes' h k same =
-    let law = equal_texts_lem order Iso a b h.s k.s h.t k.t h.rest k.rest tt bytes bytes' h.front k.front in
+    let law = equal_encodings_lem order Iso a b h.s k.s h.t k.t h.rest k.rest tt bytes bytes' h.front k.front in
     let one : h.t ≡ k.t = law.0 (sym h.written ∙ same ∙ k.written) in
     record { s = h.s; u = k.s; t = h.t; rest = h.rest; more = k.rest; first = h.front; second = subst (λ v. Front b k.s v k.rest) (sym one) k.front }
 
@@ -130,7 +130,7 @@ have_one_value order a b x y bytes bytes' h k same =
 pub have_two_values : (order : Endianness) (a b x y : List ℕ) → AreBytes a → AreBytes b → IsRewriting order Iso a x → IsRewriting order Iso b y
     → x ≢ y → HaveTwoValues a b
 have_two_values order a b x y bytes bytes' h k differ =
-    let law = equal_texts_lem order Iso a b h.s k.s h.t k.t h.rest k.rest tt bytes bytes' h.front k.front in
+    let law = equal_encodings_lem order Iso a b h.s k.s h.t k.t h.rest k.rest tt bytes bytes' h.front k.front in
     record {
       s = h.s;
       u = k.s;

@@ -9,12 +9,12 @@ use Rattle.wkb_laws.specs.Words.{Then, IsEach, IsCounted, Coordinate}
 use Rattle.wkb_laws.specs.Words.{Value, Values, point, line_string, polygon, no_members, member, kind, dimension}
 use Rattle.wkb_laws.specs.Words.{members, Header, Spelling, node, Spellings}
 use Rattle.wkb_laws.specs.Words.{no_spellings, spelling, IsHeader, IsSrid, SpellsCoordinate, SpellsCoordinates}
-use Rattle.wkb_laws.specs.Words.{SpellsBody, Part, member_part, Spells}
+use Rattle.wkb_laws.specs.Words.{SpellsBody, Wanted, member_part, Spells}
 use Rattle.wkb_laws.specs.Words.{SpellsEach}
-use Rattle.wkb_laws.specs.Places.{HasOneText, HaveOneText, CoordinateHasOneText}
+use Rattle.wkb_laws.specs.Places.{HasOneEncoding, HaveOneEncoding, CoordinateHasOneEncoding}
 use Rattle.wkb_laws.proofs.Values.{AreBytes-front, AreBytes-rest}
 
--- two texts of a form are one
+-- two encodings of a form are one
 pub record Fixed (P : List ℕ → Type 0) : Type 0 where
   pub same : (x y : List ℕ) → P x → P y → AreBytes x → AreBytes y → x ≡ y
 
@@ -104,17 +104,17 @@ mutual
       then_fixed (header_fixed g (kind t) (dimension t))
       (then_fixed (body_fixed g.order words t) (members_fixed (member_part (kind t) (dimension t)) ss (members t)))
 
-  members_fixed : (w : Part) (ss : Spellings) (ts : Values) → Fixed (SpellsEach w ss ts)
+  members_fixed : (w : Wanted) (ss : Spellings) (ts : Values) → Fixed (SpellsEach w ss ts)
   members_fixed w no_spellings no_members = record { same = λ x y a b h k. a ∙ sym b }
   members_fixed w (spelling s ss) (member t ts) =
       then_fixed (record { same = λ x y a b h k. (spells_fixed s t).same x y a.0 b.0 h k }) (members_fixed w ss ts)
   members_fixed w _ _ = record { same = λ x y a b h k. absurd a }
 
-pub one_text_lem : HasOneText
-one_text_lem s t x y bytes bytes' h k = (spells_fixed s t).same x y h k bytes bytes'
+pub one_encoding_lem : HasOneEncoding
+one_encoding_lem s t x y bytes bytes' h k = (spells_fixed s t).same x y h k bytes bytes'
 
-pub coordinates_lem : HaveOneText
+pub coordinates_lem : HaveOneEncoding
 coordinates_lem order d cs x y bytes bytes' h k = (coordinates_fixed order d cs).same x y h k bytes bytes'
 
-pub coordinate_lem : CoordinateHasOneText
+pub coordinate_lem : CoordinateHasOneEncoding
 coordinate_lem order d c x y bytes bytes' h k = (coordinate_fixed order d c).same x y h k bytes bytes'

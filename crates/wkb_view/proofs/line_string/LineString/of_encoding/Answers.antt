@@ -1,5 +1,5 @@
 use Rattle.std.proofs.Common.{arith}
-use Rattle.wkb_view.proofs.line_string.LineString.of_text.Goals as goal
+use Rattle.wkb_view.proofs.line_string.LineString.of_encoding.Goals as goal
 
 pub u32_at-requires : goal.u32_at-requires
 u32_at-requires c = rw c.body_start.ensures (omega (arith, c.requires.whole))

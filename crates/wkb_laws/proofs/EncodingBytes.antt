@@ -1,0 +1,117 @@
+-- An encoding is bytes, and bytes that spell a value as it is written are its encoding.
+use Rattle.std.proofs.Common.{◌≡◌, ℕ, zero, suc, ◌/◌, ◌<◌, ◌^◌, List, [], ◌∷◌, ◌++◌, length, Option, Some, None, lit<}
+use Rattle.std.proofs.Common.{sym, subst}
+use Rattle.std.proofs.Math.Nat.{mod-lt}
+use Rattle.std.specs.Int.{byte_at, bytes_high_first, bytes_low_first}
+use Rattle.std.specs.List.{flat_map}
+use Rattle.wkb_laws.specs.Words.{Endianness, BigEndian, LittleEndian, Dimension, Xy, Form, AreBytes, order_byte}
+use Rattle.wkb_laws.specs.Words.{number_bytes, Coordinate, Value, Spelling}
+use Rattle.wkb_laws.specs.Words.{Spells, Geometry, Geometries, no_geometries, geometry, geometry_of, encoding, encodings}
+use Rattle.wkb_laws.specs.Words.{form_srid, inner, IsForm, srid_encoding}
+use Rattle.wkb_laws.specs.Words.{header_encoding, words_encoding, coordinates_encoding, point_words, point_encoding, line_string_encoding}
+use Rattle.wkb_laws.specs.Words.{polygon_encoding}
+use Rattle.wkb_laws.specs.Words.{members_encoding, written_dimension, rectangle_ring, triangle_ring, line, rectangle}
+use Rattle.wkb_laws.specs.Words.{triangle}
+use Rattle.wkb_geom.specs.Geometries.{point, line_string, polygon, multi_point, multi_line_string, multi_polygon}
+use Rattle.wkb_geom.specs.Geometries.{collection}
+use Rattle.wkb_laws.specs.Written.{written}
+use Rattle.wkb_laws.proofs.OneEncoding.{one_encoding_lem}
+use Rattle.wkb_laws.proofs.Rewritings.{value_encoding}
+use Rattle.wkb_laws.proofs.Values.{spelled_good}
+
+byte_small : (k x : ℕ) → byte_at k x < 256
+byte_small zero x = mod-lt x (lit< tt)
+byte_small (suc k) x = mod-lt (x / 256 ^ suc k) (lit< tt)
+
+high_are_bytes : (n x : ℕ) → AreBytes (bytes_high_first n x)
+high_are_bytes zero x i = lit< tt
+high_are_bytes (suc n) x zero = byte_small n x
+high_are_bytes (suc n) x (suc i) = high_are_bytes n x i
+
+low_are_bytes : (j n x : ℕ) → AreBytes (bytes_low_first j n x)
+low_are_bytes j zero x i = lit< tt
+low_are_bytes j (suc n) x zero = byte_small j x
+low_are_bytes j (suc n) x (suc i) = low_are_bytes (suc j) n x i
+
+pub number_is_bytes : (order : Endianness) (n x : ℕ) → AreBytes (number_bytes order n x)
+unfolding number_bytes
+number_is_bytes BigEndian n x = high_are_bytes n x
+number_is_bytes LittleEndian n x = low_are_bytes 0 n x
+
+both_are_bytes : (xs ys : List ℕ) → AreBytes xs → AreBytes ys → AreBytes (xs ++ ys)
+both_are_bytes [] ys h k i = k i
+both_are_bytes (x ∷ xs) ys h k zero = h 0
+both_are_bytes (x ∷ xs) ys h k (suc i) = both_are_bytes xs ys (λ j. h (suc j)) k i
+
+each_is_bytes : {A : Type 0} (f : A → List ℕ) → ((a : A) → AreBytes (f a)) → (l : List A) → AreBytes (flat_map f l)
+each_is_bytes f one [] i = lit< tt
+each_is_bytes f one (a ∷ l) i = both_are_bytes (f a) (flat_map f l) (one a) (each_is_bytes f one l) i
+
+order_small : (order : Endianness) → order_byte order < 256
+order_small BigEndian = lit< tt
+order_small LittleEndian = lit< tt
+
+module _ (order : Endianness) where
+  srid_is_bytes : (srid : Option ℕ) → AreBytes (srid_encoding order srid)
+  unfolding srid_encoding
+  srid_is_bytes None i = lit< tt
+  srid_is_bytes (Some srid) i = number_is_bytes order 4 srid i
+
+  words_are_bytes : (words : List ℕ) → AreBytes (words_encoding order words)
+  unfolding words_encoding
+  words_are_bytes = each_is_bytes (number_bytes order 8) (number_is_bytes order 8)
+
+  coordinates_are_bytes : (cs : List Coordinate) → AreBytes (coordinates_encoding order cs)
+  unfolding coordinates_encoding
+  coordinates_are_bytes cs = both_are_bytes _ _ (number_is_bytes order 4 (length cs)) (each_is_bytes (words_encoding order) words_are_bytes cs)
+
+  module _ (form : Form) (d : Dimension) where
+    header_is_bytes : (k : ℕ) → AreBytes (header_encoding order form k d)
+    unfolding header_encoding
+    header_is_bytes k zero = order_small order
+    header_is_bytes k (suc i) = both_are_bytes _ _ (number_is_bytes order 4 _) (srid_is_bytes (form_srid form)) i
+
+    point_is_bytes : (c : Option Coordinate) → AreBytes (point_encoding order form d c)
+    unfolding point_encoding
+    point_is_bytes c = both_are_bytes _ _ (header_is_bytes 1) (words_are_bytes (point_words d c))
+
+    line_string_is_bytes : (cs : List Coordinate) → AreBytes (line_string_encoding order form d cs)
+    unfolding line_string_encoding
+    line_string_is_bytes cs = both_are_bytes _ _ (header_is_bytes 2) (coordinates_are_bytes cs)
+
+    polygon_is_bytes : (rings : List (List Coordinate)) → AreBytes (polygon_encoding order form d rings)
+    unfolding polygon_encoding
+    polygon_is_bytes rings = both_are_bytes _ _ (header_is_bytes 3)
+        (both_are_bytes _ _ (number_is_bytes order 4 (length rings)) (each_is_bytes (coordinates_encoding order) coordinates_are_bytes rings))
+
+    members_are_bytes : (k n : ℕ) (inside : List ℕ) → AreBytes inside → AreBytes (members_encoding order form k d n inside)
+    unfolding members_encoding
+    members_are_bytes k n inside h = both_are_bytes _ _ (header_is_bytes k) (both_are_bytes _ _ (number_is_bytes order 4 n) h)
+
+mutual
+  pub encoding_is_bytes : (order : Endianness) (form : Form) (g : Geometry) → AreBytes (encoding order form g)
+  encoding_is_bytes order form (point dims c) = point_is_bytes order form (written_dimension dims) c
+  encoding_is_bytes order form (line_string dims cs) = line_string_is_bytes order form (written_dimension dims) cs
+  encoding_is_bytes order form (polygon dims rings) = polygon_is_bytes order form (written_dimension dims) rings
+  encoding_is_bytes order form (multi_point dims points) = members_are_bytes order form _ 4 _ _ (each_is_bytes _ (point_is_bytes order (inner form) _) points)
+  encoding_is_bytes order form (multi_line_string dims lines) =
+      members_are_bytes order form _ 5 _ _ (each_is_bytes _ (line_string_is_bytes order (inner form) _) lines)
+  encoding_is_bytes order form (multi_polygon dims polygons) =
+      members_are_bytes order form _ 6 _ _ (each_is_bytes _ (polygon_is_bytes order (inner form) _) polygons)
+  encoding_is_bytes order form (collection dims gs) = members_are_bytes order form _ 7 _ _ (encodings_are_bytes order (inner form) gs)
+  encoding_is_bytes order form (line dims start end) = line_string_is_bytes order form (written_dimension dims) (start ∷ end ∷ [])
+  encoding_is_bytes order form (rectangle dims least greatest) = polygon_is_bytes order form Xy (rectangle_ring least greatest ∷ [])
+  encoding_is_bytes order form (triangle dims first second third) =
+      polygon_is_bytes order form (written_dimension dims) (triangle_ring first second third ∷ [])
+
+  encodings_are_bytes : (order : Endianness) (form : Form) (gs : Geometries) → AreBytes (encodings order form gs)
+  encodings_are_bytes order form no_geometries i = lit< tt
+  encodings_are_bytes order form (geometry g gs) i = both_are_bytes _ _ (encoding_is_bytes order form g) (encodings_are_bytes order form gs) i
+
+-- bytes that spell a value by the spelling of its encoding are this encoding
+pub as_written : (order : Endianness) (form : Form) (s : Spelling) (t : Value) (bytes : List ℕ) → IsForm form → AreBytes bytes → Spells s t bytes
+    → s ≡ written order form (geometry_of t) → bytes ≡ encoding order form (geometry_of t)
+as_written order form s t bytes h range spells same =
+    let out = encoding order form (geometry_of t) in
+    one_encoding_lem s t bytes out range (encoding_is_bytes order form (geometry_of t)) spells
+    (subst (λ (u : Spelling). Spells u t out) (sym same) (value_encoding order form t h (spelled_good s t bytes range spells)))
