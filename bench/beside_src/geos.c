@@ -72,27 +72,20 @@ static uint64_t read_all(void)
     return item_count;
 }
 
-static uint64_t sum_all(void)
+static uint64_t for_each_read(uint64_t (*answer)(const GEOSGeometry *))
 {
     uint64_t sum = 0;
     for (size_t i = 0; i < item_count; i++) {
         GEOSGeometry *geometry = read_item(items[i]);
-        sum += sum_geometry(geometry);
+        sum += answer(geometry);
         GEOSGeom_destroy_r(geos, geometry);
     }
     return sum;
 }
 
-static uint64_t rewrite_all(void)
-{
-    uint64_t sum = 0;
-    for (size_t i = 0; i < item_count; i++) {
-        GEOSGeometry *geometry = read_item(items[i]);
-        sum += written(geometry);
-        GEOSGeom_destroy_r(geos, geometry);
-    }
-    return sum;
-}
+static uint64_t sum_all(void) { return for_each_read(sum_geometry); }
+
+static uint64_t rewrite_all(void) { return for_each_read(written); }
 
 static uint64_t write_all(void)
 {

@@ -298,55 +298,47 @@ static uint64_t read_all(void)
     return item_count;
 }
 
-static uint64_t sum_all(void)
+static uint64_t for_each_read(uint64_t (*answer)(const struct node *))
 {
     uint64_t sum = 0;
     for (size_t i = 0; i < item_count; i++) {
         struct node node = read_item(items[i]);
-        sum += sum_node(&node);
+        sum += answer(&node);
         drop(&node);
     }
     return sum;
 }
 
-static uint64_t rewrite_all(void)
-{
-    uint64_t sum = 0;
-    for (size_t i = 0; i < item_count; i++) {
-        struct node node = read_item(items[i]);
-        sum += write_afresh(&node, is_little());
-        drop(&node);
-    }
-    return sum;
-}
-
-static uint64_t write_all(void)
+static uint64_t for_each_parsed(uint64_t (*answer)(const struct node *))
 {
     uint64_t sum = 0;
     for (size_t i = 0; i < item_count; i++)
-        sum += write_afresh(&parsed[i], is_little());
+        sum += answer(&parsed[i]);
     return sum;
 }
 
-static uint64_t write_other(void)
+static uint64_t write_same(const struct node *node) { return write_afresh(node, is_little()); }
+
+static uint64_t write_turned(const struct node *node) { return write_afresh(node, !is_little()); }
+
+static uint64_t write_into_slice(const struct node *node)
 {
-    uint64_t sum = 0;
-    for (size_t i = 0; i < item_count; i++)
-        sum += write_afresh(&parsed[i], !is_little());
-    return sum;
+    if (size_of(node) > longest)
+        fail("an item is longer than the slice");
+    uint64_t length = put_node(lent, node, is_little()) - lent;
+    keep(lent);
+    return length;
 }
 
-static uint64_t write_slice(void)
-{
-    uint64_t sum = 0;
-    for (size_t i = 0; i < item_count; i++) {
-        if (size_of(&parsed[i]) > longest)
-            fail("an item is longer than the slice");
-        sum += put_node(lent, &parsed[i], is_little()) - lent;
-        keep(lent);
-    }
-    return sum;
-}
+static uint64_t sum_all(void) { return for_each_read(sum_node); }
+
+static uint64_t rewrite_all(void) { return for_each_read(write_same); }
+
+static uint64_t write_all(void) { return for_each_parsed(write_same); }
+
+static uint64_t write_other(void) { return for_each_parsed(write_turned); }
+
+static uint64_t write_slice(void) { return for_each_parsed(write_into_slice); }
 
 int main(int words, char **word)
 {

@@ -17,10 +17,17 @@ select hex(wkb_ewkb(wkb, 3857)) from rows where id = 2;
 select a.id, b.id from rows a, rows b where a.id < b.id and wkb_same(a.wkb, b.wkb);
 -- A GeoPackage's blob of the same point: "GP", a version, flags, an SRID, and an envelope of four words.
 select wkb_same(wkb, x'47500003e6100000' || zeroblob(32) || wkb) from rows where id = 1;
--- A key that is unique whatever the byte order, and a column that takes valid geometries alone.
-create temp table keys (wkb blob check (wkb_valid(wkb)), key blob as (wkb_canonical(wkb)) stored unique);
-insert or ignore into keys (wkb) select wkb from rows where wkb_valid(wkb);
-select count(*) from keys;
+-- The rows of a GeoPackage that are refused, and why: one of two such blobs ends too early.
+create temp table roads (fid integer primary key, geom blob);
+insert into roads (geom) select x'47500003e6100000' || zeroblob(32) || wkb from rows where id in (1, 6);
+select fid, wkb_fault(geom) from roads where not wkb_valid(geom);
+-- A column that takes valid geometries alone, and a key that is unique whatever the byte orders and SRIDs are.
+create temp table places (
+  wkb blob check (wkb_valid(wkb)),
+  key blob as (wkb_canonical(wkb)) stored unique
+);
+insert or ignore into places (wkb) select wkb from rows where wkb_valid(wkb);
+select count(*) from places;
 -- A hundred thousand points in turn in either byte order, and each read back as what it was made of.
 create temp table many (n integer primary key, wkb blob);
 insert into many with recursive c(n) as (select 0 union all select n + 1 from c where n < 99999)

@@ -32,7 +32,7 @@ impl<'a> LineString<'a> {
     ghost use Rattle.std.specs.Prelude.{◌≡◌, ◌+◌, length, ◌≤◌, drop, IfOk};
     ghost use Rattle.wkb_geom.specs.Values as value;
     ghost use Rattle.wkb_geom.specs.declared.code.WkbType.TheVariants as kinds;
-    ghost use Rattle.wkb_view.specs.Words.{body_start, line_string_of, line_string_at, line_string_item, taken};
+    ghost use Rattle.wkb_view.specs.Words.{body_start, line_string_of, line_string_at, line_string_item, consumed};
     ghost use Rattle.wkb_view.specs.Parts.{IsSpelled, order_of};
     ghost use Rattle.wkb_view.specs.Coords.{ring_encoding, ring_order, ring_dimension};
     ghost use Rattle.wkb_view.specs.Views.{line_string_seen, line_string_layout, line_string_offset};
@@ -114,7 +114,7 @@ impl<'a> LineString<'a> {
     pub fn read(layout: Layout, bytes: &'a [u8]) -> Result<(LineString<'a>, &'a [u8]), Cause>
         requires head { HasHead (λ d. kinds.LineString d) layout bytes.now }
         ensures answer { Answers (λ x. (line_string_seen x.0, x.1.now)) result (line_string_at layout bytes.now).1 }
-        ensures item { IfOk result (λ x. line_string_seen x.0 ≡ line_string_item layout (taken bytes.now x.1.now)) }
+        ensures item { IfOk result (λ x. line_string_seen x.0 ≡ line_string_item layout (consumed bytes.now x.1.now)) }
         ensures passed { IfOk result (λ x. Passed 9 (IsEncoding 2 layout) bytes.now x.1.now) }
         ensures shorter { IfOk result (λ x. length x.1.now + 9 ≤ length bytes.now) }
     {

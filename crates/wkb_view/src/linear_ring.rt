@@ -1,7 +1,7 @@
 //! A ring of a polygon.
 
 ghost use Rattle.std.specs.Prelude.{◌≡◌, ◌+◌, ◌*◌, length, IfOk};
-ghost use Rattle.wkb_view.specs.Words.{width, AreBytes, number, ring_at, taken};
+ghost use Rattle.wkb_view.specs.Words.{width, AreBytes, number, ring_at, consumed};
 ghost use Rattle.wkb_view.specs.Outcome.{Answers};
 ghost use Rattle.wkb_view.specs.Pieces.{IsRing, Passed};
 
@@ -217,7 +217,7 @@ pub(crate) fn ring<'a>(
     dimension: Dimension,
     bytes: &'a [u8],
 ) -> Result<&'a [u8], Cause>
-    ensures answer { Answers (λ rest. (taken bytes.now rest.now, rest.now)) result (ring_at order dimension bytes.now) }
+    ensures answer { Answers (λ rest. (consumed bytes.now rest.now, rest.now)) result (ring_at order dimension bytes.now) }
     ensures passed { IfOk result (λ rest. Passed 4 (IsRing order dimension) bytes.now rest.now) }
 {
     if bytes.len() < COUNT {

@@ -1,7 +1,7 @@
 //! A multi line string.
 
 ghost use Rattle.std.specs.Prelude.{◌≡◌, ◌+◌, length, ◌≤◌, IfOk, ◌/◌, [], min};
-ghost use Rattle.wkb_view.specs.Words.{dimensions as trait_dimensions, body_start, member_at, parts_start, taken};
+ghost use Rattle.wkb_view.specs.Words.{dimensions as trait_dimensions, body_start, member_at, parts_start, consumed};
 ghost use Rattle.wkb_view.specs.Members.{parts_behind, IsMember, member_item, AreMembers, members_in};
 ghost use Rattle.wkb_view.specs.Outcome.{Freely, Surely, CanCount};
 ghost use Rattle.wkb_view.specs.Entries.{entries, room};
@@ -232,7 +232,7 @@ impl<'a> GeometryTrait for MultiLineString<'a> {
 
 /// Passes the line string of this dimension at the front of the bytes.
 fn line_string<'a>(dimension: Dimension, bytes: &'a [u8]) -> Result<&'a [u8], Cause>
-    ensures answer { Freely (λ rest. (member_item 2 dimension (taken bytes.now rest.now), rest.now))
+    ensures answer { Freely (λ rest. (member_item 2 dimension (consumed bytes.now rest.now), rest.now))
         result (member_at 2 dimension bytes.now) }
     ensures passed { IfOk result (λ rest. Passed 9 (IsMember 2 dimension) bytes.now rest.now) }
 {
@@ -260,9 +260,9 @@ fn line_strings<'a>(
     requires empty { entries ends ≡ [] }
     requires room { min count (length (parts_start layout.has_srid bytes.now) / 9) ≤ room ends }
     requires fits { CanCount counts.old (parts_behind (member_at 2 layout.dimension) layout count bytes.now).0 }
-    ensures line_strings { Surely (λ x. (members_in 2 layout (entries x.0) (taken bytes.now x.1.now), x.1.now))
+    ensures line_strings { Surely (λ x. (members_in 2 layout (entries x.0) (consumed bytes.now x.1.now), x.1.now))
         result (parts_behind (member_at 2 layout.dimension) layout count bytes.now) counts.old counts.new }
-    ensures ends { IfOk result (λ x. AreMembers 2 layout (entries x.0) (taken bytes.now x.1.now)) }
+    ensures ends { IfOk result (λ x. AreMembers 2 layout (entries x.0) (consumed bytes.now x.1.now)) }
     ensures shorter { IfOk result (λ x. length x.1.now + body_start layout.has_srid + 4 ≤ length bytes.now) }
 {
     let mut rest = layout.behind_count(bytes);

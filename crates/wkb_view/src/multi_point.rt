@@ -1,7 +1,7 @@
 //! A multi point.
 
 ghost use Rattle.std.specs.Prelude.{◌≡◌, ◌+◌, length, ◌≤◌, IfOk};
-ghost use Rattle.wkb_view.specs.Words.{AreBytes, body_start, member_at, taken, multi_point_end, IsSpelled};
+ghost use Rattle.wkb_view.specs.Words.{AreBytes, body_start, member_at, consumed, multi_point_end, IsSpelled};
 ghost use Rattle.wkb_view.specs.Members.{parts_behind, IsMember, member_item, points_in, ArePoints, multi_point_item};
 ghost use Rattle.wkb_view.specs.Outcome.{Freely, Surely, CanCount};
 ghost use Rattle.wkb_view.specs.Pieces.{Passed};
@@ -218,7 +218,7 @@ impl<'a> GeometryTrait for MultiPoint<'a> {
 /// Passes the point of this dimension, without an SRID, at the front of the bytes.
 #[inline]
 fn point<'a>(dimension: Dimension, bytes: &'a [u8]) -> Result<&'a [u8], Cause>
-    ensures answer { Freely (λ rest. (member_item 1 dimension (taken bytes.now rest.now), rest.now))
+    ensures answer { Freely (λ rest. (member_item 1 dimension (consumed bytes.now rest.now), rest.now))
         result (member_at 1 dimension bytes.now) }
     ensures passed { IfOk result (λ rest. Passed 9 (IsMember 1 dimension) bytes.now rest.now) }
 {
@@ -242,9 +242,9 @@ fn points<'a>(
 ) -> Result<&'a [u8], Cause>
     requires whole { body_start layout.has_srid + 4 ≤ length bytes.now }
     requires fits { CanCount counts.old (parts_behind (member_at 1 layout.dimension) layout count bytes.now).0 }
-    ensures points { Surely (λ rest. (points_in layout count (taken bytes.now rest.now), rest.now))
+    ensures points { Surely (λ rest. (points_in layout count (consumed bytes.now rest.now), rest.now))
         result (parts_behind (member_at 1 layout.dimension) layout count bytes.now) counts.old counts.new }
-    ensures each { IfOk result (λ rest. ArePoints layout count (taken bytes.now rest.now)) }
+    ensures each { IfOk result (λ rest. ArePoints layout count (consumed bytes.now rest.now)) }
     ensures end { IfOk result (λ rest. multi_point_end layout.dimension layout.has_srid count + length rest.now
         ≡ length bytes.now) }
 {

@@ -29,7 +29,7 @@ impl<'a> Point<'a> {
     ghost use Rattle.std.specs.Prelude.{◌≡◌, length, drop, is_none, ◌+◌, ◌≤◌, IfOk};
     ghost use Rattle.wkb_geom.specs.Values as value;
     ghost use Rattle.wkb_geom.specs.declared.code.WkbType.TheVariants as kinds;
-    ghost use Rattle.wkb_view.specs.Words.{body_start, point_of, point_at, point_item, taken, IsSpelled, order_of};
+    ghost use Rattle.wkb_view.specs.Words.{body_start, point_of, point_at, point_item, consumed, IsSpelled, order_of};
     ghost use Rattle.wkb_view.specs.Coords.{words_seen, coordinate_encoding, coord_order, coord_dimension, coord_encoding};
     ghost use Rattle.wkb_view.specs.Views.{coordinate_in, point_seen, point_layout};
     ghost use Rattle.wkb_view.specs.Headers.{HasHead};
@@ -114,7 +114,7 @@ impl<'a> Point<'a> {
     pub fn read(layout: Layout, bytes: &'a [u8]) -> Result<(Point<'a>, &'a [u8]), Cause>
         requires head { HasHead (λ d. kinds.Point d) layout bytes.now }
         ensures answer { Answers (λ x. (point_seen x.0, x.1.now)) result (point_at layout bytes.now) }
-        ensures item { IfOk result (λ x. point_seen x.0 ≡ point_item layout (taken bytes.now x.1.now)) }
+        ensures item { IfOk result (λ x. point_seen x.0 ≡ point_item layout (consumed bytes.now x.1.now)) }
         ensures passed { IfOk result (λ x. Passed 9 (IsEncoding 1 layout) bytes.now x.1.now) }
         ensures shorter { IfOk result (λ x. length x.1.now + 9 ≤ length bytes.now) }
     {

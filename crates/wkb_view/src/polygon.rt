@@ -1,7 +1,7 @@
 //! A polygon.
 
 ghost use Rattle.std.specs.Prelude.{◌≡◌, ◌+◌, length, ◌≤◌, IfOk, ◌/◌, [], min};
-ghost use Rattle.wkb_view.specs.Words.{dimensions as trait_dimensions, body_start, parts_start, ring_part, taken};
+ghost use Rattle.wkb_view.specs.Words.{dimensions as trait_dimensions, body_start, parts_start, ring_part, consumed};
 ghost use Rattle.wkb_view.specs.Members.{parts_behind, pieces_behind, AreRings};
 ghost use Rattle.wkb_view.specs.Outcome.{Surely, CanCount};
 ghost use Rattle.wkb_view.specs.Entries.{entries, room};
@@ -272,9 +272,9 @@ fn rings<'a>(
     requires empty { entries ends ≡ [] }
     requires room { min count (length (parts_start layout.has_srid bytes.now) / 4) ≤ room ends }
     requires fits { CanCount counts.old (parts_behind (ring_part layout) layout count bytes.now).0 }
-    ensures rings { Surely (λ x. (pieces_behind layout (entries x.0) (taken bytes.now x.1.now), x.1.now))
+    ensures rings { Surely (λ x. (pieces_behind layout (entries x.0) (consumed bytes.now x.1.now), x.1.now))
         result (parts_behind (ring_part layout) layout count bytes.now) counts.old counts.new }
-    ensures ends { IfOk result (λ x. AreRings layout (entries x.0) (taken bytes.now x.1.now)) }
+    ensures ends { IfOk result (λ x. AreRings layout (entries x.0) (consumed bytes.now x.1.now)) }
     ensures shorter { IfOk result (λ x. length x.1.now + body_start layout.has_srid + 4 ≤ length bytes.now) }
 {
     let mut rest = layout.behind_count(bytes);
