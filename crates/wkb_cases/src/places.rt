@@ -3,7 +3,7 @@
 ghost use Rattle.std.specs.Prelude.{◌≡◌, ◌<◌, ◌^◌, ◌∷◌, [], Some, IfOk};
 ghost use Rattle.wkb.specs.Words.traits.{Xy};
 ghost use Rattle.wkb.specs.Geometries.{point};
-ghost use Rattle.wkb.specs.Encodings.{text};
+ghost use Rattle.wkb.specs.Encodings.{encoding};
 
 use std::alloc::Global;
 use wkb::error::WkbResult;
@@ -79,7 +79,7 @@ impl PointTrait for Place {
 
 /// A place as a point, under the options.
 pub fn written(alloc: Global, place: &Place, options: &WriteOptions) -> WkbResult<Vec<u8>>
-    ensures { IfOk result (λ bytes. bytes.items ≡ text options.now.endianness options.now.form
+    ensures { IfOk result (λ bytes. bytes.items ≡ encoding options.now.endianness options.now.form
         (point Xy (Some (place.now.longitude ∷ place.now.latitude ∷ [])))) }
 {
     let mut sink = VecSink::new(alloc);

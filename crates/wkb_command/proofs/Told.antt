@@ -27,7 +27,7 @@ use Rattle.wkb_command.specs.Calls.{AreHex, AreHexOf, IsHexOf, IsFaultOf, Refuse
 use Rattle.wkb_command.specs.Program.{Says, rewritten, rewritten_with_srid, accepted, counted_refusal, srid, refused}
 use Rattle.wkb_command.specs.Program.{not_hex}
 use Rattle.wkb_command.specs.Program.{wanted_lines, Gives, counts, TellsCause, TellsError, TellsFault}
-use Rattle.wkb.proofs.Texts.{iso_fits}
+use Rattle.wkb.proofs.Encodings.{iso_fits}
 use Rattle.wkb_command.proofs.Hexes.{AreHex-from, AreHexOf-length}
 
 pub TellsCause-from : (e : WkbError) (cause : Cause) (line : List ℕ) → Tells e cause → TellsError e line → TellsCause cause line
