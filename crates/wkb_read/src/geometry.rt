@@ -328,7 +328,7 @@ impl<'a> GeometryTrait for Wkb<'a> {
     ghost lawful = { geometry_lawful };
 
     /// The whole encoding, where memory holds it so: of what has no members, since these have headers of their own.
-    #[inline]
+    #[inline(always)]
     fn whole(&self, order: Endianness, form: Form) -> Option<&[u8]> {
         match &self.kind {
             Kind::Point(point) => point.whole(order, form),

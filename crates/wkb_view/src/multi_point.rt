@@ -80,6 +80,7 @@ impl<'a> MultiPoint<'a> {
 
     /// The multi point behind this header, and the bytes after it.
     #[tactic(auto, unfolding(wkb_geom::specs::Reading::multi_point_at))]
+    #[inline(always)]
     pub fn read(
         layout: Layout,
         bytes: &'a [u8],

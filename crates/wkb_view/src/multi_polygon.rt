@@ -102,6 +102,7 @@ impl<'a> MultiPolygon<'a> {
 
     /// The multi polygon behind this header, and the bytes after it.
     #[tactic(auto, unfolding(wkb_geom::specs::Reading::multi_polygon_at))]
+    #[inline(always)]
     pub fn read(
         alloc: Global,
         layout: Layout,

@@ -120,6 +120,7 @@ impl<'a> Polygon<'a> {
 
     /// The polygon behind this header, and the bytes after it.
     #[tactic(auto, unfolding(wkb_geom::specs::Reading::polygon_at))]
+    #[inline(always)]
     pub fn read(
         alloc: Global,
         layout: Layout,
