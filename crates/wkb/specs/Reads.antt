@@ -3,7 +3,8 @@ pub use Rattle.wkb_geom.specs.Reading.{Item, spellings, values, point_of, line_s
 pub use Rattle.wkb_geom.specs.Reading.{coordinates, ring_in}
 unfoldable pub use Rattle.wkb_geom.specs.Reading.{geometry_at}
 pub use Rattle.wkb_geom.specs.Stored.{Listed, whole_of, value_code, rings_code, polygons_code, item_code, listed_code}
-pub use Rattle.wkb_read.specs.Public.{IsFront, IsOnlyFront, HasNoFront, IsRefusal, TellsEach, IfRefused, IfMemory}
+pub use Rattle.wkb_geom.specs.Fronts.{HasNoFront}
+pub use Rattle.wkb_read.specs.Public.{IsFront, IsOnlyFront, IsRefusal, TellsEach, IfRefused, IfMemory}
 pub use Rattle.wkb_read.specs.Public.{CountsValue, CountsRefusal}
 pub use Rattle.wkb_read.specs.Public.{CountsAtMost, CanBeWritten, AsksForNone, KindTakesNone, TakesNoMemory, Reads}
 pub use Rattle.wkb_read.specs.Public.{Costs}

@@ -14,7 +14,7 @@ use Rattle.wkb_geom.specs.Meanings.{has_srid_flag}
 use Rattle.wkb_geom.specs.Numbers.{number}
 use Rattle.wkb_geom.specs.Reading.{Meaning, meaning_of, type_kind, type_dimension, same_dimension, head_by_code}
 use Rattle.wkb_geom.specs.Reading.{head_by_order, head_at}
-use Rattle.wkb_geom.specs.Reading.{order_of, laid, layout_wanted, member_layout}
+use Rattle.wkb_geom.specs.Reading.{order_of_byte, laid, layout_wanted, member_layout}
 
 -- the layout of a member of this order and code
 abbrev layout_by : ℕ → Dimension → Endianness → ℕ → Layout
@@ -79,23 +79,23 @@ by_order k d None behind h = absurd cc
 by_order k d (Some order) behind h = by_length k d order behind (nat_lt (length behind) 4) refl h
 
 known : (k : ℕ) (d : Dimension) (bytes : List ℕ) → IsOk (member_layout k d bytes)
-    → Known k d (order_of (slice_index_or bytes 0 0)) (drop 1 bytes) (member_layout k d bytes)
+    → Known k d (order_of_byte (slice_index_or bytes 0 0)) (drop 1 bytes) (member_layout k d bytes)
 unfolding head_at
 known k d [] h = absurd cc
-known k d (b ∷ behind) h = by_order k d (order_of b) behind h
+known k d (b ∷ behind) h = by_order k d (order_of_byte b) behind h
 
 module _ (k : ℕ) (d : Dimension) (bytes : List ℕ) (is : IsOk (member_layout k d bytes)) where
   pub known_whole : 5 ≤ length bytes
   known_whole = let stands = known k d bytes is in omega (arith, stands.whole, length-drop 1 bytes)
 
-  pub known_order : (o : Option Endianness) → o ≡ order_of (slice_index_or bytes 0 0) → o ≡ None → ⊥
+  pub known_order : (o : Option Endianness) → o ≡ order_of_byte (slice_index_or bytes 0 0) → o ≡ None → ⊥
   known_order o e none = let stands = known k d bytes is in apart stands.order (sym stands.order_is ∙ sym e ∙ none)
     where
       apart : (order : Endianness) → Some order ≡ None → ⊥
       apart order h = cc
 
   -- by the order and the flag that were read, where the flag of a point is not
-  pub known_layout : (o : Option Endianness) (order : Endianness) (code : ℕ) (flag : Bool) → o ≡ order_of (slice_index_or bytes 0 0) → o ≡ Some order
+  pub known_layout : (o : Option Endianness) (order : Endianness) (code : ℕ) (flag : Bool) → o ≡ order_of_byte (slice_index_or bytes 0 0) → o ≡ Some order
       → code ≡ number order 4 (drop 1 bytes) → flag ≡ (if k == 1 then false else has_srid_flag code) → member_layout k d bytes ≡ Ok (laid order d flag)
   known_layout o order code flag e some code-is flag-is =
       let stands = known k d bytes is in

@@ -146,7 +146,7 @@ impl WkbGeometryCode {
     pub fn get_type(&self) -> WkbResult<WkbType>
         ensures meant { HasType self.now result }
     {
-        match self.meaning() {
+        match self.known_type() {
             Some(wkb_type) => Ok(wkb_type),
             None => Err(WkbError::General(General::CodeOutOfRange(self.code))),
         }
@@ -154,7 +154,7 @@ impl WkbGeometryCode {
 
     /// The kind and the dimension, if the code is in the table.
     #[inline]
-    pub(crate) fn meaning(&self) -> Option<WkbType>
+    pub(crate) fn known_type(&self) -> Option<WkbType>
         ensures { meaning_of self.now ≡ option_map (λ t. meaning t (has_srid_flag self.now)) result }
     {
         let z = Z_FLAG <= self.code;

@@ -4,7 +4,7 @@ ghost use Rattle.std.specs.Prelude.{◌≡◌};
 ghost use Rattle.wkb_geom.specs.Dimensions.{size, width, has_z, has_m, dimensions};
 ghost use Rattle.wkb_geom.specs.Meanings.{HasOrder, IsNamed};
 ghost use Rattle.wkb_geom.specs.Numbers.{order_byte};
-ghost use Rattle.wkb_geom.specs.Reading.{order_of};
+ghost use Rattle.wkb_geom.specs.Reading.{order_of_byte};
 ghost use Rattle.wkb_geom.specs.Encodings.{form_srid, inner};
 
 use crate::error::{General, WkbError};
@@ -23,7 +23,7 @@ impl Endianness {
     /// The order that a geometry's first byte says, if it says one.
     #[inline]
     pub(crate) fn of_byte(byte: u8) -> Option<Endianness>
-        ensures { result ≡ order_of byte }
+        ensures { result ≡ order_of_byte byte }
     {
         match byte {
             0 => Some(Endianness::BigEndian),

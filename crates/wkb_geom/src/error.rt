@@ -25,13 +25,13 @@ pub enum General {
     /// Where the point would end and where the input does, in bytes from the point's order byte.
     #[error("Invalid buffer length for Point: geometry would end at byte {end}, but buffer length is {len}.")]
     ShortPoint { end: u64, len: usize },
-    /// The same of a line string.
+    /// Where the line string would end and where the input does, in bytes from the line string's order byte.
     #[error("Invalid buffer length for LineString: geometry would end at byte {end}, but buffer length is {len}.")]
     ShortLineString { end: u64, len: usize },
-    /// The same of a ring, in bytes from the ring's count.
+    /// Where the ring would end and where the input does, in bytes from the ring's count.
     #[error("Invalid buffer length for LinearRing: data would end at byte {end}, but buffer length is {len}.")]
     ShortLinearRing { end: u64, len: usize },
-    /// The same of a multi point.
+    /// Where the multi point would end and where the input does, in bytes from the multi point's order byte.
     #[error("Invalid buffer length for MultiPoint: geometry would end at byte {end}, but buffer length is {len}.")]
     ShortMultiPoint { end: u64, len: usize },
 }

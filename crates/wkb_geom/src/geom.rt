@@ -2,7 +2,8 @@
 //! which its ghost members name, and whose parts have the dimension of the whole: that is proved at each
 //! `impl`. Ordinates are the 64 bits of a binary64, never a float.
 
-ghost use Rattle.std.specs.Prelude.{◌≡◌, ℕ, ◌+◌, ◌-◌, ◌<◌, ◌≤◌, List, length, map, Option, None, IfSome, All, slice_get};
+ghost use Rattle.std.specs.Prelude.{◌≡◌, ℕ, ◌+◌, ◌-◌, ◌<◌, ◌≤◌, List, length, map, All, slice_get};
+ghost use Rattle.std.specs.Prelude.{Option, None, IfSome};
 ghost use Rattle.std.specs.Prelude.{slice_index};
 ghost use Rattle.std.specs.Option.{option_map};
 ghost use Rattle.std.specs.List.{AllByRecursion, flat_map};

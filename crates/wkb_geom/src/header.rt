@@ -60,7 +60,7 @@ impl Header {
         }
         let number = u32_at(bytes, ORDER, order);
         let code = WkbGeometryCode::new(number);
-        match code.meaning() {
+        match code.known_type() {
             Some(wkb_type) => Ok(Header {
                 order,
                 wkb_type,
@@ -113,7 +113,7 @@ impl Layout {
         })
     }
 
-    /// The same of a member that is known to stand there: its order and its flag are read, and nothing is tested.
+    /// The layout of a member that is known to stand there: its order and its flag are read, and nothing is tested.
     #[inline]
     pub fn of_known_member(kind: u32, dimension: Dimension, bytes: &[u8]) -> Layout
         requires { IsOk (member_layout kind dimension bytes.now) }
@@ -156,7 +156,7 @@ impl Layout {
 
     /// How many bytes stand before the body: order, code, and the SRID where there is one.
     #[inline]
-    pub fn body_start(self) -> usize
+    pub fn header_length(self) -> usize
         ensures { result ≡ body_start self.has_srid }
     {
         if self.has_srid {
@@ -186,7 +186,7 @@ impl Layout {
         ensures whole { IfOk result (λ n. body_start self.has_srid + 4 ≤ length bytes.now) }
         ensures short { IfErr result (λ e. (e ≡ end_of_input) × (length bytes.now < body_start self.has_srid + 4)) }
     {
-        let at = self.body_start();
+        let at = self.header_length();
         if bytes.len() < at + COUNT {
             return Err(Cause::EndOfInput);
         }
@@ -195,10 +195,10 @@ impl Layout {
 
     /// The bytes behind the count.
     #[inline]
-    pub fn behind_count(self, bytes: &[u8]) -> &[u8]
+    pub fn after_count(self, bytes: &[u8]) -> &[u8]
         requires { body_start self.has_srid + 4 ≤ length bytes.now }
         ensures { result.now ≡ parts_start self.has_srid bytes.now }
     {
-        &bytes[self.body_start()..][COUNT..]
+        &bytes[self.header_length()..][COUNT..]
     }
 }

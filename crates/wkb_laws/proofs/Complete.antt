@@ -50,12 +50,12 @@ use Rattle.wkb_laws.proofs.Bounds.{wanted_inside, each_long, coordinates_long}
 use Rattle.wkb_laws.proofs.Heads.{count_in}
 use Rattle.wkb_laws.proofs.Bodies.{asked_all, list_body, each_nine, list_turns, list_slots}
 
-type_of-type : (t : WkbType) → type_of (type_kind t) (type_dimension t) ≡ t
+pub type_of-type : (t : WkbType) → type_of (type_kind t) (type_dimension t) ≡ t
 type_of-type (kinds.Point d) = refl
 type_of-type _ = refl
 
 -- an opening, and each fault in front of a body, as they are read
-meaning_found : (c k : ℕ) (d : Dimension) (srid : Bool) → Code c k d srid → meaning_of c ≡ Some (meaning (type_of k d) srid)
+pub meaning_found : (c k : ℕ) (d : Dimension) (srid : Bool) → Code c k d srid → meaning_of c ≡ Some (meaning (type_of k d) srid)
 meaning_found c k d srid code =
     meaning_holds (λ m. m ≡ Some (meaning (type_of k d) srid)) c
     (λ m other. let one = one_meaning other code in
@@ -63,22 +63,22 @@ meaning_found c k d srid code =
     λ i. Some (meaning (type i) (one.srid i)))
     (λ none. absurd (none k d srid code))
 
-head_by_byte : (order : Endianness) (behind : List ℕ) → head_at (order_byte order ∷ behind) ≡ head_by_order (Some order) behind
+pub head_by_byte : (order : Endianness) (behind : List ℕ) → head_at (order_byte order ∷ behind) ≡ head_by_order (Some order) behind
 unfolding head_at
 head_by_byte BigEndian behind = refl
 head_by_byte LittleEndian behind = refl
 
-head_coded : {input behind rest : List ℕ} {order : Endianness} {c : ℕ} → input ≡ order_byte order ∷ behind → Begins (IsNumber order 4 c) behind rest
+pub head_coded : {input behind rest : List ℕ} {order : Endianness} {c : ℕ} → input ≡ order_byte order ∷ behind → Begins (IsNumber order 4 c) behind rest
     → head_at input ≡ head_by_code order c (meaning_of c)
 head_coded {behind = behind} {rest = rest} {order = order} {c = c} e b =
     let read = begins_number order 4 c behind rest b in
     ap head_at e ∙ head_by_byte order behind ∙ cond-false (nat_lt (length behind) 4) _ _ (le-ltb (length behind) 4 read.0)
     ∙ ap (λ z. head_by_code order z (meaning_of z)) read.1
 
-abbrev head_of : Endianness → ℕ → Dimension → Bool → Head
+abbrev pub head_of : Endianness → ℕ → Dimension → Bool → Head
 head_of order k d srid = record { order = order; wkb_type = type_of k d; has_srid = srid }
 
-head_opened : {input rest : List ℕ} {order : Endianness} {k : ℕ} {d : Dimension} {srid : Bool} → Opens input order k d srid rest
+pub head_opened : {input rest : List ℕ} {order : Endianness} {k : ℕ} {d : Dimension} {srid : Bool} → Opens input order k d srid rest
     → head_at input ≡ Ok (head_of order k d srid)
 head_opened {order = order} {k = k} {d = d} {srid = srid} o =
     head_coded o.whole o.number ∙ ap (head_by_code order o.code) (meaning_found o.code k d srid o.meaning)
@@ -175,7 +175,7 @@ pub record CountRead (input : List ℕ) (l : Layout) (n : ℕ) (rest : List ℕ)
 
 module _ {room n : ℕ} {w : Wanted} {input rest : List ℕ} {order : Endianness} {k : ℕ} {d : Dimension} {srid : Bool}
     (c : Counts room w input order k d srid n rest) where
-  count_read : CountRead input (laid order d srid) n rest
+  pub count_read : CountRead input (laid order d srid) n rest
   count_read =
       let o = c.opens in
       let size = srid_size srid in

@@ -95,7 +95,7 @@ all_good P f [] h e = tt
 all_good P f (a ∷ l) h e = let both = or_else_parts (f a) (first_fault f l) e in ((h.0, both.0), all_good P f l h.1 both.1)
 
 -- the empty word is a not-a-number
-empty_coordinate : (d : Dimension) → (all_nan (replicate (width d) empty_word) ≡ true) × value.IsCoordinate d (replicate (width d) empty_word)
+empty_coordinate : (d : Dimension) → (all_nan (replicate (width d) empty_word) ≡ true) × value.IsValueCoordinate d (replicate (width d) empty_word)
 empty_coordinate Xy = (refl, record { len = refl; words = (lit< tt, (lit< tt, tt)) })
 empty_coordinate Xyzm = (refl, record { len = refl; words = (lit< tt, (lit< tt, (lit< tt, (lit< tt, tt)))) })
 empty_coordinate _ = (refl, record { len = refl; words = (lit< tt, (lit< tt, (lit< tt, tt))) })
@@ -103,10 +103,10 @@ empty_coordinate _ = (refl, record { len = refl; words = (lit< tt, (lit< tt, (li
 -- a coordinate of the right length, if there is one
 abbrev MayHave : Dimension → Option Coordinate → Type 0
 MayHave d None = Unit {0}
-MayHave d (Some c) = value.IsCoordinate d c
+MayHave d (Some c) = value.IsValueCoordinate d c
 
 module _ (order : Endianness) where
-  SpellsCoordinate-encoding : (d : Dimension) (c : Coordinate) → value.IsCoordinate d c → SpellsCoordinate order d c (words_encoding order c)
+  SpellsCoordinate-encoding : (d : Dimension) (c : Coordinate) → value.IsValueCoordinate d c → SpellsCoordinate order d c (words_encoding order c)
   unfolding words_encoding
   SpellsCoordinate-encoding d c h =
       record { len = h.len; words = IsEach-flat_map (IsNumber order 8) (number_bytes order 8) IsWord (IsNumber-number_bytes order 8) c h.words }
@@ -114,9 +114,9 @@ module _ (order : Endianness) where
   SpellsCoordinates-encoding : (d : Dimension) (cs : List Coordinate) → GoodLine d cs → SpellsCoordinates order d cs (coordinates_encoding order cs)
   unfolding coordinates_encoding
   SpellsCoordinates-encoding d cs good =
-      IsCounted-encoding (SpellsCoordinate order d) (words_encoding order) (value.IsCoordinate d) (SpellsCoordinate-encoding d) order cs good.1 good.0
+      IsCounted-encoding (SpellsCoordinate order d) (words_encoding order) (value.IsValueCoordinate d) (SpellsCoordinate-encoding d) order cs good.1 good.0
 
-  point_body : (d : Dimension) (c : Coordinate) (b : Bool) → all_nan c ≡ b → value.IsCoordinate d c
+  point_body : (d : Dimension) (c : Coordinate) (b : Bool) → all_nan c ≡ b → value.IsValueCoordinate d c
       → SpellsBody order (if b then c else []) (value.point d (if b then None else Some c)) (words_encoding order c)
   point_body d c true e h = (e, SpellsCoordinate-encoding d c h)
   point_body d c false e h = (refl, e, SpellsCoordinate-encoding d c h)
@@ -176,7 +176,7 @@ module _ (order : Endianness) (form : Form) (h : IsForm form) where
   unfolding polygon_encoding
   polygon_spells d rings good =
       let parts = or_else_parts _ _ good.1 in
-      let each_good = all_good (value.AreCoordinates d) coordinates_fault rings good.0 parts.1 in
+      let each_good = all_good (value.AreValueCoordinates d) coordinates_fault rings good.0 parts.1 in
       all_spells [] no_spellings (value.polygon d rings) _ [] _ (lit≤ tt) (lit≤ tt) (sym (append-nil _)) (
         refl,
         IsCounted-encoding (SpellsCoordinates order d) (coordinates_encoding order) (GoodLine d)
@@ -204,14 +204,14 @@ inner_fits (Ewkb srid) = (tt, refl)
 
 -- a coordinate of a caller's geometry has as many words as the dimension's name says
 module _ (dims : Dimensions) (e : dimensions_fault dims ≡ None) where
-  coordinate_fits : (c : Coordinate) → IsCoordinate dims c → value.IsCoordinate (written_dimension dims) c
+  coordinate_fits : (c : Coordinate) → IsCoordinate dims c → value.IsValueCoordinate (written_dimension dims) c
   coordinate_fits c h = record { len = h.len ∙ sym (width-written_dimension dims e); words = h.words }
 
-  coordinates_fit : (cs : List Coordinate) → AreCoordinates dims cs → value.AreCoordinates (written_dimension dims) cs
+  coordinates_fit : (cs : List Coordinate) → AreCoordinates dims cs → value.AreValueCoordinates (written_dimension dims) cs
   coordinates_fit cs h = all_imply _ _ coordinate_fits cs h
 
   rings_fit : (rings : List (List Coordinate)) → AllByRecursion (AreCoordinates dims) rings
-      → AllByRecursion (value.AreCoordinates (written_dimension dims)) rings
+      → AllByRecursion (value.AreValueCoordinates (written_dimension dims)) rings
   rings_fit rings h = all_imply _ _ coordinates_fit rings h
 
   point_fits : (c : Option Coordinate) → IsPoint dims c → MayHave (written_dimension dims) c
@@ -223,10 +223,10 @@ word_at [] i h = lit< tt
 word_at (w ∷ c) zero h = h.0
 word_at (w ∷ c) (suc i) h = word_at c i h.1
 
-corner_fits : (c e : Coordinate) (i j : ℕ) → AllByRecursion IsWord c → AllByRecursion IsWord e → value.IsCoordinate Xy (slice_index c i ∷ slice_index e j ∷ [])
+corner_fits : (c e : Coordinate) (i j : ℕ) → AllByRecursion IsWord c → AllByRecursion IsWord e → value.IsValueCoordinate Xy (slice_index c i ∷ slice_index e j ∷ [])
 corner_fits c e i j h k = record { len = refl; words = (word_at c i h, (word_at e j k, tt)) }
 
-rectangle_fits : (l g : Coordinate) → AllByRecursion IsWord l → AllByRecursion IsWord g → value.AreCoordinates Xy (rectangle_ring l g)
+rectangle_fits : (l g : Coordinate) → AllByRecursion IsWord l → AllByRecursion IsWord g → value.AreValueCoordinates Xy (rectangle_ring l g)
 rectangle_fits l g h k =
     (corner_fits l l 0 1 h h, (corner_fits l g 0 1 h k, (corner_fits g g 0 1 k k, (corner_fits g l 0 1 k h, (corner_fits l l 0 1 h h, tt)))))
 

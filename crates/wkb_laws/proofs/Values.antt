@@ -11,8 +11,8 @@ use Rattle.wkb_laws.specs.Words.{dimensions_fault, Endianness, BigEndian, Little
 use Rattle.wkb_laws.specs.Words.{IsWord, all_nan, dimensions, IsEach}
 use Rattle.wkb_laws.specs.Words.{IsCounted, Coordinate, Value, point, line_string, polygon, multi_point}
 use Rattle.wkb_laws.specs.Words.{multi_line_string, multi_polygon, collection, Values}
-use Rattle.wkb_laws.specs.Words.{no_members, member, kind, dimension, members, each, count, IsCoordinate, IsPoint}
-use Rattle.wkb_laws.specs.Words.{AreCoordinates, IsValue, AreValues, header}
+use Rattle.wkb_laws.specs.Words.{no_members, member, kind, dimension, members, each, count, IsValueCoordinate, IsValuePoint}
+use Rattle.wkb_laws.specs.Words.{AreValueCoordinates, IsValue, AreValues, header}
 use Rattle.wkb_laws.specs.Words.{IsSrid, Spelling, node, Spellings, no_spellings, spelling, SpellsCoordinate}
 use Rattle.wkb_laws.specs.Words.{SpellsCoordinates, SpellsBody, Wanted, member_part}
 use Rattle.wkb_laws.specs.Words.{Spells, SpellsEach, normal, normal_each, normal_point, geometry_of, geometries_of}
@@ -81,17 +81,17 @@ pub count_fault_none : (n : ℕ) → n < 2 ^ 32 → count_fault n ≡ None
 unfolding count_fault
 count_fault_none n h = let t : nat_lt n (2 ^ 32) ≡ true = lt-ltb n (2 ^ 32) h in rw t refl
 
-coordinate_good : (order : Endianness) (d : Dimension) (c : Coordinate) (x : List ℕ) → AreBytes x → SpellsCoordinate order d c x → IsCoordinate d c
+coordinate_good : (order : Endianness) (d : Dimension) (c : Coordinate) (x : List ℕ) → AreBytes x → SpellsCoordinate order d c x → IsValueCoordinate d c
 coordinate_good order d c x b h =
     record { len = h.len; words = each_good (IsNumber order 8) IsWord (λ w y bytes is. number-lt order 8 w y is bytes) c x b h.words }
 
 -- a line string or a ring that can be written
 abbrev pub GoodLine : Dimension → List Coordinate → Type 0
-GoodLine d cs = AreCoordinates d cs × (coordinates_fault cs ≡ None)
+GoodLine d cs = AreValueCoordinates d cs × (coordinates_fault cs ≡ None)
 
 coordinates_good : (order : Endianness) (d : Dimension) (cs : List Coordinate) (x : List ℕ) → AreBytes x → SpellsCoordinates order d cs x → GoodLine d cs
 coordinates_good order d cs x b h =
-    let both = counted_good (SpellsCoordinate order d) (IsCoordinate d) (coordinate_good order d) order cs x b h in
+    let both = counted_good (SpellsCoordinate order d) (IsValueCoordinate d) (coordinate_good order d) order cs x b h in
     (both.1, count_fault_none (length cs) both.0)
 
 -- where no item is at fault, the list is not
@@ -103,7 +103,7 @@ faultless P f (a ∷ l) h = let others = faultless P f l h.1 in (((h.0).0, other
 
 -- a polygon's rings that can be written
 abbrev pub GoodRings : Dimension → List (List Coordinate) → Type 0
-GoodRings d rings = AllByRecursion (AreCoordinates d) rings × (rings_fault rings ≡ None)
+GoodRings d rings = AllByRecursion (AreValueCoordinates d) rings × (rings_fault rings ≡ None)
 
 -- a value that can be written
 abbrev pub Good : Value → Type 0
@@ -142,11 +142,11 @@ value_good order own (line_string d cs) x b h m =
     (good.0, or_else-none _ _ (named_dimension d) good.1)
 value_good order own (polygon d rings) x b h m =
     let both = counted_good (SpellsCoordinates order d) (GoodLine d) (coordinates_good order d) order rings x b h.1 in
-    let all = faultless (AreCoordinates d) coordinates_fault rings both.1 in
+    let all = faultless (AreValueCoordinates d) coordinates_fault rings both.1 in
     (all.0, or_else-none _ _ (named_dimension d) (or_else-none _ _ (count_fault_none (length rings) both.0) all.1))
 value_good order own (multi_point d l) x b h m =
     let fits = count_fault_none (length l) (number-lt order 4 (length l) x h.1 b) in
-    (members_good (point d) (IsPoint d) (λ c one. one.0) l m, or_else-none _ _ (named_dimension d) fits)
+    (members_good (point d) (IsValuePoint d) (λ c one. one.0) l m, or_else-none _ _ (named_dimension d) fits)
 value_good order own (multi_line_string d l) x b h m =
     let fits = count_fault_none (length l) (number-lt order 4 (length l) x h.1 b) in
     let all = faultless _ coordinates_fault l (members_good (line_string d) (GoodLine d) (λ cs one. (one.0, (or_else_parts _ _ one.1).1)) l m) in
@@ -200,11 +200,11 @@ front_srid input s t rest b f = outer_fits s t f.front (front_bytes input s t re
 pub same_dimension : (d : Dimension) → written_dimension (dimensions d) ≡ d
 same_dimension d = ap (λ z. unwrap_or z Xy) (named_dimension_lem d)
 
-pub same_point : (d : Dimension) (c : Option Coordinate) → IsPoint d c → normal_point c ≡ c
+pub same_point : (d : Dimension) (c : Option Coordinate) → IsValuePoint d c → normal_point c ≡ c
 same_point d None h = refl
 same_point d (Some c) h = let e : all_nan c ≡ false = h.1 in rw e refl
 
-same_points : (d : Dimension) (l : List (Option Coordinate)) → AllByRecursion (IsPoint d) l → map normal_point l ≡ l
+same_points : (d : Dimension) (l : List (Option Coordinate)) → AllByRecursion (IsValuePoint d) l → map normal_point l ≡ l
 same_points d [] h = refl
 same_points d (c ∷ l) h = λ i. same_point d c h.0 i ∷ same_points d l h.1 i
 
@@ -224,18 +224,18 @@ mutual
   normal-geometries_of (member t ts) h = λ i. member (normal-geometry_of t h.0 i) (normal-geometries_of ts h.1 i)
 
 -- a value is a lawful geometry of a caller's
-coordinate_lawful : (d : Dimension) (c : Coordinate) → IsCoordinate d c → geometry.IsCoordinate (dimensions d) c
+coordinate_lawful : (d : Dimension) (c : Coordinate) → IsValueCoordinate d c → geometry.IsCoordinate (dimensions d) c
 coordinate_lawful Xy c h = record { len = h.len; words = h.words }
 coordinate_lawful _ c h = record { len = h.len; words = h.words }
 
-point_lawful : (d : Dimension) (c : Option Coordinate) → IsPoint d c → geometry.IsPoint (dimensions d) c
+point_lawful : (d : Dimension) (c : Option Coordinate) → IsValuePoint d c → geometry.IsPoint (dimensions d) c
 point_lawful d None h = tt
 point_lawful d (Some c) h = coordinate_lawful d c h.0
 
-coordinates_lawful : (d : Dimension) (cs : List Coordinate) → AreCoordinates d cs → geometry.AreCoordinates (dimensions d) cs
+coordinates_lawful : (d : Dimension) (cs : List Coordinate) → AreValueCoordinates d cs → geometry.AreCoordinates (dimensions d) cs
 coordinates_lawful d cs h = all_imply _ _ (coordinate_lawful d) cs h
 
-rings_lawful : (d : Dimension) (rings : List (List Coordinate)) → AllByRecursion (AreCoordinates d) rings
+rings_lawful : (d : Dimension) (rings : List (List Coordinate)) → AllByRecursion (AreValueCoordinates d) rings
     → AllByRecursion (geometry.AreCoordinates (dimensions d)) rings
 rings_lawful d rings h = all_imply _ _ (coordinates_lawful d) rings h
 

@@ -21,7 +21,7 @@ pub use Rattle.wkb_geom.specs.Values.{Coordinate, Value, point, line_string, pol
 pub use Rattle.wkb_geom.specs.Values.{multi_polygon, collection, Values}
 pub use Rattle.wkb_geom.specs.Values.{no_members, member, kind, dimension, members, each, count, nest, nest_each}
 pub use Rattle.wkb_geom.specs.Values.{member_count, member_count_each, listed_count}
-pub use Rattle.wkb_geom.specs.Values.{listed_count_each, IsCoordinate, IsPoint, AreCoordinates, IsValue, AreValues}
+pub use Rattle.wkb_geom.specs.Values.{listed_count_each, IsValueCoordinate, IsValuePoint, AreValueCoordinates, IsValue, AreValues}
 pub use Rattle.wkb_geom.specs.Spellings.{Header, header, has_srid, Spelling, node, Spellings, no_spellings, spelling}
 pub use Rattle.wkb_geom.specs.Spellings.{srid_count, srid_count_each, IsHeader}
 pub use Rattle.wkb_geom.specs.Spellings.{IsSrid, SpellsCoordinate, SpellsCoordinates, SpellsBody, Spells, SpellsEach}

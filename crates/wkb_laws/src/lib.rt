@@ -3,8 +3,9 @@
 
 ghost use Rattle.wkb_laws.specs.Laws.{HasOneFront, RestIsFree, BytesAreRead, ReadOrRefused, NeverBoth, OneRefusal};
 ghost use Rattle.wkb_laws.specs.Laws.{RefusedOutward, CutIsRefused, GeometryAgrees, FrontIsRead, RefusalIsRead};
-ghost use Rattle.wkb_laws.specs.Laws.{FrontIsBounded, RefusalIsBounded, ReadingIsBounded, EncodingSpells, WrittenIsRead};
-ghost use Rattle.wkb_laws.specs.Laws.{EncodingHasSize, LengthOfEncoding, LengthOfFront, FrontIsWritable, EwkbIsWritable};
+ghost use Rattle.wkb_laws.specs.Laws.{FrontIsBounded, RefusalIsBounded, ReadingIsBounded, EncodingSpells};
+ghost use Rattle.wkb_laws.specs.Laws.{WrittenIsRead, EncodingHasSize, LengthOfEncoding, LengthOfFront};
+ghost use Rattle.wkb_laws.specs.Laws.{FrontIsWritable, EwkbIsWritable};
 ghost use Rattle.wkb_laws.specs.Laws.{SizeIsRefused, OwnSridIsWritable, RewritingIsRead, RewritingIsFixed};
 ghost use Rattle.wkb_laws.specs.Laws.{RewritingWithSridIsFixed, EqualEncodings, EqualEncodingsWithSrid};
 ghost use Rattle.wkb_laws.specs.Laws.{EqualEncodingsWithOwnSrid, NamedDimension};
@@ -67,8 +68,8 @@ pub fn written_is_read()
     ensures { WrittenIsRead }
 {}
 
-/// An encoding's length is its geometry's size, in either order, and a geometry that was read is written in its own length,
-/// less four bytes for each SRID.
+/// An encoding's length is its geometry's size, in either order, and a geometry that was read is written in its own
+/// length, less four bytes for each SRID.
 pub fn encoding_length()
     ensures size { EncodingHasSize }
     ensures encoding { LengthOfEncoding }
@@ -100,7 +101,7 @@ pub fn equal_encodings()
     ensures { EqualEncodings }
 {}
 
-/// The same where each is rewritten with an SRID.
+/// Two inputs have equal values exactly where they are rewritten alike with an SRID.
 pub fn equal_encodings_with_srid()
     ensures { EqualEncodingsWithSrid }
 {}

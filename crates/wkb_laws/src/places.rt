@@ -1,7 +1,8 @@
 //! Laws of places: where the bytes of members, rings and words stand in those of a geometry.
 
-ghost use Rattle.wkb_laws.specs.Places.{HasOneEncoding, HaveOneEncoding, CoordinateHasOneEncoding, MembersStand, RingsStand};
-ghost use Rattle.wkb_laws.specs.Places.{MembersInPlace, RingsInPlace, WordsStand, LineStringWordsStand};
+ghost use Rattle.wkb_laws.specs.Places.{HasOneEncoding, HaveOneEncoding, CoordinateHasOneEncoding};
+ghost use Rattle.wkb_laws.specs.Places.{MembersStand, RingsStand, MembersInPlace, RingsInPlace};
+ghost use Rattle.wkb_laws.specs.Places.{WordsStand, LineStringWordsStand};
 
 /// A spelling and a value have one encoding: whatever bytes spell both are the same bytes.
 #[tactic(auto, using(crate::proofs::OneEncoding::one_encoding_lem))]

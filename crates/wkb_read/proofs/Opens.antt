@@ -20,15 +20,15 @@ more_slots_is : (c : Cost) (entries : ℕ) → more_slots c entries ≡ c ⊕ sl
 more_slots_is c entries = cost_is _ _ (omega arith) refl
 
 -- the collection's own list is asked for, and its members are read
-pub opens : (l : Layout) (bytes : List ℕ) (around n : ℕ) (spent : Cost) (rest : List ℕ) (r : Reading Item) → around < 128
+pub opens : (l : Layout) (bytes : List ℕ) (depth n : ℕ) (spent : Cost) (rest : List ℕ) (r : Reading Item) → depth < 128
     → body_start l.has_srid + 4 ≤ length bytes
     → n ≡ number l.order 4 (drop (body_start l.has_srid) bytes) → rest ≡ drop (body_start l.has_srid + 4) bytes
-    → r ≡ and_then (repeated n (geometry_inside (suc around)) rest) (closing l bytes)
-    → costs (more_slots spent (entries_asked 9 l bytes)) r ≡ costs spent (collection_inside around l bytes)
+    → r ≡ and_then (repeated n (geometry_inside (suc depth)) rest) (closing l bytes)
+    → costs (more_slots spent (entries_asked 9 l bytes)) r ≡ costs spent (collection_inside depth l bytes)
 unfolding collection_at
-opens l bytes around n spent rest r shallow whole n-is rest-is r-is =
+opens l bytes depth n spent rest r shallow whole n-is rest-is r-is =
     let long : ltb (length bytes) (body_start l.has_srid + 4) ≡ false = le-ltb _ _ whole in
-    let level : max_nesting - around ≡ suc (max_nesting - suc around) = omega arith in
+    let level : max_nesting - depth ≡ suc (max_nesting - suc depth) = omega arith in
     ap (λ (c : Cost). costs c r) (more_slots_is spent (entries_asked 9 l bytes)) ∙ sym (costs-costs spent (slots_of (entries_asked 9 l bytes)) r)
     ∙ rw (r-is, level, long, ← parts_length l.has_srid bytes, ← n-is, drop-drop 4 (body_start l.has_srid) bytes, ← rest-is) refl
 
@@ -46,7 +46,7 @@ first_begins l bytes rest n member members some empty =
 
 -- ---- what is answered before the list is there
 
-pub too_many_around : (l : Layout) (bytes : List ℕ) (around : ℕ) (c : Counts) → 128 ≤ around
-    → Stops (Fault (nesting_depth_exceeded 128)) (collection_inside around l bytes) c c
-too_many_around l bytes around c deep =
-    let level : max_nesting - around ≡ 0 = omega arith in rw level (refl, record { turns = omega arith; slots = omega arith })
+pub too_many_around : (l : Layout) (bytes : List ℕ) (depth : ℕ) (c : Counts) → 128 ≤ depth
+    → Stops (Fault (nesting_depth_exceeded 128)) (collection_inside depth l bytes) c c
+too_many_around l bytes depth c deep =
+    let level : max_nesting - depth ≡ 0 = omega arith in rw level (refl, record { turns = omega arith; slots = omega arith })

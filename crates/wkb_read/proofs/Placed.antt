@@ -43,11 +43,11 @@ read_by levels bytes (c, Ok x) h w rest e long =
     (record { whole = h.whole; part = record { spelled = ∣ h.spelled ∣₁; long = omega (arith, ap length h.whole, length-append x.0.encoding x.1, left, long) } })
 read_by levels bytes (c, Err f) h w rest e long = absurd cc
 
-pub part_read : (w : Wkb) (rest : Bor (List ℕ)) (bytes : List ℕ) (around : ℕ) (old new : Counts)
-    → BeginsAs (geometry_inside around bytes) around bytes (Ok (Whole w rest)) old new → PartRead bytes w rest.now
-part_read w rest bytes around old new b =
-    let levels = max_nesting - around in
-    read_by levels bytes (geometry_inside around bytes) (geometry_says levels bytes) w rest.now (sym (ap (λ (x : Reading Item). x.1) b.0)) b.1
+pub part_read : (w : Wkb) (rest : Bor (List ℕ)) (bytes : List ℕ) (depth : ℕ) (old new : Counts)
+    → BeginsAs (geometry_inside depth bytes) depth bytes (Ok (Whole w rest)) old new → PartRead bytes w rest.now
+part_read w rest bytes depth old new b =
+    let levels = max_nesting - depth in
+    read_by levels bytes (geometry_inside depth bytes) (geometry_says levels bytes) w rest.now (sym (ap (λ (x : Reading Item). x.1) b.0)) b.1
 
 -- what stands in front of the rest is what was taken
 pub front_taken : (n : ℕ) (bytes encoding rest : List ℕ) → n ≤ length bytes → encoding ≡ take n bytes → rest ≡ drop n bytes → encoding ≡ consumed bytes rest

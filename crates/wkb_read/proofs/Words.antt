@@ -33,7 +33,8 @@ pub use Rattle.wkb_read.specs.declared.read.unfinished.Begun.TheVariants.{Whole,
 pub use Rattle.wkb_read.specs.declared.read.unfinished.Open.{Open}
 pub use Rattle.wkb_read.specs.Memory.{IsNotMemoryError, TypeTakesNone, ReadsWithoutMemory}
 pub use Rattle.wkb_read.specs.Placed.{encodings, parts_in, closing, HoldsMembers, IsCollectionIn, AreMembers, IsMemberAt}
-pub use Rattle.wkb_read.specs.Public.{IsFront, IsOnlyFront, HasNoFront, IsRefusal, TellsEach, IfRefused, IfMemory}
+pub use Rattle.wkb_geom.specs.Fronts.{HasNoFront}
+pub use Rattle.wkb_read.specs.Public.{IsFront, IsOnlyFront, IsRefusal, TellsEach, IfRefused, IfMemory}
 pub use Rattle.wkb_read.specs.Public.{CountsValue, CountsRefusal, CountsAtMost}
 pub use Rattle.wkb_read.specs.Public.{AsksForNone, KindTakesNone, TakesNoMemory}
 pub use Rattle.wkb_read.specs.Seen.{geometry_seen, members_seen, seen_as_it_is}

@@ -3,10 +3,10 @@ use Rattle.std.specs.Prelude.{max, ◌≤◌}
 use Rattle.std.proofs.Common.{arith}
 use Rattle.wkb_read.specs.Nodes.{size_outside}
 use Rattle.wkb_read.specs.Geometries.{kind_seen}
-use Rattle.wkb_read.specs.declared.geometry.Kind.{Kind}
-use Rattle.wkb_read.specs.declared.geometry.Kind.TheVariants.{GeometryCollection}
-use Rattle.wkb_read.specs.declared.geometry.GeometryCollection.TheDeep.{deep-Kind}
+use Rattle.wkb_read.specs.declared.geometry.View.{View}
+use Rattle.wkb_read.specs.declared.geometry.View.TheVariants.{GeometryCollection}
+use Rattle.wkb_read.specs.declared.geometry.GeometryCollection.TheDeep.{deep-View}
 
-pub kind_falls : (k : Kind) → max (deep-Kind k) 0 ≤ size_outside (kind_seen k)
+pub kind_falls : (k : View) → max (deep-View k) 0 ≤ size_outside (kind_seen k)
 kind_falls (GeometryCollection c) = omega arith
 kind_falls _ = omega arith

@@ -1,7 +1,7 @@
 -- What a reader's answer says of its input.
 use Rattle.std.specs.Prelude.{◌≡◌, ℕ, ◌+◌, ◌*◌, ◌<◌, ◌≤◌, List, length, Bool, Result, Ok, Err, IfOk}
 use Rattle.wkb_read.specs.Words.{Endianness, Dimension, Iso, WkbError, Value, member_count}
-use Rattle.wkb_read.specs.Words.{listed_count, Spelling, any, Front, max_nesting, Cause, Refuses, Opens, srid_size}
+use Rattle.wkb_read.specs.Words.{listed_count, Spelling, any, Front, HasNoFront, max_nesting, Cause, Refuses, Opens, srid_size}
 use Rattle.wkb_read.specs.Words.{Tells, geometry_of, IsWritable, Item}
 use Rattle.wkb_read.specs.Words.{Counts, IsGeometry, normal}
 use Rattle.wkb_read.specs.Memory.{IsNotMemory}
@@ -19,10 +19,6 @@ pub record IsFront (buf : List ℕ) (w : Item) : Type 0 where
 abbrev pub IsOnlyFront : List ℕ → Item → Type 0
 IsOnlyFront buf w = (s : Spelling) (t : Value) (rest : List ℕ) → (f : Front buf s t rest)
     → (f.front ≡ w.encoding) × (s ≡ w.spelled) × (t ≡ w.value)
-
--- the input begins with no geometry
-abbrev pub HasNoFront : List ℕ → Type 0
-HasNoFront buf = (s : Spelling) (t : Value) (rest : List ℕ) → Front buf s t rest → ⊥
 
 -- the input is refused, and the error tells why
 pub record IsRefusal (buf : List ℕ) (e : WkbError) : Type 0 where

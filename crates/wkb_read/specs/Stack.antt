@@ -18,7 +18,7 @@ use Rattle.wkb_read.specs.Placed.{encodings, closing}
 
 -- a geometry inside so many open collections
 abbrev pub geometry_inside : ℕ → List ℕ → Reading Item
-geometry_inside around = geometry_at (max_nesting - around)
+geometry_inside depth = geometry_at (max_nesting - depth)
 
 -- what comes of a collection once a member is finished, by what reads those behind it
 abbrev pub behind_member : (List ℕ → Reading Item) → Layout → List ℕ → ℕ → List Item → Item → List ℕ → Reading Item
@@ -26,7 +26,7 @@ behind_member member l bytes left front x rest = and_then (repeated left member 
 
 -- the same of an open collection inside so many others
 abbrev pub in_collection : ℕ → Open → Item → List ℕ → Reading Item
-in_collection around o = behind_member (geometry_inside (suc around)) o.layout o.bytes.now o.left (entries o.members)
+in_collection depth o = behind_member (geometry_inside (suc depth)) o.layout o.bytes.now o.left (entries o.members)
 
 -- what comes of a finished part inside these collections, the innermost first
 abbrev pub outward : List Open → Item → List ℕ → Reading Item
@@ -35,7 +35,7 @@ outward (o ∷ os) x rest = and_then (in_collection (length os) o x rest) (outwa
 
 -- what comes of the first member of a collection that was opened inside so many others
 abbrev pub first_member : ℕ → Open → List ℕ → Reading Item
-first_member around o bytes = costs one_turn (and_then (geometry_inside (suc around) bytes) (in_collection around o))
+first_member depth o bytes = costs one_turn (and_then (geometry_inside (suc depth) bytes) (in_collection depth o))
 
 -- what was counted, as a cost
 abbrev pub cost_of : Counts → Cost
@@ -74,19 +74,19 @@ pub record IsFinished (part : Item) : Type 0 where
 
 -- what comes of a collection that is laid out so, inside so many others
 abbrev pub collection_inside : ℕ → Layout → List ℕ → Reading Item
-collection_inside around l bytes = collection_within (max_nesting - around) l bytes
+collection_inside depth l bytes = collection_within (max_nesting - depth) l bytes
 
 -- what comes of what stands behind a header
 abbrev pub body_inside : ℕ → Head → List ℕ → Reading Item
-body_inside around h bytes = body_at (collection_within (max_nesting - around)) h.wkb_type (layout_of h) bytes
+body_inside depth h bytes = body_at (collection_within (max_nesting - depth)) h.wkb_type (layout_of h) bytes
 
 -- what the beginning of a geometry leads to, where it is to lead to this reading
 abbrev pub BeginsAs : Reading Item → ℕ → List ℕ → Result Begun Refusal → Counts → Counts → Type 0
-BeginsAs whole around bytes (Ok (Whole w rest)) old new =
+BeginsAs whole depth bytes (Ok (Whole w rest)) old new =
     (costs (cost_of new) (done w rest.now) ≡ costs (cost_of old) whole) × (length rest.now + 9 ≤ length bytes)
-BeginsAs whole around bytes (Ok (Opened o rest)) old new =
-    (costs (cost_of new) (first_member around o rest.now) ≡ costs (cost_of old) whole) × (o.bytes.now ≡ bytes) × (around < max_nesting) × IsOpen o rest.now
-BeginsAs whole around bytes (Err refusal) old new = Stops refusal whole old new
+BeginsAs whole depth bytes (Ok (Opened o rest)) old new =
+    (costs (cost_of new) (first_member depth o rest.now) ≡ costs (cost_of old) whole) × (o.bytes.now ≡ bytes) × (depth < max_nesting) × IsOpen o rest.now
+BeginsAs whole depth bytes (Err refusal) old new = Stops refusal whole old new
 
 -- what is known once a part is finished: all is, or the next part begins
 abbrev pub Settles : List Open → List Open → Item → List ℕ → Option Item → Counts → Counts → Type 0

@@ -6,11 +6,11 @@ use Rattle.wkb_read.specs.declared.geometry_type.GeometryType.TheVariants.{Point
 use Rattle.wkb_read.specs.declared.geometry_type.GeometryType.TheVariants.{MultiLineString, MultiPolygon}
 use Rattle.wkb_read.specs.declared.geometry_type.GeometryType.TheVariants.{GeometryCollection}
 
-abbrev pub type_of : Value → GeometryType
-type_of (point d c) = Point
-type_of (line_string d cs) = LineString
-type_of (polygon d rings) = Polygon
-type_of (multi_point d points) = MultiPoint
-type_of (multi_line_string d lines) = MultiLineString
-type_of (multi_polygon d polygons) = MultiPolygon
-type_of (collection d ts) = GeometryCollection
+abbrev pub geometry_type_of : Value → GeometryType
+geometry_type_of (point d c) = Point
+geometry_type_of (line_string d cs) = LineString
+geometry_type_of (polygon d rings) = Polygon
+geometry_type_of (multi_point d points) = MultiPoint
+geometry_type_of (multi_line_string d lines) = MultiLineString
+geometry_type_of (multi_polygon d polygons) = MultiPolygon
+geometry_type_of (collection d ts) = GeometryCollection

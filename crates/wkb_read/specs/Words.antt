@@ -9,7 +9,7 @@ pub use Rattle.wkb_geom.specs.declared.error.WkbError.{WkbError}
 pub use Rattle.wkb_geom.specs.declared.header.Header.{Header as Head}
 pub use Rattle.wkb_geom.specs.declared.header.Layout.{Layout}
 pub use Rattle.wkb_geom.specs.Dimensions.{dimensions}
-pub use Rattle.wkb_geom.specs.Fronts.{Front, max_nesting}
+pub use Rattle.wkb_geom.specs.Fronts.{Front, HasNoFront, max_nesting}
 pub use Rattle.wkb_geom.specs.Geometries.{Geometry, Geometries, geometries, geometry_of, geometries_of, normal}
 pub use Rattle.wkb_geom.specs.Geometries.{IsGeometry, AreGeometries}
 pub use Rattle.wkb_geom.specs.Numbers.{number}

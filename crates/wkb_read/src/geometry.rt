@@ -34,7 +34,7 @@ pub struct GeometryCollection<'a> {
 /// The view of its kind.
 #[cycle(geometry)]
 #[derive(Debug, Drop)]
-pub(crate) enum Kind<'a> {
+pub(crate) enum View<'a> {
     Point(Point<'a>),
     LineString(LineString<'a>),
     Polygon(Polygon<'a>),
@@ -48,7 +48,7 @@ pub(crate) enum Kind<'a> {
 #[cycle(geometry)]
 #[derive(Debug, Drop)]
 pub struct Wkb<'a> {
-    pub(crate) kind: Kind<'a>,
+    pub(crate) kind: View<'a>,
 }
 
 impl<'a> Model for GeometryCollection<'a> {
@@ -125,7 +125,7 @@ impl<'a> GeometryCollection<'a> {
         self.layout.srid(self.buf)
     }
 
-    /// The same collection, with lists of its own.
+    /// A copy with lists of its own.
     #[cycle(clones)]
     pub fn clone(&self) -> Result<GeometryCollection<'a>, AllocError>
         ensures { IfOk result (λ c. c ≡ self.now) }
@@ -190,7 +190,7 @@ impl<'a> GeometryCollectionTrait for GeometryCollection<'a> {
 impl<'a> Wkb<'a> {
     ghost use Rattle.std.specs.Prelude.{◌≡◌, IfOk, MatchOption, None, Some};
     ghost use Rattle.wkb_read.specs.Words.{srid_of, whole_of, collection, dimension, IsCollection, IsSpelled};
-    ghost use Rattle.wkb_read.specs.Types.{type_of};
+    ghost use Rattle.wkb_read.specs.Types.{geometry_type_of};
     ghost use Rattle.wkb_read.specs.Public.{Reads};
 
     /// The geometry at the front of the bytes, as `read_wkb` answers it.
@@ -205,28 +205,28 @@ impl<'a> Wkb<'a> {
         ensures { result ≡ dimension self.now.value }
     {
         match &self.kind {
-            Kind::Point(point) => point.dimension(),
-            Kind::LineString(line_string) => line_string.dimension(),
-            Kind::Polygon(polygon) => polygon.dimension(),
-            Kind::MultiPoint(multi) => multi.dimension(),
-            Kind::MultiLineString(multi) => multi.dimension(),
-            Kind::MultiPolygon(multi) => multi.dimension(),
-            Kind::GeometryCollection(collection) => collection.dimension(),
+            View::Point(point) => point.dimension(),
+            View::LineString(line_string) => line_string.dimension(),
+            View::Polygon(polygon) => polygon.dimension(),
+            View::MultiPoint(multi) => multi.dimension(),
+            View::MultiLineString(multi) => multi.dimension(),
+            View::MultiPolygon(multi) => multi.dimension(),
+            View::GeometryCollection(collection) => collection.dimension(),
         }
     }
 
     /// The kind of geometry that it is.
     pub fn geometry_type(&self) -> TypeName
-        ensures { result ≡ type_of self.now.value }
+        ensures { result ≡ geometry_type_of self.now.value }
     {
         match &self.kind {
-            Kind::Point(_) => TypeName::Point,
-            Kind::LineString(_) => TypeName::LineString,
-            Kind::Polygon(_) => TypeName::Polygon,
-            Kind::MultiPoint(_) => TypeName::MultiPoint,
-            Kind::MultiLineString(_) => TypeName::MultiLineString,
-            Kind::MultiPolygon(_) => TypeName::MultiPolygon,
-            Kind::GeometryCollection(_) => TypeName::GeometryCollection,
+            View::Point(_) => TypeName::Point,
+            View::LineString(_) => TypeName::LineString,
+            View::Polygon(_) => TypeName::Polygon,
+            View::MultiPoint(_) => TypeName::MultiPoint,
+            View::MultiLineString(_) => TypeName::MultiLineString,
+            View::MultiPolygon(_) => TypeName::MultiPolygon,
+            View::GeometryCollection(_) => TypeName::GeometryCollection,
         }
     }
 
@@ -236,13 +236,13 @@ impl<'a> Wkb<'a> {
         ensures spells { IsSpelled self.now }
     {
         match &self.kind {
-            Kind::Point(point) => point.buf(),
-            Kind::LineString(line_string) => line_string.buf(),
-            Kind::Polygon(polygon) => polygon.buf(),
-            Kind::MultiPoint(multi) => multi.buf(),
-            Kind::MultiLineString(multi) => multi.buf(),
-            Kind::MultiPolygon(multi) => multi.buf(),
-            Kind::GeometryCollection(collection) => collection.buf(),
+            View::Point(point) => point.buf(),
+            View::LineString(line_string) => line_string.buf(),
+            View::Polygon(polygon) => polygon.buf(),
+            View::MultiPoint(multi) => multi.buf(),
+            View::MultiLineString(multi) => multi.buf(),
+            View::MultiPolygon(multi) => multi.buf(),
+            View::GeometryCollection(collection) => collection.buf(),
         }
     }
 
@@ -251,13 +251,13 @@ impl<'a> Wkb<'a> {
         ensures { result ≡ srid_of self.now.spelled }
     {
         match &self.kind {
-            Kind::Point(point) => point.srid(),
-            Kind::LineString(line_string) => line_string.srid(),
-            Kind::Polygon(polygon) => polygon.srid(),
-            Kind::MultiPoint(multi) => multi.srid(),
-            Kind::MultiLineString(multi) => multi.srid(),
-            Kind::MultiPolygon(multi) => multi.srid(),
-            Kind::GeometryCollection(collection) => collection.srid(),
+            View::Point(point) => point.srid(),
+            View::LineString(line_string) => line_string.srid(),
+            View::Polygon(polygon) => polygon.srid(),
+            View::MultiPoint(multi) => multi.srid(),
+            View::MultiLineString(multi) => multi.srid(),
+            View::MultiPolygon(multi) => multi.srid(),
+            View::GeometryCollection(collection) => collection.srid(),
         }
     }
 
@@ -266,24 +266,24 @@ impl<'a> Wkb<'a> {
         ensures { MatchOption result (IsCollection self.now.value → ⊥) (λ c. whole_of collection c.now ≡ self.now) }
     {
         match &self.kind {
-            Kind::GeometryCollection(collection) => Some(collection),
+            View::GeometryCollection(collection) => Some(collection),
             _ => None,
         }
     }
 
-    /// The same geometry, with lists of its own.
+    /// A copy with lists of its own.
     #[cycle(clones)]
     pub fn clone(&self) -> Result<Wkb<'a>, AllocError>
         ensures { IfOk result (λ w. w ≡ self.now) }
     {
         let kind = match &self.kind {
-            Kind::Point(point) => Kind::Point(*point),
-            Kind::LineString(line_string) => Kind::LineString(*line_string),
-            Kind::Polygon(polygon) => Kind::Polygon(polygon.clone()?),
-            Kind::MultiPoint(multi) => Kind::MultiPoint(*multi),
-            Kind::MultiLineString(multi) => Kind::MultiLineString(multi.clone()?),
-            Kind::MultiPolygon(multi) => Kind::MultiPolygon(multi.clone()?),
-            Kind::GeometryCollection(collection) => Kind::GeometryCollection(collection.clone()?),
+            View::Point(point) => View::Point(*point),
+            View::LineString(line_string) => View::LineString(*line_string),
+            View::Polygon(polygon) => View::Polygon(polygon.clone()?),
+            View::MultiPoint(multi) => View::MultiPoint(*multi),
+            View::MultiLineString(multi) => View::MultiLineString(multi.clone()?),
+            View::MultiPolygon(multi) => View::MultiPolygon(multi.clone()?),
+            View::GeometryCollection(collection) => View::GeometryCollection(collection.clone()?),
         };
         Ok(Wkb { kind })
     }
@@ -331,31 +331,40 @@ impl<'a> GeometryTrait for Wkb<'a> {
     #[inline(always)]
     fn whole(&self, order: Endianness, form: Form) -> Option<&[u8]> {
         match &self.kind {
-            Kind::Point(point) => point.whole(order, form),
-            Kind::LineString(line_string) => line_string.whole(order, form),
-            Kind::Polygon(polygon) => polygon.whole(order, form),
+            View::Point(point) => point.whole(order, form),
+            View::LineString(line_string) => line_string.whole(order, form),
+            View::Polygon(polygon) => polygon.whole(order, form),
             _ => None,
         }
     }
 
+    /// The view of its kind.
+    ///
+    /// ```
+    /// // How many coordinates a line string has.
+    /// let count = match wkb.as_type() {
+    ///     GeometryType::LineString(line) => line.num_coords(),
+    ///     _ => 0,
+    /// };
+    /// ```
     fn as_type(&self) -> AnyView<'_, 'a, Wkb<'a>>
         ensures view { IsViewOf self.now result }
     {
         match &self.kind {
-            Kind::Point(point) => GeometryType::Point(point),
-            Kind::LineString(line_string) => GeometryType::LineString(line_string),
-            Kind::Polygon(polygon) => GeometryType::Polygon(polygon),
-            Kind::MultiPoint(multi) => GeometryType::MultiPoint(multi),
-            Kind::MultiLineString(multi) => GeometryType::MultiLineString(multi),
-            Kind::MultiPolygon(multi) => GeometryType::MultiPolygon(multi),
-            Kind::GeometryCollection(collection) => {
+            View::Point(point) => GeometryType::Point(point),
+            View::LineString(line_string) => GeometryType::LineString(line_string),
+            View::Polygon(polygon) => GeometryType::Polygon(polygon),
+            View::MultiPoint(multi) => GeometryType::MultiPoint(multi),
+            View::MultiLineString(multi) => GeometryType::MultiLineString(multi),
+            View::MultiPolygon(multi) => GeometryType::MultiPolygon(multi),
+            View::GeometryCollection(collection) => {
                 GeometryType::GeometryCollection(collection.geometries())
             }
         }
     }
 }
 
-/// The same geometry, as one of any kind.
+/// This collection, as a geometry of any kind.
 impl<'a> From<GeometryCollection<'a>> for Wkb<'a> {
     ghost use Rattle.std.specs.Prelude.{◌≡◌};
     ghost use Rattle.wkb_read.specs.Words.{whole_of, collection as collected};
@@ -364,7 +373,7 @@ impl<'a> From<GeometryCollection<'a>> for Wkb<'a> {
 
     fn from(collection: GeometryCollection<'a>) -> Wkb<'a> {
         Wkb {
-            kind: Kind::GeometryCollection(collection),
+            kind: View::GeometryCollection(collection),
         }
     }
 }

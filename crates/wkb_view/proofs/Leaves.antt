@@ -3,12 +3,12 @@ use Rattle.std.proofs.Common.{◌≡◌, ℕ, zero, suc, ◌-◌, ◌+◌, ◌�
 use Rattle.std.proofs.Common.{take, drop, Option, Some, None}
 use Rattle.std.proofs.Common.{Ok, refl, sym, ap, ◌∙◌, length-take, length-drop, arith}
 use Rattle.std.proofs.lemmas.Bool.{le-ltb}
-use Rattle.wkb_geom.specs.Reading.{order_of, head_by_order}
+use Rattle.wkb_geom.specs.Reading.{order_of_byte, head_by_order}
 use Rattle.wkb_view.specs.Words.{Endianness, Dimension, Layout, number, number-take, ring_end, Item, Outcome, Reading}
 use Rattle.wkb_view.specs.Words.{free}
 use Rattle.wkb_view.specs.Words.{at_no_cost, head_at, consumed, line_string_at, layout_wanted}
 use Rattle.wkb_view.specs.Words.{member_layout, member_body, member_at, then_body}
-use Rattle.wkb_view.specs.Members.{item_of, IsEncoding, IsMember, layout_said, member_item}
+use Rattle.wkb_view.specs.Members.{item_of, IsEncoding, IsMemberOfKind, layout_said, member_item}
 use Rattle.wkb_view.specs.Pieces.{Passed, IsRing}
 use Rattle.wkb_view.proofs.Pieces.{drop-of-take}
 
@@ -30,7 +30,7 @@ pub head-take : (n : ℕ) (bytes : List ℕ) → 5 ≤ n → n ≤ length bytes 
 unfolding head_at
 head-take zero bytes h le = absurd (omega arith)
 head-take (suc n) [] h le = absurd (omega arith)
-head-take (suc n) (b ∷ bytes) h le = by_order_same (order_of b) n bytes (omega arith) (omega arith)
+head-take (suc n) (b ∷ bytes) h le = by_order_same (order_of_byte b) n bytes (omega arith) (omega arith)
 
 free_by : (b : Bool) (r p : Reading Item) → p.0 ≡ free → r.0 ≡ free → (cond b p r).0 ≡ free
 free_by true r p h k = h
@@ -68,7 +68,7 @@ member_gives k d bytes l r e is = ap (λ s. then_body s (λ m. member_body k m b
 
 -- a member that was read, as it was passed
 pub member_passed : (k : ℕ) (d : Dimension) (bytes : List ℕ) (l : Layout) (x : Item) (rest : List ℕ) → member_layout k d bytes ≡ Ok l
-    → Passed 9 (IsEncoding k l) bytes rest → x ≡ item_of k l (consumed bytes rest) → (x ≡ member_item k d (consumed bytes rest)) × Passed 9 (IsMember k d) bytes rest
+    → Passed 9 (IsEncoding k l) bytes rest → x ≡ item_of k l (consumed bytes rest) → (x ≡ member_item k d (consumed bytes rest)) × Passed 9 (IsMemberOfKind k d) bytes rest
 member_passed k d bytes l x rest e passed is =
     let shorter = passed.shorter in
     let layout : member_layout k d (consumed bytes rest) ≡ Ok l =

@@ -14,7 +14,7 @@ use Rattle.wkb_view.specs.Words.{polygon_of, Endianness, Layout, Head, Cause}
 use Rattle.wkb_view.specs.Words.{multi_point_end, body_start, point_of, consumed, laid, head_at, layout_wanted}
 use Rattle.wkb_view.specs.Words.{member_layout, list_of_spellings}
 use Rattle.wkb_view.specs.Fitted.{fitted_line_strings, fitted_polygons}
-use Rattle.wkb_view.specs.Members.{polygon_items, IsEncoding, IsMember, AreMembers, member_item, members_in, pieces_behind}
+use Rattle.wkb_view.specs.Members.{polygon_items, IsEncoding, IsMemberOfKind, AreMembersOfKind, member_item, members_in, pieces_behind}
 use Rattle.wkb_view.specs.Members.{every, stride, point_ends, points_in}
 use Rattle.wkb_view.specs.Pieces.{pieces, Passed}
 use Rattle.wkb_view.specs.Ranges.{member_dimension}
@@ -32,10 +32,10 @@ members_counted f k l ends encoding = length-map (members_in k l ends encoding) 
 
 module _ (k : ℕ) (l : Layout) (ends encoding : List ℕ) (i : ℕ) where
   -- one that is handed out has the encoding that its layout says
-  pub member_encoding : (t : List ℕ) (m : Layout) → AreMembers k l ends encoding → Some t ≡ slice_get (pieces_behind l ends encoding) i
+  pub member_encoding : (t : List ℕ) (m : Layout) → AreMembersOfKind k l ends encoding → Some t ≡ slice_get (pieces_behind l ends encoding) i
       → member_layout k l.dimension t ≡ Ok m → IsEncoding k m t
   member_encoding t m are e is =
-      let member = piece_form (IsMember k l.dimension) (body_start l.has_srid + 4) ends encoding i t are e in
+      let member = piece_form (IsMemberOfKind k l.dimension) (body_start l.has_srid + 4) ends encoding i t are e in
       subst (λ n. IsEncoding k n t) (same member.layout m (sym member.layout_is ∙ is)) member.encoding_is
     where
       good : Layout → Result Layout Cause
@@ -45,9 +45,9 @@ module _ (k : ℕ) (l : Layout) (ends encoding : List ℕ) (i : ℕ) where
       same m n e = cc
 
   -- and has a layout
-  pub member_there : (t : List ℕ) → AreMembers k l ends encoding → Some t ≡ slice_get (pieces_behind l ends encoding) i → IsOk (member_layout k l.dimension t)
+  pub member_there : (t : List ℕ) → AreMembersOfKind k l ends encoding → Some t ≡ slice_get (pieces_behind l ends encoding) i → IsOk (member_layout k l.dimension t)
   member_there t are e =
-      let member = piece_form (IsMember k l.dimension) (body_start l.has_srid + 4) ends encoding i t are e in
+      let member = piece_form (IsMemberOfKind k l.dimension) (body_start l.has_srid + 4) ends encoding i t are e in
       rw member.layout_is refl
 
   -- what is made of it
@@ -148,7 +148,7 @@ member_laid k d bytes l e = e ∙ ap (λ (f : Dimension). Ok (laid l.order f l.h
 pub point_laid : (d : Dimension) (bytes : List ℕ) (l : Layout) → member_layout 1 d bytes ≡ Ok l → member_layout 1 d bytes ≡ Ok (laid l.order d false)
 point_laid d bytes l e = member_laid 1 d bytes l e ∙ ap (λ (s : Bool). Ok (laid l.order d s)) (no_srid d (head_at bytes) l e)
 
-member_size : (d : Dimension) (encoding : List ℕ) → IsMember 1 d encoding → length encoding ≡ stride d
+member_size : (d : Dimension) (encoding : List ℕ) → IsMemberOfKind 1 d encoding → length encoding ≡ stride d
 member_size d encoding m =
     let same : m.layout.dimension ≡ d = member_dimension 1 d encoding m.layout m.layout_is in
     let none : m.layout.has_srid ≡ false = no_srid d (head_at encoding) m.layout m.layout_is in
@@ -157,7 +157,7 @@ member_size d encoding m =
 -- a member more
 pub ends_next : (l : Layout) (i : ℕ) (bytes rest after : List ℕ) → rest ≡ drop (last_end (body_start l.has_srid + 4) (point_ends l i)) bytes
     → last_end (body_start l.has_srid + 4) (point_ends l i) ≤ length bytes
-    → Passed 9 (IsMember 1 l.dimension) rest after → point_ends l (i + 1) ≡ point_ends l i ++ (length bytes - length after) ∷ []
+    → Passed 9 (IsMemberOfKind 1 l.dimension) rest after → point_ends l (i + 1) ≡ point_ends l i ++ (length bytes - length after) ∷ []
 ends_next l i bytes rest after rest-is within passed =
     let start = body_start l.has_srid + 4 in
     let last = last_end-every start (stride l.dimension) i in

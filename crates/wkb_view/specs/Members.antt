@@ -6,7 +6,7 @@ use Rattle.wkb_view.specs.Words.{Layout, Dimension, BigEndian, Cause, Coordinate
 use Rattle.wkb_view.specs.Words.{line_string_end, Spellings, no_spellings, Listed}
 use Rattle.wkb_view.specs.Words.{whole_of, Reading, repeated, Item, spellings, laid, body_start, parts_start}
 use Rattle.wkb_view.specs.Words.{spelled_in, point_item, line_string_item}
-use Rattle.wkb_view.specs.Words.{ring_in, list_item, line_string_of, polygon_of, multi_point_with, member_layout}
+use Rattle.wkb_view.specs.Words.{ring_in, list_item, line_string_of, polygon_of, multi_point_with, member_layout, member_at}
 use Rattle.wkb_view.specs.Words.{IsSpelled}
 use Rattle.wkb_view.specs.Pieces.{pieces, ArePieces, IsRing}
 
@@ -25,7 +25,7 @@ pub record IsEncoding (k : ℕ) (l : Layout) (encoding : List ℕ) : Type 0 wher
   pub spells : IsSpelled (item_of k l encoding)
 
 -- the encoding is that of a member of this kind and dimension
-pub record IsMember (k : ℕ) (d : Dimension) (encoding : List ℕ) : Type 0 where
+pub record IsMemberOfKind (k : ℕ) (d : Dimension) (encoding : List ℕ) : Type 0 where
   pub layout : Layout
   pub layout_is : member_layout k d encoding ≡ Ok layout
   pub encoding_is : IsEncoding k layout encoding
@@ -45,6 +45,10 @@ member_item k d encoding = item_of k (layout_said d (member_layout k d encoding)
 abbrev pub parts_behind : {A : Type 0} → (List ℕ → Reading A) → Layout → ℕ → List ℕ → Reading (List A)
 parts_behind part l n bytes = repeated n part (parts_start l.has_srid bytes)
 
+-- so many members of this kind
+abbrev pub members_behind : ℕ → Layout → ℕ → List ℕ → Reading (List Item)
+members_behind k l n bytes = parts_behind (member_at k l.dimension) l n bytes
+
 -- the encodings of the parts
 abbrev pub pieces_behind : Layout → List ℕ → List ℕ → List (List ℕ)
 pieces_behind l ends encoding = pieces (body_start l.has_srid + 4) ends encoding
@@ -54,8 +58,8 @@ abbrev pub AreRings : Layout → List ℕ → List ℕ → Type 0
 AreRings l ends encoding = ArePieces (IsRing l.order l.dimension) (body_start l.has_srid + 4) ends encoding
 
 -- each is a member of this kind
-abbrev pub AreMembers : ℕ → Layout → List ℕ → List ℕ → Type 0
-AreMembers k l ends encoding = ArePieces (IsMember k l.dimension) (body_start l.has_srid + 4) ends encoding
+abbrev pub AreMembersOfKind : ℕ → Layout → List ℕ → List ℕ → Type 0
+AreMembersOfKind k l ends encoding = ArePieces (IsMemberOfKind k l.dimension) (body_start l.has_srid + 4) ends encoding
 
 -- the members that they are
 abbrev pub members_in : ℕ → Layout → List ℕ → List ℕ → List Item
@@ -76,7 +80,7 @@ point_ends l n = every (body_start l.has_srid + 4) (stride l.dimension) n
 
 -- so many points stand behind the count
 abbrev pub ArePoints : Layout → ℕ → List ℕ → Type 0
-ArePoints l n encoding = AreMembers 1 l (point_ends l n) encoding
+ArePoints l n encoding = AreMembersOfKind 1 l (point_ends l n) encoding
 
 -- they are these
 abbrev pub points_in : Layout → ℕ → List ℕ → List Item

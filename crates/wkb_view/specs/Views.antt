@@ -1,7 +1,7 @@
 -- What the views stand for.
 use Rattle.std.proofs.Common.{◌≡◌, ℕ, ◌+◌, ◌*◌, List, drop, Bool, true, false, refl}
 use Rattle.wkb_view.specs.Words.{Layout, Coordinate, width, all_nan, Item, coordinate, point_item, point_item_of}
-use Rattle.wkb_view.specs.Words.{point_of, line_string_item, body_start}
+use Rattle.wkb_view.specs.Words.{point_of, line_string_of, line_string_item, body_start}
 use Rattle.wkb_geom.specs.Values.{point}
 use Rattle.wkb_view.specs.declared.point.Point.{Point}
 use Rattle.wkb_view.specs.declared.line_string.LineString.{LineString}
@@ -17,6 +17,10 @@ line_string_seen l = line_string_item l.layout l.buf.now
 
 abbrev pub multi_point_seen : MultiPoint → Item
 multi_point_seen m = multi_point_item m.layout m.count m.buf.now
+
+-- the coordinates of a line string
+abbrev pub line_string_coordinates : LineString → List Coordinate
+line_string_coordinates l = line_string_of (line_string_seen l).value
 
 -- how its bytes are laid out
 abbrev pub point_layout : Point → Layout

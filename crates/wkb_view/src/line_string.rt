@@ -32,10 +32,11 @@ impl<'a> LineString<'a> {
     ghost use Rattle.std.specs.Prelude.{◌≡◌, ◌+◌, length, ◌≤◌, drop, IfOk};
     ghost use Rattle.wkb_geom.specs.Values as value;
     ghost use Rattle.wkb_geom.specs.declared.code.WkbType.TheVariants as kinds;
-    ghost use Rattle.wkb_view.specs.Words.{body_start, line_string_of, line_string_at, line_string_item, consumed};
+    ghost use Rattle.wkb_view.specs.Words.{body_start, line_string_at, line_string_item, consumed};
     ghost use Rattle.wkb_view.specs.Parts.{IsSpelled, order_of};
     ghost use Rattle.wkb_view.specs.Coords.{ring_encoding, ring_order, ring_dimension};
-    ghost use Rattle.wkb_view.specs.Views.{line_string_seen, line_string_layout, line_string_offset};
+    ghost use Rattle.wkb_view.specs.Views.{line_string_seen, line_string_layout};
+    ghost use Rattle.wkb_view.specs.Views.{line_string_offset, line_string_coordinates};
     ghost use Rattle.wkb_view.specs.Headers.{HasHead};
     ghost use Rattle.wkb_view.specs.Outcome.{Answers};
     ghost use Rattle.wkb_view.specs.Members.{IsEncoding};
@@ -52,10 +53,10 @@ impl<'a> LineString<'a> {
     /// Where a coordinate begins in its bytes.
     #[inline]
     pub fn coord_offset(&self, i: u64) -> u64
-        requires { i ≤ length (line_string_of (line_string_seen self.now).value) }
+        requires { i ≤ length (line_string_coordinates self.now) }
         ensures { result ≡ line_string_offset self.now i }
     {
-        self.layout.body_start() as u64 + self.ring().coord_offset(i)
+        self.layout.header_length() as u64 + self.ring().coord_offset(i)
     }
 
     /// Its dimension.
@@ -72,7 +73,7 @@ impl<'a> LineString<'a> {
         ensures { result.now ≡ drop (body_start (line_string_layout self.now).has_srid + 4)
             (line_string_seen self.now).encoding }
     {
-        &self.buf[self.layout.body_start() + COUNT..]
+        &self.buf[self.layout.header_length() + COUNT..]
     }
 
     /// The order of its numbers.
@@ -101,7 +102,7 @@ impl<'a> LineString<'a> {
         ensures dimension { ring_dimension result ≡ (line_string_layout self.now).dimension }
     {
         LinearRing {
-            bytes: &self.buf[self.layout.body_start()..],
+            bytes: &self.buf[self.layout.header_length()..],
             order: self.layout.order,
             dimension: self.layout.dimension,
             count: self.count,
@@ -119,7 +120,7 @@ impl<'a> LineString<'a> {
         ensures shorter { IfOk result (λ x. length x.1.now + 9 ≤ length bytes.now) }
     {
         let count = layout.count(bytes)?;
-        let start = layout.body_start() + COUNT;
+        let start = layout.header_length() + COUNT;
         let end = start as u64 + 8 * layout.dimension.width() as u64 * count as u64;
         if (bytes.len() as u64) < end {
             return Err(Cause::General(General::ShortLineString {
@@ -142,7 +143,7 @@ impl<'a> LineString<'a> {
         LineString {
             buf,
             layout,
-            count: u32_at(buf, layout.body_start(), layout.order),
+            count: u32_at(buf, layout.header_length(), layout.order),
         }
     }
 }
@@ -172,14 +173,16 @@ impl Dimensioned for LineString<'_> {
 
 impl<'a> LineStringTrait for LineString<'a> {
     ghost use Rattle.std.specs.Prelude.{◌≡◌, length, option_map, IfSome, ◌<◌, Some, slice_get};
-    ghost use Rattle.wkb_view.specs.Words.{dimensions as trait_dimensions, line_string_of, order_of};
-    ghost use Rattle.wkb_view.specs.Coords.{words_seen, coordinate_encoding, coord_order, coord_dimension, coord_encoding};
+    ghost use Rattle.wkb_view.specs.Words.{dimensions as trait_dimensions, order_of};
+    ghost use Rattle.wkb_view.specs.Coords.{words_seen, coordinate_encoding};
+    ghost use Rattle.wkb_view.specs.Coords.{coord_order, coord_dimension, coord_encoding};
     ghost use Rattle.wkb_view.specs.Ranges.{line_string_lawful};
-    ghost use Rattle.wkb_view.specs.Views.{line_string_seen, line_string_layout, line_string_offset};
+    ghost use Rattle.wkb_view.specs.Views.{line_string_seen, line_string_layout};
+    ghost use Rattle.wkb_view.specs.Views.{line_string_offset, line_string_coordinates};
 
     type CoordType = Coord<'a>;
 
-    ghost coordinates = { λ l. line_string_of (line_string_seen l).value };
+    ghost coordinates = { line_string_coordinates };
 
     ghost lawful = { λ l. line_string_lawful l.layout l.buf.now l.in_range };
 
@@ -200,11 +203,12 @@ impl<'a> LineStringTrait for LineString<'a> {
 
     #[inline]
     fn coord(&self, i: usize) -> Option<Coord<'a>>
-        ensures value { option_map words_seen result ≡ slice_get (line_string_of (line_string_seen self.now).value) i }
+        ensures value { option_map words_seen result ≡ slice_get (line_string_coordinates self.now) i }
         ensures dimensions { IfSome result (λ c. trait_dimensions (coord_dimension c)
             ≡ trait_dimensions (line_string_layout self.now).dimension) }
         ensures order { IfSome result (λ c. coord_order c ≡ order_of (line_string_seen self.now).spelled) }
-        ensures bytes { IfSome result (λ c. coord_encoding c ≡ coordinate_encoding (line_string_layout self.now).dimension
+        ensures bytes { IfSome result (λ c. coord_encoding c
+            ≡ coordinate_encoding (line_string_layout self.now).dimension
             (line_string_offset self.now i) (line_string_seen self.now).encoding) }
     {
         self.ring().coord(i)
@@ -212,8 +216,8 @@ impl<'a> LineStringTrait for LineString<'a> {
 
     #[inline]
     fn coord_at(&self, i: usize) -> Coord<'a>
-        requires { i < length (line_string_of (line_string_seen self.now).value) }
-        ensures value { slice_get (line_string_of (line_string_seen self.now).value) i ≡ Some (words_seen result) }
+        requires { i < length (line_string_coordinates self.now) }
+        ensures value { slice_get (line_string_coordinates self.now) i ≡ Some (words_seen result) }
         ensures dimensions { trait_dimensions (coord_dimension result)
             ≡ trait_dimensions (line_string_layout self.now).dimension }
         ensures order { coord_order result ≡ order_of (line_string_seen self.now).spelled }
@@ -229,9 +233,9 @@ impl<'a> GeometryTrait for LineString<'a> {
     ghost use Rattle.std.specs.Prelude.{◌≡◌, refl};
     ghost use Rattle.wkb_geom.specs.declared.geom.GeometryType.TheVariants.{LineString as Handed};
     ghost use Rattle.wkb_geom.specs.Geometries.{line_string};
-    ghost use Rattle.wkb_view.specs.Words.{dimensions as trait_dimensions, line_string_of};
+    ghost use Rattle.wkb_view.specs.Words.{dimensions as trait_dimensions};
     ghost use Rattle.wkb_view.specs.Ranges.{line_string_lawful};
-    ghost use Rattle.wkb_view.specs.Views.{line_string_seen, line_string_layout};
+    ghost use Rattle.wkb_view.specs.Views.{line_string_layout, line_string_coordinates};
 
     type PointType = Point<'a>;
 
@@ -252,7 +256,7 @@ impl<'a> GeometryTrait for LineString<'a> {
     type LineType = Line<'a>;
 
     ghost geometry = { λ l. line_string (trait_dimensions (line_string_layout l).dimension)
-        (line_string_of (line_string_seen l).value) };
+        (line_string_coordinates l) };
 
     ghost one_dimension = { λ g. refl };
 

@@ -7,7 +7,7 @@ ghost use Rattle.wkb_view.specs.Pieces.{IsRing, Passed};
 
 use crate::any::{Line, MultiLineString, MultiPoint, MultiPolygon, Point, Polygon, Rect, Triangle};
 use crate::coord::Coord;
-use crate::part::part;
+use crate::part::subslice;
 use wkb_geom::words::{COUNT, u32_at};
 use wkb_geom::{
     Cause, Dimension, Dimensioned, Dimensions, Endianness, General, GeometryTrait, GeometryType,
@@ -95,7 +95,8 @@ impl Dimensioned for LinearRing<'_> {
 impl<'a> LineStringTrait for LinearRing<'a> {
     ghost use Rattle.std.specs.Prelude.{◌≡◌, length, option_map, IfSome, ◌<◌, Some, slice_get};
     ghost use Rattle.wkb_view.specs.Words.{dimensions as trait_dimensions};
-    ghost use Rattle.wkb_view.specs.Coords.{words_seen, coordinate_encoding, coord_order, coord_dimension, coord_encoding};
+    ghost use Rattle.wkb_view.specs.Coords.{words_seen, coordinate_encoding};
+    ghost use Rattle.wkb_view.specs.Coords.{coord_order, coord_dimension, coord_encoding};
     ghost use Rattle.wkb_view.specs.Coords.{ring_encoding, ring_order, ring_dimension, ring_seen, ring_offset};
     ghost use Rattle.wkb_view.specs.Ranges.{ring_lawful};
 
@@ -148,7 +149,7 @@ impl<'a> LineStringTrait for LinearRing<'a> {
     {
         let start = self.coord_offset(i as u64) as usize;
         Coord {
-            bytes: part(self.bytes, start, 8 * self.dimension.width()),
+            bytes: subslice(self.bytes, start, 8 * self.dimension.width()),
             order: self.order,
             dimension: self.dimension,
         }
@@ -217,7 +218,8 @@ pub(crate) fn ring<'a>(
     dimension: Dimension,
     bytes: &'a [u8],
 ) -> Result<&'a [u8], Cause>
-    ensures answer { Answers (λ rest. (consumed bytes.now rest.now, rest.now)) result (ring_at order dimension bytes.now) }
+    ensures answer { Answers (λ rest. (consumed bytes.now rest.now, rest.now)) result
+        (ring_at order dimension bytes.now) }
     ensures passed { IfOk result (λ rest. Passed 4 (IsRing order dimension) bytes.now rest.now) }
 {
     if bytes.len() < COUNT {

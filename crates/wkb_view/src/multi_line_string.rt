@@ -2,7 +2,7 @@
 
 ghost use Rattle.std.specs.Prelude.{◌≡◌, ◌+◌, length, ◌≤◌, IfOk, ◌/◌, [], min};
 ghost use Rattle.wkb_view.specs.Words.{dimensions as trait_dimensions, body_start, member_at, parts_start, consumed};
-ghost use Rattle.wkb_view.specs.Members.{parts_behind, IsMember, member_item, AreMembers, members_in};
+ghost use Rattle.wkb_view.specs.Members.{members_behind, IsMemberOfKind, member_item, AreMembersOfKind, members_in};
 ghost use Rattle.wkb_view.specs.Outcome.{Freely, Surely, CanCount};
 ghost use Rattle.wkb_view.specs.Entries.{entries, room};
 ghost use Rattle.wkb_view.specs.Pieces.{Passed};
@@ -12,7 +12,7 @@ use crate::any::{
 };
 use crate::counts::Counts;
 use crate::own_srid::OwnSrid;
-use crate::part::piece;
+use crate::part::part_at;
 use crate::reserved::{Reserved, counted_list};
 use std::alloc::{AllocError, Global};
 use std::marker::Model;
@@ -37,7 +37,7 @@ impl<'a> Model for MultiLineString<'a> {
     ghost use Rattle.wkb_geom.specs.Stored.{listed_code, rings_code};
     ghost use Rattle.wkb_geom.specs.Values.{multi_line_string};
     ghost use Rattle.wkb_view.specs.Words.{body_start, whole_of, Listed, Coordinate, IsSpelled};
-    ghost use Rattle.wkb_view.specs.Members.{AreMembers, line_strings_laid};
+    ghost use Rattle.wkb_view.specs.Members.{AreMembersOfKind, line_strings_laid};
 
     ghost Value = { Listed (List (List Coordinate)) };
 
@@ -46,7 +46,7 @@ impl<'a> Model for MultiLineString<'a> {
     ghost view = { λ a. line_strings_laid a.layout a.ends.items a.buf.now };
 
     ghost invariant = { λ a. (body_start a.layout.has_srid + 4 ≤ length a.buf.now)
-        × AreMembers 2 a.layout a.ends.items a.buf.now
+        × AreMembersOfKind 2 a.layout a.ends.items a.buf.now
         × IsSpelled (whole_of multi_line_string (line_strings_laid a.layout a.ends.items a.buf.now)) };
 }
 
@@ -54,8 +54,8 @@ impl<'a> MultiLineString<'a> {
     ghost use Rattle.std.specs.Prelude.{◌≡◌, length, option_map, IfSome, IfOk, slice_get, ◌+◌, ◌≤◌};
     ghost use Rattle.wkb_geom.specs.Values.{multi_line_string};
     ghost use Rattle.wkb_geom.specs.declared.code.WkbType.TheVariants as kinds;
-    ghost use Rattle.wkb_view.specs.Words.{line_string_of, whole_of, multi_line_string_at, IsSpelled, spelling_at};
-    ghost use Rattle.wkb_view.specs.Views.{line_string_seen, line_string_layout};
+    ghost use Rattle.wkb_view.specs.Words.{whole_of, multi_line_string_at, IsSpelled, spelling_at};
+    ghost use Rattle.wkb_view.specs.Views.{line_string_seen, line_string_layout, line_string_coordinates};
     ghost use Rattle.wkb_view.specs.Headers.{HasHead};
     ghost use Rattle.wkb_view.specs.Memory.{IsNoWant};
     ghost use Rattle.wkb_view.specs.Outcome.{Gives, CanCount};
@@ -95,17 +95,16 @@ impl<'a> MultiLineString<'a> {
 
     /// The line string at an index, made again from the bytes between two ends, in its own order.
     pub(crate) fn member(&self, i: usize) -> Option<LineString<'a>>
-        ensures value { option_map (λ l. line_string_of (line_string_seen l).value) result
-            ≡ slice_get self.now.parts i }
+        ensures value { option_map line_string_coordinates result ≡ slice_get self.now.parts i }
         ensures dimension { IfSome result (λ l. (line_string_layout l).dimension ≡ self.now.dimension) }
         ensures spelled { option_map (λ l. (line_string_seen l).spelled) result ≡ spelling_at self.now.spelled i }
     {
-        let buf = piece(self.buf, self.layout.body_start() + COUNT, &self.ends, i)?;
+        let buf = part_at(self.buf, self.layout.header_length() + COUNT, &self.ends, i)?;
         let layout = Layout::of_known_member(LINE_STRING, self.layout.dimension, buf);
         Some(LineString::of_encoding(layout, buf))
     }
 
-    /// The same multi line string, with a list of its own.
+    /// A copy with a list of its own.
     pub fn clone(&self) -> Result<MultiLineString<'a>, AllocError>
         ensures { IfOk result (λ p. p ≡ self.now) }
     {
@@ -163,8 +162,8 @@ impl Dimensioned for MultiLineString<'_> {
 
 impl<'a> MultiLineStringTrait for MultiLineString<'a> {
     ghost use Rattle.std.specs.Prelude.{◌≡◌, option_map, IfSome, slice_get};
-    ghost use Rattle.wkb_view.specs.Words.{dimensions as trait_dimensions, line_string_of, spelling_at};
-    ghost use Rattle.wkb_view.specs.Views.{line_string_seen, line_string_layout};
+    ghost use Rattle.wkb_view.specs.Words.{dimensions as trait_dimensions, spelling_at};
+    ghost use Rattle.wkb_view.specs.Views.{line_string_seen, line_string_layout, line_string_coordinates};
     ghost use Rattle.wkb_view.specs.Fitted.{fitted_line_strings, line_strings_fit};
 
     type InnerLineStringType = LineString<'a>;
@@ -180,9 +179,9 @@ impl<'a> MultiLineStringTrait for MultiLineString<'a> {
 
     #[inline]
     fn line_string(&self, i: usize) -> Option<LineString<'a>>
-        ensures value { option_map (λ l. line_string_of (line_string_seen l).value) result
+        ensures value { option_map line_string_coordinates result
             ≡ slice_get (fitted_line_strings (trait_dimensions self.now.dimension) self.now.parts) i }
-        ensures part { option_map (λ l. line_string_of (line_string_seen l).value) result ≡ slice_get self.now.parts i }
+        ensures part { option_map line_string_coordinates result ≡ slice_get self.now.parts i }
         ensures dimensions { IfSome result (λ l. trait_dimensions (line_string_layout l).dimension
             ≡ trait_dimensions self.now.dimension) }
         ensures spelled { option_map (λ l. (line_string_seen l).spelled) result ≡ spelling_at self.now.spelled i }
@@ -235,7 +234,7 @@ impl<'a> GeometryTrait for MultiLineString<'a> {
 fn line_string<'a>(dimension: Dimension, bytes: &'a [u8]) -> Result<&'a [u8], Cause>
     ensures answer { Freely (λ rest. (member_item 2 dimension (consumed bytes.now rest.now), rest.now))
         result (member_at 2 dimension bytes.now) }
-    ensures passed { IfOk result (λ rest. Passed 9 (IsMember 2 dimension) bytes.now rest.now) }
+    ensures passed { IfOk result (λ rest. Passed 9 (IsMemberOfKind 2 dimension) bytes.now rest.now) }
 {
     let member = Layout::of_member(LINE_STRING, dimension, bytes)?;
     // Made anew, so that it doesn't go through memory.
@@ -260,13 +259,13 @@ fn line_strings<'a>(
     requires whole { body_start layout.has_srid + 4 ≤ length bytes.now }
     requires empty { entries ends ≡ [] }
     requires room { min count (length (parts_start layout.has_srid bytes.now) / 9) ≤ room ends }
-    requires fits { CanCount counts.old (parts_behind (member_at 2 layout.dimension) layout count bytes.now).0 }
+    requires fits { CanCount counts.old (members_behind 2 layout count bytes.now).0 }
     ensures line_strings { Surely (λ x. (members_in 2 layout (entries x.0) (consumed bytes.now x.1.now), x.1.now))
-        result (parts_behind (member_at 2 layout.dimension) layout count bytes.now) counts.old counts.new }
-    ensures ends { IfOk result (λ x. AreMembers 2 layout (entries x.0) (consumed bytes.now x.1.now)) }
+        result (members_behind 2 layout count bytes.now) counts.old counts.new }
+    ensures ends { IfOk result (λ x. AreMembersOfKind 2 layout (entries x.0) (consumed bytes.now x.1.now)) }
     ensures shorter { IfOk result (λ x. length x.1.now + body_start layout.has_srid + 4 ≤ length bytes.now) }
 {
-    let mut rest = layout.behind_count(bytes);
+    let mut rest = layout.after_count(bytes);
     for _ in 0..count {
         counts.turns += 1;
         rest = line_string(layout.dimension, rest)?;

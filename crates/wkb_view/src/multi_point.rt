@@ -2,7 +2,8 @@
 
 ghost use Rattle.std.specs.Prelude.{◌≡◌, ◌+◌, length, ◌≤◌, IfOk};
 ghost use Rattle.wkb_view.specs.Words.{AreBytes, body_start, member_at, consumed, multi_point_end, IsSpelled};
-ghost use Rattle.wkb_view.specs.Members.{parts_behind, IsMember, member_item, points_in, ArePoints, multi_point_item};
+ghost use Rattle.wkb_view.specs.Members.{members_behind, IsMemberOfKind, ArePoints};
+ghost use Rattle.wkb_view.specs.Members.{member_item, points_in, multi_point_item};
 ghost use Rattle.wkb_view.specs.Outcome.{Freely, Surely, CanCount};
 ghost use Rattle.wkb_view.specs.Pieces.{Passed};
 
@@ -11,7 +12,7 @@ use crate::any::{
 };
 use crate::counts::Counts;
 use crate::own_srid::OwnSrid;
-use crate::part::part;
+use crate::part::subslice;
 use wkb_geom::code::POINT;
 use wkb_geom::header::MEMBER_HEADER;
 use wkb_geom::words::COUNT;
@@ -56,7 +57,7 @@ impl<'a> MultiPoint<'a> {
         requires { i ≤ length (points_of (multi_point_seen self.now).value) }
         ensures { result ≡ multi_point_offset self.now i }
     {
-        let start = self.layout.body_start() + COUNT;
+        let start = self.layout.header_length() + COUNT;
         let member = MEMBER_HEADER + 8 * self.layout.dimension.width();
         start as u64 + member as u64 * i
     }
@@ -93,7 +94,7 @@ impl<'a> MultiPoint<'a> {
         ensures shorter { IfOk result (λ x. length x.1.now + 9 ≤ length bytes.now) }
     {
         let count = layout.count(bytes)?;
-        let start = layout.body_start() + COUNT;
+        let start = layout.header_length() + COUNT;
         let member = MEMBER_HEADER + 8 * layout.dimension.width();
         let end = start as u64 + member as u64 * count as u64;
         if (bytes.len() as u64) < end {
@@ -161,7 +162,8 @@ impl<'a> MultiPointTrait for MultiPoint<'a> {
             ≡ trait_dimensions (multi_point_layout self.now).dimension) }
         ensures spelled { option_map (λ p. (point_seen p).spelled) result
             ≡ spelling_at (multi_point_seen self.now).spelled i }
-        ensures bytes { IfSome result (λ p. (point_seen p).encoding ≡ take (stride (multi_point_layout self.now).dimension)
+        ensures bytes { IfSome result (λ p. (point_seen p).encoding
+            ≡ take (stride (multi_point_layout self.now).dimension)
             (drop (multi_point_offset self.now i) (multi_point_seen self.now).encoding)) }
     {
         if i >= self.count as usize {
@@ -169,7 +171,7 @@ impl<'a> MultiPointTrait for MultiPoint<'a> {
         }
         let start = self.point_offset(i as u64) as usize;
         let member = MEMBER_HEADER + 8 * self.layout.dimension.width();
-        let buf = part(self.buf, start, member);
+        let buf = subslice(self.buf, start, member);
         let layout = Layout::of_known_member(POINT, self.layout.dimension, buf);
         Some(Point::of_encoding(layout, buf))
     }
@@ -221,7 +223,7 @@ impl<'a> GeometryTrait for MultiPoint<'a> {
 fn point<'a>(dimension: Dimension, bytes: &'a [u8]) -> Result<&'a [u8], Cause>
     ensures answer { Freely (λ rest. (member_item 1 dimension (consumed bytes.now rest.now), rest.now))
         result (member_at 1 dimension bytes.now) }
-    ensures passed { IfOk result (λ rest. Passed 9 (IsMember 1 dimension) bytes.now rest.now) }
+    ensures passed { IfOk result (λ rest. Passed 9 (IsMemberOfKind 1 dimension) bytes.now rest.now) }
 {
     let member = Layout::of_member(POINT, dimension, bytes)?;
     // Made anew from what is known, so that it doesn't go through memory.
@@ -242,14 +244,14 @@ fn points<'a>(
     counts: &mut Counts,
 ) -> Result<&'a [u8], Cause>
     requires whole { body_start layout.has_srid + 4 ≤ length bytes.now }
-    requires fits { CanCount counts.old (parts_behind (member_at 1 layout.dimension) layout count bytes.now).0 }
+    requires fits { CanCount counts.old (members_behind 1 layout count bytes.now).0 }
     ensures points { Surely (λ rest. (points_in layout count (consumed bytes.now rest.now), rest.now))
-        result (parts_behind (member_at 1 layout.dimension) layout count bytes.now) counts.old counts.new }
+        result (members_behind 1 layout count bytes.now) counts.old counts.new }
     ensures each { IfOk result (λ rest. ArePoints layout count (consumed bytes.now rest.now)) }
     ensures end { IfOk result (λ rest. multi_point_end layout.dimension layout.has_srid count + length rest.now
         ≡ length bytes.now) }
 {
-    let mut rest = layout.behind_count(bytes);
+    let mut rest = layout.after_count(bytes);
     for _ in 0..count {
         counts.turns += 1;
         rest = point(layout.dimension, rest)?;

@@ -6,7 +6,7 @@ ghost use Rattle.wkb_geom.specs.Values as value;
 ghost use Rattle.wkb_view.specs.Words.{dimensions as trait_dimensions, body_start, member_at, parts_start, whole_of};
 ghost use Rattle.wkb_view.specs.Memory.{IsNoWant};
 ghost use Rattle.wkb_view.specs.Outcome.{Gives, CanCount};
-ghost use Rattle.wkb_view.specs.Members.{parts_behind, polygon_items};
+ghost use Rattle.wkb_view.specs.Members.{members_behind, polygon_items};
 ghost use Rattle.wkb_view.specs.Entries.{entries, room};
 
 use crate::any::{
@@ -85,7 +85,7 @@ impl<'a> MultiPolygon<'a> {
         self.buf
     }
 
-    /// The same multi polygon, with lists of its own.
+    /// A copy with lists of its own.
     pub fn clone(&self) -> Result<MultiPolygon<'a>, AllocError>
         ensures { IfOk result (λ p. p ≡ self.now) }
     {
@@ -248,15 +248,15 @@ fn polygons<'a>(
     requires whole { body_start layout.has_srid + 4 ≤ length bytes.now }
     requires empty { entries members ≡ [] }
     requires room { min count (length (parts_start layout.has_srid bytes.now) / 9) ≤ room members }
-    requires fits { CanCount counts.old (parts_behind (member_at 3 layout.dimension) layout count bytes.now).0 }
+    requires fits { CanCount counts.old (members_behind 3 layout count bytes.now).0 }
     ensures dimension { IfOk result (λ x. AllByRecursion (λ p. p.dimension ≡ layout.dimension) (entries x.0)) }
     ensures polygons { Gives (λ x. (polygon_items (entries x.0), x.1.now))
-        result (parts_behind (member_at 3 layout.dimension) layout count bytes.now) counts.old counts.new }
+        result (members_behind 3 layout count bytes.now) counts.old counts.new }
     ensures shorter { IfOk result (λ x. length x.1.now ≤ length (parts_start layout.has_srid bytes.now)) }
-    ensures no_memory { (parts_behind (member_at 3 layout.dimension) layout count bytes.now).0.slots ≡ 0
+    ensures no_memory { (members_behind 3 layout count bytes.now).0.slots ≡ 0
         → IsNoWant result }
 {
-    let mut rest = layout.behind_count(bytes);
+    let mut rest = layout.after_count(bytes);
     for _ in 0..count {
         counts.turns += 1;
         let (polygon, after) = member(alloc, layout.dimension, rest, counts)?;

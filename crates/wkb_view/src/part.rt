@@ -6,7 +6,7 @@ ghost use Rattle.wkb_view.specs.Pieces.{pieces, AreInOrder};
 
 /// So many bytes from an offset on.
 #[inline]
-pub(crate) fn part<'a>(bytes: &'a [u8], start: usize, len: usize) -> &'a [u8]
+pub(crate) fn subslice<'a>(bytes: &'a [u8], start: usize, len: usize) -> &'a [u8]
     requires { start + len ≤ length bytes.now }
     ensures { result.now ≡ take len (drop start bytes.now) }
 {
@@ -26,7 +26,12 @@ fn start_of_part(first: usize, ends: &[usize], i: usize) -> usize
 
 /// The bytes of the part at an index, of parts that end at these offsets; the first of them begins at `first`.
 #[inline]
-pub(crate) fn piece<'a>(bytes: &'a [u8], first: usize, ends: &[usize], i: usize) -> Option<&'a [u8]>
+pub(crate) fn part_at<'a>(
+    bytes: &'a [u8],
+    first: usize,
+    ends: &[usize],
+    i: usize,
+) -> Option<&'a [u8]>
     requires { AreInOrder first ends.now bytes.now }
     ensures part { option_map (λ b. b.now) result ≡ slice_get (pieces first ends.now bytes.now) i }
     ensures bytes { IfSome result (λ b. AreBytes b.now) }
@@ -36,5 +41,5 @@ pub(crate) fn piece<'a>(bytes: &'a [u8], first: usize, ends: &[usize], i: usize)
     }
     let start = start_of_part(first, ends, i);
     let end = ends[i];
-    Some(part(bytes, start, end - start))
+    Some(subslice(bytes, start, end - start))
 }

@@ -8,7 +8,7 @@ use crate::any::{
 };
 use crate::coord::Coord;
 use crate::own_srid::OwnSrid;
-use crate::part::part;
+use crate::part::subslice;
 use wkb_geom::code::WkbType;
 use wkb_geom::{
     Cause, Dimension, Dimensioned, Dimensions, Endianness, Form, General, GeometryTrait,
@@ -30,7 +30,8 @@ impl<'a> Point<'a> {
     ghost use Rattle.wkb_geom.specs.Values as value;
     ghost use Rattle.wkb_geom.specs.declared.code.WkbType.TheVariants as kinds;
     ghost use Rattle.wkb_view.specs.Words.{body_start, point_of, point_at, point_item, consumed, IsSpelled, order_of};
-    ghost use Rattle.wkb_view.specs.Coords.{words_seen, coordinate_encoding, coord_order, coord_dimension, coord_encoding};
+    ghost use Rattle.wkb_view.specs.Coords.{words_seen, coordinate_encoding};
+    ghost use Rattle.wkb_view.specs.Coords.{coord_order, coord_dimension, coord_encoding};
     ghost use Rattle.wkb_view.specs.Views.{coordinate_in, point_seen, point_layout};
     ghost use Rattle.wkb_view.specs.Headers.{HasHead};
     ghost use Rattle.wkb_view.specs.Members.{IsEncoding};
@@ -75,7 +76,7 @@ impl<'a> Point<'a> {
     pub fn coord_slice(&self) -> &'a [u8]
         ensures { result.now ≡ drop (body_start (point_layout self.now).has_srid) (point_seen self.now).encoding }
     {
-        &self.buf[self.layout.body_start()..]
+        &self.buf[self.layout.header_length()..]
     }
 
     /// The bytes of this geometry, from its order byte to its end.
@@ -98,9 +99,9 @@ impl<'a> Point<'a> {
             (body_start (point_layout self.now).has_srid) (point_seen self.now).encoding }
     {
         Coord {
-            bytes: part(
+            bytes: subslice(
                 self.buf,
-                self.layout.body_start(),
+                self.layout.header_length(),
                 8 * self.layout.dimension.width(),
             ),
             order: self.layout.order,
@@ -118,7 +119,7 @@ impl<'a> Point<'a> {
         ensures passed { IfOk result (λ x. Passed 9 (IsEncoding 1 layout) bytes.now x.1.now) }
         ensures shorter { IfOk result (λ x. length x.1.now + 9 ≤ length bytes.now) }
     {
-        let end = layout.body_start() + 8 * layout.dimension.width();
+        let end = layout.header_length() + 8 * layout.dimension.width();
         if bytes.len() < end {
             return Err(Cause::General(General::ShortPoint {
                 end: end as u64,
@@ -169,7 +170,8 @@ impl<'a> PointTrait for Point<'a> {
     ghost use Rattle.std.specs.Prelude.{◌≡◌, option_map, IfSome};
     ghost use Rattle.wkb_view.specs.Words.{dimensions as trait_dimensions, body_start, point_of, order_of};
     ghost use Rattle.wkb_view.specs.Ranges.{point_lawful};
-    ghost use Rattle.wkb_view.specs.Coords.{words_seen, coordinate_encoding, coord_order, coord_dimension, coord_encoding};
+    ghost use Rattle.wkb_view.specs.Coords.{words_seen, coordinate_encoding};
+    ghost use Rattle.wkb_view.specs.Coords.{coord_order, coord_dimension, coord_encoding};
     ghost use Rattle.wkb_view.specs.Views.{point_seen, point_layout};
 
     type CoordType = Coord<'a>;

@@ -12,7 +12,7 @@ use crate::any::{
 use crate::counts::Counts;
 use crate::linear_ring::{LinearRing, ring};
 use crate::own_srid::OwnSrid;
-use crate::part::piece;
+use crate::part::part_at;
 use crate::reserved::{Reserved, counted_list};
 use std::alloc::{AllocError, Global};
 use std::marker::Model;
@@ -98,7 +98,7 @@ impl<'a> Polygon<'a> {
         ensures dimension { IfSome result (λ r. ring_dimension r ≡ self.now.dimension) }
         ensures order { IfSome result (λ r. ring_order r ≡ order_of self.now.spelled) }
     {
-        let bytes = piece(self.buf, self.layout.body_start() + COUNT, &self.ends, i)?;
+        let bytes = part_at(self.buf, self.layout.header_length() + COUNT, &self.ends, i)?;
         Some(LinearRing {
             bytes,
             order: self.layout.order,
@@ -107,7 +107,7 @@ impl<'a> Polygon<'a> {
         })
     }
 
-    /// The same polygon, with a list of its own.
+    /// A copy with a list of its own.
     pub fn clone(&self) -> Result<Polygon<'a>, AllocError>
         ensures { IfOk result (λ p. p ≡ self.now) }
     {
@@ -278,7 +278,7 @@ fn rings<'a>(
     ensures ends { IfOk result (λ x. AreRings layout (entries x.0) (consumed bytes.now x.1.now)) }
     ensures shorter { IfOk result (λ x. length x.1.now + body_start layout.has_srid + 4 ≤ length bytes.now) }
 {
-    let mut rest = layout.behind_count(bytes);
+    let mut rest = layout.after_count(bytes);
     for _ in 0..count {
         counts.turns += 1;
         rest = ring(layout.order, layout.dimension, rest)?;

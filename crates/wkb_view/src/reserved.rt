@@ -71,7 +71,7 @@ pub fn counted_list<T>(
     ensures no_memory { entries_asked least layout bytes.now ≡ 0 → IsNoWant result }
 {
     let count = layout.count(bytes)?;
-    let remaining = bytes.len() - (layout.body_start() + COUNT);
+    let remaining = bytes.len() - (layout.header_length() + COUNT);
     let capacity = bounded_capacity(count, remaining, least);
     counts.slots += capacity as u128;
     let items = Vec::with_capacity(alloc, capacity)?;

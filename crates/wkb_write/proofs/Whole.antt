@@ -22,7 +22,7 @@ use Rattle.wkb_geom.proofs.Faults.{none_both}
 use Rattle.wkb_geom.proofs.Nodes.{node_count-member}
 use Rattle.wkb_write.specs.Measures.{Finds, IsAdded, IsMeasured, Measures, capped}
 use Rattle.wkb_write.specs.Bodies.{Measure, parts_fault, parts_size, words, ring_bytes, ring_part, polygon_part}
-use Rattle.wkb_write.specs.Bodies.{member_part, members, body_fault, body_size}
+use Rattle.wkb_write.specs.Bodies.{member_measure, members, body_fault, body_size}
 use Rattle.wkb_write.specs.Bodies.{size_by_parts}
 use Rattle.wkb_write.proofs.Faults.{reports_first, reports_rest, supported_words}
 
@@ -66,7 +66,7 @@ header_within _ = omega arith
 members_sizes : (gs : Geometries) → 5 * length (members gs) + sum_by (λ p. p.size) (members gs) ≡ byte_sizes gs
 members_sizes no_geometries = refl
 members_sizes (geometry g gs) =
-    omega (arith, sum_by-cons (λ p. p.size) (member_part g) (members gs), members_sizes gs, header_within g)
+    omega (arith, sum_by-cons (λ p. p.size) (member_measure g) (members gs), members_sizes gs, header_within g)
 
 members_fault : (gs : Geometries) → parts_fault (members gs) ≡ or_else (count_fault (count_geometries gs)) (fault_each gs)
 unfolding parts_fault
@@ -150,14 +150,14 @@ members_length f [] = refl
 members_length f (x ∷ xs) = omega (arith, members_length f xs)
 
 members_at : {X : Type 0} (f : X → Geometry) (xs : List X) (i : ℕ) (x : X) → slice_get xs i ≡ Some x
-    → slice_get (members (geometries (map f xs))) i ≡ Some (member_part (f x))
+    → slice_get (members (geometries (map f xs))) i ≡ Some (member_measure (f x))
 members_at f [] i x item = cc
-members_at f (y ∷ xs) zero x item = let is : y ≡ x = cc in ap (λ z. Some (member_part (f z))) is
+members_at f (y ∷ xs) zero x item = let is : y ≡ x = cc in ap (λ z. Some (member_measure (f z))) is
 members_at f (y ∷ xs) (suc i) x item = members_at f xs i x item
 
 -- what is said of a member is said of its part
 pub said_of_member : {X : Type 0} (f : X → Geometry) (Q : Measure → Type 0) (xs : List X) (i : ℕ) (x : X) → i < length xs → x ≡ get_or xs i x
-    → Q (member_part (f x)) → IfSome (slice_get (members (geometries (map f xs))) i) Q
+    → Q (member_measure (f x)) → IfSome (slice_get (members (geometries (map f xs))) i) Q
 said_of_member f Q xs i x within item told =
     subst (λ o. IfSome o Q) (sym (members_at f xs i x (slice_get_read xs (length xs) i x refl within item))) told
 

@@ -45,13 +45,13 @@ polygon_part d rings = record { fault = parts_fault (map (ring_part d) rings); s
 abbrev pub body_size : Geometry → ℕ
 body_size g = byte_size g - 5
 
-abbrev pub member_part : Geometry → Measure
-member_part g = record { fault = fault g; size = body_size g }
+abbrev pub member_measure : Geometry → Measure
+member_measure g = record { fault = fault g; size = body_size g }
 
 -- a collection's members as its parts
 abbrev pub members : Geometries → List Measure
 members no_geometries = []
-members (geometry g gs) = member_part g ∷ members gs
+members (geometry g gs) = member_measure g ∷ members gs
 
 -- the first fault behind the header
 abbrev pub body_fault : Geometry → Option Fault

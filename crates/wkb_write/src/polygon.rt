@@ -8,7 +8,7 @@ use crate::items::{Items, measure_items, put_items};
 use crate::line_string::{measure_coordinates, put_coordinates};
 use crate::measure::behind_header;
 use wkb_geom::PolygonTrait;
-use wkb_geom::rings::{ring_at, ring_count};
+use wkb_geom::rings::{nth_ring, ring_count};
 
 /// A polygon.
 pub struct PolygonKind;
@@ -44,7 +44,7 @@ impl<P: PolygonTrait> Items<P> for PolygonKind {
     }
 
     fn measure_item(geom: &P, i: usize) -> Result<usize, Fault> {
-        measure_coordinates(&ring_at(geom, i))
+        measure_coordinates(&nth_ring(geom, i))
     }
 
     fn put_item<S: Sink>(
@@ -54,7 +54,7 @@ impl<P: PolygonTrait> Items<P> for PolygonKind {
         order: Endianness,
         _form: Form,
     ) -> Put {
-        put_coordinates(out, &ring_at(geom, i), order)
+        put_coordinates(out, &nth_ring(geom, i), order)
     }
 }
 

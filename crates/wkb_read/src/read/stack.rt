@@ -8,7 +8,7 @@ ghost use Rattle.wkb_read.specs.Public.{Reads, Costs};
 ghost use Rattle.wkb_read.specs.Stack.{geometry_inside, collection_inside, body_inside, outward, first_member, cost_of};
 ghost use Rattle.wkb_read.specs.Stack.{next_turn, IsOpen, AreOpen, IsFinished, BeginsAs, Settles, ReadsAs};
 
-use crate::geometry::{GeometryCollection, Kind, Wkb};
+use crate::geometry::{GeometryCollection, View, Wkb};
 use crate::read::unfinished::{Begun, Open};
 use std::alloc::{AllocError, Global};
 use wkb_geom::code::WkbType;
@@ -24,32 +24,32 @@ use wkb_view::point::Point;
 use wkb_view::polygon::Polygon;
 use wkb_view::reserved::counted_list;
 
-/// How many collections may be open around a geometry.
+/// The most collections that may be nested in one another; the 129th is refused.
 pub const MAX_WKB_NESTING_DEPTH: usize = 128;
 
 /// Begins the collection that is laid out so, inside so many others.
 #[tactic(auto, unfolding(wkb_geom::specs::Reading::collection_at))]
-pub(crate) fn open<'a>(
+pub(crate) fn begin_collection<'a>(
     alloc: Global,
-    around: usize,
+    depth: usize,
     layout: Layout,
     bytes: &'a [u8],
     counts: &mut Counts,
 ) -> Result<Begun<'a>, Refusal>
     requires head { HasHead (λ d. kinds.GeometryCollection d) layout bytes.now }
-    requires fits { CanCount counts.old (collection_inside around layout bytes.now).0 }
-    ensures begins { BeginsAs (collection_inside around layout bytes.now) around bytes.now
+    requires fits { CanCount counts.old (collection_inside depth layout bytes.now).0 }
+    ensures begins { BeginsAs (collection_inside depth layout bytes.now) depth bytes.now
         result counts.old counts.new }
     ensures no_memory { length bytes.now < body_start layout.has_srid + 4 → NeedsNone result }
 {
-    if around >= MAX_WKB_NESTING_DEPTH {
+    if depth >= MAX_WKB_NESTING_DEPTH {
         return Err(Refusal::Fault(Cause::NestingDepthExceeded(MAX_WKB_NESTING_DEPTH)));
     }
     let (count, members) = counted_list(alloc, layout, bytes, LEAST_MEMBER, counts)?;
-    let (buf, rest) = bytes.split_at(layout.body_start() + COUNT);
+    let (buf, rest) = bytes.split_at(layout.header_length() + COUNT);
     if count == 0 {
         let whole = Wkb {
-            kind: Kind::GeometryCollection(GeometryCollection {
+            kind: View::GeometryCollection(GeometryCollection {
                 buf,
                 layout,
                 members: members.into_vec(),
@@ -71,43 +71,45 @@ pub(crate) fn open<'a>(
 #[inline(always)]
 pub(crate) fn body<'a>(
     alloc: Global,
-    around: usize,
+    depth: usize,
     header: Header,
     bytes: &'a [u8],
     counts: &mut Counts,
 ) -> Result<Begun<'a>, Refusal>
     requires head { head_at bytes.now ≡ Ok header }
-    requires fits { CanCount counts.old (body_inside around header bytes.now).0 }
-    ensures begins { BeginsAs (body_inside around header bytes.now) around bytes.now result counts.old counts.new }
+    requires fits { CanCount counts.old (body_inside depth header bytes.now).0 }
+    ensures begins { BeginsAs (body_inside depth header bytes.now) depth bytes.now result counts.old counts.new }
     ensures no_memory { BodyTakesNone header bytes.now → NeedsNone result }
 {
     let layout = header.layout();
     let (kind, rest) = match header.wkb_type {
         WkbType::Point(_) => match Point::read(layout, bytes) {
-            Ok((point, rest)) => (Kind::Point(point), rest),
+            Ok((point, rest)) => (View::Point(point), rest),
             Err(cause) => return Err(Refusal::Fault(cause)),
         },
         WkbType::LineString(_) => match LineString::read(layout, bytes) {
-            Ok((line_string, rest)) => (Kind::LineString(line_string), rest),
+            Ok((line_string, rest)) => (View::LineString(line_string), rest),
             Err(cause) => return Err(Refusal::Fault(cause)),
         },
         WkbType::Polygon(_) => match Polygon::read(alloc, layout, bytes, counts) {
-            Ok((polygon, rest)) => (Kind::Polygon(polygon), rest),
+            Ok((polygon, rest)) => (View::Polygon(polygon), rest),
             Err(refusal) => return Err(refusal),
         },
         WkbType::MultiPoint(_) => match MultiPoint::read(layout, bytes, counts) {
-            Ok((multi, rest)) => (Kind::MultiPoint(multi), rest),
+            Ok((multi, rest)) => (View::MultiPoint(multi), rest),
             Err(cause) => return Err(Refusal::Fault(cause)),
         },
         WkbType::MultiLineString(_) => match MultiLineString::read(alloc, layout, bytes, counts) {
-            Ok((multi, rest)) => (Kind::MultiLineString(multi), rest),
+            Ok((multi, rest)) => (View::MultiLineString(multi), rest),
             Err(refusal) => return Err(refusal),
         },
         WkbType::MultiPolygon(_) => match MultiPolygon::read(alloc, layout, bytes, counts) {
-            Ok((multi, rest)) => (Kind::MultiPolygon(multi), rest),
+            Ok((multi, rest)) => (View::MultiPolygon(multi), rest),
             Err(refusal) => return Err(refusal),
         },
-        WkbType::GeometryCollection(_) => return open(alloc, around, layout, bytes, counts),
+        WkbType::GeometryCollection(_) => return begin_collection(
+            alloc, depth, layout, bytes, counts,
+        ),
     };
     Ok(Begun::Whole(Wkb { kind }, rest))
 }
@@ -117,20 +119,20 @@ pub(crate) fn body<'a>(
 #[inline(always)]
 pub(crate) fn begin<'a>(
     alloc: Global,
-    around: usize,
+    depth: usize,
     bytes: &'a [u8],
     counts: &mut Counts,
 ) -> Result<Begun<'a>, Refusal>
-    requires fits { CanCount counts.old (geometry_inside around bytes.now).0 }
-    ensures begins { BeginsAs (geometry_inside around bytes.now) around bytes.now result counts.old counts.new }
+    requires fits { CanCount counts.old (geometry_inside depth bytes.now).0 }
+    ensures begins { BeginsAs (geometry_inside depth bytes.now) depth bytes.now result counts.old counts.new }
     ensures no_memory { ReadsWithoutMemory bytes.now → NeedsNone result }
 {
     let header = Header::read(bytes)?;
-    body(alloc, around, header, bytes, counts)
+    body(alloc, depth, header, bytes, counts)
 }
 
 /// Puts a collection that was opened on the stack: its first member begins.
-pub(crate) fn enter<'a>(
+pub(crate) fn push_collection<'a>(
     stack: &mut Vec<Open<'a>>,
     collection: Open<'a>,
     counts: &mut Counts,
@@ -147,7 +149,7 @@ pub(crate) fn enter<'a>(
 
 /// Puts a finished part into the collection around it, and closes each collection that has all its
 /// members. Answers the outermost one where all are closed.
-pub(crate) fn settle<'a>(
+pub(crate) fn close_finished<'a>(
     stack: &mut Vec<Open<'a>>,
     part: Wkb<'a>,
     rest: &'a [u8],
@@ -180,7 +182,7 @@ pub(crate) fn settle<'a>(
             members,
         } = collection;
         finished = Wkb {
-            kind: Kind::GeometryCollection(GeometryCollection {
+            kind: View::GeometryCollection(GeometryCollection {
                 buf: &bytes[..bytes.len() - rest.len()],
                 layout,
                 members: members.into_vec(),
@@ -201,16 +203,16 @@ pub(crate) fn nested<'a>(
     ensures { ReadsAs (first_member 0 outermost.entry members.now) result counts.old counts.new }
 {
     let mut stack: Vec<Open<'a>> = Vec::new(alloc);
-    enter(&mut stack, outermost, counts)?;
+    push_collection(&mut stack, outermost, counts)?;
     let mut bytes = members;
     loop {
         match begin(alloc, stack.len(), bytes, counts) {
             Ok(Begun::Opened(collection, rest)) => {
-                enter(&mut stack, collection, counts)?;
+                push_collection(&mut stack, collection, counts)?;
                 bytes = rest;
             }
             Ok(Begun::Whole(part, rest)) => {
-                if let Some(whole) = settle(&mut stack, part, rest, counts) {
+                if let Some(whole) = close_finished(&mut stack, part, rest, counts) {
                     return Ok(whole);
                 }
                 bytes = rest;
@@ -255,13 +257,19 @@ fn read_and_count<'a>(alloc: Global, buf: &'a [u8], counts: &mut Counts) -> WkbR
 /// A refusal is the first fault from left to right: `IOError` where a header or a count is cut short, `General` for a
 /// byte order, a code or a length, `IncorrectType` for a member of another kind or dimension than its multi geometry
 /// takes, `NestingDepthExceeded` for the 129th collection inside one another, `Memory` where a list is refused.
+///
+/// ```
+/// // The SRID of the geometry at the front of the bytes.
+/// let wkb = read_wkb(alloc, bytes)?;
+/// let srid = wkb.srid();
+/// ```
 pub fn read_wkb<'a>(alloc: Global, buf: &'a [u8]) -> WkbResult<Wkb<'a>>
     ensures { Reads buf.now result }
 {
     read_and_count(alloc, buf, &mut Counts { turns: 0, slots: 0 })
 }
 
-/// The same as `read_wkb`, and what it cost, whatever the answer is.
+/// Reads as `read_wkb` does, and counts what it cost, whatever the answer is.
 pub fn read_wkb_counted<'a>(alloc: Global, buf: &'a [u8]) -> (WkbResult<Wkb<'a>>, Counts)
     ensures reads { Reads buf.now result.0 }
     ensures costs { Costs buf.now result.0 result.1 }

@@ -1,12 +1,12 @@
 use Rattle.std.proofs.Common.{◌+◌}
 use Rattle.wkb_view.specs.Words.{body_start, member_at}
-use Rattle.wkb_view.specs.Members.{parts_behind, IsMember, member_item, point_ends}
+use Rattle.wkb_view.specs.Members.{members_behind, IsMemberOfKind, member_item, point_ends}
 use Rattle.wkb_view.proofs.Pieces.{SoFar}
 use Rattle.wkb_view.proofs.multi_point.points.Given as goal
 
 abbrev pub invariant-loop : goal.invariant-loop
 invariant-loop l = record {
-  so_far : SoFar 9 (IsMember 1 l.layout.dimension) (member_item 1 l.layout.dimension) (member_at 1 l.layout.dimension) (body_start l.layout.has_srid + 4)
+  so_far : SoFar 9 (IsMemberOfKind 1 l.layout.dimension) (member_item 1 l.layout.dimension) (member_at 1 l.layout.dimension) (body_start l.layout.has_srid + 4)
       l.count l.counter l.bytes (point_ends l.layout l.counter) l.rest l.fn.counts l.counts
-      (parts_behind (member_at 1 l.layout.dimension) l.layout l.count l.bytes);
+      (members_behind 1 l.layout l.count l.bytes);
 }

@@ -10,7 +10,7 @@ pub returns-in-Err-read-clause-begins : goal.returns-in-Err-read-clause-begins
 returns-in-Err-read-clause-begins c =
     let h = c.args.header in
     let leaf : type_kind h.wkb_type < 3 = search rules in
-    rw (leaf_free c.args.around h.wkb_type (layout_of h) c.args.bytes.now leaf) (stops_at_no_cost c.in-Err-read.cause _ c.args.counts.now (search rules))
+    rw (leaf_free c.args.depth h.wkb_type (layout_of h) c.args.bytes.now leaf) (stops_at_no_cost c.in-Err-read.cause _ c.args.counts.now (search rules))
 
 pub returns-clause-begins : goal.returns-clause-begins
 returns-clause-begins c = elim c.match-header.branch [
@@ -18,7 +18,7 @@ returns-clause-begins c = elim c.match-header.branch [
   | in-LineString+in-Ok-read w ↦
       let h = c.args.header in
       let leaf : type_kind h.wkb_type < 3 = rw w.in-LineString.is (lit< tt) in
-      rw (w.counts-is, w.kind-is, leaf_free c.args.around h.wkb_type (layout_of h) c.args.bytes.now leaf)
+      rw (w.counts-is, w.kind-is, leaf_free c.args.depth h.wkb_type (layout_of h) c.args.bytes.now leaf)
       (whole_at_no_cost _ _ _ c.args.counts.now (search rules), w.in-Ok-read.ensures.shorter)
   | in-Polygon+in-Ok-read-2 w ↦ rw (w.counts-is, w.kind-is) (search rules)
   | in-MultiPoint+in-Ok-read-3 w ↦ rw (w.counts-is, w.kind-is) (search rules)

@@ -32,18 +32,18 @@ begin-requires c =
     let fits = can_begin _ _ c.args.counts.now c.loop-collection.counts _ c.loop-collection.invariant.reaches c.requires.fits in
     record { fits = rw (← as_many (goal.at.begin-requires c).After-len) fits }
 
-pub enter-requires-in-Ok-Opened : goal.enter-requires-in-Ok-Opened
-enter-requires-in-Ok-Opened c =
-    let p = goal.at.enter-requires-in-Ok-Opened c in
+pub push_collection-requires-in-Ok-Opened : goal.push_collection-requires-in-Ok-Opened
+push_collection-requires-in-Ok-Opened c =
+    let p = goal.at.push_collection-requires-in-Ok-Opened c in
     let after : Counts = record { turns = c.begin.new.counts.turns + 1; slots = c.begin.new.counts.slots } in
     record { fits = omega (arith, ap (λ (s : Reading Item). s.0.turns) (opened p.In-Ok-Opened after (as_many p.After-len) refl).so_far, c.requires.fits.turns) }
 
-pub returns-in_err-enter-in-Ok-Opened : goal.returns-in_err-enter-in-Ok-Opened
-returns-in_err-enter-in-Ok-Opened c =
-    let p = goal.at.returns-in_err-enter-in-Ok-Opened c in
+pub returns-in_err-push_collection-in-Ok-Opened : goal.returns-in_err-push_collection-in-Ok-Opened
+returns-in_err-push_collection-in-Ok-Opened c =
+    let p = goal.at.returns-in_err-push_collection-in-Ok-Opened c in
     let after : Counts = record { turns = c.begin.new.counts.turns + 1; slots = c.begin.new.counts.slots } in
-    let stopped = err_from_is_err_and c.from_residual-in_err-enter-in-Ok-Opened.result c.from_residual-in_err-enter-in-Ok-Opened.ensures.1 in
-    rw (stopped.1, stopped.2, c.in_err-enter-in-Ok-Opened.ensures.stays)
+    let stopped = err_from_is_err_and c.from_residual-in_err-push_collection-in-Ok-Opened.result c.from_residual-in_err-push_collection-in-Ok-Opened.ensures.1 in
+    rw (stopped.1, stopped.2, c.in_err-push_collection-in-Ok-Opened.ensures.stays)
     (at_most_turn _ _ c.args.counts.now c.begin.new.counts after _ (opened p.In-Ok-Opened after (as_many p.After-len) refl)
     refl)
 
@@ -52,32 +52,32 @@ loop-collection-preserved-in-Ok-Opened c =
     let p = goal.at.loop-collection-preserved-in-Ok-Opened c in
     let items = c.loop-collection.stack.items in
     let begun = rw c.in-Ok-Opened.field-0-is at c.in-Ok-Opened.ensures.begins in
-    let entered = c.in_ok-enter-in-Ok-Opened.ensures.entered in
+    let entered = c.in_ok-push_collection-in-Ok-Opened.ensures.entered in
     let longer = length-append items (c.in-Ok-Opened.collection ∷ []) in
-    let new : reverse c.enter-in-Ok-Opened.new.stack.items ≡ c.in-Ok-Opened.collection ∷ reverse items =
+    let new : reverse c.push_collection-in-Ok-Opened.new.stack.items ≡ c.in-Ok-Opened.collection ∷ reverse items =
     ap reverse entered ∙ reverse-append items (c.in-Ok-Opened.collection ∷ []) in
     record {
-      reaches = rw new (opened p.In-Ok-Opened _ (as_many p.After-len) c.in_ok-enter-in-Ok-Opened.ensures.turn);
+      reaches = rw new (opened p.In-Ok-Opened _ (as_many p.After-len) c.in_ok-push_collection-in-Ok-Opened.ensures.turn);
       shallow = omega (arith, ap length entered, longer, as_many p.After-len, length-reverse items, begun.2);
     }
 
-pub settle-requires : goal.settle-requires
-settle-requires c =
-    let p = goal.at.settle-requires c in
+pub close_finished-requires : goal.close_finished-requires
+close_finished-requires c =
+    let p = goal.at.close_finished-requires c in
     let f = part p.In-Ok-Whole (as_many p.After-len) in
     record { part = f.part; stand = f.stand; fits = omega (arith, ap (λ (s : Reading Item). s.0.turns) f.so_far, c.requires.fits.turns) }
 
 pub returns-in-Some : goal.returns-in-Some
 returns-in-Some c =
     let p = goal.at.returns-in-Some c in
-    all_read c.in-Some.whole c.in-Ok-Whole.rest.now _ c.args.counts.now c.settle.new.counts
+    all_read c.in-Some.whole c.in-Ok-Whole.rest.now _ c.args.counts.now c.close_finished.new.counts
     (c.in-Some.ensures.1 ∙ (part p.In-Ok-Whole (as_many p.After-len)).so_far)
 
 pub loop-collection-preserved : goal.loop-collection-preserved
 loop-collection-preserved c =
     let p = goal.at.loop-collection-preserved c in
     let after = c.in_default.ensures in
-    let now = length-reverse c.settle.new.stack.items in
+    let now = length-reverse c.close_finished.new.stack.items in
     record {
       reaches = record { so_far = after.0 ∙ (part p.In-Ok-Whole (as_many p.After-len)).so_far; stand = after.1 };
       shallow = omega (arith, after.2, now, length-reverse c.loop-collection.stack.items, c.loop-collection.invariant.shallow);

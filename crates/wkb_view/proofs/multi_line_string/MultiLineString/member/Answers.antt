@@ -1,34 +1,34 @@
 use Rattle.std.proofs.Common.{◌∙◌, Some, ap}
 use Rattle.wkb_view.specs.Words.{Item, Layout, line_string_of}
-use Rattle.wkb_view.specs.Members.{IsMember}
+use Rattle.wkb_view.specs.Members.{IsMemberOfKind}
 use Rattle.wkb_view.specs.Ranges.{member_dimension}
 use Rattle.wkb_view.proofs.Leaves.{member_seen}
 use Rattle.wkb_view.proofs.Members.{member_encoding, member_there, members_seen, spelling_seen}
 use Rattle.wkb_view.proofs.Pieces.{in_order}
 use Rattle.wkb_view.proofs.multi_line_string.MultiLineString.member.Goals as goal
 
-pub piece-requires : goal.piece-requires
-piece-requires c =
+pub part_at-requires : goal.part_at-requires
+part_at-requires c =
     let p = c.self.inside in
-    rw (c.body_start.ensures, c.deref.ensures.value) (in_order (IsMember 2 p.layout.dimension) _ p.ends.items p.buf.now c.self.invariant.1)
+    rw (c.header_length.ensures, c.deref.ensures.value) (in_order (IsMemberOfKind 2 p.layout.dimension) _ p.ends.items p.buf.now c.self.invariant.1)
 
 pub of_known_member-layout-requires : goal.of_known_member-layout-requires
 of_known_member-layout-requires c =
     let p = c.self.inside in
     member_there 2 p.layout p.ends.items p.buf.now c.args.i _ c.self.invariant.1
-    (rw (c.body_start.ensures, c.deref.ensures.value) at c.in_ok-buf.ensures.part)
+    (rw (c.header_length.ensures, c.deref.ensures.value) at c.in_ok-buf.ensures.part)
 
 pub of_encoding-requires : goal.of_encoding-requires
 of_encoding-requires c =
     let p = c.self.inside in
     member_encoding 2 p.layout p.ends.items p.buf.now c.args.i _ _ c.self.invariant.1
-    (rw (c.body_start.ensures, c.deref.ensures.value) at c.in_ok-buf.ensures.part) c.of_known_member-layout.ensures
+    (rw (c.header_length.ensures, c.deref.ensures.value) at c.in_ok-buf.ensures.part) c.of_known_member-layout.ensures
 
 pub returns-in_err-buf-clause-spelled : goal.returns-in_err-buf-clause-spelled
 returns-in_err-buf-clause-spelled c =
     let p = c.self.inside in
     rw (c.from_residual.ensures, ← c.self.view_is) (spelling_seen 2 p.layout p.ends.items p.buf.now c.args.i _
-    (rw (c.body_start.ensures, c.deref.ensures.value) at c.in_err-buf.ensures.part))
+    (rw (c.header_length.ensures, c.deref.ensures.value) at c.in_err-buf.ensures.part))
 
 pub returns-clause-value : goal.returns-clause-value
 returns-clause-value c =
@@ -36,14 +36,14 @@ returns-clause-value c =
     let known = c.of_known_member-layout.ensures in
     rw (← c.self.view_is) (ap (λ (m : Item). Some (line_string_of m.value)) (c.of_encoding.ensures.item ∙ member_seen 2 p.layout.dimension _ _ known)
     ∙ members_seen 2 p.layout p.ends.items p.buf.now c.args.i (λ m. line_string_of m.value) _
-    (rw (c.body_start.ensures, c.deref.ensures.value) at c.in_ok-buf.ensures.part))
+    (rw (c.header_length.ensures, c.deref.ensures.value) at c.in_ok-buf.ensures.part))
 
 pub returns-clause-spelled : goal.returns-clause-spelled
 returns-clause-spelled c =
     let p = c.self.inside in
     let known = c.of_known_member-layout.ensures in
     rw (← c.self.view_is) (ap (λ (m : Item). Some m.spelled) (c.of_encoding.ensures.item ∙ member_seen 2 p.layout.dimension _ _ known)
-    ∙ spelling_seen 2 p.layout p.ends.items p.buf.now c.args.i _ (rw (c.body_start.ensures, c.deref.ensures.value) at c.in_ok-buf.ensures.part))
+    ∙ spelling_seen 2 p.layout p.ends.items p.buf.now c.args.i _ (rw (c.header_length.ensures, c.deref.ensures.value) at c.in_ok-buf.ensures.part))
 
 pub returns-clause-dimension : goal.returns-clause-dimension
 returns-clause-dimension c =

@@ -11,12 +11,12 @@ invariant_of-point-clause-in_range c = subst AreBytes (sym c.split_at.ensures.fr
 
 pub invariant_of-point-clause-spells : goal.invariant_of-point-clause-spells
 invariant_of-point-clause-spells c =
-    (point_encoding c.args.layout c.args.bytes.now _ _ c.requires.head (rw (c.body_start.ensures, c.width.ensures) refl)
+    (point_encoding c.args.layout c.args.bytes.now _ _ c.requires.head (rw (c.header_length.ensures, c.width.ensures) refl)
     (omega arith) c.split_at.ensures.front).spells
 
 pub returns-clause-passed : goal.returns-clause-passed
 returns-clause-passed c =
     let wide = (width-within c.args.layout.dimension).0 in
-    passed_by 9 c.args.bytes.now _ (c.body_start.result + 8 * c.width.result) (omega (arith, c.body_start.ensures, c.width.ensures))
+    passed_by 9 c.args.bytes.now _ (c.header_length.result + 8 * c.width.result) (omega (arith, c.header_length.ensures, c.width.ensures))
     (omega arith) c.split_at.ensures.back
-    (point_encoding c.args.layout c.args.bytes.now _ _ c.requires.head (rw (c.body_start.ensures, c.width.ensures) refl) (omega arith) refl)
+    (point_encoding c.args.layout c.args.bytes.now _ _ c.requires.head (rw (c.header_length.ensures, c.width.ensures) refl) (omega arith) refl)

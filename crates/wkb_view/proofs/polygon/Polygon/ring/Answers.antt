@@ -3,27 +3,27 @@ use Rattle.wkb_view.specs.Pieces.{IsRing}
 use Rattle.wkb_view.proofs.Pieces.{in_order, piece_form, piece_seen}
 use Rattle.wkb_view.proofs.polygon.Polygon.ring.Goals as goal
 
-pub piece-requires : goal.piece-requires
-piece-requires c =
+pub part_at-requires : goal.part_at-requires
+part_at-requires c =
     let p = c.self.inside in
-    rw (c.body_start.ensures, c.deref.ensures.value) (in_order (IsRing p.layout.order p.layout.dimension) _ p.ends.items p.buf.now c.self.invariant.1)
+    rw (c.header_length.ensures, c.deref.ensures.value) (in_order (IsRing p.layout.order p.layout.dimension) _ p.ends.items p.buf.now c.self.invariant.1)
 
 pub u32_at-requires : goal.u32_at-requires
 u32_at-requires c =
     let p = c.self.inside in
     (piece_form (IsRing p.layout.order p.layout.dimension) _ p.ends.items p.buf.now c.args.i _ c.self.invariant.1
-    (rw (c.body_start.ensures, c.deref.ensures.value) at c.in_ok-bytes.ensures.part)).counted
+    (rw (c.header_length.ensures, c.deref.ensures.value) at c.in_ok-bytes.ensures.part)).counted
 
 pub invariant_of-result : goal.invariant_of-result
 invariant_of-result c =
     let p = c.self.inside in
     let ring =
     piece_form (IsRing p.layout.order p.layout.dimension) _ p.ends.items p.buf.now c.args.i _ c.self.invariant.1
-    (rw (c.body_start.ensures, c.deref.ensures.value) at c.in_ok-bytes.ensures.part) in
+    (rw (c.header_length.ensures, c.deref.ensures.value) at c.in_ok-bytes.ensures.part) in
     record { counted = c.u32_at.ensures; whole = rw c.u32_at.ensures ring.whole; in_range = c.in_ok-bytes.ensures.bytes }
 
 pub returns-clause-value : goal.returns-clause-value
 returns-clause-value c =
     let p = c.self.inside in
     rw (← c.self.view_is) (piece_seen (ring_in p.layout.order p.layout.dimension) _ p.ends.items p.buf.now c.args.i _
-    (rw (c.body_start.ensures, c.deref.ensures.value) at c.in_ok-bytes.ensures.part))
+    (rw (c.header_length.ensures, c.deref.ensures.value) at c.in_ok-bytes.ensures.part))

@@ -4,8 +4,8 @@ use Rattle.wkb_read.proofs.Words.{List, slice_set, Item, Reading, costs, Open, c
 use Rattle.wkb_view.specs.Entries.{entries}
 use Rattle.wkb_read.proofs.LastItem.{Top, top, popped}
 use Rattle.wkb_read.proofs.Stacks.{Reaches, Finishes, Completes, next_begins, completes}
-use Rattle.wkb_read.proofs.read.stack.settle.Goals as goal
-use Rattle.wkb_read.proofs.read.stack.settle.Goals.{After-push}
+use Rattle.wkb_read.proofs.read.stack.close_finished.Goals as goal
+use Rattle.wkb_read.proofs.read.stack.close_finished.Goals.{After-push}
 
 on_top : (c : After-push) → Top c.loop-top.stack.items (vec_len c.loop-top.stack - 1) c.in-Some.top.now
 on_top c =

@@ -1,6 +1,6 @@
 use Rattle.wkb_read.proofs.Words.{◌≤◌, length, reverse, vec_len, costs, cost_of, outward}
 use Rattle.wkb_read.proofs.Stacks.{Finishes}
-use Rattle.wkb_read.proofs.read.stack.settle.Given as goal
+use Rattle.wkb_read.proofs.read.stack.close_finished.Given as goal
 
 abbrev pub invariant-loop-top : goal.invariant-loop-top
 invariant-loop-top l = record {

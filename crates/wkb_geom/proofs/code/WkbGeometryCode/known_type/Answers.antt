@@ -1,5 +1,5 @@
 use Rattle.wkb_geom.proofs.Meanings.{meaning_is, meaning_is_none}
-use Rattle.wkb_geom.proofs.code.WkbGeometryCode.meaning.Goals as goal
+use Rattle.wkb_geom.proofs.code.WkbGeometryCode.known_type.Goals as goal
 
 pub returns-then-not-is_in_table : goal.returns-then-not-is_in_table
 returns-then-not-is_in_table c =
