@@ -1,7 +1,7 @@
 -- What the check's answer says of its input.
 use Rattle.std.specs.Prelude.{◌≡◌, ℕ, ◌+◌, ◌*◌, ◌≤◌, List, length, Result, IfOk, IfErr}
 use Rattle.wkb_geom.specs.declared.error.Cause.{Cause}
-use Rattle.wkb_geom.specs.Fronts.{Front, max_nesting}
+use Rattle.wkb_geom.specs.Fronts.{Front, HasNoFront, max_nesting}
 use Rattle.wkb_geom.specs.Reading.{type_of}
 use Rattle.wkb_geom.specs.Refusals.{Refuses}
 use Rattle.wkb_geom.specs.Spellings.{Spelling, header, any}
@@ -29,10 +29,6 @@ pub record IsFront (input : List ℕ) (f : Found) : Type 0 where
 -- whatever geometry the input begins with, this is told of it
 abbrev pub IsOnlyFront : List ℕ → Found → Type 0
 IsOnlyFront input f = (s : Spelling) (t : Value) (rest : List ℕ) → (x : Front input s t rest) → Describes f x.front s t
-
--- the input begins with no geometry
-abbrev pub HasNoFront : List ℕ → Type 0
-HasNoFront input = (s : Spelling) (t : Value) (rest : List ℕ) → Front input s t rest → ⊥
 
 -- The input is refused for this cause at the part of this number, and from the offset on it has as many bytes as from
 -- the refused part on.

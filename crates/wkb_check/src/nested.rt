@@ -51,7 +51,7 @@ impl OpenCounts {
                     Ok(count) => {
                         self.left[self.depth] = count;
                         self.depth += 1;
-                        Ok(layout.behind_count(bytes))
+                        Ok(layout.after_count(bytes))
                     }
                     Err(cause) => Err(cause),
                 }

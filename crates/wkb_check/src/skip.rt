@@ -19,7 +19,7 @@ use wkb_geom::{Cause, Dimension, Endianness, General, Layout};
 fn after_point(layout: Layout, bytes: &[u8]) -> Result<&[u8], Cause>
     ensures { Leaves (λ rest. rest.now) result (point_at layout bytes.now) }
 {
-    let end = layout.body_start() + 8 * layout.dimension.width();
+    let end = layout.header_length() + 8 * layout.dimension.width();
     if bytes.len() < end {
         return Err(Cause::General(General::ShortPoint {
             end: end as u64,
@@ -40,7 +40,7 @@ fn after_line_string(layout: Layout, bytes: &[u8]) -> Result<(u32, &[u8]), Cause
         Ok(count) => count,
         Err(cause) => return Err(cause),
     };
-    let end = layout.body_start() as u64 + 4 + 8 * layout.dimension.width() as u64 * count as u64;
+    let end = layout.header_length() as u64 + 4 + 8 * layout.dimension.width() as u64 * count as u64;
     if (bytes.len() as u64) < end {
         return Err(Cause::General(General::ShortLineString {
             end,
@@ -168,7 +168,7 @@ pub(crate) fn polygon<'a>(
     ensures { Passes (λ rest. rest.now) result (skim_polygon layout bytes.now) place.old place.new }
 {
     match layout.count(bytes) {
-        Ok(count) => rings(layout, count, layout.behind_count(bytes), place),
+        Ok(count) => rings(layout, count, layout.after_count(bytes), place),
         Err(cause) => Err(cause),
     }
 }
@@ -255,7 +255,7 @@ pub(crate) fn multi_point<'a>(
         Err(cause) => return Err(cause),
     };
     let each = 5 + 8 * layout.dimension.width() as u64;
-    let end = layout.body_start() as u64 + 4 + each * count as u64;
+    let end = layout.header_length() as u64 + 4 + each * count as u64;
     if (bytes.len() as u64) < end {
         return Err(Cause::General(General::ShortMultiPoint {
             end,
@@ -266,7 +266,7 @@ pub(crate) fn multi_point<'a>(
         1,
         layout.dimension,
         count,
-        layout.behind_count(bytes),
+        layout.after_count(bytes),
         place,
     )
 }
@@ -288,7 +288,7 @@ pub(crate) fn multi<'a>(
             kind,
             layout.dimension,
             count,
-            layout.behind_count(bytes),
+            layout.after_count(bytes),
             place,
         ),
         Err(cause) => Err(cause),

@@ -4,18 +4,18 @@ use Rattle.wkb_check.specs.Skims.{skim_member, skim_multi}
 unfoldable use Rattle.wkb_check.specs.Skims.{skims}
 use Rattle.wkb_check.proofs.Skimming.{list_cut, list_there}
 use Rattle.wkb_check.proofs.skip.multi.Goals as goal
-use Rattle.wkb_check.proofs.skip.multi.Goals.{After-behind_count}
+use Rattle.wkb_check.proofs.skip.multi.Goals.{After-after_count}
 
-is : (c : After-behind_count) → skim_multi c.args.kind c.args.layout c.args.bytes.now ≡ skims c.in-Ok.count (skim_member c.args.kind c.args.layout.dimension) c.behind_count.result.now
+is : (c : After-after_count) → skim_multi c.args.kind c.args.layout c.args.bytes.now ≡ skims c.in-Ok.count (skim_member c.args.kind c.args.layout.dimension) c.after_count.result.now
 is c =
-    list_there c.args.layout (skim_member c.args.kind c.args.layout.dimension) c.args.bytes.now c.in-Ok.count c.behind_count.result.now c.in-Ok.ensures.counted c.in-Ok.ensures.whole
-    c.behind_count.ensures
+    list_there c.args.layout (skim_member c.args.kind c.args.layout.dimension) c.args.bytes.now c.in-Ok.count c.after_count.result.now c.in-Ok.ensures.counted c.in-Ok.ensures.whole
+    c.after_count.ensures
 
 pub members-requires : goal.members-requires
-members-requires c = record { fits = subst (Fits c.args.place.now) (is (goal.at.members-requires c).After-behind_count) c.requires.fits }
+members-requires c = record { fits = subst (Fits c.args.place.now) (is (goal.at.members-requires c).After-after_count) c.requires.fits }
 
 pub returns-in-Ok : goal.returns-in-Ok
-returns-in-Ok c = rw (is (goal.at.returns-in-Ok c).After-behind_count) c.members.ensures
+returns-in-Ok c = rw (is (goal.at.returns-in-Ok c).After-after_count) c.members.ensures
 
 pub returns-in-Err : goal.returns-in-Err
 returns-in-Err c =

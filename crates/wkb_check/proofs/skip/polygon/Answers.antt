@@ -4,18 +4,18 @@ use Rattle.wkb_check.specs.Skims.{skim_ring, skim_polygon}
 unfoldable use Rattle.wkb_check.specs.Skims.{skims}
 use Rattle.wkb_check.proofs.Skimming.{list_cut, list_there}
 use Rattle.wkb_check.proofs.skip.polygon.Goals as goal
-use Rattle.wkb_check.proofs.skip.polygon.Goals.{After-behind_count}
+use Rattle.wkb_check.proofs.skip.polygon.Goals.{After-after_count}
 
-is : (c : After-behind_count) → skim_polygon c.args.layout c.args.bytes.now ≡ skims c.in-Ok.count (skim_ring c.args.layout) c.behind_count.result.now
+is : (c : After-after_count) → skim_polygon c.args.layout c.args.bytes.now ≡ skims c.in-Ok.count (skim_ring c.args.layout) c.after_count.result.now
 is c =
-    list_there c.args.layout (skim_ring c.args.layout) c.args.bytes.now c.in-Ok.count c.behind_count.result.now c.in-Ok.ensures.counted c.in-Ok.ensures.whole
-    c.behind_count.ensures
+    list_there c.args.layout (skim_ring c.args.layout) c.args.bytes.now c.in-Ok.count c.after_count.result.now c.in-Ok.ensures.counted c.in-Ok.ensures.whole
+    c.after_count.ensures
 
 pub rings-requires : goal.rings-requires
-rings-requires c = record { fits = subst (Fits c.args.place.now) (is (goal.at.rings-requires c).After-behind_count) c.requires.fits }
+rings-requires c = record { fits = subst (Fits c.args.place.now) (is (goal.at.rings-requires c).After-after_count) c.requires.fits }
 
 pub returns-in-Ok : goal.returns-in-Ok
-returns-in-Ok c = rw (is (goal.at.returns-in-Ok c).After-behind_count) c.rings.ensures
+returns-in-Ok c = rw (is (goal.at.returns-in-Ok c).After-after_count) c.rings.ensures
 
 pub returns-in-Err : goal.returns-in-Err
 returns-in-Err c =
