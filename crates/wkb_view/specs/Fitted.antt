@@ -14,7 +14,7 @@ use Rattle.wkb_geom.specs.Geometries.{Geometry, point, line_string, polygon, mul
 use Rattle.wkb_geom.specs.Geometries.{multi_polygon, collection, line, rectangle}
 use Rattle.wkb_geom.specs.Geometries.{triangle, Geometries, no_geometries, geometry, IsCoordinate, IsPoint}
 use Rattle.wkb_geom.specs.Geometries.{AreCoordinates, IsGeometry, AreGeometries}
-use Rattle.wkb_view.specs.Words.{Dimension, Coordinate, size, dimensions, IsWord}
+use Rattle.wkb_view.specs.Words.{Dimension, Coordinate, size, dimensions, IsWord, Listed}
 
 -- whether there are as many words as the dimensions say, each in range
 abbrev pub fits : Dimensions → Coordinate → Bool
@@ -29,6 +29,10 @@ fitted_line_string dims = map (fitted dims)
 
 abbrev pub fitted_line_strings : Dimensions → List (List Coordinate) → List (List Coordinate)
 fitted_line_strings dims = map (fitted_line_string dims)
+
+-- the rings of a polygon, or the line strings of a multi line string, that fit its dimension
+abbrev pub fitted_parts : Listed (List (List Coordinate)) → List (List Coordinate)
+fitted_parts g = fitted_line_strings (dimensions g.dimension) g.parts
 
 abbrev pub fitted_polygons : Dimensions → List (List (List Coordinate)) → List (List (List Coordinate))
 fitted_polygons dims = map (fitted_line_strings dims)

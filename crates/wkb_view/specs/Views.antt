@@ -1,7 +1,7 @@
 -- What the views stand for.
 use Rattle.std.proofs.Common.{◌≡◌, ℕ, ◌+◌, ◌*◌, List, drop, Bool, true, false, refl}
 use Rattle.wkb_view.specs.Words.{Layout, Coordinate, width, all_nan, Item, coordinate, point_item, point_item_of}
-use Rattle.wkb_view.specs.Words.{point_of, line_string_of, line_string_item, body_start}
+use Rattle.wkb_view.specs.Words.{point_of, line_string_of, line_string_item, body_start, order_of, Spelling, Endianness}
 use Rattle.wkb_geom.specs.Values.{point}
 use Rattle.wkb_view.specs.declared.point.Point.{Point}
 use Rattle.wkb_view.specs.declared.line_string.LineString.{LineString}
@@ -17,6 +17,19 @@ line_string_seen l = line_string_item l.layout l.buf.now
 
 abbrev pub multi_point_seen : MultiPoint → Item
 multi_point_seen m = multi_point_item m.layout m.count m.buf.now
+
+-- how its bytes spell it, and the order of its numbers
+abbrev pub point_spelling : Point → Spelling
+point_spelling p = (point_seen p).spelled
+
+abbrev pub point_order : Point → Endianness
+point_order p = order_of (point_spelling p)
+
+abbrev pub line_string_spelling : LineString → Spelling
+line_string_spelling l = (line_string_seen l).spelled
+
+abbrev pub line_string_order : LineString → Endianness
+line_string_order l = order_of (line_string_spelling l)
 
 -- the coordinates of a line string
 abbrev pub line_string_coordinates : LineString → List Coordinate

@@ -33,10 +33,10 @@ impl<'a> LineString<'a> {
     ghost use Rattle.wkb_geom.specs.Values as value;
     ghost use Rattle.wkb_geom.specs.declared.code.WkbType.TheVariants as kinds;
     ghost use Rattle.wkb_view.specs.Words.{body_start, line_string_at, line_string_item, consumed};
-    ghost use Rattle.wkb_view.specs.Parts.{IsSpelled, order_of};
+    ghost use Rattle.wkb_view.specs.Parts.{IsSpelled};
     ghost use Rattle.wkb_view.specs.Coords.{ring_encoding, ring_order, ring_dimension};
     ghost use Rattle.wkb_view.specs.Views.{line_string_seen, line_string_layout};
-    ghost use Rattle.wkb_view.specs.Views.{line_string_offset, line_string_coordinates};
+    ghost use Rattle.wkb_view.specs.Views.{line_string_offset, line_string_coordinates, line_string_order};
     ghost use Rattle.wkb_view.specs.Headers.{HasHead};
     ghost use Rattle.wkb_view.specs.Outcome.{Answers};
     ghost use Rattle.wkb_view.specs.Members.{IsEncoding};
@@ -79,7 +79,7 @@ impl<'a> LineString<'a> {
     /// The order of its numbers.
     #[inline]
     pub fn byte_order(&self) -> Endianness
-        ensures { result ≡ order_of (line_string_seen self.now).spelled }
+        ensures { result ≡ line_string_order self.now }
     {
         self.layout.order
     }
@@ -149,9 +149,9 @@ impl<'a> LineString<'a> {
 }
 
 impl OwnSrid for LineString<'_> {
-    ghost use Rattle.wkb_view.specs.Views.{line_string_seen};
+    ghost use Rattle.wkb_view.specs.Views.{line_string_spelling};
 
-    ghost spelled = { λ s. (line_string_seen s).spelled };
+    ghost spelled = { line_string_spelling };
 
     #[inline]
     fn srid(&self) -> Option<u32> {
@@ -173,12 +173,12 @@ impl Dimensioned for LineString<'_> {
 
 impl<'a> LineStringTrait for LineString<'a> {
     ghost use Rattle.std.specs.Prelude.{◌≡◌, length, option_map, IfSome, ◌<◌, Some, slice_get};
-    ghost use Rattle.wkb_view.specs.Words.{dimensions as trait_dimensions, order_of};
+    ghost use Rattle.wkb_view.specs.Words.{dimensions as trait_dimensions};
     ghost use Rattle.wkb_view.specs.Coords.{words_seen, coordinate_encoding};
     ghost use Rattle.wkb_view.specs.Coords.{coord_order, coord_dimension, coord_encoding};
     ghost use Rattle.wkb_view.specs.Ranges.{line_string_lawful};
     ghost use Rattle.wkb_view.specs.Views.{line_string_seen, line_string_layout};
-    ghost use Rattle.wkb_view.specs.Views.{line_string_offset, line_string_coordinates};
+    ghost use Rattle.wkb_view.specs.Views.{line_string_offset, line_string_coordinates, line_string_order};
 
     type CoordType = Coord<'a>;
 
@@ -206,7 +206,7 @@ impl<'a> LineStringTrait for LineString<'a> {
         ensures value { option_map words_seen result ≡ slice_get (line_string_coordinates self.now) i }
         ensures dimensions { IfSome result (λ c. trait_dimensions (coord_dimension c)
             ≡ trait_dimensions (line_string_layout self.now).dimension) }
-        ensures order { IfSome result (λ c. coord_order c ≡ order_of (line_string_seen self.now).spelled) }
+        ensures order { IfSome result (λ c. coord_order c ≡ line_string_order self.now) }
         ensures bytes { IfSome result (λ c. coord_encoding c
             ≡ coordinate_encoding (line_string_layout self.now).dimension
             (line_string_offset self.now i) (line_string_seen self.now).encoding) }
@@ -220,7 +220,7 @@ impl<'a> LineStringTrait for LineString<'a> {
         ensures value { slice_get (line_string_coordinates self.now) i ≡ Some (words_seen result) }
         ensures dimensions { trait_dimensions (coord_dimension result)
             ≡ trait_dimensions (line_string_layout self.now).dimension }
-        ensures order { coord_order result ≡ order_of (line_string_seen self.now).spelled }
+        ensures order { coord_order result ≡ line_string_order self.now }
         ensures bytes { coord_encoding result
             ≡ coordinate_encoding (line_string_layout self.now).dimension
             (line_string_offset self.now i) (line_string_seen self.now).encoding }

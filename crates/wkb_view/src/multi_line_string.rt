@@ -55,7 +55,7 @@ impl<'a> MultiLineString<'a> {
     ghost use Rattle.wkb_geom.specs.Values.{multi_line_string};
     ghost use Rattle.wkb_geom.specs.declared.code.WkbType.TheVariants as kinds;
     ghost use Rattle.wkb_view.specs.Words.{whole_of, multi_line_string_at, IsSpelled, spelling_at};
-    ghost use Rattle.wkb_view.specs.Views.{line_string_seen, line_string_layout, line_string_coordinates};
+    ghost use Rattle.wkb_view.specs.Views.{line_string_spelling, line_string_layout, line_string_coordinates};
     ghost use Rattle.wkb_view.specs.Headers.{HasHead};
     ghost use Rattle.wkb_view.specs.Memory.{IsNoWant};
     ghost use Rattle.wkb_view.specs.Outcome.{Gives, CanCount};
@@ -97,7 +97,7 @@ impl<'a> MultiLineString<'a> {
     pub(crate) fn member(&self, i: usize) -> Option<LineString<'a>>
         ensures value { option_map line_string_coordinates result ≡ slice_get self.now.parts i }
         ensures dimension { IfSome result (λ l. (line_string_layout l).dimension ≡ self.now.dimension) }
-        ensures spelled { option_map (λ l. (line_string_seen l).spelled) result ≡ spelling_at self.now.spelled i }
+        ensures spelled { option_map line_string_spelling result ≡ spelling_at self.now.spelled i }
     {
         let buf = part_at(self.buf, self.layout.header_length() + COUNT, &self.ends, i)?;
         let layout = Layout::of_known_member(LINE_STRING, self.layout.dimension, buf);
@@ -163,12 +163,12 @@ impl Dimensioned for MultiLineString<'_> {
 impl<'a> MultiLineStringTrait for MultiLineString<'a> {
     ghost use Rattle.std.specs.Prelude.{◌≡◌, option_map, IfSome, slice_get};
     ghost use Rattle.wkb_view.specs.Words.{dimensions as trait_dimensions, spelling_at};
-    ghost use Rattle.wkb_view.specs.Views.{line_string_seen, line_string_layout, line_string_coordinates};
-    ghost use Rattle.wkb_view.specs.Fitted.{fitted_line_strings, line_strings_fit};
+    ghost use Rattle.wkb_view.specs.Views.{line_string_spelling, line_string_layout, line_string_coordinates};
+    ghost use Rattle.wkb_view.specs.Fitted.{fitted_parts, line_strings_fit};
 
     type InnerLineStringType = LineString<'a>;
 
-    ghost line_strings = { λ m. fitted_line_strings (trait_dimensions m.dimension) m.parts };
+    ghost line_strings = { fitted_parts };
 
     ghost lawful = { λ m. (line_strings_fit (trait_dimensions m.dimension) m.parts).lawful };
 
@@ -179,12 +179,11 @@ impl<'a> MultiLineStringTrait for MultiLineString<'a> {
 
     #[inline]
     fn line_string(&self, i: usize) -> Option<LineString<'a>>
-        ensures value { option_map line_string_coordinates result
-            ≡ slice_get (fitted_line_strings (trait_dimensions self.now.dimension) self.now.parts) i }
+        ensures value { option_map line_string_coordinates result ≡ slice_get (fitted_parts self.now) i }
         ensures part { option_map line_string_coordinates result ≡ slice_get self.now.parts i }
         ensures dimensions { IfSome result (λ l. trait_dimensions (line_string_layout l).dimension
             ≡ trait_dimensions self.now.dimension) }
-        ensures spelled { option_map (λ l. (line_string_seen l).spelled) result ≡ spelling_at self.now.spelled i }
+        ensures spelled { option_map line_string_spelling result ≡ spelling_at self.now.spelled i }
     {
         self.member(i)
     }
@@ -195,7 +194,7 @@ impl<'a> GeometryTrait for MultiLineString<'a> {
     ghost use Rattle.wkb_geom.specs.declared.geom.GeometryType.TheVariants.{MultiLineString as Handed};
     ghost use Rattle.wkb_geom.specs.Geometries.{multi_line_string};
     ghost use Rattle.wkb_view.specs.Words.{dimensions as trait_dimensions};
-    ghost use Rattle.wkb_view.specs.Fitted.{fitted_line_strings, line_strings_fit};
+    ghost use Rattle.wkb_view.specs.Fitted.{fitted_parts, line_strings_fit};
 
     type PointType = Point<'a>;
 
@@ -215,8 +214,7 @@ impl<'a> GeometryTrait for MultiLineString<'a> {
 
     type LineType = Line<'a>;
 
-    ghost geometry = { λ m. multi_line_string (trait_dimensions m.dimension)
-        (fitted_line_strings (trait_dimensions m.dimension) m.parts) };
+    ghost geometry = { λ m. multi_line_string (trait_dimensions m.dimension) (fitted_parts m) };
 
     ghost one_dimension = { λ g. refl };
 

@@ -137,7 +137,7 @@ impl<'a> MultiPointTrait for MultiPoint<'a> {
     ghost use Rattle.wkb_view.specs.Words.{dimensions as trait_dimensions, point_of, points_of, spelling_at};
     ghost use Rattle.wkb_view.specs.Members.{stride};
     ghost use Rattle.wkb_view.specs.Views.{point_seen, point_layout, multi_point_seen, multi_point_layout};
-    ghost use Rattle.wkb_view.specs.Views.{multi_point_offset};
+    ghost use Rattle.wkb_view.specs.Views.{point_spelling, multi_point_offset};
     ghost use Rattle.wkb_view.specs.Ranges.{multi_point_lawful};
 
     type InnerPointType = Point<'a>;
@@ -160,8 +160,7 @@ impl<'a> MultiPointTrait for MultiPoint<'a> {
             ≡ slice_get (points_of (multi_point_seen self.now).value) i }
         ensures dimensions { IfSome result (λ p. trait_dimensions (point_layout p).dimension
             ≡ trait_dimensions (multi_point_layout self.now).dimension) }
-        ensures spelled { option_map (λ p. (point_seen p).spelled) result
-            ≡ spelling_at (multi_point_seen self.now).spelled i }
+        ensures spelled { option_map point_spelling result ≡ spelling_at (multi_point_seen self.now).spelled i }
         ensures bytes { IfSome result (λ p. (point_seen p).encoding
             ≡ take (stride (multi_point_layout self.now).dimension)
             (drop (multi_point_offset self.now i) (multi_point_seen self.now).encoding)) }

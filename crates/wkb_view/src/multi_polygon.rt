@@ -148,7 +148,7 @@ impl Dimensioned for MultiPolygon<'_> {
 impl<'a> MultiPolygonTrait for MultiPolygon<'a> {
     ghost use Rattle.std.specs.Prelude.{◌≡◌, option_map, IfSome, slice_get};
     ghost use Rattle.wkb_view.specs.Words.{dimensions as trait_dimensions, spelling_at};
-    ghost use Rattle.wkb_view.specs.Fitted.{fitted_line_strings, fitted_polygons, polygons_fit};
+    ghost use Rattle.wkb_view.specs.Fitted.{fitted_parts, fitted_polygons, polygons_fit};
 
     type InnerPolygonType = Polygon<'a>;
 
@@ -163,7 +163,7 @@ impl<'a> MultiPolygonTrait for MultiPolygon<'a> {
 
     #[inline]
     fn polygon(&self, i: usize) -> Option<&Polygon<'a>>
-        ensures value { option_map (λ p. fitted_line_strings (trait_dimensions p.now.dimension) p.now.parts) result
+        ensures value { option_map (λ p. fitted_parts p.now) result
             ≡ slice_get (fitted_polygons (trait_dimensions self.now.dimension) self.now.parts) i }
         ensures part { option_map (λ p. p.now.parts) result ≡ slice_get self.now.parts i }
         ensures dimensions { IfSome result (λ p. trait_dimensions p.now.dimension

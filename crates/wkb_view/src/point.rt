@@ -29,10 +29,10 @@ impl<'a> Point<'a> {
     ghost use Rattle.std.specs.Prelude.{◌≡◌, length, drop, is_none, ◌+◌, ◌≤◌, IfOk};
     ghost use Rattle.wkb_geom.specs.Values as value;
     ghost use Rattle.wkb_geom.specs.declared.code.WkbType.TheVariants as kinds;
-    ghost use Rattle.wkb_view.specs.Words.{body_start, point_of, point_at, point_item, consumed, IsSpelled, order_of};
+    ghost use Rattle.wkb_view.specs.Words.{body_start, point_of, point_at, point_item, consumed, IsSpelled};
     ghost use Rattle.wkb_view.specs.Coords.{words_seen, coordinate_encoding};
     ghost use Rattle.wkb_view.specs.Coords.{coord_order, coord_dimension, coord_encoding};
-    ghost use Rattle.wkb_view.specs.Views.{coordinate_in, point_seen, point_layout};
+    ghost use Rattle.wkb_view.specs.Views.{coordinate_in, point_seen, point_layout, point_order};
     ghost use Rattle.wkb_view.specs.Headers.{HasHead};
     ghost use Rattle.wkb_view.specs.Members.{IsEncoding};
     ghost use Rattle.wkb_view.specs.Pieces.{Passed};
@@ -66,7 +66,7 @@ impl<'a> Point<'a> {
     /// The order of its numbers.
     #[inline]
     pub fn byte_order(&self) -> Endianness
-        ensures { result ≡ order_of (point_seen self.now).spelled }
+        ensures { result ≡ point_order self.now }
     {
         self.layout.order
     }
@@ -143,9 +143,9 @@ impl<'a> Point<'a> {
 }
 
 impl OwnSrid for Point<'_> {
-    ghost use Rattle.wkb_view.specs.Views.{point_seen};
+    ghost use Rattle.wkb_view.specs.Views.{point_spelling};
 
-    ghost spelled = { λ s. (point_seen s).spelled };
+    ghost spelled = { point_spelling };
 
     #[tactic(auto, using(crate::proofs::Items::srid_is))]
     #[inline]
@@ -168,11 +168,11 @@ impl Dimensioned for Point<'_> {
 
 impl<'a> PointTrait for Point<'a> {
     ghost use Rattle.std.specs.Prelude.{◌≡◌, option_map, IfSome};
-    ghost use Rattle.wkb_view.specs.Words.{dimensions as trait_dimensions, body_start, point_of, order_of};
+    ghost use Rattle.wkb_view.specs.Words.{dimensions as trait_dimensions, body_start, point_of};
     ghost use Rattle.wkb_view.specs.Ranges.{point_lawful};
     ghost use Rattle.wkb_view.specs.Coords.{words_seen, coordinate_encoding};
     ghost use Rattle.wkb_view.specs.Coords.{coord_order, coord_dimension, coord_encoding};
-    ghost use Rattle.wkb_view.specs.Views.{point_seen, point_layout};
+    ghost use Rattle.wkb_view.specs.Views.{point_seen, point_layout, point_order};
 
     type CoordType = Coord<'a>;
 
@@ -185,7 +185,7 @@ impl<'a> PointTrait for Point<'a> {
         ensures value { option_map words_seen result ≡ point_of (point_seen self.now).value }
         ensures dimensions { IfSome result (λ c. trait_dimensions (coord_dimension c)
             ≡ trait_dimensions (point_layout self.now).dimension) }
-        ensures order { IfSome result (λ c. coord_order c ≡ order_of (point_seen self.now).spelled) }
+        ensures order { IfSome result (λ c. coord_order c ≡ point_order self.now) }
         ensures bytes { IfSome result (λ c. coord_encoding c ≡ coordinate_encoding (point_layout self.now).dimension
             (body_start (point_layout self.now).has_srid) (point_seen self.now).encoding) }
     {

@@ -168,11 +168,11 @@ impl<'a> PolygonTrait for Polygon<'a> {
     ghost use Rattle.std.specs.Prelude.{◌≡◌, ◌+◌, option_map, IfSome, slice_get};
     ghost use Rattle.wkb_view.specs.Words.{dimensions as trait_dimensions, order_of};
     ghost use Rattle.wkb_view.specs.Coords.{ring_order, ring_dimension, ring_seen};
-    ghost use Rattle.wkb_view.specs.Fitted.{fitted_line_strings, line_strings_fit};
+    ghost use Rattle.wkb_view.specs.Fitted.{fitted_parts, line_strings_fit};
 
     type RingType = LinearRing<'a>;
 
-    ghost rings = { λ p. fitted_line_strings (trait_dimensions p.dimension) p.parts };
+    ghost rings = { fitted_parts };
 
     ghost lawful = { λ p. (line_strings_fit (trait_dimensions p.dimension) p.parts).lawful };
 
@@ -183,8 +183,7 @@ impl<'a> PolygonTrait for Polygon<'a> {
 
     #[inline]
     fn exterior(&self) -> Option<LinearRing<'a>>
-        ensures value { option_map ring_seen result
-            ≡ slice_get (fitted_line_strings (trait_dimensions self.now.dimension) self.now.parts) 0 }
+        ensures value { option_map ring_seen result ≡ slice_get (fitted_parts self.now) 0 }
         ensures part { option_map ring_seen result ≡ slice_get self.now.parts 0 }
         ensures dimensions { IfSome result (λ r. trait_dimensions (ring_dimension r)
             ≡ trait_dimensions self.now.dimension) }
@@ -196,8 +195,7 @@ impl<'a> PolygonTrait for Polygon<'a> {
     #[tactic(auto, using(std::proofs::lemmas::Option::slice_get_past))]
     #[inline]
     fn interior(&self, i: usize) -> Option<LinearRing<'a>>
-        ensures value { option_map ring_seen result
-            ≡ slice_get (fitted_line_strings (trait_dimensions self.now.dimension) self.now.parts) (i + 1) }
+        ensures value { option_map ring_seen result ≡ slice_get (fitted_parts self.now) (i + 1) }
         ensures part { option_map ring_seen result ≡ slice_get self.now.parts (i + 1) }
         ensures dimensions { IfSome result (λ r. trait_dimensions (ring_dimension r)
             ≡ trait_dimensions self.now.dimension) }
@@ -216,7 +214,7 @@ impl<'a> GeometryTrait for Polygon<'a> {
     ghost use Rattle.wkb_geom.specs.declared.geom.GeometryType.TheVariants.{Polygon as Handed};
     ghost use Rattle.wkb_geom.specs.Geometries.{polygon};
     ghost use Rattle.wkb_view.specs.Words.{dimensions as trait_dimensions};
-    ghost use Rattle.wkb_view.specs.Fitted.{fitted_line_strings, line_strings_fit};
+    ghost use Rattle.wkb_view.specs.Fitted.{fitted_parts, line_strings_fit};
 
     type PointType = Point<'a>;
 
@@ -236,8 +234,7 @@ impl<'a> GeometryTrait for Polygon<'a> {
 
     type LineType = Line<'a>;
 
-    ghost geometry = { λ p. polygon (trait_dimensions p.dimension)
-        (fitted_line_strings (trait_dimensions p.dimension) p.parts) };
+    ghost geometry = { λ p. polygon (trait_dimensions p.dimension) (fitted_parts p) };
 
     ghost one_dimension = { λ g. refl };
 
