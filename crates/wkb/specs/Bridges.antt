@@ -15,6 +15,7 @@ use Rattle.wkb.specs.Geometries.{Geometry, normal}
 use Rattle.wkb.specs.Encodings.{Fault, encoding, refusal}
 use Rattle.wkb.specs.Reads.{Item, spellings, values, IfRefused, IsFront, IsCollectionOf, list_of_spellings}
 use Rattle.wkb.specs.Reads.{members_spelled, spelling_at}
+use Rattle.std.specs.declared.io.Error.{Error}
 use Rattle.wkb.specs.Writes.{Writes, WriteOptions, IsSpelled}
 use Rattle.wkb.specs.Laws.{IsOneOf, IsMember, StandsAt}
 
@@ -73,21 +74,24 @@ member_of w ms k m c is =
     (subst (λ ss. IsOneOf k ss c.whole.parts m.spelled m.value) c.all.spelled inside))
 
 -- what a writer that answers Ok was not refused
-appended_by : (options : WriteOptions) (g : Geometry) (x : Unit {0}) (untouched : Type 0) (old new : Option (List ℕ)) (failed : Bool) (o : Option Fault)
-    → refusal options.endianness options.form g ≡ o → Writes options g (Ok x) untouched old new failed
+appended_by : (options : WriteOptions) (g : Geometry) (x : Unit {0}) (untouched : Type 0) (old new : Option (List ℕ)) (failed : Bool)
+    (fails_by : Option Error → Type 0) (o : Option Fault) → refusal options.endianness options.form g ≡ o
+    → Writes options g (Ok x) untouched old new failed fails_by
     → Appends old new (encoding options.endianness options.form g)
-appended_by options g x untouched old new failed None is w = (w.written is).0.appended
-appended_by options g x untouched old new failed (Some f) is w = absurd ((w.refused f is).0)
+appended_by options g x untouched old new failed fails_by None is w = (w.written is).0.appended
+appended_by options g x untouched old new failed fails_by (Some f) is w = absurd ((w.refused f is).0)
 
 -- At Ok the encoding was appended.
 pub appended : {options : WriteOptions} {g : Geometry} {r : Result (Unit {0}) WkbError} {x : Unit {0}} {untouched : Type 0} {old new : Option (List ℕ)} {failed : Bool}
-    → Writes options g r untouched old new failed → r ≡ Ok x → Appends old new (encoding options.endianness options.form g)
-appended {options = options} {g = g} {x = x} {untouched = untouched} {old = old} {new = new} {failed = failed} w is =
-    appended_by options g x untouched old new failed _ refl (subst (λ q. Writes options g q untouched old new failed) is w)
+    {fails_by : Option Error → Type 0} → Writes options g r untouched old new failed fails_by → r ≡ Ok x
+    → Appends old new (encoding options.endianness options.form g)
+appended {options = options} {g = g} {x = x} {untouched = untouched} {old = old} {new = new} {failed = failed} {fails_by = fails_by} w is =
+    appended_by options g x untouched old new failed fails_by _ refl (subst (λ q. Writes options g q untouched old new failed fails_by) is w)
 
 -- So a sink that held nothing holds the encoding.
 pub encoding_alone : {options : WriteOptions} {g : Geometry} {r : Result (Unit {0}) WkbError} {x : Unit {0}} {untouched : Type 0} {old new : List ℕ} {failed : Bool}
-    → old ≡ [] → Writes options g r untouched (Some old) (Some new) failed → r ≡ Ok x → new ≡ encoding options.endianness options.form g
+    {fails_by : Option Error → Type 0} → old ≡ [] → Writes options g r untouched (Some old) (Some new) failed fails_by → r ≡ Ok x
+    → new ≡ encoding options.endianness options.form g
 encoding_alone {options = options} {g = g} empty w is = appended w is ∙ ap (λ l. l ++ encoding options.endianness options.form g) empty
 
 -- what is said of an Ok holds of an answer that is one
@@ -96,7 +100,8 @@ of_ok r x P is h = subst (λ q. IfOk q P) is h
 
 -- Read again, it is the value that the geometry stands for, in the options' order and with their SRID.
 pub read_again : {options : WriteOptions} {g : Geometry} {r : Result (Unit {0}) WkbError} {x : Unit {0}} {untouched : Type 0} {old new : List ℕ} {failed : Bool}
-    → old ≡ [] → Writes options g r untouched (Some old) (Some new) failed → r ≡ Ok x → nest (normal g) ≤ max_nesting
+    {fails_by : Option Error → Type 0} → old ≡ [] → Writes options g r untouched (Some old) (Some new) failed fails_by → r ≡ Ok x
+    → nest (normal g) ≤ max_nesting
     → (s : Spelling) × Front new s (normal g) [] × HasOptions options.endianness options.form s
 read_again {options = options} {g = g} {r = r} {x = x} {old = old} {new = new} empty w is shallow =
     let h : IsSpelled options (normal g) (Some old) (Some new) = of_ok r x (λ _. IsSpelled options (normal g) (Some old) (Some new)) is w.spelled in (

@@ -1,5 +1,6 @@
 -- What sizes and writers promise, and what becomes of a sink.
-pub use Rattle.wkb_write.specs.Answers.{IsSizeOf, IsRefusedAs, IsWrittenAs, IsSpelled, IsSpelledAs, Writes}
+pub use Rattle.wkb_write.specs.Answers.{IsSizeOf, IsRefusedAs, IsWrittenAs, IsSpelled, IsSpelledAs, IsFailedAs}
+pub use Rattle.wkb_write.specs.Answers.{Writes, WritesTo}
 pub use Rattle.wkb_write.specs.Measures.{Reports}
-pub use Rattle.wkb_sink.specs.Sinks.{IsIOError, IsWritten, IsBegun, Puts}
+pub use Rattle.wkb_sink.specs.Sinks.{FailsBy, TellsFailure, IsIOError, IsOwnError, IsWritten, IsBegun, Puts}
 pub use Rattle.wkb_write.specs.declared.writable.WriteOptions.{WriteOptions}

@@ -2,10 +2,11 @@
 use Rattle.wkb_sink.proofs.Prelude.{◌≡◌, ℕ, List, [], ◌++◌, Option, refl, sym, ap, ◌∙◌, subst, append_assoc, append-nil}
 use Rattle.wkb_sink.proofs.Prelude.{arith, length-append, Bool, true, false}
 use Rattle.wkb_sink.proofs.Prelude.{Result, Ok, Err, Appends, Stopped, IsExtended, Progress, IsLaid, IsCut, Advances}
-use Rattle.wkb_sink.proofs.Prelude.{progress, IsBegun, IsWritten, PutsOrStops}
+use Rattle.wkb_sink.proofs.Prelude.{progress, failure_of, IsBegun, IsWritten, PutsOrStops}
 use Rattle.std.specs.Prelude.{IsErrAnd, IfOk}
 use Rattle.std.proofs.lemmas.Result.{err_from_is_err_and}
 use Rattle.wkb_sink.specs.declared.buffered.Buffered.{Buffered}
+use Rattle.wkb_sink.specs.declared.sink.Sink.{Ghosts}
 use Rattle.std.proofs.KnownBytes.{Appends-trans, Appends-nil}
 
 pub laid_none : (a : Progress) → a.failed ≡ false → IsLaid a a []
@@ -27,6 +28,7 @@ pub cut_first : {a b : Progress} {s : List ℕ} (t : List ℕ) → IsCut a b s �
 cut_first {a = a} {s = s} t p = record {
   same = p.same;
   stopped = p.stopped;
+  cause = p.cause;
   front = p.front;
   rest = p.rest ++ t;
   whole = sym (append_assoc a.waiting s t) ∙ ap (λ l. l ++ t) p.whole ∙ append_assoc p.front p.rest t;
@@ -38,6 +40,7 @@ pub cut_then : {a b c : Progress} {s t : List ℕ} → IsLaid a b s → IsCut b 
 cut_then {a = a} {b = b} {s = s} {t = t} p q = record {
   same = q.same ∙ p.same;
   stopped = q.stopped;
+  cause = q.cause;
   front = p.moved ++ q.front;
   rest = q.rest;
   whole =
@@ -66,9 +69,9 @@ lays_then c t (Ok x) p q = laid_then p q
 lays_then c t (Err e) p q = cut_then p q
 
 -- an encoding that was laid in the block once there was room
-pub laid_here : {a : Progress} {n : ℕ} {o : Option (List ℕ)} {failed : Bool} {w v t : List ℕ}
-    → IsLaid a (record { sink = n; appended = o; failed = failed; waiting = w }) [] → IsExtended w v t
-    → IsLaid a (record { sink = n; appended = o; failed = failed; waiting = v }) t
+pub laid_here : {a : Progress} {n : ℕ} {o : Option (List ℕ)} {failed : Bool} {cause : Type 0} {w v t : List ℕ}
+    → IsLaid a (record { sink = n; appended = o; failed = failed; fails_by = cause; waiting = w }) [] → IsExtended w v t
+    → IsLaid a (record { sink = n; appended = o; failed = failed; fails_by = cause; waiting = v }) t
 laid_here {a = a} {t = t} p is = record {
   same = p.same;
   works = p.works;
@@ -78,9 +81,11 @@ laid_here {a = a} {t = t} p is = record {
 }
 
 -- all that waited was put
-pub flushed : (n : ℕ) (a b : Option (List ℕ)) (s f : Bool) (w v bytes : List ℕ) → IsWritten a b bytes → f ≡ false → bytes ≡ w → v ≡ []
-    → IsLaid (record { sink = n; appended = a; failed = s; waiting = w }) (record { sink = n; appended = b; failed = f; waiting = v }) []
-flushed n a b s f w v bytes p works is empty = record {
+pub flushed : (n : ℕ) (a b : Option (List ℕ)) (s f : Bool) (k m : Type 0) (w v bytes : List ℕ) → IsWritten a b bytes → f ≡ false → bytes ≡ w
+    → v ≡ []
+    → IsLaid (record { sink = n; appended = a; failed = s; fails_by = k; waiting = w })
+    (record { sink = n; appended = b; failed = f; fails_by = m; waiting = v }) []
+flushed n a b s f k m w v bytes p works is empty = record {
   same = refl;
   works = works;
   moved = w;
@@ -89,11 +94,13 @@ flushed n a b s f w v bytes p works is empty = record {
 }
 
 -- or not all
-pub flush_cut : (n : ℕ) (a b : Option (List ℕ)) (s f : Bool) (w v bytes : List ℕ) → IsBegun a b bytes → f ≡ true → bytes ≡ w
-    → IsCut (record { sink = n; appended = a; failed = s; waiting = w }) (record { sink = n; appended = b; failed = f; waiting = v }) []
-flush_cut n a b s f w v bytes p stopped is = record {
+pub flush_cut : (n : ℕ) (a b : Option (List ℕ)) (s f : Bool) (k m : Type 0) (w v bytes : List ℕ) → IsBegun a b bytes → f ≡ true → m → bytes ≡ w
+    → IsCut (record { sink = n; appended = a; failed = s; fails_by = k; waiting = w })
+    (record { sink = n; appended = b; failed = f; fails_by = m; waiting = v }) []
+flush_cut n a b s f k m w v bytes p stopped cause is = record {
   same = refl;
   stopped = stopped;
+  cause = cause;
   front = p.front;
   rest = p.rest;
   whole = append-nil w ∙ sym is ∙ p.whole;
@@ -102,10 +109,10 @@ flush_cut n a b s f w v bytes p stopped is = record {
 }
 
 -- bytes that were put past a block in which nothing waits
-pub past_laid : {a : Progress} (n : ℕ) (b c : Option (List ℕ)) (s f : Bool) (w bytes : List ℕ)
-    → IsLaid a (record { sink = n; appended = b; failed = s; waiting = w }) [] → w ≡ [] → IsWritten b c bytes → f ≡ false
-    → IsLaid a (record { sink = n; appended = c; failed = f; waiting = w }) bytes
-past_laid n b c s f w bytes before empty p works = laid_then before (record {
+pub past_laid : {a : Progress} (n : ℕ) (b c : Option (List ℕ)) (s f : Bool) (k m : Type 0) (w bytes : List ℕ)
+    → IsLaid a (record { sink = n; appended = b; failed = s; fails_by = k; waiting = w }) [] → w ≡ [] → IsWritten b c bytes → f ≡ false
+    → IsLaid a (record { sink = n; appended = c; failed = f; fails_by = m; waiting = w }) bytes
+past_laid n b c s f k m w bytes before empty p works = laid_then before (record {
   same = refl;
   works = works;
   moved = bytes;
@@ -114,12 +121,13 @@ past_laid n b c s f w bytes before empty p works = laid_then before (record {
 })
 
 -- or not all of them
-pub past_cut : {a : Progress} (n : ℕ) (b c : Option (List ℕ)) (s f : Bool) (w bytes : List ℕ)
-    → IsLaid a (record { sink = n; appended = b; failed = s; waiting = w }) [] → w ≡ [] → IsBegun b c bytes → f ≡ true
-    → IsCut a (record { sink = n; appended = c; failed = f; waiting = w }) bytes
-past_cut n b c s f w bytes before empty p stopped = cut_then before (record {
+pub past_cut : {a : Progress} (n : ℕ) (b c : Option (List ℕ)) (s f : Bool) (k m : Type 0) (w bytes : List ℕ)
+    → IsLaid a (record { sink = n; appended = b; failed = s; fails_by = k; waiting = w }) [] → w ≡ [] → IsBegun b c bytes → f ≡ true → m
+    → IsCut a (record { sink = n; appended = c; failed = f; fails_by = m; waiting = w }) bytes
+past_cut n b c s f k m w bytes before empty p stopped cause = cut_then before (record {
   same = refl;
   stopped = stopped;
+  cause = cause;
   front = p.front;
   rest = p.rest;
   whole = ap (λ l. l ++ bytes) empty ∙ p.whole;
@@ -132,13 +140,14 @@ pub lays_last : {a b : Progress} (c : Progress) (t : List ℕ) (r : Result (Unit
 lays_last {a = a} c t r p q = subst (λ s. Advances a c s r) (append-nil t) (lays_then c [] r p q)
 
 -- an encoding for which nothing waited at first, nor at the end; x is what the lent sink ends as
-pub ends : {S : Type 0} (appended : S → Option (List ℕ)) (has_failed : S → Bool) (t : List ℕ) (a : Progress) (b : Buffered S) (x : S)
-    (r : Result (Unit {0}) Stopped) → Advances a (progress appended has_failed b) t r → a.waiting ≡ [] → IfOk r (λ _. b.block.waiting ≡ [])
-    → (a.sink ≡ b.sink.ghost_name → x ≡ b.sink.now) → PutsOrStops a.appended (appended x) (has_failed x) t r
-ends appended has_failed t a b x (Ok u) p none empty known =
+pub ends : {S : Type 0} (sink : Ghosts S) (t : List ℕ) (a : Progress) (b : Buffered S) (x : S) (r : Result (Unit {0}) Stopped)
+    → Advances a (progress sink b) t r → a.waiting ≡ [] → IfOk r (λ _. b.block.waiting ≡ []) → (a.sink ≡ b.sink.ghost_name → x ≡ b.sink.now)
+    → PutsOrStops a.appended (sink.appended x) (sink.has_failed x) (sink.fails_by x) t (failure_of r b.error)
+ends sink t a b x (Ok u) p none empty known =
     let is : x ≡ b.sink.now = known (sym p.same) in
     let whole : t ≡ p.moved = ap (λ l. l ++ t) (sym none) ∙ p.whole ∙ ap (λ l. p.moved ++ l) empty ∙ append-nil p.moved in
-    rw is (record { appended = subst (Appends a.appended (appended b.sink.now)) (sym whole) p.appended }, p.works)
-ends appended has_failed t a b x (Err e) p none empty known =
+    rw is (record { appended = subst (Appends a.appended (sink.appended b.sink.now)) (sym whole) p.appended }, p.works)
+ends sink t a b x (Err e) p none empty known =
     let is : x ≡ b.sink.now = known (sym p.same) in
-    rw is (record { front = p.front; rest = p.rest; whole = ap (λ l. l ++ t) (sym none) ∙ p.whole; left = p.left; appended = p.appended }, p.stopped)
+    let whole = ap (λ l. l ++ t) (sym none) ∙ p.whole in
+    rw is (record { front = p.front; rest = p.rest; whole = whole; left = p.left; appended = p.appended }, p.stopped, p.cause)

@@ -1,14 +1,19 @@
 -- How far an encoding has come on its way through a block to a sink.
-use Rattle.std.specs.Prelude.{◌≡◌, ℕ, ◌<◌, Bool, true, false, List, ◌++◌, length, Option, Result, MatchResult}
+use Rattle.std.specs.Prelude.{◌≡◌, ℕ, ◌<◌, Bool, true, false, List, ◌++◌, length, Option, Result, Ok, Err, MatchResult}
 use Rattle.std.specs.Io.KnownBytes.{Appends}
+use Rattle.std.specs.declared.io.Error.{Error}
+use Rattle.wkb_sink.specs.Sinks.{PutsOrStops}
 use Rattle.wkb_sink.specs.declared.buffered.Buffered.{Buffered}
 use Rattle.wkb_sink.specs.declared.buffered.Stopped.{Stopped}
+use Rattle.wkb_sink.specs.declared.sink.Sink.{Ghosts}
 
--- which sink it is, what stands appended to it, where it tells its bytes, whether it has failed, and what waits in the block
-pub record Progress : Type 0 where
+-- which sink it is, what stands appended to it, where it tells its bytes, whether it has failed and whether by the error
+-- that is kept, and what waits in the block
+pub record Progress : Type 1 where
   pub sink : ℕ
   pub appended : Option (List ℕ)
   pub failed : Bool
+  pub fails_by : Type 0
   pub waiting : List ℕ
 
 -- the encoding was laid behind what waited, the first of these bytes were appended, and the sink works
@@ -19,10 +24,11 @@ pub record IsLaid (old new : Progress) (encoding : List ℕ) : Type 0 where
   pub whole : old.waiting ++ encoding ≡ moved ++ new.waiting
   pub appended : Appends old.appended new.appended moved
 
--- the sink failed, and a beginning of what waited and the encoding, shorter than both, was appended
+-- the sink failed by the error that is kept, and a beginning of what waited and the encoding, shorter than both, was appended
 pub record IsCut (old new : Progress) (encoding : List ℕ) : Type 0 where
   pub same : new.sink ≡ old.sink
   pub stopped : new.failed ≡ true
+  pub cause : new.fails_by
   pub front : List ℕ
   pub rest : List ℕ
   pub whole : old.waiting ++ encoding ≡ front ++ rest
@@ -34,10 +40,24 @@ abbrev pub Advances : Progress → Progress → List ℕ → Result (Unit {0}) S
 Advances old new encoding r = MatchResult r (λ _. IsLaid old new encoding) (λ _. IsCut old new encoding)
 
 -- how far it has come with this sink and block, by the sink's ghost members
-abbrev pub progress : {S : Type 0} → (S → Option (List ℕ)) → (S → Bool) → Buffered S → Progress
-progress appended has_failed out =
-    record { sink = out.sink.ghost_name; appended = appended out.sink.now; failed = has_failed out.sink.now; waiting = out.block.waiting }
+abbrev pub progress : {S : Type 0} → Ghosts S → Buffered S → Progress
+progress sink out = record {
+  sink = out.sink.ghost_name;
+  appended = sink.appended out.sink.now;
+  failed = sink.has_failed out.sink.now;
+  fails_by = sink.fails_by out.sink.now out.error;
+  waiting = out.block.waiting;
+}
+
+-- how the sink failed, by the last step's answer and the error that is kept
+abbrev pub failure_of : Result (Unit {0}) Stopped → Option Error → Result (Unit {0}) (Option Error)
+failure_of (Ok u) kept = Ok u
+failure_of (Err e) kept = Err kept
+
+-- the sink took the encoding, or failed as is answered
+abbrev pub PutsTo : {S : Type 0} → Ghosts S → S → S → List ℕ → Result (Unit {0}) (Option Error) → Type 0
+PutsTo sink old new encoding r = PutsOrStops (sink.appended old) (sink.appended new) (sink.has_failed new) (sink.fails_by new) encoding r
 
 -- the same of a sink and a block before a step and after it
-abbrev pub Lays : {S : Type 0} → (S → Option (List ℕ)) → (S → Bool) → Buffered S → Buffered S → List ℕ → Result (Unit {0}) Stopped → Type 0
-Lays appended has_failed old new encoding r = Advances (progress appended has_failed old) (progress appended has_failed new) encoding r
+abbrev pub Lays : {S : Type 0} → Ghosts S → Buffered S → Buffered S → List ℕ → Result (Unit {0}) Stopped → Type 0
+Lays sink old new encoding r = Advances (progress sink old) (progress sink new) encoding r

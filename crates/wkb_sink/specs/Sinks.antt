@@ -1,6 +1,9 @@
 -- What stands appended to a sink, where it tells its bytes, and whether it has failed.
 use Rattle.std.specs.Prelude.{◌≡◌, ◌==◌, ◌&&◌, nat_lt, ℕ, ◌<◌, Bool, true, false, List, ◌++◌, length, Option, Result}
-use Rattle.std.specs.Prelude.{Ok, Err, MatchResult}
+use Rattle.std.specs.Prelude.{Some, None, Ok, Err, MatchResult}
+use Rattle.std.specs.declared.io.Error.{Error}
+use Rattle.std.specs.declared.io.ErrorKind.TheVariants.{WriteZero}
+use Rattle.std.specs.IoError.{error_kind}
 use Rattle.std.specs.Io.KnownBytes.{Appends}
 use Rattle.wkb_geom.specs.declared.error.WkbError.{WkbError}
 use Rattle.wkb_geom.specs.declared.error.WkbError.TheVariants as errors
@@ -9,6 +12,17 @@ use Rattle.wkb_geom.specs.declared.error.WkbError.TheVariants as errors
 abbrev pub put_fails : {E : Type 0} → ℕ → Result ℕ E → Bool
 put_fails n (Ok k) = k == 0 && nat_lt 0 n
 put_fails n (Err e) = true
+
+-- a put of n bytes failed by this error, or by none: of some bytes nothing was taken
+abbrev pub FailsBy : ℕ → Result ℕ Error → Option Error → Type 0
+FailsBy n r (Some e) = r ≡ Err e
+FailsBy n r None = (r ≡ Ok 0) × (0 < n)
+
+-- the error tells how the sink failed: it is the sink's own, or says that nothing was taken
+abbrev pub TellsFailure : WkbError → Option Error → Type 0
+TellsFailure e (Some own) = e ≡ errors.IOError own
+TellsFailure (errors.IOError e) None = error_kind e ≡ WriteZero
+TellsFailure _ None = ⊥
 
 abbrev pub IsIOError : WkbError → Type 0
 IsIOError (errors.IOError e) = Unit {0}
@@ -26,12 +40,16 @@ pub record IsBegun (old new : Option (List ℕ)) (encoding : List ℕ) : Type 0 
   pub left : 0 < length rest
   pub appended : Appends old new front
 
+-- an error for which a sink failed in such a way
+abbrev pub IsOwnError : (Option Error → Type 0) → WkbError → Type 0
+IsOwnError fails_by e = (failure : Option Error) × fails_by failure × TellsFailure e failure
+
 -- a writer that wrote the encoding, or an error for which the sink failed
 abbrev pub Puts : Option (List ℕ) → Option (List ℕ) → Bool → List ℕ → Result (Unit {0}) WkbError → Type 0
 Puts old new failed encoding r =
     MatchResult r (λ _. IsWritten old new encoding × (failed ≡ false)) (λ e. IsIOError e × IsBegun old new encoding × (failed ≡ true))
 
--- the same of a step inside
-abbrev pub PutsOrStops : {E : Type 0} → Option (List ℕ) → Option (List ℕ) → Bool → List ℕ → Result (Unit {0}) E → Type 0
-PutsOrStops old new failed encoding r =
-    MatchResult r (λ _. IsWritten old new encoding × (failed ≡ false)) (λ _. IsBegun old new encoding × (failed ≡ true))
+-- the same of a step inside, which answers how the sink failed
+abbrev pub PutsOrStops : Option (List ℕ) → Option (List ℕ) → Bool → (Option Error → Type 0) → List ℕ → Result (Unit {0}) (Option Error) → Type 0
+PutsOrStops old new failed fails_by encoding r =
+    MatchResult r (λ _. IsWritten old new encoding × (failed ≡ false)) (λ e. IsBegun old new encoding × (failed ≡ true) × fails_by e)

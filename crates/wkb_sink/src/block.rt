@@ -138,7 +138,7 @@ impl<'a> Block<'a> {
 }
 
 /// The dimension that is written; Xy where there is none.
-pub fn written(dim: Dimensions) -> Dimension
+pub fn dimension_to_write(dim: Dimensions) -> Dimension
     ensures { result ≡ written_dimension dim }
 {
     Dimension::try_from(dim).unwrap_or(Dimension::Xy)

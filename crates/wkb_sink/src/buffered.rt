@@ -4,8 +4,7 @@ ghost use Rattle.std.specs.Prelude.{◌≡◌, ◌≤◌, ◌++◌, [], false, I
 ghost use Rattle.wkb_geom.specs.Numbers.{number_bytes};
 ghost use Rattle.wkb_geom.specs.Reading.{type_kind, type_dimension};
 ghost use Rattle.wkb_geom.specs.Encodings.{header_encoding};
-ghost use Rattle.wkb_sink.specs.Progress.{Lays};
-ghost use Rattle.wkb_sink.specs.Sinks.{PutsOrStops};
+ghost use Rattle.wkb_sink.specs.Progress.{Lays, PutsTo};
 
 use crate::Sink;
 use crate::block::{Block, LEAST, lay_count, lay_header};
@@ -20,19 +19,19 @@ use wkb_geom::{Endianness, Form};
 #[derive(Debug, Clone, Copy)]
 pub struct Stopped;
 
-/// A sink behind a block, and the place where its error is kept.
+/// A sink behind a block, and the error by which it failed.
 #[derive(Drop)]
 pub struct Buffered<'a, S: Sink> {
     pub sink: &'a mut S,
     pub block: Block<'a>,
-    pub error: &'a mut Option<io::Error>,
+    pub error: Option<io::Error>,
 }
 
 /// Puts all of the bytes, or as many as the sink takes before it fails: by an error, or by taking no byte.
 #[inline(always)]
 pub fn put_all<S: Sink>(sink: &mut S, bytes: &[u8]) -> Result<(), Option<io::Error>>
     requires { S.has_failed sink.old ≡ false }
-    ensures { PutsOrStops (S.appended sink.old) (S.appended sink.new) (S.has_failed sink.new) bytes.now result }
+    ensures { PutsTo S.Sink sink.old sink.new bytes.now result }
 {
     let mut rest = bytes;
     while !rest.is_empty() {
@@ -51,7 +50,7 @@ impl<'a, S: Sink> Buffered<'a, S> {
     #[tactic(auto, using(crate::proofs::Steps::flush_laws))]
     pub fn flush(&mut self) -> Result<(), Stopped>
         requires { S.has_failed self.old.sink.now ≡ false }
-        ensures laid { Lays S.appended S.has_failed self.old self.new [] result }
+        ensures laid { Lays S.Sink self.old self.new [] result }
         ensures empty { IfOk result (λ _. self.new.block.waiting ≡ []) }
         ensures room { IfOk result (λ _. LEAST ≤ self.new.block.room) }
     {
@@ -61,7 +60,7 @@ impl<'a, S: Sink> Buffered<'a, S> {
                 Ok(())
             }
             Err(error) => {
-                *self.error = error;
+                self.error = error;
                 Err(Stopped)
             }
         }
@@ -72,7 +71,7 @@ impl<'a, S: Sink> Buffered<'a, S> {
     pub fn make_room(&mut self, n: usize) -> Result<(), Stopped>
         requires fits { n ≤ LEAST }
         requires working { S.has_failed self.old.sink.now ≡ false }
-        ensures laid { Lays S.appended S.has_failed self.old self.new [] result }
+        ensures laid { Lays S.Sink self.old self.new [] result }
         ensures room { IfOk result (λ _. n ≤ self.new.block.room) }
     {
         if self.block.room() < n {
@@ -87,7 +86,7 @@ impl<'a, S: Sink> Buffered<'a, S> {
     #[tactic(auto, using(crate::proofs::Steps::step_laws))]
     pub fn put_bytes(&mut self, bytes: &[u8]) -> Result<(), Stopped>
         requires working { S.has_failed self.old.sink.now ≡ false }
-        ensures { Lays S.appended S.has_failed self.old self.new bytes.now result }
+        ensures { Lays S.Sink self.old self.new bytes.now result }
     {
         if bytes.len() <= self.block.room() {
             self.block.lay(bytes);
@@ -102,7 +101,7 @@ impl<'a, S: Sink> Buffered<'a, S> {
     #[tactic(auto, using(crate::proofs::Steps::step_laws))]
     fn put_past(&mut self, bytes: &[u8]) -> Result<(), Stopped>
         requires working { S.has_failed self.old.sink.now ≡ false }
-        ensures { Lays S.appended S.has_failed self.old self.new bytes.now result }
+        ensures { Lays S.Sink self.old self.new bytes.now result }
     {
         self.flush()?;
         if bytes.len() <= self.block.room() {
@@ -112,7 +111,7 @@ impl<'a, S: Sink> Buffered<'a, S> {
         match put_all(self.sink, bytes) {
             Ok(()) => Ok(()),
             Err(error) => {
-                *self.error = error;
+                self.error = error;
                 Err(Stopped)
             }
         }
@@ -122,7 +121,7 @@ impl<'a, S: Sink> Buffered<'a, S> {
     #[tactic(auto, using(crate::proofs::Steps::step_laws))]
     pub fn put_count(&mut self, order: Endianness, n: u32) -> Result<(), Stopped>
         requires working { S.has_failed self.old.sink.now ≡ false }
-        ensures { Lays S.appended S.has_failed self.old self.new (number_bytes order 4 n) result }
+        ensures { Lays S.Sink self.old self.new (number_bytes order 4 n) result }
     {
         self.make_room(COUNT)?;
         lay_count(&mut self.block, order, n);
@@ -138,7 +137,7 @@ impl<'a, S: Sink> Buffered<'a, S> {
         kind: WkbType,
     ) -> Result<(), Stopped>
         requires working { S.has_failed self.old.sink.now ≡ false }
-        ensures { Lays S.appended S.has_failed self.old self.new
+        ensures { Lays S.Sink self.old self.new
             (header_encoding order form (type_kind kind) (type_dimension kind)) result }
     {
         self.make_room(LONGEST_HEADER)?;
@@ -156,7 +155,7 @@ impl<'a, S: Sink> Buffered<'a, S> {
         n: u32,
     ) -> Result<(), Stopped>
         requires working { S.has_failed self.old.sink.now ≡ false }
-        ensures { Lays S.appended S.has_failed self.old self.new
+        ensures { Lays S.Sink self.old self.new
             (header_encoding order form (type_kind kind) (type_dimension kind) ++ number_bytes order 4 n) result }
     {
         self.make_room(LONGEST_HEADER + COUNT)?;

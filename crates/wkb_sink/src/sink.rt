@@ -1,11 +1,14 @@
 //! Where bytes are written to.
 
 ghost use Rattle.std.specs.Prelude.{◌≡◌, ◌||◌, ◌+◌, ◌≤◌, ◌-◌, min, ℕ, Bool, false, List, [], length, take};
-ghost use Rattle.std.specs.Prelude.{Option, None, Some, IsOk, IfOk, vec_capacity};
+ghost use Rattle.std.specs.Prelude.{Option, None, Some, IsOk, IfOk, IsSomeAnd, vec_capacity, ⊤};
+ghost use Rattle.std.specs.declared.io.Error.{Error};
+ghost use Rattle.std.specs.declared.io.ErrorKind.TheVariants.{OutOfMemory};
+ghost use Rattle.std.specs.IoError.{error_kind};
 ghost use Rattle.std.specs.Io.{WritesAtMost};
 ghost use Rattle.std.specs.Io.KnownBytes.{WriteAppends};
 ghost use Rattle.wkb_sink.specs.Held.{Outward, Growing, Lent};
-ghost use Rattle.wkb_sink.specs.Sinks.{put_fails};
+ghost use Rattle.wkb_sink.specs.Sinks.{put_fails, FailsBy};
 
 use std::alloc::{AllocError, Global};
 use std::io;
@@ -20,12 +23,17 @@ pub trait Sink {
     // Whether the sink has failed.
     ghost has_failed: { Self → Bool };
 
+    // What is so where the sink failed by this error, or by none, as it took nothing.
+    ghost fails_by: { Self → Option Error → Type 0 } = { λ _ _. ⊤ };
+
     /// Appends the first bytes, as many as it answers. An error appends nothing. An error, or no
     /// byte taken of some, is a failure, and lasts.
     fn put(&mut self, bytes: &[u8]) -> io::Result<usize>
         ensures bound { WritesAtMost result bytes.now }
         ensures bytes { WriteAppends (appended self.old) (appended self.new) result bytes.now }
-        ensures failure { has_failed self.new ≡ (has_failed self.old || put_fails (length bytes.now) result) };
+        ensures failure { has_failed self.new ≡ (has_failed self.old || put_fails (length bytes.now) result) }
+        ensures cause { (failure : Option Error) → FailsBy (length bytes.now) result failure
+            → fails_by self.new failure };
 
     /// Whether a put has failed: what stands is then a beginning at most.
     fn failed(&self) -> bool
@@ -144,10 +152,14 @@ impl Sink for VecSink {
 
     ghost has_failed = { λ s. s.failed };
 
+    ghost fails_by = { λ _ failure. IsSomeAnd failure (λ e. error_kind e ≡ OutOfMemory) };
+
     fn put(&mut self, bytes: &[u8]) -> io::Result<usize>
         ensures bound { WritesAtMost result bytes.now }
         ensures bytes { WriteAppends (Some self.old.bytes) (Some self.new.bytes) result bytes.now }
         ensures failure { self.new.failed ≡ (self.old.failed || put_fails (length bytes.now) result) }
+        ensures cause { (failure : Option Error) → FailsBy (length bytes.now) result failure
+            → IsSomeAnd failure (λ e. error_kind e ≡ OutOfMemory) }
         ensures whole { IfOk result (λ n. n ≡ length bytes.now) }
         ensures room { length self.old.bytes + length bytes.now ≤ self.old.capacity → IsOk result }
         ensures capacity { self.old.capacity ≤ self.new.capacity }
@@ -220,10 +232,13 @@ impl Sink for SliceSink<'_> {
 
     ghost has_failed = { λ s. s.failed };
 
+    ghost fails_by = { λ _ failure. failure ≡ None };
+
     fn put(&mut self, bytes: &[u8]) -> io::Result<usize>
         ensures bound { WritesAtMost result bytes.now }
         ensures bytes { WriteAppends (Some self.old.bytes) (Some self.new.bytes) result bytes.now }
         ensures failure { self.new.failed ≡ (self.old.failed || put_fails (length bytes.now) result) }
+        ensures cause { (failure : Option Error) → FailsBy (length bytes.now) result failure → failure ≡ None }
         ensures most { IfOk result (λ n. n ≡ min (length bytes.now) self.old.room) }
         ensures room { IfOk result (λ n. self.new.room ≡ self.old.room - n) }
         ensures ok { IsOk result }

@@ -13,7 +13,7 @@ use Rattle.wkb_geom.specs.Refusals.{srid_size}
 use Rattle.wkb_geom.specs.Sizes.{byte_size}
 use Rattle.wkb_geom.specs.Encodings.{encoding, fault, refusal, size_fault, form_srid, IsForm}
 use Rattle.wkb_write.specs.Measures.{Finds, Measures, capped}
-use Rattle.wkb_write.specs.Bodies.{body_size}
+use Rattle.wkb_write.specs.Bodies.{bytes_behind_header}
 use Rattle.wkb_geom.proofs.Faults.{none_both}
 use Rattle.wkb_write.proofs.Faults.{reports_first, reports_rest}
 use Rattle.wkb_write.proofs.Whole.{header_within}
@@ -40,22 +40,22 @@ measured_length order form g fits lawful none = encoding_has_size_lem order form
     of_flag false = refl
 
 -- what was measured without a fault
-at_ok : (measured : Result ℕ Fault) (s : ℕ) (g : Geometry) → measured ≡ Ok s → Measures (fault g) (body_size g) measured
-    → (fault g ≡ None) × (s ≡ capped (body_size g))
-at_ok measured s g is h = subst (Measures (fault g) (body_size g)) is h
+at_ok : (measured : Result ℕ Fault) (s : ℕ) (g : Geometry) → measured ≡ Ok s → Measures (fault g) (bytes_behind_header g) measured
+    → (fault g ≡ None) × (s ≡ capped (bytes_behind_header g))
+at_ok measured s g is h = subst (Measures (fault g) (bytes_behind_header g)) is h
 
 -- a fault is what the size refuses
 pub size_refused : (measured : Result ℕ Fault) (e : Fault) (form : Form) (g : Geometry) (r : Result ℕ Fault) → measured ≡ Err e → IsErrAnd r (λ y. y ≡ e)
-    → Measures (fault g) (body_size g) measured → IsSized form g r
+    → Measures (fault g) (bytes_behind_header g) measured → IsSized form g r
 size_refused measured e form g r is exit h = λ order.
-    let told : Finds e (fault g) = subst (Measures (fault g) (body_size g)) is h in
+    let told : Finds e (fault g) = subst (Measures (fault g) (bytes_behind_header g)) is h in
     let p = err_from_is_err_and r exit in
     let P : Fault → Type 0 = λ y. Finds y (refusal order form g) in
     rw p.1 (subst P (sym p.2) (reports_first e (fault g) _ told))
 
 -- the size that was measured is that of the encoding, and fits
 pub size_told : (measured : Result ℕ Fault) (s total : ℕ) (form : Form) (g : Geometry) → measured ≡ Ok s → IsForm form → IsGeometry g
-    → Measures (fault g) (body_size g) measured → total ≡ s + (5 + srid_size (is_some (form_srid form))) → total < 2 ^ 64 → IsSized form g (Ok total)
+    → Measures (fault g) (bytes_behind_header g) measured → total ≡ s + (5 + srid_size (is_some (form_srid form))) → total < 2 ^ 64 → IsSized form g (Ok total)
 size_told measured s total form g is srid_fits lawful h sum fits = λ order.
     let m = at_ok measured s g is h in
     let whole = measured_length order form g srid_fits lawful m.0 in
@@ -64,7 +64,7 @@ size_told measured s total form g is srid_fits lawful h sum fits = λ order.
 
 -- the size that was measured does not fit
 pub size_past : (measured : Result ℕ Fault) (s : ℕ) (form : Form) (g : Geometry) → measured ≡ Ok s → IsForm form → IsGeometry g
-    → Measures (fault g) (body_size g) measured → 2 ^ 64 ≤ s + (5 + srid_size (is_some (form_srid form))) → IsSized form g (Err found.Size)
+    → Measures (fault g) (bytes_behind_header g) measured → 2 ^ 64 ≤ s + (5 + srid_size (is_some (form_srid form))) → IsSized form g (Err found.Size)
 size_past measured s form g is srid_fits lawful h past = λ order.
     let m = at_ok measured s g is h in
     let whole = measured_length order form g srid_fits lawful m.0 in

@@ -21,8 +21,8 @@ use Rattle.wkb_geom.specs.Encodings.{fault_each}
 use Rattle.wkb_geom.proofs.Faults.{none_both}
 use Rattle.wkb_geom.proofs.Nodes.{node_count-member}
 use Rattle.wkb_write.specs.Measures.{Finds, IsAdded, IsMeasured, Measures, capped}
-use Rattle.wkb_write.specs.Bodies.{Measure, parts_fault, parts_size, words, ring_bytes, ring_part, polygon_part}
-use Rattle.wkb_write.specs.Bodies.{member_measure, members, body_fault, body_size}
+use Rattle.wkb_write.specs.Bodies.{Measure, parts_fault, parts_size, coordinate_words, ring_bytes, ring_measure, polygon_measure}
+use Rattle.wkb_write.specs.Bodies.{member_measure, member_measures, body_fault, bytes_behind_header}
 use Rattle.wkb_write.specs.Bodies.{size_by_parts}
 use Rattle.wkb_write.proofs.Faults.{reports_first, reports_rest, supported_words}
 
@@ -49,11 +49,11 @@ items_size : {X : Type 0} (header : ℕ) (part : X → Measure) (s : X → ℕ) 
 unfolding parts_size
 items_size header part s xs same = omega (arith, sizes_of header part s xs same)
 
-members_count : (gs : Geometries) → length (members gs) ≡ count_geometries gs
+members_count : (gs : Geometries) → length (member_measures gs) ≡ count_geometries gs
 members_count no_geometries = refl
 members_count (geometry g gs) = omega (arith, members_count gs)
 
-members_faults : (gs : Geometries) → first_fault (λ p. p.fault) (members gs) ≡ fault_each gs
+members_faults : (gs : Geometries) → first_fault (λ p. p.fault) (member_measures gs) ≡ fault_each gs
 unfolding first_fault
 members_faults no_geometries = refl
 members_faults (geometry g gs) = ap (or_else (fault g)) (members_faults gs)
@@ -63,28 +63,28 @@ pub header_within : (g : Geometry) → 5 ≤ byte_size g
 header_within (rectangle d least greatest) = omega arith
 header_within _ = omega arith
 
-members_sizes : (gs : Geometries) → 5 * length (members gs) + sum_by (λ p. p.size) (members gs) ≡ byte_sizes gs
+members_sizes : (gs : Geometries) → 5 * length (member_measures gs) + sum_by (λ p. p.size) (member_measures gs) ≡ byte_sizes gs
 members_sizes no_geometries = refl
 members_sizes (geometry g gs) =
-    omega (arith, sum_by-cons (λ p. p.size) (member_measure g) (members gs), members_sizes gs, header_within g)
+    omega (arith, sum_by-cons (λ p. p.size) (member_measure g) (member_measures gs), members_sizes gs, header_within g)
 
-members_fault : (gs : Geometries) → parts_fault (members gs) ≡ or_else (count_fault (count_geometries gs)) (fault_each gs)
+members_fault : (gs : Geometries) → parts_fault (member_measures gs) ≡ or_else (count_fault (count_geometries gs)) (fault_each gs)
 unfolding parts_fault
 members_fault gs = rw (members_count gs, members_faults gs) refl
 
-members_size : (gs : Geometries) → parts_size 5 (members gs) ≡ 4 + byte_sizes gs
+members_size : (gs : Geometries) → parts_size 5 (member_measures gs) ≡ 4 + byte_sizes gs
 unfolding parts_size
 members_size gs = omega (arith, members_sizes gs)
 
-ring_takes : (d : Dimensions) → words d ≡ size d → (cs : List (List ℕ)) → ring_bytes d cs ≡ ring_size d cs
+ring_takes : (d : Dimensions) → coordinate_words d ≡ size d → (cs : List (List ℕ)) → ring_bytes d cs ≡ ring_size d cs
 ring_takes d is cs = ap (λ w. 4 + 8 * w * length cs) is
 
 -- the rings of a polygon
-rings_are : (d : Dimensions) (rings : List (List (List ℕ))) → parts_fault (map (ring_part d) rings) ≡ rings_fault rings
-rings_are d rings = items_fault (ring_part d) coordinates_fault rings (λ r. refl)
+rings_are : (d : Dimensions) (rings : List (List (List ℕ))) → parts_fault (map (ring_measure d) rings) ≡ rings_fault rings
+rings_are d rings = items_fault (ring_measure d) coordinates_fault rings (λ r. refl)
 
-rings_take : (d : Dimensions) (rings : List (List (List ℕ))) → words d ≡ size d → parts_size 0 (map (ring_part d) rings) ≡ 4 + sum_by (ring_size d) rings
-rings_take d rings is = items_size 0 (ring_part d) (ring_size d) rings (λ cs. omega (arith, ring_takes d is cs))
+rings_take : (d : Dimensions) (rings : List (List (List ℕ))) → coordinate_words d ≡ size d → parts_size 0 (map (ring_measure d) rings) ≡ 4 + sum_by (ring_size d) rings
+rings_take d rings is = items_size 0 (ring_measure d) (ring_size d) rings (λ cs. omega (arith, ring_takes d is cs))
 
 alone : (a : Option Fault) → a ≡ or_else a None
 unfolding or_else
@@ -96,20 +96,20 @@ fault_by_body (point d c) = alone (dimensions_fault d)
 fault_by_body (line_string d cs) = refl
 fault_by_body (polygon d rings) = ap (or_else (dimensions_fault d)) (sym (rings_are d rings))
 fault_by_body (multi_point d points) = refl
-fault_by_body (multi_line_string d lines) = ap (or_else (dimensions_fault d)) (sym (items_fault (ring_part d) coordinates_fault lines (λ l. refl)))
-fault_by_body (multi_polygon d polygons) = ap (or_else (dimensions_fault d)) (sym (items_fault (polygon_part d) rings_fault polygons (rings_are d)))
+fault_by_body (multi_line_string d lines) = ap (or_else (dimensions_fault d)) (sym (items_fault (ring_measure d) coordinates_fault lines (λ l. refl)))
+fault_by_body (multi_polygon d polygons) = ap (or_else (dimensions_fault d)) (sym (items_fault (polygon_measure d) rings_fault polygons (rings_are d)))
 fault_by_body (collection d gs) = ap (or_else (dimensions_fault d)) (sym (members_fault gs))
 fault_by_body (line d start end) = alone (dimensions_fault d)
 fault_by_body (rectangle d least greatest) = alone (dimensions_fault d)
 fault_by_body (triangle d first second third) = alone (dimensions_fault d)
 
-pub size_by_body : (g : Geometry) → words (dimensions_of g) ≡ size (dimensions_of g) → byte_size g ≡ 5 + size_by_parts g
+pub size_by_body : (g : Geometry) → coordinate_words (dimensions_of g) ≡ size (dimensions_of g) → byte_size g ≡ 5 + size_by_parts g
 size_by_body (point d c) is = omega (arith, is)
 size_by_body (line_string d cs) is = omega (arith, ring_takes d is cs)
 size_by_body (polygon d rings) is = omega (arith, rings_take d rings is)
 size_by_body (multi_point d points) is = rw is (omega arith)
-size_by_body (multi_line_string d lines) is = omega (arith, items_size 5 (ring_part d) (line_string_size d) lines (λ l. omega (arith, ring_takes d is l)))
-size_by_body (multi_polygon d polygons) is = omega (arith, items_size 5 (polygon_part d) (polygon_size d) polygons (λ p. omega (arith, rings_take d p is)))
+size_by_body (multi_line_string d lines) is = omega (arith, items_size 5 (ring_measure d) (line_string_size d) lines (λ l. omega (arith, ring_takes d is l)))
+size_by_body (multi_polygon d polygons) is = omega (arith, items_size 5 (polygon_measure d) (polygon_size d) polygons (λ p. omega (arith, rings_take d p is)))
 size_by_body (collection d gs) is = omega (arith, members_size gs)
 size_by_body (line d start end) is = omega (arith, is)
 size_by_body (rectangle d least greatest) is = refl
@@ -117,7 +117,7 @@ size_by_body (triangle d first second third) is = omega (arith, is)
 
 -- what was measured of a header and a body is measured of the geometry
 pub whole_measured : (g : Geometry) (dims : Dimensions) (r : Result ℕ Fault) → dims ≡ dimensions_of g → dimensions_fault dims ≡ None
-    → Measures (body_fault g) (size_by_parts g) r → Measures (fault g) (body_size g) r
+    → Measures (body_fault g) (size_by_parts g) r → Measures (fault g) (bytes_behind_header g) r
 whole_measured g dims (Ok n) is supported h =
     let fine = ap dimensions_fault (sym is) ∙ supported in
     let whole = size_by_body g (supported_words (dimensions_of g) fine) in
@@ -131,10 +131,10 @@ whole_unsupported g dims e is told =
 
 -- what was measured of a collection's members as its parts is measured of the collection
 pub collected : (before : ℕ) (d : Dimensions) (gs : Geometries) (r : Result ℕ Fault) → dimensions_fault d ≡ None
-    → Measures (parts_fault (members gs)) (before + parts_size 5 (members gs)) r → IsAdded before (collection d gs) r
+    → Measures (parts_fault (member_measures gs)) (before + parts_size 5 (member_measures gs)) r → IsAdded before (collection d gs) r
 unfolding IsAdded
 collected before d gs (Ok n) supported h =
-    let whole = whole_measured (collection d gs) d (Ok (capped (parts_size 5 (members gs)))) refl supported (h.0, refl) in
+    let whole = whole_measured (collection d gs) d (Ok (capped (parts_size 5 (member_measures gs)))) refl supported (h.0, refl) in
     (whole.0, omega (arith, h.1, whole.1))
 collected before d gs (Err e) supported h = whole_measured (collection d gs) d (Err e) refl supported h
 
@@ -145,19 +145,19 @@ added_alone g h (Ok n) s added is same = rw (is, ← same) (added.0, omega (arit
 added_alone g h (Err e) s added is same = rw (is, ← same) added
 
 -- the parts of members that are lent as a slice
-pub members_length : {X : Type 0} (f : X → Geometry) (xs : List X) → length xs ≡ length (members (geometries (map f xs)))
+pub members_length : {X : Type 0} (f : X → Geometry) (xs : List X) → length xs ≡ length (member_measures (geometries (map f xs)))
 members_length f [] = refl
 members_length f (x ∷ xs) = omega (arith, members_length f xs)
 
 members_at : {X : Type 0} (f : X → Geometry) (xs : List X) (i : ℕ) (x : X) → slice_get xs i ≡ Some x
-    → slice_get (members (geometries (map f xs))) i ≡ Some (member_measure (f x))
+    → slice_get (member_measures (geometries (map f xs))) i ≡ Some (member_measure (f x))
 members_at f [] i x item = cc
 members_at f (y ∷ xs) zero x item = let is : y ≡ x = cc in ap (λ z. Some (member_measure (f z))) is
 members_at f (y ∷ xs) (suc i) x item = members_at f xs i x item
 
 -- what is said of a member is said of its part
 pub said_of_member : {X : Type 0} (f : X → Geometry) (Q : Measure → Type 0) (xs : List X) (i : ℕ) (x : X) → i < length xs → x ≡ get_or xs i x
-    → Q (member_measure (f x)) → IfSome (slice_get (members (geometries (map f xs))) i) Q
+    → Q (member_measure (f x)) → IfSome (slice_get (member_measures (geometries (map f xs))) i) Q
 said_of_member f Q xs i x within item told =
     subst (λ o. IfSome o Q) (sym (members_at f xs i x (slice_get_read xs (length xs) i x refl within item))) told
 

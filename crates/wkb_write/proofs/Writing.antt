@@ -12,7 +12,11 @@ use Rattle.wkb_laws.proofs.Rewritings.{encoding_spells_lem}
 use Rattle.wkb_geom.proofs.Faults.{none_first, none_both}
 use Rattle.wkb_write.proofs.Sizes.{size_without_fault}
 use Rattle.wkb_geom.specs.declared.error.Fault.{Fault}
-use Rattle.wkb_sink.specs.Sinks.{IsBegun, IsIOError, Puts}
+use Rattle.std.specs.declared.io.Error.{Error}
+use Rattle.std.specs.Prelude.{IfErr, MatchResult}
+use Rattle.wkb_sink.specs.Sinks.{IsBegun, IsIOError, IsOwnError, Puts, PutsOrStops, TellsFailure}
+use Rattle.wkb_geom.specs.declared.error.WkbError.TheVariants as errors
+use Rattle.std.specs.Prelude.{Some}
 use Rattle.wkb_write.specs.declared.writable.WriteOptions.{WriteOptions}
 use Rattle.wkb_write.specs.Answers.{encoding_of, refusal_of, IsSized, IsRefusedAs, IsSpelledAs, Writes}
 
@@ -42,11 +46,13 @@ spelled_as o g (Err e) old new failed none lawful fits puts = tt
 
 -- what was put of a geometry that isn't refused was written
 pub put_writes : {o : WriteOptions} {g : Geometry} {r : Result (Unit {0}) WkbError} {untouched : Type 0} {old new : Option (List ℕ)} {failed : Bool}
-    → refusal_of o g ≡ None → IsGeometry g → IsForm o.form → Puts old new failed (encoding_of o g) r → Writes o g r untouched old new failed
+    {fails_by : Option Error → Type 0} → refusal_of o g ≡ None → IsGeometry g → IsForm o.form
+    → Puts old new failed (encoding_of o g) r × IfErr r (IsOwnError fails_by) → Writes o g r untouched old new failed fails_by
 put_writes {o} {g} {r} {untouched} {old} {new} {failed} none lawful fits puts = record {
   refused = λ f is. absurd (cc);
-  written = λ _. puts;
-  spelled = spelled_as o g r old new failed (none_first _ _ none) lawful fits puts;
+  written = λ _. puts.0;
+  spelled = spelled_as o g r old new failed (none_first _ _ none) lawful fits puts.0;
+  own = λ _. puts.1;
 }
 
 -- bytes that stand in memory are not refused for their length
@@ -54,11 +60,25 @@ pub lent_fits : (o : WriteOptions) (g : Geometry) (bytes : List ℕ) → bytes �
 lent_fits o g bytes is none fits =
     none_both (fault g) _ none (size_without_fault (length (encoding_of o g)) (subst (λ t. length t < 2 ^ 64) is fits))
 
+is_io : (e : WkbError) (failure : Option Error) → TellsFailure e failure → IsIOError e
+is_io e (Some own) is = rw is tt
+is_io (errors.IOError e) None told = tt
+is_io _ None told = absurd told
+
 -- what a sink answered to bytes that it didn't take
-pub stops : {old new : Option (List ℕ)} {failed : Bool} {bytes : List ℕ} (r : Result (Unit {0}) WkbError) → IsErrAnd r (λ e. IsIOError e)
-    → IsBegun old new bytes → failed ≡ true → Puts old new failed bytes r
-stops (Ok u) never begun is = absurd never
-stops (Err e) tells begun is = (tells, begun, is)
+stops : {old new : Option (List ℕ)} {failed : Bool} {bytes : List ℕ} (fails_by : Option Error → Type 0) (failure : Option Error)
+    (r : Result (Unit {0}) WkbError) → IsErrAnd r (λ e. TellsFailure e failure) → IsBegun old new bytes → failed ≡ true → fails_by failure
+    → Puts old new failed bytes r × IfErr r (IsOwnError fails_by)
+stops fails_by failure (Ok u) never begun is so = absurd never
+stops fails_by failure (Err e) tells begun is so = ((is_io e failure tells, begun, is), (failure, so, tells))
+
+-- what the caller is told of what was put
+pub told : (old new : Option (List ℕ)) (failed : Bool) (fails_by : Option Error → Type 0) (bytes : List ℕ) (put : Result (Unit {0}) (Option Error))
+    (r : Result (Unit {0}) WkbError) → PutsOrStops old new failed fails_by bytes put
+    → MatchResult put (λ u. r ≡ Ok u) (λ failure. IsErrAnd r (λ e. TellsFailure e failure))
+    → Puts old new failed bytes r × IfErr r (IsOwnError fails_by)
+told old new failed fails_by bytes (Ok u) r puts is = rw is (puts, tt)
+told old new failed fails_by bytes (Err failure) r puts tells = stops fails_by failure r tells puts.0 puts.1 puts.2
 
 -- and what was refused did not
 pub not_spelled : (o : WriteOptions) (g : Geometry) (r : Result (Unit {0}) WkbError) (old new : Option (List ℕ)) (P : WkbError → Type 0)
@@ -68,5 +88,6 @@ not_spelled o g (Ok u) old new P h = absurd h
 
 -- what is promised of a geometry is promised of an equal one
 pub writes_same : {o : WriteOptions} {g h : Geometry} {r : Result (Unit {0}) WkbError} {untouched : Type 0} {old new : Option (List ℕ)} {failed : Bool}
-    → g ≡ h → Writes o g r untouched old new failed → Writes o h r untouched old new failed
-writes_same {o} {g} {h} {r} {untouched} {old} {new} {failed} same writes = subst (λ t. Writes o t r untouched old new failed) same writes
+    {fails_by : Option Error → Type 0} → g ≡ h → Writes o g r untouched old new failed fails_by → Writes o h r untouched old new failed fails_by
+writes_same {o} {g} {h} {r} {untouched} {old} {new} {failed} {fails_by} same writes =
+    subst (λ t. Writes o t r untouched old new failed fails_by) same writes

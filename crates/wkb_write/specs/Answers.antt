@@ -1,5 +1,6 @@
 -- What a size and a writer answer.
-use Rattle.std.specs.Prelude.{◌≡◌, ℕ, length, Bool, List, Option, Some, None, Result, MatchResult, IsErrAnd, IfOk}
+use Rattle.std.specs.Prelude.{◌≡◌, ℕ, length, Bool, List, Option, Some, None, Result, MatchResult, IsErrAnd, IfOk, IfErr}
+use Rattle.std.specs.declared.io.Error.{Error}
 use Rattle.std.specs.Io.KnownBytes.{Appends}
 use Rattle.wkb_geom.specs.declared.common.Endianness.{Endianness}
 use Rattle.wkb_geom.specs.declared.common.Form.{Form}
@@ -12,7 +13,8 @@ use Rattle.wkb_geom.specs.Encodings.{refusal, encoding}
 use Rattle.wkb_laws.specs.Written.{HasOptions}
 use Rattle.wkb_write.specs.Measures.{Reports, Finds}
 use Rattle.wkb_geom.specs.declared.error.Fault.{Fault}
-use Rattle.wkb_sink.specs.Sinks.{Puts}
+use Rattle.wkb_sink.specs.Sinks.{IsOwnError, Puts}
+use Rattle.wkb_sink.specs.declared.sink.Sink.{Ghosts}
 use Rattle.wkb_write.specs.declared.writable.WriteOptions.{WriteOptions}
 
 -- a geometry's one encoding under some options
@@ -56,10 +58,20 @@ pub record IsSpelled (options : WriteOptions) (t : Value) (old new : Option (Lis
 abbrev pub IsSpelledAs : WriteOptions → Geometry → Result (Unit {0}) WkbError → Option (List ℕ) → Option (List ℕ) → Type 0
 IsSpelledAs options g r old new = IfOk r (λ _. IsSpelled options (normal g) old new)
 
--- what a writer promises of a geometry under its options: what becomes of a refused one and of one that is not, and what
--- stands appended
+-- the error for what is not refused is the sink's own, or says that the sink took nothing
+abbrev pub IsFailedAs : WriteOptions → Geometry → Result (Unit {0}) WkbError → (Option Error → Type 0) → Type 0
+IsFailedAs options g r fails_by = refusal options.endianness options.form g ≡ None → IfErr r (IsOwnError fails_by)
+
+-- what a writer promises of a geometry under its options: what becomes of a refused one and of one that is not, what
+-- stands appended, and whose error is answered
 pub record Writes (options : WriteOptions) (g : Geometry) (r : Result (Unit {0}) WkbError) (untouched : Type 0) (old new : Option (List ℕ))
-    (failed : Bool) : Type 0 where
+    (failed : Bool) (fails_by : Option Error → Type 0) : Type 0 where
   pub refused : IsRefusedAs options g r untouched
   pub written : IsWrittenAs options g r old new failed
   pub spelled : IsSpelledAs options g r old new
+  pub own : IsFailedAs options g r fails_by
+
+-- the same of a sink, by its ghost members
+abbrev pub WritesTo : {S : Type 0} → Ghosts S → S → S → WriteOptions → Geometry → Result (Unit {0}) WkbError → Type 0
+WritesTo sink old new options g r =
+    Writes options g r (new ≡ old) (sink.appended old) (sink.appended new) (sink.has_failed new) (sink.fails_by new)

@@ -25,56 +25,56 @@ unfoldable pub parts_size : ℕ → List Measure → ℕ
 parts_size header ps = 4 + header * length ps + sum_by (λ p. p.size) ps
 
 -- the words of a coordinate, where its dimension can be written
-abbrev pub words : Dimensions → ℕ
-words d = min (size d) 4
+abbrev pub coordinate_words : Dimensions → ℕ
+coordinate_words d = min (size d) 4
 
 abbrev pub ring_bytes : Dimensions → List Coordinate → ℕ
-ring_bytes d cs = 4 + 8 * words d * length cs
+ring_bytes d cs = 4 + 8 * coordinate_words d * length cs
 
 -- a point behind its header
-abbrev pub point_part : Dimensions → Option (List ℕ) → Measure
-point_part d c = record { fault = None; size = 8 * words d }
+abbrev pub point_measure : Dimensions → Option (List ℕ) → Measure
+point_measure d c = record { fault = None; size = 8 * coordinate_words d }
 
-abbrev pub ring_part : Dimensions → List Coordinate → Measure
-ring_part d cs = record { fault = coordinates_fault cs; size = ring_bytes d cs }
+abbrev pub ring_measure : Dimensions → List Coordinate → Measure
+ring_measure d cs = record { fault = coordinates_fault cs; size = ring_bytes d cs }
 
-abbrev pub polygon_part : Dimensions → List (List Coordinate) → Measure
-polygon_part d rings = record { fault = parts_fault (map (ring_part d) rings); size = parts_size 0 (map (ring_part d) rings) }
+abbrev pub polygon_measure : Dimensions → List (List Coordinate) → Measure
+polygon_measure d rings = record { fault = parts_fault (map (ring_measure d) rings); size = parts_size 0 (map (ring_measure d) rings) }
 
 -- the bytes behind a geometry's header
-abbrev pub body_size : Geometry → ℕ
-body_size g = byte_size g - 5
+abbrev pub bytes_behind_header : Geometry → ℕ
+bytes_behind_header g = byte_size g - 5
 
 abbrev pub member_measure : Geometry → Measure
-member_measure g = record { fault = fault g; size = body_size g }
+member_measure g = record { fault = fault g; size = bytes_behind_header g }
 
 -- a collection's members as its parts
-abbrev pub members : Geometries → List Measure
-members no_geometries = []
-members (geometry g gs) = member_measure g ∷ members gs
+abbrev pub member_measures : Geometries → List Measure
+member_measures no_geometries = []
+member_measures (geometry g gs) = member_measure g ∷ member_measures gs
 
 -- the first fault behind the header
 abbrev pub body_fault : Geometry → Option Fault
 body_fault (point d c) = None
 body_fault (line_string d cs) = coordinates_fault cs
-body_fault (polygon d rings) = parts_fault (map (ring_part d) rings)
+body_fault (polygon d rings) = parts_fault (map (ring_measure d) rings)
 body_fault (multi_point d points) = count_fault (length points)
-body_fault (multi_line_string d lines) = parts_fault (map (ring_part d) lines)
-body_fault (multi_polygon d polygons) = parts_fault (map (polygon_part d) polygons)
-body_fault (collection d gs) = parts_fault (members gs)
+body_fault (multi_line_string d lines) = parts_fault (map (ring_measure d) lines)
+body_fault (multi_polygon d polygons) = parts_fault (map (polygon_measure d) polygons)
+body_fault (collection d gs) = parts_fault (member_measures gs)
 body_fault (line d start end) = None
 body_fault (rectangle d least greatest) = None
 body_fault (triangle d first second third) = None
 
 -- the bytes behind the header, by its parts
 abbrev pub size_by_parts : Geometry → ℕ
-size_by_parts (point d c) = 8 * words d
+size_by_parts (point d c) = 8 * coordinate_words d
 size_by_parts (line_string d cs) = ring_bytes d cs
-size_by_parts (polygon d rings) = parts_size 0 (map (ring_part d) rings)
-size_by_parts (multi_point d points) = 4 + length points * (5 + 8 * words d)
-size_by_parts (multi_line_string d lines) = parts_size 5 (map (ring_part d) lines)
-size_by_parts (multi_polygon d polygons) = parts_size 5 (map (polygon_part d) polygons)
-size_by_parts (collection d gs) = parts_size 5 (members gs)
-size_by_parts (line d start end) = 4 + 16 * words d
+size_by_parts (polygon d rings) = parts_size 0 (map (ring_measure d) rings)
+size_by_parts (multi_point d points) = 4 + length points * (5 + 8 * coordinate_words d)
+size_by_parts (multi_line_string d lines) = parts_size 5 (map (ring_measure d) lines)
+size_by_parts (multi_polygon d polygons) = parts_size 5 (map (polygon_measure d) polygons)
+size_by_parts (collection d gs) = parts_size 5 (member_measures gs)
+size_by_parts (line d start end) = 4 + 16 * coordinate_words d
 size_by_parts (rectangle d least greatest) = 88
-size_by_parts (triangle d first second third) = 8 + 32 * words d
+size_by_parts (triangle d first second third) = 8 + 32 * coordinate_words d

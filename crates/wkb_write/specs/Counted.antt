@@ -7,9 +7,9 @@ use Rattle.wkb_geom.specs.declared.common.Form.TheVariants.{Iso, Ewkb}
 use Rattle.wkb_geom.specs.Numbers.{number_bytes}
 
 -- the form of what is not outermost
-abbrev pub form_of : Bool → Form
-form_of true = Ewkb None
-form_of false = Iso
+abbrev pub form_with_flags : Bool → Form
+form_with_flags true = Ewkb None
+form_with_flags false = Iso
 
 unfoldable pub counted : Endianness → List (List ℕ) → List ℕ
 counted order encodings = number_bytes order 4 (length encodings) ++ flat_map (λ t. t) encodings

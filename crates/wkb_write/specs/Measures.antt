@@ -8,7 +8,7 @@ use Rattle.wkb_geom.specs.declared.error.Fault.{Fault}
 use Rattle.wkb_geom.specs.declared.error.Fault.TheVariants as fault
 use Rattle.wkb_write.specs.declared.measure.Measured.{Measured}
 use Rattle.wkb_write.specs.declared.measure.Measured.TheVariants as measured
-use Rattle.wkb_write.specs.Bodies.{body_size}
+use Rattle.wkb_write.specs.Bodies.{bytes_behind_header}
 
 -- what was measured, as a result
 abbrev pub result_of : Measured → Result ℕ Fault
@@ -37,8 +37,8 @@ Measures fault size r = MatchResult r (λ n. (fault ≡ None) × (n ≡ capped s
 
 -- the geometry's own fault, and the size of what stands behind its header
 unfoldable pub IsMeasured : Geometry → Result ℕ Fault → Type 0
-IsMeasured g r = Measures (fault g) (body_size g) r
+IsMeasured g r = Measures (fault g) (bytes_behind_header g) r
 
 -- the same, where the size is added to the bytes before it
 unfoldable pub IsAdded : ℕ → Geometry → Result ℕ Fault → Type 0
-IsAdded before g r = Measures (fault g) (before + body_size g) r
+IsAdded before g r = Measures (fault g) (before + bytes_behind_header g) r

@@ -9,8 +9,8 @@ pub use Rattle.wkb_geom.specs.declared.common.Endianness.{Endianness}
 pub use Rattle.wkb_geom.specs.declared.common.Form.{Form}
 pub use Rattle.wkb_geom.specs.declared.common.Form.TheVariants.{Iso}
 pub use Rattle.wkb_sink.specs.Progress.{Lays}
-pub use Rattle.wkb_write.specs.Answers.{encoding_of, refusal_of, IsSizeOf, Writes}
-pub use Rattle.wkb_write.specs.Bodies.{Measure, parts_fault, parts_size, point_part, polygon_part, ring_bytes}
-pub use Rattle.wkb_write.specs.Bodies.{ring_part, words}
-pub use Rattle.wkb_write.specs.Counted.{counted, form_of}
+pub use Rattle.wkb_write.specs.Answers.{encoding_of, refusal_of, IsSizeOf, WritesTo}
+pub use Rattle.wkb_write.specs.Bodies.{Measure, parts_fault, parts_size, point_measure, polygon_measure, ring_bytes}
+pub use Rattle.wkb_write.specs.Bodies.{ring_measure, coordinate_words}
+pub use Rattle.wkb_write.specs.Counted.{counted, form_with_flags}
 pub use Rattle.wkb_write.specs.Measures.{IsAdded, IsMeasured, Measures, Reports, result_of}

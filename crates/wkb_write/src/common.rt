@@ -5,4 +5,4 @@ pub use crate::{Sink, WriteOptions};
 pub use wkb_geom::code::WkbType;
 pub use wkb_geom::{Dimensioned, Endianness, Fault, Form, WkbResult};
 pub use wkb_sink::Buffered;
-pub use wkb_sink::block::written;
+pub use wkb_sink::block::dimension_to_write;

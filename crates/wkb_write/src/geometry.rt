@@ -2,10 +2,10 @@
 
 ghost use Rattle.std.specs.Prelude.{◌≡◌, ◌<◌, ◌^◌, ◌++◌, ◌⊎◌, None, IfOk, IfErr, false, length, map};
 ghost use Rattle.wkb_write.specs.Words.{encoding_of, refusal_of, Iso, IsMemory, collection, geometries, fault, first_fault};
-ghost use Rattle.wkb_write.specs.Words.{header_encoding, inner, encoding, Lays, IsSizeOf, Writes, counted};
-ghost use Rattle.wkb_write.specs.Words.{form_of, IsAdded, IsMeasured, Reports, result_of};
+ghost use Rattle.wkb_write.specs.Words.{header_encoding, inner, encoding, Lays, IsSizeOf, WritesTo, counted};
+ghost use Rattle.wkb_write.specs.Words.{form_with_flags, IsAdded, IsMeasured, Reports, result_of};
 
-use crate::lent::{lent_encoding, write_whole};
+use crate::lent::{lent_encoding, write_lent};
 use crate::line::{LineKind, write_line};
 use crate::line_string::{LineStringKind, write_line_string};
 use crate::measure::{Measured, check_count, check_dimensions};
@@ -26,7 +26,7 @@ use wkb_geom::{
     WkbResult,
 };
 use wkb_sink::Buffered;
-use wkb_sink::block::written;
+use wkb_sink::block::dimension_to_write;
 
 // Adds a collection of these dimensions and members to the bytes before it. Where the last member is a collection, it is
 // added by the last call, which the compiler makes a jump.
@@ -83,7 +83,7 @@ fn measure_geometry<G: GeometryTrait>(geom: &G) -> Result<usize, Fault>
 // Whether the codes are EWKB's: all that a member keeps of the form, and it goes in a register.
 #[inline(always)]
 fn has_flags(form: Form) -> bool
-    ensures { inner form ≡ form_of result }
+    ensures { inner form ≡ form_with_flags result }
 {
     match form {
         Form::Iso => false,
@@ -94,7 +94,7 @@ fn has_flags(form: Form) -> bool
 // The form of a member.
 #[inline(always)]
 fn member_form(has_flags: bool) -> Form
-    ensures { result ≡ form_of has_flags }
+    ensures { result ≡ form_with_flags has_flags }
 {
     if has_flags {
         Form::Ewkb { srid: None }
@@ -114,8 +114,8 @@ fn put_member<S: Sink, G: GeometryTrait>(
 ) -> Put
     requires fault { fault (G.geometry geom.now) ≡ None }
     requires working { S.has_failed out.old.sink.now ≡ false }
-    ensures { Lays S.appended S.has_failed out.old out.new
-        (encoding order (form_of has_flags) (G.geometry geom.now)) result }
+    ensures { Lays S.Sink out.old out.new
+        (encoding order (form_with_flags has_flags) (G.geometry geom.now)) result }
 {
     put_any(out, geom, order, member_form(has_flags))
 }
@@ -135,7 +135,7 @@ pub fn put_members<S: Sink, G: GeometryTrait>(
     requires count { length members.now < 2 ^ 32 }
     requires fault { first_fault (λ m. fault (G.geometry m)) members.now ≡ None }
     requires working { S.has_failed out.old.sink.now ≡ false }
-    ensures { Lays S.appended S.has_failed out.old out.new
+    ensures { Lays S.Sink out.old out.new
         (header_encoding order form 7 dim
         ++ counted order (map (λ m. encoding order (inner form) (G.geometry m)) members.now)) result }
 {
@@ -163,7 +163,7 @@ fn put_any<S: Sink, G: GeometryTrait>(
 ) -> Put
     requires fault { fault (G.geometry geom.now) ≡ None }
     requires working { S.has_failed out.old.sink.now ≡ false }
-    ensures { Lays S.appended S.has_failed out.old out.new (encoding order form (G.geometry geom.now)) result }
+    ensures { Lays S.Sink out.old out.new (encoding order form (G.geometry geom.now)) result }
 {
     match geom.as_type() {
         GeometryType::Point(p) => PointKind::put(out, p, order, form),
@@ -176,7 +176,7 @@ fn put_any<S: Sink, G: GeometryTrait>(
         GeometryType::Triangle(t) => TriangleKind::put(out, t, order, form),
         GeometryType::Line(l) => LineKind::put(out, l, order, form),
         GeometryType::GeometryCollection(members) => {
-            put_members(out, members, order, form, written(geom.dim()))
+            put_members(out, members, order, form, dimension_to_write(geom.dim()))
         }
     }
 }
@@ -235,11 +235,10 @@ pub fn write_geometry<S: Sink, G: GeometryTrait>(
     options: &WriteOptions,
 ) -> WkbResult<()>
     requires working { S.has_failed writer.old ≡ false }
-    ensures { Writes options.now (G.geometry geom.now) result
-        (writer.new ≡ writer.old) (S.appended writer.old) (S.appended writer.new) (S.has_failed writer.new) }
+    ensures { WritesTo S.Sink writer.old writer.new options.now (G.geometry geom.now) result }
 {
     if let Some(encoding) = lent_encoding(geom, options) {
-        return write_whole(writer, geom, encoding, options);
+        return write_lent(writer, geom, encoding, options);
     }
     match geom.as_type() {
         GeometryType::Point(p) => write_point(writer, p, options),

@@ -1,7 +1,7 @@
 //! A collection, whose members are of another type than the collection.
 
 ghost use Rattle.std.specs.Prelude.{◌≡◌, false};
-ghost use Rattle.wkb_write.specs.Words.{Iso, collection, geometries, IsSizeOf, Writes};
+ghost use Rattle.wkb_write.specs.Words.{Iso, collection, geometries, IsSizeOf, WritesTo};
 
 use crate::common::*;
 use crate::geometry::{add_members, put_members};
@@ -22,7 +22,7 @@ impl<C: GeometryCollectionTrait> Writable<C> for GeometryCollectionKind {
     }
 
     fn put<S: Sink>(out: &mut Buffered<'_, S>, geom: &C, order: Endianness, form: Form) -> Put {
-        let dim = written(geom.dim());
+        let dim = dimension_to_write(geom.dim());
         put_members(out, geom.geometries(), order, form, dim)
     }
 }
@@ -43,8 +43,8 @@ pub fn write_geometry_collection<S: Sink, C: GeometryCollectionTrait>(
     options: &WriteOptions,
 ) -> WkbResult<()>
     requires working { S.has_failed writer.old ≡ false }
-    ensures { Writes options.now (collection (C.dimensions geom.now) (geometries (C.members geom.now))) result
-        (writer.new ≡ writer.old) (S.appended writer.old) (S.appended writer.new) (S.has_failed writer.new) }
+    ensures { WritesTo S.Sink writer.old writer.new options.now
+        (collection (C.dimensions geom.now) (geometries (C.members geom.now))) result }
 {
     write_as::<S, C, GeometryCollectionKind>(writer, geom, options)
 }

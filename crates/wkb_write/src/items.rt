@@ -44,7 +44,7 @@ pub trait Items<G> {
         requires fine { is_fine geom.now }
         requires within { i < length (encodings order form geom.now) }
         requires working { S.has_failed out.old.sink.now ≡ false }
-        ensures { Lays S.appended S.has_failed out.old out.new (get_or (encodings order form geom.now) i []) result };
+        ensures { Lays S.Sink out.old out.new (get_or (encodings order form geom.now) i []) result };
 }
 
 /// Measures the count and the items in order, each behind a header of so many bytes.
@@ -76,7 +76,7 @@ pub fn put_items<S: Sink, G, I: Items<G>>(
 ) -> Put
     requires fine { I.is_fine geom.now }
     requires working { S.has_failed out.old.sink.now ≡ false }
-    ensures { Lays S.appended S.has_failed out.old out.new
+    ensures { Lays S.Sink out.old out.new
         (header_encoding order form (type_kind kind) (type_dimension kind)
         ++ counted order (I.encodings order (inner form) geom.now)) result }
 {

@@ -1,10 +1,10 @@
 //! Geometries whose whole encoding stands in memory: it is written in one copy.
 
 ghost use Rattle.std.specs.Prelude.{◌≡◌, None, IfSome, false, length};
-ghost use Rattle.wkb_write.specs.Words.{encoding_of, refusal_of, Writes};
+ghost use Rattle.wkb_write.specs.Words.{encoding_of, refusal_of, WritesTo};
 
-use crate::measure::header_size;
-use crate::writable::sink_error;
+use crate::measure::length_of_header;
+use crate::writable::wkb_result;
 use crate::{Sink, WriteOptions};
 use wkb_geom::{GeometryTrait, WkbResult};
 use wkb_sink::buffered::put_all;
@@ -30,7 +30,7 @@ pub fn lent_encoding<'a, G: GeometryTrait>(geom: &'a G, options: &WriteOptions) 
 
 /// Writes a geometry by its encoding, which stands in memory.
 #[inline(always)]
-pub fn write_whole<S: Sink, G: GeometryTrait>(
+pub fn write_lent<S: Sink, G: GeometryTrait>(
     writer: &mut S,
     geom: &G,
     bytes: &[u8],
@@ -39,12 +39,8 @@ pub fn write_whole<S: Sink, G: GeometryTrait>(
     requires encoding { bytes.now ≡ encoding_of options.now (G.geometry geom.now) }
     requires writable { refusal_of options.now (G.geometry geom.now) ≡ None }
     requires working { S.has_failed writer.old ≡ false }
-    ensures { Writes options.now (G.geometry geom.now) result
-        (writer.new ≡ writer.old) (S.appended writer.old) (S.appended writer.new) (S.has_failed writer.new) }
+    ensures { WritesTo S.Sink writer.old writer.new options.now (G.geometry geom.now) result }
 {
-    header_size(options.form);
-    match put_all(writer, bytes) {
-        Ok(()) => Ok(()),
-        Err(mut error) => sink_error(&mut error),
-    }
+    length_of_header(options.form);
+    wkb_result(put_all(writer, bytes))
 }

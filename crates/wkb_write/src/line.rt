@@ -1,7 +1,7 @@
 //! A line, which is written as a line string of its two ends.
 
 ghost use Rattle.std.specs.Prelude.{◌≡◌, false};
-ghost use Rattle.wkb_write.specs.Words.{Iso, line, IsSizeOf, Writes};
+ghost use Rattle.wkb_write.specs.Words.{Iso, line, IsSizeOf, WritesTo};
 
 use crate::common::*;
 use crate::measure::{behind_header, words_size};
@@ -25,7 +25,7 @@ impl<L: LineTrait> Writable<L> for LineKind {
     }
 
     fn put<S: Sink>(out: &mut Buffered<'_, S>, geom: &L, order: Endianness, form: Form) -> Put {
-        let kind = WkbType::LineString(written(geom.dim()));
+        let kind = WkbType::LineString(dimension_to_write(geom.dim()));
         out.make_room(LONGEST_HEADER + COUNT + 2 * COORDINATE)?;
         lay_header(&mut out.block, order, form, kind);
         lay_count(&mut out.block, order, 2);
@@ -52,9 +52,8 @@ pub fn write_line<S: Sink, L: LineTrait>(
     options: &WriteOptions,
 ) -> WkbResult<()>
     requires working { S.has_failed writer.old ≡ false }
-    ensures { Writes options.now
-        (line (L.dimensions geom.now) (L.start_words geom.now) (L.end_words geom.now)) result
-        (writer.new ≡ writer.old) (S.appended writer.old) (S.appended writer.new) (S.has_failed writer.new) }
+    ensures { WritesTo S.Sink writer.old writer.new options.now
+        (line (L.dimensions geom.now) (L.start_words geom.now) (L.end_words geom.now)) result }
 {
     write_as::<S, L, LineKind>(writer, geom, options)
 }

@@ -2,7 +2,7 @@
 
 ghost use Rattle.std.specs.Prelude.{◌≡◌, ◌<◌, ◌^◌, None, false, length};
 ghost use Rattle.wkb_write.specs.Words.{Iso, line_string, coordinates_fault, coordinates_encoding};
-ghost use Rattle.wkb_write.specs.Words.{dimensions_fault, Lays, IsSizeOf, Writes, ring_bytes, Measures};
+ghost use Rattle.wkb_write.specs.Words.{dimensions_fault, Lays, IsSizeOf, WritesTo, ring_bytes, Measures};
 
 use crate::common::*;
 use crate::measure::{behind_header, check_count, words_size};
@@ -31,7 +31,7 @@ pub fn put_coordinates<S: Sink, L: LineStringTrait>(
     requires supported { dimensions_fault (L.dimensions line.now) ≡ None }
     requires count { length (L.coordinates line.now) < 2 ^ 32 }
     requires working { S.has_failed out.old.sink.now ≡ false }
-    ensures { Lays S.appended S.has_failed out.old out.new (coordinates_encoding order (L.coordinates line.now)) result }
+    ensures { Lays S.Sink out.old out.new (coordinates_encoding order (L.coordinates line.now)) result }
 {
     let count = line.num_coords();
     let bytes = 8 * line.dim().size();
@@ -69,7 +69,8 @@ impl<L: LineStringTrait> Writable<L> for LineStringKind {
     }
 
     fn put<S: Sink>(out: &mut Buffered<'_, S>, geom: &L, order: Endianness, form: Form) -> Put {
-        out.put_header(order, form, WkbType::LineString(written(geom.dim())))?;
+        let kind = WkbType::LineString(dimension_to_write(geom.dim()));
+        out.put_header(order, form, kind)?;
         put_coordinates(out, geom, order)
     }
 }
@@ -90,8 +91,8 @@ pub fn write_line_string<S: Sink, L: LineStringTrait>(
     options: &WriteOptions,
 ) -> WkbResult<()>
     requires working { S.has_failed writer.old ≡ false }
-    ensures { Writes options.now (line_string (L.dimensions geom.now) (L.coordinates geom.now)) result
-        (writer.new ≡ writer.old) (S.appended writer.old) (S.appended writer.new) (S.has_failed writer.new) }
+    ensures { WritesTo S.Sink writer.old writer.new options.now
+        (line_string (L.dimensions geom.now) (L.coordinates geom.now)) result }
 {
     write_as::<S, L, LineStringKind>(writer, geom, options)
 }

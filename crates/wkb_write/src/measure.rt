@@ -10,7 +10,7 @@ ghost use Rattle.wkb_geom.specs.Refusals.{srid_size};
 ghost use Rattle.wkb_geom.specs.Sizes.{dimensions_of};
 ghost use Rattle.wkb_geom.specs.Encodings.{count_fault, dimensions_fault, form_srid, IsForm};
 ghost use Rattle.wkb_write.specs.Answers.{IsSized, IsSizeOf};
-ghost use Rattle.wkb_write.specs.Bodies.{body_fault, size_by_parts, words};
+ghost use Rattle.wkb_write.specs.Bodies.{body_fault, size_by_parts, coordinate_words};
 ghost use Rattle.wkb_write.specs.Measures.{Finds, IsMeasured, Measures, result_of};
 
 use wkb_geom::header::{LONGEST_HEADER, MEMBER_HEADER};
@@ -89,7 +89,7 @@ pub fn check_count(n: u128) -> Result<u32, Fault>
 /// The bytes of the words of so many coordinates. No dimension that can be written has more than four words.
 #[inline(always)]
 pub fn words_size(dim: Dimensions, n: u32) -> usize
-    ensures sum { result ≡ 8 * words dim * n }
+    ensures sum { result ≡ 8 * coordinate_words dim * n }
     ensures bound { result < 2 ^ 40 }
 {
     8 * dim.size().min(4) * n as usize
@@ -109,7 +109,7 @@ pub fn behind_header(dim: Dimensions, body: Result<usize, Fault>) -> Result<usiz
 
 /// The bytes of the header that is written.
 #[inline]
-pub fn header_size(form: Form) -> usize
+pub fn length_of_header(form: Form) -> usize
     ensures size { result ≡ 5 + srid_size (is_some (form_srid form)) }
     ensures fits { IsForm form }
 {
@@ -125,7 +125,7 @@ pub fn whole_size(measured: Result<usize, Fault>, form: Form) -> Result<usize, F
     ensures size { (g : Geometry) → IsGeometry g → IsMeasured g measured → IsSized form g result }
     ensures fits { IsForm form }
 {
-    let header = header_size(form);
+    let header = length_of_header(form);
     match measured?.checked_add(header) {
         Some(size) => Ok(size),
         None => Err(Fault::Size),
@@ -139,14 +139,14 @@ pub fn size_of(measured: Result<usize, Fault>, form: Form) -> WkbResult<usize>
 {
     match whole_size(measured, form) {
         Ok(size) => Ok(size),
-        Err(fault) => refused(fault),
+        Err(fault) => refuse(fault),
     }
 }
 
 /// The error that tells the fault. Not inlined: an error takes more room than all else in its callers.
 #[cold]
 #[inline(never)]
-pub fn refused<T>(fault: Fault) -> WkbResult<T>
+pub fn refuse<T>(fault: Fault) -> WkbResult<T>
     ensures { IsErrAnd result (λ e. TellsFault e fault) }
 {
     Err(WkbError::from(fault))

@@ -1,8 +1,8 @@
 //! A multi line string.
 
 ghost use Rattle.std.specs.Prelude.{◌≡◌, None, false, map};
-ghost use Rattle.wkb_write.specs.Words.{Iso, line_string, multi_line_string, fault, encoding, IsSizeOf, Writes};
-ghost use Rattle.wkb_write.specs.Words.{ring_part};
+ghost use Rattle.wkb_write.specs.Words.{Iso, line_string, multi_line_string, fault, encoding, IsSizeOf, WritesTo};
+ghost use Rattle.wkb_write.specs.Words.{ring_measure};
 
 use crate::common::*;
 use crate::items::{Items, measure_items, put_items};
@@ -27,7 +27,7 @@ impl<M: MultiLineStringTrait> Writable<M> for MultiLineStringKind {
     }
 
     fn put<S: Sink>(out: &mut Buffered<'_, S>, geom: &M, order: Endianness, form: Form) -> Put {
-        let kind = WkbType::MultiLineString(written(geom.dim()));
+        let kind = WkbType::MultiLineString(dimension_to_write(geom.dim()));
         put_items::<S, M, MultiLineStringKind>(out, geom, order, form, kind)
     }
 }
@@ -36,7 +36,7 @@ impl<M: MultiLineStringTrait> Writable<M> for MultiLineStringKind {
 impl<M: MultiLineStringTrait> Items<M> for MultiLineStringKind {
     ghost is_fine = { λ m. fault (multi_line_string (M.dimensions m) (M.line_strings m)) ≡ None };
 
-    ghost measures = { λ m. map (ring_part (M.dimensions m)) (M.line_strings m) };
+    ghost measures = { λ m. map (ring_measure (M.dimensions m)) (M.line_strings m) };
 
     ghost encodings = { λ order form m. map (λ c. encoding order form (line_string (M.dimensions m) c)) (M.line_strings m) };
 
@@ -76,8 +76,8 @@ pub fn write_multi_line_string<S: Sink, M: MultiLineStringTrait>(
     options: &WriteOptions,
 ) -> WkbResult<()>
     requires working { S.has_failed writer.old ≡ false }
-    ensures { Writes options.now (multi_line_string (M.dimensions geom.now) (M.line_strings geom.now)) result
-        (writer.new ≡ writer.old) (S.appended writer.old) (S.appended writer.new) (S.has_failed writer.new) }
+    ensures { WritesTo S.Sink writer.old writer.new options.now
+        (multi_line_string (M.dimensions geom.now) (M.line_strings geom.now)) result }
 {
     write_as::<S, M, MultiLineStringKind>(writer, geom, options)
 }

@@ -1,8 +1,8 @@
 //! A multi point.
 
 ghost use Rattle.std.specs.Prelude.{◌≡◌, None, false, map, length, ◌+◌, ◌*◌};
-ghost use Rattle.wkb_write.specs.Words.{Iso, multi_point, point, count_fault, fault, encoding, IsSizeOf, Writes};
-ghost use Rattle.wkb_write.specs.Words.{point_part, words, Measures};
+ghost use Rattle.wkb_write.specs.Words.{Iso, multi_point, point, count_fault, fault, encoding, IsSizeOf, WritesTo};
+ghost use Rattle.wkb_write.specs.Words.{point_measure, coordinate_words, Measures};
 
 use crate::common::*;
 use crate::items::{Items, put_items};
@@ -26,7 +26,7 @@ impl<M: MultiPointTrait> Writable<M> for MultiPointKind {
     }
 
     fn put<S: Sink>(out: &mut Buffered<'_, S>, geom: &M, order: Endianness, form: Form) -> Put {
-        let kind = WkbType::MultiPoint(written(geom.dim()));
+        let kind = WkbType::MultiPoint(dimension_to_write(geom.dim()));
         put_items::<S, M, MultiPointKind>(out, geom, order, form, kind)
     }
 }
@@ -35,7 +35,7 @@ impl<M: MultiPointTrait> Writable<M> for MultiPointKind {
 impl<M: MultiPointTrait> Items<M> for MultiPointKind {
     ghost is_fine = { λ m. fault (multi_point (M.dimensions m) (M.points m)) ≡ None };
 
-    ghost measures = { λ m. map (point_part (M.dimensions m)) (M.points m) };
+    ghost measures = { λ m. map (point_measure (M.dimensions m)) (M.points m) };
 
     ghost encodings = { λ order form m. map (λ c. encoding order form (point (M.dimensions m) c)) (M.points m) };
 
@@ -63,7 +63,7 @@ impl<M: MultiPointTrait> Items<M> for MultiPointKind {
 // A count and points: by their number, since all are of one size.
 fn measure_points<M: MultiPointTrait>(geom: &M) -> Result<usize, Fault>
     ensures { Measures (count_fault (length (M.points geom.now)))
-        (4 + length (M.points geom.now) * (5 + 8 * words (M.dimensions geom.now))) result }
+        (4 + length (M.points geom.now) * (5 + 8 * coordinate_words (M.dimensions geom.now))) result }
 {
     let count = check_count(geom.num_points() as u128)?;
     Ok(4 + MEMBER_HEADER * count as usize + words_size(geom.dim(), count))
@@ -85,8 +85,8 @@ pub fn write_multi_point<S: Sink, M: MultiPointTrait>(
     options: &WriteOptions,
 ) -> WkbResult<()>
     requires working { S.has_failed writer.old ≡ false }
-    ensures { Writes options.now (multi_point (M.dimensions geom.now) (M.points geom.now)) result
-        (writer.new ≡ writer.old) (S.appended writer.old) (S.appended writer.new) (S.has_failed writer.new) }
+    ensures { WritesTo S.Sink writer.old writer.new options.now
+        (multi_point (M.dimensions geom.now) (M.points geom.now)) result }
 {
     write_as::<S, M, MultiPointKind>(writer, geom, options)
 }

@@ -1,8 +1,8 @@
 //! A multi polygon.
 
 ghost use Rattle.std.specs.Prelude.{◌≡◌, None, false, map};
-ghost use Rattle.wkb_write.specs.Words.{Iso, multi_polygon, polygon, fault, encoding, IsSizeOf, Writes};
-ghost use Rattle.wkb_write.specs.Words.{polygon_part};
+ghost use Rattle.wkb_write.specs.Words.{Iso, multi_polygon, polygon, fault, encoding, IsSizeOf, WritesTo};
+ghost use Rattle.wkb_write.specs.Words.{polygon_measure};
 
 use crate::common::*;
 use crate::items::{Items, measure_items, put_items};
@@ -27,7 +27,7 @@ impl<M: MultiPolygonTrait> Writable<M> for MultiPolygonKind {
     }
 
     fn put<S: Sink>(out: &mut Buffered<'_, S>, geom: &M, order: Endianness, form: Form) -> Put {
-        let kind = WkbType::MultiPolygon(written(geom.dim()));
+        let kind = WkbType::MultiPolygon(dimension_to_write(geom.dim()));
         put_items::<S, M, MultiPolygonKind>(out, geom, order, form, kind)
     }
 }
@@ -36,7 +36,7 @@ impl<M: MultiPolygonTrait> Writable<M> for MultiPolygonKind {
 impl<M: MultiPolygonTrait> Items<M> for MultiPolygonKind {
     ghost is_fine = { λ m. fault (multi_polygon (M.dimensions m) (M.polygons m)) ≡ None };
 
-    ghost measures = { λ m. map (polygon_part (M.dimensions m)) (M.polygons m) };
+    ghost measures = { λ m. map (polygon_measure (M.dimensions m)) (M.polygons m) };
 
     ghost encodings = { λ order form m. map (λ c. encoding order form (polygon (M.dimensions m) c)) (M.polygons m) };
 
@@ -77,8 +77,8 @@ pub fn write_multi_polygon<S: Sink, M: MultiPolygonTrait>(
     options: &WriteOptions,
 ) -> WkbResult<()>
     requires working { S.has_failed writer.old ≡ false }
-    ensures { Writes options.now (multi_polygon (M.dimensions geom.now) (M.polygons geom.now)) result
-        (writer.new ≡ writer.old) (S.appended writer.old) (S.appended writer.new) (S.has_failed writer.new) }
+    ensures { WritesTo S.Sink writer.old writer.new options.now
+        (multi_polygon (M.dimensions geom.now) (M.polygons geom.now)) result }
 {
     write_as::<S, M, MultiPolygonKind>(writer, geom, options)
 }

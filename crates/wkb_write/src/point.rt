@@ -1,7 +1,7 @@
 //! A point: what it means, its measure, how it is put, its size and its writer.
 
 ghost use Rattle.std.specs.Prelude.{◌≡◌, false, ℕ, List, Option};
-ghost use Rattle.wkb_write.specs.Words.{Iso, point, IsPoint, IsMeasured, IsSizeOf, Writes};
+ghost use Rattle.wkb_write.specs.Words.{Iso, point, IsPoint, IsMeasured, IsSizeOf, WritesTo};
 
 use crate::common::*;
 use crate::measure::{behind_header, size_of, words_size};
@@ -33,7 +33,7 @@ impl<P: PointTrait> Writable<P> for PointKind {
 
     #[inline(always)]
     fn put<S: Sink>(out: &mut Buffered<'_, S>, geom: &P, order: Endianness, form: Form) -> Put {
-        let dim = written(geom.dim());
+        let dim = dimension_to_write(geom.dim());
         out.make_room(LONGEST_HEADER + COORDINATE)?;
         lay_header(&mut out.block, order, form, WkbType::Point(dim));
         match geom.coord() {
@@ -63,8 +63,8 @@ pub fn write_point<S: Sink, P: PointTrait>(
     options: &WriteOptions,
 ) -> WkbResult<()>
     requires working { S.has_failed writer.old ≡ false }
-    ensures { Writes options.now (point (P.dimensions geom.now) (P.coordinate geom.now)) result
-        (writer.new ≡ writer.old) (S.appended writer.old) (S.appended writer.new) (S.has_failed writer.new) }
+    ensures { WritesTo S.Sink writer.old writer.new options.now
+        (point (P.dimensions geom.now) (P.coordinate geom.now)) result }
 {
     write_as::<S, P, PointKind>(writer, geom, options)
 }

@@ -1,7 +1,7 @@
 //! A polygon: its rings, the exterior first.
 
 ghost use Rattle.std.specs.Prelude.{◌≡◌, None, false, map};
-ghost use Rattle.wkb_write.specs.Words.{Iso, polygon, coordinates_encoding, fault, IsSizeOf, Writes, ring_part};
+ghost use Rattle.wkb_write.specs.Words.{Iso, polygon, coordinates_encoding, fault, IsSizeOf, WritesTo, ring_measure};
 
 use crate::common::*;
 use crate::items::{Items, measure_items, put_items};
@@ -26,7 +26,7 @@ impl<P: PolygonTrait> Writable<P> for PolygonKind {
     }
 
     fn put<S: Sink>(out: &mut Buffered<'_, S>, geom: &P, order: Endianness, form: Form) -> Put {
-        let kind = WkbType::Polygon(written(geom.dim()));
+        let kind = WkbType::Polygon(dimension_to_write(geom.dim()));
         put_items::<S, P, PolygonKind>(out, geom, order, form, kind)
     }
 }
@@ -35,7 +35,7 @@ impl<P: PolygonTrait> Writable<P> for PolygonKind {
 impl<P: PolygonTrait> Items<P> for PolygonKind {
     ghost is_fine = { λ p. fault (polygon (P.dimensions p) (P.rings p)) ≡ None };
 
-    ghost measures = { λ p. map (ring_part (P.dimensions p)) (P.rings p) };
+    ghost measures = { λ p. map (ring_measure (P.dimensions p)) (P.rings p) };
 
     ghost encodings = { λ order form p. map (coordinates_encoding order) (P.rings p) };
 
@@ -74,8 +74,8 @@ pub fn write_polygon<S: Sink, P: PolygonTrait>(
     options: &WriteOptions,
 ) -> WkbResult<()>
     requires working { S.has_failed writer.old ≡ false }
-    ensures { Writes options.now (polygon (P.dimensions geom.now) (P.rings geom.now)) result
-        (writer.new ≡ writer.old) (S.appended writer.old) (S.appended writer.new) (S.has_failed writer.new) }
+    ensures { WritesTo S.Sink writer.old writer.new options.now
+        (polygon (P.dimensions geom.now) (P.rings geom.now)) result }
 {
     write_as::<S, P, PolygonKind>(writer, geom, options)
 }

@@ -1,7 +1,7 @@
 //! A rectangle, which is written as a polygon of one ring of x and y alone.
 
 ghost use Rattle.std.specs.Prelude.{◌≡◌, false};
-ghost use Rattle.wkb_write.specs.Words.{Iso, rectangle, IsSizeOf, Writes};
+ghost use Rattle.wkb_write.specs.Words.{Iso, rectangle, IsSizeOf, WritesTo};
 
 use crate::common::*;
 use crate::measure::behind_header;
@@ -57,9 +57,8 @@ pub fn write_rect<S: Sink, R: RectTrait>(
     options: &WriteOptions,
 ) -> WkbResult<()>
     requires working { S.has_failed writer.old ≡ false }
-    ensures { Writes options.now
-        (rectangle (R.dimensions geom.now) (R.min_words geom.now) (R.max_words geom.now)) result
-        (writer.new ≡ writer.old) (S.appended writer.old) (S.appended writer.new) (S.has_failed writer.new) }
+    ensures { WritesTo S.Sink writer.old writer.new options.now
+        (rectangle (R.dimensions geom.now) (R.min_words geom.now) (R.max_words geom.now)) result }
 {
     write_as::<S, R, RectKind>(writer, geom, options)
 }

@@ -1,7 +1,7 @@
 //! A triangle, which is written as a polygon of one ring that ends as it begins.
 
 ghost use Rattle.std.specs.Prelude.{◌≡◌, false};
-ghost use Rattle.wkb_write.specs.Words.{Iso, triangle, IsSizeOf, Writes};
+ghost use Rattle.wkb_write.specs.Words.{Iso, triangle, IsSizeOf, WritesTo};
 
 use crate::common::*;
 use crate::measure::{behind_header, words_size};
@@ -25,7 +25,7 @@ impl<T: TriangleTrait> Writable<T> for TriangleKind {
     }
 
     fn put<S: Sink>(out: &mut Buffered<'_, S>, geom: &T, order: Endianness, form: Form) -> Put {
-        let kind = WkbType::Polygon(written(geom.dim()));
+        let kind = WkbType::Polygon(dimension_to_write(geom.dim()));
         let first = geom.first();
         out.make_room(LONGEST_HEADER + 2 * COUNT + 4 * COORDINATE)?;
         lay_header(&mut out.block, order, form, kind);
@@ -58,10 +58,9 @@ pub fn write_triangle<S: Sink, T: TriangleTrait>(
     options: &WriteOptions,
 ) -> WkbResult<()>
     requires working { S.has_failed writer.old ≡ false }
-    ensures { Writes options.now
+    ensures { WritesTo S.Sink writer.old writer.new options.now
         (triangle (T.dimensions geom.now) (T.first_words geom.now)
-        (T.second_words geom.now) (T.third_words geom.now)) result
-        (writer.new ≡ writer.old) (S.appended writer.old) (S.appended writer.new) (S.has_failed writer.new) }
+        (T.second_words geom.now) (T.third_words geom.now)) result }
 {
     write_as::<S, T, TriangleKind>(writer, geom, options)
 }

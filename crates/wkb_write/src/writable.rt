@@ -1,19 +1,19 @@
 //! What each kind says of itself, and what comes of it: a size, a writer, and an encoding in a vector.
 
-ghost use Rattle.std.specs.Prelude.{◌≡◌, ◌⊎◌, ◌≤◌, Bool, false, ℕ, List, length};
-ghost use Rattle.std.specs.Prelude.{Option, None, Err, IfSome, IfOk, IfErr, IsErrAnd};
+ghost use Rattle.std.specs.Prelude.{◌≡◌, ◌⊎◌, ◌≤◌, false, length};
+ghost use Rattle.std.specs.Prelude.{None, Ok, IfOk, IfErr, IsErrAnd, MatchResult};
 ghost use Rattle.wkb_geom.specs.declared.common.Endianness.TheVariants.{LittleEndian};
 ghost use Rattle.wkb_geom.specs.declared.common.Form.TheVariants.{Iso};
 ghost use Rattle.wkb_geom.specs.Errors.{IsMemory};
 ghost use Rattle.wkb_geom.specs.Geometries.{Geometry, IsGeometry};
 ghost use Rattle.wkb_geom.specs.Encodings.{fault, encoding};
-ghost use Rattle.wkb_sink.specs.Progress.{Lays};
-ghost use Rattle.wkb_sink.specs.Sinks.{IsIOError, PutsOrStops, Puts};
+ghost use Rattle.wkb_sink.specs.Progress.{Lays, PutsTo, failure_of};
+ghost use Rattle.wkb_sink.specs.Sinks.{TellsFailure};
 ghost use Rattle.wkb_sink.specs.declared.block.TheConstants.{LEAST};
-ghost use Rattle.wkb_write.specs.Answers.{encoding_of, refusal_of, IsSizeOf, Writes};
+ghost use Rattle.wkb_write.specs.Answers.{encoding_of, refusal_of, IsSizeOf, WritesTo};
 ghost use Rattle.wkb_write.specs.Measures.{IsMeasured, Reports};
 
-use crate::measure::{refused, size_of, whole_size};
+use crate::measure::{refuse, size_of, whole_size};
 use crate::{Sink, VecSink};
 use std::alloc::{AllocError, Global};
 use std::io;
@@ -56,7 +56,7 @@ pub trait Writable<G> {
     fn put<S: Sink>(out: &mut Buffered<'_, S>, geom: &G, order: Endianness, form: Form) -> Put
         requires fault { fault (geometry geom.now) ≡ None }
         requires working { S.has_failed out.old.sink.now ≡ false }
-        ensures { Lays S.appended S.has_failed out.old out.new (encoding order form (geometry geom.now)) result };
+        ensures { Lays S.Sink out.old out.new (encoding order form (geometry geom.now)) result };
 
     // Every coordinate fits the dimension.
     ghost lawful: { (g : G) → IsGeometry (geometry g) };
@@ -77,53 +77,62 @@ fn put_through<S: Sink, G, K: Writable<G>>(
     geom: &G,
     order: Endianness,
     form: Form,
-    error: &mut Option<io::Error>,
-) -> Put
+) -> Result<(), Option<io::Error>>
     requires least { LEAST ≤ length bytes.old }
     requires fault { fault (K.geometry geom.now) ≡ None }
     requires working { S.has_failed writer.old ≡ false }
-    ensures { PutsOrStops (S.appended writer.old) (S.appended writer.new) (S.has_failed writer.new)
-        (encoding order form (K.geometry geom.now)) result }
+    ensures { PutsTo S.Sink writer.old writer.new (encoding order form (K.geometry geom.now)) result }
 {
+    let error = None;
+    let block = Block::over(bytes);
     let mut out = Buffered {
         sink: writer,
-        block: Block::over(bytes),
+        block,
         error,
     };
     let put = match K::put(&mut out, geom, order, form) {
         Ok(()) => out.flush(),
         Err(Stopped) => Err(Stopped),
     };
+    let error = out.error;
     let Buffered {
         sink: _sink,
         block: _,
         error: _,
     } = out;
-    put
+    failure(put, error)
 }
 
-// Puts a geometry that has no fault, by a block for the size of its encoding. Where the sink fails by an error, that is
-// kept.
+// How the sink failed, where it stopped.
+#[inline(always)]
+fn failure(put: Put, error: Option<io::Error>) -> Result<(), Option<io::Error>>
+    ensures { result ≡ failure_of put error }
+{
+    match put {
+        Ok(()) => Ok(()),
+        Err(Stopped) => Err(error),
+    }
+}
+
+// Puts a geometry that has no fault, by a block for the size of its encoding.
 #[inline(always)]
 fn put_sized<S: Sink, G, K: Writable<G>>(
     writer: &mut S,
     geom: &G,
     options: &WriteOptions,
     size: usize,
-    error: &mut Option<io::Error>,
-) -> Put
+) -> Result<(), Option<io::Error>>
     requires fault { fault (K.geometry geom.now) ≡ None }
     requires working { S.has_failed writer.old ≡ false }
-    ensures { PutsOrStops (S.appended writer.old) (S.appended writer.new) (S.has_failed writer.new)
-        (encoding_of options.now (K.geometry geom.now)) result }
+    ensures { PutsTo S.Sink writer.old writer.new (encoding_of options.now (K.geometry geom.now)) result }
 {
     let WriteOptions { endianness, form } = *options;
     if size <= SHORT {
         let mut bytes = [0; SMALL];
-        put_through::<S, G, K>(writer, &mut bytes, geom, endianness, form, error)
+        put_through::<S, G, K>(writer, &mut bytes, geom, endianness, form)
     } else {
         let mut bytes = [0; LARGE];
-        put_through::<S, G, K>(writer, &mut bytes, geom, endianness, form, error)
+        put_through::<S, G, K>(writer, &mut bytes, geom, endianness, form)
     }
 }
 
@@ -143,40 +152,33 @@ pub fn write_as<S: Sink, G, K: Writable<G>>(
     options: &WriteOptions,
 ) -> WkbResult<()>
     requires { S.has_failed writer.old ≡ false }
-    ensures { Writes options.now (K.geometry geom.now) result
-        (writer.new ≡ writer.old) (S.appended writer.old) (S.appended writer.new) (S.has_failed writer.new) }
+    ensures { WritesTo S.Sink writer.old writer.new options.now (K.geometry geom.now) result }
 {
     let measured = K::measure(geom);
     match whole_size(measured, options.form) {
-        Ok(size) => {
-            let mut error = None;
-            let put = put_sized::<S, G, K>(writer, geom, options, size, &mut error);
-            wkb_result(put, &mut error)
-        }
-        Err(fault) => refused(fault),
+        Ok(size) => wkb_result(put_sized::<S, G, K>(writer, geom, options, size)),
+        Err(fault) => refuse(fault),
     }
 }
 
-// The answer to the caller: where the sink stopped, its own error, or that it took no byte.
+/// The answer to the caller: where the sink failed, its own error, or that it took no byte.
 #[inline(always)]
-fn wkb_result(put: Put, error: &mut Option<io::Error>) -> WkbResult<()>
-    ensures { (old new : Option (List ℕ)) (failed : Bool) (encoding : List ℕ)
-        → PutsOrStops old new failed encoding put → Puts old new failed encoding result }
+pub fn wkb_result(put: Result<(), Option<io::Error>>) -> WkbResult<()>
+    ensures { MatchResult put (λ u. result ≡ Ok u) (λ failure. IsErrAnd result (λ e. TellsFailure e failure)) }
 {
     match put {
         Ok(()) => Ok(()),
-        Err(Stopped) => sink_error(error),
+        Err(failure) => sink_error(failure),
     }
 }
 
-/// The sink's own error, or that it took no byte. Not inlined: an error takes more room than all else in its callers.
+// The sink's own error, or that it took no byte. Not inlined: an error takes more room than all else in its callers.
 #[cold]
 #[inline(never)]
-pub fn sink_error(error: &mut Option<io::Error>) -> WkbResult<()>
-    ensures kind { IsErrAnd result (λ e. IsIOError e) }
-    ensures own { IfSome error.old (λ e. result ≡ Err (WkbError.IOError e)) }
+fn sink_error(failure: Option<io::Error>) -> WkbResult<()>
+    ensures { IsErrAnd result (λ e. TellsFailure e failure) }
 {
-    match error.take() {
+    match failure {
         Some(error) => Err(WkbError::IOError(error)),
         None => Err(WkbError::IOError(io::Error::from(ErrorKind::WriteZero))),
     }
@@ -195,12 +197,12 @@ pub fn vec_as<G, K: Writable<G>>(
 {
     let size = match whole_size(K::measure(geom), options.form) {
         Ok(size) => size,
-        Err(fault) => return refused(fault),
+        Err(fault) => return refuse(fault),
     };
     let mut sink = VecSink::with_capacity(alloc, size)?;
-    match put_sized::<VecSink, G, K>(&mut sink, geom, options, size, &mut None) {
+    match put_sized::<VecSink, G, K>(&mut sink, geom, options, size) {
         Ok(()) => Ok(sink.into_vec()),
         // This sink fails only for want of memory.
-        Err(Stopped) => Err(WkbError::from(AllocError)),
+        Err(_) => Err(WkbError::from(AllocError)),
     }
 }

@@ -1,6 +1,6 @@
 use Rattle.std.proofs.Common.{◌≡◌, None, ◌∙◌, ◌+◌, refl, sym, subst, map, arith}
 use Rattle.wkb_geom.specs.Geometries.{collection, geometries}
-use Rattle.wkb_write.specs.Bodies.{members}
+use Rattle.wkb_write.specs.Bodies.{member_measures}
 use Rattle.wkb_write.specs.Measures.{result_of}
 use Rattle.wkb_write.specs.Measures.{Finds, IsAdded, IsMeasured, Measures, capped}
 use Rattle.wkb_write.proofs.Faults.{measured_err}
@@ -55,7 +55,7 @@ add_members-loop-i-preserved g t c =
     let told =
     said_of_member geo (λ p. (p.fault ≡ None) × (n ≡ capped p.size)) xs c.loop-i.i c.index-members-i.result c.loop-i-test.true
     c.index-members-i.is c.in-Ok-measure_geometry.ensures.measured in
-    subst (SoFar (members (geometries (map geo xs))) _ (c.loop-i.i + 1)) (sym c.saturating_add-total-in-Ok-measure_geometry.ensures)
+    subst (SoFar (member_measures (geometries (map geo xs))) _ (c.loop-i.i + 1)) (sym c.saturating_add-total-in-Ok-measure_geometry.ensures)
     (parts_step _ _ _ _ n (omega (arith, members_length geo xs, c.loop-i-test.true)) told c.loop-i.invariant)
 
 pub add_members-add_members-requires : goal.add_members-add_members-requires

@@ -1,7 +1,7 @@
 use Rattle.std.proofs.Common.{◌+◌, ◌*◌, map}
 use Rattle.wkb_geom.specs.Geometries.{geometries}
 use Rattle.wkb_geom.specs.Sizes.{node_count, node_counts}
-use Rattle.wkb_write.specs.Bodies.{members}
+use Rattle.wkb_write.specs.Bodies.{member_measures}
 use Rattle.wkb_write.proofs.Sums.{SoFar}
 use Rattle.wkb_write.proofs.geometry.+measure.Given as goal
 
@@ -13,4 +13,4 @@ decreases-add_members g l = 2 * node_counts (geometries (map g.G.GeometryTrait.g
 
 abbrev pub invariant-add_members-loop-i : goal.invariant-add_members-loop-i
 invariant-add_members-loop-i g l =
-    SoFar (members (geometries (map g.G.GeometryTrait.geometry l.members))) (l.before + (4 + 5 * l.count)) l.i l.total
+    SoFar (member_measures (geometries (map g.G.GeometryTrait.geometry l.members))) (l.before + (4 + 5 * l.count)) l.i l.total

@@ -85,4 +85,4 @@ put_any-put_members-requires g t c κs within =
 
 pub put_any-returns-in-GeometryCollection : goal.put_any-returns-in-GeometryCollection
 put_any-returns-in-GeometryCollection g t c =
-    lays_collection _ _ _ _ _ _ _ c.put_members.ensures c.written.ensures c.dim.ensures c.in-GeometryCollection.ensures.part
+    lays_collection _ _ _ _ _ _ _ c.put_members.ensures c.dimension_to_write.ensures c.dim.ensures c.in-GeometryCollection.ensures.part

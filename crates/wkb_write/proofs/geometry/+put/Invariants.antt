@@ -14,5 +14,5 @@ decreases-put_members g l = 3 * node_counts (geometries (map g.G.GeometryTrait.g
 
 abbrev pub invariant-put_members-loop-i : goal.invariant-put_members-loop-i
 invariant-put_members-loop-i g l =
-    HasLaid (progress g.S.Sink.appended g.S.Sink.has_failed l.fn.out) (progress g.S.Sink.appended g.S.Sink.has_failed l.out) l.order
+    HasLaid (progress g.S.Sink l.fn.out) (progress g.S.Sink l.out) l.order
     (header_encoding l.order l.form 7 l.fn.dim) (map (λ m. encoding l.order (inner l.form) (g.G.GeometryTrait.geometry m)) l.members) l.i

@@ -6,7 +6,7 @@ abbrev pub invariant-loop-done : goal.invariant-loop-done
 invariant-loop-done g l = record {
   within : l.done ≤ l.count;
   laid :
-      HasRun (progress g.S.Sink.appended g.S.Sink.has_failed l.fn.out) (progress g.S.Sink.appended g.S.Sink.has_failed l.out) l.order
+      HasRun (progress g.S.Sink l.fn.out) (progress g.S.Sink l.out) l.order
       (g.L.LineStringTrait.coordinates l.line) l.done;
 }
 

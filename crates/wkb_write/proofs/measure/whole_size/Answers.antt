@@ -11,12 +11,12 @@ returns-in_err-measured-clause-size c = λ g lawful told.
 pub returns-in-Some-clause-size : goal.returns-in-Some-clause-size
 unfolding IsMeasured
 returns-in-Some-clause-size c = λ g lawful told.
-    let sum = c.in-Some.ensures.1 ∙ ap (λ n. c.in_ok-measured.field-0 + n) c.header_size-header.ensures.size in
-    size_told _ _ _ c.args.form g c.in_ok-measured.was c.header_size-header.ensures.fits lawful told sum
+    let sum = c.in-Some.ensures.1 ∙ ap (λ n. c.in_ok-measured.field-0 + n) c.length_of_header-header.ensures.size in
+    size_told _ _ _ c.args.form g c.in_ok-measured.was c.length_of_header-header.ensures.fits lawful told sum
     (omega (arith, c.in-Some.ensures.0, c.in-Some.ensures.1))
 
 pub returns-in-None-clause-size : goal.returns-in-None-clause-size
 unfolding IsMeasured
 returns-in-None-clause-size c = λ g lawful told.
-    size_past _ _ c.args.form g c.in_ok-measured.was c.header_size-header.ensures.fits lawful told
-    (omega (arith, c.in-None.ensures, c.header_size-header.ensures.size))
+    size_past _ _ c.args.form g c.in_ok-measured.was c.length_of_header-header.ensures.fits lawful told
+    (omega (arith, c.in-None.ensures, c.length_of_header-header.ensures.size))

@@ -13,4 +13,4 @@ put_members-requires-clause-fault g c =
 pub returns : goal.returns
 returns g c =
     let is = ap (λ l. collection (g.C.Dimensioned.dimensions c.args.geom.now) (geometries l)) c.geometries.ensures in
-    lays_collection _ _ _ _ _ _ _ c.put_members.ensures c.written-dim.ensures c.dim.ensures is
+    lays_collection _ _ _ _ _ _ _ c.put_members.ensures c.dimension_to_write-dim.ensures c.dim.ensures is

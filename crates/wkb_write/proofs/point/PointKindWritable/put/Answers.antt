@@ -6,11 +6,11 @@ use Rattle.wkb_write.proofs.point.PointKindWritable.put.Goals as goal
 pub returns-in-Some : goal.returns-in-Some
 unfolding point_encoding point_words
 returns-in-Some g c =
-    rw (← c.dim.ensures, ← c.written-dim.ensures, ← c.in-Some.ensures.value)
+    rw (← c.dim.ensures, ← c.dimension_to_write-dim.ensures, ← c.in-Some.ensures.value)
     (laid_here c.in_ok-make_room.ensures.laid (behind c.lay_header.ensures.bytes c.lay_coordinate.ensures.bytes))
 
 pub returns-in-None : goal.returns-in-None
 unfolding point_encoding point_words
 returns-in-None g c =
-    rw (← c.dim.ensures, ← c.written-dim.ensures, ← c.in-None.ensures.value)
+    rw (← c.dim.ensures, ← c.dimension_to_write-dim.ensures, ← c.in-None.ensures.value)
     (laid_here c.in_ok-make_room.ensures.laid (behind c.lay_header.ensures.bytes c.lay_empty.ensures))
