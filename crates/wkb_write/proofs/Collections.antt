@@ -1,6 +1,6 @@
 -- A collection's members, as a list of what they mean.
 use Rattle.wkb_write.proofs.Prelude.{◌≡◌, ℕ, ◌+◌, ◌*◌, ◌<◌, List, [], ◌∷◌, ◌++◌, length, map, get_or, refl, sym, ap}
-use Rattle.wkb_write.proofs.Prelude.{◌∙◌, arith, None, ◌^◌, Result, flat_map}
+use Rattle.wkb_write.proofs.Prelude.{◌∙◌, subst, arith, None, ◌^◌, Result, flat_map}
 use Rattle.wkb_write.proofs.Prelude.{Endianness, Form, Dimension, Dimensions, Stopped, written_dimension, Geometry}
 use Rattle.wkb_write.proofs.Prelude.{geometries, collection, node_count}
 use Rattle.wkb_write.proofs.Prelude.{node_counts, encoding, encodings, fault, fault_each, first_fault, or_else}
@@ -34,6 +34,11 @@ unfolding members_encoding
 lays_collection a b r order form f xs p name same is =
     rw (← is, ← same, ← name, count-geometries f xs, encodings-geometries order (inner form) f xs)
     (lays_counted a b r order _ (λ x. encoding order (inner form) (f x)) xs p)
+
+-- the encoding of a geometry is that of an equal one
+pub lays_same : (a b : Progress) (r : Result (Unit {0}) Stopped) (order : Endianness) (form : Form) {g h : Geometry} → g ≡ h
+    → Advances a b (encoding order form g) r → Advances a b (encoding order form h) r
+lays_same a b r order form same laid = subst (λ t. Advances a b (encoding order form t) r) same laid
 
 -- a collection without a fault has a count that four bytes hold, and members without a fault
 pub collection_count : {X : Type 0} (d : Dimensions) (f : X → Geometry) (xs : List X) → fault (collection d (geometries (map f xs))) ≡ None

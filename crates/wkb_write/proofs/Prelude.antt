@@ -1,6 +1,6 @@
 -- The words that the proofs of this crate share, passed on from one place. Declares nothing.
 pub use Rattle.wkb_geom.specs.declared.error.Fault.{Fault}
-pub use Rattle.std.proofs.Common.{◌≡◌, ℕ, ◌≤◌, List, [], ◌++◌, length, take, drop, Option, Some, None, sym, ap, ◌∙◌}
+pub use Rattle.std.proofs.Common.{◌≡◌, ℕ, ◌≤◌, List, [], ◌++◌, length, take, drop, Option, Some, None, sym, subst, ap, ◌∙◌}
 pub use Rattle.std.proofs.Common.{append_assoc, append-nil, arith}
 pub use Rattle.std.proofs.Common.{take_all, take-append-drop, ◌-◌, ◌+◌, refl, ◌*◌, ◌<◌, ◌∷◌, map, get_or, ◌^◌, Result}
 pub use Rattle.std.proofs.Common.{zero, suc}

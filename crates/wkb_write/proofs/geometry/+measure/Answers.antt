@@ -6,7 +6,7 @@ use Rattle.wkb_write.specs.Measures.{Finds, IsAdded, IsMeasured, Measures, cappe
 use Rattle.wkb_write.proofs.Faults.{measured_err}
 use Rattle.wkb_write.proofs.Sums.{SoFar, parts_begin, parts_step, count_reports, part_reports, parts_behind, last_added}
 use Rattle.wkb_write.proofs.Whole.{added_alone, collected, whole_unsupported, members_length, said_of_member}
-use Rattle.wkb_write.proofs.Whole.{members_fall, member_falls}
+use Rattle.wkb_write.proofs.Whole.{measured_same, members_fall, member_falls}
 use Rattle.wkb_write.proofs.geometry.+measure.Goals as goal
 
 pub measure_geometry-add_members-requires : goal.measure_geometry-add_members-requires
@@ -84,3 +84,30 @@ add_members-returns g t c =
     collected _ _ _ _ c.in-Ok.ensures
     (parts_behind _ _ 5 _ _ _ is (rw c.in-Ok-check_count.ensures.1 c.in-Ok-check_count.ensures.0)
     (omega (arith, members_length g.G.GeometryTrait.geometry xs, c.loop-i-test.false)) c.loop-i.invariant)
+
+pub measure_geometry-returns-in-Point : goal.measure_geometry-returns-in-Point
+measure_geometry-returns-in-Point g t c = record { measured = measured_same _ c.in-Point.ensures.part c.measure.ensures }
+
+pub measure_geometry-returns-in-LineString : goal.measure_geometry-returns-in-LineString
+measure_geometry-returns-in-LineString g t c = record { measured = measured_same _ c.in-LineString.ensures.part c.measure-in-LineString.ensures }
+
+pub measure_geometry-returns-in-Polygon : goal.measure_geometry-returns-in-Polygon
+measure_geometry-returns-in-Polygon g t c = record { measured = measured_same _ c.in-Polygon.ensures.part c.measure-in-Polygon.ensures }
+
+pub measure_geometry-returns-in-MultiPoint : goal.measure_geometry-returns-in-MultiPoint
+measure_geometry-returns-in-MultiPoint g t c = record { measured = measured_same _ c.in-MultiPoint.ensures.part c.measure-in-MultiPoint.ensures }
+
+pub measure_geometry-returns-in-MultiLineString : goal.measure_geometry-returns-in-MultiLineString
+measure_geometry-returns-in-MultiLineString g t c = record { measured = measured_same _ c.in-MultiLineString.ensures.part c.measure-in-MultiLineString.ensures }
+
+pub measure_geometry-returns-in-MultiPolygon : goal.measure_geometry-returns-in-MultiPolygon
+measure_geometry-returns-in-MultiPolygon g t c = record { measured = measured_same _ c.in-MultiPolygon.ensures.part c.measure-in-MultiPolygon.ensures }
+
+pub measure_geometry-returns-in-Line : goal.measure_geometry-returns-in-Line
+measure_geometry-returns-in-Line g t c = record { measured = measured_same _ c.in-Line.ensures.part c.measure-in-Line.ensures }
+
+pub measure_geometry-returns-in-Rect : goal.measure_geometry-returns-in-Rect
+measure_geometry-returns-in-Rect g t c = record { measured = measured_same _ c.in-Rect.ensures.part c.measure-in-Rect.ensures }
+
+pub measure_geometry-returns-in-Triangle : goal.measure_geometry-returns-in-Triangle
+measure_geometry-returns-in-Triangle g t c = record { measured = measured_same _ c.in-Triangle.ensures.part c.measure-in-Triangle.ensures }

@@ -1,8 +1,8 @@
 use Rattle.wkb_write.proofs.Prelude.{◌≡◌, ◌<◌, ◌-◌, ◌∙◌, sym, ap, length, arith, length-map, node_count, fault, encoding}
 use Rattle.wkb_write.proofs.Prelude.{inner}
-use Rattle.wkb_write.proofs.Collections.{collection_count, collection_members, lays_collection, member_ready}
+use Rattle.wkb_write.proofs.Collections.{collection_count, collection_members, lays_collection, lays_same, member_ready}
 use Rattle.wkb_sink.proofs.Laid.{exits}
-use Rattle.wkb_write.proofs.Loops.{head_cut, none_laid, all_laid, next_cut, lays_last_encoding, encoding_there}
+use Rattle.wkb_write.proofs.Loops.{head_cut, none_laid, next_laid, all_laid, next_cut, lays_last_encoding, encoding_there}
 use Rattle.wkb_write.proofs.geometry.+put.Goals as goal
 
 pub put_members-returns-in_err-put_head : goal.put_members-returns-in_err-put_head
@@ -86,3 +86,70 @@ put_any-put_members-requires g t c κs within =
 pub put_any-returns-in-GeometryCollection : goal.put_any-returns-in-GeometryCollection
 put_any-returns-in-GeometryCollection g t c =
     lays_collection _ _ _ _ _ _ _ c.put_members.ensures c.dimension_to_write.ensures c.dim.ensures c.in-GeometryCollection.ensures.part
+
+pub put_any-put-requires-clause-working : goal.put_any-put-requires-clause-working
+put_any-put-requires-clause-working g t c = c.requires.working
+
+pub put_any-returns-in-Point : goal.put_any-returns-in-Point
+put_any-returns-in-Point g t c = lays_same _ _ _ c.args.order c.args.form c.in-Point.ensures.part c.put.ensures
+
+pub put_any-put-requires-in-LineString-clause-working : goal.put_any-put-requires-in-LineString-clause-working
+put_any-put-requires-in-LineString-clause-working g t c = c.requires.working
+
+pub put_any-returns-in-LineString : goal.put_any-returns-in-LineString
+put_any-returns-in-LineString g t c = lays_same _ _ _ c.args.order c.args.form c.in-LineString.ensures.part c.put-in-LineString.ensures
+
+pub put_any-put-requires-in-Polygon-clause-working : goal.put_any-put-requires-in-Polygon-clause-working
+put_any-put-requires-in-Polygon-clause-working g t c = c.requires.working
+
+pub put_any-returns-in-Polygon : goal.put_any-returns-in-Polygon
+put_any-returns-in-Polygon g t c = lays_same _ _ _ c.args.order c.args.form c.in-Polygon.ensures.part c.put-in-Polygon.ensures
+
+pub put_any-put-requires-in-MultiPoint-clause-working : goal.put_any-put-requires-in-MultiPoint-clause-working
+put_any-put-requires-in-MultiPoint-clause-working g t c = c.requires.working
+
+pub put_any-returns-in-MultiPoint : goal.put_any-returns-in-MultiPoint
+put_any-returns-in-MultiPoint g t c = lays_same _ _ _ c.args.order c.args.form c.in-MultiPoint.ensures.part c.put-in-MultiPoint.ensures
+
+pub put_any-put-requires-in-MultiLineString-clause-working : goal.put_any-put-requires-in-MultiLineString-clause-working
+put_any-put-requires-in-MultiLineString-clause-working g t c = c.requires.working
+
+pub put_any-returns-in-MultiLineString : goal.put_any-returns-in-MultiLineString
+put_any-returns-in-MultiLineString g t c = lays_same _ _ _ c.args.order c.args.form c.in-MultiLineString.ensures.part c.put-in-MultiLineString.ensures
+
+pub put_any-put-requires-in-MultiPolygon-clause-working : goal.put_any-put-requires-in-MultiPolygon-clause-working
+put_any-put-requires-in-MultiPolygon-clause-working g t c = c.requires.working
+
+pub put_any-returns-in-MultiPolygon : goal.put_any-returns-in-MultiPolygon
+put_any-returns-in-MultiPolygon g t c = lays_same _ _ _ c.args.order c.args.form c.in-MultiPolygon.ensures.part c.put-in-MultiPolygon.ensures
+
+pub put_any-put-requires-in-Rect-clause-working : goal.put_any-put-requires-in-Rect-clause-working
+put_any-put-requires-in-Rect-clause-working g t c = c.requires.working
+
+pub put_any-returns-in-Rect : goal.put_any-returns-in-Rect
+put_any-returns-in-Rect g t c = lays_same _ _ _ c.args.order c.args.form c.in-Rect.ensures.part c.put-in-Rect.ensures
+
+pub put_any-put-requires-in-Triangle-clause-working : goal.put_any-put-requires-in-Triangle-clause-working
+put_any-put-requires-in-Triangle-clause-working g t c = c.requires.working
+
+pub put_any-returns-in-Triangle : goal.put_any-returns-in-Triangle
+put_any-returns-in-Triangle g t c = lays_same _ _ _ c.args.order c.args.form c.in-Triangle.ensures.part c.put-in-Triangle.ensures
+
+pub put_any-put-requires-in-Line-clause-working : goal.put_any-put-requires-in-Line-clause-working
+put_any-put-requires-in-Line-clause-working g t c = c.requires.working
+
+pub put_any-returns-in-Line : goal.put_any-returns-in-Line
+put_any-returns-in-Line g t c = lays_same _ _ _ c.args.order c.args.form c.in-Line.ensures.part c.put-in-Line.ensures
+
+pub put_members-put_head-requires : goal.put_members-put_head-requires
+put_members-put_head-requires g t c = record { working = c.requires.working }
+
+pub put_members-loop-i-init : goal.put_members-loop-i-init
+put_members-loop-i-init g t c =
+    let same = length-map c.args.members.now (λ m. encoding c.args.order (inner c.args.form) (g.G.GeometryTrait.geometry m)) in
+    none_laid _ (sym same) c.in_ok-put_head.ensures
+
+pub put_members-loop-i-preserved : goal.put_members-loop-i-preserved
+put_members-loop-i-preserved g t c =
+    let there : c.loop-i.i < length c.args.members.now = omega (arith, c.loop-i-test.true) in
+    next_laid c.loop-i.invariant (encoding_there _ _ _ _ there c.index-members-i.is) (rw (← c.has_flags.ensures) at c.in_ok-put_member.ensures)
