@@ -1,12 +1,14 @@
 -- The steps of a loop that lays the encodings of a list's items.
 use Rattle.wkb_write.proofs.Prelude.{◌≡◌, ℕ, zero, suc, ◌+◌, ◌<◌, ◌≤◌, List, [], ◌∷◌, ◌++◌, length, take, drop, Some}
-use Rattle.wkb_write.proofs.Prelude.{sym, ap, ◌∙◌, append_assoc, append-nil}
+use Rattle.wkb_write.proofs.Prelude.{sym, subst, ap, ◌∙◌, append_assoc, append-nil}
 use Rattle.wkb_write.proofs.Prelude.{take_all, take-append-drop, slice_get, add-one, map, get_or, Result, flat_map}
 use Rattle.wkb_write.proofs.Prelude.{length-map, get_or-map, take-take}
 use Rattle.wkb_write.proofs.Prelude.{slice_get_read, slice_get-get_or, Stopped, flat_map-append, Endianness, Form}
-use Rattle.wkb_write.proofs.Prelude.{Dimension, number_bytes, coordinates_encoding}
+use Rattle.wkb_write.proofs.Prelude.{Dimension, Dimensions, Option, None, number_bytes, coordinates_encoding}
 use Rattle.wkb_write.proofs.Prelude.{words_encoding, header_encoding, members_encoding, counted, Progress, IsLaid, IsCut, Advances}
 use Rattle.wkb_write.proofs.Prelude.{Ok, Err}
+use Rattle.std.specs.Prelude.{IfSome}
+use Rattle.std.specs.Option.{option_map}
 use Rattle.std.proofs.lemmas.List.Folds.{flat_map-map}
 use Rattle.wkb_sink.proofs.Stores.{flat_map_step}
 use Rattle.wkb_sink.proofs.Laid.{laid_then, cut_then, cut_first}
@@ -88,5 +90,22 @@ head_cut order header encodings n is p = rw (is, ← append_assoc) (cut_first _ 
 pub encoding_there : {X : Type 0} (f : X → List ℕ) (xs : List X) (i : ℕ) (x : X) → i < length xs → x ≡ get_or xs i x → slice_get (map f xs) i ≡ Some (f x)
 encoding_there f xs i x within is =
     slice_get_read (map f xs) (length xs) i (f x) (sym (length-map xs f)) within (ap f is ∙ sym (get_or-map f xs i x (f x) within))
+
+-- the encoding of the item at a place was laid
+pub lays_item : {X : Type 0} (a b : Progress) (r : Result (Unit {0}) Stopped) (f : X → List ℕ) (xs : List X) (i : ℕ) (x : X) → slice_get xs i ≡ Some x
+    → Advances a b (f x) r → Advances a b (get_or (map f xs) i []) r
+lays_item a b r f [] i x item laid = absurd (cc)
+lays_item a b r f (y ∷ xs) zero x item laid = let same : x ≡ y = cc in subst (λ z. Advances a b (f z) r) same laid
+lays_item a b r f (y ∷ xs) (suc i) x item laid = lays_item a b r f xs i x item laid
+
+-- the same of an item that was handed out, whose dimension is that of the whole
+pub lays_member : {X V : Type 0} (a b : Progress) (r : Result (Unit {0}) Stopped) (f : Dimensions → V → List ℕ) (value : X → V)
+    (dimensions : X → Dimensions) (d : Dimensions) (vs : List V) (i : ℕ) (o : Option X) (x : X) → o ≡ Some x → option_map value o ≡ slice_get vs i
+    → IfSome o (λ y. dimensions y ≡ d) → Advances a b (f (dimensions x) (value x)) r → Advances a b (get_or (map (f d) vs) i []) r
+lays_member a b r f value dimensions d vs i None x is there same laid = absurd (cc)
+lays_member a b r f value dimensions d vs i (Some y) x is there same laid =
+    let one : x ≡ y = cc in
+    lays_item a b r (f d) vs i (value y) (sym there) (subst (λ e. Advances a b (f e (value y)) r) same
+    (subst (λ z. Advances a b (f (dimensions z) (value z)) r) one laid))
 
 pub ruleset loop_laws = (slice_get-get_or, length-map, encoding_there, none_laid, next_laid, all_laid, next_cut, head_cut, no_run, next_run, whole_run, run_cut)

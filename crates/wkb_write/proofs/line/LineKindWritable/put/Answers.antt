@@ -1,6 +1,7 @@
-use Rattle.wkb_write.proofs.Prelude.{line_string_encoding, coordinates_encoding}
+use Rattle.wkb_write.proofs.Prelude.{arith, line_string_encoding, coordinates_encoding}
 use Rattle.wkb_sink.proofs.Laid.{laid_here}
 use Rattle.wkb_sink.proofs.Behind.{behind, last}
+use Rattle.wkb_write.proofs.Supported.{supported_at_least, supported_at_most}
 use Rattle.wkb_write.proofs.line.LineKindWritable.put.Goals as goal
 
 pub returns : goal.returns
@@ -9,3 +10,21 @@ returns g c =
     rw (← c.dim.ensures, ← c.dimension_to_write.ensures, ← c.start.ensures.value, ← c.end.ensures.value)
     (laid_here c.in_ok-make_room.ensures.laid (behind c.lay_header.ensures.bytes
     (behind c.lay_count.ensures.bytes (behind c.lay_coordinate.ensures.bytes (last c.lay_coordinate-2.ensures.bytes)))))
+
+pub lay_coordinate-requires-clause-least : goal.lay_coordinate-requires-clause-least
+lay_coordinate-requires-clause-least g c = rw c.start.ensures.dimensions (supported_at_least _ c.requires.fault)
+
+pub lay_coordinate-requires-clause-most : goal.lay_coordinate-requires-clause-most
+lay_coordinate-requires-clause-most g c = rw c.start.ensures.dimensions (supported_at_most _ c.requires.fault)
+
+pub lay_coordinate-requires-clause-room : goal.lay_coordinate-requires-clause-room
+lay_coordinate-requires-clause-room g c = omega (arith, c.in_ok-make_room.ensures.room)
+
+pub lay_coordinate-requires-2-clause-least : goal.lay_coordinate-requires-2-clause-least
+lay_coordinate-requires-2-clause-least g c = rw c.end.ensures.dimensions (supported_at_least _ c.requires.fault)
+
+pub lay_coordinate-requires-2-clause-most : goal.lay_coordinate-requires-2-clause-most
+lay_coordinate-requires-2-clause-most g c = rw c.end.ensures.dimensions (supported_at_most _ c.requires.fault)
+
+pub lay_coordinate-requires-2-clause-room : goal.lay_coordinate-requires-2-clause-room
+lay_coordinate-requires-2-clause-room g c = omega (arith, c.in_ok-make_room.ensures.room)
