@@ -16,3 +16,5 @@ nothing_behind a = record { is = sym (append-nil a) }
 pub word_more : (order : Endianness) (n w : ℕ) → words_encoding order (replicate (n + 1) w) ≡ words_encoding order (replicate n w) ++ number_bytes order 8 w
 unfolding words_encoding
 word_more order n w = rw (← replicate_more n w, flat_map-append, append-nil) refl
+
+pub ruleset behind_laws = (behind, last)

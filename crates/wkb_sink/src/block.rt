@@ -108,7 +108,8 @@ impl<'a> Block<'a> {
         requires most { size (C.dimensions coord.now) ≤ 4 }
         requires room { COORDINATE ≤ self.old.room }
         ensures room { self.old.room ≤ self.new.room + COORDINATE }
-        ensures bytes { IsExtended self.old.waiting self.new.waiting (words_encoding order (C.words coord.now)) }
+        ensures bytes { IsExtended self.old.waiting self.new.waiting
+            (words_encoding order (C.words coord.now)) }
     {
         let width = coord.dim().size();
         store_coordinate(&mut self.bytes[self.len..], coord, width, order);
@@ -181,7 +182,8 @@ pub fn lay_header(block: &mut Block<'_>, order: Endianness, form: Form, kind: Wk
 /// Lays the words of a point without a coordinate.
 pub fn lay_empty(block: &mut Block<'_>, order: Endianness, dim: Dimension)
     requires { COORDINATE ≤ block.old.room }
-    ensures { IsExtended block.old.waiting block.new.waiting (words_encoding order (replicate (width dim) empty_word)) }
+    ensures { IsExtended block.old.waiting block.new.waiting
+        (words_encoding order (replicate (width dim) empty_word)) }
 {
     for _i in 0..dim.width() {
         block.lay_word(order, EMPTY_WORD);
@@ -189,11 +191,12 @@ pub fn lay_empty(block: &mut Block<'_>, order: Endianness, dim: Dimension)
 }
 
 /// Lays a corner of a rectangle: x and y alone.
-#[tactic(auto, using(crate::proofs::Behind::behind, crate::proofs::Behind::last), unfolding(wkb_geom::specs::Encodings::words_encoding))]
+#[tactic(auto, using(crate::proofs::Behind::behind_laws), unfolding(wkb_geom::specs::Encodings::words_encoding))]
 pub fn lay_corner(block: &mut Block<'_>, order: Endianness, x: u64, y: u64)
     requires { CORNER ≤ block.old.room }
     ensures room { block.new.room + CORNER ≡ block.old.room }
-    ensures bytes { IsExtended block.old.waiting block.new.waiting (words_encoding order (x ∷ y ∷ [])) }
+    ensures bytes { IsExtended block.old.waiting block.new.waiting
+        (words_encoding order (x ∷ y ∷ [])) }
 {
     block.lay_word(order, x);
     block.lay_word(order, y);

@@ -15,7 +15,18 @@ use std::io;
 use std::io::Write;
 use std::marker::Model;
 
-/// A place for bytes, which may take a part of what it is given.
+/// A place for bytes, which may take a part of what it is given. Three are here: `VecSink`, `SliceSink`, and `Out`
+/// over any `Write`.
+///
+/// ```rust
+/// let mut bytes = [0; 21];
+/// let mut sink = SliceSink::new(&mut bytes);
+/// write_point(&mut sink, &point, &WriteOptions::default())?;
+/// assert_eq!(rt; sink.len(), 21);
+/// ```
+///
+/// A type of your own says what `has_failed` is and meets the clauses of `put`. It may leave out `appended`, which then
+/// promises nothing of bytes, and `fails_by`, which then promises nothing of errors.
 pub trait Sink {
     // The bytes that stand appended, where the sink tells them.
     ghost appended: { Self → Option (List ℕ) } = { λ _. None };
@@ -31,7 +42,8 @@ pub trait Sink {
     fn put(&mut self, bytes: &[u8]) -> io::Result<usize>
         ensures bound { WritesAtMost result bytes.now }
         ensures bytes { WriteAppends (appended self.old) (appended self.new) result bytes.now }
-        ensures failure { has_failed self.new ≡ (has_failed self.old || put_fails (length bytes.now) result) }
+        ensures failure { has_failed self.new
+            ≡ (has_failed self.old || put_fails (length bytes.now) result) }
         ensures cause { (failure : Option Error) → FailsBy (length bytes.now) result failure
             → fails_by self.new failure };
 
@@ -157,7 +169,8 @@ impl Sink for VecSink {
     fn put(&mut self, bytes: &[u8]) -> io::Result<usize>
         ensures bound { WritesAtMost result bytes.now }
         ensures bytes { WriteAppends (Some self.old.bytes) (Some self.new.bytes) result bytes.now }
-        ensures failure { self.new.failed ≡ (self.old.failed || put_fails (length bytes.now) result) }
+        ensures failure { self.new.failed
+            ≡ (self.old.failed || put_fails (length bytes.now) result) }
         ensures cause { (failure : Option Error) → FailsBy (length bytes.now) result failure
             → IsSomeAnd failure (λ e. error_kind e ≡ OutOfMemory) }
         ensures whole { IfOk result (λ n. n ≡ length bytes.now) }
@@ -237,8 +250,10 @@ impl Sink for SliceSink<'_> {
     fn put(&mut self, bytes: &[u8]) -> io::Result<usize>
         ensures bound { WritesAtMost result bytes.now }
         ensures bytes { WriteAppends (Some self.old.bytes) (Some self.new.bytes) result bytes.now }
-        ensures failure { self.new.failed ≡ (self.old.failed || put_fails (length bytes.now) result) }
-        ensures cause { (failure : Option Error) → FailsBy (length bytes.now) result failure → failure ≡ None }
+        ensures failure { self.new.failed
+            ≡ (self.old.failed || put_fails (length bytes.now) result) }
+        ensures cause { (failure : Option Error) → FailsBy (length bytes.now) result failure
+            → failure ≡ None }
         ensures most { IfOk result (λ n. n ≡ min (length bytes.now) self.old.room) }
         ensures room { IfOk result (λ n. self.new.room ≡ self.old.room - n) }
         ensures ok { IsOk result }

@@ -80,7 +80,8 @@ fn store_run<L: LineStringTrait>(
     requires most { size (L.dimensions line.now) ≤ 4 }
     requires room { 8 * width * (to - from) ≤ length bytes.old }
     ensures len { result ≤ 8 * width * (to - from) }
-    ensures bytes { take result bytes.new ≡ flat_map (words_encoding order) (drop from (take to (L.coordinates line.now))) }
+    ensures bytes { take result bytes.new
+        ≡ flat_map (words_encoding order) (drop from (take to (L.coordinates line.now))) }
 {
     let mut at = 0;
     for i in from..to {
@@ -106,7 +107,8 @@ pub fn store_coordinates<L: LineStringTrait>(
     requires most { size (L.dimensions line.now) ≤ 4 }
     requires room { 8 * size (L.dimensions line.now) * (to - from) ≤ length bytes.old }
     ensures len { result ≤ 8 * size (L.dimensions line.now) * (to - from) }
-    ensures bytes { take result bytes.new ≡ flat_map (words_encoding order) (drop from (take to (L.coordinates line.now))) }
+    ensures bytes { take result bytes.new
+        ≡ flat_map (words_encoding order) (drop from (take to (L.coordinates line.now))) }
 {
     let width = line.dim().size();
     match order {

@@ -1,7 +1,8 @@
 //! A geometry of any kind, and the members of a collection: their recursion, in measuring and in putting.
 
 ghost use Rattle.std.specs.Prelude.{◌≡◌, ◌<◌, ◌^◌, ◌++◌, ◌⊎◌, None, IfOk, IfErr, false, length, map};
-ghost use Rattle.wkb_write.specs.Words.{encoding_of, refusal_of, Iso, IsMemory, collection, geometries, fault, first_fault};
+ghost use Rattle.wkb_write.specs.Words.{encoding_of, refusal_of, Iso, IsMemory, collection, geometries};
+ghost use Rattle.wkb_write.specs.Words.{fault, first_fault};
 ghost use Rattle.wkb_write.specs.Words.{header_encoding, inner, encoding, Lays, IsSizeOf, WritesTo, counted};
 ghost use Rattle.wkb_write.specs.Words.{form_with_flags, IsAdded, IsMeasured, Reports, result_of};
 
@@ -28,11 +29,12 @@ use wkb_geom::{
 use wkb_sink::Buffered;
 use wkb_sink::block::dimension_to_write;
 
-// Adds a collection of these dimensions and members to the bytes before it. Where the last member is a collection, it is
-// added by the last call, which the compiler makes a jump.
+// Adds a collection of these dimensions and members to the bytes before it. Where the last member is a collection, it
+// is added by the last call, which the compiler makes a jump.
 #[cycle(measure)]
 pub fn add_members<G: GeometryTrait>(before: usize, dim: Dimensions, members: &[G]) -> Measured
-    ensures { IsAdded before (collection dim (geometries (map G.geometry members.now))) (result_of result) }
+    ensures { IsAdded before (collection dim (geometries (map G.geometry members.now)))
+        (result_of result) }
 {
     match check_dimensions(dim) {
         Ok(()) => {}
@@ -57,8 +59,8 @@ pub fn add_members<G: GeometryTrait>(before: usize, dim: Dimensions, members: &[
     Measured::Bytes(total)
 }
 
-// The bytes of a geometry after its header, or its first fault. `usize::MAX` stands for all that are more: with a header
-// none of them fits.
+// The bytes of a geometry after its header, or its first fault. `usize::MAX` stands for all that are more: with a
+// header none of them fits.
 #[cycle(measure)]
 #[inline(always)]
 fn measure_geometry<G: GeometryTrait>(geom: &G) -> Result<usize, Fault>
@@ -120,8 +122,8 @@ fn put_member<S: Sink, G: GeometryTrait>(
     put_any(out, geom, order, member_form(has_flags))
 }
 
-// Puts a collection's header, and its members after their count. The last one is put by the last call, which the compiler
-// makes a jump.
+// Puts a collection's header, and its members after their count. The last one is put by the last call, which the
+// compiler makes a jump.
 #[cycle(put)]
 #[inline(always)]
 #[tactic(auto, using(crate::proofs::Steps::node_laws))]
@@ -226,8 +228,17 @@ pub fn geometry_wkb_size_with<G: GeometryTrait>(
 
 /// Writes a geometry. The whole of it is tested before a byte is put.
 ///
+/// ```rust
+/// let form = Form::Ewkb { srid: Some(4326) };
+/// let endianness = Endianness::BigEndian;
+/// let mut sink = VecSink::new(alloc);
+/// write_geometry(&mut sink, &geometry, &WriteOptions { endianness, form })?;
+/// let encoding = sink.into_vec();
+/// ```
+///
 /// Refused as `geometry_wkb_size_with` refuses it under the same options, with the sink untouched.
-/// `IOError` where the sink fails: a beginning of the encoding then stands.
+/// `IOError` where the sink fails: a beginning of the encoding then stands. It is the sink's own error, or of the kind
+/// `WriteZero` where the sink took nothing.
 #[inline(always)]
 pub fn write_geometry<S: Sink, G: GeometryTrait>(
     writer: &mut S,
@@ -258,6 +269,11 @@ pub fn write_geometry<S: Sink, G: GeometryTrait>(
 
 /// The encoding of a geometry under the options, in a vector of its size.
 ///
+/// ```rust
+/// let encoding = to_vec(alloc, &geometry, &WriteOptions::default())?;
+/// assert_eq!(rt; encoding.len(), geometry_wkb_size(&geometry)?);
+/// ```
+///
 /// Refused as `geometry_wkb_size_with` refuses it under the same options, or `Memory`.
 #[inline(always)]
 pub fn to_vec<G: GeometryTrait>(
@@ -267,7 +283,8 @@ pub fn to_vec<G: GeometryTrait>(
 ) -> WkbResult<Vec<u8>>
     ensures ok { IfOk result (λ out. out.items ≡ encoding_of options.now (G.geometry geom.now)) }
     ensures writable { IfOk result (λ _. refusal_of options.now (G.geometry geom.now) ≡ None) }
-    ensures err { IfErr result (λ e. IsMemory e ⊎ Reports e (refusal_of options.now (G.geometry geom.now))) }
+    ensures err { IfErr result
+        (λ e. IsMemory e ⊎ Reports e (refusal_of options.now (G.geometry geom.now))) }
 {
     if let Some(encoding) = lent_encoding(geom, options) {
         return Ok(Vec::from_slice(alloc, encoding)?);

@@ -30,7 +30,8 @@ impl<C: GeometryCollectionTrait> Writable<C> for GeometryCollectionKind {
 /// The size of a GeometryCollection in ISO codes.
 /// Refuses as `geometry_wkb_size`.
 pub fn geometry_collection_wkb_size<C: GeometryCollectionTrait>(geom: &C) -> WkbResult<usize>
-    ensures size { IsSizeOf Iso (collection (C.dimensions geom.now) (geometries (C.members geom.now))) result }
+    ensures size { IsSizeOf Iso
+        (collection (C.dimensions geom.now) (geometries (C.members geom.now))) result }
 {
     size_as::<C, GeometryCollectionKind>(geom, Form::Iso)
 }

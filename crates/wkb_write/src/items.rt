@@ -25,7 +25,8 @@ pub trait Items<G> {
     /// How many items stand behind the count.
     fn count(geom: &G) -> u128
         ensures measured { result ≡ length (measures geom.now) }
-        ensures put { (order : Endianness) (form : Form) → result ≡ length (encodings order form geom.now) }
+        ensures put { (order : Endianness) (form : Form)
+            → result ≡ length (encodings order form geom.now) }
         ensures few { is_fine geom.now → result < 2 ^ 32 };
 
     /// The fault of the item at an index, or its bytes without its header.
@@ -49,7 +50,8 @@ pub trait Items<G> {
 
 /// Measures the count and the items in order, each behind a header of so many bytes.
 pub fn measure_items<G, I: Items<G>>(geom: &G, header: u8) -> Measured
-    ensures { Measures (parts_fault (I.measures geom.now)) (parts_size header (I.measures geom.now)) (result_of result) }
+    ensures { Measures (parts_fault (I.measures geom.now)) (parts_size header (I.measures geom.now))
+        (result_of result) }
 {
     let count = match check_count(I::count(geom)) {
         Ok(count) => count as usize,

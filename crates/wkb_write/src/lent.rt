@@ -20,7 +20,8 @@ fn length(bytes: &[u8]) -> usize
 /// The encoding of a geometry under the options, where the geometry lends it.
 #[inline(always)]
 pub fn lent_encoding<'a, G: GeometryTrait>(geom: &'a G, options: &WriteOptions) -> Option<&'a [u8]>
-    ensures encoding { IfSome result (λ bytes. bytes.now ≡ encoding_of options.now (G.geometry geom.now)) }
+    ensures encoding { IfSome result
+        (λ bytes. bytes.now ≡ encoding_of options.now (G.geometry geom.now)) }
     ensures writable { IfSome result (λ _. refusal_of options.now (G.geometry geom.now) ≡ None) }
 {
     let encoding = geom.whole(options.endianness, options.form)?;

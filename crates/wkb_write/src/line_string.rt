@@ -31,7 +31,8 @@ pub fn put_coordinates<S: Sink, L: LineStringTrait>(
     requires supported { dimensions_fault (L.dimensions line.now) ≡ None }
     requires count { length (L.coordinates line.now) < 2 ^ 32 }
     requires working { S.has_failed out.old.sink.now ≡ false }
-    ensures { Lays S.Sink out.old out.new (coordinates_encoding order (L.coordinates line.now)) result }
+    ensures { Lays S.Sink out.old out.new
+        (coordinates_encoding order (L.coordinates line.now)) result }
 {
     let count = line.num_coords();
     let bytes = 8 * line.dim().size();
@@ -78,7 +79,8 @@ impl<L: LineStringTrait> Writable<L> for LineStringKind {
 /// The size of a line string in ISO codes.
 /// Refuses as `geometry_wkb_size`.
 pub fn line_string_wkb_size<L: LineStringTrait>(geom: &L) -> WkbResult<usize>
-    ensures size { IsSizeOf Iso (line_string (L.dimensions geom.now) (L.coordinates geom.now)) result }
+    ensures size { IsSizeOf Iso
+        (line_string (L.dimensions geom.now) (L.coordinates geom.now)) result }
 {
     size_as::<L, LineStringKind>(geom, Form::Iso)
 }

@@ -27,7 +27,7 @@ pub enum Measured {
 }
 
 impl Measured {
-    /// The same as a `Result`.
+    /// What was measured, as a `Result`.
     #[inline(always)]
     pub fn result(self) -> Result<usize, Fault>
         ensures { result ≡ result_of self }

@@ -38,7 +38,8 @@ impl<M: MultiLineStringTrait> Items<M> for MultiLineStringKind {
 
     ghost measures = { λ m. map (ring_measure (M.dimensions m)) (M.line_strings m) };
 
-    ghost encodings = { λ order form m. map (λ c. encoding order form (line_string (M.dimensions m) c)) (M.line_strings m) };
+    ghost encodings = { λ order form m.
+        map (λ c. encoding order form (line_string (M.dimensions m) c)) (M.line_strings m) };
 
     fn count(geom: &M) -> u128 {
         geom.num_line_strings() as u128
@@ -63,7 +64,8 @@ impl<M: MultiLineStringTrait> Items<M> for MultiLineStringKind {
 /// The size of a MultiLineString in ISO codes.
 /// Refuses as `geometry_wkb_size`.
 pub fn multi_line_string_wkb_size<M: MultiLineStringTrait>(geom: &M) -> WkbResult<usize>
-    ensures size { IsSizeOf Iso (multi_line_string (M.dimensions geom.now) (M.line_strings geom.now)) result }
+    ensures size { IsSizeOf Iso
+        (multi_line_string (M.dimensions geom.now) (M.line_strings geom.now)) result }
 {
     size_as::<M, MultiLineStringKind>(geom, Form::Iso)
 }

@@ -64,7 +64,8 @@ impl<M: MultiPolygonTrait> Items<M> for MultiPolygonKind {
 /// The size of a MultiPolygon in ISO codes.
 /// Refuses as `geometry_wkb_size`.
 pub fn multi_polygon_wkb_size<M: MultiPolygonTrait>(geom: &M) -> WkbResult<usize>
-    ensures size { IsSizeOf Iso (multi_polygon (M.dimensions geom.now) (M.polygons geom.now)) result }
+    ensures size { IsSizeOf Iso
+        (multi_polygon (M.dimensions geom.now) (M.polygons geom.now)) result }
 {
     size_as::<M, MultiPolygonKind>(geom, Form::Iso)
 }

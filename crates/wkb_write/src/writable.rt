@@ -81,7 +81,8 @@ fn put_through<S: Sink, G, K: Writable<G>>(
     requires least { LEAST ≤ length bytes.old }
     requires fault { fault (K.geometry geom.now) ≡ None }
     requires working { S.has_failed writer.old ≡ false }
-    ensures { PutsTo S.Sink writer.old writer.new (encoding order form (K.geometry geom.now)) result }
+    ensures { PutsTo S.Sink writer.old writer.new
+        (encoding order form (K.geometry geom.now)) result }
 {
     let error = None;
     let block = Block::over(bytes);
@@ -124,7 +125,8 @@ fn put_sized<S: Sink, G, K: Writable<G>>(
 ) -> Result<(), Option<io::Error>>
     requires fault { fault (K.geometry geom.now) ≡ None }
     requires working { S.has_failed writer.old ≡ false }
-    ensures { PutsTo S.Sink writer.old writer.new (encoding_of options.now (K.geometry geom.now)) result }
+    ensures { PutsTo S.Sink writer.old writer.new
+        (encoding_of options.now (K.geometry geom.now)) result }
 {
     let WriteOptions { endianness, form } = *options;
     if size <= SHORT {
@@ -164,7 +166,8 @@ pub fn write_as<S: Sink, G, K: Writable<G>>(
 /// The answer to the caller: where the sink failed, its own error, or that it took no byte.
 #[inline(always)]
 pub fn wkb_result(put: Result<(), Option<io::Error>>) -> WkbResult<()>
-    ensures { MatchResult put (λ u. result ≡ Ok u) (λ failure. IsErrAnd result (λ e. TellsFailure e failure)) }
+    ensures { MatchResult put (λ u. result ≡ Ok u)
+        (λ failure. IsErrAnd result (λ e. TellsFailure e failure)) }
 {
     match put {
         Ok(()) => Ok(()),
@@ -193,7 +196,8 @@ pub fn vec_as<G, K: Writable<G>>(
 ) -> WkbResult<Vec<u8>>
     ensures ok { IfOk result (λ out. out.items ≡ encoding_of options.now (K.geometry geom.now)) }
     ensures writable { IfOk result (λ _. refusal_of options.now (K.geometry geom.now) ≡ None) }
-    ensures err { IfErr result (λ e. IsMemory e ⊎ Reports e (refusal_of options.now (K.geometry geom.now))) }
+    ensures err { IfErr result
+        (λ e. IsMemory e ⊎ Reports e (refusal_of options.now (K.geometry geom.now))) }
 {
     let size = match whole_size(K::measure(geom), options.form) {
         Ok(size) => size,
