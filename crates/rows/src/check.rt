@@ -4,11 +4,11 @@ use crate::line::Line;
 use crate::reading::show_outcome;
 use std::alloc::Global;
 use wkb_cases::reading::{Outcome, counts};
-use wkb_check::{Found, Refused, check};
+use wkb_check::{Refused, Summary, check};
 use wkb_geom::Cause;
 
 /// How a check ended, in the words of a reading.
-fn outcome_of(answer: &Result<Found, Refused>) -> Outcome {
+fn outcome_of(answer: &Result<Summary, Refused>) -> Outcome {
     match answer {
         Ok(found) => Outcome::Accepted(found.bytes as u64),
         Err(refused) => match refused.cause {
@@ -21,7 +21,7 @@ fn outcome_of(answer: &Result<Found, Refused>) -> Outcome {
 }
 
 /// How many parts were begun inside the outermost geometry.
-fn turns_of(answer: &Result<Found, Refused>) -> u128 {
+fn turns_of(answer: &Result<Summary, Refused>) -> u128 {
     match answer {
         Ok(found) => found.parts.saturating_sub(1) as u128,
         Err(refused) => refused.part as u128,

@@ -11,10 +11,10 @@ use Rattle.wkb_laws.proofs.GeometryAt.{geometry_agrees_lem, front_is_read_lem, r
 use Rattle.wkb_laws.proofs.Outcomes.{never_both_lem, one_refusal_lem}
 use Rattle.wkb_laws.proofs.Parts.{begins_number, number-front, header_length}
 use Rattle.wkb_check.specs.Counted.{coordinate_count, left_in}
-use Rattle.wkb_check.specs.declared.answer.Found.{Found}
+use Rattle.wkb_check.specs.declared.answer.Summary.{Summary}
 use Rattle.wkb_check.specs.declared.answer.Refused.{Refused}
-use Rattle.wkb_check.specs.Public.{IsOnlyFront, IsOnlyRefusal, Checks, IsBounded}
-use Rattle.wkb_check.specs.Skims.{Tally, Left, Skim, after, stop, body_inside}
+use Rattle.wkb_check.specs.Public.{DescribesOnlyFront, IsRefusedOnlyFor, Checks, IsBounded}
+use Rattle.wkb_check.specs.Skims.{Tally, Left, Skim, after, stop, skim_body_inside}
 unfoldable use Rattle.wkb_check.specs.Skims.{skim_geometry}
 use Rattle.wkb_check.proofs.Bounds.{Held, geometry_held, coordinates_held}
 use Rattle.wkb_check.proofs.Marks.{refusal_marked}
@@ -53,11 +53,11 @@ few_turns input =
 -- ---- what the code answers is the skim of the input
 
 module _ (input : List ℕ) (h : Head) (head : head_at input ≡ Ok h) where
-  pub body_is : body_inside 0 h input ≡ skim_of input
+  pub body_is : skim_body_inside 0 h input ≡ skim_of input
   body_is = sym (behind_header 0 input h head)
 
-  pub answered : (s : Skim) → after (0, 0) (body_inside 0 h input) ≡ s → skim_of input ≡ s
-  answered s e = sym body_is ∙ sym (after-none (body_inside 0 h input)) ∙ e
+  pub answered : (s : Skim) → after (0, 0) (skim_body_inside 0 h input) ≡ s → skim_of input ≡ s
+  answered s e = sym body_is ∙ sym (after-none (skim_body_inside 0 h input)) ∙ e
 
 pub headless : (input : List ℕ) (c : Cause) → head_at input ≡ Err c → skim_of input ≡ stop input c
 headless input c e = no_header 0 input c e
@@ -130,9 +130,9 @@ module _ (input : List ℕ) (turns many : ℕ) (rest : List ℕ) (is : skim_of i
       let same : h ≡ head_of (header f.0).order (kind f.1) (dimension f.1) (is_some (header f.0).srid) = one_head (sym head ∙ o.head) in
       subst (λ (g : Head). body_start g.has_srid ≤ length input) (sym same) o.long
 
-  module _ (f : Found) (h : Head) (head : head_at input ≡ Ok h) (bytes : f.bytes ≡ length input - length rest) (parts : f.parts ≡ turns + 1)
+  module _ (f : Summary) (h : Head) (head : head_at input ≡ Ok h) (bytes : f.bytes ≡ length input - length rest) (parts : f.parts ≡ turns + 1)
       (coordinates : f.coordinates ≡ many) (type : f.wkb_type ≡ h.wkb_type) (srid : f.srid ≡ srid_in h.order h.has_srid input) where
-    described : IsOnlyFront input f
+    described : DescribesOnlyFront input f
     described s t more x =
         let c = front_counted s t more x in
         let o = front_opens input s t more x in
@@ -184,7 +184,7 @@ module _ (input : List ℕ) (turns many : ℕ) (c : Cause) (left : ℕ) (is : sk
       ap (λ (x : Cause × ℕ). x.1) (one_fault (sym (left_is _ _ is) ∙ refusal_marked r tt))
 
   module _ (e : Refused) (cause : e.cause ≡ c) (part : e.part ≡ turns) (offset : e.offset ≡ length input - left) where
-    one_way : IsOnlyRefusal input e
+    one_way : IsRefusedOnlyFor input e
     one_way d begun slots r =
         let own = a_refusal in
         let one = one_refusal_lem input d c begun turns slots own.0 r own.1 in

@@ -2,15 +2,15 @@
 use Rattle.std.specs.Prelude.{◌≡◌, ℕ, ◌+◌, ◌<◌, ◌^◌, List, length, take, reverse, Bool, true, false, Result, Ok, Err}
 use Rattle.wkb_geom.specs.declared.error.Cause.{Cause}
 use Rattle.wkb_geom.specs.Reading.{Outcome}
-use Rattle.wkb_check.specs.declared.place.Place.{Place}
-use Rattle.wkb_check.specs.Skims.{Tally, Skim, after, onward, inside, outward}
+use Rattle.wkb_check.specs.declared.walk.Walk.{Walk}
+use Rattle.wkb_check.specs.Skims.{Tally, Skim, after, onward, skim_inside, skim_outward}
 
 -- what was counted
-abbrev pub tally : Place → Tally
+abbrev pub tally : Walk → Tally
 tally p = (p.turns, p.coordinates)
 
 -- what is counted fits
-pub record Fits (p : Place) (s : Skim) : Type 0 where
+pub record FitsCounters (p : Walk) (s : Skim) : Type 0 where
   pub turns : p.turns + s.0.0 < 2 ^ 64
   pub coordinates : p.coordinates + s.0.1 < 2 ^ 64
 
@@ -25,15 +25,15 @@ Leaves view (Ok x) p = left_of p ≡ Ok (view x)
 Leaves view (Err c) p = left_of p ≡ Err c
 
 -- the answer is what skimming gives, and what it passed was counted
-abbrev pub Passes : {X : Type 0} → (X → List ℕ) → Result X Cause → Skim → Place → Place → Type 0
+abbrev pub Passes : {X : Type 0} → (X → List ℕ) → Result X Cause → Skim → Walk → Walk → Type 0
 Passes view (Ok x) s old new = after (tally old) s ≡ (tally new, Ok (view x))
 Passes view (Err c) s old new = after (tally old) s ≡ (tally new, Err (c, new.left))
 
 -- So it is of a part that may be a collection, inside those that have so many members to come: a part is passed over,
 -- of a collection its count, and then it is open too.
-abbrev pub Begins : {X : Type 0} → (X → List ℕ) → Result X Cause → Skim → List ℕ → List ℕ → Place → Place → Type 0
-Begins view (Ok x) s before now old new = after (tally old) (onward s (outward before)) ≡ after (tally new) (outward now (view x))
-Begins view (Err c) s before now old new = after (tally old) s ≡ (tally new, Err (c, new.left))
+abbrev pub PassesOrOpens : {X : Type 0} → (X → List ℕ) → Result X Cause → Skim → List ℕ → List ℕ → Walk → Walk → Type 0
+PassesOrOpens view (Ok x) s before now old new = after (tally old) (onward s (skim_outward before)) ≡ after (tally new) (skim_outward now (view x))
+PassesOrOpens view (Err c) s before now old new = after (tally old) s ≡ (tally new, Err (c, new.left))
 
 -- the counts of the open collections, the innermost first
 abbrev pub open_counts : List ℕ → ℕ → List ℕ
@@ -41,5 +41,5 @@ open_counts left depth = reverse (take depth left)
 
 -- what is known once a part is finished: the next member begins, or all is read
 abbrev pub IsSettled : List ℕ → List ℕ → Bool → Type 0
-IsSettled before now true = (rest : List ℕ) → outward before rest ≡ after (1, 0) (onward (inside (length now) rest) (outward now))
-IsSettled before now false = (rest : List ℕ) → outward before rest ≡ ((0, 0), Ok rest)
+IsSettled before now true = (rest : List ℕ) → skim_outward before rest ≡ after (1, 0) (onward (skim_inside (length now) rest) (skim_outward now))
+IsSettled before now false = (rest : List ℕ) → skim_outward before rest ≡ ((0, 0), Ok rest)

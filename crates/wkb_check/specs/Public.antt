@@ -7,11 +7,11 @@ use Rattle.wkb_geom.specs.Refusals.{Refuses}
 use Rattle.wkb_geom.specs.Spellings.{Spelling, header, any}
 use Rattle.wkb_geom.specs.Values.{Value, kind, dimension, member_count}
 use Rattle.wkb_check.specs.Counted.{coordinate_count, left_in}
-use Rattle.wkb_check.specs.declared.answer.Found.{Found}
+use Rattle.wkb_check.specs.declared.answer.Summary.{Summary}
 use Rattle.wkb_check.specs.declared.answer.Refused.{Refused}
 
 -- what is told of a geometry that these bytes spell
-pub record Describes (f : Found) (bytes : List ℕ) (s : Spelling) (t : Value) : Type 0 where
+pub record Describes (f : Summary) (bytes : List ℕ) (s : Spelling) (t : Value) : Type 0 where
   pub bytes_are : f.bytes ≡ length bytes
   pub parts : f.parts ≡ 1 + member_count t
   pub coordinates : f.coordinates ≡ coordinate_count t
@@ -19,7 +19,7 @@ pub record Describes (f : Found) (bytes : List ℕ) (s : Spelling) (t : Value) :
   pub srid : f.srid ≡ (header s).srid
 
 -- the input begins with a geometry of which this is told
-pub record IsFront (input : List ℕ) (f : Found) : Type 0 where
+pub record DescribesFront (input : List ℕ) (f : Summary) : Type 0 where
   pub spelled : Spelling
   pub value : Value
   pub rest : List ℕ
@@ -27,31 +27,31 @@ pub record IsFront (input : List ℕ) (f : Found) : Type 0 where
   pub described : Describes f front.front spelled value
 
 -- whatever geometry the input begins with, this is told of it
-abbrev pub IsOnlyFront : List ℕ → Found → Type 0
-IsOnlyFront input f = (s : Spelling) (t : Value) (rest : List ℕ) → (x : Front input s t rest) → Describes f x.front s t
+abbrev pub DescribesOnlyFront : List ℕ → Summary → Type 0
+DescribesOnlyFront input f = (s : Spelling) (t : Value) (rest : List ℕ) → (x : Front input s t rest) → Describes f x.front s t
 
 -- The input is refused for this cause at the part of this number, and from the offset on it has as many bytes as from
 -- the refused part on.
-pub record IsRefusal (input : List ℕ) (e : Refused) : Type 0 where
+pub record IsRefusedFor (input : List ℕ) (e : Refused) : Type 0 where
   pub slots : ℕ
   pub refuses : Refuses max_nesting any input e.cause e.part slots
   pub begins : e.offset + left_in refuses ≡ length input
 
 -- however the input is refused, it is for this cause, at this part and from this offset on
-abbrev pub IsOnlyRefusal : List ℕ → Refused → Type 0
-IsOnlyRefusal input e = (cause : Cause) (turns slots : ℕ) → (r : Refuses max_nesting any input cause turns slots)
+abbrev pub IsRefusedOnlyFor : List ℕ → Refused → Type 0
+IsRefusedOnlyFor input e = (cause : Cause) (turns slots : ℕ) → (r : Refuses max_nesting any input cause turns slots)
     → (cause ≡ e.cause) × (turns ≡ e.part) × (e.offset + left_in r ≡ length input)
 
 -- What an answer says of the bytes: what is found is the geometry at the front, and what is refused is refused so.
-pub record Checks (input : List ℕ) (r : Result Found Refused) : Type 0 where
-  pub front : IfOk r (λ f. IsFront input f)
-  pub one_front : IfOk r (λ f. IsOnlyFront input f)
-  pub refusal : IfErr r (λ e. IsRefusal input e)
-  pub one_refusal : IfErr r (λ e. IsOnlyRefusal input e)
+pub record Checks (input : List ℕ) (r : Result Summary Refused) : Type 0 where
+  pub front : IfOk r (λ f. DescribesFront input f)
+  pub one_front : IfOk r (λ f. DescribesOnlyFront input f)
+  pub refusal : IfErr r (λ e. IsRefusedFor input e)
+  pub one_refusal : IfErr r (λ e. IsRefusedOnlyFor input e)
   pub no_front : IfErr r (λ e. HasNoFront input)
 
 -- parts that are begun have four bytes each, and coordinates that are passed sixteen
-pub record IsBounded (input : List ℕ) (r : Result Found Refused) : Type 0 where
+pub record IsBounded (input : List ℕ) (r : Result Summary Refused) : Type 0 where
   pub parts : IfOk r (λ f. 4 * f.parts ≤ length input + 8)
   pub coordinates : IfOk r (λ f. 16 * f.coordinates ≤ length input)
   pub part : IfErr r (λ e. 4 * e.part ≤ length input + 4)

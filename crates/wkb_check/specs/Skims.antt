@@ -145,13 +145,13 @@ skim_collection zero = skim_too_deep
 skim_collection (suc room) = λ l b. skim_list l (skim_geometry room) b
 
 -- a geometry inside so many open collections, and what stands behind its header
-abbrev pub inside : ℕ → List ℕ → Skim
-inside around bytes = skim_geometry (max_nesting - around) bytes
+abbrev pub skim_inside : ℕ → List ℕ → Skim
+skim_inside around bytes = skim_geometry (max_nesting - around) bytes
 
-abbrev pub body_inside : ℕ → Head → List ℕ → Skim
-body_inside around h bytes = skim_body (skim_collection (max_nesting - around)) h.wkb_type (layout_of h) bytes
+abbrev pub skim_body_inside : ℕ → Head → List ℕ → Skim
+skim_body_inside around h bytes = skim_body (skim_collection (max_nesting - around)) h.wkb_type (layout_of h) bytes
 
 -- what comes behind a finished part: the members that the open collections still have, the innermost first
-abbrev pub outward : List ℕ → List ℕ → Skim
-outward [] rest = ((0, 0), Ok rest)
-outward (n ∷ ns) rest = onward (skims n (inside (suc (length ns))) rest) (outward ns)
+abbrev pub skim_outward : List ℕ → List ℕ → Skim
+skim_outward [] rest = ((0, 0), Ok rest)
+skim_outward (n ∷ ns) rest = onward (skims n (skim_inside (suc (length ns))) rest) (skim_outward ns)

@@ -3,13 +3,13 @@
 ghost use Rattle.wkb_check.specs.Public.{Checks, IsBounded};
 
 use crate::nested::skip_geometry;
-use crate::place::Place;
+use crate::walk::Walk;
 use wkb_geom::code::WkbType;
 use wkb_geom::{Cause, Header};
 
 /// What stands at the front of the bytes.
 #[derive(Clone, Copy, Debug)]
-pub struct Found {
+pub struct Summary {
     /// Its length.
     pub bytes: usize,
     /// How many parts it has: itself, and its rings and members at every level.
@@ -36,7 +36,7 @@ pub struct Refused {
 /// Checks the geometry at the front of the bytes; what stands behind it is not looked at.
 ///
 /// It accepts and refuses what `read_wkb` does, and takes no memory: nothing it answers tells want of memory.
-pub fn check(buf: &[u8]) -> Result<Found, Refused>
+pub fn check(buf: &[u8]) -> Result<Summary, Refused>
     ensures checks { Checks buf.now result }
     ensures bounded { IsBounded buf.now result }
 {
@@ -50,23 +50,23 @@ pub fn check(buf: &[u8]) -> Result<Found, Refused>
             });
         }
     };
-    let mut place = Place {
+    let mut walk = Walk {
         turns: 0,
         coordinates: 0,
         left: buf.len(),
     };
-    match skip_geometry(header, buf, &mut place) {
-        Ok(rest) => Ok(Found {
+    match skip_geometry(header, buf, &mut walk) {
+        Ok(rest) => Ok(Summary {
             bytes: buf.len() - rest.len(),
-            parts: place.turns + 1,
-            coordinates: place.coordinates,
+            parts: walk.turns + 1,
+            coordinates: walk.coordinates,
             wkb_type: header.wkb_type,
             srid: header.layout().srid(buf),
         }),
         Err(cause) => Err(Refused {
             cause,
-            part: place.turns,
-            offset: buf.len() - place.left,
+            part: walk.turns,
+            offset: buf.len() - walk.left,
         }),
     }
 }

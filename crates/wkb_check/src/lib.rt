@@ -4,7 +4,7 @@
 
 mod answer;
 mod nested;
-mod place;
 mod skip;
+mod walk;
 
-pub use answer::{Found, Refused, check};
+pub use answer::{Refused, Summary, check};

@@ -1,11 +1,11 @@
 //! The loop over open collections, on a fixed stack of counts.
 
 ghost use Rattle.std.specs.Prelude.{◌≡◌, ◌≤◌, length};
-ghost use Rattle.wkb_check.specs.Skims.{body_inside};
-ghost use Rattle.wkb_check.specs.Passes.{Fits, Passes, Begins, IsSettled, open_counts};
+ghost use Rattle.wkb_check.specs.Skims.{skim_body_inside};
+ghost use Rattle.wkb_check.specs.Passes.{FitsCounters, Passes, PassesOrOpens, IsSettled, open_counts};
 
-use crate::place::Place;
-use crate::skip::plain;
+use crate::skip::skip_plain;
+use crate::walk::Walk;
 use wkb_geom::code::WkbType;
 use wkb_geom::{Cause, Header};
 
@@ -27,17 +27,17 @@ impl OpenCounts {
         &mut self,
         header: Header,
         bytes: &'a [u8],
-        place: &mut Place,
+        walk: &mut Walk,
     ) -> Result<&'a [u8], Cause>
         requires depth { self.old.depth ≤ 128 }
         requires len { length self.old.left ≡ 128 }
-        requires here { place.old.left ≡ length bytes.now }
-        requires fits { Fits place.old (body_inside self.old.depth header bytes.now) }
-        ensures begins { Begins (λ rest. rest.now) result
-            (body_inside self.old.depth header bytes.now)
+        requires here { walk.old.left ≡ length bytes.now }
+        requires fits { FitsCounters walk.old (skim_body_inside self.old.depth header bytes.now) }
+        ensures begins { PassesOrOpens (λ rest. rest.now) result
+            (skim_body_inside self.old.depth header bytes.now)
             (open_counts self.old.left self.old.depth) (open_counts self.new.left self.new.depth)
-            place.old place.new }
-        ensures grows { place.old.turns ≤ place.new.turns }
+            walk.old walk.new }
+        ensures grows { walk.old.turns ≤ walk.new.turns }
         ensures depth { self.new.depth ≤ 128 }
         ensures len { length self.new.left ≡ 128 }
     {
@@ -56,7 +56,7 @@ impl OpenCounts {
                     Err(cause) => Err(cause),
                 }
             }
-            wkb_type => plain(wkb_type, layout, bytes, place),
+            wkb_type => skip_plain(wkb_type, layout, bytes, walk),
         }
     }
 
@@ -83,15 +83,11 @@ impl OpenCounts {
 }
 
 /// The bytes after the collection behind this header.
-fn skip_collection<'a>(
-    outermost: Header,
-    buf: &'a [u8],
-    place: &mut Place,
-) -> Result<&'a [u8], Cause>
-    requires here { place.old.left ≡ length buf.now }
-    requires fits { Fits place.old (body_inside 0 outermost buf.now) }
-    ensures { Passes (λ rest. rest.now) result (body_inside 0 outermost buf.now)
-        place.old place.new }
+fn skip_collection<'a>(outermost: Header, buf: &'a [u8], walk: &mut Walk) -> Result<&'a [u8], Cause>
+    requires here { walk.old.left ≡ length buf.now }
+    requires fits { FitsCounters walk.old (skim_body_inside 0 outermost buf.now) }
+    ensures { Passes (λ rest. rest.now) result (skim_body_inside 0 outermost buf.now)
+        walk.old walk.new }
 {
     let mut open = OpenCounts {
         left: [0; 128],
@@ -100,15 +96,15 @@ fn skip_collection<'a>(
     let mut header = outermost;
     let mut bytes = buf;
     loop {
-        match open.skip_or_open(header, bytes, place) {
+        match open.skip_or_open(header, bytes, walk) {
             Ok(rest) => bytes = rest,
             Err(cause) => return Err(cause),
         }
         if !open.close_finished() {
             return Ok(bytes);
         }
-        place.turns += 1;
-        place.left = bytes.len();
+        walk.turns += 1;
+        walk.left = bytes.len();
         header = match Header::read(bytes) {
             Ok(header) => header,
             Err(cause) => return Err(cause),
@@ -122,14 +118,14 @@ fn skip_collection<'a>(
 pub(crate) fn skip_geometry<'a>(
     header: Header,
     buf: &'a [u8],
-    place: &mut Place,
+    walk: &mut Walk,
 ) -> Result<&'a [u8], Cause>
-    requires here { place.old.left ≡ length buf.now }
-    requires fits { Fits place.old (body_inside 0 header buf.now) }
-    ensures { Passes (λ rest. rest.now) result (body_inside 0 header buf.now) place.old place.new }
+    requires here { walk.old.left ≡ length buf.now }
+    requires fits { FitsCounters walk.old (skim_body_inside 0 header buf.now) }
+    ensures { Passes (λ rest. rest.now) result (skim_body_inside 0 header buf.now) walk.old walk.new }
 {
     match header.wkb_type {
-        WkbType::GeometryCollection(_) => skip_collection(header, buf, place),
-        wkb_type => plain(wkb_type, header.layout(), buf, place),
+        WkbType::GeometryCollection(_) => skip_collection(header, buf, walk),
+        wkb_type => skip_plain(wkb_type, header.layout(), buf, walk),
     }
 }

@@ -6,9 +6,9 @@ ghost use Rattle.wkb_geom.specs.Reading.{point_at, line_string_at, ring_at, type
 ghost use Rattle.wkb_check.specs.Skims.{skims, count_at, skim_point, skim_line_string, skim_ring};
 ghost use Rattle.wkb_check.specs.Skims.{skim_polygon, skim_member_body, skim_member, skim_multi_point};
 ghost use Rattle.wkb_check.specs.Skims.{skim_multi, skim_body, skim_too_deep};
-ghost use Rattle.wkb_check.specs.Passes.{Fits, Leaves, Passes};
+ghost use Rattle.wkb_check.specs.Passes.{FitsCounters, Leaves, Passes};
 
-use crate::place::Place;
+use crate::walk::Walk;
 use wkb_geom::code::WkbType;
 use wkb_geom::words::u32_at;
 use wkb_geom::{Cause, Dimension, Endianness, General, Layout};
@@ -73,18 +73,18 @@ fn after_ring(order: Endianness, dimension: Dimension, bytes: &[u8]) -> Result<(
 
 /// The bytes after the point behind this header.
 #[inline]
-pub(crate) fn point<'a>(
+pub(crate) fn skip_point<'a>(
     layout: Layout,
     bytes: &'a [u8],
-    place: &mut Place,
+    walk: &mut Walk,
 ) -> Result<&'a [u8], Cause>
-    requires here { place.old.left ≡ length bytes.now }
-    requires fits { Fits place.old (skim_point layout bytes.now) }
-    ensures { Passes (λ rest. rest.now) result (skim_point layout bytes.now) place.old place.new }
+    requires here { walk.old.left ≡ length bytes.now }
+    requires fits { FitsCounters walk.old (skim_point layout bytes.now) }
+    ensures { Passes (λ rest. rest.now) result (skim_point layout bytes.now) walk.old walk.new }
 {
     match after_point(layout, bytes) {
         Ok(rest) => {
-            place.coordinates += 1;
+            walk.coordinates += 1;
             Ok(rest)
         }
         Err(cause) => Err(cause),
@@ -93,19 +93,19 @@ pub(crate) fn point<'a>(
 
 /// The bytes after the line string behind this header.
 #[inline]
-pub(crate) fn line_string<'a>(
+pub(crate) fn skip_line_string<'a>(
     layout: Layout,
     bytes: &'a [u8],
-    place: &mut Place,
+    walk: &mut Walk,
 ) -> Result<&'a [u8], Cause>
-    requires here { place.old.left ≡ length bytes.now }
-    requires fits { Fits place.old (skim_line_string layout bytes.now) }
+    requires here { walk.old.left ≡ length bytes.now }
+    requires fits { FitsCounters walk.old (skim_line_string layout bytes.now) }
     ensures { Passes (λ rest. rest.now) result (skim_line_string layout bytes.now)
-        place.old place.new }
+        walk.old walk.new }
 {
     match after_line_string(layout, bytes) {
         Ok((count, rest)) => {
-            place.coordinates += count as usize;
+            walk.coordinates += count as usize;
             Ok(rest)
         }
         Err(cause) => Err(cause),
@@ -114,18 +114,18 @@ pub(crate) fn line_string<'a>(
 
 /// The bytes after the ring at the front of the bytes, of a polygon that is laid out so.
 #[inline]
-pub(crate) fn ring<'a>(
+pub(crate) fn skip_ring<'a>(
     layout: Layout,
     bytes: &'a [u8],
-    place: &mut Place,
+    walk: &mut Walk,
 ) -> Result<&'a [u8], Cause>
-    requires here { place.old.left ≡ length bytes.now }
-    requires fits { Fits place.old (skim_ring layout bytes.now) }
-    ensures { Passes (λ rest. rest.now) result (skim_ring layout bytes.now) place.old place.new }
+    requires here { walk.old.left ≡ length bytes.now }
+    requires fits { FitsCounters walk.old (skim_ring layout bytes.now) }
+    ensures { Passes (λ rest. rest.now) result (skim_ring layout bytes.now) walk.old walk.new }
 {
     match after_ring(layout.order, layout.dimension, bytes) {
         Ok((in_ring, rest)) => {
-            place.coordinates += in_ring as usize;
+            walk.coordinates += in_ring as usize;
             Ok(rest)
         }
         Err(cause) => Err(cause),
@@ -134,21 +134,21 @@ pub(crate) fn ring<'a>(
 
 /// The bytes after so many rings.
 #[inline]
-pub(crate) fn rings<'a>(
+pub(crate) fn skip_rings<'a>(
     layout: Layout,
     count: u32,
     bytes: &'a [u8],
-    place: &mut Place,
+    walk: &mut Walk,
 ) -> Result<&'a [u8], Cause>
-    requires fits { Fits place.old (skims count (skim_ring layout) bytes.now) }
+    requires fits { FitsCounters walk.old (skims count (skim_ring layout) bytes.now) }
     ensures { Passes (λ rest. rest.now) result (skims count (skim_ring layout) bytes.now)
-        place.old place.new }
+        walk.old walk.new }
 {
     let mut rest = bytes;
     for _ in 0..count {
-        place.turns += 1;
-        place.left = rest.len();
-        match ring(layout, rest, place) {
+        walk.turns += 1;
+        walk.left = rest.len();
+        match skip_ring(layout, rest, walk) {
             Ok(after) => rest = after,
             Err(cause) => return Err(cause),
         }
@@ -158,80 +158,80 @@ pub(crate) fn rings<'a>(
 
 /// The bytes after the polygon behind this header.
 #[inline]
-pub(crate) fn polygon<'a>(
+pub(crate) fn skip_polygon<'a>(
     layout: Layout,
     bytes: &'a [u8],
-    place: &mut Place,
+    walk: &mut Walk,
 ) -> Result<&'a [u8], Cause>
-    requires here { place.old.left ≡ length bytes.now }
-    requires fits { Fits place.old (skim_polygon layout bytes.now) }
-    ensures { Passes (λ rest. rest.now) result (skim_polygon layout bytes.now) place.old place.new }
+    requires here { walk.old.left ≡ length bytes.now }
+    requires fits { FitsCounters walk.old (skim_polygon layout bytes.now) }
+    ensures { Passes (λ rest. rest.now) result (skim_polygon layout bytes.now) walk.old walk.new }
 {
     match layout.count(bytes) {
-        Ok(count) => rings(layout, count, layout.after_count(bytes), place),
+        Ok(count) => skip_rings(layout, count, layout.after_count(bytes), walk),
         Err(cause) => Err(cause),
     }
 }
 
 /// The bytes after the member of this kind behind its header: a point, a line string or a polygon.
 #[inline]
-pub(crate) fn member_body<'a>(
+pub(crate) fn skip_member_body<'a>(
     kind: u32,
     layout: Layout,
     bytes: &'a [u8],
-    place: &mut Place,
+    walk: &mut Walk,
 ) -> Result<&'a [u8], Cause>
-    requires here { place.old.left ≡ length bytes.now }
-    requires fits { Fits place.old (skim_member_body kind layout bytes.now) }
+    requires here { walk.old.left ≡ length bytes.now }
+    requires fits { FitsCounters walk.old (skim_member_body kind layout bytes.now) }
     ensures { Passes (λ rest. rest.now) result (skim_member_body kind layout bytes.now)
-        place.old place.new }
+        walk.old walk.new }
 {
     if kind == 1 {
-        point(layout, bytes, place)
+        skip_point(layout, bytes, walk)
     } else if kind == 2 {
-        line_string(layout, bytes, place)
+        skip_line_string(layout, bytes, walk)
     } else {
-        polygon(layout, bytes, place)
+        skip_polygon(layout, bytes, walk)
     }
 }
 
 /// The bytes after the member of this kind and dimension.
 #[inline]
-pub(crate) fn member<'a>(
+pub(crate) fn skip_member<'a>(
     kind: u32,
     dimension: Dimension,
     bytes: &'a [u8],
-    place: &mut Place,
+    walk: &mut Walk,
 ) -> Result<&'a [u8], Cause>
-    requires here { place.old.left ≡ length bytes.now }
-    requires fits { Fits place.old (skim_member kind dimension bytes.now) }
+    requires here { walk.old.left ≡ length bytes.now }
+    requires fits { FitsCounters walk.old (skim_member kind dimension bytes.now) }
     ensures { Passes (λ rest. rest.now) result (skim_member kind dimension bytes.now)
-        place.old place.new }
+        walk.old walk.new }
 {
     match Layout::of_member(kind, dimension, bytes) {
-        Ok(layout) => member_body(kind, layout, bytes, place),
+        Ok(layout) => skip_member_body(kind, layout, bytes, walk),
         Err(cause) => Err(cause),
     }
 }
 
 /// The bytes after so many members of this kind and dimension.
 #[inline]
-pub(crate) fn members<'a>(
+pub(crate) fn skip_members<'a>(
     kind: u32,
     dimension: Dimension,
     count: u32,
     bytes: &'a [u8],
-    place: &mut Place,
+    walk: &mut Walk,
 ) -> Result<&'a [u8], Cause>
-    requires fits { Fits place.old (skims count (skim_member kind dimension) bytes.now) }
+    requires fits { FitsCounters walk.old (skims count (skim_member kind dimension) bytes.now) }
     ensures { Passes (λ rest. rest.now) result (skims count (skim_member kind dimension) bytes.now)
-        place.old place.new }
+        walk.old walk.new }
 {
     let mut rest = bytes;
     for _ in 0..count {
-        place.turns += 1;
-        place.left = rest.len();
-        match member(kind, dimension, rest, place) {
+        walk.turns += 1;
+        walk.left = rest.len();
+        match skip_member(kind, dimension, rest, walk) {
             Ok(after) => rest = after,
             Err(cause) => return Err(cause),
         }
@@ -240,15 +240,15 @@ pub(crate) fn members<'a>(
 }
 
 /// The bytes after the multi point behind this header.
-pub(crate) fn multi_point<'a>(
+pub(crate) fn skip_multi_point<'a>(
     layout: Layout,
     bytes: &'a [u8],
-    place: &mut Place,
+    walk: &mut Walk,
 ) -> Result<&'a [u8], Cause>
-    requires here { place.old.left ≡ length bytes.now }
-    requires fits { Fits place.old (skim_multi_point layout bytes.now) }
+    requires here { walk.old.left ≡ length bytes.now }
+    requires fits { FitsCounters walk.old (skim_multi_point layout bytes.now) }
     ensures { Passes (λ rest. rest.now) result (skim_multi_point layout bytes.now)
-        place.old place.new }
+        walk.old walk.new }
 {
     let count = match layout.count(bytes) {
         Ok(count) => count,
@@ -262,34 +262,28 @@ pub(crate) fn multi_point<'a>(
             len: bytes.len(),
         }));
     }
-    members(
-        1,
-        layout.dimension,
-        count,
-        layout.after_count(bytes),
-        place,
-    )
+    skip_members(1, layout.dimension, count, layout.after_count(bytes), walk)
 }
 
 /// The bytes after the multi line string or multi polygon of members of this kind.
-pub(crate) fn multi<'a>(
+pub(crate) fn skip_multi<'a>(
     kind: u32,
     layout: Layout,
     bytes: &'a [u8],
-    place: &mut Place,
+    walk: &mut Walk,
 ) -> Result<&'a [u8], Cause>
-    requires here { place.old.left ≡ length bytes.now }
-    requires fits { Fits place.old (skim_multi kind layout bytes.now) }
+    requires here { walk.old.left ≡ length bytes.now }
+    requires fits { FitsCounters walk.old (skim_multi kind layout bytes.now) }
     ensures { Passes (λ rest. rest.now) result (skim_multi kind layout bytes.now)
-        place.old place.new }
+        walk.old walk.new }
 {
     match layout.count(bytes) {
-        Ok(count) => members(
+        Ok(count) => skip_members(
             kind,
             layout.dimension,
             count,
             layout.after_count(bytes),
-            place,
+            walk,
         ),
         Err(cause) => Err(cause),
     }
@@ -297,25 +291,25 @@ pub(crate) fn multi<'a>(
 
 /// The bytes after the geometry behind this header, which is no collection.
 #[inline]
-pub(crate) fn plain<'a>(
+pub(crate) fn skip_plain<'a>(
     wkb_type: WkbType,
     layout: Layout,
     bytes: &'a [u8],
-    place: &mut Place,
+    walk: &mut Walk,
 ) -> Result<&'a [u8], Cause>
     requires plain { type_kind wkb_type < 7 }
-    requires here { place.old.left ≡ length bytes.now }
-    requires fits { Fits place.old (skim_body skim_too_deep wkb_type layout bytes.now) }
+    requires here { walk.old.left ≡ length bytes.now }
+    requires fits { FitsCounters walk.old (skim_body skim_too_deep wkb_type layout bytes.now) }
     ensures { Passes (λ rest. rest.now) result (skim_body skim_too_deep wkb_type layout bytes.now)
-        place.old place.new }
+        walk.old walk.new }
 {
     match wkb_type {
-        WkbType::Point(_) => point(layout, bytes, place),
-        WkbType::LineString(_) => line_string(layout, bytes, place),
-        WkbType::Polygon(_) => polygon(layout, bytes, place),
-        WkbType::MultiPoint(_) => multi_point(layout, bytes, place),
-        WkbType::MultiLineString(_) => multi(2, layout, bytes, place),
-        WkbType::MultiPolygon(_) => multi(3, layout, bytes, place),
+        WkbType::Point(_) => skip_point(layout, bytes, walk),
+        WkbType::LineString(_) => skip_line_string(layout, bytes, walk),
+        WkbType::Polygon(_) => skip_polygon(layout, bytes, walk),
+        WkbType::MultiPoint(_) => skip_multi_point(layout, bytes, walk),
+        WkbType::MultiLineString(_) => skip_multi(2, layout, bytes, walk),
+        WkbType::MultiPolygon(_) => skip_multi(3, layout, bytes, walk),
         WkbType::GeometryCollection(_) => unreachable!(),
     }
 }

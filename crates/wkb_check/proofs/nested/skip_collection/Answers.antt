@@ -5,7 +5,7 @@ use Rattle.wkb_check.proofs.nested.skip_collection.Goals as goal
 
 pub loop-rest-init : goal.loop-rest-init
 loop-rest-init c = record {
-  reaches = starts _ c.args.outermost c.args.buf.now (tally c.args.place.now);
+  reaches = starts _ c.args.outermost c.args.buf.now (tally c.args.walk.now);
   here = c.requires.here;
   shallow = omega arith;
   len = refl;

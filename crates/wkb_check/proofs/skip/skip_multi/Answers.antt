@@ -1,23 +1,23 @@
 use Rattle.std.proofs.Common.{◌≡◌, subst}
-use Rattle.wkb_check.specs.Passes.{Fits, tally}
+use Rattle.wkb_check.specs.Passes.{FitsCounters, tally}
 use Rattle.wkb_check.specs.Skims.{skim_member, skim_multi}
 unfoldable use Rattle.wkb_check.specs.Skims.{skims}
 use Rattle.wkb_check.proofs.Skimming.{list_cut, list_there}
-use Rattle.wkb_check.proofs.skip.multi.Goals as goal
-use Rattle.wkb_check.proofs.skip.multi.Goals.{After-after_count}
+use Rattle.wkb_check.proofs.skip.skip_multi.Goals as goal
+use Rattle.wkb_check.proofs.skip.skip_multi.Goals.{After-after_count}
 
 is : (c : After-after_count) → skim_multi c.args.kind c.args.layout c.args.bytes.now ≡ skims c.in-Ok.count (skim_member c.args.kind c.args.layout.dimension) c.after_count.result.now
 is c =
     list_there c.args.layout (skim_member c.args.kind c.args.layout.dimension) c.args.bytes.now c.in-Ok.count c.after_count.result.now c.in-Ok.ensures.counted c.in-Ok.ensures.whole
     c.after_count.ensures
 
-pub members-requires : goal.members-requires
-members-requires c = record { fits = subst (Fits c.args.place.now) (is (goal.at.members-requires c).After-after_count) c.requires.fits }
+pub skip_members-requires : goal.skip_members-requires
+skip_members-requires c = record { fits = subst (FitsCounters c.args.walk.now) (is (goal.at.skip_members-requires c).After-after_count) c.requires.fits }
 
 pub returns-in-Ok : goal.returns-in-Ok
-returns-in-Ok c = rw (is (goal.at.returns-in-Ok c).After-after_count) c.members.ensures
+returns-in-Ok c = rw (is (goal.at.returns-in-Ok c).After-after_count) c.skip_members.ensures
 
 pub returns-in-Err : goal.returns-in-Err
 returns-in-Err c =
     rw c.requires.here
-    (list_cut c.args.layout (skim_member c.args.kind c.args.layout.dimension) c.args.bytes.now (tally c.args.place.now) _ c.in-Err.ensures.short.0 c.in-Err.ensures.short.1)
+    (list_cut c.args.layout (skim_member c.args.kind c.args.layout.dimension) c.args.bytes.now (tally c.args.walk.now) _ c.in-Err.ensures.short.0 c.in-Err.ensures.short.1)

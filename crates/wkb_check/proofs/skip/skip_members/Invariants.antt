@@ -1,10 +1,10 @@
 use Rattle.wkb_check.specs.Passes.{tally}
 use Rattle.wkb_check.specs.Skims.{skims, skim_member}
 use Rattle.wkb_check.proofs.Skimming.{Goes}
-use Rattle.wkb_check.proofs.skip.members.Given as goal
+use Rattle.wkb_check.proofs.skip.skip_members.Given as goal
 
 abbrev pub invariant-loop : goal.invariant-loop
 invariant-loop l = record {
-  goes : Goes (skim_member l.kind l.dimension) l.count l.counter l.rest (tally l.fn.place) (tally l.place)
+  goes : Goes (skim_member l.kind l.dimension) l.count l.counter l.rest (tally l.fn.walk) (tally l.walk)
       (skims l.count (skim_member l.kind l.dimension) l.bytes);
 }

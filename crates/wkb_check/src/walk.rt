@@ -2,7 +2,7 @@
 
 /// What was counted, and where the part begins that is looked at.
 #[derive(Clone, Copy, Debug, PartialEq)]
-pub struct Place {
+pub struct Walk {
     /// How many parts were begun inside the outermost geometry.
     pub turns: usize,
     /// How many coordinates were passed.

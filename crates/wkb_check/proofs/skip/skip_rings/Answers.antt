@@ -1,12 +1,12 @@
 use Rattle.std.proofs.Common.{arith}
 use Rattle.wkb_check.proofs.Skimming.{part_within, part_read, part_stops, parts_end}
-use Rattle.wkb_check.proofs.skip.members.Goals as goal
+use Rattle.wkb_check.proofs.skip.skip_rings.Goals as goal
 
-pub overflow_add-place : goal.overflow_add-place
-overflow_add-place c = let w = part_within c.loop-test.true c.loop.invariant.goes in omega (arith, w.turns, c.requires.fits.turns)
+pub overflow_add-walk : goal.overflow_add-walk
+overflow_add-walk c = let w = part_within c.loop-test.true c.loop.invariant.goes in omega (arith, w.turns, c.requires.fits.turns)
 
-pub member-requires-clause-fits : goal.member-requires-clause-fits
-member-requires-clause-fits c =
+pub skip_ring-requires-clause-fits : goal.skip_ring-requires-clause-fits
+skip_ring-requires-clause-fits c =
     let w = part_within c.loop-test.true c.loop.invariant.goes in
     record { turns = omega (arith, w.turns, c.requires.fits.turns); coordinates = omega (arith, w.coordinates, c.requires.fits.coordinates) }
 
