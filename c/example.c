@@ -10,7 +10,8 @@ int main(void) {
   wkb_fault fault;
   wkb_status status = wkb_check(line, sizeof line, &found, &fault);
   if (status != WKB_OK) return 1;
-  printf("kind %d, %d part in %d bytes, SRID %u\n", found.kind, (int)found.parts, (int)found.size, found.srid);
+  printf("kind %d, %d coordinates in %d bytes, SRID %u\n", found.kind, (int)found.coordinates, (int)found.size,
+         found.srid);
 
   wkb_part parts[1];
   status = wkb_parts(line, sizeof line, parts, 1, NULL, NULL);
@@ -27,7 +28,7 @@ int main(void) {
   printf("\n");
 
   status = wkb_check(line, sizeof line - 8, NULL, &fault);
-  printf("%s: part %d would end at %d of %d\n", wkb_status_text(status), (int)fault.part, (int)fault.end,
-         (int)fault.len);
+  printf("%s: part %d, at %d, would end after %d bytes of %d\n", wkb_status_text(status), (int)fault.part,
+         (int)fault.offset, (int)fault.end, (int)fault.len);
   return 0;
 }

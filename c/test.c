@@ -10,9 +10,11 @@
 #include <sys/mman.h>
 #include <unistd.h>
 
-_Static_assert(sizeof(wkb_found) == 24 && offsetof(wkb_found, srid) == 16 && offsetof(wkb_found, width) == 23,
+_Static_assert(sizeof(wkb_found) == 32 && offsetof(wkb_found, coordinates) == 16 && offsetof(wkb_found, srid) == 24 &&
+                   offsetof(wkb_found, width) == 31,
                "found as the library lays it out");
-_Static_assert(sizeof(wkb_fault) == 32 && offsetof(wkb_fault, code) == 24, "fault as the library lays it out");
+_Static_assert(sizeof(wkb_fault) == 40 && offsetof(wkb_fault, offset) == 8 && offsetof(wkb_fault, code) == 32,
+               "fault as the library lays it out");
 _Static_assert(sizeof(wkb_options) == 12 && offsetof(wkb_options, srid) == 8, "options as the library lays them out");
 _Static_assert(sizeof(wkb_part) == 56 && offsetof(wkb_part, srid) == 40 && offsetof(wkb_part, has_srid) == 44 &&
                    offsetof(wkb_part, kind) == 48 && offsetof(wkb_part, order) == 54,
@@ -23,6 +25,7 @@ _Static_assert(sizeof(wkb_status) == 4 && sizeof(bool) == 1, "statuses and truth
  * the C library's. */
 static __thread size_t allowed = SIZE_MAX;
 static __thread long held = 0;
+static __thread size_t asked = 0;  /* the bytes of all blocks */
 void *__real_malloc(size_t size);
 void *__real_realloc(void *block, size_t size);
 void __real_free(void *block);
@@ -35,13 +38,14 @@ static bool is_refused(void) {
 
 void *__wrap_malloc(size_t size) {
   if (is_refused()) return NULL;
-  held++;
+  held++, asked += size;
   return __real_malloc(size);
 }
 
 void *__wrap_realloc(void *block, size_t size) {
   if (is_refused()) return NULL;
   if (block == NULL) held++;
+  asked += size;
   return __real_realloc(block, size);
 }
 
@@ -82,42 +86,50 @@ typedef struct answer {
   wkb_fault fault;
 } answer;
 
-#define NOTHING {0, 0, 0, false, 0, 0, 0}
-#define NO_FAULT {0, 0, 0, 0}
+#define NOTHING {0, 0, 0, 0, false, 0, 0, 0}
+#define NO_FAULT {0, 0, 0, 0, 0}
 
 static const answer ANSWERS[] = {
     {"", WKB_IO_ERROR, NOTHING, NO_FAULT},
     {"02", WKB_INVALID_BYTE_ORDER, NOTHING, NO_FAULT},
     {"01 0100", WKB_IO_ERROR, NOTHING, NO_FAULT},
-    {"01 11000000", WKB_CODE_OUT_OF_RANGE, NOTHING, {0, 0, 0, 17}},
-    {"01 11000000 P", WKB_CODE_OUT_OF_RANGE, NOTHING, {0, 0, 0, 17}},
-    {"01 01000010 P", WKB_CODE_OUT_OF_RANGE, NOTHING, {0, 0, 0, 268435457}},
-    {"01 01000000 P", WKB_OK, {21, 1, 0, false, WKB_POINT, WKB_XY, 2}, NO_FAULT},
-    {"01 01000000 P ffffffff", WKB_OK, {21, 1, 0, false, WKB_POINT, WKB_XY, 2}, NO_FAULT},
-    {"01 e9030020 e6100000 P 0000000000000840", WKB_OK, {33, 1, 4326, true, WKB_POINT, WKB_XYZ, 3}, NO_FAULT},
-    {"01 01000000 000000000000f03f", WKB_SHORT_POINT, NOTHING, {0, 21, 13, 0}},
-    {"01 01000020 P", WKB_SHORT_POINT, NOTHING, {0, 25, 21, 0}},
-    {"01 02000000 0a000000 P", WKB_SHORT_LINE_STRING, NOTHING, {0, 169, 25, 0}},
-    {"01 02000000 ffffffff", WKB_SHORT_LINE_STRING, NOTHING, {0, 68719476729, 9, 0}},
+    {"01 11000000", WKB_CODE_OUT_OF_RANGE, NOTHING, {0, 0, 0, 0, 17}},
+    {"01 11000000 P", WKB_CODE_OUT_OF_RANGE, NOTHING, {0, 0, 0, 0, 17}},
+    {"01 01000010 P", WKB_CODE_OUT_OF_RANGE, NOTHING, {0, 0, 0, 0, 268435457}},
+    {"01 01000000 P", WKB_OK, {21, 1, 1, 0, false, WKB_POINT, WKB_XY, 2}, NO_FAULT},
+    {"01 01000000 P ffffffff", WKB_OK, {21, 1, 1, 0, false, WKB_POINT, WKB_XY, 2}, NO_FAULT},
+    {"01 e9030020 e6100000 P 0000000000000840", WKB_OK, {33, 1, 1, 4326, true, WKB_POINT, WKB_XYZ, 3}, NO_FAULT},
+    {"01 01000000 000000000000f03f", WKB_SHORT_POINT, NOTHING, {0, 0, 21, 13, 0}},
+    {"01 01000020 P", WKB_SHORT_POINT, NOTHING, {0, 0, 25, 21, 0}},
+    {"01 02000000 0a000000 P", WKB_SHORT_LINE_STRING, NOTHING, {0, 0, 169, 25, 0}},
+    {"01 02000000 ffffffff", WKB_SHORT_LINE_STRING, NOTHING, {0, 0, 68719476729, 9, 0}},
     {"00 00000bba 00000001 3ff0000000000000 4000000000000000 4008000000000000 4010000000000000", WKB_OK,
-     {41, 1, 0, false, WKB_LINE_STRING, WKB_XYZM, 4}, NO_FAULT},
-    {"01 03000000 02000000 01000000 P 00000000", WKB_OK, {33, 3, 0, false, WKB_POLYGON, WKB_XY, 2}, NO_FAULT},
-    {"01 03000000 01000000 04000000 P", WKB_SHORT_LINEAR_RING, NOTHING, {1, 68, 20, 0}},
+     {41, 1, 1, 0, false, WKB_LINE_STRING, WKB_XYZM, 4}, NO_FAULT},
+    {"01 03000000 02000000 01000000 P 00000000", WKB_OK, {33, 3, 1, 0, false, WKB_POLYGON, WKB_XY, 2}, NO_FAULT},
+    {"01 03000000 01000000 04000000 P", WKB_SHORT_LINEAR_RING, NOTHING, {1, 9, 68, 20, 0}},
+    {"01 03000000 ffffffff 01000000 P", WKB_IO_ERROR, NOTHING, {2, 29, 0, 0, 0}},
     {"01 04000000 01000000 00 00000001 3ff0000000000000 4000000000000000", WKB_OK,
-     {30, 2, 0, false, WKB_MULTI_POINT, WKB_XY, 2}, NO_FAULT},
-    {"01 04000000 01000000 00 20000001 3ff0000000000000 4000000000000000", WKB_INCORRECT_TYPE, NOTHING, {1, 0, 0, 0}},
-    {"01 04000000 01000000", WKB_SHORT_MULTI_POINT, NOTHING, {0, 30, 9, 0}},
+     {30, 2, 1, 0, false, WKB_MULTI_POINT, WKB_XY, 2}, NO_FAULT},
+    {"01 04000000 01000000 00 20000001 3ff0000000000000 4000000000000000", WKB_INCORRECT_TYPE, NOTHING,
+     {1, 9, 0, 0, 0}},
+    {"01 04000000 01000000", WKB_SHORT_MULTI_POINT, NOTHING, {0, 0, 30, 9, 0}},
     {"01 05000000 01000000 01 02000020 e6100000 01000000 P", WKB_OK,
-     {38, 2, 0, false, WKB_MULTI_LINE_STRING, WKB_XY, 2}, NO_FAULT},
-    {"01 05000000 01000000 01 ea030000 00000000", WKB_INCORRECT_TYPE, NOTHING, {1, 0, 0, 0}},
-    {"01 06000000 01000000 01 08000000 00000000", WKB_CODE_OUT_OF_RANGE, NOTHING, {1, 0, 0, 8}},
-    {"01 07000000 ffffffff 01 07000000 ffffffff", WKB_IO_ERROR, NOTHING, {2, 0, 0, 0}},
+     {38, 2, 1, 0, false, WKB_MULTI_LINE_STRING, WKB_XY, 2}, NO_FAULT},
+    {"01 05000000 01000000 01 ea030000 00000000", WKB_INCORRECT_TYPE, NOTHING, {1, 9, 0, 0, 0}},
+    {"01 06000000 01000000 01 08000000 00000000", WKB_CODE_OUT_OF_RANGE, NOTHING, {1, 9, 0, 0, 8}},
+    {"01 06000000 02000000 01 03000000 01000000 01000000 P 01 03000000 01000000 02000000 P", WKB_SHORT_LINEAR_RING,
+     NOTHING, {4, 47, 36, 20, 0}},
+    {"01 07000000 ffffffff 01 07000000 ffffffff", WKB_IO_ERROR, NOTHING, {2, 18, 0, 0, 0}},
     {"01 07000000 02000000 01 01000020 e6100000 P 01 07000000 01000000 01 01000000 P", WKB_OK,
-     {64, 4, 0, false, WKB_GEOMETRY_COLLECTION, WKB_XY, 2}, NO_FAULT},
+     {64, 4, 2, 0, false, WKB_GEOMETRY_COLLECTION, WKB_XY, 2}, NO_FAULT},
 };
 enum { ANSWER_COUNT = sizeof ANSWERS / sizeof ANSWERS[0] };
 
 static const wkb_options LITTLE_ISO = {WKB_LITTLE_ENDIAN, WKB_ISO, 0};
+
+static bool is_same_fault(const wkb_fault *a, const wkb_fault *b) {
+  return a->part == b->part && a->offset == b->offset && a->end == b->end && a->len == b->len && a->code == b->code;
+}
 
 /* Each input answers what it must, and writes nothing else. */
 static void check_is_as_told(const answer *a, const uint8_t *bytes, size_t len) {
@@ -128,26 +140,22 @@ static void check_is_as_told(const answer *a, const uint8_t *bytes, size_t len) 
   expect(wkb_check(bytes, len, &found, &fault) == a->status, "the status", a->input);
   if (a->status == WKB_OK) {
     expect(found.size == a->found.size && found.parts == a->found.parts, "the size and the parts", a->input);
+    expect(found.coordinates == a->found.coordinates, "the coordinates", a->input);
     expect(found.kind == a->found.kind && found.dimension == a->found.dimension && found.width == a->found.width,
            "the kind and the dimension", a->input);
     expect(found.has_srid == a->found.has_srid && found.srid == a->found.srid, "the SRID", a->input);
     expect(memcmp(&fault, &fault_before, sizeof fault) == 0, "a fault was written", a->input);
   } else {
-    expect(fault.part == a->fault.part && fault.end == a->fault.end && fault.len == a->fault.len &&
-               fault.code == a->fault.code, "the fault", a->input);
+    expect(is_same_fault(&fault, &a->fault), "the fault", a->input);
     expect(memcmp(&found, &found_before, sizeof found) == 0, "something found was written", a->input);
   }
-}
-
-static bool is_same_fault(const wkb_fault *a, const wkb_fault *b) {
-  return a->part == b->part && a->end == b->end && a->len == b->len && a->code == b->code;
 }
 
 /* The table has as many parts as were told, each inside the one that it belongs to; without room or with a refusal it
  * stays as it was. */
 static void parts_are_as_told(const answer *a, const uint8_t *bytes, size_t len) {
   wkb_part parts[8], before[8];
-  wkb_fault fault = {0, 0, 0, 0};
+  wkb_fault fault = NO_FAULT;
   uint64_t count = 77, wanted = a->found.parts;
   memset(parts, 0x5a, sizeof parts), memset(before, 0x5a, sizeof before);
   if (a->status != WKB_OK) {
@@ -182,7 +190,7 @@ static void refusal_leaves_outputs(const answer *a, const uint8_t *bytes, size_t
   uint8_t out[64], before[64];
   uint64_t size = 77;
   bool equal = true;
-  wkb_fault fault = {0, 0, 0, 0}, other = {0, 0, 0, 0};
+  wkb_fault fault = NO_FAULT, other = NO_FAULT;
   uint32_t which = 0;
   memset(out, 0x5a, sizeof out), memset(before, 0x5a, sizeof before);
   if (a->status == WKB_OK) {
@@ -236,6 +244,122 @@ static void columns_are_checked(void) {
     expect(statuses[i] == (i == 10 ? WKB_NULL_ROW : ANSWERS[i].status), "a row beside a null one", ANSWERS[i].input);
   for (size_t i = rows; i < rows + 4; i++) expect(statuses[i] == WKB_BAD_OFFSETS, "offsets", "");
   wkb_column_check(NULL, 0, NULL, 0, NULL, NULL);
+}
+
+/* The column of all inputs, and behind it a null row and one with bad offsets. */
+enum { COLUMN_ROWS = ANSWER_COUNT + 2 };
+typedef struct column {
+  uint8_t data[2048], validity[(COLUMN_ROWS + 7) / 8];
+  int64_t offsets[COLUMN_ROWS + 1];
+} column;
+
+static size_t fill(column *c) {
+  c->offsets[0] = 0;
+  for (size_t i = 0; i < ANSWER_COUNT; i++)
+    c->offsets[i + 1] = c->offsets[i] + (int64_t)spelled(ANSWERS[i].input, c->data + c->offsets[i]);
+  int64_t size = c->offsets[ANSWER_COUNT];
+  c->offsets[ANSWER_COUNT + 1] = size, c->offsets[ANSWER_COUNT + 2] = size + 1;
+  memset(c->validity, 0xff, sizeof c->validity);
+  c->validity[ANSWER_COUNT / 8] &= (uint8_t)~(1 << ANSWER_COUNT % 8);
+  return (size_t)size;
+}
+
+/* The status that a row of this column has where its items have room, or not. */
+static wkb_status status_of(size_t row, bool has_room) {
+  if (row == ANSWER_COUNT) return WKB_NULL_ROW;
+  if (row > ANSWER_COUNT) return WKB_BAD_OFFSETS;
+  return ANSWERS[row].status == WKB_OK && !has_room ? WKB_NO_ROOM : ANSWERS[row].status;
+}
+
+/* Each row's table stands behind those before it, as far as there is room; else ends and statuses alone change. */
+static void columns_are_listed(void) {
+  static column c;
+  static wkb_part parts[64], before[64];
+  uint64_t ends[COLUMN_ROWS], total = 0;
+  uint8_t statuses[COLUMN_ROWS];
+  size_t size = fill(&c);
+  for (size_t i = 0; i < ANSWER_COUNT; i++) total += ANSWERS[i].found.parts;
+  for (size_t room = 0; room <= total + 1; room++) {
+    memset(parts, 0x5a, sizeof parts), memset(before, 0x5a, sizeof before);
+    uint64_t all = wkb_column_parts(c.data, size, c.offsets, COLUMN_ROWS, c.validity, room ? parts : NULL, room, ends,
+                                    statuses);
+    expect(all == total && ends[COLUMN_ROWS - 1] == total, "all parts", "");
+    uint64_t start = 0, put = 0;
+    for (size_t i = 0; i < COLUMN_ROWS; i++) {
+      const char *input = i < ANSWER_COUNT ? ANSWERS[i].input : "";
+      uint64_t count = i < ANSWER_COUNT ? ANSWERS[i].found.parts : 0, own_count = 0;
+      expect(statuses[i] == status_of(i, start + count <= room), "the status of a table", input);
+      expect(ends[i] == start + count, "the end of a table", input);
+      if (statuses[i] == WKB_OK) {
+        wkb_part own[8];
+        size_t len = (size_t)(c.offsets[i + 1] - c.offsets[i]);
+        expect(wkb_parts(c.data + c.offsets[i], len, own, 8, &own_count, NULL) == WKB_OK, "a row's own table", input);
+        expect(own_count == count && memcmp(parts + start, own, count * sizeof own[0]) == 0, "a row's table", input);
+        put = ends[i];
+      }
+      start = ends[i];
+    }
+    expect(memcmp(parts + put, before, (64 - put) * sizeof parts[0]) == 0, "more parts were written", "");
+  }
+  expect(wkb_column_parts(NULL, 0, NULL, 0, NULL, NULL, 0, NULL, NULL) == 0, "no rows", "");
+}
+
+/* So does each row's encoding. */
+static void columns_are_written(void) {
+  static const wkb_options OPTIONS[] = {{WKB_BIG_ENDIAN, WKB_EWKB_WITH_SRID, 4326}, {WKB_LITTLE_ENDIAN, 9, 0}};
+  static column c;
+  static uint8_t out[2048], before[2048];
+  uint64_t ends[COLUMN_ROWS];
+  uint8_t statuses[COLUMN_ROWS];
+  size_t size = fill(&c);
+  memset(before, 0x5a, sizeof before);
+  uint64_t total =
+      wkb_column_write(c.data, size, c.offsets, COLUMN_ROWS, c.validity, &OPTIONS[0], NULL, 0, ends, statuses);
+  for (size_t room = 0; room <= total + 1; room++) {
+    memset(out, 0x5a, sizeof out);
+    uint64_t all =
+        wkb_column_write(c.data, size, c.offsets, COLUMN_ROWS, c.validity, &OPTIONS[0], out, room, ends, statuses);
+    expect(all == total, "all bytes", "");
+    uint64_t start = 0, put = 0;
+    for (size_t i = 0; i < COLUMN_ROWS; i++) {
+      const char *input = i < ANSWER_COUNT ? ANSWERS[i].input : "";
+      expect(statuses[i] == status_of(i, ends[i] <= room), "the status of an encoding", input);
+      bool is_there = statuses[i] == WKB_OK || statuses[i] == WKB_NO_ROOM;
+      expect(is_there ? ends[i] > start : ends[i] == start, "the end of an encoding", input);
+      if (statuses[i] == WKB_OK) {
+        uint8_t own[128];
+        uint64_t own_size = 0;
+        size_t len = (size_t)(c.offsets[i + 1] - c.offsets[i]);
+        wkb_status status = wkb_write(c.data + c.offsets[i], len, &OPTIONS[0], own, sizeof own, &own_size, NULL);
+        expect(status == WKB_OK, "a row's own encoding", input);
+        expect(own_size == ends[i] - start && memcmp(out + start, own, own_size) == 0, "a row's encoding", input);
+        put = ends[i];
+      }
+      start = ends[i];
+    }
+    expect(memcmp(out + put, before, sizeof out - put) == 0, "more bytes were written", "");
+  }
+  total = wkb_column_write(c.data, size, c.offsets, COLUMN_ROWS, c.validity, &OPTIONS[1], out, sizeof out, ends,
+                           statuses);
+  expect(total == 0 && statuses[0] == WKB_UNKNOWN_OPTION && statuses[ANSWER_COUNT] == WKB_NULL_ROW, "no option", "");
+  expect(wkb_column_write(NULL, 0, NULL, 0, NULL, NULL, NULL, 0, NULL, NULL) == 0, "no rows", "");
+}
+
+/* Where malloc answers null, the rows that need it say so, and the others are as they were. */
+static void columns_without_memory(void) {
+  static column c;
+  static wkb_part parts[64];
+  uint64_t ends[COLUMN_ROWS];
+  uint8_t statuses[COLUMN_ROWS];
+  size_t size = fill(&c);
+  allowed = 0;
+  uint64_t total = wkb_column_parts(c.data, size, c.offsets, COLUMN_ROWS, c.validity, parts, 64, ends, statuses);
+  allowed = SIZE_MAX;
+  expect(total == 0, "no table without memory", "");
+  for (size_t i = 0; i < COLUMN_ROWS; i++) {
+    wkb_status wanted = status_of(i, true);
+    expect(statuses[i] == (wanted == WKB_OK ? WKB_NO_MEMORY : wanted), "a row without memory", "");
+  }
 }
 
 /* Each status has a text of its own. */
@@ -330,16 +454,71 @@ static size_t refused_in_turn(call called, const uint8_t *bytes, size_t len) {
 static void memory_is_refused(void) {
   uint8_t bytes[128];
   for (int i = 0; i < ANSWER_COUNT; i++) {
-    if (ANSWERS[i].status != WKB_OK) continue;
     size_t len = spelled(ANSWERS[i].input, bytes);
+    allowed = 0;
+    expect(checked(bytes, len) == ANSWERS[i].status, "a check without memory", ANSWERS[i].input);
+    if (ANSWERS[i].status != WKB_OK) {
+      expect(written(bytes, len) == ANSWERS[i].status && listed(bytes, len) == ANSWERS[i].status &&
+                 compared(bytes, len) == ANSWERS[i].status, "a refusal without memory", ANSWERS[i].input);
+      allowed = SIZE_MAX;
+      continue;
+    }
+    allowed = SIZE_MAX;
     uint8_t kind = ANSWERS[i].found.kind;
-    bool takes_none = kind == WKB_POINT || kind == WKB_LINE_STRING || kind == WKB_MULTI_POINT;
-    size_t blocks = refused_in_turn(checked, bytes, len);
-    expect(takes_none ? blocks == 0 : blocks > 0, "blocks of a check", ANSWERS[i].input);
-    expect(refused_in_turn(written, bytes, len) > blocks, "blocks of a text", ANSWERS[i].input);
-    expect(refused_in_turn(listed, bytes, len) > blocks, "blocks of a table", ANSWERS[i].input);
-    expect(refused_in_turn(compared, bytes, len) > 2 * blocks, "blocks of a comparison", ANSWERS[i].input);
+    size_t lists = kind == WKB_POINT || kind == WKB_LINE_STRING || kind == WKB_MULTI_POINT ? 0 : 1;
+    expect(refused_in_turn(written, bytes, len) > lists, "blocks of an encoding", ANSWERS[i].input);
+    expect(refused_in_turn(listed, bytes, len) > lists, "blocks of a table", ANSWERS[i].input);
+    expect(refused_in_turn(compared, bytes, len) > 2 * lists, "blocks of a comparison", ANSWERS[i].input);
   }
+}
+
+/* Puts a geometry of this kind that has so many parts of these bytes. */
+static size_t many(uint8_t kind, uint32_t count, const char *part, uint8_t *bytes) {
+  uint8_t header[9] = {1, kind, 0, 0, 0, (uint8_t)count, (uint8_t)(count >> 8), (uint8_t)(count >> 16), 0};
+  size_t len = sizeof header;
+  memcpy(bytes, header, len);
+  for (uint32_t i = 0; i < count; i++) len += spelled(part, bytes + len);
+  return len;
+}
+
+/* Where parts are as small as they can be, no more memory is asked for than the header says. */
+static void memory_is_bounded(void) {
+  enum { COUNT = 10000 };
+  static const struct {
+    uint8_t kind;
+    const char *part;
+  } SMALL[] = {{WKB_POLYGON, "00000000"},
+               {WKB_MULTI_POINT, "01 01000000 P"},
+               {WKB_MULTI_LINE_STRING, "01 02000000 00000000"},
+               {WKB_MULTI_POLYGON, "01 03000000 00000000"},
+               {WKB_MULTI_POLYGON, "01 03000000 01000000 00000000"},
+               {WKB_MULTI_POLYGON, "01 03000000 03000000 00000000 00000000 00000000"},
+               {WKB_GEOMETRY_COLLECTION, "01 02000000 00000000"},
+               {WKB_GEOMETRY_COLLECTION, "01 07000000 00000000"},
+               {WKB_GEOMETRY_COLLECTION, "01 07000000 01000000 01 03000000 00000000"},
+               {WKB_GEOMETRY_COLLECTION, "01 03000000 01000000 00000000"}};
+  uint8_t *bytes = malloc(9 + 32 * COUNT), *out = malloc(9 + 32 * COUNT + 4);
+  expect(bytes != NULL && out != NULL, "memory", "");
+  for (size_t i = 0; i < sizeof SMALL / sizeof SMALL[0]; i++) {
+    size_t len = many(SMALL[i].kind, COUNT, SMALL[i].part, bytes);
+    uint64_t size = 0, count = 0;
+    asked = 0;
+    expect(wkb_check(bytes, len, NULL, NULL) == WKB_OK && asked == 0, "the memory of a check", SMALL[i].part);
+    expect(wkb_parts(bytes, len, NULL, 0, &count, NULL) == WKB_NO_ROOM && asked == 0, "of a number", SMALL[i].part);
+    wkb_part *parts = malloc(count * sizeof *parts);
+    expect(parts != NULL, "memory", "");
+    asked = 0;
+    expect(wkb_parts(bytes, len, parts, count, &count, NULL) == WKB_OK, "a table", SMALL[i].part);
+    expect(asked <= 16 * len + count * sizeof *parts, "the memory of a table", SMALL[i].part);
+    free(parts);
+    asked = 0;
+    expect(wkb_write(bytes, len, &LITTLE_ISO, NULL, 0, &size, NULL) == WKB_NO_ROOM, "no room", SMALL[i].part);
+    expect(asked <= 16 * len, "the memory of a size", SMALL[i].part);
+    asked = 0;
+    expect(wkb_write(bytes, len, &LITTLE_ISO, out, len + 4, &size, NULL) == WKB_OK, "written", SMALL[i].part);
+    expect(asked <= 16 * len + size, "the memory of an encoding", SMALL[i].part);
+  }
+  free(bytes), free(out);
 }
 
 /* All inputs many times over, as each of several threads does. */
@@ -497,12 +676,16 @@ int main(void) {
   parts_are_listed();
   null_is_taken();
   columns_are_checked();
+  columns_are_listed();
+  columns_are_written();
+  columns_without_memory();
   statuses_are_told();
   printf("each worked case is answered as it must be\n");
   nothing_is_read_behind();
   printf("no byte after the input is read, and refusals leave what they were lent\n");
   memory_is_refused();
-  printf("each block of memory refused in turn is told\n");
+  memory_is_bounded();
+  printf("each block of memory refused in turn is told, and a refused input asks for none\n");
   side_by_side();
   printf("calls run side by side\n");
   return 0;

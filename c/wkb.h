@@ -7,10 +7,10 @@
  * What a call doesn't write stays as it was.
  *
  * Calls may run side by side: there is no static data. No call may be made from a signal handler, or in the forked
- * child of a process with threads. Memory is asked for by malloc and given back before the call returns: at most 840
- * bytes for each byte of BUF, hardly any of which is touched where counts claim more than stands there, and the bytes
- * of the table or the encoding. Numbers in BUF may stand in either byte order and at any address, those of the structs
- * are the machine's. */
+ * child of a process with threads. wkb_check and wkb_column_check take no memory. The other calls check first, so that
+ * a refused input takes none either, whatever its counts claim. Then they ask malloc, and give back before they return:
+ * at most 16 bytes for each byte of BUF, and the bytes of the table or the encoding. Numbers in BUF may stand in either
+ * byte order and at any address, those of the structs are the machine's. */
 #ifndef WKB_H
 #define WKB_H
 
@@ -32,7 +32,7 @@ typedef enum wkb_status {
   WKB_NO_MEMORY = 1,                /* malloc answered null */
   WKB_NO_ROOM = 2,                  /* ROOM is less than *SIZE or *COUNT tells */
   WKB_UNKNOWN_OPTION = 3,           /* the options name no order or no form */
-  WKB_SIZE_OVERFLOW = 4,            /* the encoding would be longer than SIZE_MAX */
+  WKB_SIZE_OVERFLOW = 4,            /* the encoding would be longer than SIZE_MAX: no call answers it, since none is */
   WKB_IO_ERROR = 5,                 /* the input ends inside a header or before a count */
   WKB_INVALID_BYTE_ORDER = 6,       /* an order byte is neither 0 nor 1 */
   WKB_CODE_OUT_OF_RANGE = 7,        /* a code is not in the table: code */
@@ -75,21 +75,23 @@ typedef enum wkb_form {
 
 /* The geometry at the front of the input. */
 typedef struct wkb_found {
-  uint64_t size;       /* its bytes; what stands after them was not looked at */
-  uint64_t parts;      /* itself, and its rings and members at every level */
-  uint32_t srid;       /* its own SRID, or 0 */
+  uint64_t size;         /* its bytes; what stands after them was not looked at */
+  uint64_t parts;        /* itself, and its rings and members at every level */
+  uint64_t coordinates;  /* how many these have; a point has one, an empty one of not-a-numbers */
+  uint32_t srid;         /* its own SRID, or 0 */
   bool     has_srid;
-  uint8_t  kind;       /* a wkb_kind */
-  uint8_t  dimension;  /* a wkb_dimension */
-  uint8_t  width;      /* the words (doubles) of a coordinate: 2, 3 or 4 */
+  uint8_t  kind;         /* a wkb_kind */
+  uint8_t  dimension;    /* a wkb_dimension */
+  uint8_t  width;        /* the words (doubles) of a coordinate: 2, 3 or 4 */
 } wkb_found;
 
-/* The part that is refused. A short part begins at the input's length - len. */
+/* The part that is refused. */
 typedef struct wkb_fault {
-  uint64_t part;  /* how many parts stand before it, in preorder: 0 is the whole geometry */
-  uint64_t end;   /* of WKB_SHORT_..: where it would end, counted from its own first byte; else 0 */
-  uint64_t len;   /* of WKB_SHORT_..: where the input ends, counted likewise; else 0 */
-  uint32_t code;  /* of WKB_CODE_OUT_OF_RANGE: all bits of the code; else 0 */
+  uint64_t part;    /* how many parts stand before it, in preorder: 0 is the whole geometry */
+  uint64_t offset;  /* where it begins, counted from the front of the input, whatever the status */
+  uint64_t end;     /* of WKB_SHORT_..: where it would end, counted from its own first byte; else 0 */
+  uint64_t len;     /* of WKB_SHORT_..: where the input ends, counted likewise; else 0 */
+  uint32_t code;    /* of WKB_CODE_OUT_OF_RANGE: all bits of the code; else 0 */
 } wkb_fault;
 
 typedef struct wkb_options {
@@ -126,6 +128,12 @@ wkb_status wkb_raw_parts(const uint8_t *buf, size_t len, wkb_part *parts, size_t
 
 void wkb_raw_column_check(const uint8_t *data, size_t size, const uint64_t *offsets, size_t offset_count,
                           const uint8_t *validity, size_t validity_size, uint8_t *statuses, size_t rows);
+void wkb_raw_column_parts(const uint8_t *data, size_t size, const uint64_t *offsets, size_t offset_count,
+                          const uint8_t *validity, size_t validity_size, wkb_part *parts, size_t room, uint64_t *ends,
+                          size_t end_count, uint8_t *statuses, size_t rows);
+void wkb_raw_column_write(const uint8_t *data, size_t size, const uint64_t *offsets, size_t offset_count,
+                          const uint8_t *validity, size_t validity_size, const wkb_options *options, uint8_t *out,
+                          size_t room, uint64_t *ends, size_t end_count, uint8_t *statuses, size_t rows);
 
 /* The bytes that are lent, or one byte in place of none. */
 static inline const uint8_t *wkb_lent(const void *buf, size_t len) {
@@ -134,8 +142,7 @@ static inline const uint8_t *wkb_lent(const void *buf, size_t len) {
 }
 
 /* Whether a geometry of the grammar stands at the front of the input, with at most 128 collections inside one
- * another. WKB_OK writes FOUND, a refusal writes FAULT, and WKB_NO_MEMORY neither. It takes no memory for a point, a
- * line string or a multi point. */
+ * another. WKB_OK writes FOUND, a refusal writes FAULT. It takes no memory, so it never answers WKB_NO_MEMORY. */
 static inline wkb_status wkb_check(const void *buf, size_t len, wkb_found *found, wkb_fault *fault) {
   wkb_found found_here;
   wkb_fault fault_here;
@@ -143,9 +150,9 @@ static inline wkb_status wkb_check(const void *buf, size_t len, wkb_found *found
 }
 
 /* The one encoding of the input's geometry under the options. WKB_OK: it stands at the front of OUT, and *SIZE is its
- * length. WKB_NO_ROOM: *SIZE is its length, which is more than ROOM; LEN + 4 is always room enough. WKB_UNKNOWN_OPTION
- * wherever the options have no meaning, whatever the input. A refusal writes FAULT. Any other status leaves *SIZE and
- * FAULT as they were, and any but WKB_OK leaves OUT as it was. */
+ * length. WKB_NO_ROOM: *SIZE is its length, which is more than ROOM, and nothing was composed; it is never more than
+ * LEN + 4. WKB_UNKNOWN_OPTION wherever the options have no meaning, whatever the input. A refusal writes FAULT. Any
+ * other status leaves *SIZE and FAULT as they were, and any but WKB_OK leaves OUT as it was. */
 static inline wkb_status wkb_write(const void *buf, size_t len, const wkb_options *options, void *out, size_t room,
                                    uint64_t *size, wkb_fault *fault) {
   uint8_t out_here = 0;
@@ -181,8 +188,8 @@ static inline wkb_status wkb_parts(const void *buf, size_t len, wkb_part *parts,
 
 /* What wkb_check answers of each row of a column as Arrow has it, a byte a row in STATUSES. Row i has the bytes of DATA
  * (of which there are SIZE) from offsets[i] up to offsets[i + 1], so there is one offset more than there are rows.
- * VALIDITY has a bit for each row, from the lowest of the first byte on, and is null where no row is null. A null row is
- * WKB_NULL_ROW, and one whose offsets fall or pass the end of DATA is WKB_BAD_OFFSETS: neither is read. No row stops
+ * VALIDITY has a bit for each row, from the lowest of the first byte on, and is null where no row is null. A null row
+ * is WKB_NULL_ROW, and one whose offsets fall or pass the end of DATA is WKB_BAD_OFFSETS: neither is read. No row stops
  * the others. */
 static inline void wkb_column_check(const void *data, size_t size, const int64_t *offsets, size_t rows,
                                     const void *validity, uint8_t *statuses) {
@@ -190,6 +197,38 @@ static inline void wkb_column_check(const void *data, size_t size, const int64_t
   size_t validity_size = validity ? (rows + 7) / 8 : 0;
   wkb_raw_column_check(wkb_lent(data, size), size, (const uint64_t *)offsets, rows + 1,
                        wkb_lent(validity, validity_size), validity_size, statuses, rows);
+}
+
+/* What wkb_parts answers of each row of such a column, the tables one behind another in PARTS: that of row i ends at
+ * ends[i], and begins at ends[i - 1], or at 0 where i is 0. Offsets in it are counted from the row's own front.
+ * STATUSES has a byte a row, ENDS a number a row. A row without a table ends where it begins. WKB_NO_ROOM: the table
+ * would end at ends[i], which is more than ROOM. Answers the last end, 0 without rows: with so much room each row has
+ * its table. No row stops the others, and behind the last table that was put PARTS stays as it was. */
+static inline uint64_t wkb_column_parts(const void *data, size_t size, const int64_t *offsets, size_t rows,
+                                        const void *validity, wkb_part *parts, size_t room, uint64_t *ends,
+                                        uint8_t *statuses) {
+  wkb_part parts_here;
+  if (rows == 0) return 0;
+  size_t validity_size = validity ? (rows + 7) / 8 : 0;
+  wkb_raw_column_parts(wkb_lent(data, size), size, (const uint64_t *)offsets, rows + 1,
+                       wkb_lent(validity, validity_size), validity_size, room == 0 ? &parts_here : parts, room, ends,
+                       rows, statuses, rows);
+  return ends[rows - 1];
+}
+
+/* What wkb_write answers of each row of such a column under the options, the encodings one behind another in OUT, with
+ * ends, statuses and the answer as wkb_column_parts has them. Where the options have no meaning each row that is not
+ * null and lies in DATA is WKB_UNKNOWN_OPTION. */
+static inline uint64_t wkb_column_write(const void *data, size_t size, const int64_t *offsets, size_t rows,
+                                        const void *validity, const wkb_options *options, void *out, size_t room,
+                                        uint64_t *ends, uint8_t *statuses) {
+  uint8_t out_here = 0;
+  if (rows == 0) return 0;
+  size_t validity_size = validity ? (rows + 7) / 8 : 0;
+  wkb_raw_column_write(wkb_lent(data, size), size, (const uint64_t *)offsets, rows + 1,
+                       wkb_lent(validity, validity_size), validity_size, options,
+                       room == 0 ? &out_here : (uint8_t *)out, room, ends, rows, statuses, rows);
+  return ends[rows - 1];
 }
 
 /* Word N of coordinate I of a ring, a point or a line string, where I is below its count and N below its width. It is

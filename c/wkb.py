@@ -38,6 +38,7 @@ class Found(ctypes.Structure):
     _fields_ = [
         ("size", ctypes.c_uint64),
         ("parts", ctypes.c_uint64),
+        ("coordinates", ctypes.c_uint64),
         ("srid", ctypes.c_uint32),
         ("has_srid", ctypes.c_bool),
         ("kind", ctypes.c_uint8),
@@ -51,6 +52,7 @@ class Fault(ctypes.Structure):
 
     _fields_ = [
         ("part", ctypes.c_uint64),
+        ("offset", ctypes.c_uint64),
         ("end", ctypes.c_uint64),
         ("len", ctypes.c_uint64),
         ("code", ctypes.c_uint32),
@@ -86,7 +88,7 @@ class Refused(ValueError):
 
     def __init__(self, status, fault, which=1):
         self.status, self.fault, self.which = Status(status), fault, which
-        text = f"{self.status.name} in part {fault.part}" + (" of the second" if which == 2 else "")
+        text = f"{self.status.name} in part {fault.part}, at {fault.offset}" + (" of the second" if which == 2 else "")
         if self.status == Status.CODE_OUT_OF_RANGE:
             text += f": code {fault.code}"
         if self.status >= Status.SHORT_POINT:
@@ -148,6 +150,10 @@ class Library:
         self.library.wkb_raw_same.argtypes = data + data + [pointer(ctypes.c_bool), fault, pointer(ctypes.c_uint32)]
         self.library.wkb_raw_column_check.argtypes = data * 4
         self.library.wkb_raw_column_check.restype = None
+        self.library.wkb_raw_column_parts.argtypes = data * 6
+        self.library.wkb_raw_column_parts.restype = None
+        self.library.wkb_raw_column_write.argtypes = data * 3 + [pointer(Options)] + data * 3
+        self.library.wkb_raw_column_write.restype = None
         self.library.wkb_raw_parts.argtypes = data + [pointer(Part), ctypes.c_size_t, size, fault]
 
     def check(self, data):
@@ -183,19 +189,61 @@ class Library:
                 return table[: count.value]
             room = count.value
 
-
     def check_column(self, data, offsets, validity=None):
         """The status of each row of a column as Arrow has it, a byte a row; offsets are eight bytes each, one more than
         there are rows, and validity has a bit a row."""
-        view, starts, bits = View(data), View(offsets), View(validity if validity is not None else b"")
+        column = Column(data, offsets, validity)
+        self.library.wkb_raw_column_check(*column.lent, ctypes.cast(column.statuses, ctypes.c_void_p), column.rows)
+        return column.statuses.raw[: column.rows]
+
+    def column_parts(self, data, offsets, validity=None):
+        """The status of each row of such a column, where its parts end, and the parts of all rows one behind another;
+        their offsets are counted from the front of the row."""
+        column, room = Column(data, offsets, validity), 0
+        while True:
+            table = (Part * max(room, 1))()
+            lent = (*column.lent, ctypes.cast(table, ctypes.c_void_p), room)
+            self.library.wkb_raw_column_parts(*lent, *column.results())
+            if column.last() <= room:
+                return column.statuses.raw[: column.rows], column.ends[: column.rows], table[: column.last()]
+            room = column.last()
+
+    def column_write(self, data, offsets, order=LITTLE_ENDIAN, form=ISO, srid=0, validity=None):
+        """The status of each row of such a column, where its encoding under these options ends, and the encodings of
+        all rows one behind another."""
+        column, room = Column(data, offsets, validity), 0
+        options = Options(number(order, "order", 2), number(form, "form", 4), number(srid, "SRID", 2**32))
+        while True:
+            out = ctypes.create_string_buffer(max(room, 1))
+            lent = (*column.lent, options, ctypes.cast(out, ctypes.c_void_p), room)
+            self.library.wkb_raw_column_write(*lent, *column.results())
+            if column.last() <= room:
+                return column.statuses.raw[: column.rows], column.ends[: column.rows], out.raw[: column.last()]
+            room = column.last()
+
+
+class Column:
+    """A column as the library takes it, and what it tells of each row: a status, and where its items end."""
+
+    def __init__(self, data, offsets, validity):
+        self.views = View(data), View(offsets), View(validity if validity is not None else b"")
+        data, starts, bits = self.views
         count, rest = divmod(starts.len, 8)
-        rows = max(count - 1, 0)
-        if rest or (validity is not None and 8 * bits.len < rows):
+        self.rows = max(count - 1, 0)
+        if rest or (validity is not None and 8 * bits.len < self.rows):
             raise ValueError(f"{starts.len} bytes of offsets and {bits.len} of validity are no column")
-        statuses = ctypes.create_string_buffer(max(rows, 1))
-        lent = (*view.arguments(), starts.arguments()[0], count, *bits.arguments())
-        self.library.wkb_raw_column_check(*lent, ctypes.cast(statuses, ctypes.c_void_p), rows)
-        return statuses.raw[:rows]
+        self.lent = (*data.arguments(), starts.arguments()[0], count, *bits.arguments())
+        self.statuses = ctypes.create_string_buffer(max(self.rows, 1))
+        self.ends = (ctypes.c_uint64 * max(self.rows, 1))()
+
+    def results(self):
+        """The last four arguments of a call."""
+        pointers = [ctypes.cast(result, ctypes.c_void_p) for result in (self.ends, self.statuses)]
+        return pointers[0], self.rows, pointers[1], self.rows
+
+    def last(self):
+        """Where the items of all rows end."""
+        return self.ends[self.rows - 1] if self.rows else 0
 
 
 def words(data, part):
@@ -235,6 +283,10 @@ def show(library):
     print(library.write(text + b"....", LITTLE_ENDIAN, EWKB_WITH_SRID, 4326).hex())
     ends = struct.pack("=5q", 0, 33, 62, 99, 62)
     print(*(Status(s).name for s in library.check_column(polygon + text, ends, b"\x0d")))
+    statuses, counts, parts = library.column_parts(polygon + text, ends)
+    print(*(Status(s).name for s in statuses), *counts, *(Kind(part.kind).name for part in parts))
+    statuses, sizes, texts = library.column_write(polygon + text, ends)
+    print(*(Status(s).name for s in statuses), *sizes, texts == text + text)
     print(raised(library.check, polygon[:-1]))
     print(raised(library.check, bytes.fromhex("0111000000")))
     print(raised(library.same, polygon, b""))

@@ -13,17 +13,14 @@ PG_MODULE_MAGIC;
 
 #define LENT(v) VARDATA_ANY(v), VARSIZE_ANY_EXHDR(v)
 
-/* Raises want of memory. The library holds nothing between calls, so that nothing is lost by the jump. */
-static void need(wkb_status status) {
-  if (status == WKB_NO_MEMORY) ereport(ERROR, (errcode(ERRCODE_OUT_OF_MEMORY), errmsg("out of memory")));
-}
-
-/* Raises what refuses the bytes. */
+/* Raises what refuses the bytes, or want of memory. The library holds nothing between calls, so that nothing is lost by
+ * the jump. */
 static void accept(wkb_status status, const wkb_fault *fault) {
-  need(status);
+  if (status == WKB_NO_MEMORY) ereport(ERROR, (errcode(ERRCODE_OUT_OF_MEMORY), errmsg("out of memory")));
   if (status != WKB_OK)
     ereport(ERROR, (errcode(ERRCODE_INVALID_BINARY_REPRESENTATION), errmsg("invalid WKB: %s", wkb_status_text(status)),
-                    errdetail("Part %llu is refused.", (unsigned long long)fault->part)));
+                    errdetail("Part %llu is refused, at byte %llu.", (unsigned long long)fault->part,
+                              (unsigned long long)fault->offset)));
 }
 
 PG_FUNCTION_INFO_V1(wkb_valid_sql);
@@ -31,7 +28,6 @@ Datum wkb_valid_sql(PG_FUNCTION_ARGS) {
   bytea *v = PG_GETARG_BYTEA_PP(0);
   wkb_found found;
   wkb_status status = wkb_check(LENT(v), &found, NULL);
-  need(status);
   PG_RETURN_BOOL(status == WKB_OK && found.size == VARSIZE_ANY_EXHDR(v));
 }
 
@@ -40,7 +36,6 @@ Datum wkb_fault_sql(PG_FUNCTION_ARGS) {
   bytea *v = PG_GETARG_BYTEA_PP(0);
   wkb_fault fault;
   wkb_status status = wkb_check(LENT(v), NULL, &fault);
-  need(status);
   if (status == WKB_OK) PG_RETURN_NULL();
   PG_RETURN_TEXT_P(
       cstring_to_text(psprintf("part %llu: %s", (unsigned long long)fault.part, wkb_status_text(status))));

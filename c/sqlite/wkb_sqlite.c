@@ -53,10 +53,6 @@ static void check(sqlite3_context *context, int n, sqlite3_value **values) {
   if (is_null(values, n)) return;
   span s = wkb_of(values[0]);
   wkb_status status = wkb_check(s.data, s.size, &found, NULL);
-  if (status == WKB_NO_MEMORY) {
-    sqlite3_result_error_nomem(context);
-    return;
-  }
   switch ((intptr_t)sqlite3_user_data(context)) {
     case VALID: sqlite3_result_int(context, status == WKB_OK && found.size == s.size); break;
     case FAULT: if (status != WKB_OK) sqlite3_result_text(context, wkb_status_text(status), -1, SQLITE_STATIC); break;

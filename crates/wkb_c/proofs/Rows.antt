@@ -1,20 +1,9 @@
 -- The statuses of a column's rows.
-use Rattle.wkb_c.proofs.Common.{◌≡◌, ◌≢◌, ℕ, zero, suc, ◌+◌, ◌<◌, ◌⊎◌, inl, inr, List, length, slice_index, refl, ap}
+use Rattle.wkb_c.proofs.Common.{◌≡◌, ℕ, zero, suc, ◌+◌, ◌<◌, ◌⊎◌, inl, inr, List, length, slice_index, refl, ap}
 use Rattle.wkb_c.proofs.Common.{sym, subst, ◌∙◌, arith}
 use Rattle.std.proofs.Common.{set}
 use lib.Seq.{get_or-set_same, get_or-set_other}
-use Rattle.wkb.specs.Canonical.{IsAccepted}
-use Rattle.wkb_c.specs.declared.fault.Fault.{Fault}
-use Rattle.wkb_c.specs.declared.status.TheConstants.{OK, NO_MEMORY}
-use Rattle.wkb_c.specs.Statuses.{IsFault}
-use Rattle.wkb_c.specs.Columns.{IsStatusOf, accepted, refused, no_memory, IsStatusOfRow, AreStatuses}
-
--- each status is that of one of the three cases
-pub status_of_row : (row : List ℕ) (status : ℕ) (fault : Fault) → (status ≡ OK → IsAccepted row)
-    → (status ≢ OK → status ≢ NO_MEMORY → IsFault row status fault) → IsStatusOf row status
-status_of_row row zero fault some none = accepted row zero refl (some refl)
-status_of_row row (suc zero) fault some none = no_memory row (suc zero) refl
-status_of_row row (suc (suc n)) fault some none = refused row (suc (suc n)) fault (none (λ e. omega (arith, e)) (λ e. omega (arith, e)))
+use Rattle.wkb_c.specs.Columns.{IsStatusOfRow, AreStatuses}
 
 up : (j i : ℕ) → (j ≡ i) ⊎ (j < i) → (suc j ≡ suc i) ⊎ (suc j < suc i)
 up j i (inl same) = inl (ap suc same)

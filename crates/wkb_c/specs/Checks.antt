@@ -1,13 +1,11 @@
 -- What is told of the geometry at the front of an input.
-use Rattle.std.specs.Prelude.{◌≡◌, ◌⊎◌, ℕ, suc, Bool, List, length, is_some, unwrap_or}
-use Rattle.wkb_geom.specs.declared.common.Endianness.{Endianness}
-use Rattle.wkb_geom.specs.declared.common.Dimension.{Dimension}
+use Rattle.std.specs.Prelude.{◌≡◌, ℕ, suc, List, length, is_some, unwrap_or}
 use Rattle.wkb_geom.specs.Codes.{thousands}
 use Rattle.wkb_geom.specs.Dimensions.{width}
 use Rattle.wkb_geom.specs.Values.{Value, kind, dimension, member_count}
 use Rattle.wkb_geom.specs.Spellings.{Spelling, header}
 use Rattle.wkb_geom.specs.Fronts.{Front}
-use Rattle.wkb_geom.specs.Refusals.{Opens}
+use Rattle.wkb_check.specs.Counted.{coordinate_count}
 use Rattle.wkb_c.specs.declared.found.Found.{Found}
 
 -- the input begins with a geometry, and this is told of it
@@ -18,13 +16,9 @@ pub record IsFound (input : List ℕ) (found : Found) : Type 0 where
   pub front : Front input s t rest
   pub size_is : found.size ≡ length front.front
   pub parts_are : found.parts ≡ suc (member_count t)
+  pub coordinates_are : found.coordinates ≡ coordinate_count t
   pub kind_is : found.kind ≡ kind t
   pub dimension_is : found.dimension ≡ thousands (dimension t)
   pub width_is : found.width ≡ width (dimension t)
   pub has_srid_is : found.has_srid ≡ is_some (header s).srid
   pub srid_is : found.srid ≡ unwrap_or (header s).srid 0
-
--- whatever header the input begins with is that of a point, a line string or a multi point
-abbrev pub HoldsNoList : List ℕ → Type 0
-HoldsNoList input = (order : Endianness) (k : ℕ) (d : Dimension) (srid : Bool) (behind : List ℕ)
-    → Opens input order k d srid behind → (k ≡ 1) ⊎ ((k ≡ 2) ⊎ (k ≡ 4))

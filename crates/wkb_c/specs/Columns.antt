@@ -3,7 +3,7 @@ use Rattle.std.specs.Prelude.{◌≡◌, ℕ, ◌+◌, ◌/◌, ◌%◌, ◌^◌
 use Rattle.std.specs.Prelude.{Option, Some, None, slice_get, slice_range, slice_index, nat_eq}
 use Rattle.wkb.specs.Canonical.{IsAccepted}
 use Rattle.wkb_c.specs.declared.fault.Fault.{Fault}
-use Rattle.wkb_c.specs.declared.status.TheConstants.{OK, NO_MEMORY, NULL_ROW, BAD_OFFSETS}
+use Rattle.wkb_c.specs.declared.status.TheConstants.{OK, NULL_ROW, BAD_OFFSETS}
 use Rattle.wkb_c.specs.Statuses.{IsFault}
 
 -- whether this bit of a byte is 0; where there is no byte, no bit is
@@ -33,7 +33,6 @@ HasNoRow bytes offsets i = (row : List ℕ) → IsRow bytes offsets i row → �
 pub data IsStatusOf : List ℕ → ℕ → Type 0 where
   accepted : (row : List ℕ) (status : ℕ) → status ≡ OK → IsAccepted row → IsStatusOf row status
   refused : (row : List ℕ) (status : ℕ) (fault : Fault) → IsFault row status fault → IsStatusOf row status
-  no_memory : (row : List ℕ) (status : ℕ) → status ≡ NO_MEMORY → IsStatusOf row status
 
 -- what a row of a column is answered
 pub data IsStatusOfRow (bytes offsets validity : List ℕ) (i : ℕ) (status : ℕ) : Type 0 where

@@ -3,8 +3,8 @@ pub mod Columns
 pub mod Kinds
 pub mod Requests
 pub mod Room
+pub mod RowItems
 pub mod Statuses
 pub mod Growing
 pub mod Tables
-pub mod Told
 pub mod Writings

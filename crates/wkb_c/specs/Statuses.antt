@@ -1,5 +1,5 @@
 -- The status that tells a refusal, and its numbers.
-use Rattle.std.specs.Prelude.{◌≡◌, ◌⊎◌, ℕ, List}
+use Rattle.std.specs.Prelude.{◌≡◌, ◌⊎◌, ℕ, ◌+◌, List, length}
 use Rattle.wkb_geom.specs.declared.error.General.{General}
 use Rattle.wkb_geom.specs.declared.error.General.TheVariants.{UnsupportedDimensions, CodeOutOfRange, InvalidByteOrder}
 use Rattle.wkb_geom.specs.declared.error.General.TheVariants.{ShortPoint, ShortLineString}
@@ -12,7 +12,9 @@ use Rattle.wkb_geom.specs.declared.error.Cause.TheVariants.{IncorrectType as inc
 use Rattle.wkb_geom.specs.declared.error.Cause.TheVariants.{NestingDepthExceeded as nesting_depth_exceeded}
 use Rattle.wkb_geom.specs.Refusals.{Refuses}
 use Rattle.wkb.specs.Canonical.{IsAccepted}
-use Rattle.wkb_c.specs.declared.status.TheConstants.{IO_ERROR, INVALID_BYTE_ORDER, CODE_OUT_OF_RANGE, INCORRECT_TYPE}
+use Rattle.wkb_check.specs.Counted.{left_in}
+use Rattle.wkb_c.specs.declared.status.TheConstants.{NO_MEMORY, IO_ERROR, INVALID_BYTE_ORDER, CODE_OUT_OF_RANGE}
+use Rattle.wkb_c.specs.declared.status.TheConstants.{INCORRECT_TYPE}
 use Rattle.wkb_c.specs.declared.status.TheConstants.{NESTING_DEPTH_EXCEEDED, SHORT_POINT}
 use Rattle.wkb_c.specs.declared.status.TheConstants.{SHORT_LINE_STRING, SHORT_MULTI_POINT, SHORT_LINEAR_RING, FIRST}
 use Rattle.wkb_c.specs.declared.status.TheConstants.{SECOND}
@@ -29,46 +31,55 @@ general_status (ShortMultiPoint end len) = SHORT_MULTI_POINT
 general_status (ShortLinearRing end len) = SHORT_LINEAR_RING
 
 -- the status of a cause
-abbrev pub status_of : Cause → ℕ
-status_of end_of_input = IO_ERROR
-status_of (general g) = general_status g
-status_of incorrect_type = INCORRECT_TYPE
-status_of (nesting_depth_exceeded n) = NESTING_DEPTH_EXCEEDED
+abbrev pub cause_status : Cause → ℕ
+cause_status end_of_input = IO_ERROR
+cause_status (general g) = general_status g
+cause_status incorrect_type = INCORRECT_TYPE
+cause_status (nesting_depth_exceeded n) = NESTING_DEPTH_EXCEEDED
 
--- a part of this number is refused, and no more is told
-abbrev pub plain_fault : ℕ → Fault
-plain_fault part = record { part = part; end = 0; len = 0; code = 0 }
+-- the part of this number is refused, which begins at this offset, and no more is told
+abbrev pub plain_fault : ℕ → ℕ → Fault
+plain_fault part offset = record { part = part; offset = offset; end = 0; len = 0; code = 0 }
 
 -- a part is refused that would end there, where the input ends here
-abbrev pub short_fault : ℕ → ℕ → ℕ → Fault
-short_fault part end len = record { part = part; end = end; len = len; code = 0 }
+abbrev pub short_fault : ℕ → ℕ → ℕ → ℕ → Fault
+short_fault part offset end len = record { part = part; offset = offset; end = end; len = len; code = 0 }
 
 -- the numbers of a fault of the bytes
-abbrev pub general_fault : ℕ → General → Fault
-general_fault part InvalidByteOrder = plain_fault part
-general_fault part (CodeOutOfRange code) = record { part = part; end = 0; len = 0; code = code }
-general_fault part (UnsupportedDimensions n) = plain_fault part
-general_fault part (ShortPoint end len) = short_fault part end len
-general_fault part (ShortLineString end len) = short_fault part end len
-general_fault part (ShortMultiPoint end len) = short_fault part end len
-general_fault part (ShortLinearRing end len) = short_fault part end len
+abbrev pub general_fault : ℕ → ℕ → General → Fault
+general_fault part offset InvalidByteOrder = plain_fault part offset
+general_fault part offset (CodeOutOfRange code) =
+    record { part = part; offset = offset; end = 0; len = 0; code = code }
+general_fault part offset (UnsupportedDimensions n) = plain_fault part offset
+general_fault part offset (ShortPoint end len) = short_fault part offset end len
+general_fault part offset (ShortLineString end len) = short_fault part offset end len
+general_fault part offset (ShortMultiPoint end len) = short_fault part offset end len
+general_fault part offset (ShortLinearRing end len) = short_fault part offset end len
 
--- the numbers of a cause that refuses the part of this number
-abbrev pub fault_of : ℕ → Cause → Fault
-fault_of part (general g) = general_fault part g
-fault_of part _ = plain_fault part
+-- the numbers of a cause that refuses the part of this number and this offset
+abbrev pub cause_fault : ℕ → ℕ → Cause → Fault
+cause_fault part offset (general g) = general_fault part offset g
+cause_fault part offset _ = plain_fault part offset
 
--- the input is refused, the status tells why, and the fault tells which part, and its numbers
+-- The input is refused, the status tells why, and the fault tells which part, its numbers, and where it begins: from
+-- there on the input has as many bytes as from the refused part on.
 pub record IsFault (input : List ℕ) (status : ℕ) (fault : Fault) : Type 0 where
   pub cause : Cause
   pub turns : ℕ
   pub slots : ℕ
   pub refuses : Refuses max_nesting any input cause turns slots
-  pub status_is : status ≡ status_of cause
-  pub fault_is : fault ≡ fault_of turns cause
+  pub offset : ℕ
+  pub status_is : status ≡ cause_status cause
+  pub fault_is : fault ≡ cause_fault turns offset cause
+  pub begins : offset + left_in refuses ≡ length input
 
 -- the first input is refused, or it begins with a geometry and the second is refused; the status and the fault tell
 -- why, and `which` the input
 abbrev pub IsRefusedInTurn : List ℕ → List ℕ → ℕ → Fault → ℕ → Type 0
 IsRefusedInTurn a b status fault which =
     (IsFault a status fault × (which ≡ FIRST)) ⊎ (IsAccepted a × IsFault b status fault × (which ≡ SECOND))
+
+-- the input has no parts, and this status tells why
+pub data FailsToList (input : List ℕ) (status : ℕ) : Type 0 where
+  refused : (fault : Fault) → IsFault input status fault → FailsToList input status
+  no_memory : status ≡ NO_MEMORY → FailsToList input status

@@ -208,3 +208,20 @@ pub record LacksEntries (input : List ℕ) (before : List Part) (count : ℕ) : 
   pub front : Front input s t rest
   pub many : count ≡ suc (member_count t)
   pub short : length before < count
+
+-- the input begins with a geometry that has so many parts
+pub record HasParts (input : List ℕ) (many : ℕ) : Type 0 where
+  pub s : Spelling
+  pub t : Value
+  pub rest : List ℕ
+  pub front : Front input s t rest
+  pub many_are : many ≡ suc (member_count t)
+
+-- these are the entries of the geometry that the input begins with, and tell where its parts' bytes and words stand
+pub record HasTable (input : List ℕ) (parts : List Part) : Type 0 where
+  pub s : Spelling
+  pub t : Value
+  pub rest : List ℕ
+  pub front : Front input s t rest
+  pub parts_are : parts ≡ entries 0 0 s t
+  pub hold : HoldEach input (entries 0 0 s t) (pieces s t)

@@ -4,12 +4,11 @@ ghost use Rattle.std.specs.Prelude.{◌≡◌, ◌<◌, ◌^◌, length, IfSome,
 ghost use Rattle.wkb_c.specs.Columns.{is_null as has_zero_bit, IsRow, HasNoRow};
 ghost use Rattle.wkb_c.specs.Columns.{IsStatusOf, IsStatusOfRow, AreStatuses};
 
-use crate::fault::{Fault, refusal_of};
-use crate::status::{BAD_OFFSETS, NULL_ROW};
-use std::alloc::Global;
+use crate::fault::{Fault, check_input};
+use crate::status::{BAD_OFFSETS, NULL_ROW, OK};
 
 /// Whether the row of this number is null. Without validity bits none is.
-fn is_null(validity: &[u8], i: usize) -> bool
+pub fn is_null(validity: &[u8], i: usize) -> bool
     ensures { result ≡ has_zero_bit validity.now i }
 {
     match validity.get(i / 8) {
@@ -19,7 +18,7 @@ fn is_null(validity: &[u8], i: usize) -> bool
 }
 
 /// The bytes of the row of this number.
-fn row<'a>(bytes: &'a [u8], offsets: &[u64], i: usize) -> Option<&'a [u8]>
+pub fn row<'a>(bytes: &'a [u8], offsets: &[u64], i: usize) -> Option<&'a [u8]>
     requires { i < 2 ^ 63 }
     ensures some { IfSome result (λ row. IsRow bytes.now offsets.now i row.now) }
     ensures none { IfNone result (HasNoRow bytes.now offsets.now i) }
@@ -33,7 +32,7 @@ fn row<'a>(bytes: &'a [u8], offsets: &[u64], i: usize) -> Option<&'a [u8]>
 }
 
 /// What the row of this number is answered.
-fn status_of_row(alloc: Global, bytes: &[u8], offsets: &[u64], validity: &[u8], i: usize) -> u32
+fn status_of_row(bytes: &[u8], offsets: &[u64], validity: &[u8], i: usize) -> u32
     requires { i < 2 ^ 63 }
     ensures status { IsStatusOfRow bytes.now offsets.now validity.now i result }
     ensures small { result < 16 }
@@ -42,37 +41,35 @@ fn status_of_row(alloc: Global, bytes: &[u8], offsets: &[u64], validity: &[u8], 
         return NULL_ROW;
     }
     match row(bytes, offsets, i) {
-        Some(row) => status_of_bytes(alloc, row),
+        Some(row) => status_of_bytes(row),
         None => BAD_OFFSETS,
     }
 }
 
 /// What some bytes are answered.
-fn status_of_bytes(alloc: Global, buf: &[u8]) -> u32
+fn status_of_bytes(buf: &[u8]) -> u32
     ensures status { IsStatusOf buf.now result }
     ensures small { result < 14 }
 {
     let mut fault = Fault {
         part: 0,
+        offset: 0,
         end: 0,
         len: 0,
         code: 0,
     };
-    refusal_of(alloc, buf, &mut fault)
+    match check_input(buf, &mut fault) {
+        Ok(_found) => OK,
+        Err(status) => status,
+    }
 }
 
 /// Writes what each row is answered.
-pub fn check_rows(
-    alloc: Global,
-    bytes: &[u8],
-    offsets: &[u64],
-    validity: &[u8],
-    statuses: &mut [u8],
-)
+pub fn check_rows(bytes: &[u8], offsets: &[u64], validity: &[u8], statuses: &mut [u8])
     ensures each { AreStatuses bytes.now offsets.now validity.now (length statuses.old) statuses.new }
     ensures as_many { length statuses.new ≡ length statuses.old }
 {
     for i in 0..statuses.len() {
-        statuses[i] = status_of_row(alloc, bytes, offsets, validity, i) as u8;
+        statuses[i] = status_of_row(bytes, offsets, validity, i) as u8;
     }
 }

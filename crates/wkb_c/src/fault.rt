@@ -1,18 +1,15 @@
 //! Where and why some bytes are refused.
 
-ghost use Rattle.std.specs.Prelude.{◌≡◌, ◌≢◌, ◌⊎◌, ◌≤◌, ◌<◌};
-ghost use Rattle.wkb.specs.Canonical.{IsAccepted};
-ghost use Rattle.wkb_c.specs.Statuses.{IsFault};
-ghost use Rattle.wkb_c.specs.Told.{status_told, fault_told};
+ghost use Rattle.std.specs.Prelude.{◌≡◌, ◌≢◌, ◌≤◌, ◌<◌, IfOk, IfErr};
+ghost use Rattle.wkb_check.specs.Public.{DescribesFront};
+ghost use Rattle.wkb_c.specs.Statuses.{cause_status, general_status, cause_fault, IsFault};
 
 use crate::status::{
     CODE_OUT_OF_RANGE, INCORRECT_TYPE, INVALID_BYTE_ORDER, IO_ERROR, NESTING_DEPTH_EXCEEDED,
-    NO_MEMORY, OK, SHORT_LINE_STRING, SHORT_LINEAR_RING, SHORT_MULTI_POINT, SHORT_POINT,
-    SIZE_OVERFLOW,
+    SHORT_LINE_STRING, SHORT_LINEAR_RING, SHORT_MULTI_POINT, SHORT_POINT,
 };
-use std::alloc::Global;
-use wkb::error::{General, WkbError};
-use wkb::reader::read_wkb_counted;
+use wkb_check::{Refused, Summary, check};
+use wkb_geom::{Cause, General};
 
 /// The numbers of a refusal.
 #[repr(C)]
@@ -20,6 +17,8 @@ use wkb::reader::read_wkb_counted;
 pub struct Fault {
     /// How many parts stand before the one that is refused.
     pub part: u64,
+    /// Where that part begins, counted from the front of the input.
+    pub offset: u64,
     /// Of a short part: where it would end, in bytes from its own first byte.
     pub end: u64,
     /// Of a short part: where the input ends, in bytes from the part's first byte.
@@ -28,75 +27,67 @@ pub struct Fault {
     pub code: u32,
 }
 
-/// The status that tells an error.
-pub fn status_of(error: &WkbError) -> u32
-    ensures { result ≡ status_told error.now }
+/// The status of a fault of the bytes.
+fn status_of_general(fault: General) -> u32
+    ensures { result ≡ general_status fault }
 {
-    match error {
-        WkbError::Memory(_) => NO_MEMORY,
-        WkbError::OverflowError(_) => SIZE_OVERFLOW,
-        WkbError::IOError(_) => IO_ERROR,
-        WkbError::IncorrectType(_) => INCORRECT_TYPE,
-        WkbError::NotYetImplemented(_) => INCORRECT_TYPE,
-        WkbError::NestingDepthExceeded(_) => NESTING_DEPTH_EXCEEDED,
-        WkbError::General(fault) => match fault {
-            General::InvalidByteOrder => INVALID_BYTE_ORDER,
-            General::CodeOutOfRange(_) => CODE_OUT_OF_RANGE,
-            General::UnsupportedDimensions(_) => INCORRECT_TYPE,
-            General::ShortPoint { .. } => SHORT_POINT,
-            General::ShortLineString { .. } => SHORT_LINE_STRING,
-            General::ShortMultiPoint { .. } => SHORT_MULTI_POINT,
-            General::ShortLinearRing { .. } => SHORT_LINEAR_RING,
-        },
+    match fault {
+        General::InvalidByteOrder => INVALID_BYTE_ORDER,
+        General::CodeOutOfRange(_) => CODE_OUT_OF_RANGE,
+        General::UnsupportedDimensions(_) => INCORRECT_TYPE,
+        General::ShortPoint { .. } => SHORT_POINT,
+        General::ShortLineString { .. } => SHORT_LINE_STRING,
+        General::ShortMultiPoint { .. } => SHORT_MULTI_POINT,
+        General::ShortLinearRing { .. } => SHORT_LINEAR_RING,
     }
 }
 
-/// The numbers of an error that refuses the part of this number.
-pub fn fault_of(part: u64, error: &WkbError) -> Fault
-    ensures { result ≡ fault_told part error.now }
+/// The status of a cause.
+fn status_of_cause(cause: Cause) -> u32
+    ensures { result ≡ cause_status cause }
 {
-    let (end, len, code) = match error {
-        WkbError::General(General::CodeOutOfRange(code)) => (0, 0, *code),
-        WkbError::General(General::ShortPoint { end, len }) => (*end, *len as u64, 0),
-        WkbError::General(General::ShortLineString { end, len }) => (*end, *len as u64, 0),
-        WkbError::General(General::ShortMultiPoint { end, len }) => (*end, *len as u64, 0),
-        WkbError::General(General::ShortLinearRing { end, len }) => (*end, *len as u64, 0),
+    match cause {
+        Cause::EndOfInput => IO_ERROR,
+        Cause::General(fault) => status_of_general(fault),
+        Cause::IncorrectType => INCORRECT_TYPE,
+        Cause::NestingDepthExceeded(_) => NESTING_DEPTH_EXCEEDED,
+    }
+}
+
+/// The numbers of a refusal by the check.
+fn fault_of_refused(refused: &Refused) -> Fault
+    ensures { result ≡ cause_fault refused.now.part refused.now.offset refused.now.cause }
+{
+    let (end, len, code) = match refused.cause {
+        Cause::General(General::CodeOutOfRange(code)) => (0, 0, code),
+        Cause::General(General::ShortPoint { end, len }) => (end, len as u64, 0),
+        Cause::General(General::ShortLineString { end, len }) => (end, len as u64, 0),
+        Cause::General(General::ShortMultiPoint { end, len }) => (end, len as u64, 0),
+        Cause::General(General::ShortLinearRing { end, len }) => (end, len as u64, 0),
         _ => (0, 0, 0),
     };
     Fault {
-        part,
+        part: refused.part as u64,
+        offset: refused.offset as u64,
         end,
         len,
         code,
     }
 }
 
-/// The status of an error, and its numbers where it isn't want of memory.
-pub fn tell(part: u64, error: &WkbError, fault: &mut Fault) -> u32
-    ensures status { result ≡ status_told error.now }
-    ensures small { result < 14 }
-    ensures numbers { result ≢ NO_MEMORY → fault.new ≡ fault_told part error.now }
-    ensures kept { result ≡ NO_MEMORY → fault.new ≡ fault.old }
+/// What stands at the front of the bytes; or the status of the one refusal, and its numbers. It takes no memory.
+pub fn check_input(buf: &[u8], fault: &mut Fault) -> Result<Summary, u32>
+    ensures accepted { IfOk result (λ found. DescribesFront buf.now found) }
+    ensures refused { IfErr result (λ status. IsFault buf.now status fault.new) }
+    ensures late { IfErr result (λ status. IO_ERROR ≤ status) }
+    ensures small { IfErr result (λ status. status < 14) }
+    ensures kept { IfOk result (λ _. fault.new ≡ fault.old) }
 {
-    let status = status_of(error);
-    if status != NO_MEMORY {
-        *fault = fault_of(part, error);
-    }
-    status
-}
-
-/// `OK` where a geometry stands at the front of the bytes; else the refusal's status, and its
-/// numbers.
-pub fn refusal_of(alloc: Global, buf: &[u8], fault: &mut Fault) -> u32
-    ensures accepted { result ≡ OK → IsAccepted buf.now }
-    ensures refused { result ≢ OK → result ≢ NO_MEMORY → IsFault buf.now result fault.new }
-    ensures late { result ≢ OK → result ≢ NO_MEMORY → IO_ERROR ≤ result }
-    ensures small { result < 14 }
-    ensures kept { (result ≡ OK) ⊎ (result ≡ NO_MEMORY) → fault.new ≡ fault.old }
-{
-    let (answer, counts) = read_wkb_counted(alloc, buf);
-    match answer {
-        Ok(_wkb) => OK,
-        Err(e) => tell(counts.turns as u64, &e, fault),
+    match check(buf) {
+        Ok(found) => Ok(found),
+        Err(refused) => {
+            *fault = fault_of_refused(&refused);
+            Err(status_of_cause(refused.cause))
+        }
     }
 }

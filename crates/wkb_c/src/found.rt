@@ -1,13 +1,13 @@
-//! What is told of a geometry that was read.
+//! What is told of the geometry at the front of some bytes.
 
-ghost use Rattle.std.specs.Prelude.{◌≡◌, ◌<◌, ◌+◌, ◌^◌, length, unwrap_or, is_some};
+ghost use Rattle.std.specs.Prelude.{◌≡◌, unwrap_or, is_some};
 ghost use Rattle.wkb_geom.specs.Codes.{thousands};
 ghost use Rattle.wkb_geom.specs.Dimensions.{width as words};
-ghost use Rattle.wkb_geom.specs.Values.{kind, dimension};
-ghost use Rattle.wkb_view.specs.Parts.{srid_of};
+ghost use Rattle.wkb_geom.specs.Reading.{type_kind, type_dimension};
 ghost use Rattle.wkb_c.specs.Kinds.{number_of};
 
-use wkb::reader::{Dimension, GeometryType, Wkb};
+use wkb::reader::{Dimension, GeometryType};
+use wkb_check::Summary;
 
 /// The geometry at the front of some bytes.
 #[repr(C)]
@@ -17,6 +17,8 @@ pub struct Found {
     pub size: u64,
     /// Itself, and its rings and members at every level.
     pub parts: u64,
+    /// How many coordinates those have; a point has one, though it be empty.
+    pub coordinates: u64,
     /// Its own SRID, or 0.
     pub srid: u32,
     /// Whether it has an SRID.
@@ -68,25 +70,26 @@ pub fn width(dimension: Dimension) -> u8
     }
 }
 
-/// What is told of a geometry with so many rings and members.
-pub fn found_of(wkb: &Wkb<'_>, members: u64) -> Found
-    requires { members < 2 ^ 63 }
-    ensures size { result.size ≡ length wkb.now.encoding }
-    ensures parts { result.parts ≡ 1 + members }
-    ensures kind { result.kind ≡ kind wkb.now.value }
-    ensures dimension { result.dimension ≡ thousands (dimension wkb.now.value) }
-    ensures width { result.width ≡ words (dimension wkb.now.value) }
-    ensures has_srid { result.has_srid ≡ is_some (srid_of wkb.now.spelled) }
-    ensures srid { result.srid ≡ unwrap_or (srid_of wkb.now.spelled) 0 }
+/// What is told of what the check found.
+pub fn found_of(summary: &Summary) -> Found
+    ensures size { result.size ≡ summary.now.bytes }
+    ensures parts { result.parts ≡ summary.now.parts }
+    ensures coordinates { result.coordinates ≡ summary.now.coordinates }
+    ensures kind { result.kind ≡ type_kind summary.now.wkb_type }
+    ensures dimension { result.dimension ≡ thousands (type_dimension summary.now.wkb_type) }
+    ensures width { result.width ≡ words (type_dimension summary.now.wkb_type) }
+    ensures has_srid { result.has_srid ≡ is_some summary.now.srid }
+    ensures srid { result.srid ≡ unwrap_or summary.now.srid 0 }
 {
-    let srid = wkb.srid();
+    let dimension = summary.wkb_type.dimension();
     Found {
-        size: wkb.buf().len() as u64,
-        parts: 1 + members,
-        srid: srid.unwrap_or(0),
-        has_srid: srid.is_some(),
-        kind: kind_number(wkb.geometry_type()),
-        dimension: dimension_number(wkb.dimension()),
-        width: width(wkb.dimension()),
+        size: summary.bytes as u64,
+        parts: summary.parts as u64,
+        coordinates: summary.coordinates as u64,
+        srid: summary.srid.unwrap_or(0),
+        has_srid: summary.srid.is_some(),
+        kind: summary.wkb_type.kind() as u8,
+        dimension: dimension_number(dimension),
+        width: width(dimension),
     }
 }

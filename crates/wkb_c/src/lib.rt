@@ -4,66 +4,60 @@
 #![tactic(auto)]
 
 mod column;
+mod column_items;
+mod encoding;
 mod fault;
 mod found;
 mod options;
 mod parts;
 mod room;
 mod status;
-mod encoding;
 
-ghost use Rattle.std.specs.Prelude.{◌≡◌, ◌≢◌, ◌≤◌, ◌<◌, ◌⊎◌, ◌↔◌, MatchBool, None, length};
+ghost use Rattle.std.specs.Prelude.{◌≡◌, ◌≢◌, ◌≤◌, ◌<◌, ◌+◌, ◌⊎◌, ◌↔◌, MatchBool, None, length, min};
 ghost use Rattle.wkb.specs.Canonical.{HaveOneValue, HaveTwoValues};
-ghost use Rattle.wkb_c.specs.Checks.{IsFound, HoldsNoList};
+ghost use Rattle.wkb_c.specs.Checks.{IsFound};
 ghost use Rattle.wkb_c.specs.Columns.{AreStatuses};
 ghost use Rattle.wkb_c.specs.Requests.{request_of};
-ghost use Rattle.wkb_c.specs.Statuses.{IsFault, IsRefusedInTurn};
-ghost use Rattle.wkb_c.specs.Tables.{IsTable, LacksEntries};
-ghost use Rattle.wkb_c.specs.Writings.{IsWritten, WantsRoom, IsTooLongFor};
+ghost use Rattle.wkb_c.specs.RowItems.{AreRowAnswers, KeepsBehind};
+ghost use Rattle.wkb_c.specs.Statuses.{IsFault, IsRefusedInTurn, FailsToList};
+ghost use Rattle.wkb_c.specs.Tables.{IsTable, LacksEntries, HasTable};
+ghost use Rattle.wkb_c.specs.Writings.{IsWritten, WantsRoom, HasEncoding, FailsToWrite};
 
 use column::check_rows;
-use fault::{Fault, refusal_of, status_of, tell};
+use column_items::{list_rows, write_rows};
+use encoding::write_requested;
+use fault::{Fault, check_input};
 use found::{Found, found_of};
 use options::{Options, requested};
-use parts::{Part, table_of};
-use room::hand_out;
+use parts::{Part, list_parts};
 use status::{FIRST, IO_ERROR, NO_MEMORY, NO_ROOM, OK, SECOND, SIZE_OVERFLOW, UNKNOWN_OPTION};
 use std::alloc::Global;
-use encoding::requested;
 use wkb::canon::same;
-use wkb::reader::read_wkb_counted;
 
-/// Whether a geometry stands at the front of the bytes.
+/// Whether a geometry stands at the front of the bytes. It takes no memory.
 ///
-/// `OK`, and what was found; or the status of the one refusal, and its numbers; or `NO_MEMORY`.
+/// `OK`, and what was found; or the status of the one refusal, and its numbers.
 #[unsafe(no_mangle)]
-pub extern "C" fn wkb_raw_check(
-    alloc: Global,
-    buf: &[u8],
-    found: &mut Found,
-    fault: &mut Fault,
-) -> u32
+pub extern "C" fn wkb_raw_check(buf: &[u8], found: &mut Found, fault: &mut Fault) -> u32
     ensures accepted { result ≡ OK → IsFound buf.now found.new }
-    ensures refused { result ≢ OK → result ≢ NO_MEMORY → IsFault buf.now result fault.new }
-    ensures no_memory { HoldsNoList buf.now → result ≢ NO_MEMORY }
+    ensures refused { result ≢ OK → IsFault buf.now result fault.new }
+    ensures no_memory { result ≢ NO_MEMORY }
     ensures found_kept { result ≢ OK → found.new ≡ found.old }
-    ensures fault_kept { (result ≡ OK) ⊎ (result ≡ NO_MEMORY) → fault.new ≡ fault.old }
+    ensures fault_kept { result ≡ OK → fault.new ≡ fault.old }
 {
-    let (answer, counts) = read_wkb_counted(alloc, buf);
-    let turns = counts.turns as u64;
-    match answer {
-        Ok(wkb) => {
-            *found = found_of(&wkb, turns);
+    match check_input(buf, fault) {
+        Ok(summary) => {
+            *found = found_of(&summary);
             OK
         }
-        Err(e) => tell(turns, &e, fault),
+        Err(status) => status,
     }
 }
 
 /// Writes the encoding that the options ask for, and tells its length.
 ///
-/// `NO_ROOM` tells the length too. The options are looked at before the bytes. A refusal leaves
-/// `out` as it was.
+/// `NO_ROOM` tells the length too, and nothing is composed. The options are looked at before the bytes. A refusal
+/// leaves `out` as it was.
 #[unsafe(no_mangle)]
 pub extern "C" fn wkb_raw_write(
     alloc: Global,
@@ -76,7 +70,8 @@ pub extern "C" fn wkb_raw_write(
     ensures written { result ≡ OK → IsWritten options.now buf.now out.old out.new size.new }
     ensures no_room { result ≡ NO_ROOM → WantsRoom options.now buf.now out.old size.new }
     ensures unknown { (result ≡ UNKNOWN_OPTION) ↔ (request_of options.now ≡ None) }
-    ensures too_long { result ≡ SIZE_OVERFLOW → IsTooLongFor options.now buf.now }
+    ensures bound { (result ≡ OK) ⊎ (result ≡ NO_ROOM) → size.new ≤ length buf.now + 4 }
+    ensures never_too_long { result ≢ SIZE_OVERFLOW }
     ensures refused { IO_ERROR ≤ result → IsFault buf.now result fault.new }
     ensures out_kept { result ≢ OK → out.new ≡ out.old }
     ensures size_kept { result ≢ OK → result ≢ NO_ROOM → size.new ≡ size.old }
@@ -85,13 +80,9 @@ pub extern "C" fn wkb_raw_write(
     let Some(request) = requested(options) else {
         return UNKNOWN_OPTION;
     };
-    let refusal = refusal_of(alloc, buf, fault);
-    if refusal != OK {
-        return refusal;
-    }
-    match requested(alloc, buf, request) {
-        Ok(encoding) => hand_out(encoding.as_slice(), out, size),
-        Err(e) => status_of(&e),
+    match check_input(buf, fault) {
+        Ok(_found) => write_requested(alloc, buf, request, out, size),
+        Err(status) => status,
     }
 }
 
@@ -115,19 +106,13 @@ pub extern "C" fn wkb_raw_same(
     ensures fault_kept { (result ≡ OK) ⊎ (result ≡ NO_MEMORY) → fault.new ≡ fault.old }
     ensures which_kept { (result ≡ OK) ⊎ (result ≡ NO_MEMORY) → which.new ≡ which.old }
 {
-    let first = refusal_of(alloc, a, fault);
-    if first != OK {
-        if first != NO_MEMORY {
-            *which = FIRST;
-        }
-        return first;
+    if let Err(status) = check_input(a, fault) {
+        *which = FIRST;
+        return status;
     }
-    let second = refusal_of(alloc, b, fault);
-    if second != OK {
-        if second != NO_MEMORY {
-            *which = SECOND;
-        }
-        return second;
+    if let Err(status) = check_input(b, fault) {
+        *which = SECOND;
+        return status;
     }
     match same(alloc, a, b) {
         Ok(answer) => {
@@ -157,13 +142,9 @@ pub extern "C" fn wkb_raw_parts(
     ensures count_kept { result ≢ OK → result ≢ NO_ROOM → count.new ≡ count.old }
     ensures fault_kept { result < IO_ERROR → fault.new ≡ fault.old }
 {
-    let (answer, counts) = read_wkb_counted(alloc, buf);
-    match answer {
-        Ok(wkb) => match table_of(alloc, &wkb, counts.turns as usize + 1) {
-            Ok(table) => hand_out(table.as_slice(), parts, count),
-            Err(_) => NO_MEMORY,
-        },
-        Err(e) => tell(counts.turns as u64, &e, fault),
+    match check_input(buf, fault) {
+        Ok(found) => list_parts(alloc, buf, found.parts, parts, count),
+        Err(status) => status,
     }
 }
 
@@ -173,7 +154,6 @@ pub extern "C" fn wkb_raw_parts(
 /// No row stops the others.
 #[unsafe(no_mangle)]
 pub extern "C" fn wkb_raw_column_check(
-    alloc: Global,
     bytes: &[u8],
     offsets: &[u64],
     validity: &[u8],
@@ -182,5 +162,58 @@ pub extern "C" fn wkb_raw_column_check(
     ensures each { AreStatuses bytes.now offsets.now validity.now (length statuses.old) statuses.new }
     ensures as_many { length statuses.new ≡ length statuses.old }
 {
-    check_rows(alloc, bytes, offsets, validity, statuses);
+    check_rows(bytes, offsets, validity, statuses);
+}
+
+/// Lists the parts of each row of a column behind those of the rows before it, as far as there is room: a status a row,
+/// and where its parts end.
+///
+/// A row has the bytes that `wkb_raw_column_check` takes. A row without parts ends where it begins. No row stops the
+/// others.
+#[unsafe(no_mangle)]
+pub extern "C" fn wkb_raw_column_parts(
+    alloc: Global,
+    bytes: &[u8],
+    offsets: &[u64],
+    validity: &[u8],
+    parts: &mut [Part],
+    ends: &mut [u64],
+    statuses: &mut [u8],
+)
+    ensures each { AreRowAnswers HasTable FailsToList bytes.now offsets.now validity.now
+        (min (length statuses.old) (length ends.old)) statuses.new ends.new parts.new }
+    ensures parts_kept { KeepsBehind (min (length statuses.old) (length ends.old))
+        statuses.new ends.new parts.old parts.new }
+    ensures as_many { length statuses.new ≡ length statuses.old }
+    ensures as_many_ends { length ends.new ≡ length ends.old }
+{
+    list_rows(alloc, bytes, offsets, validity, parts, ends, statuses);
+}
+
+/// Writes the encoding of each row of a column behind those of the rows before it, as far as there is room: a status a
+/// row, and where its encoding ends.
+///
+/// A row has the bytes that `wkb_raw_column_check` takes. A row without an encoding ends where it begins. No row stops
+/// the others.
+#[unsafe(no_mangle)]
+pub extern "C" fn wkb_raw_column_write(
+    alloc: Global,
+    bytes: &[u8],
+    offsets: &[u64],
+    validity: &[u8],
+    options: &Options,
+    out: &mut [u8],
+    ends: &mut [u64],
+    statuses: &mut [u8],
+)
+    ensures each { AreRowAnswers (HasEncoding options.now) (FailsToWrite options.now) bytes.now
+        offsets.now validity.now (min (length statuses.old) (length ends.old)) statuses.new ends.new out.new }
+    ensures out_kept { KeepsBehind (min (length statuses.old) (length ends.old))
+        statuses.new ends.new out.old out.new }
+    ensures as_many { length statuses.new ≡ length statuses.old }
+    ensures as_many_ends { length ends.new ≡ length ends.old }
+{
+    write_rows(
+        alloc, bytes, offsets, validity, options, out, ends, statuses,
+    );
 }

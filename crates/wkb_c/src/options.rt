@@ -1,7 +1,7 @@
 //! What encoding is asked for.
 
 ghost use Rattle.std.specs.Prelude.{◌≡◌};
-ghost use Rattle.wkb_c.specs.Requests.{order_of, request_of};
+ghost use Rattle.wkb_c.specs.Requests.{order_asked, request_of};
 
 use wkb::Endianness;
 use wkb::writer::{Form, WriteOptions};
@@ -45,7 +45,7 @@ pub enum Request {
 
 /// The order of this number.
 fn order(number: u32) -> Option<Endianness>
-    ensures { result ≡ order_of number }
+    ensures { result ≡ order_asked number }
 {
     match number {
         BIG_ENDIAN => Some(Endianness::BigEndian),

@@ -1,6 +1,6 @@
 //! The table of a geometry's parts, by the headers, counts and sizes of its views.
 
-ghost use Rattle.std.specs.Prelude.{◌≡◌, ◌+◌, ◌*◌, ◌<◌, ◌^◌, [], ◌∷◌, length, slice_get, slice_index, option_map};
+ghost use Rattle.std.specs.Prelude.{◌≡◌, ◌≢◌, ◌⊎◌, ◌+◌, ◌*◌, ◌<◌, ◌^◌, [], ◌∷◌, length, slice_get, slice_index, option_map};
 ghost use Rattle.std.specs.Prelude.{IfOk, IfSome};
 ghost use Rattle.wkb_geom.specs.Dimensions.{width as words, dimensions as trait_dimensions};
 ghost use Rattle.wkb_geom.specs.Reading.{spellings, values};
@@ -11,11 +11,14 @@ ghost use Rattle.wkb_geom.specs.Stored.{whole_of};
 ghost use Rattle.wkb_view.specs.Coords.{ring_seen, ring_dimension};
 ghost use Rattle.wkb_view.specs.Parts.{members_spelled};
 ghost use Rattle.wkb_view.specs.Views.{point_seen, line_string_seen, multi_point_seen};
-ghost use Rattle.wkb_c.specs.Tables.{entries, ring_entries, rings_size, size, sizes};
+ghost use Rattle.wkb_c.specs.Tables.{entries, ring_entries, rings_size, size, sizes, IsTable, LacksEntries, HasParts};
 ghost use Rattle.wkb_c.specs.Growing.{Grows, Lists, ListsMembers, HasMembers, IsHead, Opens, Closes, added_entry};
 ghost use Rattle.wkb_c.specs.Growing.{header_size as header_bytes};
 
+use crate::encoding::read_checked;
 use crate::found::{dimension_number, kind_number, width};
+use crate::room::hand_out;
+use crate::status::{NO_MEMORY, NO_ROOM, OK};
 use std::alloc::{AllocError, Global};
 use wkb::geom::{
     GeometryTrait, GeometryType, LineStringTrait, MultiLineStringTrait, MultiPointTrait,
@@ -385,4 +388,34 @@ pub fn table_of(alloc: Global, wkb: &Wkb<'_>, count: usize) -> Result<Vec<Part>,
     };
     add_geometry(&mut table, wkb)?;
     Ok(table.parts)
+}
+
+/// Lists the parts of the geometry at the front of bytes that the check accepts, of which there are so many. Without
+/// room nothing is read.
+pub fn list_parts(
+    alloc: Global,
+    buf: &[u8],
+    many: usize,
+    parts: &mut [Part],
+    count: &mut u64,
+) -> u32
+    requires accepted { HasParts buf.now many }
+    ensures listed { result ≡ OK → IsTable buf.now parts.old parts.new count.new }
+    ensures no_room { result ≡ NO_ROOM → LacksEntries buf.now parts.old count.new }
+    ensures known { (result ≡ OK) ⊎ ((result ≡ NO_ROOM) ⊎ (result ≡ NO_MEMORY)) }
+    ensures long { length parts.new ≡ length parts.old }
+    ensures parts_kept { result ≢ OK → parts.new ≡ parts.old }
+    ensures count_kept { result ≢ OK → result ≢ NO_ROOM → count.new ≡ count.old }
+{
+    if parts.len() < many {
+        *count = many as u64;
+        return NO_ROOM;
+    }
+    let Ok(wkb) = read_checked(alloc, buf) else {
+        return NO_MEMORY;
+    };
+    match table_of(alloc, &wkb, many) {
+        Ok(table) => hand_out(table.as_slice(), parts, count),
+        Err(_) => NO_MEMORY,
+    }
 }

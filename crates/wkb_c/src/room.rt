@@ -1,6 +1,6 @@
 //! What is handed out into a caller's slice.
 
-ghost use Rattle.std.specs.Prelude.{◌≡◌, ◌≢◌};
+ghost use Rattle.std.specs.Prelude.{◌≡◌, ◌≢◌, length};
 ghost use Rattle.wkb_c.specs.Room.{IsHeld, LacksRoom};
 
 use crate::status::{NO_ROOM, OK};
@@ -9,6 +9,7 @@ use crate::status::{NO_ROOM, OK};
 pub fn hand_out<T: Copy>(items: &[T], out: &mut [T], count: &mut u64) -> u32
     ensures held { result ≡ OK → IsHeld items.now out.old out.new count.new }
     ensures no_room { result ≢ OK → (result ≡ NO_ROOM) × LacksRoom items.now out.old count.new }
+    ensures told { count.new ≡ length items.now }
     ensures out_kept { result ≢ OK → out.new ≡ out.old }
 {
     *count = items.len() as u64;

@@ -1,5 +1,10 @@
-use Rattle.wkb_c.proofs.Rows.{status_of_row}
+use Rattle.wkb_c.proofs.Common.{refl}
+use Rattle.wkb_c.specs.Columns.{accepted, refused}
+use Rattle.wkb_c.proofs.Telling.{found_is_accepted}
 use Rattle.wkb_c.proofs.column.status_of_bytes.Goals as goal
 
-pub returns-clause-status : goal.returns-clause-status
-returns-clause-status c = status_of_row c.args.buf.now c.refusal_of.result _ c.refusal_of.ensures.accepted c.refusal_of.ensures.refused
+pub returns-in-Ok-clause-status : goal.returns-in-Ok-clause-status
+returns-in-Ok-clause-status c = accepted _ _ refl (found_is_accepted c.args.buf.now c.in-Ok._found c.in-Ok.ensures.accepted)
+
+pub returns-in-Err-clause-status : goal.returns-in-Err-clause-status
+returns-in-Err-clause-status c = refused _ _ _ c.in-Err.ensures.refused

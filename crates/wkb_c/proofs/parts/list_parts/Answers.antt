@@ -2,15 +2,15 @@ use Rattle.wkb_c.proofs.Common.{◌∙◌, List, length, ap, subst, arith}
 use Rattle.wkb_c.specs.declared.parts.Part.{Part}
 use Rattle.wkb_c.specs.Room.{IsHeld}
 use Rattle.wkb_c.proofs.Words.{front_fits, holds, entries_many}
-use Rattle.wkb_c.proofs.wkb_raw_parts.Goals as goal
+use Rattle.wkb_c.proofs.parts.list_parts.Goals as goal
 
 pub table_of-requires : goal.table_of-requires
-table_of-requires c = record { fits = front_fits c.args.buf.now c.in-Ok.wkb (rw c.in-Ok.is at c.read_wkb_counted-answer.ensures.reads.front) (omega arith) }
+table_of-requires c = record { fits = front_fits c.args.buf.now c.in-Ok.wkb c.in-Ok.ensures.front (omega arith) }
 
 pub returns-in-Ok-table_of-clause-listed : goal.returns-in-Ok-table_of-clause-listed
 returns-in-Ok-table_of-clause-listed c = λ ok.
     let w = c.in-Ok.wkb in
-    let f = rw c.in-Ok.is at c.read_wkb_counted-answer.ensures.reads.front in
+    let f = c.in-Ok.ensures.front in
     let is = c.as_slice.ensures.value ∙ c.in-Ok-table_of.ensures in
     record {
       s = w.spelled;
@@ -25,7 +25,7 @@ returns-in-Ok-table_of-clause-listed c = λ ok.
 pub returns-in-Ok-table_of-clause-no_room : goal.returns-in-Ok-table_of-clause-no_room
 returns-in-Ok-table_of-clause-no_room c = λ short.
     let w = c.in-Ok.wkb in
-    let f = rw c.in-Ok.is at c.read_wkb_counted-answer.ensures.reads.front in
+    let f = c.in-Ok.ensures.front in
     let is = c.as_slice.ensures.value ∙ c.in-Ok-table_of.ensures in
     let lacks = (c.hand_out.ensures.no_room (λ ok. omega (arith, ok, short))).1 in
     record {
