@@ -481,7 +481,7 @@ static size_t many(uint8_t kind, uint32_t count, const char *part, uint8_t *byte
   return len;
 }
 
-/* Where parts are as small as they can be, no more memory is asked for than the header says. */
+/* Where parts are as small as they can be, or nested, no more memory is asked for than the header says. */
 static void memory_is_bounded(void) {
   enum { COUNT = 10000 };
   static const struct {
@@ -509,14 +509,23 @@ static void memory_is_bounded(void) {
     expect(parts != NULL, "memory", "");
     asked = 0;
     expect(wkb_parts(bytes, len, parts, count, &count, NULL) == WKB_OK, "a table", SMALL[i].part);
-    expect(asked <= 16 * len + count * sizeof *parts, "the memory of a table", SMALL[i].part);
+    expect(asked <= 32 * len + count * sizeof *parts, "the memory of a table", SMALL[i].part);
     free(parts);
     asked = 0;
     expect(wkb_write(bytes, len, &LITTLE_ISO, NULL, 0, &size, NULL) == WKB_NO_ROOM, "no room", SMALL[i].part);
-    expect(asked <= 16 * len, "the memory of a size", SMALL[i].part);
+    expect(asked <= 32 * len, "the memory of a size", SMALL[i].part);
     asked = 0;
     expect(wkb_write(bytes, len, &LITTLE_ISO, out, len + 4, &size, NULL) == WKB_OK, "written", SMALL[i].part);
-    expect(asked <= 16 * len + size, "the memory of an encoding", SMALL[i].part);
+    expect(asked <= 32 * len + size, "the memory of an encoding", SMALL[i].part);
+  }
+  for (size_t depth = 1; depth <= 128; depth++) {
+    static const uint8_t OPEN[] = {1, WKB_GEOMETRY_COLLECTION, 0, 0, 0, 1, 0, 0, 0};
+    size_t len = depth * sizeof OPEN;
+    for (size_t i = 0; i < depth; i++) memcpy(bytes + i * sizeof OPEN, OPEN, sizeof OPEN);
+    bytes[len - 4] = 0;
+    asked = 0;
+    expect(wkb_write(bytes, len, &LITTLE_ISO, NULL, 0, NULL, NULL) == WKB_NO_ROOM, "nested", "");
+    expect(asked <= 32 * len, "the memory of nested collections", "");
   }
   free(bytes), free(out);
 }

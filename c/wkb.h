@@ -9,7 +9,7 @@
  * Calls may run side by side: there is no static data. No call may be made from a signal handler, or in the forked
  * child of a process with threads. wkb_check and wkb_column_check take no memory. The other calls check first, so that
  * a refused input takes none either, whatever its counts claim. Then they ask malloc, and give back before they return:
- * at most 16 bytes for each byte of BUF, and the bytes of the table or the encoding. Numbers in BUF may stand in either
+ * at most 32 bytes for each byte of BUF, and the bytes of the table or the encoding. Numbers in BUF may stand in either
  * byte order and at any address, those of the structs are the machine's. */
 #ifndef WKB_H
 #define WKB_H

@@ -10,7 +10,7 @@ use Rattle.wkb_geom.specs.Encodings.{encoding, header_encoding, point_encoding, 
 use Rattle.wkb_geom.specs.Encodings.{members_encoding}
 use Rattle.wkb_geom.specs.Fronts.{Front}
 use Rattle.wkb_geom.specs.Geometries.{geometry_of}
-use Rattle.wkb_c.specs.Columns.{is_null, IsRow}
+use Rattle.wkb_c.specs.Columns.{is_null_row, IsRow}
 use Rattle.wkb_c.specs.Requests.{IsRequested, request_of}
 use Rattle.wkb_c.specs.RowItems.{IsRowStep}
 use Rattle.wkb_c.specs.Statuses.{FailsToList, no_memory as no_memory_to_list}
@@ -49,7 +49,7 @@ some_requested : (request : Request) (input out : List ℕ) → IsRequested requ
 some_requested (Encoding o) input out h = omega (arith, ap length h.written, some_encoding o.endianness o.form h.t)
 some_requested (OwnSrid order) input out h = omega (arith, ap length h.written, some_encoding order (Ewkb (header h.s).srid) h.t)
 
-module _ {bytes offsets validity : List ℕ} {i start : ℕ} (row : List ℕ) (null : is_null validity i ≡ false) (is : IsRow bytes offsets i row) where
+module _ {bytes offsets validity : List ℕ} {i start : ℕ} (row : List ℕ) (null : is_null_row validity i ≡ false) (is : IsRow bytes offsets i row) where
   pub list_step : (at status count : ℕ) (before lent sub after : List Part) → at ≡ min start (length before) → lent ≡ drop at before
       → after ≡ take at before ++ sub → length sub ≡ length lent → (status ≡ OK → IsTable row lent sub count)
       → (status ≡ NO_ROOM → LacksEntries row lent count) → (status ≢ OK → sub ≡ lent)

@@ -19,13 +19,13 @@ use Rattle.wkb_read.specs.Views.{IsCollectionOf}
 use Rattle.wkb_view.specs.declared.point.Point as views
 use Rattle.wkb_c.specs.declared.parts.Part.{Part}
 use Rattle.wkb_c.specs.declared.parts.Table.{Table}
-use Rattle.wkb_c.specs.Tables.{entry, entries, ring_entries, member_entries, rings_size, rings_of, body_size, leading}
+use Rattle.wkb_c.specs.Tables.{entry, entries, ring_entries, member_entries, size_of_rings, rings_of, content_size, leading}
 use Rattle.wkb_c.specs.Tables.{count_of, size, sizes}
 use Rattle.wkb_c.specs.Tables.{entry_count, entry_counts}
 use Rattle.wkb_c.specs.declared.parts.PartHead.{PartHead}
-use Rattle.wkb_c.specs.Growing.{Grows, Lists, ListsMembers, HasMembers, header_size, spellings_from, values_from, Added}
+use Rattle.wkb_c.specs.Growing.{Grows, Lists, ListsMembers, HasMembers, header_bytes, spellings_from, values_from, Added}
 use Rattle.wkb_c.specs.Growing.{RingsAdded}
-use Rattle.wkb_c.specs.Growing.{IsHead, Opens, Closes, closed, added_entry}
+use Rattle.wkb_c.specs.Growing.{IsHead, OpensPart, Closes, closed, added_entry}
 
 -- ---- dimensions
 
@@ -178,7 +178,7 @@ no_rings (multi_line_string d lines) h = refl
 no_rings (multi_polygon d polygons) h = refl
 no_rings (collection d ts) h = refl
 
-no_body : (t : Value) → HasMembers t → body_size t ≡ 0
+no_body : (t : Value) → HasMembers t → content_size t ≡ 0
 no_body (point d c) h = absurd (omega arith)
 no_body (line_string d cs) h = absurd (omega arith)
 no_body (polygon d rings) h = absurd (omega arith)
@@ -187,7 +187,7 @@ no_body (multi_line_string d lines) h = refl
 no_body (multi_polygon d polygons) h = refl
 no_body (collection d ts) h = refl
 
-leads : (h : Header) (t : Value) → HasMembers t → leading h t ≡ header_size h.srid + 4
+leads : (h : Header) (t : Value) → HasMembers t → leading h t ≡ header_bytes h.srid + 4
 leads h (point d c) m = absurd (omega arith)
 leads h (line_string d cs) m = omega arith
 leads h (polygon d rings) m = omega arith
@@ -203,7 +203,7 @@ members_fit (node h words ss) t at m fits = (omega (arith, fits), omega (arith, 
 
 -- the head of such a geometry
 pub whole_head : (s : Spelling) (t : Value) (head : PartHead) → HasMembers t → head.kind ≡ kind t → head.dimension ≡ dimension t
-    → head.srid ≡ srid_of s → head.order ≡ order_byte (order_of s) → head.leading ≡ header_size (srid_of s) + 4 → IsHead s t head
+    → head.srid ≡ srid_of s → head.order ≡ order_byte (order_of s) → head.leading ≡ header_bytes (srid_of s) + 4 → IsHead s t head
 whole_head (node h words ss) t head m kind_is dimension_is srid_is order_is lead = record {
   kind_is = kind_is;
   dimension_is = dimension_is;
@@ -218,7 +218,7 @@ opens_fits s t head at m is fits = omega (arith, is.leading_is, (members_fit s t
 
 -- a part that has neither rings nor members
 pub listed_leaf : (s : Spelling) (t : Value) (old new : Table) (head : PartHead) (n body : ℕ) → IsHead s t head → n ≡ count_of t
-    → rings_of t ≡ [] → members t ≡ no_members → body ≡ body_size t
+    → rings_of t ≡ [] → members t ≡ no_members → body ≡ content_size t
     → Grows old new (added_entry (length old.parts.items) old.at head body n ∷ []) (head.leading + body) → Lists old new s t
 listed_leaf (node h words ss) t old new head n body is counted no_ring no_member sized g =
     let index = length old.parts.items in
@@ -237,10 +237,10 @@ listed_leaf (node h words ss) t old new head n body is counted no_ring no_member
 
 -- a part that has rings or members, once these were added and it was closed
 listed_open : (s : Spelling) (t : Value) (old mid late new : Table) (n index bytes : ℕ) (inner : List Part) → n ≡ count_of t
-    → index ≡ length old.parts.items → Opens old mid s t n → Grows mid late inner bytes → Closes late new index
+    → index ≡ length old.parts.items → OpensPart old mid s t n → Grows mid late inner bytes → Closes late new index
     → inner ≡ ring_entries (dimension t) (order_byte (order_of s)) (length mid.parts.items) mid.at (rings_of t)
     ++ member_entries (length mid.parts.items) mid.at (members_spelled s) (members t)
-    → bytes ≡ body_size t + sizes (members_spelled s) (members t) → Lists old new s t
+    → bytes ≡ content_size t + sizes (members_spelled s) (members t) → Lists old new s t
 listed_open (node h words ss) t old mid late new n index bytes inner counted at_index o g shut same sized =
     let is = o.head_is in
     let before = length old.parts.items in
@@ -272,7 +272,7 @@ listed_open (node h words ss) t old mid late new n index bytes inner counted at_
     }
 
 pub listed_whole : (s : Spelling) (t : Value) (old mid late new : Table) (n index : ℕ) → HasMembers t → n ≡ count_of t
-    → index ≡ length old.parts.items → Opens old mid s t n → ListsMembers mid late (members_spelled s) (members t) → Closes late new index
+    → index ≡ length old.parts.items → OpensPart old mid s t n → ListsMembers mid late (members_spelled s) (members t) → Closes late new index
     → Lists old new s t
 listed_whole s t old mid late new n index m counted at_index o g shut =
     listed_open s t old mid late new n index _ _ counted at_index o g shut
@@ -282,7 +282,7 @@ listed_whole s t old mid late new n index m counted at_index o g shut =
 
 -- so it is of the geometry that a view is a view of
 pub listed_view : (w v : Item) (old mid late new : Table) (n index : ℕ) → v ≡ w → HasMembers v.value → n ≡ count_of v.value
-    → index ≡ length old.parts.items → Opens old mid w.spelled w.value n → ListsMembers mid late (members_spelled v.spelled) (members v.value)
+    → index ≡ length old.parts.items → OpensPart old mid w.spelled w.value n → ListsMembers mid late (members_spelled v.spelled) (members v.value)
     → Closes late new index → Lists old new w.spelled w.value
 listed_view w v old mid late new n index is m counted at_index o g shut =
     listed_whole w.spelled w.value old mid late new n index (subst (λ (x : Item). HasMembers x.value) is m)
@@ -307,10 +307,10 @@ rings_none d order rings t = record { parts = refl; at = refl }
 
 pub rings_fit : (d e : Dimension) (order : ℕ) (rings : List (List Coordinate)) (start : Table) (i : ℕ) (now : Table) (ring : List Coordinate)
     → dimensions e ≡ dimensions d
-    → RingsAdded d order rings start i now → Some ring ≡ slice_get rings i → start.at + rings_size d rings < 2 ^ 63
+    → RingsAdded d order rings start i now → Some ring ≡ slice_get rings i → start.at + size_of_rings d rings < 2 ^ 63
     → now.at + ring_end e (length ring) < 2 ^ 63
 rings_fit d e order rings start i now ring same a is fits =
-    omega (arith, a.at, fits, ap (rings_size d) (drop_ring rings i ring is), ap (λ (x : Dimension). ring_end x (length ring)) (one_name e d same))
+    omega (arith, a.at, fits, ap (size_of_rings d) (drop_ring rings i ring is), ap (λ (x : Dimension). ring_end x (length ring)) (one_name e d same))
 
 pub listed_ring : (d : Dimension) (order n : ℕ) (ring : List Coordinate) (old new : Table) (head : PartHead) (body : ℕ) → head.kind ≡ 0
     → head.dimension ≡ d → head.srid ≡ None → head.order ≡ order → head.leading ≡ 4 → n ≡ length ring → body ≡ 8 * width d * length ring
@@ -341,18 +341,18 @@ rings_more d e order rings start i now then ring same a is grows =
           ∙ append_assoc now.parts.items one (ring_entries d order (many + 1) (now.at + ring_end d (length ring)) rest)
           ∙ ap (λ (r : List (List Coordinate)). now.parts.items ++ ring_entries d order many now.at r) (sym (drop_ring rings i ring is))
           ∙ a.parts;
-      at = omega (arith, g.at, a.at, ap (rings_size d) (drop_ring rings i ring is));
+      at = omega (arith, g.at, a.at, ap (size_of_rings d) (drop_ring rings i ring is));
     })
 
 pub rings_all : (d : Dimension) (order : ℕ) (rings : List (List Coordinate)) (start : Table) (i : ℕ) (now : Table) → length rings ≤ i
     → RingsAdded d order rings start i now
-    → Grows start now (ring_entries d order (length start.parts.items) start.at rings) (rings_size d rings)
+    → Grows start now (ring_entries d order (length start.parts.items) start.at rings) (size_of_rings d rings)
 rings_all d order rings start i now past a =
     let none = drop_past rings i past in
     record {
       parts = sym (append-nil now.parts.items)
           ∙ ap (λ (r : List (List Coordinate)). now.parts.items ++ ring_entries d order (length now.parts.items) now.at r) (sym none) ∙ a.parts;
-      at = omega (arith, a.at, ap (rings_size d) none);
+      at = omega (arith, a.at, ap (size_of_rings d) none);
     }
 
 -- ---- the first byte
@@ -371,14 +371,14 @@ pub no_first : {A : Type 0} (l : List A) → None ≡ slice_get l 0 → 0 ≡ le
 no_first [] is = refl
 no_first (a ∷ l) is = absurd (cc)
 
-pub rings_are_few : (d : Dimension) (rings : List (List Coordinate)) → length rings ≤ rings_size d rings
+pub rings_are_few : (d : Dimension) (rings : List (List Coordinate)) → length rings ≤ size_of_rings d rings
 rings_are_few d [] = omega arith
 rings_are_few d (cs ∷ rings) = omega (arith, rings_are_few d rings)
 
 -- ---- a polygon
 
 pub polygon_head : (s : Spelling) (d : Dimension) (rings : List (List Coordinate)) (head : PartHead) → head.kind ≡ 3 → head.dimension ≡ d
-    → head.srid ≡ srid_of s → head.order ≡ order_byte (order_of s) → head.leading ≡ header_size (srid_of s) + 4 → IsHead s (polygon d rings) head
+    → head.srid ≡ srid_of s → head.order ≡ order_byte (order_of s) → head.leading ≡ header_bytes (srid_of s) + 4 → IsHead s (polygon d rings) head
 polygon_head (node h words ss) d rings head kind_is dimension_is srid_is order_is lead = record {
   kind_is = kind_is;
   dimension_is = dimension_is;
@@ -388,8 +388,8 @@ polygon_head (node h words ss) d rings head kind_is dimension_is srid_is order_i
 }
 
 pub listed_polygon : (s : Spelling) (d : Dimension) (rings : List (List Coordinate)) (old mid late new : Table) (n order index : ℕ) → n ≡ length rings
-    → index ≡ length old.parts.items → order ≡ order_byte (order_of s) → Opens old mid s (polygon d rings) n
-    → Grows mid late (ring_entries d order (length mid.parts.items) mid.at rings) (rings_size d rings) → Closes late new index
+    → index ≡ length old.parts.items → order ≡ order_byte (order_of s) → OpensPart old mid s (polygon d rings) n
+    → Grows mid late (ring_entries d order (length mid.parts.items) mid.at rings) (size_of_rings d rings) → Closes late new index
     → Lists old new s (polygon d rings)
 listed_polygon (node h words ss) d rings old mid late new n order index counted at_index ordered o g shut =
     let many = length mid.parts.items in
@@ -428,7 +428,7 @@ collection_has : (w : Item) (ms : List Item) → IsCollectionOf w ms → HasMemb
 collection_has w ms c = subst (λ (x : Item). HasMembers x.value) c.is (omega arith)
 
 pub collection_fits : (w : Item) (ms : List Item) (old mid : Table) (n : ℕ) → IsCollectionOf w ms → old.at + size w.spelled w.value < 2 ^ 63
-    → Opens old mid w.spelled w.value n → mid.at + sizes (spellings ms) (values ms) < 2 ^ 63
+    → OpensPart old mid w.spelled w.value n → mid.at + sizes (spellings ms) (values ms) < 2 ^ 63
 collection_fits w ms old mid n c fits o =
     omega (
       arith,
@@ -440,7 +440,7 @@ collection_fits w ms old mid n c fits o =
     )
 
 pub listed_collection : (w : Item) (ms : List Item) (old mid late new : Table) (n index : ℕ) → IsCollectionOf w ms → n ≡ length ms
-    → index ≡ length old.parts.items → Opens old mid w.spelled w.value n → ListsMembers mid late (spellings ms) (values ms) → Closes late new index
+    → index ≡ length old.parts.items → OpensPart old mid w.spelled w.value n → ListsMembers mid late (spellings ms) (values ms) → Closes late new index
     → Lists old new w.spelled w.value
 listed_collection w ms old mid late new n index c counted at_index o g shut =
     listed_whole w.spelled w.value old mid late new n index (collection_has w ms c) (counted ∙ collection_counted w ms c) at_index o

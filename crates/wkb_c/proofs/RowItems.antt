@@ -9,7 +9,7 @@ use Rattle.std.proofs.lemmas.List.{take-append-drop, take-append-le, drop-append
 use Rattle.std.proofs.lemmas.Slice.{drop-append-drop, between_to_end}
 use lib.Seq.{get_or-set_same, get_or-set_other}
 use Rattle.wkb_c.specs.declared.status.TheConstants.{OK, NO_ROOM}
-use Rattle.wkb_c.specs.Columns.{is_null, IsRow}
+use Rattle.wkb_c.specs.Columns.{is_null_row, IsRow}
 use Rattle.wkb_c.specs.Room.{IsHeld, LacksRoom}
 use Rattle.wkb_c.specs.RowItems.{start_of, end_of, IsRowAnswer, handed, no_room, failed, null_row, bad_offsets}
 use Rattle.wkb_c.specs.RowItems.{AreRowAnswers, KeepsBehind, IsRowStep, put, lacks, fails, is_no_row, lies_outside}
@@ -254,7 +254,7 @@ lent_length : {A : Type 0} (at : ℕ) (before lent : List A) → lent ≡ drop a
 lent_length at before lent lent_is = ap length lent_is ∙ length-drop at before
 
 module _ {A : Type 0} {Has : List ℕ → List A → Type 0} {Fails : List ℕ → ℕ → Type 0} {bytes offsets validity : List ℕ} {i status count start : ℕ}
-    (row : List ℕ) (null : is_null validity i ≡ false) (is : IsRow bytes offsets i row) (at : ℕ) (before lent sub after : List A)
+    (row : List ℕ) (null : is_null_row validity i ≡ false) (is : IsRow bytes offsets i row) (at : ℕ) (before lent sub after : List A)
     (at_is : at ≡ min start (length before)) (lent_is : lent ≡ drop at before) (after_is : after ≡ take at before ++ sub) where
   -- its items were put
   pub put_step : (items : List A) → Has row items → status ≡ OK → 0 < length items → IsHeld items lent sub count → length sub ≡ length lent

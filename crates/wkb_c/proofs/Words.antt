@@ -16,8 +16,8 @@ use Rattle.wkb_geom.specs.Grammar.{IsEach}
 use Rattle.wkb_laws.proofs.Parts.{drop_front, number-front}
 use Rattle.wkb_c.specs.declared.parts.Part.{Part}
 use Rattle.wkb_c.proofs.Growth.{entries_are}
-use Rattle.wkb_c.specs.Tables.{Place, Piece, entry, place, ring_place, entry_count, entry_counts, entries, ring_entries}
-use Rattle.wkb_c.specs.Tables.{member_entries, rings_size, rings_of, body_size, leading, count_of, size, sizes}
+use Rattle.wkb_c.specs.Tables.{Extent, Piece, entry, place, ring_place, entry_count, entry_counts, entries, ring_entries}
+use Rattle.wkb_c.specs.Tables.{member_entries, size_of_rings, rings_of, content_size, leading, count_of, size, sizes}
 use Rattle.wkb_c.specs.Tables.{coordinates_of, ring_pieces, pieces, member_pieces, HoldsWords, HoldEach}
 
 -- ---- lengths
@@ -40,7 +40,7 @@ ring_length : (order : Endianness) (d : Dimension) (cs : List Coordinate) (bytes
 ring_length order d cs bytes h = omega (arith, ap length h.whole, length-append h.front h.rest, h.first.len, items_length order d cs h.rest h.second)
 
 rings_length : (order : Endianness) (d : Dimension) (rings : List (List Coordinate)) (bytes : List ℕ) → IsEach (SpellsCoordinates order d) rings bytes
-    → length bytes ≡ rings_size d rings
+    → length bytes ≡ size_of_rings d rings
 rings_length order d [] bytes h = omega (arith, ap length h)
 rings_length order d (cs ∷ rings) bytes h =
     omega (arith, ap length h.whole, length-append h.front h.rest, ring_length order d cs h.front h.first, rings_length order d rings h.rest h.second)
@@ -54,7 +54,7 @@ header_length h k d bytes is =
     omega (arith, ap length is.whole, length-append is.code_field is.srid_field, is.code.len, srid_length h.order h.srid is.srid_field is.srid)
 
 body_length : (h : Header) (words : List ℕ) (t : Value) (bytes : List ℕ) → SpellsBody h.order words t bytes
-    → 5 + srid_size (is_some h.srid) + length bytes ≡ leading h t + body_size t
+    → 5 + srid_size (is_some h.srid) + length bytes ≡ leading h t + content_size t
 body_length h words (point d None) bytes b = omega (arith, coordinate_length h.order d words bytes b.1)
 body_length h words (point d (Some c)) bytes b = omega (arith, coordinate_length h.order d c bytes b.2)
 body_length h words (line_string d cs) bytes b = omega (arith, ring_length h.order d cs bytes b.1)
@@ -136,7 +136,7 @@ coordinate_at order d (x ∷ cs) bytes rest (suc i) n w c h this that =
     ∙ drop_front (8 * width d) h.front (h.rest ++ rest) (coordinate_length order d x h.front h.first))
     ∙ coordinate_at order d cs h.rest rest i n w c h.second this that
 
-holds_words : (input : List ℕ) (k : ℕ) (d : Dimension) (srid : Option ℕ) (order : Endianness) (p : Place) (n : ℕ) (cs : List Coordinate)
+holds_words : (input : List ℕ) (k : ℕ) (d : Dimension) (srid : Option ℕ) (order : Endianness) (p : Extent) (n : ℕ) (cs : List Coordinate)
     (bytes rest : List ℕ) → drop p.offset input ≡ bytes ++ rest
     → IsEach (SpellsCoordinate order d) cs bytes → HoldsWords input (entry k d srid (order_byte order) p n) order cs
 holds_words input k d srid order p n cs bytes rest stands each i m w c this that =
@@ -145,7 +145,7 @@ holds_words input k d srid order p n cs bytes rest stands each i m w c this that
     ap (number order 8) (sym (drop-drop j at input)) ∙ ap (λ (y : List ℕ). number order 8 (drop j y)) stands
     ∙ coordinate_at order d cs bytes rest i m w c each this that
 
-holds_one : (input : List ℕ) (k : ℕ) (d : Dimension) (srid : Option ℕ) (order : Endianness) (p : Place) (n : ℕ) (c : Coordinate) (bytes rest : List ℕ)
+holds_one : (input : List ℕ) (k : ℕ) (d : Dimension) (srid : Option ℕ) (order : Endianness) (p : Extent) (n : ℕ) (c : Coordinate) (bytes rest : List ℕ)
     → drop p.offset input ≡ bytes ++ rest
     → SpellsCoordinate order d c bytes → HoldsWords input (entry k d srid (order_byte order) p n) order (c ∷ [])
 holds_one input k d srid order p n c bytes rest stands one =

@@ -12,8 +12,8 @@ is_zero_bit None k = false
 is_zero_bit (Some byte) k = nat_eq (byte / 2 ^ k % 2) 0
 
 -- whether a row is null: its bit is 0, from the lowest bit of the first byte on
-abbrev pub is_null : List ℕ → ℕ → Bool
-is_null validity i = is_zero_bit (slice_get validity (i / 8)) (i % 8)
+abbrev pub is_null_row : List ℕ → ℕ → Bool
+is_null_row validity i = is_zero_bit (slice_get validity (i / 8)) (i % 8)
 
 -- the bytes of a row: those from its offset up to the next one, where these don't fall or pass the end of the data
 pub record IsRow (bytes offsets : List ℕ) (i : ℕ) (row : List ℕ) : Type 0 where
@@ -36,10 +36,10 @@ pub data IsStatusOf : List ℕ → ℕ → Type 0 where
 
 -- what a row of a column is answered
 pub data IsStatusOfRow (bytes offsets validity : List ℕ) (i : ℕ) (status : ℕ) : Type 0 where
-  null_row : is_null validity i ≡ true → status ≡ NULL_ROW → IsStatusOfRow bytes offsets validity i status
-  bad_offsets : is_null validity i ≡ false → HasNoRow bytes offsets i → status ≡ BAD_OFFSETS
+  null_row : is_null_row validity i ≡ true → status ≡ NULL_ROW → IsStatusOfRow bytes offsets validity i status
+  bad_offsets : is_null_row validity i ≡ false → HasNoRow bytes offsets i → status ≡ BAD_OFFSETS
       → IsStatusOfRow bytes offsets validity i status
-  checked_row : (row : List ℕ) → is_null validity i ≡ false → IsRow bytes offsets i row → IsStatusOf row status
+  checked_row : (row : List ℕ) → is_null_row validity i ≡ false → IsRow bytes offsets i row → IsStatusOf row status
       → IsStatusOfRow bytes offsets validity i status
 
 -- so it is of the rows below this number

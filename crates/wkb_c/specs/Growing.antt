@@ -8,7 +8,7 @@ use Rattle.wkb_geom.specs.Spellings.{Spelling, Spellings, no_spellings, spelling
 use Rattle.wkb_c.specs.declared.parts.Part.{Part}
 use Rattle.wkb_c.specs.declared.parts.PartHead.{PartHead}
 use Rattle.wkb_c.specs.declared.parts.Table.{Table}
-use Rattle.wkb_c.specs.Tables.{entry, leading, entries, ring_entries, member_entries, rings_size, size, sizes}
+use Rattle.wkb_c.specs.Tables.{entry, leading, entries, ring_entries, member_entries, size_of_rings, size, sizes}
 
 -- these entries were added, and the next part begins so many bytes further on
 pub record Grows (old new : Table) (added : List Part) (bytes : ℕ) : Type 0 where
@@ -65,14 +65,14 @@ pub record IsHead (s : Spelling) (t : Value) (head : PartHead) : Type 0 where
   pub leading_is : head.leading ≡ leading (header s) t
 
 -- the entry of this geometry was added, with so many rings or members, but not those
-pub record Opens (old new : Table) (s : Spelling) (t : Value) (n : ℕ) : Type 0 where
+pub record OpensPart (old new : Table) (s : Spelling) (t : Value) (n : ℕ) : Type 0 where
   pub head : PartHead
   pub head_is : IsHead s t head
   pub grows : Grows old new (added_entry (length old.parts.items) old.at head 0 n ∷ []) (head.leading + 0)
 
 -- the bytes of a header
-abbrev pub header_size : Option ℕ → ℕ
-header_size srid = 5 + srid_size (is_some srid)
+abbrev pub header_bytes : Option ℕ → ℕ
+header_bytes srid = 5 + srid_size (is_some srid)
 
 -- spellings and values from a number on
 abbrev pub spellings_from : ℕ → Spellings → Spellings
@@ -95,4 +95,4 @@ pub record Added (ss : Spellings) (ts : Values) (start : Table) (i : ℕ) (now :
 pub record RingsAdded (d : Dimension) (order : ℕ) (rings : List (List Coordinate)) (start : Table) (i : ℕ) (now : Table) : Type 0 where
   pub parts : now.parts.items ++ ring_entries d order (length now.parts.items) now.at (drop i rings)
       ≡ start.parts.items ++ ring_entries d order (length start.parts.items) start.at rings
-  pub at : now.at + rings_size d (drop i rings) ≡ start.at + rings_size d rings
+  pub at : now.at + size_of_rings d (drop i rings) ≡ start.at + size_of_rings d rings

@@ -1,7 +1,7 @@
 -- What rows hand out one behind another: the items of a row begin where those of the row before it end.
 use Rattle.std.specs.Prelude.{◌≡◌, ℕ, zero, suc, ◌+◌, ◌-◌, ◌^◌, ◌<◌, ◌≤◌, ◌++◌, true, false, List, length, drop, take}
 use Rattle.std.specs.Prelude.{min, slice_range, slice_index}
-use Rattle.wkb_c.specs.Columns.{is_null, IsRow, HasNoRow}
+use Rattle.wkb_c.specs.Columns.{is_null_row, IsRow, HasNoRow}
 use Rattle.wkb_c.specs.declared.status.TheConstants.{OK, NO_ROOM, NULL_ROW, BAD_OFFSETS}
 
 -- where the items of a row begin
@@ -17,17 +17,17 @@ end_of start n = min (start + n) (2 ^ 64 - 1)
 -- of those bytes. `Fails row status`: they have none, for this reason.
 pub data IsRowAnswer {A : Type 0} (Has : List ℕ → List A → Type 0) (Fails : List ℕ → ℕ → Type 0) (bytes offsets validity : List ℕ) (i status start end : ℕ)
     (out : List A) : Type 0 where
-  handed : (row : List ℕ) (items : List A) → is_null validity i ≡ false → IsRow bytes offsets i row → Has row items → status ≡ OK
+  handed : (row : List ℕ) (items : List A) → is_null_row validity i ≡ false → IsRow bytes offsets i row → Has row items → status ≡ OK
       → end ≡ start + length items → end ≤ length out → slice_range out start end ≡ items
       → IsRowAnswer Has Fails bytes offsets validity i status start end out
-  no_room : (row : List ℕ) (items : List A) → is_null validity i ≡ false → IsRow bytes offsets i row → Has row items → status ≡ NO_ROOM
+  no_room : (row : List ℕ) (items : List A) → is_null_row validity i ≡ false → IsRow bytes offsets i row → Has row items → status ≡ NO_ROOM
       → end ≡ end_of start (length items) → length out < start + length items
       → IsRowAnswer Has Fails bytes offsets validity i status start end out
-  failed : (row : List ℕ) → is_null validity i ≡ false → IsRow bytes offsets i row → Fails row status → end ≡ start
+  failed : (row : List ℕ) → is_null_row validity i ≡ false → IsRow bytes offsets i row → Fails row status → end ≡ start
       → IsRowAnswer Has Fails bytes offsets validity i status start end out
-  null_row : is_null validity i ≡ true → status ≡ NULL_ROW → end ≡ start
+  null_row : is_null_row validity i ≡ true → status ≡ NULL_ROW → end ≡ start
       → IsRowAnswer Has Fails bytes offsets validity i status start end out
-  bad_offsets : is_null validity i ≡ false → HasNoRow bytes offsets i → status ≡ BAD_OFFSETS → end ≡ start
+  bad_offsets : is_null_row validity i ≡ false → HasNoRow bytes offsets i → status ≡ BAD_OFFSETS → end ≡ start
       → IsRowAnswer Has Fails bytes offsets validity i status start end out
 
 -- so it is of the rows below this number
@@ -44,15 +44,15 @@ KeepsBehind rows statuses ends before after =
 -- there is room for them.
 pub data IsRowStep {A : Type 0} (Has : List ℕ → List A → Type 0) (Fails : List ℕ → ℕ → Type 0) (bytes offsets validity : List ℕ) (i status count start : ℕ)
     (before after : List A) : Type 0 where
-  put : (row : List ℕ) (items : List A) → is_null validity i ≡ false → IsRow bytes offsets i row → Has row items → status ≡ OK
+  put : (row : List ℕ) (items : List A) → is_null_row validity i ≡ false → IsRow bytes offsets i row → Has row items → status ≡ OK
       → count ≡ length items → start + count ≤ length before → after ≡ take start before ++ (items ++ drop (start + count) before)
       → IsRowStep Has Fails bytes offsets validity i status count start before after
-  lacks : (row : List ℕ) (items : List A) → is_null validity i ≡ false → IsRow bytes offsets i row → Has row items → status ≡ NO_ROOM
+  lacks : (row : List ℕ) (items : List A) → is_null_row validity i ≡ false → IsRow bytes offsets i row → Has row items → status ≡ NO_ROOM
       → count ≡ length items → length before < start + count → after ≡ before
       → IsRowStep Has Fails bytes offsets validity i status count start before after
-  fails : (row : List ℕ) → is_null validity i ≡ false → IsRow bytes offsets i row → Fails row status → count ≡ 0 → after ≡ before
+  fails : (row : List ℕ) → is_null_row validity i ≡ false → IsRow bytes offsets i row → Fails row status → count ≡ 0 → after ≡ before
       → IsRowStep Has Fails bytes offsets validity i status count start before after
-  is_no_row : is_null validity i ≡ true → status ≡ NULL_ROW → count ≡ 0 → after ≡ before
+  is_no_row : is_null_row validity i ≡ true → status ≡ NULL_ROW → count ≡ 0 → after ≡ before
       → IsRowStep Has Fails bytes offsets validity i status count start before after
-  lies_outside : is_null validity i ≡ false → HasNoRow bytes offsets i → status ≡ BAD_OFFSETS → count ≡ 0 → after ≡ before
+  lies_outside : is_null_row validity i ≡ false → HasNoRow bytes offsets i → status ≡ BAD_OFFSETS → count ≡ 0 → after ≡ before
       → IsRowStep Has Fails bytes offsets validity i status count start before after

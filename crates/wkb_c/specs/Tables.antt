@@ -18,19 +18,19 @@ use Rattle.wkb_c.specs.declared.parts.Part.{Part}
 
 -- where a part stands: its first byte, where its coordinates, rings or members begin, one past its last byte;
 -- and the index after its own parts
-pub record Place : Type 0 where
+pub record Extent : Type 0 where
   pub begin : ℕ
   pub offset : ℕ
   pub end : ℕ
   pub next : ℕ
 
 -- whether there is an SRID, as a number
-abbrev pub srid_flag : Option ℕ → ℕ
-srid_flag None = 0
-srid_flag (Some srid) = 1
+abbrev pub has_srid_number : Option ℕ → ℕ
+has_srid_number None = 0
+has_srid_number (Some srid) = 1
 
 -- the entry of a part of this kind, which has so many coordinates, rings or members, at this place
-abbrev pub entry : ℕ → Dimension → Option ℕ → ℕ → Place → ℕ → Part
+abbrev pub entry : ℕ → Dimension → Option ℕ → ℕ → Extent → ℕ → Part
 entry k d srid order p n = record {
   begin = p.begin;
   end = p.end;
@@ -38,7 +38,7 @@ entry k d srid order p n = record {
   count = n;
   next = p.next;
   srid = unwrap_or srid 0;
-  has_srid = srid_flag srid;
+  has_srid = has_srid_number srid;
   kind = k;
   dimension = thousands d;
   width = width d;
@@ -66,19 +66,19 @@ rings_of (polygon d rings) = rings
 rings_of _ = []
 
 -- the bytes of rings
-abbrev pub rings_size : Dimension → List (List Coordinate) → ℕ
-rings_size d [] = 0
-rings_size d (cs ∷ rest) = ring_end d (length cs) + rings_size d rest
+abbrev pub size_of_rings : Dimension → List (List Coordinate) → ℕ
+size_of_rings d [] = 0
+size_of_rings d (cs ∷ rest) = ring_end d (length cs) + size_of_rings d rest
 
 -- the bytes of coordinates, and of rings
-abbrev pub body_size : Value → ℕ
-body_size (point d c) = 8 * width d
-body_size (line_string d cs) = 8 * width d * length cs
-body_size (polygon d rings) = rings_size d rings
-body_size _ = 0
+abbrev pub content_size : Value → ℕ
+content_size (point d c) = 8 * width d
+content_size (line_string d cs) = 8 * width d * length cs
+content_size (polygon d rings) = size_of_rings d rings
+content_size _ = 0
 
 -- the place of a ring
-abbrev pub ring_place : Dimension → ℕ → ℕ → ℕ → Place
+abbrev pub ring_place : Dimension → ℕ → ℕ → ℕ → Extent
 ring_place d index at n = record { begin = at; offset = at + 4; end = at + ring_end d n; next = index + 1 }
 
 -- the entries of rings, the first of which has this index and begins at this byte
@@ -91,7 +91,7 @@ ring_entries d order index at (cs ∷ rest) =
 -- the bytes of a geometry, and of members
 abbrev mutual
   pub size : Spelling → Value → ℕ
-  size (node h words ss) t = leading h t + body_size t + sizes ss (members t)
+  size (node h words ss) t = leading h t + content_size t + sizes ss (members t)
 
   pub sizes : Spellings → Values → ℕ
   sizes no_spellings ts = 0
@@ -109,7 +109,7 @@ abbrev mutual
   entry_counts (spelling s ss) (member t ts) = entry_count s t + entry_counts ss ts
 
 -- the place of a geometry
-abbrev pub place : ℕ → ℕ → Header → Spelling → Value → Place
+abbrev pub place : ℕ → ℕ → Header → Spelling → Value → Extent
 place index at h s t =
     record { begin = at; offset = at + leading h t; end = at + size s t; next = index + entry_count s t }
 
@@ -145,9 +145,9 @@ coordinates_of words (line_string d cs) = cs
 coordinates_of words _ = []
 
 -- its coordinates
-abbrev pub coordinates_in : Piece → List Coordinate
-coordinates_in (whole (node h words ss) t) = coordinates_of words t
-coordinates_in (ring order d cs) = cs
+abbrev pub piece_coordinates : Piece → List Coordinate
+piece_coordinates (whole (node h words ss) t) = coordinates_of words t
+piece_coordinates (ring order d cs) = cs
 
 -- these are its bytes
 abbrev pub SpellsPiece : Piece → List ℕ → Type 0
@@ -181,7 +181,7 @@ pub record Holds (input : List ℕ) (p : Part) (x : Piece) : Type 0 where
   pub stand : drop p.begin input ≡ bytes ++ rest
   pub end_is : p.end ≡ p.begin + length bytes
   pub spell : SpellsPiece x bytes
-  pub words : HoldsWords input p (order_in x) (coordinates_in x)
+  pub words : HoldsWords input p (order_in x) (piece_coordinates x)
 
 -- so it is of each part, and there are as many parts on either side
 abbrev pub HoldEach : List ℕ → List Part → List Piece → Type 0

@@ -1,7 +1,7 @@
 //! The rows of a column, as Arrow has it: bytes one row after another, and where each begins.
 
 ghost use Rattle.std.specs.Prelude.{◌≡◌, ◌<◌, ◌^◌, length, IfSome, IfNone};
-ghost use Rattle.wkb_c.specs.Columns.{is_null as has_zero_bit, IsRow, HasNoRow};
+ghost use Rattle.wkb_c.specs.Columns.{is_null_row, IsRow, HasNoRow};
 ghost use Rattle.wkb_c.specs.Columns.{IsStatusOf, IsStatusOfRow, AreStatuses};
 
 use crate::fault::{Fault, check_input};
@@ -9,7 +9,7 @@ use crate::status::{BAD_OFFSETS, NULL_ROW, OK};
 
 /// Whether the row of this number is null. Without validity bits none is.
 pub fn is_null(validity: &[u8], i: usize) -> bool
-    ensures { result ≡ has_zero_bit validity.now i }
+    ensures { result ≡ is_null_row validity.now i }
 {
     match validity.get(i / 8) {
         Some(byte) => (byte >> (i % 8)) % 2 == 0,

@@ -59,7 +59,7 @@ pub fn dimension_number(dimension: Dimension) -> u8
 }
 
 /// How many words a coordinate has.
-pub fn width(dimension: Dimension) -> u8
+pub fn words_each(dimension: Dimension) -> u8
     ensures { result ≡ words dimension }
 {
     match dimension {
@@ -90,6 +90,6 @@ pub fn found_of(summary: &Summary) -> Found
         has_srid: summary.srid.is_some(),
         kind: summary.wkb_type.kind() as u8,
         dimension: dimension_number(dimension),
-        width: width(dimension),
+        width: words_each(dimension),
     }
 }

@@ -11,12 +11,12 @@ ghost use Rattle.wkb_geom.specs.Stored.{whole_of};
 ghost use Rattle.wkb_view.specs.Coords.{ring_seen, ring_dimension};
 ghost use Rattle.wkb_view.specs.Parts.{members_spelled};
 ghost use Rattle.wkb_view.specs.Views.{point_seen, line_string_seen, multi_point_seen};
-ghost use Rattle.wkb_c.specs.Tables.{entries, ring_entries, rings_size, size, sizes, IsTable, LacksEntries, HasParts};
-ghost use Rattle.wkb_c.specs.Growing.{Grows, Lists, ListsMembers, HasMembers, IsHead, Opens, Closes, added_entry};
-ghost use Rattle.wkb_c.specs.Growing.{header_size as header_bytes};
+ghost use Rattle.wkb_c.specs.Tables.{entries, ring_entries, size_of_rings, size, sizes, IsTable, LacksEntries, HasParts};
+ghost use Rattle.wkb_c.specs.Growing.{Grows, Lists, ListsMembers, HasMembers, IsHead, OpensPart, Closes, added_entry};
+ghost use Rattle.wkb_c.specs.Growing.{header_bytes};
 
 use crate::encoding::read_checked;
-use crate::found::{dimension_number, kind_number, width};
+use crate::found::{dimension_number, kind_number, words_each};
 use crate::room::hand_out;
 use crate::status::{NO_MEMORY, NO_ROOM, OK};
 use std::alloc::{AllocError, Global};
@@ -77,7 +77,7 @@ pub struct PartHead {
 }
 
 /// The bytes of a header.
-fn header_size(srid: Option<u32>) -> u64
+fn bytes_of_header(srid: Option<u32>) -> u64
     ensures { result ≡ header_bytes srid }
 {
     if srid.is_some() { 9 } else { 5 }
@@ -106,7 +106,7 @@ fn add(table: &mut Table, head: PartHead, count: u64, coordinates: u64) -> Resul
         has_srid: if head.srid.is_some() { 1 } else { 0 },
         kind: head.kind as u16,
         dimension: dimension_number(head.dimension) as u16,
-        width: width(head.dimension) as u16,
+        width: words_each(head.dimension) as u16,
         order: head.order as u16,
     })?;
     table.at = end;
@@ -134,9 +134,9 @@ fn add_point(table: &mut Table, point: &Point<'_>) -> Result<(), AllocError>
         dimension: point.dimension(),
         srid: point.srid(),
         order: point.byte_order().into(),
-        leading: header_size(point.srid()),
+        leading: bytes_of_header(point.srid()),
     };
-    add(table, head, 1, 8 * width(point.dimension()) as u64)
+    add(table, head, 1, 8 * words_each(point.dimension()) as u64)
 }
 
 fn add_line_string(table: &mut Table, line: &LineString<'_>) -> Result<(), AllocError>
@@ -150,14 +150,14 @@ fn add_line_string(table: &mut Table, line: &LineString<'_>) -> Result<(), Alloc
         dimension: line.dimension(),
         srid: line.srid(),
         order: line.byte_order().into(),
-        leading: header_size(line.srid()) + 4,
+        leading: bytes_of_header(line.srid()) + 4,
     };
     let count = line.num_coords() as u64;
     add(
         table,
         head,
         count,
-        8 * width(line.dimension()) as u64 * count,
+        8 * words_each(line.dimension()) as u64 * count,
     )
 }
 
@@ -180,12 +180,12 @@ fn add_ring(table: &mut Table, ring: &LinearRing<'_>, order: u8) -> Result<(), A
         table,
         head,
         count,
-        8 * width(ring.dimension()) as u64 * count,
+        8 * words_each(ring.dimension()) as u64 * count,
     )
 }
 
 /// How many rings a polygon has.
-fn num_rings(polygon: &Polygon<'_>) -> usize
+fn count_rings(polygon: &Polygon<'_>) -> usize
     requires { length polygon.now.parts < 2 ^ 63 }
     ensures { result ≡ length polygon.now.parts }
 {
@@ -196,7 +196,7 @@ fn num_rings(polygon: &Polygon<'_>) -> usize
 }
 
 /// The ring of this number, of which the exterior is the first.
-fn ring<'a>(polygon: &Polygon<'a>, i: usize) -> Option<LinearRing<'a>>
+fn polygon_ring<'a>(polygon: &Polygon<'a>, i: usize) -> Option<LinearRing<'a>>
     ensures part { option_map ring_seen result ≡ slice_get polygon.now.parts i }
     ensures dimension { IfSome result (λ r. trait_dimensions (ring_dimension r)
         ≡ trait_dimensions polygon.now.dimension) }
@@ -210,13 +210,13 @@ fn ring<'a>(polygon: &Polygon<'a>, i: usize) -> Option<LinearRing<'a>>
 
 /// Adds the rings of a polygon.
 fn add_rings(table: &mut Table, polygon: &Polygon<'_>, order: u8) -> Result<(), AllocError>
-    requires fits { table.old.at + rings_size polygon.now.dimension polygon.now.parts < 2 ^ 63 }
+    requires fits { table.old.at + size_of_rings polygon.now.dimension polygon.now.parts < 2 ^ 63 }
     ensures { IfOk result (λ done. Grows table.old table.new
         (ring_entries polygon.now.dimension order (length table.old.parts.items) table.old.at polygon.now.parts)
-        (rings_size polygon.now.dimension polygon.now.parts)) }
+        (size_of_rings polygon.now.dimension polygon.now.parts)) }
 {
-    for i in 0..num_rings(polygon) {
-        match ring(polygon, i) {
+    for i in 0..count_rings(polygon) {
+        match polygon_ring(polygon, i) {
             Some(ring) => add_ring(table, &ring, order)?,
             None => unreachable!(),
         }
@@ -243,10 +243,10 @@ fn add_polygon(table: &mut Table, polygon: &Polygon<'_>) -> Result<(), AllocErro
         dimension: polygon.dimension(),
         srid: polygon.srid(),
         order: first_byte(polygon.buf()),
-        leading: header_size(polygon.srid()) + 4,
+        leading: bytes_of_header(polygon.srid()) + 4,
     };
     let index = table.parts.len();
-    add(table, head, num_rings(polygon) as u64, 0)?;
+    add(table, head, count_rings(polygon) as u64, 0)?;
     add_rings(table, polygon, head.order)?;
     close(table, index);
     Ok(())
@@ -302,7 +302,7 @@ fn add_polygons(table: &mut Table, multi: &MultiPolygon<'_>) -> Result<(), Alloc
 
 /// Adds the members of a collection.
 #[cycle(table)]
-fn add_members(table: &mut Table, members: &[Wkb<'_>]) -> Result<(), AllocError>
+fn add_each_member(table: &mut Table, members: &[Wkb<'_>]) -> Result<(), AllocError>
     requires fits { table.old.at + sizes (spellings members.now) (values members.now) < 2 ^ 63 }
     ensures { IfOk result (λ done. ListsMembers table.old table.new (spellings members.now) (values members.now)) }
 {
@@ -323,7 +323,7 @@ fn head_of(wkb: &Wkb<'_>) -> PartHead
         dimension: wkb.dimension(),
         srid,
         order: first_byte(wkb.buf()),
-        leading: header_size(srid) + 4,
+        leading: bytes_of_header(srid) + 4,
     }
 }
 
@@ -331,7 +331,7 @@ fn head_of(wkb: &Wkb<'_>) -> PartHead
 fn add_whole(table: &mut Table, wkb: &Wkb<'_>, count: usize) -> Result<(), AllocError>
     requires fits { table.old.at + size wkb.now.spelled wkb.now.value < 2 ^ 63 }
     requires holds { HasMembers wkb.now.value }
-    ensures { IfOk result (λ done. Opens table.old table.new wkb.now.spelled wkb.now.value count) }
+    ensures { IfOk result (λ done. OpensPart table.old table.new wkb.now.spelled wkb.now.value count) }
 {
     add(table, head_of(wkb), count as u64, 0)
 }
@@ -367,7 +367,7 @@ fn add_geometry(table: &mut Table, wkb: &Wkb<'_>) -> Result<(), AllocError>
         }
         GeometryType::GeometryCollection(members) => {
             add_whole(table, wkb, members.len())?;
-            add_members(table, members)?;
+            add_each_member(table, members)?;
             close(table, index);
             Ok(())
         }

@@ -7,8 +7,8 @@ use Rattle.wkb_c.proofs.Growth.{item_value, items_count}
 use Rattle.wkb_c.proofs.Growth.{member_nodes}
 use Rattle.wkb_c.proofs.parts.+table.Goals as goal
 
-pub add_members-add_geometry-requires : goal.add_members-add_geometry-requires
-add_members-add_geometry-requires t c =
+pub add_each_member-add_geometry-requires : goal.add_each_member-add_geometry-requires
+add_each_member-add_geometry-requires t c =
     let ms = c.args.members.now in
     let i = c.loop-member.member-index in
     let item = slice_get_read ms (length ms) i c.member-item.result refl c.loop-member-test.true c.member-item.is in (
@@ -17,16 +17,16 @@ add_members-add_geometry-requires t c =
           c.requires.fits,
     )
 
-pub add_members-loop-member-preserved : goal.add_members-loop-member-preserved
-add_members-loop-member-preserved t c =
+pub add_each_member-loop-member-preserved : goal.add_each_member-loop-member-preserved
+add_each_member-loop-member-preserved t c =
     let ms = c.args.members.now in
     let i = c.loop-member.member-index in
     let item = slice_get_read ms (length ms) i c.member-item.result refl c.loop-member-test.true c.member-item.is in
     added_more _ _ _ _ _ _ _ _ c.loop-member.invariant (item_spelling ms i c.member-item.result item) (item_value ms i c.member-item.result item)
     c.in_ok-add_geometry.ensures
 
-pub add_members-returns : goal.add_members-returns
-add_members-returns t c =
+pub add_each_member-returns : goal.add_each_member-returns
+add_each_member-returns t c =
     added_all _ _ _ c.loop-member.member-index _ (omega (arith, c.loop-member-test.false, items_count c.args.members.now)) c.loop-member.invariant
 
 pub add_geometry-returns-in_ok-add_points-in-MultiPoint : goal.add_geometry-returns-in_ok-add_points-in-MultiPoint
@@ -53,9 +53,9 @@ add_geometry-returns-in_ok-add_polygons-in-MultiPolygon t c =
     (c.len-index.ensures ∙ c.args.table.now.parts.ok.0) c.in_ok-add_whole-in-MultiPolygon.ensures
     c.in_ok-add_polygons-in-MultiPolygon.ensures k.ensures
 
-pub add_geometry-returns-in_ok-add_members-in-GeometryCollection : goal.add_geometry-returns-in_ok-add_members-in-GeometryCollection
-add_geometry-returns-in_ok-add_members-in-GeometryCollection t c =
+pub add_geometry-returns-in_ok-add_each_member-in-GeometryCollection : goal.add_geometry-returns-in_ok-add_each_member-in-GeometryCollection
+add_geometry-returns-in_ok-add_each_member-in-GeometryCollection t c =
     let k = c.close-in-GeometryCollection in
     listed_collection c.args.wkb.now c.in-GeometryCollection.members.now c.args.table.now _ _ k.new.table _ _ c.in-GeometryCollection.ensures.view
     refl (c.len-index.ensures ∙ c.args.table.now.parts.ok.0) c.in_ok-add_whole-in-GeometryCollection.ensures
-    c.in_ok-add_members-in-GeometryCollection.ensures k.ensures
+    c.in_ok-add_each_member-in-GeometryCollection.ensures k.ensures

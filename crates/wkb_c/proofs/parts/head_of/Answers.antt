@@ -1,6 +1,6 @@
 use Rattle.std.proofs.Common.{rules}
 use Rattle.wkb_c.proofs.Common.{◌∙◌, ◌+◌, ap}
-use Rattle.wkb_c.specs.Growing.{header_size}
+use Rattle.wkb_c.specs.Growing.{header_bytes}
 use Rattle.wkb_c.proofs.Growth.{first_is_order, whole_head}
 use Rattle.wkb_c.proofs.parts.head_of.Goals as goal
 
@@ -11,4 +11,4 @@ pub returns : goal.returns
 returns c =
     whole_head c.args.wkb.now.spelled c.args.wkb.now.value _ c.requires (search rules) c.dimension.ensures c.srid-srid.ensures
     (c.first_byte.ensures ∙ rw c.buf.ensures.encoding (first_is_order _ c.buf.ensures.spells).1)
-    (ap (λ n. n + 4) (c.header_size.ensures ∙ ap header_size c.srid-srid.ensures))
+    (ap (λ n. n + 4) (c.bytes_of_header.ensures ∙ ap header_bytes c.srid-srid.ensures))

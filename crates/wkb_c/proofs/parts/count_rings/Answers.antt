@@ -1,6 +1,6 @@
 use Rattle.wkb_c.proofs.Common.{arith, length-map, dimensions, fitted_line_string}
 use Rattle.wkb_c.proofs.Growth.{no_first}
-use Rattle.wkb_c.proofs.parts.num_rings.Goals as goal
+use Rattle.wkb_c.proofs.parts.count_rings.Goals as goal
 
 pub overflow_add-result : goal.overflow_add-result
 overflow_add-result c =
