@@ -10,10 +10,10 @@ pub use wkb_laws::places::{
     rings_stand, words_stand,
 };
 pub use wkb_laws::{
-    cut_is_refused, equal_encodings, equal_encodings_with_own_srid, equal_encodings_with_srid,
-    front_is_writable, geometry_agrees, named_dimension, one_front, read_or_refused,
-    refused_outward, rest_is_free, rewriting_is_fixed, rewriting_is_read, encoding_length, encoding_spells,
-    work_is_bounded, written_is_read,
+    cut_is_refused, encoding_length, encoding_spells, equal_encodings,
+    equal_encodings_with_own_srid, equal_encodings_with_srid, front_is_writable, geometry_agrees,
+    named_dimension, one_front, read_or_refused, refused_outward, rest_is_free, rewriting_is_fixed,
+    rewriting_is_read, work_is_bounded, written_is_read,
 };
 
 /// A slice of bytes holds bytes, each below 256, as laws ask it of what they are said of.

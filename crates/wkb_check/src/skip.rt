@@ -40,7 +40,9 @@ fn after_line_string(layout: Layout, bytes: &[u8]) -> Result<(u32, &[u8]), Cause
         Ok(count) => count,
         Err(cause) => return Err(cause),
     };
-    let end = layout.header_length() as u64 + 4 + 8 * layout.dimension.width() as u64 * count as u64;
+    let end = layout.header_length() as u64
+        + 4
+        + 8 * layout.dimension.width() as u64 * count as u64;
     if (bytes.len() as u64) < end {
         return Err(Cause::General(General::ShortLineString {
             end,
