@@ -12,11 +12,11 @@ use Rattle.wkb_geom.specs.declared.error.WkbError.{WkbError}
 use Rattle.wkb_geom.specs.declared.error.WkbError.TheVariants as errors
 use Rattle.wkb_geom.specs.Encodings.{encoding, fault, or_else, size_fault, form_srid, IsForm, IsWritable}
 use Rattle.wkb_geom.specs.Errors.{IsMemory}
-use Rattle.wkb_geom.specs.Fronts.{Front}
+use Rattle.wkb_geom.specs.Fronts.{Front, HasNoFront}
 use Rattle.wkb_geom.specs.Geometries.{geometry_of}
 use Rattle.wkb_geom.specs.Numbers.{AreBytes}
 use Rattle.wkb_laws.proofs.Lengths.{length_of_encoding_lem, length_of_front_lem, size_is_refused_lem, front_is_writable_lem}
-use Rattle.wkb_read.specs.Public.{IfRefused, HasNoFront}
+use Rattle.wkb_read.specs.Public.{IfRefused}
 use Rattle.wkb_write.specs.Measures.{Reports}
 use Rattle.wkb_write.specs.Answers.{encoding_of}
 use Rattle.wkb_write.specs.declared.writable.WriteOptions.{WriteOptions}
