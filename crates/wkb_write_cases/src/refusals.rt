@@ -3,7 +3,7 @@
 ghost use Rattle.std.specs.Prelude.{◌≡◌, false};
 
 use crate::answers::{Answer, size_answer, writer_answer};
-use crate::kinds::{Answers, ENCODINGS, FIVE_WORDS, Kind, put_kind};
+use crate::kinds::{Answers, ENCODINGS, FIVE_WORDS, Kind, iso_size, put_kind};
 use crate::long_line::LongLine;
 use crate::sinks::{LimitedSink, LimitedWriter, Limits};
 use std::alloc::Global;
@@ -11,8 +11,7 @@ use std::test::Fail;
 use wkb::Endianness;
 use wkb::geom::{Dimensions, Geometry};
 use wkb::writer::{
-    Out, Sink, SliceSink, VecSink, geometry_wkb_size, line_string_wkb_size, write_geometry,
-    write_line_string,
+    Out, Sink, SliceSink, VecSink, line_string_wkb_size, write_geometry, write_line_string,
 };
 use wkb_cases::spelled::Spelled;
 use wkb_cases::support::{collection_of_two, empty_point_of, iso};
@@ -70,7 +69,7 @@ fn unknown_dimensions_in_a_collection(rt: HostRuntime) -> Result<(), Fail> {
     let second = Geometry::Point(empty_point_of(Dimensions::Unknown(5))?);
     let collection = collection_of_two(rt.alloc(), Dimensions::Xy, first, second)?;
     let mut sink = VecSink::new(rt.alloc());
-    let size = size_answer(&geometry_wkb_size(&collection));
+    let size = size_answer(&iso_size(&collection));
     let options = iso(Endianness::LittleEndian);
     let written = writer_answer(&write_geometry(&mut sink, &collection, &options));
     assert!(rt; size == Answer::UnsupportedDimensions(5));
