@@ -7,16 +7,16 @@ ghost use Rattle.wkb_write.specs.Words.{header_encoding, inner, encoding, Lays, 
 ghost use Rattle.wkb_write.specs.Words.{form_with_flags, IsAdded, IsMeasured, Reports, result_of};
 
 use crate::lent::{lent_encoding, write_lent};
-use crate::line::{LineKind, write_line};
+use crate::line::LineKind;
 use crate::line_string::{LineStringKind, write_line_string};
 use crate::measure::{Measured, check_count, check_dimensions};
-use crate::multi_line_string::{MultiLineStringKind, write_multi_line_string};
-use crate::multi_point::{MultiPointKind, write_multi_point};
-use crate::multi_polygon::{MultiPolygonKind, write_multi_polygon};
+use crate::multi_line_string::MultiLineStringKind;
+use crate::multi_point::MultiPointKind;
+use crate::multi_polygon::MultiPolygonKind;
 use crate::point::{PointKind, write_point};
 use crate::polygon::{PolygonKind, write_polygon};
-use crate::rect::{RectKind, write_rect};
-use crate::triangle::{TriangleKind, write_triangle};
+use crate::rect::RectKind;
+use crate::triangle::TriangleKind;
 use crate::writable::{Put, Writable, size_as, vec_as, write_as};
 use crate::{Sink, WriteOptions};
 use std::alloc::Global;
@@ -252,18 +252,11 @@ pub fn write_geometry<S: Sink, G: GeometryTrait>(
         return write_lent(writer, geom, encoding, options);
     }
     match geom.as_type() {
+        // Most geometries are of these kinds, and go by their own writers at once.
         GeometryType::Point(p) => write_point(writer, p, options),
         GeometryType::LineString(l) => write_line_string(writer, l, options),
         GeometryType::Polygon(p) => write_polygon(writer, p, options),
-        GeometryType::MultiPoint(m) => write_multi_point(writer, m, options),
-        GeometryType::MultiLineString(m) => write_multi_line_string(writer, m, options),
-        GeometryType::MultiPolygon(m) => write_multi_polygon(writer, m, options),
-        GeometryType::GeometryCollection(_) => write_as::<S, G, GeometryKind>(
-            writer, geom, options,
-        ),
-        GeometryType::Line(l) => write_line(writer, l, options),
-        GeometryType::Rect(r) => write_rect(writer, r, options),
-        GeometryType::Triangle(t) => write_triangle(writer, t, options),
+        _ => write_as::<S, G, GeometryKind>(writer, geom, options),
     }
 }
 
