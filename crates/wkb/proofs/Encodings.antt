@@ -28,7 +28,8 @@ use Rattle.wkb_read.specs.Public.{IsFront, IsRefusal, CanBeWritten}
 use Rattle.wkb.specs.Canonical.{IsSize, IsAccepted, IsTooLong, HaveOneValue, HaveTwoValues}
 
 -- a length that is a fault
-too_large_by : (n : ℕ) (f : Fault) (b : Bool) → nat_lt n (2 ^ 64) ≡ b → (if b then None else Some size_overflow) ≡ Some f → (2 ^ 64 ≤ n) × (f ≡ size_overflow)
+too_large_by : (n : ℕ) (f : Fault) (b : Bool) → nat_lt n (2 ^ 64) ≡ b
+    → (if b then None else Some size_overflow) ≡ Some f → (2 ^ 64 ≤ n) × (f ≡ size_overflow)
 too_large_by n f true e is = absurd (cc)
 too_large_by n f false e is = (grind (arith, nat_tests), cc)
 
@@ -37,7 +38,8 @@ unfolding size_fault
 too_large n f is = too_large_by n f (nat_lt n (2 ^ 64)) refl is
 
 -- a length that is none
-fits_by : (n : ℕ) (b : Bool) → nat_lt n (2 ^ 64) ≡ b → ◌≡◌ {A = Option Fault} (if b then None else Some size_overflow) None → n < 2 ^ 64
+fits_by : (n : ℕ) (b : Bool) → nat_lt n (2 ^ 64) ≡ b
+    → ◌≡◌ {A = Option Fault} (if b then None else Some size_overflow) None → n < 2 ^ 64
 fits_by n true e is = grind (arith, nat_tests)
 fits_by n false e is = absurd (cc)
 
@@ -62,7 +64,8 @@ size_error e count_overflow is told = absurd (cc)
 size_error e (unsupported_dimensions n) is told = absurd (cc)
 
 -- Where the ISO encoding of a geometry can be written, what is refused in another form is its length.
-refused_size : (order : Endianness) (form : Form) (g : Geometry) (e : WkbError) → IsWritable order Iso g → Reports e (refusal order form g)
+refused_size : (order : Endianness) (form : Form) (g : Geometry) (e : WkbError) → IsWritable order Iso g
+    → Reports e (refusal order form g)
     → (length (encoding order Iso g) < 2 ^ 64) × (2 ^ 64 ≤ length (encoding order form g)) × IsSize e
 refused_size order form g e writable h =
     let iso = first_none (fault g) (size_fault (length (encoding order Iso g))) writable in
@@ -71,25 +74,31 @@ refused_size order form g e writable h =
     (fits (length (encoding order Iso g)) iso.1, large.0, size_error e h.fault large.1 h.told)
 
 -- the encoding of a geometry that was read
-pub rewriting : (order : Endianness) (form : Form) (buf out : List ℕ) (w : Item) → IsFront buf w → out ≡ encoding order form (geometry_of w.value)
+pub rewriting : (order : Endianness) (form : Form) (buf out : List ℕ) (w : Item) → IsFront buf w
+    → out ≡ encoding order form (geometry_of w.value)
     → IsRewriting order form buf out
 rewriting order form buf out w front written =
     record { s = w.spelled; t = w.value; rest = front.rest; front = front.front; written = written }
 
-pub rewriting_with_srid : (order : Endianness) (buf out : List ℕ) (w : Item) (srid : Option ℕ) → IsFront buf w → srid ≡ (header w.spelled).srid
+pub rewriting_with_srid : (order : Endianness) (buf out : List ℕ) (w : Item) (srid : Option ℕ) → IsFront buf w
+    → srid ≡ (header w.spelled).srid
     → out ≡ encoding order (Ewkb srid) (geometry_of w.value) → IsRewritingWithSrid order buf out
 rewriting_with_srid order buf out w srid front is written =
     record { s = w.spelled; t = w.value; rest = front.rest; front = front.front; written = rw is at written }
 
 -- what a writer refuses of a geometry that was read
-pub too_long : (order : Endianness) (form : Form) (buf : List ℕ) (w : Item) (e : WkbError) → IsFront buf w → CanBeWritten w.value
+pub too_long : (order : Endianness) (form : Form) (buf : List ℕ) (w : Item) (e : WkbError) → IsFront buf w
+    → CanBeWritten w.value
     → Reports e (refusal order form (geometry_of w.value)) → IsTooLong order form buf × IsSize e
 too_long order form buf w e front writable h =
-    let size = refused_size order form (geometry_of w.value) e (writable order) h in
-    (record { s = w.spelled; t = w.value; rest = front.rest; front = front.front; plain = size.0; with_srid = size.1 }, size.2)
+    let size = refused_size order form (geometry_of w.value) e (writable order) h in (
+      record { s = w.spelled; t = w.value; rest = front.rest; front = front.front; plain = size.0; with_srid = size.1 },
+      size.2,
+    )
 
 -- want of memory, or what a writer refuses
-pub refused_or_long : (order : Endianness) (form : Form) (buf : List ℕ) (w : Item) (e : WkbError) → IsFront buf w → CanBeWritten w.value
+pub refused_or_long : (order : Endianness) (form : Form) (buf : List ℕ) (w : Item) (e : WkbError) → IsFront buf w
+    → CanBeWritten w.value
     → IsMemory e ⊎ Reports e (refusal order form (geometry_of w.value))
     → IsMemory e ⊎ (IsRefusal buf e ⊎ (IsTooLong order form buf × IsSize e))
 refused_or_long order form buf w e front writable (inl memory) = inl memory
@@ -109,7 +118,8 @@ pub iso_fits : (order : Endianness) (buf : List ℕ) → IsTooLong order Iso buf
 iso_fits order buf h = let low = h.plain in let high = h.with_srid in omega (arith, low, high)
 
 -- what is refused under ISO is what the reader refuses
-pub iso_refused : (order : Endianness) (buf : List ℕ) (e : WkbError) → IsMemory e ⊎ (IsRefusal buf e ⊎ (IsTooLong order Iso buf × IsSize e))
+pub iso_refused : (order : Endianness) (buf : List ℕ) (e : WkbError)
+    → IsMemory e ⊎ (IsRefusal buf e ⊎ (IsTooLong order Iso buf × IsSize e))
     → IsMemory e ⊎ IsRefusal buf e
 iso_refused order buf e (inl memory) = inl memory
 iso_refused order buf e (inr (inl refused)) = inr refused
@@ -119,15 +129,25 @@ pub accepted : (order : Endianness) (form : Form) (buf out : List ℕ) → IsRew
 accepted order form buf out h = record { s = h.s; t = h.t; rest = h.rest; front = h.front }
 
 -- inputs that are rewritten alike
-pub have_one_value : (order : Endianness) (a b x y : List ℕ) → AreBytes a → AreBytes b → IsRewriting order Iso a x → IsRewriting order Iso b y
+pub have_one_value : (order : Endianness) (a b x y : List ℕ) → AreBytes a → AreBytes b → IsRewriting order Iso a x
+    → IsRewriting order Iso b y
     → x ≡ y → HaveOneValue a b
 have_one_value order a b x y bytes bytes' h k same =
     let law = equal_encodings_lem order Iso a b h.s k.s h.t k.t h.rest k.rest tt bytes bytes' h.front k.front in
     let one : h.t ≡ k.t = law.0 (sym h.written ∙ same ∙ k.written) in
-    record { s = h.s; u = k.s; t = h.t; rest = h.rest; more = k.rest; first = h.front; second = subst (λ v. Front b k.s v k.rest) (sym one) k.front }
+    record {
+      s = h.s;
+      u = k.s;
+      t = h.t;
+      rest = h.rest;
+      more = k.rest;
+      first = h.front;
+      second = subst (λ v. Front b k.s v k.rest) (sym one) k.front;
+    }
 
 -- inputs that are rewritten in two ways
-pub have_two_values : (order : Endianness) (a b x y : List ℕ) → AreBytes a → AreBytes b → IsRewriting order Iso a x → IsRewriting order Iso b y
+pub have_two_values : (order : Endianness) (a b x y : List ℕ) → AreBytes a → AreBytes b → IsRewriting order Iso a x
+    → IsRewriting order Iso b y
     → x ≢ y → HaveTwoValues a b
 have_two_values order a b x y bytes bytes' h k differ =
     let law = equal_encodings_lem order Iso a b h.s k.s h.t k.t h.rest k.rest tt bytes bytes' h.front k.front in
@@ -144,13 +164,15 @@ have_two_values order a b x y bytes bytes' h k differ =
     }
 
 -- the comparison of two rewritings answers for the values
-compared_by : (order : Endianness) (a b x y : List ℕ) (equal : Bool) → AreBytes a → AreBytes b → IsRewriting order Iso a x → IsRewriting order Iso b y
+compared_by : (order : Endianness) (a b x y : List ℕ) (equal : Bool) → AreBytes a → AreBytes b
+    → IsRewriting order Iso a x → IsRewriting order Iso b y
     → Decides equal (x ≡ y) → MatchBool equal (HaveOneValue a b) (HaveTwoValues a b)
 compared_by order a b x y true bytes bytes' h k decides = have_one_value order a b x y bytes bytes' h k (decides.0 refl)
 compared_by order a b x y false bytes bytes' h k decides =
     have_two_values order a b x y bytes bytes' h k (λ one. let never : false ≡ true = decides.1 one in absurd (cc))
 
-pub compared : (order : Endianness) (a b x y v w : List ℕ) (equal : Bool) → AreBytes a → AreBytes b → IsRewriting order Iso a x → IsRewriting order Iso b y
+pub compared : (order : Endianness) (a b x y v w : List ℕ) (equal : Bool) → AreBytes a → AreBytes b
+    → IsRewriting order Iso a x → IsRewriting order Iso b y
     → v ≡ x → w ≡ y → equal ≡ bytes_eq v w → MatchBool equal (HaveOneValue a b) (HaveTwoValues a b)
 compared order a b x y v w equal bytes bytes' h k is is' tested =
     let decides = subst (λ r. Decides r (v ≡ w)) (sym tested) (bytes_eq-Decides v w) in

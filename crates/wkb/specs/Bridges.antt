@@ -20,14 +20,14 @@ use Rattle.wkb.specs.Writes.{Writes, WriteOptions, IsSpelled}
 use Rattle.wkb.specs.Laws.{IsOneOf, IsMember, StandsAt}
 
 -- A refusal as one fact: an error of the reader is want of memory, or this holds of it.
-pub refused : (P : WkbError → Type 0) (e : WkbError) → IfRefused (Err e) P → IsMemory e ⊎ P e
-refused P (errors.Memory x) h = inl tt
-refused P (errors.IncorrectType x) h = inr h
-refused P (errors.NotYetImplemented x) h = inr h
-refused P (errors.General x) h = inr h
-refused P (errors.NestingDepthExceeded x) h = inr h
-refused P (errors.OverflowError x) h = inr h
-refused P (errors.IOError x) h = inr h
+pub memory_or : (P : WkbError → Type 0) (e : WkbError) → IfRefused (Err e) P → IsMemory e ⊎ P e
+memory_or P (errors.Memory x) h = inl tt
+memory_or P (errors.IncorrectType x) h = inr h
+memory_or P (errors.NotYetImplemented x) h = inr h
+memory_or P (errors.General x) h = inr h
+memory_or P (errors.NestingDepthExceeded x) h = inr h
+memory_or P (errors.OverflowError x) h = inr h
+memory_or P (errors.IOError x) h = inr h
 
 -- A dimension has one name among the dimensions of the traits.
 pub one_name : (d e : Dimension) → dimensions d ≡ dimensions e → d ≡ e
@@ -37,7 +37,8 @@ one_name Xym Xym h = refl
 one_name Xyzm Xyzm h = refl
 one_name _ _ h = absurd cc
 
-one_of_each : {A : Type 0} (f : A → Value) (ss : Spellings) (l : List A) (k : ℕ) (s : Spelling) (a : A) → Some s ≡ slice_get (list_of_spellings ss) k
+one_of_each : {A : Type 0} (f : A → Value) (ss : Spellings) (l : List A) (k : ℕ) (s : Spelling) (a : A)
+    → Some s ≡ slice_get (list_of_spellings ss) k
     → Some a ≡ slice_get l k → IsOneOf k ss (each f l) s (f a)
 one_of_each f no_spellings l zero s a is of = absurd (cc)
 one_of_each f no_spellings l (suc k) s a is of = absurd (cc)
@@ -50,23 +51,28 @@ one_of_each f (spelling u ss) (b ∷ l) zero s a is of =
 one_of_each f (spelling u ss) (b ∷ l) (suc k) s a is of = one_of_each f ss l k s a is of
 
 -- The part that the call of a multi geometry answers for an index is the member of this number.
-pub member_at : {A : Type 0} (f : A → Value) (u : Spelling) (v : Value) (l : List A) (k : ℕ) (s : Spelling) (a : A) → members v ≡ each f l
+pub part_is_member : {A : Type 0} (f : A → Value) (u : Spelling) (v : Value) (l : List A) (k : ℕ) (s : Spelling) (a : A)
+    → members v ≡ each f l
     → Some s ≡ spelling_at u k → Some a ≡ slice_get l k → IsMember k u v s (f a)
-member_at f (node g ws ss) v l k s a same is of = subst (λ vs. IsOneOf k ss vs s (f a)) (sym same) (one_of_each f ss l k s a is of)
+part_is_member f (node g ws ss) v l k s a same is of =
+    subst (λ vs. IsOneOf k ss vs s (f a)) (sym same) (one_of_each f ss l k s a is of)
 
-one_of : (ms : List Item) (k : ℕ) (m : Item) → slice_get ms k ≡ Some m → IsOneOf k (spellings ms) (values ms) m.spelled m.value
+one_of : (ms : List Item) (k : ℕ) (m : Item) → slice_get ms k ≡ Some m
+    → IsOneOf k (spellings ms) (values ms) m.spelled m.value
 one_of [] k m is = absurd (cc)
 one_of (x ∷ ms) zero m is =
     let same : x ≡ m = cc in
     (ap (λ (i : Item). i.spelled) (sym same), ap (λ (i : Item). i.value) (sym same))
 one_of (x ∷ ms) (suc k) m is = one_of ms k m is
 
-unlisted : (u : Spelling) (d : Dimension) (vs : Values) (k : ℕ) (s : Spelling) (t : Value) → IsOneOf k (members_spelled u) vs s t
+unlisted : (u : Spelling) (d : Dimension) (vs : Values) (k : ℕ) (s : Spelling) (t : Value)
+    → IsOneOf k (members_spelled u) vs s t
     → IsMember k u (collection d vs) s t
 unlisted (node g ws ss) d vs k s t h = h
 
 -- So it is in a collection.
-pub member_of : (w : Item) (ms : List Item) (k : ℕ) (m : Item) → IsCollectionOf w ms → slice_get ms k ≡ Some m → IsMember k w.spelled w.value m.spelled m.value
+pub member_of : (w : Item) (ms : List Item) (k : ℕ) (m : Item) → IsCollectionOf w ms → slice_get ms k ≡ Some m
+    → IsMember k w.spelled w.value m.spelled m.value
 member_of w ms k m c is =
     let inside = subst (λ vs. IsOneOf k (spellings ms) vs m.spelled m.value) c.all.value (one_of ms k m is) in
     subst (λ (v : Item). IsMember k v.spelled v.value m.spelled m.value) c.is
@@ -74,7 +80,8 @@ member_of w ms k m c is =
     (subst (λ ss. IsOneOf k ss c.whole.parts m.spelled m.value) c.all.spelled inside))
 
 -- what a writer that answers Ok was not refused
-appended_by : (options : WriteOptions) (g : Geometry) (x : Unit {0}) (untouched : Type 0) (old new : Option (List ℕ)) (failed : Bool)
+appended_by : (options : WriteOptions) (g : Geometry) (x : Unit {0}) (untouched : Type 0) (old new : Option (List ℕ))
+    (failed : Bool)
     (fails_by : Option Error → Type 0) (o : Option Fault) → refusal options.endianness options.form g ≡ o
     → Writes options g (Ok x) untouched old new failed fails_by
     → Appends old new (encoding options.endianness options.form g)
@@ -82,31 +89,44 @@ appended_by options g x untouched old new failed fails_by None is w = (w.written
 appended_by options g x untouched old new failed fails_by (Some f) is w = absurd ((w.refused f is).0)
 
 -- At Ok the encoding was appended.
-pub appended : {options : WriteOptions} {g : Geometry} {r : Result (Unit {0}) WkbError} {x : Unit {0}} {untouched : Type 0} {old new : Option (List ℕ)} {failed : Bool}
+pub appended : {options : WriteOptions} {g : Geometry} {r : Result
+    (Unit {0}) WkbError} {x : Unit {0}} {untouched : Type 0} {old new : Option (List ℕ)} {failed : Bool}
     {fails_by : Option Error → Type 0} → Writes options g r untouched old new failed fails_by → r ≡ Ok x
     → Appends old new (encoding options.endianness options.form g)
 appended {options = options} {g = g} {x = x} {untouched = untouched} {old = old} {new = new} {failed = failed} {fails_by = fails_by} w is =
-    appended_by options g x untouched old new failed fails_by _ refl (subst (λ q. Writes options g q untouched old new failed fails_by) is w)
+    appended_by options g x untouched old new failed fails_by _ refl
+    (subst (λ q. Writes options g q untouched old new failed fails_by) is w)
 
 -- So a sink that held nothing holds the encoding.
-pub encoding_alone : {options : WriteOptions} {g : Geometry} {r : Result (Unit {0}) WkbError} {x : Unit {0}} {untouched : Type 0} {old new : List ℕ} {failed : Bool}
-    {fails_by : Option Error → Type 0} → old ≡ [] → Writes options g r untouched (Some old) (Some new) failed fails_by → r ≡ Ok x
+pub encoding_alone : {options : WriteOptions} {g : Geometry} {r : Result
+    (Unit {0}) WkbError} {x : Unit {0}} {untouched : Type 0} {old new : List ℕ} {failed : Bool}
+    {fails_by : Option Error → Type 0} → old ≡ [] → Writes options g r untouched (Some old) (Some new) failed fails_by
+    → r ≡ Ok x
     → new ≡ encoding options.endianness options.form g
-encoding_alone {options = options} {g = g} empty w is = appended w is ∙ ap (λ l. l ++ encoding options.endianness options.form g) empty
+encoding_alone {options = options} {g = g} empty w is =
+    appended w is ∙ ap (λ l. l ++ encoding options.endianness options.form g) empty
 
 -- what is said of an Ok holds of an answer that is one
 of_ok : {A E : Type 0} (r : Result A E) (x : A) (P : A → Type 0) → r ≡ Ok x → IfOk r P → P x
 of_ok r x P is h = subst (λ q. IfOk q P) is h
 
 -- Read again, it is the value that the geometry stands for, in the options' order and with their SRID.
-pub read_again : {options : WriteOptions} {g : Geometry} {r : Result (Unit {0}) WkbError} {x : Unit {0}} {untouched : Type 0} {old new : List ℕ} {failed : Bool}
-    {fails_by : Option Error → Type 0} → old ≡ [] → Writes options g r untouched (Some old) (Some new) failed fails_by → r ≡ Ok x
+pub read_again : {options : WriteOptions} {g : Geometry} {r : Result
+    (Unit {0}) WkbError} {x : Unit {0}} {untouched : Type 0} {old new : List ℕ} {failed : Bool}
+    {fails_by : Option Error → Type 0} → old ≡ [] → Writes options g r untouched (Some old) (Some new) failed fails_by
+    → r ≡ Ok x
     → nest (normal g) ≤ max_nesting
     → (s : Spelling) × Front new s (normal g) [] × HasOptions options.endianness options.form s
 read_again {options = options} {g = g} {r = r} {x = x} {old = old} {new = new} empty w is shallow =
-    let h : IsSpelled options (normal g) (Some old) (Some new) = of_ok r x (λ _. IsSpelled options (normal g) (Some old) (Some new)) is w.spelled in (
+    let h : IsSpelled options (normal g) (Some old) (Some new) =
+    of_ok r x (λ _. IsSpelled options (normal g) (Some old) (Some new)) is w.spelled in (
       h.spelling,
-      record { front = h.encoding; whole = h.appended ∙ ap (λ l. l ++ h.encoding) empty ∙ sym (append-nil h.encoding); spelled = h.spelled; shallow = shallow },
+      record {
+        front = h.encoding;
+        whole = h.appended ∙ ap (λ l. l ++ h.encoding) empty ∙ sym (append-nil h.encoding);
+        spelled = h.spelled;
+        shallow = shallow;
+      },
       h.options_kept,
     )
 
@@ -124,7 +144,10 @@ front_stands {buf = buf} {w = w} f =
 -- The bytes behind an offset stand there.
 pub rest_stands : (n : ℕ) (whole : List ℕ) → n ≤ length whole → StandsAt n (drop n whole) whole
 rest_stands n whole long =
-    record { within = omega (arith, length-drop n whole); is = take_all (length (drop n whole)) (drop n whole) (omega arith) }
+    record {
+      within = omega (arith, length-drop n whole);
+      is = take_all (length (drop n whole)) (drop n whole) (omega arith);
+    }
 
 -- A part of a part is a part.
 pub stands_within : {a b : ℕ} {x y z : List ℕ} → StandsAt a x y → StandsAt b y z → StandsAt (b + a) x z
@@ -132,13 +155,16 @@ stands_within {a = a} {b = b} {x = x} {y = y} {z = z} p q =
     let left = length y - a in
     let long : length y ≡ a + left = omega (arith, p.within) in
     let inside : drop a y ≡ take left (drop (b + a) z) =
-    ap (drop a) (sym q.is) ∙ ap (λ n. drop a (take n (drop b z))) long ∙ drop-take a left (drop b z) ∙ ap (take left) (drop-drop a b z) in
+    ap (drop a) (sym q.is) ∙ ap (λ n. drop a (take n (drop b z))) long ∙ drop-take a left (drop b z)
+    ∙ ap (take left) (drop-drop a b z) in
     record {
       within = omega (arith, p.within, q.within);
-      is = sym (take-take (length x) left (drop (b + a) z) (omega (arith, p.within))) ∙ ap (take (length x)) (sym inside) ∙ p.is;
+      is = sym (take-take (length x) left (drop (b + a) z) (omega (arith, p.within)))
+          ∙ ap (take (length x)) (sym inside) ∙ p.is;
     }
 
 -- What follows an offset begins with the part that stands there.
-pub begins_there : {start : ℕ} {part whole : List ℕ} → StandsAt start part whole → drop start whole ≡ part ++ drop (length part) (drop start whole)
+pub begins_there : {start : ℕ} {part whole : List ℕ} → StandsAt start part whole
+    → drop start whole ≡ part ++ drop (length part) (drop start whole)
 begins_there {start = start} {part = part} {whole = whole} h =
     sym (take-append-drop (length part) (drop start whole)) ∙ ap (λ t. t ++ drop (length part) (drop start whole)) h.is

@@ -5,9 +5,17 @@ pub use Rattle.wkb_geom.specs.declared.error.Fault.TheVariants.{UnsupportedDimen
 pub use Rattle.wkb_geom.specs.declared.error.Fault.TheVariants.{Count as count_overflow, Size as size_overflow}
 pub use Rattle.wkb_geom.specs.Encodings.{coordinates_fault, rings_fault, fault, fault_each, refusal, IsWritable, IsForm}
 pub use Rattle.wkb_geom.specs.Encodings.{IsRewriting, IsRewritingWithSrid}
-unfoldable pub use Rattle.wkb_geom.specs.Encodings.{code_of, srid_encoding, header_encoding, words_encoding, coordinates_encoding}
+unfoldable pub use
+    Rattle.wkb_geom.specs.Encodings.{code_of, srid_encoding, header_encoding, words_encoding, coordinates_encoding}
 unfoldable pub use Rattle.wkb_geom.specs.Encodings.{point_words, point_encoding}
-unfoldable pub use Rattle.wkb_geom.specs.Encodings.{line_string_encoding, polygon_encoding, members_encoding, or_else, dimensions_fault}
+unfoldable pub use
+    Rattle.wkb_geom.specs.Encodings.{
+      line_string_encoding,
+      polygon_encoding,
+      members_encoding,
+      or_else,
+      dimensions_fault,
+    }
 unfoldable pub use Rattle.wkb_geom.specs.Encodings.{count_fault, first_fault}
 unfoldable pub use Rattle.wkb_geom.specs.Encodings.{size_fault}
 pub use Rattle.wkb_write.specs.Answers.{encoding_of, refusal_of}

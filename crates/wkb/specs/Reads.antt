@@ -13,7 +13,8 @@ pub use Rattle.wkb_read.specs.Seen.{seen_as_it_is}
 pub use Rattle.wkb_read.specs.Seen.{members_as_they_are}
 pub use Rattle.wkb_read.specs.Views.{IsCollectionOf, IsViewOf}
 pub use Rattle.wkb_read.specs.Placed.{encodings, HoldsMembers, IsCollectionIn, AreMembers, IsMemberAt}
-pub use Rattle.wkb_view.specs.Coords.{words_seen, ring_seen, coordinate_encoding, coord_order, coord_dimension, coord_encoding}
+pub use Rattle.wkb_view.specs.Coords.{words_seen, ring_seen, coordinate_encoding, coord_order, coord_dimension}
+pub use Rattle.wkb_view.specs.Coords.{coord_encoding}
 pub use Rattle.wkb_view.specs.Coords.{ring_order, ring_dimension}
 pub use Rattle.wkb_view.specs.Coords.{ring_encoding, ring_offset}
 pub use Rattle.wkb_view.specs.Views.{point_seen, line_string_seen, multi_point_seen, point_layout, line_string_layout}

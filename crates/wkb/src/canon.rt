@@ -20,8 +20,10 @@ use wkb_write::{WriteOptions, to_vec};
 /// The encoding of a geometry that was read.
 fn rewriting(alloc: Global, wkb: &Wkb<'_>, options: &WriteOptions) -> WkbResult<Vec<u8>>
     requires lawful { IsGeometry (geometry_of wkb.now.value) }
-    ensures ok { IfOk result (λ out. out.items ≡ encoding_of options.now (geometry_of wkb.now.value)) }
-    ensures err { IfErr result (λ e. IsMemory e ⊎ Reports e (refusal_of options.now (geometry_of wkb.now.value))) }
+    ensures ok { IfOk result
+        (λ out. out.items ≡ encoding_of options.now (geometry_of wkb.now.value)) }
+    ensures err { IfErr result
+        (λ e. IsMemory e ⊎ Reports e (refusal_of options.now (geometry_of wkb.now.value))) }
 {
     to_vec(alloc, wkb, options)
 }
@@ -31,7 +33,8 @@ fn rewriting(alloc: Global, wkb: &Wkb<'_>, options: &WriteOptions) -> WkbResult<
 /// Refused as `read_wkb` refuses the bytes. `OverflowError(Size)` where the SRID's four bytes make
 /// the encoding pass `usize`.
 pub fn canonical(alloc: Global, buf: &[u8], options: &WriteOptions) -> WkbResult<Vec<u8>>
-    ensures ok { IfOk result (λ encoding. IsRewriting options.now.endianness options.now.form buf.now encoding.items) }
+    ensures ok { IfOk result
+        (λ encoding. IsRewriting options.now.endianness options.now.form buf.now encoding.items) }
     ensures err { IfErr result (λ e. IsMemory e ⊎ (IsRefusal buf.now e
         ⊎ (IsTooLong options.now.endianness options.now.form buf.now × IsSize e))) }
 {
@@ -65,8 +68,10 @@ pub fn canonical_with_srid(alloc: Global, buf: &[u8], order: Endianness) -> WkbR
 /// Refused as `read_wkb` refuses the first, which is read before the second is looked at, or else
 /// the second.
 pub fn same(alloc: Global, a: &[u8], b: &[u8]) -> WkbResult<bool>
-    ensures ok { IfOk result (λ equal. MatchBool equal (HaveOneValue a.now b.now) (HaveTwoValues a.now b.now)) }
-    ensures err { IfErr result (λ e. IsMemory e ⊎ (IsRefusal a.now e ⊎ (IsAccepted a.now × IsRefusal b.now e))) }
+    ensures ok { IfOk result
+        (λ equal. MatchBool equal (HaveOneValue a.now b.now) (HaveTwoValues a.now b.now)) }
+    ensures err { IfErr result
+        (λ e. IsMemory e ⊎ (IsRefusal a.now e ⊎ (IsAccepted a.now × IsRefusal b.now e))) }
 {
     are_bytes(a);
     are_bytes(b);

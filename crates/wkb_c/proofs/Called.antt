@@ -1,6 +1,7 @@
 -- What the call for one row of a column does.
 use Rattle.wkb_c.proofs.Common.{◌≡◌, ◌≢◌, ℕ, ◌<◌, ◌⊎◌, inl, inr, List, ◌++◌, length, drop, ap, arith, refl}
-use Rattle.wkb_c.proofs.Common.{Spelling, Value, point, line_string, polygon, multi_point, multi_line_string, multi_polygon}
+use Rattle.wkb_c.proofs.Common.{Spelling, Value, point, line_string, polygon, multi_point, multi_line_string}
+use Rattle.wkb_c.proofs.Common.{multi_polygon}
 use Rattle.wkb_c.proofs.Common.{collection, header}
 use Rattle.std.specs.Prelude.{take, min, false, Some}
 use Rattle.wkb_geom.specs.declared.common.Endianness.{Endianness}
@@ -24,7 +25,8 @@ use Rattle.wkb_c.specs.declared.status.TheConstants.{OK, NO_ROOM, NO_MEMORY}
 use Rattle.wkb_c.proofs.RowItems.{put_step, lacks_step, fails_step}
 use Rattle.wkb_c.proofs.Words.{holds, entries_many}
 
-has_table : (input : List ℕ) (s : Spelling) (t : Value) (rest : List ℕ) → Front input s t rest → HasTable input (entries 0 0 s t)
+has_table : (input : List ℕ) (s : Spelling) (t : Value) (rest : List ℕ) → Front input s t rest
+    → HasTable input (entries 0 0 s t)
 has_table input s t rest f = record {
   s = s;
   t = t;
@@ -47,44 +49,58 @@ some_encoding order form (collection d ts) = omega arith
 
 some_requested : (request : Request) (input out : List ℕ) → IsRequested request input out → 0 < length out
 some_requested (Encoding o) input out h = omega (arith, ap length h.written, some_encoding o.endianness o.form h.t)
-some_requested (OwnSrid order) input out h = omega (arith, ap length h.written, some_encoding order (Ewkb (header h.s).srid) h.t)
+some_requested (OwnSrid order) input out h =
+    omega (arith, ap length h.written, some_encoding order (Ewkb (header h.s).srid) h.t)
 
-module _ {bytes offsets validity : List ℕ} {i start : ℕ} (row : List ℕ) (null : is_null_row validity i ≡ false) (is : IsRow bytes offsets i row) where
-  pub list_step : (at status count : ℕ) (before lent sub after : List Part) → at ≡ min start (length before) → lent ≡ drop at before
+module _ {bytes offsets validity : List ℕ} {i start : ℕ} (row : List ℕ) (null : is_null_row validity i ≡ false)
+    (is : IsRow bytes offsets i row) where
+  pub list_step : (at status count : ℕ) (before lent sub after : List Part) → at ≡ min start (length before)
+      → lent ≡ drop at before
       → after ≡ take at before ++ sub → length sub ≡ length lent → (status ≡ OK → IsTable row lent sub count)
       → (status ≡ NO_ROOM → LacksEntries row lent count) → (status ≢ OK → sub ≡ lent)
       → (status ≢ OK → status ≢ NO_ROOM → count ≡ 0) → (status ≡ OK) ⊎ ((status ≡ NO_ROOM) ⊎ (status ≡ NO_MEMORY))
       → IsRowStep HasTable FailsToList bytes offsets validity i status count start before after
   list_step at status count before lent sub after at_is lent_is after_is long listed short kept none (inl ok) =
       let h = listed ok in
-      put_step row null is at before lent sub after at_is lent_is after_is (entries 0 0 h.s h.t) (has_table row h.s h.t h.rest h.front) ok
+      put_step row null is at before lent sub after at_is lent_is after_is (entries 0 0 h.s h.t)
+      (has_table row h.s h.t h.rest h.front) ok
       (omega (arith, entries_many h.s h.t h.front.front h.front.spelled)) h.held long
   list_step at status count before lent sub after at_is lent_is after_is long listed short kept none (inr (inl told)) =
       let h = short told in
-      lacks_step row null is at before lent sub after at_is lent_is after_is (entries 0 0 h.s h.t) (has_table row h.s h.t h.rest h.front) told
+      lacks_step row null is at before lent sub after at_is lent_is after_is (entries 0 0 h.s h.t)
+      (has_table row h.s h.t h.rest h.front) told
       (record {
         count_is = omega (arith, h.many, entries_many h.s h.t h.front.front h.front.spelled);
         short = omega (arith, h.many, h.short, entries_many h.s h.t h.front.front h.front.spelled);
       })
       (kept (λ ok. omega (arith, ok, told)))
   list_step at status count before lent sub after at_is lent_is after_is long listed short kept none (inr (inr told)) =
-      fails_step row null is at before lent sub after at_is lent_is after_is (no_memory_to_list told) (none (λ ok. omega (arith, ok, told)) (λ room. omega (arith, room, told)))
+      fails_step row null is at before lent sub after at_is lent_is after_is (no_memory_to_list told)
+      (none (λ ok. omega (arith, ok, told)) (λ room. omega (arith, room, told)))
       (kept (λ ok. omega (arith, ok, told)))
 
-  pub write_step : (o : Options) (request : Request) → request_of o ≡ Some request → (at status count : ℕ) (before lent sub after : List ℕ)
-      → at ≡ min start (length before) → lent ≡ drop at before → after ≡ take at before ++ sub → length sub ≡ length lent
+  pub write_step : (o : Options) (request : Request) → request_of o ≡ Some request
+      → (at status count : ℕ) (before lent sub after : List ℕ)
+      → at ≡ min start (length before) → lent ≡ drop at before → after ≡ take at before ++ sub
+      → length sub ≡ length lent
       → (status ≡ OK → IsHandedOut request row lent sub count)
       → (status ≡ NO_ROOM → FindsNoRoom request row lent count) → (status ≢ OK → sub ≡ lent)
       → (status ≢ OK → status ≢ NO_ROOM → count ≡ 0) → (status ≡ OK) ⊎ ((status ≡ NO_ROOM) ⊎ (status ≡ NO_MEMORY))
       → IsRowStep (HasEncoding o) (FailsToWrite o) bytes offsets validity i status count start before after
-  write_step o request asked at status count before lent sub after at_is lent_is after_is long written short kept none (inl ok) =
+  write_step o request asked at status count before lent sub after at_is lent_is after_is long written short kept none
+      (inl ok) =
       let h = written ok in
-      put_step row null is at before lent sub after at_is lent_is after_is h.encoding (record { request = request; asked = asked; is_requested = h.is_requested }) ok
+      put_step row null is at before lent sub after at_is lent_is after_is h.encoding
+      (record { request = request; asked = asked; is_requested = h.is_requested }) ok
       (some_requested request row h.encoding h.is_requested) h.held long
-  write_step o request asked at status count before lent sub after at_is lent_is after_is long written short kept none (inr (inl told)) =
+  write_step o request asked at status count before lent sub after at_is lent_is after_is long written short kept none
+      (inr (inl told)) =
       let h = short told in
-      lacks_step row null is at before lent sub after at_is lent_is after_is h.encoding (record { request = request; asked = asked; is_requested = h.is_requested }) told
+      lacks_step row null is at before lent sub after at_is lent_is after_is h.encoding
+      (record { request = request; asked = asked; is_requested = h.is_requested }) told
       h.lacks (kept (λ ok. omega (arith, ok, told)))
-  write_step o request asked at status count before lent sub after at_is lent_is after_is long written short kept none (inr (inr told)) =
-      fails_step row null is at before lent sub after at_is lent_is after_is (no_memory told) (none (λ ok. omega (arith, ok, told)) (λ room. omega (arith, room, told)))
+  write_step o request asked at status count before lent sub after at_is lent_is after_is long written short kept none
+      (inr (inr told)) =
+      fails_step row null is at before lent sub after at_is lent_is after_is (no_memory told)
+      (none (λ ok. omega (arith, ok, told)) (λ room. omega (arith, room, told)))
       (kept (λ ok. omega (arith, ok, told)))

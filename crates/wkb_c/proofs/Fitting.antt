@@ -1,6 +1,7 @@
 -- What was checked can be read and written.
 use Rattle.wkb_c.proofs.Common.{◌≡◌, ℕ, ◌+◌, ◌≤◌, ◌<◌, ◌^◌, List, length, length-append, Option, Some, None, Bool}
-use Rattle.wkb_c.proofs.Common.{refl, sym, ap, ◌∙◌, arith, is_some, Item, IsFront, header, Value, Spelling, ◌⊎◌, inl, inr}
+use Rattle.wkb_c.proofs.Common.{refl, sym, ap, ◌∙◌, arith, is_some, Item, IsFront, header, Value, Spelling, ◌⊎◌, inl}
+use Rattle.wkb_c.proofs.Common.{inr}
 use Rattle.std.specs.Prelude.{true, false, if◌then◌else◌, nat_lt, Err}
 use Rattle.std.proofs.Common.{lt-ltb}
 use Rattle.std.proofs.lemmas.Bool.{cond-true}
@@ -15,7 +16,8 @@ use Rattle.wkb_geom.specs.Errors.{IsMemory}
 use Rattle.wkb_geom.specs.Fronts.{Front, HasNoFront}
 use Rattle.wkb_geom.specs.Geometries.{geometry_of}
 use Rattle.wkb_geom.specs.Numbers.{AreBytes}
-use Rattle.wkb_laws.proofs.Lengths.{length_of_encoding_lem, length_of_front_lem, size_is_refused_lem, front_is_writable_lem}
+use Rattle.wkb_laws.proofs.Lengths.{length_of_encoding_lem, length_of_front_lem, size_is_refused_lem}
+use Rattle.wkb_laws.proofs.Lengths.{front_is_writable_lem}
 use Rattle.wkb_read.specs.Public.{IfRefused}
 use Rattle.wkb_write.specs.Measures.{Reports}
 use Rattle.wkb_write.specs.Answers.{encoding_of}
@@ -34,7 +36,8 @@ at_most_one : (b : Bool) → ◌≤◌ (if b then 1 else 0) 1
 at_most_one true = omega arith
 at_most_one false = omega arith
 
-module _ (order : Endianness) (form : Form) (input : List ℕ) (s : Spelling) (t : Value) (rest : List ℕ) (bytes : AreBytes input)
+module _ (order : Endianness) (form : Form) (input : List ℕ) (s : Spelling) (t : Value) (rest : List ℕ)
+    (bytes : AreBytes input)
     (short : length input < 2 ^ 63) (is : IsForm form) (f : Front input s t rest) where
   -- an encoding of what was read is at most the four bytes of an SRID longer
   pub written_fits : length (encoding order form (geometry_of t)) ≤ length input + 4
@@ -55,7 +58,8 @@ module _ (order : Endianness) (form : Form) (input : List ℕ) (s : Spelling) (t
   unfolding size_fault
   fits_is_writable =
       size_is_refused_lem order form input s t rest bytes f
-      ∙ cond-true (nat_lt (length (encoding order form (geometry_of t))) (2 ^ 64)) _ _ (lt-ltb _ _ (omega (arith, written_fits, short)))
+      ∙ cond-true (nat_lt (length (encoding order form (geometry_of t))) (2 ^ 64)) _ _
+      (lt-ltb _ _ (omega (arith, written_fits, short)))
 
 -- an error of a reading of what was accepted is want of memory
 pub read_error : (buf : List ℕ) (e : WkbError) → IsAccepted buf → IfRefused (Err e) (λ e. HasNoFront buf) → IsMemory e
@@ -77,7 +81,8 @@ write_error e f none (inl memory) = memory
 write_error e f none (inr h) = absurd (nothing_reported e f none h)
 
 -- the encoding under the options of a request is what is asked for
-pub is_asked : (request : Request) (srid : Option ℕ) (o : WriteOptions) (buf : List ℕ) (w : Item) → IsFront buf w → srid ≡ (header w.spelled).srid
+pub is_asked : (request : Request) (srid : Option ℕ) (o : WriteOptions) (buf : List ℕ) (w : Item) → IsFront buf w
+    → srid ≡ (header w.spelled).srid
     → o ≡ options_for request srid → IsRequested request buf (encoding_of o (geometry_of w.value))
 is_asked (Encoding own) srid o buf w f is asked = record {
   s = w.spelled;
@@ -91,5 +96,6 @@ is_asked (OwnSrid order) srid o buf w f is asked = record {
   t = w.value;
   rest = f.rest;
   front = f.front;
-  written = ap (λ z. encoding_of z (geometry_of w.value)) asked ∙ ap (λ z. encoding order (Ewkb z) (geometry_of w.value)) is;
+  written =
+      ap (λ z. encoding_of z (geometry_of w.value)) asked ∙ ap (λ z. encoding order (Ewkb z) (geometry_of w.value)) is;
 }

@@ -19,11 +19,13 @@ use Rattle.wkb_read.specs.Views.{IsCollectionOf}
 use Rattle.wkb_view.specs.declared.point.Point as views
 use Rattle.wkb_c.specs.declared.parts.Part.{Part}
 use Rattle.wkb_c.specs.declared.parts.Table.{Table}
-use Rattle.wkb_c.specs.Tables.{entry, entries, ring_entries, member_entries, size_of_rings, rings_of, content_size, leading}
+use Rattle.wkb_c.specs.Tables.{entry, entries, ring_entries, member_entries, size_of_rings, rings_of, content_size}
+use Rattle.wkb_c.specs.Tables.{leading}
 use Rattle.wkb_c.specs.Tables.{count_of, size, sizes}
 use Rattle.wkb_c.specs.Tables.{entry_count, entry_counts}
 use Rattle.wkb_c.specs.declared.parts.PartHead.{PartHead}
-use Rattle.wkb_c.specs.Growing.{Grows, Lists, ListsMembers, HasMembers, header_bytes, spellings_from, values_from, Added}
+use Rattle.wkb_c.specs.Growing.{Grows, Lists, ListsMembers, HasMembers, header_bytes, spellings_from, values_from}
+use Rattle.wkb_c.specs.Growing.{Added}
 use Rattle.wkb_c.specs.Growing.{RingsAdded}
 use Rattle.wkb_c.specs.Growing.{IsHead, OpensPart, Closes, closed, added_entry}
 
@@ -45,7 +47,8 @@ from_spelling no_spellings i s is = absurd (cc)
 from_spelling (spelling x ss) zero s is = let same : x ≡ s = cc in ap (λ y. spelling y ss) same
 from_spelling (spelling x ss) (suc i) s is = from_spelling ss i s is
 
-from_value : (ts : Values) (i : ℕ) (t : Value) → slice_get (list_of_values ts) i ≡ Some t → values_from i ts ≡ member t (values_from (suc i) ts)
+from_value : (ts : Values) (i : ℕ) (t : Value) → slice_get (list_of_values ts) i ≡ Some t
+    → values_from i ts ≡ member t (values_from (suc i) ts)
 from_value no_members i t is = absurd (cc)
 from_value (member x ts) zero t is = let same : x ≡ t = cc in ap (λ y. member y ts) same
 from_value (member x ts) (suc i) t is = from_value ts i t is
@@ -73,9 +76,11 @@ added_none ss ts t = record { parts = refl; at = refl }
 
 -- ---- how many entries there are
 
-pub rings_many : (d : Dimension) (order index at : ℕ) (rings : List (List Coordinate)) → length (ring_entries d order index at rings) ≡ length rings
+pub rings_many : (d : Dimension) (order index at : ℕ) (rings : List (List Coordinate))
+    → length (ring_entries d order index at rings) ≡ length rings
 rings_many d order index at [] = refl
-rings_many d order index at (cs ∷ rings) = omega (arith, rings_many d order (index + 1) (at + ring_end d (length cs)) rings)
+rings_many d order index at (cs ∷ rings) =
+    omega (arith, rings_many d order (index + 1) (at + ring_end d (length cs)) rings)
 
 mutual
   pub entries_are : (index at : ℕ) (s : Spelling) (t : Value) → length (entries index at s t) ≡ entry_count s t
@@ -88,7 +93,8 @@ mutual
         members_are (index + 1) (at + leading h t) ss (members t),
       )
 
-  pub members_are : (index at : ℕ) (ss : Spellings) (ts : Values) → length (member_entries index at ss ts) ≡ entry_counts ss ts
+  pub members_are : (index at : ℕ) (ss : Spellings) (ts : Values)
+      → length (member_entries index at ss ts) ≡ entry_counts ss ts
   members_are index at no_spellings ts = refl
   members_are index at (spelling s ss) no_members = refl
   members_are index at (spelling s ss) (member t ts) =
@@ -104,48 +110,60 @@ grown : (old new : Table) (added : List Part) (bytes : ℕ) → Grows old new ad
     → length new.parts.items ≡ length old.parts.items + length added
 grown old new added bytes g = ap length g.parts ∙ length-append old.parts.items added
 
-sizes_from : (ss : Spellings) (ts : Values) (i : ℕ) (s : Spelling) (t : Value) → slice_get (list_of_spellings ss) i ≡ Some s
+sizes_from : (ss : Spellings) (ts : Values) (i : ℕ) (s : Spelling) (t : Value)
+    → slice_get (list_of_spellings ss) i ≡ Some s
     → slice_get (list_of_values ts) i ≡ Some t
-    → sizes (spellings_from i ss) (values_from i ts) ≡ size s t + sizes (spellings_from (suc i) ss) (values_from (suc i) ts)
+    → sizes (spellings_from i ss) (values_from i ts)
+    ≡ size s t + sizes (spellings_from (suc i) ss) (values_from (suc i) ts)
 sizes_from ss ts i s t this that = rw (from_spelling ss i s this, from_value ts i t that) refl
 
-entries_from : (index at : ℕ) (ss : Spellings) (ts : Values) (i : ℕ) (s : Spelling) (t : Value) → slice_get (list_of_spellings ss) i ≡ Some s
+entries_from : (index at : ℕ) (ss : Spellings) (ts : Values) (i : ℕ) (s : Spelling) (t : Value)
+    → slice_get (list_of_spellings ss) i ≡ Some s
     → slice_get (list_of_values ts) i ≡ Some t
     → member_entries index at (spellings_from i ss) (values_from i ts) ≡ entries index at s t
     ++ member_entries (index + entry_count s t) (at + size s t) (spellings_from (suc i) ss) (values_from (suc i) ts)
 entries_from index at ss ts i s t this that = rw (from_spelling ss i s this, from_value ts i t that) refl
 
-pub added_fits : (ss : Spellings) (ts : Values) (start : Table) (i : ℕ) (now : Table) (s : Spelling) (t : Value) → Added ss ts start i now
-    → slice_get (list_of_spellings ss) i ≡ Some s → slice_get (list_of_values ts) i ≡ Some t → start.at + sizes ss ts < 2 ^ 63 → now.at + size s t < 2 ^ 63
+pub added_fits : (ss : Spellings) (ts : Values) (start : Table) (i : ℕ) (now : Table) (s : Spelling) (t : Value)
+    → Added ss ts start i now
+    → slice_get (list_of_spellings ss) i ≡ Some s → slice_get (list_of_values ts) i ≡ Some t
+    → start.at + sizes ss ts < 2 ^ 63 → now.at + size s t < 2 ^ 63
 added_fits ss ts start i now s t a this that fits = omega (arith, a.at, fits, sizes_from ss ts i s t this that)
 
-pub added_more : (ss : Spellings) (ts : Values) (start : Table) (i : ℕ) (now then : Table) (s : Spelling) (t : Value) → Added ss ts start i now
-    → slice_get (list_of_spellings ss) i ≡ Some s → slice_get (list_of_values ts) i ≡ Some t → Lists now then s t → Added ss ts start (i + 1) then
+pub added_more : (ss : Spellings) (ts : Values) (start : Table) (i : ℕ) (now then : Table) (s : Spelling) (t : Value)
+    → Added ss ts start i now
+    → slice_get (list_of_spellings ss) i ≡ Some s → slice_get (list_of_values ts) i ≡ Some t → Lists now then s t
+    → Added ss ts start (i + 1) then
 added_more ss ts start i now then s t a this that l =
     let rest = spellings_from (suc i) ss in
     let others = values_from (suc i) ts in
     let many = length now.parts.items in
     let k : suc i ≡ i + 1 = omega arith in
-    let longer : length then.parts.items ≡ many + entry_count s t = omega (arith, grown _ _ _ _ l, entries_are many now.at s t) in
+    let longer : length then.parts.items ≡ many + entry_count s t =
+    omega (arith, grown _ _ _ _ l, entries_are many now.at s t) in
     subst (λ (j : ℕ). Added ss ts start j then) k (record {
       parts = (λ x. l.parts x ++ member_entries (longer x) (l.at x) rest others)
-          ∙ append_assoc now.parts.items (entries many now.at s t) (member_entries (many + entry_count s t) (now.at + size s t) rest others)
+          ∙ append_assoc now.parts.items (entries many now.at s t)
+          (member_entries (many + entry_count s t) (now.at + size s t) rest others)
           ∙ ap (λ (x : List Part). now.parts.items ++ x) (sym (entries_from many now.at ss ts i s t this that))
           ∙ a.parts;
       at = omega (arith, l.at, a.at, sizes_from ss ts i s t this that);
     })
 
-pub added_all : (ss : Spellings) (ts : Values) (start : Table) (i : ℕ) (now : Table) → count ts ≤ i → Added ss ts start i now → ListsMembers start now ss ts
+pub added_all : (ss : Spellings) (ts : Values) (start : Table) (i : ℕ) (now : Table) → count ts ≤ i
+    → Added ss ts start i now → ListsMembers start now ss ts
 added_all ss ts start i now past a =
     let none = past_values ts i past in
     let many = length now.parts.items in
     record {
       parts = sym (append-nil now.parts.items) ∙ ap (λ (x : List Part). now.parts.items ++ x)
-          (sym (ap (member_entries many now.at (spellings_from i ss)) none ∙ none_listed many now.at (spellings_from i ss))) ∙ a.parts;
+          (sym (ap (member_entries many now.at (spellings_from i ss)) none
+          ∙ none_listed many now.at (spellings_from i ss))) ∙ a.parts;
       at = omega (arith, a.at, ap (sizes (spellings_from i ss)) none, none_sized (spellings_from i ss));
     }
 
-pub each_get : {A : Type 0} (f : A → Value) (l : List A) (i : ℕ) (a : A) → Some a ≡ slice_get l i → slice_get (list_of_values (each f l)) i ≡ Some (f a)
+pub each_get : {A : Type 0} (f : A → Value) (l : List A) (i : ℕ) (a : A) → Some a ≡ slice_get l i
+    → slice_get (list_of_values (each f l)) i ≡ Some (f a)
 each_get f [] i a is = absurd (cc)
 each_get f (b ∷ l) zero a is = let same : b ≡ a = cc in ap (λ x. Some (f x)) same
 each_get f (b ∷ l) (suc i) a is = each_get f l i a is
@@ -154,12 +172,14 @@ pub each_count : {A : Type 0} (f : A → Value) (l : List A) → count (each f l
 each_count f [] = refl
 each_count f (a ∷ l) = omega (arith, each_count f l)
 
-pub item_spelling : (items : List Item) (i : ℕ) (m : Item) → slice_get items i ≡ Some m → slice_get (list_of_spellings (spellings items)) i ≡ Some m.spelled
+pub item_spelling : (items : List Item) (i : ℕ) (m : Item) → slice_get items i ≡ Some m
+    → slice_get (list_of_spellings (spellings items)) i ≡ Some m.spelled
 item_spelling [] i m is = absurd (cc)
 item_spelling (x ∷ items) zero m is = let same : x ≡ m = cc in ap (λ (y : Item). Some y.spelled) same
 item_spelling (x ∷ items) (suc i) m is = item_spelling items i m is
 
-pub item_value : (items : List Item) (i : ℕ) (m : Item) → slice_get items i ≡ Some m → slice_get (list_of_values (values items)) i ≡ Some m.value
+pub item_value : (items : List Item) (i : ℕ) (m : Item) → slice_get items i ≡ Some m
+    → slice_get (list_of_values (values items)) i ≡ Some m.value
 item_value [] i m is = absurd (cc)
 item_value (x ∷ items) zero m is = let same : x ≡ m = cc in ap (λ (y : Item). Some y.value) same
 item_value (x ∷ items) (suc i) m is = item_value items i m is
@@ -198,12 +218,15 @@ leads h (collection d ts) m = omega arith
 
 -- the bytes of a geometry that has members
 pub members_fit : (s : Spelling) (t : Value) (at : ℕ) → HasMembers t → at + size s t < 2 ^ 63
-    → (at + leading (header s) t + 0 < 2 ^ 63) × (at + leading (header s) t + sizes (members_spelled s) (members t) < 2 ^ 63)
+    → (at + leading (header s) t + 0 < 2 ^ 63)
+    × (at + leading (header s) t + sizes (members_spelled s) (members t) < 2 ^ 63)
 members_fit (node h words ss) t at m fits = (omega (arith, fits), omega (arith, fits, no_body t m))
 
 -- the head of such a geometry
-pub whole_head : (s : Spelling) (t : Value) (head : PartHead) → HasMembers t → head.kind ≡ kind t → head.dimension ≡ dimension t
-    → head.srid ≡ srid_of s → head.order ≡ order_byte (order_of s) → head.leading ≡ header_bytes (srid_of s) + 4 → IsHead s t head
+pub whole_head : (s : Spelling) (t : Value) (head : PartHead) → HasMembers t → head.kind ≡ kind t
+    → head.dimension ≡ dimension t
+    → head.srid ≡ srid_of s → head.order ≡ order_byte (order_of s) → head.leading ≡ header_bytes (srid_of s) + 4
+    → IsHead s t head
 whole_head (node h words ss) t head m kind_is dimension_is srid_is order_is lead = record {
   kind_is = kind_is;
   dimension_is = dimension_is;
@@ -212,31 +235,42 @@ whole_head (node h words ss) t head m kind_is dimension_is srid_is order_is lead
   leading_is = lead ∙ sym (leads h t m);
 }
 
-pub opens_fits : (s : Spelling) (t : Value) (head : PartHead) (at : ℕ) → HasMembers t → IsHead s t head → at + size s t < 2 ^ 63
+pub opens_fits : (s : Spelling) (t : Value) (head : PartHead) (at : ℕ) → HasMembers t → IsHead s t head
+    → at + size s t < 2 ^ 63
     → at + head.leading + 0 < 2 ^ 63
 opens_fits s t head at m is fits = omega (arith, is.leading_is, (members_fit s t at m fits).0)
 
 -- a part that has neither rings nor members
-pub listed_leaf : (s : Spelling) (t : Value) (old new : Table) (head : PartHead) (n body : ℕ) → IsHead s t head → n ≡ count_of t
+pub listed_leaf : (s : Spelling) (t : Value) (old new : Table) (head : PartHead) (n body : ℕ) → IsHead s t head
+    → n ≡ count_of t
     → rings_of t ≡ [] → members t ≡ no_members → body ≡ content_size t
-    → Grows old new (added_entry (length old.parts.items) old.at head body n ∷ []) (head.leading + body) → Lists old new s t
+    → Grows old new (added_entry (length old.parts.items) old.at head body n ∷ []) (head.leading + body)
+    → Lists old new s t
 listed_leaf (node h words ss) t old new head n body is counted no_ring no_member sized g =
     let index = length old.parts.items in
     let at = old.at + leading h t in
-    let no_entry : member_entries (index + 1) at ss (members t) ≡ [] = ap (member_entries (index + 1) at ss) no_member ∙ none_listed (index + 1) at ss in
+    let no_entry : member_entries (index + 1) at ss (members t) ≡ [] =
+    ap (member_entries (index + 1) at ss) no_member ∙ none_listed (index + 1) at ss in
     let one : entry_count (node h words ss) t ≡ 1 =
     omega (arith, ap length no_ring, ap (entry_counts ss) no_member, none_counted ss) in
     let bytes : head.leading + body ≡ size (node h words ss) t =
     omega (arith, is.leading_is, sized, ap (sizes ss) no_member, none_sized ss) in
     record {
-      parts = g.parts ∙ (λ i. old.parts.items ++ (entry (is.kind_is i) (is.dimension_is i) (is.srid_is i) (is.order_is i)
-          (record { begin = old.at; offset = old.at + is.leading_is i; end = old.at + bytes i; next = index + (sym one) i }) (counted i)
+      parts =
+          g.parts ∙ (λ i. old.parts.items ++ (entry (is.kind_is i) (is.dimension_is i) (is.srid_is i) (is.order_is i)
+          (record {
+            begin = old.at;
+            offset = old.at + is.leading_is i;
+            end = old.at + bytes i;
+            next = index + (sym one) i;
+          }) (counted i)
           ∷ (ring_entries (dimension t) (order_byte h.order) (index + 1) at (sym no_ring i) ++ sym no_entry i)));
       at = omega (arith, g.at, bytes);
     }
 
 -- a part that has rings or members, once these were added and it was closed
-listed_open : (s : Spelling) (t : Value) (old mid late new : Table) (n index bytes : ℕ) (inner : List Part) → n ≡ count_of t
+listed_open : (s : Spelling) (t : Value) (old mid late new : Table) (n index bytes : ℕ) (inner : List Part)
+    → n ≡ count_of t
     → index ≡ length old.parts.items → OpensPart old mid s t n → Grows mid late inner bytes → Closes late new index
     → inner ≡ ring_entries (dimension t) (order_byte (order_of s)) (length mid.parts.items) mid.at (rings_of t)
     ++ member_entries (length mid.parts.items) mid.at (members_spelled s) (members t)
@@ -247,9 +281,11 @@ listed_open (node h words ss) t old mid late new n index bytes inner counted at_
     let e = added_entry before old.at o.head 0 n in
     let first : length mid.parts.items ≡ before + 1 = grown _ _ _ _ o.grows in
     let begins : mid.at ≡ old.at + leading h t = omega (arith, o.grows.at, is.leading_is) in
-    let inside : inner ≡ ring_entries (dimension t) (order_byte h.order) (before + 1) (old.at + leading h t) (rings_of t)
+    let inside : inner
+    ≡ ring_entries (dimension t) (order_byte h.order) (before + 1) (old.at + leading h t) (rings_of t)
     ++ member_entries (before + 1) (old.at + leading h t) ss (members t) =
-    same ∙ (λ i. ring_entries (dimension t) (order_byte h.order) (first i) (begins i) (rings_of t) ++ member_entries (first i) (begins i) ss (members t)) in
+    same ∙ (λ i. ring_entries (dimension t) (order_byte h.order) (first i) (begins i) (rings_of t)
+    ++ member_entries (first i) (begins i) ss (members t)) in
     let ends : late.at ≡ old.at + size (node h words ss) t = omega (arith, g.at, begins, sized) in
     let many : length late.parts.items ≡ before + entry_count (node h words ss) t =
     omega (
@@ -267,12 +303,14 @@ listed_open (node h words ss) t old mid late new n index bytes inner counted at_
     record {
       parts = shut.parts old.parts.items inner e whole at_index
           ∙ (λ i. old.parts.items ++ (entry (is.kind_is i) (is.dimension_is i) (is.srid_is i) (is.order_is i)
-          (record { begin = old.at; offset = old.at + is.leading_is i; end = ends i; next = many i }) (counted i) ∷ inside i));
+          (record { begin = old.at; offset = old.at + is.leading_is i; end = ends i; next = many i }) (counted i)
+          ∷ inside i));
       at = shut.at ∙ ends;
     }
 
 pub listed_whole : (s : Spelling) (t : Value) (old mid late new : Table) (n index : ℕ) → HasMembers t → n ≡ count_of t
-    → index ≡ length old.parts.items → OpensPart old mid s t n → ListsMembers mid late (members_spelled s) (members t) → Closes late new index
+    → index ≡ length old.parts.items → OpensPart old mid s t n → ListsMembers mid late (members_spelled s) (members t)
+    → Closes late new index
     → Lists old new s t
 listed_whole s t old mid late new n index m counted at_index o g shut =
     listed_open s t old mid late new n index _ _ counted at_index o g shut
@@ -281,8 +319,10 @@ listed_whole s t old mid late new n index m counted at_index o g shut =
     (omega (arith, no_body t m))
 
 -- so it is of the geometry that a view is a view of
-pub listed_view : (w v : Item) (old mid late new : Table) (n index : ℕ) → v ≡ w → HasMembers v.value → n ≡ count_of v.value
-    → index ≡ length old.parts.items → OpensPart old mid w.spelled w.value n → ListsMembers mid late (members_spelled v.spelled) (members v.value)
+pub listed_view : (w v : Item) (old mid late new : Table) (n index : ℕ) → v ≡ w → HasMembers v.value
+    → n ≡ count_of v.value
+    → index ≡ length old.parts.items → OpensPart old mid w.spelled w.value n
+    → ListsMembers mid late (members_spelled v.spelled) (members v.value)
     → Closes late new index → Lists old new w.spelled w.value
 listed_view w v old mid late new n index is m counted at_index o g shut =
     listed_whole w.spelled w.value old mid late new n index (subst (λ (x : Item). HasMembers x.value) is m)
@@ -291,7 +331,8 @@ listed_view w v old mid late new n index is m counted at_index o g shut =
 
 -- ---- rings
 
-drop_ring : (rings : List (List Coordinate)) (i : ℕ) (ring : List Coordinate) → Some ring ≡ slice_get rings i → drop i rings ≡ ring ∷ drop (suc i) rings
+drop_ring : (rings : List (List Coordinate)) (i : ℕ) (ring : List Coordinate) → Some ring ≡ slice_get rings i
+    → drop i rings ≡ ring ∷ drop (suc i) rings
 drop_ring [] i ring is = absurd (cc)
 drop_ring (x ∷ rings) zero ring is = let same : x ≡ ring = cc in ap (λ y. y ∷ rings) same
 drop_ring (x ∷ rings) (suc i) ring is = drop_ring rings i ring is
@@ -302,36 +343,54 @@ drop_past [] (suc i) past = refl
 drop_past (x ∷ rings) zero past = absurd (omega arith)
 drop_past (x ∷ rings) (suc i) past = drop_past rings i (omega arith)
 
-pub rings_none : (d : Dimension) (order : ℕ) (rings : List (List Coordinate)) (t : Table) → RingsAdded d order rings t 0 t
+pub rings_none : (d : Dimension) (order : ℕ) (rings : List (List Coordinate)) (t : Table)
+    → RingsAdded d order rings t 0 t
 rings_none d order rings t = record { parts = refl; at = refl }
 
-pub rings_fit : (d e : Dimension) (order : ℕ) (rings : List (List Coordinate)) (start : Table) (i : ℕ) (now : Table) (ring : List Coordinate)
+pub rings_fit : (d e : Dimension) (order : ℕ) (rings : List (List Coordinate)) (start : Table) (i : ℕ) (now : Table)
+    (ring : List Coordinate)
     → dimensions e ≡ dimensions d
     → RingsAdded d order rings start i now → Some ring ≡ slice_get rings i → start.at + size_of_rings d rings < 2 ^ 63
     → now.at + ring_end e (length ring) < 2 ^ 63
 rings_fit d e order rings start i now ring same a is fits =
-    omega (arith, a.at, fits, ap (size_of_rings d) (drop_ring rings i ring is), ap (λ (x : Dimension). ring_end x (length ring)) (one_name e d same))
+    omega (
+      arith,
+      a.at,
+      fits,
+      ap (size_of_rings d) (drop_ring rings i ring is),
+      ap (λ (x : Dimension). ring_end x (length ring)) (one_name e d same),
+    )
 
-pub listed_ring : (d : Dimension) (order n : ℕ) (ring : List Coordinate) (old new : Table) (head : PartHead) (body : ℕ) → head.kind ≡ 0
-    → head.dimension ≡ d → head.srid ≡ None → head.order ≡ order → head.leading ≡ 4 → n ≡ length ring → body ≡ 8 * width d * length ring
+pub listed_ring : (d : Dimension) (order n : ℕ) (ring : List Coordinate) (old new : Table) (head : PartHead) (body : ℕ)
+    → head.kind ≡ 0
+    → head.dimension ≡ d → head.srid ≡ None → head.order ≡ order → head.leading ≡ 4 → n ≡ length ring
+    → body ≡ 8 * width d * length ring
     → Grows old new (added_entry (length old.parts.items) old.at head body n ∷ []) (head.leading + body)
     → Grows old new (ring_entries d order (length old.parts.items) old.at (ring ∷ [])) (ring_end d (length ring))
 listed_ring d order n ring old new head body kind_is dimension_is srid_is order_is leading_is counted sized g =
     let bytes : head.leading + body ≡ ring_end d (length ring) = omega (arith, leading_is, sized) in
     record {
       parts = g.parts ∙ (λ i. old.parts.items ++ (entry (kind_is i) (dimension_is i) (srid_is i) (order_is i)
-          (record { begin = old.at; offset = old.at + leading_is i; end = old.at + bytes i; next = length old.parts.items + 1 }) (counted i) ∷ []));
+          (record {
+            begin = old.at;
+            offset = old.at + leading_is i;
+            end = old.at + bytes i;
+            next = length old.parts.items + 1;
+          }) (counted i) ∷ []));
       at = omega (arith, g.at, bytes);
     }
 
-pub rings_more : (d e : Dimension) (order : ℕ) (rings : List (List Coordinate)) (start : Table) (i : ℕ) (now then : Table) (ring : List Coordinate)
+pub rings_more : (d e : Dimension) (order : ℕ) (rings : List (List Coordinate)) (start : Table) (i : ℕ)
+    (now then : Table) (ring : List Coordinate)
     → dimensions e ≡ dimensions d
     → RingsAdded d order rings start i now → Some ring ≡ slice_get rings i
-    → Grows now then (ring_entries e order (length now.parts.items) now.at (ring ∷ [])) (ring_end e (length ring)) → RingsAdded d order rings start (i + 1) then
+    → Grows now then (ring_entries e order (length now.parts.items) now.at (ring ∷ [])) (ring_end e (length ring))
+    → RingsAdded d order rings start (i + 1) then
 rings_more d e order rings start i now then ring same a is grows =
     let many = length now.parts.items in
     let g : Grows now then (ring_entries d order many now.at (ring ∷ [])) (ring_end d (length ring)) =
-    subst (λ (x : Dimension). Grows now then (ring_entries x order many now.at (ring ∷ [])) (ring_end x (length ring))) (one_name e d same) grows in
+    subst (λ (x : Dimension). Grows now then (ring_entries x order many now.at (ring ∷ [])) (ring_end x (length ring)))
+    (one_name e d same) grows in
     let rest = drop (suc i) rings in
     let one = ring_entries d order many now.at (ring ∷ []) in
     let longer : length then.parts.items ≡ many + 1 = grown _ _ _ _ g in
@@ -339,30 +398,35 @@ rings_more d e order rings start i now then ring same a is grows =
     subst (λ (j : ℕ). RingsAdded d order rings start j then) k (record {
       parts = (λ x. g.parts x ++ ring_entries d order (longer x) (g.at x) rest)
           ∙ append_assoc now.parts.items one (ring_entries d order (many + 1) (now.at + ring_end d (length ring)) rest)
-          ∙ ap (λ (r : List (List Coordinate)). now.parts.items ++ ring_entries d order many now.at r) (sym (drop_ring rings i ring is))
+          ∙ ap (λ (r : List (List Coordinate)). now.parts.items ++ ring_entries d order many now.at r)
+          (sym (drop_ring rings i ring is))
           ∙ a.parts;
       at = omega (arith, g.at, a.at, ap (size_of_rings d) (drop_ring rings i ring is));
     })
 
-pub rings_all : (d : Dimension) (order : ℕ) (rings : List (List Coordinate)) (start : Table) (i : ℕ) (now : Table) → length rings ≤ i
+pub rings_all : (d : Dimension) (order : ℕ) (rings : List (List Coordinate)) (start : Table) (i : ℕ) (now : Table)
+    → length rings ≤ i
     → RingsAdded d order rings start i now
     → Grows start now (ring_entries d order (length start.parts.items) start.at rings) (size_of_rings d rings)
 rings_all d order rings start i now past a =
     let none = drop_past rings i past in
     record {
       parts = sym (append-nil now.parts.items)
-          ∙ ap (λ (r : List (List Coordinate)). now.parts.items ++ ring_entries d order (length now.parts.items) now.at r) (sym none) ∙ a.parts;
+          ∙ ap (λ (r : List (List Coordinate)). now.parts.items
+          ++ ring_entries d order (length now.parts.items) now.at r) (sym none) ∙ a.parts;
       at = omega (arith, a.at, ap (size_of_rings d) none);
     }
 
 -- ---- the first byte
 
-first_of : (s : Spelling) (t : Value) (encoding : List ℕ) → Spells s t encoding → (0 < length encoding) × (slice_index encoding 0 ≡ order_byte (order_of s))
+first_of : (s : Spelling) (t : Value) (encoding : List ℕ) → Spells s t encoding
+    → (0 < length encoding) × (slice_index encoding 0 ≡ order_byte (order_of s))
 first_of (node h words ss) t encoding spelled =
     let whole = spelled.whole ∙ ap (λ (x : List ℕ). x ++ spelled.rest) spelled.first.whole in
     (omega (arith, ap length whole), ap (λ (x : List ℕ). slice_index x 0) whole)
 
-pub first_is_order : (w : Item) → IsSpelled w → (0 < length w.encoding) × (slice_index w.encoding 0 ≡ order_byte (order_of w.spelled))
+pub first_is_order : (w : Item) → IsSpelled w
+    → (0 < length w.encoding) × (slice_index w.encoding 0 ≡ order_byte (order_of w.spelled))
 first_is_order w is = ∥∥₁_elim is (hlevel props) (λ spelled. first_of w.spelled w.value w.encoding spelled)
 
 -- ---- how many rings there are
@@ -377,8 +441,10 @@ rings_are_few d (cs ∷ rings) = omega (arith, rings_are_few d rings)
 
 -- ---- a polygon
 
-pub polygon_head : (s : Spelling) (d : Dimension) (rings : List (List Coordinate)) (head : PartHead) → head.kind ≡ 3 → head.dimension ≡ d
-    → head.srid ≡ srid_of s → head.order ≡ order_byte (order_of s) → head.leading ≡ header_bytes (srid_of s) + 4 → IsHead s (polygon d rings) head
+pub polygon_head : (s : Spelling) (d : Dimension) (rings : List (List Coordinate)) (head : PartHead) → head.kind ≡ 3
+    → head.dimension ≡ d
+    → head.srid ≡ srid_of s → head.order ≡ order_byte (order_of s) → head.leading ≡ header_bytes (srid_of s) + 4
+    → IsHead s (polygon d rings) head
 polygon_head (node h words ss) d rings head kind_is dimension_is srid_is order_is lead = record {
   kind_is = kind_is;
   dimension_is = dimension_is;
@@ -387,9 +453,11 @@ polygon_head (node h words ss) d rings head kind_is dimension_is srid_is order_i
   leading_is = omega (arith, lead);
 }
 
-pub listed_polygon : (s : Spelling) (d : Dimension) (rings : List (List Coordinate)) (old mid late new : Table) (n order index : ℕ) → n ≡ length rings
+pub listed_polygon : (s : Spelling) (d : Dimension) (rings : List (List Coordinate)) (old mid late new : Table)
+    (n order index : ℕ) → n ≡ length rings
     → index ≡ length old.parts.items → order ≡ order_byte (order_of s) → OpensPart old mid s (polygon d rings) n
-    → Grows mid late (ring_entries d order (length mid.parts.items) mid.at rings) (size_of_rings d rings) → Closes late new index
+    → Grows mid late (ring_entries d order (length mid.parts.items) mid.at rings) (size_of_rings d rings)
+    → Closes late new index
     → Lists old new s (polygon d rings)
 listed_polygon (node h words ss) d rings old mid late new n order index counted at_index ordered o g shut =
     let many = length mid.parts.items in
@@ -398,7 +466,8 @@ listed_polygon (node h words ss) d rings old mid late new n order index counted 
     ∙ (λ i. ring_entries d (ordered i) many mid.at rings ++ sym (none_listed many mid.at ss) i))
     (omega (arith, none_sized ss))
 
-pub polygon_fits : (s : Spelling) (d : Dimension) (rings : List (List Coordinate)) (at : ℕ) → at + size s (polygon d rings) < 2 ^ 63 → length rings < 2 ^ 63
+pub polygon_fits : (s : Spelling) (d : Dimension) (rings : List (List Coordinate)) (at : ℕ)
+    → at + size s (polygon d rings) < 2 ^ 63 → length rings < 2 ^ 63
 polygon_fits (node h words ss) d rings at fits = omega (arith, fits, rings_are_few d rings)
 
 -- ---- members by the views that hand them out
@@ -410,9 +479,11 @@ below_is_some (a ∷ l) zero below is = cc
 below_is_some (a ∷ l) (suc i) below is = below_is_some l i (omega (arith, below)) is
 
 -- so many items of one dimension
-pub part_value : {A : Type 0} (f : Dimension → A → Value) (l : List A) (d e : Dimension) (i : ℕ) (a : A) → Some a ≡ slice_get l i → dimensions e ≡ dimensions d
+pub part_value : {A : Type 0} (f : Dimension → A → Value) (l : List A) (d e : Dimension) (i : ℕ) (a : A)
+    → Some a ≡ slice_get l i → dimensions e ≡ dimensions d
     → slice_get (list_of_values (each (f d) l)) i ≡ Some (f e a)
-part_value f l d e i a is same = each_get (f d) l i a is ∙ ap (λ (x : Dimension). Some (f x a)) (sym (one_name e d same))
+part_value f l d e i a is same =
+    each_get (f d) l i a is ∙ ap (λ (x : Dimension). Some (f x a)) (sym (one_name e d same))
 
 -- the members of a collection
 pub collection_counted : (w : Item) (ms : List Item) → IsCollectionOf w ms → length ms ≡ count_of w.value
@@ -427,7 +498,8 @@ collection_valued w ms c = c.all.value ∙ ap (λ (x : Item). members x.value) c
 collection_has : (w : Item) (ms : List Item) → IsCollectionOf w ms → HasMembers w.value
 collection_has w ms c = subst (λ (x : Item). HasMembers x.value) c.is (omega arith)
 
-pub collection_fits : (w : Item) (ms : List Item) (old mid : Table) (n : ℕ) → IsCollectionOf w ms → old.at + size w.spelled w.value < 2 ^ 63
+pub collection_fits : (w : Item) (ms : List Item) (old mid : Table) (n : ℕ) → IsCollectionOf w ms
+    → old.at + size w.spelled w.value < 2 ^ 63
     → OpensPart old mid w.spelled w.value n → mid.at + sizes (spellings ms) (values ms) < 2 ^ 63
 collection_fits w ms old mid n c fits o =
     omega (
@@ -439,11 +511,14 @@ collection_fits w ms old mid n c fits o =
       ap (sizes (members_spelled w.spelled)) (collection_valued w ms c),
     )
 
-pub listed_collection : (w : Item) (ms : List Item) (old mid late new : Table) (n index : ℕ) → IsCollectionOf w ms → n ≡ length ms
-    → index ≡ length old.parts.items → OpensPart old mid w.spelled w.value n → ListsMembers mid late (spellings ms) (values ms) → Closes late new index
+pub listed_collection : (w : Item) (ms : List Item) (old mid late new : Table) (n index : ℕ) → IsCollectionOf w ms
+    → n ≡ length ms
+    → index ≡ length old.parts.items → OpensPart old mid w.spelled w.value n
+    → ListsMembers mid late (spellings ms) (values ms) → Closes late new index
     → Lists old new w.spelled w.value
 listed_collection w ms old mid late new n index c counted at_index o g shut =
-    listed_whole w.spelled w.value old mid late new n index (collection_has w ms c) (counted ∙ collection_counted w ms c) at_index o
+    listed_whole w.spelled w.value old mid late new n index (collection_has w ms c)
+    (counted ∙ collection_counted w ms c) at_index o
     (subst (λ (x : Values). ListsMembers mid late (members_spelled w.spelled) x) (collection_valued w ms c)
     (subst (λ (x : Spellings). ListsMembers mid late x (values ms)) (collection_spelled w ms c) g)) shut
 
@@ -453,11 +528,13 @@ member_nodes [] i m is = absurd (cc)
 member_nodes (x ∷ ms) zero m is = let same : x ≡ m = cc in omega (arith, ap (λ (y : Item). nodes y.value) same)
 member_nodes (x ∷ ms) (suc i) m is = omega (arith, member_nodes ms i m is)
 
-pub point_value : (l : List (Option Coordinate)) (d : Dimension) (i : ℕ) (p : views.Point) → Some (point_of (point_seen p).value) ≡ slice_get l i
+pub point_value : (l : List (Option Coordinate)) (d : Dimension) (i : ℕ) (p : views.Point)
+    → Some (point_of (point_seen p).value) ≡ slice_get l i
     → dimensions p.layout.dimension ≡ dimensions d
     → slice_get (list_of_values (each (point d) l)) i ≡ Some (point_seen p).value
 point_value l d i p is same =
-    part_value point l d p.layout.dimension i (point_of (point_seen p).value) is same ∙ ap (λ (v : Value). Some v) (sym (value_seen p))
+    part_value point l d p.layout.dimension i (point_of (point_seen p).value) is same
+    ∙ ap (λ (v : Value). Some v) (sym (value_seen p))
 
 -- ---- answers
 
@@ -467,7 +544,8 @@ if_ok (Err e) P Q f h = tt
 
 -- ---- closing a part
 
-set_there : (before after : List Part) (p x : Part) → set (before ++ (p ∷ after)) (length before) x ≡ before ++ (x ∷ after)
+set_there : (before after : List Part) (p x : Part)
+    → set (before ++ (p ∷ after)) (length before) x ≡ before ++ (x ∷ after)
 set_there [] after p x = refl
 set_there (y ∷ before) after p x = ap (λ l. y ∷ l) (set_there before after p x)
 
@@ -475,7 +553,8 @@ got_there : (before after : List Part) (p q : Part) → slice_index_or (before +
 got_there [] after p q = refl
 got_there (y ∷ before) after p q = got_there before after p q
 
-pub closes : (old new : Table) (index many : ℕ) (q : Part) → q ≡ slice_index_or old.parts.items index q → many ≡ length old.parts.items
+pub closes : (old new : Table) (index many : ℕ) (q : Part) → q ≡ slice_index_or old.parts.items index q
+    → many ≡ length old.parts.items
     → new.parts.items ≡ set old.parts.items index (closed old.at many q) → new.at ≡ old.at → Closes old new index
 closes old new index many q is counted written same = record {
   parts = λ before after p whole there.

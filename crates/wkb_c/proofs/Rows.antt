@@ -16,15 +16,21 @@ split (suc j) zero h = absurd (omega (arith, h))
 split (suc j) (suc i) h = up j i (split j i (omega (arith, h)))
 
 -- a row more has its status
-row_more : (bytes offsets validity statuses : List ℕ) (i s j : ℕ) → i < length statuses → AreStatuses bytes offsets validity i statuses
-    → IsStatusOfRow bytes offsets validity i s → (j ≡ i) ⊎ (j < i) → IsStatusOfRow bytes offsets validity j (slice_index (set statuses i s) j)
+row_more : (bytes offsets validity statuses : List ℕ) (i s j : ℕ) → i < length statuses
+    → AreStatuses bytes offsets validity i statuses
+    → IsStatusOfRow bytes offsets validity i s → (j ≡ i) ⊎ (j < i)
+    → IsStatusOfRow bytes offsets validity j (slice_index (set statuses i s) j)
 row_more bytes offsets validity statuses i s j there are is (inl same) =
-    let read : slice_index (set statuses i s) j ≡ s = ap (slice_index (set statuses i s)) same ∙ get_or-set_same statuses i s 0 there in
+    let read : slice_index (set statuses i s) j ≡ s =
+    ap (slice_index (set statuses i s)) same ∙ get_or-set_same statuses i s 0 there in
     subst (λ (k : ℕ). IsStatusOfRow bytes offsets validity k (slice_index (set statuses i s) j)) (sym same)
     (subst (IsStatusOfRow bytes offsets validity i) (sym read) is)
 row_more bytes offsets validity statuses i s j there are is (inr below) =
-    subst (IsStatusOfRow bytes offsets validity j) (sym (get_or-set_other statuses i j s 0 (λ same. omega (arith, same, below)))) (are j below)
+    subst (IsStatusOfRow bytes offsets validity j)
+    (sym (get_or-set_other statuses i j s 0 (λ same. omega (arith, same, below)))) (are j below)
 
-pub rows_more : (bytes offsets validity statuses : List ℕ) (i s : ℕ) → i < length statuses → AreStatuses bytes offsets validity i statuses
+pub rows_more : (bytes offsets validity statuses : List ℕ) (i s : ℕ) → i < length statuses
+    → AreStatuses bytes offsets validity i statuses
     → IsStatusOfRow bytes offsets validity i s → AreStatuses bytes offsets validity (i + 1) (set statuses i s)
-rows_more bytes offsets validity statuses i s there are is j below = row_more bytes offsets validity statuses i s j there are is (split j i below)
+rows_more bytes offsets validity statuses i s there are is j below =
+    row_more bytes offsets validity statuses i s j there are is (split j i below)

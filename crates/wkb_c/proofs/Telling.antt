@@ -15,7 +15,7 @@ use Rattle.wkb.specs.Canonical.{IsAccepted}
 use Rattle.wkb_check.specs.Public.{DescribesFront, IsRefusedFor}
 use Rattle.wkb_check.specs.declared.answer.Refused.{Refused}
 use Rattle.wkb_check.specs.declared.answer.Summary.{Summary}
-use Rattle.wkb_c.specs.declared.fault.Fault.{Fault}
+use Rattle.wkb_c.specs.declared.fault.WkbFault.{WkbFault}
 use Rattle.wkb_c.specs.declared.found.Found.{Found}
 use Rattle.wkb_c.specs.Checks.{IsFound}
 use Rattle.wkb_c.specs.Statuses.{cause_status, general_status, cause_fault, IsFault}
@@ -54,7 +54,8 @@ cause_is_small incorrect_type = omega arith
 cause_is_small (nesting_depth_exceeded n) = omega arith
 
 -- what is told of a refusal
-pub fault_told : (buf : List ℕ) (e : Refused) (status : ℕ) (fault : Fault) → IsRefusedFor buf e → status ≡ cause_status e.cause
+pub fault_told : (buf : List ℕ) (e : Refused) (status : ℕ) (fault : WkbFault) → IsRefusedFor buf e
+    → status ≡ cause_status e.cause
     → fault ≡ cause_fault e.part e.offset e.cause → IsFault buf status fault
 fault_told buf e status fault r status_is fault_is = record {
   cause = e.cause;
@@ -85,7 +86,8 @@ dimension_kept (point d c) = refl
 dimension_kept _ = refl
 
 -- what is told of what was found
-pub found_at_front : (buf : List ℕ) (summary : Summary) (f : Found) → DescribesFront buf summary → f.size ≡ summary.bytes
+pub found_at_front : (buf : List ℕ) (summary : Summary) (f : Found) → DescribesFront buf summary
+    → f.size ≡ summary.bytes
     → f.parts ≡ summary.parts → f.coordinates ≡ summary.coordinates → f.kind ≡ type_kind summary.wkb_type
     → f.dimension ≡ thousands (type_dimension summary.wkb_type) → f.width ≡ width (type_dimension summary.wkb_type)
     → f.has_srid ≡ is_some summary.srid → f.srid ≡ unwrap_or summary.srid 0 → IsFound buf f

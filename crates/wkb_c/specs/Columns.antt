@@ -2,7 +2,7 @@
 use Rattle.std.specs.Prelude.{◌≡◌, ℕ, ◌+◌, ◌/◌, ◌%◌, ◌^◌, ◌<◌, ◌≤◌, Bool, true, false, List, length}
 use Rattle.std.specs.Prelude.{Option, Some, None, slice_get, slice_range, slice_index, nat_eq}
 use Rattle.wkb.specs.Canonical.{IsAccepted}
-use Rattle.wkb_c.specs.declared.fault.Fault.{Fault}
+use Rattle.wkb_c.specs.declared.fault.WkbFault.{WkbFault}
 use Rattle.wkb_c.specs.declared.status.TheConstants.{OK, NULL_ROW, BAD_OFFSETS}
 use Rattle.wkb_c.specs.Statuses.{IsFault}
 
@@ -32,7 +32,7 @@ HasNoRow bytes offsets i = (row : List ℕ) → IsRow bytes offsets i row → �
 -- what `wkb_check` answers of these bytes
 pub data IsStatusOf : List ℕ → ℕ → Type 0 where
   accepted : (row : List ℕ) (status : ℕ) → status ≡ OK → IsAccepted row → IsStatusOf row status
-  refused : (row : List ℕ) (status : ℕ) (fault : Fault) → IsFault row status fault → IsStatusOf row status
+  refused : (row : List ℕ) (status : ℕ) (fault : WkbFault) → IsFault row status fault → IsStatusOf row status
 
 -- what a row of a column is answered
 pub data IsStatusOfRow (bytes offsets validity : List ℕ) (i : ℕ) (status : ℕ) : Type 0 where

@@ -1,10 +1,12 @@
 -- How a table grows.
-use Rattle.std.specs.Prelude.{◌≡◌, ℕ, ◌+◌, ◌<◌, zero, suc, List, [], ◌∷◌, ◌++◌, length, drop, Option, is_some}
+use Rattle.std.specs.Prelude.{◌≡◌, ℕ, ◌+◌, ◌^◌, ◌<◌, zero, suc, List, [], ◌∷◌, ◌++◌, length, drop, Option, is_some}
 use Rattle.wkb_geom.specs.declared.common.Dimension.{Dimension}
 use Rattle.wkb_geom.specs.Numbers.{order_byte}
+use Rattle.wkb_geom.specs.Reading.{Item}
 use Rattle.wkb_geom.specs.Refusals.{srid_size}
-use Rattle.wkb_geom.specs.Values.{Coordinate, Value, Values, no_members, member, kind, dimension}
+use Rattle.wkb_geom.specs.Values.{Coordinate, Value, Values, no_members, member, kind, dimension, members}
 use Rattle.wkb_geom.specs.Spellings.{Spelling, Spellings, no_spellings, spelling, header}
+use Rattle.wkb_view.specs.Parts.{members_spelled}
 use Rattle.wkb_c.specs.declared.parts.Part.{Part}
 use Rattle.wkb_c.specs.declared.parts.PartHead.{PartHead}
 use Rattle.wkb_c.specs.declared.parts.Table.{Table}
@@ -22,6 +24,22 @@ Lists old new s t = Grows old new (entries (length old.parts.items) old.at s t) 
 -- the entries of these members were added
 abbrev pub ListsMembers : Table → Table → Spellings → Values → Type 0
 ListsMembers old new ss ts = Grows old new (member_entries (length old.parts.items) old.at ss ts) (sizes ss ts)
+
+-- the entries of this geometry, which was read, were added
+abbrev pub ListsItem : Table → Table → Item → Type 0
+ListsItem old new item = Lists old new item.spelled item.value
+
+-- the entries of its members were added
+abbrev pub ListsMembersOf : Table → Table → Item → Type 0
+ListsMembersOf old new item = ListsMembers old new (members_spelled item.spelled) (members item.value)
+
+-- a table has room for this geometry in the bytes that it counts
+abbrev pub FitsTable : Table → Item → Type 0
+FitsTable table item = table.at + size item.spelled item.value < 2 ^ 63
+
+-- a table has room for its members
+abbrev pub MembersFitTable : Table → Item → Type 0
+MembersFitTable table item = table.at + sizes (members_spelled item.spelled) (members item.value) < 2 ^ 63
 
 -- the entry of a part that has this index and this head, begins at this byte, and has no rings or members yet
 abbrev pub added_entry : ℕ → ℕ → PartHead → ℕ → ℕ → Part
@@ -92,7 +110,8 @@ pub record Added (ss : Spellings) (ts : Values) (start : Table) (i : ℕ) (now :
   pub at : now.at + sizes (spellings_from i ss) (values_from i ts) ≡ start.at + sizes ss ts
 
 -- of these rings those below a number were added
-pub record RingsAdded (d : Dimension) (order : ℕ) (rings : List (List Coordinate)) (start : Table) (i : ℕ) (now : Table) : Type 0 where
+pub record RingsAdded (d : Dimension) (order : ℕ) (rings : List (List Coordinate)) (start : Table) (i : ℕ)
+    (now : Table) : Type 0 where
   pub parts : now.parts.items ++ ring_entries d order (length now.parts.items) now.at (drop i rings)
       ≡ start.parts.items ++ ring_entries d order (length start.parts.items) start.at rings
   pub at : now.at + size_of_rings d (drop i rings) ≡ start.at + size_of_rings d rings

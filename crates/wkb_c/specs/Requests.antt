@@ -21,7 +21,8 @@ form_asked o order =
     if o.form == ISO then Some (Encoding (record { endianness = order; form = Iso }))
     else (if o.form == EWKB_OWN_SRID then Some (OwnSrid order)
     else (if o.form == EWKB_WITH_SRID then Some (Encoding (record { endianness = order; form = Ewkb (Some o.srid) }))
-    else (if o.form == EWKB_WITHOUT_SRID then Some (Encoding (record { endianness = order; form = Ewkb None })) else None)))
+    else (if o.form == EWKB_WITHOUT_SRID then Some
+    (Encoding (record { endianness = order; form = Ewkb None })) else None)))
 
 -- what the options ask for, where their numbers mean something
 abbrev pub request_in : Options → Option Endianness → Option Request

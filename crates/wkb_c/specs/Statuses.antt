@@ -18,7 +18,7 @@ use Rattle.wkb_c.specs.declared.status.TheConstants.{INCORRECT_TYPE}
 use Rattle.wkb_c.specs.declared.status.TheConstants.{NESTING_DEPTH_EXCEEDED, SHORT_POINT}
 use Rattle.wkb_c.specs.declared.status.TheConstants.{SHORT_LINE_STRING, SHORT_MULTI_POINT, SHORT_LINEAR_RING, FIRST}
 use Rattle.wkb_c.specs.declared.status.TheConstants.{SECOND}
-use Rattle.wkb_c.specs.declared.fault.Fault.{Fault}
+use Rattle.wkb_c.specs.declared.fault.WkbFault.{WkbFault}
 
 -- the status of a fault of the bytes (no reading refuses an unsupported dimension)
 abbrev pub general_status : General → ℕ
@@ -38,15 +38,15 @@ cause_status incorrect_type = INCORRECT_TYPE
 cause_status (nesting_depth_exceeded n) = NESTING_DEPTH_EXCEEDED
 
 -- the part of this number is refused, which begins at this offset, and no more is told
-abbrev pub plain_fault : ℕ → ℕ → Fault
+abbrev pub plain_fault : ℕ → ℕ → WkbFault
 plain_fault part offset = record { part = part; offset = offset; end = 0; len = 0; code = 0 }
 
 -- a part is refused that would end there, where the input ends here
-abbrev pub short_fault : ℕ → ℕ → ℕ → ℕ → Fault
+abbrev pub short_fault : ℕ → ℕ → ℕ → ℕ → WkbFault
 short_fault part offset end len = record { part = part; offset = offset; end = end; len = len; code = 0 }
 
 -- the numbers of a fault of the bytes
-abbrev pub general_fault : ℕ → ℕ → General → Fault
+abbrev pub general_fault : ℕ → ℕ → General → WkbFault
 general_fault part offset InvalidByteOrder = plain_fault part offset
 general_fault part offset (CodeOutOfRange code) =
     record { part = part; offset = offset; end = 0; len = 0; code = code }
@@ -57,13 +57,13 @@ general_fault part offset (ShortMultiPoint end len) = short_fault part offset en
 general_fault part offset (ShortLinearRing end len) = short_fault part offset end len
 
 -- the numbers of a cause that refuses the part of this number and this offset
-abbrev pub cause_fault : ℕ → ℕ → Cause → Fault
+abbrev pub cause_fault : ℕ → ℕ → Cause → WkbFault
 cause_fault part offset (general g) = general_fault part offset g
 cause_fault part offset _ = plain_fault part offset
 
 -- The input is refused, the status tells why, and the fault tells which part, its numbers, and where it begins: from
 -- there on the input has as many bytes as from the refused part on.
-pub record IsFault (input : List ℕ) (status : ℕ) (fault : Fault) : Type 0 where
+pub record IsFault (input : List ℕ) (status : ℕ) (fault : WkbFault) : Type 0 where
   pub cause : Cause
   pub turns : ℕ
   pub slots : ℕ
@@ -75,11 +75,11 @@ pub record IsFault (input : List ℕ) (status : ℕ) (fault : Fault) : Type 0 wh
 
 -- the first input is refused, or it begins with a geometry and the second is refused; the status and the fault tell
 -- why, and `which` the input
-abbrev pub IsRefusedInTurn : List ℕ → List ℕ → ℕ → Fault → ℕ → Type 0
+abbrev pub IsRefusedInTurn : List ℕ → List ℕ → ℕ → WkbFault → ℕ → Type 0
 IsRefusedInTurn a b status fault which =
     (IsFault a status fault × (which ≡ FIRST)) ⊎ (IsAccepted a × IsFault b status fault × (which ≡ SECOND))
 
 -- the input has no parts, and this status tells why
 pub data FailsToList (input : List ℕ) (status : ℕ) : Type 0 where
-  refused : (fault : Fault) → IsFault input status fault → FailsToList input status
+  refused : (fault : WkbFault) → IsFault input status fault → FailsToList input status
   no_memory : status ≡ NO_MEMORY → FailsToList input status

@@ -3,7 +3,7 @@ use Rattle.std.specs.Prelude.{◌≡◌, ℕ, List, Some, None}
 use Rattle.wkb_c.specs.Room.{IsHeld, LacksRoom}
 use Rattle.wkb_c.specs.declared.options.Options.{Options}
 use Rattle.wkb_c.specs.declared.options.Request.{Request}
-use Rattle.wkb_c.specs.declared.fault.Fault.{Fault}
+use Rattle.wkb_c.specs.declared.fault.WkbFault.{WkbFault}
 use Rattle.wkb_c.specs.declared.status.TheConstants.{NO_MEMORY, UNKNOWN_OPTION}
 use Rattle.wkb_c.specs.Requests.{request_of, IsRequested}
 use Rattle.wkb_c.specs.Statuses.{IsFault}
@@ -41,5 +41,5 @@ pub record HasEncoding (o : Options) (input encoding : List ℕ) : Type 0 where
 -- there is none, and this status tells why
 pub data FailsToWrite (o : Options) (input : List ℕ) (status : ℕ) : Type 0 where
   unknown : request_of o ≡ None → status ≡ UNKNOWN_OPTION → FailsToWrite o input status
-  refused : (fault : Fault) → IsFault input status fault → FailsToWrite o input status
+  refused : (fault : WkbFault) → IsFault input status fault → FailsToWrite o input status
   no_memory : status ≡ NO_MEMORY → FailsToWrite o input status

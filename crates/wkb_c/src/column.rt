@@ -4,7 +4,7 @@ ghost use Rattle.std.specs.Prelude.{◌≡◌, ◌<◌, ◌^◌, length, IfSome,
 ghost use Rattle.wkb_c.specs.Columns.{is_null_row, IsRow, HasNoRow};
 ghost use Rattle.wkb_c.specs.Columns.{IsStatusOf, IsStatusOfRow, AreStatuses};
 
-use crate::fault::{Fault, check_input};
+use crate::fault::{WkbFault, check_input};
 use crate::status::{BAD_OFFSETS, NULL_ROW, OK};
 
 /// Whether the row of this number is null. Without validity bits none is.
@@ -51,7 +51,7 @@ fn status_of_bytes(buf: &[u8]) -> u32
     ensures status { IsStatusOf buf.now result }
     ensures small { result < 14 }
 {
-    let mut fault = Fault {
+    let mut fault = WkbFault {
         part: 0,
         offset: 0,
         end: 0,
@@ -66,7 +66,8 @@ fn status_of_bytes(buf: &[u8]) -> u32
 
 /// Writes what each row is answered.
 pub fn check_rows(bytes: &[u8], offsets: &[u64], validity: &[u8], statuses: &mut [u8])
-    ensures each { AreStatuses bytes.now offsets.now validity.now (length statuses.old) statuses.new }
+    ensures each { AreStatuses bytes.now offsets.now validity.now (length statuses.old)
+        statuses.new }
     ensures as_many { length statuses.new ≡ length statuses.old }
 {
     for i in 0..statuses.len() {

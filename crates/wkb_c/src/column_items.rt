@@ -8,14 +8,14 @@ ghost use Rattle.wkb_c.specs.Writings.{HasEncoding, FailsToWrite};
 
 use crate::column::{is_null, row};
 use crate::encoding::write_requested;
-use crate::fault::{Fault, check_input};
+use crate::fault::{WkbFault, check_input};
 use crate::options::{Options, requested};
 use crate::parts::{Part, list_parts};
 use crate::status::{BAD_OFFSETS, NULL_ROW, UNKNOWN_OPTION};
 use std::alloc::Global;
 
 /// The numbers of no refusal.
-const NO_FAULT: Fault = Fault {
+const NO_FAULT: WkbFault = WkbFault {
     part: 0,
     offset: 0,
     end: 0,
@@ -66,7 +66,8 @@ fn write_row(
     start: u64,
 ) -> (u32, u64)
     requires { i < 2 ^ 63 }
-    ensures step { IsRowStep (HasEncoding options.now) (FailsToWrite options.now) bytes.now offsets.now
+    ensures step { IsRowStep (HasEncoding options.now) (FailsToWrite options.now) bytes.now
+        offsets.now
         validity.now i result.0 result.1 start out.old out.new }
     ensures small { result.0 < 16 }
 {
@@ -126,7 +127,8 @@ pub fn write_rows(
     statuses: &mut [u8],
 )
     ensures each { AreRowAnswers (HasEncoding options.now) (FailsToWrite options.now) bytes.now
-        offsets.now validity.now (min (length statuses.old) (length ends.old)) statuses.new ends.new out.new }
+        offsets.now validity.now (min (length statuses.old) (length ends.old)) statuses.new
+        ends.new out.new }
     ensures out_kept { KeepsBehind (min (length statuses.old) (length ends.old))
         statuses.new ends.new out.old out.new }
     ensures as_many { length statuses.new ≡ length statuses.old }

@@ -14,7 +14,7 @@ use wkb_geom::{Cause, General};
 /// The numbers of a refusal.
 #[repr(C)]
 #[derive(Clone, Copy)]
-pub struct Fault {
+pub struct WkbFault {
     /// How many parts stand before the one that is refused.
     pub part: u64,
     /// Where that part begins, counted from the front of the input.
@@ -55,7 +55,7 @@ fn status_of_cause(cause: Cause) -> u32
 }
 
 /// The numbers of a refusal by the check.
-fn fault_of_refused(refused: &Refused) -> Fault
+fn fault_of_refused(refused: &Refused) -> WkbFault
     ensures { result ≡ cause_fault refused.now.part refused.now.offset refused.now.cause }
 {
     let (end, len, code) = match refused.cause {
@@ -66,7 +66,7 @@ fn fault_of_refused(refused: &Refused) -> Fault
         Cause::General(General::ShortLinearRing { end, len }) => (end, len as u64, 0),
         _ => (0, 0, 0),
     };
-    Fault {
+    WkbFault {
         part: refused.part as u64,
         offset: refused.offset as u64,
         end,
@@ -76,7 +76,7 @@ fn fault_of_refused(refused: &Refused) -> Fault
 }
 
 /// What stands at the front of the bytes; or the status of the one refusal, and its numbers. It takes no memory.
-pub fn check_input(buf: &[u8], fault: &mut Fault) -> Result<Summary, u32>
+pub fn check_input(buf: &[u8], fault: &mut WkbFault) -> Result<Summary, u32>
     ensures accepted { IfOk result (λ found. DescribesFront buf.now found) }
     ensures refused { IfErr result (λ status. IsFault buf.now status fault.new) }
     ensures late { IfErr result (λ status. IO_ERROR ≤ status) }

@@ -13,7 +13,8 @@ mod parts;
 mod room;
 mod status;
 
-ghost use Rattle.std.specs.Prelude.{◌≡◌, ◌≢◌, ◌≤◌, ◌<◌, ◌+◌, ◌⊎◌, ◌↔◌, MatchBool, None, length, min};
+ghost use Rattle.std.specs.Prelude.{◌≡◌, ◌≢◌, ◌≤◌, ◌<◌, ◌+◌, ◌⊎◌, ◌↔◌, MatchBool, None, length};
+ghost use Rattle.std.specs.Prelude.{min};
 ghost use Rattle.wkb.specs.Canonical.{HaveOneValue, HaveTwoValues};
 ghost use Rattle.wkb_c.specs.Checks.{IsFound};
 ghost use Rattle.wkb_c.specs.Columns.{AreStatuses};
@@ -26,7 +27,7 @@ ghost use Rattle.wkb_c.specs.Writings.{IsWritten, WantsRoom, HasEncoding, FailsT
 use column::check_rows;
 use column_items::{list_rows, write_rows};
 use encoding::write_requested;
-use fault::{Fault, check_input};
+use fault::{WkbFault, check_input};
 use found::{Found, found_of};
 use options::{Options, requested};
 use parts::{Part, list_parts};
@@ -38,7 +39,7 @@ use wkb::canon::same;
 ///
 /// `OK`, and what was found; or the status of the one refusal, and its numbers.
 #[unsafe(no_mangle)]
-pub extern "C" fn wkb_raw_check(buf: &[u8], found: &mut Found, fault: &mut Fault) -> u32
+pub extern "C" fn wkb_raw_check(buf: &[u8], found: &mut Found, fault: &mut WkbFault) -> u32
     ensures accepted { result ≡ OK → IsFound buf.now found.new }
     ensures refused { result ≢ OK → IsFault buf.now result fault.new }
     ensures no_memory { result ≢ NO_MEMORY }
@@ -65,7 +66,7 @@ pub extern "C" fn wkb_raw_write(
     options: &Options,
     out: &mut [u8],
     size: &mut u64,
-    fault: &mut Fault,
+    fault: &mut WkbFault,
 ) -> u32
     ensures written { result ≡ OK → IsWritten options.now buf.now out.old out.new size.new }
     ensures no_room { result ≡ NO_ROOM → WantsRoom options.now buf.now out.old size.new }
@@ -95,7 +96,7 @@ pub extern "C" fn wkb_raw_same(
     a: &[u8],
     b: &[u8],
     equal: &mut bool,
-    fault: &mut Fault,
+    fault: &mut WkbFault,
     which: &mut u32,
 ) -> u32
     ensures compared { result ≡ OK
@@ -133,7 +134,7 @@ pub extern "C" fn wkb_raw_parts(
     buf: &[u8],
     parts: &mut [Part],
     count: &mut u64,
-    fault: &mut Fault,
+    fault: &mut WkbFault,
 ) -> u32
     ensures listed { result ≡ OK → IsTable buf.now parts.old parts.new count.new }
     ensures no_room { result ≡ NO_ROOM → LacksEntries buf.now parts.old count.new }
@@ -159,7 +160,8 @@ pub extern "C" fn wkb_raw_column_check(
     validity: &[u8],
     statuses: &mut [u8],
 )
-    ensures each { AreStatuses bytes.now offsets.now validity.now (length statuses.old) statuses.new }
+    ensures each { AreStatuses bytes.now offsets.now validity.now (length statuses.old)
+        statuses.new }
     ensures as_many { length statuses.new ≡ length statuses.old }
 {
     check_rows(bytes, offsets, validity, statuses);
@@ -207,7 +209,8 @@ pub extern "C" fn wkb_raw_column_write(
     statuses: &mut [u8],
 )
     ensures each { AreRowAnswers (HasEncoding options.now) (FailsToWrite options.now) bytes.now
-        offsets.now validity.now (min (length statuses.old) (length ends.old)) statuses.new ends.new out.new }
+        offsets.now validity.now (min (length statuses.old) (length ends.old)) statuses.new
+        ends.new out.new }
     ensures out_kept { KeepsBehind (min (length statuses.old) (length ends.old))
         statuses.new ends.new out.old out.new }
     ensures as_many { length statuses.new ≡ length statuses.old }

@@ -1,19 +1,21 @@
 //! The table of a geometry's parts, by the headers, counts and sizes of its views.
 
-ghost use Rattle.std.specs.Prelude.{◌≡◌, ◌≢◌, ◌⊎◌, ◌+◌, ◌*◌, ◌<◌, ◌^◌, [], ◌∷◌, length, slice_get, slice_index, option_map};
-ghost use Rattle.std.specs.Prelude.{IfOk, IfSome};
+ghost use Rattle.std.specs.Prelude.{◌≡◌, ◌≢◌, ◌⊎◌, ◌+◌, ◌*◌, ◌<◌, ◌^◌, [], ◌∷◌, length, slice_get};
+ghost use Rattle.std.specs.Prelude.{slice_index, option_map, IfOk, IfSome};
 ghost use Rattle.wkb_geom.specs.Dimensions.{width as words, dimensions as trait_dimensions};
 ghost use Rattle.wkb_geom.specs.Reading.{spellings, values};
 ghost use Rattle.wkb_geom.specs.Refusals.{ring_end};
-ghost use Rattle.wkb_geom.specs.Values.{members, polygon as polygon_of};
-ghost use Rattle.wkb_geom.specs.Values.{multi_line_string as line_strings_of, multi_polygon as polygons_of};
+ghost use Rattle.wkb_geom.specs.Values.{polygon as polygon_of};
+ghost use Rattle.wkb_geom.specs.Values.{multi_line_string as line_strings_of};
+ghost use Rattle.wkb_geom.specs.Values.{multi_polygon as polygons_of};
 ghost use Rattle.wkb_geom.specs.Stored.{whole_of};
 ghost use Rattle.wkb_view.specs.Coords.{ring_seen, ring_dimension};
-ghost use Rattle.wkb_view.specs.Parts.{members_spelled};
 ghost use Rattle.wkb_view.specs.Views.{point_seen, line_string_seen, multi_point_seen};
-ghost use Rattle.wkb_c.specs.Tables.{entries, ring_entries, size_of_rings, size, sizes, IsTable, LacksEntries, HasParts};
-ghost use Rattle.wkb_c.specs.Growing.{Grows, Lists, ListsMembers, HasMembers, IsHead, OpensPart, Closes, added_entry};
-ghost use Rattle.wkb_c.specs.Growing.{header_bytes};
+ghost use Rattle.wkb_c.specs.Tables.{entries, ring_entries, size_of_rings, size, sizes, IsTable};
+ghost use Rattle.wkb_c.specs.Tables.{LacksEntries, HasParts};
+ghost use Rattle.wkb_c.specs.Growing.{Grows, ListsItem, ListsMembers, ListsMembersOf, HasMembers};
+ghost use Rattle.wkb_c.specs.Growing.{FitsTable, MembersFitTable, IsHead, OpensPart};
+ghost use Rattle.wkb_c.specs.Growing.{Closes, added_entry, header_bytes};
 
 use crate::encoding::read_checked;
 use crate::found::{dimension_number, kind_number, words_each};
@@ -125,9 +127,8 @@ fn close(table: &mut Table, index: usize)
 }
 
 fn add_point(table: &mut Table, point: &Point<'_>) -> Result<(), AllocError>
-    requires fits { table.old.at + size (point_seen point.now).spelled (point_seen point.now).value < 2 ^ 63 }
-    ensures { IfOk result (λ done. Lists table.old table.new (point_seen point.now).spelled
-        (point_seen point.now).value) }
+    requires fits { FitsTable table.old (point_seen point.now) }
+    ensures { IfOk result (λ done. ListsItem table.old table.new (point_seen point.now)) }
 {
     let head = PartHead {
         kind: 1,
@@ -140,10 +141,8 @@ fn add_point(table: &mut Table, point: &Point<'_>) -> Result<(), AllocError>
 }
 
 fn add_line_string(table: &mut Table, line: &LineString<'_>) -> Result<(), AllocError>
-    requires fits { table.old.at + size (line_string_seen line.now).spelled (line_string_seen line.now).value
-        < 2 ^ 63 }
-    ensures { IfOk result (λ done. Lists table.old table.new (line_string_seen line.now).spelled
-        (line_string_seen line.now).value) }
+    requires fits { FitsTable table.old (line_string_seen line.now) }
+    ensures { IfOk result (λ done. ListsItem table.old table.new (line_string_seen line.now)) }
 {
     let head = PartHead {
         kind: 2,
@@ -162,7 +161,8 @@ fn add_line_string(table: &mut Table, line: &LineString<'_>) -> Result<(), Alloc
 }
 
 fn add_ring(table: &mut Table, ring: &LinearRing<'_>, order: u8) -> Result<(), AllocError>
-    requires fits { table.old.at + ring_end (ring_dimension ring.now) (length (ring_seen ring.now)) < 2 ^ 63 }
+    requires fits { table.old.at + ring_end (ring_dimension ring.now) (length (ring_seen ring.now))
+        < 2 ^ 63 }
     ensures { IfOk result (λ done. Grows table.old table.new
         (ring_entries (ring_dimension ring.now) order (length table.old.parts.items) table.old.at
         (ring_seen ring.now ∷ []))
@@ -212,7 +212,8 @@ fn polygon_ring<'a>(polygon: &Polygon<'a>, i: usize) -> Option<LinearRing<'a>>
 fn add_rings(table: &mut Table, polygon: &Polygon<'_>, order: u8) -> Result<(), AllocError>
     requires fits { table.old.at + size_of_rings polygon.now.dimension polygon.now.parts < 2 ^ 63 }
     ensures { IfOk result (λ done. Grows table.old table.new
-        (ring_entries polygon.now.dimension order (length table.old.parts.items) table.old.at polygon.now.parts)
+        (ring_entries polygon.now.dimension order (length table.old.parts.items) table.old.at
+        polygon.now.parts)
         (size_of_rings polygon.now.dimension polygon.now.parts)) }
 {
     for i in 0..count_rings(polygon) {
@@ -233,10 +234,8 @@ fn first_byte(buf: &[u8]) -> u8
 }
 
 fn add_polygon(table: &mut Table, polygon: &Polygon<'_>) -> Result<(), AllocError>
-    requires fits { table.old.at + size (whole_of polygon_of polygon.now).spelled
-        (whole_of polygon_of polygon.now).value < 2 ^ 63 }
-    ensures { IfOk result (λ done. Lists table.old table.new (whole_of polygon_of polygon.now).spelled
-        (whole_of polygon_of polygon.now).value) }
+    requires fits { FitsTable table.old (whole_of polygon_of polygon.now) }
+    ensures { IfOk result (λ done. ListsItem table.old table.new (whole_of polygon_of polygon.now)) }
 {
     let head = PartHead {
         kind: 3,
@@ -254,10 +253,9 @@ fn add_polygon(table: &mut Table, polygon: &Polygon<'_>) -> Result<(), AllocErro
 
 /// Adds the members of a multi point.
 fn add_points(table: &mut Table, multi: &MultiPoint<'_>) -> Result<(), AllocError>
-    requires fits { table.old.at + sizes (members_spelled (multi_point_seen multi.now).spelled) (members
-        (multi_point_seen multi.now).value) < 2 ^ 63 }
-    ensures { IfOk result (λ done. ListsMembers table.old table.new (members_spelled
-        (multi_point_seen multi.now).spelled) (members (multi_point_seen multi.now).value)) }
+    requires fits { MembersFitTable table.old (multi_point_seen multi.now) }
+    ensures { IfOk result
+        (λ done. ListsMembersOf table.old table.new (multi_point_seen multi.now)) }
 {
     for i in 0..multi.num_points() {
         match multi.point(i) {
@@ -270,10 +268,9 @@ fn add_points(table: &mut Table, multi: &MultiPoint<'_>) -> Result<(), AllocErro
 
 /// Adds the members of a multi line string.
 fn add_line_strings(table: &mut Table, multi: &MultiLineString<'_>) -> Result<(), AllocError>
-    requires fits { table.old.at + sizes (members_spelled multi.now.spelled) (members
-        (whole_of line_strings_of multi.now).value) < 2 ^ 63 }
-    ensures { IfOk result (λ done. ListsMembers table.old table.new (members_spelled multi.now.spelled) (members
-        (whole_of line_strings_of multi.now).value)) }
+    requires fits { MembersFitTable table.old (whole_of line_strings_of multi.now) }
+    ensures { IfOk result
+        (λ done. ListsMembersOf table.old table.new (whole_of line_strings_of multi.now)) }
 {
     for i in 0..multi.num_line_strings() {
         match multi.line_string(i) {
@@ -286,10 +283,9 @@ fn add_line_strings(table: &mut Table, multi: &MultiLineString<'_>) -> Result<()
 
 /// Adds the members of a multi polygon.
 fn add_polygons(table: &mut Table, multi: &MultiPolygon<'_>) -> Result<(), AllocError>
-    requires fits { table.old.at + sizes (members_spelled multi.now.spelled) (members
-        (whole_of polygons_of multi.now).value) < 2 ^ 63 }
-    ensures { IfOk result (λ done. ListsMembers table.old table.new (members_spelled multi.now.spelled) (members
-        (whole_of polygons_of multi.now).value)) }
+    requires fits { MembersFitTable table.old (whole_of polygons_of multi.now) }
+    ensures { IfOk result
+        (λ done. ListsMembersOf table.old table.new (whole_of polygons_of multi.now)) }
 {
     for i in 0..multi.num_polygons() {
         match multi.polygon(i) {
@@ -304,7 +300,8 @@ fn add_polygons(table: &mut Table, multi: &MultiPolygon<'_>) -> Result<(), Alloc
 #[cycle(table)]
 fn add_each_member(table: &mut Table, members: &[Wkb<'_>]) -> Result<(), AllocError>
     requires fits { table.old.at + sizes (spellings members.now) (values members.now) < 2 ^ 63 }
-    ensures { IfOk result (λ done. ListsMembers table.old table.new (spellings members.now) (values members.now)) }
+    ensures { IfOk result
+        (λ done. ListsMembers table.old table.new (spellings members.now) (values members.now)) }
 {
     for member in members {
         add_geometry(table, member)?;
@@ -329,9 +326,10 @@ fn head_of(wkb: &Wkb<'_>) -> PartHead
 
 /// Adds a geometry that has members, of which there are so many, but not these.
 fn add_whole(table: &mut Table, wkb: &Wkb<'_>, count: usize) -> Result<(), AllocError>
-    requires fits { table.old.at + size wkb.now.spelled wkb.now.value < 2 ^ 63 }
+    requires fits { FitsTable table.old wkb.now }
     requires holds { HasMembers wkb.now.value }
-    ensures { IfOk result (λ done. OpensPart table.old table.new wkb.now.spelled wkb.now.value count) }
+    ensures { IfOk result
+        (λ done. OpensPart table.old table.new wkb.now.spelled wkb.now.value count) }
 {
     add(table, head_of(wkb), count as u64, 0)
 }
@@ -339,8 +337,8 @@ fn add_whole(table: &mut Table, wkb: &Wkb<'_>, count: usize) -> Result<(), Alloc
 /// Adds a geometry of any kind.
 #[cycle(table)]
 fn add_geometry(table: &mut Table, wkb: &Wkb<'_>) -> Result<(), AllocError>
-    requires fits { table.old.at + size wkb.now.spelled wkb.now.value < 2 ^ 63 }
-    ensures { IfOk result (λ done. Lists table.old table.new wkb.now.spelled wkb.now.value) }
+    requires fits { FitsTable table.old wkb.now }
+    ensures { IfOk result (λ done. ListsItem table.old table.new wkb.now) }
 {
     let index = table.parts.len();
     match wkb.as_type() {

@@ -18,7 +18,7 @@ use Rattle.wkb_check.specs.Skims.{Tally, Left, Skim, after, stop, skim_body_insi
 unfoldable use Rattle.wkb_check.specs.Skims.{skim_geometry}
 use Rattle.wkb_check.proofs.Bounds.{Held, geometry_held, coordinates_held}
 use Rattle.wkb_check.proofs.Marks.{refusal_marked}
-use Rattle.wkb_check.proofs.Opening.{head_of, head_opened}
+use Rattle.wkb_laws.proofs.Complete.{head_of, head_opened}
 use Rattle.wkb_check.proofs.Reading.{IsSkim, counted, geometry_skim}
 use Rattle.wkb_check.proofs.Skimming.{after-none, left_is}
 use Rattle.wkb_check.proofs.Walking.{behind_header, no_header}

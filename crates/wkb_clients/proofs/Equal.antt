@@ -5,47 +5,60 @@ use Rattle.wkb_clients.specs.Common.{line_string, polygon, Spelling, Spells, Lis
 use Rattle.wkb_clients.specs.Common.{members_spelled, list_of_spellings}
 use Rattle.wkb.specs.Bridges.{one_name}
 
-same_encoding : HasOneEncoding → (a b : Item) → AreBytes a.encoding → AreBytes b.encoding → Spells a.spelled a.value a.encoding → Spells b.spelled b.value b.encoding
+same_encoding : HasOneEncoding → (a b : Item) → AreBytes a.encoding → AreBytes b.encoding
+    → Spells a.spelled a.value a.encoding → Spells b.spelled b.value b.encoding
     → a.spelled ≡ b.spelled → a.value ≡ b.value → a.encoding ≡ b.encoding
 same_encoding one a b bytes bytes' spells spells' s t =
-    one a.spelled a.value a.encoding b.encoding bytes bytes' spells (subst (λ u. Spells u a.value b.encoding) (sym s) (subst (λ v. Spells b.spelled v b.encoding) (sym t) spells'))
+    one a.spelled a.value a.encoding b.encoding bytes bytes' spells
+    (subst (λ u. Spells u a.value b.encoding) (sym s) (subst (λ v. Spells b.spelled v b.encoding) (sym t) spells'))
 
 some_one : {A : Type 0} (a b : A) → Some a ≡ Some b → a ≡ b
 some_one a b h = cc
 
 -- what stands at one index of two equal multi geometries
-at_one : {A B : Type 0} (m n : Listed A) (list : A → List B) (i : ℕ) (a b : B) → n ≡ m → Some a ≡ slice_get (list m.parts) i
+at_one : {A B : Type 0} (m n : Listed A) (list : A → List B) (i : ℕ) (a b : B) → n ≡ m
+    → Some a ≡ slice_get (list m.parts) i
     → Some b ≡ slice_get (list n.parts) i → b ≡ a
 at_one m n list i a b same h k = some_one b a (k ∙ ap (λ l. slice_get (list l.parts) i) same ∙ sym h)
 
-spelled_one : {A : Type 0} (m n : Listed A) (i : ℕ) (s u : Spelling) → n ≡ m → Some s ≡ slice_get (list_of_spellings (members_spelled m.spelled)) i
+spelled_one : {A : Type 0} (m n : Listed A) (i : ℕ) (s u : Spelling) → n ≡ m
+    → Some s ≡ slice_get (list_of_spellings (members_spelled m.spelled)) i
     → Some u ≡ slice_get (list_of_spellings (members_spelled n.spelled)) i → u ≡ s
-spelled_one m n i s u same h k = some_one u s (k ∙ ap (λ l. slice_get (list_of_spellings (members_spelled l.spelled)) i) same ∙ sym h)
+spelled_one m n i s u same h k =
+    some_one u s (k ∙ ap (λ l. slice_get (list_of_spellings (members_spelled l.spelled)) i) same ∙ sym h)
 
-dimension_one : {A : Type 0} (m n : Listed A) (d e : Dimension) → n ≡ m → dimensions d ≡ dimensions m.dimension → dimensions e ≡ dimensions n.dimension → e ≡ d
+dimension_one : {A : Type 0} (m n : Listed A) (d e : Dimension) → n ≡ m → dimensions d ≡ dimensions m.dimension
+    → dimensions e ≡ dimensions n.dimension → e ≡ d
 dimension_one m n d e same h k = one_name e d (k ∙ ap (λ l. dimensions l.dimension) same ∙ sym h)
 
-pub same_polygon : HasOneEncoding → (m n : Listed (List (List (List Coordinate)))) (i : ℕ) (p q : Listed (List (List Coordinate))) → n ≡ m
+pub same_polygon : HasOneEncoding
+    → (m n : Listed (List (List (List Coordinate)))) (i : ℕ) (p q : Listed (List (List Coordinate))) → n ≡ m
     → Some p.parts ≡ slice_get m.parts i → Some q.parts ≡ slice_get n.parts i
     → dimensions p.dimension ≡ dimensions m.dimension → dimensions q.dimension ≡ dimensions n.dimension
     → Some p.spelled ≡ slice_get (list_of_spellings (members_spelled m.spelled)) i
     → Some q.spelled ≡ slice_get (list_of_spellings (members_spelled n.spelled)) i
-    → AreBytes p.encoding → AreBytes q.encoding → Spells p.spelled (polygon p.dimension p.parts) p.encoding → Spells q.spelled (polygon q.dimension q.parts) q.encoding → q ≡ p
+    → AreBytes p.encoding → AreBytes q.encoding → Spells p.spelled (polygon p.dimension p.parts) p.encoding
+    → Spells q.spelled (polygon q.dimension q.parts) q.encoding → q ≡ p
 same_polygon one m n i p q same part part' dims dims' spelled spelled' bytes bytes' spells spells' =
     let a : q.parts ≡ p.parts = at_one m n (λ l. l) i p.parts q.parts same part part' in
     let s = spelled_one m n i p.spelled q.spelled same spelled spelled' in
     let d = dimension_one m n p.dimension q.dimension same dims dims' in
-    let t = same_encoding one (whole_of polygon q) (whole_of polygon p) bytes' bytes spells' spells s (λ j. polygon (d j) (a j)) in
+    let t =
+    same_encoding one (whole_of polygon q) (whole_of polygon p) bytes' bytes spells' spells s
+    (λ j. polygon (d j) (a j)) in
     λ j. record { encoding = t j; spelled = s j; dimension = d j; parts = a j }
 
-pub same_line_string : HasOneEncoding → (m n : Listed (List (List Coordinate))) (i : ℕ) (a b : Item) (d e : Dimension) (cs ds : List Coordinate) → n ≡ m
+pub same_line_string : HasOneEncoding
+    → (m n : Listed (List (List Coordinate))) (i : ℕ) (a b : Item) (d e : Dimension) (cs ds : List Coordinate) → n ≡ m
     → a.value ≡ line_string d cs → b.value ≡ line_string e ds
     → Some cs ≡ slice_get m.parts i → Some ds ≡ slice_get n.parts i
     → dimensions d ≡ dimensions m.dimension → dimensions e ≡ dimensions n.dimension
     → Some a.spelled ≡ slice_get (list_of_spellings (members_spelled m.spelled)) i
     → Some b.spelled ≡ slice_get (list_of_spellings (members_spelled n.spelled)) i
-    → AreBytes a.encoding → AreBytes b.encoding → Spells a.spelled a.value a.encoding → Spells b.spelled b.value b.encoding → b ≡ a
-same_line_string one m n i a b d e cs ds same value value' part part' dims dims' spelled spelled' bytes bytes' spells spells' =
+    → AreBytes a.encoding → AreBytes b.encoding → Spells a.spelled a.value a.encoding
+    → Spells b.spelled b.value b.encoding → b ≡ a
+same_line_string one m n i a b d e cs ds same value value' part part' dims dims' spelled spelled' bytes bytes' spells
+    spells' =
     let c : ds ≡ cs = at_one m n (λ l. l) i cs ds same part part' in
     let s = spelled_one m n i a.spelled b.spelled same spelled spelled' in
     let k = dimension_one m n d e same dims dims' in

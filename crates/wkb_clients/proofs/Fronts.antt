@@ -10,24 +10,31 @@ pub record Stands (blob : List ℕ) (offset : ℕ) (w : Item) : Type 0 where
   pub only : IsOnlyFront (drop offset blob) w
 
 -- so it does where the reader accepts the bytes behind the offset
-pub stands : (blob : List ℕ) (offset : ℕ) (behind : List ℕ) (w : Item) → behind ≡ drop offset blob → IsFront behind w → IsOnlyFront behind w
+pub stands : (blob : List ℕ) (offset : ℕ) (behind : List ℕ) (w : Item) → behind ≡ drop offset blob → IsFront behind w
+    → IsOnlyFront behind w
     → Stands blob offset w
-stands blob offset behind w same front only = record { front = subst (λ b. IsFront b w) same front; only = subst (λ b. IsOnlyFront b w) same only }
+stands blob offset behind w same front only =
+    record { front = subst (λ b. IsFront b w) same front; only = subst (λ b. IsOnlyFront b w) same only }
 
 -- of what the reader refuses, for a cause other than memory, there is none
-pub refused : (blob : List ℕ) (offset : ℕ) (behind : List ℕ) (e : WkbError) → behind ≡ drop offset blob → IfRefused (Err e) (λ _. HasNoFront behind)
+pub refused : (blob : List ℕ) (offset : ℕ) (behind : List ℕ) (e : WkbError) → behind ≡ drop offset blob
+    → IfRefused (Err e) (λ _. HasNoFront behind)
     → IsMemory e ⊎ HasNoFront (drop offset blob)
-refused blob offset behind e same h = subst (λ b. IsMemory e ⊎ HasNoFront b) same (bridges.refused (λ _. HasNoFront behind) e h)
+refused blob offset behind e same h =
+    subst (λ b. IsMemory e ⊎ HasNoFront b) same (bridges.memory_or (λ _. HasNoFront behind) e h)
 
 -- what is said to stand there has its spelling and its value
-pub one_value : (blob : List ℕ) (offset : ℕ) (w v : Item) → Stands blob offset w → IsFront (drop offset blob) v → v.value ≡ w.value
+pub one_value : (blob : List ℕ) (offset : ℕ) (w v : Item) → Stands blob offset w → IsFront (drop offset blob) v
+    → v.value ≡ w.value
 one_value blob offset w v there f = (there.only v.spelled v.value f.rest f.front).2
 
-pub one_spelling : (blob : List ℕ) (offset : ℕ) (w v : Item) → Stands blob offset w → IsFront (drop offset blob) v → v.spelled ≡ w.spelled
+pub one_spelling : (blob : List ℕ) (offset : ℕ) (w v : Item) → Stands blob offset w → IsFront (drop offset blob) v
+    → v.spelled ≡ w.spelled
 one_spelling blob offset w v there f = (there.only v.spelled v.value f.rest f.front).1
 
 -- a coordinate that is there has no such word
-pub no_word : (cs : List Coordinate) (c : Coordinate) (i n x : ℕ) → Some c ≡ slice_get cs i → None ≡ slice_get c n → IsWordOf cs i n x → ⊥
+pub no_word : (cs : List Coordinate) (c : Coordinate) (i n x : ℕ) → Some c ≡ slice_get cs i → None ≡ slice_get c n
+    → IsWordOf cs i n x → ⊥
 no_word cs c i n x here none of =
     let some : Some c ≡ Some of.coordinate = here ∙ of.coordinate_is in
     let same : c ≡ of.coordinate = cc in

@@ -23,11 +23,13 @@ IfOk-map (Err e) P Q f h = tt
 pub one_key_lem : EqualEncodings → HasOneKey
 unfolding key_of
 one_key_lem law a b x y bytes bytes' k l =
-    let same = law LittleEndian Iso a b k.spelled l.spelled k.value l.value k.rest l.rest tt bytes bytes' k.front l.front in
+    let same =
+    law LittleEndian Iso a b k.spelled l.spelled k.value l.value k.rest l.rest tt bytes bytes' k.front l.front in
     (λ e. same.0 (sym k.is ∙ e ∙ l.is), λ e. k.is ∙ same.1 e ∙ sym l.is)
 
 -- a key is read as the value that it was made of
-pub key_read : FrontIsRead → RewritingIsRead → (input key : List ℕ) → AreBytes input → (k : IsKey input key) → value_in key ≡ k.value
+pub key_read : FrontIsRead → RewritingIsRead → (input key : List ℕ) → AreBytes input → (k : IsKey input key)
+    → value_in key ≡ k.value
 unfolding key_of value_in
 key_read front rewriting input key bytes k =
     let r = rewriting LittleEndian Iso input k.spelled k.value k.rest [] tt bytes k.front in
@@ -39,7 +41,8 @@ key_read front rewriting input key bytes k =
 module _ {V : Type 0} (bytes_of : V → List ℕ) (key : List ℕ) (t : Value) where
   known_by : (k : V) (ks : List V) (found : Bool) → Decides found (bytes_of k ≡ key) → value_in key ≡ t
       → (list_any (λ y. bytes_eq (bytes_of y) key) ks ≡ true → Contains (map (λ y. value_in (bytes_of y)) ks) t)
-      → (found ≡ false → list_any (λ y. bytes_eq (bytes_of y) key) ks ≡ true) → Contains (map (λ y. value_in (bytes_of y)) (k ∷ ks)) t
+      → (found ≡ false → list_any (λ y. bytes_eq (bytes_of y) key) ks ≡ true)
+      → Contains (map (λ y. value_in (bytes_of y)) (k ∷ ks)) t
   known_by k ks true decides is later h = (0, omega arith, ap value_in (decides.0 refl) ∙ is)
   known_by k ks false decides is later h = let c = later (h refl) in (suc c.0, omega (arith, c.1), c.2)
 
@@ -47,7 +50,8 @@ module _ {V : Type 0} (bytes_of : V → List ℕ) (key : List ℕ) (t : Value) w
   rest_true true b h e = absurd (cc)
   rest_true false b h e = h
 
-  pub known : (ks : List V) → value_in key ≡ t → list_any (λ y. bytes_eq (bytes_of y) key) ks ≡ true → Contains (map (λ y. value_in (bytes_of y)) ks) t
+  pub known : (ks : List V) → value_in key ≡ t → list_any (λ y. bytes_eq (bytes_of y) key) ks ≡ true
+      → Contains (map (λ y. value_in (bytes_of y)) ks) t
   known [] is h = absurd (cc)
   known (k ∷ ks) is h =
       known_by k ks (bytes_eq (bytes_of k) key) (bytes_eq-Decides (bytes_of k) key) is (known ks is)
@@ -66,12 +70,14 @@ module _ {V : Type 0} (bytes_of : V → List ℕ) (key : List ℕ) (t : Value) w
   unknown [] all is none c = absurd (omega (arith, c.1))
   unknown (k ∷ ks) all is none (zero, below, at) =
       let both = rest_false (bytes_eq (bytes_of k) key) (list_any (λ y. bytes_eq (bytes_of y) key) ks) none in
-      differs (bytes_eq (bytes_of k) key) (bytes_of k) (bytes_eq-Decides (bytes_of k) key) both.0 (all.0 ∙ ap key_of at ∙ sym is)
+      differs (bytes_eq (bytes_of k) key) (bytes_of k) (bytes_eq-Decides (bytes_of k) key) both.0
+      (all.0 ∙ ap key_of at ∙ sym is)
   unknown (k ∷ ks) all is none (suc n, below, at) =
       let both = rest_false (bytes_eq (bytes_of k) key) (list_any (λ y. bytes_eq (bytes_of y) key) ks) none in
       unknown ks all.1 is both.1 (n, omega (arith, below), at)
 
-pub all_with : {V : Type 0} (bytes_of : V → List ℕ) (ks : List V) (k : V) → AllByRecursion (λ y. bytes_of y ≡ key_of (value_in (bytes_of y))) ks
+pub all_with : {V : Type 0} (bytes_of : V → List ℕ) (ks : List V) (k : V)
+    → AllByRecursion (λ y. bytes_of y ≡ key_of (value_in (bytes_of y))) ks
     → bytes_of k ≡ key_of (value_in (bytes_of k))
     → AllByRecursion (λ y. bytes_of y ≡ key_of (value_in (bytes_of y))) (ks ++ k ∷ [])
 all_with bytes_of [] k all is = (is, tt)
@@ -79,8 +85,10 @@ all_with bytes_of (x ∷ ks) k all is = (all.0, all_with bytes_of ks k all.1 is)
 
 -- ---- what an insertion did
 
-pub was_known : FrontIsRead → RewritingIsRead → {V : Type 0} (bytes_of : V → List ℕ) (ks : List V) (input key : List ℕ) → AreBytes input → IsKey input key
-    → list_any (λ y. bytes_eq (bytes_of y) key) ks ≡ true → Inserts (map (λ y. value_in (bytes_of y)) ks) (map (λ y. value_in (bytes_of y)) ks) input true
+pub was_known : FrontIsRead → RewritingIsRead → {V : Type 0} (bytes_of : V → List ℕ) (ks : List V) (input key : List ℕ)
+    → AreBytes input → IsKey input key
+    → list_any (λ y. bytes_eq (bytes_of y) key) ks ≡ true
+    → Inserts (map (λ y. value_in (bytes_of y)) ks) (map (λ y. value_in (bytes_of y)) ks) input true
 was_known front rewriting bytes_of ks input key bytes k found =
     record {
       spelled = k.spelled;
@@ -91,7 +99,8 @@ was_known front rewriting bytes_of ks input key bytes k found =
       kept = refl;
     }
 
-pub is_stored : FrontIsRead → RewritingIsRead → {V : Type 0} (bytes_of : V → List ℕ) (ks : List V) (input : List ℕ) (v : V) → AreBytes input
+pub is_stored : FrontIsRead → RewritingIsRead
+    → {V : Type 0} (bytes_of : V → List ℕ) (ks : List V) (input : List ℕ) (v : V) → AreBytes input
     → IsKey input (bytes_of v)
     → AllByRecursion (λ y. bytes_of y ≡ key_of (value_in (bytes_of y))) ks
     → list_any (λ y. bytes_eq (bytes_of y) (bytes_of v)) ks ≡ false
@@ -104,8 +113,10 @@ is_stored front rewriting bytes_of ks input v bytes k all none =
       front = k.front;
       known = unknown bytes_of (bytes_of v) k.value ks all k.is none;
       kept = map-append (λ y. value_in (bytes_of y)) ks (v ∷ [])
-          ∙ ap (λ w. map (λ y. value_in (bytes_of y)) ks ++ w ∷ []) (key_read front rewriting input (bytes_of v) bytes k);
+          ∙ ap (λ w. map (λ y. value_in (bytes_of y)) ks ++ w ∷ [])
+          (key_read front rewriting input (bytes_of v) bytes k);
     }
 
-pub is_its_own : FrontIsRead → RewritingIsRead → (input key : List ℕ) → AreBytes input → (k : IsKey input key) → key ≡ key_of (value_in key)
+pub is_its_own : FrontIsRead → RewritingIsRead → (input key : List ℕ) → AreBytes input → (k : IsKey input key)
+    → key ≡ key_of (value_in key)
 is_its_own front rewriting input key bytes k = k.is ∙ ap key_of (sym (key_read front rewriting input key bytes k))

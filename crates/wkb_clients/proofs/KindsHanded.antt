@@ -12,7 +12,8 @@ use Rattle.wkb.specs.Reads.{IsViewOf}
 -- what a geometry of any kind hands out
 abbrev pub Handed : Type 0 → Type 0 → Type 0 → Type 0
 Handed R T N =
-    GeometryType views.Point views.LineString (Listed (List (List Coordinate))) views.MultiPoint (Listed (List (List Coordinate)))
+    GeometryType views.Point views.LineString (Listed (List (List Coordinate))) views.MultiPoint
+    (Listed (List (List Coordinate)))
     (Listed (List (List (List Coordinate)))) Item R T N
 
 -- the kind of what was handed out; the last three are never handed out
@@ -39,15 +40,18 @@ kind_handed w (Triangle t) view = absurd view
 kind_handed w (Line l) view = absurd view
 
 -- what was handed out is of no other kind
-pub not_line_string : {R T N : Type 0} (w : Item) (r : Handed R T N) → IsViewOf w r → ((l : Bor views.LineString) → r ≡ LineString l → ⊥) → kind w.value ≡ 2 → ⊥
+pub not_line_string : {R T N : Type 0} (w : Item) (r : Handed R T N) → IsViewOf w r
+    → ((l : Bor views.LineString) → r ≡ LineString l → ⊥) → kind w.value ≡ 2 → ⊥
 not_line_string w (LineString l) view none two = none l refl
 not_line_string w r view none two = absurd (omega (arith, kind_handed w r view, two))
 
-pub not_polygon : {R T N : Type 0} (w : Item) (r : Handed R T N) → IsViewOf w r → ((p : Bor (Listed (List (List Coordinate)))) → r ≡ Polygon p → ⊥)
+pub not_polygon : {R T N : Type 0} (w : Item) (r : Handed R T N) → IsViewOf w r
+    → ((p : Bor (Listed (List (List Coordinate)))) → r ≡ Polygon p → ⊥)
     → kind w.value ≡ 3 → ⊥
 not_polygon w (Polygon p) view none three = none p refl
 not_polygon w r view none three = absurd (omega (arith, kind_handed w r view, three))
 
-pub not_point : {R T N : Type 0} (w : Item) (r : Handed R T N) → IsViewOf w r → ((p : Bor views.Point) → r ≡ Point p → ⊥) → kind w.value ≡ 1 → ⊥
+pub not_point : {R T N : Type 0} (w : Item) (r : Handed R T N) → IsViewOf w r
+    → ((p : Bor views.Point) → r ≡ Point p → ⊥) → kind w.value ≡ 1 → ⊥
 not_point w (Point p) view none one = none p refl
 not_point w r view none one = absurd (omega (arith, kind_handed w r view, one))

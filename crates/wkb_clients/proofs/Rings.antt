@@ -21,13 +21,15 @@ use Rattle.wkb_clients.proofs.Fronts.{Stands, one_value, one_spelling, no_word, 
 
 -- ---- members by their index
 
-none_of : (ms : List Item) (k : ℕ) (s : Spelling) (t : Value) → slice_get ms k ≡ None → IsOneOf k (spellings ms) (values ms) s t → ⊥
+none_of : (ms : List Item) (k : ℕ) (s : Spelling) (t : Value) → slice_get ms k ≡ None
+    → IsOneOf k (spellings ms) (values ms) s t → ⊥
 none_of [] zero s t is h = h
 none_of [] (suc k) s t is h = h
 none_of (x ∷ ms) zero s t is h = absurd (cc)
 none_of (x ∷ ms) (suc k) s t is h = none_of ms k s t is h
 
-same_value : (ms : List Item) (k : ℕ) (s : Spelling) (t : Value) (m : Item) → slice_get ms k ≡ Some m → IsOneOf k (spellings ms) (values ms) s t → t ≡ m.value
+same_value : (ms : List Item) (k : ℕ) (s : Spelling) (t : Value) (m : Item) → slice_get ms k ≡ Some m
+    → IsOneOf k (spellings ms) (values ms) s t → t ≡ m.value
 same_value [] zero s t m is h = absurd h
 same_value [] (suc k) s t m is h = absurd h
 same_value (x ∷ ms) zero s t m is h =
@@ -35,19 +37,25 @@ same_value (x ∷ ms) zero s t m is h =
     h.1 ∙ ap (λ (i : Item). i.value) same
 same_value (x ∷ ms) (suc k) s t m is h = same_value ms k s t m is h
 
-listed : (u : Spelling) (d : Dimension) (vs : Values) (k : ℕ) (s : Spelling) (t : Value) → IsMember k u (collection d vs) s t
+listed : (u : Spelling) (d : Dimension) (vs : Values) (k : ℕ) (s : Spelling) (t : Value)
+    → IsMember k u (collection d vs) s t
     → IsOneOf k (members_spelled u) vs s t
 listed (node g ws ss) d vs k s t h = h
 
 -- a member of a collection is one of those that were handed out
-member_in : (w : Item) (ms : List Item) (k : ℕ) (s : Spelling) (t : Value) → IsCollectionOf w ms → IsMember k w.spelled w.value s t
+member_in : (w : Item) (ms : List Item) (k : ℕ) (s : Spelling) (t : Value) → IsCollectionOf w ms
+    → IsMember k w.spelled w.value s t
     → IsOneOf k (spellings ms) (values ms) s t
 member_in w ms k s t c h =
-    let inside = listed c.whole.spelled c.whole.dimension c.whole.parts k s t (subst (λ (v : Item). IsMember k v.spelled v.value s t) (sym c.is) h) in
-    subst (λ vs. IsOneOf k (spellings ms) vs s t) (sym c.all.value) (subst (λ ss. IsOneOf k ss c.whole.parts s t) (sym c.all.spelled) inside)
+    let inside =
+    listed c.whole.spelled c.whole.dimension c.whole.parts k s t
+    (subst (λ (v : Item). IsMember k v.spelled v.value s t) (sym c.is) h) in
+    subst (λ vs. IsOneOf k (spellings ms) vs s t) (sym c.all.value)
+    (subst (λ ss. IsOneOf k ss c.whole.parts s t) (sym c.all.spelled) inside)
 
 -- a member has one value
-same_one : (k : ℕ) (ss : Spellings) (vs : Values) (s u : Spelling) (t v : Value) → IsOneOf k ss vs s t → IsOneOf k ss vs u v → t ≡ v
+same_one : (k : ℕ) (ss : Spellings) (vs : Values) (s u : Spelling) (t v : Value) → IsOneOf k ss vs s t
+    → IsOneOf k ss vs u v → t ≡ v
 same_one zero (spelling a ss) (member b vs) s u t v h g = h.1 ∙ sym g.1
 same_one (suc k) (spelling a ss) (member b vs) s u t v h g = same_one k ss vs s u t v h g
 same_one zero no_spellings vs s u t v h g = absurd h
@@ -55,7 +63,8 @@ same_one (suc k) no_spellings vs s u t v h g = absurd h
 same_one zero (spelling a ss) no_members s u t v h g = absurd h
 same_one (suc k) (spelling a ss) no_members s u t v h g = absurd h
 
-one_member : (w : Item) (k : ℕ) (s u : Spelling) (t v : Value) → IsMember k w.spelled w.value s t → IsMember k w.spelled w.value u v → t ≡ v
+one_member : (w : Item) (k : ℕ) (s u : Spelling) (t v : Value) → IsMember k w.spelled w.value s t
+    → IsMember k w.spelled w.value u v → t ≡ v
 one_member w k s u t v h g = by w.spelled w.value h g
   where
     by : (y : Spelling) (z : Value) → IsMember k y z s t → IsMember k y z u v → t ≡ v
@@ -70,10 +79,12 @@ rings_of _ = []
 -- a collection that has no such member has no such ring
 pub no_member : (w : Item) (ms : List Item) (k j : ℕ) → IsCollectionOf w ms → slice_get ms k ≡ None → HasNoRing w k j
 no_member w ms k j c none =
-    λ ring h. none_of ms k h.spelled (polygon h.of_polygon h.rings) none (member_in w ms k h.spelled (polygon h.of_polygon h.rings) c h.is_member)
+    λ ring h. none_of ms k h.spelled (polygon h.of_polygon h.rings) none
+    (member_in w ms k h.spelled (polygon h.of_polygon h.rings) c h.is_member)
 
 -- nor has one whose member is no polygon
-pub no_polygon : (w : Item) (ms : List Item) (k j : ℕ) (m : Item) → IsCollectionOf w ms → slice_get ms k ≡ Some m → (kind m.value ≡ 3 → ⊥) → HasNoRing w k j
+pub no_polygon : (w : Item) (ms : List Item) (k j : ℕ) (m : Item) → IsCollectionOf w ms → slice_get ms k ≡ Some m
+    → (kind m.value ≡ 3 → ⊥) → HasNoRing w k j
 no_polygon w ms k j m c is other =
     λ ring h. other (ap kind (sym (same_value ms k h.spelled (polygon h.of_polygon h.rings) m is
     (member_in w ms k h.spelled (polygon h.of_polygon h.rings) c h.is_member))))
@@ -83,7 +94,8 @@ pub no_collection : (w : Item) (k j : ℕ) → (kind w.value ≡ 7 → ⊥) → 
 no_collection w k j other = λ ring h. other (ap kind h.value_is)
 
 -- a polygon's ring is found, or there is none
-pub ring_or_none : (w : Item) (ms : List Item) (k j : ℕ) (m : Item) (p : Listed (List (List Coordinate))) (r : Option LinearRing) → IsCollectionOf w ms
+pub ring_or_none : (w : Item) (ms : List Item) (k j : ℕ) (m : Item) (p : Listed (List (List Coordinate)))
+    (r : Option LinearRing) → IsCollectionOf w ms
     → slice_get ms k ≡ Some m → whole_of polygon p ≡ m
     → option_map ring_seen r ≡ slice_get p.parts j → MatchOption r (HasNoRing w k j) (λ r. IsRingOf w k j (ring_seen r))
 ring_or_none w ms k j m p (Some r) c is view found =
@@ -94,7 +106,8 @@ ring_or_none w ms k j m p (Some r) c is view found =
       of_polygon = p.dimension;
       rings = p.parts;
       value_is = ap (λ (i : Item). i.value) (sym c.is);
-      is_member = subst (λ (i : Item). IsMember k w.spelled w.value i.spelled i.value) (sym view) (member_of w ms k m c is);
+      is_member =
+          subst (λ (i : Item). IsMember k w.spelled w.value i.spelled i.value) (sym view) (member_of w ms k m c is);
       is = sym found;
     }
 ring_or_none w ms k j m p None c is view found =
@@ -107,16 +120,21 @@ ring_or_none w ms k j m p None c is view found =
 -- ---- words
 
 -- what stands behind a part of an encoding
-behind_part : (encoding rest head before part after : List ℕ) (start : ℕ) → encoding ≡ head ++ (before ++ (part ++ after)) → start ≡ length head + length before
+behind_part : (encoding rest head before part after : List ℕ) (start : ℕ)
+    → encoding ≡ head ++ (before ++ (part ++ after)) → start ≡ length head + length before
     → drop start (encoding ++ rest) ≡ part ++ (after ++ rest)
 behind_part encoding rest head before part after start is at =
     let all : encoding ++ rest ≡ (head ++ before) ++ (part ++ (after ++ rest)) =
-    ap (λ t. t ++ rest) is ∙ append_assoc head (before ++ (part ++ after)) rest ∙ ap (λ t. head ++ t) (append_assoc before (part ++ after) rest)
-    ∙ ap (λ t. head ++ (before ++ t)) (append_assoc part after rest) ∙ sym (append_assoc head before (part ++ (after ++ rest))) in
-    ap (drop start) all ∙ ap (λ n. drop n ((head ++ before) ++ (part ++ (after ++ rest)))) (at ∙ sym (length-append head before))
+    ap (λ t. t ++ rest) is ∙ append_assoc head (before ++ (part ++ after)) rest
+    ∙ ap (λ t. head ++ t) (append_assoc before (part ++ after) rest)
+    ∙ ap (λ t. head ++ (before ++ t)) (append_assoc part after rest)
+    ∙ sym (append_assoc head before (part ++ (after ++ rest))) in
+    ap (drop start) all
+    ∙ ap (λ n. drop n ((head ++ before) ++ (part ++ (after ++ rest)))) (at ∙ sym (length-append head before))
     ∙ drop-append_seam (head ++ before) (part ++ (after ++ rest))
 
-ring_word_at : MembersStand → RingsStand → WordsStand → (blob : List ℕ) (offset k j i n x : ℕ) (w : Item) (ring : List Coordinate)
+ring_word_at : MembersStand → RingsStand → WordsStand
+    → (blob : List ℕ) (offset k j i n x : ℕ) (w : Item) (ring : List Coordinate)
     → Stands blob offset w → IsRingOf w k j ring → IsWordOf ring i n x → IsRingWordAt blob offset k j i n x
 ring_word_at members rings words blob offset k j i n x w ring there of word =
     let f = there.front in
@@ -130,10 +148,13 @@ ring_word_at members rings words blob offset k j i n x w ring there of word =
     let in_whole : drop p.start (drop offset blob) ≡ m.0 ++ (p.after ++ f.rest) =
     ap (drop p.start) whole ∙ behind_part w.encoding f.rest p.head p.before m.0 p.after p.start p.parts p.start_is in
     let in_part : drop r.start (drop p.start (drop offset blob)) ≡ r.bytes ++ (r.after ++ (p.after ++ f.rest)) =
-    ap (drop r.start) in_whole ∙ behind_part m.0 (p.after ++ f.rest) r.head r.before r.bytes r.after r.start r.parts r.start_is in
-    let at : drop (offset + p.start + r.start + here) blob ≡ drop here (drop r.start (drop p.start (drop offset blob))) =
+    ap (drop r.start) in_whole
+    ∙ behind_part m.0 (p.after ++ f.rest) r.head r.before r.bytes r.after r.start r.parts r.start_is in
+    let at : drop (offset + p.start + r.start + here) blob
+    ≡ drop here (drop r.start (drop p.start (drop offset blob))) =
     sym (drop-drop here (offset + p.start + r.start) blob)
-    ∙ ap (drop here) (sym (drop-drop r.start (offset + p.start) blob) ∙ ap (drop r.start) (sym (drop-drop p.start offset blob))) in
+    ∙ ap (drop here)
+    (sym (drop-drop r.start (offset + p.start) blob) ∙ ap (drop r.start) (sym (drop-drop p.start offset blob))) in
     record {
       whole = w;
       dimension = of.dimension;
@@ -148,11 +169,13 @@ ring_word_at members rings words blob offset k j i n x w ring there of word =
       place = offset + p.start + r.start + here;
       place_is = omega arith;
       stands = ap (number (header of.spelled).order 8) (at ∙ ap (drop here) in_part)
-          ∙ words (header of.spelled).order r.dimension ring r.bytes (r.after ++ (p.after ++ f.rest)) i n x r.spells word;
+          ∙ words (header of.spelled).order r.dimension ring r.bytes
+          (r.after ++ (p.after ++ f.rest)) i n x r.spells word;
     }
 
 -- what is said to be such a word is one of a ring of the collection that stands there
-ring_of : (blob : List ℕ) (offset k j i n x : ℕ) (w : Item) → Stands blob offset w → (h : IsRingWordAt blob offset k j i n x) → IsRingOf w k j h.ring
+ring_of : (blob : List ℕ) (offset k j i n x : ℕ) (w : Item) → Stands blob offset w
+    → (h : IsRingWordAt blob offset k j i n x) → IsRingOf w k j h.ring
 ring_of blob offset k j i n x w there h =
     let value = one_value blob offset w h.whole there h.front in
     let spelled = one_spelling blob offset w h.whole there h.front in
@@ -173,8 +196,11 @@ ring_of blob offset k j i n x w there h =
 -- the ring of such a number is one
 one_ring : (w : Item) (k j : ℕ) (a b : List Coordinate) → IsRingOf w k j a → IsRingOf w k j b → a ≡ b
 one_ring w k j a b h g =
-    let same = one_member w k h.spelled g.spelled (polygon h.of_polygon h.rings) (polygon g.of_polygon g.rings) h.is_member g.is_member in
-    let some : Some a ≡ Some b = sym h.is ∙ ap (λ (l : List (List Coordinate)). slice_get l j) (ap rings_of same) ∙ g.is in
+    let same =
+    one_member w k h.spelled g.spelled (polygon h.of_polygon h.rings)
+    (polygon g.of_polygon g.rings) h.is_member g.is_member in
+    let some : Some a ≡ Some b =
+    sym h.is ∙ ap (λ (l : List (List Coordinate)). slice_get l j) (ap rings_of same) ∙ g.is in
     cc
 
 -- the coordinate of a ring was found, and its word or none
@@ -183,20 +209,27 @@ pub ring_word_or_none : MembersStand → RingsStand → WordsStand
     → Stands blob offset w → IsRingOf w k j ring → Some c ≡ slice_get ring i → found ≡ slice_get c n
     → MatchOption found (HasNoRingWordAt blob offset k j i n) (λ x. IsRingWordAt blob offset k j i n x)
 ring_word_or_none members rings words blob offset k j i n w ring c (Some x) there of here found =
-    ring_word_at members rings words blob offset k j i n x w ring there of (record { coordinate = c; coordinate_is = sym here; word_is = sym found })
+    ring_word_at members rings words blob offset k j i n x w ring there of
+    (record { coordinate = c; coordinate_is = sym here; word_is = sym found })
 ring_word_or_none members rings words blob offset k j i n w ring c None there of here found =
-    λ x h. no_word ring c i n x here found (subst (λ l. IsWordOf l i n x) (one_ring w k j h.ring ring (ring_of blob offset k j i n x w there h) of) h.word)
+    λ x h. no_word ring c i n x here found
+    (subst (λ l. IsWordOf l i n x) (one_ring w k j h.ring ring (ring_of blob offset k j i n x w there h) of) h.word)
 
-pub no_ring_coordinate : (blob : List ℕ) (offset k j i n : ℕ) (w : Item) (ring : List Coordinate) → Stands blob offset w → IsRingOf w k j ring
+pub no_ring_coordinate : (blob : List ℕ) (offset k j i n : ℕ) (w : Item) (ring : List Coordinate) → Stands blob offset w
+    → IsRingOf w k j ring
     → None ≡ slice_get ring i
     → HasNoRingWordAt blob offset k j i n
 no_ring_coordinate blob offset k j i n w ring there of none =
-    λ x h. no_word_there ring i n x none (subst (λ l. IsWordOf l i n x) (one_ring w k j h.ring ring (ring_of blob offset k j i n x w there h) of) h.word)
+    λ x h. no_word_there ring i n x none
+    (subst (λ l. IsWordOf l i n x) (one_ring w k j h.ring ring (ring_of blob offset k j i n x w there h) of) h.word)
 
-pub no_ring_there : (blob : List ℕ) (offset k j i n : ℕ) (w : Item) → Stands blob offset w → HasNoRing w k j → HasNoRingWordAt blob offset k j i n
+pub no_ring_there : (blob : List ℕ) (offset k j i n : ℕ) (w : Item) → Stands blob offset w → HasNoRing w k j
+    → HasNoRingWordAt blob offset k j i n
 no_ring_there blob offset k j i n w there none = λ x h. none h.ring (ring_of blob offset k j i n x w there h)
 
-pub no_collection_there : (blob : List ℕ) (offset k j i n : ℕ) (e : WkbError) → IsMemory e ⊎ HasNoFront (drop offset blob)
+pub no_collection_there : (blob : List ℕ) (offset k j i n : ℕ) (e : WkbError)
+    → IsMemory e ⊎ HasNoFront (drop offset blob)
     → IsMemory e ⊎ HasNoRingWordAt blob offset k j i n
 no_collection_there blob offset k j i n e (inl memory) = inl memory
-no_collection_there blob offset k j i n e (inr none) = inr (λ x h. none h.whole.spelled h.whole.value h.front.rest h.front.front)
+no_collection_there blob offset k j i n e (inr none) =
+    inr (λ x h. none h.whole.spelled h.whole.value h.front.rest h.front.front)

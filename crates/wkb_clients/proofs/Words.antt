@@ -29,35 +29,45 @@ word_at law blob offset i n x w d cs there is word =
       word = word;
       place = offset + start;
       place_is = omega arith;
-      stands = ap (number (header w.spelled).order 8) (sym (drop-drop start offset blob) ∙ ap (drop start) f.front.whole)
-          ∙ law w.spelled d cs f.front.front f.rest i n x (subst (λ v. Spells w.spelled v f.front.front) is f.front.spelled) word;
+      stands =
+          ap (number (header w.spelled).order 8) (sym (drop-drop start offset blob) ∙ ap (drop start) f.front.whole)
+          ∙ law w.spelled d cs f.front.front f.rest i n x
+          (subst (λ v. Spells w.spelled v f.front.front) is f.front.spelled) word;
     }
 
 -- what is said to be a word there is one of the line string that stands there
-word_of : (blob : List ℕ) (offset i n x : ℕ) (w : Item) (d : Dimension) (cs : List Coordinate) → Stands blob offset w → w.value ≡ line_string d cs
+word_of : (blob : List ℕ) (offset i n x : ℕ) (w : Item) (d : Dimension) (cs : List Coordinate) → Stands blob offset w
+    → w.value ≡ line_string d cs
     → IsWordAt blob offset i n x → IsWordOf cs i n x
 word_of blob offset i n x w d cs there is h =
     let same = one_value blob offset w h.whole there h.front in
     subst (λ l. IsWordOf l i n x) (ap line_string_coordinates (sym h.value_is ∙ same ∙ is)) h.word
 
 -- the coordinate was found, and its word or none
-pub word_or_none : LineStringWordsStand → (blob : List ℕ) (offset i n : ℕ) (w : Item) (d : Dimension) (cs : List Coordinate) (c : Coordinate) (found : Option ℕ)
+pub word_or_none : LineStringWordsStand
+    → (blob : List ℕ) (offset i n : ℕ) (w : Item) (d : Dimension) (cs : List Coordinate) (c : Coordinate)
+    (found : Option ℕ)
     → Stands blob offset w → w.value ≡ line_string d cs → Some c ≡ slice_get cs i → found ≡ slice_get c n
     → MatchOption found (HasNoWordAt blob offset i n) (λ x. IsWordAt blob offset i n x)
 word_or_none law blob offset i n w d cs c (Some x) there is here found =
-    word_at law blob offset i n x w d cs there is (record { coordinate = c; coordinate_is = sym here; word_is = sym found })
-word_or_none law blob offset i n w d cs c None there is here found = λ x h. no_word cs c i n x here found (word_of blob offset i n x w d cs there is h)
+    word_at law blob offset i n x w d cs there is
+    (record { coordinate = c; coordinate_is = sym here; word_is = sym found })
+word_or_none law blob offset i n w d cs c None there is here found =
+    λ x h. no_word cs c i n x here found (word_of blob offset i n x w d cs there is h)
 
 -- there is no such coordinate
 pub no_coordinate : (blob : List ℕ) (offset i n : ℕ) (w : Item) (d : Dimension) (cs : List Coordinate)
     → Stands blob offset w → w.value ≡ line_string d cs → None ≡ slice_get cs i → HasNoWordAt blob offset i n
-no_coordinate blob offset i n w d cs there is none = λ x h. no_word_there cs i n x none (word_of blob offset i n x w d cs there is h)
+no_coordinate blob offset i n w d cs there is none =
+    λ x h. no_word_there cs i n x none (word_of blob offset i n x w d cs there is h)
 
 -- another geometry stands there, or none
-pub no_line_string : (blob : List ℕ) (offset i n : ℕ) (w : Item) → Stands blob offset w → (kind w.value ≡ 2 → ⊥) → HasNoWordAt blob offset i n
+pub no_line_string : (blob : List ℕ) (offset i n : ℕ) (w : Item) → Stands blob offset w → (kind w.value ≡ 2 → ⊥)
+    → HasNoWordAt blob offset i n
 no_line_string blob offset i n w there other =
     λ x h. other (ap kind (sym (one_value blob offset w h.whole there h.front) ∙ h.value_is))
 
-pub no_geometry : (blob : List ℕ) (offset i n : ℕ) (e : WkbError) → IsMemory e ⊎ HasNoFront (drop offset blob) → IsMemory e ⊎ HasNoWordAt blob offset i n
+pub no_geometry : (blob : List ℕ) (offset i n : ℕ) (e : WkbError) → IsMemory e ⊎ HasNoFront (drop offset blob)
+    → IsMemory e ⊎ HasNoWordAt blob offset i n
 no_geometry blob offset i n e (inl memory) = inl memory
 no_geometry blob offset i n e (inr none) = inr (λ x h. none h.whole.spelled h.whole.value h.front.rest h.front.front)

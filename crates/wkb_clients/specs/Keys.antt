@@ -26,7 +26,9 @@ HasOneKey = (a b x y : List ℕ) → AreBytes a → AreBytes b → (k : IsKey a 
 
 -- Two inputs have one EWKB key under an order exactly if their values and their outermost SRIDs are equal.
 abbrev pub HasOneEwkbKey : Type 0
-HasOneEwkbKey = (order : Endianness) (a b x y : List ℕ) → AreBytes a → AreBytes b → (k : IsRewritingWithSrid order a x) → (l : IsRewritingWithSrid order b y)
+HasOneEwkbKey =
+    (order : Endianness) (a b x y : List ℕ) → AreBytes a → AreBytes b → (k : IsRewritingWithSrid order a x)
+    → (l : IsRewritingWithSrid order b y)
     → (x ≡ y) ↔ ((k.t ≡ l.t) × ((header k.s).srid ≡ (header l.s).srid))
 
 -- The value that the input begins with was stored before, and nothing changed, or it was not, and is the last one now.

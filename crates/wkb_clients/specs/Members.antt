@@ -30,5 +30,7 @@ pub record IsCornerWord (whole : Item) (k i n w : ℕ) : Type 0 where
   pub exterior : slice_get rings 0 ≡ Some ring
   pub word : IsWordOf ring i n w
   pub place : ℕ
-  pub place_is : place ≡ member_start k whole.spelled whole.value + ring_start 0 part.spelled dimension rings + 4 + 8 * (width dimension * i + n)
+  pub place_is : place
+      ≡ member_start k whole.spelled whole.value + ring_start 0 part.spelled dimension rings + 4
+      + 8 * (width dimension * i + n)
   pub stands : number (header part.spelled).order 8 (drop place whole.encoding) ≡ w

@@ -26,7 +26,8 @@ pub fn geometries<'m, 'a>(
 // The bytes of a polygon spell it.
 fn polygon_spelled(polygon: &Polygon)
     ensures bytes { AreBytes polygon.now.encoding }
-    ensures spells { Spells polygon.now.spelled (of_rings polygon.now.dimension polygon.now.parts) polygon.now.encoding }
+    ensures spells { Spells polygon.now.spelled (of_rings polygon.now.dimension polygon.now.parts)
+        polygon.now.encoding }
 {
     spelled_in_full();
     are_bytes(polygon.buf());
@@ -35,7 +36,8 @@ fn polygon_spelled(polygon: &Polygon)
 // The bytes of a line string spell it.
 fn line_string_spelled(line_string: &LineString)
     ensures bytes { AreBytes (line_string_seen line_string.now).encoding }
-    ensures spells { Spells (line_string_seen line_string.now).spelled (line_string_seen line_string.now).value
+    ensures spells { Spells (line_string_seen line_string.now).spelled
+        (line_string_seen line_string.now).value
         (line_string_seen line_string.now).encoding }
 {
     spelled_in_full();

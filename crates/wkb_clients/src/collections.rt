@@ -79,9 +79,11 @@ pub fn ring<'a>(geometry: &Wkb<'a>, member: usize, ring: usize) -> Option<Linear
 /// bytes behind the offset.
 pub fn ring_word(alloc: Global, blob: &[u8], offset: usize, at: Place) -> WkbResult<Option<u64>>
     ensures { MatchResult result
-        (λ found. MatchOption found (HasNoRingWordAt blob.now offset at.member at.ring at.coordinate at.word)
+        (λ found. MatchOption found
+        (HasNoRingWordAt blob.now offset at.member at.ring at.coordinate at.word)
         (λ w. IsRingWordAt blob.now offset at.member at.ring at.coordinate at.word w))
-        (λ e. IsMemory e ⊎ HasNoRingWordAt blob.now offset at.member at.ring at.coordinate at.word) }
+        (λ e. IsMemory e
+        ⊎ HasNoRingWordAt blob.now offset at.member at.ring at.coordinate at.word) }
 {
     members_stand();
     rings_stand();

@@ -75,7 +75,8 @@ impl Model for Store {
 
     ghost view = { λ s. map (λ k. value_in k.items) s.keys.items };
 
-    ghost invariant = { λ s. AllByRecursion (λ k. k.items ≡ key_of (value_in k.items)) s.keys.items };
+    ghost invariant = { λ s.
+        AllByRecursion (λ k. k.items ≡ key_of (value_in k.items)) s.keys.items };
 }
 
 impl Store {

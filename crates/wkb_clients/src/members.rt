@@ -32,7 +32,8 @@ pub fn point_bytes<'a>(multi: &MultiPoint<'a>, i: usize) -> Option<&'a [u8]>
 
 /// The same of a line string of a multi line string.
 pub fn line_string_bytes<'a>(multi: &MultiLineString<'a>, i: usize) -> Option<&'a [u8]>
-    ensures { IfSome result (λ bytes. LendsMember (whole_of multi_line_string multi.now) i bytes.now) }
+    ensures { IfSome result
+        (λ bytes. LendsMember (whole_of multi_line_string multi.now) i bytes.now) }
 {
     members_in_place();
     spelled_in_full();
@@ -86,7 +87,8 @@ pub fn corner_word(
     coordinate: usize,
     word: usize,
 ) -> Option<u64>
-    ensures { IfSome result (λ w. IsCornerWord (whole_of multi_polygon multi.now) member coordinate word w) }
+    ensures { IfSome result
+        (λ w. IsCornerWord (whole_of multi_polygon multi.now) member coordinate word w) }
 {
     members_in_place();
     rings_in_place();

@@ -23,7 +23,8 @@ pub(crate) fn behind(blob: &[u8], offset: usize) -> &[u8]
 /// refuses the bytes behind the offset.
 pub fn word(alloc: Global, blob: &[u8], offset: usize, i: usize, n: usize) -> WkbResult<Option<u64>>
     ensures { MatchResult result
-        (λ found. MatchOption found (HasNoWordAt blob.now offset i n) (λ w. IsWordAt blob.now offset i n w))
+        (λ found. MatchOption found (HasNoWordAt blob.now offset i n)
+        (λ w. IsWordAt blob.now offset i n w))
         (λ e. IsMemory e ⊎ HasNoWordAt blob.now offset i n) }
 {
     words_stand();

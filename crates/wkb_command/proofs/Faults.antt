@@ -24,13 +24,15 @@ pub IfErr-from : {T E : Type 0} (r : Result T E) (P Q : E → Type 0) → IsErrA
 IfErr-from (Ok x) P Q h f = tt
 IfErr-from (Err e) P Q h f = f e h
 
-pub decode_fault : (text : List ℕ) (e : FromHexError) (fault : HexFault) → (e ≡ hex_errors.OutOfMemory) ⊎ (decode_of text ≡ Err e)
+pub decode_fault : (text : List ℕ) (e : FromHexError) (fault : HexFault)
+    → (e ≡ hex_errors.OutOfMemory) ⊎ (decode_of text ≡ Err e)
     → FaultOfHexError e fault → (fault ≡ Memory) ⊎ ((fault ≡ NotHex) × ¬ IsHex text)
 decode_fault text hex_errors.OutOfMemory fault h is = inl is
 decode_fault text e fault (inl memory) is = absurd (cc)
 decode_fault text e fault (inr refused) is = inr (is, not_hex text e refused)
 
-pub call_fault : (texts : List (List ℕ)) (IsRefused : List (List ℕ) → WkbError → Type 0) (e : WkbError) (fault : HexFault)
+pub call_fault : (texts : List (List ℕ)) (IsRefused : List (List ℕ) → WkbError → Type 0) (e : WkbError)
+    (fault : HexFault)
     → IsMemory e ⊎ ((inputs : List (List ℕ)) × AreHexOf texts inputs × IsRefused inputs e)
     → FaultOfError e fault → IsFaultOf texts IsRefused fault
 call_fault texts IsRefused (errors.Memory x) fault h is = rw is tt
@@ -46,24 +48,31 @@ refused_alone input e cause turns slots refuses told =
 never_refused : (cause : Cause) → FirstRefusal [] cause → ⊥
 never_refused cause h = elim h [ ]
 
-first_of : (input : List ℕ) (others : List (List ℕ)) (cause : Cause) → FirstRefusal (input ∷ []) cause → FirstRefusal (input ∷ others) cause
+first_of : (input : List ℕ) (others : List (List ℕ)) (cause : Cause) → FirstRefusal (input ∷ []) cause
+    → FirstRefusal (input ∷ others) cause
 first_of input others cause (this_one refused) = this_one refused
 first_of input others cause (later_one accepted never) = absurd (never_refused cause never)
 
 -- of two inputs the first one is refused
-refused_before : (input other : List ℕ) (e : WkbError) → RefusedFirst (input ∷ []) e → RefusedFirst (input ∷ other ∷ []) e
-refused_before input other e h = record { cause = h.cause; refusal = first_of input (other ∷ []) h.cause h.refusal; told = h.told }
+refused_before : (input other : List ℕ) (e : WkbError) → RefusedFirst (input ∷ []) e
+    → RefusedFirst (input ∷ other ∷ []) e
+refused_before input other e h =
+    record { cause = h.cause; refusal = first_of input (other ∷ []) h.cause h.refusal; told = h.told }
 
 -- of two inputs the second one is refused
-refused_behind : (input other : List ℕ) (e : WkbError) → IsAccepted input → RefusedFirst (other ∷ []) e → RefusedFirst (input ∷ other ∷ []) e
-refused_behind input other e accepted h = record { cause = h.cause; refusal = later_one accepted h.refusal; told = h.told }
+refused_behind : (input other : List ℕ) (e : WkbError) → IsAccepted input → RefusedFirst (other ∷ []) e
+    → RefusedFirst (input ∷ other ∷ []) e
+refused_behind input other e accepted h =
+    record { cause = h.cause; refusal = later_one accepted h.refusal; told = h.told }
 
 -- the refusal of the bytes that the only text spells
-pub refused_one : (text bytes read : List ℕ) (e : WkbError) → IsHexOf text bytes → read ≡ bytes → RefusedFirst (read ∷ []) e
+pub refused_one : (text bytes read : List ℕ) (e : WkbError) → IsHexOf text bytes → read ≡ bytes
+    → RefusedFirst (read ∷ []) e
     → (inputs : List (List ℕ)) × AreHexOf (text ∷ []) inputs × RefusedFirst inputs e
 refused_one text bytes read e hex is h = (read ∷ [], ((rw is hex), tt), h)
 
-pub refused_pair : (first second a b read other : List ℕ) (e : WkbError) → IsHexOf first a → IsHexOf second b → read ≡ a → other ≡ b
+pub refused_pair : (first second a b read other : List ℕ) (e : WkbError) → IsHexOf first a → IsHexOf second b → read ≡ a
+    → other ≡ b
     → RefusedFirst (read ∷ []) e ⊎ (IsAccepted read × RefusedFirst (other ∷ []) e)
     → (inputs : List (List ℕ)) × AreHexOf (first ∷ second ∷ []) inputs × RefusedFirst inputs e
 refused_pair first second a b read other e hex hex' is is' (inl h) =
@@ -72,9 +81,12 @@ refused_pair first second a b read other e hex hex' is is' (inr (accepted, h)) =
     (read ∷ other ∷ [], ((rw is hex), ((rw is' hex'), tt)), refused_behind read other e accepted h)
 
 -- want of memory, or what a call on the only input's bytes refuses
-pub refused_or_long : (text bytes read : List ℕ) (e : WkbError) (IsLong : List ℕ → Type 0) → IsHexOf text bytes → read ≡ bytes
+pub refused_or_long : (text bytes read : List ℕ) (e : WkbError) (IsLong : List ℕ → Type 0) → IsHexOf text bytes
+    → read ≡ bytes
     → IsMemory e ⊎ (RefusedFirst (read ∷ []) e ⊎ (IsLong read × IsSize e))
-    → IsMemory e ⊎ ((inputs : List (List ℕ)) × AreHexOf (text ∷ []) inputs × (RefusedFirst inputs e ⊎ IsOversized IsLong inputs e))
+    → IsMemory e
+    ⊎ ((inputs : List (List ℕ)) × AreHexOf (text ∷ []) inputs
+    × (RefusedFirst inputs e ⊎ IsOversized IsLong inputs e))
 refused_or_long text bytes read e IsLong hex is (inl memory) = inl memory
 refused_or_long text bytes read e IsLong hex is (inr (inl refused)) =
     let h = refused_one text bytes read e hex is refused in

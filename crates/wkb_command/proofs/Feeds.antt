@@ -47,7 +47,8 @@ pub split_at_feeds-first : (xs ys : List ℕ) → IsOneLine xs → split_at_feed
 split_at_feeds-first [] ys h = refl
 split_at_feeds-first (b ∷ rest) ys h =
     let other : (b == 10) ≡ false = head_no_feed b rest h in
-    let later : split_at_feeds (rest ++ 10 ∷ ys) ≡ rest ∷ split_at_feeds ys = split_at_feeds-first rest ys (tail_one_line b rest h) in
+    let later : split_at_feeds (rest ++ 10 ∷ ys) ≡ rest ∷ split_at_feeds ys =
+    split_at_feeds-first rest ys (tail_one_line b rest h) in
     rw (other, later) refl
 
 -- ---- hex lines are text
@@ -96,7 +97,8 @@ split_some ys e = split_some_step ys e
     onto_some b [] = λ e. cc
     onto_some b (line ∷ more) = λ e. cc
 
-    choice_some : (b : ℕ) (is_feed : Bool) (others : List (List ℕ)) → (if is_feed then [] ∷ others else onto_first b others) ≢ []
+    choice_some : (b : ℕ) (is_feed : Bool) (others : List (List ℕ))
+        → (if is_feed then [] ∷ others else onto_first b others) ≢ []
     choice_some b true others = λ e. cc
     choice_some b false others = onto_some b others
 
@@ -107,18 +109,21 @@ split_some ys e = split_some_step ys e
 pub lines-one : (input body : List ℕ) → body ≡ without_last_feed input → IsOneLine body → lines input ≡ body ∷ []
 lines-one input body is one = ap split_at_feeds (sym is) ∙ split_at_feeds-one body one
 
-pub lines-more : (input body first rest : List ℕ) → body ≡ without_last_feed input → body ≡ first ++ 10 ∷ rest → IsOneLine first
+pub lines-more : (input body first rest : List ℕ) → body ≡ without_last_feed input → body ≡ first ++ 10 ∷ rest
+    → IsOneLine first
     → lines input ≡ first ∷ split_at_feeds rest
 lines-more input body first rest is whole one =
     ap split_at_feeds (sym is ∙ whole) ∙ split_at_feeds-first first rest one
 
-pub lines-two : (input body first rest : List ℕ) → body ≡ without_last_feed input → body ≡ first ++ 10 ∷ rest → IsOneLine first → IsOneLine rest
+pub lines-two : (input body first rest : List ℕ) → body ≡ without_last_feed input → body ≡ first ++ 10 ∷ rest
+    → IsOneLine first → IsOneLine rest
     → lines input ≡ first ∷ rest ∷ []
 lines-two input body first rest is whole one last =
     lines-more input body first rest is whole one ∙ ap (λ l. first ∷ l) (split_at_feeds-one rest last)
 
 -- a line feed in the body: not one line
-pub not_one_line : (input body first rest : List ℕ) → body ≡ without_last_feed input → body ≡ first ++ 10 ∷ rest → IsOneLine first
+pub not_one_line : (input body first rest : List ℕ) → body ≡ without_last_feed input → body ≡ first ++ 10 ∷ rest
+    → IsOneLine first
     → (line : List ℕ) → lines input ≢ line ∷ []
 not_one_line input body first rest is whole one line e =
     let more = lines-more input body first rest is whole one in
@@ -132,9 +137,12 @@ one_not_two input body is one first second e =
     cc (whole, e)
 
 -- two line feeds in the body: not two lines
-pub more_not_two : (input body first rest next later : List ℕ) → body ≡ without_last_feed input → body ≡ first ++ 10 ∷ rest → IsOneLine first
+pub more_not_two : (input body first rest next later : List ℕ) → body ≡ without_last_feed input
+    → body ≡ first ++ 10 ∷ rest → IsOneLine first
     → rest ≡ next ++ 10 ∷ later → IsOneLine next
     → (a b : List ℕ) → lines input ≢ a ∷ b ∷ []
 more_not_two input body first rest next later is whole one whole' one' a b e =
-    let all = lines-more input body first rest is whole one ∙ ap (λ l. first ∷ l) (ap split_at_feeds whole' ∙ split_at_feeds-first next later one') in
+    let all =
+    lines-more input body first rest is whole one
+    ∙ ap (λ l. first ∷ l) (ap split_at_feeds whole' ∙ split_at_feeds-first next later one') in
     split_some later (cc (all, e))

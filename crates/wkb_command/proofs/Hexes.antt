@@ -32,7 +32,9 @@ pub IsHex-decodes : (text : List ℕ) → IsHex text → (bytes : List ℕ) × I
 IsHex-decodes text h =
     let pairs : length text % 2 ≡ 0 = h.pairs in
     let len : length text ≡ 2 * (length text / 2) = omega arith in
-    let found = value_of-ok (decode_sized text (length text / 2)) ((IsOk-decode_sized text (length text / 2)).1 (len, h.digits)) in
+    let found =
+    value_of-ok (decode_sized text (length text / 2))
+    ((IsOk-decode_sized text (length text / 2)).1 (len, h.digits)) in
     (found.0, record { decoded = decode_of-sized text ∙ found.1 })
 
 pub not_hex : (text : List ℕ) (e : FromHexError) → decode_of text ≡ Err e → ¬ IsHex text

@@ -26,11 +26,12 @@ use Rattle.wkb_command.specs.declared.program.Command.TheVariants.{Rewrite, Rewr
 use Rattle.wkb_command.specs.Calls.{AreHex, AreHexOf, IsHexOf, IsFaultOf, RefusedFirst, IsOversized}
 use Rattle.wkb_command.specs.Program.{Says, rewritten, rewritten_with_srid, accepted, counted_refusal, srid, refused}
 use Rattle.wkb_command.specs.Program.{not_hex}
-use Rattle.wkb_command.specs.Program.{wanted_lines, Gives, counts, TellsCause, TellsError, TellsFault}
+use Rattle.wkb_command.specs.Program.{wanted_lines, Gives, counts, TellsCause, TellsError, TellsHexFault}
 use Rattle.wkb.proofs.Encodings.{iso_fits}
 use Rattle.wkb_command.proofs.Hexes.{AreHex-from, AreHexOf-length}
 
-pub TellsCause-from : (e : WkbError) (cause : Cause) (line : List ℕ) → Tells e cause → TellsError e line → TellsCause cause line
+pub TellsCause-from : (e : WkbError) (cause : Cause) (line : List ℕ) → Tells e cause → TellsError e line
+    → TellsCause cause line
 TellsCause-from (errors.IOError x) end_of_input line told h = h
 TellsCause-from (errors.General g) (general k) line told h = h
 TellsCause-from (errors.IncorrectType s) incorrect_type line told h = h
@@ -38,7 +39,8 @@ TellsCause-from (errors.NestingDepthExceeded n) (nesting_depth_exceeded m) line 
 TellsCause-from _ _ line told h = absurd told
 
 -- as many texts as the command wants, all hex
-pub Gives-from : (command : Command) (texts inputs : List (List ℕ)) → length texts ≡ wanted_lines command → AreHexOf texts inputs
+pub Gives-from : (command : Command) (texts inputs : List (List ℕ)) → length texts ≡ wanted_lines command
+    → AreHexOf texts inputs
     → Gives command texts inputs
 Gives-from command texts inputs wanted hex = record { wanted = AreHexOf-length texts inputs hex ∙ wanted; hex = hex }
 
@@ -52,16 +54,19 @@ says_not_hex command texts line status h is two =
 pub says_fault : (command : Command) (texts : List (List ℕ)) (IsRefused : List (List ℕ) → WkbError → Type 0)
     (fault : HexFault) (line : List ℕ) (status : ℕ)
     → length texts ≡ wanted_lines command
-    → ((inputs : List (List ℕ)) (e : WkbError) → Gives command texts inputs → IsRefused inputs e → TellsError e line → Says texts command line 1)
-    → IsFaultOf texts IsRefused fault → TellsFault fault line status → Says texts command line status
-says_fault command texts IsRefused NotHex line status wanted f h told = says_not_hex command texts line status h told.0 told.1
+    → ((inputs : List (List ℕ)) (e : WkbError) → Gives command texts inputs → IsRefused inputs e → TellsError e line
+    → Says texts command line 1)
+    → IsFaultOf texts IsRefused fault → TellsHexFault fault line status → Says texts command line status
+says_fault command texts IsRefused NotHex line status wanted f h told =
+    says_not_hex command texts line status h told.0 told.1
 says_fault command texts IsRefused (Wkb e) line status wanted f h told =
     rw told.1 (f h.0 e (Gives-from command texts h.0 wanted h.1) h.2 told.0)
 says_fault command texts IsRefused Memory line status wanted f h told = absurd told
 
 -- the first refusal, told by its error
 pub says_refused : (command : Command) (texts : List (List ℕ)) (line : List ℕ) → command ≢ Cost
-    → (inputs : List (List ℕ)) (e : WkbError) → Gives command texts inputs → RefusedFirst inputs e → TellsError e line → Says texts command line 1
+    → (inputs : List (List ℕ)) (e : WkbError) → Gives command texts inputs → RefusedFirst inputs e → TellsError e line
+    → Says texts command line 1
 says_refused command texts line ne inputs e gives first told =
     refused ne gives first.refusal (TellsCause-from e first.cause line first.told told)
 
@@ -73,11 +78,12 @@ IfOk-from (Err e) P Q h f = tt
 
 -- the report says what the table says
 abbrev pub Reports : List (List ℕ) → Command → Result Report AllocError → Type 0
-Reports texts command r = IfOk r (λ report. Says texts command (said report.line) report.status)
+Reports texts command r = IfOk r (λ report. Says texts command (said report.output) report.status)
 
 -- a fixed line
-pub reports_line : (texts : List (List ℕ)) (command : Command) (line : List ℕ) (status : ℕ) (r : Result Report AllocError)
-    → IfOk r (λ report. (said report.line ≡ line) × (report.status ≡ status)) → Says texts command line status
+pub reports_line : (texts : List (List ℕ)) (command : Command) (line : List ℕ) (status : ℕ)
+    (r : Result Report AllocError)
+    → IfOk r (λ report. (said report.output ≡ line) × (report.status ≡ status)) → Says texts command line status
     → Reports texts command r
 reports_line texts command line status r h says =
     IfOk-from r _ _ h (λ report is. rw (is.0, is.1) says)
@@ -86,60 +92,73 @@ reports_line texts command line status r h says =
 pub reports_fault : (texts : List (List ℕ)) (command : Command) (IsRefused : List (List ℕ) → WkbError → Type 0)
     (fault : HexFault) (r : Result Report AllocError)
     → length texts ≡ wanted_lines command
-    → ((line : List ℕ) (inputs : List (List ℕ)) (e : WkbError) → Gives command texts inputs → IsRefused inputs e → TellsError e line
+    → ((line : List ℕ) (inputs : List (List ℕ)) (e : WkbError) → Gives command texts inputs → IsRefused inputs e
+    → TellsError e line
     → Says texts command line 1)
     → IsFaultOf texts IsRefused fault
-    → IfOk r (λ report. TellsFault fault (said report.line) report.status) → Reports texts command r
+    → IfOk r (λ report. TellsHexFault fault (said report.output) report.status) → Reports texts command r
 reports_fault texts command IsRefused fault r wanted f h told =
     IfOk-from r _ _ told
-    (λ report is. says_fault command texts IsRefused fault (said report.line) report.status wanted (f (said report.line)) h is)
+    (λ report is. says_fault command texts IsRefused fault (said report.output) report.status wanted
+    (f (said report.output)) h is)
 
 pub reports_refusal : (texts : List (List ℕ)) (command : Command) (fault : HexFault) (r : Result Report AllocError)
     → length texts ≡ wanted_lines command → command ≢ Cost
     → IsFaultOf texts RefusedFirst fault
-    → IfOk r (λ report. TellsFault fault (said report.line) report.status) → Reports texts command r
+    → IfOk r (λ report. TellsHexFault fault (said report.output) report.status) → Reports texts command r
 reports_refusal texts command fault r wanted ne h told =
     reports_fault texts command RefusedFirst fault r wanted (λ line. says_refused command texts line ne) h told
 
-pub one_input : (command : Command) (text bytes : List ℕ) → wanted_lines command ≡ 1 → IsHexOf text bytes → Gives command (text ∷ []) (bytes ∷ [])
+pub one_input : (command : Command) (text bytes : List ℕ) → wanted_lines command ≡ 1 → IsHexOf text bytes
+    → Gives command (text ∷ []) (bytes ∷ [])
 one_input command text bytes wanted hex = record { wanted = sym wanted; hex = (hex, tt) }
 
-pub two_inputs : (first second a b : List ℕ) → IsHexOf first a → IsHexOf second b → Gives Same (first ∷ second ∷ []) (a ∷ b ∷ [])
+pub two_inputs : (first second a b : List ℕ) → IsHexOf first a → IsHexOf second b
+    → Gives Same (first ∷ second ∷ []) (a ∷ b ∷ [])
 two_inputs first second a b hex hex' = record { wanted = refl; hex = (hex, (hex', tt)) }
 
 -- ---- how many lines are wanted
 
 pub gives_two : (texts inputs : List (List ℕ)) → ((a b : List ℕ) → texts ≢ a ∷ b ∷ []) → ¬ Gives Same texts inputs
-gives_two [] inputs h gives = let e = AreHexOf-length [] inputs gives.hex in let w = gives.wanted in absurd (omega (arith, e, w))
-gives_two (a ∷ []) inputs h gives = let e = AreHexOf-length (a ∷ []) inputs gives.hex in let w = gives.wanted in absurd (omega (arith, e, w))
+gives_two [] inputs h gives =
+    let e = AreHexOf-length [] inputs gives.hex in let w = gives.wanted in absurd (omega (arith, e, w))
+gives_two (a ∷ []) inputs h gives =
+    let e = AreHexOf-length (a ∷ []) inputs gives.hex in let w = gives.wanted in absurd (omega (arith, e, w))
 gives_two (a ∷ b ∷ []) inputs h gives = h a b refl
 gives_two (a ∷ b ∷ c ∷ rest) inputs h gives =
     let e = AreHexOf-length (a ∷ b ∷ c ∷ rest) inputs gives.hex in let w = gives.wanted in absurd (omega (arith, e, w))
 
-gives_length_one : (texts inputs : List (List ℕ)) → length inputs ≡ 1 → AreHexOf texts inputs → ((a : List ℕ) → texts ≢ a ∷ []) → ⊥
+gives_length_one : (texts inputs : List (List ℕ)) → length inputs ≡ 1 → AreHexOf texts inputs
+    → ((a : List ℕ) → texts ≢ a ∷ []) → ⊥
 gives_length_one [] inputs w hex h = let e = AreHexOf-length [] inputs hex in omega (arith, e, w)
 gives_length_one (a ∷ []) inputs w hex h = h a refl
-gives_length_one (a ∷ b ∷ rest) inputs w hex h = let e = AreHexOf-length (a ∷ b ∷ rest) inputs hex in omega (arith, e, w)
+gives_length_one (a ∷ b ∷ rest) inputs w hex h =
+    let e = AreHexOf-length (a ∷ b ∷ rest) inputs hex in omega (arith, e, w)
 
 wants_one : (command : Command) → command ≢ Same → wanted_lines command ≡ 1
 wants_one Same ne = absurd (ne refl)
 wants_one _ ne = refl
 
-pub gives_one : (command : Command) (texts inputs : List (List ℕ)) → command ≢ Same → ((a : List ℕ) → texts ≢ a ∷ []) → ¬ Gives command texts inputs
-gives_one command texts inputs ne h gives = gives_length_one texts inputs (gives.wanted ∙ wants_one command ne) gives.hex h
+pub gives_one : (command : Command) (texts inputs : List (List ℕ)) → command ≢ Same → ((a : List ℕ) → texts ≢ a ∷ [])
+    → ¬ Gives command texts inputs
+gives_one command texts inputs ne h gives =
+    gives_length_one texts inputs (gives.wanted ∙ wants_one command ne) gives.hex h
 
 -- ---- what each call's answer says
 
 pub says_rewritten : (order : Endianness) (text line items : List ℕ) → line ≡ encode_lower items
-    → (bytes : List ℕ) × IsHexOf text bytes × IsRewriting order Iso bytes items → Says (text ∷ []) (Rewrite order) line 0
+    → (bytes : List ℕ) × IsHexOf text bytes × IsRewriting order Iso bytes items
+    → Says (text ∷ []) (Rewrite order) line 0
 says_rewritten order text line items is h = rw is (rewritten (one_input (Rewrite order) text h.0 refl h.1) h.2)
 
 pub says_rewritten_with_srid : (order : Endianness) (text line items : List ℕ) → line ≡ encode_lower items
-    → (bytes : List ℕ) × IsHexOf text bytes × IsRewritingWithSrid order bytes items → Says (text ∷ []) (RewriteWithSrid order) line 0
+    → (bytes : List ℕ) × IsHexOf text bytes × IsRewritingWithSrid order bytes items
+    → Says (text ∷ []) (RewriteWithSrid order) line 0
 says_rewritten_with_srid order text line items is h =
     rw is (rewritten_with_srid (one_input (RewriteWithSrid order) text h.0 refl h.1) h.2)
 
-pub says_iso_refused : (order : Endianness) (text line : List ℕ) (inputs : List (List ℕ)) (e : WkbError) → Gives (Rewrite order) (text ∷ []) inputs
+pub says_iso_refused : (order : Endianness) (text line : List ℕ) (inputs : List (List ℕ)) (e : WkbError)
+    → Gives (Rewrite order) (text ∷ []) inputs
     → RefusedFirst inputs e ⊎ IsOversized (IsTooLong order Iso) inputs e
     → TellsError e line → Says (text ∷ []) (Rewrite order) line 1
 says_iso_refused order text line inputs e gives (inl first) told =
@@ -152,14 +171,16 @@ counts_line verdict turns slots = simp append_assoc
 
 pub says_accepted : (text line : List ℕ) (is_accepted : Bool) (turns slots : ℕ) → is_accepted ≡ true
     → line ≡ codes "accepted" ++ (codes " turns " ++ (decimal turns ++ (codes " slots " ++ decimal slots)))
-    → (bytes : List ℕ) × IsHexOf text bytes × MatchBool is_accepted (Accepts bytes turns slots) ((cause : Cause) × IsRefused bytes cause turns slots)
+    → (bytes : List ℕ) × IsHexOf text bytes
+    × MatchBool is_accepted (Accepts bytes turns slots) ((cause : Cause) × IsRefused bytes cause turns slots)
     → Says (text ∷ []) Cost line 0
 says_accepted text line is_accepted turns slots is whole h =
     rw (whole, counts_line (codes "accepted") turns slots) (accepted (one_input Cost text h.0 refl h.1) (rw is at h.2))
 
 pub says_counted : (text line : List ℕ) (is_accepted : Bool) (turns slots : ℕ) → is_accepted ≡ false
     → line ≡ codes "refused" ++ (codes " turns " ++ (decimal turns ++ (codes " slots " ++ decimal slots)))
-    → (bytes : List ℕ) × IsHexOf text bytes × MatchBool is_accepted (Accepts bytes turns slots) ((cause : Cause) × IsRefused bytes cause turns slots)
+    → (bytes : List ℕ) × IsHexOf text bytes
+    × MatchBool is_accepted (Accepts bytes turns slots) ((cause : Cause) × IsRefused bytes cause turns slots)
     → Says (text ∷ []) Cost line 1
 says_counted text line is_accepted turns slots is whole h =
     let refusal = rw is at h.2 in

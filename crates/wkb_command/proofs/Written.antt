@@ -24,7 +24,8 @@ encode_with-append table (b ∷ front) rest = let h = encode_with-append table f
     ap (λ l. slice_index table (b / 16) ∷ slice_index table (b % 16) ∷ l) h
 
 -- a piece of the rest is written
-pub piece_written : (before written rest piece behind bytes : List ℕ) → written ≡ encode_lower piece → rest ≡ piece ++ behind
+pub piece_written : (before written rest piece behind bytes : List ℕ) → written ≡ encode_lower piece
+    → rest ≡ piece ++ behind
     → before ++ encode_lower rest ≡ encode_lower bytes
     → (before ++ written) ++ encode_lower behind ≡ encode_lower bytes
 piece_written before written rest piece behind bytes wrote parts h =
@@ -54,7 +55,8 @@ digits_and_feed digits piece hex fits =
 pub last_part : (before rest bytes text : List ℕ) → text ≡ encode_lower rest ++ line_feed ∷ []
     → before ++ encode_lower rest ≡ encode_lower bytes → before ++ text ≡ encode_lower bytes ++ line_feed ∷ []
 last_part before rest bytes text is h =
-    ap (λ l. before ++ l) is ∙ sym (append_assoc before (encode_lower rest) (line_feed ∷ [])) ∙ ap (λ l. l ++ line_feed ∷ []) h
+    ap (λ l. before ++ l) is ∙ sym (append_assoc before (encode_lower rest) (line_feed ∷ []))
+    ∙ ap (λ l. l ++ line_feed ∷ []) h
 
 -- a part that isn't the last one
 pub part_and_more : (before rest piece behind bytes text : List ℕ) → text ≡ encode_lower piece → rest ≡ piece ++ behind
@@ -103,13 +105,16 @@ wrote_last old mid new front part line r before is wrote = record {
 }
 
 -- the writer failed within a part
-pub wrote_no_more : {T E T' E' : Type 0} (old mid new : Option (List ℕ)) (front part behind line : List ℕ) (r : Result T E)
+pub wrote_no_more : {T E T' E' : Type 0} (old mid new : Option (List ℕ)) (front part behind line : List ℕ)
+    (r : Result T E)
     (ended : Result T' E') → Appends old mid front → front ++ (part ++ behind) ≡ line → WroteBeginning mid new part r
     → IsErr ended → WroteBeginning old new line ended
 wrote_no_more old mid new front part behind line r ended before is wrote failed = record {
   written = front ++ wrote.written;
   appended = Appends-trans _ _ _ _ _ before wrote.appended;
   beginning =
-      rw (sym is) (starts_behind front (part ++ behind) wrote.written (starts_before part behind wrote.written wrote.beginning));
+      rw (sym is)
+      (starts_behind front (part ++ behind) wrote.written
+      (starts_before part behind wrote.written wrote.beginning));
   whole = OnOk-never ended _ failed;
 }

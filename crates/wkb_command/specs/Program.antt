@@ -1,4 +1,4 @@
--- The program: the line that it writes and the status that it ends with, for its words and its input.
+-- The program: the line that it writes and the status that it ends with, for its arguments and its input.
 use Rattle.std.specs.Prelude.{◌≡◌, ◌≢◌, ℕ, ◌==◌, if◌then◌else◌, codes, Some, None}
 use Rattle.std.specs.Prelude.{List, [], ◌∷◌, ◌++◌, length, EachIndex, slice_index}
 use Rattle.std.specs.Fmt.{decimal}
@@ -19,15 +19,15 @@ use Rattle.wkb_command.specs.declared.calls.HexFault.TheVariants.{NotHex, Wkb, M
 use Rattle.wkb_command.specs.declared.program.Command.{Command}
 use Rattle.wkb_command.specs.declared.program.Command.TheVariants.{Rewrite, RewriteWithSrid, Same, Cost, Srid}
 
--- the word that asks for each command
-abbrev pub word : Command → List ℕ
-word (Rewrite LittleEndian) = codes "le"
-word (Rewrite BigEndian) = codes "be"
-word (RewriteWithSrid LittleEndian) = codes "ewkb-le"
-word (RewriteWithSrid BigEndian) = codes "ewkb-be"
-word Same = codes "same"
-word Cost = codes "cost"
-word Srid = codes "srid"
+-- the argument that asks for each command
+abbrev pub command_name : Command → List ℕ
+command_name (Rewrite LittleEndian) = codes "le"
+command_name (Rewrite BigEndian) = codes "be"
+command_name (RewriteWithSrid LittleEndian) = codes "ewkb-le"
+command_name (RewriteWithSrid BigEndian) = codes "ewkb-be"
+command_name Same = codes "same"
+command_name Cost = codes "cost"
+command_name Srid = codes "srid"
 
 abbrev pub usage : List ℕ
 usage = codes "usage: wkb_hex le|be|same|cost|srid|ewkb-le|ewkb-be"
@@ -75,7 +75,7 @@ status_answered = 0
 abbrev pub status_refused : ℕ
 status_refused = 1
 
--- of other words, and of an input that isn't hex
+-- of other arguments, and of an input that isn't hex
 abbrev pub status_misused : ℕ
 status_misused = 2
 
@@ -105,10 +105,10 @@ TellsError (errors.IOError e) line = line ≡ codes "refused: end of input"
 TellsError _ line = IsRefusalLine line
 
 -- what is said of a fault, with the status
-abbrev pub TellsFault : HexFault → List ℕ → ℕ → Type 0
-TellsFault NotHex line status = (line ≡ codes "not hex") × (status ≡ status_misused)
-TellsFault (Wkb e) line status = TellsError e line × (status ≡ status_refused)
-TellsFault Memory line status = ⊥
+abbrev pub TellsHexFault : HexFault → List ℕ → ℕ → Type 0
+TellsHexFault NotHex line status = (line ≡ codes "not hex") × (status ≡ status_misused)
+TellsHexFault (Wkb e) line status = TellsError e line × (status ≡ status_refused)
+TellsHexFault Memory line status = ⊥
 
 abbrev pub counts : List ℕ → ℕ → ℕ → List ℕ
 counts verdict turns slots = verdict ++ codes " turns " ++ decimal turns ++ codes " slots " ++ decimal slots
@@ -146,20 +146,21 @@ pub data Says (lines : List (List ℕ)) : Command → List ℕ → ℕ → Type 
       → ((inputs : List (List ℕ)) → ¬ Gives command lines inputs)
       → Says lines command (codes "not hex") status_misused
 
--- the words are no command's
+-- the arguments are no command's
 abbrev pub AreNoCommand : List (List ℕ) → Type 0
-AreNoCommand words = (command : Command) → words ≢ word command ∷ []
+AreNoCommand arguments = (command : Command) → arguments ≢ command_name command ∷ []
 
--- The line, with its line feed, and the status, for the words and the input.
-pub data Answers (words : List (List ℕ)) (input : List ℕ) : List ℕ → ℕ → Type 0 where
-  misused : AreNoCommand words → Answers words input (usage ++ line_feed ∷ []) status_misused
+-- The line, with its line feed, and the status, for the arguments and the input.
+pub data Answers (arguments : List (List ℕ)) (input : List ℕ) : List ℕ → ℕ → Type 0 where
+  misused : AreNoCommand arguments → Answers arguments input (usage ++ line_feed ∷ []) status_misused
   asked : {command : Command} {said : List ℕ} {status : ℕ}
-      → words ≡ word command ∷ [] → Says (lines input) command said status
-      → Answers words input (said ++ line_feed ∷ []) status
+      → arguments ≡ command_name command ∷ [] → Says (lines input) command said status
+      → Answers arguments input (said ++ line_feed ∷ []) status
 
 -- The run wrote its whole line and ended with the line's status, or it failed and wrote a beginning of the line or
 -- of `out of memory`, perhaps empty or whole.
-pub data Ends (words : List (List ℕ)) (input : List ℕ) : ℕ → List ℕ → Type 0 where
-  answered : {line : List ℕ} {status : ℕ} → Answers words input line status → Ends words input status line
-  cut_short : {line written : List ℕ} {status : ℕ} → Answers words input line status → StartsWith line written → Ends words input status_failed written
-  out_of_memory : {written : List ℕ} → StartsWith (codes "out of memory" ++ line_feed ∷ []) written → Ends words input status_failed written
+pub data Ends (arguments : List (List ℕ)) (input : List ℕ) : ℕ → List ℕ → Type 0 where
+  answered : {line : List ℕ} {status : ℕ} → Answers arguments input line status → Ends arguments input status line
+  cut_short : {line written : List ℕ} {status : ℕ} → Answers arguments input line status → StartsWith line written
+      → Ends arguments input status_failed written
+  out_of_memory : {written : List ℕ} → StartsWith (codes "out of memory" ++ line_feed ∷ []) written → Ends arguments input status_failed written

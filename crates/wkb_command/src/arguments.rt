@@ -21,21 +21,21 @@ impl From<AllocError> for ArgumentFault {
 }
 
 /// The arguments behind the program's name. The name itself is not looked at, so it need not be a text.
-pub fn words<E: Env>(alloc: Global, env: &E) -> Result<Vec<String>, ArgumentFault> {
-    let mut words = Vec::new(alloc);
+pub fn read_arguments<E: Env>(alloc: Global, env: &E) -> Result<Vec<String>, ArgumentFault> {
+    let mut arguments = Vec::new(alloc);
     for i in 1..usize::MAX {
-        let Some(word) = word_at(alloc, env, i)? else {
-            return Ok(words);
+        let Some(argument) = argument_at(alloc, env, i)? else {
+            return Ok(arguments);
         };
-        if words.push(word).is_err() {
+        if arguments.push(argument).is_err() {
             return Err(ArgumentFault::Memory);
         }
     }
-    Ok(words)
+    Ok(arguments)
 }
 
 /// An argument by its place, and None past the last. It is asked for with twice the room until it fits.
-fn word_at<E: Env>(alloc: Global, env: &E, i: usize) -> Result<Option<String>, ArgumentFault> {
+fn argument_at<E: Env>(alloc: Global, env: &E, i: usize) -> Result<Option<String>, ArgumentFault> {
     let mut size = FIRST_SIZE;
     for _ in 0..usize::BITS {
         let mut bytes = vec![in alloc; 0u8; size]?;

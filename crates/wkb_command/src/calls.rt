@@ -104,7 +104,8 @@ pub fn rewrite_hex_with_srid(
 /// Both texts are decoded before a byte is read, the first text's fault first. `Wkb` tells what the
 /// reader refuses of the first, or else of the second.
 pub fn same_hex(alloc: Global, first: &str, second: &str) -> Result<bool, HexFault>
-    ensures ok { IfOk result (λ equal. (a : List ℕ) × (b : List ℕ) × IsHexOf first.now a × IsHexOf second.now b
+    ensures ok { IfOk result
+        (λ equal. (a : List ℕ) × (b : List ℕ) × IsHexOf first.now a × IsHexOf second.now b
         × MatchBool equal (HaveOneValue a b) (HaveTwoValues a b)) }
     ensures err { IfErr result (IsFaultOf (first.now ∷ second.now ∷ []) RefusedFirst) }
 {
@@ -139,7 +140,8 @@ pub fn cost_hex(alloc: Global, text: &str) -> Result<Cost, HexFault>
 
 /// The SRID of the outermost geometry that a hex text spells, where it has one.
 pub fn srid_hex(alloc: Global, text: &str) -> Result<Option<u32>, HexFault>
-    ensures ok { IfOk result (λ srid. (bytes : List ℕ) × IsHexOf text.now bytes × HasSrid bytes srid) }
+    ensures ok { IfOk result
+        (λ srid. (bytes : List ℕ) × IsHexOf text.now bytes × HasSrid bytes srid) }
     ensures err { IfErr result (IsFaultOf (text.now ∷ []) RefusedFirst) }
 {
     let bytes = decoded(alloc, text)?;

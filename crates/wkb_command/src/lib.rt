@@ -1,4 +1,4 @@
-//! What the program `wkb_hex` does: its words are a command, its input is hex lines.
+//! What the program `wkb_hex` does: its argument is a command, its input is hex lines.
 #![tactic(auto)]
 
 pub mod arguments;

@@ -3,9 +3,9 @@
 ghost use Rattle.std.specs.Prelude.{◌≡◌, ◌≢◌, ◌∷◌, ◌++◌, [], ℕ, List, map, codes};
 ghost use Rattle.std.specs.Prelude.{IfOk, IfSome, MatchOption, string_bytes};
 ghost use Rattle.std.specs.Io.KnownBytes.{Appends};
-ghost use Rattle.wkb_command.specs.Program.{word, AreNoCommand, without_last_feed, lines, IsOneLine};
-ghost use Rattle.wkb_command.specs.Program.{status_misused, status_refused, TellsError, TellsFault, Says, Answers, Ends};
-ghost use Rattle.wkb_command.specs.Program.{line_feed};
+ghost use Rattle.wkb_command.specs.Program.{command_name, AreNoCommand, without_last_feed, lines};
+ghost use Rattle.wkb_command.specs.Program.{IsOneLine, status_misused, status_refused, TellsError};
+ghost use Rattle.wkb_command.specs.Program.{TellsHexFault, Says, Answers, Ends, line_feed};
 ghost use Rattle.wkb_command.specs.Reports.{said, told};
 ghost use Rattle.wkb_command.specs.Transfer.{WroteBeginning};
 
@@ -22,7 +22,7 @@ use wkb::writer::{Form, WriteOptions};
 const ANSWERED: u8 = 0;
 /// The status of a run whose input was refused.
 const REFUSED: u8 = 1;
-/// The status of a run with other words, or an input that isn't hex.
+/// The status of a run with other arguments, or an input that isn't hex.
 const MISUSED: u8 = 2;
 /// The status of a run without memory, input or output.
 pub const FAILED: u8 = 3;
@@ -40,19 +40,19 @@ pub enum Command {
 }
 
 impl Command {
-    fn from_words(words: &[String]) -> Option<Command>
-        ensures { MatchOption result (AreNoCommand (map string_bytes words.now))
-            (λ command. map string_bytes words.now ≡ word command ∷ []) }
+    fn from_arguments(arguments: &[String]) -> Option<Command>
+        ensures { MatchOption result (AreNoCommand (map string_bytes arguments.now))
+            (λ command. map string_bytes arguments.now ≡ command_name command ∷ []) }
     {
-        let [word] = words else {
+        let [name] = arguments else {
             return None;
         };
-        Command::named(word.as_str())
+        Command::from_name(name.as_str())
     }
 
-    fn named(name: &str) -> Option<Command>
-        ensures { MatchOption result ((command : Command) → name.now ≢ word command)
-            (λ command. name.now ≡ word command) }
+    fn from_name(name: &str) -> Option<Command>
+        ensures { MatchOption result ((command : Command) → name.now ≢ command_name command)
+            (λ command. name.now ≡ command_name command) }
     {
         match name {
             "le" => Some(Command::Rewrite(Endianness::LittleEndian)),
@@ -67,23 +67,23 @@ impl Command {
     }
 }
 
-/// What is said on a line.
+/// What is put out.
 #[derive(Drop)]
-enum Line {
+enum Output {
     /// A printed text.
     Text(String),
     /// An encoding. Its hex is written piece by piece, and never in memory as a whole.
     Hex(Vec<u8>),
 }
 
-impl Line {
+impl Output {
     /// Writes a text as it is, and hex with a line feed.
     fn write_to<W: Write>(&self, out: &mut W) -> Result<(), WriteFault>
         ensures { WroteBeginning (W.contents out.old) (W.contents out.new) (told self.now) result }
     {
         match self {
-            Line::Text(text) => write_whole(out, text.as_bytes()),
-            Line::Hex(bytes) => write_hex_line(out, bytes.as_slice()),
+            Output::Text(text) => write_whole(out, text.as_bytes()),
+            Output::Hex(bytes) => write_hex_line(out, bytes.as_slice()),
         }
     }
 }
@@ -91,22 +91,23 @@ impl Line {
 /// A line, without its line feed, and the status that goes with it.
 #[derive(Drop)]
 struct Report {
-    line: Line,
+    output: Output,
     status: u8,
 }
 
 impl Report {
     fn new(alloc: Global, line: &str, status: u8) -> Result<Report, AllocError>
-        ensures { IfOk result (λ report. (said report.line ≡ line.now) × (report.status ≡ status)) }
+        ensures { IfOk result
+            (λ report. (said report.output ≡ line.now) × (report.status ≡ status)) }
     {
         Ok(Report {
-            line: Line::Text(String::from_str(alloc, line)?),
+            output: Output::Text(String::from_str(alloc, line)?),
             status,
         })
     }
 
     fn not_hex(alloc: Global) -> Result<Report, AllocError>
-        ensures { IfOk result (λ report. (said report.line ≡ codes "not hex")
+        ensures { IfOk result (λ report. (said report.output ≡ codes "not hex")
             × (report.status ≡ status_misused)) }
     {
         Report::new(alloc, "not hex", MISUSED)
@@ -125,8 +126,8 @@ fn first_line(text: &str) -> &str
 }
 
 /// `refused: ` and the error's text.
-fn refusal(alloc: Global, error: &WkbError) -> Result<Report, AllocError>
-    ensures { IfOk result (λ report. TellsError error.now (said report.line)
+fn error_report(alloc: Global, error: &WkbError) -> Result<Report, AllocError>
+    ensures { IfOk result (λ report. TellsError error.now (said report.output)
         × (report.status ≡ status_refused)) }
 {
     if let WkbError::IOError(_) = error {
@@ -136,25 +137,25 @@ fn refusal(alloc: Global, error: &WkbError) -> Result<Report, AllocError>
     let mut line = String::from_str(alloc, "refused: ")?;
     line.push_str(first_line(text.as_str()))?;
     Ok(Report {
-        line: Line::Text(line),
+        output: Output::Text(line),
         status: REFUSED,
     })
 }
 
 /// What is said where a call has no answer.
 fn fault_report(alloc: Global, fault: HexFault) -> Result<Report, AllocError>
-    ensures { IfOk result (λ report. TellsFault fault (said report.line) report.status) }
+    ensures { IfOk result (λ report. TellsHexFault fault (said report.output) report.status) }
 {
     match fault {
         HexFault::NotHex => Report::not_hex(alloc),
-        HexFault::Wkb(error) => refusal(alloc, &error),
+        HexFault::Wkb(error) => error_report(alloc, &error),
         HexFault::Memory => Err(AllocError),
     }
 }
 
-fn rewriting(alloc: Global, order: Endianness, text: &str) -> Result<Report, AllocError>
+fn rewriting_report(alloc: Global, order: Endianness, text: &str) -> Result<Report, AllocError>
     ensures { IfOk result (λ report. Says (text.now ∷ []) (Command.Rewrite order)
-        (said report.line) report.status) }
+        (said report.output) report.status) }
 {
     let options = WriteOptions {
         endianness: order,
@@ -162,29 +163,33 @@ fn rewriting(alloc: Global, order: Endianness, text: &str) -> Result<Report, All
     };
     match rewrite_hex(alloc, text, &options) {
         Ok(bytes) => Ok(Report {
-            line: Line::Hex(bytes),
+            output: Output::Hex(bytes),
             status: ANSWERED,
         }),
         Err(fault) => fault_report(alloc, fault),
     }
 }
 
-fn rewriting_with_srid(alloc: Global, order: Endianness, text: &str) -> Result<Report, AllocError>
+fn rewriting_with_srid_report(
+    alloc: Global,
+    order: Endianness,
+    text: &str,
+) -> Result<Report, AllocError>
     ensures { IfOk result (λ report. Says (text.now ∷ []) (Command.RewriteWithSrid order)
-        (said report.line) report.status) }
+        (said report.output) report.status) }
 {
     match rewrite_hex_with_srid(alloc, text, order) {
         Ok(bytes) => Ok(Report {
-            line: Line::Hex(bytes),
+            output: Output::Hex(bytes),
             status: ANSWERED,
         }),
         Err(fault) => fault_report(alloc, fault),
     }
 }
 
-fn comparison(alloc: Global, first: &str, second: &str) -> Result<Report, AllocError>
+fn comparison_report(alloc: Global, first: &str, second: &str) -> Result<Report, AllocError>
     ensures { IfOk result (λ report. Says (first.now ∷ second.now ∷ []) Command.Same
-        (said report.line) report.status) }
+        (said report.output) report.status) }
 {
     let equal = match same_hex(alloc, first, second) {
         Ok(equal) => equal,
@@ -197,8 +202,9 @@ fn comparison(alloc: Global, first: &str, second: &str) -> Result<Report, AllocE
     }
 }
 
-fn cost(alloc: Global, text: &str) -> Result<Report, AllocError>
-    ensures { IfOk result (λ report. Says (text.now ∷ []) Command.Cost (said report.line) report.status) }
+fn cost_report(alloc: Global, text: &str) -> Result<Report, AllocError>
+    ensures { IfOk result
+        (λ report. Says (text.now ∷ []) Command.Cost (said report.output) report.status) }
 {
     let cost = match cost_hex(alloc, text) {
         Ok(cost) => cost,
@@ -208,23 +214,24 @@ fn cost(alloc: Global, text: &str) -> Result<Report, AllocError>
     let slots = cost.counts.slots;
     if cost.accepted {
         Ok(Report {
-            line: Line::Text(format!(in alloc; "accepted turns {turns} slots {slots}")?),
+            output: Output::Text(format!(in alloc; "accepted turns {turns} slots {slots}")?),
             status: ANSWERED,
         })
     } else {
         Ok(Report {
-            line: Line::Text(format!(in alloc; "refused turns {turns} slots {slots}")?),
+            output: Output::Text(format!(in alloc; "refused turns {turns} slots {slots}")?),
             status: REFUSED,
         })
     }
 }
 
-fn srid(alloc: Global, text: &str) -> Result<Report, AllocError>
-    ensures { IfOk result (λ report. Says (text.now ∷ []) Command.Srid (said report.line) report.status) }
+fn srid_report(alloc: Global, text: &str) -> Result<Report, AllocError>
+    ensures { IfOk result
+        (λ report. Says (text.now ∷ []) Command.Srid (said report.output) report.status) }
 {
     match srid_hex(alloc, text) {
         Ok(Some(srid)) => Ok(Report {
-            line: Line::Text(format!(in alloc; "srid {srid}")?),
+            output: Output::Text(format!(in alloc; "srid {srid}")?),
             status: ANSWERED,
         }),
         Ok(None) => Report::new(alloc, "no srid", ANSWERED),
@@ -256,7 +263,8 @@ fn only_line(text: &str) -> Option<&str>
 
 /// The lines of an input that has two.
 fn two_lines(text: &str) -> Option<(&str, &str)>
-    ensures { MatchOption result ((first : List ℕ) (second : List ℕ) → lines text.now ≢ first ∷ second ∷ [])
+    ensures { MatchOption result ((first : List ℕ) (second : List ℕ)
+        → lines text.now ≢ first ∷ second ∷ [])
         (λ pair. lines text.now ≡ pair.0.now ∷ pair.1.now ∷ []) }
 {
     let body = without_last_feed(text);
@@ -268,27 +276,29 @@ fn two_lines(text: &str) -> Option<(&str, &str)>
 }
 
 fn report_on_line(alloc: Global, command: Command, line: &str) -> Result<Report, AllocError>
-    ensures { IfOk result (λ report. Says (line.now ∷ []) command (said report.line) report.status) }
+    ensures { IfOk result
+        (λ report. Says (line.now ∷ []) command (said report.output) report.status) }
 {
     match command {
-        Command::Rewrite(order) => rewriting(alloc, order, line),
-        Command::RewriteWithSrid(order) => rewriting_with_srid(alloc, order, line),
-        Command::Cost => cost(alloc, line),
-        Command::Srid => srid(alloc, line),
+        Command::Rewrite(order) => rewriting_report(alloc, order, line),
+        Command::RewriteWithSrid(order) => rewriting_with_srid_report(alloc, order, line),
+        Command::Cost => cost_report(alloc, line),
+        Command::Srid => srid_report(alloc, line),
         Command::Same => Report::not_hex(alloc),
     }
 }
 
 /// What the command says of its input, without a line feed.
 fn report_on_input(alloc: Global, command: Command, input: &[u8]) -> Result<Report, AllocError>
-    ensures { IfOk result (λ report. Says (lines input.now) command (said report.line) report.status) }
+    ensures { IfOk result
+        (λ report. Says (lines input.now) command (said report.output) report.status) }
 {
     let Ok(text) = str::from_utf8(input) else {
         return Report::not_hex(alloc);
     };
     if let Command::Same = command {
         return match two_lines(text) {
-            Some((first, second)) => comparison(alloc, first, second),
+            Some((first, second)) => comparison_report(alloc, first, second),
             None => Report::not_hex(alloc),
         };
     }
@@ -300,30 +310,32 @@ fn report_on_input(alloc: Global, command: Command, input: &[u8]) -> Result<Repo
 
 /// Puts the line feed behind a text. That of hex is written with its last digits.
 fn ended(report: Result<Report, AllocError>) -> Result<Report, AllocError>
-    ensures { (words : List (List ℕ)) (input : List ℕ)
-        → IfOk report (λ report. Answers words input (said report.line ++ line_feed ∷ []) report.status)
-        → IfOk result (λ report. Answers words input (told report.line) report.status) }
+    ensures { (arguments : List (List ℕ)) (input : List ℕ)
+        → IfOk report
+        (λ report. Answers arguments input (said report.output ++ line_feed ∷ []) report.status)
+        → IfOk result (λ report. Answers arguments input (told report.output) report.status) }
 {
-    let Report { line, status } = report?;
-    let line = match line {
-        Line::Text(mut text) => {
+    let Report { output, status } = report?;
+    let output = match output {
+        Output::Text(mut text) => {
             text.push('\n')?;
-            Line::Text(text)
+            Output::Text(text)
         }
-        Line::Hex(bytes) => Line::Hex(bytes),
+        Output::Hex(bytes) => Output::Hex(bytes),
     };
-    Ok(Report { line, status })
+    Ok(Report { output, status })
 }
 
 /// Writes what is said and a line feed, or that memory is wanted, and answers the status.
 fn tell<W: Write>(report: Result<Report, AllocError>, out: &mut W) -> u8
     ensures { (written : List ℕ) × Appends (W.contents out.old) (W.contents out.new) written
-        × ((words : List (List ℕ)) (input : List ℕ)
-        → IfOk report (λ report. Answers words input (said report.line ++ line_feed ∷ []) report.status)
-        → Ends words input result written) }
+        × ((arguments : List (List ℕ)) (input : List ℕ)
+        → IfOk report
+        (λ report. Answers arguments input (said report.output ++ line_feed ∷ []) report.status)
+        → Ends arguments input result written) }
 {
     match ended(report) {
-        Ok(report) => match report.line.write_to(out) {
+        Ok(report) => match report.output.write_to(out) {
             Ok(()) => report.status,
             Err(_) => FAILED,
         },
@@ -334,18 +346,19 @@ fn tell<W: Write>(report: Result<Report, AllocError>, out: &mut W) -> u8
     }
 }
 
-/// Runs the program: writes the line that answers the words and the input, and answers the status.
+/// Runs the program: writes the line that answers the arguments and the input, and answers the status.
 ///
 /// The status is 0 for an answer, 1 for a refused input, 2 for an input that isn't hex and for other
-/// words, and 3 where memory, the input or the output is wanting. The words are looked at before the
+/// arguments, and 3 where memory, the input or the output is wanting. The arguments are looked at before the
 /// input is read. No more than 16777216 reads are made, and no read or write is tried again.
-pub fn run<R: Read, W: Write>(alloc: Global, words: &[String], input: &mut R, out: &mut W) -> u8
+pub fn run<R: Read, W: Write>(alloc: Global, arguments: &[String], input: &mut R, out: &mut W) -> u8
     ensures ends { IfSome (R.remaining input.old) (λ text. (written : List ℕ)
         × Appends (W.contents out.old) (W.contents out.new) written
-        × Ends (map string_bytes words.now) text result written) }
-    ensures words_first { AreNoCommand (map string_bytes words.now) → input.new ≡ input.old }
+        × Ends (map string_bytes arguments.now) text result written) }
+    ensures arguments_first { AreNoCommand (map string_bytes arguments.now)
+        → input.new ≡ input.old }
 {
-    let Some(command) = Command::from_words(words) else {
+    let Some(command) = Command::from_arguments(arguments) else {
         return tell(Report::new(alloc, USAGE, MISUSED), out);
     };
     let bytes = match read_to_end(alloc, input) {

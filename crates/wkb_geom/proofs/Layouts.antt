@@ -21,7 +21,8 @@ abbrev layout_by : ℕ → Dimension → Endianness → ℕ → Layout
 layout_by k d order code = laid order d (if k == 1 then false else has_srid_flag code)
 
 -- what is known where a member stands: its order, that its code is whole, and its layout
-pub record Known (k : ℕ) (d : Dimension) (first : Option Endianness) (behind : List ℕ) (layout : Result Layout Cause) : Type 0 where
+pub record Known (k : ℕ) (d : Dimension) (first : Option Endianness) (behind : List ℕ)
+    (layout : Result Layout Cause) : Type 0 where
   pub order : Endianness
   pub order_is : first ≡ Some order
   pub whole : 4 ≤ length behind
@@ -29,7 +30,8 @@ pub record Known (k : ℕ) (d : Dimension) (first : Option Endianness) (behind :
 
 -- the layout of a member, by the tests of its kind and its dimension, by whether a point is wanted, and by its flag
 abbrev laid_if : Endianness → Dimension → Bool → Bool → Bool → Bool → Result Layout Cause
-laid_if order d a b one srid = if (a && (b && (if one && srid then false else true))) then Ok (laid order d srid) else Err incorrect_type
+laid_if order d a b one srid =
+    if (a && (b && (if one && srid then false else true))) then Ok (laid order d srid) else Err incorrect_type
 
 wanted_by : (order : Endianness) (d : Dimension) (a b one srid : Bool) → IsOk (laid_if order d a b one srid)
     → laid_if order d a b one srid ≡ Ok (laid order d (if one then false else srid))
@@ -41,7 +43,9 @@ wanted_by order d false b one srid h = absurd cc
 
 wanted : (k : ℕ) (d : Dimension) (h : Head) → IsOk (layout_wanted k d (Ok h))
     → layout_wanted k d (Ok h) ≡ Ok (laid h.order d (if k == 1 then false else h.has_srid))
-wanted k d h is = wanted_by h.order d (type_kind h.wkb_type == k) (same_dimension (type_dimension h.wkb_type) d) (k == 1) h.has_srid is
+wanted k d h is =
+    wanted_by h.order d (type_kind h.wkb_type == k) (same_dimension (type_dimension h.wkb_type) d)
+    (k == 1) h.has_srid is
 
 flag_of : (t : Bool) (m n : Meaning) → (if t then Some m else None) ≡ Some n → n.has_srid ≡ m.has_srid
 flag_of true m n e = let same : m ≡ n = cc in ap (λ (x : Meaning). x.has_srid) (sym same)
@@ -52,7 +56,8 @@ flag_meant : (c : ℕ) (m : Meaning) → meaning_of c ≡ Some m → m.has_srid 
 unfolding meaning_of
 flag_meant c m e = flag_of _ _ m e
 
-by_code : (k : ℕ) (d : Dimension) (order : Endianness) (c : ℕ) (m : Option Meaning) → meaning_of c ≡ m → IsOk (layout_wanted k d (head_by_code order c m))
+by_code : (k : ℕ) (d : Dimension) (order : Endianness) (c : ℕ) (m : Option Meaning) → meaning_of c ≡ m
+    → IsOk (layout_wanted k d (head_by_code order c m))
     → layout_wanted k d (head_by_code order c m) ≡ Ok (layout_by k d order c)
 by_code k d order c None e h = absurd cc
 by_code k d order c (Some m) e h =
@@ -61,10 +66,13 @@ by_code k d order c (Some m) e h =
 
 -- the header behind an order, by whether the bytes are too short for one
 abbrev head_if : Bool → Endianness → List ℕ → Result Head Cause
-head_if short order behind = if short then Err end_of_input else head_by_code order (number order 4 behind) (meaning_of (number order 4 behind))
+head_if short order behind =
+    if short then Err end_of_input else head_by_code order (number order 4 behind) (meaning_of (number order 4 behind))
 
-by_length : (k : ℕ) (d : Dimension) (order : Endianness) (behind : List ℕ) (short : Bool) → nat_lt (length behind) 4 ≡ short
-    → IsOk (layout_wanted k d (head_if short order behind)) → Known k d (Some order) behind (layout_wanted k d (head_if short order behind))
+by_length : (k : ℕ) (d : Dimension) (order : Endianness) (behind : List ℕ) (short : Bool)
+    → nat_lt (length behind) 4 ≡ short
+    → IsOk (layout_wanted k d (head_if short order behind))
+    → Known k d (Some order) behind (layout_wanted k d (head_if short order behind))
 by_length k d order behind true e h = absurd cc
 by_length k d order behind false e h = record {
   order = order;
@@ -73,7 +81,8 @@ by_length k d order behind false e h = record {
   layout_is = by_code k d order (number order 4 behind) (meaning_of (number order 4 behind)) refl h;
 }
 
-by_order : (k : ℕ) (d : Dimension) (first : Option Endianness) (behind : List ℕ) → IsOk (layout_wanted k d (head_by_order first behind))
+by_order : (k : ℕ) (d : Dimension) (first : Option Endianness) (behind : List ℕ)
+    → IsOk (layout_wanted k d (head_by_order first behind))
     → Known k d first behind (layout_wanted k d (head_by_order first behind))
 by_order k d None behind h = absurd cc
 by_order k d (Some order) behind h = by_length k d order behind (nat_lt (length behind) 4) refl h
@@ -95,8 +104,10 @@ module _ (k : ℕ) (d : Dimension) (bytes : List ℕ) (is : IsOk (member_layout 
       apart order h = cc
 
   -- by the order and the flag that were read, where the flag of a point is not
-  pub known_layout : (o : Option Endianness) (order : Endianness) (code : ℕ) (flag : Bool) → o ≡ order_of_byte (slice_index_or bytes 0 0) → o ≡ Some order
-      → code ≡ number order 4 (drop 1 bytes) → flag ≡ (if k == 1 then false else has_srid_flag code) → member_layout k d bytes ≡ Ok (laid order d flag)
+  pub known_layout : (o : Option Endianness) (order : Endianness) (code : ℕ) (flag : Bool)
+      → o ≡ order_of_byte (slice_index_or bytes 0 0) → o ≡ Some order
+      → code ≡ number order 4 (drop 1 bytes) → flag ≡ (if k == 1 then false else has_srid_flag code)
+      → member_layout k d bytes ≡ Ok (laid order d flag)
   known_layout o order code flag e some code-is flag-is =
       let stands = known k d bytes is in
       let same = same_order stands.order order (sym stands.order_is ∙ sym e ∙ some) in

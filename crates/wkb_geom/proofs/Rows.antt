@@ -17,9 +17,11 @@ use Rattle.wkb_geom.specs.Geometries.{Geometry, Geometries, point, line_string, 
 use Rattle.wkb_geom.specs.Geometries.{multi_polygon, collection, line}
 use Rattle.wkb_geom.specs.Geometries.{rectangle, triangle, no_geometries, geometry, normal}
 use Rattle.wkb_geom.specs.Sizes.{byte_size}
-use Rattle.wkb_geom.specs.Encodings.{encoding, fault, refusal, unsupported_dimensions, count_overflow, code_of, srid_encoding}
+use Rattle.wkb_geom.specs.Encodings.{encoding, fault, refusal, unsupported_dimensions, count_overflow, code_of}
+use Rattle.wkb_geom.specs.Encodings.{srid_encoding}
 use Rattle.wkb_geom.specs.Encodings.{header_encoding, words_encoding, coordinates_encoding}
-use Rattle.wkb_geom.specs.Encodings.{point_words, point_encoding, line_string_encoding, polygon_encoding, members_encoding, or_else}
+use Rattle.wkb_geom.specs.Encodings.{point_words, point_encoding, line_string_encoding, polygon_encoding}
+use Rattle.wkb_geom.specs.Encodings.{members_encoding, or_else}
 use Rattle.wkb_geom.specs.Encodings.{dimensions_fault, count_fault}
 use Rattle.wkb_geom.specs.Reading.{Meaning, meaning_of}
 use Rattle.wkb_geom.proofs.Hex.{hex, copies}
@@ -44,7 +46,9 @@ unfolding meaning_of
 meanings = refl
 
 -- Not-a-numbers of either sign, and infinity, which is none.
-not_numbers : map is_nan (empty_word ∷ 0x7ff0000000000001 ∷ 0xfff8000000000001 ∷ 0xffffffffffffffff ∷ 0x7ff0000000000000 ∷ 0xfff0000000000000 ∷ 0 ∷ []) ≡
+not_numbers : map is_nan
+    (empty_word ∷ 0x7ff0000000000001 ∷ 0xfff8000000000001 ∷ 0xffffffffffffffff ∷ 0x7ff0000000000000 ∷ 0xfff0000000000000
+    ∷ 0 ∷ []) ≡
     true ∷ true ∷ true ∷ true ∷ false ∷ false ∷ false ∷ []
 not_numbers = refl
 
@@ -68,7 +72,8 @@ together (g ∷ gs) = geometry g (together gs)
 
 -- a point and a line string, and members of two dimensions
 abbrev one_dimension : Geometry
-one_dimension = collection asked.Xy (together (point asked.Xy (Some one_two) ∷ line_string asked.Xy (one_two ∷ []) ∷ []))
+one_dimension =
+    collection asked.Xy (together (point asked.Xy (Some one_two) ∷ line_string asked.Xy (one_two ∷ []) ∷ []))
 
 abbrev two_dimensions : Geometry
 two_dimensions = collection asked.Xy (together (point asked.Xyz (Some one_two_three) ∷ polygon asked.Xy [] ∷ []))
@@ -82,13 +87,15 @@ corners = copies 3 zero_word ++ hex "0000000000000040" ++ P ++ hex "000000000000
 
 -- under these options each geometry has this encoding
 encodings : Endianness → Form → List (Geometry × List ℕ) → List (List ℕ)
-unfolding number_bytes code_of srid_encoding header_encoding words_encoding coordinates_encoding point_words point_encoding line_string_encoding polygon_encoding members_encoding
+unfolding number_bytes code_of srid_encoding header_encoding words_encoding coordinates_encoding point_words
+    point_encoding line_string_encoding polygon_encoding members_encoding
 encodings order form rows = map (λ row. encoding order form row.0) rows
 
 abbrev Encodings : Endianness → Form → List (Geometry × List ℕ) → Type 0
 Encodings order form rows = encodings order form rows ≡ map (λ row. row.1) rows
 
--- Each kind under ISO, the lowest byte first. A point keeps its words, an empty one has the empty word in each place, and a rectangle is a polygon of x and y.
+-- Each kind under ISO, the lowest byte first. A point keeps its words, an empty one has the empty word in each place,
+-- and a rectangle is a polygon of x and y.
 iso_encodings : Encodings LittleEndian Iso (
     (point asked.Xy (Some one_two), hex "01 01000000" ++ P)
     ∷ (point asked.Xy None, hex "01 01000000 000000000000f87f 000000000000f87f")
@@ -178,7 +185,9 @@ values : map normal (
     ∷ value.point Xyz (Some one_two_three)
     ∷ value.line_string Xy (one_two ∷ nans ∷ [])
     ∷ value.polygon Xy ((one_two ∷ nans ∷ one_two ∷ one_two ∷ []) ∷ [])
-    ∷ value.polygon Xy (((0 ∷ 0 ∷ []) ∷ (0 ∷ 0x4000000000000000 ∷ []) ∷ one_two ∷ (0x3ff0000000000000 ∷ 0 ∷ []) ∷ (0 ∷ 0 ∷ []) ∷ []) ∷ [])
+    ∷ value.polygon Xy
+    (((0 ∷ 0 ∷ []) ∷ (0 ∷ 0x4000000000000000 ∷ []) ∷ one_two ∷ (0x3ff0000000000000 ∷ 0 ∷ []) ∷ (0 ∷ 0 ∷ []) ∷ [])
+    ∷ [])
     ∷ []
 values = refl
 
@@ -188,11 +197,13 @@ faults : map fault (
     ∷ collection asked.Xy (together (point asked.Xy None ∷ point (asked.Unknown 5) None ∷ []))
     ∷ rectangle (asked.Unknown 5) corner corner
     ∷ point (asked.Unknown 2) (Some one_two)
-    ∷ []) ≡ Some (unsupported_dimensions 5) ∷ Some (unsupported_dimensions 5) ∷ Some (unsupported_dimensions 5) ∷ None ∷ []
+    ∷ []) ≡ Some (unsupported_dimensions 5) ∷ Some (unsupported_dimensions 5) ∷ Some (unsupported_dimensions 5) ∷ None
+    ∷ []
 unfolding or_else dimensions_fault count_fault
 faults = refl
 
 -- a count that four bytes don't hold
-long_line : (cs : List Coordinate) → length cs ≡ 4294967296 → refusal LittleEndian Iso (line_string asked.Xy cs) ≡ Some count_overflow
+long_line : (cs : List Coordinate) → length cs ≡ 4294967296
+    → refusal LittleEndian Iso (line_string asked.Xy cs) ≡ Some count_overflow
 unfolding or_else dimensions_fault count_fault
 long_line cs e = rw e refl

@@ -4,8 +4,8 @@ ghost use Rattle.std.specs.Prelude.{◌≡◌, ◌||◌, ℕ, Bool, option_map};
 ghost use Rattle.wkb_geom.specs.declared.common.Dimension.{Dimension};
 ghost use Rattle.wkb_geom.specs.Dimensions.{has_z, has_m};
 ghost use Rattle.wkb_geom.specs.Codes.{Code, thousands, flag, iso_code, ewkb_code};
-ghost use Rattle.wkb_geom.specs.Reading.{type_of, type_kind, type_dimension, meaning, meaning_of, without, in_table};
-ghost use Rattle.wkb_geom.specs.Reading.{dimension_with, iso_dimension};
+ghost use Rattle.wkb_geom.specs.Reading.{type_of, type_kind, type_dimension, meaning, meaning_of};
+ghost use Rattle.wkb_geom.specs.Reading.{without, in_table, dimension_with, iso_dimension};
 ghost use Rattle.wkb_geom.specs.Meanings.{HasType, has_srid_flag};
 
 use crate::common::Dimension;
@@ -136,7 +136,8 @@ impl WkbGeometryCode {
     /// Whether an SRID follows.
     pub fn has_srid(&self) -> bool
         ensures flag { result ≡ has_srid_flag self.now }
-        ensures meant { (k : ℕ) (d : Dimension) (srid : Bool) → Code self.now k d srid → result ≡ srid }
+        ensures meant { (k : ℕ) (d : Dimension) (srid : Bool) → Code self.now k d srid
+            → result ≡ srid }
     {
         SRID_FLAG <= cleared(cleared(self.code, Z_FLAG), M_FLAG)
     }
@@ -155,7 +156,8 @@ impl WkbGeometryCode {
     /// The kind and the dimension, if the code is in the table.
     #[inline]
     pub(crate) fn known_type(&self) -> Option<WkbType>
-        ensures { meaning_of self.now ≡ option_map (λ t. meaning t (has_srid_flag self.now)) result }
+        ensures { meaning_of self.now
+            ≡ option_map (λ t. meaning t (has_srid_flag self.now)) result }
     {
         let z = Z_FLAG <= self.code;
         let a = cleared(self.code, Z_FLAG);

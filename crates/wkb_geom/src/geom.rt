@@ -3,15 +3,15 @@
 //! `impl`. Ordinates are the 64 bits of a binary64, never a float.
 
 ghost use Rattle.std.specs.Prelude.{◌≡◌, ℕ, ◌+◌, ◌-◌, ◌<◌, ◌≤◌, List, length, map, All, slice_get};
-ghost use Rattle.std.specs.Prelude.{Option, None, IfSome};
-ghost use Rattle.std.specs.Prelude.{slice_index};
+ghost use Rattle.std.specs.Prelude.{Option, None, IfSome, slice_index};
 ghost use Rattle.std.specs.Option.{option_map};
 ghost use Rattle.std.specs.List.{AllByRecursion, flat_map};
 ghost use Rattle.wkb_geom.specs.declared.common.Dimensions.{Dimensions};
 ghost use Rattle.wkb_geom.specs.Dimensions.{size};
-ghost use Rattle.wkb_geom.specs.Geometries.{Geometry, point, line_string, polygon, multi_point, multi_line_string};
-ghost use Rattle.wkb_geom.specs.Geometries.{multi_polygon, collection, rectangle, triangle, line, geometries};
-ghost use Rattle.wkb_geom.specs.Geometries.{IsCoordinate, IsPoint, AreCoordinates, IsGeometry, AreGeometries};
+ghost use Rattle.wkb_geom.specs.Geometries.{Geometry, point, line_string, polygon, multi_point};
+ghost use Rattle.wkb_geom.specs.Geometries.{multi_line_string, multi_polygon, collection};
+ghost use Rattle.wkb_geom.specs.Geometries.{rectangle, triangle, line, geometries, IsCoordinate};
+ghost use Rattle.wkb_geom.specs.Geometries.{IsPoint, AreCoordinates, IsGeometry, AreGeometries};
 ghost use Rattle.wkb_geom.specs.Parts.{part_geometry};
 ghost use Rattle.wkb_geom.specs.Sizes.{dimensions_of};
 ghost use Rattle.wkb_geom.specs.Encodings.{words_encoding, encoding, fault};
@@ -71,7 +71,8 @@ pub trait PointTrait: Dimensioned {
     /// The coordinate; none of an empty point.
     fn coord(&self) -> Option<Self::CoordType>
         ensures value { option_map Self.CoordType.words result ≡ coordinate self.now }
-        ensures dimensions { IfSome result (λ c. Self.CoordType.dimensions c ≡ Self.dimensions self.now) };
+        ensures dimensions { IfSome result
+            (λ c. Self.CoordType.dimensions c ≡ Self.dimensions self.now) };
 
     ghost lawful: { (p : Self) → IsPoint (Self.dimensions p) (coordinate p) };
 }
@@ -89,8 +90,10 @@ pub trait LineStringTrait: Dimensioned {
 
     /// The coordinate at an index, if there is one.
     fn coord(&self, i: usize) -> Option<Self::CoordType>
-        ensures value { option_map Self.CoordType.words result ≡ slice_get (coordinates self.now) i }
-        ensures dimensions { IfSome result (λ c. Self.CoordType.dimensions c ≡ Self.dimensions self.now) };
+        ensures value { option_map Self.CoordType.words result
+            ≡ slice_get (coordinates self.now) i }
+        ensures dimensions { IfSome result
+            (λ c. Self.CoordType.dimensions c ≡ Self.dimensions self.now) };
 
     /// The coordinate at an index that is known to be there.
     fn coord_at(&self, i: usize) -> Self::CoordType
@@ -104,7 +107,8 @@ pub trait LineStringTrait: Dimensioned {
     /// coordinate is asked for.
     #[inline]
     fn standing(&self, _order: Endianness) -> Option<&[u8]>
-        ensures { IfSome result (λ bytes. bytes.now ≡ flat_map (words_encoding _order) (coordinates self.now)) }
+        ensures { IfSome result
+            (λ bytes. bytes.now ≡ flat_map (words_encoding _order) (coordinates self.now)) }
     {
         None
     }
@@ -126,12 +130,15 @@ pub trait PolygonTrait: Dimensioned {
     /// The exterior ring, if the polygon has rings.
     fn exterior(&self) -> Option<Self::RingType>
         ensures value { option_map Self.RingType.coordinates result ≡ slice_get (rings self.now) 0 }
-        ensures dimensions { IfSome result (λ r. Self.RingType.dimensions r ≡ Self.dimensions self.now) };
+        ensures dimensions { IfSome result
+            (λ r. Self.RingType.dimensions r ≡ Self.dimensions self.now) };
 
     /// The interior at an index, if there is one.
     fn interior(&self, i: usize) -> Option<Self::RingType>
-        ensures value { option_map Self.RingType.coordinates result ≡ slice_get (rings self.now) (i + 1) }
-        ensures dimensions { IfSome result (λ r. Self.RingType.dimensions r ≡ Self.dimensions self.now) };
+        ensures value { option_map Self.RingType.coordinates result
+            ≡ slice_get (rings self.now) (i + 1) }
+        ensures dimensions { IfSome result
+            (λ r. Self.RingType.dimensions r ≡ Self.dimensions self.now) };
 
     ghost lawful: { (p : Self) → AllByRecursion (AreCoordinates (Self.dimensions p)) (rings p) };
 }
@@ -149,8 +156,10 @@ pub trait MultiPointTrait: Dimensioned {
 
     /// The point at an index, if there is one.
     fn point(&self, i: usize) -> Option<Self::InnerPointType>
-        ensures value { option_map Self.InnerPointType.coordinate result ≡ slice_get (points self.now) i }
-        ensures dimensions { IfSome result (λ p. Self.InnerPointType.dimensions p ≡ Self.dimensions self.now) };
+        ensures value { option_map Self.InnerPointType.coordinate result
+            ≡ slice_get (points self.now) i }
+        ensures dimensions { IfSome result
+            (λ p. Self.InnerPointType.dimensions p ≡ Self.dimensions self.now) };
 
     ghost lawful: { (m : Self) → AllByRecursion (IsPoint (Self.dimensions m)) (points m) };
 }
@@ -168,10 +177,13 @@ pub trait MultiLineStringTrait: Dimensioned {
 
     /// The line string at an index, if there is one.
     fn line_string(&self, i: usize) -> Option<Self::InnerLineStringType>
-        ensures value { option_map Self.InnerLineStringType.coordinates result ≡ slice_get (line_strings self.now) i }
-        ensures dimensions { IfSome result (λ l. Self.InnerLineStringType.dimensions l ≡ Self.dimensions self.now) };
+        ensures value { option_map Self.InnerLineStringType.coordinates result
+            ≡ slice_get (line_strings self.now) i }
+        ensures dimensions { IfSome result
+            (λ l. Self.InnerLineStringType.dimensions l ≡ Self.dimensions self.now) };
 
-    ghost lawful: { (m : Self) → AllByRecursion (AreCoordinates (Self.dimensions m)) (line_strings m) };
+    ghost lawful: { (m : Self)
+        → AllByRecursion (AreCoordinates (Self.dimensions m)) (line_strings m) };
 }
 
 /// Polygons of one dimension.
@@ -187,10 +199,13 @@ pub trait MultiPolygonTrait: Dimensioned {
 
     /// The polygon at an index, if there is one.
     fn polygon(&self, i: usize) -> Option<&Self::InnerPolygonType>
-        ensures value { option_map (λ p. Self.InnerPolygonType.rings p.now) result ≡ slice_get (polygons self.now) i }
-        ensures dimensions { IfSome result (λ p. Self.InnerPolygonType.dimensions p.now ≡ Self.dimensions self.now) };
+        ensures value { option_map (λ p. Self.InnerPolygonType.rings p.now) result
+            ≡ slice_get (polygons self.now) i }
+        ensures dimensions { IfSome result
+            (λ p. Self.InnerPolygonType.dimensions p.now ≡ Self.dimensions self.now) };
 
-    ghost lawful: { (m : Self) → AllByRecursion (AllByRecursion (AreCoordinates (Self.dimensions m))) (polygons m) };
+    ghost lawful: { (m : Self)
+        → AllByRecursion (AllByRecursion (AreCoordinates (Self.dimensions m))) (polygons m) };
 }
 
 /// Geometries of any kind and dimension.
@@ -210,7 +225,8 @@ pub trait GeometryCollectionTrait: Dimensioned {
 
     /// The member at an index, if there is one.
     fn geometry(&self, i: usize) -> Option<&Self::GeometryType>
-        ensures { option_map (λ g. Self.GeometryType.geometry g.now) result ≡ slice_get (members self.now) i };
+        ensures { option_map (λ g. Self.GeometryType.geometry g.now) result
+            ≡ slice_get (members self.now) i };
 
     ghost lawful: { (c : Self) → AreGeometries (geometries (members c)) };
 }
@@ -285,7 +301,8 @@ pub trait TriangleTrait: Dimensioned {
         ensures dimensions { Self.CoordType.dimensions result ≡ Self.dimensions self.now };
 
     ghost lawful: { (t : Self) → IsCoordinate (Self.dimensions t) (first_words t)
-        × IsCoordinate (Self.dimensions t) (second_words t) × IsCoordinate (Self.dimensions t) (third_words t) };
+        × IsCoordinate (Self.dimensions t) (second_words t)
+        × IsCoordinate (Self.dimensions t) (third_words t) };
 }
 
 /// A geometry by its kind. The dimension of a collection is that of the geometry.
@@ -344,16 +361,22 @@ pub trait GeometryTrait: Dimensioned + Sized {
     >
         ensures part { part_geometry
             (λ p. point (Self.PointType.dimensions p) (Self.PointType.coordinate p))
-            (λ l. line_string (Self.LineStringType.dimensions l) (Self.LineStringType.coordinates l))
+            (λ l. line_string (Self.LineStringType.dimensions l)
+            (Self.LineStringType.coordinates l))
             (λ p. polygon (Self.PolygonType.dimensions p) (Self.PolygonType.rings p))
             (λ m. multi_point (Self.MultiPointType.dimensions m) (Self.MultiPointType.points m))
-            (λ m. multi_line_string (Self.MultiLineStringType.dimensions m) (Self.MultiLineStringType.line_strings m))
-            (λ m. multi_polygon (Self.MultiPolygonType.dimensions m) (Self.MultiPolygonType.polygons m))
+            (λ m. multi_line_string (Self.MultiLineStringType.dimensions m)
+            (Self.MultiLineStringType.line_strings m))
+            (λ m. multi_polygon (Self.MultiPolygonType.dimensions m)
+            (Self.MultiPolygonType.polygons m))
             (λ gs. collection (Self.dimensions self.now) (geometries (map geometry gs)))
-            (λ r. rectangle (Self.RectType.dimensions r) (Self.RectType.min_words r) (Self.RectType.max_words r))
+            (λ r. rectangle (Self.RectType.dimensions r) (Self.RectType.min_words r)
+            (Self.RectType.max_words r))
             (λ t. triangle (Self.TriangleType.dimensions t)
-            (Self.TriangleType.first_words t) (Self.TriangleType.second_words t) (Self.TriangleType.third_words t))
-            (λ l. line (Self.LineType.dimensions l) (Self.LineType.start_words l) (Self.LineType.end_words l))
+            (Self.TriangleType.first_words t) (Self.TriangleType.second_words t)
+            (Self.TriangleType.third_words t))
+            (λ l. line (Self.LineType.dimensions l) (Self.LineType.start_words l)
+            (Self.LineType.end_words l))
             result ≡ geometry self.now };
 
     /// The whole encoding in this order and form, where memory holds it so.
@@ -362,7 +385,8 @@ pub trait GeometryTrait: Dimensioned + Sized {
     /// written by its parts.
     #[inline]
     fn whole(&self, _order: Endianness, _form: Form) -> Option<&[u8]>
-        ensures encoding { IfSome result (λ bytes. bytes.now ≡ encoding _order _form (geometry self.now)) }
+        ensures encoding { IfSome result
+            (λ bytes. bytes.now ≡ encoding _order _form (geometry self.now)) }
         ensures writable { IfSome result (λ bytes. fault (geometry self.now) ≡ None) }
     {
         None

@@ -84,7 +84,8 @@ impl Header {
 }
 
 impl Layout {
-    ghost use Rattle.std.specs.Prelude.{◌≡◌, ◌+◌, ◌<◌, ◌≤◌, Ok, IsOk, IfOk, IfErr, length, drop, true, false, None};
+    ghost use Rattle.std.specs.Prelude.{◌≡◌, ◌+◌, ◌<◌, ◌≤◌, Ok, IsOk, IfOk, IfErr, length, drop};
+    ghost use Rattle.std.specs.Prelude.{true, false, None};
     ghost use Rattle.wkb_geom.specs.Numbers.{number, AreBytes};
     ghost use Rattle.wkb_geom.specs.declared.error.Cause.TheVariants.{EndOfInput as end_of_input};
     ghost use Rattle.wkb_geom.specs.Reading.{body_start, member_layout, parts_start, srid_in};
@@ -182,9 +183,11 @@ impl Layout {
     /// The count at the beginning of the body, of coordinates, rings or members.
     #[inline]
     pub fn count(self, bytes: &[u8]) -> Result<u32, Cause>
-        ensures counted { IfOk result (λ n. n ≡ number self.order 4 (drop (body_start self.has_srid) bytes.now)) }
+        ensures counted { IfOk result
+            (λ n. n ≡ number self.order 4 (drop (body_start self.has_srid) bytes.now)) }
         ensures whole { IfOk result (λ n. body_start self.has_srid + 4 ≤ length bytes.now) }
-        ensures short { IfErr result (λ e. (e ≡ end_of_input) × (length bytes.now < body_start self.has_srid + 4)) }
+        ensures short { IfErr result
+            (λ e. (e ≡ end_of_input) × (length bytes.now < body_start self.has_srid + 4)) }
     {
         let at = self.header_length();
         if bytes.len() < at + COUNT {

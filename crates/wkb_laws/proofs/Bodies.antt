@@ -8,7 +8,8 @@ use Rattle.std.proofs.lemmas.Bool.{cond_both, and_parts, and_from, false_from_ne
 use Rattle.std.proofs.lemmas.List.{length-map}
 use Rattle.wkb_laws.specs.Words.{Endianness, Dimension, Layout, end_of_input, general, ShortLinearRing, IsNumber}
 use Rattle.wkb_laws.specs.Words.{number, all_nan, width, IsEach, point}
-use Rattle.wkb_laws.specs.Words.{line_string, polygon, no_spellings, SpellsCoordinate, SpellsCoordinates, Wanted, IsPart}
+use Rattle.wkb_laws.specs.Words.{line_string, polygon, no_spellings, SpellsCoordinate, SpellsCoordinates, Wanted}
+use Rattle.wkb_laws.specs.Words.{IsPart}
 use Rattle.wkb_laws.specs.Words.{point_end, line_string_end, ring_end}
 use Rattle.wkb_laws.specs.Words.{slots_asked, IsAllowed, RefusesRings, no_ring_count, short_ring, later_ring}
 use Rattle.wkb_laws.specs.Words.{short_point, short_line_string, bad_ring, Cost}
@@ -21,7 +22,7 @@ use Rattle.wkb_laws.specs.Words.{collection, Values, no_members, member, kind}
 use Rattle.wkb_laws.specs.Words.{dimension, members, each, count, nest, nest_each, member_count, member_count_each}
 use Rattle.wkb_laws.specs.Words.{listed_count, listed_count_each, Spellings}
 use Rattle.wkb_laws.specs.Words.{spelling, SpellsBody, part, member_part, SpellsEach, multi_point_end, room_inside}
-use Rattle.wkb_laws.specs.Words.{Opens, Counts, bad_member}
+use Rattle.wkb_laws.specs.Words.{Opens, OpensCounted, bad_member}
 use Rattle.wkb_laws.specs.Words.{short_multi_point, RefusesEach, this_member, later_member, Item, spellings, values}
 use Rattle.wkb_laws.specs.Words.{line_string_of, list_item, point_of}
 use Rattle.wkb_laws.specs.Words.{polygon_of}
@@ -58,7 +59,8 @@ coordinates_are order d c h =
       whole = sym (take-append-drop 4 c);
       first = subst (λ k. IsNumber order 4 k (take 4 c)) (sym many) (number-take order 4 c (omega arith));
       second = subst (IsEach (SpellsCoordinate order d) (coordinates order d n (drop 4 c))) all
-          (items_are (SpellsCoordinate order d) (8 * width d) (coordinate order d) (coordinate_is order d) n (drop 4 c) (omega arith));
+          (items_are (SpellsCoordinate order d) (8 * width d) (coordinate order d) (coordinate_is order d) n (drop 4 c)
+          (omega arith));
     }
 
 -- the first bytes of an input that is long enough
@@ -70,7 +72,8 @@ cut : (n : ℕ) (input : List ℕ) → n ≤ length input → Cut n input
 cut n input h = record { whole = sym (take-append-drop n input); len = length-take-le n input h }
 
 -- so many rings
-pub record RingsAre (order : Endianness) (d : Dimension) (n : ℕ) (input : List ℕ) (encodings : List (List ℕ)) (rest : List ℕ) (cost : Cost) : Type 0 where
+pub record RingsAre (order : Endianness) (d : Dimension) (n : ℕ) (input : List ℕ) (encodings : List (List ℕ))
+    (rest : List ℕ) (cost : Cost) : Type 0 where
   pub many : length encodings ≡ n
   pub front : List ℕ
   pub whole : input ≡ front ++ rest
@@ -108,7 +111,8 @@ module _ (l : Layout) where
       let short = Err (general (ShortLinearRing end (length input))) in
       let Q : reading.Outcome (List ℕ) → Type 0 = λ r. RingsSay (suc n) input (costs one_turn (and_then (free, r)
       (λ x rest. and_then (repeated n (ring_part l) rest) (λ xs after. done (x ∷ xs) after)))) in
-      cond_both (nat_lt (length input) 4) (Err end_of_input) (if nat_lt (length input) end then short else Ok (take end input, drop end input)) Q
+      cond_both (nat_lt (length input) 4) (Err end_of_input)
+      (if nat_lt (length input) end then short else Ok (take end input, drop end input)) Q
       (λ t. (no_ring_count (ltb-true (length input) 4 t), refl))
       (λ t. let enough : 4 ≤ length input = ltb-false (length input) 4 t in
       cond_both (nat_lt (length input) end) short (Ok (take end input, drop end input)) Q
@@ -117,7 +121,8 @@ module _ (l : Layout) where
       let x = cut end input (ltb-false (length input) end s) in
       let same : number l.order 4 input ≡ number l.order 4 (take end input) =
       number_in l.order 0 input (take end input) (drop end input) x.whole (omega (arith, x.len)) in
-      ring_then n input (take end input) (drop end input) _ x.whole (coordinates_are l.order l.dimension (take end input) (x.len
+      ring_then n input (take end input) (drop end input) _ x.whole
+      (coordinates_are l.order l.dimension (take end input) (x.len
       ∙ ap (ring_end l.dimension) same))
       (rings_say n (drop end input))))
 
@@ -129,7 +134,8 @@ pub record PartsEncoding (l : Layout) (input front after : List ℕ) : Type 0 wh
   pub number : IsNumber l.order 4 (count_in l input) (take 4 (drop (body_start l.has_srid) input))
   pub len : length (parts_start l.has_srid input) ≡ length front + length after
 
-pub parts_encoding : (l : Layout) (input front after : List ℕ) → body_start l.has_srid + 4 ≤ length input → parts_start l.has_srid input ≡ front ++ after
+pub parts_encoding : (l : Layout) (input front after : List ℕ) → body_start l.has_srid + 4 ≤ length input
+    → parts_start l.has_srid input ≡ front ++ after
     → PartsEncoding l input front after
 parts_encoding l input front after enough e =
     let start = body_start l.has_srid in
@@ -137,10 +143,12 @@ parts_encoding l input front after enough e =
     let y = take start input ++ (take 4 c ++ front) in
     let shape : input ≡ y ++ after =
     sym (take-append-drop start input)
-    ∙ ap (λ z. take start input ++ z) (sym (take-append-drop 4 c) ∙ ap (λ z. take 4 c ++ z) e ∙ sym (append_assoc (take 4 c) front after))
+    ∙ ap (λ z. take start input ++ z)
+    (sym (take-append-drop 4 c) ∙ ap (λ z. take 4 c ++ z) e ∙ sym (append_assoc (take 4 c) front after))
     ∙ sym (append_assoc (take start input) (take 4 c ++ front) after) in
     let n : length input - length after ≡ length y = omega (arith, ap length shape, length-append y after) in
-    let same : consumed input after ≡ y = ap (λ z. take z input) n ∙ ap (take (length y)) shape ∙ take_front (length y) y after refl in
+    let same : consumed input after ≡ y =
+    ap (λ z. take z input) n ∙ ap (take (length y)) shape ∙ take_front (length y) y after refl in
     let first : length (take start input) ≡ start = length-take-le start input (omega arith) in
     record {
       whole = shape ∙ ap (λ z. z ++ after) (sym same);
@@ -154,14 +162,17 @@ pub asked_all : (n remaining : ℕ) → 4 * n ≤ remaining → slots_asked 3 n 
 asked_all n remaining h = omega arith
 
 module _ (room : ℕ) (w : Wanted) (input : List ℕ) (l : Layout) where
-  point_is : (x rest words : List ℕ) (all : Bool) → Opened input 1 l → IsPart w 1 l.dimension l.has_srid → input ≡ x ++ rest → body_start l.has_srid ≤ length x
+  point_is : (x rest words : List ℕ) (all : Bool) → Opened input 1 l → IsPart w 1 l.dimension l.has_srid
+      → input ≡ x ++ rest → body_start l.has_srid ≤ length x
       → SpellsCoordinate l.order l.dimension words (drop (body_start l.has_srid) x) → all_nan words ≡ all
       → ItemIs room w input (point_item_of l x words all) rest free
   point_is x rest words true o p e long spelled all =
-      item_is room w input x rest l words no_spellings (point l.dimension None) _ [] free o p e long (sym (append-nil _)) (all, spelled) refl
+      item_is room w input x rest l words no_spellings (point l.dimension None) _ [] free o p e long
+      (sym (append-nil _)) (all, spelled) refl
       (omega arith) refl refl
   point_is x rest words false o p e long spelled all =
-      item_is room w input x rest l [] no_spellings (point l.dimension (Some words)) _ [] free o p e long (sym (append-nil _)) (refl, all, spelled) refl
+      item_is room w input x rest l [] no_spellings (point l.dimension (Some words)) _ [] free o p e long
+      (sym (append-nil _)) (refl, all, spelled) refl
       (omega arith) refl refl
 
   pub point_says : Opened input 1 l → IsPart w 1 l.dimension l.has_srid → IsRight room w input (free, point_at l input)
@@ -179,10 +190,12 @@ module _ (room : ℕ) (w : Wanted) (input : List ℕ) (l : Layout) where
       point_is (take end input) (drop end input) words (all_nan words) o p x.whole (omega arith)
       (subst (SpellsCoordinate l.order l.dimension words) all (coordinate_is l.order l.dimension c (omega arith))) refl)
 
-  pub line_string_says : Opened input 2 l → IsPart w 2 l.dimension l.has_srid → IsRight room w input (line_string_at l input)
+  pub line_string_says : Opened input 2 l → IsPart w 2 l.dimension l.has_srid
+      → IsRight room w input (line_string_at l input)
   unfolding line_string_at
   line_string_says o p =
-      let allowed : IsAllowed room w 2 l.dimension l.has_srid = record { wanted = p; shallow = λ e. absurd (omega arith) } in
+      let allowed : IsAllowed room w 2 l.dimension l.has_srid =
+      record { wanted = p; shallow = λ e. absurd (omega arith) } in
       let n = count_in l input in
       let end = line_string_end l.dimension l.has_srid n in
       count_says room w input 2 l o allowed (λ n. at_no_cost (line_string_body l input n)) (λ e. omega arith) (λ enough.
@@ -191,15 +204,22 @@ module _ (room : ℕ) (w : Wanted) (input : List ℕ) (l : Layout) where
       (λ t.
       let x = cut end input (ltb-false (length input) end t) in
       let c = drop (body_start l.has_srid) (take end input) in
-      let same : n ≡ number l.order 4 c = number_in l.order (body_start l.has_srid) input (take end input) (drop end input) x.whole (omega arith) in
-      let long : length c ≡ 4 + 8 * width l.dimension * n = length-drop (body_start l.has_srid) (take end input) ∙ omega arith in
-      item_is room w input (take end input) (drop end input) l [] no_spellings (line_string l.dimension (ring_in l.order l.dimension c)) c [] free o p x.whole
+      let same : n ≡ number l.order 4 c =
+      number_in l.order (body_start l.has_srid) input (take end input) (drop end input) x.whole (omega arith) in
+      let long : length c ≡ 4 + 8 * width l.dimension * n =
+      length-drop (body_start l.has_srid) (take end input) ∙ omega arith in
+      item_is room w input (take end input) (drop end input) l [] no_spellings
+      (line_string l.dimension (ring_in l.order l.dimension c)) c [] free o p x.whole
       (omega arith)
-      (sym (append-nil c)) (refl, coordinates_are l.order l.dimension c (long ∙ ap (λ z. 4 + 8 * width l.dimension * z) same)) refl (omega arith) refl refl))
+      (sym (append-nil c))
+      (refl, coordinates_are l.order l.dimension c (long ∙ ap (λ z. 4 + 8 * width l.dimension * z) same)) refl
+      (omega arith) refl refl))
 
-  polygon_end : (r : Reading (List (List ℕ))) → Opened input 3 l → IsAllowed room w 3 l.dimension l.has_srid → body_start l.has_srid + 4 ≤ length input
+  polygon_end : (r : Reading (List (List ℕ))) → Opened input 3 l → IsAllowed room w 3 l.dimension l.has_srid
+      → body_start l.has_srid + 4 ≤ length input
       → RingsSay l (count_in l input) (parts_start l.has_srid input) r
-      → IsRight room w input (costs (slots_of (slots_asked 3 (count_in l input) (length (parts_start l.has_srid input))))
+      → IsRight room w input
+      (costs (slots_of (slots_asked 3 (count_in l input) (length (parts_start l.has_srid input))))
       (and_then r (λ rings after. done (polygon_item l rings (consumed input after)) after)))
   polygon_end (cost, Ok x) o allowed enough says =
       let field = take 4 (drop (body_start l.has_srid) input) in
@@ -207,32 +227,44 @@ module _ (room : ℕ) (w : Wanted) (input : List ℕ) (l : Layout) where
       let rings = map (ring_in l.order l.dimension) x.0 in
       let many : length rings ≡ count_in l input = length-map x.0 (ring_in l.order l.dimension) ∙ says.many in
       let counted = subst (λ z. IsNumber l.order 4 z field) (sym many) parts.number in
-      let long = each_long (SpellsCoordinates l.order l.dimension) 4 (coordinates_long l.order l.dimension) rings says.front says.spelled in
+      let long =
+      each_long (SpellsCoordinates l.order l.dimension) 4
+      (coordinates_long l.order l.dimension) rings says.front says.spelled in
       let fits : 4 * count_in l input ≤ length (parts_start l.has_srid input) = omega (arith, parts.len) in
       item_is room w input (consumed input x.1) x.1 l [] no_spellings (polygon l.dimension rings)
       (field ++ says.front) [] _ o allowed.wanted parts.whole parts.long
       (parts.body ∙ sym (append-nil _))
       (refl, record { front = field; rest = says.front; whole = refl; first = counted; second = says.spelled })
-      refl (omega arith) (omega arith) (omega (arith, asked_all (count_in l input) (length (parts_start l.has_srid input)) fits))
+      refl (omega arith) (omega arith)
+      (omega (arith, asked_all (count_in l input) (length (parts_start l.has_srid input)) fits))
   polygon_end (cost, Err cause) o allowed enough says =
       refused_as (omega arith) (omega (arith, says.1)) (bad_ring (counts_here room w input 3 l o allowed enough) says.0)
 
   pub polygon_says : Opened input 3 l → IsPart w 3 l.dimension l.has_srid → IsRight room w input (polygon_at l input)
   unfolding polygon_at
   polygon_says o p =
-      let allowed : IsAllowed room w 3 l.dimension l.has_srid = record { wanted = p; shallow = λ e. absurd (omega arith) } in
+      let allowed : IsAllowed room w 3 l.dimension l.has_srid =
+      record { wanted = p; shallow = λ e. absurd (omega arith) } in
       count_says room w input 3 l o allowed (parts_body 3 l (ring_part l) (polygon_item l) input) (λ e. omega arith)
       (λ enough. polygon_end _ o allowed enough (rings_say l _ (parts_start l.has_srid input)))
 
 -- a member has at least nine bytes
-pub each_nine : (w : Wanted) (ss : Spellings) (ts : Values) (x : List ℕ) → SpellsEach w ss ts x → 9 * count ts ≤ length x
+pub each_nine : (w : Wanted) (ss : Spellings) (ts : Values) (x : List ℕ) → SpellsEach w ss ts x
+    → 9 * count ts ≤ length x
 each_nine w no_spellings no_members x a = omega arith
 each_nine w (spelling s ss) (member t ts) x a =
-    omega (arith, each_nine w ss ts a.rest a.second, value_size-least t, spelled_length s t a.front a.first.0, then_length a)
+    omega (
+      arith,
+      each_nine w ss ts a.rest a.second,
+      value_size-least t,
+      spelled_length s t a.front a.first.0,
+      then_length a,
+    )
 each_nine w _ _ x a = absurd a
 
 -- so many members
-pub record ItemsAre (room : ℕ) (w : Wanted) (n : ℕ) (input : List ℕ) (items : List Item) (rest : List ℕ) (cost : Cost) : Type 0 where
+pub record ItemsAre (room : ℕ) (w : Wanted) (n : ℕ) (input : List ℕ) (items : List Item) (rest : List ℕ)
+    (cost : Cost) : Type 0 where
   pub many : count (values items) ≡ n
   pub front : List ℕ
   pub whole : input ≡ front ++ rest
@@ -245,49 +277,77 @@ abbrev pub EachSay : ℕ → Wanted → ℕ → List ℕ → Reading (List Item)
 EachSay room w n input (cost, Ok x) = ItemsAre room w n input x.0 x.1 cost
 EachSay room w n input (cost, Err cause) = RefusesEach room w n input cause cost.turns cost.slots
 
-pub refused_each : {room : ℕ} {w : Wanted} {n m : ℕ} {input : List ℕ} {cause : Cause} {a b c d : ℕ} → n ≡ m → a ≡ c → b ≡ d
+pub refused_each : {room : ℕ} {w : Wanted} {n m : ℕ} {input : List ℕ} {cause : Cause} {a b c d : ℕ} → n ≡ m → a ≡ c
+    → b ≡ d
     → RefusesEach room w n input cause a b → RefusesEach room w m input cause c d
-refused_each {room} {w} {input = input} {cause = cause} e f g r = subst (λ T. T) (λ i. RefusesEach room w (e i) input cause (f i) (g i)) r
+refused_each {room} {w} {input = input} {cause = cause} e f g r =
+    subst (λ T. T) (λ i. RefusesEach room w (e i) input cause (f i) (g i)) r
 
 module _ (room : ℕ) (w : Wanted) where
-  member_then : (n : ℕ) (input : List ℕ) (i : Item) (rest : List ℕ) (spent : Cost) (r : Reading (List Item)) → ItemIs room w input i rest spent
-      → EachSay room w n rest r → EachSay room w (suc n) input (costs one_turn (costs spent (and_then r (λ xs after. done (i ∷ xs) after))))
+  member_then : (n : ℕ) (input : List ℕ) (i : Item) (rest : List ℕ) (spent : Cost) (r : Reading (List Item))
+      → ItemIs room w input i rest spent
+      → EachSay room w n rest r
+      → EachSay room w (suc n) input (costs one_turn (costs spent (and_then r (λ xs after. done (i ∷ xs) after))))
   member_then n input i rest spent (cost, Ok xs) is h =
       record {
         many = omega arith;
         front = i.encoding ++ h.front;
         whole = is.whole ∙ ap (λ z. i.encoding ++ z) h.whole ∙ sym (append_assoc i.encoding h.front xs.1);
-        spelled = record { front = i.encoding; rest = h.front; whole = refl; first = (is.spelled, is.wanted); second = h.spelled };
+        spelled =
+            record {
+              front = i.encoding;
+              rest = h.front;
+              whole = refl;
+              first = (is.spelled, is.wanted);
+              second = h.spelled;
+            };
         shallow = omega arith;
         turns = omega arith;
         slots = omega arith;
       }
   member_then n input i rest spent (cost, Err cause) is h =
       refused_each refl (omega arith) (omega arith)
-      (later_member (record { front = i.encoding; whole = is.whole; spelled = is.spelled; shallow = is.shallow }) is.wanted h)
+      (later_member
+      (record { front = i.encoding; whole = is.whole; spelled = is.spelled; shallow = is.shallow }) is.wanted h)
 
   each_step : (n : ℕ) (input : List ℕ) (r : Reading Item) (more : List ℕ → Reading (List Item)) → IsRight room w input r
       → ((rest : List ℕ) → EachSay room w n rest (more rest))
-      → EachSay room w (suc n) input (costs one_turn (and_then r (λ x rest. and_then (more rest) (λ xs after. done (x ∷ xs) after))))
+      → EachSay room w (suc n) input
+      (costs one_turn (and_then r (λ x rest. and_then (more rest) (λ xs after. done (x ∷ xs) after))))
   each_step n input (cost, Ok x) more h others = member_then n input x.0 x.1 cost (more x.1) h (others x.1)
   each_step n input (cost, Err cause) more h others = refused_each refl refl (omega arith) (this_member h)
 
-  pub each_say : (part_at : List ℕ → Reading Item) → ((y : List ℕ) → IsRight room w y (part_at y)) → (n : ℕ) (input : List ℕ)
+  pub each_say : (part_at : List ℕ → Reading Item) → ((y : List ℕ) → IsRight room w y (part_at y))
+      → (n : ℕ) (input : List ℕ)
       → EachSay room w n input (repeated n part_at input)
   unfolding repeated
-  each_say part_at one zero input = record { many = refl; front = []; whole = refl; spelled = refl; shallow = omega arith; turns = refl; slots = refl }
-  each_say part_at one (suc n) input = each_step n input (part_at input) (repeated n part_at) (one input) (each_say part_at one n)
+  each_say part_at one zero input =
+      record {
+        many = refl;
+        front = [];
+        whole = refl;
+        spelled = refl;
+        shallow = omega arith;
+        turns = refl;
+        slots = refl;
+      }
+  each_say part_at one (suc n) input =
+      each_step n input (part_at input) (repeated n part_at) (one input) (each_say part_at one n)
 
 -- a geometry with members: its count, its nesting, its turns and its entries, by its members
 pub list_body : (order : Endianness) (own : List ℕ) (t : Value) (field : List ℕ) → 3 < kind t
     → ◌≡◌ {A = Type 0} (SpellsBody order own t field) ((own ≡ []) × IsNumber order 4 (count (members t)) field)
-list_body order own (multi_point d l) field low = ap (λ n. (own ≡ []) × IsNumber order 4 n field) (sym (count-each (point d) l))
-list_body order own (multi_line_string d l) field low = ap (λ n. (own ≡ []) × IsNumber order 4 n field) (sym (count-each (line_string d) l))
-list_body order own (multi_polygon d l) field low = ap (λ n. (own ≡ []) × IsNumber order 4 n field) (sym (count-each (polygon d) l))
+list_body order own (multi_point d l) field low =
+    ap (λ n. (own ≡ []) × IsNumber order 4 n field) (sym (count-each (point d) l))
+list_body order own (multi_line_string d l) field low =
+    ap (λ n. (own ≡ []) × IsNumber order 4 n field) (sym (count-each (line_string d) l))
+list_body order own (multi_polygon d l) field low =
+    ap (λ n. (own ≡ []) × IsNumber order 4 n field) (sym (count-each (polygon d) l))
 list_body order own (collection d ts) field low = refl
 list_body order own _ field low = absurd (omega arith)
 
-list_nest : (t : Value) (room : ℕ) → 3 < kind t → (kind t ≡ 7 → 0 < room) → nest_each (members t) ≤ room_inside (kind t) room → nest t ≤ room
+list_nest : (t : Value) (room : ℕ) → 3 < kind t → (kind t ≡ 7 → 0 < room)
+    → nest_each (members t) ≤ room_inside (kind t) room → nest t ≤ room
 list_nest (collection d ts) room low some h = let more = some refl in omega arith
 list_nest _ room low some h = omega arith
 
@@ -301,11 +361,14 @@ listed_each (member t ts) = omega (arith, listed_each ts)
 
 pub list_slots : (t : Value) (remaining : ℕ) → 3 < kind t → 9 * count (members t) ≤ remaining
     → listed_count t ≡ slots_asked (kind t) (count (members t)) remaining + listed_inside (members t)
-list_slots (multi_point d l) remaining low fits = omega (arith, each_same (point d) listed_inside refl 0 (λ a ts. refl) l)
+list_slots (multi_point d l) remaining low fits =
+    omega (arith, each_same (point d) listed_inside refl 0 (λ a ts. refl) l)
 list_slots (multi_line_string d l) remaining low fits =
     omega (arith, count-each (line_string d) l, each_same (line_string d) listed_inside refl 0 (λ a ts. refl) l)
 list_slots (multi_polygon d l) remaining low fits =
-    let inside = each_sum (polygon d) (λ ts. count ts + listed_inside ts) refl (λ rings. 1 + length rings) (λ a ts. omega arith) l in
+    let inside =
+    each_sum (polygon d) (λ ts. count ts + listed_inside ts) refl (λ rings. 1 + length rings)
+    (λ a ts. omega arith) l in
     omega (arith, count-each (polygon d) l)
 list_slots (collection d ts) remaining low fits = omega (arith, listed_each ts)
 list_slots _ remaining low fits = absurd (omega arith)
@@ -328,10 +391,13 @@ polygon_of-is : (d : Dimension) (t : Value) → kind t ≡ 3 → dimension t ≡
 polygon_of-is d (polygon e c) k same = ap (λ z. polygon z c) (sym same)
 polygon_of-is d _ k same = absurd (omega arith)
 
-each_is : {A : Type 0} (k : ℕ) (d : Dimension) (f : A → Value) (g : Value → A) → ((t : Value) → kind t ≡ k → dimension t ≡ d → f (g t) ≡ t)
-    → (l : List Item) (x : List ℕ) → SpellsEach (part k d) (spellings l) (values l) x → each f (map (λ i. g i.value) l) ≡ values l
+each_is : {A : Type 0} (k : ℕ) (d : Dimension) (f : A → Value) (g : Value → A)
+    → ((t : Value) → kind t ≡ k → dimension t ≡ d → f (g t) ≡ t)
+    → (l : List Item) (x : List ℕ) → SpellsEach (part k d) (spellings l) (values l) x
+    → each f (map (λ i. g i.value) l) ≡ values l
 each_is k d f g one [] x h = refl
-each_is k d f g one (i ∷ l) x h = λ j. member (one i.value (h.first.1).0 (h.first.1).1 j) (each_is k d f g one l h.rest h.second j)
+each_is k d f g one (i ∷ l) x h =
+    λ j. member (one i.value (h.first.1).0 (h.first.1).1 j) (each_is k d f g one l h.rest h.second j)
 
 makes : (k : ℕ) (d : Dimension) → 3 < k → k ≤ 7 → Makes k d
 makes k d low high =
@@ -342,7 +408,8 @@ makes k d low high =
     (λ l x h. (refl, refl, refl)) k low high
 
 -- a list of this kind and dimension, whose members were read
-record ListIs (room : ℕ) (w : Wanted) (input : List ℕ) (l : Layout) (ss : Spellings) (field front : List ℕ) (remaining : ℕ) (cost : Cost) (k : ℕ) (d : Dimension)
+record ListIs (room : ℕ) (w : Wanted) (input : List ℕ) (l : Layout) (ss : Spellings) (field front : List ℕ)
+    (remaining : ℕ) (cost : Cost) (k : ℕ) (d : Dimension)
     (vs : Values) : Type 0 where
   pub low : 3 < k
   pub opens : Opens input l.order k d l.has_srid (drop 5 input)
@@ -356,21 +423,28 @@ record ListIs (room : ℕ) (w : Wanted) (input : List ℕ) (l : Layout) (ss : Sp
 
 module _ (room : ℕ) (w : Wanted) (input : List ℕ) (k : ℕ) (l : Layout) where
   -- the geometry of its members
-  list_is : (x rest : List ℕ) (ss : Spellings) (vs : Values) (t : Value) (field front : List ℕ) (remaining : ℕ) (cost : Cost)
-      → kind t ≡ k → dimension t ≡ l.dimension → members t ≡ vs → ListIs room w input l ss field front remaining cost k l.dimension vs
+  list_is : (x rest : List ℕ) (ss : Spellings) (vs : Values) (t : Value) (field front : List ℕ) (remaining : ℕ)
+      (cost : Cost)
+      → kind t ≡ k → dimension t ≡ l.dimension → members t ≡ vs
+      → ListIs room w input l ss field front remaining cost k l.dimension vs
       → input ≡ x ++ rest → body_start l.has_srid ≤ length x → drop (body_start l.has_srid) x ≡ field ++ front
       → ItemIs room w input (record { encoding = x; spelled = spelled_in l x [] ss; value = t }) rest cost
   list_is x rest ss vs t field front remaining cost same_kind same_d same is e long cut =
-      let own = subst (λ T. T) (λ i. ListIs room w input l ss field front remaining cost (sym same_kind i) (sym same_d i) (sym same i)) is in
+      let own =
+      subst (λ T. T)
+      (λ i. ListIs room w input l ss field front remaining cost (sym same_kind i) (sym same_d i) (sym same i)) is in
       item_is room w input x rest l [] ss t field front cost own.opens own.allowed.wanted e long cut
-      (subst (λ T. T) (sym (list_body l.order [] t field own.low)) (refl, own.number)) own.spelled (list_nest t room own.low own.allowed.shallow own.shallow)
+      (subst (λ T. T) (sym (list_body l.order [] t field own.low)) (refl, own.number)) own.spelled
+      (list_nest t room own.low own.allowed.shallow own.shallow)
       (own.turns ∙ sym (list_turns t own.low)) (own.slots ∙ sym (list_slots t remaining own.low own.few))
 
   module _ (low : 3 < k) (o : Opened input k l) (allowed : IsAllowed room w k l.dimension l.has_srid) where
-    parts_say : (r : Reading (List Item)) → (k ≡ 4 → multi_point_end l.dimension l.has_srid (count_in l input) ≤ length input)
+    parts_say : (r : Reading (List Item))
+        → (k ≡ 4 → multi_point_end l.dimension l.has_srid (count_in l input) ≤ length input)
         → body_start l.has_srid + 4 ≤ length input
         → EachSay (room_inside k room) (member_part k l.dimension) (count_in l input) (parts_start l.has_srid input) r
-        → IsRight room w input (costs (slots_of (slots_asked k (count_in l input) (length (parts_start l.has_srid input))))
+        → IsRight room w input
+        (costs (slots_of (slots_asked k (count_in l input) (length (parts_start l.has_srid input))))
         (and_then r (λ items after. done (list_item l (whole_by k) items (consumed input after)) after)))
     parts_say (cost, Ok x) long enough says =
         let parts = parts_encoding l input says.front x.1 enough says.whole in
@@ -380,7 +454,8 @@ module _ (room : ℕ) (w : Wanted) (input : List ℕ) (k : ℕ) (l : Layout) whe
         let fits : 9 * count (values x.0) ≤ remaining = omega (arith, parts.len) in
         let asked = ap (λ z. slots_asked k z remaining) says.many in
         let field = take 4 (drop (body_start l.has_srid) input) in
-        list_is (consumed input x.1) x.1 (spellings x.0) (values x.0) (whole_by k l.dimension x.0) field says.front remaining _ made.0 made.1 made.2
+        list_is (consumed input x.1) x.1 (spellings x.0) (values x.0)
+        (whole_by k l.dimension x.0) field says.front remaining _ made.0 made.1 made.2
         (record {
           low = low;
           opens = o;
@@ -393,9 +468,11 @@ module _ (room : ℕ) (w : Wanted) (input : List ℕ) (k : ℕ) (l : Layout) whe
           slots = omega (arith, asked);
         })
         parts.whole parts.long parts.body
-    parts_say (cost, Err cause) long enough says = refused_as (omega arith) refl (bad_member (counts_here room w input k l o allowed enough) low long says)
+    parts_say (cost, Err cause) long enough says =
+        refused_as (omega arith) refl (bad_member (counts_here room w input k l o allowed enough) low long says)
 
-    pub list_says : (part_at : List ℕ → Reading Item) → ((y : List ℕ) → IsRight (room_inside k room) (member_part k l.dimension) y (part_at y))
+    pub list_says : (part_at : List ℕ → Reading Item)
+        → ((y : List ℕ) → IsRight (room_inside k room) (member_part k l.dimension) y (part_at y))
         → IsRight room w input (with_count l input (list_behind k l part_at input))
     list_says part_at one =
         let n = count_in l input in
@@ -405,7 +482,11 @@ module _ (room : ℕ) (w : Wanted) (input : List ℕ) (k : ℕ) (l : Layout) whe
         cond_both ((k == 4) && short) _ _ (IsRight room w input)
         (λ t. let both = and_parts _ _ t in
         let here = counts_here room w input k l o allowed enough in
-        short_multi_point (subst (λ z. Counts room w input l.order z l.dimension l.has_srid n (parts_start l.has_srid input)) (eqb-true k 4 both.0) here)
+        short_multi_point
+        (subst (λ z. OpensCounted room w input l.order z l.dimension l.has_srid n (parts_start l.has_srid input))
+        (eqb-true k 4 both.0) here)
         (ltb-true (length input) end both.1))
-        (λ f. parts_say _ (λ four. ltb-false (length input) end (false_from_ne_true short (λ t. both_ways _ f (and_from _ _ (eq-eqb k 4 four) t)))) enough
+        (λ f. parts_say _
+        (λ four. ltb-false (length input) end
+        (false_from_ne_true short (λ t. both_ways _ f (and_from _ _ (eq-eqb k 4 four) t)))) enough
         (each_say _ _ part_at one n (parts_start l.has_srid input))))

@@ -8,7 +8,7 @@ use Rattle.wkb_laws.specs.Words.{member_count_each, listed_count}
 use Rattle.wkb_laws.specs.Words.{listed_count_each, Spelling, node, Spellings, no_spellings, spelling}
 use Rattle.wkb_laws.specs.Words.{SpellsCoordinates, SpellsBody, Wanted, any, part}
 use Rattle.wkb_laws.specs.Words.{member_part, Spells, SpellsEach, FrontWithin, Cause, slots_asked, room_inside}
-use Rattle.wkb_laws.specs.Words.{IsAllowed, Counts, RefusesRings, no_ring_count}
+use Rattle.wkb_laws.specs.Words.{IsAllowed, OpensCounted, RefusesRings, no_ring_count}
 use Rattle.wkb_laws.specs.Words.{short_ring, later_ring, Refuses, bad_ring, bad_member, RefusesEach, this_member}
 use Rattle.wkb_laws.specs.Words.{later_member}
 use Rattle.wkb_laws.specs.Laws.{FrontIsBounded, RefusalIsBounded}
@@ -16,13 +16,15 @@ use Rattle.wkb_laws.proofs.Parts.{then_length, length-opens, header_length}
 use Rattle.wkb_laws.proofs.Lists.{each_sum, each_same, by_list_kind, IsWanted}
 
 -- each item of a list has at least so many bytes
-pub each_long : {A : Type 0} (P : A → List ℕ → Type 0) (size : ℕ) → ((a : A) (x : List ℕ) → P a x → size ≤ length x) → (l : List A) (x : List ℕ) → IsEach P l x
+pub each_long : {A : Type 0} (P : A → List ℕ → Type 0) (size : ℕ) → ((a : A) (x : List ℕ) → P a x → size ≤ length x)
+    → (l : List A) (x : List ℕ) → IsEach P l x
     → size * length l ≤ length x
 each_long P size one [] x h = omega arith
 each_long P size one (a ∷ l) x h =
     omega (arith, each_long P size one l h.rest h.second, one a h.front h.first, then_length h)
 
-pub coordinates_long : (order : Endianness) (d : Dimension) (cs : List Coordinate) (x : List ℕ) → SpellsCoordinates order d cs x → 4 ≤ length x
+pub coordinates_long : (order : Endianness) (d : Dimension) (cs : List Coordinate) (x : List ℕ)
+    → SpellsCoordinates order d cs x → 4 ≤ length x
 coordinates_long order d cs x h = let four = (h.first).len in omega (arith, then_length h)
 
 -- how many rings a polygon has
@@ -33,8 +35,10 @@ ring_count _ = 0
 -- the rings and the members, with what is in them
 pub member_count-members : (t : Value) → member_count t ≡ ring_count t + member_count_each (members t)
 member_count-members (multi_point d l) = omega (arith, each_same (point d) member_count_each refl 1 (λ a ts. refl) l)
-member_count-members (multi_line_string d l) = omega (arith, each_same (line_string d) member_count_each refl 1 (λ a ts. refl) l)
-member_count-members (multi_polygon d l) = sym (each_sum (polygon d) member_count_each refl (λ rings. 1 + length rings) (λ a ts. refl) l) ∙ omega arith
+member_count-members (multi_line_string d l) =
+    omega (arith, each_same (line_string d) member_count_each refl 1 (λ a ts. refl) l)
+member_count-members (multi_polygon d l) =
+    sym (each_sum (polygon d) member_count_each refl (λ rings. 1 + length rings) (λ a ts. refl) l) ∙ omega arith
 member_count-members _ = omega arith
 
 mutual
@@ -46,9 +50,14 @@ mutual
   listed_each-most no_members = omega arith
   listed_each-most (member t ts) = omega (arith, listed_count-most t, listed_each-most ts)
 
-body_long : (order : Endianness) (own : List ℕ) (t : Value) (x : List ℕ) → SpellsBody order own t x → 4 * ring_count t ≤ length x
+body_long : (order : Endianness) (own : List ℕ) (t : Value) (x : List ℕ) → SpellsBody order own t x
+    → 4 * ring_count t ≤ length x
 body_long order own (polygon d rings) x h =
-    omega (arith, each_long (SpellsCoordinates order d) 4 (coordinates_long order d) rings (h.1).rest (h.1).second, then_length h.1)
+    omega (
+      arith,
+      each_long (SpellsCoordinates order d) 4 (coordinates_long order d) rings (h.1).rest (h.1).second,
+      then_length h.1,
+    )
 body_long order own _ x h = omega arith
 
 -- each ring and each member has four bytes of its own, and so has the geometry
@@ -57,9 +66,16 @@ mutual
   spelled_long (node h own ss) t x a =
       let body = body_long h.order own t a.second.front a.second.first in
       let tail = each_spelled_long (member_part (kind t) (dimension t)) ss (members t) a.second.rest a.second.second in
-      omega (arith, header_length h (kind t) (dimension t) a.front a.first, then_length a, then_length a.second, member_count-members t)
+      omega (
+        arith,
+        header_length h (kind t) (dimension t) a.front a.first,
+        then_length a,
+        then_length a.second,
+        member_count-members t,
+      )
 
-  pub each_spelled_long : (w : Wanted) (ss : Spellings) (ts : Values) (x : List ℕ) → SpellsEach w ss ts x → 4 * member_count_each ts ≤ length x
+  pub each_spelled_long : (w : Wanted) (ss : Spellings) (ts : Values) (x : List ℕ) → SpellsEach w ss ts x
+      → 4 * member_count_each ts ≤ length x
   each_spelled_long w no_spellings no_members x a = omega arith
   each_spelled_long w (spelling s ss) (member t ts) x a =
       omega (arith, each_spelled_long w ss ts a.rest a.second, spelled_long s t a.front a.first.0, then_length a)
@@ -72,37 +88,56 @@ front_is_bounded_lem input s t rest f =
     let whole : length input ≡ length f.front + length rest = ap length f.whole ∙ length-append f.front rest in
     (omega arith, omega arith)
 
-length-counts : {room : ℕ} {w : Wanted} {input rest : List ℕ} {order : Endianness} {k : ℕ} {d : Dimension} {srid : Bool} {n : ℕ}
-    → Counts room w input order k d srid n rest → 9 + length rest ≤ length input
+length-counts : {room : ℕ} {w : Wanted} {input rest : List
+    ℕ} {order : Endianness} {k : ℕ} {d : Dimension} {srid : Bool} {n : ℕ}
+    → OpensCounted room w input order k d srid n rest → 9 + length rest ≤ length input
 length-counts {rest = rest} c =
-    omega (arith, length-opens c.opens, length-append c.srid_field (c.count_field ++ rest), length-append c.count_field rest)
+    omega (
+      arith,
+      length-opens c.opens,
+      length-append c.srid_field (c.count_field ++ rest),
+      length-append c.count_field rest,
+    )
 
-rings_begun : {order : Endianness} {d : Dimension} {n : ℕ} {input : List ℕ} {cause : Cause} {begun : ℕ} → RefusesRings order d n input cause begun
+rings_begun : {order : Endianness} {d : Dimension} {n : ℕ} {input : List ℕ} {cause : Cause} {begun : ℕ}
+    → RefusesRings order d n input cause begun
     → 4 * begun ≤ length input + 4
 rings_begun (no_ring_count h) = omega arith
 rings_begun (short_ring b h) = omega arith
 rings_begun {order} {d} {input = input} (later_ring {rest = rest} ring b h) =
-    omega (arith, coordinates_long order d ring b.front b.first, rings_begun h, ap length b.whole, length-append b.front rest)
+    omega (
+      arith,
+      coordinates_long order d ring b.front b.first,
+      rings_begun h,
+      ap length b.whole,
+      length-append b.front rest,
+    )
 
 front_long : {room : ℕ} {input : List ℕ} {s : Spelling} {t : Value} {rest : List ℕ} → FrontWithin room input s t rest
     → 4 * member_count t + 5 + length rest ≤ length input
-front_long {s = s} {t = t} {rest = rest} f = omega (arith, spelled_long s t f.front f.spelled, ap length f.whole, length-append f.front rest)
+front_long {s = s} {t = t} {rest = rest} f =
+    omega (arith, spelled_long s t f.front f.spelled, ap length f.whole, length-append f.front rest)
 
 mutual
-  pub refused_turns : {room : ℕ} {w : Wanted} {input : List ℕ} {cause : Cause} {begun slots : ℕ} → Refuses room w input cause begun slots
+  pub refused_turns : {room : ℕ} {w : Wanted} {input : List ℕ} {cause : Cause} {begun slots : ℕ}
+      → Refuses room w input cause begun slots
       → 4 * begun ≤ length input
   refused_turns (bad_ring c r) = let inside = rings_begun r in let long = length-counts c in omega arith
-  refused_turns (bad_member c low enough r) = let inside = each_refused_turns r in let long = length-counts c in omega arith
+  refused_turns (bad_member c low enough r) =
+      let inside = each_refused_turns r in let long = length-counts c in omega arith
   refused_turns _ = omega arith
 
-  pub each_refused_turns : {room : ℕ} {w : Wanted} {n : ℕ} {input : List ℕ} {cause : Cause} {begun slots : ℕ} → RefusesEach room w n input cause begun slots
+  pub each_refused_turns : {room : ℕ} {w : Wanted} {n : ℕ} {input : List ℕ} {cause : Cause} {begun slots : ℕ}
+      → RefusesEach room w n input cause begun slots
       → 4 * begun ≤ length input + 4
   each_refused_turns (this_member r) = let inside = refused_turns r in omega arith
   each_refused_turns (later_member f p r) = let inside = each_refused_turns r in let long = front_long f in omega arith
 
 -- a list of members asks for a ninth of the bytes behind its count
 slots_asked-members : (k n remaining : ℕ) → 3 < k → k ≤ 7 → 9 * slots_asked k n remaining ≤ remaining
-slots_asked-members k n remaining = by_list_kind (λ z. 9 * slots_asked z n remaining ≤ remaining) (omega arith) (omega arith) (omega arith) (omega arith) k
+slots_asked-members k n remaining =
+    by_list_kind
+    (λ z. 9 * slots_asked z n remaining ≤ remaining) (omega arith) (omega arith) (omega arith) (omega arith) k
 
 -- nine times the entries for each byte: one for each collection that may be open, and five for the rest
 abbrev share : Wanted → ℕ → ℕ
@@ -113,50 +148,64 @@ share-least : (w : Wanted) (room : ℕ) → 3 ≤ share w room
 share-least any room = omega arith
 share-least (part k d) room = omega arith
 
-share_inside : (room k : ℕ) (d : Dimension) → 3 < k → k ≤ 7 → (k ≡ 7 → 0 < room) → share (member_part k d) (room_inside k room) + 1 ≤ room + 5
+share_inside : (room k : ℕ) (d : Dimension) → 3 < k → k ≤ 7 → (k ≡ 7 → 0 < room)
+    → share (member_part k d) (room_inside k room) + 1 ≤ room + 5
 share_inside room k d =
     by_list_kind (λ z. (z ≡ 7 → 0 < room) → share (member_part z d) (room_inside z room) + 1 ≤ room + 5)
     (λ some. omega arith) (λ some. omega arith) (λ some. omega arith) (λ some. let more = some refl in omega arith) k
 
 -- the share of the members of a list, and its own entries, are within the list's share
-list_share : (inner outer asked slots rest len : ℕ) → inner + 1 ≤ outer → 9 * asked ≤ rest → rest ≤ len → 9 * slots ≤ inner * rest
+list_share : (inner outer asked slots rest len : ℕ) → inner + 1 ≤ outer → 9 * asked ≤ rest → rest ≤ len
+    → 9 * slots ≤ inner * rest
     → 9 * (asked + slots) ≤ outer * len
 list_share inner outer asked slots rest len more ask fits inside =
     omega (arith, mul-le-mul_left len more, mul-le-mul_left (inner + 1) fits)
 
 -- the members that are wanted behind a count
-pub wanted_inside : (w : Wanted) (room k : ℕ) (d : Dimension) (srid : Bool) → IsWanted w → IsAllowed room w k d srid → 3 < k → k ≤ 7 → IsWanted (member_part k d)
-wanted_inside (part wanted e) room k d srid good allowed low high = let same = (allowed.wanted).0 in absurd (omega arith)
-wanted_inside any room k d srid good allowed low high = by_list_kind (λ z. IsWanted (member_part z d)) (lit≤ tt) (lit≤ tt) (lit≤ tt) tt k low high
+pub wanted_inside : (w : Wanted) (room k : ℕ) (d : Dimension) (srid : Bool) → IsWanted w → IsAllowed room w k d srid
+    → 3 < k → k ≤ 7 → IsWanted (member_part k d)
+wanted_inside (part wanted e) room k d srid good allowed low high =
+    let same = (allowed.wanted).0 in absurd (omega arith)
+wanted_inside any room k d srid good allowed low high =
+    by_list_kind (λ z. IsWanted (member_part z d)) (lit≤ tt) (lit≤ tt) (lit≤ tt) tt k low high
 
 -- a list of rings, and a member that is spelled, pay for their entries by their own bytes
-own_share : (s front rest len own slots : ℕ) → 3 ≤ s → 4 * own ≤ front → 9 * slots ≤ s * rest → front + rest ≤ len → 9 * (own + slots) ≤ s * len
+own_share : (s front rest len own slots : ℕ) → 3 ≤ s → 4 * own ≤ front → 9 * slots ≤ s * rest → front + rest ≤ len
+    → 9 * (own + slots) ≤ s * len
 own_share s front rest len own slots h pays inside fits =
     omega (arith, mul-le-mul_left s fits, mul-le-mul_left front h)
 
 mutual
-  pub refused_slots : {room : ℕ} {w : Wanted} {input : List ℕ} {cause : Cause} {begun slots : ℕ} → Refuses room w input cause begun slots → IsWanted w
+  pub refused_slots : {room : ℕ} {w : Wanted} {input : List ℕ} {cause : Cause} {begun slots : ℕ}
+      → Refuses room w input cause begun slots → IsWanted w
       → 9 * slots ≤ share w room * length input
   refused_slots {room} {w} {input} (bad_ring {n = n} {rest = rest} c r) good =
       let asked = slots_asked 3 n (length rest) in
       let all =
-      own_share (share w room) (length rest) 0 (length input) asked 0 (share-least w room) (omega arith) (omega arith) (omega (arith, length-counts c)) in
+      own_share (share w room) (length rest) 0 (length input) asked 0 (share-least w room) (omega arith) (omega arith)
+      (omega (arith, length-counts c)) in
       omega arith
-  refused_slots {room} {w = part l e} (bad_member c low enough r) good = let same = (c.allowed.wanted).0 in absurd (omega arith)
-  refused_slots {room} {w = any} {input = input} (bad_member {k = k} {n = n} {slots = slots} {d = d} {srid = srid} {rest = rest} c low enough r) good =
+  refused_slots {room} {w = part l e} (bad_member c low enough r) good =
+      let same = (c.allowed.wanted).0 in absurd (omega arith)
+  refused_slots {room} {w = any} {input = input}
+      (bad_member {k = k} {n = n} {slots = slots} {d = d} {srid = srid} {rest = rest} c low enough r) good =
       let high = c.opens.meaning.kind.high in
-      list_share (share (member_part k d) (room_inside k room)) (room + 5) (slots_asked k n (length rest)) slots (length rest) (length input)
-      (share_inside room k d low high c.allowed.shallow) (slots_asked-members k n (length rest) low high) (omega (arith, length-counts c))
+      list_share (share (member_part k d) (room_inside k room)) (room + 5) (slots_asked k n (length rest)) slots
+      (length rest) (length input)
+      (share_inside room k d low high c.allowed.shallow) (slots_asked-members k n (length rest) low high)
+      (omega (arith, length-counts c))
       (each_refused_slots r (wanted_inside any room k d srid good c.allowed low high))
   refused_slots _ good = omega arith
 
-  pub each_refused_slots : {room : ℕ} {w : Wanted} {n : ℕ} {input : List ℕ} {cause : Cause} {begun slots : ℕ} → RefusesEach room w n input cause begun slots
+  pub each_refused_slots : {room : ℕ} {w : Wanted} {n : ℕ} {input : List ℕ} {cause : Cause} {begun slots : ℕ}
+      → RefusesEach room w n input cause begun slots
       → IsWanted w → 9 * slots ≤ share w room * length input
   each_refused_slots (this_member r) good = refused_slots r good
   each_refused_slots {room} {w} {input = input} (later_member {slots = slots} {rest = rest} {t = t} f p r) good =
       let long = front_long f in
       let most = listed_count-most t in
-      own_share (share w room) (4 * member_count t + 5) (length rest) (length input) (listed_count t) slots (share-least w room) (omega arith)
+      own_share (share w room) (4 * member_count t + 5) (length rest) (length input) (listed_count t) slots
+      (share-least w room) (omega arith)
       (each_refused_slots r good) (omega arith)
 
 pub refusal_is_bounded_lem : RefusalIsBounded

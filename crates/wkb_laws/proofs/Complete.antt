@@ -21,7 +21,8 @@ use Rattle.wkb_laws.specs.Words.{Header, Spelling, node, Spellings, no_spellings
 use Rattle.wkb_laws.specs.Words.{SpellsCoordinates, Spells, SpellsEach}
 use Rattle.wkb_laws.specs.Words.{member_part, has_srid, FrontWithin, srid_size, point_end, line_string_end}
 use Rattle.wkb_laws.specs.Words.{multi_point_end, ring_end, slots_asked, room_inside}
-use Rattle.wkb_laws.specs.Words.{IsAllowed, Counts, Cost, free, body_start, parts_start, ◌⊕◌, with_count, ring_part}
+use Rattle.wkb_laws.specs.Words.{IsAllowed, OpensCounted, Cost, free, body_start, parts_start, ◌⊕◌, with_count}
+use Rattle.wkb_laws.specs.Words.{ring_part}
 use Rattle.wkb_laws.specs.Words.{parts_body, coordinate, coordinates}
 use Rattle.wkb_laws.specs.Words.{ring_in, items, spellings, values, and_then, at_no_cost, collection_at, costs, done}
 use Rattle.wkb_laws.specs.Words.{line_string_of, line_string_at}
@@ -55,30 +56,36 @@ type_of-type (kinds.Point d) = refl
 type_of-type _ = refl
 
 -- an opening, and each fault in front of a body, as they are read
-pub meaning_found : (c k : ℕ) (d : Dimension) (srid : Bool) → Code c k d srid → meaning_of c ≡ Some (meaning (type_of k d) srid)
+pub meaning_found : (c k : ℕ) (d : Dimension) (srid : Bool) → Code c k d srid
+    → meaning_of c ≡ Some (meaning (type_of k d) srid)
 meaning_found c k d srid code =
     meaning_holds (λ m. m ≡ Some (meaning (type_of k d) srid)) c
     (λ m other. let one = one_meaning other code in
-    let type : m.wkb_type ≡ type_of k d = sym (type_of-type m.wkb_type) ∙ (λ i. type_of (one.kind i) (one.dimension i)) in
+    let type : m.wkb_type ≡ type_of k d =
+    sym (type_of-type m.wkb_type) ∙ (λ i. type_of (one.kind i) (one.dimension i)) in
     λ i. Some (meaning (type i) (one.srid i)))
     (λ none. absurd (none k d srid code))
 
-pub head_by_byte : (order : Endianness) (behind : List ℕ) → head_at (order_byte order ∷ behind) ≡ head_by_order (Some order) behind
+pub head_by_byte : (order : Endianness) (behind : List ℕ)
+    → head_at (order_byte order ∷ behind) ≡ head_by_order (Some order) behind
 unfolding head_at
 head_by_byte BigEndian behind = refl
 head_by_byte LittleEndian behind = refl
 
-pub head_coded : {input behind rest : List ℕ} {order : Endianness} {c : ℕ} → input ≡ order_byte order ∷ behind → Begins (IsNumber order 4 c) behind rest
+pub head_coded : {input behind rest : List ℕ} {order : Endianness} {c : ℕ} → input ≡ order_byte order ∷ behind
+    → Begins (IsNumber order 4 c) behind rest
     → head_at input ≡ head_by_code order c (meaning_of c)
 head_coded {behind = behind} {rest = rest} {order = order} {c = c} e b =
     let read = begins_number order 4 c behind rest b in
-    ap head_at e ∙ head_by_byte order behind ∙ cond-false (nat_lt (length behind) 4) _ _ (le-ltb (length behind) 4 read.0)
+    ap head_at e ∙ head_by_byte order behind
+    ∙ cond-false (nat_lt (length behind) 4) _ _ (le-ltb (length behind) 4 read.0)
     ∙ ap (λ z. head_by_code order z (meaning_of z)) read.1
 
 abbrev pub head_of : Endianness → ℕ → Dimension → Bool → Head
 head_of order k d srid = record { order = order; wkb_type = type_of k d; has_srid = srid }
 
-pub head_opened : {input rest : List ℕ} {order : Endianness} {k : ℕ} {d : Dimension} {srid : Bool} → Opens input order k d srid rest
+pub head_opened : {input rest : List ℕ} {order : Endianness} {k : ℕ} {d : Dimension} {srid : Bool}
+    → Opens input order k d srid rest
     → head_at input ≡ Ok (head_of order k d srid)
 head_opened {order = order} {k = k} {d = d} {srid = srid} o =
     head_coded o.whole o.number ∙ ap (head_by_code order o.code) (meaning_found o.code k d srid o.meaning)
@@ -110,18 +117,21 @@ reader_by zero any input = refl
 reader_by (suc room) any input = refl
 reader_by room (part k d) input = refl
 
-faulty : (room : ℕ) (w : Wanted) (input : List ℕ) (cause : Cause) → head_at input ≡ Err cause → reader room w input ≡ refused cause
+faulty : (room : ℕ) (w : Wanted) (input : List ℕ) (cause : Cause) → head_at input ≡ Err cause
+    → reader room w input ≡ refused cause
 faulty room any input cause e = reader_by room any input ∙ ap (read_by room any input) e
 faulty room (part k d) input cause e = ap (read_by room (part k d) input) e
 
-member_body_is : (deeper : Layout → List ℕ → Reading Item) (k : ℕ) (d : Dimension) (l : Layout) (input : List ℕ) → 1 ≤ k → k ≤ 3
+member_body_is : (deeper : Layout → List ℕ → Reading Item) (k : ℕ) (d : Dimension) (l : Layout) (input : List ℕ) → 1 ≤ k
+    → k ≤ 3
     → member_body k l input ≡ body_at deeper (type_of k d) l input
 member_body_is deeper (suc zero) d l input low few = refl
 member_body_is deeper (suc (suc zero)) d l input low few = refl
 member_body_is deeper (suc (suc (suc zero))) d l input low few = refl
 member_body_is deeper _ d l input low few = absurd (omega arith)
 
-module _ {input rest : List ℕ} {order : Endianness} {k : ℕ} {d : Dimension} {srid : Bool} (o : Opens input order k d srid rest) where
+module _ {input rest : List ℕ} {order : Endianness} {k : ℕ} {d : Dimension} {srid : Bool}
+    (o : Opens input order k d srid rest) where
   same_type : (type_kind (type_of k d) ≡ k) × (type_dimension (type_of k d) ≡ d)
   same_type = type_kind-type_of k d o.meaning.kind.low o.meaning.kind.high
 
@@ -134,21 +144,27 @@ module _ {input rest : List ℕ} {order : Endianness} {k : ℕ} {d : Dimension} 
       let wanted = is_passed l e (head_of order k d srid) (same_type.0 ∙ p.0, same_type.1 ∙ p.1, p.2) in
       let few : k ≤ 3 = omega (arith, p.0) in
       ap (read_by room (part l e) input) (head_opened o)
-      ∙ ap (λ z. then_body z (λ m. member_body l m input)) (cond-true (is_member l e (head_of order k d srid)) _ _ wanted)
+      ∙ ap (λ z. then_body z (λ m. member_body l m input))
+      (cond-true (is_member l e (head_of order k d srid)) _ _ wanted)
       ∙ (λ i. member_body (sym p.0 i) (laid order (sym p.1 i) srid) input)
       ∙ member_body_is (collection_within room) k d (laid order d srid) input o.meaning.kind.low few
 
   unwanted : (room : ℕ) (w : Wanted) → (IsPart w k d srid → ⊥) → reader room w input ≡ refused incorrect_type
   unwanted room any n = absurd (n tt)
   unwanted room (part l e) n =
-      let not = false_from_ne_true _ (λ t. let p = passes l e (head_of order k d srid) t in n (sym same_type.0 ∙ p.0, sym same_type.1 ∙ p.1, p.2)) in
+      let not =
+      false_from_ne_true _
+      (λ t. let p = passes l e (head_of order k d srid) t in n (sym same_type.0 ∙ p.0, sym same_type.1 ∙ p.1, p.2))
+      in
       ap (read_by room (part l e) input) (head_opened o)
       ∙ ap (λ z. then_body z (λ m. member_body l m input)) (cond-false (is_member l e (head_of order k d srid)) _ _ not)
 
 -- what stands behind the count of a body, by the kind
 abbrev behind_of : ℕ → ℕ → Layout → List ℕ → ℕ → Reading Item
 behind_of room k l input =
-    if k == 2 then (λ n. at_no_cost (line_string_body l input n)) else if k == 3 then parts_body 3 l (ring_part l) (polygon_item l) input
+    if k == 2 then
+    (λ n. at_no_cost (line_string_body l input n)) else if k == 3 then parts_body 3 l (ring_part l)
+    (polygon_item l) input
     else list_behind k l (reader (room_inside k room) (member_part k l.dimension)) input
 
 -- every body but a point's has a count
@@ -161,7 +177,8 @@ body_counted room (suc (suc (suc zero))) l input low high n some = refl
 body_counted room (suc (suc (suc (suc zero)))) l input low high n some = refl
 body_counted room (suc (suc (suc (suc (suc zero))))) l input low high n some = refl
 body_counted room (suc (suc (suc (suc (suc (suc zero)))))) l input low high n some = refl
-body_counted zero (suc (suc (suc (suc (suc (suc (suc zero))))))) l input low high n some = let more = some refl in absurd (omega arith)
+body_counted zero (suc (suc (suc (suc (suc (suc (suc zero))))))) l input low high n some =
+    let more = some refl in absurd (omega arith)
 body_counted (suc room) (suc (suc (suc (suc (suc (suc (suc zero))))))) l input low high n some =
     let inside : room ≡ suc room - 1 = omega arith in
     ap (λ z. with_count l input (list_behind 7 l (reader z any) input)) inside
@@ -174,17 +191,25 @@ pub record CountRead (input : List ℕ) (l : Layout) (n : ℕ) (rest : List ℕ)
   pub behind : parts_start l.has_srid input ≡ rest
 
 module _ {room n : ℕ} {w : Wanted} {input rest : List ℕ} {order : Endianness} {k : ℕ} {d : Dimension} {srid : Bool}
-    (c : Counts room w input order k d srid n rest) where
+    (c : OpensCounted room w input order k d srid n rest) where
   pub count_read : CountRead input (laid order d srid) n rest
   count_read =
       let o = c.opens in
       let size = srid_size srid in
-      let behind5 : drop 5 input ≡ c.srid_field ++ (c.count_field ++ rest) = ap (drop 5) o.whole ∙ (begins_number order 4 o.code o.behind _ o.number).2 in
+      let behind5 : drop 5 input ≡ c.srid_field ++ (c.count_field ++ rest) =
+      ap (drop 5) o.whole ∙ (begins_number order 4 o.code o.behind _ o.number).2 in
       let start : drop (body_start srid) input ≡ c.count_field ++ rest =
-      sym (drop-drop size 5 input) ∙ ap (drop size) behind5 ∙ drop_front size c.srid_field (c.count_field ++ rest) c.srid_len in
+      sym (drop-drop size 5 input) ∙ ap (drop size) behind5
+      ∙ drop_front size c.srid_field (c.count_field ++ rest) c.srid_len in
       let four = (c.number).len in
       record {
-        long = omega (arith, length-opens o, length-append c.srid_field (c.count_field ++ rest), length-append c.count_field rest);
+        long =
+            omega (
+              arith,
+              length-opens o,
+              length-append c.srid_field (c.count_field ++ rest),
+              length-append c.count_field rest,
+            );
         many = ap (number order 4) start ∙ number-front order 4 n c.count_field rest c.number;
         behind = ap (drop 4) start ∙ drop_front 4 c.count_field rest four;
       }
@@ -193,27 +218,35 @@ module _ {room n : ℕ} {w : Wanted} {input rest : List ℕ} {order : Endianness
   counted : IsWanted w → k ≢ 1 → reader room w input ≡ behind_of room k (laid order d srid) input n
   counted good not1 =
       opened c.opens room w good c.allowed.wanted
-      ∙ body_counted room k (laid order d srid) input c.opens.meaning.kind.low c.opens.meaning.kind.high not1 c.allowed.shallow
+      ∙ body_counted room k
+      (laid order d srid) input c.opens.meaning.kind.low c.opens.meaning.kind.high not1 c.allowed.shallow
       ∙ cond-false (nat_lt (length input) (body_start srid + 4)) _ _ (le-ltb _ _ count_read.long)
       ∙ ap (behind_of room k (laid order d srid) input) count_read.many
 
 -- a list of members, where a multi point is long enough
-list_counted : (room k : ℕ) (l : Layout) (input : List ℕ) (n : ℕ) → 3 < k → k ≤ 7 → (k ≡ 4 → multi_point_end l.dimension l.has_srid n ≤ length input)
-    → behind_of room k l input n ≡ parts_body k l (reader (room_inside k room) (member_part k l.dimension)) (list_item l (whole_by k)) input n
+list_counted : (room k : ℕ) (l : Layout) (input : List ℕ) (n : ℕ) → 3 < k → k ≤ 7
+    → (k ≡ 4 → multi_point_end l.dimension l.has_srid n ≤ length input)
+    → behind_of room k l input n
+    ≡ parts_body k l (reader (room_inside k room) (member_part k l.dimension)) (list_item l (whole_by k)) input n
 list_counted room k l input n low high long =
     by_list_kind (λ k. (k ≡ 4 → multi_point_end l.dimension l.has_srid n ≤ length input)
-    → behind_of room k l input n ≡ parts_body k l (reader (room_inside k room) (member_part k l.dimension)) (list_item l (whole_by k)) input n)
+    → behind_of room k l input n
+    ≡ parts_body k l (reader (room_inside k room) (member_part k l.dimension)) (list_item l (whole_by k)) input n)
     (λ fits. cond-false (nat_lt (length input) (multi_point_end l.dimension l.has_srid n)) _ _ (le-ltb _ _ (fits refl)))
     (λ fits. refl) (λ fits. refl) (λ fits. refl) k low high long
 
 -- what is answered of so many parts, by what the parts are read as
-parts_read : {A : Type 0} (k : ℕ) (l : Layout) (part_at : List ℕ → Reading A) (whole : List A → List ℕ → Item) (input rest : List ℕ) (n : ℕ)
-    (r : Reading (List A)) → parts_start l.has_srid input ≡ rest → repeated n part_at rest ≡ r → parts_body k l part_at whole input n
-    ≡ costs (slots_of (slots_asked k n (length rest))) (and_then r (λ parts after. done (whole parts (consumed input after)) after))
+parts_read : {A : Type 0} (k : ℕ) (l : Layout) (part_at : List ℕ → Reading A) (whole : List A → List ℕ → Item)
+    (input rest : List ℕ) (n : ℕ)
+    (r : Reading (List A)) → parts_start l.has_srid input ≡ rest → repeated n part_at rest ≡ r
+    → parts_body k l part_at whole input n
+    ≡ costs (slots_of (slots_asked k n (length rest)))
+    (and_then r (λ parts after. done (whole parts (consumed input after)) after))
 parts_read k l part_at whole input rest n r e same =
     ap (λ z. costs (slots_of (slots_asked k n (length z)))
     (and_then (repeated n part_at z) (λ parts after. done (whole parts (consumed input after)) after))) e
-    ∙ ap (λ z. costs (slots_of (slots_asked k n (length rest))) (and_then z (λ parts after. done (whole parts (consumed input after)) after))) same
+    ∙ ap (λ z. costs (slots_of (slots_asked k n (length rest)))
+    (and_then z (λ parts after. done (whole parts (consumed input after)) after))) same
 
 taken_front : (x rest : List ℕ) → consumed (x ++ rest) rest ≡ x
 taken_front x rest =
@@ -222,26 +255,31 @@ taken_front x rest =
 
 -- ---- words, coordinates and rings, as they are read at the front of what they stand in
 
-coordinate_read : (order : Endianness) (d : Dimension) (c : Coordinate) (x y : List ℕ) → SpellsCoordinate order d c x → coordinate order d (x ++ y) ≡ c
+coordinate_read : (order : Endianness) (d : Dimension) (c : Coordinate) (x y : List ℕ) → SpellsCoordinate order d c x
+    → coordinate order d (x ++ y) ≡ c
 coordinate_read order d c x y h =
     ap (λ n. items 8 (number order 8) n (x ++ y)) (sym h.len)
-    ∙ items_read (IsNumber order 8) 8 (number order 8) (λ v x y is. (is.len, number-front order 8 v x y is)) c x y h.words
+    ∙ items_read (IsNumber order 8) 8 (number order 8)
+    (λ v x y is. (is.len, number-front order 8 v x y is)) c x y h.words
 
 pub record RingRead (order : Endianness) (d : Dimension) (cs : List Coordinate) (x y : List ℕ) : Type 0 where
   pub many : number order 4 (x ++ y) ≡ length cs
   pub is : ring_in order d (x ++ y) ≡ cs
 
-pub ring_read : (order : Endianness) (d : Dimension) (cs : List Coordinate) (x y : List ℕ) → SpellsCoordinates order d cs x → RingRead order d cs x y
+pub ring_read : (order : Endianness) (d : Dimension) (cs : List Coordinate) (x y : List ℕ)
+    → SpellsCoordinates order d cs x → RingRead order d cs x y
 ring_read order d cs x y h =
     let shape : x ++ y ≡ h.front ++ (h.rest ++ y) = then_append h y in
-    let many : number order 4 (x ++ y) ≡ length cs = ap (number order 4) shape ∙ number-front order 4 (length cs) h.front (h.rest ++ y) h.first in
+    let many : number order 4 (x ++ y) ≡ length cs =
+    ap (number order 4) shape ∙ number-front order 4 (length cs) h.front (h.rest ++ y) h.first in
     let behind : drop 4 (x ++ y) ≡ h.rest ++ y = ap (drop 4) shape ∙ drop_front 4 h.front (h.rest ++ y) h.first.len in
     let read = items_read (SpellsCoordinate order d) (8 * width d) (coordinate order d)
     (λ c x y is. (coordinate_length order d c x is, coordinate_read order d c x y is)) cs h.rest y h.second in
     record { many = many; is = (λ i. coordinates order d (many i) (behind i)) ∙ read }
 
 -- a ring that stands in front is read as its encoding
-ring_found : (order : Endianness) (d : Dimension) (ring : List Coordinate) (x rest : List ℕ) → SpellsCoordinates order d ring x
+ring_found : (order : Endianness) (d : Dimension) (ring : List Coordinate) (x rest : List ℕ)
+    → SpellsCoordinates order d ring x
     → ring_at order d (x ++ rest) ≡ Ok (x, rest)
 unfolding ring_at
 ring_found order d ring x rest h =
@@ -251,7 +289,8 @@ ring_found order d ring x rest h =
     let long : length x ≡ end = coordinates_length order d ring x h in
     let input = x ++ rest in
     cond-false (nat_lt (length input) 4) _ _ (le-ltb (length input) 4 (omega arith))
-    ∙ ap (λ z. if nat_lt (length input) (ring_end d z) then Err (general (ShortLinearRing (ring_end d z) (length input)))
+    ∙ ap (λ z. if nat_lt (length input) (ring_end d z) then Err
+    (general (ShortLinearRing (ring_end d z) (length input)))
     else Ok (take (ring_end d z) input, drop (ring_end d z) input)) read.many
     ∙ cond-false (nat_lt (length input) end) _ _ (le-ltb (length input) end (omega arith))
     ∙ (λ i. Ok (take_front end x rest long i, drop_front end x rest long i))
@@ -259,29 +298,35 @@ ring_found order d ring x rest h =
 -- what several parts are read as, with the parts
 record RingsFound (l : Layout) (rings : List (List Coordinate)) (input rest : List ℕ) : Type 0 where
   pub encodings : List (List ℕ)
-  pub read : repeated (length rings) (ring_part l) input ≡ (record { turns = length rings; slots = 0 }, Ok (encodings, rest))
+  pub read : repeated (length rings) (ring_part l) input
+      ≡ (record { turns = length rings; slots = 0 }, Ok (encodings, rest))
   pub are : map (ring_in l.order l.dimension) encodings ≡ rings
 
 -- so many parts, where the first is refused, and where it is read
 module _ {A : Type 0} (part_at : List ℕ → Reading A) (n : ℕ) (input : List ℕ) where
   next_part : Reading A → Reading (List A)
-  next_part r = costs one_turn (and_then r (λ x rest. and_then (repeated n part_at rest) (λ xs after. done (x ∷ xs) after)))
+  next_part r =
+      costs one_turn (and_then r (λ x rest. and_then (repeated n part_at rest) (λ xs after. done (x ∷ xs) after)))
 
-  part_refused : (c : Cost) (cause : Cause) → part_at input ≡ (c, Err cause) → repeated (suc n) part_at input ≡ (one_turn ⊕ c, Err cause)
+  part_refused : (c : Cost) (cause : Cause) → part_at input ≡ (c, Err cause)
+      → repeated (suc n) part_at input ≡ (one_turn ⊕ c, Err cause)
   unfolding repeated next_part
   part_refused c cause e = ap next_part e
 
-  then_parts : (rest : List ℕ) (x : A) (c : Cost) (r : Reading (List A)) → part_at input ≡ (c, Ok (x, rest)) → repeated n part_at rest ≡ r
+  then_parts : (rest : List ℕ) (x : A) (c : Cost) (r : Reading (List A)) → part_at input ≡ (c, Ok (x, rest))
+      → repeated n part_at rest ≡ r
       → repeated (suc n) part_at input ≡ costs one_turn (costs c (and_then r (λ xs after. done (x ∷ xs) after)))
   unfolding repeated next_part
-  then_parts rest x c r first others = ap next_part first ∙ ap (λ z. costs one_turn (costs c (and_then z (λ xs after. done (x ∷ xs) after)))) others
+  then_parts rest x c r first others =
+      ap next_part first ∙ ap (λ z. costs one_turn (costs c (and_then z (λ xs after. done (x ∷ xs) after)))) others
 
 -- the same answer at equal costs
 at_cost : {A : Type 0} {r : reading.Outcome A} {a b c d : ℕ} → a ≡ c → b ≡ d
     → ◌≡◌ {A = Reading A} (record { turns = a; slots = b }, r) (record { turns = c; slots = d }, r)
 at_cost {r = r} e f = λ i. (record { turns = e i; slots = f i }, r)
 
-rings_found : (l : Layout) (rings : List (List Coordinate)) (x rest : List ℕ) → IsEach (SpellsCoordinates l.order l.dimension) rings x
+rings_found : (l : Layout) (rings : List (List Coordinate)) (x rest : List ℕ)
+    → IsEach (SpellsCoordinates l.order l.dimension) rings x
     → RingsFound l rings (x ++ rest) rest
 unfolding repeated
 rings_found l [] x rest h = record { encodings = []; read = ap (λ z. done [] (z ++ rest)) h; are = refl }
@@ -290,17 +335,21 @@ rings_found l (ring ∷ rings) x rest h =
     let shape : x ++ rest ≡ h.front ++ (h.rest ++ rest) = then_append h rest in
     let found = ring_found l.order l.dimension ring h.front (h.rest ++ rest) h.first in
     let head : ring_in l.order l.dimension h.front ≡ ring =
-    ap (ring_in l.order l.dimension) (sym (append-nil h.front)) ∙ (ring_read l.order l.dimension ring h.front [] h.first).is in
+    ap (ring_in l.order l.dimension) (sym (append-nil h.front))
+    ∙ (ring_read l.order l.dimension ring h.front [] h.first).is in
     record {
       encodings = h.front ∷ others.encodings;
-      read = then_parts (ring_part l) (length rings) (x ++ rest) (h.rest ++ rest) h.front free _ (ap (ring_part l) shape ∙ ap at_no_cost found) others.read
+      read =
+          then_parts (ring_part l) (length rings) (x ++ rest) (h.rest ++ rest) h.front free _
+          (ap (ring_part l) shape ∙ ap at_no_cost found) others.read
           ∙ at_cost (omega arith) refl;
       are = λ i. head i ∷ others.are i;
     }
 
 -- ---- the encoding of a geometry, as its parts are read
 
-srid_read : (order : Endianness) (srid : Option ℕ) (field x y : List ℕ) → IsSrid order srid field → drop 5 x ≡ field ++ y
+srid_read : (order : Endianness) (srid : Option ℕ) (field x y : List ℕ) → IsSrid order srid field
+    → drop 5 x ≡ field ++ y
     → srid_in order (is_some srid) x ≡ srid
 srid_read order None field x y is e = refl
 srid_read order (Some v) field x y is e = ap Some (ap (number order 4) e ∙ number-front order 4 v field y is)
@@ -312,13 +361,15 @@ alone w (spelling s ss) m h = absurd h
 
 points_long : (t : Value) → kind t ≡ 4 → each_size (members t) ≡ (5 + 8 * width (dimension t)) * count (members t)
 points_long (multi_point d l) e =
-    each_same (point d) each_size refl (5 + 8 * width d) (λ a ts. refl) l ∙ ap (λ n. (5 + 8 * width d) * n) (sym (count-each (point d) l))
+    each_same (point d) each_size refl (5 + 8 * width d) (λ a ts. refl) l
+    ∙ ap (λ n. (5 + 8 * width d) * n) (sym (count-each (point d) l))
 points_long _ e = absurd (omega (arith, e))
 
 -- how deep a geometry's members are nested
 nest_inside : (t : Value) (room : ℕ) → nest t ≤ room → nest_each (members t) ≤ room_inside (kind t) room
 nest_inside (multi_point d l) room h = omega (arith, each_same (point d) nest_each refl 0 (λ a ts. omega arith) l)
-nest_inside (multi_line_string d l) room h = omega (arith, each_same (line_string d) nest_each refl 0 (λ a ts. omega arith) l)
+nest_inside (multi_line_string d l) room h =
+    omega (arith, each_same (line_string d) nest_each refl 0 (λ a ts. omega arith) l)
 nest_inside (multi_polygon d l) room h = omega (arith, each_same (polygon d) nest_each refl 0 (λ a ts. omega arith) l)
 nest_inside _ room h = omega arith
 
@@ -327,7 +378,8 @@ nest_collection (collection d ts) e = omega arith
 nest_collection _ e = absurd (omega (arith, e))
 
 -- the items of members make the geometry again
-held : {A : Type 0} (f : A → Value) (g : Value → A) → ((a : A) → g (f a) ≡ a) → (found : List Item) (l : List A) → values found ≡ each f l
+held : {A : Type 0} (f : A → Value) (g : Value → A) → ((a : A) → g (f a) ≡ a) → (found : List Item) (l : List A)
+    → values found ≡ each f l
     → map (λ i. g i.value) found ≡ l
 held f g back [] [] e = refl
 held f g back (i ∷ found) (a ∷ l) e =
@@ -336,21 +388,28 @@ held f g back (i ∷ found) (a ∷ l) e =
     λ j. (ap g first ∙ back a) j ∷ held f g back found l others j
 held f g back _ _ e = cc
 
-whole_is : (t : Value) (found : List Item) → 3 < kind t → values found ≡ members t → whole_by (kind t) (dimension t) found ≡ t
+whole_is : (t : Value) (found : List Item) → 3 < kind t → values found ≡ members t
+    → whole_by (kind t) (dimension t) found ≡ t
 whole_is (multi_point d l) found low e = ap (multi_point d) (held (point d) point_of (λ a. refl) found l e)
-whole_is (multi_line_string d l) found low e = ap (multi_line_string d) (held (line_string d) line_string_of (λ a. refl) found l e)
+whole_is (multi_line_string d l) found low e =
+    ap (multi_line_string d) (held (line_string d) line_string_of (λ a. refl) found l e)
 whole_is (multi_polygon d l) found low e = ap (multi_polygon d) (held (polygon d) polygon_of (λ a. refl) found l e)
 whole_is (collection d ts) found low e = ap (collection d) e
 whole_is _ found low e = absurd (omega arith)
 
 -- a geometry as it is answered
 abbrev pub found : Spelling → Value → List ℕ → List ℕ → Reading Item
-found s t x rest = (record { turns = member_count t; slots = listed_count t }, Ok (record { encoding = x; spelled = s; value = t }, rest))
+found s t x rest = (
+  record { turns = member_count t; slots = listed_count t },
+  Ok (record { encoding = x; spelled = s; value = t }, rest),
+)
 
 -- what several members are read as, with the items
-record MembersFound (part_at : List ℕ → Reading Item) (ss : Spellings) (ts : Values) (input rest : List ℕ) : Type 0 where
+record MembersFound (part_at : List ℕ → Reading Item) (ss : Spellings) (ts : Values)
+    (input rest : List ℕ) : Type 0 where
   pub items : List Item
-  pub read : repeated (count ts) part_at input ≡ (record { turns = member_count_each ts; slots = listed_inside ts }, Ok (items, rest))
+  pub read : repeated (count ts) part_at input
+      ≡ (record { turns = member_count_each ts; slots = listed_inside ts }, Ok (items, rest))
   pub same_spellings : spellings items ≡ ss
   pub same_values : values items ≡ ts
 
@@ -358,19 +417,25 @@ module _ (h : Header) (own : List ℕ) (ss : Spellings) (t : Value) (x : List �
   body_cut : drop (body_start (is_some h.srid)) x ≡ a.second.front ++ a.second.rest
   body_cut =
       ap (drop (body_start (is_some h.srid))) a.whole
-      ∙ drop_front (body_start (is_some h.srid)) a.front a.rest (header_length h (kind t) (dimension t) a.front a.first) ∙ a.second.whole
+      ∙ drop_front (body_start (is_some h.srid)) a.front a.rest (header_length h (kind t) (dimension t) a.front a.first)
+      ∙ a.second.whole
 
   encoding_length : length x ≡ body_start (is_some h.srid) + (length a.second.front + length a.second.rest)
-  encoding_length = omega (arith, then_length a, header_length h (kind t) (dimension t) a.front a.first, then_length a.second)
+  encoding_length =
+      omega (arith, then_length a, header_length h (kind t) (dimension t) a.front a.first, then_length a.second)
 
   head_whole : x ≡ order_byte h.order ∷ (a.first.code_field ++ (a.first.srid_field ++ a.rest))
   head_whole =
-      a.whole ∙ ap (λ z. z ++ a.rest) a.first.whole ∙ ap (λ z. order_byte h.order ∷ z) (append_assoc a.first.code_field a.first.srid_field a.rest)
+      a.whole ∙ ap (λ z. z ++ a.rest) a.first.whole
+      ∙ ap (λ z. order_byte h.order ∷ z) (append_assoc a.first.code_field a.first.srid_field a.rest)
 
-  opens : (rest : List ℕ) → Opens (x ++ rest) h.order (kind t) (dimension t) (is_some h.srid) (a.first.srid_field ++ (a.rest ++ rest))
+  opens : (rest : List ℕ)
+      → Opens (x ++ rest) h.order (kind t) (dimension t) (is_some h.srid) (a.first.srid_field ++ (a.rest ++ rest))
   opens rest =
       let is = a.first in
-      let behind = append_assoc is.code_field (is.srid_field ++ a.rest) rest ∙ ap (λ z. is.code_field ++ z) (append_assoc is.srid_field a.rest rest) in
+      let behind =
+      append_assoc is.code_field (is.srid_field ++ a.rest) rest
+      ∙ ap (λ z. is.code_field ++ z) (append_assoc is.srid_field a.rest rest) in
       record {
         code = h.code;
         behind = is.code_field ++ (is.srid_field ++ (a.rest ++ rest));
@@ -385,31 +450,38 @@ module _ (h : Header) (own : List ℕ) (ss : Spellings) (t : Value) (x : List �
       let is = a.first in
       let whole = head_whole in
       let code : number h.order 4 (drop 1 x) ≡ h.code =
-      ap (λ z. number h.order 4 (drop 1 z)) whole ∙ number-front h.order 4 h.code is.code_field (is.srid_field ++ a.rest) is.code in
+      ap (λ z. number h.order 4 (drop 1 z)) whole
+      ∙ number-front h.order 4 h.code is.code_field (is.srid_field ++ a.rest) is.code in
       let behind : drop 5 x ≡ is.srid_field ++ a.rest =
       ap (drop 5) whole ∙ drop_front 5 (order_byte h.order ∷ is.code_field) (is.srid_field ++ a.rest) (omega arith) in
       let srid = srid_read h.order h.srid is.srid_field x a.rest is.srid behind in
       λ i. node (record { order = h.order; code = code i; srid = srid i }) (same_words i) (same_others i)
 
-  module _ (room : ℕ) (w : Wanted) (good : IsWanted w) (rest : List ℕ) (shallow : nest t ≤ room) (p : IsPart w (kind t) (dimension t) (is_some h.srid)) where
+  module _ (room : ℕ) (w : Wanted) (good : IsWanted w) (rest : List ℕ) (shallow : nest t ≤ room)
+      (p : IsPart w (kind t) (dimension t) (is_some h.srid)) where
     is_allowed : IsAllowed room w (kind t) (dimension t) (is_some h.srid)
     is_allowed = record { wanted = p; shallow = λ e. let deep = nest_collection t e in omega arith }
 
     front_counts : (n : ℕ) (field behind : List ℕ) → a.second.front ≡ field ++ behind → IsNumber h.order 4 n field
-        → Counts room w (x ++ rest) h.order (kind t) (dimension t) (is_some h.srid) n (behind ++ (a.second.rest ++ rest))
+        → OpensCounted room w (x ++ rest) h.order (kind t) (dimension t) (is_some h.srid) n
+        (behind ++ (a.second.rest ++ rest))
     front_counts n field behind e number =
         let more = a.second.rest ++ rest in
         let shape = then_append a.second rest ∙ ap (λ z. z ++ more) e ∙ append_assoc field behind more in
         record {
           srid_field = a.first.srid_field;
           count_field = field;
-          opens = subst (λ z. Opens (x ++ rest) h.order (kind t) (dimension t) (is_some h.srid) (a.first.srid_field ++ z)) shape (opens rest);
+          opens =
+              subst (λ z. Opens (x ++ rest) h.order (kind t) (dimension t) (is_some h.srid) (a.first.srid_field ++ z))
+              shape (opens rest);
           allowed = is_allowed;
           srid_len = srid_length h.order h.srid a.first.srid_field a.first.srid;
           number = number;
         }
 
-    list_found : 3 < kind t → MembersFound (reader (room_inside (kind t) room) (member_part (kind t) (dimension t))) ss (members t) (a.second.rest ++ rest) rest
+    list_found : 3 < kind t
+        → MembersFound (reader (room_inside (kind t) room) (member_part (kind t) (dimension t))) ss (members t)
+        (a.second.rest ++ rest) rest
         → reader room w (x ++ rest) ≡ found (node h own ss) t x rest
     list_found low f =
         let k = kind t in
@@ -428,17 +500,21 @@ module _ (h : Header) (own : List ℕ) (ss : Spellings) (t : Value) (x : List �
         let cost : Cost = record { turns = member_count t; slots = listed_count t } in
         let value = whole_is t f.items low f.same_values in
         counted c good (λ one. omega arith) ∙ list_counted room k l (x ++ rest) n low c.opens.meaning.kind.high enough
-        ∙ parts_read k l (reader (room_inside k room) (member_part k l.dimension)) (list_item l (whole_by k)) (x ++ rest) behind n _
+        ∙ parts_read k l (reader (room_inside k room) (member_part k l.dimension)) (list_item l (whole_by k))
+        (x ++ rest) behind n _
         (count_read c).behind f.read
         ∙ at_cost (omega arith) (omega arith)
         ∙ (λ i. (cost, Ok (list_item l (whole_by k) f.items (taken_front x rest i), rest)))
         ∙ (λ i. (cost, Ok (record { encoding = x; spelled = spelled i; value = value i }, rest)))
 
-module _ (room : ℕ) (w : Wanted) (good : IsWanted w) (h : Header) (own : List ℕ) (ss : Spellings) (x rest : List ℕ) (d : Dimension) where
+module _ (room : ℕ) (w : Wanted) (good : IsWanted w) (h : Header) (own : List ℕ) (ss : Spellings) (x rest : List ℕ)
+    (d : Dimension) where
   -- a point, by its words and whether all of them are not-a-numbers
-  point_by : (c : Option Coordinate) (a : Spells (node h own ss) (point d c) x) (words : List ℕ) (all : Bool) → SpellsCoordinate h.order d words a.second.front
+  point_by : (c : Option Coordinate) (a : Spells (node h own ss) (point d c) x) (words : List ℕ) (all : Bool)
+      → SpellsCoordinate h.order d words a.second.front
       → all_nan words ≡ all
-      → IsPart w 1 d (is_some h.srid) → reader room w (x ++ rest) ≡ (free, Ok (point_item_of (laid h.order d (is_some h.srid)) x words all, rest))
+      → IsPart w 1 d (is_some h.srid)
+      → reader room w (x ++ rest) ≡ (free, Ok (point_item_of (laid h.order d (is_some h.srid)) x words all, rest))
   unfolding point_at
   point_by c a words all spelled nan p =
       let l = laid h.order d (is_some h.srid) in
@@ -446,11 +522,15 @@ module _ (room : ℕ) (w : Wanted) (good : IsWanted w) (h : Header) (own : List 
       let none = alone _ ss a.second.rest a.second.second in
       let long = coordinate_length h.order d words a.second.front spelled in
       let len : length x ≡ end = omega (arith, encoding_length h own ss (point d c) x a, ap length none.1) in
-      let is = ap (coordinate h.order d) (body_cut h own ss (point d c) x a) ∙ coordinate_read h.order d words a.second.front a.second.rest spelled in
+      let is =
+      ap (coordinate h.order d) (body_cut h own ss (point d c) x a)
+      ∙ coordinate_read h.order d words a.second.front a.second.rest spelled in
       opened (opens h own ss (point d c) x a rest) room w good p
-      ∙ ap at_no_cost (cond-false (nat_lt (length (x ++ rest)) end) _ _ (le-ltb _ _ (omega (arith, length-append x rest)))
+      ∙ ap at_no_cost
+      (cond-false (nat_lt (length (x ++ rest)) end) _ _ (le-ltb _ _ (omega (arith, length-append x rest)))
       ∙ (λ i. Ok (point_item l (take_front end x rest len i), drop_front end x rest len i)))
-      ∙ (λ i. (free, Ok (point_item_of l x (is i) (all_nan (is i)), rest))) ∙ (λ i. (free, Ok (point_item_of l x words (nan i), rest)))
+      ∙ (λ i. (free, Ok (point_item_of l x (is i) (all_nan (is i)), rest)))
+      ∙ (λ i. (free, Ok (point_item_of l x words (nan i), rest)))
 
   line_string_by : (cs : List Coordinate) → Spells (node h own ss) (line_string d cs) x → IsPart w 2 d (is_some h.srid)
       → reader room w (x ++ rest) ≡ found (node h own ss) (line_string d cs) x rest
@@ -462,15 +542,20 @@ module _ (room : ℕ) (w : Wanted) (good : IsWanted w) (h : Header) (own : List 
       let read = ring_read h.order d cs a.second.front a.second.rest body in
       let long = coordinates_length h.order d cs a.second.front body in
       let len : length x ≡ end = omega (arith, encoding_length h own ss (line_string d cs) x a, ap length none.1) in
-      let c = front_counts h own ss (line_string d cs) x a room w good rest (omega arith) p (length cs) body.front body.rest body.whole body.first in
+      let c =
+      front_counts h own ss (line_string d cs) x a room w good rest (omega arith) p
+      (length cs) body.front body.rest body.whole body.first in
       let spelled = spelling_read h own ss (line_string d cs) x a [] no_spellings (sym a.second.first.0) none.0 in
-      let ring : ring_in h.order d (drop (body_start (is_some h.srid)) x) ≡ cs = ap (ring_in h.order d) (body_cut h own ss (line_string d cs) x a) ∙ read.is in
+      let ring : ring_in h.order d (drop (body_start (is_some h.srid)) x) ≡ cs =
+      ap (ring_in h.order d) (body_cut h own ss (line_string d cs) x a) ∙ read.is in
       counted c good (λ e. omega arith)
-      ∙ ap at_no_cost (cond-false (nat_lt (length (x ++ rest)) end) _ _ (le-ltb _ _ (omega (arith, length-append x rest)))
+      ∙ ap at_no_cost
+      (cond-false (nat_lt (length (x ++ rest)) end) _ _ (le-ltb _ _ (omega (arith, length-append x rest)))
       ∙ (λ i. Ok (line_string_item l (take_front end x rest len i), drop_front end x rest len i)))
       ∙ (λ i. (free, Ok (record { encoding = x; spelled = spelled i; value = line_string d (ring i) }, rest)))
 
-  polygon_by : (rings : List (List Coordinate)) → Spells (node h own ss) (polygon d rings) x → IsPart w 3 d (is_some h.srid)
+  polygon_by : (rings : List (List Coordinate)) → Spells (node h own ss) (polygon d rings) x
+      → IsPart w 3 d (is_some h.srid)
       → reader room w (x ++ rest) ≡ found (node h own ss) (polygon d rings) x rest
   polygon_by rings a p =
       let body = a.second.first.1 in
@@ -479,12 +564,15 @@ module _ (room : ℕ) (w : Wanted) (good : IsWanted w) (h : Header) (own : List 
       let more = a.second.rest ++ rest in
       let f = rings_found l rings body.rest more body.second in
       let long = each_long (SpellsCoordinates h.order d) 4 (coordinates_long h.order d) rings body.rest body.second in
-      let c = front_counts h own ss (polygon d rings) x a room w good rest (omega arith) p (length rings) body.front body.rest body.whole body.first in
+      let c =
+      front_counts h own ss (polygon d rings) x a room w good rest (omega arith) p
+      (length rings) body.front body.rest body.whole body.first in
       let spelled = spelling_read h own ss (polygon d rings) x a [] no_spellings (sym a.second.first.0) none.0 in
       let cost : Cost = record { turns = length rings; slots = length rings } in
       let asked = asked_all (length rings) (length (body.rest ++ more)) (omega (arith, length-append body.rest more)) in
       counted c good (λ e. omega arith)
-      ∙ parts_read 3 l (ring_part l) (polygon_item l) (x ++ rest) (body.rest ++ more) (length rings) _ (count_read c).behind f.read
+      ∙ parts_read 3 l (ring_part l) (polygon_item l) (x ++ rest) (body.rest ++ more) (length rings) _
+      (count_read c).behind f.read
       ∙ at_cost (omega arith) (omega (arith, asked))
       ∙ (λ i. (cost, Ok (polygon_item l f.encodings (consumed (x ++ rest) (none.1 i ++ rest)), none.1 i ++ rest)))
       ∙ (λ i. (cost, Ok (polygon_item l f.encodings (taken_front x rest i), rest)))
@@ -494,26 +582,35 @@ module _ (room : ℕ) (w : Wanted) (good : IsWanted w) (h : Header) (own : List 
 mutual
   unfolding repeated
 
-  pub front_at : (room : ℕ) (w : Wanted) → IsWanted w → (s : Spelling) (t : Value) (x rest : List ℕ) → Spells s t x → nest t ≤ room
+  pub front_at : (room : ℕ) (w : Wanted) → IsWanted w → (s : Spelling) (t : Value) (x rest : List ℕ) → Spells s t x
+      → nest t ≤ room
       → IsPart w (kind t) (dimension t) (has_srid s) → reader room w (x ++ rest) ≡ found s t x rest
   front_at room w good (node h own ss) (point d None) x rest a shallow p =
-      let spelled = spelling_read h own ss (point d None) x a own no_spellings refl (alone _ ss a.second.rest a.second.second).0 in
+      let spelled =
+      spelling_read h own ss (point d None) x a own no_spellings refl
+      (alone _ ss a.second.rest a.second.second).0 in
       point_by room w good h own ss x rest d None a own true a.second.first.1 a.second.first.0 p
       ∙ (λ i. (free, Ok (record { encoding = x; spelled = spelled i; value = point d None }, rest)))
   front_at room w good (node h own ss) (point d (Some c)) x rest a shallow p =
-      let spelled = spelling_read h own ss (point d (Some c)) x a [] no_spellings (sym a.second.first.0) (alone _ ss a.second.rest a.second.second).0 in
+      let spelled =
+      spelling_read h own ss (point d (Some c)) x a [] no_spellings (sym a.second.first.0)
+      (alone _ ss a.second.rest a.second.second).0 in
       point_by room w good h own ss x rest d (Some c) a c false a.second.first.2 a.second.first.1 p
       ∙ (λ i. (free, Ok (record { encoding = x; spelled = spelled i; value = point d (Some c) }, rest)))
-  front_at room w good (node h own ss) (line_string d cs) x rest a shallow p = line_string_by room w good h own ss x rest d cs a p
-  front_at room w good (node h own ss) (polygon d rings) x rest a shallow p = polygon_by room w good h own ss x rest d rings a p
+  front_at room w good (node h own ss) (line_string d cs) x rest a shallow p =
+      line_string_by room w good h own ss x rest d cs a p
+  front_at room w good (node h own ss) (polygon d rings) x rest a shallow p =
+      polygon_by room w good h own ss x rest d rings a p
   front_at room w good (node h own ss) t x rest a shallow p =
       let allowed = is_allowed h own ss t x a room w good rest shallow p in
       let inside = wanted_inside w room (kind t) (dimension t) (is_some h.srid) good allowed (lit< tt) (lit≤ tt) in
       list_found h own ss t x a room w good rest shallow p (lit< tt)
-      (members_at (room_inside (kind t) room) (member_part (kind t) (dimension t)) inside ss (members t) a.second.rest rest a.second.second
+      (members_at (room_inside (kind t) room) (member_part (kind t) (dimension t)) inside ss
+      (members t) a.second.rest rest a.second.second
       (nest_inside t room shallow))
 
-  members_at : (room : ℕ) (w : Wanted) → IsWanted w → (ss : Spellings) (ts : Values) (x rest : List ℕ) → SpellsEach w ss ts x → nest_each ts ≤ room
+  members_at : (room : ℕ) (w : Wanted) → IsWanted w → (ss : Spellings) (ts : Values) (x rest : List ℕ)
+      → SpellsEach w ss ts x → nest_each ts ≤ room
       → MembersFound (reader room w) ss ts (x ++ rest) rest
   members_at room w good no_spellings no_members x rest a shallow =
       record { items = []; read = ap (λ z. done [] (z ++ rest)) a; same_spellings = refl; same_values = refl }
@@ -525,23 +622,28 @@ mutual
       record {
         items = record { encoding = a.front; spelled = s; value = t } ∷ others.items;
         read = ap (λ n. repeated n (reader room w) (x ++ rest)) many
-            ∙ then_parts (reader room w) (count ts) (x ++ rest) (a.rest ++ rest) _ _ _ (ap (reader room w) shape ∙ first) others.read
+            ∙ then_parts (reader room w) (count ts) (x ++ rest) (a.rest ++ rest) _ _ _
+            (ap (reader room w) shape ∙ first) others.read
             ∙ at_cost (omega arith) (omega arith);
         same_spellings = ap (spelling s) others.same_spellings;
         same_values = ap (member t) others.same_values;
       }
   members_at room w good _ _ x rest a shallow = absurd a
 
-pub front_read : (room : ℕ) (w : Wanted) → IsWanted w → (input : List ℕ) (s : Spelling) (t : Value) (rest : List ℕ) → (f : FrontWithin room input s t rest)
+pub front_read : (room : ℕ) (w : Wanted) → IsWanted w → (input : List ℕ) (s : Spelling) (t : Value) (rest : List ℕ)
+    → (f : FrontWithin room input s t rest)
     → IsPart w (kind t) (dimension t) (has_srid s) → reader room w input ≡ found s t f.front rest
-front_read room w good input s t rest f p = ap (reader room w) f.whole ∙ front_at room w good s t f.front rest f.spelled f.shallow p
+front_read room w good input s t rest f p =
+    ap (reader room w) f.whole ∙ front_at room w good s t f.front rest f.spelled f.shallow p
 
 -- a refusal, with its turns and its slots
 abbrev refusal : {A : Type 0} → ℕ → ℕ → Cause → Reading A
 refusal turns slots cause = (record { turns = turns; slots = slots }, Err cause)
 
-rings_refused : {order : Endianness} {d : Dimension} {n : ℕ} {input : List ℕ} {cause : Cause} {begun : ℕ} → (srid : Bool)
-    → RefusesRings order d n input cause begun → repeated n (ring_part (laid order d srid)) input ≡ refusal begun 0 cause
+rings_refused : {order : Endianness} {d : Dimension} {n : ℕ} {input : List ℕ} {cause : Cause} {begun : ℕ}
+    → (srid : Bool)
+    → RefusesRings order d n input cause begun
+    → repeated n (ring_part (laid order d srid)) input ≡ refusal begun 0 cause
 unfolding ring_at
 rings_refused {order} {d} {input = input} srid (no_ring_count {more = more} h) =
     part_refused (ring_part (laid order d srid)) more input free end_of_input
@@ -550,12 +652,15 @@ rings_refused {order} {d} {input = input} srid (short_ring {more = more} {n = n}
     let read = begins_number order 4 n input rest b in
     part_refused (ring_part (laid order d srid)) more input free _ (ap at_no_cost
     (cond-false (nat_lt (length input) 4) _ _ (le-ltb (length input) 4 read.0)
-    ∙ ap (λ z. if nat_lt (length input) (ring_end d z) then Err (general (ShortLinearRing (ring_end d z) (length input)))
+    ∙ ap (λ z. if nat_lt (length input) (ring_end d z) then Err
+    (general (ShortLinearRing (ring_end d z) (length input)))
     else Ok (take (ring_end d z) input, drop (ring_end d z) input)) read.1
     ∙ cond-true (nat_lt (length input) (ring_end d n)) _ _ (lt-ltb (length input) (ring_end d n) h)))
-rings_refused {order} {d} {input = input} srid (later_ring {more = more} {begun = begun} {rest = rest} {cause = cause} ring b r) =
+rings_refused {order} {d} {input = input} srid
+    (later_ring {more = more} {begun = begun} {rest = rest} {cause = cause} ring b r) =
     let l = laid order d srid in
-    then_parts (ring_part l) more input rest b.front free _ (ap (ring_part l) b.whole ∙ ap at_no_cost (ring_found order d ring b.front rest b.first))
+    then_parts (ring_part l) more input rest b.front free _
+    (ap (ring_part l) b.whole ∙ ap at_no_cost (ring_found order d ring b.front rest b.first))
     (rings_refused srid r)
     ∙ at_cost (omega arith) refl
 
@@ -563,42 +668,54 @@ rings_refused {order} {d} {input = input} srid (later_ring {more = more} {begun 
 mutual
   unfolding point_at head_at
 
-  pub refusal_read : {room : ℕ} {w : Wanted} {input : List ℕ} {cause : Cause} {begun slots : ℕ} → Refuses room w input cause begun slots → IsWanted w
+  pub refusal_read : {room : ℕ} {w : Wanted} {input : List ℕ} {cause : Cause} {begun slots : ℕ}
+      → Refuses room w input cause begun slots → IsWanted w
       → reader room w input ≡ refusal begun slots cause
   refusal_read {room} {w} no_order_byte good = faulty room w [] _ refl
-  refusal_read {room} {w} (bad_order_byte {first = first} {rest = rest} h) good = faulty room w _ _ (head_misordered first rest h)
-  refusal_read {room} {w} (no_code {first = first} {rest = rest} h short) good = faulty room w _ _ (head_cut first rest h short)
+  refusal_read {room} {w} (bad_order_byte {first = first} {rest = rest} h) good =
+      faulty room w _ _ (head_misordered first rest h)
+  refusal_read {room} {w} (no_code {first = first} {rest = rest} h short) good =
+      faulty room w _ _ (head_cut first rest h short)
   refusal_read {room} {w} (bad_code {c = c} {order = order} e b none) good =
       let missing = meaning_holds (λ m. m ≡ None) c (λ m code. absurd (none _ _ _ code)) (λ h. refl) in
       faulty room w _ _ (head_coded e b ∙ ap (head_by_code order c) missing)
   refusal_read {room} {w} (wrong_part o n) good = unwanted o room w n
   refusal_read {w = w} (too_deep o p) good = opened o 0 w good p
   refusal_read {room} {w} {input} (short_point {d = d} {srid = srid} o p short) good =
-      opened o room w good p ∙ ap at_no_cost (cond-true (nat_lt (length input) (point_end d srid)) _ _ (lt-ltb _ _ short))
+      opened o room w good p
+      ∙ ap at_no_cost (cond-true (nat_lt (length input) (point_end d srid)) _ _ (lt-ltb _ _ short))
   refusal_read {room} {w} {input} (no_count {k = k} {order = order} {d = d} {srid = srid} o n a short) good =
       let few : length input < body_start srid + 4 = omega (arith, length-opens o) in
-      opened o room w good a.wanted ∙ body_counted room k (laid order d srid) input o.meaning.kind.low o.meaning.kind.high n a.shallow
+      opened o room w good a.wanted
+      ∙ body_counted room k (laid order d srid) input o.meaning.kind.low o.meaning.kind.high n a.shallow
       ∙ cond-true (nat_lt (length input) (body_start srid + 4)) _ _ (lt-ltb _ _ few)
   refusal_read {input = input} (short_line_string {n = n} {d = d} {srid = srid} c short) good =
-      counted c good (λ e. omega arith) ∙ ap at_no_cost (cond-true (nat_lt (length input) (line_string_end d srid n)) _ _ (lt-ltb _ _ short))
+      counted c good (λ e. omega arith)
+      ∙ ap at_no_cost (cond-true (nat_lt (length input) (line_string_end d srid n)) _ _ (lt-ltb _ _ short))
   refusal_read {input = input} (short_multi_point {n = n} {d = d} {srid = srid} c short) good =
-      counted c good (λ e. omega arith) ∙ cond-true (nat_lt (length input) (multi_point_end d srid n)) _ _ (lt-ltb _ _ short)
+      counted c good (λ e. omega arith)
+      ∙ cond-true (nat_lt (length input) (multi_point_end d srid n)) _ _ (lt-ltb _ _ short)
   refusal_read {input = input} (bad_ring {n = n} {order = order} {d = d} {srid = srid} {rest = rest} c h) good =
       let l = laid order d srid in
       counted c good (λ e. omega arith)
-      ∙ parts_read 3 l (ring_part l) (polygon_item l) input rest n _ (count_read c).behind (rings_refused srid h) ∙ at_cost (omega arith) (omega arith)
-  refusal_read {room} {w} {input} (bad_member {k = k} {n = n} {order = order} {d = d} {srid = srid} {rest = rest} c low long h) good =
+      ∙ parts_read 3 l (ring_part l) (polygon_item l) input rest n _ (count_read c).behind (rings_refused srid h)
+      ∙ at_cost (omega arith) (omega arith)
+  refusal_read {room} {w} {input}
+      (bad_member {k = k} {n = n} {order = order} {d = d} {srid = srid} {rest = rest} c low long h) good =
       let l = laid order d srid in
       let high = c.opens.meaning.kind.high in
       let members = each_refusal_read h (wanted_inside w room k d srid good c.allowed low high) in
       counted c good (λ e. omega arith) ∙ list_counted room k l input n low high long
-      ∙ parts_read k l (reader (room_inside k room) (member_part k d)) (list_item l (whole_by k)) input rest n _ (count_read c).behind members
+      ∙ parts_read k l (reader (room_inside k room) (member_part k d)) (list_item l (whole_by k)) input rest n _
+      (count_read c).behind members
       ∙ at_cost (omega arith) refl
 
-  each_refusal_read : {room : ℕ} {w : Wanted} {n : ℕ} {input : List ℕ} {cause : Cause} {begun slots : ℕ} → RefusesEach room w n input cause begun slots
+  each_refusal_read : {room : ℕ} {w : Wanted} {n : ℕ} {input : List ℕ} {cause : Cause} {begun slots : ℕ}
+      → RefusesEach room w n input cause begun slots
       → IsWanted w → repeated n (reader room w) input ≡ refusal begun slots cause
   each_refusal_read {room} {w} {input = input} (this_member {more = more} h) good =
       part_refused (reader room w) more input _ _ (refusal_read h good) ∙ at_cost refl (omega arith)
   each_refusal_read {room} {w} {input = input} (later_member {more = more} {rest = rest} {s = s} {t = t} f p h) good =
-      then_parts (reader room w) more input rest _ _ _ (front_read room w good input s t rest f p) (each_refusal_read h good)
+      then_parts (reader room w) more input rest _ _ _ (front_read room w good input s t rest f p)
+      (each_refusal_read h good)
       ∙ at_cost (omega arith) (omega arith)

@@ -3,46 +3,67 @@ use Rattle.std.proofs.Common.{◌⊎◌, ℕ, ◌+◌, List, [], ◌++◌, lengt
 use Rattle.std.proofs.Common.{length-append, Bool, append-nil}
 use Rattle.wkb_laws.specs.Words.{Endianness, Dimension, ShortPoint, ShortLineString, ShortLinearRing, ShortMultiPoint}
 use Rattle.wkb_laws.specs.Words.{Begins, Value, listed_count, Spelling}
-use Rattle.wkb_laws.specs.Words.{Wanted, any, Front, FrontWithin, max_nesting, Cause, end_of_input, general, slots_asked}
-use Rattle.wkb_laws.specs.Words.{Opens, Counts, RefusesRings, later_ring}
+use Rattle.wkb_laws.specs.Words.{Wanted, any, Front, FrontWithin, max_nesting, Cause, end_of_input, general}
+use Rattle.wkb_laws.specs.Words.{slots_asked}
+use Rattle.wkb_laws.specs.Words.{Opens, OpensCounted, RefusesRings, later_ring}
 use Rattle.wkb_laws.specs.Words.{Refuses, bad_order_byte, bad_code, wrong_part, too_deep, bad_ring, bad_member}
 use Rattle.wkb_laws.specs.Words.{RefusesEach, this_member, later_member}
-use Rattle.wkb_laws.specs.Laws.{HasFront, HasRefusal, IsCut, CutIsRefused}
+use Rattle.wkb_laws.specs.Laws.{HasFront, HasRefusal, EndsTooEarly, CutIsRefused}
 use Rattle.wkb_laws.proofs.OneFront.{one_front_lem}
 use Rattle.wkb_laws.proofs.Outcomes.{read_or_refused_lem, never_both_lem}
 
 -- what stands at the front stands there with more bytes behind
-begins_more : {P : List ℕ → Type 0} {input rest : List ℕ} (y : List ℕ) → Begins P input rest → Begins P (input ++ y) (rest ++ y)
-begins_more {rest = rest} y b = record { front = b.front; whole = ap (λ z. z ++ y) b.whole ∙ append_assoc b.front rest y; first = b.first }
+begins_more : {P : List ℕ → Type 0} {input rest : List ℕ} (y : List ℕ) → Begins P input rest
+    → Begins P (input ++ y) (rest ++ y)
+begins_more {rest = rest} y b =
+    record { front = b.front; whole = ap (λ z. z ++ y) b.whole ∙ append_assoc b.front rest y; first = b.first }
 
-opens_more : {input rest : List ℕ} {order : Endianness} {k : ℕ} {d : Dimension} {srid : Bool} (y : List ℕ) → Opens input order k d srid rest
+opens_more : {input rest : List ℕ} {order : Endianness} {k : ℕ} {d : Dimension} {srid : Bool} (y : List ℕ)
+    → Opens input order k d srid rest
     → Opens (input ++ y) order k d srid (rest ++ y)
-opens_more y o = record { code = o.code; behind = o.behind ++ y; whole = ap (λ z. z ++ y) o.whole; number = begins_more y o.number; meaning = o.meaning }
+opens_more y o =
+    record {
+      code = o.code;
+      behind = o.behind ++ y;
+      whole = ap (λ z. z ++ y) o.whole;
+      number = begins_more y o.number;
+      meaning = o.meaning;
+    }
 
-counts_more : {room : ℕ} {w : Wanted} {input rest : List ℕ} {order : Endianness} {k : ℕ} {d : Dimension} {n : ℕ} {srid : Bool} (y : List ℕ)
-    → Counts room w input order k d srid n rest → Counts room w (input ++ y) order k d srid n (rest ++ y)
+counts_more : {room : ℕ} {w : Wanted} {input rest : List
+    ℕ} {order : Endianness} {k : ℕ} {d : Dimension} {n : ℕ} {srid : Bool} (y : List ℕ)
+    → OpensCounted room w input order k d srid n rest → OpensCounted room w (input ++ y) order k d srid n (rest ++ y)
 counts_more {input = input} {rest = rest} {order = order} {k = k} {d = d} {srid = srid} y c = record {
   srid_field = c.srid_field;
   count_field = c.count_field;
   opens = subst (λ z. Opens (input ++ y) order k d srid z)
-      (append_assoc c.srid_field (c.count_field ++ rest) y ∙ ap (λ z. c.srid_field ++ z) (append_assoc c.count_field rest y)) (opens_more y c.opens);
+      (append_assoc c.srid_field (c.count_field ++ rest) y
+      ∙ ap (λ z. c.srid_field ++ z) (append_assoc c.count_field rest y)) (opens_more y c.opens);
   allowed = c.allowed;
   srid_len = c.srid_len;
   number = c.number;
 }
 
-front_more : {room : ℕ} {input : List ℕ} {s : Spelling} {t : Value} {rest : List ℕ} (y : List ℕ) → FrontWithin room input s t rest
+front_more : {room : ℕ} {input : List ℕ} {s : Spelling} {t : Value} {rest : List ℕ} (y : List ℕ)
+    → FrontWithin room input s t rest
     → FrontWithin room (input ++ y) s t (rest ++ y)
 front_more {rest = rest} y f =
-    record { front = f.front; whole = ap (λ z. z ++ y) f.whole ∙ append_assoc f.front rest y; spelled = f.spelled; shallow = f.shallow }
+    record {
+      front = f.front;
+      whole = ap (λ z. z ++ y) f.whole ∙ append_assoc f.front rest y;
+      spelled = f.spelled;
+      shallow = f.shallow;
+    }
 
-rings_cut : {order : Endianness} {d : Dimension} {n : ℕ} {input : List ℕ} {cause : Cause} {begun : ℕ} → RefusesRings order d n input cause begun → IsCut cause
+rings_cut : {order : Endianness} {d : Dimension} {n : ℕ} {input : List ℕ} {cause : Cause} {begun : ℕ}
+    → RefusesRings order d n input cause begun → EndsTooEarly cause
 rings_cut (later_ring ring b h) = rings_cut h
 rings_cut _ = tt
 
 -- A refusal for another reason than an early end stays, with its turns, whatever comes behind.
 mutual
-  lasts : {room : ℕ} {w : Wanted} {input : List ℕ} {cause : Cause} {begun slots : ℕ} → Refuses room w input cause begun slots → (y : List ℕ) → (IsCut cause → ⊥)
+  lasts : {room : ℕ} {w : Wanted} {input : List ℕ} {cause : Cause} {begun slots : ℕ}
+      → Refuses room w input cause begun slots → (y : List ℕ) → (EndsTooEarly cause → ⊥)
       → (z : ℕ) × Refuses room w (input ++ y) cause begun z
   lasts (bad_order_byte h) y n = (0, bad_order_byte h)
   lasts (bad_code {order = order} {behind = behind} e b none) y n =
@@ -51,16 +72,20 @@ mutual
   lasts (too_deep o p) y n = (0, too_deep (opens_more y o) p)
   lasts (bad_ring c r) y n = absurd (n (rings_cut r))
   lasts {input = input} (bad_member {k = k} {n = m} {rest = rest} c low long r) y n =
-      let more = each_lasts r y n in
-      (slots_asked k m (length (rest ++ y)) + more.0, bad_member (counts_more y c) low (λ e. let fits = long e in omega (arith, length-append input y)) more.1)
+      let more = each_lasts r y n in (
+        slots_asked k m (length (rest ++ y)) + more.0,
+        bad_member (counts_more y c) low (λ e. let fits = long e in omega (arith, length-append input y)) more.1,
+      )
   lasts _ y n = absurd (n tt)
 
-  each_lasts : {room : ℕ} {w : Wanted} {n : ℕ} {input : List ℕ} {cause : Cause} {begun slots : ℕ} → RefusesEach room w n input cause begun slots → (y : List ℕ)
-      → (IsCut cause → ⊥) → (z : ℕ) × RefusesEach room w n (input ++ y) cause begun z
+  each_lasts : {room : ℕ} {w : Wanted} {n : ℕ} {input : List ℕ} {cause : Cause} {begun slots : ℕ}
+      → RefusesEach room w n input cause begun slots → (y : List ℕ)
+      → (EndsTooEarly cause → ⊥) → (z : ℕ) × RefusesEach room w n (input ++ y) cause begun z
   each_lasts (this_member r) y n = let more = lasts r y n in (more.0, this_member more.1)
-  each_lasts (later_member {t = t} f p r) y n = let more = each_lasts r y n in (listed_count t + more.0, later_member (front_more y f) p more.1)
+  each_lasts (later_member {t = t} f p r) y n =
+      let more = each_lasts r y n in (listed_count t + more.0, later_member (front_more y f) p more.1)
 
-cut_or_not : (c : Cause) → IsCut c ⊎ (IsCut c → ⊥)
+cut_or_not : (c : Cause) → EndsTooEarly c ⊎ (EndsTooEarly c → ⊥)
 cut_or_not end_of_input = inl tt
 cut_or_not (general (ShortPoint end len)) = inl tt
 cut_or_not (general (ShortLineString end len)) = inl tt
@@ -72,14 +97,17 @@ pub cut_is_refused_lem : CutIsRefused
 cut_is_refused_lem input s t rest x y f e some = go (read_or_refused_lem x)
   where
     whole : Front (x ++ y) s t []
-    whole = record { front = f.front; whole = sym e ∙ sym (append-nil f.front); spelled = f.spelled; shallow = f.shallow }
+    whole =
+        record { front = f.front; whole = sym e ∙ sym (append-nil f.front); spelled = f.spelled; shallow = f.shallow }
 
-    refused : (c : Cause) (b z : ℕ) → Refuses max_nesting any x c b z → IsCut c ⊎ (IsCut c → ⊥)
-        → (cause : Cause) × (turns : ℕ) × (slots : ℕ) × Refuses max_nesting any x cause turns slots × IsCut cause
+    refused : (c : Cause) (b z : ℕ) → Refuses max_nesting any x c b z → EndsTooEarly c ⊎ (EndsTooEarly c → ⊥)
+        → (cause : Cause) × (turns : ℕ) × (slots : ℕ) × Refuses max_nesting any x cause turns slots × EndsTooEarly cause
     refused c b z r (inl cut) = (c, b, z, r, cut)
-    refused c b z r (inr not) = let more = lasts r y not in absurd (never_both_lem (x ++ y) s t [] c b more.0 whole more.1)
+    refused c b z r (inr not) =
+        let more = lasts r y not in absurd (never_both_lem (x ++ y) s t [] c b more.0 whole more.1)
 
-    go : HasFront x ⊎ HasRefusal x → (cause : Cause) × (turns : ℕ) × (slots : ℕ) × Refuses max_nesting any x cause turns slots × IsCut cause
+    go : HasFront x ⊎ HasRefusal x
+        → (cause : Cause) × (turns : ℕ) × (slots : ℕ) × Refuses max_nesting any x cause turns slots × EndsTooEarly cause
     go (inl g) =
         let same = one_front_lem (x ++ y) g.0 s g.1 t (g.2 ++ y) [] (front_more y g.3) whole in
         absurd (omega (arith, ap length same.3, length-append g.2 y))

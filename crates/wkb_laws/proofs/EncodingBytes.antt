@@ -6,9 +6,11 @@ use Rattle.std.specs.Int.{byte_at, bytes_high_first, bytes_low_first}
 use Rattle.std.specs.List.{flat_map}
 use Rattle.wkb_laws.specs.Words.{Endianness, BigEndian, LittleEndian, Dimension, Xy, Form, AreBytes, order_byte}
 use Rattle.wkb_laws.specs.Words.{number_bytes, Coordinate, Value, Spelling}
-use Rattle.wkb_laws.specs.Words.{Spells, Geometry, Geometries, no_geometries, geometry, geometry_of, encoding, encodings}
+use Rattle.wkb_laws.specs.Words.{Spells, Geometry, Geometries, no_geometries, geometry, geometry_of, encoding}
+use Rattle.wkb_laws.specs.Words.{encodings}
 use Rattle.wkb_laws.specs.Words.{form_srid, inner, IsForm, srid_encoding}
-use Rattle.wkb_laws.specs.Words.{header_encoding, words_encoding, coordinates_encoding, point_words, point_encoding, line_string_encoding}
+use Rattle.wkb_laws.specs.Words.{header_encoding, words_encoding, coordinates_encoding, point_words, point_encoding}
+use Rattle.wkb_laws.specs.Words.{line_string_encoding}
 use Rattle.wkb_laws.specs.Words.{polygon_encoding}
 use Rattle.wkb_laws.specs.Words.{members_encoding, written_dimension, rectangle_ring, triangle_ring, line, rectangle}
 use Rattle.wkb_laws.specs.Words.{triangle}
@@ -63,7 +65,8 @@ module _ (order : Endianness) where
 
   coordinates_are_bytes : (cs : List Coordinate) → AreBytes (coordinates_encoding order cs)
   unfolding coordinates_encoding
-  coordinates_are_bytes cs = both_are_bytes _ _ (number_is_bytes order 4 (length cs)) (each_is_bytes (words_encoding order) words_are_bytes cs)
+  coordinates_are_bytes cs =
+      both_are_bytes _ _ (number_is_bytes order 4 (length cs)) (each_is_bytes (words_encoding order) words_are_bytes cs)
 
   module _ (form : Form) (d : Dimension) where
     header_is_bytes : (k : ℕ) → AreBytes (header_encoding order form k d)
@@ -82,36 +85,46 @@ module _ (order : Endianness) where
     polygon_is_bytes : (rings : List (List Coordinate)) → AreBytes (polygon_encoding order form d rings)
     unfolding polygon_encoding
     polygon_is_bytes rings = both_are_bytes _ _ (header_is_bytes 3)
-        (both_are_bytes _ _ (number_is_bytes order 4 (length rings)) (each_is_bytes (coordinates_encoding order) coordinates_are_bytes rings))
+        (both_are_bytes _ _ (number_is_bytes order 4 (length rings))
+        (each_is_bytes (coordinates_encoding order) coordinates_are_bytes rings))
 
-    members_are_bytes : (k n : ℕ) (inside : List ℕ) → AreBytes inside → AreBytes (members_encoding order form k d n inside)
+    members_are_bytes : (k n : ℕ) (inside : List ℕ) → AreBytes inside
+        → AreBytes (members_encoding order form k d n inside)
     unfolding members_encoding
-    members_are_bytes k n inside h = both_are_bytes _ _ (header_is_bytes k) (both_are_bytes _ _ (number_is_bytes order 4 n) h)
+    members_are_bytes k n inside h =
+        both_are_bytes _ _ (header_is_bytes k) (both_are_bytes _ _ (number_is_bytes order 4 n) h)
 
 mutual
   pub encoding_is_bytes : (order : Endianness) (form : Form) (g : Geometry) → AreBytes (encoding order form g)
   encoding_is_bytes order form (point dims c) = point_is_bytes order form (written_dimension dims) c
   encoding_is_bytes order form (line_string dims cs) = line_string_is_bytes order form (written_dimension dims) cs
   encoding_is_bytes order form (polygon dims rings) = polygon_is_bytes order form (written_dimension dims) rings
-  encoding_is_bytes order form (multi_point dims points) = members_are_bytes order form _ 4 _ _ (each_is_bytes _ (point_is_bytes order (inner form) _) points)
+  encoding_is_bytes order form (multi_point dims points) =
+      members_are_bytes order form _ 4 _ _ (each_is_bytes _ (point_is_bytes order (inner form) _) points)
   encoding_is_bytes order form (multi_line_string dims lines) =
       members_are_bytes order form _ 5 _ _ (each_is_bytes _ (line_string_is_bytes order (inner form) _) lines)
   encoding_is_bytes order form (multi_polygon dims polygons) =
       members_are_bytes order form _ 6 _ _ (each_is_bytes _ (polygon_is_bytes order (inner form) _) polygons)
-  encoding_is_bytes order form (collection dims gs) = members_are_bytes order form _ 7 _ _ (encodings_are_bytes order (inner form) gs)
-  encoding_is_bytes order form (line dims start end) = line_string_is_bytes order form (written_dimension dims) (start ∷ end ∷ [])
-  encoding_is_bytes order form (rectangle dims least greatest) = polygon_is_bytes order form Xy (rectangle_ring least greatest ∷ [])
+  encoding_is_bytes order form (collection dims gs) =
+      members_are_bytes order form _ 7 _ _ (encodings_are_bytes order (inner form) gs)
+  encoding_is_bytes order form (line dims start end) =
+      line_string_is_bytes order form (written_dimension dims) (start ∷ end ∷ [])
+  encoding_is_bytes order form (rectangle dims least greatest) =
+      polygon_is_bytes order form Xy (rectangle_ring least greatest ∷ [])
   encoding_is_bytes order form (triangle dims first second third) =
       polygon_is_bytes order form (written_dimension dims) (triangle_ring first second third ∷ [])
 
   encodings_are_bytes : (order : Endianness) (form : Form) (gs : Geometries) → AreBytes (encodings order form gs)
   encodings_are_bytes order form no_geometries i = lit< tt
-  encodings_are_bytes order form (geometry g gs) i = both_are_bytes _ _ (encoding_is_bytes order form g) (encodings_are_bytes order form gs) i
+  encodings_are_bytes order form (geometry g gs) i =
+      both_are_bytes _ _ (encoding_is_bytes order form g) (encodings_are_bytes order form gs) i
 
 -- bytes that spell a value by the spelling of its encoding are this encoding
-pub as_written : (order : Endianness) (form : Form) (s : Spelling) (t : Value) (bytes : List ℕ) → IsForm form → AreBytes bytes → Spells s t bytes
+pub as_written : (order : Endianness) (form : Form) (s : Spelling) (t : Value) (bytes : List ℕ) → IsForm form
+    → AreBytes bytes → Spells s t bytes
     → s ≡ written order form (geometry_of t) → bytes ≡ encoding order form (geometry_of t)
 as_written order form s t bytes h range spells same =
     let out = encoding order form (geometry_of t) in
     one_encoding_lem s t bytes out range (encoding_is_bytes order form (geometry_of t)) spells
-    (subst (λ (u : Spelling). Spells u t out) (sym same) (value_encoding order form t h (spelled_good s t bytes range spells)))
+    (subst (λ (u : Spelling). Spells u t out) (sym same)
+    (value_encoding order form t h (spelled_good s t bytes range spells)))

@@ -14,20 +14,28 @@ use Rattle.wkb_laws.proofs.Lengths.{value_size, each_size, encoding_length}
 mutual
   size_of_normal : (g : Geometry) → fault g ≡ None → value_size (normal g) ≡ byte_size g
   size_of_normal (point dims c) e = ap (λ w. 5 + 8 * w) (width-written_dimension dims e)
-  size_of_normal (line_string dims cs) e = ap (λ w. 5 + (4 + 8 * w * length cs)) (width-written_dimension dims (or_else_parts _ _ e).0)
-  size_of_normal (polygon dims rings) e = ap (λ w. 5 + (4 + sum_by (λ cs. 4 + 8 * w * length cs) rings)) (width-written_dimension dims (or_else_parts _ _ e).0)
+  size_of_normal (line_string dims cs) e =
+      ap (λ w. 5 + (4 + 8 * w * length cs)) (width-written_dimension dims (or_else_parts _ _ e).0)
+  size_of_normal (polygon dims rings) e =
+      ap (λ w. 5 + (4 + sum_by (λ cs. 4 + 8 * w * length cs) rings))
+      (width-written_dimension dims (or_else_parts _ _ e).0)
   size_of_normal (multi_point dims points) e =
-      ap (λ w. 9 + (5 + 8 * w) * length (map normal_point points)) (width-written_dimension dims (or_else_parts _ _ e).0)
+      ap (λ w. 9 + (5 + 8 * w) * length (map normal_point points))
+      (width-written_dimension dims (or_else_parts _ _ e).0)
       ∙ ap (λ n. 9 + (5 + 8 * size dims) * n) (length-map points normal_point) ∙ omega arith
   size_of_normal (multi_line_string dims lines) e =
-      ap (λ w. 9 + sum_by (λ cs. 5 + (4 + 8 * w * length cs)) lines) (width-written_dimension dims (or_else_parts _ _ e).0)
+      ap (λ w. 9 + sum_by (λ cs. 5 + (4 + 8 * w * length cs)) lines)
+      (width-written_dimension dims (or_else_parts _ _ e).0)
   size_of_normal (multi_polygon dims polygons) e =
-      ap (λ w. 9 + sum_by (λ rings. 5 + (4 + sum_by (λ cs. 4 + 8 * w * length cs) rings)) polygons) (width-written_dimension dims (or_else_parts _ _ e).0)
-  size_of_normal (collection dims gs) e = ap (λ n. 9 + n) (sizes_of_normal gs (or_else_parts _ _ (or_else_parts _ _ e).1).1)
+      ap (λ w. 9 + sum_by (λ rings. 5 + (4 + sum_by (λ cs. 4 + 8 * w * length cs) rings)) polygons)
+      (width-written_dimension dims (or_else_parts _ _ e).0)
+  size_of_normal (collection dims gs) e =
+      ap (λ n. 9 + n) (sizes_of_normal gs (or_else_parts _ _ (or_else_parts _ _ e).1).1)
   size_of_normal (line dims start end) e = ap (λ w. 5 + (4 + 8 * w * 2)) (width-written_dimension dims e) ∙ omega arith
   size_of_normal (rectangle dims least greatest) e = refl
   size_of_normal (triangle dims first second third) e =
-      ap (λ w. 5 + (4 + sum_by (λ cs. 4 + 8 * w * length cs) (triangle_ring first second third ∷ []))) (width-written_dimension dims e) ∙ omega arith
+      ap (λ w. 5 + (4 + sum_by (λ cs. 4 + 8 * w * length cs) (triangle_ring first second third ∷ [])))
+      (width-written_dimension dims e) ∙ omega arith
 
   sizes_of_normal : (gs : Geometries) → fault_each gs ≡ None → each_size (normal_each gs) ≡ byte_sizes gs
   sizes_of_normal no_geometries e = refl
@@ -36,4 +44,5 @@ mutual
 
 pub encoding_has_size_lem : EncodingHasSize
 encoding_has_size_lem order form g h lawful fine =
-    encoding_length order form g h lawful fine ∙ ap (λ n. n + 4 * (if is_some (form_srid form) then 1 else 0)) (size_of_normal g fine)
+    encoding_length order form g h lawful fine
+    ∙ ap (λ n. n + 4 * (if is_some (form_srid form) then 1 else 0)) (size_of_normal g fine)

@@ -16,13 +16,16 @@ use Rattle.wkb_laws.specs.Words.{form_srid, code_of, Xyzm, Dimensions, IsWord, a
 use Rattle.wkb_laws.specs.Words.{written_dimension, IsEach, IsCounted, Coordinate}
 use Rattle.wkb_laws.specs.Words.{Value, each, kind, dimension, members, count, Spelling, node, Spellings, no_spellings}
 use Rattle.wkb_laws.specs.Words.{IsHeader, IsSrid, SpellsCoordinate}
-use Rattle.wkb_laws.specs.Words.{SpellsCoordinates, SpellsBody, Wanted, any, part, member_part, IsPart, has_srid, Spells}
+use Rattle.wkb_laws.specs.Words.{SpellsCoordinates, SpellsBody, Wanted, any, part, member_part, IsPart, has_srid}
+use Rattle.wkb_laws.specs.Words.{Spells}
 use Rattle.wkb_laws.specs.Words.{SpellsEach, Geometry, line, rectangle}
 use Rattle.wkb_laws.specs.Words.{triangle, Geometries, no_geometries, geometry, IsGeometry, AreGeometries}
 use Rattle.wkb_laws.specs.Words.{rectangle_ring, triangle_ring, normal_point, normal}
-use Rattle.wkb_laws.specs.Words.{normal_each, point_words, inner, srid_encoding, header_encoding, words_encoding, coordinates_encoding}
+use Rattle.wkb_laws.specs.Words.{normal_each, point_words, inner, srid_encoding, header_encoding, words_encoding}
+use Rattle.wkb_laws.specs.Words.{coordinates_encoding}
 use Rattle.wkb_laws.specs.Words.{point_encoding, line_string_encoding}
-use Rattle.wkb_laws.specs.Words.{polygon_encoding, members_encoding, count_geometries, encoding, encodings, or_else, dimensions_fault}
+use Rattle.wkb_laws.specs.Words.{polygon_encoding, members_encoding, count_geometries, encoding, encodings, or_else}
+use Rattle.wkb_laws.specs.Words.{dimensions_fault}
 use Rattle.wkb_laws.specs.Words.{count_fault, first_fault}
 use Rattle.wkb_laws.specs.Words.{coordinates_fault, rings_fault, fault, fault_each, IsForm, Fault, count_overflow}
 use Rattle.wkb_geom.specs.Values as value
@@ -39,17 +42,29 @@ use Rattle.wkb_laws.proofs.Values.{or_else_parts, width-written_dimension, GoodL
 pub IsNumber-number_bytes : (order : Endianness) (n x : ℕ) → x < 256 ^ n → IsNumber order n x (number_bytes order n x)
 unfolding number number_bytes
 IsNumber-number_bytes BigEndian n x h =
-    record { len = length-bytes_high_first n x; value = ap (big_number n) (sym (append-nil (number_bytes BigEndian n x))) ∙ big_number-reads_back n x [] h }
+    record {
+      len = length-bytes_high_first n x;
+      value = ap (big_number n) (sym (append-nil (number_bytes BigEndian n x))) ∙ big_number-reads_back n x [] h;
+    }
 IsNumber-number_bytes LittleEndian n x h = record {
   len = length-bytes_low_first 0 n x;
   value = ap (little_number n) (sym (append-nil (number_bytes LittleEndian n x))) ∙ little_number-reads_back n x [] h;
 }
 
 -- the code that is written stands for the kind and the dimension, and says whether an SRID is written
-pub Code-code_of : (form : Form) (k : ℕ) (d : Dimension) → 1 ≤ k → k ≤ 7 → Code (code_of form k d) k d (is_some (form_srid form))
+pub Code-code_of : (form : Form) (k : ℕ) (d : Dimension) → 1 ≤ k → k ≤ 7
+    → Code (code_of form k d) k d (is_some (form_srid form))
 unfolding code_of
 Code-code_of Iso k d low high =
-    record { z = false; m = false; iso = d; kind = record { low = low; high = high }; sum = omega arith; has_z = refl; has_m = refl }
+    record {
+      z = false;
+      m = false;
+      iso = d;
+      kind = record { low = low; high = high };
+      sum = omega arith;
+      has_z = refl;
+      has_m = refl;
+    }
 Code-code_of (Ewkb srid) k d low high = record {
   z = has_z d;
   m = has_m d;
@@ -65,17 +80,28 @@ unfolding code_of
 code_of-lt Iso k d high = let most = thousands-most d in omega arith
 code_of-lt (Ewkb srid) k d high =
     let sl = bit-most (is_some srid) in
-    omega (arith, bit-most (has_m d), bit-most (has_z d), flag-bit (is_some srid) 0x20000000, flag-bit (has_m d) 0x40000000, flag-bit (has_z d) 0x80000000)
+    omega (
+      arith,
+      bit-most (has_m d),
+      bit-most (has_z d),
+      flag-bit (is_some srid) 0x20000000,
+      flag-bit (has_m d) 0x40000000,
+      flag-bit (has_z d) 0x80000000,
+    )
 
 count_fits : (n : ℕ) → count_fault n ≡ None → n < 256 ^ 4
 unfolding count_fault
-count_fits n = cond_both (nat_lt n (2 ^ 32)) None (Some count_overflow) (λ z. z ≡ None → n < 256 ^ 4) (λ t e. ltb-true n (2 ^ 32) t) (λ f e. cc)
+count_fits n =
+    cond_both (nat_lt n (2 ^ 32)) None (Some count_overflow) (λ z. z ≡ None → n < 256 ^ 4)
+    (λ t e. ltb-true n (2 ^ 32) t) (λ f e. cc)
 
 -- a list of items, each with an encoding that spells it
-module _ {A : Type 0} (P : A → List ℕ → Type 0) (f : A → List ℕ) (good : A → Type 0) (one : (a : A) → good a → P a (f a)) where
+module _ {A : Type 0} (P : A → List ℕ → Type 0) (f : A → List ℕ) (good : A → Type 0)
+    (one : (a : A) → good a → P a (f a)) where
   IsEach-flat_map : (l : List A) → AllByRecursion good l → IsEach P l (flat_map f l)
   IsEach-flat_map [] h = refl
-  IsEach-flat_map (a ∷ l) h = record { front = f a; rest = flat_map f l; whole = refl; first = one a h.0; second = IsEach-flat_map l h.1 }
+  IsEach-flat_map (a ∷ l) h =
+      record { front = f a; rest = flat_map f l; whole = refl; first = one a h.0; second = IsEach-flat_map l h.1 }
 
   IsCounted-encoding : (order : Endianness) (l : List A) → count_fault (length l) ≡ None → AllByRecursion good l
       → IsCounted order P l (number_bytes order 4 (length l) ++ flat_map f l)
@@ -88,14 +114,17 @@ module _ {A : Type 0} (P : A → List ℕ → Type 0) (f : A → List ℕ) (good
   }
 
 -- no item of a list is at fault
-all_good : {A : Type 0} (P : A → Type 0) (f : A → Option Fault) (l : List A) → AllByRecursion P l → first_fault f l ≡ None
+all_good : {A : Type 0} (P : A → Type 0) (f : A → Option Fault) (l : List A) → AllByRecursion P l
+    → first_fault f l ≡ None
     → AllByRecursion (λ a. P a × (f a ≡ None)) l
 unfolding first_fault
 all_good P f [] h e = tt
-all_good P f (a ∷ l) h e = let both = or_else_parts (f a) (first_fault f l) e in ((h.0, both.0), all_good P f l h.1 both.1)
+all_good P f (a ∷ l) h e =
+    let both = or_else_parts (f a) (first_fault f l) e in ((h.0, both.0), all_good P f l h.1 both.1)
 
 -- the empty word is a not-a-number
-empty_coordinate : (d : Dimension) → (all_nan (replicate (width d) empty_word) ≡ true) × value.IsValueCoordinate d (replicate (width d) empty_word)
+empty_coordinate : (d : Dimension)
+    → (all_nan (replicate (width d) empty_word) ≡ true) × value.IsValueCoordinate d (replicate (width d) empty_word)
 empty_coordinate Xy = (refl, record { len = refl; words = (lit< tt, (lit< tt, tt)) })
 empty_coordinate Xyzm = (refl, record { len = refl; words = (lit< tt, (lit< tt, (lit< tt, (lit< tt, tt)))) })
 empty_coordinate _ = (refl, record { len = refl; words = (lit< tt, (lit< tt, (lit< tt, tt))) })
@@ -106,29 +135,38 @@ MayHave d None = Unit {0}
 MayHave d (Some c) = value.IsValueCoordinate d c
 
 module _ (order : Endianness) where
-  SpellsCoordinate-encoding : (d : Dimension) (c : Coordinate) → value.IsValueCoordinate d c → SpellsCoordinate order d c (words_encoding order c)
+  SpellsCoordinate-encoding : (d : Dimension) (c : Coordinate) → value.IsValueCoordinate d c
+      → SpellsCoordinate order d c (words_encoding order c)
   unfolding words_encoding
   SpellsCoordinate-encoding d c h =
-      record { len = h.len; words = IsEach-flat_map (IsNumber order 8) (number_bytes order 8) IsWord (IsNumber-number_bytes order 8) c h.words }
+      record {
+        len = h.len;
+        words =
+            IsEach-flat_map (IsNumber order 8) (number_bytes order 8) IsWord (IsNumber-number_bytes order 8) c h.words;
+      }
 
-  SpellsCoordinates-encoding : (d : Dimension) (cs : List Coordinate) → GoodLine d cs → SpellsCoordinates order d cs (coordinates_encoding order cs)
+  SpellsCoordinates-encoding : (d : Dimension) (cs : List Coordinate) → GoodLine d cs
+      → SpellsCoordinates order d cs (coordinates_encoding order cs)
   unfolding coordinates_encoding
   SpellsCoordinates-encoding d cs good =
-      IsCounted-encoding (SpellsCoordinate order d) (words_encoding order) (value.IsValueCoordinate d) (SpellsCoordinate-encoding d) order cs good.1 good.0
+      IsCounted-encoding (SpellsCoordinate order d) (words_encoding order) (value.IsValueCoordinate d)
+      (SpellsCoordinate-encoding d) order cs good.1 good.0
 
   point_body : (d : Dimension) (c : Coordinate) (b : Bool) → all_nan c ≡ b → value.IsValueCoordinate d c
       → SpellsBody order (if b then c else []) (value.point d (if b then None else Some c)) (words_encoding order c)
   point_body d c true e h = (e, SpellsCoordinate-encoding d c h)
   point_body d c false e h = (refl, e, SpellsCoordinate-encoding d c h)
 
-IsSrid-encoding : (order : Endianness) (form : Form) → IsForm form → IsSrid order (form_srid form) (srid_encoding order (form_srid form))
+IsSrid-encoding : (order : Endianness) (form : Form) → IsForm form
+    → IsSrid order (form_srid form) (srid_encoding order (form_srid form))
 unfolding srid_encoding
 IsSrid-encoding order Iso h = refl
 IsSrid-encoding order (Ewkb None) h = refl
 IsSrid-encoding order (Ewkb (Some srid)) h = IsNumber-number_bytes order 4 srid h
 
 module _ (order : Endianness) (form : Form) (h : IsForm form) where
-  IsHeader-encoding : (k : ℕ) (d : Dimension) → 1 ≤ k → k ≤ 7 → IsHeader (written_header order form k d) k d (header_encoding order form k d)
+  IsHeader-encoding : (k : ℕ) (d : Dimension) → 1 ≤ k → k ≤ 7
+      → IsHeader (written_header order form k d) k d (header_encoding order form k d)
   unfolding header_encoding
   IsHeader-encoding k d low high = record {
     code_field = number_bytes order 4 (code_of form k d);
@@ -140,9 +178,11 @@ module _ (order : Endianness) (form : Form) (h : IsForm form) where
   }
 
   -- a geometry: its header, its body up to its members, and these
-  all_spells : (own : List ℕ) (ss : Spellings) (t : Value) (body inside behind : List ℕ) → 1 ≤ kind t → kind t ≤ 7 → behind ≡ body ++ inside
+  all_spells : (own : List ℕ) (ss : Spellings) (t : Value) (body inside behind : List ℕ) → 1 ≤ kind t → kind t ≤ 7
+      → behind ≡ body ++ inside
       → SpellsBody order own t body → SpellsEach (member_part (kind t) (dimension t)) ss (members t) inside
-      → Spells (node (written_header order form (kind t) (dimension t)) own ss) t (header_encoding order form (kind t) (dimension t) ++ behind)
+      → Spells (node (written_header order form (kind t) (dimension t)) own ss) t
+      (header_encoding order form (kind t) (dimension t) ++ behind)
   all_spells own ss t body inside behind low high whole first second = record {
     front = header_encoding order form (kind t) (dimension t);
     rest = behind;
@@ -157,10 +197,12 @@ module _ (order : Endianness) (form : Form) (h : IsForm form) where
   point_spells d None fits =
       let empty = empty_coordinate d in
       let words = replicate (width d) empty_word in
-      all_spells words no_spellings (value.point d None) (words_encoding order words) [] _ (lit≤ tt) (lit≤ tt) (sym (append-nil _))
+      all_spells words no_spellings (value.point d None) (words_encoding order words) [] _ (lit≤ tt) (lit≤ tt)
+      (sym (append-nil _))
       (empty.0, SpellsCoordinate-encoding order d words empty.1) refl
   point_spells d (Some c) fits =
-      all_spells (empty_words d (Some c)) no_spellings (value.point d (normal_point (Some c))) (words_encoding order c) [] _ (lit≤ tt) (lit≤ tt)
+      all_spells (empty_words d (Some c)) no_spellings (value.point d (normal_point (Some c)))
+      (words_encoding order c) [] _ (lit≤ tt) (lit≤ tt)
       (sym (append-nil _))
       (point_body order d c (all_nan c) refl fits) refl
 
@@ -168,7 +210,8 @@ module _ (order : Endianness) (form : Form) (h : IsForm form) where
       → Spells (written_plain order form 2 d) (value.line_string d cs) (line_string_encoding order form d cs)
   unfolding line_string_encoding
   line_string_spells d cs good =
-      all_spells [] no_spellings (value.line_string d cs) (coordinates_encoding order cs) [] _ (lit≤ tt) (lit≤ tt) (sym (append-nil _))
+      all_spells [] no_spellings (value.line_string d cs) (coordinates_encoding order cs) [] _ (lit≤ tt) (lit≤ tt)
+      (sym (append-nil _))
       (refl, SpellsCoordinates-encoding order d cs good) refl
 
   polygon_spells : (d : Dimension) (rings : List (List Coordinate)) → GoodRings d rings
@@ -184,11 +227,14 @@ module _ (order : Endianness) (form : Form) (h : IsForm form) where
       ) refl
 
   -- a geometry with members
-  list_spells : (t : Value) (n : ℕ) (ss : Spellings) (inside : List ℕ) → 1 ≤ kind t → kind t ≤ 7 → SpellsBody order [] t (number_bytes order 4 n)
+  list_spells : (t : Value) (n : ℕ) (ss : Spellings) (inside : List ℕ) → 1 ≤ kind t → kind t ≤ 7
+      → SpellsBody order [] t (number_bytes order 4 n)
       → SpellsEach (member_part (kind t) (dimension t)) ss (members t) inside
-      → Spells (node (written_header order form (kind t) (dimension t)) [] ss) t (members_encoding order form (kind t) (dimension t) n inside)
+      → Spells (node (written_header order form (kind t) (dimension t)) [] ss) t
+      (members_encoding order form (kind t) (dimension t) n inside)
   unfolding members_encoding
-  list_spells t n ss inside low high body each = all_spells [] ss t (number_bytes order 4 n) inside _ low high refl body each
+  list_spells t n ss inside low high body each =
+      all_spells [] ss t (number_bytes order 4 n) inside _ low high refl body each
 
 -- a list of members, each with an encoding that spells it
 members_spell : {A : Type 0} (w : Wanted) (f : A → Value) (spell : A → Spelling) (t : A → List ℕ) (good : A → Type 0)
@@ -196,7 +242,13 @@ members_spell : {A : Type 0} (w : Wanted) (f : A → Value) (spell : A → Spell
     → (l : List A) → AllByRecursion good l → SpellsEach w (each_spelling spell l) (each f l) (flat_map t l)
 members_spell w f spell t good one [] h = refl
 members_spell w f spell t good one (a ∷ l) h =
-    record { front = t a; rest = flat_map t l; whole = refl; first = one a h.0; second = members_spell w f spell t good one l h.1 }
+    record {
+      front = t a;
+      rest = flat_map t l;
+      whole = refl;
+      first = one a h.0;
+      second = members_spell w f spell t good one l h.1;
+    }
 
 pub inner_fits : (form : Form) → IsForm (inner form) × (is_some (form_srid (inner form)) ≡ false)
 inner_fits Iso = (tt, refl)
@@ -207,7 +259,8 @@ module _ (dims : Dimensions) (e : dimensions_fault dims ≡ None) where
   coordinate_fits : (c : Coordinate) → IsCoordinate dims c → value.IsValueCoordinate (written_dimension dims) c
   coordinate_fits c h = record { len = h.len ∙ sym (width-written_dimension dims e); words = h.words }
 
-  coordinates_fit : (cs : List Coordinate) → AreCoordinates dims cs → value.AreValueCoordinates (written_dimension dims) cs
+  coordinates_fit : (cs : List Coordinate) → AreCoordinates dims cs
+      → value.AreValueCoordinates (written_dimension dims) cs
   coordinates_fit cs h = all_imply _ _ coordinate_fits cs h
 
   rings_fit : (rings : List (List Coordinate)) → AllByRecursion (AreCoordinates dims) rings
@@ -223,12 +276,16 @@ word_at [] i h = lit< tt
 word_at (w ∷ c) zero h = h.0
 word_at (w ∷ c) (suc i) h = word_at c i h.1
 
-corner_fits : (c e : Coordinate) (i j : ℕ) → AllByRecursion IsWord c → AllByRecursion IsWord e → value.IsValueCoordinate Xy (slice_index c i ∷ slice_index e j ∷ [])
+corner_fits : (c e : Coordinate) (i j : ℕ) → AllByRecursion IsWord c → AllByRecursion IsWord e
+    → value.IsValueCoordinate Xy (slice_index c i ∷ slice_index e j ∷ [])
 corner_fits c e i j h k = record { len = refl; words = (word_at c i h, (word_at e j k, tt)) }
 
-rectangle_fits : (l g : Coordinate) → AllByRecursion IsWord l → AllByRecursion IsWord g → value.AreValueCoordinates Xy (rectangle_ring l g)
-rectangle_fits l g h k =
-    (corner_fits l l 0 1 h h, (corner_fits l g 0 1 h k, (corner_fits g g 0 1 k k, (corner_fits g l 0 1 k h, (corner_fits l l 0 1 h h, tt)))))
+rectangle_fits : (l g : Coordinate) → AllByRecursion IsWord l → AllByRecursion IsWord g
+    → value.AreValueCoordinates Xy (rectangle_ring l g)
+rectangle_fits l g h k = (
+  corner_fits l l 0 1 h h,
+  (corner_fits l g 0 1 h k, (corner_fits g g 0 1 k k, (corner_fits g l 0 1 k h, (corner_fits l l 0 1 h h, tt)))),
+)
 
 -- the members behind a map
 each-map : {A B : Type 0} (f : B → Value) (g : A → B) (l : List A) → each f (map g l) ≡ each (λ a. f (g a)) l
@@ -244,7 +301,8 @@ line_short : (start end : Coordinate) → coordinates_fault (start ∷ end ∷ [
 unfolding count_fault
 line_short start end = refl
 
-ring_short : (a b c d : Coordinate) (more : List Coordinate) → length more ≤ 1 → rings_fault ((a ∷ b ∷ c ∷ d ∷ more) ∷ []) ≡ None
+ring_short : (a b c d : Coordinate) (more : List Coordinate) → length more ≤ 1
+    → rings_fault ((a ∷ b ∷ c ∷ d ∷ more) ∷ []) ≡ None
 unfolding count_fault first_fault or_else
 ring_short a b c d [] h = refl
 ring_short a b c d (e ∷ []) h = refl
@@ -253,7 +311,8 @@ ring_short a b c d (e ∷ f ∷ more) h = absurd (omega arith)
 mutual
   pub encoding_spells : (order : Endianness) (form : Form) (g : Geometry) → IsForm form → IsGeometry g → fault g ≡ None
       → Spells (written order form g) (normal g) (encoding order form g)
-  encoding_spells order form (point dims c) h good e = point_spells order form h (written_dimension dims) c (point_fits dims e c good)
+  encoding_spells order form (point dims c) h good e =
+      point_spells order form h (written_dimension dims) c (point_fits dims e c good)
   encoding_spells order form (line_string dims cs) h good e =
       let parts = or_else_parts _ _ e in
       line_string_spells order form h (written_dimension dims) cs (coordinates_fit dims parts.0 cs good, parts.1)
@@ -267,9 +326,14 @@ mutual
       let spell = written_point order (inner form) d in
       let writes = point_encoding order (inner form) d in
       let number = IsNumber-number_bytes order 4 (length points) (count_fits _ parts.1) in
-      list_spells order form h (normal (multi_point dims points)) (length points) _ _ (lit≤ tt) (lit≤ tt)
-      (refl, subst (λ n. IsNumber order 4 n (number_bytes order 4 (length points))) (sym (length-map points normal_point)) number)
-      (subst (λ m. SpellsEach (part 1 d) (each_spelling spell points) m (flat_map writes points)) (sym (each-map (value.point d) normal_point points))
+      list_spells order form h (normal (multi_point dims points)) (length points) _ _ (lit≤ tt) (lit≤ tt) (
+        refl,
+        subst
+            (λ n. IsNumber order 4 n (number_bytes order 4 (length points)))
+            (sym (length-map points normal_point)) number,
+      )
+      (subst (λ m. SpellsEach (part 1 d) (each_spelling spell points) m (flat_map writes points))
+      (sym (each-map (value.point d) normal_point points))
       (members_spell (part 1 d) (λ c. value.point d (normal_point c)) spell writes (MayHave d)
       (λ c fits. (point_spells order (inner form) inside.0 d c fits, (refl, refl, λ one. inside.1))) points
       (all_imply _ _ (point_fits dims parts.0) points good)))
@@ -280,7 +344,8 @@ mutual
       let inside = inner_fits form in
       list_spells order form h (normal (multi_line_string dims lines)) (length lines) _ _ (lit≤ tt) (lit≤ tt)
       (refl, IsNumber-number_bytes order 4 (length lines) (count_fits _ more.0))
-      (members_spell (part 2 d) (value.line_string d) (λ l. written_plain order (inner form) 2 d) (line_string_encoding order (inner form) d) (GoodLine d)
+      (members_spell (part 2 d) (value.line_string d)
+      (λ l. written_plain order (inner form) 2 d) (line_string_encoding order (inner form) d) (GoodLine d)
       (λ cs fits. (line_string_spells order (inner form) inside.0 d cs fits, (refl, refl, λ one. inside.1)))
       lines (all_good _ coordinates_fault lines (all_imply _ _ (coordinates_fit dims parts.0) lines good) more.1))
   encoding_spells order form (multi_polygon dims polygons) h good e =
@@ -290,19 +355,24 @@ mutual
       let inside = inner_fits form in
       list_spells order form h (normal (multi_polygon dims polygons)) (length polygons) _ _ (lit≤ tt) (lit≤ tt)
       (refl, IsNumber-number_bytes order 4 (length polygons) (count_fits _ more.0))
-      (members_spell (part 3 d) (value.polygon d) (λ p. written_plain order (inner form) 3 d) (polygon_encoding order (inner form) d) (GoodRings d)
+      (members_spell (part 3 d) (value.polygon d)
+      (λ p. written_plain order (inner form) 3 d) (polygon_encoding order (inner form) d) (GoodRings d)
       (λ rings fits. (polygon_spells order (inner form) inside.0 d rings fits, (refl, refl, λ one. inside.1)))
       polygons (all_good _ rings_fault polygons (all_imply _ _ (rings_fit dims parts.0) polygons good) more.1))
   encoding_spells order form (collection dims gs) h good e =
       let parts = or_else_parts _ _ e in
       let more = or_else_parts _ _ parts.1 in
       let number = IsNumber-number_bytes order 4 (count_geometries gs) (count_fits _ more.0) in
-      list_spells order form h (normal (collection dims gs)) (count_geometries gs) _ _ (lit≤ tt) (lit≤ tt)
-      (refl, subst (λ n. IsNumber order 4 n (number_bytes order 4 (count_geometries gs))) (sym (count_normal_each gs)) number)
+      list_spells order form h (normal (collection dims gs)) (count_geometries gs) _ _ (lit≤ tt) (lit≤ tt) (
+        refl,
+        subst
+            (λ n. IsNumber order 4 n (number_bytes order 4 (count_geometries gs))) (sym (count_normal_each gs)) number,
+      )
       (encodings_spell order (inner form) gs (inner_fits form).0 good more.1)
   encoding_spells order form (line dims start end) h good e =
       let fits = coordinate_fits dims e in
-      line_string_spells order form h (written_dimension dims) (start ∷ end ∷ []) ((fits start good.0, (fits end good.1, tt)), line_short start end)
+      line_string_spells order form h (written_dimension dims) (start ∷ end ∷ [])
+      ((fits start good.0, (fits end good.1, tt)), line_short start end)
   encoding_spells order form (rectangle dims least greatest) h good e =
       polygon_spells order form h Xy (rectangle_ring least greatest ∷ [])
       ((rectangle_fits least greatest (good.0).words (good.1).words, tt), ring_short _ _ _ _ (_ ∷ []) (lit≤ tt))
@@ -312,27 +382,41 @@ mutual
       polygon_spells order form h (written_dimension dims) (triangle_ring first second third ∷ [])
       (((start, (fits second good.1, (fits third good.2, (start, tt)))), tt), ring_short _ _ _ _ [] (lit≤ tt))
 
-  pub encodings_spell : (order : Endianness) (form : Form) (gs : Geometries) → IsForm form → AreGeometries gs → fault_each gs ≡ None
+  pub encodings_spell : (order : Endianness) (form : Form) (gs : Geometries) → IsForm form → AreGeometries gs
+      → fault_each gs ≡ None
       → SpellsEach any (written_each order form gs) (normal_each gs) (encodings order form gs)
   encodings_spell order form no_geometries h good e = refl
   encodings_spell order form (geometry g gs) h good e =
       let parts = or_else_parts _ _ e in
       let first = encoding_spells order form g h good.0 parts.0 in
-      record { front = encoding order form g; rest = encodings order form gs; whole = refl; first = (first, tt); second = encodings_spell order form gs h good.1 parts.1 }
+      record {
+        front = encoding order form g;
+        rest = encodings order form gs;
+        whole = refl;
+        first = (first, tt);
+        second = encodings_spell order form gs h good.1 parts.1;
+      }
 
-each_has_options : {A : Type 0} (order : Endianness) (form : Form) (f : A → Spelling) → ((a : A) → HasOptions order form (f a)) → (l : List A)
+each_has_options : {A : Type 0} (order : Endianness) (form : Form) (f : A → Spelling)
+    → ((a : A) → HasOptions order form (f a)) → (l : List A)
     → AllHaveOptions order form (each_spelling f l)
 each_has_options order form f one [] = tt
 each_has_options order form f one (a ∷ l) = (one a, each_has_options order form f one l)
 
 mutual
-  pub written_has_options : (order : Endianness) (form : Form) (g : Geometry) → HasOptions order form (written order form g)
-  written_has_options order form (multi_point dims points) = (refl, refl, each_has_options order (inner form) _ (λ c. (refl, refl, tt)) points)
-  written_has_options order form (multi_line_string dims lines) = (refl, refl, each_has_options order (inner form) _ (λ c. (refl, refl, tt)) lines)
-  written_has_options order form (multi_polygon dims polygons) = (refl, refl, each_has_options order (inner form) _ (λ c. (refl, refl, tt)) polygons)
+  pub written_has_options : (order : Endianness) (form : Form) (g : Geometry)
+      → HasOptions order form (written order form g)
+  written_has_options order form (multi_point dims points) =
+      (refl, refl, each_has_options order (inner form) _ (λ c. (refl, refl, tt)) points)
+  written_has_options order form (multi_line_string dims lines) =
+      (refl, refl, each_has_options order (inner form) _ (λ c. (refl, refl, tt)) lines)
+  written_has_options order form (multi_polygon dims polygons) =
+      (refl, refl, each_has_options order (inner form) _ (λ c. (refl, refl, tt)) polygons)
   written_has_options order form (collection dims gs) = (refl, refl, written_each_has_options order (inner form) gs)
   written_has_options order form _ = (refl, refl, tt)
 
-  pub written_each_has_options : (order : Endianness) (form : Form) (gs : Geometries) → AllHaveOptions order form (written_each order form gs)
+  pub written_each_has_options : (order : Endianness) (form : Form) (gs : Geometries)
+      → AllHaveOptions order form (written_each order form gs)
   written_each_has_options order form no_geometries = tt
-  written_each_has_options order form (geometry g gs) = (written_has_options order form g, written_each_has_options order form gs)
+  written_each_has_options order form (geometry g gs) =
+      (written_has_options order form g, written_each_has_options order form gs)

@@ -8,7 +8,8 @@ use Rattle.wkb_laws.proofs.Sound.{geometry_says}
 use Rattle.wkb_laws.proofs.Complete.{front_read, refusal_read}
 
 agrees : (input : List ℕ) (r : Reading Item) → IsRight max_nesting any input r → Agrees input r
-agrees input (cost, Ok x) h = (record { front = x.0.encoding; whole = h.whole; spelled = h.spelled; shallow = h.shallow }, h.turns, h.slots, refl)
+agrees input (cost, Ok x) h =
+    (record { front = x.0.encoding; whole = h.whole; spelled = h.spelled; shallow = h.shallow }, h.turns, h.slots, refl)
 agrees input (cost, Err cause) h = h
 
 pub geometry_agrees_lem : GeometryAgrees
@@ -20,7 +21,8 @@ front_is_read_lem input s t rest f = front_read max_nesting any tt input s t res
 pub refusal_is_read_lem : RefusalIsRead
 refusal_is_read_lem input cause turns slots r = refusal_read r tt
 
-bounded : (input : List ℕ) (r : Reading Item) → Agrees input r → (4 * r.0.turns ≤ length input + 4) × (r.0.slots ≤ 15 * length input)
+bounded : (input : List ℕ) (r : Reading Item) → Agrees input r
+    → (4 * r.0.turns ≤ length input + 4) × (r.0.slots ≤ 15 * length input)
 bounded input (cost, Ok x) h =
     let bounds = front_is_bounded_lem input x.0.spelled x.0.value x.1 h.0 in
     (omega arith, omega arith)

@@ -10,7 +10,7 @@ use Rattle.wkb_laws.specs.Words.{Endianness, BigEndian, LittleEndian, Dimension,
 use Rattle.wkb_laws.specs.Words.{order_byte, Code, Begins, Value, kind, dimension}
 use Rattle.wkb_laws.specs.Words.{members, nest, member_count, listed_count, Header, IsHeader, IsSrid, Spellings}
 use Rattle.wkb_laws.specs.Words.{SpellsBody, Spells, SpellsEach, Wanted}
-use Rattle.wkb_laws.specs.Words.{member_part, IsPart, has_srid, srid_size, Opens, IsAllowed, Counts, Refuses}
+use Rattle.wkb_laws.specs.Words.{member_part, IsPart, has_srid, srid_size, Opens, IsAllowed, OpensCounted, Refuses}
 use Rattle.wkb_laws.specs.Words.{no_order_byte, bad_order_byte, no_code, bad_code}
 use Rattle.wkb_laws.specs.Words.{no_count, Cost, Reading, Item, type_kind, layout_of, body_start, parts_start, head_at}
 use Rattle.wkb_laws.specs.Words.{head_by_order, head_by_code, with_count}
@@ -32,7 +32,8 @@ IsRight room w input (cost, Ok x) = ItemIs room w input x.0 x.1 cost
 IsRight room w input (cost, Err cause) = Refuses room w input cause cost.turns cost.slots
 
 -- the same refusal with equal counts
-pub refused_as : {room : ℕ} {w : Wanted} {input : List ℕ} {cause : Cause} {a b c d : ℕ} → a ≡ c → b ≡ d → Refuses room w input cause a b
+pub refused_as : {room : ℕ} {w : Wanted} {input : List ℕ} {cause : Cause} {a b c d : ℕ} → a ≡ c → b ≡ d
+    → Refuses room w input cause a b
     → Refuses room w input cause c d
 refused_as {room} {w} {input} {cause} e f r = subst (λ T. T) (λ i. Refuses room w input cause (e i) (f i)) r
 
@@ -46,19 +47,23 @@ OpensAs input h = Opened input (type_kind h.wkb_type) (layout_of h)
 
 -- what holds of each fault in front of a body, and of each head that the input opens with, holds of what is read there
 module _ (room : ℕ) (w : Wanted) where
-  head_by : (order : Endianness) (first : ℕ) (behind : List ℕ) (Q : Result Head Cause → Type 0) → first ≡ order_byte order → first ≤ 1
-      → ((c : Cause) → Refuses room w (first ∷ behind) c 0 0 → Q (Err c)) → ((h : Head) → OpensAs (first ∷ behind) h → Q (Ok h))
+  head_by : (order : Endianness) (first : ℕ) (behind : List ℕ) (Q : Result Head Cause → Type 0)
+      → first ≡ order_byte order → first ≤ 1
+      → ((c : Cause) → Refuses room w (first ∷ behind) c 0 0 → Q (Err c))
+      → ((h : Head) → OpensAs (first ∷ behind) h → Q (Ok h))
       → Q (head_by_order (Some order) behind)
   head_by order first behind Q e small bad good =
       cond_both (nat_lt (length behind) 4) _ _ Q (λ t. bad _ (no_code small (ltb-true (length behind) 4 t)))
       (λ t. let begins = number_begins order 4 behind (ltb-false (length behind) 4 t) in
       let same = ap (λ z. z ∷ behind) e in
       meaning_holds (λ m. Q (head_by_code order (number order 4 behind) m)) (number order 4 behind)
-      (λ m code. good _ (record { code = number order 4 behind; behind = behind; whole = same; number = begins; meaning = code }))
+      (λ m code. good _
+      (record { code = number order 4 behind; behind = behind; whole = same; number = begins; meaning = code }))
       (λ none. bad _ (bad_code {order = order} {behind = behind} same begins none)))
 
   pub head_says : (input : List ℕ) (Q : Result Head Cause → Type 0)
-      → ((c : Cause) → Refuses room w input c 0 0 → Q (Err c)) → ((h : Head) → OpensAs input h → Q (Ok h)) → Q (head_at input)
+      → ((c : Cause) → Refuses room w input c 0 0 → Q (Err c)) → ((h : Head) → OpensAs input h → Q (Ok h))
+      → Q (head_at input)
   unfolding head_at
   head_says [] Q bad good = bad _ no_order_byte
   head_says (zero ∷ behind) Q bad good = head_by BigEndian zero behind Q refl (omega arith) bad good
@@ -69,16 +74,18 @@ module _ (room : ℕ) (w : Wanted) where
 abbrev pub count_in : Layout → List ℕ → ℕ
 count_in l input = number l.order 4 (drop (body_start l.has_srid) input)
 
-module _ (room : ℕ) (w : Wanted) (input : List ℕ) (k : ℕ) (l : Layout) (o : Opened input k l) (allowed : IsAllowed room w k l.dimension l.has_srid) where
+module _ (room : ℕ) (w : Wanted) (input : List ℕ) (k : ℕ) (l : Layout) (o : Opened input k l)
+    (allowed : IsAllowed room w k l.dimension l.has_srid) where
   -- the bytes with an allowed opening, an SRID and a count
   pub counts_here : body_start l.has_srid + 4 ≤ length input
-      → Counts room w input l.order k l.dimension l.has_srid (count_in l input) (parts_start l.has_srid input)
+      → OpensCounted room w input l.order k l.dimension l.has_srid (count_in l input) (parts_start l.has_srid input)
   counts_here long =
       let size = srid_size l.has_srid in
       let field = take size (drop 5 input) in
       let c = drop (body_start l.has_srid) input in
       let cut : drop 5 input ≡ field ++ (take 4 c ++ drop 4 c) =
-      sym (take-append-drop size (drop 5 input)) ∙ ap (λ z. field ++ z) (drop-drop size 5 input ∙ sym (take-append-drop 4 c)) in
+      sym (take-append-drop size (drop 5 input))
+      ∙ ap (λ z. field ++ z) (drop-drop size 5 input ∙ sym (take-append-drop 4 c)) in
       record {
         srid_field = field;
         count_field = take 4 c;
@@ -89,7 +96,8 @@ module _ (room : ℕ) (w : Wanted) (input : List ℕ) (k : ℕ) (l : Layout) (o 
       }
 
   -- with a count that is whole, or not
-  pub count_says : (f : ℕ → Reading Item) → k ≢ 1 → (body_start l.has_srid + 4 ≤ length input → IsRight room w input (f (count_in l input)))
+  pub count_says : (f : ℕ → Reading Item) → k ≢ 1
+      → (body_start l.has_srid + 4 ≤ length input → IsRight room w input (f (count_in l input)))
       → IsRight room w input (with_count l input f)
   count_says f not1 each =
       cond_both (nat_lt (length input) (body_start l.has_srid + 4)) _ _ (IsRight room w input)
@@ -105,7 +113,8 @@ number_in order a input x rest e h =
 
 -- the header that an encoding begins with
 abbrev encoding_header : Layout → List ℕ → Header
-encoding_header l x = record { order = l.order; code = number l.order 4 (drop 1 x); srid = srid_in l.order l.has_srid x }
+encoding_header l x =
+    record { order = l.order; code = number l.order 4 (drop 1 x); srid = srid_in l.order l.has_srid x }
 
 pub has_srid_in : (order : Endianness) (srid : Bool) (x : List ℕ) → srid ≡ is_some (srid_in order srid x)
 has_srid_in order true x = refl
@@ -116,7 +125,8 @@ srid_is : (order : Endianness) (srid : Bool) (x : List ℕ) → srid_size srid �
 srid_is order true x h = number-take order 4 (drop 5 x) h
 srid_is order false x h = refl
 
-encoding_head : (input x rest : List ℕ) (k : ℕ) (d : Dimension) (l : Layout) → Opens input l.order k d l.has_srid (drop 5 input) → input ≡ x ++ rest
+encoding_head : (input x rest : List ℕ) (k : ℕ) (d : Dimension) (l : Layout)
+    → Opens input l.order k d l.has_srid (drop 5 input) → input ≡ x ++ rest
     → body_start l.has_srid ≤ length x → Begins (IsHeader (encoding_header l x) k d) x (drop (body_start l.has_srid) x)
 encoding_head input [] rest k d l o e long = absurd (omega arith)
 encoding_head input (a ∷ y) rest k d l o e long =
@@ -124,25 +134,35 @@ encoding_head input (a ∷ y) rest k d l o e long =
     let head : a ≡ order_byte l.order = cc in
     let tail : y ++ rest ≡ o.behind = cc in
     let read = begins_number l.order 4 o.code o.behind (drop 5 input) o.number in
-    let same : o.code ≡ number l.order 4 y = sym (sym (number-more l.order 4 y rest (omega arith)) ∙ ap (number l.order 4) tail ∙ read.1) in
+    let same : o.code ≡ number l.order 4 y =
+    sym (sym (number-more l.order 4 y rest (omega arith)) ∙ ap (number l.order 4) tail ∙ read.1) in
     let field = take (srid_size l.has_srid) (drop 4 y) in
-    let cut = sym (take-append-drop (srid_size l.has_srid) (drop 4 y)) ∙ ap (λ z. field ++ z) (drop-drop (srid_size l.has_srid) 5 (a ∷ y)) in
+    let cut =
+    sym (take-append-drop (srid_size l.has_srid) (drop 4 y))
+    ∙ ap (λ z. field ++ z) (drop-drop (srid_size l.has_srid) 5 (a ∷ y)) in
     let code = number_begins l.order 4 y (omega arith) in
     record {
       front = order_byte l.order ∷ (code.front ++ field);
-      whole = ap (λ z. z ∷ y) head ∙ ap (λ z. order_byte l.order ∷ z) (code.whole ∙ ap (λ z. code.front ++ z) cut ∙ sym (append_assoc code.front field _));
+      whole =
+          ap (λ z. z ∷ y) head
+          ∙ ap (λ z. order_byte l.order ∷ z)
+          (code.whole ∙ ap (λ z. code.front ++ z) cut ∙ sym (append_assoc code.front field _));
       first = record {
         code_field = code.front;
         srid_field = field;
         whole = refl;
         code = code.first;
-        meaning = subst (λ z. Code (number l.order 4 y) k d z) (has_srid_in l.order l.has_srid (a ∷ y)) (subst (λ c. Code c k d l.has_srid) same o.meaning);
+        meaning =
+            subst (λ z. Code (number l.order 4 y) k d z) (has_srid_in l.order l.has_srid (a ∷ y))
+            (subst (λ c. Code c k d l.has_srid) same o.meaning);
         srid = srid_is l.order l.has_srid (a ∷ y) (omega (arith, length-drop 4 y));
       };
     }
 
--- Where an encoding stands behind the opening, in front of the rest, and its body spells a value, the encoding is that value's.
-pub item_is : (room : ℕ) (w : Wanted) (input x rest : List ℕ) (l : Layout) (own : List ℕ) (ss : Spellings) (t : Value) (b m : List ℕ) (cost : Cost)
+-- Where an encoding stands behind the opening, in front of the rest, and its body spells a value, the encoding is that
+-- value's.
+pub item_is : (room : ℕ) (w : Wanted) (input x rest : List ℕ) (l : Layout) (own : List ℕ) (ss : Spellings) (t : Value)
+    (b m : List ℕ) (cost : Cost)
     → Opens input l.order (kind t) (dimension t) l.has_srid (drop 5 input) → IsPart w (kind t) (dimension t) l.has_srid
     → input ≡ x ++ rest → body_start l.has_srid ≤ length x → drop (body_start l.has_srid) x ≡ b ++ m
     → SpellsBody l.order own t b → SpellsEach (member_part (kind t) (dimension t)) ss (members t) m → nest t ≤ room

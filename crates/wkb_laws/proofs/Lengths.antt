@@ -62,32 +62,45 @@ body_size (polygon d rings) = rings_size d rings
 body_size _ = 4
 
 value_size-members : (t : Value) → value_size t ≡ 5 + body_size t + each_size (members t)
-value_size-members (multi_point d l) = omega (arith, each_same (point d) each_size refl (5 + 8 * width d) (λ a ts. refl) l)
-value_size-members (multi_line_string d l) = ap (λ z. 9 + z) (sym (each_sum (line_string d) each_size refl (λ cs. 5 + coordinates_size d cs) (λ a ts. refl) l))
-value_size-members (multi_polygon d l) = ap (λ z. 9 + z) (sym (each_sum (polygon d) each_size refl (λ rings. 5 + rings_size d rings) (λ a ts. refl) l))
+value_size-members (multi_point d l) =
+    omega (arith, each_same (point d) each_size refl (5 + 8 * width d) (λ a ts. refl) l)
+value_size-members (multi_line_string d l) =
+    ap (λ z. 9 + z) (sym (each_sum (line_string d) each_size refl (λ cs. 5 + coordinates_size d cs) (λ a ts. refl) l))
+value_size-members (multi_polygon d l) =
+    ap (λ z. 9 + z) (sym (each_sum (polygon d) each_size refl (λ rings. 5 + rings_size d rings) (λ a ts. refl) l))
 value_size-members _ = omega arith
 
-pub each_length : {A : Type 0} (P : A → List ℕ → Type 0) (size : A → ℕ) → ((a : A) (x : List ℕ) → P a x → length x ≡ size a) → (l : List A) (x : List ℕ)
+pub each_length : {A : Type 0} (P : A → List ℕ → Type 0) (size : A → ℕ)
+    → ((a : A) (x : List ℕ) → P a x → length x ≡ size a) → (l : List A) (x : List ℕ)
     → IsEach P l x → length x ≡ sum_by size l
 each_length P size one [] x h = ap length h
 each_length P size one (a ∷ l) x h =
     ap length h.whole ∙ length-append h.front h.rest ∙ ap (λ z. z + length h.rest) (one a h.front h.first)
     ∙ ap (λ z. size a + z) (each_length P size one l h.rest h.second) ∙ sym (sum_by-cons size a l)
 
-pub coordinate_length : (order : Endianness) (d : Dimension) (c : Coordinate) (x : List ℕ) → SpellsCoordinate order d c x → length x ≡ 8 * width d
+pub coordinate_length : (order : Endianness) (d : Dimension) (c : Coordinate) (x : List ℕ)
+    → SpellsCoordinate order d c x → length x ≡ 8 * width d
 coordinate_length order d c x h = each_len (IsNumber order 8) 8 (λ v y is. is.len) c x h.words ∙ ap (λ z. 8 * z) h.len
 
-pub coordinates_length : (order : Endianness) (d : Dimension) (cs : List Coordinate) (x : List ℕ) → SpellsCoordinates order d cs x
+pub coordinates_length : (order : Endianness) (d : Dimension) (cs : List Coordinate) (x : List ℕ)
+    → SpellsCoordinates order d cs x
     → length x ≡ coordinates_size d cs
 coordinates_length order d cs x h =
-    omega (arith, each_len (SpellsCoordinate order d) (8 * width d) (coordinate_length order d) cs h.rest h.second, then_length h)
+    omega (
+      arith,
+      each_len (SpellsCoordinate order d) (8 * width d) (coordinate_length order d) cs h.rest h.second,
+      then_length h,
+    )
 
-body_length : (order : Endianness) (own : List ℕ) (t : Value) (x : List ℕ) → SpellsBody order own t x → length x ≡ body_size t
+body_length : (order : Endianness) (own : List ℕ) (t : Value) (x : List ℕ) → SpellsBody order own t x
+    → length x ≡ body_size t
 body_length order own (point d None) x h = coordinate_length order d own x h.1
 body_length order own (point d (Some c)) x h = coordinate_length order d c x h.2
 body_length order own (line_string d cs) x h = coordinates_length order d cs x h.1
 body_length order own (polygon d rings) x h =
-    let body = each_length (SpellsCoordinates order d) (coordinates_size d) (coordinates_length order d) rings (h.1).rest (h.1).second in
+    let body =
+    each_length (SpellsCoordinates order d) (coordinates_size d) (coordinates_length order d) rings (h.1).rest
+    (h.1).second in
     omega (arith, ((h.1).first).len, then_length h.1)
 body_length order own _ x h = (h.1).len
 
@@ -97,14 +110,17 @@ srid_size_is false = refl
 
 -- an encoding is as long as its value asks for, and four bytes for each SRID
 mutual
-  pub spelled_length : (s : Spelling) (t : Value) (x : List ℕ) → Spells s t x → length x ≡ value_size t + 4 * srid_count s
+  pub spelled_length : (s : Spelling) (t : Value) (x : List ℕ) → Spells s t x
+      → length x ≡ value_size t + 4 * srid_count s
   spelled_length (node h own ss) t x a =
       let head = header_length h (kind t) (dimension t) a.front a.first in
       let body = body_length h.order own t a.second.front a.second.first in
-      let tail = each_spelled_length (member_part (kind t) (dimension t)) ss (members t) a.second.rest a.second.second in
+      let tail =
+      each_spelled_length (member_part (kind t) (dimension t)) ss (members t) a.second.rest a.second.second in
       omega (arith, then_length a, then_length a.second, value_size-members t, srid_size_is (is_some h.srid))
 
-  pub each_spelled_length : (w : Wanted) (ss : Spellings) (ts : Values) (x : List ℕ) → SpellsEach w ss ts x → length x ≡ each_size ts + 4 * srid_count_each ss
+  pub each_spelled_length : (w : Wanted) (ss : Spellings) (ts : Values) (x : List ℕ) → SpellsEach w ss ts x
+      → length x ≡ each_size ts + 4 * srid_count_each ss
   each_spelled_length w no_spellings no_members x a = ap length a
   each_spelled_length w (spelling s ss) (member t ts) x a =
       omega (arith, each_spelled_length w ss ts a.rest a.second, spelled_length s t a.front a.first.0, then_length a)
@@ -112,22 +128,29 @@ mutual
 
 -- what is written has the options' SRID, and no other
 mutual
-  no_srids : (order : Endianness) (form : Form) (ss : Spellings) → is_some (form_srid form) ≡ false → AllHaveOptions order form ss → srid_count_each ss ≡ 0
+  no_srids : (order : Endianness) (form : Form) (ss : Spellings) → is_some (form_srid form) ≡ false
+      → AllHaveOptions order form ss → srid_count_each ss ≡ 0
   no_srids order form no_spellings none h = refl
   no_srids order form (spelling s ss) none h =
       let zero_head : ◌≡◌ {A = ℕ} (if is_some (form_srid form) then 1 else 0) 0 = ap (λ z. if z then 1 else 0) none in
       omega (arith, no_srids order form ss none h.1, srid_counted order form s h.0)
 
-  srid_counted : (order : Endianness) (form : Form) (s : Spelling) → HasOptions order form s → srid_count s ≡ (if is_some (form_srid form) then 1 else 0)
+  srid_counted : (order : Endianness) (form : Form) (s : Spelling) → HasOptions order form s
+      → srid_count s ≡ (if is_some (form_srid form) then 1 else 0)
   srid_counted order form (node h own ss) k =
-      let mine : ◌≡◌ {A = ℕ} (if is_some h.srid then 1 else 0) (if is_some (form_srid form) then 1 else 0) = ap (λ z. if is_some z then 1 else 0) k.1 in
+      let mine : ◌≡◌ {A = ℕ} (if is_some h.srid then 1 else 0) (if is_some (form_srid form) then 1 else 0) =
+      ap (λ z. if is_some z then 1 else 0) k.1 in
       omega (arith, no_srids order (inner form) ss (inner_fits form).1 k.2)
 
 pub encoding_length : (order : Endianness) (form : Form) (g : Geometry) → IsForm form → IsGeometry g → fault g ≡ None
     → length (encoding order form g) ≡ value_size (normal g) + 4 * (if is_some (form_srid form) then 1 else 0)
 encoding_length order form g h lawful fine =
     let one = srid_counted order form (written order form g) (written_has_options order form g) in
-    omega (arith, spelled_length (written order form g) (normal g) (encoding order form g) (encoding_spells order form g h lawful fine))
+    omega (
+      arith,
+      spelled_length (written order form g) (normal g) (encoding order form g)
+          (encoding_spells order form g h lawful fine),
+    )
 
 pub length_of_encoding_lem : LengthOfEncoding
 length_of_encoding_lem order other form g h lawful fine =
@@ -143,10 +166,12 @@ spelled_written order s t x b h =
     omega (arith, spelled_length s t x h, ap value_size (normal-geometry_of t good.0))
 
 pub length_of_front_lem : LengthOfFront
-length_of_front_lem order input s t rest b f = spelled_written order s t f.front (front_bytes input s t rest b f) f.spelled
+length_of_front_lem order input s t rest b f =
+    spelled_written order s t f.front (front_bytes input s t rest b f) f.spelled
 
 -- what is refused of a good value is its length alone
-size_refused : (order : Endianness) (form : Form) (t : Value) → Good t → refusal order form (geometry_of t) ≡ size_fault (length (encoding order form (geometry_of t)))
+size_refused : (order : Endianness) (form : Form) (t : Value) → Good t
+    → refusal order form (geometry_of t) ≡ size_fault (length (encoding order form (geometry_of t)))
 unfolding or_else
 size_refused order form t good = ap (λ z. or_else z (size_fault (length (encoding order form (geometry_of t))))) good.1
 
@@ -155,14 +180,16 @@ size_is_refused_lem order form input s t rest b f = size_refused order form t (f
 
 -- a value is written in no more bytes than spell it where the form has no SRID that the spelling hasn't
 fits : (order : Endianness) (form : Form) (s : Spelling) (t : Value) (x : List ℕ) → AreBytes x → length x < 2 ^ 64
-    → Spells s t x → IsForm form → ◌≤◌ (if is_some (form_srid form) then 1 else 0) (srid_count s) → IsWritable order form (geometry_of t)
+    → Spells s t x → IsForm form → ◌≤◌ (if is_some (form_srid form) then 1 else 0) (srid_count s)
+    → IsWritable order form (geometry_of t)
 unfolding size_fault
 fits order form s t x b small h form_is fewer =
     let good = spelled_good s t x b h in
     let long = spelled_length s t x h in
     let len = encoding_length order form (geometry_of t) form_is (lawful-geometry_of t good.0) good.1 in
     let same : value_size (normal (geometry_of t)) ≡ value_size t = ap value_size (normal-geometry_of t good.0) in
-    size_refused order form t good ∙ cond-true (nat_lt (length (encoding order form (geometry_of t))) (2 ^ 64)) _ _ (lt-ltb _ _ (omega arith))
+    size_refused order form t good
+    ∙ cond-true (nat_lt (length (encoding order form (geometry_of t))) (2 ^ 64)) _ _ (lt-ltb _ _ (omega arith))
 
 outer_counted : (s : Spelling) → ◌≤◌ (if is_some (header s).srid then 1 else 0) (srid_count s)
 outer_counted (node h own ss) = omega arith
@@ -182,10 +209,12 @@ spelled_is_writable_lem s t x b small h =
     }
 
 -- so is what an input begins with
-front_writable : (input : List ℕ) (s : Spelling) (t : Value) (rest : List ℕ) → AreBytes input → length input < 2 ^ 64 → (f : Front input s t rest)
+front_writable : (input : List ℕ) (s : Spelling) (t : Value) (rest : List ℕ) → AreBytes input → length input < 2 ^ 64
+    → (f : Front input s t rest)
     → IsRewritable s t f.front
 front_writable input s t rest b small f =
-    spelled_is_writable_lem s t f.front (front_bytes input s t rest b f) (omega (arith, small, ap length f.whole, length-append f.front rest)) f.spelled
+    spelled_is_writable_lem s t f.front (front_bytes input s t rest b f)
+    (omega (arith, small, ap length f.whole, length-append f.front rest)) f.spelled
 
 pub front_is_writable_lem : FrontIsWritable
 front_is_writable_lem order input s t rest b small f =

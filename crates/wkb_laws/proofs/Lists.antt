@@ -10,17 +10,20 @@ use Rattle.wkb_laws.specs.Words.{Reading, Item, collection_with, list_item, mult
 use Rattle.wkb_laws.specs.Words.{multi_polygon_with, parts_body, refused}
 
 -- what follows for one follows for all
-pub all_imply : {A : Type 0} (P Q : A → Type 0) → ((a : A) → P a → Q a) → (l : List A) → AllByRecursion P l → AllByRecursion Q l
+pub all_imply : {A : Type 0} (P Q : A → Type 0) → ((a : A) → P a → Q a) → (l : List A) → AllByRecursion P l
+    → AllByRecursion Q l
 all_imply P Q f [] h = tt
 all_imply P Q f (a ∷ l) h = (f a h.0, all_imply P Q f l h.1)
 
 -- What a list of values has is the sum of what its items have.
 module _ {A : Type 0} (f : A → Value) (total : Values → ℕ) (none : total no_members ≡ 0) where
-  pub each_sum : (own : A → ℕ) → ((a : A) (ts : Values) → total (member (f a) ts) ≡ own a + total ts) → (l : List A) → total (each f l) ≡ sum_by own l
+  pub each_sum : (own : A → ℕ) → ((a : A) (ts : Values) → total (member (f a) ts) ≡ own a + total ts) → (l : List A)
+      → total (each f l) ≡ sum_by own l
   each_sum own one [] = none
   each_sum own one (a ∷ l) = one a (each f l) ∙ ap (λ z. own a + z) (each_sum own one l) ∙ sym (sum_by-cons own a l)
 
-  pub each_same : (n : ℕ) → ((a : A) (ts : Values) → total (member (f a) ts) ≡ n + total ts) → (l : List A) → total (each f l) ≡ n * length l
+  pub each_same : (n : ℕ) → ((a : A) (ts : Values) → total (member (f a) ts) ≡ n + total ts) → (l : List A)
+      → total (each f l) ≡ n * length l
   each_same n one [] = omega (arith, none)
   each_same n one (a ∷ l) = omega (arith, one a (each f l), each_same n one l)
 
@@ -43,7 +46,8 @@ IsWanted (part k d) = k ≤ 3
 -- the geometry of such members, by its kind
 abbrev pub whole_by : ℕ → Dimension → List Item → Value
 whole_by k =
-    if k == 4 then multi_point_with else if k == 5 then multi_line_string_with else if k == 6 then multi_polygon_with else collection_with
+    if k == 4 then multi_point_with else if k == 5 then multi_line_string_with else if k == 6 then multi_polygon_with
+    else collection_with
 
 -- what stands behind the count of a list of members
 abbrev pub list_behind : ℕ → Layout → (List ℕ → Reading Item) → List ℕ → ℕ → Reading Item

@@ -18,36 +18,46 @@ use Rattle.wkb_laws.proofs.Values.{AreBytes-front, AreBytes-rest}
 pub record Fixed (P : List ℕ → Type 0) : Type 0 where
   pub same : (x y : List ℕ) → P x → P y → AreBytes x → AreBytes y → x ≡ y
 
-big_fixed : (n : ℕ) (x y : List ℕ) → length x ≡ n → length y ≡ n → big_from 0 n x ≡ big_from 0 n y → AreBytes x → AreBytes y → x ≡ y
+big_fixed : (n : ℕ) (x y : List ℕ) → length x ≡ n → length y ≡ n → big_from 0 n x ≡ big_from 0 n y → AreBytes x
+    → AreBytes y → x ≡ y
 big_fixed zero [] [] l m e h k = refl
 big_fixed (suc n) (a ∷ x) (b ∷ y) l m e h k =
     let p = 256 ^ n in
     let sum : a * p + big_from 0 n x ≡ b * p + big_from 0 n y =
     ap (λ (r : ℕ). a * p + r) (sym (big_from-cons 0 n a x)) ∙ e ∙ ap (λ (r : ℕ). b * p + r) (big_from-cons 0 n b y) in
     let digit : a ≡ b =
-    sym (div-mul-add a p _ (big_from-lt 0 n x (λ i. h (suc i)))) ∙ ap (λ (z : ℕ). z / p) sum ∙ div-mul-add b p _ (big_from-lt 0 n y (λ i. k (suc i))) in
-    let tail : x ≡ y = big_fixed n x y (omega arith) (omega arith) (omega (arith, sum, ap (λ (z : ℕ). z * p) digit)) (λ i. h (suc i)) (λ i. k (suc i)) in
+    sym (div-mul-add a p _ (big_from-lt 0 n x (λ i. h (suc i)))) ∙ ap (λ (z : ℕ). z / p) sum
+    ∙ div-mul-add b p _ (big_from-lt 0 n y (λ i. k (suc i))) in
+    let tail : x ≡ y =
+    big_fixed n x y (omega arith) (omega arith) (omega (arith, sum, ap (λ (z : ℕ). z * p) digit)) (λ i. h (suc i))
+    (λ i. k (suc i)) in
     rw (digit, tail) refl
 big_fixed _ _ _ l m e h k = absurd (omega arith)
 
-little_fixed : (n : ℕ) (x y : List ℕ) → length x ≡ n → length y ≡ n → little_from 0 n x ≡ little_from 0 n y → AreBytes x → AreBytes y → x ≡ y
+little_fixed : (n : ℕ) (x y : List ℕ) → length x ≡ n → length y ≡ n → little_from 0 n x ≡ little_from 0 n y → AreBytes x
+    → AreBytes y → x ≡ y
 little_fixed zero [] [] l m e h k = refl
 little_fixed (suc n) (a ∷ x) (b ∷ y) l m e h k =
     let small : a < 256 = h 0 in
     let small' : b < 256 = k 0 in
     let sum : a + 256 * little_from 0 n x ≡ b + 256 * little_from 0 n y =
-    ap (λ (r : ℕ). a + 256 * r) (sym (little_from-cons 0 n a x)) ∙ e ∙ ap (λ (r : ℕ). b + 256 * r) (little_from-cons 0 n b y) in
+    ap (λ (r : ℕ). a + 256 * r) (sym (little_from-cons 0 n a x)) ∙ e
+    ∙ ap (λ (r : ℕ). b + 256 * r) (little_from-cons 0 n b y) in
     let digit : a ≡ b = omega (arith, small, small', sum) in
-    let tail : x ≡ y = little_fixed n x y (omega arith) (omega arith) (omega (arith, small, small', sum)) (λ i. h (suc i)) (λ i. k (suc i)) in
+    let tail : x ≡ y =
+    little_fixed n x y (omega arith) (omega arith) (omega (arith, small, small', sum)) (λ i. h (suc i))
+    (λ i. k (suc i)) in
     rw (digit, tail) refl
 little_fixed _ _ _ l m e h k = absurd (omega arith)
 
 pub number_fixed : (order : Endianness) (n v : ℕ) → Fixed (IsNumber order n v)
 unfolding number
 number_fixed BigEndian n v = record { same = λ x y a b h k. big_fixed n x y a.len b.len (a.value ∙ sym b.value) h k }
-number_fixed LittleEndian n v = record { same = λ x y a b h k. little_fixed n x y a.len b.len (a.value ∙ sym b.value) h k }
+number_fixed LittleEndian n v =
+    record { same = λ x y a b h k. little_fixed n x y a.len b.len (a.value ∙ sym b.value) h k }
 
-joined : {P Q : List ℕ → Type 0} → Fixed P → Fixed Q → (a b c d : List ℕ) → P a → P b → Q c → Q d → AreBytes (a ++ c) → AreBytes (b ++ d) → a ++ c ≡ b ++ d
+joined : {P Q : List ℕ → Type 0} → Fixed P → Fixed Q → (a b c d : List ℕ) → P a → P b → Q c → Q d → AreBytes (a ++ c)
+    → AreBytes (b ++ d) → a ++ c ≡ b ++ d
 joined one other a b c d p q r s h k =
     let first : a ≡ b = one.same a b p q (AreBytes-front a c h) (AreBytes-front b d k) in
     let second : c ≡ d = other.same c d r s (AreBytes-rest a c h) (AreBytes-rest b d k) in
@@ -56,7 +66,8 @@ joined one other a b c d p q r s h k =
 then_fixed : {P Q : List ℕ → Type 0} → Fixed P → Fixed Q → Fixed (Then P Q)
 then_fixed one other = record {
   same = λ x y a b h k.
-      a.whole ∙ joined one other a.front b.front a.rest b.rest a.first b.first a.second b.second (subst AreBytes a.whole h) (subst AreBytes b.whole k)
+      a.whole ∙ joined one other a.front b.front a.rest b.rest a.first b.first a.second b.second
+      (subst AreBytes a.whole h) (subst AreBytes b.whole k)
       ∙ sym b.whole;
 }
 
@@ -64,11 +75,13 @@ each_fixed : {A : Type 0} {P : A → List ℕ → Type 0} → ((a : A) → Fixed
 each_fixed one [] = record { same = λ x y a b h k. a ∙ sym b }
 each_fixed one (v ∷ l) = then_fixed (one v) (each_fixed one l)
 
-counted_fixed : {A : Type 0} {P : A → List ℕ → Type 0} (order : Endianness) → ((a : A) → Fixed (P a)) → (l : List A) → Fixed (IsCounted order P l)
+counted_fixed : {A : Type 0} {P : A → List ℕ → Type 0} (order : Endianness) → ((a : A) → Fixed (P a)) → (l : List A)
+    → Fixed (IsCounted order P l)
 counted_fixed order one l = then_fixed (number_fixed order 4 (length l)) (each_fixed one l)
 
 coordinate_fixed : (order : Endianness) (d : Dimension) (c : Coordinate) → Fixed (SpellsCoordinate order d c)
-coordinate_fixed order d c = record { same = λ x y a b h k. (each_fixed (number_fixed order 8) c).same x y a.words b.words h k }
+coordinate_fixed order d c =
+    record { same = λ x y a b h k. (each_fixed (number_fixed order 8) c).same x y a.words b.words h k }
 
 coordinates_fixed : (order : Endianness) (d : Dimension) (cs : List Coordinate) → Fixed (SpellsCoordinates order d cs)
 coordinates_fixed order d = counted_fixed order (coordinate_fixed order d)
@@ -83,7 +96,8 @@ header_fixed g n d = record {
       let h' : AreBytes (a.code_field ++ a.srid_field) = λ i. subst AreBytes a.whole h (suc i) in
       let k' : AreBytes (b.code_field ++ b.srid_field) = λ i. subst AreBytes b.whole k (suc i) in
       let fields = joined (number_fixed g.order 4 g.code)
-      (srid_fixed g.order g.srid) a.code_field b.code_field a.srid_field b.srid_field a.code b.code a.srid b.srid h' k' in
+      (srid_fixed g.order g.srid) a.code_field b.code_field a.srid_field b.srid_field a.code b.code a.srid b.srid h' k'
+      in
       a.whole ∙ ap (λ (t : List ℕ). order_byte g.order ∷ t) fields ∙ sym b.whole;
 }
 
@@ -93,7 +107,8 @@ beside one = record { same = λ x y a b h k. one.same x y a.1 b.1 h k }
 
 body_fixed : (order : Endianness) (words : List ℕ) (t : Value) → Fixed (SpellsBody order words t)
 body_fixed order words (point d None) = beside (coordinate_fixed order d words)
-body_fixed order words (point d (Some c)) = record { same = λ x y a b h k. (coordinate_fixed order d c).same x y a.2 b.2 h k }
+body_fixed order words (point d (Some c)) =
+    record { same = λ x y a b h k. (coordinate_fixed order d c).same x y a.2 b.2 h k }
 body_fixed order words (line_string d cs) = beside (coordinates_fixed order d cs)
 body_fixed order words (polygon d rings) = beside (counted_fixed order (coordinates_fixed order d) rings)
 body_fixed order words _ = beside (number_fixed order 4 _)

@@ -12,14 +12,22 @@ pub record SameSpelling (s u : Spelling) (t v : Value) (x y r q : List ℕ) : Ty
   pub encoding : x ≡ y
   pub rest : r ≡ q
 
-pub one_spelling : (s u : Spelling) (t v : Value) (x y r q : List ℕ) → Spells s t x → Spells u v y → x ++ r ≡ y ++ q → SameSpelling s u t v x y r q
+pub one_spelling : (s u : Spelling) (t v : Value) (x y r q : List ℕ) → Spells s t x → Spells u v y → x ++ r ≡ y ++ q
+    → SameSpelling s u t v x y r q
 one_spelling s u t v x y r q a b e =
     let room = max (nest t) (nest v) in
     let both : found s t x r ≡ found u v y q =
-    sym (front_at room any tt s t x r a (omega arith) tt) ∙ ap (geometry_at room) e ∙ front_at room any tt u v y q b (omega arith) tt in
+    sym (front_at room any tt s t x r a (omega arith) tt) ∙ ap (geometry_at room) e
+    ∙ front_at room any tt u v y q b (omega arith) tt in
     let answers : ◌≡◌ {A = reading.Outcome Item} (found s t x r).1 (found u v y q).1 = ap (λ z. z.1) both in
-    let item : ◌≡◌ {A = Item × List ℕ} (record { encoding = x; spelled = s; value = t }, r) (record { encoding = y; spelled = u; value = v }, q) = cc in
-    record { spelling = ap (λ z. z.0.spelled) item; value = ap (λ z. z.0.value) item; encoding = ap (λ z. z.0.encoding) item; rest = ap (λ z. z.1) item }
+    let item : ◌≡◌ {A = Item × List ℕ} (record { encoding = x; spelled = s; value = t }, r)
+    (record { encoding = y; spelled = u; value = v }, q) = cc in
+    record {
+      spelling = ap (λ z. z.0.spelled) item;
+      value = ap (λ z. z.0.value) item;
+      encoding = ap (λ z. z.0.encoding) item;
+      rest = ap (λ z. z.1) item;
+    }
 
 pub one_front_lem : HasOneFront
 one_front_lem input s u t v rest more a b =

@@ -22,7 +22,8 @@ read_or_refused_lem input = either input _ (geometry_agrees_lem input)
 pub never_both_lem : NeverBoth
 never_both_lem input s t rest cause turns slots f r =
     let both = sym (front_is_read_lem input s t rest f) ∙ refusal_is_read_lem input cause turns slots r in
-    let answers : ◌≡◌ {A = reading.Outcome Item} (Ok (record { encoding = f.front; spelled = s; value = t }, rest)) (Err cause) = ap (λ z. z.1) both in
+    let answers : ◌≡◌ {A = reading.Outcome Item} (Ok (record { encoding = f.front; spelled = s; value = t }, rest))
+    (Err cause) = ap (λ z. z.1) both in
     cc
 
 pub one_refusal_lem : OneRefusal
@@ -32,7 +33,8 @@ one_refusal_lem input cause other turns turns' slots slots' r q =
     (cc, ap (λ z. z.0.turns) same, ap (λ z. z.0.slots) same)
 
 -- a refused member behind some that are spelled
-refused_behind : (room : ℕ) (w : Wanted) (more : ℕ) (ss : Spellings) (ts : Values) (input x rest : List ℕ) (c : Cause) (b z : ℕ)
+refused_behind : (room : ℕ) (w : Wanted) (more : ℕ) (ss : Spellings) (ts : Values) (input x rest : List ℕ) (c : Cause)
+    (b z : ℕ)
     → input ≡ x ++ rest → SpellsEach w ss ts x → nest_each ts ≤ room → Refuses room w rest c b z
     → RefusesEach room w (count ts + suc more) input c (member_count_each ts + (1 + b)) (listed_inside ts + z)
 refused_behind room w more no_spellings no_members input x rest c b z e h shallow r =
@@ -42,11 +44,13 @@ refused_behind room w more (spelling s ss) (member t ts) input x rest c b z e h 
     let shape : input ≡ h.front ++ (h.rest ++ rest) = e ∙ then_append h rest in
     let others = refused_behind room w more ss ts (h.rest ++ rest) h.rest rest c b z refl h.second (omega arith) r in
     refused_each (omega arith) (omega arith) (omega arith)
-    (later_member (record { front = h.front; whole = shape; spelled = h.first.0; shallow = omega arith }) h.first.1 others)
+    (later_member
+    (record { front = h.front; whole = shape; spelled = h.first.0; shallow = omega arith }) h.first.1 others)
 refused_behind room w more _ _ input x rest c b z e h shallow r = absurd h
 
 pub refused_outward_lem : RefusedOutward
 refused_outward_lem room w input order d srid n behind more ss ts x rest c b z counts e h shallow fewer r =
     bad_member {k = 7} counts (omega arith) (λ four. absurd (omega arith))
-    (subst (λ k. RefusesEach (room_inside 7 room) any k behind c (member_count_each ts + (1 + b)) (listed_inside ts + z)) (sym fewer)
+    (subst (λ k. RefusesEach (room_inside 7 room) any k behind c (member_count_each ts + (1 + b))
+    (listed_inside ts + z)) (sym fewer)
     (refused_behind (room_inside 7 room) any more ss ts behind x rest c b z e h shallow r))

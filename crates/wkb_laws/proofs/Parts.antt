@@ -25,7 +25,8 @@ pub drop_front : (n : ℕ) (x y : List ℕ) → length x ≡ n → drop n (x ++ 
 drop_front n x y e = subst (λ k. drop k (x ++ y) ≡ y) e (drop-append_seam x y)
 
 -- a number is read off the first bytes
-pub number-more : (order : Endianness) (n : ℕ) (x y : List ℕ) → n ≤ length x → number order n (x ++ y) ≡ number order n x
+pub number-more : (order : Endianness) (n : ℕ) (x y : List ℕ) → n ≤ length x
+    → number order n (x ++ y) ≡ number order n x
 unfolding number
 number-more BigEndian n x y h = big_from-append n x y h
 number-more LittleEndian n x y h = little_from-append n x y h
@@ -33,7 +34,8 @@ number-more LittleEndian n x y h = little_from-append n x y h
 pub number-front : (order : Endianness) (n v : ℕ) (x y : List ℕ) → IsNumber order n v x → number order n (x ++ y) ≡ v
 number-front order n v x y h = number-more order n x y (omega (arith, h.len)) ∙ h.value
 
-pub number-take : (order : Endianness) (n : ℕ) (y : List ℕ) → n ≤ length y → IsNumber order n (number order n y) (take n y)
+pub number-take : (order : Endianness) (n : ℕ) (y : List ℕ) → n ≤ length y
+    → IsNumber order n (number order n y) (take n y)
 number-take order n y h = record { len = length-take-le n y h; value = number_taken order n n y (omega arith) }
 
 -- where an input begins with a field, the number and the rest
@@ -46,11 +48,14 @@ begins_number order n v input rest b =
       ap (drop n) b.whole ∙ drop_front n b.front rest (b.first).len,
     )
 
-pub number_begins : (order : Endianness) (n : ℕ) (input : List ℕ) → n ≤ length input → Begins (IsNumber order n (number order n input)) input (drop n input)
-number_begins order n input h = record { front = take n input; whole = sym (take-append-drop n input); first = number-take order n input h }
+pub number_begins : (order : Endianness) (n : ℕ) (input : List ℕ) → n ≤ length input
+    → Begins (IsNumber order n (number order n input)) input (drop n input)
+number_begins order n input h =
+    record { front = take n input; whole = sym (take-append-drop n input); first = number-take order n input h }
 
 -- Where each item is read off its bytes, so are n of them.
-pub items_are : {A : Type 0} (P : A → List ℕ → Type 0) (size : ℕ) (item : List ℕ → A) → ((y : List ℕ) → size ≤ length y → P (item y) (take size y))
+pub items_are : {A : Type 0} (P : A → List ℕ → Type 0) (size : ℕ) (item : List ℕ → A)
+    → ((y : List ℕ) → size ≤ length y → P (item y) (take size y))
     → (n : ℕ) (y : List ℕ) → size * n ≤ length y → IsEach P (items size item n y) (take (size * n) y)
 items_are P size item one zero y h = let e : size * 0 ≡ 0 = omega arith in rw e refl
 items_are P size item one (suc n) y h =
@@ -64,7 +69,8 @@ items_are P size item one (suc n) y h =
     }
 
 -- as many bytes an item
-pub each_len : {A : Type 0} (P : A → List ℕ → Type 0) (size : ℕ) → ((a : A) (x : List ℕ) → P a x → length x ≡ size) → (l : List A) (x : List ℕ) → IsEach P l x
+pub each_len : {A : Type 0} (P : A → List ℕ → Type 0) (size : ℕ) → ((a : A) (x : List ℕ) → P a x → length x ≡ size)
+    → (l : List A) (x : List ℕ) → IsEach P l x
     → length x ≡ size * length l
 each_len P size one [] x h = omega (arith, ap length h)
 each_len P size one (a ∷ l) x h =
@@ -78,29 +84,42 @@ items_read P size item one [] x y h = refl
 items_read P size item one (a ∷ l) x y h =
     let first = one a h.front (h.rest ++ y) h.first in
     let shape : x ++ y ≡ h.front ++ (h.rest ++ y) = then_append h y in
-    let behind : drop size (x ++ y) ≡ h.rest ++ y = ap (drop size) shape ∙ drop_front size h.front (h.rest ++ y) first.0 in
+    let behind : drop size (x ++ y) ≡ h.rest ++ y =
+    ap (drop size) shape ∙ drop_front size h.front (h.rest ++ y) first.0 in
     let head : item (x ++ y) ≡ a = ap item shape ∙ first.1 in
-    let tail : items size item (length l) (drop size (x ++ y)) ≡ l = ap (items size item (length l)) behind ∙ items_read P size item one l h.rest y h.second in
+    let tail : items size item (length l) (drop size (x ++ y)) ≡ l =
+    ap (items size item (length l)) behind ∙ items_read P size item one l h.rest y h.second in
     cc
 
 -- one of the items, by its number
-pub item_at : {A : Type 0} (size : ℕ) (item : List ℕ → A) (n i : ℕ) (y : List ℕ) (a : A) → slice_get (items size item n y) i ≡ Some a
+pub item_at : {A : Type 0} (size : ℕ) (item : List ℕ → A) (n i : ℕ) (y : List ℕ) (a : A)
+    → slice_get (items size item n y) i ≡ Some a
     → item (drop (size * i) y) ≡ a
 item_at size item zero i y a is = absurd (cc)
-item_at size item (suc n) zero y a is = let start : size * 0 ≡ 0 = omega arith in let same : item y ≡ a = cc in ap (λ k. item (drop k y)) start ∙ same
+item_at size item (suc n) zero y a is =
+    let start : size * 0 ≡ 0 = omega arith in let same : item y ≡ a = cc in ap (λ k. item (drop k y)) start ∙ same
 item_at size item (suc n) (suc i) y a is =
     let start : size * suc i ≡ size + size * i = omega arith in
-    ap (λ k. item (drop k y)) start ∙ ap item (sym (drop-drop (size * i) size y)) ∙ item_at size item n i (drop size y) a is
+    ap (λ k. item (drop k y)) start ∙ ap item (sym (drop-drop (size * i) size y))
+    ∙ item_at size item n i (drop size y) a is
 
-pub length-opens : {input rest : List ℕ} {order : Endianness} {k : ℕ} {d : Dimension} {srid : Bool} → Opens input order k d srid rest
+pub length-opens : {input rest : List ℕ} {order : Endianness} {k : ℕ} {d : Dimension} {srid : Bool}
+    → Opens input order k d srid rest
     → length input ≡ 5 + length rest
 length-opens {input} {rest} o =
     omega (arith, ap length o.number.whole ∙ length-append o.number.front rest, ap length o.whole)
 
-pub srid_length : (order : Endianness) (srid : Option ℕ) (field : List ℕ) → IsSrid order srid field → length field ≡ srid_size (is_some srid)
+pub srid_length : (order : Endianness) (srid : Option ℕ) (field : List ℕ) → IsSrid order srid field
+    → length field ≡ srid_size (is_some srid)
 srid_length order None field h = ap length h
 srid_length order (Some n) field h = h.len
 
-pub header_length : (h : Header) (k : ℕ) (d : Dimension) (front : List ℕ) → IsHeader h k d front → length front ≡ 5 + srid_size (is_some h.srid)
+pub header_length : (h : Header) (k : ℕ) (d : Dimension) (front : List ℕ) → IsHeader h k d front
+    → length front ≡ 5 + srid_size (is_some h.srid)
 header_length h k d front is =
-    omega (arith, ap length is.whole, length-append is.code_field is.srid_field, srid_length h.order h.srid is.srid_field is.srid)
+    omega (
+      arith,
+      ap length is.whole,
+      length-append is.code_field is.srid_field,
+      srid_length h.order h.srid is.srid_field is.srid,
+    )

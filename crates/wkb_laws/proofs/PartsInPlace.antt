@@ -49,7 +49,8 @@ module _ {P Q Others : List ℕ → Type 0} {bytes : List ℕ} (h : Then P Q byt
     is = f.is;
   }
 
-each_at : {A : Type 0} (P : A → List ℕ → Type 0) (l : List A) (j : ℕ) (a : A) (bytes : List ℕ) → IsEach P l bytes → slice_get l j ≡ Some a
+each_at : {A : Type 0} (P : A → List ℕ → Type 0) (l : List A) (j : ℕ) (a : A) (bytes : List ℕ) → IsEach P l bytes
+    → slice_get l j ≡ Some a
     → Among (IsEach P (take j l)) (P a) bytes
 each_at P [] j a bytes h is = absurd (cc)
 each_at P (b ∷ l) zero a bytes h is = let same : b ≡ a = cc in first_is h (subst (λ c. P c h.front) same h.first) refl
@@ -64,32 +65,44 @@ words_lem order d cs bytes rest i n w h is =
     let x = bytes ++ rest in
     let read = ring_read order d cs bytes rest h in
     let size = 8 * width d in
-    let coordinate_is = item_at size (coordinate order d) _ i (drop 4 x) is.coordinate (ap (λ z. slice_get z i) read.is ∙ is.coordinate_is) in
-    let word_is = item_at 8 (number order 8) _ n (drop (size * i) (drop 4 x)) w (ap (λ z. slice_get z n) coordinate_is ∙ is.word_is) in
+    let coordinate_is =
+    item_at size (coordinate order d) _ i (drop 4 x) is.coordinate
+    (ap (λ z. slice_get z i) read.is ∙ is.coordinate_is) in
+    let word_is =
+    item_at 8 (number order 8) _ n (drop (size * i) (drop 4 x)) w
+    (ap (λ z. slice_get z n) coordinate_is ∙ is.word_is) in
     let at : 4 + 8 * (width d * i + n) ≡ (4 + size * i) + 8 * n = omega arith in
     ap (λ k. number order 8 (drop k x)) at
-    ∙ ap (number order 8) (sym (drop-drop (8 * n) (4 + size * i) x) ∙ ap (drop (8 * n)) (sym (drop-drop (size * i) 4 x))) ∙ word_is
+    ∙ ap (number order 8)
+    (sym (drop-drop (8 * n) (4 + size * i) x) ∙ ap (drop (8 * n)) (sym (drop-drop (size * i) 4 x))) ∙ word_is
 
 pub line_string_words_lem : LineStringWordsStand
 line_string_words_lem (node g own ss) d cs bytes rest i n w h is =
     let body = h.second in
     let coordinates = body.first.1 in
     let len = header_length g 2 d h.front h.first in
-    let all : bytes ++ rest ≡ h.front ++ (body.front ++ (body.rest ++ rest)) = then_append h rest ∙ ap (λ t. h.front ++ t) (then_append body rest) in
-    let at : behind_count (node g own ss) + 8 * (width d * i + n) ≡ (5 + srid_size (is_some g.srid)) + (4 + 8 * (width d * i + n)) = omega arith in
+    let all : bytes ++ rest ≡ h.front ++ (body.front ++ (body.rest ++ rest)) =
+    then_append h rest ∙ ap (λ t. h.front ++ t) (then_append body rest) in
+    let at : behind_count (node g own ss) + 8 * (width d * i + n)
+    ≡ (5 + srid_size (is_some g.srid)) + (4 + 8 * (width d * i + n)) = omega arith in
     ap (λ k. number g.order 8 (drop k (bytes ++ rest))) at
-    ∙ ap (number g.order 8) (sym (drop-drop (4 + 8 * (width d * i + n)) (5 + srid_size (is_some g.srid)) (bytes ++ rest)))
+    ∙ ap (number g.order 8)
+    (sym (drop-drop (4 + 8 * (width d * i + n)) (5 + srid_size (is_some g.srid)) (bytes ++ rest)))
     ∙ ap (λ t. number g.order 8 (drop (4 + 8 * (width d * i + n)) t))
-    (ap (drop (5 + srid_size (is_some g.srid))) all ∙ drop_front (5 + srid_size (is_some g.srid)) h.front (body.front ++ (body.rest ++ rest)) len)
+    (ap (drop (5 + srid_size (is_some g.srid))) all
+    ∙ drop_front (5 + srid_size (is_some g.srid)) h.front (body.front ++ (body.rest ++ rest)) len)
     ∙ words_lem g.order d cs body.front (body.rest ++ rest) i n w coordinates is
 
 -- ---- rings
 
 pub rings_lem : RingsStand
-rings_lem whole d rings j ring h value_is is = rings_of whole.encoding whole.spelled whole.value d rings j ring h value_is is
+rings_lem whole d rings j ring h value_is is =
+    rings_of whole.encoding whole.spelled whole.value d rings j ring h value_is is
   where
-    rings_of : (encoding : List ℕ) (s : Spelling) (t : Value) (d : Dimension) (rings : List (List Coordinate)) (j : ℕ) (ring : List Coordinate)
-        → Spells s t encoding → t ≡ polygon d rings → slice_get rings j ≡ Some ring → HoldsRing (record { encoding = encoding; spelled = s; value = t }) j ring
+    rings_of : (encoding : List ℕ) (s : Spelling) (t : Value) (d : Dimension) (rings : List (List Coordinate)) (j : ℕ)
+        (ring : List Coordinate)
+        → Spells s t encoding → t ≡ polygon d rings → slice_get rings j ≡ Some ring
+        → HoldsRing (record { encoding = encoding; spelled = s; value = t }) j ring
     rings_of encoding (node g own ss) t d rings j ring spelled value_is is =
         let h = subst (λ v. Spells (node g own ss) v encoding) value_is spelled in
         let body = h.second in
@@ -119,14 +132,16 @@ rings_lem whole d rings j ring h value_is is = rings_of whole.encoding whole.spe
           place = omega (
             arith,
             head,
-            each_length (SpellsCoordinates g.order d) (λ cs. ring_end d (length cs)) (coordinates_length g.order d) (take j rings) f.before f.others,
+            each_length (SpellsCoordinates g.order d)
+                (λ cs. ring_end d (length cs)) (coordinates_length g.order d) (take j rings) f.before f.others,
           );
         }
 
 -- ---- members
 
 -- one member's encoding among those of the others
-member_at : (w : Wanted) (k : ℕ) (ss : Spellings) (ts : Values) (s : Spelling) (t : Value) (bytes : List ℕ) → SpellsEach w ss ts bytes → IsOneOf k ss ts s t
+member_at : (w : Wanted) (k : ℕ) (ss : Spellings) (ts : Values) (s : Spelling) (t : Value) (bytes : List ℕ)
+    → SpellsEach w ss ts bytes → IsOneOf k ss ts s t
     → Among (SpellsEach any (first_spellings k ss) (first_values k ts)) (Spells s t) bytes
 member_at w zero (spelling a ss) (member v ts) s t bytes h is =
     first_is h (subst (λ u. Spells u t h.front) (sym is.0) (subst (λ u. Spells a u h.front) (sym is.1) h.first.0)) refl
@@ -142,19 +157,25 @@ has_none (suc k) no_spellings s t is = is
 has_none _ _ s t is = is
 
 -- the body of what has members is a count
-count_len : (order : Endianness) (own : List ℕ) (v : Value) (k : ℕ) (ss : Spellings) (s : Spelling) (t : Value) (bytes : List ℕ)
+count_len : (order : Endianness) (own : List ℕ) (v : Value) (k : ℕ) (ss : Spellings) (s : Spelling) (t : Value)
+    (bytes : List ℕ)
     → IsOneOf k ss (members v) s t → SpellsBody order own v bytes → length bytes ≡ 4
 count_len order own (point d c) k ss s t bytes is h = absurd (has_none k ss s t is)
 count_len order own (line_string d cs) k ss s t bytes is h = absurd (has_none k ss s t is)
 count_len order own (polygon d rings) k ss s t bytes is h = absurd (has_none k ss s t is)
 count_len order own _ k ss s t bytes is h = h.1.len
 
-members_by : (encoding : List ℕ) (u : Spelling) (v : Value) (k : ℕ) (s : Spelling) (t : Value) → Spells u v encoding → IsMember k u v s t
-    → (bytes : List ℕ) × HoldsMember (record { encoding = encoding; spelled = u; value = v }) k (record { encoding = bytes; spelled = s; value = t })
+members_by : (encoding : List ℕ) (u : Spelling) (v : Value) (k : ℕ) (s : Spelling) (t : Value) → Spells u v encoding
+    → IsMember k u v s t
+    → (bytes : List ℕ)
+    × HoldsMember (record { encoding = encoding; spelled = u; value = v }) k
+    (record { encoding = bytes; spelled = s; value = t })
 members_by encoding (node g own ss) v k s t h is =
     let body = h.second in
     let f = member_at (member_part (kind v) (dimension v)) k ss (members v) s t body.rest body.second is in
-    let counted = head_len g (kind v) (dimension v) h.front body.front h.first (count_len g.order own v k ss s t body.front is body.first) in (
+    let counted =
+    head_len g (kind v) (dimension v) h.front body.front h.first
+    (count_len g.order own v k ss s t body.front is body.first) in (
       f.item,
       record {
         start = length (h.front ++ body.front) + length f.before;
@@ -180,14 +201,17 @@ members_lem whole k s t h is = members_by whole.encoding whole.spelled whole.val
 inner_bytes : (a b c d : List ℕ) → AreBytes (a ++ (b ++ (c ++ d))) → AreBytes c
 inner_bytes a b c d h = AreBytes-front c d (AreBytes-rest b (c ++ d) (AreBytes-rest a (b ++ (c ++ d)) h))
 
-placed : (whole head before part after : List ℕ) (start : ℕ) → whole ≡ head ++ (before ++ (part ++ after)) → start ≡ length head + length before
+placed : (whole head before part after : List ℕ) (start : ℕ) → whole ≡ head ++ (before ++ (part ++ after))
+    → start ≡ length head + length before
     → StandsAt start part whole
 placed whole head before part after start is at =
     let all : whole ≡ (head ++ before) ++ (part ++ after) = is ∙ sym (append_assoc head before (part ++ after)) in
     let front : length (head ++ before) ≡ start = length-append head before ∙ sym at in
     record {
-      within = omega (arith, front, ap length all, length-append (head ++ before) (part ++ after), length-append part after);
-      is = ap (take (length part)) (ap (drop start) all ∙ drop_front start (head ++ before) (part ++ after) front) ∙ take_front (length part) part after refl;
+      within =
+          omega (arith, front, ap length all, length-append (head ++ before) (part ++ after), length-append part after);
+      is = ap (take (length part)) (ap (drop start) all ∙ drop_front start (head ++ before) (part ++ after) front)
+          ∙ take_front (length part) part after refl;
     }
 
 pub members_in_place_lem : MembersInPlace
@@ -195,9 +219,11 @@ members_in_place_lem whole k part b b' h h' is =
     let m = members_lem whole k part.spelled part.value h is in
     let held = m.1 in
     let inside = inner_bytes held.head held.before m.0 held.after (subst AreBytes held.parts b) in
-    let same : m.0 ≡ part.encoding = one_encoding_lem part.spelled part.value m.0 part.encoding inside b' held.spells h' in
+    let same : m.0 ≡ part.encoding =
+    one_encoding_lem part.spelled part.value m.0 part.encoding inside b' held.spells h' in
     subst (λ n. StandsAt n part.encoding whole.encoding) held.place
-    (subst (λ x. StandsAt held.start x whole.encoding) same (placed whole.encoding held.head held.before m.0 held.after held.start held.parts held.start_is))
+    (subst (λ x. StandsAt held.start x whole.encoding) same
+    (placed whole.encoding held.head held.before m.0 held.after held.start held.parts held.start_is))
 
 pub rings_in_place_lem : RingsInPlace
 rings_in_place_lem whole d rings j ring bytes b b' h h' value_is is =
@@ -206,8 +232,12 @@ rings_in_place_lem whole d rings j ring bytes b b' h h' value_is is =
     let dimension_is : held.dimension ≡ d = cc in
     let rings_are : held.rings ≡ rings = cc in
     let inside = inner_bytes held.head held.before held.bytes held.after (subst AreBytes held.parts b) in
-    let spelled = subst (λ e. SpellsCoordinates (header whole.spelled).order e ring held.bytes) dimension_is held.spells in
-    let same : held.bytes ≡ bytes = coordinates_lem (header whole.spelled).order d ring held.bytes bytes inside b' spelled h' in
-    let place : held.start ≡ ring_start j whole.spelled d rings = held.place ∙ (λ i. ring_start j whole.spelled (dimension_is i) (rings_are i)) in
+    let spelled =
+    subst (λ e. SpellsCoordinates (header whole.spelled).order e ring held.bytes) dimension_is held.spells in
+    let same : held.bytes ≡ bytes =
+    coordinates_lem (header whole.spelled).order d ring held.bytes bytes inside b' spelled h' in
+    let place : held.start ≡ ring_start j whole.spelled d rings =
+    held.place ∙ (λ i. ring_start j whole.spelled (dimension_is i) (rings_are i)) in
     subst (λ n. StandsAt n bytes whole.encoding) place
-    (subst (λ x. StandsAt held.start x whole.encoding) same (placed whole.encoding held.head held.before held.bytes held.after held.start held.parts held.start_is))
+    (subst (λ x. StandsAt held.start x whole.encoding) same
+    (placed whole.encoding held.head held.before held.bytes held.after held.start held.parts held.start_is))

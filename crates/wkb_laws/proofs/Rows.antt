@@ -12,9 +12,11 @@ use Rattle.wkb_laws.specs.Words.{listed_count, point, line_string, polygon, mult
 use Rattle.wkb_laws.specs.Words.{multi_polygon, collection, member, no_members, any}
 use Rattle.wkb_laws.specs.Words.{header, Spelling, node, Spellings, no_spellings, spelling, max_nesting, Front, Cause}
 use Rattle.wkb_laws.specs.Words.{end_of_input, general, incorrect_type}
-use Rattle.wkb_laws.specs.Words.{nesting_depth_exceeded, Refuses, geometry_of, encoding, code_of, srid_encoding, header_encoding}
+use Rattle.wkb_laws.specs.Words.{nesting_depth_exceeded, Refuses, geometry_of, encoding, code_of, srid_encoding}
+use Rattle.wkb_laws.specs.Words.{header_encoding}
 use Rattle.wkb_laws.specs.Words.{words_encoding, coordinates_encoding, point_words}
-use Rattle.wkb_laws.specs.Words.{point_encoding, line_string_encoding, polygon_encoding, members_encoding, Reading, Item, geometry_at}
+use Rattle.wkb_laws.specs.Words.{point_encoding, line_string_encoding, polygon_encoding, members_encoding, Reading}
+use Rattle.wkb_laws.specs.Words.{Item, geometry_at}
 use Rattle.wkb_laws.specs.Words.{by_type, head_at, meaning_of, point_at}
 use Rattle.wkb_laws.specs.Words.{line_string_at, ring_at, polygon_at, multi_point_at, multi_line_string_at}
 use Rattle.wkb_laws.specs.Words.{multi_polygon_at, collection_at, repeated}
@@ -33,7 +35,8 @@ answer_of (cost, Err cause) = refused cause cost.turns cost.slots
 
 -- what an input is read as, computed
 read : List ℕ → Reading Item
-unfolding number geometry_at by_type head_at meaning_of point_at line_string_at ring_at polygon_at multi_point_at multi_line_string_at multi_polygon_at
+unfolding number geometry_at by_type head_at meaning_of point_at line_string_at ring_at polygon_at multi_point_at
+    multi_line_string_at multi_polygon_at
     collection_at repeated
 read input = geometry_at max_nesting input
 
@@ -59,7 +62,8 @@ big_P = hex "3ff0000000000000 4000000000000000"
 abbrev zeros : ℕ → List ℕ
 zeros n = copies n (0 ∷ [])
 
--- inputs that several tables have: a point and a line string with a z, a polygon with an SRID, a multi line string whose
+-- inputs that several tables have: a point and a line string with a z, a polygon with an SRID, a multi line string
+-- whose
 -- members have an order each, and a collection of two kinds
 abbrev a_high_point : List ℕ
 a_high_point = hex "01 e9030020 e6100000" ++ P ++ hex "0000000000000840"
@@ -177,7 +181,8 @@ abbrev a_point : List ℕ
 a_point = hex "01 01000000" ++ zeros 16
 
 collections : AreAnswered (
-    -- As many collections as may be open, and more; the first fault is that of the one too many, once its code is whole.
+    -- As many collections as may be open, and more; the first fault is that of the one too many, once its code is
+    -- whole.
     (levels 50 a_point, accepted 7 Xy 471 50 50)
     ∷ (levels 128 a_point, accepted 7 Xy 1173 128 128)
     ∷ (levels 129 a_point, refused (nesting_depth_exceeded 128) 128 128)
@@ -266,7 +271,8 @@ own_srids = refl
 
 -- what is written for a value, computed
 written : Endianness → Form → Value → List ℕ
-unfolding number_bytes code_of srid_encoding header_encoding words_encoding coordinates_encoding point_words point_encoding line_string_encoding polygon_encoding members_encoding
+unfolding number_bytes code_of srid_encoding header_encoding words_encoding coordinates_encoding point_words
+    point_encoding line_string_encoding polygon_encoding members_encoding
 written order form t = encoding order form (geometry_of t)
 
 -- what an input is rewritten to, under this form or with its own outermost SRID
@@ -351,8 +357,10 @@ again None = None
 again (Some bytes) = rewritten LittleEndian Iso bytes
 
 -- Their lengths, without and with an SRID; what they are rewritten to, of either; and what that is rewritten to.
-each_kind : (map (λ k. length_of (plain k ++ bytes_behind)) kinds ≡ map Some (21 ∷ 41 ∷ 77 ∷ 145 ∷ 51 ∷ 59 ∷ 38 ∷ 55 ∷ []))
-    × (map (λ k. length_of (with_srid k ++ bytes_behind)) kinds ≡ map Some (25 ∷ 45 ∷ 81 ∷ 149 ∷ 55 ∷ 63 ∷ 42 ∷ 59 ∷ []))
+each_kind : (map (λ k. length_of (plain k ++ bytes_behind)) kinds
+    ≡ map Some (21 ∷ 41 ∷ 77 ∷ 145 ∷ 51 ∷ 59 ∷ 38 ∷ 55 ∷ []))
+    × (map (λ k. length_of (with_srid k ++ bytes_behind)) kinds
+    ≡ map Some (25 ∷ 45 ∷ 81 ∷ 149 ∷ 55 ∷ 63 ∷ 42 ∷ 59 ∷ []))
     × (map (λ k. rewritten LittleEndian Iso (plain k ++ bytes_behind)) kinds ≡ map (λ k. Some (plain k)) kinds)
     × (map (λ k. rewritten LittleEndian Iso (with_srid k ++ bytes_behind)) kinds ≡ map (λ k. Some (plain k)) kinds)
     × (map (λ k. again (rewritten BigEndian Iso (plain k))) kinds ≡ map (λ k. Some (plain k)) kinds)
@@ -391,9 +399,11 @@ upto first zero = []
 upto first (suc n) = first ∷ upto (suc first) n
 
 -- The deepest input, cut on its way to the point, before the point's code is whole, and inside the point.
-deepest_cut : (map (λ n. cause_of (answer (take (64 * n) (levels 128 a_point)))) (upto 0 19) ≡ replicate 19 (Some end_of_input))
+deepest_cut : (map (λ n. cause_of (answer (take (64 * n) (levels 128 a_point)))) (upto 0 19)
+    ≡ replicate 19 (Some end_of_input))
     × (map (λ n. cause_of (answer (take (1152 + n) (levels 128 a_point)))) (upto 0 5) ≡ replicate 5 (Some end_of_input))
-    × (map (λ n. cause_of (answer (take (1152 + n) (levels 128 a_point)))) (upto 5 16) ≡ map (λ n. Some (general (ShortPoint 21 n))) (upto 5 16))
+    × (map (λ n. cause_of (answer (take (1152 + n) (levels 128 a_point)))) (upto 5 16)
+    ≡ map (λ n. Some (general (ShortPoint 21 n))) (upto 5 16))
 unfolding answer
 deepest_cut = (refl, refl, refl)
 

@@ -3,7 +3,8 @@ use Rattle.std.proofs.Common.{◌≡◌, ℕ, zero, suc, ◌-◌, ◌≤◌, Lis
 use Rattle.std.proofs.Common.{refl, ap, subst, arith, lit<, lit≤}
 use Rattle.std.proofs.Common.{eqb-true, eq-eqb}
 use Rattle.std.proofs.lemmas.Bool.{and_parts, and_from, both_ways, cond_both}
-use Rattle.wkb_laws.specs.Words.{Dimension, Head, Layout, WkbType, thousands, Wanted, any, part, IsPart, Opens, IsAllowed}
+use Rattle.wkb_laws.specs.Words.{Dimension, Head, Layout, WkbType, thousands, Wanted, any, part, IsPart, Opens}
+use Rattle.wkb_laws.specs.Words.{IsAllowed}
 use Rattle.wkb_laws.specs.Words.{too_deep, wrong_part, Reading, Item}
 use Rattle.wkb_laws.specs.Words.{type_kind, type_dimension, laid, layout_of, body_at, by_type, collection_at}
 use Rattle.wkb_laws.specs.Words.{geometry_at, is_member, layout_wanted, member_at}
@@ -35,10 +36,13 @@ passes k d h t =
     (eqb-true _ k first.0, thousands_inj _ d (eqb-true _ (thousands d) others.0), no_srid k h.has_srid others.1)
 
 pub is_passed : (k : ℕ) (d : Dimension) (h : Head) → IsWantedHead k d h → is_member k d h ≡ true
-is_passed k d h p = and_from _ _ (eq-eqb _ k p.0) (and_from _ _ (eq-eqb _ (thousands d) (ap thousands p.1)) (may_stand k h.has_srid p.2))
+is_passed k d h p =
+    and_from _ _ (eq-eqb _ k p.0)
+    (and_from _ _ (eq-eqb _ (thousands d) (ap thousands p.1)) (may_stand k h.has_srid p.2))
 
 module _ (room : ℕ) where
-  leaf_says : (w : Wanted) (input : List ℕ) (k : ℕ) (l : Layout) → k ≤ 3 → Opened input k l → IsPart w k l.dimension l.has_srid
+  leaf_says : (w : Wanted) (input : List ℕ) (k : ℕ) (l : Layout) → k ≤ 3 → Opened input k l
+      → IsPart w k l.dimension l.has_srid
       → IsRight room w input (member_body k l input)
   leaf_says w input zero l few o p = let low = o.meaning.kind.low in absurd (omega arith)
   leaf_says w input (suc zero) l few o p = point_says room w input l o p
@@ -49,11 +53,13 @@ module _ (room : ℕ) where
   -- a member, by its kind
   member_says : (k : ℕ) (d : Dimension) → k ≤ 3 → (y : List ℕ) → IsRight room (part k d) y (member_at k d y)
   member_says k d few y =
-      head_says room (part k d) y (λ r. IsRight room (part k d) y (then_body (layout_wanted k d r) (λ l. member_body k l y))) (λ c bad. bad)
+      head_says room (part k d) y
+      (λ r. IsRight room (part k d) y (then_body (layout_wanted k d r) (λ l. member_body k l y))) (λ c bad. bad)
       (λ h o. cond_both (is_member k d h) _ _ (λ r. IsRight room (part k d) y (then_body r (λ l. member_body k l y)))
       (λ t. let p = passes k d h t in
       let own : Opened y k (laid h.order d h.has_srid) =
-      subst (λ z. Opens y h.order z d h.has_srid (drop 5 y)) p.0 (subst (λ z. Opens y h.order (type_kind h.wkb_type) z h.has_srid (drop 5 y)) p.1 o) in
+      subst (λ z. Opens y h.order z d h.has_srid (drop 5 y)) p.0
+      (subst (λ z. Opens y h.order (type_kind h.wkb_type) z h.has_srid (drop 5 y)) p.1 o) in
       leaf_says (part k d) y k (laid h.order d h.has_srid) few own (refl, refl, p.2))
       (λ f. wrong_part o (λ p. both_ways _ f (is_passed k d h p))))
 
@@ -61,18 +67,23 @@ module _ (room : ℕ) where
   allowed k l few = record { wanted = tt; shallow = λ e. absurd (omega arith) }
 
   -- a body, by its type
-  body_says : (input : List ℕ) (collection : Layout → List ℕ → Reading Item) → ((l : Layout) → Opened input 7 l → IsRight room any input (collection l input))
-      → (t : WkbType) (l : Layout) → Opened input (type_kind t) l → IsRight room any input (body_at collection t l input)
+  body_says : (input : List ℕ) (collection : Layout → List ℕ → Reading Item)
+      → ((l : Layout) → Opened input 7 l → IsRight room any input (collection l input))
+      → (t : WkbType) (l : Layout) → Opened input (type_kind t) l
+      → IsRight room any input (body_at collection t l input)
   unfolding multi_point_at multi_line_string_at multi_polygon_at
   body_says input collection deeper (kinds.Point d) l o = point_says room any input l o tt
   body_says input collection deeper (kinds.LineString d) l o = line_string_says room any input l o tt
   body_says input collection deeper (kinds.Polygon d) l o = polygon_says room any input l o tt
   body_says input collection deeper (kinds.MultiPoint d) l o =
-      list_says room any input 4 l (lit< tt) o (allowed 4 l (lit≤ tt)) (member_at 1 l.dimension) (member_says 1 l.dimension (lit≤ tt))
+      list_says room any input 4 l (lit< tt) o (allowed 4 l (lit≤ tt)) (member_at 1 l.dimension)
+      (member_says 1 l.dimension (lit≤ tt))
   body_says input collection deeper (kinds.MultiLineString d) l o =
-      list_says room any input 5 l (lit< tt) o (allowed 5 l (lit≤ tt)) (member_at 2 l.dimension) (member_says 2 l.dimension (lit≤ tt))
+      list_says room any input 5 l (lit< tt) o (allowed 5 l (lit≤ tt)) (member_at 2 l.dimension)
+      (member_says 2 l.dimension (lit≤ tt))
   body_says input collection deeper (kinds.MultiPolygon d) l o =
-      list_says room any input 6 l (lit< tt) o (allowed 6 l (lit≤ tt)) (member_at 3 l.dimension) (member_says 3 l.dimension (lit≤ tt))
+      list_says room any input 6 l (lit< tt) o (allowed 6 l (lit≤ tt)) (member_at 3 l.dimension)
+      (member_says 3 l.dimension (lit≤ tt))
   body_says input collection deeper (kinds.GeometryCollection d) l o = deeper l o
 
   by_type_says : (input : List ℕ) (collection : Layout → List ℕ → Reading Item) → ((l : Layout) → Opened input 7 l
@@ -80,7 +91,9 @@ module _ (room : ℕ) where
       → IsRight room any input (by_type collection input)
   unfolding by_type
   by_type_says input collection deeper =
-      head_says room any input (λ r. IsRight room any input (then_body r (λ h. body_at collection h.wkb_type (layout_of h) input))) (λ c bad. bad)
+      head_says room any input
+      (λ r. IsRight room any input (then_body r (λ h. body_at collection h.wkb_type (layout_of h) input)))
+      (λ c bad. bad)
       (λ h o. body_says input collection deeper h.wkb_type (layout_of h) o)
 
 pub geometry_says : (room : ℕ) (input : List ℕ) → IsRight room any input (geometry_at room input)
@@ -89,5 +102,6 @@ geometry_says zero input = by_type_says zero input reading.too_deep (λ l o. too
 geometry_says (suc room) input =
     let inside : room ≡ suc room - 1 = omega arith in
     by_type_says (suc room) input (collection_at (geometry_at room)) (λ l o.
-    list_says (suc room) any input 7 l (lit< tt) o (record { wanted = tt; shallow = λ e. omega arith }) (geometry_at room)
+    list_says (suc room) any input 7 l (lit< tt) o (record { wanted = tt; shallow = λ e. omega arith })
+    (geometry_at room)
     (λ y. subst (λ z. IsRight z any y (geometry_at room y)) inside (geometry_says room y)))

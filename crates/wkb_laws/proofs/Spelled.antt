@@ -20,7 +20,8 @@ use Rattle.wkb_laws.proofs.Sound.{geometry_says}
 use Rattle.wkb_laws.proofs.Complete.{found, front_at}
 
 -- what is read of bytes that spell this value spells it in full
-full_by : (s : Spelling) (t : Value) (bytes : List ℕ) (r : Reading Item) → IsRight (nest t) any bytes r → ∥ Spells s t bytes ∥₁
+full_by : (s : Spelling) (t : Value) (bytes : List ℕ) (r : Reading Item) → IsRight (nest t) any bytes r
+    → ∥ Spells s t bytes ∥₁
     → (Spells s t bytes → r ≡ found s t bytes []) → Spells s t bytes
 full_by s t bytes (cost, Ok x) right spelled read =
     let item : Item = record { encoding = bytes; spelled = s; value = t } in
@@ -30,7 +31,8 @@ full_by s t bytes (cost, Ok x) right spelled read =
     ap (λ z. z.0) one) in
     subst (λ (i : Item). Spells i.spelled i.value i.encoding) same right.spelled
 full_by s t bytes (cost, Err cause) right spelled read = absurd (∥∥₁_elim spelled (hlevel props) (λ h.
-    let answers : ◌≡◌ {A = reading.Outcome Item} (Err cause) (Ok (record { encoding = bytes; spelled = s; value = t }, [])) = ap (λ z. z.1) (read h) in
+    let answers : ◌≡◌ {A = reading.Outcome Item} (Err cause)
+    (Ok (record { encoding = bytes; spelled = s; value = t }, [])) = ap (λ z. z.1) (read h) in
     absurd cc))
 
 pub in_full_lem : SpelledInFull
@@ -51,7 +53,8 @@ mutual
   size_of_value (polygon d rings) = ap (λ w. 5 + (4 + sum_by (λ cs. 4 + 8 * w * length cs) rings)) (named_width d)
   size_of_value (multi_point d l) = ap (λ w. 9 + (5 + 8 * w) * length l) (named_width d) ∙ omega arith
   size_of_value (multi_line_string d l) = ap (λ w. 9 + sum_by (λ cs. 5 + (4 + 8 * w * length cs)) l) (named_width d)
-  size_of_value (multi_polygon d l) = ap (λ w. 9 + sum_by (λ rings. 5 + (4 + sum_by (λ cs. 4 + 8 * w * length cs) rings)) l) (named_width d)
+  size_of_value (multi_polygon d l) =
+      ap (λ w. 9 + sum_by (λ rings. 5 + (4 + sum_by (λ cs. 4 + 8 * w * length cs) rings)) l) (named_width d)
   size_of_value (collection d ts) = ap (λ n. 9 + n) (sizes_of_values ts)
 
   sizes_of_values : (ts : Values) → each_size ts ≡ byte_sizes (geometries_of ts)
@@ -62,7 +65,8 @@ pub size_of_spelled_lem : SizeOfSpelled
 size_of_spelled_lem s t bytes h = spelled_length s t bytes h ∙ ap (λ n. n + 4 * srid_count s) (size_of_value t)
 
 -- the bytes of the first so many members
-pub first_length : (k : ℕ) (ss : Spellings) (ts : Values) (x : List ℕ) → SpellsEach any (first_spellings k ss) (first_values k ts) x
+pub first_length : (k : ℕ) (ss : Spellings) (ts : Values) (x : List ℕ)
+    → SpellsEach any (first_spellings k ss) (first_values k ts) x
     → length x ≡ first_size k ss ts
 first_length zero ss ts x h = ap length h
 first_length (suc k) no_spellings no_members x h = ap length h

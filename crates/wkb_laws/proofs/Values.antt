@@ -1,4 +1,5 @@
--- What bytes spell is a value, and it can be written: its words and counts are in their ranges, and nothing of it is a fault.
+-- What bytes spell is a value, and it can be written: its words and counts are in their ranges, and nothing of it is a
+-- fault.
 use Rattle.std.proofs.Common.{◌≡◌, Option, Some, None, refl, sym, is_some, unwrap_or, ◌==◌, if◌then◌else◌, eqb-true, ℕ}
 use Rattle.std.proofs.Common.{zero, suc, ◌+◌, ◌<◌, ◌^◌, List, [], ◌∷◌}
 use Rattle.std.proofs.Common.{◌++◌, length, map, true, false, ap, ◌∙◌, subst, lit<, nat_lt, lt-ltb}
@@ -11,7 +12,8 @@ use Rattle.wkb_laws.specs.Words.{dimensions_fault, Endianness, BigEndian, Little
 use Rattle.wkb_laws.specs.Words.{IsWord, all_nan, dimensions, IsEach}
 use Rattle.wkb_laws.specs.Words.{IsCounted, Coordinate, Value, point, line_string, polygon, multi_point}
 use Rattle.wkb_laws.specs.Words.{multi_line_string, multi_polygon, collection, Values}
-use Rattle.wkb_laws.specs.Words.{no_members, member, kind, dimension, members, each, count, IsValueCoordinate, IsValuePoint}
+use Rattle.wkb_laws.specs.Words.{no_members, member, kind, dimension, members, each, count, IsValueCoordinate}
+use Rattle.wkb_laws.specs.Words.{IsValuePoint}
 use Rattle.wkb_laws.specs.Words.{AreValueCoordinates, IsValue, AreValues, header}
 use Rattle.wkb_laws.specs.Words.{IsSrid, Spelling, node, Spellings, no_spellings, spelling, SpellsCoordinate}
 use Rattle.wkb_laws.specs.Words.{SpellsCoordinates, SpellsBody, Wanted, member_part}
@@ -34,7 +36,8 @@ or_else_parts None b e = (refl, e)
 or_else_parts (Some x) b e = cc
 
 -- a dimension with a name has as many words as its name says
-pub width-written_dimension : (dims : Dimensions) → dimensions_fault dims ≡ None → width (written_dimension dims) ≡ size dims
+pub width-written_dimension : (dims : Dimensions) → dimensions_fault dims ≡ None
+    → width (written_dimension dims) ≡ size dims
 unfolding dimensions_fault
 width-written_dimension asked.Xy e = refl
 width-written_dimension asked.Xyz e = refl
@@ -60,42 +63,55 @@ AreBytes-rest [] y h = h
 AreBytes-rest (a ∷ x) y h = AreBytes-rest x y (λ j. h (suc j))
 
 pub bytes_of : {P Q : List ℕ → Type 0} {x : List ℕ} (a : Then P Q x) → AreBytes x → AreBytes a.front × AreBytes a.rest
-bytes_of a b = let both = subst AreBytes a.whole b in (AreBytes-front a.front a.rest both, AreBytes-rest a.front a.rest both)
+bytes_of a b =
+    let both = subst AreBytes a.whole b in (AreBytes-front a.front a.rest both, AreBytes-rest a.front a.rest both)
 
 -- a field of n bytes stands for a number below 256 ^ n
-pub number-lt : (order : Endianness) (n x : ℕ) (bytes : List ℕ) → IsNumber order n x bytes → AreBytes bytes → x < 256 ^ n
+pub number-lt : (order : Endianness) (n x : ℕ) (bytes : List ℕ) → IsNumber order n x bytes → AreBytes bytes
+    → x < 256 ^ n
 unfolding number
 number-lt BigEndian n x bytes h b = subst (λ v. v < 256 ^ n) h.value (big_from-lt 0 n bytes b)
 number-lt LittleEndian n x bytes h b = subst (λ v. v < 256 ^ n) h.value (little_from-lt 0 n bytes b)
 
-module _ {A : Type 0} (P : A → List ℕ → Type 0) (good : A → Type 0) (one : (a : A) (x : List ℕ) → AreBytes x → P a x → good a) where
+module _ {A : Type 0} (P : A → List ℕ → Type 0) (good : A → Type 0)
+    (one : (a : A) (x : List ℕ) → AreBytes x → P a x → good a) where
   each_good : (l : List A) (x : List ℕ) → AreBytes x → IsEach P l x → AllByRecursion good l
   each_good [] x b h = tt
-  each_good (a ∷ l) x b h = let bytes = bytes_of h b in (one a h.front bytes.0 h.first, each_good l h.rest bytes.1 h.second)
+  each_good (a ∷ l) x b h =
+      let bytes = bytes_of h b in (one a h.front bytes.0 h.first, each_good l h.rest bytes.1 h.second)
 
   -- a count is below 2 ^ 32, and what it counts is good
-  counted_good : (order : Endianness) (l : List A) (x : List ℕ) → AreBytes x → IsCounted order P l x → (length l < 2 ^ 32) × AllByRecursion good l
-  counted_good order l x b h = let bytes = bytes_of h b in (number-lt order 4 (length l) h.front h.first bytes.0, each_good l h.rest bytes.1 h.second)
+  counted_good : (order : Endianness) (l : List A) (x : List ℕ) → AreBytes x → IsCounted order P l x
+      → (length l < 2 ^ 32) × AllByRecursion good l
+  counted_good order l x b h =
+      let bytes = bytes_of h b in
+      (number-lt order 4 (length l) h.front h.first bytes.0, each_good l h.rest bytes.1 h.second)
 
 pub count_fault_none : (n : ℕ) → n < 2 ^ 32 → count_fault n ≡ None
 unfolding count_fault
 count_fault_none n h = let t : nat_lt n (2 ^ 32) ≡ true = lt-ltb n (2 ^ 32) h in rw t refl
 
-coordinate_good : (order : Endianness) (d : Dimension) (c : Coordinate) (x : List ℕ) → AreBytes x → SpellsCoordinate order d c x → IsValueCoordinate d c
+coordinate_good : (order : Endianness) (d : Dimension) (c : Coordinate) (x : List ℕ) → AreBytes x
+    → SpellsCoordinate order d c x → IsValueCoordinate d c
 coordinate_good order d c x b h =
-    record { len = h.len; words = each_good (IsNumber order 8) IsWord (λ w y bytes is. number-lt order 8 w y is bytes) c x b h.words }
+    record {
+      len = h.len;
+      words = each_good (IsNumber order 8) IsWord (λ w y bytes is. number-lt order 8 w y is bytes) c x b h.words;
+    }
 
 -- a line string or a ring that can be written
 abbrev pub GoodLine : Dimension → List Coordinate → Type 0
 GoodLine d cs = AreValueCoordinates d cs × (coordinates_fault cs ≡ None)
 
-coordinates_good : (order : Endianness) (d : Dimension) (cs : List Coordinate) (x : List ℕ) → AreBytes x → SpellsCoordinates order d cs x → GoodLine d cs
+coordinates_good : (order : Endianness) (d : Dimension) (cs : List Coordinate) (x : List ℕ) → AreBytes x
+    → SpellsCoordinates order d cs x → GoodLine d cs
 coordinates_good order d cs x b h =
     let both = counted_good (SpellsCoordinate order d) (IsValueCoordinate d) (coordinate_good order d) order cs x b h in
     (both.1, count_fault_none (length cs) both.0)
 
 -- where no item is at fault, the list is not
-faultless : {A : Type 0} (P : A → Type 0) (f : A → Option Fault) (l : List A) → AllByRecursion (λ a. P a × (f a ≡ None)) l
+faultless : {A : Type 0} (P : A → Type 0) (f : A → Option Fault) (l : List A)
+    → AllByRecursion (λ a. P a × (f a ≡ None)) l
     → AllByRecursion P l × (first_fault f l ≡ None)
 unfolding first_fault
 faultless P f [] h = (tt, refl)
@@ -123,7 +139,8 @@ unfolding dimensions_fault
 named_dimension d = let same = named_dimension_lem d in rw same refl
 
 -- what each member is, all of them are
-members_good : {A : Type 0} (f : A → Value) (good : A → Type 0) → ((a : A) → Good (f a) → good a) → (l : List A) → GoodEach (each f l) → AllByRecursion good l
+members_good : {A : Type 0} (f : A → Value) (good : A → Type 0) → ((a : A) → Good (f a) → good a) → (l : List A)
+    → GoodEach (each f l) → AllByRecursion good l
 members_good f good one [] h = tt
 members_good f good one (a ∷ l) h =
     let parts = or_else_parts _ _ h.1 in
@@ -134,7 +151,8 @@ count-geometries_of no_members = refl
 count-geometries_of (member t ts) = ap (λ n. 1 + n) (count-geometries_of ts)
 
 -- a body and good members make a good value
-value_good : (order : Endianness) (own : List ℕ) (t : Value) (x : List ℕ) → AreBytes x → SpellsBody order own t x → GoodEach (members t) → Good t
+value_good : (order : Endianness) (own : List ℕ) (t : Value) (x : List ℕ) → AreBytes x → SpellsBody order own t x
+    → GoodEach (members t) → Good t
 value_good order own (point d None) x b h m = (tt, named_dimension d)
 value_good order own (point d (Some c)) x b h m = ((coordinate_good order d c x b h.2, h.1), named_dimension d)
 value_good order own (line_string d cs) x b h m =
@@ -149,14 +167,19 @@ value_good order own (multi_point d l) x b h m =
     (members_good (point d) (IsValuePoint d) (λ c one. one.0) l m, or_else-none _ _ (named_dimension d) fits)
 value_good order own (multi_line_string d l) x b h m =
     let fits = count_fault_none (length l) (number-lt order 4 (length l) x h.1 b) in
-    let all = faultless _ coordinates_fault l (members_good (line_string d) (GoodLine d) (λ cs one. (one.0, (or_else_parts _ _ one.1).1)) l m) in
+    let all =
+    faultless _ coordinates_fault l
+    (members_good (line_string d) (GoodLine d) (λ cs one. (one.0, (or_else_parts _ _ one.1).1)) l m) in
     (all.0, or_else-none _ _ (named_dimension d) (or_else-none _ _ fits all.1))
 value_good order own (multi_polygon d l) x b h m =
     let fits = count_fault_none (length l) (number-lt order 4 (length l) x h.1 b) in
-    let all = faultless _ rings_fault l (members_good (polygon d) (GoodRings d) (λ rings one. (one.0, (or_else_parts _ _ one.1).1)) l m) in
+    let all =
+    faultless _ rings_fault l
+    (members_good (polygon d) (GoodRings d) (λ rings one. (one.0, (or_else_parts _ _ one.1).1)) l m) in
     (all.0, or_else-none _ _ (named_dimension d) (or_else-none _ _ fits all.1))
 value_good order own (collection d ts) x b h m =
-    let fits = ap count_fault (count-geometries_of ts) ∙ count_fault_none (count ts) (number-lt order 4 (count ts) x h.1 b) in
+    let fits =
+    ap count_fault (count-geometries_of ts) ∙ count_fault_none (count ts) (number-lt order 4 (count ts) x h.1 b) in
     (m.0, or_else-none _ _ (named_dimension d) (or_else-none _ _ fits m.1))
 
 mutual
@@ -166,7 +189,8 @@ mutual
       value_good h.order own t a.second.front bytes.0 a.second.first
       (each_spelled_good (member_part (kind t) (dimension t)) ss (members t) a.second.rest bytes.1 a.second.second)
 
-  pub each_spelled_good : (w : Wanted) (ss : Spellings) (ts : Values) (x : List ℕ) → AreBytes x → SpellsEach w ss ts x → GoodEach ts
+  pub each_spelled_good : (w : Wanted) (ss : Spellings) (ts : Values) (x : List ℕ) → AreBytes x → SpellsEach w ss ts x
+      → GoodEach ts
   each_spelled_good w no_spellings no_members x b a = (tt, refl)
   each_spelled_good w (spelling s ss) (member t ts) x b a =
       let bytes = bytes_of a b in
@@ -176,10 +200,12 @@ mutual
   each_spelled_good w _ _ x b a = absurd a
 
 -- the bytes that an input begins with
-pub front_bytes : (input : List ℕ) (s : Spelling) (t : Value) (rest : List ℕ) → AreBytes input → (f : Front input s t rest) → AreBytes f.front
+pub front_bytes : (input : List ℕ) (s : Spelling) (t : Value) (rest : List ℕ) → AreBytes input
+    → (f : Front input s t rest) → AreBytes f.front
 front_bytes input s t rest b f = AreBytes-front f.front rest (subst AreBytes f.whole b)
 
-pub front_good : (input : List ℕ) (s : Spelling) (t : Value) (rest : List ℕ) → AreBytes input → Front input s t rest → Good t
+pub front_good : (input : List ℕ) (s : Spelling) (t : Value) (rest : List ℕ) → AreBytes input → Front input s t rest
+    → Good t
 front_good input s t rest b f = spelled_good s t f.front (front_bytes input s t rest b f) f.spelled
 
 -- an SRID is four bytes' number
@@ -191,10 +217,12 @@ srid_fits order (Some n) x b h = number-lt order 4 n x h b
 pub outer_fits : (s : Spelling) (t : Value) (x : List ℕ) → AreBytes x → Spells s t x → IsForm (Ewkb (header s).srid)
 outer_fits (node h own ss) t x b a =
     let first = a.first in
-    let behind : AreBytes (first.code_field ++ first.srid_field) = λ i. (subst AreBytes first.whole (bytes_of a b).0) (suc i) in
+    let behind : AreBytes (first.code_field ++ first.srid_field) =
+    λ i. (subst AreBytes first.whole (bytes_of a b).0) (suc i) in
     srid_fits h.order h.srid first.srid_field (AreBytes-rest first.code_field first.srid_field behind) first.srid
 
-pub front_srid : (input : List ℕ) (s : Spelling) (t : Value) (rest : List ℕ) → AreBytes input → Front input s t rest → IsForm (Ewkb (header s).srid)
+pub front_srid : (input : List ℕ) (s : Spelling) (t : Value) (rest : List ℕ) → AreBytes input → Front input s t rest
+    → IsForm (Ewkb (header s).srid)
 front_srid input s t rest b f = outer_fits s t f.front (front_bytes input s t rest b f) f.spelled
 
 pub same_dimension : (d : Dimension) → written_dimension (dimensions d) ≡ d
@@ -204,7 +232,8 @@ pub same_point : (d : Dimension) (c : Option Coordinate) → IsValuePoint d c �
 same_point d None h = refl
 same_point d (Some c) h = let e : all_nan c ≡ false = h.1 in rw e refl
 
-same_points : (d : Dimension) (l : List (Option Coordinate)) → AllByRecursion (IsValuePoint d) l → map normal_point l ≡ l
+same_points : (d : Dimension) (l : List (Option Coordinate)) → AllByRecursion (IsValuePoint d) l
+    → map normal_point l ≡ l
 same_points d [] h = refl
 same_points d (c ∷ l) h = λ i. same_point d c h.0 i ∷ same_points d l h.1 i
 
@@ -232,7 +261,8 @@ point_lawful : (d : Dimension) (c : Option Coordinate) → IsValuePoint d c → 
 point_lawful d None h = tt
 point_lawful d (Some c) h = coordinate_lawful d c h.0
 
-coordinates_lawful : (d : Dimension) (cs : List Coordinate) → AreValueCoordinates d cs → geometry.AreCoordinates (dimensions d) cs
+coordinates_lawful : (d : Dimension) (cs : List Coordinate) → AreValueCoordinates d cs
+    → geometry.AreCoordinates (dimensions d) cs
 coordinates_lawful d cs h = all_imply _ _ (coordinate_lawful d) cs h
 
 rings_lawful : (d : Dimension) (rings : List (List Coordinate)) → AllByRecursion (AreValueCoordinates d) rings

@@ -16,7 +16,8 @@ SpelledInFull = (s : Spelling) (t : Value) (bytes : List ℕ) → ∥ Spells s t
 abbrev pub SizeOfSpelled : Type 0
 SizeOfSpelled = (s : Spelling) (t : Value) (bytes : List ℕ) → Spells s t bytes → length bytes ≡ spelled_size s t
 
--- The value is a lawful geometry and its own normal value. It can be written in ISO codes, in as many bytes less four for
+-- The value is a lawful geometry and its own normal value. It can be written in ISO codes, in as many bytes less four
+-- for
 -- each SRID, and under EWKB with its own SRID or without one.
 pub record IsRewritable (s : Spelling) (t : Value) (bytes : List ℕ) : Type 0 where
   pub lawful : IsGeometry (geometry_of t)
@@ -30,7 +31,8 @@ pub record IsRewritable (s : Spelling) (t : Value) (bytes : List ℕ) : Type 0 w
 -- So is every value that bytes in memory spell.
 abbrev pub SpelledIsWritable : Type 0
 SpelledIsWritable =
-    (s : Spelling) (t : Value) (bytes : List ℕ) → AreBytes bytes → length bytes < 2 ^ 64 → Spells s t bytes → IsRewritable s t bytes
+    (s : Spelling) (t : Value) (bytes : List ℕ) → AreBytes bytes → length bytes < 2 ^ 64 → Spells s t bytes
+    → IsRewritable s t bytes
 
 -- Two values that bytes spell are equal exactly where they are written alike.
 abbrev pub EqualSpelled : Type 0

@@ -7,8 +7,9 @@ use Rattle.wkb_laws.specs.Words.{count, nest, nest_each, member_count}
 use Rattle.wkb_laws.specs.Words.{member_count_each, listed_count, Spelling, Spellings, Spells, SpellsEach, Wanted, any}
 use Rattle.wkb_laws.specs.Words.{srid_count, header, Front, max_nesting}
 use Rattle.wkb_laws.specs.Words.{ShortPoint, ShortLineString, ShortLinearRing, ShortMultiPoint, Cause, end_of_input}
-use Rattle.wkb_laws.specs.Words.{general, slots_asked, Counts, Refuses}
-use Rattle.wkb_laws.specs.Words.{named, dimensions, Geometry, IsGeometry, normal, geometry_of, byte_size, encoding, fault}
+use Rattle.wkb_laws.specs.Words.{general, slots_asked, OpensCounted, Refuses}
+use Rattle.wkb_laws.specs.Words.{named, dimensions, Geometry, IsGeometry, normal, geometry_of, byte_size, encoding}
+use Rattle.wkb_laws.specs.Words.{fault}
 use Rattle.wkb_laws.specs.Words.{size_fault, refusal, form_srid, IsForm}
 use Rattle.wkb_laws.specs.Words.{IsWritable, IsRewriting, IsRewritingWithSrid, Reading, Item, geometry_at}
 use Rattle.wkb_laws.specs.Written.{HasOptions}
@@ -21,11 +22,14 @@ HasOneFront = (input : List ℕ) (s u : Spelling) (t v : Value) (rest more : Lis
 
 -- What follows a geometry changes nothing of it.
 abbrev pub RestIsFree : Type 0
-RestIsFree = (input : List ℕ) (s : Spelling) (t : Value) (rest more : List ℕ) → (f : Front input s t rest) → Front (f.front ++ more) s t more
+RestIsFree =
+    (input : List ℕ) (s : Spelling) (t : Value) (rest more : List ℕ) → (f : Front input s t rest)
+    → Front (f.front ++ more) s t more
 
 -- The bytes of a geometry alone are that geometry.
 abbrev pub BytesAreRead : Type 0
-BytesAreRead = (input : List ℕ) (s : Spelling) (t : Value) (rest : List ℕ) → (f : Front input s t rest) → Front f.front s t []
+BytesAreRead =
+    (input : List ℕ) (s : Spelling) (t : Value) (rest : List ℕ) → (f : Front input s t rest) → Front f.front s t []
 
 -- The input begins with a geometry.
 abbrev pub HasFront : List ℕ → Type 0
@@ -58,32 +62,39 @@ listed_inside (member t ts) = listed_count t + listed_inside ts
 -- A member's refusal is that of the collection round it, once the members before it are counted, itself, and the
 -- collection's own list.
 abbrev pub RefusedOutward : Type 0
-RefusedOutward = (room : ℕ) (w : Wanted) (input : List ℕ) (order : Endianness) (d : Dimension) (srid : Bool) (n : ℕ) (behind : List ℕ)
+RefusedOutward =
+    (room : ℕ) (w : Wanted) (input : List ℕ) (order : Endianness) (d : Dimension) (srid : Bool) (n : ℕ)
+    (behind : List ℕ)
     (more : ℕ) (ss : Spellings) (ts : Values) (x rest : List ℕ) (cause : Cause) (turns slots : ℕ)
-    → Counts room w input order 7 d srid n behind → behind ≡ x ++ rest → SpellsEach any ss ts x → nest_each ts ≤ room - 1
+    → OpensCounted room w input order 7 d srid n behind → behind ≡ x ++ rest → SpellsEach any ss ts x
+    → nest_each ts ≤ room - 1
     → n ≡ count ts + suc more
     → Refuses (room - 1) any rest cause turns slots
-    → Refuses room w input cause (member_count_each ts + (1 + turns)) (slots_asked 7 n (length behind) + (listed_inside ts + slots))
+    → Refuses room w input cause (member_count_each ts + (1 + turns))
+    (slots_asked 7 n (length behind) + (listed_inside ts + slots))
 
 -- the causes of an input that ends too early
-abbrev pub IsCut : Cause → Type 0
-IsCut end_of_input = Unit {0}
-IsCut (general (ShortPoint end len)) = Unit {0}
-IsCut (general (ShortLineString end len)) = Unit {0}
-IsCut (general (ShortLinearRing end len)) = Unit {0}
-IsCut (general (ShortMultiPoint end len)) = Unit {0}
-IsCut _ = ⊥
+abbrev pub EndsTooEarly : Cause → Type 0
+EndsTooEarly end_of_input = Unit {0}
+EndsTooEarly (general (ShortPoint end len)) = Unit {0}
+EndsTooEarly (general (ShortLineString end len)) = Unit {0}
+EndsTooEarly (general (ShortLinearRing end len)) = Unit {0}
+EndsTooEarly (general (ShortMultiPoint end len)) = Unit {0}
+EndsTooEarly _ = ⊥
 
 -- A proper beginning of a geometry is refused as an input that ends too early.
 abbrev pub CutIsRefused : Type 0
-CutIsRefused = (input : List ℕ) (s : Spelling) (t : Value) (rest x y : List ℕ) → (f : Front input s t rest) → f.front ≡ x ++ y → 0 < length y
-    → (cause : Cause) × (turns : ℕ) × (slots : ℕ) × Refuses max_nesting any x cause turns slots × IsCut cause
+CutIsRefused =
+    (input : List ℕ) (s : Spelling) (t : Value) (rest x y : List ℕ) → (f : Front input s t rest) → f.front ≡ x ++ y
+    → 0 < length y
+    → (cause : Cause) × (turns : ℕ) × (slots : ℕ) × Refuses max_nesting any x cause turns slots × EndsTooEarly cause
 
 -- what reading from left to right answers is a front with its turns, its entries and its bytes, or the refusal with its
 -- own
 abbrev pub Agrees : List ℕ → Reading Item → Type 0
 Agrees input (cost, Ok x) =
-    (f : Front input x.0.spelled x.0.value x.1) × (cost.turns ≡ member_count x.0.value) × (cost.slots ≡ listed_count x.0.value) × (f.front ≡ x.0.encoding)
+    (f : Front input x.0.spelled x.0.value x.1) × (cost.turns ≡ member_count x.0.value)
+    × (cost.slots ≡ listed_count x.0.value) × (f.front ≡ x.0.encoding)
 Agrees input (cost, Err cause) = Refuses max_nesting any input cause cost.turns cost.slots
 
 -- So is what it answers for every input.
@@ -93,7 +104,11 @@ GeometryAgrees = (input : List ℕ) → Agrees input (geometry_at max_nesting in
 -- A front is what reading answers, with its bytes, its turns and its entries.
 abbrev pub FrontIsRead : Type 0
 FrontIsRead = (input : List ℕ) (s : Spelling) (t : Value) (rest : List ℕ) → (f : Front input s t rest)
-    → geometry_at max_nesting input ≡ (record { turns = member_count t; slots = listed_count t }, Ok (record { encoding = f.front; spelled = s; value = t }, rest))
+    → geometry_at max_nesting input
+    ≡ (
+      record { turns = member_count t; slots = listed_count t },
+      Ok (record { encoding = f.front; spelled = s; value = t }, rest),
+    )
 
 -- A refusal is what reading answers.
 abbrev pub RefusalIsRead : Type 0
@@ -113,7 +128,8 @@ RefusalIsBounded = (input : List ℕ) (cause : Cause) (turns slots : ℕ) → Re
 -- So are the turns and the entries of reading, whatever it answers.
 abbrev pub ReadingIsBounded : Type 0
 ReadingIsBounded = (input : List ℕ)
-    → (4 * (geometry_at max_nesting input).0.turns ≤ length input + 4) × ((geometry_at max_nesting input).0.slots ≤ 15 * length input)
+    → (4 * (geometry_at max_nesting input).0.turns ≤ length input + 4)
+    × ((geometry_at max_nesting input).0.slots ≤ 15 * length input)
 
 -- The encoding of a geometry without a fault spells its normal value, each geometry in the order of the options, the
 -- outermost with their SRID and no other with one.
@@ -124,7 +140,8 @@ EncodingSpells = (order : Endianness) (form : Form) (g : Geometry) → IsForm fo
 -- So it is read again as that value, in the order and with the SRID of the options, whatever follows it, unless its
 -- collections are nested too deep.
 abbrev pub WrittenIsRead : Type 0
-WrittenIsRead = (order : Endianness) (form : Form) (g : Geometry) (rest : List ℕ) → IsForm form → IsGeometry g → fault g ≡ None
+WrittenIsRead =
+    (order : Endianness) (form : Form) (g : Geometry) (rest : List ℕ) → IsForm form → IsGeometry g → fault g ≡ None
     → nest (normal g) ≤ max_nesting
     → (s : Spelling) × Front (encoding order form g ++ rest) s (normal g) rest × HasOptions order form s
 
@@ -140,46 +157,57 @@ LengthOfEncoding = (order other : Endianness) (form : Form) (g : Geometry) → I
 
 -- A geometry that was read is written in as many bytes, less four for each SRID in it.
 abbrev pub LengthOfFront : Type 0
-LengthOfFront = (order : Endianness) (input : List ℕ) (s : Spelling) (t : Value) (rest : List ℕ) → AreBytes input → (f : Front input s t rest)
+LengthOfFront =
+    (order : Endianness) (input : List ℕ) (s : Spelling) (t : Value) (rest : List ℕ) → AreBytes input
+    → (f : Front input s t rest)
     → length f.front ≡ length (encoding order Iso (geometry_of t)) + 4 * srid_count s
 
 -- A value that was read is a lawful geometry that can be written, and its own normal value.
 abbrev pub FrontIsWritable : Type 0
 FrontIsWritable =
-    (order : Endianness) (input : List ℕ) (s : Spelling) (t : Value) (rest : List ℕ) → AreBytes input → length input < 2 ^ 64 → Front input s t rest
+    (order : Endianness) (input : List ℕ) (s : Spelling) (t : Value) (rest : List ℕ) → AreBytes input
+    → length input < 2 ^ 64 → Front input s t rest
     → IsGeometry (geometry_of t) × (normal (geometry_of t) ≡ t) × IsWritable order Iso (geometry_of t)
 
 -- So it can under EWKB without an SRID.
 abbrev pub EwkbIsWritable : Type 0
 EwkbIsWritable =
-    (order : Endianness) (input : List ℕ) (s : Spelling) (t : Value) (rest : List ℕ) → AreBytes input → length input < 2 ^ 64 → Front input s t rest
+    (order : Endianness) (input : List ℕ) (s : Spelling) (t : Value) (rest : List ℕ) → AreBytes input
+    → length input < 2 ^ 64 → Front input s t rest
     → IsWritable order (Ewkb None) (geometry_of t)
 
 -- With any SRID it is refused for its size alone: where usize doesn't measure its encoding.
 abbrev pub SizeIsRefused : Type 0
-SizeIsRefused = (order : Endianness) (form : Form) (input : List ℕ) (s : Spelling) (t : Value) (rest : List ℕ) → AreBytes input → Front input s t rest
+SizeIsRefused =
+    (order : Endianness) (form : Form) (input : List ℕ) (s : Spelling) (t : Value) (rest : List ℕ) → AreBytes input
+    → Front input s t rest
     → refusal order form (geometry_of t) ≡ size_fault (length (encoding order form (geometry_of t)))
 
 -- The SRID of its outermost geometry fits four bytes, and with it the value can be written.
 abbrev pub OwnSridIsWritable : Type 0
 OwnSridIsWritable =
-    (order : Endianness) (input : List ℕ) (s : Spelling) (t : Value) (rest : List ℕ) → AreBytes input → length input < 2 ^ 64 → Front input s t rest
+    (order : Endianness) (input : List ℕ) (s : Spelling) (t : Value) (rest : List ℕ) → AreBytes input
+    → length input < 2 ^ 64 → Front input s t rest
     → IsForm (Ewkb (header s).srid) × IsWritable order (Ewkb (header s).srid) (geometry_of t)
 
 -- A rewriting is read as the value that it was made of, whatever follows it.
 abbrev pub RewritingIsRead : Type 0
 RewritingIsRead =
-    (order : Endianness) (form : Form) (input : List ℕ) (s : Spelling) (t : Value) (rest more : List ℕ) → IsForm form → AreBytes input → Front input s t rest
+    (order : Endianness) (form : Form) (input : List ℕ) (s : Spelling) (t : Value) (rest more : List ℕ) → IsForm form
+    → AreBytes input → Front input s t rest
     → (u : Spelling) × Front (encoding order form (geometry_of t) ++ more) u t more × HasOptions order form u
 
 -- A rewriting is its own rewriting under the same options, and has no other.
 abbrev pub RewritingIsFixed : Type 0
-RewritingIsFixed = (order : Endianness) (form : Form) (input out : List ℕ) → IsForm form → AreBytes input → IsRewriting order form input out
+RewritingIsFixed =
+    (order : Endianness) (form : Form) (input out : List ℕ) → IsForm form → AreBytes input
+    → IsRewriting order form input out
     → IsRewriting order form out out × ((again : List ℕ) → IsRewriting order form out again → again ≡ out)
 
 -- So is one with the SRID of its outermost geometry.
 abbrev pub RewritingWithSridIsFixed : Type 0
-RewritingWithSridIsFixed = (order : Endianness) (input out : List ℕ) → AreBytes input → IsRewritingWithSrid order input out
+RewritingWithSridIsFixed =
+    (order : Endianness) (input out : List ℕ) → AreBytes input → IsRewritingWithSrid order input out
     → IsRewritingWithSrid order out out × ((again : List ℕ) → IsRewritingWithSrid order out again → again ≡ out)
 
 -- Two inputs have equal values exactly where these are written alike.
@@ -190,15 +218,18 @@ EqualEncodings = (order : Endianness) (form : Form) (a b : List ℕ) (s u : Spel
 
 -- The same under EWKB, where each is written with some SRID or without one.
 abbrev pub EqualEncodingsWithSrid : Type 0
-EqualEncodingsWithSrid = (order : Endianness) (i j : Option ℕ) (a b : List ℕ) (s u : Spelling) (t v : Value) (rest more : List ℕ)
+EqualEncodingsWithSrid =
+    (order : Endianness) (i j : Option ℕ) (a b : List ℕ) (s u : Spelling) (t v : Value) (rest more : List ℕ)
     → IsForm (Ewkb i) → IsForm (Ewkb j) → AreBytes a → AreBytes b → Front a s t rest → Front b u v more
     → (encoding order (Ewkb i) (geometry_of t) ≡ encoding order (Ewkb j) (geometry_of v)) ↔ ((t ≡ v) × (i ≡ j))
 
 -- Two inputs have equal values and equal outermost SRIDs exactly where they are written alike with their own SRIDs.
 abbrev pub EqualEncodingsWithOwnSrid : Type 0
 EqualEncodingsWithOwnSrid =
-    (order : Endianness) (a b : List ℕ) (s u : Spelling) (t v : Value) (rest more : List ℕ) → AreBytes a → AreBytes b → Front a s t rest → Front b u v more
-    → (encoding order (Ewkb (header s).srid) (geometry_of t) ≡ encoding order (Ewkb (header u).srid) (geometry_of v)) ↔ ((t ≡ v) × ((header s).srid ≡ (header u).srid))
+    (order : Endianness) (a b : List ℕ) (s u : Spelling) (t v : Value) (rest more : List ℕ) → AreBytes a → AreBytes b
+    → Front a s t rest → Front b u v more
+    → (encoding order (Ewkb (header s).srid) (geometry_of t) ≡ encoding order (Ewkb (header u).srid) (geometry_of v))
+    ↔ ((t ≡ v) × ((header s).srid ≡ (header u).srid))
 
 -- A dimension's name is its own.
 abbrev pub NamedDimension : Type 0

@@ -9,7 +9,8 @@ use Rattle.wkb_laws.specs.Encodings.{spelled_size}
 
 -- A spelling and a value leave no byte open.
 abbrev pub HasOneEncoding : Type 0
-HasOneEncoding = (s : Spelling) (t : Value) (x y : List ℕ) → AreBytes x → AreBytes y → Spells s t x → Spells s t y → x ≡ y
+HasOneEncoding =
+    (s : Spelling) (t : Value) (x y : List ℕ) → AreBytes x → AreBytes y → Spells s t x → Spells s t y → x ≡ y
 
 -- A count and coordinates leave no byte open either, as a line string or a ring has them,
 abbrev pub HaveOneEncoding : Type 0
@@ -18,7 +19,8 @@ HaveOneEncoding = (order : Endianness) (d : Dimension) (cs : List Coordinate) (x
 
 -- nor does a coordinate by itself.
 abbrev pub CoordinateHasOneEncoding : Type 0
-CoordinateHasOneEncoding = (order : Endianness) (d : Dimension) (c : Coordinate) (x y : List ℕ) → AreBytes x → AreBytes y
+CoordinateHasOneEncoding =
+    (order : Endianness) (d : Dimension) (c : Coordinate) (x y : List ℕ) → AreBytes x → AreBytes y
     → SpellsCoordinate order d c x → SpellsCoordinate order d c y → x ≡ y
 
 -- how many bytes stand before the parts of a geometry with a count: the order byte, the code, the SRID and the count
@@ -124,7 +126,8 @@ MembersInPlace = (whole : Item) (k : ℕ) (part : Item) → AreBytes whole.encod
 
 -- So it is with the bytes that spell a ring, in the order of its polygon.
 abbrev pub RingsInPlace : Type 0
-RingsInPlace = (whole : Item) (d : Dimension) (rings : List (List Coordinate)) (j : ℕ) (ring : List Coordinate) (bytes : List ℕ)
+RingsInPlace =
+    (whole : Item) (d : Dimension) (rings : List (List Coordinate)) (j : ℕ) (ring : List Coordinate) (bytes : List ℕ)
     → AreBytes whole.encoding → AreBytes bytes
     → Spells whole.spelled whole.value whole.encoding → SpellsCoordinates (header whole.spelled).order d ring bytes
     → whole.value ≡ polygon d rings → slice_get rings j ≡ Some ring

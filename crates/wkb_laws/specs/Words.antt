@@ -21,14 +21,15 @@ pub use Rattle.wkb_geom.specs.Values.{Coordinate, Value, point, line_string, pol
 pub use Rattle.wkb_geom.specs.Values.{multi_polygon, collection, Values}
 pub use Rattle.wkb_geom.specs.Values.{no_members, member, kind, dimension, members, each, count, nest, nest_each}
 pub use Rattle.wkb_geom.specs.Values.{member_count, member_count_each, listed_count}
-pub use Rattle.wkb_geom.specs.Values.{listed_count_each, IsValueCoordinate, IsValuePoint, AreValueCoordinates, IsValue, AreValues}
+pub use Rattle.wkb_geom.specs.Values.{listed_count_each, IsValueCoordinate, IsValuePoint, AreValueCoordinates, IsValue}
+pub use Rattle.wkb_geom.specs.Values.{AreValues}
 pub use Rattle.wkb_geom.specs.Spellings.{Header, header, has_srid, Spelling, node, Spellings, no_spellings, spelling}
 pub use Rattle.wkb_geom.specs.Spellings.{srid_count, srid_count_each, IsHeader}
 pub use Rattle.wkb_geom.specs.Spellings.{IsSrid, SpellsCoordinate, SpellsCoordinates, SpellsBody, Spells, SpellsEach}
 pub use Rattle.wkb_geom.specs.Spellings.{Wanted, any, part, member_part, IsPart}
 pub use Rattle.wkb_geom.specs.Fronts.{Front, FrontWithin, max_nesting}
 pub use Rattle.wkb_geom.specs.Refusals.{srid_size, point_end, line_string_end, multi_point_end, ring_end, slots_asked}
-pub use Rattle.wkb_geom.specs.Refusals.{room_inside, Opens, IsAllowed, Counts}
+pub use Rattle.wkb_geom.specs.Refusals.{room_inside, Opens, IsAllowed, OpensCounted}
 pub use Rattle.wkb_geom.specs.Refusals.{RefusesRings, no_ring_count, short_ring, later_ring, Refuses, no_order_byte}
 pub use Rattle.wkb_geom.specs.Refusals.{bad_order_byte, no_code, bad_code}
 pub use Rattle.wkb_geom.specs.Refusals.{wrong_part, too_deep, short_point, no_count, short_line_string}
@@ -38,12 +39,14 @@ pub use Rattle.wkb_geom.specs.Geometries.{Geometry, Geometries, no_geometries, g
 pub use Rattle.wkb_geom.specs.Geometries.{normal, normal_each, normal_point}
 pub use Rattle.wkb_geom.specs.Geometries.{geometry_of, geometries_of, rectangle_ring, triangle_ring, line, rectangle}
 pub use Rattle.wkb_geom.specs.Geometries.{triangle}
-pub use Rattle.wkb_geom.specs.Encodings.{encoding, encodings, form_srid, inner, count_geometries, IsForm, IsWritable, IsRewriting}
+pub use Rattle.wkb_geom.specs.Encodings.{encoding, encodings, form_srid, inner, count_geometries, IsForm, IsWritable}
+pub use Rattle.wkb_geom.specs.Encodings.{IsRewriting}
 pub use Rattle.wkb_geom.specs.Encodings.{IsRewritingWithSrid, fault}
 pub use Rattle.wkb_geom.specs.Encodings.{fault_each, coordinates_fault, rings_fault, refusal}
 unfoldable pub use Rattle.wkb_geom.specs.Encodings.{code_of, or_else, dimensions_fault, count_fault, first_fault}
 unfoldable pub use Rattle.wkb_geom.specs.Encodings.{size_fault, point_words, srid_encoding, header_encoding}
-unfoldable pub use Rattle.wkb_geom.specs.Encodings.{words_encoding, coordinates_encoding, point_encoding, line_string_encoding}
+unfoldable pub use
+    Rattle.wkb_geom.specs.Encodings.{words_encoding, coordinates_encoding, point_encoding, line_string_encoding}
 unfoldable pub use Rattle.wkb_geom.specs.Encodings.{polygon_encoding, members_encoding}
 pub use Rattle.wkb_geom.specs.Reading.{Cost, Reading, Item, type_kind, type_dimension, type_of, layout_of, laid, free}
 pub use Rattle.wkb_geom.specs.Reading.{body_start, parts_start, head_by_code}

@@ -1,8 +1,8 @@
 //! Laws of bytes that spell a value, however deep its collections nest: they serve every view in hand, members and
 //! parameters too.
 
-ghost use Rattle.wkb_laws.specs.Encodings.{SpelledInFull, SizeOfSpelled, SpelledIsWritable, EqualSpelled};
-ghost use Rattle.wkb_laws.specs.Encodings.{EqualSpelledWithSrid};
+ghost use Rattle.wkb_laws.specs.Encodings.{SpelledInFull, SizeOfSpelled, SpelledIsWritable};
+ghost use Rattle.wkb_laws.specs.Encodings.{EqualSpelled, EqualSpelledWithSrid};
 
 /// What the `spells` of a view's `buf` says is so in full: a header, a body, and the members one after another.
 pub fn spelled_in_full()

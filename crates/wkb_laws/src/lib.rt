@@ -1,14 +1,16 @@
 //! Laws over the definitions of Well-Known Binary: each function's contract is a law, and its body is empty.
 #![tactic(auto)]
 
-ghost use Rattle.wkb_laws.specs.Laws.{HasOneFront, RestIsFree, BytesAreRead, ReadOrRefused, NeverBoth, OneRefusal};
-ghost use Rattle.wkb_laws.specs.Laws.{RefusedOutward, CutIsRefused, GeometryAgrees, FrontIsRead, RefusalIsRead};
-ghost use Rattle.wkb_laws.specs.Laws.{FrontIsBounded, RefusalIsBounded, ReadingIsBounded, EncodingSpells};
-ghost use Rattle.wkb_laws.specs.Laws.{WrittenIsRead, EncodingHasSize, LengthOfEncoding, LengthOfFront};
-ghost use Rattle.wkb_laws.specs.Laws.{FrontIsWritable, EwkbIsWritable};
-ghost use Rattle.wkb_laws.specs.Laws.{SizeIsRefused, OwnSridIsWritable, RewritingIsRead, RewritingIsFixed};
-ghost use Rattle.wkb_laws.specs.Laws.{RewritingWithSridIsFixed, EqualEncodings, EqualEncodingsWithSrid};
-ghost use Rattle.wkb_laws.specs.Laws.{EqualEncodingsWithOwnSrid, NamedDimension};
+ghost use Rattle.wkb_laws.specs.Laws.{HasOneFront, RestIsFree, BytesAreRead, ReadOrRefused};
+ghost use Rattle.wkb_laws.specs.Laws.{NeverBoth, OneRefusal, RefusedOutward, CutIsRefused};
+ghost use Rattle.wkb_laws.specs.Laws.{GeometryAgrees, FrontIsRead, RefusalIsRead, FrontIsBounded};
+ghost use Rattle.wkb_laws.specs.Laws.{RefusalIsBounded, ReadingIsBounded, EncodingSpells};
+ghost use Rattle.wkb_laws.specs.Laws.{WrittenIsRead, EncodingHasSize, LengthOfEncoding};
+ghost use Rattle.wkb_laws.specs.Laws.{LengthOfFront, FrontIsWritable, EwkbIsWritable};
+ghost use Rattle.wkb_laws.specs.Laws.{SizeIsRefused, OwnSridIsWritable, RewritingIsRead};
+ghost use Rattle.wkb_laws.specs.Laws.{RewritingIsFixed, RewritingWithSridIsFixed, EqualEncodings};
+ghost use Rattle.wkb_laws.specs.Laws.{EqualEncodingsWithSrid, EqualEncodingsWithOwnSrid};
+ghost use Rattle.wkb_laws.specs.Laws.{NamedDimension};
 
 pub mod encodings;
 pub mod places;

@@ -24,7 +24,8 @@ slice_get-runs width (suc count) (suc i) words h =
 pub slice_get-runs_past : (width count i : ℕ) (words : List ℕ) → count ≤ i → slice_get (runs width count words) i ≡ None
 slice_get-runs_past width zero i words h = refl
 slice_get-runs_past width (suc count) zero words h = absurd (omega arith)
-slice_get-runs_past width (suc count) (suc i) words h = slice_get-runs_past width count i (drop width words) (omega arith)
+slice_get-runs_past width (suc count) (suc i) words h =
+    slice_get-runs_past width count i (drop width words) (omega arith)
 
 -- a run below the count ends within the words
 pub run_within : (width i : ℕ) (words : List ℕ) → i < length words / width → i * width + width ≤ length words
@@ -33,7 +34,8 @@ run_within width i words h =
     let step : (i + 1) * width ≤ length words / width * width = mul-le-mul_right width (omega arith) in
     omega arith
 
-concat-runs : (width count : ℕ) (words : List ℕ) → length words ≡ count * width → concat (runs width count words) ≡ words
+concat-runs : (width count : ℕ) (words : List ℕ) → length words ≡ count * width
+    → concat (runs width count words) ≡ words
 concat-runs width zero [] whole = refl
 concat-runs width zero (w ∷ words) whole = absurd (omega arith)
 concat-runs width (suc count) words whole =
@@ -41,18 +43,21 @@ concat-runs width (suc count) words whole =
     ∙ take-append-drop width words
 
 -- where no word is left over, the coordinates are all the words
-pub concat-coordinates_in : (d : Dimensions) (words : List ℕ) → length words % size d ≡ 0 → concat (coordinates_in d words) ≡ words
+pub concat-coordinates_in : (d : Dimensions) (words : List ℕ) → length words % size d ≡ 0
+    → concat (coordinates_in d words) ≡ words
 concat-coordinates_in d words whole =
     concat-runs (size d) (length words / size d) words (omega (arith, div-add-mod' (length words) (size d)))
 
 -- a coordinate that there is ends within the words
-pub coordinate_within : (d : Dimensions) (words : List ℕ) (i width : ℕ) → width ≡ size d → i < length (coordinates_in d words) → i * width + width ≤ length words
+pub coordinate_within : (d : Dimensions) (words : List ℕ) (i width : ℕ) → width ≡ size d
+    → i < length (coordinates_in d words) → i * width + width ≤ length words
 coordinate_within d words i width wide h =
     let count = length-runs (size d) (length words / size d) words in
     rw wide (run_within (size d) i words (omega (arith, count, h)))
 
 -- and stands there
-pub coordinate_at : (d : Dimensions) (words : List ℕ) (i width : ℕ) → width ≡ size d → i < length (coordinates_in d words)
+pub coordinate_at : (d : Dimensions) (words : List ℕ) (i width : ℕ) → width ≡ size d
+    → i < length (coordinates_in d words)
     → slice_get (coordinates_in d words) i ≡ Some (take (i * width + width - i * width) (drop (i * width) words))
 coordinate_at d words i width wide h =
     let count = length-runs (size d) (length words / size d) words in

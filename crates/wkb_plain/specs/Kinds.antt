@@ -14,7 +14,7 @@ use Rattle.wkb_plain.specs.declared.rect.Rect.{Rect}
 use Rattle.wkb_plain.specs.declared.triangle.Triangle.{Triangle}
 use Rattle.wkb_geom.specs.declared.common.Dimensions.{Dimensions}
 use Rattle.wkb_geom.specs.Geometries.{IsCoordinate, IsPoint, AreCoordinates}
-use Rattle.wkb_geom.specs.Lawful.{coordinate_of, point_of, each_part, at_dimension}
+use Rattle.wkb_geom.specs.Lawful.{lawful_coordinate, lawful_point, each_part, at_dimension}
 use Rattle.wkb_plain.specs.Runs.{coordinates_in, coordinates_in-lawful}
 
 -- a coordinate
@@ -25,7 +25,7 @@ abbrev pub coord_words : Coord → List ℕ
 coord_words c = c.words.now
 
 pub coord_lawful : (c : Coord) → IsCoordinate (coord_dimensions c) (coord_words c)
-coord_lawful c = coordinate_of c.dim c.words.now c.as_many_words c.in_range
+coord_lawful c = lawful_coordinate c.dim c.words.now c.as_many_words c.in_range
 
 -- a coordinate beside another of these dimensions
 coord_lawful_beside : (d : Dimensions) (c : Coord) → coord_dimensions c ≡ d → IsCoordinate d (coord_words c)
@@ -39,7 +39,7 @@ abbrev pub point_coordinate : Point → Option (List ℕ)
 point_coordinate p = option_map coord_words p.coord
 
 pub point_lawful : (p : Point) → IsPoint (point_dimensions p) (point_coordinate p)
-point_lawful p = point_of coord_words coord_dimensions p.dim p.coord coord_lawful p.one_dimension
+point_lawful p = lawful_point coord_words coord_dimensions p.dim p.coord coord_lawful p.one_dimension
 
 -- a line string
 abbrev pub line_string_dimensions : LineString → Dimensions
@@ -60,7 +60,8 @@ polygon_rings p = map line_string_coordinates p.rings.now
 
 pub polygon_lawful : (p : Polygon) → AllByRecursion (AreCoordinates (polygon_dimensions p)) (polygon_rings p)
 polygon_lawful p =
-    each_part line_string_coordinates line_string_dimensions p.dim AreCoordinates p.rings.now line_string_lawful p.one_dimension
+    each_part line_string_coordinates line_string_dimensions p.dim AreCoordinates p.rings.now line_string_lawful
+    p.one_dimension
 
 -- points of one dimension
 abbrev pub multi_point_dimensions : MultiPoint → Dimensions
@@ -80,9 +81,11 @@ multi_line_string_dimensions m = m.dim
 abbrev pub multi_line_string_line_strings : MultiLineString → List (List (List ℕ))
 multi_line_string_line_strings m = map line_string_coordinates m.line_strings.now
 
-pub multi_line_string_lawful : (m : MultiLineString) → AllByRecursion (AreCoordinates (multi_line_string_dimensions m)) (multi_line_string_line_strings m)
+pub multi_line_string_lawful : (m : MultiLineString)
+    → AllByRecursion (AreCoordinates (multi_line_string_dimensions m)) (multi_line_string_line_strings m)
 multi_line_string_lawful m =
-    each_part line_string_coordinates line_string_dimensions m.dim AreCoordinates m.line_strings.now line_string_lawful m.one_dimension
+    each_part line_string_coordinates line_string_dimensions m.dim AreCoordinates m.line_strings.now line_string_lawful
+    m.one_dimension
 
 -- polygons of one dimension
 abbrev pub multi_polygon_dimensions : MultiPolygon → Dimensions
@@ -91,9 +94,11 @@ multi_polygon_dimensions m = m.dim
 abbrev pub multi_polygon_polygons : MultiPolygon → List (List (List (List ℕ)))
 multi_polygon_polygons m = map polygon_rings m.polygons.now
 
-pub multi_polygon_lawful : (m : MultiPolygon) → AllByRecursion (AllByRecursion (AreCoordinates (multi_polygon_dimensions m))) (multi_polygon_polygons m)
+pub multi_polygon_lawful : (m : MultiPolygon)
+    → AllByRecursion (AllByRecursion (AreCoordinates (multi_polygon_dimensions m))) (multi_polygon_polygons m)
 multi_polygon_lawful m =
-    each_part polygon_rings polygon_dimensions m.dim (λ d rings. AllByRecursion (AreCoordinates d) rings) m.polygons.now polygon_lawful m.one_dimension
+    each_part polygon_rings polygon_dimensions m.dim
+    (λ d rings. AllByRecursion (AreCoordinates d) rings) m.polygons.now polygon_lawful m.one_dimension
 
 -- a line
 abbrev pub line_dimensions : Line → Dimensions
@@ -105,7 +110,8 @@ line_start l = coord_words l.start
 abbrev pub line_end : Line → List ℕ
 line_end l = coord_words l.end
 
-pub line_lawful : (l : Line) → IsCoordinate (line_dimensions l) (line_start l) × IsCoordinate (line_dimensions l) (line_end l)
+pub line_lawful : (l : Line)
+    → IsCoordinate (line_dimensions l) (line_start l) × IsCoordinate (line_dimensions l) (line_end l)
 line_lawful l = ((coord_lawful l.start), coord_lawful_beside l.start.dim l.end l.one_dimension)
 
 -- a rectangle
@@ -118,7 +124,8 @@ rect_min r = coord_words r.min
 abbrev pub rect_max : Rect → List ℕ
 rect_max r = coord_words r.max
 
-pub rect_lawful : (r : Rect) → IsCoordinate (rect_dimensions r) (rect_min r) × IsCoordinate (rect_dimensions r) (rect_max r)
+pub rect_lawful : (r : Rect)
+    → IsCoordinate (rect_dimensions r) (rect_min r) × IsCoordinate (rect_dimensions r) (rect_max r)
 rect_lawful r = ((coord_lawful r.min), coord_lawful_beside r.min.dim r.max r.one_dimension)
 
 -- a triangle

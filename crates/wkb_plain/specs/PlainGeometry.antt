@@ -35,7 +35,8 @@ geometry_layer (Point p) = point (point_dimensions p) (point_coordinate p)
 geometry_layer (LineString l) = line_string (line_string_dimensions l) (line_string_coordinates l)
 geometry_layer (Polygon p) = polygon (polygon_dimensions p) (polygon_rings p)
 geometry_layer (MultiPoint m) = multi_point (multi_point_dimensions m) (multi_point_points m)
-geometry_layer (MultiLineString m) = multi_line_string (multi_line_string_dimensions m) (multi_line_string_line_strings m)
+geometry_layer (MultiLineString m) =
+    multi_line_string (multi_line_string_dimensions m) (multi_line_string_line_strings m)
 geometry_layer (MultiPolygon m) = multi_polygon (multi_polygon_dimensions m) (multi_polygon_polygons m)
 geometry_layer (GeometryCollection c) = c
 geometry_layer (Rect r) = rectangle (rect_dimensions r) (rect_min r) (rect_max r)
@@ -71,27 +72,33 @@ plain_collection = fold-GeometryCollection Geometry Geometry geometry_layer coll
 
 -- one layer, with the geometry that each collection means in its place
 abbrev meant_layer : Geometry-F PlainGeometry PlainCollection → Geometry
-meant_layer x = geometry_layer (map-Geometry PlainGeometry PlainCollection Geometry Geometry plain_geometry plain_collection x)
+meant_layer x =
+    geometry_layer (map-Geometry PlainGeometry PlainCollection Geometry Geometry plain_geometry plain_collection x)
 
-layer-dimensions_of : (x : Geometry-F PlainGeometry PlainCollection) → dimensions_of (meant_layer x) ≡ layer_dimensions x
+layer-dimensions_of : (x : Geometry-F PlainGeometry PlainCollection)
+    → dimensions_of (meant_layer x) ≡ layer_dimensions x
 layer-dimensions_of (Point p) = refl
 layer-dimensions_of (LineString l) = refl
 layer-dimensions_of (Polygon p) = refl
 layer-dimensions_of (MultiPoint m) = refl
 layer-dimensions_of (MultiLineString m) = refl
 layer-dimensions_of (MultiPolygon m) = refl
-layer-dimensions_of (GeometryCollection c) = ap dimensions_of (fold_out-GeometryCollection Geometry Geometry geometry_layer collection_layer c)
+layer-dimensions_of (GeometryCollection c) =
+    ap dimensions_of (fold_out-GeometryCollection Geometry Geometry geometry_layer collection_layer c)
 layer-dimensions_of (Rect r) = refl
 layer-dimensions_of (Triangle t) = refl
 layer-dimensions_of (Line l) = refl
 
 pub dimensions_of-plain_geometry : (g : PlainGeometry) → dimensions_of (plain_geometry g) ≡ plain_dimensions g
 dimensions_of-plain_geometry g =
-    ap dimensions_of (fold_out-Geometry Geometry Geometry geometry_layer collection_layer g) ∙ layer-dimensions_of (out-Geometry g)
+    ap dimensions_of (fold_out-Geometry Geometry Geometry geometry_layer collection_layer g)
+    ∙ layer-dimensions_of (out-Geometry g)
 
 -- the same of a collection
 abbrev meant_collection : GeometryCollection-F PlainGeometry PlainCollection → Geometry
-meant_collection x = collection_layer (map-GeometryCollection PlainGeometry PlainCollection Geometry Geometry plain_geometry plain_collection x)
+meant_collection x =
+    collection_layer
+    (map-GeometryCollection PlainGeometry PlainCollection Geometry Geometry plain_geometry plain_collection x)
 
 abbrev LawfulGeometry : Type 0
 LawfulGeometry = (g : PlainGeometry) × IsGeometry (plain_geometry g)

@@ -29,5 +29,7 @@ runs-lawful d (suc count) words h fit = (
 )
 
 -- each is as long as the dimension says
-pub coordinates_in-lawful : (d : Dimensions) (words : List ℕ) → All IsWord words → AreCoordinates d (coordinates_in d words)
-coordinates_in-lawful d words fit = runs-lawful d (length words / size d) words (div-mul-le_self (length words) (size d)) fit
+pub coordinates_in-lawful : (d : Dimensions) (words : List ℕ) → All IsWord words
+    → AreCoordinates d (coordinates_in d words)
+coordinates_in-lawful d words fit =
+    runs-lawful d (length words / size d) words (div-mul-le_self (length words) (size d)) fit

@@ -1,9 +1,10 @@
 //! A plain geometry of any kind, and collections of them.
 
 ghost use Rattle.std.specs.Prelude.{◌≡◌, map};
-ghost use Rattle.wkb_plain.specs.PlainGeometry.{plain_geometry, plain_dimensions, dimensions_of-plain_geometry};
-ghost use Rattle.wkb_plain.specs.PlainGeometry.{IsGeometry-plain_geometry};
-ghost use Rattle.wkb_plain.specs.PlainGeometry.{collection_dimensions, collection_members, collection_lawful};
+ghost use Rattle.wkb_plain.specs.PlainGeometry.{plain_geometry, plain_dimensions};
+ghost use Rattle.wkb_plain.specs.PlainGeometry.{dimensions_of-plain_geometry};
+ghost use Rattle.wkb_plain.specs.PlainGeometry.{IsGeometry-plain_geometry, collection_dimensions};
+ghost use Rattle.wkb_plain.specs.PlainGeometry.{collection_members, collection_lawful};
 
 use crate::{
     Line, LineString, MultiLineString, MultiPoint, MultiPolygon, Point, Polygon, Rect, Triangle,

@@ -14,7 +14,8 @@ pub struct Line<'w> {
 }
 
 impl<'w> Line<'w> {
-    ghost use Rattle.wkb_plain.specs.Kinds.{coord_dimensions, coord_words, line_dimensions, line_start, line_end};
+    ghost use Rattle.wkb_plain.specs.Kinds.{coord_dimensions, coord_words, line_dimensions};
+    ghost use Rattle.wkb_plain.specs.Kinds.{line_start, line_end};
 
     /// The line from one coordinate to another. None where they differ in dimension.
     pub fn new(start: Coord<'w>, end: Coord<'w>) -> Option<Line<'w>>

@@ -28,7 +28,8 @@ impl<'w> LineString<'w> {
     pub fn new(dim: Dimensions, words: &'w [u64]) -> Option<LineString<'w>>
         ensures some { IsSome result ↔ ((0 < size dim) × (length words.now % size dim ≡ 0)) }
         ensures dimensions { IfSome result (λ l. line_string_dimensions l ≡ dim) }
-        ensures coordinates { IfSome result (λ l. line_string_coordinates l ≡ coordinates_in dim words.now) }
+        ensures coordinates { IfSome result
+            (λ l. line_string_coordinates l ≡ coordinates_in dim words.now) }
         ensures words { IfSome result (λ l. concat (line_string_coordinates l) ≡ words.now) }
     {
         let width = dim.size();

@@ -17,7 +17,8 @@ pub struct MultiLineString<'w> {
 
 impl<'w> MultiLineString<'w> {
     ghost use Rattle.wkb_plain.specs.Kinds.{line_string_dimensions, line_string_coordinates};
-    ghost use Rattle.wkb_plain.specs.Kinds.{multi_line_string_dimensions, multi_line_string_line_strings};
+    ghost use Rattle.wkb_plain.specs.Kinds.{multi_line_string_dimensions};
+    ghost use Rattle.wkb_plain.specs.Kinds.{multi_line_string_line_strings};
 
     /// These line strings, in order. None where the dimension has no words, or a line string has
     /// another dimension.
@@ -46,7 +47,8 @@ impl Dimensioned for MultiLineString<'_> {
 }
 
 impl<'w> MultiLineStringTrait for MultiLineString<'w> {
-    ghost use Rattle.wkb_plain.specs.Kinds.{multi_line_string_line_strings, multi_line_string_lawful};
+    ghost use Rattle.wkb_plain.specs.Kinds.{multi_line_string_line_strings};
+    ghost use Rattle.wkb_plain.specs.Kinds.{multi_line_string_lawful};
 
     type InnerLineStringType = LineString<'w>;
 

@@ -22,9 +22,11 @@ impl<'w> MultiPoint<'w> {
     /// These points, in order. None where the dimension has no words, or a point has another
     /// dimension.
     pub fn new(dim: Dimensions, points: &'w [Point<'w>]) -> Option<MultiPoint<'w>>
-        ensures some { IsSome result ↔ ((0 < size dim) × All (λ p. point_dimensions p ≡ dim) points.now) }
+        ensures some { IsSome result
+            ↔ ((0 < size dim) × All (λ p. point_dimensions p ≡ dim) points.now) }
         ensures dimensions { IfSome result (λ m. multi_point_dimensions m ≡ dim) }
-        ensures points { IfSome result (λ m. multi_point_points m ≡ map point_coordinate points.now) }
+        ensures points { IfSome result
+            (λ m. multi_point_points m ≡ map point_coordinate points.now) }
     {
         if dim.size() == 0 || !all_have(points, dim) {
             return None;

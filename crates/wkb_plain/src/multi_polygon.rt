@@ -22,9 +22,11 @@ impl<'w> MultiPolygon<'w> {
     /// These polygons, in order. None where the dimension has no words, or a polygon has another
     /// dimension.
     pub fn new(dim: Dimensions, polygons: &'w [Polygon<'w>]) -> Option<MultiPolygon<'w>>
-        ensures some { IsSome result ↔ ((0 < size dim) × All (λ p. polygon_dimensions p ≡ dim) polygons.now) }
+        ensures some { IsSome result
+            ↔ ((0 < size dim) × All (λ p. polygon_dimensions p ≡ dim) polygons.now) }
         ensures dimensions { IfSome result (λ m. multi_polygon_dimensions m ≡ dim) }
-        ensures polygons { IfSome result (λ m. multi_polygon_polygons m ≡ map polygon_rings polygons.now) }
+        ensures polygons { IfSome result
+            (λ m. multi_polygon_polygons m ≡ map polygon_rings polygons.now) }
     {
         if dim.size() == 0 || !all_have(polygons, dim) {
             return None;

@@ -16,7 +16,8 @@ pub struct Point<'w> {
 }
 
 impl<'w> Point<'w> {
-    ghost use Rattle.wkb_plain.specs.Kinds.{coord_dimensions, coord_words, point_dimensions, point_coordinate};
+    ghost use Rattle.wkb_plain.specs.Kinds.{coord_dimensions, coord_words, point_dimensions};
+    ghost use Rattle.wkb_plain.specs.Kinds.{point_coordinate};
 
     /// The point at a coordinate, of the coordinate's dimension.
     pub fn new(coord: Coord<'w>) -> Point<'w>

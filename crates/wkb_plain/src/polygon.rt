@@ -22,9 +22,11 @@ impl<'w> Polygon<'w> {
     /// The polygon of these rings, the exterior first. None where the dimension has no words, or a
     /// ring has another dimension.
     pub fn new(dim: Dimensions, rings: &'w [LineString<'w>]) -> Option<Polygon<'w>>
-        ensures some { IsSome result ↔ ((0 < size dim) × All (λ r. line_string_dimensions r ≡ dim) rings.now) }
+        ensures some { IsSome result
+            ↔ ((0 < size dim) × All (λ r. line_string_dimensions r ≡ dim) rings.now) }
         ensures dimensions { IfSome result (λ p. polygon_dimensions p ≡ dim) }
-        ensures rings { IfSome result (λ p. polygon_rings p ≡ map line_string_coordinates rings.now) }
+        ensures rings { IfSome result
+            (λ p. polygon_rings p ≡ map line_string_coordinates rings.now) }
     {
         if dim.size() == 0 || !all_have(rings, dim) {
             return None;

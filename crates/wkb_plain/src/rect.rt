@@ -14,7 +14,8 @@ pub struct Rect<'w> {
 }
 
 impl<'w> Rect<'w> {
-    ghost use Rattle.wkb_plain.specs.Kinds.{coord_dimensions, coord_words, rect_dimensions, rect_min, rect_max};
+    ghost use Rattle.wkb_plain.specs.Kinds.{coord_dimensions, coord_words, rect_dimensions};
+    ghost use Rattle.wkb_plain.specs.Kinds.{rect_min, rect_max};
 
     /// The rectangle between two corners, which are taken as they are. None where they differ in
     /// dimension.

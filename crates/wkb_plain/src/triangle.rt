@@ -21,9 +21,11 @@ impl<'w> Triangle<'w> {
 
     /// The triangle of three corners. None where they differ in dimension.
     pub fn new(first: Coord<'w>, second: Coord<'w>, third: Coord<'w>) -> Option<Triangle<'w>>
-        ensures some { IsSome result ↔ ((coord_dimensions second.entry ≡ coord_dimensions first.entry)
+        ensures some { IsSome result
+            ↔ ((coord_dimensions second.entry ≡ coord_dimensions first.entry)
             × (coord_dimensions third.entry ≡ coord_dimensions first.entry)) }
-        ensures dimensions { IfSome result (λ t. triangle_dimensions t ≡ coord_dimensions first.entry) }
+        ensures dimensions { IfSome result
+            (λ t. triangle_dimensions t ≡ coord_dimensions first.entry) }
         ensures first { IfSome result (λ t. triangle_first t ≡ coord_words first.entry) }
         ensures second { IfSome result (λ t. triangle_second t ≡ coord_words second.entry) }
         ensures third { IfSome result (λ t. triangle_third t ≡ coord_words third.entry) }
@@ -50,7 +52,8 @@ impl Dimensioned for Triangle<'_> {
 }
 
 impl<'w> TriangleTrait for Triangle<'w> {
-    ghost use Rattle.wkb_plain.specs.Kinds.{triangle_first, triangle_second, triangle_third, triangle_lawful};
+    ghost use Rattle.wkb_plain.specs.Kinds.{triangle_first, triangle_second, triangle_third};
+    ghost use Rattle.wkb_plain.specs.Kinds.{triangle_lawful};
 
     type CoordType = Coord<'w>;
 

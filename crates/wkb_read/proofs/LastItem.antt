@@ -16,14 +16,18 @@ pub record Top {A : Type 0} (xs : List A) (n : ℕ) (o : A) : Type 0 where
 pub top : {A : Type 0} (xs : List A) (n : ℕ) (o : A) → length xs ≡ suc n → o ≡ slice_index_or xs n o → Top xs n o
 top xs n o l is =
     let all : xs ≡ take n xs ++ o ∷ [] =
-    sym (take_all (suc n) xs (omega (arith, l))) ∙ take-suc xs n o (omega (arith, l)) ∙ ap (λ z. take n xs ++ z ∷ []) (sym is) in
+    sym (take_all (suc n) xs (omega (arith, l))) ∙ take-suc xs n o (omega (arith, l))
+    ∙ ap (λ z. take n xs ++ z ∷ []) (sym is) in
     record {
       below = reverse (take n xs);
       is = backwards xs (take n xs) o all;
-      set_is = λ y. backwards _ (take n xs) y (sym (take_all (suc n) _ (omega (arith, l, length-set xs n y))) ∙ take-suc-set xs n y (omega (arith, l)));
+      set_is =
+          λ y. backwards _ (take n xs) y
+          (sym (take_all (suc n) _ (omega (arith, l, length-set xs n y))) ∙ take-suc-set xs n y (omega (arith, l)));
       count = omega (arith, ap length all, length-append (take n xs) (o ∷ []), length-reverse (take n xs));
     }
 
 -- what is taken off the stack is the other top
-pub popped : {A : Type 0} (xs ys : List A) (n : ℕ) (o y z : A) (t : Top xs n o) → slice_set xs n y ≡ ys ++ z ∷ [] → (y ≡ z) × (t.below ≡ reverse ys)
+pub popped : {A : Type 0} (xs ys : List A) (n : ℕ) (o y z : A) (t : Top xs n o) → slice_set xs n y ≡ ys ++ z ∷ []
+    → (y ≡ z) × (t.below ≡ reverse ys)
 popped xs ys n o y z t e = let same : y ∷ t.below ≡ z ∷ reverse ys = sym (t.set_is y) ∙ backwards _ ys z e in (cc, cc)

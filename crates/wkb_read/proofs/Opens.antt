@@ -29,24 +29,41 @@ unfolding collection_at
 opens l bytes depth n spent rest r shallow whole n-is rest-is r-is =
     let long : ltb (length bytes) (body_start l.has_srid + 4) ≡ false = le-ltb _ _ whole in
     let level : max_nesting - depth ≡ suc (max_nesting - suc depth) = omega arith in
-    ap (λ (c : Cost). costs c r) (more_slots_is spent (entries_asked 9 l bytes)) ∙ sym (costs-costs spent (slots_of (entries_asked 9 l bytes)) r)
-    ∙ rw (r-is, level, long, ← parts_length l.has_srid bytes, ← n-is, drop-drop 4 (body_start l.has_srid) bytes, ← rest-is) refl
+    ap (λ (c : Cost). costs c r) (more_slots_is spent (entries_asked 9 l bytes))
+    ∙ sym (costs-costs spent (slots_of (entries_asked 9 l bytes)) r)
+    ∙ rw (
+      r-is,
+      level,
+      long,
+      ← parts_length l.has_srid bytes,
+      ← n-is,
+      drop-drop 4 (body_start l.has_srid) bytes,
+      ← rest-is,
+    ) refl
 
 -- one without members is whole
-pub without_members : (l : Layout) (bytes encoding rest : List ℕ) (n : ℕ) (member : List ℕ → Reading Item) (members : List Item) → n ≡ 0 → encoding ≡ consumed bytes rest
-    → members ≡ [] → done (list_item l collection_with members encoding) rest ≡ and_then (repeated n member rest) (closing l bytes)
-without_members l bytes encoding rest n member members none encoding-is empty = rw (none, encoding-is, empty) (sym (repeated_none member rest (closing l bytes)))
+pub without_members : (l : Layout) (bytes encoding rest : List ℕ) (n : ℕ) (member : List ℕ → Reading Item)
+    (members : List Item) → n ≡ 0 → encoding ≡ consumed bytes rest
+    → members ≡ []
+    → done (list_item l collection_with members encoding) rest ≡ and_then (repeated n member rest) (closing l bytes)
+without_members l bytes encoding rest n member members none encoding-is empty =
+    rw (none, encoding-is, empty) (sym (repeated_none member rest (closing l bytes)))
 
 -- one with members goes on with the first
-pub first_begins : (l : Layout) (bytes rest : List ℕ) (n : ℕ) (member : List ℕ → Reading Item) (members : List Item) → 0 < n → members ≡ []
-    → costs one_turn (and_then (member rest) (behind_member member l bytes (n - 1) members)) ≡ and_then (repeated n member rest) (closing l bytes)
+pub first_begins : (l : Layout) (bytes rest : List ℕ) (n : ℕ) (member : List ℕ → Reading Item) (members : List Item)
+    → 0 < n → members ≡ []
+    → costs one_turn (and_then (member rest) (behind_member member l bytes (n - 1) members))
+    ≡ and_then (repeated n member rest) (closing l bytes)
 first_begins l bytes rest n member members some empty =
     let k : n ≡ suc (n - 1) = omega arith in
-    rw empty (sym (ap (λ (i : ℕ). and_then (repeated i member rest) (closing l bytes)) k ∙ repeated_more (n - 1) member rest (closing l bytes)))
+    rw empty (sym
+    (ap (λ (i : ℕ). and_then (repeated i member rest) (closing l bytes)) k
+    ∙ repeated_more (n - 1) member rest (closing l bytes)))
 
 -- ---- what is answered before the list is there
 
 pub too_many_around : (l : Layout) (bytes : List ℕ) (depth : ℕ) (c : Counts) → 128 ≤ depth
     → Stops (Fault (nesting_depth_exceeded 128)) (collection_inside depth l bytes) c c
 too_many_around l bytes depth c deep =
-    let level : max_nesting - depth ≡ 0 = omega arith in rw level (refl, record { turns = omega arith; slots = omega arith })
+    let level : max_nesting - depth ≡ 0 = omega arith in
+    rw level (refl, record { turns = omega arith; slots = omega arith })

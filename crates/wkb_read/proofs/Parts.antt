@@ -37,22 +37,26 @@ member_seen ms i found e =
 -- the members in one geometry
 pub members_together : (vs : Values) → geometries (members_seen vs) ≡ fitted_geometries (geometries_of vs)
 members_together value.no_members = refl
-members_together (value.member v vs) = ap (λ (gs : Geometries). geometry (fitted_geometry (geometry_of v)) gs) (members_together vs)
+members_together (value.member v vs) =
+    ap (λ (gs : Geometries). geometry (fitted_geometry (geometry_of v)) gs) (members_together vs)
 
 -- a part that is lawful by its own law is what its value means
 pub part_seen : (g : Geometry) (v : Value) → geometry_of v ≡ g → IsGeometry g → g ≡ fitted_geometry (geometry_of v)
 part_seen g v e h = sym (fitted_geometry-same g h) ∙ ap fitted_geometry (sym e)
 
-pub point_means : (p : Point) → point (dimensions (point_layout p).dimension) (point_of (point_seen p).value) ≡ geometry_seen (point_seen p)
+pub point_means : (p : Point)
+    → point (dimensions (point_layout p).dimension) (point_of (point_seen p).value) ≡ geometry_seen (point_seen p)
 point_means p = part_seen _ (point_seen p).value (ap geometry_of (point_value p)) (point_is_lawful p)
 
 pub line_string_means : (l : LineString)
-    → line_string (dimensions (line_string_layout l).dimension) (line_string_of (line_string_seen l).value) ≡ geometry_seen (line_string_seen l)
+    → line_string (dimensions (line_string_layout l).dimension) (line_string_of (line_string_seen l).value)
+    ≡ geometry_seen (line_string_seen l)
 line_string_means l = part_seen _ (line_string_seen l).value refl (line_string_is_lawful l)
 
 -- what a view that is the geometry's means is what the geometry means
 pub part_means : {R T N : Type 0} (r : R → Geometry) (t : T → Geometry) (n : N → Geometry) (w : Item)
-    → (part : GeometryType Point LineString (Listed (List (List Coordinate))) MultiPoint (Listed (List (List Coordinate)))
+    → (part : GeometryType Point LineString (Listed (List (List Coordinate))) MultiPoint
+    (Listed (List (List Coordinate)))
     (Listed (List (List (List Coordinate)))) Item R T N) → IsViewOf w part
     → part_geometry
     (λ p. point (dimensions (point_layout p).dimension) (point_of (point_seen p).value))
@@ -65,14 +69,16 @@ pub part_means : {R T N : Type 0} (r : R → Geometry) (t : T → Geometry) (n :
     r t n part ≡ geometry_seen w
 part_means r t n w (handed.Point x) e = point_means x.now ∙ ap geometry_seen e
 part_means r t n w (handed.LineString x) e = line_string_means x.now ∙ ap geometry_seen e
-part_means r t n w (handed.MultiPoint x) e = part_seen _ (multi_point_seen x.now).value refl (multi_point_is_lawful x.now) ∙ ap geometry_seen e
+part_means r t n w (handed.MultiPoint x) e =
+    part_seen _ (multi_point_seen x.now).value refl (multi_point_is_lawful x.now) ∙ ap geometry_seen e
 part_means r t n w (handed.Polygon p) e = ap geometry_seen e
 part_means r t n w (handed.MultiLineString m) e = ap geometry_seen e
 part_means r t n w (handed.MultiPolygon m) e = ap geometry_seen e
 part_means r t n w (handed.GeometryCollection gs) e =
     let c = e.whole in
     let seen = members_are gs.now ∙ ap members_seen e.all.value in
-    rw (← e.is) (ap (λ (l : Geometries). collection (dimensions c.dimension) l) (ap geometries seen ∙ members_together c.parts))
+    rw (← e.is)
+    (ap (λ (l : Geometries). collection (dimensions c.dimension) l) (ap geometries seen ∙ members_together c.parts))
 part_means r t n w (handed.Rect x) e = absurd e
 part_means r t n w (handed.Triangle x) e = absurd e
 part_means r t n w (handed.Line x) e = absurd e

@@ -5,7 +5,8 @@ use Rattle.wkb_read.proofs.Words.{take, drop, Ok, Err, refl, sym, ap, subst, ◌
 use Rattle.wkb_read.proofs.Words.{Option, length-append, length-drop, slice_get}
 use Rattle.wkb_read.proofs.Words.{AllByRecursion, ∥∥₁_elim, props, arith, Bor, Layout, any, number, Listed, Values}
 use Rattle.wkb_read.proofs.Words.{Item, Reading, body_start, parts_start}
-use Rattle.wkb_read.proofs.Words.{consumed, spellings, values, Counts, HasHead, IsSpelled, Wkb, Whole, encodings, parts_in}
+use Rattle.wkb_read.proofs.Words.{consumed, spellings, values, Counts, HasHead, IsSpelled, Wkb, Whole, encodings}
+use Rattle.wkb_read.proofs.Words.{parts_in}
 use Rattle.wkb_read.proofs.Words.{HoldsMembers, IsCollectionIn, AreMembers}
 use Rattle.wkb_read.proofs.Words.{IsMemberAt, geometry_inside, IsFinished, BeginsAs, max_nesting}
 use Rattle.wkb_geom.specs.declared.code.WkbType.TheVariants as kinds
@@ -21,43 +22,59 @@ use Rattle.wkb_read.proofs.Bodies.{head_opens}
 
 encodings-append : (xs ys : List Item) → encodings (xs ++ ys) ≡ encodings xs ++ encodings ys
 encodings-append [] ys = refl
-encodings-append (x ∷ xs) ys = ap (λ (b : List ℕ). x.encoding ++ b) (encodings-append xs ys) ∙ sym (append_assoc x.encoding (encodings xs) (encodings ys))
+encodings-append (x ∷ xs) ys =
+    ap (λ (b : List ℕ). x.encoding ++ b) (encodings-append xs ys)
+    ∙ sym (append_assoc x.encoding (encodings xs) (encodings ys))
 
 -- with one member more, that many bytes more are the members'
-pub one_more : (xs : List Item) (x : Item) (rest : List ℕ) → encodings (xs ++ x ∷ []) ++ rest ≡ encodings xs ++ (x.encoding ++ rest)
+pub one_more : (xs : List Item) (x : Item) (rest : List ℕ)
+    → encodings (xs ++ x ∷ []) ++ rest ≡ encodings xs ++ (x.encoding ++ rest)
 one_more xs x rest =
-    ap (λ (b : List ℕ). b ++ rest) (encodings-append xs (x ∷ []) ∙ ap (λ (b : List ℕ). encodings xs ++ b) (append-nil x.encoding)) ∙ append_assoc (encodings xs) x.encoding rest
+    ap (λ (b : List ℕ). b ++ rest)
+    (encodings-append xs (x ∷ []) ∙ ap (λ (b : List ℕ). encodings xs ++ b) (append-nil x.encoding))
+    ∙ append_assoc (encodings xs) x.encoding rest
 
 -- what is read of bytes are their first ones, and spell it
 pub record PartRead (bytes : List ℕ) (w : Item) (rest : List ℕ) : Type 0 where
   pub whole : bytes ≡ w.encoding ++ rest
   pub part : IsFinished w
 
-read_by : (levels : ℕ) (bytes : List ℕ) (r : Reading Item) → IsRight levels any bytes r → (w : Item) (rest : List ℕ) → r.1 ≡ Ok (w, rest)
+read_by : (levels : ℕ) (bytes : List ℕ) (r : Reading Item) → IsRight levels any bytes r → (w : Item) (rest : List ℕ)
+    → r.1 ≡ Ok (w, rest)
     → length rest + 9 ≤ length bytes
     → PartRead bytes w rest
 read_by levels bytes (c, Ok x) h w rest e long =
     let same : x ≡ (w, rest) = cc in
     let left : length x.1 ≡ length rest = ap (λ (p : Item × List ℕ). length p.1) same in
     subst (λ (p : Item × List ℕ). PartRead bytes p.0 p.1) same
-    (record { whole = h.whole; part = record { spelled = ∣ h.spelled ∣₁; long = omega (arith, ap length h.whole, length-append x.0.encoding x.1, left, long) } })
+    (record {
+      whole = h.whole;
+      part =
+          record {
+            spelled = ∣ h.spelled ∣₁;
+            long = omega (arith, ap length h.whole, length-append x.0.encoding x.1, left, long);
+          };
+    })
 read_by levels bytes (c, Err f) h w rest e long = absurd cc
 
 pub part_read : (w : Wkb) (rest : Bor (List ℕ)) (bytes : List ℕ) (depth : ℕ) (old new : Counts)
     → BeginsAs (geometry_inside depth bytes) depth bytes (Ok (Whole w rest)) old new → PartRead bytes w rest.now
 part_read w rest bytes depth old new b =
     let levels = max_nesting - depth in
-    read_by levels bytes (geometry_inside depth bytes) (geometry_says levels bytes) w rest.now (sym (ap (λ (x : Reading Item). x.1) b.0)) b.1
+    read_by levels bytes (geometry_inside depth bytes) (geometry_says levels bytes) w rest.now
+    (sym (ap (λ (x : Reading Item). x.1) b.0)) b.1
 
 -- what stands in front of the rest is what was taken
-pub front_taken : (n : ℕ) (bytes encoding rest : List ℕ) → n ≤ length bytes → encoding ≡ take n bytes → rest ≡ drop n bytes → encoding ≡ consumed bytes rest
+pub front_taken : (n : ℕ) (bytes encoding rest : List ℕ) → n ≤ length bytes → encoding ≡ take n bytes
+    → rest ≡ drop n bytes → encoding ≡ consumed bytes rest
 front_taken n bytes encoding rest long encoding-is rest-is =
     let k : n ≡ length bytes - length rest = omega (arith, ap length rest-is, length-drop n bytes) in
     encoding-is ∙ ap (λ (m : ℕ). take m bytes) k
 
 -- ---- a collection that has all its members
 
-each_together : (ms : List Item) → AllByRecursion IsSpelled ms → ∥ SpellsEach any (spellings ms) (values ms) (encodings ms) ∥₁
+each_together : (ms : List Item) → AllByRecursion IsSpelled ms
+    → ∥ SpellsEach any (spellings ms) (values ms) (encodings ms) ∥₁
 each_together [] h = ∣ refl ∣₁
 each_together (m ∷ ms) h = ∥∥₁_elim h.0 (hlevel props) (λ s. ∥∥₁_elim (each_together ms h.1) (hlevel props) (λ r.
     ∣ record { front = m.encoding; rest = encodings ms; whole = refl; first = (s, tt); second = r } ∣₁))
@@ -71,9 +88,11 @@ pub record Closed (l : Layout) (bytes : List ℕ) (members : List Item) (rest : 
   pub collection : IsCollectionIn l members (consumed bytes rest)
   pub whole : bytes ≡ consumed bytes rest ++ rest
 
-pub closed : (l : Layout) (bytes : List ℕ) (members : List Item) (rest : List ℕ) → HasHead (λ d. kinds.GeometryCollection d) l bytes
+pub closed : (l : Layout) (bytes : List ℕ) (members : List Item) (rest : List ℕ)
+    → HasHead (λ d. kinds.GeometryCollection d) l bytes
     → number l.order 4 (drop (body_start l.has_srid) bytes) ≡ length members → body_start l.has_srid + 4 ≤ length bytes
-    → parts_start l.has_srid bytes ≡ encodings members ++ rest → AllByRecursion IsSpelled members → Closed l bytes members rest
+    → parts_start l.has_srid bytes ≡ encodings members ++ rest → AllByRecursion IsSpelled members
+    → Closed l bytes members rest
 closed l bytes members rest head counted long behind each =
     let start = body_start l.has_srid in
     let encoding = consumed bytes rest in
@@ -81,12 +100,22 @@ closed l bytes members rest head counted long behind each =
     let p = parts_encoding l bytes (encodings members) rest long behind in
     let t = collection l.dimension (values members) in
     let h : Head = record { order = l.order; wkb_type = kinds.GeometryCollection l.dimension; has_srid = l.has_srid } in
-    let spelled : IsSpelled (list_item l collection_with members encoding) = ∥∥₁_elim (each_together members each) (hlevel props) (λ all.
-    ∣ (item_is (nest t) any bytes encoding rest l [] (spellings members) t field (encodings members) (record { turns = member_count t; slots = listed_count t })
-    (head_opens bytes h head) tt p.whole p.long p.body (refl, subst (λ k. IsNumber l.order 4 k field) (counted ∙ sym (count_values members)) p.number)
+    let spelled : IsSpelled (list_item l collection_with members encoding) =
+    ∥∥₁_elim (each_together members each) (hlevel props) (λ all.
+    ∣ (item_is (nest t) any bytes encoding rest l [] (spellings members) t field (encodings members)
+    (record { turns = member_count t; slots = listed_count t })
+    (head_opens bytes h head) tt p.whole p.long p.body
+    (refl, subst (λ k. IsNumber l.order 4 k field) (counted ∙ sym (count_values members)) p.number)
     all (omega arith) refl refl).spelled ∣₁) in
     let holds : HoldsMembers l.has_srid encoding members = record {
-      long = omega (arith, ap length p.body, length-drop start encoding, length-append field (encodings members), p.number.len);
+      long =
+          omega (
+            arith,
+            ap length p.body,
+            length-drop start encoding,
+            length-append field (encodings members),
+            p.number.len,
+          );
       behind = ap (λ (b : List ℕ). drop 4 b) p.body ∙ drop_front 4 field (encodings members) p.number.len;
       each = each;
     } in
@@ -94,7 +123,8 @@ closed l bytes members rest head counted long behind each =
 
 -- ---- the members of a collection that was read
 
-pub are_members : (l : Layout) (members : List Item) (encoding : List ℕ) → HoldsMembers l.has_srid encoding members → AreMembers (parts_in l members encoding) members
+pub are_members : (l : Layout) (members : List Item) (encoding : List ℕ) → HoldsMembers l.has_srid encoding members
+    → AreMembers (parts_in l members encoding) members
 are_members l members encoding h = record {
   bytes = subst (λ (b : Bool). HoldsMembers b encoding members) (has_srid_in l.order l.has_srid encoding) h;
   spelled = refl;
@@ -102,7 +132,8 @@ are_members l members encoding h = record {
 }
 
 -- members that stand in the same bytes, with the same spellings, are the same
-same_members : (xs ys : List Item) → AllByRecursion IsSpelled xs → AllByRecursion IsSpelled ys → spellings xs ≡ spellings ys → values xs ≡ values ys
+same_members : (xs ys : List Item) → AllByRecursion IsSpelled xs → AllByRecursion IsSpelled ys
+    → spellings xs ≡ spellings ys → values xs ≡ values ys
     → encodings xs ≡ encodings ys → xs ≡ ys
 same_members [] [] a b s v t = refl
 same_members [] (y ∷ ys) a b s v t = absurd cc
@@ -110,14 +141,18 @@ same_members (x ∷ xs) [] a b s v t = absurd cc
 same_members (x ∷ xs) (y ∷ ys) a b s v t =
     let spelled : x.spelled ≡ y.spelled = cc in
     let value : x.value ≡ y.value = cc in
-    let both : (x.encoding ≡ y.encoding) × (encodings xs ≡ encodings ys) = ∥∥₁_elim a.0 (hlevel props) (λ p. ∥∥₁_elim b.0 (hlevel props) (λ q.
-    let one = one_spelling x.spelled y.spelled x.value y.value x.encoding y.encoding (encodings xs) (encodings ys) p q t in (one.encoding, one.rest))) in
+    let both : (x.encoding ≡ y.encoding) × (encodings xs ≡ encodings ys) =
+    ∥∥₁_elim a.0 (hlevel props) (λ p. ∥∥₁_elim b.0 (hlevel props) (λ q.
+    let one =
+    one_spelling x.spelled y.spelled x.value y.value x.encoding y.encoding (encodings xs) (encodings ys) p q t in
+    (one.encoding, one.rest))) in
     let more : xs ≡ ys = same_members xs ys a.1 b.1 (cc) (cc) both.1 in
     let item : x ≡ y = rw (both.0, spelled, value) refl in
     rw (item, more) refl
 
 -- so a collection has one list of members, and one of each number
-pub is_member_at : (whole : Listed Values) (members : List Item) (i : ℕ) (found : Option Item) → AreMembers whole members → found ≡ slice_get members i
+pub is_member_at : (whole : Listed Values) (members : List Item) (i : ℕ) (found : Option Item)
+    → AreMembers whole members → found ≡ slice_get members i
     → IsMemberAt whole i found
 is_member_at whole members i found a e = λ others b.
     let same = same_members members others a.bytes.each b.bytes.each (a.spelled ∙ sym b.spelled) (a.value ∙ sym b.value)

@@ -20,9 +20,11 @@ zero_counts = record { turns = 0; slots = 0 }
 
 -- ---- what is counted is bounded by the bytes, whatever the answer
 
-counted_of : (whole : Reading Item) (r : Result Wkb Refusal) (old new : Counts) → ReadsAs whole r old new → AtMost old new whole.0
+counted_of : (whole : Reading Item) (r : Result Wkb Refusal) (old new : Counts) → ReadsAs whole r old new
+    → AtMost old new whole.0
 counted_of whole (Ok w) old new h = record { turns = omega (arith, h.1.turns); slots = omega (arith, h.1.slots) }
-counted_of whole (Err (Fault cause)) old new h = record { turns = omega (arith, h.1.turns); slots = omega (arith, h.1.slots) }
+counted_of whole (Err (Fault cause)) old new h =
+    record { turns = omega (arith, h.1.turns); slots = omega (arith, h.1.slots) }
 counted_of whole (Err Memory) old new h = h
 
 pub count_bounded : (buf : List ℕ) (r : Result Wkb Refusal) (new : Counts) → ReadsAs (reading_of buf) r zero_counts new
@@ -44,16 +46,22 @@ only_front buf w p = λ s t rest f.
     let one = one_front_lem buf s w.spelled t w.value rest p.rest f p.front in
     (one.0 ∙ p.encoding_is, one.1, one.2)
 
-read_by : (buf : List ℕ) (r : Reading Item) → Agrees buf r → (w : Item) (rest : List ℕ) (new : Counts) → r.1 ≡ Ok (w, rest) → Spent zero_counts new r.0
+read_by : (buf : List ℕ) (r : Reading Item) → Agrees buf r → (w : Item) (rest : List ℕ) (new : Counts)
+    → r.1 ≡ Ok (w, rest) → Spent zero_counts new r.0
     → IsRead buf w new
 read_by buf (c, Ok x) h w rest new is spent =
     let item : x.0 ≡ w = cc in
     let front : IsFront buf x.0 = record { rest = x.1; front = h.0; encoding_is = h.3 } in
     subst (λ (i : Item). IsRead buf i new) item
-    (record { front = front; one_front = only_front buf x.0 front; counts = (omega (arith, spent.turns, h.1), omega (arith, spent.slots, h.2)) })
+    (record {
+      front = front;
+      one_front = only_front buf x.0 front;
+      counts = (omega (arith, spent.turns, h.1), omega (arith, spent.slots, h.2));
+    })
 read_by buf (c, Err f) h w rest new is spent = absurd cc
 
-pub is_read : (buf : List ℕ) (w : Wkb) (new : Counts) → ReadsAs (reading_of buf) (Ok w) zero_counts new → IsRead buf w new
+pub is_read : (buf : List ℕ) (w : Wkb) (new : Counts) → ReadsAs (reading_of buf) (Ok w) zero_counts new
+    → IsRead buf w new
 is_read buf w new h = read_by buf (reading_of buf) (geometry_agrees_lem buf) w h.0.0 new h.0.1 h.1
 
 -- ---- a refusal, and the error that tells it
@@ -64,15 +72,21 @@ pub record IsTold (buf : List ℕ) (e : WkbError) (new : Counts) : Type 0 where
   pub no_front : HasNoFront buf
   pub counts : CountsRefusal buf new
 
-told : (buf : List ℕ) (e : WkbError) (cause : Cause) (new : Counts) → Refuses max_nesting any buf cause new.turns new.slots → Tells e cause → IsTold buf e new
+told : (buf : List ℕ) (e : WkbError) (cause : Cause) (new : Counts)
+    → Refuses max_nesting any buf cause new.turns new.slots → Tells e cause → IsTold buf e new
 told buf e cause new refuses tells = record {
   refusal = record { cause = cause; turns = new.turns; slots = new.slots; refuses = refuses; tells = tells };
-  one_cause = λ other turns slots q. subst (Tells e) (one_refusal_lem buf cause other new.turns turns new.slots slots refuses q).0 tells;
+  one_cause =
+      λ other turns slots q. subst (Tells e)
+      (one_refusal_lem buf cause other new.turns turns new.slots slots refuses q).0 tells;
   no_front = λ s t rest f. never_both_lem buf s t rest cause new.turns new.slots f refuses;
-  counts = λ other turns slots q. let one = one_refusal_lem buf cause other new.turns turns new.slots slots refuses q in (one.1, one.2);
+  counts =
+      λ other turns slots q. let one =
+      one_refusal_lem buf cause other new.turns turns new.slots slots refuses q in (one.1, one.2);
 }
 
-refused_by : (buf : List ℕ) (r : Reading Item) → Agrees buf r → (cause : Cause) (new : Counts) → r.1 ≡ Err cause → Spent zero_counts new r.0
+refused_by : (buf : List ℕ) (r : Reading Item) → Agrees buf r → (cause : Cause) (new : Counts) → r.1 ≡ Err cause
+    → Spent zero_counts new r.0
     → Refuses max_nesting any buf cause new.turns new.slots
 refused_by buf (c, Ok x) h cause new is spent = absurd cc
 refused_by buf (c, Err f) h cause new is spent =
@@ -83,7 +97,8 @@ refused_by buf (c, Err f) h cause new is spent =
 
 -- what holds of each error that tells the refusal holds of the answer
 if_told : (P : WkbError → Type 0) (buf : List ℕ) (e : WkbError) (refusal : Refusal) (new : Counts)
-    → Stops refusal (reading_of buf) zero_counts new → TellsRefusal e refusal → (IsTold buf e new → P e) → IfRefused (Err e) P
+    → Stops refusal (reading_of buf) zero_counts new → TellsRefusal e refusal → (IsTold buf e new → P e)
+    → IfRefused (Err e) P
 if_told P buf (errors.Memory x) refusal new h tells step = tt
 if_told P buf e (Fault cause) new h tells step =
     step (told buf e cause new (refused_by buf (reading_of buf) (geometry_agrees_lem buf) cause new h.0 h.1) tells)
@@ -95,7 +110,8 @@ at_most : (buf : List ℕ) (new : Counts) → AtMost zero_counts new (reading_of
 at_most buf new h = record {
   front = λ s t rest f. let e = ap (λ (r : Reading Item). r.0) (front_is_read_lem buf s t rest f) in
       (omega (arith, h.turns, ap (λ (c : Cost). c.turns) e), omega (arith, h.slots, ap (λ (c : Cost). c.slots) e));
-  refusal = λ cause turns slots q. let e = ap (λ (r : Reading Item). r.0) (refusal_is_read_lem buf cause turns slots q) in
+  refusal =
+      λ cause turns slots q. let e = ap (λ (r : Reading Item). r.0) (refusal_is_read_lem buf cause turns slots q) in
       (omega (arith, h.turns, ap (λ (c : Cost). c.turns) e), omega (arith, h.slots, ap (λ (c : Cost). c.slots) e));
 }
 
@@ -103,9 +119,11 @@ if_memory : (e : WkbError) (P : Type 0) → P → IfMemory (Err e) P
 if_memory (errors.Memory x) P p = p
 if_memory _ P p = tt
 
-memory_counted : (buf : List ℕ) (e : WkbError) (refusal : Refusal) (new : Counts) → Stops refusal (reading_of buf) zero_counts new
+memory_counted : (buf : List ℕ) (e : WkbError) (refusal : Refusal) (new : Counts)
+    → Stops refusal (reading_of buf) zero_counts new
     → IfMemory (Err e) (CountsAtMost buf new)
-memory_counted buf e refusal new h = if_memory e (CountsAtMost buf new) (at_most buf new (counted_of (reading_of buf) (Err refusal) zero_counts new h))
+memory_counted buf e refusal new h =
+    if_memory e (CountsAtMost buf new) (at_most buf new (counted_of (reading_of buf) (Err refusal) zero_counts new h))
 
 -- an error that tells a fault is no want of memory
 is_not_memory : (e : WkbError) (refusal : Refusal) → TellsRefusal e refusal → IsAtFault refusal → IsNotMemoryError e
@@ -114,7 +132,8 @@ is_not_memory (errors.Memory x) Memory tells fault = absurd fault
 is_not_memory _ refusal tells fault = tt
 
 -- an answer that is an error which tells the refusal
-module _ (buf : List ℕ) (e : WkbError) (refusal : Refusal) (new : Counts) (stops : Stops refusal (reading_of buf) zero_counts new)
+module _ (buf : List ℕ) (e : WkbError) (refusal : Refusal) (new : Counts)
+    (stops : Stops refusal (reading_of buf) zero_counts new)
     (tells : TellsRefusal e refusal) where
   pub refused_as : (TakesNoMemory buf → IsAtFault refusal) → Reads buf (Err e)
   refused_as none = record {

@@ -35,38 +35,48 @@ turn_is c d e = e ∙ cost_is _ _ refl (omega arith)
 moved : (os : List Open) (old new : Cost) (before after whole : Reading Item) → costs new after ≡ costs old before
     → costs old (and_then before (outward os)) ≡ whole → costs new (and_then after (outward os)) ≡ whole
 moved os old new before after whole e so_far =
-    sym (and_then-costs new after (outward os)) ∙ ap (λ (r : Reading Item). and_then r (outward os)) e ∙ and_then-costs old before (outward os) ∙ so_far
+    sym (and_then-costs new after (outward os)) ∙ ap (λ (r : Reading Item). and_then r (outward os)) e
+    ∙ and_then-costs old before (outward os) ∙ so_far
 
 -- a collection is opened, and its first member begins
-pub enters : (o : Open) (os : List Open) (rest : Bor (List ℕ)) (bytes : List ℕ) (mid new after : Counts) (whole : Reading Item) → Reaches os bytes mid whole
-    → BeginsAs (geometry_inside (length os) bytes) (length os) bytes (Ok (Opened o rest)) mid new → cost_of after ≡ next_turn (cost_of new)
+pub enters : (o : Open) (os : List Open) (rest : Bor (List ℕ)) (bytes : List ℕ) (mid new after : Counts)
+    (whole : Reading Item) → Reaches os bytes mid whole
+    → BeginsAs (geometry_inside (length os) bytes) (length os) bytes (Ok (Opened o rest)) mid new
+    → cost_of after ≡ next_turn (cost_of new)
     → Reaches (o ∷ os) rest.now after whole
 enters o os rest bytes mid new after whole r b turn =
     let member = geometry_inside (suc (length os)) rest.now in
     let inside = in_collection (length os) o in
     record {
-      so_far = ap (λ (c : Cost). costs c (and_then member (outward (o ∷ os)))) (turn_is (cost_of new) (cost_of after) turn)
+      so_far =
+          ap (λ (c : Cost). costs c (and_then member (outward (o ∷ os)))) (turn_is (cost_of new) (cost_of after) turn)
           ∙ sym (costs-costs (cost_of new) one_turn (and_then member (outward (o ∷ os))))
-          ∙ ap (λ (s : Reading Item). costs (cost_of new) s) (ap (λ (s : Reading Item). costs one_turn s) (sym (and_then-assoc member inside (outward os)))
+          ∙ ap (λ (s : Reading Item). costs (cost_of new) s)
+          (ap (λ (s : Reading Item). costs one_turn s) (sym (and_then-assoc member inside (outward os)))
           ∙ sym (and_then-costs one_turn (and_then member inside) (outward os)))
-          ∙ moved os (cost_of mid) (cost_of new) (geometry_inside (length os) bytes) (first_member (length os) o rest.now) whole b.0 r.so_far;
+          ∙ moved os (cost_of mid) (cost_of new) (geometry_inside (length os) bytes)
+          (first_member (length os) o rest.now) whole b.0 r.so_far;
       stand = (b.3, rw b.1 r.stand);
     }
 
 -- a whole part was read
-pub finishes : (w : Wkb) (os : List Open) (rest : Bor (List ℕ)) (bytes : List ℕ) (mid new : Counts) (whole : Reading Item) → Reaches os bytes mid whole
-    → BeginsAs (geometry_inside (length os) bytes) (length os) bytes (Ok (Whole w rest)) mid new → Finishes os w rest.now new whole
+pub finishes : (w : Wkb) (os : List Open) (rest : Bor (List ℕ)) (bytes : List ℕ) (mid new : Counts)
+    (whole : Reading Item) → Reaches os bytes mid whole
+    → BeginsAs (geometry_inside (length os) bytes) (length os) bytes (Ok (Whole w rest)) mid new
+    → Finishes os w rest.now new whole
 finishes w os rest bytes mid new whole r b =
     let p = part_read w rest bytes (length os) mid new b in
     record {
       so_far = ap (λ (s : Reading Item). costs (cost_of new) s) (sym (done_then w rest.now (outward os)))
-          ∙ moved os (cost_of mid) (cost_of new) (geometry_inside (length os) bytes) (done w rest.now) whole b.0 r.so_far;
+          ∙ moved os (cost_of mid) (cost_of new) (geometry_inside (length os) bytes)
+          (done w rest.now) whole b.0 r.so_far;
       stand = subst (AreOpen os) p.whole r.stand;
       part = p.part;
     }
 
 -- the counters have room for the part, and for a turn
-pub can_begin : (os : List Open) (bytes : List ℕ) (old new : Counts) (whole : Reading Item) → Reaches os bytes new (costs (cost_of old) whole)
+pub can_begin : (os : List Open) (bytes : List ℕ) (old new : Counts) (whole : Reading Item)
+    → Reaches os bytes new (costs (cost_of old) whole)
     → CanCount old whole.0 → CanCount new (geometry_inside (length os) bytes).0
 can_begin os bytes old new whole r fits =
     let part = and_then-least (geometry_inside (length os) bytes) (outward os) in
@@ -76,7 +86,8 @@ can_begin os bytes old new whole r fits =
     }
 
 -- what was counted before a turn is among the whole
-pub at_most_turn : (os : List Open) (bytes : List ℕ) (old new after : Counts) (whole : Reading Item) → Reaches os bytes after (costs (cost_of old) whole)
+pub at_most_turn : (os : List Open) (bytes : List ℕ) (old new after : Counts) (whole : Reading Item)
+    → Reaches os bytes after (costs (cost_of old) whole)
     → cost_of after ≡ next_turn (cost_of new) → AtMost old new whole.0
 at_most_turn os bytes old new after whole r turn = record {
   turns = omega (arith, ap (λ (s : Reading Item). s.0.turns) r.so_far, ap (λ (c : Cost). c.turns) turn);
@@ -84,8 +95,10 @@ at_most_turn os bytes old new after whole r turn = record {
 }
 
 -- a part's refusal is passed outward
-pub stops_outward : (refusal : Refusal) (r : Reading Item) (f : Item → List ℕ → Reading Item) (whole : Reading Item) (old mid new : Counts)
-    → costs (cost_of mid) (and_then r f) ≡ costs (cost_of old) whole → Stops refusal r mid new → Stops refusal whole old new
+pub stops_outward : (refusal : Refusal) (r : Reading Item) (f : Item → List ℕ → Reading Item) (whole : Reading Item)
+    (old mid new : Counts)
+    → costs (cost_of mid) (and_then r f) ≡ costs (cost_of old) whole → Stops refusal r mid new
+    → Stops refusal whole old new
 stops_outward (Fault cause) (c, Ok x) f whole old mid new so_far h = absurd cc
 stops_outward (Fault cause) (c, Err e) f whole old mid new so_far h = (
   sym (ap (λ (s : Reading Item). s.1) so_far) ∙ h.0,
@@ -102,11 +115,15 @@ stops_outward Memory r f whole old mid new so_far most =
     }
 
 -- all is read
-pub all_read : (w : Item) (rest : List ℕ) (whole : Reading Item) (old new : Counts) → costs (cost_of new) (done w rest) ≡ costs (cost_of old) whole
+pub all_read : (w : Item) (rest : List ℕ) (whole : Reading Item) (old new : Counts)
+    → costs (cost_of new) (done w rest) ≡ costs (cost_of old) whole
     → ((end : List ℕ) × (whole.1 ≡ Ok (w, end))) × Spent old new whole.0
 all_read w rest whole old new e = (
   (rest, sym (ap (λ (s : Reading Item). s.1) e)),
-  record { turns = omega (arith, ap (λ (s : Reading Item). s.0.turns) e); slots = omega (arith, ap (λ (s : Reading Item). s.0.slots) e) },
+  record {
+    turns = omega (arith, ap (λ (s : Reading Item). s.0.turns) e);
+    slots = omega (arith, ap (λ (s : Reading Item). s.0.slots) e);
+  },
 )
 
 -- ---- a part is finished
@@ -119,11 +136,14 @@ pub record IsNext (o next : Open) (m : Item) : Type 0 where
   pub items : entries next.members ≡ entries o.members ++ m ∷ []
   pub capacity : room o.members ≤ room next.members
 
-member_more : (member : List ℕ → Reading Item) (l : Layout) (bytes : List ℕ) (n : ℕ) (front : List Item) (m : Item) (rest : List ℕ)
-    → behind_member member l bytes (suc n) front m rest ≡ costs one_turn (and_then (member rest) (behind_member member l bytes n (front ++ m ∷ [])))
+member_more : (member : List ℕ → Reading Item) (l : Layout) (bytes : List ℕ) (n : ℕ) (front : List Item) (m : Item)
+    (rest : List ℕ)
+    → behind_member member l bytes (suc n) front m rest
+    ≡ costs one_turn (and_then (member rest) (behind_member member l bytes n (front ++ m ∷ [])))
 member_more member l bytes n front m rest =
     repeated_more n member rest (λ xs after. closing l bytes (front ++ m ∷ xs) after)
-    ∙ ap (λ (r : Reading Item). costs one_turn r) (and_then-same (member rest) _ _ (λ x after. and_then-same (repeated n member after) _ _
+    ∙ ap (λ (r : Reading Item). costs one_turn r)
+    (and_then-same (member rest) _ _ (λ x after. and_then-same (repeated n member after) _ _
     (λ xs end. ap (λ (ms : List Item). closing l bytes ms end) (sym (append_assoc front (m ∷ []) (x ∷ xs))))))
 
 goes_on : (o next : Open) (os : List Open) (m : Item) (rest : List ℕ) → IsNext o next m
@@ -132,13 +152,17 @@ goes_on o next os m rest n =
     let member = geometry_inside (suc (length os)) in
     let inside = in_collection (length os) next in
     let one : in_collection (length os) o m rest ≡ costs one_turn (and_then (member rest) inside) =
-    rw (n.left, n.layout, n.bytes, n.items) (member_more member o.layout o.bytes.now next.left (entries o.members) m rest) in
-    ap (λ (r : Reading Item). and_then r (outward os)) one ∙ and_then-costs one_turn (and_then (member rest) inside) (outward os)
+    rw (n.left, n.layout, n.bytes, n.items)
+    (member_more member o.layout o.bytes.now next.left (entries o.members) m rest) in
+    ap (λ (r : Reading Item). and_then r (outward os)) one
+    ∙ and_then-costs one_turn (and_then (member rest) inside) (outward os)
     ∙ ap (λ (r : Reading Item). costs one_turn r) (and_then-assoc (member rest) inside (outward os))
 
-more_open : (o next : Open) (m : Item) (rest : List ℕ) → IsNext o next m → IsOpen o (m.encoding ++ rest) → IsFinished m → IsOpen next rest
+more_open : (o next : Open) (m : Item) (rest : List ℕ) → IsNext o next m → IsOpen o (m.encoding ++ rest) → IsFinished m
+    → IsOpen next rest
 more_open o next m rest n h part =
-    let longer : length (entries next.members) ≡ length (entries o.members) + 1 = ap length n.items ∙ length-append (entries o.members) (m ∷ []) in
+    let longer : length (entries next.members) ≡ length (entries o.members) + 1 =
+    ap length n.items ∙ length-append (entries o.members) (m ∷ []) in
     record {
       head = rw (n.layout, n.bytes) h.head;
       count = rw (n.layout, n.bytes) (h.count ∙ omega (arith, longer, n.left));
@@ -149,34 +173,44 @@ more_open o next m rest n h part =
     }
 
 -- the next member begins
-pub next_begins : (o next : Open) (os : List Open) (m : Item) (rest : List ℕ) (spent after : Counts) (whole : Reading Item) → IsNext o next m
-    → Finishes (o ∷ os) m rest spent whole → cost_of after ≡ next_turn (cost_of spent) → Reaches (next ∷ os) rest after whole
+pub next_begins : (o next : Open) (os : List Open) (m : Item) (rest : List ℕ) (spent after : Counts)
+    (whole : Reading Item) → IsNext o next m
+    → Finishes (o ∷ os) m rest spent whole → cost_of after ≡ next_turn (cost_of spent)
+    → Reaches (next ∷ os) rest after whole
 next_begins o next os m rest spent after whole n f turn =
     let r = and_then (geometry_inside (suc (length os)) rest) (outward (next ∷ os)) in
     record {
-      so_far = ap (λ (c : Cost). costs c r) (turn_is (cost_of spent) (cost_of after) turn) ∙ sym (costs-costs (cost_of spent) one_turn r)
+      so_far =
+          ap (λ (c : Cost). costs c r) (turn_is (cost_of spent) (cost_of after) turn)
+          ∙ sym (costs-costs (cost_of spent) one_turn r)
           ∙ ap (λ (s : Reading Item). costs (cost_of spent) s) (sym (goes_on o next os m rest n)) ∙ f.so_far;
       stand = (more_open o next m rest n f.stand.0 f.part, rw n.bytes f.stand.1);
     }
 
 -- a collection that has all its members, and is a finished part itself
-pub record Completes (o : Open) (os : List Open) (members : List Item) (rest : List ℕ) (spent : Counts) (whole : Reading Item) : Type 0 where
+pub record Completes (o : Open) (os : List Open) (members : List Item) (rest : List ℕ) (spent : Counts)
+    (whole : Reading Item) : Type 0 where
   pub collection : IsCollectionIn o.layout members (consumed o.bytes.now rest)
   pub finishes : Finishes os (list_item o.layout collection_with members (consumed o.bytes.now rest)) rest spent whole
 
-pub completes : (o : Open) (os : List Open) (m : Item) (members : List Item) (rest : List ℕ) (spent : Counts) (whole : Reading Item) → o.left ≡ 0
-    → members ≡ entries o.members ++ m ∷ [] → Finishes (o ∷ os) m rest spent whole → Completes o os members rest spent whole
+pub completes : (o : Open) (os : List Open) (m : Item) (members : List Item) (rest : List ℕ) (spent : Counts)
+    (whole : Reading Item) → o.left ≡ 0
+    → members ≡ entries o.members ++ m ∷ [] → Finishes (o ∷ os) m rest spent whole
+    → Completes o os members rest spent whole
 completes o os m members rest spent whole none is f =
     let member = geometry_inside (suc (length os)) in
     let h = f.stand.0 in
     let front = entries o.members in
     let c : Closed o.layout o.bytes.now members rest = rw is (closed o.layout o.bytes.now (front ++ m ∷ []) rest h.head
-    (h.count ∙ omega (arith, none, length-append front (m ∷ []))) (omega (arith, h.within)) (h.behind ∙ sym (one_more front m rest))
+    (h.count ∙ omega (arith, none, length-append front (m ∷ []))) (omega (arith, h.within))
+    (h.behind ∙ sym (one_more front m rest))
     (all_more IsSpelled front m h.each f.part.spelled)) in
     let encoding = consumed o.bytes.now rest in
     let last : in_collection (length os) o m rest ≡ closing o.layout o.bytes.now members rest =
     rw (none, is) (repeated_none member rest (λ xs after. closing o.layout o.bytes.now (front ++ m ∷ xs) after)) in
-    let out = ap (λ (r : Reading Item). and_then r (outward os)) last ∙ done_then (list_item o.layout collection_with members encoding) rest (outward os) in
+    let out =
+    ap (λ (r : Reading Item). and_then r (outward os)) last
+    ∙ done_then (list_item o.layout collection_with members encoding) rest (outward os) in
     record {
       collection = c.collection;
       finishes = record {

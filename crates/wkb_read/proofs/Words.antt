@@ -32,7 +32,8 @@ pub use Rattle.wkb_read.specs.declared.geometry.Wkb.{Wkb}
 pub use Rattle.wkb_read.specs.declared.read.unfinished.Begun.TheVariants.{Whole, Opened}
 pub use Rattle.wkb_read.specs.declared.read.unfinished.Open.{Open}
 pub use Rattle.wkb_read.specs.Memory.{IsNotMemoryError, TypeTakesNone, ReadsWithoutMemory}
-pub use Rattle.wkb_read.specs.Placed.{encodings, parts_in, closing, HoldsMembers, IsCollectionIn, AreMembers, IsMemberAt}
+pub use Rattle.wkb_read.specs.Placed.{encodings, parts_in, closing, HoldsMembers, IsCollectionIn, AreMembers}
+pub use Rattle.wkb_read.specs.Placed.{IsMemberAt}
 pub use Rattle.wkb_geom.specs.Fronts.{HasNoFront}
 pub use Rattle.wkb_read.specs.Public.{IsFront, IsOnlyFront, IsRefusal, TellsEach, IfRefused, IfMemory}
 pub use Rattle.wkb_read.specs.Public.{CountsValue, CountsRefusal, CountsAtMost}

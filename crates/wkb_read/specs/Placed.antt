@@ -33,7 +33,8 @@ pub record HoldsMembers (has_srid : Bool) (encoding : List ℕ) (members : List 
 
 -- so it is with this encoding, which spells the collection
 abbrev pub IsCollectionIn : Layout → List Item → List ℕ → Type 0
-IsCollectionIn l members encoding = HoldsMembers l.has_srid encoding members × IsSpelled (list_item l collection_with members encoding)
+IsCollectionIn l members encoding =
+    HoldsMembers l.has_srid encoding members × IsSpelled (list_item l collection_with members encoding)
 
 -- the members of a collection, by their bytes, their spellings and their values
 pub record AreMembers (whole : Listed Values) (members : List Item) : Type 0 where

@@ -1,7 +1,8 @@
 -- What a reader's answer says of its input.
 use Rattle.std.specs.Prelude.{◌≡◌, ℕ, ◌+◌, ◌*◌, ◌<◌, ◌≤◌, List, length, Bool, Result, Ok, Err, IfOk}
 use Rattle.wkb_read.specs.Words.{Endianness, Dimension, Iso, WkbError, Value, member_count}
-use Rattle.wkb_read.specs.Words.{listed_count, Spelling, any, Front, HasNoFront, max_nesting, Cause, Refuses, Opens, srid_size}
+use Rattle.wkb_read.specs.Words.{listed_count, Spelling, any, Front, HasNoFront, max_nesting, Cause, Refuses, Opens}
+use Rattle.wkb_read.specs.Words.{srid_size}
 use Rattle.wkb_read.specs.Words.{Tells, geometry_of, IsWritable, Item}
 use Rattle.wkb_read.specs.Words.{Counts, IsGeometry, normal}
 use Rattle.wkb_read.specs.Memory.{IsNotMemory}
@@ -81,7 +82,8 @@ abbrev pub TakesNoMemory : List ℕ → Type 0
 TakesNoMemory buf = (order : Endianness) (k : ℕ) (d : Dimension) (srid : Bool) (behind : List ℕ)
     → Opens buf order k d srid behind → KindTakesNone k srid buf
 
--- What an answer says of the bytes: a geometry is the one at the front, and means what its value means; an error tells the
+-- What an answer says of the bytes: a geometry is the one at the front, and means what its value means; an error tells
+-- the
 -- one refusal; and want of memory is told only where memory is taken.
 pub record Reads (buf : List ℕ) (r : Result Wkb WkbError) : Type 0 where
   pub front : IfOk r (λ w. IsFront buf w)

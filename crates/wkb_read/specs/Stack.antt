@@ -22,7 +22,8 @@ geometry_inside depth = geometry_at (max_nesting - depth)
 
 -- what comes of a collection once a member is finished, by what reads those behind it
 abbrev pub behind_member : (List ℕ → Reading Item) → Layout → List ℕ → ℕ → List Item → Item → List ℕ → Reading Item
-behind_member member l bytes left front x rest = and_then (repeated left member rest) (λ xs after. closing l bytes (front ++ x ∷ xs) after)
+behind_member member l bytes left front x rest =
+    and_then (repeated left member rest) (λ xs after. closing l bytes (front ++ x ∷ xs) after)
 
 -- the same of an open collection inside so many others
 abbrev pub in_collection : ℕ → Open → Item → List ℕ → Reading Item
@@ -52,7 +53,8 @@ members_start o = body_start o.layout.has_srid + 4
 abbrev pub members_count : Open → ℕ
 members_count o = length (entries o.members) + 1 + o.left
 
--- Behind an open collection's count stand its members so far, each spelled by its bytes, and then these bytes, with which
+-- Behind an open collection's count stand its members so far, each spelled by its bytes, and then these bytes, with
+-- which
 -- the current one begins; and its list has room for the others.
 pub record IsOpen (o : Open) (here : List ℕ) : Type 0 where
   pub head : HasHead (λ d. kinds.GeometryCollection d) o.layout o.bytes.now
@@ -85,14 +87,17 @@ abbrev pub BeginsAs : Reading Item → ℕ → List ℕ → Result Begun Refusal
 BeginsAs whole depth bytes (Ok (Whole w rest)) old new =
     (costs (cost_of new) (done w rest.now) ≡ costs (cost_of old) whole) × (length rest.now + 9 ≤ length bytes)
 BeginsAs whole depth bytes (Ok (Opened o rest)) old new =
-    (costs (cost_of new) (first_member depth o rest.now) ≡ costs (cost_of old) whole) × (o.bytes.now ≡ bytes) × (depth < max_nesting) × IsOpen o rest.now
+    (costs (cost_of new) (first_member depth o rest.now) ≡ costs (cost_of old) whole) × (o.bytes.now ≡ bytes)
+    × (depth < max_nesting) × IsOpen o rest.now
 BeginsAs whole depth bytes (Err refusal) old new = Stops refusal whole old new
 
 -- what is known once a part is finished: all is, or the next part begins
 abbrev pub Settles : List Open → List Open → Item → List ℕ → Option Item → Counts → Counts → Type 0
-Settles before after finished rest (Some w) old new = (after ≡ []) × (costs (cost_of new) (done w rest) ≡ costs (cost_of old) (outward before finished rest))
+Settles before after finished rest (Some w) old new =
+    (after ≡ []) × (costs (cost_of new) (done w rest) ≡ costs (cost_of old) (outward before finished rest))
 Settles before after finished rest None old new =
-    (costs (cost_of new) (and_then (geometry_inside (length after) rest) (outward after)) ≡ costs (cost_of old) (outward before finished rest))
+    (costs (cost_of new) (and_then (geometry_inside (length after) rest) (outward after))
+    ≡ costs (cost_of old) (outward before finished rest))
     × AreOpen after rest × (length after ≤ length before)
 
 -- the answer is what this reading gives, and what it cost was counted

@@ -1,7 +1,8 @@
 //! Collections, and geometries of any kind.
 
 ghost use Rattle.wkb_read.specs.Words.{dimensions as trait_dimensions};
-ghost use Rattle.wkb_read.specs.Seen.{members_seen, geometry_seen, members_lawful, geometry_lawful, one_dimension_seen};
+ghost use Rattle.wkb_read.specs.Seen.{members_seen, geometry_seen, members_lawful, geometry_lawful};
+ghost use Rattle.wkb_read.specs.Seen.{one_dimension_seen};
 
 use crate::geometry_type::GeometryType as TypeName;
 use crate::read::stack::read_wkb;
@@ -176,7 +177,8 @@ impl<'a> GeometryCollectionTrait for GeometryCollection<'a> {
 
     #[inline]
     fn geometry(&self, i: usize) -> Option<&Wkb<'a>>
-        ensures member { option_map (λ g. geometry_seen g.now) result ≡ slice_get (members_seen self.now.parts) i }
+        ensures member { option_map (λ g. geometry_seen g.now) result
+            ≡ slice_get (members_seen self.now.parts) i }
         ensures one { IsMemberAt self.now i (option_map (λ g. g.now) result) }
     {
         if i < self.members.len() {
@@ -189,7 +191,8 @@ impl<'a> GeometryCollectionTrait for GeometryCollection<'a> {
 
 impl<'a> Wkb<'a> {
     ghost use Rattle.std.specs.Prelude.{◌≡◌, IfOk, MatchOption, None, Some};
-    ghost use Rattle.wkb_read.specs.Words.{srid_of, whole_of, collection, dimension, IsCollection, IsSpelled};
+    ghost use Rattle.wkb_read.specs.Words.{srid_of, whole_of, collection, dimension, IsCollection};
+    ghost use Rattle.wkb_read.specs.Words.{IsSpelled};
     ghost use Rattle.wkb_read.specs.Types.{geometry_type_of};
     ghost use Rattle.wkb_read.specs.Public.{Reads};
 
@@ -263,7 +266,8 @@ impl<'a> Wkb<'a> {
 
     /// The collection that this is, if it is one.
     pub fn as_geometry_collection(&self) -> Option<&GeometryCollection<'a>>
-        ensures { MatchOption result (IsCollection self.now.value → ⊥) (λ c. whole_of collection c.now ≡ self.now) }
+        ensures { MatchOption result (IsCollection self.now.value → ⊥)
+            (λ c. whole_of collection c.now ≡ self.now) }
     {
         match &self.kind {
             View::GeometryCollection(collection) => Some(collection),

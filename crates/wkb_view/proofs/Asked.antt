@@ -30,22 +30,26 @@ worked_ends = refl
 -- ---- line strings
 
 module _ (l : Layout) (bytes : List ℕ) where
-  pub coordinates_cut : (cause : Cause) → length bytes < body_start l.has_srid + 4 → cause ≡ end_of_input → (line_string_at l bytes).1 ≡ Err cause
+  pub coordinates_cut : (cause : Cause) → length bytes < body_start l.has_srid + 4 → cause ≡ end_of_input
+      → (line_string_at l bytes).1 ≡ Err cause
   unfolding line_string_at
   coordinates_cut cause short is =
       let cut : ltb (length bytes) (body_start l.has_srid + 4) ≡ true = lt-ltb _ _ short in
       rw cut (ap (λ (f : Cause). Err f) (sym is))
 
-  module _ (n end : ℕ) (whole : body_start l.has_srid + 4 ≤ length bytes) (counted : n ≡ number l.order 4 (drop (body_start l.has_srid) bytes))
+  module _ (n end : ℕ) (whole : body_start l.has_srid + 4 ≤ length bytes)
+      (counted : n ≡ number l.order 4 (drop (body_start l.has_srid) bytes))
       (end-is : end ≡ line_string_end l.dimension l.has_srid n) where
-    pub line_string_short : length bytes < end → (line_string_at l bytes).1 ≡ Err (general (ShortLineString end (length bytes)))
+    pub line_string_short : length bytes < end
+        → (line_string_at l bytes).1 ≡ Err (general (ShortLineString end (length bytes)))
     unfolding line_string_at
     line_string_short short =
         let there : ltb (length bytes) (body_start l.has_srid + 4) ≡ false = le-ltb _ _ whole in
         let cut : ltb (length bytes) end ≡ true = lt-ltb _ _ short in
         rw (there, ← counted, ← end-is, cut) refl
 
-    pub line_string_found : (encoding rest : List ℕ) → end ≤ length bytes → encoding ≡ take end bytes → rest ≡ drop end bytes
+    pub line_string_found : (encoding rest : List ℕ) → end ≤ length bytes → encoding ≡ take end bytes
+        → rest ≡ drop end bytes
         → (line_string_at l bytes).1 ≡ Ok (line_string_item l encoding, rest)
     unfolding line_string_at
     line_string_found encoding rest enough encoding-is rest-is =

@@ -20,31 +20,40 @@ items_at size item (suc n) (suc i) xs h =
     items_at size item n i (drop size xs) (omega arith)
     ∙ ap (λ (t : List ℕ). Some (item t)) (drop-drop (size * i) size xs ∙ ap (λ (k : ℕ). drop k xs) (omega arith))
 
-pub word_at : (e : Endianness) (n i : ℕ) (xs : List ℕ) → i < n → get_or (items 8 (number e 8) n xs) i 0 ≡ number e 8 (drop (8 * i) xs)
-word_at e n i xs h = get_or_from_slice_get (items 8 (number e 8) n xs) i (number e 8 (drop (8 * i) xs)) 0 (items_at 8 (number e 8) n i xs h)
+pub word_at : (e : Endianness) (n i : ℕ) (xs : List ℕ) → i < n
+    → get_or (items 8 (number e 8) n xs) i 0 ≡ number e 8 (drop (8 * i) xs)
+word_at e n i xs h =
+    get_or_from_slice_get (items 8 (number e 8) n xs) i (number e 8 (drop (8 * i) xs)) 0
+    (items_at 8 (number e 8) n i xs h)
 
 -- a word that was tested
-pub word_is : (e : Endianness) (d : Dimension) (n w : ℕ) (xs : List ℕ) (b : Bool) → n < width d → w ≡ number e 8 (drop (8 * n) xs) → b ≡ is_nan w
+pub word_is : (e : Endianness) (d : Dimension) (n w : ℕ) (xs : List ℕ) (b : Bool) → n < width d
+    → w ≡ number e 8 (drop (8 * n) xs) → b ≡ is_nan w
     → is_nan (get_or (coordinate e d xs) n 0) ≡ b
 word_is e d n w xs b lt w-is b-is = ap (λ (v : ℕ). is_nan v) (word_at e (width d) n xs lt ∙ sym w-is) ∙ sym b-is
 
 -- words read no byte past their end
-pub words-take : (e : Endianness) (n m : ℕ) (xs : List ℕ) → 8 * n ≤ m → items 8 (number e 8) n (take m xs) ≡ items 8 (number e 8) n xs
+pub words-take : (e : Endianness) (n m : ℕ) (xs : List ℕ) → 8 * n ≤ m
+    → items 8 (number e 8) n (take m xs) ≡ items 8 (number e 8) n xs
 words-take e zero m xs h = refl
 words-take e (suc n) m xs h =
     let k : m ≡ 8 + (m - 8) = omega arith in
-    let inner : drop 8 (take m xs) ≡ take (m - 8) (drop 8 xs) = ap (λ (j : ℕ). drop 8 (take j xs)) k ∙ drop-take 8 (m - 8) xs in
+    let inner : drop 8 (take m xs) ≡ take (m - 8) (drop 8 xs) =
+    ap (λ (j : ℕ). drop 8 (take j xs)) k ∙ drop-take 8 (m - 8) xs in
     rw (number-take e 8 m xs (omega arith), inner, words-take e n (m - 8) (drop 8 xs) (omega arith)) refl
 
 -- the coordinate between two offsets
 pub coordinate_between : (e : Endianness) (d : Dimension) (n i start : ℕ) (encoding : List ℕ) → i < n
-    → Some (coordinate e d (take (8 * width d) (drop (start + 8 * width d * i) encoding))) ≡ slice_get (coordinates e d n (drop start encoding)) i
+    → Some (coordinate e d (take (8 * width d) (drop (start + 8 * width d * i) encoding)))
+    ≡ slice_get (coordinates e d n (drop start encoding)) i
 coordinate_between e d n i start encoding h =
-    ap (λ (ws : List ℕ). Some ws) (words-take e (width d) (8 * width d) (drop (start + 8 * width d * i) encoding) (omega arith)
+    ap (λ (ws : List ℕ). Some ws)
+    (words-take e (width d) (8 * width d) (drop (start + 8 * width d * i) encoding) (omega arith)
     ∙ ap (λ (t : List ℕ). coordinate e d t) (sym (drop-drop (8 * width d * i) start encoding)))
     ∙ sym (items_at (8 * width d) (coordinate e d) n i (drop start encoding) h)
 
-pub ring_counted : (e : Endianness) (d : Dimension) (encoding : List ℕ) → length (ring_in e d encoding) ≡ number e 4 encoding
+pub ring_counted : (e : Endianness) (d : Dimension) (encoding : List ℕ)
+    → length (ring_in e d encoding) ≡ number e 4 encoding
 ring_counted e d encoding = length-items (8 * width d) (coordinate e d) (number e 4 encoding) (drop 4 encoding)
 
 pub width-within : (d : Dimension) → (2 ≤ width d) × (width d ≤ 4)
@@ -61,7 +70,8 @@ few_bytes d i = mul-le-mul_right i (omega (arith, (width-within d).1))
 
 -- an item below the count ends where all do, or before
 pub next_within : (size i n : ℕ) → i < n → size * i + size ≤ size * n
-next_within size i n lt = let b : size * (i + 1) ≤ size * n = mul-le-mul_left size (omega arith) in omega (arith, b, mul-add size i 1)
+next_within size i n lt =
+    let b : size * (i + 1) ≤ size * n = mul-le-mul_left size (omega arith) in omega (arith, b, mul-add size i 1)
 
 -- ---- points that are empty, and those that are not
 
@@ -69,7 +79,8 @@ empty_by : (l : Layout) (encoding ws : List ℕ) (b : Bool) → is_none (point_o
 empty_by l encoding ws true = refl
 empty_by l encoding ws false = refl
 
-pub empty_is : (l : Layout) (encoding : List ℕ) → is_none (point_of (point_item l encoding).value) ≡ all_nan (point_words_in l encoding)
+pub empty_is : (l : Layout) (encoding : List ℕ)
+    → is_none (point_of (point_item l encoding).value) ≡ all_nan (point_words_in l encoding)
 empty_is l encoding = empty_by l encoding _ _
 
 encoding_by : (l : Layout) (encoding ws : List ℕ) (b : Bool) → (point_item_of l encoding ws b).encoding ≡ encoding
@@ -79,13 +90,16 @@ encoding_by l encoding ws false = refl
 pub point_encoding_is : (l : Layout) (encoding : List ℕ) → (point_item l encoding).encoding ≡ encoding
 point_encoding_is l encoding = encoding_by l encoding _ _
 
-srid_by : (l : Layout) (encoding ws : List ℕ) (b : Bool) → (header (point_item_of l encoding ws b).spelled).srid ≡ srid_in l.order l.has_srid encoding
+srid_by : (l : Layout) (encoding ws : List ℕ) (b : Bool)
+    → (header (point_item_of l encoding ws b).spelled).srid ≡ srid_in l.order l.has_srid encoding
 srid_by l encoding ws true = refl
 srid_by l encoding ws false = refl
 
-pub srid_is : (l : Layout) (encoding : List ℕ) → (header (point_item l encoding).spelled).srid ≡ srid_in l.order l.has_srid encoding
+pub srid_is : (l : Layout) (encoding : List ℕ)
+    → (header (point_item l encoding).spelled).srid ≡ srid_in l.order l.has_srid encoding
 srid_is l encoding = srid_by l encoding _ _
 
 pub coordinate_is : (l : Layout) (encoding : List ℕ) (b : Bool) → b ≡ all_nan (point_words_in l encoding)
     → point_of (point_item_of l encoding (point_words_in l encoding) b).value ≡ point_of (point_item l encoding).value
-coordinate_is l encoding b h = ap (λ (c : Bool). point_of (point_item_of l encoding (point_words_in l encoding) c).value) h
+coordinate_is l encoding b h =
+    ap (λ (c : Bool). point_of (point_item_of l encoding (point_words_in l encoding) c).value) h

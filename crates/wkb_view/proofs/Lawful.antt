@@ -12,8 +12,10 @@ use Rattle.wkb_view.specs.Views.{multi_point_layout}
 pub point_is_lawful : (p : Point) → IsPoint (dimensions (point_layout p).dimension) (point_of (point_seen p).value)
 point_is_lawful p = point_lawful p.layout p.buf.now p.in_range
 
-pub line_string_is_lawful : (l : LineString) → AreCoordinates (dimensions (line_string_layout l).dimension) (line_string_of (line_string_seen l).value)
+pub line_string_is_lawful : (l : LineString)
+    → AreCoordinates (dimensions (line_string_layout l).dimension) (line_string_of (line_string_seen l).value)
 line_string_is_lawful l = line_string_lawful l.layout l.buf.now l.in_range
 
-pub multi_point_is_lawful : (m : MultiPoint) → AllByRecursion (IsPoint (dimensions (multi_point_layout m).dimension)) (points_of (multi_point_seen m).value)
+pub multi_point_is_lawful : (m : MultiPoint)
+    → AllByRecursion (IsPoint (dimensions (multi_point_layout m).dimension)) (points_of (multi_point_seen m).value)
 multi_point_is_lawful m = multi_point_lawful m.layout m.count m.buf.now m.in_range

@@ -16,9 +16,11 @@ use Rattle.wkb_view.proofs.Pieces.{drop-of-take}
 pub number_within : (order : Endianness) (at end : ℕ) (bytes : List ℕ) → at + 4 ≤ end
     → number order 4 (drop at (take end bytes)) ≡ number order 4 (drop at bytes)
 number_within order at end bytes h =
-    ap (λ (t : List ℕ). number order 4 t) (drop-of-take at end bytes (omega arith)) ∙ number-take order 4 (end - at) (drop at bytes) (omega arith)
+    ap (λ (t : List ℕ). number order 4 t) (drop-of-take at end bytes (omega arith))
+    ∙ number-take order 4 (end - at) (drop at bytes) (omega arith)
 
-by_order_same : (o : Option Endianness) (n : ℕ) (behind : List ℕ) → 4 ≤ n → n ≤ length behind → head_by_order o (take n behind) ≡ head_by_order o behind
+by_order_same : (o : Option Endianness) (n : ℕ) (behind : List ℕ) → 4 ≤ n → n ≤ length behind
+    → head_by_order o (take n behind) ≡ head_by_order o behind
 by_order_same None n behind h le = refl
 by_order_same (Some e) n behind h le =
     let a : ltb (length (take n behind)) 4 ≡ false = le-ltb _ _ (omega (arith, length-take n behind)) in
@@ -46,37 +48,54 @@ line_string_free l bytes = ap (λ c. (c, (line_string_at l bytes).1)) (free_by _
 abbrev pub found : Item → List ℕ → Outcome Item
 found i rest = Ok (i, rest)
 
-pub passed_by : {P : List ℕ → Type 0} (least : ℕ) (bytes rest : List ℕ) (end : ℕ) → least ≤ end → end ≤ length bytes → rest ≡ drop end bytes
+pub passed_by : {P : List ℕ → Type 0} (least : ℕ) (bytes rest : List ℕ) (end : ℕ) → least ≤ end → end ≤ length bytes
+    → rest ≡ drop end bytes
     → P (take end bytes) → Passed least P bytes rest
 passed_by least bytes rest end enough le rest-is form =
     let cut : length bytes - length rest ≡ end = omega (arith, ap length rest-is, length-drop end bytes) in
-    record { shorter = omega (arith, ap length rest-is, length-drop end bytes); rest_is = rest-is ∙ ap (λ (k : ℕ). drop k bytes) (sym cut); form = rw cut form }
+    record {
+      shorter = omega (arith, ap length rest-is, length-drop end bytes);
+      rest_is = rest-is ∙ ap (λ (k : ℕ). drop k bytes) (sym cut);
+      form = rw cut form;
+    }
 
-pub ring_passed : (order : Endianness) (d : Dimension) (bytes rest : List ℕ) (n end : ℕ) → n ≡ number order 4 bytes → end ≡ ring_end d n → end ≤ length bytes
+pub ring_passed : (order : Endianness) (d : Dimension) (bytes rest : List ℕ) (n end : ℕ) → n ≡ number order 4 bytes
+    → end ≡ ring_end d n → end ≤ length bytes
     → rest ≡ drop end bytes → Passed 4 (IsRing order d) bytes rest
 ring_passed order d bytes rest n end n-is end-is le rest-is =
     let same : number order 4 (take end bytes) ≡ number order 4 bytes = number-take order 4 end bytes (omega arith) in
     passed_by 4 bytes rest end (omega arith) le rest-is
-    (record { counted = omega (arith, length-take end bytes); whole = rw (same, ← n-is) (omega (arith, length-take end bytes)) })
+    (record {
+      counted = omega (arith, length-take end bytes);
+      whole = rw (same, ← n-is) (omega (arith, length-take end bytes));
+    })
 
 -- ---- members
 
 -- what stands behind the header of a member is the member
-pub member_gives : (k : ℕ) (d : Dimension) (bytes : List ℕ) (l : Layout) (r : Reading Item) → member_layout k d bytes ≡ Ok l → member_body k l bytes ≡ r
+pub member_gives : (k : ℕ) (d : Dimension) (bytes : List ℕ) (l : Layout) (r : Reading Item)
+    → member_layout k d bytes ≡ Ok l → member_body k l bytes ≡ r
     → member_at k d bytes ≡ r
 member_gives k d bytes l r e is = ap (λ s. then_body s (λ m. member_body k m bytes)) e ∙ is
 
 -- a member that was read, as it was passed
-pub member_passed : (k : ℕ) (d : Dimension) (bytes : List ℕ) (l : Layout) (x : Item) (rest : List ℕ) → member_layout k d bytes ≡ Ok l
-    → Passed 9 (IsEncoding k l) bytes rest → x ≡ item_of k l (consumed bytes rest) → (x ≡ member_item k d (consumed bytes rest)) × Passed 9 (IsMemberOfKind k d) bytes rest
+pub member_passed : (k : ℕ) (d : Dimension) (bytes : List ℕ) (l : Layout) (x : Item) (rest : List ℕ)
+    → member_layout k d bytes ≡ Ok l
+    → Passed 9 (IsEncoding k l) bytes rest → x ≡ item_of k l (consumed bytes rest)
+    → (x ≡ member_item k d (consumed bytes rest)) × Passed 9 (IsMemberOfKind k d) bytes rest
 member_passed k d bytes l x rest e passed is =
     let shorter = passed.shorter in
     let layout : member_layout k d (consumed bytes rest) ≡ Ok l =
     ap (layout_wanted k d) (head-take (length bytes - length rest) bytes (omega arith) (omega arith)) ∙ e in (
       is ∙ ap (λ s. item_of k (layout_said d s) (consumed bytes rest)) (sym layout),
-      record { shorter = passed.shorter; rest_is = passed.rest_is; form = record { layout = l; layout_is = layout; encoding_is = passed.form } },
+      record {
+        shorter = passed.shorter;
+        rest_is = passed.rest_is;
+        form = record { layout = l; layout_is = layout; encoding_is = passed.form };
+      },
     )
 
 -- a member is seen by its layout
-pub member_seen : (k : ℕ) (d : Dimension) (encoding : List ℕ) (l : Layout) → member_layout k d encoding ≡ Ok l → item_of k l encoding ≡ member_item k d encoding
+pub member_seen : (k : ℕ) (d : Dimension) (encoding : List ℕ) (l : Layout) → member_layout k d encoding ≡ Ok l
+    → item_of k l encoding ≡ member_item k d encoding
 member_seen k d encoding l e = ap (λ r. item_of k (layout_said d r) encoding) (sym e)

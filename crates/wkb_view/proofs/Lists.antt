@@ -27,7 +27,8 @@ abbrev goes_on : {A : Type 0} → List A → Reading (List A) → Reading (List 
 goes_on front r = and_then r (λ xs after. done (front ++ xs) after)
 
 -- after i of so many parts
-pub record Loop {A : Type 0} (part : List ℕ → Reading A) (count i : ℕ) (front : List A) (rest : List ℕ) (start now : Counts)
+pub record Loop {A : Type 0} (part : List ℕ → Reading A) (count i : ℕ) (front : List A) (rest : List ℕ)
+    (start now : Counts)
     (whole : Reading (List A)) : Type 0 where
   pub leads : Leads start now (goes_on front (repeated (count - i) part rest)) whole
 
@@ -49,31 +50,47 @@ module _ {A : Type 0} {start : Counts} {whole : Reading (List A)} where
     slots_are = omega (arith, leads.slots_are);
   }
   next_by front x c old new (k, Err f) spent leads =
-      record { answer = leads.answer; turns_are = omega (arith, leads.turns_are); slots_are = omega (arith, leads.slots_are) }
+      record {
+        answer = leads.answer;
+        turns_are = omega (arith, leads.turns_are);
+        slots_are = omega (arith, leads.slots_are);
+      }
 
   cost_by : (front : List A) (old : Counts) (r : Reading A) (s : List ℕ → Reading (List A))
-      → Leads start old (goes_on front (costs one_turn (and_then r (λ x rest. and_then (s rest) (λ xs after. done (x ∷ xs) after))))) whole
-      → (old.turns + 1 + r.0.turns ≤ start.turns + whole.0.turns) × (old.slots + r.0.slots ≤ start.slots + whole.0.slots)
+      → Leads start old
+      (goes_on front (costs one_turn (and_then r (λ x rest. and_then (s rest) (λ xs after. done (x ∷ xs) after)))))
+      whole
+      → (old.turns + 1 + r.0.turns ≤ start.turns + whole.0.turns)
+      × (old.slots + r.0.slots ≤ start.slots + whole.0.slots)
   cost_by front old (c, Err f) s leads = (omega (arith, leads.turns_are), omega (arith, leads.slots_are))
   cost_by front old (c, Ok x) s leads = then_by (s x.1) leads
     where
-      then_by : (r : Reading (List A)) → Leads start old (goes_on front (costs one_turn (costs c (and_then r (λ xs after. done (x.0 ∷ xs) after))))) whole
-          → (old.turns + 1 + c.turns ≤ start.turns + whole.0.turns) × (old.slots + c.slots ≤ start.slots + whole.0.slots)
+      then_by : (r : Reading (List A))
+          → Leads start old
+          (goes_on front (costs one_turn (costs c (and_then r (λ xs after. done (x.0 ∷ xs) after))))) whole
+          → (old.turns + 1 + c.turns ≤ start.turns + whole.0.turns)
+          × (old.slots + c.slots ≤ start.slots + whole.0.slots)
       then_by (d, Ok y) leads = (omega (arith, leads.turns_are), omega (arith, leads.slots_are))
       then_by (d, Err f) leads = (omega (arith, leads.turns_are), omega (arith, leads.slots_are))
 
-  stops_by : (front : List A) (old new : Counts) (f : Cause) (r : Reading A) (s : List ℕ → Reading (List A)) → r.1 ≡ Err f → Spent (begun old) new r.0
-      → Leads start old (goes_on front (costs one_turn (and_then r (λ x rest. and_then (s rest) (λ xs after. done (x ∷ xs) after))))) whole
+  stops_by : (front : List A) (old new : Counts) (f : Cause) (r : Reading A) (s : List ℕ → Reading (List A))
+      → r.1 ≡ Err f → Spent (begun old) new r.0
+      → Leads start old
+      (goes_on front (costs one_turn (and_then r (λ x rest. and_then (s rest) (λ xs after. done (x ∷ xs) after)))))
+      whole
       → (whole.1 ≡ Err f) × Spent start new whole.0
   stops_by front old new f (c, Ok x) s is spent leads = absurd cc
   stops_by front old new f (c, Err g) s is spent leads =
-      let same : g ≡ f = cc in
-      (sym leads.answer ∙ ap (λ (h : Cause). Err h) same, record { turns = omega (arith, leads.turns_are); slots = omega (arith, leads.slots_are) })
+      let same : g ≡ f = cc in (
+        sym leads.answer ∙ ap (λ (h : Cause). Err h) same,
+        record { turns = omega (arith, leads.turns_are); slots = omega (arith, leads.slots_are) },
+      )
 
   module _ {part : List ℕ → Reading A} {count i : ℕ} {front : List A} {rest : List ℕ} {old : Counts} where
     -- what the next part costs is among the cost of the whole
     pub part_costs : i < count → Loop part count i front rest start old whole
-        → (old.turns + 1 + (part rest).0.turns ≤ start.turns + whole.0.turns) × (old.slots + (part rest).0.slots ≤ start.slots + whole.0.slots)
+        → (old.turns + 1 + (part rest).0.turns ≤ start.turns + whole.0.turns)
+        × (old.slots + (part rest).0.slots ≤ start.slots + whole.0.slots)
     unfolding repeated
     part_costs lt loop =
         let k : count - i ≡ suc (count - (i + 1)) = omega arith in
@@ -81,25 +98,33 @@ module _ {A : Type 0} {start : Counts} {whole : Reading (List A)} where
 
     -- a part that was read
     pub next_part : (new : Counts) (x : A) (after : List ℕ) → i < count → Loop part count i front rest start old whole
-        → (part rest).1 ≡ Ok (x, after) → Spent (begun old) new (part rest).0 → Loop part count (i + 1) (front ++ x ∷ []) after start new whole
+        → (part rest).1 ≡ Ok (x, after) → Spent (begun old) new (part rest).0
+        → Loop part count (i + 1) (front ++ x ∷ []) after start new whole
     unfolding repeated
     next_part new x after lt loop is spent =
         let k : count - i ≡ suc (count - (i + 1)) = omega arith in
         let whole_part : part rest ≡ ((part rest).0, Ok (x, after)) = λ j. ((part rest).0, is j) in
         let leads = rw k at loop.leads in
-        record { leads = next_by front x (part rest).0 old new (repeated (count - (i + 1)) part after) spent (rw whole_part at leads) }
+        record {
+          leads = next_by front x (part rest).0 old new (repeated (count - (i + 1)) part after) spent
+              (rw whole_part at leads);
+        }
 
     -- a part that stops
-    pub part_stops : (e : Refusal) (new : Counts) → i < count → Loop part count i front rest start old whole → Stops e (part rest) (begun old) new
+    pub part_stops : (e : Refusal) (new : Counts) → i < count → Loop part count i front rest start old whole
+        → Stops e (part rest) (begun old) new
         → Stops e whole start new
     unfolding repeated
     part_stops (Fault f) new lt loop stops =
         let k : count - i ≡ suc (count - (i + 1)) = omega arith in
         stops_by front old new f (part rest) (repeated (count - (i + 1)) part) stops.0 stops.1 (rw k at loop.leads)
-    part_stops Memory new lt loop most = let p = part_costs lt loop in record { turns = omega (arith, p.0, most.turns); slots = omega (arith, p.1, most.slots) }
+    part_stops Memory new lt loop most =
+        let p = part_costs lt loop in
+        record { turns = omega (arith, p.0, most.turns); slots = omega (arith, p.1, most.slots) }
 
     -- no part is left
-    pub parts_end : count ≤ i → Loop part count i front rest start old whole → (whole.1 ≡ Ok (front, rest)) × Spent start old whole.0
+    pub parts_end : count ≤ i → Loop part count i front rest start old whole
+        → (whole.1 ≡ Ok (front, rest)) × Spent start old whole.0
     unfolding repeated
     parts_end le loop =
         let k : count - i ≡ 0 = omega arith in
@@ -110,11 +135,14 @@ module _ {A : Type 0} {start : Counts} {whole : Reading (List A)} where
 
 -- ---- a list of so many parts behind a count, and what its entries cost
 
-pub parts_length : (srid : Bool) (bytes : List ℕ) → length (parts_start srid bytes) ≡ length bytes - (body_start srid + 4)
-parts_length srid bytes = omega (arith, length-drop 4 (drop (body_start srid) bytes), length-drop (body_start srid) bytes)
+pub parts_length : (srid : Bool) (bytes : List ℕ)
+    → length (parts_start srid bytes) ≡ length bytes - (body_start srid + 4)
+parts_length srid bytes =
+    omega (arith, length-drop 4 (drop (body_start srid) bytes), length-drop (body_start srid) bytes)
 
 -- a list of so many parts, for whose entries was asked between the two
-pub record IsList {A : Type 0} (k : ℕ) (l : Layout) (part : List ℕ → Reading A) (end : List A → List ℕ → Item) (bytes : List ℕ) (n : ℕ) (old mid : Counts)
+pub record IsList {A : Type 0} (k : ℕ) (l : Layout) (part : List ℕ → Reading A) (end : List A → List ℕ → Item)
+    (bytes : List ℕ) (n : ℕ) (old mid : Counts)
     (whole : Reading Item) : Type 0 where
   pub is : whole ≡ parts_body k l part end bytes n
   pub turns : mid.turns ≡ old.turns
@@ -130,23 +158,31 @@ module _ (l : Layout) (bytes : List ℕ) (n : ℕ) (old mid : Counts) (whole : b
       → IsList k l part end bytes n old mid (list_at k l part end bytes)
   list_here k part end slots =
       let long : ltb (length bytes) (body_start l.has_srid + 4) ≡ false = le-ltb _ _ whole in
-      record { is = rw (long, ← counted) refl; turns = turns; slots = rw (counted, parts_length l.has_srid bytes) slots }
+      record {
+        is = rw (long, ← counted) refl;
+        turns = turns;
+        slots = rw (counted, parts_length l.has_srid bytes) slots;
+      }
 
   pub rings_here : Asked 3 → IsList 3 l (ring_part l) (polygon_item l) bytes n old mid (polygon_at l bytes)
   unfolding polygon_at
   rings_here = list_here 3 (ring_part l) (polygon_item l)
 
-  pub line_strings_here : Asked 5 → IsList 5 l (member_at 2 l.dimension) (list_item l multi_line_string_with) bytes n old mid (multi_line_string_at l bytes)
+  pub line_strings_here : Asked 5
+      → IsList 5 l (member_at 2 l.dimension) (list_item l multi_line_string_with) bytes n old mid
+      (multi_line_string_at l bytes)
   unfolding multi_line_string_at
   line_strings_here = list_here 5 (member_at 2 l.dimension) (list_item l multi_line_string_with)
 
-  pub polygons_here : Asked 6 → IsList 6 l (member_at 3 l.dimension) (list_item l multi_polygon_with) bytes n old mid (multi_polygon_at l bytes)
+  pub polygons_here : Asked 6
+      → IsList 6 l (member_at 3 l.dimension) (list_item l multi_polygon_with) bytes n old mid (multi_polygon_at l bytes)
   unfolding multi_polygon_at
   polygons_here = list_here 6 (member_at 3 l.dimension) (list_item l multi_polygon_with)
 
 -- where its bytes are there, a multi point is a list that asks for no entry
 pub points_here : (l : Layout) (bytes : List ℕ) (n s w : ℕ) (old : Counts) → body_start l.has_srid + 4 ≤ length bytes
-    → n ≡ number l.order 4 (drop (body_start l.has_srid) bytes) → s ≡ body_start l.has_srid → w ≡ width l.dimension → s + 4 + (5 + 8 * w) * n ≤ length bytes
+    → n ≡ number l.order 4 (drop (body_start l.has_srid) bytes) → s ≡ body_start l.has_srid → w ≡ width l.dimension
+    → s + 4 + (5 + 8 * w) * n ≤ length bytes
     → IsList 4 l (member_at 1 l.dimension) (list_item l multi_point_with) bytes n old old (multi_point_at l bytes)
 unfolding multi_point_at
 points_here l bytes n s w old whole counted s-is w-is enough =
@@ -160,13 +196,16 @@ module _ {A : Type 0} (end : List A → List ℕ → Item) (bytes : List ℕ) (o
   abbrev made : ℕ → Reading (List A) → Reading Item
   made capacity r = costs (slots_of capacity) (and_then r (λ xs after. done (end xs (consumed bytes after)) after))
 
-  fits_by : (capacity : ℕ) (r : Reading (List A)) → mid.turns ≡ old.turns → mid.slots ≡ old.slots + capacity → CanCount old (made capacity r).0
+  fits_by : (capacity : ℕ) (r : Reading (List A)) → mid.turns ≡ old.turns → mid.slots ≡ old.slots + capacity
+      → CanCount old (made capacity r).0
       → CanCount mid r.0
   fits_by capacity (c, Ok x) turns slots h = record { turns = omega (arith, h.turns); slots = omega (arith, h.slots) }
   fits_by capacity (c, Err f) turns slots h = record { turns = omega (arith, h.turns); slots = omega (arith, h.slots) }
 
-  reads_by : (capacity : ℕ) (new : Counts) (parts : List A) (rest : List ℕ) (r : Reading (List A)) → mid.turns ≡ old.turns → mid.slots ≡ old.slots + capacity
-      → r.1 ≡ Ok (parts, rest) → Spent mid new r.0 → ((made capacity r).1 ≡ Ok (end parts (consumed bytes rest), rest)) × Spent old new (made capacity r).0
+  reads_by : (capacity : ℕ) (new : Counts) (parts : List A) (rest : List ℕ) (r : Reading (List A))
+      → mid.turns ≡ old.turns → mid.slots ≡ old.slots + capacity
+      → r.1 ≡ Ok (parts, rest) → Spent mid new r.0
+      → ((made capacity r).1 ≡ Ok (end parts (consumed bytes rest), rest)) × Spent old new (made capacity r).0
   reads_by capacity new parts rest (c, Err f) turns slots is spent = absurd cc
   reads_by capacity new parts rest (c, Ok x) turns slots is spent =
       let same : x ≡ (parts, rest) = cc in (
@@ -174,30 +213,40 @@ module _ {A : Type 0} (end : List A → List ℕ → Item) (bytes : List ℕ) (o
         record { turns = omega (arith, spent.turns); slots = omega (arith, spent.slots) },
       )
 
-  ends_by : (e : Refusal) (capacity : ℕ) (new : Counts) (r : Reading (List A)) → mid.turns ≡ old.turns → mid.slots ≡ old.slots + capacity → Stops e r mid new
+  ends_by : (e : Refusal) (capacity : ℕ) (new : Counts) (r : Reading (List A)) → mid.turns ≡ old.turns
+      → mid.slots ≡ old.slots + capacity → Stops e r mid new
       → Stops e (made capacity r) old new
-  ends_by Memory capacity new (c, Ok x) turns slots most = record { turns = omega (arith, most.turns); slots = omega (arith, most.slots) }
-  ends_by Memory capacity new (c, Err f) turns slots most = record { turns = omega (arith, most.turns); slots = omega (arith, most.slots) }
+  ends_by Memory capacity new (c, Ok x) turns slots most =
+      record { turns = omega (arith, most.turns); slots = omega (arith, most.slots) }
+  ends_by Memory capacity new (c, Err f) turns slots most =
+      record { turns = omega (arith, most.turns); slots = omega (arith, most.slots) }
   ends_by (Fault f) capacity new (c, Ok x) turns slots h = let e = h.0 in absurd cc
   ends_by (Fault f) capacity new (c, Err g) turns slots h =
       let e = h.0 in
       let spent = h.1 in
-      let same : g ≡ f = cc in
-      (ap (λ (k : Cause). Err k) same, record { turns = omega (arith, spent.turns); slots = omega (arith, spent.slots) })
+      let same : g ≡ f = cc in (
+        ap (λ (k : Cause). Err k) same,
+        record { turns = omega (arith, spent.turns); slots = omega (arith, spent.slots) },
+      )
 
-module _ {A : Type 0} {k n : ℕ} {l : Layout} {part : List ℕ → Reading A} {end : List A → List ℕ → Item} {bytes : List ℕ} {old mid : Counts}
+module _ {A : Type 0} {k n : ℕ} {l : Layout} {part : List ℕ → Reading A} {end : List A → List ℕ
+    → Item} {bytes : List ℕ} {old mid : Counts}
     {whole : Reading Item} where
   -- what can be counted of the whole can be counted of its parts
-  pub list_fits : IsList k l part end bytes n old mid whole → CanCount old whole.0 → CanCount mid (parts_behind part l n bytes).0
+  pub list_fits : IsList k l part end bytes n old mid whole → CanCount old whole.0
+      → CanCount mid (parts_behind part l n bytes).0
   list_fits h fits = fits_by end bytes old mid _ (parts_behind part l n bytes) h.turns h.slots (rw h.is at fits)
 
   -- a list whose parts are read
   pub list_reads : (new : Counts) (parts : List A) (rest : List ℕ) → IsList k l part end bytes n old mid whole
       → (parts_behind part l n bytes).1 ≡ Ok (parts, rest) → Spent mid new (parts_behind part l n bytes).0
       → (whole.1 ≡ Ok (end parts (consumed bytes rest), rest)) × Spent old new whole.0
-  list_reads new parts rest h is spent = rw h.is (reads_by end bytes old mid _ new parts rest (parts_behind part l n bytes) h.turns h.slots is spent)
+  list_reads new parts rest h is spent =
+      rw h.is (reads_by end bytes old mid _ new parts rest (parts_behind part l n bytes) h.turns h.slots is spent)
 
   -- a list whose parts stop
-  pub list_stops : (e : Refusal) (new : Counts) → IsList k l part end bytes n old mid whole → Stops e (parts_behind part l n bytes) mid new
+  pub list_stops : (e : Refusal) (new : Counts) → IsList k l part end bytes n old mid whole
+      → Stops e (parts_behind part l n bytes) mid new
       → Stops e whole old new
-  list_stops e new h stops = rw h.is (ends_by end bytes old mid e _ new (parts_behind part l n bytes) h.turns h.slots stops)
+  list_stops e new h stops =
+      rw h.is (ends_by end bytes old mid e _ new (parts_behind part l n bytes) h.turns h.slots stops)

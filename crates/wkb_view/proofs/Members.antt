@@ -14,7 +14,8 @@ use Rattle.wkb_view.specs.Words.{polygon_of, Endianness, Layout, Head, Cause}
 use Rattle.wkb_view.specs.Words.{multi_point_end, body_start, point_of, consumed, laid, head_at, layout_wanted}
 use Rattle.wkb_view.specs.Words.{member_layout, list_of_spellings}
 use Rattle.wkb_view.specs.Fitted.{fitted_line_strings, fitted_polygons}
-use Rattle.wkb_view.specs.Members.{polygon_items, IsEncoding, IsMemberOfKind, AreMembersOfKind, member_item, members_in, pieces_behind}
+use Rattle.wkb_view.specs.Members.{polygon_items, IsEncoding, IsMemberOfKind, AreMembersOfKind, member_item, members_in}
+use Rattle.wkb_view.specs.Members.{pieces_behind}
 use Rattle.wkb_view.specs.Members.{every, stride, point_ends, points_in}
 use Rattle.wkb_view.specs.Pieces.{pieces, Passed}
 use Rattle.wkb_view.specs.Ranges.{member_dimension}
@@ -27,12 +28,16 @@ spelled_each (m ∷ ms) = ap (λ (ss : List Spelling). m.spelled ∷ ss) (spelle
 
 -- ---- the members that pieces are
 
-pub members_counted : {B : Type 0} (f : Item → B) (k : ℕ) (l : Layout) (ends encoding : List ℕ) → length (map f (members_in k l ends encoding)) ≡ length ends
-members_counted f k l ends encoding = length-map (members_in k l ends encoding) f ∙ parts_counted (member_item k l.dimension) (body_start l.has_srid + 4) ends encoding
+pub members_counted : {B : Type 0} (f : Item → B) (k : ℕ) (l : Layout) (ends encoding : List ℕ)
+    → length (map f (members_in k l ends encoding)) ≡ length ends
+members_counted f k l ends encoding =
+    length-map (members_in k l ends encoding) f
+    ∙ parts_counted (member_item k l.dimension) (body_start l.has_srid + 4) ends encoding
 
 module _ (k : ℕ) (l : Layout) (ends encoding : List ℕ) (i : ℕ) where
   -- one that is handed out has the encoding that its layout says
-  pub member_encoding : (t : List ℕ) (m : Layout) → AreMembersOfKind k l ends encoding → Some t ≡ slice_get (pieces_behind l ends encoding) i
+  pub member_encoding : (t : List ℕ) (m : Layout) → AreMembersOfKind k l ends encoding
+      → Some t ≡ slice_get (pieces_behind l ends encoding) i
       → member_layout k l.dimension t ≡ Ok m → IsEncoding k m t
   member_encoding t m are e is =
       let member = piece_form (IsMemberOfKind k l.dimension) (body_start l.has_srid + 4) ends encoding i t are e in
@@ -45,7 +50,8 @@ module _ (k : ℕ) (l : Layout) (ends encoding : List ℕ) (i : ℕ) where
       same m n e = cc
 
   -- and has a layout
-  pub member_there : (t : List ℕ) → AreMembersOfKind k l ends encoding → Some t ≡ slice_get (pieces_behind l ends encoding) i → IsOk (member_layout k l.dimension t)
+  pub member_there : (t : List ℕ) → AreMembersOfKind k l ends encoding
+      → Some t ≡ slice_get (pieces_behind l ends encoding) i → IsOk (member_layout k l.dimension t)
   member_there t are e =
       let member = piece_form (IsMemberOfKind k l.dimension) (body_start l.has_srid + 4) ends encoding i t are e in
       rw member.layout_is refl
@@ -59,46 +65,66 @@ module _ (k : ℕ) (l : Layout) (ends encoding : List ℕ) (i : ℕ) where
 
   -- and its spelling
   pub spelling_seen : (o : Option (List ℕ)) → o ≡ slice_get (pieces_behind l ends encoding) i
-      → option_map (λ m. m.spelled) (option_map (member_item k l.dimension) o) ≡ slice_get (list_of_spellings (spellings (members_in k l ends encoding))) i
-  spelling_seen o e = members_seen (λ m. m.spelled) o e ∙ sym (ap (λ (ss : List Spelling). slice_get ss i) (spelled_each (members_in k l ends encoding)))
+      → option_map (λ m. m.spelled) (option_map (member_item k l.dimension) o)
+      ≡ slice_get (list_of_spellings (spellings (members_in k l ends encoding))) i
+  spelling_seen o e =
+      members_seen (λ m. m.spelled) o e
+      ∙ sym (ap (λ (ss : List Spelling). slice_get ss i) (spelled_each (members_in k l ends encoding)))
 
 -- what holds of each member holds with one more
-pub all_more : {A : Type 0} (P : A → Type 0) (xs : List A) (x : A) → AllByRecursion P xs → P x → AllByRecursion P (xs ++ x ∷ [])
+pub all_more : {A : Type 0} (P : A → Type 0) (xs : List A) (x : A) → AllByRecursion P xs → P x
+    → AllByRecursion P (xs ++ x ∷ [])
 all_more P [] x all h = (h, tt)
 all_more P (y ∷ ys) x all h = (all.0, all_more P ys x all.1 h)
 
-each_at : {A : Type 0} (P : A → Type 0) (xs : List A) (i : ℕ) (x : A) → AllByRecursion P xs → slice_get xs i ≡ Some x → P x
+each_at : {A : Type 0} (P : A → Type 0) (xs : List A) (i : ℕ) (x : A) → AllByRecursion P xs → slice_get xs i ≡ Some x
+    → P x
 each_at P [] i x all e = absurd cc
 each_at P (y ∷ xs) zero x all e = let same : y ≡ x = cc in subst P same all.0
 each_at P (y ∷ xs) (suc i) x all e = each_at P xs i x all.1 e
 
-items_at : {B : Type 0} (f : Item → B) (ps : List (Listed (List (List Coordinate)))) (i : ℕ) (o : Option (Listed (List (List Coordinate)))) → slice_get ps i ≡ o
+items_at : {B : Type 0} (f : Item → B) (ps : List (Listed (List (List Coordinate)))) (i : ℕ)
+    (o : Option (Listed (List (List Coordinate)))) → slice_get ps i ≡ o
     → option_map f (option_map (λ p. whole_of polygon p) o) ≡ slice_get (map f (polygon_items ps)) i
 items_at f ps i o e =
-    sym (slice_get-map f (polygon_items ps) i ∙ ap (option_map f) (slice_get-map (λ p. whole_of polygon p) ps i ∙ ap (option_map (λ p. whole_of polygon p)) e))
+    sym (slice_get-map f (polygon_items ps) i
+    ∙ ap (option_map f)
+    (slice_get-map (λ p. whole_of polygon p) ps i ∙ ap (option_map (λ p. whole_of polygon p)) e))
 
-fitted_at : (d : Dimension) (ps : List (Listed (List (List Coordinate)))) (i : ℕ) (o : Option (Listed (List (List Coordinate)))) → slice_get ps i ≡ o
-    → AllByRecursion (λ p. p.dimension ≡ d) ps → option_map (λ p. fitted_line_strings (dimensions p.dimension) p.parts) o
-    ≡ option_map (fitted_line_strings (dimensions d)) (option_map (λ m. polygon_of m.value) (option_map (λ p. whole_of polygon p) o))
+fitted_at : (d : Dimension) (ps : List (Listed (List (List Coordinate)))) (i : ℕ)
+    (o : Option (Listed (List (List Coordinate)))) → slice_get ps i ≡ o
+    → AllByRecursion (λ p. p.dimension ≡ d) ps
+    → option_map (λ p. fitted_line_strings (dimensions p.dimension) p.parts) o
+    ≡ option_map (fitted_line_strings (dimensions d))
+    (option_map (λ m. polygon_of m.value) (option_map (λ p. whole_of polygon p) o))
 fitted_at d ps i None e all = refl
-fitted_at d ps i (Some p) e all = ap (λ (f : Dimension). Some (fitted_line_strings (dimensions f) p.parts)) (each_at (λ q. q.dimension ≡ d) ps i p all e)
+fitted_at d ps i (Some p) e all =
+    ap (λ (f : Dimension). Some (fitted_line_strings (dimensions f) p.parts))
+    (each_at (λ q. q.dimension ≡ d) ps i p all e)
 
 -- the member of a multi polygon at an index, if there is one
-pub record PolygonAt (d : Dimension) (ps : List (Listed (List (List Coordinate)))) (i : ℕ) (o : Option (Listed (List (List Coordinate)))) : Type 0 where
-  pub part : option_map (λ m. polygon_of m.value) (option_map (λ p. whole_of polygon p) o) ≡ slice_get (map (λ m. polygon_of m.value) (polygon_items ps)) i
+pub record PolygonAt (d : Dimension) (ps : List (Listed (List (List Coordinate)))) (i : ℕ)
+    (o : Option (Listed (List (List Coordinate)))) : Type 0 where
+  pub part : option_map (λ m. polygon_of m.value) (option_map (λ p. whole_of polygon p) o)
+      ≡ slice_get (map (λ m. polygon_of m.value) (polygon_items ps)) i
   pub value : option_map (λ p. fitted_line_strings (dimensions p.dimension) p.parts) o
       ≡ slice_get (fitted_polygons (dimensions d) (map (λ m. polygon_of m.value) (polygon_items ps))) i
-  pub spelled : option_map (λ m. m.spelled) (option_map (λ p. whole_of polygon p) o) ≡ slice_get (list_of_spellings (spellings (polygon_items ps))) i
+  pub spelled : option_map (λ m. m.spelled) (option_map (λ p. whole_of polygon p) o)
+      ≡ slice_get (list_of_spellings (spellings (polygon_items ps))) i
 
-pub polygon_there : (d : Dimension) (ps : List (Listed (List (List Coordinate)))) (i : ℕ) (o : Option (Listed (List (List Coordinate)))) → slice_get ps i ≡ o
+pub polygon_there : (d : Dimension) (ps : List (Listed (List (List Coordinate)))) (i : ℕ)
+    (o : Option (Listed (List (List Coordinate)))) → slice_get ps i ≡ o
     → AllByRecursion (λ p. p.dimension ≡ d) ps → PolygonAt d ps i o
 polygon_there d ps i o e all =
     let part = items_at (λ m. polygon_of m.value) ps i o e in
-    let fitted = slice_get-map (fitted_line_strings (dimensions d)) (map (λ m. polygon_of m.value) (polygon_items ps)) i in
+    let fitted =
+    slice_get-map (fitted_line_strings (dimensions d)) (map (λ m. polygon_of m.value) (polygon_items ps)) i in
     record {
       part = part;
       value = fitted_at d ps i o e all ∙ ap (option_map (fitted_line_strings (dimensions d))) part ∙ sym fitted;
-      spelled = items_at (λ m. m.spelled) ps i o e ∙ sym (ap (λ (ss : List Spelling). slice_get ss i) (spelled_each (polygon_items ps)));
+      spelled =
+          items_at (λ m. m.spelled) ps i o e
+          ∙ sym (ap (λ (ss : List Spelling). slice_get ss i) (spelled_each (polygon_items ps)));
     }
 
 -- ---- the members of a multi point, which have one size
@@ -111,9 +137,11 @@ last_end-every : (start size n : ℕ) → last_end start (every start size n) �
 last_end-every start size zero = omega arith
 last_end-every start size (suc n) = omega (arith, last_end-every (start + size) size n)
 
-every-next : (start size n end : ℕ) → end ≡ start + size * n + size → every start size (suc n) ≡ every start size n ++ end ∷ []
+every-next : (start size n end : ℕ) → end ≡ start + size * n + size
+    → every start size (suc n) ≡ every start size n ++ end ∷ []
 every-next start size zero end e = ap (λ (k : ℕ). k ∷ []) (omega arith)
-every-next start size (suc n) end e = ap (λ (r : List ℕ). (start + size) ∷ r) (every-next (start + size) size n end (omega arith))
+every-next start size (suc n) end e =
+    ap (λ (r : List ℕ). (start + size) ∷ r) (every-next (start + size) size n end (omega arith))
 
 -- the part at an index
 pub every_at : (start size n i : ℕ) (encoding : List ℕ) → i < n
@@ -124,19 +152,23 @@ every_at start size (suc n) zero encoding lt =
     let z : start ≡ start + size * 0 = omega arith in
     ap (λ (m : ℕ). Some (take m (drop start encoding))) k ∙ ap (λ (m : ℕ). Some (take size (drop m encoding))) z
 every_at start size (suc n) (suc i) encoding lt =
-    every_at (start + size) size n i encoding (omega arith) ∙ ap (λ (m : ℕ). Some (take size (drop m encoding))) (omega arith)
+    every_at (start + size) size n i encoding (omega arith)
+    ∙ ap (λ (m : ℕ). Some (take size (drop m encoding))) (omega arith)
 
 -- ---- a member has no SRID, so that it has the size of all
 
 no_srid_by : (order : Endianness) (d : Dimension) (a b srid : Bool) (l : Layout)
-    → (if (a && (b && (if srid then false else true))) then Ok (laid order d srid) else Err incorrect_type) ≡ Ok l → l.has_srid ≡ false
-no_srid_by order d true true false l e = let same : laid order d false ≡ l = cc in ap (λ (m : Layout). m.has_srid) (sym same)
+    → (if (a && (b && (if srid then false else true))) then Ok (laid order d srid) else Err incorrect_type) ≡ Ok l
+    → l.has_srid ≡ false
+no_srid_by order d true true false l e =
+    let same : laid order d false ≡ l = cc in ap (λ (m : Layout). m.has_srid) (sym same)
 no_srid_by order d true true true l e = absurd cc
 no_srid_by order d true false srid l e = absurd cc
 no_srid_by order d false b srid l e = absurd cc
 
 no_srid : (d : Dimension) (r : Result Head Cause) (l : Layout) → layout_wanted 1 d r ≡ Ok l → l.has_srid ≡ false
-no_srid d (Ok h) l e = no_srid_by h.order d (type_kind h.wkb_type == 1) (same_dimension (type_dimension h.wkb_type) d) h.has_srid l e
+no_srid d (Ok h) l e =
+    no_srid_by h.order d (type_kind h.wkb_type == 1) (same_dimension (type_dimension h.wkb_type) d) h.has_srid l e
 no_srid d (Err c) l e = absurd cc
 
 -- the layout of a member has the dimension that is wanted
@@ -145,8 +177,10 @@ pub member_laid : (k : ℕ) (d : Dimension) (bytes : List ℕ) (l : Layout) → 
 member_laid k d bytes l e = e ∙ ap (λ (f : Dimension). Ok (laid l.order f l.has_srid)) (member_dimension k d bytes l e)
 
 -- and that of a point is known but for the order
-pub point_laid : (d : Dimension) (bytes : List ℕ) (l : Layout) → member_layout 1 d bytes ≡ Ok l → member_layout 1 d bytes ≡ Ok (laid l.order d false)
-point_laid d bytes l e = member_laid 1 d bytes l e ∙ ap (λ (s : Bool). Ok (laid l.order d s)) (no_srid d (head_at bytes) l e)
+pub point_laid : (d : Dimension) (bytes : List ℕ) (l : Layout) → member_layout 1 d bytes ≡ Ok l
+    → member_layout 1 d bytes ≡ Ok (laid l.order d false)
+point_laid d bytes l e =
+    member_laid 1 d bytes l e ∙ ap (λ (s : Bool). Ok (laid l.order d s)) (no_srid d (head_at bytes) l e)
 
 member_size : (d : Dimension) (encoding : List ℕ) → IsMemberOfKind 1 d encoding → length encoding ≡ stride d
 member_size d encoding m =
@@ -155,9 +189,11 @@ member_size d encoding m =
     rw (same, none) at m.encoding_is.whole ∙ omega arith
 
 -- a member more
-pub ends_next : (l : Layout) (i : ℕ) (bytes rest after : List ℕ) → rest ≡ drop (last_end (body_start l.has_srid + 4) (point_ends l i)) bytes
+pub ends_next : (l : Layout) (i : ℕ) (bytes rest after : List ℕ)
+    → rest ≡ drop (last_end (body_start l.has_srid + 4) (point_ends l i)) bytes
     → last_end (body_start l.has_srid + 4) (point_ends l i) ≤ length bytes
-    → Passed 9 (IsMemberOfKind 1 l.dimension) rest after → point_ends l (i + 1) ≡ point_ends l i ++ (length bytes - length after) ∷ []
+    → Passed 9 (IsMemberOfKind 1 l.dimension) rest after
+    → point_ends l (i + 1) ≡ point_ends l i ++ (length bytes - length after) ∷ []
 ends_next l i bytes rest after rest-is within passed =
     let start = body_start l.has_srid + 4 in
     let last = last_end-every start (stride l.dimension) i in
@@ -165,26 +201,40 @@ ends_next l i bytes rest after rest-is within passed =
     let size = member_size l.dimension (consumed rest after) passed.form in
     let shorter = passed.shorter in
     let one : i + 1 ≡ suc i = omega arith in
-    ap (point_ends l) one ∙ every-next start (stride l.dimension) i (length bytes - length after) (omega (arith, length-take (length rest - length after) rest))
+    ap (point_ends l) one
+    ∙ every-next start (stride l.dimension) i (length bytes - length after)
+    (omega (arith, length-take (length rest - length after) rest))
 
 -- where the last of them ends
-pub points_end : (l : Layout) (i : ℕ) (bytes rest : List ℕ) → rest ≡ drop (last_end (body_start l.has_srid + 4) (point_ends l i)) bytes
-    → last_end (body_start l.has_srid + 4) (point_ends l i) ≤ length bytes → multi_point_end l.dimension l.has_srid i + length rest ≡ length bytes
+pub points_end : (l : Layout) (i : ℕ) (bytes rest : List ℕ)
+    → rest ≡ drop (last_end (body_start l.has_srid + 4) (point_ends l i)) bytes
+    → last_end (body_start l.has_srid + 4) (point_ends l i) ≤ length bytes
+    → multi_point_end l.dimension l.has_srid i + length rest ≡ length bytes
 points_end l i bytes rest rest-is within =
     let start = body_start l.has_srid + 4 in
-    omega (arith, last_end-every start (stride l.dimension) i, ap length rest-is ∙ length-drop (last_end start (point_ends l i)) bytes)
+    omega (
+      arith,
+      last_end-every start (stride l.dimension) i,
+      ap length rest-is ∙ length-drop (last_end start (point_ends l i)) bytes,
+    )
 
 -- ---- members by their index
 
-pub points_counted : (l : Layout) (n : ℕ) (encoding : List ℕ) → length (map (λ i. point_of i.value) (points_in l n encoding)) ≡ n
-points_counted l n encoding = members_counted (λ i. point_of i.value) 1 l (point_ends l n) encoding ∙ length-every (body_start l.has_srid + 4) (stride l.dimension) n
+pub points_counted : (l : Layout) (n : ℕ) (encoding : List ℕ)
+    → length (map (λ i. point_of i.value) (points_in l n encoding)) ≡ n
+points_counted l n encoding =
+    members_counted (λ i. point_of i.value) 1 l (point_ends l n) encoding
+    ∙ length-every (body_start l.has_srid + 4) (stride l.dimension) n
 
-pub point_encoding : (l : Layout) (n i : ℕ) (buf : List ℕ) (start : ℕ) (part : List ℕ) → i < n → start ≡ body_start l.has_srid + 4 + stride l.dimension * i
+pub point_encoding : (l : Layout) (n i : ℕ) (buf : List ℕ) (start : ℕ) (part : List ℕ) → i < n
+    → start ≡ body_start l.has_srid + 4 + stride l.dimension * i
     → part ≡ take (stride l.dimension) (drop start buf) → Some part ≡ slice_get (pieces_behind l (point_ends l n) buf) i
 point_encoding l n i buf start part lt start-is part-is =
     ap (λ (t : List ℕ). Some t) (part-is ∙ ap (λ (k : ℕ). take (stride l.dimension) (drop k buf)) start-is)
     ∙ sym (every_at (body_start l.has_srid + 4) (stride l.dimension) n i buf lt)
 
-pub point_past : (l : Layout) (n i : ℕ) (buf : List ℕ) → n ≤ i → None ≡ slice_get (pieces_behind l (point_ends l n) buf) i
+pub point_past : (l : Layout) (n i : ℕ) (buf : List ℕ) → n ≤ i
+    → None ≡ slice_get (pieces_behind l (point_ends l n) buf) i
 point_past l n i buf le =
-    pieces_past (body_start l.has_srid + 4) (point_ends l n) buf i (omega (arith, length-every (body_start l.has_srid + 4) (stride l.dimension) n))
+    pieces_past (body_start l.has_srid + 4) (point_ends l n) buf i
+    (omega (arith, length-every (body_start l.has_srid + 4) (stride l.dimension) n))

@@ -22,47 +22,62 @@ pub record Between (start : ℕ) (ends encoding : List ℕ) (i s t : ℕ) : Type
 between : (start : ℕ) (ends encoding : List ℕ) (i : ℕ) → AreInOrder start ends encoding → i < length ends
     → Between start ends encoding i (get_or (start ∷ ends) i 0) (get_or ends i 0)
 between start [] encoding i h lt = absurd (omega arith)
-between start (x ∷ ends) encoding zero h lt = record { ordered = omega (arith, h.0.ordered); within = omega (arith, h.0.ordered, h.0.within); item = refl }
+between start (x ∷ ends) encoding zero h lt =
+    record { ordered = omega (arith, h.0.ordered); within = omega (arith, h.0.ordered, h.0.within); item = refl }
 between start (x ∷ ends) encoding (suc i) h lt =
     let b = between x ends encoding i h.1 (omega arith) in
     record { ordered = b.ordered; within = b.within; item = b.item }
 
-pub part_is : (start : ℕ) (ends encoding : List ℕ) (i s : ℕ) → AreInOrder start ends encoding → i < length ends → s ≡ get_or (start ∷ ends) i 0
+pub part_is : (start : ℕ) (ends encoding : List ℕ) (i s : ℕ) → AreInOrder start ends encoding → i < length ends
+    → s ≡ get_or (start ∷ ends) i 0
     → Between start ends encoding i s (get_or ends i 0)
-part_is start ends encoding i s stand lt s-is = subst (λ (k : ℕ). Between start ends encoding i k (get_or ends i 0)) (sym s-is) (between start ends encoding i stand lt)
+part_is start ends encoding i s stand lt s-is =
+    subst (λ (k : ℕ). Between start ends encoding i k (get_or ends i 0)) (sym s-is)
+    (between start ends encoding i stand lt)
 
 pieces_counted : (start : ℕ) (ends encoding : List ℕ) → length (pieces start ends encoding) ≡ length ends
 pieces_counted start [] encoding = refl
 pieces_counted start (x ∷ ends) encoding = ap suc (pieces_counted x ends encoding)
 
-pub pieces_past : (start : ℕ) (ends encoding : List ℕ) (i : ℕ) → length ends ≤ i → None ≡ slice_get (pieces start ends encoding) i
-pieces_past start ends encoding i h = sym (slice_get_past (pieces start ends encoding) i (omega (arith, pieces_counted start ends encoding)))
+pub pieces_past : (start : ℕ) (ends encoding : List ℕ) (i : ℕ) → length ends ≤ i
+    → None ≡ slice_get (pieces start ends encoding) i
+pieces_past start ends encoding i h =
+    sym (slice_get_past (pieces start ends encoding) i (omega (arith, pieces_counted start ends encoding)))
 
-pub parts_counted : {A : Type 0} (seen : List ℕ → A) (start : ℕ) (ends encoding : List ℕ) → length (map seen (pieces start ends encoding)) ≡ length ends
-parts_counted seen start ends encoding = length-map (pieces start ends encoding) seen ∙ pieces_counted start ends encoding
+pub parts_counted : {A : Type 0} (seen : List ℕ → A) (start : ℕ) (ends encoding : List ℕ)
+    → length (map seen (pieces start ends encoding)) ≡ length ends
+parts_counted seen start ends encoding =
+    length-map (pieces start ends encoding) seen ∙ pieces_counted start ends encoding
 
-pub pieces_within : (P : List ℕ → Type 0) (start : ℕ) (ends encoding : List ℕ) → ArePieces P start ends encoding → start ≤ length encoding
+pub pieces_within : (P : List ℕ → Type 0) (start : ℕ) (ends encoding : List ℕ) → ArePieces P start ends encoding
+    → start ≤ length encoding
 pieces_within P start [] encoding h = h
 pieces_within P start (x ∷ ends) encoding h = omega (arith, h.0.ordered, h.0.within)
 
 -- ---- by the part that is handed out
 
 -- parts of one form stand in order
-pub in_order : (P : List ℕ → Type 0) (start : ℕ) (ends encoding : List ℕ) → ArePieces P start ends encoding → AreInOrder start ends encoding
+pub in_order : (P : List ℕ → Type 0) (start : ℕ) (ends encoding : List ℕ) → ArePieces P start ends encoding
+    → AreInOrder start ends encoding
 in_order P start [] encoding h = h
-in_order P start (x ∷ ends) encoding h = (record { ordered = h.0.ordered; within = h.0.within; form = tt }, in_order P x ends encoding h.1)
+in_order P start (x ∷ ends) encoding h =
+    (record { ordered = h.0.ordered; within = h.0.within; form = tt }, in_order P x ends encoding h.1)
 
 -- the part that is handed out has the form
-pub piece_form : (P : List ℕ → Type 0) (start : ℕ) (ends encoding : List ℕ) (i : ℕ) (t : List ℕ) → ArePieces P start ends encoding
+pub piece_form : (P : List ℕ → Type 0) (start : ℕ) (ends encoding : List ℕ) (i : ℕ) (t : List ℕ)
+    → ArePieces P start ends encoding
     → Some t ≡ slice_get (pieces start ends encoding) i → P t
 piece_form P start [] encoding i t h e = absurd cc
-piece_form P start (x ∷ ends) encoding zero t h e = let same : take (x - start) (drop start encoding) ≡ t = cc in subst P same h.0.form
+piece_form P start (x ∷ ends) encoding zero t h e =
+    let same : take (x - start) (drop start encoding) ≡ t = cc in subst P same h.0.form
 piece_form P start (x ∷ ends) encoding (suc i) t h e = piece_form P x ends encoding i t h.1 e
 
 -- and is seen as the item at its index
-pub piece_seen : {A : Type 0} (seen : List ℕ → A) (start : ℕ) (ends encoding : List ℕ) (i : ℕ) (o : Option (List ℕ)) → o ≡ slice_get (pieces start ends encoding) i
+pub piece_seen : {A : Type 0} (seen : List ℕ → A) (start : ℕ) (ends encoding : List ℕ) (i : ℕ) (o : Option (List ℕ))
+    → o ≡ slice_get (pieces start ends encoding) i
     → option_map seen o ≡ slice_get (map seen (pieces start ends encoding)) i
-piece_seen seen start ends encoding i o e = ap (option_map seen) e ∙ sym (slice_get-map seen (pieces start ends encoding) i)
+piece_seen seen start ends encoding i o e =
+    ap (option_map seen) e ∙ sym (slice_get-map seen (pieces start ends encoding) i)
 
 -- ---- one piece more
 
@@ -77,11 +92,14 @@ last_end-push start (e ∷ ends) end = last_end-push e ends end
 
 pieces-push : {A : Type 0} (seen : List ℕ → A) (start : ℕ) (ends : List ℕ) (end : ℕ) (encoding : List ℕ)
     → map seen (pieces start (ends ++ end ∷ []) encoding)
-    ≡ map seen (pieces start ends encoding) ++ seen (take (end - last_end start ends) (drop (last_end start ends) encoding)) ∷ []
+    ≡ map seen (pieces start ends encoding)
+    ++ seen (take (end - last_end start ends) (drop (last_end start ends) encoding)) ∷ []
 pieces-push seen start [] end encoding = refl
-pieces-push {A = A} seen start (e ∷ ends) end encoding = ap (λ (r : List A). seen (take (e - start) (drop start encoding)) ∷ r) (pieces-push seen e ends end encoding)
+pieces-push {A = A} seen start (e ∷ ends) end encoding =
+    ap (λ (r : List A). seen (take (e - start) (drop start encoding)) ∷ r) (pieces-push seen e ends end encoding)
 
-ArePieces-push : (P : List ℕ → Type 0) (start : ℕ) (ends : List ℕ) (end : ℕ) (encoding : List ℕ) → ArePieces P start ends encoding
+ArePieces-push : (P : List ℕ → Type 0) (start : ℕ) (ends : List ℕ) (end : ℕ) (encoding : List ℕ)
+    → ArePieces P start ends encoding
     → IsPiece P (last_end start ends) end encoding → ArePieces P start (ends ++ end ∷ []) encoding
 ArePieces-push P start [] end encoding h r = (r, r.within)
 ArePieces-push P start (x ∷ ends) end encoding h r = (h.0, ArePieces-push P x ends end encoding h.1 r)
@@ -93,24 +111,36 @@ drop-of-take start n xs h =
     let e : start + (n - start) ≡ n = omega arith in
     subst (λ (k : ℕ). drop start (take k xs) ≡ take (n - start) (drop start xs)) e (drop-take start (n - start) xs)
 
-start-le-last_end : (P : List ℕ → Type 0) (start : ℕ) (ends encoding : List ℕ) → ArePieces P start ends encoding → start ≤ last_end start ends
+start-le-last_end : (P : List ℕ → Type 0) (start : ℕ) (ends encoding : List ℕ) → ArePieces P start ends encoding
+    → start ≤ last_end start ends
 start-le-last_end P start [] encoding h = omega arith
 start-le-last_end P start (x ∷ ends) encoding h = omega (arith, start-le-last_end P x ends encoding h.1, h.0.ordered)
 
-pieces-take : (P : List ℕ → Type 0) (start : ℕ) (ends : List ℕ) (n : ℕ) (encoding : List ℕ) → ArePieces P start ends encoding → last_end start ends ≤ n
+pieces-take : (P : List ℕ → Type 0) (start : ℕ) (ends : List ℕ) (n : ℕ) (encoding : List ℕ)
+    → ArePieces P start ends encoding → last_end start ends ≤ n
     → (pieces start ends (take n encoding) ≡ pieces start ends encoding) × ArePieces P start ends (take n encoding)
 pieces-take P start [] n encoding h le = (refl, omega (arith, length-take n encoding))
 pieces-take P start (x ∷ ends) n encoding h le =
     let low = start-le-last_end P x ends encoding h.1 in
     let inner = drop-of-take start n encoding (omega (arith, h.0.ordered)) in
-    let same = ap (λ (t : List ℕ). take (x - start) t) inner ∙ take-take (x - start) (n - start) (drop start encoding) (omega (arith, h.0.ordered)) in
+    let same =
+    ap (λ (t : List ℕ). take (x - start) t) inner
+    ∙ take-take (x - start) (n - start) (drop start encoding) (omega (arith, h.0.ordered)) in
     let later = pieces-take P x ends n encoding h.1 le in (
       rw (same, later.0) refl,
-      (record { ordered = h.0.ordered; within = omega (arith, length-take n encoding, h.0.within); form = subst P (sym same) h.0.form }, later.1),
+      (
+        record {
+          ordered = h.0.ordered;
+          within = omega (arith, length-take n encoding, h.0.within);
+          form = subst P (sym same) h.0.form;
+        },
+        later.1,
+      ),
     )
 
 -- after i of so many parts, each seen by its encoding
-pub record SoFar {A : Type 0} (least : ℕ) (P : List ℕ → Type 0) (seen : List ℕ → A) (part : List ℕ → Reading A) (start count i : ℕ) (bytes ends rest : List ℕ)
+pub record SoFar {A : Type 0} (least : ℕ) (P : List ℕ → Type 0) (seen : List ℕ → A) (part : List ℕ → Reading A)
+    (start count i : ℕ) (bytes ends rest : List ℕ)
     (began now : Counts) (whole : Reading (List A)) : Type 0 where
   pub left : Loop part count i (map seen (pieces start ends bytes)) rest began now whole
   pub stand : ArePieces P start ends bytes
@@ -119,11 +149,15 @@ pub record SoFar {A : Type 0} (least : ℕ) (P : List ℕ → Type 0) (seen : Li
   pub taken_in_all : least * length ends + length rest + start ≤ length bytes
   pub as_many : length ends ≡ i
 
-module _ {A : Type 0} {least : ℕ} {P : List ℕ → Type 0} {seen : List ℕ → A} {part : List ℕ → Reading A} {start count : ℕ} {bytes : List ℕ}
+module _ {A : Type 0} {least : ℕ} {P : List ℕ → Type 0} {seen : List ℕ → A} {part : List ℕ
+    → Reading A} {start count : ℕ} {bytes : List ℕ}
     {began old : Counts} {i : ℕ} {ends rest : List ℕ} {whole : Reading (List A)} where
-  pub pieces_next : (after : List ℕ) (new : Counts) → 4 ≤ least → i < count → SoFar least P seen part start count i bytes ends rest began old whole
-      → (part rest).1 ≡ Ok (seen (consumed rest after), after) → Spent (begun old) new (part rest).0 → Passed least P rest after
-      → SoFar least P seen part start count (i + 1) bytes (ends ++ (length bytes - length after) ∷ []) after began new whole
+  pub pieces_next : (after : List ℕ) (new : Counts) → 4 ≤ least → i < count
+      → SoFar least P seen part start count i bytes ends rest began old whole
+      → (part rest).1 ≡ Ok (seen (consumed rest after), after) → Spent (begun old) new (part rest).0
+      → Passed least P rest after
+      → SoFar least P seen part start count (i + 1) bytes
+      (ends ++ (length bytes - length after) ∷ []) after began new whole
   pieces_next after new four lt so_far is spent passed =
       let last = last_end start ends in
       let end = length bytes - length after in
@@ -133,9 +167,12 @@ module _ {A : Type 0} {least : ℕ} {P : List ℕ → Type 0} {seen : List ℕ �
       let end_is : end ≡ last + size = omega (arith, so_far.within) in
       let same_piece : take (end - last) (drop last bytes) ≡ consumed rest after =
       rw (← so_far.rest_is) (ap (λ (n : ℕ). take n rest) (omega (arith, so_far.within))) in
-      let pushed : map seen (pieces start (ends ++ end ∷ []) bytes) ≡ map seen (pieces start ends bytes) ++ seen (consumed rest after) ∷ [] =
-      pieces-push seen start ends end bytes ∙ ap (λ (t : List ℕ). map seen (pieces start ends bytes) ++ seen t ∷ []) same_piece in
-      let piece : IsPiece P last end bytes = record { ordered = omega arith; within = omega arith; form = subst P (sym same_piece) passed.form } in
+      let pushed : map seen (pieces start (ends ++ end ∷ []) bytes)
+      ≡ map seen (pieces start ends bytes) ++ seen (consumed rest after) ∷ [] =
+      pieces-push seen start ends end bytes
+      ∙ ap (λ (t : List ℕ). map seen (pieces start ends bytes) ++ seen t ∷ []) same_piece in
+      let piece : IsPiece P last end bytes =
+      record { ordered = omega arith; within = omega arith; form = subst P (sym same_piece) passed.form } in
       let end_at = last_end-push start ends end in
       let more : length (ends ++ end ∷ []) ≡ length ends + 1 = length-append ends (end ∷ []) in
       record {
@@ -150,10 +187,12 @@ module _ {A : Type 0} {least : ℕ} {P : List ℕ → Type 0} {seen : List ℕ �
 
   -- what was read, in the encoding that was taken
   pub pieces_read : count ≤ i → SoFar least P seen part start count i bytes ends rest began old whole
-      → (whole.1 ≡ Ok (map seen (pieces start ends (consumed bytes rest)), rest)) × Spent began old whole.0 × ArePieces P start ends (consumed bytes rest)
+      → (whole.1 ≡ Ok (map seen (pieces start ends (consumed bytes rest)), rest)) × Spent began old whole.0
+      × ArePieces P start ends (consumed bytes rest)
   pieces_read le so_far =
       let last = last_end start ends in
-      let cut : length bytes - length rest ≡ last = omega (arith, ap length so_far.rest_is ∙ length-drop last bytes, so_far.within) in
+      let cut : length bytes - length rest ≡ last =
+      omega (arith, ap length so_far.rest_is ∙ length-drop last bytes, so_far.within) in
       let end = parts_end le so_far.left in
       let taken_out = pieces-take P start ends last bytes so_far.stand (omega arith) in
       (rw (cut, taken_out.0) end.0, end.1, rw cut taken_out.1)

@@ -14,22 +14,27 @@ use Rattle.wkb_view.specs.Headers.{HasHead}
 use Rattle.wkb_view.specs.Members.{IsEncoding}
 use Rattle.wkb_view.proofs.Leaves.{number_within}
 
-says_spelled : (w : Wanted) (bytes : List ℕ) (r : Reading Item) → IsRight 0 w bytes r → (i : Item) (rest : List ℕ) → r.1 ≡ Ok (i, rest) → IsSpelled i
+says_spelled : (w : Wanted) (bytes : List ℕ) (r : Reading Item) → IsRight 0 w bytes r → (i : Item) (rest : List ℕ)
+    → r.1 ≡ Ok (i, rest) → IsSpelled i
 says_spelled w bytes (c, Ok x) h i rest e = let same : x.0 ≡ i = cc in subst IsSpelled same ∣ h.spelled ∣₁
 says_spelled w bytes (c, Err f) h i rest e = absurd cc
 
-says_body : (bytes : List ℕ) (h : Head) → head_at bytes ≡ Ok h → IsRight 0 any bytes (body_at too_deep h.wkb_type (layout_of h) bytes)
+says_body : (bytes : List ℕ) (h : Head) → head_at bytes ≡ Ok h
+    → IsRight 0 any bytes (body_at too_deep h.wkb_type (layout_of h) bytes)
 unfolding geometry_at by_type
 says_body bytes h e =
-    subst (λ (r : Result Head Cause). IsRight 0 any bytes (then_body r (λ g. body_at too_deep g.wkb_type (layout_of g) bytes))) e (geometry_says 0 bytes)
+    subst (λ (r : Result Head Cause). IsRight 0 any bytes
+    (then_body r (λ g. body_at too_deep g.wkb_type (layout_of g) bytes))) e (geometry_says 0 bytes)
 
 -- what is read behind a header is spelled by the bytes that were taken
 pub body_spelled : (bytes : List ℕ) (h : Head) (i : Item) (rest : List ℕ) → head_at bytes ≡ Ok h
     → (body_at too_deep h.wkb_type (layout_of h) bytes).1 ≡ Ok (i, rest) → IsSpelled i
-body_spelled bytes h i rest e is = says_spelled any bytes (body_at too_deep h.wkb_type (layout_of h) bytes) (says_body bytes h e) i rest is
+body_spelled bytes h i rest e is =
+    says_spelled any bytes (body_at too_deep h.wkb_type (layout_of h) bytes) (says_body bytes h e) i rest is
 
 -- the encoding of a point that was read
-pub point_encoding : (l : Layout) (bytes buf : List ℕ) (end : ℕ) → HasHead (λ d. kinds.Point d) l bytes → end ≡ point_end l.dimension l.has_srid
+pub point_encoding : (l : Layout) (bytes buf : List ℕ) (end : ℕ) → HasHead (λ d. kinds.Point d) l bytes
+    → end ≡ point_end l.dimension l.has_srid
     → end ≤ length bytes → buf ≡ take end bytes → IsEncoding 1 l buf
 unfolding point_at
 point_encoding l bytes buf end head end-is long buf-is =
@@ -37,11 +42,16 @@ point_encoding l bytes buf end head end-is long buf-is =
     let there : ltb (length bytes) at ≡ false = le-ltb _ _ (omega arith) in
     let cut : buf ≡ take at bytes = buf-is ∙ ap (λ (n : ℕ). take n bytes) end-is in
     let read : point_at l bytes ≡ Ok (point_item l (take at bytes), drop at bytes) = rw there refl in
-    record { whole = omega (arith, ap length buf-is, length-take end bytes); spells = rw cut (body_spelled bytes _ _ _ head read) }
+    record {
+      whole = omega (arith, ap length buf-is, length-take end bytes);
+      spells = rw cut (body_spelled bytes _ _ _ head read);
+    }
 
 -- and of a line string
-pub line_string_is_encoding : (l : Layout) (bytes buf : List ℕ) (n end : ℕ) → HasHead (λ d. kinds.LineString d) l bytes → body_start l.has_srid + 4 ≤ length bytes
-    → n ≡ number l.order 4 (drop (body_start l.has_srid) bytes) → end ≡ line_string_end l.dimension l.has_srid n → end ≤ length bytes → buf ≡ take end bytes
+pub line_string_is_encoding : (l : Layout) (bytes buf : List ℕ) (n end : ℕ) → HasHead (λ d. kinds.LineString d) l bytes
+    → body_start l.has_srid + 4 ≤ length bytes
+    → n ≡ number l.order 4 (drop (body_start l.has_srid) bytes) → end ≡ line_string_end l.dimension l.has_srid n
+    → end ≤ length bytes → buf ≡ take end bytes
     → IsEncoding 2 l buf
 unfolding line_string_at
 line_string_is_encoding l bytes buf n end head whole n-is end-is long buf-is =
@@ -50,8 +60,13 @@ line_string_is_encoding l bytes buf n end head whole n-is end-is long buf-is =
     let counted : ltb (length bytes) (body_start l.has_srid + 4) ≡ false = le-ltb _ _ whole in
     let there : ltb (length bytes) at ≡ false = le-ltb _ _ (omega (arith, same)) in
     let cut : buf ≡ take at bytes = buf-is ∙ ap (λ (k : ℕ). take k bytes) same in
-    let read : (line_string_at l bytes).1 ≡ Ok (line_string_item l (take at bytes), drop at bytes) = rw (counted, there) refl in
+    let read : (line_string_at l bytes).1 ≡ Ok (line_string_item l (take at bytes), drop at bytes) =
+    rw (counted, there) refl in
     record {
-      whole = rw (cut, number_within l.order (body_start l.has_srid) at bytes (omega arith)) (omega (arith, same, length-take at bytes));
-      spells = rw cut (body_spelled bytes (record { order = l.order; wkb_type = kinds.LineString l.dimension; has_srid = l.has_srid }) _ _ head read);
+      whole =
+          rw (cut, number_within l.order (body_start l.has_srid) at bytes (omega arith))
+          (omega (arith, same, length-take at bytes));
+      spells =
+          rw cut (body_spelled bytes
+          (record { order = l.order; wkb_type = kinds.LineString l.dimension; has_srid = l.has_srid }) _ _ head read);
     }

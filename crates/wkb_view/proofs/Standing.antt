@@ -35,7 +35,8 @@ number_is_bytes BigEndian n x = high_are_bytes n x
 number_is_bytes LittleEndian n x = low_are_bytes 0 n x
 
 -- the bytes of the number that is read off the first bytes are these
-pub number_stands : (order : Endianness) (n : ℕ) (y : List ℕ) → AreBytes y → n ≤ length y → number_bytes order n (number order n y) ≡ take n y
+pub number_stands : (order : Endianness) (n : ℕ) (y : List ℕ) → AreBytes y → n ≤ length y
+    → number_bytes order n (number order n y) ≡ take n y
 number_stands order n y h long =
     let is = number_taken order n y long in
     let bytes = AreBytes-take n y h in
@@ -58,14 +59,18 @@ items_stand size item f one (suc n) y h long =
 pub words_stand : (order : Endianness) (d : Dimension) (y : List ℕ) → AreBytes y → 8 * width d ≤ length y
     → words_encoding order (coordinate order d y) ≡ take (8 * width d) y
 unfolding words_encoding
-words_stand order d y h long = items_stand 8 (number order 8) (number_bytes order 8) (number_stands order 8) (width d) y h long
+words_stand order d y h long =
+    items_stand 8 (number order 8) (number_bytes order 8) (number_stands order 8) (width d) y h long
 
-pub coordinates_stand : (order : Endianness) (d : Dimension) (n : ℕ) (y : List ℕ) → AreBytes y → 8 * width d * n ≤ length y
+pub coordinates_stand : (order : Endianness) (d : Dimension) (n : ℕ) (y : List ℕ) → AreBytes y
+    → 8 * width d * n ≤ length y
     → flat_map (words_encoding order) (coordinates order d n y) ≡ take (8 * width d * n) y
-coordinates_stand order d n y h long = items_stand (8 * width d) (coordinate order d) (words_encoding order) (words_stand order d) n y h long
+coordinates_stand order d n y h long =
+    items_stand (8 * width d) (coordinate order d) (words_encoding order) (words_stand order d) n y h long
 
 -- a ring's coordinates are all that stands behind its count
-pub ring_stands : (order : Endianness) (d : Dimension) (encoding : List ℕ) → AreBytes encoding → length encoding ≡ 4 + 8 * width d * number order 4 encoding
+pub ring_stands : (order : Endianness) (d : Dimension) (encoding : List ℕ) → AreBytes encoding
+    → length encoding ≡ 4 + 8 * width d * number order 4 encoding
     → drop 4 encoding ≡ flat_map (words_encoding order) (ring_in order d encoding)
 ring_stands order d encoding h whole =
     let n = number order 4 encoding in

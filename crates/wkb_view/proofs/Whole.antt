@@ -22,7 +22,8 @@ pub record HasWrittenHeader (k : ℕ) (l : Layout) (bytes : List ℕ) (order : E
   pub form_is : form_srid form ≡ None
   pub code : number order 4 (drop 1 bytes) ≡ code_of form k l.dimension
 
-plain_spelled : (k : ℕ) (l : Layout) (bytes : List ℕ) (order : Endianness) (form : Form) → HasWrittenHeader k l bytes order form
+plain_spelled : (k : ℕ) (l : Layout) (bytes : List ℕ) (order : Endianness) (form : Form)
+    → HasWrittenHeader k l bytes order form
     → spelled_in l bytes [] no_spellings ≡ written_plain order form k l.dimension
 plain_spelled k l bytes order form h = rw (h.order_is, h.plain, h.code, h.form_is) refl
 
@@ -47,23 +48,33 @@ is_whole i order form plain range spells same =
 
 module _ (l : Layout) (bytes : List ℕ) (order : Endianness) (form : Form) (range : AreBytes bytes) where
   -- a point that isn't empty
-  pub point_whole : IsSpelled (point_item l bytes) → HasWrittenHeader 1 l bytes order form → all_nan (point_words_in l bytes) ≡ false
+  pub point_whole : IsSpelled (point_item l bytes) → HasWrittenHeader 1 l bytes order form
+      → all_nan (point_words_in l bytes) ≡ false
       → IsWhole bytes order form (point (dimensions l.dimension) (point_of (point_item l bytes).value))
   point_whole spells h known =
       let words = point_words_in l bytes in
       let item = point_item_of l bytes words false in
       let there = subst (λ (b : Bool). IsSpelled (point_item_of l bytes words b)) known spells in
-      subst (λ (b : Bool). IsWhole bytes order form (point (dimensions l.dimension) (point_of (point_item_of l bytes words b).value))) (sym known)
-      (is_whole item order form h.form_is range there (rw (same_dimension l.dimension, known) (plain_spelled 1 l bytes order form h)))
+      subst (λ (b : Bool). IsWhole bytes order form
+      (point (dimensions l.dimension) (point_of (point_item_of l bytes words b).value))) (sym known)
+      (is_whole item order form h.form_is range there
+      (rw (same_dimension l.dimension, known) (plain_spelled 1 l bytes order form h)))
 
   pub line_string_whole : IsSpelled (line_string_item l bytes) → HasWrittenHeader 2 l bytes order form
-      → IsWhole bytes order form (line_string (dimensions l.dimension) (ring_in l.order l.dimension (drop (body_start l.has_srid) bytes)))
+      → IsWhole bytes order form
+      (line_string (dimensions l.dimension) (ring_in l.order l.dimension (drop (body_start l.has_srid) bytes)))
   line_string_whole spells h =
-      is_whole (line_string_item l bytes) order form h.form_is range spells (rw (same_dimension l.dimension) (plain_spelled 2 l bytes order form h))
+      is_whole (line_string_item l bytes) order form h.form_is range spells
+      (rw (same_dimension l.dimension) (plain_spelled 2 l bytes order form h))
 
   -- a polygon, whose rings are fitted
   pub polygon_whole : (rings : List (List Coordinate))
-      → IsSpelled (record { encoding = bytes; spelled = spelled_in l bytes [] no_spellings; value = value.polygon l.dimension rings })
+      → IsSpelled
+      (record {
+        encoding = bytes;
+        spelled = spelled_in l bytes [] no_spellings;
+        value = value.polygon l.dimension rings;
+      })
       → HasWrittenHeader 3 l bytes order form
       → IsWhole bytes order form (polygon (dimensions l.dimension) (fitted_line_strings (dimensions l.dimension) rings))
   polygon_whole rings spells h =

@@ -8,8 +8,8 @@ abbrev pub entries : {T : Type 0} → Reserved T → List T
 entries list = list.items.items
 
 -- how many it has room for
-abbrev pub room : {T : Type 0} → Reserved T → ℕ
-room list = vec_capacity list.items
+abbrev pub capacity : {T : Type 0} → Reserved T → ℕ
+capacity list = vec_capacity list.items
 
 -- the count at the beginning of a body
 abbrev pub count_in : Layout → List ℕ → ℕ

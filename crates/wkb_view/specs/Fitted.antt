@@ -52,7 +52,8 @@ abbrev mutual
   fitted_geometry (collection dims gs) = collection dims (fitted_geometries gs)
   fitted_geometry (line dims start end) = line dims (fitted dims start) (fitted dims end)
   fitted_geometry (rectangle dims least greatest) = rectangle dims (fitted dims least) (fitted dims greatest)
-  fitted_geometry (triangle dims first second third) = triangle dims (fitted dims first) (fitted dims second) (fitted dims third)
+  fitted_geometry (triangle dims first second third) =
+      triangle dims (fitted dims first) (fitted dims second) (fitted dims third)
 
   pub fitted_geometries : Geometries → Geometries
   fitted_geometries no_geometries = no_geometries
@@ -83,10 +84,14 @@ test_of_words : (ws : List ℕ) → AllByRecursion IsWord ws → list_all (λ w.
 test_of_words [] h = refl
 test_of_words (w ∷ ws) h = rw (lt-ltb w (2 ^ 64) h.0, test_of_words ws h.1) refl
 
-coordinate_by : (dims : Dimensions) (c : Coordinate) (b : Bool) → fits dims c ≡ b → IsFitted (IsCoordinate dims) c (if b then c else replicate (size dims) 0)
+coordinate_by : (dims : Dimensions) (c : Coordinate) (b : Bool) → fits dims c ≡ b
+    → IsFitted (IsCoordinate dims) c (if b then c else replicate (size dims) 0)
 coordinate_by dims c true h =
     let t = and_parts (length c == size dims) (list_all (λ w. nat_lt w (2 ^ 64)) c) h in
-    record { lawful = record { len = eqb-true (length c) (size dims) t.0; words = words_from_test c t.1 }; same = λ l. refl }
+    record {
+      lawful = record { len = eqb-true (length c) (size dims) t.0; words = words_from_test c t.1 };
+      same = λ l. refl;
+    }
 coordinate_by dims c false h = record {
   lawful = record { len = length-replicate (size dims) 0; words = zeros_are_words (size dims) };
   same = λ l.
@@ -102,7 +107,11 @@ coordinate_fits dims c = coordinate_by dims c (fits dims c) refl
 
 list_fits : {A : Type 0} {f : A → A} {P : A → Type 0} → Fits f P → Fits (map f) (AllByRecursion P)
 list_fits h [] = record { lawful = tt; same = λ _. refl }
-list_fits h (x ∷ xs) = record { lawful = ((h x).lawful, (list_fits h xs).lawful); same = λ all. rw ((h x).same all.0, (list_fits h xs).same all.1) refl }
+list_fits h (x ∷ xs) =
+    record {
+      lawful = ((h x).lawful, (list_fits h xs).lawful);
+      same = λ all. rw ((h x).same all.0, (list_fits h xs).same all.1) refl;
+    }
 
 pub line_string_fits : (dims : Dimensions) → Fits (fitted_line_string dims) (AreCoordinates dims)
 line_string_fits dims = list_fits (coordinate_fits dims)
@@ -110,23 +119,35 @@ line_string_fits dims = list_fits (coordinate_fits dims)
 pub line_strings_fit : (dims : Dimensions) → Fits (fitted_line_strings dims) (AllByRecursion (AreCoordinates dims))
 line_strings_fit dims = list_fits (line_string_fits dims)
 
-pub polygons_fit : (dims : Dimensions) → Fits (fitted_polygons dims) (AllByRecursion (AllByRecursion (AreCoordinates dims)))
+pub polygons_fit : (dims : Dimensions)
+    → Fits (fitted_polygons dims) (AllByRecursion (AllByRecursion (AreCoordinates dims)))
 polygons_fit dims = list_fits (line_strings_fit dims)
 
 point_fits : (dims : Dimensions) → Fits (fitted_point dims) (IsPoint dims)
 point_fits dims None = record { lawful = tt; same = λ _. refl }
-point_fits dims (Some c) = record { lawful = (coordinate_fits dims c).lawful; same = λ h. ap (λ (x : Coordinate). Some x) ((coordinate_fits dims c).same h) }
+point_fits dims (Some c) =
+    record {
+      lawful = (coordinate_fits dims c).lawful;
+      same = λ h. ap (λ (x : Coordinate). Some x) ((coordinate_fits dims c).same h);
+    }
 
 mutual
   -- every geometry is fitted to a lawful one, and a lawful one to itself
   pub geometry_fits : Fits fitted_geometry IsGeometry
-  geometry_fits (point dims c) = let f = point_fits dims c in record { lawful = f.lawful; same = λ h. rw (f.same h) refl }
-  geometry_fits (line_string dims cs) = let f = line_string_fits dims cs in record { lawful = f.lawful; same = λ h. rw (f.same h) refl }
-  geometry_fits (polygon dims rings) = let f = line_strings_fit dims rings in record { lawful = f.lawful; same = λ h. rw (f.same h) refl }
-  geometry_fits (multi_point dims points) = let f = list_fits (point_fits dims) points in record { lawful = f.lawful; same = λ h. rw (f.same h) refl }
-  geometry_fits (multi_line_string dims lines) = let f = line_strings_fit dims lines in record { lawful = f.lawful; same = λ h. rw (f.same h) refl }
-  geometry_fits (multi_polygon dims polygons) = let f = polygons_fit dims polygons in record { lawful = f.lawful; same = λ h. rw (f.same h) refl }
-  geometry_fits (collection dims gs) = let f = geometries_fit gs in record { lawful = f.lawful; same = λ h. rw (f.same h) refl }
+  geometry_fits (point dims c) =
+      let f = point_fits dims c in record { lawful = f.lawful; same = λ h. rw (f.same h) refl }
+  geometry_fits (line_string dims cs) =
+      let f = line_string_fits dims cs in record { lawful = f.lawful; same = λ h. rw (f.same h) refl }
+  geometry_fits (polygon dims rings) =
+      let f = line_strings_fit dims rings in record { lawful = f.lawful; same = λ h. rw (f.same h) refl }
+  geometry_fits (multi_point dims points) =
+      let f = list_fits (point_fits dims) points in record { lawful = f.lawful; same = λ h. rw (f.same h) refl }
+  geometry_fits (multi_line_string dims lines) =
+      let f = line_strings_fit dims lines in record { lawful = f.lawful; same = λ h. rw (f.same h) refl }
+  geometry_fits (multi_polygon dims polygons) =
+      let f = polygons_fit dims polygons in record { lawful = f.lawful; same = λ h. rw (f.same h) refl }
+  geometry_fits (collection dims gs) =
+      let f = geometries_fit gs in record { lawful = f.lawful; same = λ h. rw (f.same h) refl }
   geometry_fits (line dims start end) =
       let f = coordinate_fits dims start in
       let g = coordinate_fits dims end in
@@ -156,12 +177,16 @@ pub fitted_geometry-same : (g : Geometry) → IsGeometry g → fitted_geometry g
 fitted_geometry-same g h = (geometry_fits g).same h
 
 -- a line string of the whole's dimension, lawful by its law, stands in the fitted list as in the list itself
-pub lawful_at : {C : Type 0} (read : C → List Coordinate) (dim : C → Dimension) (d : Dimension) (o : Option C) (parts : List (List Coordinate)) (i : ℕ)
-    → ((c : C) → AreCoordinates (dimensions (dim c)) (read c)) → IfSome o (λ c. dim c ≡ d) → option_map read o ≡ slice_get parts i
+pub lawful_at : {C : Type 0} (read : C → List Coordinate) (dim : C → Dimension) (d : Dimension) (o : Option C)
+    (parts : List (List Coordinate)) (i : ℕ)
+    → ((c : C) → AreCoordinates (dimensions (dim c)) (read c)) → IfSome o (λ c. dim c ≡ d)
+    → option_map read o ≡ slice_get parts i
     → option_map read o ≡ slice_get (fitted_line_strings (dimensions d) parts) i
 lawful_at read dim d None parts i law same is = ap (option_map (fitted_line_string (dimensions d))) is
     ∙ sym (slice_get-map (fitted_line_string (dimensions d)) parts i)
 lawful_at read dim d (Some c) parts i law same is =
-    let fits = (line_string_fits (dimensions d) (read c)).same (subst (λ e. AreCoordinates (dimensions e) (read c)) same (law c)) in
+    let fits =
+    (line_string_fits (dimensions d) (read c)).same
+    (subst (λ e. AreCoordinates (dimensions e) (read c)) same (law c)) in
     ap (λ (x : List Coordinate). Some x) (sym fits) ∙ ap (option_map (fitted_line_string (dimensions d))) is
     ∙ sym (slice_get-map (fitted_line_string (dimensions d)) parts i)

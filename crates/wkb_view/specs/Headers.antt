@@ -4,4 +4,5 @@ use Rattle.wkb_view.specs.Words.{Dimension, WkbType, Layout, head_at}
 
 -- the bytes begin with a header of this kind, which is laid out so
 abbrev pub HasHead : (Dimension → WkbType) → Layout → List ℕ → Type 0
-HasHead kind l bytes = head_at bytes ≡ Ok (record { order = l.order; wkb_type = kind l.dimension; has_srid = l.has_srid })
+HasHead kind l bytes =
+    head_at bytes ≡ Ok (record { order = l.order; wkb_type = kind l.dimension; has_srid = l.has_srid })

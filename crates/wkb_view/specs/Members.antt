@@ -1,4 +1,5 @@
--- The parts of a geometry by their encodings: the rings of a polygon, and the members of multi geometries, each with an order, a code and an SRID of its own.
+-- The parts of a geometry by their encodings: the rings of a polygon, and the members of multi geometries, each with an
+-- order, a code and an SRID of its own.
 use Rattle.std.specs.Prelude.{◌≡◌, ℕ, zero, suc, ◌+◌, ◌*◌, List, [], ◌∷◌, map, length, drop, false, Result, Ok, Err}
 use Rattle.std.specs.Prelude.{if◌then◌else◌, ◌==◌}
 use Rattle.wkb_geom.specs.Values.{polygon}
@@ -6,7 +7,8 @@ use Rattle.wkb_view.specs.Words.{Layout, Dimension, BigEndian, Cause, Coordinate
 use Rattle.wkb_view.specs.Words.{line_string_end, Spellings, no_spellings, Listed}
 use Rattle.wkb_view.specs.Words.{whole_of, Reading, repeated, Item, spellings, laid, body_start, parts_start}
 use Rattle.wkb_view.specs.Words.{spelled_in, point_item, line_string_item}
-use Rattle.wkb_view.specs.Words.{ring_in, list_item, line_string_of, polygon_of, multi_point_with, member_layout, member_at}
+use Rattle.wkb_view.specs.Words.{ring_in, list_item, line_string_of, polygon_of, multi_point_with, member_layout}
+use Rattle.wkb_view.specs.Words.{member_at}
 use Rattle.wkb_view.specs.Words.{IsSpelled}
 use Rattle.wkb_view.specs.Pieces.{pieces, ArePieces, IsRing}
 
@@ -17,7 +19,8 @@ item_of k l encoding = if k == 1 then point_item l encoding else line_string_ite
 -- where it ends
 abbrev pub item_end : ℕ → Layout → List ℕ → ℕ
 item_end k l encoding =
-    if k == 1 then point_end l.dimension l.has_srid else line_string_end l.dimension l.has_srid (number l.order 4 (drop (body_start l.has_srid) encoding))
+    if k == 1 then point_end l.dimension l.has_srid else line_string_end l.dimension l.has_srid
+    (number l.order 4 (drop (body_start l.has_srid) encoding))
 
 -- the encoding is that of such a geometry
 pub record IsEncoding (k : ℕ) (l : Layout) (encoding : List ℕ) : Type 0 where
@@ -94,20 +97,26 @@ multi_point_item l n encoding = list_item l multi_point_with (points_in l n enco
 
 -- a geometry with these parts and members
 abbrev pub listed : {A : Type 0} → Layout → A → Spellings → List ℕ → Listed A
-listed l parts members encoding = record { encoding = encoding; spelled = spelled_in l encoding [] members; dimension = l.dimension; parts = parts }
+listed l parts members encoding =
+    record { encoding = encoding; spelled = spelled_in l encoding [] members; dimension = l.dimension; parts = parts }
 
 -- a polygon by its rings
 abbrev pub polygon_laid : Layout → List ℕ → List ℕ → Listed (List (List Coordinate))
-polygon_laid l ends encoding = listed l (map (ring_in l.order l.dimension) (pieces_behind l ends encoding)) no_spellings encoding
+polygon_laid l ends encoding =
+    listed l (map (ring_in l.order l.dimension) (pieces_behind l ends encoding)) no_spellings encoding
 
 -- a multi line string by its members
 abbrev pub line_strings_laid : Layout → List ℕ → List ℕ → Listed (List (List Coordinate))
-line_strings_laid l ends encoding = listed l (map (λ i. line_string_of i.value) (members_in 2 l ends encoding)) (spellings (members_in 2 l ends encoding)) encoding
+line_strings_laid l ends encoding =
+    listed l (map (λ i. line_string_of i.value) (members_in 2 l ends encoding))
+    (spellings (members_in 2 l ends encoding)) encoding
 
 -- the geometries of polygons
 abbrev pub polygon_items : List (Listed (List (List Coordinate))) → List Item
 polygon_items ps = map (λ p. whole_of polygon p) ps
 
 -- a multi polygon by its members
-abbrev pub polygons_laid : Layout → List (Listed (List (List Coordinate))) → List ℕ → Listed (List (List (List Coordinate)))
-polygons_laid l members encoding = listed l (map (λ i. polygon_of i.value) (polygon_items members)) (spellings (polygon_items members)) encoding
+abbrev pub polygons_laid : Layout → List (Listed (List (List Coordinate))) → List ℕ
+    → Listed (List (List (List Coordinate)))
+polygons_laid l members encoding =
+    listed l (map (λ i. polygon_of i.value) (polygon_items members)) (spellings (polygon_items members)) encoding

@@ -57,7 +57,8 @@ abbrev pub multi_point_offset : MultiPoint → ℕ → ℕ
 multi_point_offset m i = body_start m.layout.has_srid + 4 + stride m.layout.dimension * i
 
 value_by : (l : Layout) (encoding words : List ℕ) (empty : Bool)
-    → (point_item_of l encoding words empty).value ≡ point l.dimension (point_of (point_item_of l encoding words empty).value)
+    → (point_item_of l encoding words empty).value
+    ≡ point l.dimension (point_of (point_item_of l encoding words empty).value)
 value_by l encoding words true = refl
 value_by l encoding words false = refl
 

@@ -18,7 +18,8 @@ pub use Rattle.wkb_geom.specs.Refusals.{point_end, line_string_end, multi_point_
 pub use Rattle.wkb_geom.specs.Values.{Coordinate}
 pub use Rattle.wkb_geom.specs.Spellings.{Spelling, Spellings, no_spellings}
 pub use Rattle.wkb_geom.specs.Stored.{Listed, whole_of}
-pub use Rattle.wkb_geom.specs.Reading.{Cost, free, one_turn, slots_of, Outcome, Reading, at_no_cost, done, refused, costs}
+pub use Rattle.wkb_geom.specs.Reading.{Cost, free, one_turn, slots_of, Outcome, Reading, at_no_cost, done, refused}
+pub use Rattle.wkb_geom.specs.Reading.{costs}
 pub use Rattle.wkb_geom.specs.Reading.{and_then, then_body, items}
 pub use Rattle.wkb_geom.specs.Reading.{coordinate, coordinates, ring_in, Item, spellings, laid, body_start, parts_start}
 pub use Rattle.wkb_geom.specs.Reading.{srid_in, spelled_in, consumed}

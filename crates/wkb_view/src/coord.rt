@@ -19,7 +19,8 @@ pub struct Coord<'a> {
 impl<'a> Coord<'a> {
     ghost use Rattle.std.specs.Prelude.{◌≡◌, ◌*◌, length};
     ghost use Rattle.wkb_view.specs.Words.{width, all_nan};
-    ghost use Rattle.wkb_view.specs.Coords.{words_seen, coord_order, coord_dimension, coord_encoding};
+    ghost use Rattle.wkb_view.specs.Coords.{words_seen, coord_order, coord_dimension};
+    ghost use Rattle.wkb_view.specs.Coords.{coord_encoding};
     ghost use Rattle.wkb_geom.specs.Spellings.{SpellsCoordinate};
 
     /// The order of its numbers.
@@ -34,7 +35,8 @@ impl<'a> Coord<'a> {
     #[inline]
     pub fn coord_slice(&self) -> &'a [u8]
         ensures encoding { result.now ≡ coord_encoding self.now }
-        ensures spells { SpellsCoordinate (coord_order self.now) (coord_dimension self.now) (words_seen self.now)
+        ensures spells { SpellsCoordinate (coord_order self.now) (coord_dimension self.now)
+            (words_seen self.now)
             (coord_encoding self.now) }
     {
         self.bytes

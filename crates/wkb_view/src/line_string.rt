@@ -1,7 +1,8 @@
 //! A line string.
 
 ghost use Rattle.std.specs.Prelude.{◌≡◌, ◌+◌, ◌*◌, length, drop};
-ghost use Rattle.wkb_view.specs.Words.{width, AreBytes, number, body_start, line_string_item, IsSpelled};
+ghost use Rattle.wkb_view.specs.Words.{width, AreBytes, number, body_start, line_string_item};
+ghost use Rattle.wkb_view.specs.Words.{IsSpelled};
 
 use crate::any::{
     AnyView, Line, MultiLineString, MultiPoint, MultiPolygon, Point, Polygon, Rect, Triangle,
@@ -23,7 +24,8 @@ pub struct LineString<'a> {
     layout: Layout,
     count: u32,
     ghost counted: { count ≡ number layout.order 4 (drop (body_start layout.has_srid) buf.now) },
-    ghost whole: { length buf.now ≡ body_start layout.has_srid + 4 + 8 * width layout.dimension * count },
+    ghost whole: { length buf.now
+        ≡ body_start layout.has_srid + 4 + 8 * width layout.dimension * count },
     ghost in_range: { AreBytes buf.now },
     ghost spells: { IsSpelled (line_string_item layout buf.now) },
 }
@@ -36,7 +38,8 @@ impl<'a> LineString<'a> {
     ghost use Rattle.wkb_view.specs.Parts.{IsSpelled};
     ghost use Rattle.wkb_view.specs.Coords.{ring_encoding, ring_order, ring_dimension};
     ghost use Rattle.wkb_view.specs.Views.{line_string_seen, line_string_layout};
-    ghost use Rattle.wkb_view.specs.Views.{line_string_offset, line_string_coordinates, line_string_order};
+    ghost use Rattle.wkb_view.specs.Views.{line_string_offset, line_string_coordinates};
+    ghost use Rattle.wkb_view.specs.Views.{line_string_order};
     ghost use Rattle.wkb_view.specs.Headers.{HasHead};
     ghost use Rattle.wkb_view.specs.Outcome.{Answers};
     ghost use Rattle.wkb_view.specs.Members.{IsEncoding};
@@ -97,7 +100,8 @@ impl<'a> LineString<'a> {
     #[inline]
     fn ring(&self) -> LinearRing<'a>
         ensures encoding { ring_encoding result
-            ≡ drop (body_start (line_string_layout self.now).has_srid) (line_string_seen self.now).encoding }
+            ≡ drop (body_start (line_string_layout self.now).has_srid)
+            (line_string_seen self.now).encoding }
         ensures order { ring_order result ≡ (line_string_layout self.now).order }
         ensures dimension { ring_dimension result ≡ (line_string_layout self.now).dimension }
     {
@@ -114,8 +118,10 @@ impl<'a> LineString<'a> {
     #[inline]
     pub fn read(layout: Layout, bytes: &'a [u8]) -> Result<(LineString<'a>, &'a [u8]), Cause>
         requires head { HasHead (λ d. kinds.LineString d) layout bytes.now }
-        ensures answer { Answers (λ x. (line_string_seen x.0, x.1.now)) result (line_string_at layout bytes.now).1 }
-        ensures item { IfOk result (λ x. line_string_seen x.0 ≡ line_string_item layout (consumed bytes.now x.1.now)) }
+        ensures answer { Answers
+            (λ x. (line_string_seen x.0, x.1.now)) result (line_string_at layout bytes.now).1 }
+        ensures item { IfOk result
+            (λ x. line_string_seen x.0 ≡ line_string_item layout (consumed bytes.now x.1.now)) }
         ensures passed { IfOk result (λ x. Passed 9 (IsEncoding 2 layout) bytes.now x.1.now) }
         ensures shorter { IfOk result (λ x. length x.1.now + 9 ≤ length bytes.now) }
     {
@@ -178,7 +184,8 @@ impl<'a> LineStringTrait for LineString<'a> {
     ghost use Rattle.wkb_view.specs.Coords.{coord_order, coord_dimension, coord_encoding};
     ghost use Rattle.wkb_view.specs.Ranges.{line_string_lawful};
     ghost use Rattle.wkb_view.specs.Views.{line_string_seen, line_string_layout};
-    ghost use Rattle.wkb_view.specs.Views.{line_string_offset, line_string_coordinates, line_string_order};
+    ghost use Rattle.wkb_view.specs.Views.{line_string_offset, line_string_coordinates};
+    ghost use Rattle.wkb_view.specs.Views.{line_string_order};
 
     type CoordType = Coord<'a>;
 
@@ -203,7 +210,8 @@ impl<'a> LineStringTrait for LineString<'a> {
 
     #[inline]
     fn coord(&self, i: usize) -> Option<Coord<'a>>
-        ensures value { option_map words_seen result ≡ slice_get (line_string_coordinates self.now) i }
+        ensures value { option_map words_seen result
+            ≡ slice_get (line_string_coordinates self.now) i }
         ensures dimensions { IfSome result (λ c. trait_dimensions (coord_dimension c)
             ≡ trait_dimensions (line_string_layout self.now).dimension) }
         ensures order { IfSome result (λ c. coord_order c ≡ line_string_order self.now) }

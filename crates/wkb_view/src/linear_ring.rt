@@ -28,7 +28,8 @@ pub struct LinearRing<'a> {
 
 impl<'a> LinearRing<'a> {
     ghost use Rattle.std.specs.Prelude.{◌≡◌, length, ◌≤◌, drop};
-    ghost use Rattle.wkb_view.specs.Coords.{ring_encoding, ring_order, ring_dimension, ring_seen, ring_offset};
+    ghost use Rattle.wkb_view.specs.Coords.{ring_encoding, ring_order, ring_dimension, ring_seen};
+    ghost use Rattle.wkb_view.specs.Coords.{ring_offset};
     ghost use Rattle.wkb_view.specs.Words.{AreBytes, ring_end};
     ghost use Rattle.wkb_geom.specs.Spellings.{SpellsCoordinates};
 
@@ -64,7 +65,8 @@ impl<'a> LinearRing<'a> {
     #[inline]
     pub fn coords_slice(&self) -> &'a [u8]
         ensures encoding { result.now ≡ drop 4 (ring_encoding self.now) }
-        ensures spells { SpellsCoordinates (ring_order self.now) (ring_dimension self.now) (ring_seen self.now)
+        ensures spells { SpellsCoordinates (ring_order self.now) (ring_dimension self.now)
+            (ring_seen self.now)
             (ring_encoding self.now) }
         ensures bytes { AreBytes (ring_encoding self.now) }
     {
@@ -95,9 +97,9 @@ impl Dimensioned for LinearRing<'_> {
 impl<'a> LineStringTrait for LinearRing<'a> {
     ghost use Rattle.std.specs.Prelude.{◌≡◌, length, option_map, IfSome, ◌<◌, Some, slice_get};
     ghost use Rattle.wkb_view.specs.Words.{dimensions as trait_dimensions};
-    ghost use Rattle.wkb_view.specs.Coords.{words_seen, coordinate_encoding};
-    ghost use Rattle.wkb_view.specs.Coords.{coord_order, coord_dimension, coord_encoding};
-    ghost use Rattle.wkb_view.specs.Coords.{ring_encoding, ring_order, ring_dimension, ring_seen, ring_offset};
+    ghost use Rattle.wkb_view.specs.Coords.{words_seen, coordinate_encoding, coord_order};
+    ghost use Rattle.wkb_view.specs.Coords.{coord_dimension, coord_encoding, ring_encoding};
+    ghost use Rattle.wkb_view.specs.Coords.{ring_order, ring_dimension, ring_seen, ring_offset};
     ghost use Rattle.wkb_view.specs.Ranges.{ring_lawful};
 
     type CoordType = Coord<'a>;
@@ -127,7 +129,8 @@ impl<'a> LineStringTrait for LinearRing<'a> {
         ensures dimensions { IfSome result (λ c. trait_dimensions (coord_dimension c)
             ≡ trait_dimensions (ring_dimension self.now)) }
         ensures order { IfSome result (λ c. coord_order c ≡ ring_order self.now) }
-        ensures bytes { IfSome result (λ c. coord_encoding c ≡ coordinate_encoding (ring_dimension self.now)
+        ensures bytes { IfSome result
+            (λ c. coord_encoding c ≡ coordinate_encoding (ring_dimension self.now)
             (ring_offset self.now i) (ring_encoding self.now)) }
     {
         if i < self.num_coords() {
@@ -142,7 +145,8 @@ impl<'a> LineStringTrait for LinearRing<'a> {
     fn coord_at(&self, i: usize) -> Coord<'a>
         requires { i < length (ring_seen self.now) }
         ensures value { slice_get (ring_seen self.now) i ≡ Some (words_seen result) }
-        ensures dimensions { trait_dimensions (coord_dimension result) ≡ trait_dimensions (ring_dimension self.now) }
+        ensures dimensions { trait_dimensions (coord_dimension result)
+            ≡ trait_dimensions (ring_dimension self.now) }
         ensures order { coord_order result ≡ ring_order self.now }
         ensures bytes { coord_encoding result ≡ coordinate_encoding (ring_dimension self.now)
             (ring_offset self.now i) (ring_encoding self.now) }

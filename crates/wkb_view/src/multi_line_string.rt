@@ -1,10 +1,12 @@
 //! A multi line string.
 
 ghost use Rattle.std.specs.Prelude.{◌≡◌, ◌+◌, length, ◌≤◌, IfOk, ◌/◌, [], min};
-ghost use Rattle.wkb_view.specs.Words.{dimensions as trait_dimensions, body_start, member_at, parts_start, consumed};
-ghost use Rattle.wkb_view.specs.Members.{members_behind, IsMemberOfKind, member_item, AreMembersOfKind, members_in};
+ghost use Rattle.wkb_view.specs.Words.{dimensions as trait_dimensions, body_start, member_at};
+ghost use Rattle.wkb_view.specs.Words.{parts_start, consumed};
+ghost use Rattle.wkb_view.specs.Members.{members_behind, IsMemberOfKind, member_item};
+ghost use Rattle.wkb_view.specs.Members.{AreMembersOfKind, members_in};
 ghost use Rattle.wkb_view.specs.Outcome.{Freely, Surely, CanCount};
-ghost use Rattle.wkb_view.specs.Entries.{entries, room};
+ghost use Rattle.wkb_view.specs.Entries.{entries, capacity};
 ghost use Rattle.wkb_view.specs.Pieces.{Passed};
 
 use crate::any::{
@@ -47,7 +49,8 @@ impl<'a> Model for MultiLineString<'a> {
 
     ghost invariant = { λ a. (body_start a.layout.has_srid + 4 ≤ length a.buf.now)
         × AreMembersOfKind 2 a.layout a.ends.items a.buf.now
-        × IsSpelled (whole_of multi_line_string (line_strings_laid a.layout a.ends.items a.buf.now)) };
+        × IsSpelled (whole_of multi_line_string
+        (line_strings_laid a.layout a.ends.items a.buf.now)) };
 }
 
 impl<'a> MultiLineString<'a> {
@@ -55,7 +58,8 @@ impl<'a> MultiLineString<'a> {
     ghost use Rattle.wkb_geom.specs.Values.{multi_line_string};
     ghost use Rattle.wkb_geom.specs.declared.code.WkbType.TheVariants as kinds;
     ghost use Rattle.wkb_view.specs.Words.{whole_of, multi_line_string_at, IsSpelled, spelling_at};
-    ghost use Rattle.wkb_view.specs.Views.{line_string_spelling, line_string_layout, line_string_coordinates};
+    ghost use Rattle.wkb_view.specs.Views.{line_string_spelling, line_string_layout};
+    ghost use Rattle.wkb_view.specs.Views.{line_string_coordinates};
     ghost use Rattle.wkb_view.specs.Headers.{HasHead};
     ghost use Rattle.wkb_view.specs.Memory.{IsNoWant};
     ghost use Rattle.wkb_view.specs.Outcome.{Gives, CanCount};
@@ -96,7 +100,8 @@ impl<'a> MultiLineString<'a> {
     /// The line string at an index, made again from the bytes between two ends, in its own order.
     pub(crate) fn member(&self, i: usize) -> Option<LineString<'a>>
         ensures value { option_map line_string_coordinates result ≡ slice_get self.now.parts i }
-        ensures dimension { IfSome result (λ l. (line_string_layout l).dimension ≡ self.now.dimension) }
+        ensures dimension { IfSome result
+            (λ l. (line_string_layout l).dimension ≡ self.now.dimension) }
         ensures spelled { option_map line_string_spelling result ≡ spelling_at self.now.spelled i }
     {
         let buf = part_at(self.buf, self.layout.header_length() + COUNT, &self.ends, i)?;
@@ -163,7 +168,8 @@ impl Dimensioned for MultiLineString<'_> {
 impl<'a> MultiLineStringTrait for MultiLineString<'a> {
     ghost use Rattle.std.specs.Prelude.{◌≡◌, option_map, IfSome, slice_get};
     ghost use Rattle.wkb_view.specs.Words.{dimensions as trait_dimensions, spelling_at};
-    ghost use Rattle.wkb_view.specs.Views.{line_string_spelling, line_string_layout, line_string_coordinates};
+    ghost use Rattle.wkb_view.specs.Views.{line_string_spelling, line_string_layout};
+    ghost use Rattle.wkb_view.specs.Views.{line_string_coordinates};
     ghost use Rattle.wkb_view.specs.Fitted.{fitted_parts, line_strings_fit};
 
     type InnerLineStringType = LineString<'a>;
@@ -179,7 +185,8 @@ impl<'a> MultiLineStringTrait for MultiLineString<'a> {
 
     #[inline]
     fn line_string(&self, i: usize) -> Option<LineString<'a>>
-        ensures value { option_map line_string_coordinates result ≡ slice_get (fitted_parts self.now) i }
+        ensures value { option_map line_string_coordinates result
+            ≡ slice_get (fitted_parts self.now) i }
         ensures part { option_map line_string_coordinates result ≡ slice_get self.now.parts i }
         ensures dimensions { IfSome result (λ l. trait_dimensions (line_string_layout l).dimension
             ≡ trait_dimensions self.now.dimension) }
@@ -230,9 +237,11 @@ impl<'a> GeometryTrait for MultiLineString<'a> {
 
 /// Passes the line string of this dimension at the front of the bytes.
 fn line_string<'a>(dimension: Dimension, bytes: &'a [u8]) -> Result<&'a [u8], Cause>
-    ensures answer { Freely (λ rest. (member_item 2 dimension (consumed bytes.now rest.now), rest.now))
+    ensures answer { Freely
+        (λ rest. (member_item 2 dimension (consumed bytes.now rest.now), rest.now))
         result (member_at 2 dimension bytes.now) }
-    ensures passed { IfOk result (λ rest. Passed 9 (IsMemberOfKind 2 dimension) bytes.now rest.now) }
+    ensures passed { IfOk result
+        (λ rest. Passed 9 (IsMemberOfKind 2 dimension) bytes.now rest.now) }
 {
     let member = Layout::of_member(LINE_STRING, dimension, bytes)?;
     // Made anew, so that it doesn't go through memory.
@@ -256,12 +265,15 @@ fn line_strings<'a>(
 ) -> Result<(Reserved<usize>, &'a [u8]), Cause>
     requires whole { body_start layout.has_srid + 4 ≤ length bytes.now }
     requires empty { entries ends ≡ [] }
-    requires room { min count (length (parts_start layout.has_srid bytes.now) / 9) ≤ room ends }
+    requires room { min count (length (parts_start layout.has_srid bytes.now) / 9) ≤ capacity ends }
     requires fits { CanCount counts.old (members_behind 2 layout count bytes.now).0 }
-    ensures line_strings { Surely (λ x. (members_in 2 layout (entries x.0) (consumed bytes.now x.1.now), x.1.now))
+    ensures line_strings { Surely
+        (λ x. (members_in 2 layout (entries x.0) (consumed bytes.now x.1.now), x.1.now))
         result (members_behind 2 layout count bytes.now) counts.old counts.new }
-    ensures ends { IfOk result (λ x. AreMembersOfKind 2 layout (entries x.0) (consumed bytes.now x.1.now)) }
-    ensures shorter { IfOk result (λ x. length x.1.now + body_start layout.has_srid + 4 ≤ length bytes.now) }
+    ensures ends { IfOk result
+        (λ x. AreMembersOfKind 2 layout (entries x.0) (consumed bytes.now x.1.now)) }
+    ensures shorter { IfOk result
+        (λ x. length x.1.now + body_start layout.has_srid + 4 ≤ length bytes.now) }
 {
     let mut rest = layout.after_count(bytes);
     for _ in 0..count {

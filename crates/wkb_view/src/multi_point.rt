@@ -1,7 +1,8 @@
 //! A multi point.
 
 ghost use Rattle.std.specs.Prelude.{◌≡◌, ◌+◌, length, ◌≤◌, IfOk};
-ghost use Rattle.wkb_view.specs.Words.{AreBytes, body_start, member_at, consumed, multi_point_end, IsSpelled};
+ghost use Rattle.wkb_view.specs.Words.{AreBytes, body_start, member_at, consumed, multi_point_end};
+ghost use Rattle.wkb_view.specs.Words.{IsSpelled};
 ghost use Rattle.wkb_view.specs.Members.{members_behind, IsMemberOfKind, ArePoints};
 ghost use Rattle.wkb_view.specs.Members.{member_item, points_in, multi_point_item};
 ghost use Rattle.wkb_view.specs.Outcome.{Freely, Surely, CanCount};
@@ -134,10 +135,11 @@ impl Dimensioned for MultiPoint<'_> {
 
 impl<'a> MultiPointTrait for MultiPoint<'a> {
     ghost use Rattle.std.specs.Prelude.{◌≡◌, option_map, IfSome, slice_get, take, drop};
-    ghost use Rattle.wkb_view.specs.Words.{dimensions as trait_dimensions, point_of, points_of, spelling_at};
+    ghost use Rattle.wkb_view.specs.Words.{dimensions as trait_dimensions, point_of, points_of};
+    ghost use Rattle.wkb_view.specs.Words.{spelling_at};
     ghost use Rattle.wkb_view.specs.Members.{stride};
-    ghost use Rattle.wkb_view.specs.Views.{point_seen, point_layout, multi_point_seen, multi_point_layout};
-    ghost use Rattle.wkb_view.specs.Views.{point_spelling, multi_point_offset};
+    ghost use Rattle.wkb_view.specs.Views.{point_seen, point_layout, multi_point_seen};
+    ghost use Rattle.wkb_view.specs.Views.{multi_point_layout, point_spelling, multi_point_offset};
     ghost use Rattle.wkb_view.specs.Ranges.{multi_point_lawful};
 
     type InnerPointType = Point<'a>;
@@ -160,7 +162,8 @@ impl<'a> MultiPointTrait for MultiPoint<'a> {
             ≡ slice_get (points_of (multi_point_seen self.now).value) i }
         ensures dimensions { IfSome result (λ p. trait_dimensions (point_layout p).dimension
             ≡ trait_dimensions (multi_point_layout self.now).dimension) }
-        ensures spelled { option_map point_spelling result ≡ spelling_at (multi_point_seen self.now).spelled i }
+        ensures spelled { option_map point_spelling result
+            ≡ spelling_at (multi_point_seen self.now).spelled i }
         ensures bytes { IfSome result (λ p. (point_seen p).encoding
             ≡ take (stride (multi_point_layout self.now).dimension)
             (drop (multi_point_offset self.now i) (multi_point_seen self.now).encoding)) }
@@ -220,9 +223,11 @@ impl<'a> GeometryTrait for MultiPoint<'a> {
 /// Passes the point of this dimension, without an SRID, at the front of the bytes.
 #[inline]
 fn point<'a>(dimension: Dimension, bytes: &'a [u8]) -> Result<&'a [u8], Cause>
-    ensures answer { Freely (λ rest. (member_item 1 dimension (consumed bytes.now rest.now), rest.now))
+    ensures answer { Freely
+        (λ rest. (member_item 1 dimension (consumed bytes.now rest.now), rest.now))
         result (member_at 1 dimension bytes.now) }
-    ensures passed { IfOk result (λ rest. Passed 9 (IsMemberOfKind 1 dimension) bytes.now rest.now) }
+    ensures passed { IfOk result
+        (λ rest. Passed 9 (IsMemberOfKind 1 dimension) bytes.now rest.now) }
 {
     let member = Layout::of_member(POINT, dimension, bytes)?;
     // Made anew from what is known, so that it doesn't go through memory.
@@ -244,10 +249,12 @@ fn points<'a>(
 ) -> Result<&'a [u8], Cause>
     requires whole { body_start layout.has_srid + 4 ≤ length bytes.now }
     requires fits { CanCount counts.old (members_behind 1 layout count bytes.now).0 }
-    ensures points { Surely (λ rest. (points_in layout count (consumed bytes.now rest.now), rest.now))
+    ensures points { Surely
+        (λ rest. (points_in layout count (consumed bytes.now rest.now), rest.now))
         result (members_behind 1 layout count bytes.now) counts.old counts.new }
     ensures each { IfOk result (λ rest. ArePoints layout count (consumed bytes.now rest.now)) }
-    ensures end { IfOk result (λ rest. multi_point_end layout.dimension layout.has_srid count + length rest.now
+    ensures end { IfOk result
+        (λ rest. multi_point_end layout.dimension layout.has_srid count + length rest.now
         ≡ length bytes.now) }
 {
     let mut rest = layout.after_count(bytes);

@@ -3,11 +3,12 @@
 ghost use Rattle.std.specs.Prelude.{◌≡◌, ◌+◌, length, ◌≤◌, IfOk, ◌/◌, [], min};
 ghost use Rattle.std.specs.List.{AllByRecursion};
 ghost use Rattle.wkb_geom.specs.Values as value;
-ghost use Rattle.wkb_view.specs.Words.{dimensions as trait_dimensions, body_start, member_at, parts_start, whole_of};
+ghost use Rattle.wkb_view.specs.Words.{dimensions as trait_dimensions, body_start, member_at};
+ghost use Rattle.wkb_view.specs.Words.{parts_start, whole_of};
 ghost use Rattle.wkb_view.specs.Memory.{IsNoWant};
 ghost use Rattle.wkb_view.specs.Outcome.{Gives, CanCount};
 ghost use Rattle.wkb_view.specs.Members.{members_behind, polygon_items};
-ghost use Rattle.wkb_view.specs.Entries.{entries, room};
+ghost use Rattle.wkb_view.specs.Entries.{entries, capacity};
 
 use crate::any::{
     AnyView, Line, LineString, MultiLineString, MultiPoint, Point, Polygon, Rect, Triangle,
@@ -247,12 +248,15 @@ fn polygons<'a>(
 ) -> Result<(Reserved<Polygon<'a>>, &'a [u8]), Refusal>
     requires whole { body_start layout.has_srid + 4 ≤ length bytes.now }
     requires empty { entries members ≡ [] }
-    requires room { min count (length (parts_start layout.has_srid bytes.now) / 9) ≤ room members }
+    requires room { min count (length (parts_start layout.has_srid bytes.now) / 9)
+        ≤ capacity members }
     requires fits { CanCount counts.old (members_behind 3 layout count bytes.now).0 }
-    ensures dimension { IfOk result (λ x. AllByRecursion (λ p. p.dimension ≡ layout.dimension) (entries x.0)) }
+    ensures dimension { IfOk result
+        (λ x. AllByRecursion (λ p. p.dimension ≡ layout.dimension) (entries x.0)) }
     ensures polygons { Gives (λ x. (polygon_items (entries x.0), x.1.now))
         result (members_behind 3 layout count bytes.now) counts.old counts.new }
-    ensures shorter { IfOk result (λ x. length x.1.now ≤ length (parts_start layout.has_srid bytes.now)) }
+    ensures shorter { IfOk result
+        (λ x. length x.1.now ≤ length (parts_start layout.has_srid bytes.now)) }
     ensures no_memory { (members_behind 3 layout count bytes.now).0.slots ≡ 0
         → IsNoWant result }
 {

@@ -1,6 +1,7 @@
 //! Parts of an encoding.
 
-ghost use Rattle.std.specs.Prelude.{◌≡◌, ◌+◌, ◌<◌, ◌≤◌, ◌∷◌, get_or, length, take, drop, IfSome, option_map, slice_get};
+ghost use Rattle.std.specs.Prelude.{◌≡◌, ◌+◌, ◌<◌, ◌≤◌, ◌∷◌, get_or, length, take, drop, IfSome};
+ghost use Rattle.std.specs.Prelude.{option_map, slice_get};
 ghost use Rattle.wkb_geom.specs.Numbers.{AreBytes};
 ghost use Rattle.wkb_view.specs.Pieces.{pieces, AreInOrder};
 

@@ -29,7 +29,8 @@ impl<'a> Point<'a> {
     ghost use Rattle.std.specs.Prelude.{◌≡◌, length, drop, is_none, ◌+◌, ◌≤◌, IfOk};
     ghost use Rattle.wkb_geom.specs.Values as value;
     ghost use Rattle.wkb_geom.specs.declared.code.WkbType.TheVariants as kinds;
-    ghost use Rattle.wkb_view.specs.Words.{body_start, point_of, point_at, point_item, consumed, IsSpelled};
+    ghost use Rattle.wkb_view.specs.Words.{body_start, point_of, point_at, point_item, consumed};
+    ghost use Rattle.wkb_view.specs.Words.{IsSpelled};
     ghost use Rattle.wkb_view.specs.Coords.{words_seen, coordinate_encoding};
     ghost use Rattle.wkb_view.specs.Coords.{coord_order, coord_dimension, coord_encoding};
     ghost use Rattle.wkb_view.specs.Views.{coordinate_in, point_seen, point_layout, point_order};
@@ -74,7 +75,8 @@ impl<'a> Point<'a> {
     /// The bytes of its words, also where all are not-a-numbers.
     #[inline]
     pub fn coord_slice(&self) -> &'a [u8]
-        ensures { result.now ≡ drop (body_start (point_layout self.now).has_srid) (point_seen self.now).encoding }
+        ensures { result.now
+            ≡ drop (body_start (point_layout self.now).has_srid) (point_seen self.now).encoding }
     {
         &self.buf[self.layout.header_length()..]
     }
@@ -114,8 +116,10 @@ impl<'a> Point<'a> {
     #[inline]
     pub fn read(layout: Layout, bytes: &'a [u8]) -> Result<(Point<'a>, &'a [u8]), Cause>
         requires head { HasHead (λ d. kinds.Point d) layout bytes.now }
-        ensures answer { Answers (λ x. (point_seen x.0, x.1.now)) result (point_at layout bytes.now) }
-        ensures item { IfOk result (λ x. point_seen x.0 ≡ point_item layout (consumed bytes.now x.1.now)) }
+        ensures answer { Answers
+            (λ x. (point_seen x.0, x.1.now)) result (point_at layout bytes.now) }
+        ensures item { IfOk result
+            (λ x. point_seen x.0 ≡ point_item layout (consumed bytes.now x.1.now)) }
         ensures passed { IfOk result (λ x. Passed 9 (IsEncoding 1 layout) bytes.now x.1.now) }
         ensures shorter { IfOk result (λ x. length x.1.now + 9 ≤ length bytes.now) }
     {
@@ -186,7 +190,8 @@ impl<'a> PointTrait for Point<'a> {
         ensures dimensions { IfSome result (λ c. trait_dimensions (coord_dimension c)
             ≡ trait_dimensions (point_layout self.now).dimension) }
         ensures order { IfSome result (λ c. coord_order c ≡ point_order self.now) }
-        ensures bytes { IfSome result (λ c. coord_encoding c ≡ coordinate_encoding (point_layout self.now).dimension
+        ensures bytes { IfSome result
+            (λ c. coord_encoding c ≡ coordinate_encoding (point_layout self.now).dimension
             (body_start (point_layout self.now).has_srid) (point_seen self.now).encoding) }
     {
         let words = self.words();
@@ -220,7 +225,8 @@ impl<'a> GeometryTrait for Point<'a> {
 
     type LineType = Line<'a>;
 
-    ghost geometry = { λ p. point (trait_dimensions (point_layout p).dimension) (point_of (point_seen p).value) };
+    ghost geometry = { λ p. point (trait_dimensions (point_layout p).dimension)
+        (point_of (point_seen p).value) };
 
     ghost one_dimension = { λ g. refl };
 

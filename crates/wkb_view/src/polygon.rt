@@ -1,10 +1,11 @@
 //! A polygon.
 
 ghost use Rattle.std.specs.Prelude.{◌≡◌, ◌+◌, length, ◌≤◌, IfOk, ◌/◌, [], min};
-ghost use Rattle.wkb_view.specs.Words.{dimensions as trait_dimensions, body_start, parts_start, ring_part, consumed};
+ghost use Rattle.wkb_view.specs.Words.{dimensions as trait_dimensions, body_start, parts_start};
+ghost use Rattle.wkb_view.specs.Words.{ring_part, consumed};
 ghost use Rattle.wkb_view.specs.Members.{parts_behind, pieces_behind, AreRings};
 ghost use Rattle.wkb_view.specs.Outcome.{Surely, CanCount};
-ghost use Rattle.wkb_view.specs.Entries.{entries, room};
+ghost use Rattle.wkb_view.specs.Entries.{entries, capacity};
 
 use crate::any::{
     AnyView, Line, LineString, MultiLineString, MultiPoint, MultiPolygon, Point, Rect, Triangle,
@@ -268,12 +269,14 @@ fn rings<'a>(
 ) -> Result<(Reserved<usize>, &'a [u8]), Cause>
     requires whole { body_start layout.has_srid + 4 ≤ length bytes.now }
     requires empty { entries ends ≡ [] }
-    requires room { min count (length (parts_start layout.has_srid bytes.now) / 4) ≤ room ends }
+    requires room { min count (length (parts_start layout.has_srid bytes.now) / 4) ≤ capacity ends }
     requires fits { CanCount counts.old (parts_behind (ring_part layout) layout count bytes.now).0 }
-    ensures rings { Surely (λ x. (pieces_behind layout (entries x.0) (consumed bytes.now x.1.now), x.1.now))
+    ensures rings { Surely
+        (λ x. (pieces_behind layout (entries x.0) (consumed bytes.now x.1.now), x.1.now))
         result (parts_behind (ring_part layout) layout count bytes.now) counts.old counts.new }
     ensures ends { IfOk result (λ x. AreRings layout (entries x.0) (consumed bytes.now x.1.now)) }
-    ensures shorter { IfOk result (λ x. length x.1.now + body_start layout.has_srid + 4 ≤ length bytes.now) }
+    ensures shorter { IfOk result
+        (λ x. length x.1.now + body_start layout.has_srid + 4 ≤ length bytes.now) }
 {
     let mut rest = layout.after_count(bytes);
     for _ in 0..count {

@@ -1,8 +1,9 @@
 //! Lists whose entries are asked for once, behind a count.
 
-ghost use Rattle.std.specs.Prelude.{◌≡◌, ◌+◌, ◌-◌, ◌<◌, ◌≤◌, ◌/◌, ◌^◌, [], min, length, IfOk, IfErr};
+ghost use Rattle.std.specs.Prelude.{◌≡◌, ◌+◌, ◌-◌, ◌<◌, ◌≤◌, ◌/◌, ◌^◌, [], min, length, IfOk};
+ghost use Rattle.std.specs.Prelude.{IfErr};
 ghost use Rattle.wkb_view.specs.Words.{body_start};
-ghost use Rattle.wkb_view.specs.Entries.{entries, room, count_in, entries_asked, HasNoList};
+ghost use Rattle.wkb_view.specs.Entries.{entries, capacity, count_in, entries_asked, HasNoList};
 ghost use Rattle.wkb_view.specs.Memory.{IsNoWant};
 
 use crate::counts::Counts;
@@ -18,14 +19,14 @@ pub struct Reserved<T> {
 
 impl<T> Reserved<T> {
     ghost use Rattle.std.specs.Prelude.{◌≡◌, ◌++◌, ◌∷◌, [], ◌<◌, length};
-    ghost use Rattle.wkb_view.specs.Entries.{entries, room};
+    ghost use Rattle.wkb_view.specs.Entries.{entries, capacity};
 
     /// Adds an entry, for which there is room.
     #[inline]
     pub fn push(&mut self, entry: T)
-        requires { length (entries self.old) < room self.old }
+        requires { length (entries self.old) < capacity self.old }
         ensures entries { entries self.new ≡ entries self.old ++ entry ∷ [] }
-        ensures room { room self.new ≡ room self.old }
+        ensures room { capacity self.new ≡ capacity self.old }
     {
         self.items.push_reserved(entry);
     }
@@ -66,7 +67,7 @@ pub fn counted_list<T>(
     ensures count { IfOk result (λ x. x.0 ≡ count_in layout bytes.now) }
     ensures whole { IfOk result (λ x. body_start layout.has_srid + 4 ≤ length bytes.now) }
     ensures empty { IfOk result (λ x. entries x.1 ≡ []) }
-    ensures room { IfOk result (λ x. room x.1 ≡ entries_asked least layout bytes.now) }
+    ensures room { IfOk result (λ x. capacity x.1 ≡ entries_asked least layout bytes.now) }
     ensures no_list { IfErr result (λ refusal. HasNoList layout bytes.now refusal) }
     ensures no_memory { entries_asked least layout bytes.now ≡ 0 → IsNoWant result }
 {

@@ -11,7 +11,7 @@ use std::test::Fail;
 use wkb::reader::Counts;
 use wkb_cases::spelled::{Spelled, digits_of};
 use wkb_cases::texts::nested_in;
-use wkb_command::arguments::{ArgumentFault, words};
+use wkb_command::arguments::{ArgumentFault, read_arguments};
 use wkb_command::calls::Cost;
 use wkb_command::program::run;
 
@@ -242,7 +242,7 @@ fn are_arguments(words: &[String], arguments: [&[u8]; 3]) -> bool {
 #[test]
 fn program_name(rt: HostRuntime) -> Result<(), Fail> {
     for (arguments, are_texts) in ARGUMENTS {
-        match words(rt.alloc(), &Process { arguments }) {
+        match read_arguments(rt.alloc(), &Process { arguments }) {
             Ok(words) => assert!(rt; are_texts && are_arguments(words.as_slice(), arguments)),
             Err(ArgumentFault::NoText) => assert!(rt; !are_texts),
             Err(ArgumentFault::Memory) => return Err(Fail::new("out of memory")),

@@ -3,4 +3,10 @@ use Rattle.wkb_laws.proofs.Lengths.{own_srid_is_writable_lem}
 use Rattle.wkb_laws.proofs.front_is_writable.Goals as goal
 
 pub returns : goal.returns
-returns c = record { iso = front_is_writable_lem; ewkb = ewkb_is_writable_lem; size = size_is_refused_lem; own_srid = own_srid_is_writable_lem }
+returns c =
+    record {
+      iso = front_is_writable_lem;
+      ewkb = ewkb_is_writable_lem;
+      size = size_is_refused_lem;
+      own_srid = own_srid_is_writable_lem;
+    }

@@ -1,12 +1,15 @@
 //! Reading with an explicit stack of open collections.
 
 ghost use Rattle.wkb_geom.specs.declared.code.WkbType.TheVariants as kinds;
-ghost use Rattle.std.specs.Prelude.{Ok, ◌≡◌, ◌++◌, ◌∷◌, [], ◌+◌, ◌*◌, ◌<◌, ◌^◌, length, reverse, IfOk, IfErr};
-ghost use Rattle.wkb_read.specs.Words.{max_nesting, body_start, head_at, geometry_at, HasHead, IsNoWant, CanCount};
+ghost use Rattle.std.specs.Prelude.{Ok, ◌≡◌, ◌++◌, ◌∷◌, [], ◌+◌, ◌*◌, ◌<◌, ◌^◌, length, reverse};
+ghost use Rattle.std.specs.Prelude.{IfOk, IfErr};
+ghost use Rattle.wkb_read.specs.Words.{max_nesting, body_start, head_at, geometry_at, HasHead};
+ghost use Rattle.wkb_read.specs.Words.{IsNoWant, CanCount};
 ghost use Rattle.wkb_read.specs.Memory.{NeedsNone, BodyTakesNone, ReadsWithoutMemory};
 ghost use Rattle.wkb_read.specs.Public.{Reads, Costs};
-ghost use Rattle.wkb_read.specs.Stack.{geometry_inside, collection_inside, body_inside, outward, first_member, cost_of};
-ghost use Rattle.wkb_read.specs.Stack.{next_turn, IsOpen, AreOpen, IsFinished, BeginsAs, Settles, ReadsAs};
+ghost use Rattle.wkb_read.specs.Stack.{geometry_inside, collection_inside, body_inside, outward};
+ghost use Rattle.wkb_read.specs.Stack.{first_member, cost_of, next_turn, IsOpen, AreOpen};
+ghost use Rattle.wkb_read.specs.Stack.{IsFinished, BeginsAs, Settles, ReadsAs};
 
 use crate::geometry::{GeometryCollection, View, Wkb};
 use crate::read::unfinished::{Begun, Open};
@@ -78,7 +81,8 @@ pub(crate) fn body<'a>(
 ) -> Result<Begun<'a>, Refusal>
     requires head { head_at bytes.now ≡ Ok header }
     requires fits { CanCount counts.old (body_inside depth header bytes.now).0 }
-    ensures begins { BeginsAs (body_inside depth header bytes.now) depth bytes.now result counts.old counts.new }
+    ensures begins { BeginsAs (body_inside depth header bytes.now) depth bytes.now result
+        counts.old counts.new }
     ensures no_memory { BodyTakesNone header bytes.now → NeedsNone result }
 {
     let layout = header.layout();
@@ -124,7 +128,8 @@ pub(crate) fn begin<'a>(
     counts: &mut Counts,
 ) -> Result<Begun<'a>, Refusal>
     requires fits { CanCount counts.old (geometry_inside depth bytes.now).0 }
-    ensures begins { BeginsAs (geometry_inside depth bytes.now) depth bytes.now result counts.old counts.new }
+    ensures begins { BeginsAs (geometry_inside depth bytes.now) depth bytes.now result counts.old
+        counts.new }
     ensures no_memory { ReadsWithoutMemory bytes.now → NeedsNone result }
 {
     let header = Header::read(bytes)?;
@@ -138,7 +143,8 @@ pub(crate) fn push_collection<'a>(
     counts: &mut Counts,
 ) -> Result<(), AllocError>
     requires fits { counts.old.turns + 1 < 2 ^ 128 }
-    ensures entered { IfOk result (λ done. stack.new.items ≡ stack.old.items ++ collection.entry ∷ []) }
+    ensures entered { IfOk result
+        (λ done. stack.new.items ≡ stack.old.items ++ collection.entry ∷ []) }
     ensures turn { IfOk result (λ done. cost_of counts.new ≡ next_turn (cost_of counts.old)) }
     ensures stays { IfErr result (λ e. counts.new ≡ counts.old) }
 {
@@ -157,7 +163,8 @@ pub(crate) fn close_finished<'a>(
 ) -> Option<Wkb<'a>>
     requires part { IsFinished part }
     requires stand { AreOpen (reverse stack.old.items) (part.encoding ++ rest.now) }
-    requires fits { counts.old.turns + (outward (reverse stack.old.items) part rest.now).0.turns < 2 ^ 128 }
+    requires fits { counts.old.turns + (outward (reverse stack.old.items) part rest.now).0.turns
+        < 2 ^ 128 }
     ensures { Settles (reverse stack.old.items) (reverse stack.new.items) part.entry rest.now
         result counts.old counts.new }
 {

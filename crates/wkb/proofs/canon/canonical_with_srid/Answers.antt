@@ -8,5 +8,8 @@ returns-in-Ok-clause-err c =
     let buf = c.args.buf.now in
     let w = c.in-Ok.wkb in
     let f = c.in-Ok.ensures.front in
-    let fits = own_srid_is_writable_lem c.args.order buf w.spelled w.value f.rest (λ i. (c.type_inv.buf i).fits) (omega arith) f.front in
-    IfErr-from c.rewriting.result _ _ c.rewriting.ensures.err (λ e. refused_alone c.args.order _ _ buf w.value e c.srid.ensures fits.1)
+    let fits =
+    own_srid_is_writable_lem c.args.order buf w.spelled w.value f.rest
+    (λ i. (c.type_inv.buf i).fits) (omega arith) f.front in
+    IfErr-from c.rewriting.result _ _ c.rewriting.ensures.err
+    (λ e. refused_alone c.args.order _ _ buf w.value e c.srid.ensures fits.1)

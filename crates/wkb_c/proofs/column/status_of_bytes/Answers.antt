@@ -4,7 +4,8 @@ use Rattle.wkb_c.proofs.Telling.{found_is_accepted}
 use Rattle.wkb_c.proofs.column.status_of_bytes.Goals as goal
 
 pub returns-in-Ok-clause-status : goal.returns-in-Ok-clause-status
-returns-in-Ok-clause-status c = accepted _ _ refl (found_is_accepted c.args.buf.now c.in-Ok._found c.in-Ok.ensures.accepted)
+returns-in-Ok-clause-status c =
+    accepted _ _ refl (found_is_accepted c.args.buf.now c.in-Ok._found c.in-Ok.ensures.accepted)
 
 pub returns-in-Err-clause-status : goal.returns-in-Err-clause-status
 returns-in-Err-clause-status c = refused _ _ _ c.in-Err.ensures.refused

@@ -7,7 +7,8 @@ use Rattle.wkb_c.proofs.column_items.list_row.Goals as goal
 
 pub returns-in-Err-clause-step : goal.returns-in-Err-clause-step
 returns-in-Err-clause-step c =
-    fails c.in-Some.row.now (sym c.if-is_null.ensures) c.in-Some.ensures.some (refused _ c.in-Err.ensures.refused) refl refl
+    fails c.in-Some.row.now (sym c.if-is_null.ensures) c.in-Some.ensures.some
+    (refused _ c.in-Err.ensures.refused) refl refl
 
 pub returns-clause-step : goal.returns-clause-step
 returns-clause-step c =
@@ -15,5 +16,7 @@ returns-clause-step c =
     let at = c.min-at.result in
     let called = c.list_parts-status in
     let e = called.ensures in
-    list_step c.in-Some.row.now (sym c.if-is_null.ensures) c.in-Some.ensures.some at called.result called.new.count xs _ called.new.parts _ c.min-at.ensures
+    list_step c.in-Some.row.now
+    (sym c.if-is_null.ensures) c.in-Some.ensures.some at called.result called.new.count xs _ called.new.parts _
+    c.min-at.ensures
     (lent_to_end xs at) (put_to_end xs called.new.parts at) e.long e.listed e.no_room e.parts_kept e.count_kept e.known

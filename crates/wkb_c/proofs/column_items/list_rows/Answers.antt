@@ -13,12 +13,15 @@ loop-i-preserved c =
     let status = c.list_row-status.result.0 in (
       length-set l.statuses l.i status ∙ l.invariant.0,
       length-set l.ends l.i c.saturating_add-at.result ∙ l.invariant.1,
-      subst (λ end. RowsDone HasTable FailsToList a.bytes.now a.offsets.now a.validity.now (l.i + 1) end (set l.statuses l.i status) (set l.ends l.i end)
+      subst (λ end. RowsDone HasTable FailsToList a.bytes.now a.offsets.now a.validity.now (l.i + 1) end
+          (set l.statuses l.i status) (set l.ends l.i end)
           a.parts.now c.list_row-status.new.parts)
           (sym c.saturating_add-at.ensures)
           (row_done status c.list_row-status.result.1 l.invariant.2 c.list_row-status.ensures.step (omega arith)
-          (omega (arith, c.loop-i-test.true, c.min-i-end.ensures, l.invariant.0)) (omega (arith, c.loop-i-test.true, c.min-i-end.ensures, l.invariant.1))),
+          (omega (arith, c.loop-i-test.true, c.min-i-end.ensures, l.invariant.0))
+          (omega (arith, c.loop-i-test.true, c.min-i-end.ensures, l.invariant.1))),
     )
 
 pub returns-clause-each : goal.returns-clause-each
-returns-clause-each c = λ i below. c.loop-i.invariant.2.each i (omega (arith, below, c.loop-i-test.false, c.min-i-end.ensures))
+returns-clause-each c =
+    λ i below. c.loop-i.invariant.2.each i (omega (arith, below, c.loop-i-test.false, c.min-i-end.ensures))

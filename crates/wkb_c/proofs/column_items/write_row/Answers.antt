@@ -11,14 +11,18 @@ returns-clause-step c =
     let at = c.min-at.result in
     let called = c.write_requested-status in
     let e = called.ensures in
-    write_step c.in-Some.row.now (sym c.if-is_null.ensures) c.in-Some.ensures.some c.args.options.now _ (sym c.in-Some-requested.ensures) at called.result
-    called.new.size xs _ called.new.out _ c.min-at.ensures (lent_to_end xs at) (put_to_end xs called.new.out at) e.long e.written e.no_room e.out_kept
+    write_step c.in-Some.row.now (sym c.if-is_null.ensures) c.in-Some.ensures.some c.args.options.now _
+    (sym c.in-Some-requested.ensures) at called.result
+    called.new.size xs _ called.new.out _ c.min-at.ensures (lent_to_end xs at)
+    (put_to_end xs called.new.out at) e.long e.written e.no_room e.out_kept
     e.size_kept e.known
 
 pub returns-in_default-requested-clause-step : goal.returns-in_default-requested-clause-step
 returns-in_default-requested-clause-step c =
-    fails c.in-Some.row.now (sym c.if-is_null.ensures) c.in-Some.ensures.some (unknown (sym c.in_default-requested.ensures) refl) refl refl
+    fails c.in-Some.row.now (sym c.if-is_null.ensures) c.in-Some.ensures.some
+    (unknown (sym c.in_default-requested.ensures) refl) refl refl
 
 pub returns-in-Err-clause-step : goal.returns-in-Err-clause-step
 returns-in-Err-clause-step c =
-    fails c.in-Some.row.now (sym c.if-is_null.ensures) c.in-Some.ensures.some (refused _ c.in-Err.ensures.refused) refl refl
+    fails c.in-Some.row.now (sym c.if-is_null.ensures) c.in-Some.ensures.some
+    (refused _ c.in-Err.ensures.refused) refl refl

@@ -9,7 +9,8 @@ pub unreachable-requires : goal.unreachable-requires
 unreachable-requires c =
     let o = c.args.options.now in
     nothing_reported _ _ c.requires.writable
-    (subst (λ g. Reports c.in-Err.field-0 (refusal o.endianness o.form g)) (seen_as_it_is c.args.wkb.now c.requires.lawful)
+    (subst (λ g. Reports c.in-Err.field-0 (refusal o.endianness o.form g))
+    (seen_as_it_is c.args.wkb.now c.requires.lawful)
     (c.in-Err.ensures.size o.endianness))
 
 pub returns : goal.returns

@@ -10,7 +10,8 @@ encoded_size-wanted-requires-clause-writable c =
     let o = c.options_of-options.result in
     let w = c.in-Ok.wkb in
     let f = c.in-Ok.ensures.front in
-    fits_is_writable o.endianness o.form c.args.buf.now w.spelled w.value f.rest (λ i. (c.type_inv.buf i).fits) (omega arith) c.options_of-options.ensures.form
+    fits_is_writable o.endianness o.form c.args.buf.now w.spelled w.value f.rest
+    (λ i. (c.type_inv.buf i).fits) (omega arith) c.options_of-options.ensures.form
     f.front
 
 pub encoded-requires-clause-writable : goal.encoded-requires-clause-writable
@@ -18,7 +19,8 @@ encoded-requires-clause-writable c =
     let o = c.options_of-options.result in
     let w = c.in-Ok.wkb in
     let f = c.in-Ok.ensures.front in
-    fits_is_writable o.endianness o.form c.args.buf.now w.spelled w.value f.rest (λ i. (c.type_inv.buf i).fits) (omega arith) c.options_of-options.ensures.form
+    fits_is_writable o.endianness o.form c.args.buf.now w.spelled w.value f.rest
+    (λ i. (c.type_inv.buf i).fits) (omega arith) c.options_of-options.ensures.form
     f.front
 
 pub returns-then-out-wanted-clause-no_room : goal.returns-then-out-wanted-clause-no_room
@@ -26,9 +28,15 @@ returns-then-out-wanted-clause-no_room c = λ is.
     let w = c.in-Ok.wkb in
     record {
       encoding = encoding_of c.options_of-options.result (geometry_of w.value);
-      is_requested = is_asked c.args.request c.srid.result c.options_of-options.result c.args.buf.now w c.in-Ok.ensures.front c.srid.ensures
+      is_requested =
+          is_asked c.args.request c.srid.result c.options_of-options.result c.args.buf.now w c.in-Ok.ensures.front
+          c.srid.ensures
           c.options_of-options.ensures.is;
-      lacks = record { count_is = c.encoded_size-wanted.ensures; short = omega (arith, c.encoded_size-wanted.ensures, c.if-out-wanted.true) };
+      lacks =
+          record {
+            count_is = c.encoded_size-wanted.ensures;
+            short = omega (arith, c.encoded_size-wanted.ensures, c.if-out-wanted.true);
+          };
     }
 
 pub returns-then-out-wanted-clause-bound : goal.returns-then-out-wanted-clause-bound
@@ -39,7 +47,8 @@ returns-then-out-wanted-clause-bound c = λ is.
     omega (
       arith,
       c.encoded_size-wanted.ensures,
-      written_fits o.endianness o.form c.args.buf.now w.spelled w.value f.rest (λ i. (c.type_inv.buf i).fits) (omega arith) c.options_of-options.ensures.form f.front,
+      written_fits o.endianness o.form c.args.buf.now w.spelled w.value f.rest
+          (λ i. (c.type_inv.buf i).fits) (omega arith) c.options_of-options.ensures.form f.front,
     )
 
 pub returns-in-Ok-encoded-clause-written : goal.returns-in-Ok-encoded-clause-written
@@ -47,9 +56,13 @@ returns-in-Ok-encoded-clause-written c = λ ok.
     let w = c.in-Ok.wkb in
     record {
       encoding = encoding_of c.options_of-options.result (geometry_of w.value);
-      is_requested = is_asked c.args.request c.srid.result c.options_of-options.result c.args.buf.now w c.in-Ok.ensures.front c.srid.ensures
+      is_requested =
+          is_asked c.args.request c.srid.result c.options_of-options.result c.args.buf.now w c.in-Ok.ensures.front
+          c.srid.ensures
           c.options_of-options.ensures.is;
-      held = subst (λ (items : List ℕ). IsHeld items c.args.out.now c.hand_out.new.out c.hand_out.new.count) (c.as_slice.ensures.value ∙ c.in-Ok-encoded.ensures)
+      held =
+          subst (λ (items : List ℕ). IsHeld items c.args.out.now c.hand_out.new.out c.hand_out.new.count)
+          (c.as_slice.ensures.value ∙ c.in-Ok-encoded.ensures)
           (c.hand_out.ensures.held ok);
     }
 
@@ -62,5 +75,6 @@ returns-in-Ok-encoded-clause-bound c = λ is.
       arith,
       c.hand_out.ensures.told,
       ap length (c.as_slice.ensures.value ∙ c.in-Ok-encoded.ensures),
-      written_fits o.endianness o.form c.args.buf.now w.spelled w.value f.rest (λ i. (c.type_inv.buf i).fits) (omega arith) c.options_of-options.ensures.form f.front,
+      written_fits o.endianness o.form c.args.buf.now w.spelled w.value f.rest
+          (λ i. (c.type_inv.buf i).fits) (omega arith) c.options_of-options.ensures.form f.front,
     )

@@ -9,4 +9,5 @@ abbrev pub decreases-add_each_member : goal.decreases-add_each_member
 decreases-add_each_member l = 2 * nodes_all (values l.members.now) + 1
 
 abbrev pub invariant-add_each_member-loop-member : goal.invariant-add_each_member-loop-member
-invariant-add_each_member-loop-member l = Added (spellings l.members) (values l.members) l.initial.table l.member-index l.table
+invariant-add_each_member-loop-member l =
+    Added (spellings l.members) (values l.members) l.initial.table l.member-index l.table

@@ -8,7 +8,8 @@ add_line_string-requires c =
     let o = c.in-Some.ensures in
     record {
       fits = added_fits _ _ _ _ _ _ _ c.loop-i.invariant (sym o.spelled)
-          (part_value line_string c.args.multi.now.parts c.args.multi.now.dimension c.in-Some.line.layout.dimension c.loop-i.i
+          (part_value line_string c.args.multi.now.parts c.args.multi.now.dimension c.in-Some.line.layout.dimension
+          c.loop-i.i
           (line_string_of (line_string_seen c.in-Some.line).value) o.part o.dimensions) c.requires.fits;
     }
 
@@ -29,7 +30,8 @@ loop-i-preserved c =
     let o = c.in-Some.ensures in
     added_more _ _ _ _ _ _ _ _ c.loop-i.invariant (sym o.spelled)
     (part_value line_string c.args.multi.now.parts c.args.multi.now.dimension c.in-Some.line.layout.dimension c.loop-i.i
-    (line_string_of (line_string_seen c.in-Some.line).value) o.part o.dimensions) c.in_ok-add_line_string-in-Some.ensures
+    (line_string_of (line_string_seen c.in-Some.line).value) o.part o.dimensions)
+    c.in_ok-add_line_string-in-Some.ensures
 
 pub returns : goal.returns
 returns c =

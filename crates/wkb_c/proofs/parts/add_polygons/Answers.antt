@@ -7,7 +7,8 @@ add_polygon-requires c =
     let o = c.in-Some.ensures in
     record {
       fits = added_fits _ _ _ _ _ _ _ c.loop-i.invariant (sym o.spelled)
-          (part_value polygon c.args.multi.now.parts c.args.multi.now.dimension c.in-Some.polygon.now.dimension c.loop-i.i c.in-Some.polygon.now.parts o.part
+          (part_value polygon c.args.multi.now.parts c.args.multi.now.dimension c.in-Some.polygon.now.dimension
+          c.loop-i.i c.in-Some.polygon.now.parts o.part
           o.dimensions) c.requires.fits;
     }
 
@@ -27,7 +28,8 @@ pub loop-i-preserved : goal.loop-i-preserved
 loop-i-preserved c =
     let o = c.in-Some.ensures in
     added_more _ _ _ _ _ _ _ _ c.loop-i.invariant (sym o.spelled)
-    (part_value polygon c.args.multi.now.parts c.args.multi.now.dimension c.in-Some.polygon.now.dimension c.loop-i.i c.in-Some.polygon.now.parts o.part
+    (part_value polygon c.args.multi.now.parts c.args.multi.now.dimension c.in-Some.polygon.now.dimension c.loop-i.i
+    c.in-Some.polygon.now.parts o.part
     o.dimensions) c.in_ok-add_polygon-in-Some.ensures
 
 pub returns : goal.returns

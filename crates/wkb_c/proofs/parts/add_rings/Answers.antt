@@ -3,7 +3,8 @@ use Rattle.wkb_c.proofs.Growth.{rings_are_few, rings_fit, rings_more, below_is_s
 use Rattle.wkb_c.proofs.parts.add_rings.Goals as goal
 
 pub count_rings-i-end-requires : goal.count_rings-i-end-requires
-count_rings-i-end-requires c = omega (arith, c.requires.fits, rings_are_few c.args.polygon.now.dimension c.args.polygon.now.parts)
+count_rings-i-end-requires c =
+    omega (arith, c.requires.fits, rings_are_few c.args.polygon.now.dimension c.args.polygon.now.parts)
 
 pub add_ring-requires : goal.add_ring-requires
 add_ring-requires c =
@@ -11,7 +12,8 @@ add_ring-requires c =
     record { fits = rings_fit _ _ _ _ _ _ _ _ o.dimension c.loop-i.invariant o.part c.requires.fits }
 
 pub unreachable-requires : goal.unreachable-requires
-unreachable-requires c = below_is_some _ c.loop-i.i (omega (arith, c.loop-i-test.true, c.count_rings-i-end.ensures)) c.in-None.ensures.part
+unreachable-requires c =
+    below_is_some _ c.loop-i.i (omega (arith, c.loop-i-test.true, c.count_rings-i-end.ensures)) c.in-None.ensures.part
 
 pub loop-i-preserved : goal.loop-i-preserved
 loop-i-preserved c =

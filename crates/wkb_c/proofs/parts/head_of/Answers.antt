@@ -9,6 +9,7 @@ first_byte-requires c = rw c.buf.ensures.encoding (first_is_order _ c.buf.ensure
 
 pub returns : goal.returns
 returns c =
-    whole_head c.args.wkb.now.spelled c.args.wkb.now.value _ c.requires (search rules) c.dimension.ensures c.srid-srid.ensures
+    whole_head c.args.wkb.now.spelled c.args.wkb.now.value _ c.requires
+    (search rules) c.dimension.ensures c.srid-srid.ensures
     (c.first_byte.ensures ∙ rw c.buf.ensures.encoding (first_is_order _ c.buf.ensures.spells).1)
     (ap (λ n. n + 4) (c.bytes_of_header.ensures ∙ ap header_bytes c.srid-srid.ensures))

@@ -17,9 +17,13 @@ returns-in-Ok-table_of-clause-listed c = λ ok.
       t = w.value;
       rest = f.rest;
       front = f.front;
-      held = subst (λ (parts : List Part). IsHeld parts c.args.parts.now c.hand_out.new.out c.hand_out.new.count) is (c.hand_out.ensures.held ok);
+      held =
+          subst (λ (parts : List Part). IsHeld parts c.args.parts.now c.hand_out.new.out c.hand_out.new.count) is
+          (c.hand_out.ensures.held ok);
       parts = holds c.args.buf.now w.spelled w.value 0 0 f.front.front f.rest f.front.whole f.front.spelled;
-      many = (c.hand_out.ensures.held ok).count_is ∙ ap length is ∙ entries_many w.spelled w.value f.front.front f.front.spelled;
+      many =
+          (c.hand_out.ensures.held ok).count_is ∙ ap length is
+          ∙ entries_many w.spelled w.value f.front.front f.front.spelled;
     }
 
 pub returns-in-Ok-table_of-clause-no_room : goal.returns-in-Ok-table_of-clause-no_room

@@ -12,8 +12,11 @@ pub returns-in-Some-coord : goal.returns-in-Some-coord
 returns-in-Some-coord c =
     let at = c.args.at in
     let w = c.in-Ok.geometry in
-    let there = stands c.args.blob.now c.args.offset c.behind.result.now w c.behind.ensures c.in-Ok.ensures.front c.in-Ok.ensures.one_front in
-    ring_word_or_none c.members_stand.ensures c.rings_stand.ensures c.words_stand.ensures.ring c.args.blob.now c.args.offset at.member at.ring at.coordinate
+    let there =
+    stands c.args.blob.now c.args.offset c.behind.result.now w c.behind.ensures c.in-Ok.ensures.front
+    c.in-Ok.ensures.one_front in
+    ring_word_or_none c.members_stand.ensures c.rings_stand.ensures c.words_stand.ensures.ring c.args.blob.now
+    c.args.offset at.member at.ring at.coordinate
     at.word
     w _ _ c.nth.result there c.in-Some.ensures c.in-Some-coord.ensures.value c.nth.ensures
 
@@ -21,12 +24,17 @@ pub returns-in-Some : goal.returns-in-Some
 returns-in-Some c =
     let at = c.args.at in
     let w = c.in-Ok.geometry in
-    let there = stands c.args.blob.now c.args.offset c.behind.result.now w c.behind.ensures c.in-Ok.ensures.front c.in-Ok.ensures.one_front in
-    no_ring_coordinate c.args.blob.now c.args.offset at.member at.ring at.coordinate at.word w _ there c.in-Some.ensures c.in-None-coord.ensures.value
+    let there =
+    stands c.args.blob.now c.args.offset c.behind.result.now w c.behind.ensures c.in-Ok.ensures.front
+    c.in-Ok.ensures.one_front in
+    no_ring_coordinate c.args.blob.now c.args.offset at.member at.ring at.coordinate at.word w _ there c.in-Some.ensures
+    c.in-None-coord.ensures.value
 
 pub returns : goal.returns
 returns c =
     let at = c.args.at in
     let w = c.in-Ok.geometry in
-    let there = stands c.args.blob.now c.args.offset c.behind.result.now w c.behind.ensures c.in-Ok.ensures.front c.in-Ok.ensures.one_front in
+    let there =
+    stands c.args.blob.now c.args.offset c.behind.result.now w c.behind.ensures c.in-Ok.ensures.front
+    c.in-Ok.ensures.one_front in
     no_ring_there c.args.blob.now c.args.offset at.member at.ring at.coordinate at.word w there c.in-None.ensures

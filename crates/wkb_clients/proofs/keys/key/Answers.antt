@@ -2,4 +2,5 @@ use Rattle.wkb_clients.proofs.KeysFound.{is_key, IfOk-map}
 use Rattle.wkb_clients.proofs.keys.key.Goals as goal
 
 pub returns-clause-ok : goal.returns-clause-ok
-returns-clause-ok c = IfOk-map c.canonical.result _ _ (λ out h. is_key c.args.bytes.now out.items h) c.canonical.ensures.ok
+returns-clause-ok c =
+    IfOk-map c.canonical.result _ _ (λ out h. is_key c.args.bytes.now out.items h) c.canonical.ensures.ok

@@ -9,5 +9,7 @@ returns-in-Some c =
     let r = c.in-Some.ring in
     let o = c.in-Some.ensures in
     let lent = c.coords_slice.ensures in
-    lends_ring p _ r _ (ring_at c.spelled_in_full.ensures c.rings_in_place.ensures p _ r (subst AreBytes c.buf.ensures.encoding c.are_bytes.ensures)
+    lends_ring p _ r _
+    (ring_at c.spelled_in_full.ensures c.rings_in_place.ensures p _ r
+    (subst AreBytes c.buf.ensures.encoding c.are_bytes.ensures)
     c.buf.ensures.spells lent.spells lent.bytes o.order o.dimensions o.part) lent.encoding

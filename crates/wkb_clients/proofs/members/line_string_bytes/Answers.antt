@@ -16,5 +16,6 @@ returns-in-Some c =
     (lends_member c.spelled_in_full.ensures c.members_in_place.ensures whole c.args.i l
     (member_of_list (line_string m.dimension) whole m.parts c.args.i l (line_string_of l.value) refl
     (ap (λ d. line_string d (line_string_of l.value)) (one_name _ _ o.dimensions)) o.spelled o.part)
-    (subst AreBytes c.buf.ensures.encoding c.are_bytes.ensures) (subst AreBytes c.buf-bytes.ensures.encoding c.are_bytes-in-Some.ensures)
+    (subst AreBytes c.buf.ensures.encoding c.are_bytes.ensures)
+    (subst AreBytes c.buf-bytes.ensures.encoding c.are_bytes-in-Some.ensures)
     c.buf.ensures.spells c.buf-bytes.ensures.spells)

@@ -15,5 +15,6 @@ returns-in-Some c =
     (lends_member c.spelled_in_full.ensures c.members_in_place.ensures m c.args.i p
     (member_of_list (point (dimension m.value)) m (points_of m.value) c.args.i p (point_of p.value) refl
     (point_value c.in-Some.point ∙ ap (λ d. point d (point_of p.value)) (one_name _ _ o.dimensions)) o.spelled o.value)
-    (subst AreBytes c.buf.ensures.encoding c.are_bytes.ensures) (subst AreBytes c.buf-bytes.ensures.encoding c.are_bytes-in-Some.ensures)
+    (subst AreBytes c.buf.ensures.encoding c.are_bytes.ensures)
+    (subst AreBytes c.buf-bytes.ensures.encoding c.are_bytes-in-Some.ensures)
     c.buf.ensures.spells c.buf-bytes.ensures.spells)

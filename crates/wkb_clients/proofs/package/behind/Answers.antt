@@ -6,4 +6,5 @@ pub returns : goal.returns
 returns c =
     let at = c.min.result in
     let blob = c.args.blob.now in
-    take_all (length blob - at) (drop at blob) (omega (arith, length-drop at blob)) ∙ ap (λ k. drop k blob) c.min.ensures ∙ drop_min c.args.offset blob
+    take_all (length blob - at) (drop at blob) (omega (arith, length-drop at blob))
+    ∙ ap (λ k. drop k blob) c.min.ensures ∙ drop_min c.args.offset blob

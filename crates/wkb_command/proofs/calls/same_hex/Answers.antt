@@ -13,6 +13,7 @@ returns-in_err-same-clause-err c =
     (elim c.in_err-same.ensures.err [
       | inl memory ↦ inl memory
       | inr (inl h) ↦ inr (refused (inl (refused_alone _ e h.cause h.turns h.slots h.refuses h.tells)))
-      | inr (inr (accepted, h)) ↦ inr (refused (inr (accepted, refused_alone _ e h.cause h.turns h.slots h.refuses h.tells)))
+      | inr (inr (accepted, h)) ↦ inr
+          (refused (inr (accepted, refused_alone _ e h.cause h.turns h.slots h.refuses h.tells)))
     ])
     is)

@@ -12,12 +12,14 @@ returns-in_default c =
 
 pub returns-in-None : goal.returns-in-None
 returns-in-None c =
-    let none : (a b : List ℕ) → table.lines c.args.input.now ≢ a ∷ b ∷ [] = λ a b. rw (sym c.in-Ok.ensures.cases.0) (c.in-None.ensures a b) in
+    let none : (a b : List ℕ) → table.lines c.args.input.now ≢ a ∷ b ∷ [] =
+    λ a b. rw (sym c.in-Ok.ensures.cases.0) (c.in-None.ensures a b) in
     reports_line _ c.args.command (codes "not hex") 2 _ c.not_hex-in-None.ensures
     (rw c.in-Same.is (table.not_hex (λ inputs. gives_two _ inputs none)))
 
 pub returns-in-None-only_line : goal.returns-in-None-only_line
 returns-in-None-only_line c =
-    let none : (a : List ℕ) → table.lines c.args.input.now ≢ a ∷ [] = λ a. rw (sym c.in-Ok.ensures.cases.0) (c.in-None-only_line.ensures a) in
+    let none : (a : List ℕ) → table.lines c.args.input.now ≢ a ∷ [] =
+    λ a. rw (sym c.in-Ok.ensures.cases.0) (c.in-None-only_line.ensures a) in
     reports_line _ c.args.command (codes "not hex") 2 _ c.not_hex-in-None-only_line.ensures
     (table.not_hex (λ inputs. gives_one c.args.command _ inputs c.in_default-command.not-Same none))

@@ -7,7 +7,8 @@ returns-in-Ok-write_to g c =
     let wrote = c.in-Ok-write_to.ensures in (
       wrote.written,
       wrote.appended,
-      λ words input h. ends_answered words input _ _ _ wrote.whole (rw c.in-Ok.is at (c.ended.ensures words input h)),
+      λ arguments input h. ends_answered arguments input _ _ _ wrote.whole
+          (rw c.in-Ok.is at (c.ended.ensures arguments input h)),
     )
 
 pub returns-in-Ok : goal.returns-in-Ok
@@ -15,10 +16,10 @@ returns-in-Ok g c =
     let wrote = c.write_to.ensures in (
       wrote.written,
       wrote.appended,
-      λ words input h. cut_short (rw c.in-Ok.is at (c.ended.ensures words input h)) wrote.beginning,
+      λ arguments input h. cut_short (rw c.in-Ok.is at (c.ended.ensures arguments input h)) wrote.beginning,
     )
 
 pub returns : goal.returns
 returns g c =
     let wrote = c.write_whole.ensures in
-    (wrote.written, wrote.appended, λ words input h. out_of_memory wrote.beginning)
+    (wrote.written, wrote.appended, λ arguments input h. out_of_memory wrote.beginning)

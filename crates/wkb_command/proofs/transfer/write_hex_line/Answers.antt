@@ -6,18 +6,23 @@ use Rattle.wkb_command.proofs.transfer.write_hex_line.Goals as goal
 
 pub slice_bounds-write_whole-end : goal.slice_bounds-write_whole-end
 slice_bounds-write_whole-end g c =
-    count_of_digits c.encode_piece.new.digits _ 65536 c.encode_piece.ensures.hex (omega (arith, c.split_at.ensures.front_len))
+    count_of_digits c.encode_piece.new.digits _ 65536 c.encode_piece.ensures.hex
+    (omega (arith, c.split_at.ensures.front_len))
 
 pub returns-in_err-write_whole : goal.returns-in_err-write_whole
 returns-in_err-write_whole g c =
-    let text = digits_of_piece c.encode_piece.new.digits _ 65536 c.encode_piece.ensures.hex (omega (arith, c.split_at.ensures.front_len)) in
+    let text =
+    digits_of_piece c.encode_piece.new.digits _ 65536 c.encode_piece.ensures.hex
+    (omega (arith, c.split_at.ensures.front_len)) in
     let h = c.loop-rest.invariant in
     wrote_no_more _ _ _ h.0 _ _ _ _ _ h.1 (part_and_more h.0 _ _ _ _ _ text c.split_at.ensures.by_index.0 h.2)
     c.write_whole.ensures c.from_residual.ensures.0
 
 pub loop-rest-preserved : goal.loop-rest-preserved
 loop-rest-preserved g c =
-    let text = digits_of_piece c.encode_piece.new.digits _ 65536 c.encode_piece.ensures.hex (omega (arith, c.split_at.ensures.front_len)) in
+    let text =
+    digits_of_piece c.encode_piece.new.digits _ 65536 c.encode_piece.ensures.hex
+    (omega (arith, c.split_at.ensures.front_len)) in
     let h = c.loop-rest.invariant in
     let wrote = c.in_ok-write_whole.ensures in (
       h.0 ++ wrote.written,
@@ -28,7 +33,8 @@ loop-rest-preserved g c =
 pub returns : goal.returns
 returns g c =
     let room = c.loop-rest-test.array_long in
-    let fits : 2 * length c.loop-rest.rest.now < length c.encode_piece-2.new.digits = omega (arith, c.encode_piece-2.ensures.room, room) in
+    let fits : 2 * length c.loop-rest.rest.now < length c.encode_piece-2.new.digits =
+    omega (arith, c.encode_piece-2.ensures.room, room) in
     let text = digits_and_feed c.encode_piece-2.new.digits c.loop-rest.rest.now c.encode_piece-2.ensures.hex fits in
     let h = c.loop-rest.invariant in
     wrote_last _ _ _ h.0 _ _ _ h.1 (last_part h.0 c.loop-rest.rest.now _ _ text h.2) c.write_whole-2.ensures

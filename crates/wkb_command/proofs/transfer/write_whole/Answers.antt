@@ -3,7 +3,8 @@ use Rattle.std.proofs.lemmas.Grind.{common_steps}
 use Rattle.std.proofs.KnownBytes.{Appends-trans}
 use Rattle.wkb_command.proofs.transfer.write_whole.Goals as goal
 
-regroup : (written rest bytes : List ℕ) (n : ℕ) → written ++ rest ≡ bytes → (written ++ take n rest) ++ take (length rest - n) (drop n rest) ≡ bytes
+regroup : (written rest bytes : List ℕ) (n : ℕ) → written ++ rest ≡ bytes
+    → (written ++ take n rest) ++ take (length rest - n) (drop n rest) ≡ bytes
 regroup written rest bytes n e = grind (arith, common_steps, append_assoc)
 
 pub loop-rest-preserved : goal.loop-rest-preserved

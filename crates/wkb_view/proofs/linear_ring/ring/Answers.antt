@@ -6,5 +6,7 @@ use Rattle.wkb_view.proofs.linear_ring.ring.Goals as goal
 pub returns-clause-passed : goal.returns-clause-passed
 returns-clause-passed c =
     let end = 4 + 8 * c.width.result * c.u32_at-count.result in
-    ring_passed c.args.order c.args.dimension c.args.bytes.now (take (length c.args.bytes.now - end) (drop end c.args.bytes.now)) c.u32_at-count.result end
-    c.u32_at-count.ensures (rw c.width.ensures refl) c.if-bytes-end.false (take_all _ _ (omega (arith, length-drop end c.args.bytes.now)))
+    ring_passed c.args.order c.args.dimension c.args.bytes.now
+    (take (length c.args.bytes.now - end) (drop end c.args.bytes.now)) c.u32_at-count.result end
+    c.u32_at-count.ensures (rw c.width.ensures refl) c.if-bytes-end.false
+    (take_all _ _ (omega (arith, length-drop end c.args.bytes.now)))

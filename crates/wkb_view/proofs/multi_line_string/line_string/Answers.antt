@@ -12,7 +12,9 @@ returns-clause-answer c =
     let read = c.in_ok-rest.ensures in
     let passed = member_passed 2 c.args.dimension bytes _ _ _ laid read.passed read.item in
     member_gives 2 c.args.dimension bytes _ _ laid
-    (line_string_free _ bytes ∙ ap (λ (p : Outcome Item). at_no_cost p) (read.answer ∙ ap (λ (i : Item). found i c.in_ok-rest.rest.now) passed.0))
+    (line_string_free _ bytes
+    ∙ ap (λ (p : Outcome Item). at_no_cost p)
+    (read.answer ∙ ap (λ (i : Item). found i c.in_ok-rest.rest.now) passed.0))
 
 pub returns-in_err-rest-clause-answer : goal.returns-in_err-rest-clause-answer
 returns-in_err-rest-clause-answer c =
@@ -20,9 +22,11 @@ returns-in_err-rest-clause-answer c =
     let laid = member_laid 2 _ _ _ c.in_ok-member.ensures in
     let p = err_from_is_err_and c.from_residual-in_err-rest.result c.from_residual-in_err-rest.ensures.1 in
     rw (p.1, p.2)
-    (member_gives 2 c.args.dimension bytes _ _ laid (line_string_free _ bytes ∙ ap (λ (r : Outcome Item). at_no_cost r) c.in_err-rest.ensures.answer))
+    (member_gives 2 c.args.dimension bytes _ _ laid
+    (line_string_free _ bytes ∙ ap (λ (r : Outcome Item). at_no_cost r) c.in_err-rest.ensures.answer))
 
 pub returns-clause-passed : goal.returns-clause-passed
 returns-clause-passed c =
     let laid = member_laid 2 _ _ _ c.in_ok-member.ensures in
-    (member_passed 2 c.args.dimension c.args.bytes.now _ _ _ laid c.in_ok-rest.ensures.passed c.in_ok-rest.ensures.item).1
+    (member_passed 2 c.args.dimension c.args.bytes.now _ _ _ laid c.in_ok-rest.ensures.passed
+    c.in_ok-rest.ensures.item).1

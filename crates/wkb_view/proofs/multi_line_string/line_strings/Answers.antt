@@ -6,18 +6,24 @@ use Rattle.wkb_view.proofs.Pieces.{pieces_next, pieces_read}
 use Rattle.wkb_view.proofs.multi_line_string.line_strings.Goals as goal
 
 pub overflow_add-counts : goal.overflow_add-counts
-overflow_add-counts c = omega (arith, (part_costs c.loop-test.true c.loop.invariant.so_far.left).0, c.requires.fits.turns)
+overflow_add-counts c =
+    omega (arith, (part_costs c.loop-test.true c.loop.invariant.so_far.left).0, c.requires.fits.turns)
 
 pub returns-in_err-rest-clause-line_strings : goal.returns-in_err-rest-clause-line_strings
 returns-in_err-rest-clause-line_strings c =
     let p = err_from_is_err_and c.from_residual.result c.from_residual.ensures.1 in
-    rw (p.1, p.2) (part_stops (Fault c.in_err-rest.field-0.0) _ c.loop-test.true c.loop.invariant.so_far.left (freely _ _ _ c.in_err-rest.ensures.answer))
+    rw (p.1, p.2)
+    (part_stops (Fault c.in_err-rest.field-0.0) _ c.loop-test.true c.loop.invariant.so_far.left
+    (freely _ _ _ c.in_err-rest.ensures.answer))
 
 pub loop-preserved : goal.loop-preserved
 loop-preserved c =
     let gives = freely _ _ _ c.in_ok-rest.ensures.answer in
     record {
-      so_far = rw c.push.ensures.entries (pieces_next _ _ (omega arith) c.loop-test.true c.loop.invariant.so_far gives.0 gives.1 c.in_ok-rest.ensures.passed);
+      so_far =
+          rw c.push.ensures.entries
+          (pieces_next _ _
+          (omega arith) c.loop-test.true c.loop.invariant.so_far gives.0 gives.1 c.in_ok-rest.ensures.passed);
       room = omega (arith, c.push.ensures.room, c.loop.invariant.room);
     }
 

@@ -16,4 +16,5 @@ returns-clause-answer c =
 pub returns-clause-passed : goal.returns-clause-passed
 returns-clause-passed c =
     let laid = point_laid _ _ _ c.in_ok-member.ensures in
-    (member_passed 1 c.args.dimension c.args.bytes.now _ _ _ laid c.in_ok-rest.ensures.passed c.in_ok-rest.ensures.item).1
+    (member_passed 1 c.args.dimension c.args.bytes.now _ _ _ laid c.in_ok-rest.ensures.passed
+    c.in_ok-rest.ensures.item).1

@@ -7,12 +7,15 @@ use Rattle.wkb_view.proofs.Members.{ends_next, points_end}
 use Rattle.wkb_view.proofs.multi_point.points.Goals as goal
 
 pub overflow_add-counts : goal.overflow_add-counts
-overflow_add-counts c = omega (arith, (part_costs c.loop-test.true c.loop.invariant.so_far.left).0, c.requires.fits.turns)
+overflow_add-counts c =
+    omega (arith, (part_costs c.loop-test.true c.loop.invariant.so_far.left).0, c.requires.fits.turns)
 
 pub returns-in_err-rest-clause-points : goal.returns-in_err-rest-clause-points
 returns-in_err-rest-clause-points c =
     let p = err_from_is_err_and c.from_residual.result c.from_residual.ensures.1 in
-    rw (p.1, p.2) (part_stops (Fault c.in_err-rest.field-0.0) _ c.loop-test.true c.loop.invariant.so_far.left (freely _ _ _ c.in_err-rest.ensures.answer))
+    rw (p.1, p.2)
+    (part_stops (Fault c.in_err-rest.field-0.0) _ c.loop-test.true c.loop.invariant.so_far.left
+    (freely _ _ _ c.in_err-rest.ensures.answer))
 
 pub loop-preserved : goal.loop-preserved
 loop-preserved c =
@@ -20,7 +23,9 @@ loop-preserved c =
     let gives = freely _ _ _ c.in_ok-rest.ensures.answer in
     let passed = c.in_ok-rest.ensures.passed in
     record {
-      so_far = rw (ends_next c.args.layout c.loop.counter c.args.bytes.now c.loop.rest.now _ so_far.rest_is so_far.within passed)
+      so_far =
+          rw (ends_next c.args.layout c.loop.counter c.args.bytes.now c.loop.rest.now _ so_far.rest_is so_far.within
+          passed)
           (pieces_next _ _ (omega arith) c.loop-test.true so_far gives.0 gives.1 passed);
     }
 

@@ -13,12 +13,18 @@ overflow_add-counts c = omega (arith, (part_costs c.loop-test.true c.loop.invari
 pub member-requires : goal.member-requires
 member-requires c =
     let p = part_costs c.loop-test.true c.loop.invariant.left in
-    record { fits = record { turns = omega (arith, p.0, c.requires.fits.turns); slots = omega (arith, p.1, c.requires.fits.slots) } }
+    record {
+      fits = record {
+        turns = omega (arith, p.0, c.requires.fits.turns);
+        slots = omega (arith, p.1, c.requires.fits.slots);
+      };
+    }
 
 pub returns-in_err-polygon-clause-polygons : goal.returns-in_err-polygon-clause-polygons
 returns-in_err-polygon-clause-polygons c =
     let p = err_from_is_err_and c.from_residual.result c.from_residual.ensures.1 in
-    rw (p.1, p.2) (part_stops c.in_err-polygon.field-0.0 _ c.loop-test.true c.loop.invariant.left c.in_err-polygon.ensures.answer)
+    rw (p.1, p.2)
+    (part_stops c.in_err-polygon.field-0.0 _ c.loop-test.true c.loop.invariant.left c.in_err-polygon.ensures.answer)
 
 pub returns-in_err-polygon-clause-no_memory : goal.returns-in_err-polygon-clause-no_memory
 returns-in_err-polygon-clause-no_memory c =
@@ -32,9 +38,18 @@ loop-preserved c =
     let spent = answer.1 in
     let more = length-append (entries c.loop.members) (c.in_ok-polygon.polygon ∷ []) in
     record {
-      left = rw (c.push.ensures.entries, map-append) (next_part _ _ _ c.loop-test.true c.loop.invariant.left answer.0 spent);
+      left =
+          rw (c.push.ensures.entries, map-append)
+          (next_part _ _ _ c.loop-test.true c.loop.invariant.left answer.0 spent);
       room = omega (arith, c.push.ensures.room, c.loop.invariant.room);
-      taken_in_all = omega (arith, ap length c.push.ensures.entries, more, c.loop.invariant.taken_in_all, c.in_ok-polygon.ensures.shorter);
+      taken_in_all =
+          omega (
+            arith,
+            ap length c.push.ensures.entries,
+            more,
+            c.loop.invariant.taken_in_all,
+            c.in_ok-polygon.ensures.shorter,
+          );
       grows = omega (arith, spent.slots, c.loop.invariant.grows);
       same = subst (AllByRecursion (λ p. p.dimension ≡ c.args.layout.dimension)) (sym c.push.ensures.entries)
           (all_more _ _ _ c.loop.invariant.same c.in_ok-polygon.ensures.dimension);

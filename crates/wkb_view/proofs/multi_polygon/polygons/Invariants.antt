@@ -1,16 +1,17 @@
 use Rattle.std.proofs.Common.{◌≡◌, ◌+◌, ◌*◌, ◌/◌, ◌≤◌, min, length}
 use Rattle.std.specs.List.{AllByRecursion}
 use Rattle.wkb_view.specs.Words.{parts_start, member_at}
-use Rattle.wkb_view.specs.Entries.{entries, room}
+use Rattle.wkb_view.specs.Entries.{entries, capacity}
 use Rattle.wkb_view.specs.Members.{members_behind, polygon_items}
 use Rattle.wkb_view.proofs.Lists.{Loop}
 use Rattle.wkb_view.proofs.multi_polygon.polygons.Given as goal
 
 abbrev pub invariant-loop : goal.invariant-loop
 invariant-loop l = record {
-  left : Loop (member_at 3 l.layout.dimension) l.count l.counter (polygon_items (entries l.members)) l.rest l.fn.counts l.counts
+  left : Loop (member_at 3 l.layout.dimension) l.count l.counter
+      (polygon_items (entries l.members)) l.rest l.fn.counts l.counts
       (members_behind 3 l.layout l.count l.bytes);
-  room : min l.count (length (parts_start l.layout.has_srid l.bytes) / 9) ≤ room l.members;
+  room : min l.count (length (parts_start l.layout.has_srid l.bytes) / 9) ≤ capacity l.members;
   taken_in_all : 9 * length (entries l.members) + length l.rest ≤ length (parts_start l.layout.has_srid l.bytes);
   grows : l.fn.counts.slots ≤ l.counts.slots;
   same : AllByRecursion (λ p. p.dimension ≡ l.layout.dimension) (entries l.members);

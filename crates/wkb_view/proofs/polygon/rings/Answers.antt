@@ -6,7 +6,8 @@ use Rattle.wkb_view.proofs.Pieces.{pieces_next, pieces_read}
 use Rattle.wkb_view.proofs.polygon.rings.Goals as goal
 
 pub overflow_add-counts : goal.overflow_add-counts
-overflow_add-counts c = omega (arith, (part_costs c.loop-test.true c.loop.invariant.so_far.left).0, c.requires.fits.turns)
+overflow_add-counts c =
+    omega (arith, (part_costs c.loop-test.true c.loop.invariant.so_far.left).0, c.requires.fits.turns)
 
 pub returns-in_err-rest-clause-rings : goal.returns-in_err-rest-clause-rings
 returns-in_err-rest-clause-rings c =
@@ -18,7 +19,10 @@ pub loop-preserved : goal.loop-preserved
 loop-preserved c =
     let gives = freely _ _ _ (ap (λ (r : Outcome (List ℕ)). at_no_cost r) c.in_ok-rest.ensures.answer) in
     record {
-      so_far = rw c.push.ensures.entries (pieces_next _ _ (omega arith) c.loop-test.true c.loop.invariant.so_far gives.0 gives.1 c.in_ok-rest.ensures.passed);
+      so_far =
+          rw c.push.ensures.entries
+          (pieces_next _ _
+          (omega arith) c.loop-test.true c.loop.invariant.so_far gives.0 gives.1 c.in_ok-rest.ensures.passed);
       room = omega (arith, c.push.ensures.room, c.loop.invariant.room);
     }
 

@@ -13,24 +13,32 @@ pub returns-then-contains : goal.returns-then-contains
 returns-then-contains c =
     let keys = c.self.inside.keys.items in
     let found : list_any (λ y. bytes_eq (bytes_of y) c.in-Ok.key.items) keys ≡ true =
-    ap (λ l. list_any (λ y. bytes_eq (bytes_of y) c.in-Ok.key.items) l) (sym c.deref.ensures.value) ∙ sym c.contains.ensures.value ∙ c.if-contains.true in
+    ap (λ l. list_any (λ y. bytes_eq (bytes_of y) c.in-Ok.key.items) l) (sym c.deref.ensures.value)
+    ∙ sym c.contains.ensures.value ∙ c.if-contains.true in
     subst (λ s. Inserts s s c.args.bytes.now true) c.self.view_is
-    (was_known c.geometry_agrees.ensures.front c.rewriting_is_read.ensures bytes_of keys c.args.bytes.now c.in-Ok.key.items c.are_bytes.ensures
+    (was_known c.geometry_agrees.ensures.front c.rewriting_is_read.ensures bytes_of keys c.args.bytes.now
+    c.in-Ok.key.items c.are_bytes.ensures
     c.in-Ok.ensures.ok found)
 
 pub invariant_of-self-2 : goal.invariant_of-self-2
 invariant_of-self-2 c =
     subst (λ l. AllByRecursion (λ y. bytes_of y ≡ key_of (value_in (bytes_of y))) l) (sym c.in_default.ensures.items)
     (all_with bytes_of c.self.inside.keys.items c.in-Ok.key c.self.invariant
-    (is_its_own c.geometry_agrees.ensures.front c.rewriting_is_read.ensures c.args.bytes.now c.in-Ok.key.items c.are_bytes.ensures c.in-Ok.ensures.ok))
+    (is_its_own c.geometry_agrees.ensures.front c.rewriting_is_read.ensures c.args.bytes.now c.in-Ok.key.items
+    c.are_bytes.ensures c.in-Ok.ensures.ok))
 
 pub returns : goal.returns
 returns c =
     let keys = c.self.inside.keys.items in
     let none : list_any (λ y. bytes_eq (bytes_of y) c.in-Ok.key.items) keys ≡ false =
-    ap (λ l. list_any (λ y. bytes_eq (bytes_of y) c.in-Ok.key.items) l) (sym c.deref.ensures.value) ∙ sym c.contains.ensures.value ∙ c.if-contains.false in
-    let stored = is_stored c.geometry_agrees.ensures.front c.rewriting_is_read.ensures bytes_of keys c.args.bytes.now c.in-Ok.key c.are_bytes.ensures
+    ap (λ l. list_any (λ y. bytes_eq (bytes_of y) c.in-Ok.key.items) l) (sym c.deref.ensures.value)
+    ∙ sym c.contains.ensures.value ∙ c.if-contains.false in
+    let stored =
+    is_stored c.geometry_agrees.ensures.front c.rewriting_is_read.ensures bytes_of keys c.args.bytes.now c.in-Ok.key
+    c.are_bytes.ensures
     c.in-Ok.ensures.ok c.self.invariant none in
-    subst (λ s. Inserts s (map (λ y. value_in (bytes_of y)) c.push.new.self.items) c.args.bytes.now false) c.self.view_is
-    (subst (λ l. Inserts (map (λ y. value_in (bytes_of y)) keys) (map (λ y. value_in (bytes_of y)) l) c.args.bytes.now false) (sym c.in_default.ensures.items)
+    subst (λ s. Inserts s (map (λ y. value_in (bytes_of y)) c.push.new.self.items) c.args.bytes.now false)
+    c.self.view_is
+    (subst (λ l. Inserts (map (λ y. value_in (bytes_of y)) keys)
+    (map (λ y. value_in (bytes_of y)) l) c.args.bytes.now false) (sym c.in_default.ensures.items)
     stored)

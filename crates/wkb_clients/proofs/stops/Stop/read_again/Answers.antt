@@ -10,15 +10,23 @@ pub returns-in_default : goal.returns-in_default
 returns-in_default c =
     let again = read_again c.new-sink.ensures.bytes c.write_point.ensures c.in-Ok.is (omega arith) in
     let input = c.as_slice.ensures.value ∙ c.into_vec-bytes.ensures in
-    let value = value_read (stop_words c.args.self.now) again.0 _ _ c.in-Ok-read_wkb.geometry again.1 input c.in-Ok-read_wkb.ensures.one_front in
-    absurd (not_point c.in-Ok-read_wkb.geometry c.as_type.result c.as_type.ensures.view c.in_default.not-Point (ap kind (sym value)))
+    let value =
+    value_read
+    (stop_words c.args.self.now) again.0 _ _ c.in-Ok-read_wkb.geometry again.1 input
+    c.in-Ok-read_wkb.ensures.one_front in
+    absurd (not_point c.in-Ok-read_wkb.geometry c.as_type.result c.as_type.ensures.view c.in_default.not-Point
+    (ap kind (sym value)))
 
 pub returns-in-Some : goal.returns-in-Some
 returns-in-Some c =
     let again = read_again c.new-sink.ensures.bytes c.write_point.ensures c.in-Ok.is (omega arith) in
     let input = c.as_slice.ensures.value ∙ c.into_vec-bytes.ensures in
-    let value = value_read (stop_words c.args.self.now) again.0 _ _ c.in-Ok-read_wkb.geometry again.1 input c.in-Ok-read_wkb.ensures.one_front in
-    let words = words_are (stop_words c.args.self.now) (words_seen c.in-Some.coord) (point_seen c.in-Point.point.now).value
+    let value =
+    value_read
+    (stop_words c.args.self.now) again.0 _ _ c.in-Ok-read_wkb.geometry again.1 input
+    c.in-Ok-read_wkb.ensures.one_front in
+    let words =
+    words_are (stop_words c.args.self.now) (words_seen c.in-Some.coord) (point_seen c.in-Point.point.now).value
     (value ∙ ap (λ v. v.value) (sym c.in-Point.ensures.view)) c.in-Some.ensures.value in
     let x : c.x_y.result.0 ≡ c.args.self.now.x = c.x_y.ensures.x ∙ ap (λ l. slice_index l 0) words in
     let y : c.x_y.result.1 ≡ c.args.self.now.y = c.x_y.ensures.y ∙ ap (λ l. slice_index l 1) words in
@@ -28,5 +36,9 @@ pub returns : goal.returns
 returns c =
     let again = read_again c.new-sink.ensures.bytes c.write_point.ensures c.in-Ok.is (omega arith) in
     let input = c.as_slice.ensures.value ∙ c.into_vec-bytes.ensures in
-    let value = value_read (stop_words c.args.self.now) again.0 _ _ c.in-Ok-read_wkb.geometry again.1 input c.in-Ok-read_wkb.ensures.one_front in
-    empty_is (stop_words c.args.self.now) (point_seen c.in-Point.point.now).value (value ∙ ap (λ v. v.value) (sym c.in-Point.ensures.view)) c.in-None.ensures.value
+    let value =
+    value_read
+    (stop_words c.args.self.now) again.0 _ _ c.in-Ok-read_wkb.geometry again.1 input
+    c.in-Ok-read_wkb.ensures.one_front in
+    empty_is (stop_words c.args.self.now) (point_seen c.in-Point.point.now).value
+    (value ∙ ap (λ v. v.value) (sym c.in-Point.ensures.view)) c.in-None.ensures.value

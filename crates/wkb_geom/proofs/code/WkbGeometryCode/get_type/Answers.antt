@@ -8,4 +8,10 @@ pub returns-in-Some : goal.returns-in-Some
 returns-in-Some c = record { meant = code_of_meaning _ _ c.in-Some.ensures }
 
 pub returns-in-None : goal.returns-in-None
-returns-in-None c = record { meant = (ap (λ n. General (CodeOutOfRange n)) c.self.view_is, no_code_without_meaning _ c.in-None.ensures) }
+returns-in-None c =
+    record {
+      meant = (
+        ap (λ n. General (CodeOutOfRange n)) c.self.view_is,
+        no_code_without_meaning _ c.in-None.ensures,
+      );
+    }

@@ -10,6 +10,7 @@ returns-then-not-is_in_table c =
 pub returns : goal.returns
 returns c =
     rw (← c.self.view_is)
-    (meaning_is c.self.inside.code c.cleared-a.result c.cleared-b.result c.cleared-n.result c.of_thousands.result c.joined-dimension.result c.of_kind.result
+    (meaning_is c.self.inside.code c.cleared-a.result c.cleared-b.result c.cleared-n.result c.of_thousands.result
+    c.joined-dimension.result c.of_kind.result
     c.cleared-a.ensures c.cleared-b.ensures c.cleared-n.ensures c.if-not-is_in_table.ensures
     c.of_thousands.ensures c.joined-dimension.ensures c.of_kind.ensures)

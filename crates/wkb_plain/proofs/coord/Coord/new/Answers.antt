@@ -11,7 +11,8 @@ returns-then-width-eq0-clause-some c = (
   λ is. absurd (false≢true is),
   elim c.then-width-eq0.branch [
     | then-width-eq0-via-then-width-eq0 w ↦ λ h. absurd (omega (arith, w.if-width-eq0.true, c.size-width.ensures, h.0))
-    | then-width-eq0-via-else-width-eq0+then-words-width w ↦ λ h. absurd (w.if-words-width.true (rw c.size-width.ensures h.1))
+    | then-width-eq0-via-else-width-eq0+then-words-width w ↦ λ h. absurd
+        (w.if-words-width.true (rw c.size-width.ensures h.1))
   ],
 )
 

@@ -12,7 +12,8 @@ returns-then-width-eq0-clause-some c = (
   λ is. absurd (false≢true is),
   elim c.then-width-eq0.branch [
     | then-width-eq0-via-then-width-eq0 w ↦ λ h. absurd (omega (arith, w.if-width-eq0.true, c.size-width.ensures, h.0))
-    | then-width-eq0-via-else-width-eq0+then-words-width-ne0 w ↦ λ h. absurd (w.if-words-width-ne0.true (rw c.size-width.ensures h.1))
+    | then-width-eq0-via-else-width-eq0+then-words-width-ne0 w ↦ λ h. absurd
+        (w.if-words-width-ne0.true (rw c.size-width.ensures h.1))
   ],
 )
 
@@ -25,9 +26,13 @@ invariant_of-result c = record {
 
 pub returns-clause-some : goal.returns-clause-some
 returns-clause-some c = (
-  λ is. (omega (arith, c.if-width-eq0.false, c.size-width.ensures), rw c.size-width.ensures at c.if-words-width-ne0.false),
+  λ is. (
+    omega (arith, c.if-width-eq0.false, c.size-width.ensures),
+    rw c.size-width.ensures at c.if-words-width-ne0.false,
+  ),
   λ h. refl,
 )
 
 pub returns-clause-words : goal.returns-clause-words
-returns-clause-words c = concat-coordinates_in c.args.dim c.args.words.now (rw c.size-width.ensures at c.if-words-width-ne0.false)
+returns-clause-words c =
+    concat-coordinates_in c.args.dim c.args.words.now (rw c.size-width.ensures at c.if-words-width-ne0.false)

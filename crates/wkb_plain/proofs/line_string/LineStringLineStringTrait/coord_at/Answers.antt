@@ -6,15 +6,18 @@ use Rattle.wkb_plain.proofs.line_string.LineStringLineStringTrait.coord_at.Goals
 
 pub overflow_mul-start : goal.overflow_mul-start
 overflow_mul-start c =
-    let l = c.args.self.now in omega (arith, coordinate_within l.dim l.words.now c.args.i _ c.size-width.ensures c.requires)
+    let l = c.args.self.now in
+    omega (arith, coordinate_within l.dim l.words.now c.args.i _ c.size-width.ensures c.requires)
 
 pub overflow_add-result : goal.overflow_add-result
 overflow_add-result c =
-    let l = c.args.self.now in omega (arith, coordinate_within l.dim l.words.now c.args.i _ c.size-width.ensures c.requires)
+    let l = c.args.self.now in
+    omega (arith, coordinate_within l.dim l.words.now c.args.i _ c.size-width.ensures c.requires)
 
 pub offset_bounds-self-start : goal.offset_bounds-self-start
 offset_bounds-self-start c =
-    let l = c.args.self.now in omega (arith, coordinate_within l.dim l.words.now c.args.i _ c.size-width.ensures c.requires)
+    let l = c.args.self.now in
+    omega (arith, coordinate_within l.dim l.words.now c.args.i _ c.size-width.ensures c.requires)
 
 pub slice_bounds-result-end : goal.slice_bounds-result-end
 slice_bounds-result-end c =

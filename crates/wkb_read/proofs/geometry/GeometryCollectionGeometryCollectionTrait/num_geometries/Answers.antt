@@ -6,4 +6,11 @@ use Rattle.wkb_read.proofs.geometry.GeometryCollectionGeometryCollectionTrait.nu
 pub returns : goal.returns
 returns c =
     let ms = c.self.inside.members.items in
-    rw (← c.self.view_is) (omega (arith, c.len.ensures, c.self.inside.members.ok.0, ap length (members_are ms), length-map ms geometry_seen))
+    rw (← c.self.view_is)
+    (omega (
+      arith,
+      c.len.ensures,
+      c.self.inside.members.ok.0,
+      ap length (members_are ms),
+      length-map ms geometry_seen,
+    ))

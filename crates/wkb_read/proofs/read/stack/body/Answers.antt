@@ -10,7 +10,8 @@ pub returns-in-Err-read-clause-begins : goal.returns-in-Err-read-clause-begins
 returns-in-Err-read-clause-begins c =
     let h = c.args.header in
     let leaf : type_kind h.wkb_type < 3 = search rules in
-    rw (leaf_free c.args.depth h.wkb_type (layout_of h) c.args.bytes.now leaf) (stops_at_no_cost c.in-Err-read.cause _ c.args.counts.now (search rules))
+    rw (leaf_free c.args.depth h.wkb_type (layout_of h) c.args.bytes.now leaf)
+    (stops_at_no_cost c.in-Err-read.cause _ c.args.counts.now (search rules))
 
 pub returns-clause-begins : goal.returns-clause-begins
 returns-clause-begins c = elim c.match-header.branch [

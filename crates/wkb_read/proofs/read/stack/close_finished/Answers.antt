@@ -9,12 +9,19 @@ use Rattle.wkb_read.proofs.read.stack.close_finished.Goals.{After-push}
 
 on_top : (c : After-push) → Top c.loop-top.stack.items (vec_len c.loop-top.stack - 1) c.in-Some.top.now
 on_top c =
-    top c.loop-top.stack.items (vec_len c.loop-top.stack - 1) c.in-Some.top.now (omega (arith, c.in-Some.ensures.variant.0 refl, c.loop-top.stack.ok))
+    top c.loop-top.stack.items (vec_len c.loop-top.stack - 1) c.in-Some.top.now
+    (omega (arith, c.in-Some.ensures.variant.0 refl, c.loop-top.stack.ok))
     c.in-Some.ensures.value
 
 -- the top with the finished part, and so many members that come behind
 abbrev filled : After-push → ℕ → Open
-filled c left = record { layout = c.in-Some.top.now.layout; bytes = c.in-Some.top.now.bytes; left = left; members = c.push.new.self }
+filled c left =
+    record {
+      layout = c.in-Some.top.now.layout;
+      bytes = c.in-Some.top.now.bytes;
+      left = left;
+      members = c.push.new.self;
+    }
 
 abbrev full : After-push → Open
 full c = filled c c.in-Some.top.now.left
@@ -22,7 +29,8 @@ full c = filled c c.in-Some.top.now.left
 abbrev whole : After-push → Reading Item
 whole c = costs (cost_of c.args.counts.now) (outward (reverse c.args.stack.now.items) c.args.part c.args.rest.now)
 
-finishes : (c : After-push) → Finishes (c.in-Some.top.now ∷ (on_top c).below) c.loop-top.finished c.args.rest.now c.loop-top.counts (whole c)
+finishes : (c : After-push)
+    → Finishes (c.in-Some.top.now ∷ (on_top c).below) c.loop-top.finished c.args.rest.now c.loop-top.counts (whole c)
 finishes c = rw (on_top c).is at c.loop-top.invariant.finishes
 
 begins : (c : After-push) → 0 < c.in-Some.top.now.left
@@ -30,12 +38,24 @@ begins : (c : After-push) → 0 < c.in-Some.top.now.left
     (record { turns = c.loop-top.counts.turns + 1; slots = c.loop-top.counts.slots }) (whole c)
 begins c more =
     let o = c.in-Some.top.now in
-    next_begins o (filled c (o.left - 1)) (on_top c).below c.loop-top.finished c.args.rest.now c.loop-top.counts _ (whole c)
-    (record { left = omega (arith, more); layout = refl; bytes = refl; items = c.push.ensures.entries; capacity = omega (arith, c.push.ensures.room) }) (finishes c) refl
+    next_begins o (filled c (o.left - 1)) (on_top c).below c.loop-top.finished c.args.rest.now c.loop-top.counts _
+    (whole c)
+    (record {
+      left = omega (arith, more);
+      layout = refl;
+      bytes = refl;
+      items = c.push.ensures.entries;
+      capacity = omega (arith, c.push.ensures.room);
+    }) (finishes c) refl
 
 pub overflow_add-counts : goal.overflow_add-counts
 overflow_add-counts c =
-    omega (arith, ap (λ (s : Reading Item). s.0.turns) (begins (goal.at.overflow_add-counts c).After-push c.if-top-gt0.true).so_far, c.requires.fits)
+    omega (
+      arith,
+      ap (λ (s : Reading Item). s.0.turns)
+          (begins (goal.at.overflow_add-counts c).After-push c.if-top-gt0.true).so_far,
+      c.requires.fits,
+    )
 
 pub returns-then-top-gt0 : goal.returns-then-top-gt0
 returns-then-top-gt0 c =
@@ -46,14 +66,18 @@ returns-then-top-gt0 c =
     rw (t.set_is _) (r.so_far, r.stand, omega (arith, t.count, lengths, c.loop-top.invariant.fewer))
 
 -- what is taken off is the top, now with all its members
-taken_off : (c : After-push) (ys : List Open) (z : Open) → slice_set c.loop-top.stack.items (vec_len c.loop-top.stack - 1) (full c) ≡ ys ++ z ∷ []
+taken_off : (c : After-push) (ys : List Open) (z : Open)
+    → slice_set c.loop-top.stack.items (vec_len c.loop-top.stack - 1) (full c) ≡ ys ++ z ∷ []
     → (full c ≡ z) × ((on_top c).below ≡ reverse ys)
-taken_off c ys z e = popped c.loop-top.stack.items ys (vec_len c.loop-top.stack - 1) c.in-Some.top.now (full c) z (on_top c) e
+taken_off c ys z e =
+    popped c.loop-top.stack.items ys (vec_len c.loop-top.stack - 1) c.in-Some.top.now (full c) z (on_top c) e
 
-all_in : (c : After-push) (z : Open) (members : List Item) → full c ≡ z → members ≡ entries z.members → c.in-Some.top.now.left ≡ 0
+all_in : (c : After-push) (z : Open) (members : List Item) → full c ≡ z → members ≡ entries z.members
+    → c.in-Some.top.now.left ≡ 0
     → Completes c.in-Some.top.now (on_top c).below members c.args.rest.now c.loop-top.counts (whole c)
 all_in c z members same is none =
-    completes c.in-Some.top.now (on_top c).below c.loop-top.finished members c.args.rest.now c.loop-top.counts (whole c) none
+    completes c.in-Some.top.now (on_top c).below c.loop-top.finished members c.args.rest.now c.loop-top.counts
+    (whole c) none
     (is ∙ ap (λ (o : Open). entries o.members) (sym same) ∙ c.push.ensures.entries) (finishes c)
 
 pub slice_bounds-finished-count : goal.slice_bounds-finished-count
@@ -74,5 +98,12 @@ loop-top-preserved c =
     let off = taken_off p _ _ c.in-Some-pop.ensures.items in
     rw (sym off.0, sym off.1) (record {
       finishes = (all_in p _ _ off.0 c.into_vec.ensures (omega (arith, c.if-top-gt0.false))).finishes;
-      fewer = omega (arith, c.loop-top.invariant.fewer, length-reverse c.pop.new.self.items, ap length off.1, (on_top p).count);
+      fewer =
+          omega (
+            arith,
+            c.loop-top.invariant.fewer,
+            length-reverse c.pop.new.self.items,
+            ap length off.1,
+            (on_top p).count,
+          );
     })

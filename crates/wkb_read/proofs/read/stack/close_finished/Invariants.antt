@@ -4,7 +4,8 @@ use Rattle.wkb_read.proofs.read.stack.close_finished.Given as goal
 
 abbrev pub invariant-loop-top : goal.invariant-loop-top
 invariant-loop-top l = record {
-  finishes : Finishes (reverse l.stack.items) l.finished l.rest l.counts (costs (cost_of l.fn.counts) (outward (reverse l.fn.stack.items) l.fn.part l.rest));
+  finishes : Finishes (reverse l.stack.items) l.finished l.rest l.counts
+      (costs (cost_of l.fn.counts) (outward (reverse l.fn.stack.items) l.fn.part l.rest));
   fewer : length l.stack.items ≤ length l.fn.stack.items;
 }
 

@@ -16,35 +16,50 @@ opened : (c : In-Ok-Opened) (after : Counts) → length (reverse c.loop-collecti
     → Reaches (c.in-Ok-Opened.collection ∷ reverse c.loop-collection.stack.items) c.in-Ok-Opened.rest.now after
     (costs (cost_of c.args.counts.now) (first_member 0 c.args.outermost c.args.members.now))
 opened c after around turn =
-    enters c.in-Ok-Opened.collection (reverse c.loop-collection.stack.items) c.in-Ok-Opened.rest c.loop-collection.bytes.now c.loop-collection.counts
-    c.begin.new.counts after _ c.loop-collection.invariant.reaches (rw (c.in-Ok-Opened.field-0-is, ← around) at c.in-Ok-Opened.ensures.begins) turn
+    enters c.in-Ok-Opened.collection
+    (reverse c.loop-collection.stack.items) c.in-Ok-Opened.rest c.loop-collection.bytes.now c.loop-collection.counts
+    c.begin.new.counts after _ c.loop-collection.invariant.reaches
+    (rw (c.in-Ok-Opened.field-0-is, ← around) at c.in-Ok-Opened.ensures.begins) turn
 
 -- a whole part was read
 part : (c : In-Ok-Whole) → length (reverse c.loop-collection.stack.items) ≡ c.len.result
     → Finishes (reverse c.loop-collection.stack.items) c.in-Ok-Whole.part c.in-Ok-Whole.rest.now c.begin.new.counts
     (costs (cost_of c.args.counts.now) (first_member 0 c.args.outermost c.args.members.now))
 part c around =
-    finishes c.in-Ok-Whole.part (reverse c.loop-collection.stack.items) c.in-Ok-Whole.rest c.loop-collection.bytes.now c.loop-collection.counts
-    c.begin.new.counts _ c.loop-collection.invariant.reaches (rw (c.in-Ok-Whole.field-0-is, ← around) at c.in-Ok-Whole.ensures.begins)
+    finishes c.in-Ok-Whole.part
+    (reverse c.loop-collection.stack.items) c.in-Ok-Whole.rest c.loop-collection.bytes.now c.loop-collection.counts
+    c.begin.new.counts _ c.loop-collection.invariant.reaches
+    (rw (c.in-Ok-Whole.field-0-is, ← around) at c.in-Ok-Whole.ensures.begins)
 
 pub begin-requires : goal.begin-requires
 begin-requires c =
-    let fits = can_begin _ _ c.args.counts.now c.loop-collection.counts _ c.loop-collection.invariant.reaches c.requires.fits in
+    let fits =
+    can_begin _ _ c.args.counts.now c.loop-collection.counts _ c.loop-collection.invariant.reaches c.requires.fits
+    in
     record { fits = rw (← as_many (goal.at.begin-requires c).After-len) fits }
 
 pub push_collection-requires-in-Ok-Opened : goal.push_collection-requires-in-Ok-Opened
 push_collection-requires-in-Ok-Opened c =
     let p = goal.at.push_collection-requires-in-Ok-Opened c in
     let after : Counts = record { turns = c.begin.new.counts.turns + 1; slots = c.begin.new.counts.slots } in
-    record { fits = omega (arith, ap (λ (s : Reading Item). s.0.turns) (opened p.In-Ok-Opened after (as_many p.After-len) refl).so_far, c.requires.fits.turns) }
+    record {
+      fits = omega (
+        arith,
+        ap (λ (s : Reading Item). s.0.turns) (opened p.In-Ok-Opened after (as_many p.After-len) refl).so_far,
+        c.requires.fits.turns,
+      );
+    }
 
 pub returns-in_err-push_collection-in-Ok-Opened : goal.returns-in_err-push_collection-in-Ok-Opened
 returns-in_err-push_collection-in-Ok-Opened c =
     let p = goal.at.returns-in_err-push_collection-in-Ok-Opened c in
     let after : Counts = record { turns = c.begin.new.counts.turns + 1; slots = c.begin.new.counts.slots } in
-    let stopped = err_from_is_err_and c.from_residual-in_err-push_collection-in-Ok-Opened.result c.from_residual-in_err-push_collection-in-Ok-Opened.ensures.1 in
+    let stopped =
+    err_from_is_err_and c.from_residual-in_err-push_collection-in-Ok-Opened.result
+    c.from_residual-in_err-push_collection-in-Ok-Opened.ensures.1 in
     rw (stopped.1, stopped.2, c.in_err-push_collection-in-Ok-Opened.ensures.stays)
-    (at_most_turn _ _ c.args.counts.now c.begin.new.counts after _ (opened p.In-Ok-Opened after (as_many p.After-len) refl)
+    (at_most_turn _ _ c.args.counts.now c.begin.new.counts after _
+    (opened p.In-Ok-Opened after (as_many p.After-len) refl)
     refl)
 
 pub loop-collection-preserved-in-Ok-Opened : goal.loop-collection-preserved-in-Ok-Opened
@@ -57,7 +72,8 @@ loop-collection-preserved-in-Ok-Opened c =
     let new : reverse c.push_collection-in-Ok-Opened.new.stack.items ≡ c.in-Ok-Opened.collection ∷ reverse items =
     ap reverse entered ∙ reverse-append items (c.in-Ok-Opened.collection ∷ []) in
     record {
-      reaches = rw new (opened p.In-Ok-Opened _ (as_many p.After-len) c.in_ok-push_collection-in-Ok-Opened.ensures.turn);
+      reaches =
+          rw new (opened p.In-Ok-Opened _ (as_many p.After-len) c.in_ok-push_collection-in-Ok-Opened.ensures.turn);
       shallow = omega (arith, ap length entered, longer, as_many p.After-len, length-reverse items, begun.2);
     }
 
@@ -65,7 +81,11 @@ pub close_finished-requires : goal.close_finished-requires
 close_finished-requires c =
     let p = goal.at.close_finished-requires c in
     let f = part p.In-Ok-Whole (as_many p.After-len) in
-    record { part = f.part; stand = f.stand; fits = omega (arith, ap (λ (s : Reading Item). s.0.turns) f.so_far, c.requires.fits.turns) }
+    record {
+      part = f.part;
+      stand = f.stand;
+      fits = omega (arith, ap (λ (s : Reading Item). s.0.turns) f.so_far, c.requires.fits.turns);
+    }
 
 pub returns-in-Some : goal.returns-in-Some
 returns-in-Some c =
@@ -80,10 +100,20 @@ loop-collection-preserved c =
     let now = length-reverse c.close_finished.new.stack.items in
     record {
       reaches = record { so_far = after.0 ∙ (part p.In-Ok-Whole (as_many p.After-len)).so_far; stand = after.1 };
-      shallow = omega (arith, after.2, now, length-reverse c.loop-collection.stack.items, c.loop-collection.invariant.shallow);
+      shallow =
+          omega (
+            arith,
+            after.2,
+            now,
+            length-reverse c.loop-collection.stack.items,
+            c.loop-collection.invariant.shallow,
+          );
     }
 
 pub returns-in-Err : goal.returns-in-Err
 returns-in-Err c =
-    stops_outward c.in-Err.refusal _ (outward (reverse c.loop-collection.stack.items)) _ c.args.counts.now c.loop-collection.counts c.begin.new.counts
-    c.loop-collection.invariant.reaches.so_far (rw (as_many (goal.at.returns-in-Err c).After-len) c.in-Err.ensures.begins)
+    stops_outward c.in-Err.refusal _
+    (outward (reverse c.loop-collection.stack.items)) _ c.args.counts.now c.loop-collection.counts
+    c.begin.new.counts
+    c.loop-collection.invariant.reaches.so_far
+    (rw (as_many (goal.at.returns-in-Err c).After-len) c.in-Err.ensures.begins)

@@ -4,7 +4,8 @@ use Rattle.wkb_read.proofs.read.stack.nested.Given as goal
 
 abbrev pub invariant-loop-collection : goal.invariant-loop-collection
 invariant-loop-collection l = record {
-  reaches : Reaches (reverse l.stack.items) l.bytes l.counts (costs (cost_of l.fn.counts) (first_member 0 l.fn.outermost l.fn.members));
+  reaches : Reaches (reverse l.stack.items) l.bytes l.counts
+      (costs (cost_of l.fn.counts) (first_member 0 l.fn.outermost l.fn.members));
   shallow : length l.stack.items ≤ max_nesting;
 }
 

@@ -15,7 +15,9 @@ returns-in-Ok-clause-reads c =
     let buf = c.args.buf.now in
     let w = c.in-Ok.whole in
     let r = is_read buf w c.geometry.new.counts c.in-Ok.ensures.reads in
-    let lawful = λ (order : Endianness). front_is_writable_lem order buf w.spelled w.value r.front.rest (λ i. (c.type_inv.buf i).fits) (omega arith)
+    let lawful =
+    λ (order : Endianness). front_is_writable_lem order buf w.spelled w.value r.front.rest
+    (λ i. (c.type_inv.buf i).fits) (omega arith)
     r.front.front in
     record {
       front = r.front;
@@ -35,7 +37,13 @@ returns-in-Ok-clause-costs c =
     let new = c.geometry.new.counts in
     let r = is_read c.args.buf.now c.in-Ok.whole new c.in-Ok.ensures.reads in
     let bound = count_bounded c.args.buf.now (Ok c.in-Ok.whole) new c.in-Ok.ensures.reads in
-    record { counts = r.counts; refusal_counts = tt; memory_counts = tt; turns_bounded = bound.0; slots_bounded = bound.1 }
+    record {
+      counts = r.counts;
+      refusal_counts = tt;
+      memory_counts = tt;
+      turns_bounded = bound.0;
+      slots_bounded = bound.1;
+    }
 
 pub returns-in-Err-clause-reads : goal.returns-in-Err-clause-reads
 returns-in-Err-clause-reads c =

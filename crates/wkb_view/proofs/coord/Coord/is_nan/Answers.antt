@@ -9,7 +9,9 @@ pub returns-then-not-is_nan : goal.returns-then-not-is_nan
 returns-then-not-is_nan c =
     let s = c.args.self.now in
     let lt : c.loop-n.n < width s.dimension = omega (arith, c.width-n-end.ensures, c.loop-n-test.true) in
-    let word = word_is s.order s.dimension c.loop-n.n c.u64_at.result s.bytes.now false lt c.u64_at.ensures c.if-not-is_nan.ensures in
+    let word =
+    word_is s.order s.dimension c.loop-n.n c.u64_at.result s.bytes.now false lt c.u64_at.ensures
+    c.if-not-is_nan.ensures in
     sym (list_all_at is_nan (coordinate s.order s.dimension s.bytes.now) c.loop-n.n 0
     (omega (arith, length-items 8 (number s.order 8) (width s.dimension) s.bytes.now)) word)
 
@@ -17,9 +19,12 @@ pub loop-n-preserved : goal.loop-n-preserved
 loop-n-preserved c =
     let s = c.args.self.now in
     let lt : c.loop-n.n < width s.dimension = omega (arith, c.width-n-end.ensures, c.loop-n-test.true) in
-    let word = word_is s.order s.dimension c.loop-n.n c.u64_at.result s.bytes.now true lt c.u64_at.ensures c.if-not-is_nan.ensures in
+    let word =
+    word_is s.order s.dimension c.loop-n.n c.u64_at.result s.bytes.now true lt c.u64_at.ensures
+    c.if-not-is_nan.ensures in
     let counted = length-items 8 (number s.order 8) (width s.dimension) s.bytes.now in
-    let more = list_all_more is_nan (coordinate s.order s.dimension s.bytes.now) c.loop-n.n 0 (omega (arith, counted)) in
+    let more =
+    list_all_more is_nan (coordinate s.order s.dimension s.bytes.now) c.loop-n.n 0 (omega (arith, counted)) in
     record { so_far = more ∙ rw (c.loop-n.invariant.so_far, word) refl }
 
 pub returns : goal.returns
@@ -27,4 +32,5 @@ returns c =
     let s = c.args.self.now in
     let counted = length-items 8 (number s.order 8) (width s.dimension) s.bytes.now in
     sym c.loop-n.invariant.so_far
-    ∙ ap (λ (ws : List ℕ). all_nan ws) (take_all c.loop-n.n _ (omega (arith, counted, c.width-n-end.ensures, c.loop-n-test.false)))
+    ∙ ap (λ (ws : List ℕ). all_nan ws)
+    (take_all c.loop-n.n _ (omega (arith, counted, c.width-n-end.ensures, c.loop-n-test.false)))

@@ -11,5 +11,6 @@ returns-then-eq c =
     let r = c.args.self.now in
     let same : r.order ≡ c.args.order = search rules in
     c.coords_slice.ensures.encoding
-    ∙ ring_stands r.order r.dimension r.bytes.now r.in_range (r.whole ∙ ap (λ k. 4 + 8 * width r.dimension * k) r.counted)
+    ∙ ring_stands r.order r.dimension r.bytes.now r.in_range
+    (r.whole ∙ ap (λ k. 4 + 8 * width r.dimension * k) r.counted)
     ∙ ap (λ o. flat_map (words_encoding o) (ring_seen r)) same

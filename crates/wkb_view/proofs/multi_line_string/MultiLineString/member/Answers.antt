@@ -10,7 +10,8 @@ use Rattle.wkb_view.proofs.multi_line_string.MultiLineString.member.Goals as goa
 pub part_at-requires : goal.part_at-requires
 part_at-requires c =
     let p = c.self.inside in
-    rw (c.header_length.ensures, c.deref.ensures.value) (in_order (IsMemberOfKind 2 p.layout.dimension) _ p.ends.items p.buf.now c.self.invariant.1)
+    rw (c.header_length.ensures, c.deref.ensures.value)
+    (in_order (IsMemberOfKind 2 p.layout.dimension) _ p.ends.items p.buf.now c.self.invariant.1)
 
 pub of_known_member-layout-requires : goal.of_known_member-layout-requires
 of_known_member-layout-requires c =
@@ -34,7 +35,9 @@ pub returns-clause-value : goal.returns-clause-value
 returns-clause-value c =
     let p = c.self.inside in
     let known = c.of_known_member-layout.ensures in
-    rw (← c.self.view_is) (ap (λ (m : Item). Some (line_string_of m.value)) (c.of_encoding.ensures.item ∙ member_seen 2 p.layout.dimension _ _ known)
+    rw (← c.self.view_is)
+    (ap (λ (m : Item). Some (line_string_of m.value))
+    (c.of_encoding.ensures.item ∙ member_seen 2 p.layout.dimension _ _ known)
     ∙ members_seen 2 p.layout p.ends.items p.buf.now c.args.i (λ m. line_string_of m.value) _
     (rw (c.header_length.ensures, c.deref.ensures.value) at c.in_ok-buf.ensures.part))
 
@@ -42,11 +45,15 @@ pub returns-clause-spelled : goal.returns-clause-spelled
 returns-clause-spelled c =
     let p = c.self.inside in
     let known = c.of_known_member-layout.ensures in
-    rw (← c.self.view_is) (ap (λ (m : Item). Some m.spelled) (c.of_encoding.ensures.item ∙ member_seen 2 p.layout.dimension _ _ known)
-    ∙ spelling_seen 2 p.layout p.ends.items p.buf.now c.args.i _ (rw (c.header_length.ensures, c.deref.ensures.value) at c.in_ok-buf.ensures.part))
+    rw (← c.self.view_is)
+    (ap (λ (m : Item). Some m.spelled) (c.of_encoding.ensures.item ∙ member_seen 2 p.layout.dimension _ _ known)
+    ∙ spelling_seen 2 p.layout p.ends.items p.buf.now c.args.i _
+    (rw (c.header_length.ensures, c.deref.ensures.value) at c.in_ok-buf.ensures.part))
 
 pub returns-clause-dimension : goal.returns-clause-dimension
 returns-clause-dimension c =
     let p = c.self.inside in
     let known = c.of_known_member-layout.ensures in
-    rw (← c.self.view_is) (ap (λ (l : Layout). l.dimension) c.of_encoding.ensures.layout ∙ member_dimension 2 p.layout.dimension _ _ known)
+    rw (← c.self.view_is)
+    (ap (λ (l : Layout). l.dimension) c.of_encoding.ensures.layout
+    ∙ member_dimension 2 p.layout.dimension _ _ known)

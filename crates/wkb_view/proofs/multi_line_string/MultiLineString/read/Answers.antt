@@ -7,7 +7,8 @@ pub returns-clause-answer : goal.returns-clause-answer
 returns-clause-answer c =
     let e = c.in_ok-ends.ensures.line_strings in
     rw c.into_vec.ensures (list_reads _ _ _
-    (line_strings_here c.args.layout c.args.bytes.now _ c.args.counts.now c.counted_list.new.counts c.in_ok-count.ensures.whole c.in_ok-count.ensures.count
+    (line_strings_here c.args.layout c.args.bytes.now _ c.args.counts.now c.counted_list.new.counts
+    c.in_ok-count.ensures.whole c.in_ok-count.ensures.count
     c.counted_list.ensures.turns c.counted_list.ensures.slots) e.0 e.1)
 
 pub invariant_of-multi_line_string : goal.invariant_of-multi_line_string
@@ -15,7 +16,11 @@ invariant_of-multi_line_string c =
     let bytes = c.args.bytes.now in
     let e = c.in_ok-ends.ensures in
     let read = list_reads _ _ _
-    (line_strings_here c.args.layout bytes _ c.args.counts.now c.counted_list.new.counts c.in_ok-count.ensures.whole c.in_ok-count.ensures.count
+    (line_strings_here c.args.layout bytes _ c.args.counts.now c.counted_list.new.counts c.in_ok-count.ensures.whole
+    c.in_ok-count.ensures.count
     c.counted_list.ensures.turns c.counted_list.ensures.slots) e.line_strings.0 e.line_strings.1 in
-    rw c.into_vec.ensures
-    (omega (arith, e.shorter, length-take (length bytes - length c.in_ok-ends.rest.now) bytes), e.ends, body_spelled bytes _ _ _ c.requires.head read.0)
+    rw c.into_vec.ensures (
+      omega (arith, e.shorter, length-take (length bytes - length c.in_ok-ends.rest.now) bytes),
+      e.ends,
+      body_spelled bytes _ _ _ c.requires.head read.0,
+    )

@@ -8,6 +8,8 @@ use Rattle.wkb_view.proofs.multi_line_string.MultiLineStringMultiLineStringTrait
 pub returns-clause-value : goal.returns-clause-value
 returns-clause-value c =
     let m = c.args.self.now in
-    lawful_at (λ (l : LineString). line_string_of (line_string_seen l).value) (λ (l : LineString). l.layout.dimension) m.dimension c.member.result m.parts
+    lawful_at (λ (l : LineString). line_string_of (line_string_seen l).value)
+    (λ (l : LineString). l.layout.dimension) m.dimension c.member.result m.parts
     c.args.i
-    (λ (l : LineString). line_string_lawful l.layout l.buf.now l.in_range) c.member.ensures.dimension c.member.ensures.value
+    (λ (l : LineString). line_string_lawful l.layout l.buf.now l.in_range) c.member.ensures.dimension
+    c.member.ensures.value

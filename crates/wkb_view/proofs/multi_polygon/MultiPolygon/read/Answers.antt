@@ -9,7 +9,8 @@ pub returns-clause-answer : goal.returns-clause-answer
 returns-clause-answer c =
     let e = c.in_ok-members.ensures.polygons in
     rw c.into_vec.ensures (list_reads _ _ _
-    (polygons_here c.args.layout c.args.bytes.now _ c.args.counts.now c.counted_list.new.counts c.in_ok-count.ensures.whole c.in_ok-count.ensures.count
+    (polygons_here c.args.layout c.args.bytes.now _ c.args.counts.now c.counted_list.new.counts
+    c.in_ok-count.ensures.whole c.in_ok-count.ensures.count
     c.counted_list.ensures.turns c.counted_list.ensures.slots) e.0 e.1)
 
 pub invariant_of-multi_polygon : goal.invariant_of-multi_polygon
@@ -18,26 +19,36 @@ invariant_of-multi_polygon c =
     let bytes = c.args.bytes.now in
     let e = c.in_ok-members.ensures in
     let read = list_reads _ _ _
-    (polygons_here l bytes _ c.args.counts.now c.counted_list.new.counts c.in_ok-count.ensures.whole c.in_ok-count.ensures.count
+    (polygons_here l bytes _ c.args.counts.now c.counted_list.new.counts c.in_ok-count.ensures.whole
+    c.in_ok-count.ensures.count
     c.counted_list.ensures.turns c.counted_list.ensures.slots) e.polygons.0 e.polygons.1 in (
-      omega (arith, e.shorter, parts_length l.has_srid bytes, c.in_ok-count.ensures.whole, length-take (length bytes - length c.in_ok-members.rest.now) bytes),
+      omega (
+        arith,
+        e.shorter,
+        parts_length l.has_srid bytes,
+        c.in_ok-count.ensures.whole,
+        length-take (length bytes - length c.in_ok-members.rest.now) bytes,
+      ),
       subst (AllByRecursion (λ p. p.dimension ≡ l.dimension)) (sym c.into_vec.ensures) e.dimension,
       rw c.into_vec.ensures (body_spelled bytes _ _ _ c.requires.head read.0),
     )
 
 pub polygons-requires-clause-room : goal.polygons-requires-clause-room
 polygons-requires-clause-room c =
-    rw (parts_length c.args.layout.has_srid c.args.bytes.now) (omega (arith, c.in_ok-count.ensures.room, c.in_ok-count.ensures.count))
+    rw (parts_length c.args.layout.has_srid c.args.bytes.now)
+    (omega (arith, c.in_ok-count.ensures.room, c.in_ok-count.ensures.count))
 
 pub polygons-requires-clause-fits : goal.polygons-requires-clause-fits
 polygons-requires-clause-fits c =
     list_fits
-    (polygons_here c.args.layout c.args.bytes.now _ c.args.counts.now c.counted_list.new.counts c.in_ok-count.ensures.whole c.in_ok-count.ensures.count
+    (polygons_here c.args.layout c.args.bytes.now _ c.args.counts.now c.counted_list.new.counts
+    c.in_ok-count.ensures.whole c.in_ok-count.ensures.count
     c.counted_list.ensures.turns c.counted_list.ensures.slots) c.requires.fits
 
 pub returns-in_err-members-clause-answer : goal.returns-in_err-members-clause-answer
 returns-in_err-members-clause-answer c =
     let p = err_from_is_err_and c.from_residual-in_err-members.result c.from_residual-in_err-members.ensures.1 in
     rw (p.1, p.2) (list_stops c.in_err-members.field-0.0 _
-    (polygons_here c.args.layout c.args.bytes.now _ c.args.counts.now c.counted_list.new.counts c.in_ok-count.ensures.whole c.in_ok-count.ensures.count
+    (polygons_here c.args.layout c.args.bytes.now _ c.args.counts.now c.counted_list.new.counts
+    c.in_ok-count.ensures.whole c.in_ok-count.ensures.count
     c.counted_list.ensures.turns c.counted_list.ensures.slots) c.in_err-members.ensures.polygons)

@@ -7,16 +7,20 @@ use Rattle.wkb_view.proofs.SpelledRead.{point_encoding}
 use Rattle.wkb_view.proofs.point.Point.read.Goals as goal
 
 pub invariant_of-point-clause-in_range : goal.invariant_of-point-clause-in_range
-invariant_of-point-clause-in_range c = subst AreBytes (sym c.split_at.ensures.front) (AreBytes-take _ c.args.bytes.now (λ i. search rules))
+invariant_of-point-clause-in_range c =
+    subst AreBytes (sym c.split_at.ensures.front) (AreBytes-take _ c.args.bytes.now (λ i. search rules))
 
 pub invariant_of-point-clause-spells : goal.invariant_of-point-clause-spells
 invariant_of-point-clause-spells c =
-    (point_encoding c.args.layout c.args.bytes.now _ _ c.requires.head (rw (c.header_length.ensures, c.width.ensures) refl)
+    (point_encoding c.args.layout c.args.bytes.now _ _ c.requires.head
+    (rw (c.header_length.ensures, c.width.ensures) refl)
     (omega arith) c.split_at.ensures.front).spells
 
 pub returns-clause-passed : goal.returns-clause-passed
 returns-clause-passed c =
     let wide = (width-within c.args.layout.dimension).0 in
-    passed_by 9 c.args.bytes.now _ (c.header_length.result + 8 * c.width.result) (omega (arith, c.header_length.ensures, c.width.ensures))
+    passed_by 9 c.args.bytes.now _ (c.header_length.result + 8 * c.width.result)
+    (omega (arith, c.header_length.ensures, c.width.ensures))
     (omega arith) c.split_at.ensures.back
-    (point_encoding c.args.layout c.args.bytes.now _ _ c.requires.head (rw (c.header_length.ensures, c.width.ensures) refl) (omega arith) refl)
+    (point_encoding c.args.layout c.args.bytes.now _ _ c.requires.head
+    (rw (c.header_length.ensures, c.width.ensures) refl) (omega arith) refl)

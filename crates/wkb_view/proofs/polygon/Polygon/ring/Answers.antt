@@ -6,7 +6,8 @@ use Rattle.wkb_view.proofs.polygon.Polygon.ring.Goals as goal
 pub part_at-requires : goal.part_at-requires
 part_at-requires c =
     let p = c.self.inside in
-    rw (c.header_length.ensures, c.deref.ensures.value) (in_order (IsRing p.layout.order p.layout.dimension) _ p.ends.items p.buf.now c.self.invariant.1)
+    rw (c.header_length.ensures, c.deref.ensures.value)
+    (in_order (IsRing p.layout.order p.layout.dimension) _ p.ends.items p.buf.now c.self.invariant.1)
 
 pub u32_at-requires : goal.u32_at-requires
 u32_at-requires c =
@@ -20,7 +21,11 @@ invariant_of-result c =
     let ring =
     piece_form (IsRing p.layout.order p.layout.dimension) _ p.ends.items p.buf.now c.args.i _ c.self.invariant.1
     (rw (c.header_length.ensures, c.deref.ensures.value) at c.in_ok-bytes.ensures.part) in
-    record { counted = c.u32_at.ensures; whole = rw c.u32_at.ensures ring.whole; in_range = c.in_ok-bytes.ensures.bytes }
+    record {
+      counted = c.u32_at.ensures;
+      whole = rw c.u32_at.ensures ring.whole;
+      in_range = c.in_ok-bytes.ensures.bytes;
+    }
 
 pub returns-clause-value : goal.returns-clause-value
 returns-clause-value c =

@@ -11,5 +11,7 @@ returns-then-begins_as c =
     let header : HasWrittenHeader 3 p.layout p.buf.now c.args.order c.args.form =
     record { order_is = is.order refl; plain = is.plain refl; form_is = is.form refl; code = is.code refl } in
     let rings = map (ring_in p.layout.order p.layout.dimension) (pieces_behind p.layout p.ends.items p.buf.now) in
-    let whole = polygon_whole p.layout p.buf.now c.args.order c.args.form c.if-begins_as.ensures.bytes rings c.self.invariant.2 header in
+    let whole =
+    polygon_whole p.layout p.buf.now c.args.order c.args.form c.if-begins_as.ensures.bytes rings c.self.invariant.2
+    header in
     rw (← c.self.view_is) (record { encoding = whole.encoding; writable = whole.writable })

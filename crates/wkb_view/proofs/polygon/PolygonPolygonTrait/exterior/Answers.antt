@@ -8,4 +8,5 @@ pub returns-clause-value : goal.returns-clause-value
 returns-clause-value c =
     let p = c.args.self.now in
     lawful_at ring_seen (λ (r : LinearRing). r.dimension) p.dimension c.ring.result p.parts 0
-    (λ (r : LinearRing). ring_lawful r.order r.dimension r.bytes.now r.in_range) c.ring.ensures.dimension c.ring.ensures.value
+    (λ (r : LinearRing). ring_lawful r.order r.dimension r.bytes.now r.in_range) c.ring.ensures.dimension
+    c.ring.ensures.value

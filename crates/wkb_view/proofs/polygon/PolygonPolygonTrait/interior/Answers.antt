@@ -9,4 +9,5 @@ pub returns-then-i-num_interiors-clause-value : goal.returns-then-i-num_interior
 returns-then-i-num_interiors-clause-value c =
     let p = c.args.self.now in
     lawful_at ring_seen (λ (r : LinearRing). r.dimension) p.dimension c.ring.result p.parts (c.args.i + 1)
-    (λ (r : LinearRing). ring_lawful r.order r.dimension r.bytes.now r.in_range) c.ring.ensures.dimension c.ring.ensures.value
+    (λ (r : LinearRing). ring_lawful r.order r.dimension r.bytes.now r.in_range) c.ring.ensures.dimension
+    c.ring.ensures.value

@@ -3,7 +3,7 @@ use Rattle.std.specs.Prelude.{codes}
 use Rattle.wkb_command.specs.declared.program.Command.TheVariants.{Same}
 use Rattle.wkb_command.specs.Program as table
 use Rattle.wkb_command.proofs.Told.{reports_line, reports_refusal, two_inputs, when_true, when_false}
-use Rattle.wkb_command.proofs.program.comparison.Goals as goal
+use Rattle.wkb_command.proofs.program.comparison_report.Goals as goal
 
 pub returns-then-equal : goal.returns-then-equal
 returns-then-equal c =
@@ -19,5 +19,6 @@ returns-else-equal c =
 
 pub returns-in-Err : goal.returns-in-Err
 returns-in-Err c =
-    reports_refusal (c.args.first.now ∷ c.args.second.now ∷ []) Same c.in-Err.fault c.fault_report.result refl (λ is. cc)
+    reports_refusal (c.args.first.now ∷ c.args.second.now ∷ []) Same c.in-Err.fault c.fault_report.result refl
+    (λ is. cc)
     c.in-Err.ensures.err c.fault_report.ensures

@@ -1,7 +1,7 @@
 use Rattle.std.proofs.Common.{refl, ◌∷◌, []}
 use Rattle.wkb_command.specs.declared.program.Command.TheVariants.{Rewrite}
 use Rattle.wkb_command.proofs.Told.{says_rewritten, says_iso_refused, reports_fault}
-use Rattle.wkb_command.proofs.program.rewriting.Goals as goal
+use Rattle.wkb_command.proofs.program.rewriting_report.Goals as goal
 
 pub returns-in-Ok : goal.returns-in-Ok
 returns-in-Ok c =

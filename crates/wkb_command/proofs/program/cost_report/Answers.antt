@@ -1,7 +1,7 @@
 use Rattle.std.proofs.Common.{refl, ◌∷◌, []}
 use Rattle.wkb_command.specs.declared.program.Command.TheVariants.{Cost}
 use Rattle.wkb_command.proofs.Told.{reports_fault, says_accepted, says_counted}
-use Rattle.wkb_command.proofs.program.cost.Goals as goal
+use Rattle.wkb_command.proofs.program.cost_report.Goals as goal
 
 pub returns-in-Err : goal.returns-in-Err
 returns-in-Err c =
@@ -10,10 +10,12 @@ returns-in-Err c =
 
 pub returns-in_ok-format : goal.returns-in_ok-format
 returns-in_ok-format c =
-    says_accepted c.args.text.now _ c.in-Ok.cost.accepted c.in-Ok.cost.counts.turns c.in-Ok.cost.counts.slots c.if-cost.true
+    says_accepted c.args.text.now _ c.in-Ok.cost.accepted c.in-Ok.cost.counts.turns c.in-Ok.cost.counts.slots
+    c.if-cost.true
     c.in_ok-format.ensures.ok c.in-Ok.ensures.ok
 
 pub returns-in_ok-format-2 : goal.returns-in_ok-format-2
 returns-in_ok-format-2 c =
-    says_counted c.args.text.now _ c.in-Ok.cost.accepted c.in-Ok.cost.counts.turns c.in-Ok.cost.counts.slots c.if-cost.false
+    says_counted c.args.text.now _ c.in-Ok.cost.accepted c.in-Ok.cost.counts.turns c.in-Ok.cost.counts.slots
+    c.if-cost.false
     c.in_ok-format-2.ensures.ok c.in-Ok.ensures.ok

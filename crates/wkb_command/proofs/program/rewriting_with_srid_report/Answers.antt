@@ -1,7 +1,7 @@
 use Rattle.std.proofs.Common.{refl, ◌∷◌, []}
 use Rattle.wkb_command.specs.declared.program.Command.TheVariants.{RewriteWithSrid}
 use Rattle.wkb_command.proofs.Told.{says_rewritten_with_srid, reports_refusal}
-use Rattle.wkb_command.proofs.program.rewriting_with_srid.Goals as goal
+use Rattle.wkb_command.proofs.program.rewriting_with_srid_report.Goals as goal
 
 pub returns-in-Ok : goal.returns-in-Ok
 returns-in-Ok c =
@@ -9,5 +9,6 @@ returns-in-Ok c =
 
 pub returns-in-Err : goal.returns-in-Err
 returns-in-Err c =
-    reports_refusal (c.args.text.now ∷ []) (RewriteWithSrid c.args.order) c.in-Err.fault c.fault_report.result refl (λ is. cc)
+    reports_refusal (c.args.text.now ∷ []) (RewriteWithSrid c.args.order) c.in-Err.fault c.fault_report.result refl
+    (λ is. cc)
     c.in-Err.ensures.err c.fault_report.ensures

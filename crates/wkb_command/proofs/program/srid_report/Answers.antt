@@ -3,11 +3,12 @@ use Rattle.std.specs.Prelude.{codes}
 use Rattle.wkb_command.specs.declared.program.Command.TheVariants.{Srid}
 use Rattle.wkb_command.specs.Program as table
 use Rattle.wkb_command.proofs.Told.{reports_line, reports_refusal, one_input, says_srid}
-use Rattle.wkb_command.proofs.program.srid.Goals as goal
+use Rattle.wkb_command.proofs.program.srid_report.Goals as goal
 
 pub returns-in_ok-format-in-Ok-Some : goal.returns-in_ok-format-in-Ok-Some
 returns-in_ok-format-in-Ok-Some c =
-    says_srid c.args.text.now _ c.in-Ok-Some.srid _ c.in-Ok-Some.field-0-is c.in_ok-format-in-Ok-Some.ensures.ok c.in-Ok-Some.ensures.ok
+    says_srid c.args.text.now _ c.in-Ok-Some.srid _ c.in-Ok-Some.field-0-is c.in_ok-format-in-Ok-Some.ensures.ok
+    c.in-Ok-Some.ensures.ok
 
 pub returns-in-Ok-None : goal.returns-in-Ok-None
 returns-in-Ok-None c =
@@ -16,4 +17,5 @@ returns-in-Ok-None c =
 
 pub returns-in-Err : goal.returns-in-Err
 returns-in-Err c =
-    reports_refusal (c.args.text.now ∷ []) Srid c.in-Err.fault c.fault_report.result refl (λ is. cc) c.in-Err.ensures.err c.fault_report.ensures
+    reports_refusal (c.args.text.now ∷ []) Srid c.in-Err.fault c.fault_report.result refl
+    (λ is. cc) c.in-Err.ensures.err c.fault_report.ensures
