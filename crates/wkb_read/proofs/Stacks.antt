@@ -12,7 +12,7 @@ use Rattle.wkb_read.proofs.Algebra.{cost_is, costs-costs, and_then-costs, and_th
 use Rattle.wkb_read.proofs.Algebra.{done_then, repeated_more}
 use Rattle.wkb_read.proofs.Algebra.{repeated_none}
 use Rattle.wkb_read.proofs.Placed.{Closed, closed, one_more, part_read}
-use Rattle.wkb_view.specs.Entries.{entries, room}
+use Rattle.wkb_view.specs.Entries.{entries, capacity}
 use Rattle.wkb_view.proofs.Members.{all_more}
 
 -- what is being read inside these collections, and what comes of it in all
@@ -134,7 +134,7 @@ pub record IsNext (o next : Open) (m : Item) : Type 0 where
   pub layout : next.layout ≡ o.layout
   pub bytes : next.bytes.now ≡ o.bytes.now
   pub items : entries next.members ≡ entries o.members ++ m ∷ []
-  pub capacity : room o.members ≤ room next.members
+  pub capacity_kept : capacity o.members ≤ capacity next.members
 
 member_more : (member : List ℕ → Reading Item) (l : Layout) (bytes : List ℕ) (n : ℕ) (front : List Item) (m : Item)
     (rest : List ℕ)
@@ -169,7 +169,7 @@ more_open o next m rest n h part =
       behind = rw (n.layout, n.bytes, n.items) (h.behind ∙ sym (one_more (entries o.members) m rest));
       each = rw n.items (all_more IsSpelled (entries o.members) m h.each part.spelled);
       within = rw (n.layout, n.bytes) (omega (arith, longer, h.within, part.long, length-append m.encoding rest));
-      room = rw (n.layout, n.bytes) (omega (arith, longer, n.left, n.capacity, h.room));
+      room = rw (n.layout, n.bytes) (omega (arith, longer, n.left, n.capacity_kept, h.room));
     }
 
 -- the next member begins

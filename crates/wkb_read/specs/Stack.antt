@@ -8,7 +8,7 @@ use Rattle.wkb_read.specs.Words.{and_then}
 use Rattle.wkb_read.specs.Words.{repeated, collection_within, layout_of, body_at, body_start, parts_start, geometry_at}
 use Rattle.wkb_read.specs.Words.{Counts, HasHead, Spent, Stops}
 use Rattle.wkb_read.specs.Words.{IsSpelled}
-use Rattle.wkb_view.specs.Entries.{entries, room}
+use Rattle.wkb_view.specs.Entries.{entries, capacity}
 use Rattle.wkb_geom.specs.declared.code.WkbType.TheVariants as kinds
 use Rattle.wkb_read.specs.declared.geometry.Wkb.{Wkb}
 use Rattle.wkb_read.specs.declared.read.unfinished.Open.{Open}
@@ -62,7 +62,7 @@ pub record IsOpen (o : Open) (here : List ℕ) : Type 0 where
   pub behind : parts_start o.layout.has_srid o.bytes.now ≡ encodings (entries o.members) ++ here
   pub each : AllByRecursion IsSpelled (entries o.members)
   pub within : 9 * length (entries o.members) + length here + members_start o ≤ length o.bytes.now
-  pub room : min (members_count o) ((length o.bytes.now - members_start o) / 9) ≤ room o.members
+  pub room : min (members_count o) ((length o.bytes.now - members_start o) / 9) ≤ capacity o.members
 
 -- so it is of each of them: its current member began where the next inner one did
 abbrev pub AreOpen : List Open → List ℕ → Type 0

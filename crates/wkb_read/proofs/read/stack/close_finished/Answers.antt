@@ -45,7 +45,7 @@ begins c more =
       layout = refl;
       bytes = refl;
       items = c.push.ensures.entries;
-      capacity = omega (arith, c.push.ensures.room);
+      capacity_kept = omega (arith, c.push.ensures.room);
     }) (finishes c) refl
 
 pub overflow_add-counts : goal.overflow_add-counts
