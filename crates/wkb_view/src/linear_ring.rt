@@ -10,8 +10,8 @@ use crate::coord::Coord;
 use crate::part::subslice;
 use wkb_geom::words::{COUNT, u32_at};
 use wkb_geom::{
-    Cause, Dimension, Dimensioned, Dimensions, Endianness, General, GeometryTrait, GeometryType,
-    LineStringTrait,
+    Cause, Dimension, Dimensioned, Dimensions, Endianness, Form, General, GeometryTrait,
+    GeometryType, LineStringTrait,
 };
 
 /// A ring: a count and so many coordinates, in its polygon's order and dimension.
@@ -211,6 +211,12 @@ impl<'a> GeometryTrait for LinearRing<'a> {
         ensures view { result ≡ Handed self.entry }
     {
         GeometryType::LineString(self)
+    }
+
+    // A ring has no header, so it is not lent whole.
+    #[inline]
+    fn whole(&self, _order: Endianness, _form: Form) -> Option<&[u8]> {
+        None
     }
 }
 

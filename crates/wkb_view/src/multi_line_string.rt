@@ -22,8 +22,8 @@ use wkb_geom::code::LINE_STRING;
 use wkb_geom::header::LEAST_MEMBER;
 use wkb_geom::words::COUNT;
 use wkb_geom::{
-    Cause, Dimension, Dimensioned, Dimensions, GeometryTrait, GeometryType, Layout,
-    MultiLineStringTrait, Refusal,
+    Cause, Dimension, Dimensioned, Dimensions, Endianness, Form, GeometryTrait, GeometryType,
+    Layout, MultiLineStringTrait, Refusal,
 };
 
 /// A multi line string: its members by the offsets at which they end.
@@ -232,6 +232,12 @@ impl<'a> GeometryTrait for MultiLineString<'a> {
         ensures view { result ≡ Handed self.entry }
     {
         GeometryType::MultiLineString(self)
+    }
+
+    // Each member has a header of its own, so none is lent whole.
+    #[inline]
+    fn whole(&self, _order: Endianness, _form: Form) -> Option<&[u8]> {
+        None
     }
 }
 

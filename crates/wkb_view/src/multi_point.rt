@@ -18,8 +18,8 @@ use wkb_geom::code::POINT;
 use wkb_geom::header::MEMBER_HEADER;
 use wkb_geom::words::COUNT;
 use wkb_geom::{
-    Cause, Dimension, Dimensioned, Dimensions, General, GeometryTrait, GeometryType, Layout,
-    MultiPointTrait,
+    Cause, Dimension, Dimensioned, Dimensions, Endianness, Form, General, GeometryTrait,
+    GeometryType, Layout, MultiPointTrait,
 };
 
 /// A multi point: its members have one length, and are made again from their bytes.
@@ -217,6 +217,12 @@ impl<'a> GeometryTrait for MultiPoint<'a> {
         ensures view { result ≡ Handed self.entry }
     {
         GeometryType::MultiPoint(self)
+    }
+
+    // Each member has a header of its own, so none is lent whole.
+    #[inline]
+    fn whole(&self, _order: Endianness, _form: Form) -> Option<&[u8]> {
+        None
     }
 }
 

@@ -21,8 +21,8 @@ use std::marker::Model;
 use wkb_geom::code::POLYGON;
 use wkb_geom::header::LEAST_MEMBER;
 use wkb_geom::{
-    Dimension, Dimensioned, Dimensions, GeometryTrait, GeometryType, Layout, MultiPolygonTrait,
-    Refusal,
+    Dimension, Dimensioned, Dimensions, Endianness, Form, GeometryTrait, GeometryType, Layout,
+    MultiPolygonTrait, Refusal,
 };
 
 /// A multi polygon.
@@ -216,6 +216,12 @@ impl<'a> GeometryTrait for MultiPolygon<'a> {
         ensures view { result ≡ Handed self.entry }
     {
         GeometryType::MultiPolygon(self)
+    }
+
+    // Each member has a header of its own, so none is lent whole.
+    #[inline]
+    fn whole(&self, _order: Endianness, _form: Form) -> Option<&[u8]> {
+        None
     }
 }
 

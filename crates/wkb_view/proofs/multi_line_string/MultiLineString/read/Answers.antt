@@ -1,5 +1,5 @@
 use Rattle.std.proofs.Common.{◌-◌, length, length-take, arith}
-use Rattle.wkb_view.proofs.Lists.{line_strings_here, list_reads}
+use Rattle.wkb_view.proofs.Lists.{parts_length, line_strings_here, list_fits, list_reads}
 use Rattle.wkb_view.proofs.SpelledRead.{body_spelled}
 use Rattle.wkb_view.proofs.multi_line_string.MultiLineString.read.Goals as goal
 
@@ -24,3 +24,15 @@ invariant_of-multi_line_string c =
       e.ends,
       body_spelled bytes _ _ _ c.requires.head read.0,
     )
+
+pub line_strings-requires-clause-room : goal.line_strings-requires-clause-room
+line_strings-requires-clause-room c =
+    rw (parts_length c.args.layout.has_srid c.args.bytes.now)
+    (omega (arith, c.in_ok-count.ensures.room, c.in_ok-count.ensures.count))
+
+pub line_strings-requires-clause-fits : goal.line_strings-requires-clause-fits
+line_strings-requires-clause-fits c =
+    list_fits
+    (line_strings_here c.args.layout c.args.bytes.now _ c.args.counts.now c.counted_list.new.counts
+    c.in_ok-count.ensures.whole c.in_ok-count.ensures.count
+    c.counted_list.ensures.turns c.counted_list.ensures.slots) c.requires.fits

@@ -1,5 +1,5 @@
 use Rattle.std.proofs.Common.{◌-◌, length, length-take, arith}
-use Rattle.wkb_view.proofs.Lists.{rings_here, list_reads}
+use Rattle.wkb_view.proofs.Lists.{parts_length, rings_here, list_fits, list_reads}
 use Rattle.wkb_view.proofs.SpelledRead.{body_spelled}
 use Rattle.wkb_view.proofs.polygon.Polygon.read.Goals as goal
 
@@ -24,3 +24,15 @@ invariant_of-polygon c =
       e.ends,
       body_spelled bytes _ _ _ c.requires.head read.0,
     )
+
+pub rings-requires-clause-room : goal.rings-requires-clause-room
+rings-requires-clause-room c =
+    rw (parts_length c.args.layout.has_srid c.args.bytes.now)
+    (omega (arith, c.in_ok-count.ensures.room, c.in_ok-count.ensures.count))
+
+pub rings-requires-clause-fits : goal.rings-requires-clause-fits
+rings-requires-clause-fits c =
+    list_fits
+    (rings_here c.args.layout c.args.bytes.now _ c.args.counts.now c.counted_list.new.counts
+    c.in_ok-count.ensures.whole c.in_ok-count.ensures.count
+    c.counted_list.ensures.turns c.counted_list.ensures.slots) c.requires.fits
