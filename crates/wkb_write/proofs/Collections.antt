@@ -51,7 +51,7 @@ collection_members d f xs none = sym (faults-geometries f xs) ∙ none_rest _ _ 
 
 -- where no member has a fault, this one has none, and no more nodes than all
 pub member_ready : {X : Type 0} (f : X → Geometry) (xs : List X) (i : ℕ) (x : X) → i < length xs → x ≡ get_or xs i x
-    → first_fault (λ y. fault (f y)) xs ≡ None → (fault (f x) ≡ None) × (3 * node_count (f x) + 1 < 3 * node_counts (geometries (map f xs)) + 2)
+    → first_fault (λ y. fault (f y)) xs ≡ None → (fault (f x) ≡ None) × (2 * node_count (f x) < 2 * node_counts (geometries (map f xs)) + 1)
 member_ready f xs i x within is none =
     let item = slice_get_read xs (length xs) i x refl within is in
     (none_at (λ y. fault (f y)) xs i x none item, omega (arith, node_count-member f xs i x within, ap (λ y. node_count (f y)) is))

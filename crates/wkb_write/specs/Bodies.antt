@@ -53,6 +53,11 @@ abbrev pub member_measures : Geometries → List Measure
 member_measures no_geometries = []
 member_measures (geometry g gs) = member_measure g ∷ member_measures gs
 
+-- a geometry that is no collection
+abbrev pub IsLeaf : Geometry → Type 0
+IsLeaf (collection d gs) = ⊥
+IsLeaf g = Unit {0}
+
 -- the first fault behind the header
 abbrev pub body_fault : Geometry → Option Fault
 body_fault (point d c) = None

@@ -1,6 +1,6 @@
 -- The words of the clauses of all kinds, passed on from one place. Declares nothing.
 pub use Rattle.wkb_geom.specs.Errors.{IsMemory}
-pub use Rattle.wkb_geom.specs.Geometries.{IsPoint, collection, geometries, line, line_string, multi_line_string}
+pub use Rattle.wkb_geom.specs.Geometries.{Geometry, IsPoint, collection, geometries, line, line_string, multi_line_string}
 pub use Rattle.wkb_geom.specs.Geometries.{multi_point, multi_polygon, point, polygon, rectangle, triangle}
 pub use Rattle.wkb_geom.specs.Reading.{type_dimension, type_kind}
 pub use Rattle.wkb_geom.specs.Encodings.{coordinates_fault, coordinates_encoding, count_fault, dimensions_fault, fault}
@@ -11,6 +11,6 @@ pub use Rattle.wkb_geom.specs.declared.common.Form.TheVariants.{Iso}
 pub use Rattle.wkb_sink.specs.Progress.{Lays}
 pub use Rattle.wkb_write.specs.Answers.{encoding_of, refusal_of, IsSizeOf, WritesTo}
 pub use Rattle.wkb_write.specs.Bodies.{Measure, parts_fault, parts_size, point_measure, polygon_measure, ring_bytes}
-pub use Rattle.wkb_write.specs.Bodies.{ring_measure, coordinate_words}
+pub use Rattle.wkb_write.specs.Bodies.{ring_measure, coordinate_words, IsLeaf}
 pub use Rattle.wkb_write.specs.Counted.{counted, form_with_flags}
 pub use Rattle.wkb_write.specs.Measures.{IsAdded, IsMeasured, Measures, Reports, result_of}

@@ -1,22 +1,17 @@
 //! A geometry of any kind, and the members of a collection: their recursion, in measuring and in putting.
 
-ghost use Rattle.std.specs.Prelude.{◌≡◌, ◌<◌, ◌^◌, ◌++◌, ◌⊎◌, None, IfOk, IfErr, false, length, map};
+ghost use Rattle.std.specs.Prelude.{◌≡◌, ◌<◌, ◌^◌, ◌++◌, ◌⊎◌, None, IfOk, IfErr, false, length, map, MatchOption};
 ghost use Rattle.wkb_write.specs.Words.{encoding_of, refusal_of, Iso, IsMemory, collection, geometries};
 ghost use Rattle.wkb_write.specs.Words.{fault, first_fault};
 ghost use Rattle.wkb_write.specs.Words.{header_encoding, inner, encoding, Lays, IsSizeOf, WritesTo, counted};
-ghost use Rattle.wkb_write.specs.Words.{form_with_flags, IsAdded, IsMeasured, Reports, result_of};
+ghost use Rattle.wkb_write.specs.Words.{form_with_flags, IsAdded, IsLeaf, IsMeasured, Reports, result_of};
 
+use crate::leaf::{Leaf, LeafKind};
 use crate::lent::{lent_encoding, write_lent};
-use crate::line::LineKind;
-use crate::line_string::{LineStringKind, write_line_string};
+use crate::line_string::write_line_string;
 use crate::measure::{Measured, check_count, check_dimensions};
-use crate::multi_line_string::MultiLineStringKind;
-use crate::multi_point::MultiPointKind;
-use crate::multi_polygon::MultiPolygonKind;
 use crate::point::{PointKind, write_point};
-use crate::polygon::{PolygonKind, write_polygon};
-use crate::rect::RectKind;
-use crate::triangle::TriangleKind;
+use crate::polygon::write_polygon;
 use crate::writable::{Put, Writable, size_as, vec_as, write_as};
 use crate::{Sink, WriteOptions};
 use std::alloc::Global;
@@ -28,6 +23,19 @@ use wkb_geom::{
 };
 use wkb_sink::Buffered;
 use wkb_sink::block::dimension_to_write;
+
+// The members of a collection; none of a leaf.
+#[inline(always)]
+fn members_of<G: GeometryTrait>(geom: &G) -> Option<&[G]>
+    ensures { MatchOption result (IsLeaf (G.geometry geom.now))
+        (λ members. collection (G.dimensions geom.now) (geometries (map G.geometry members.now))
+        ≡ G.geometry geom.now) }
+{
+    match geom.as_type() {
+        GeometryType::GeometryCollection(members) => Some(members),
+        _ => None,
+    }
+}
 
 // Adds a collection of these dimensions and members to the bytes before it. Where the last member is a collection, it
 // is added by the last call, which the compiler makes a jump.
@@ -47,7 +55,7 @@ pub fn add_members<G: GeometryTrait>(before: usize, dim: Dimensions, members: &[
     let mut total = before.saturating_add(4 + MEMBER_HEADER * count);
     for (i, member) in members.iter().enumerate() {
         if i + 1 == count {
-            if let GeometryType::GeometryCollection(inner) = member.as_type() {
+            if let Some(inner) = members_of(member) {
                 return add_members(total, member.dim(), inner);
             }
         }
@@ -66,19 +74,9 @@ pub fn add_members<G: GeometryTrait>(before: usize, dim: Dimensions, members: &[
 fn measure_geometry<G: GeometryTrait>(geom: &G) -> Result<usize, Fault>
     ensures measured { IsMeasured (G.geometry geom.now) result }
 {
-    match geom.as_type() {
-        GeometryType::Point(p) => PointKind::measure(p),
-        GeometryType::LineString(l) => LineStringKind::measure(l),
-        GeometryType::Polygon(p) => PolygonKind::measure(p),
-        GeometryType::MultiPoint(m) => MultiPointKind::measure(m),
-        GeometryType::MultiLineString(m) => MultiLineStringKind::measure(m),
-        GeometryType::MultiPolygon(m) => MultiPolygonKind::measure(m),
-        GeometryType::GeometryCollection(members) => {
-            add_members(0, geom.dim(), members).result()
-        }
-        GeometryType::Line(l) => LineKind::measure(l),
-        GeometryType::Rect(r) => RectKind::measure(r),
-        GeometryType::Triangle(t) => TriangleKind::measure(t),
+    match members_of(geom) {
+        Some(members) => add_members(0, geom.dim(), members).result(),
+        None => LeafKind::measure_leaf(geom),
     }
 }
 
@@ -119,7 +117,11 @@ fn put_member<S: Sink, G: GeometryTrait>(
     ensures { Lays S.Sink out.old out.new
         (encoding order (form_with_flags has_flags) (G.geometry geom.now)) result }
 {
-    put_any(out, geom, order, member_form(has_flags))
+    let form = member_form(has_flags);
+    match members_of(geom) {
+        Some(members) => { put_members(out, members, order, form, dimension_to_write(geom.dim())) }
+        None => LeafKind::put_leaf(out, geom, order, form),
+    }
 }
 
 // Puts a collection's header, and its members after their count. The last one is put by the last call, which the
@@ -153,36 +155,6 @@ pub fn put_members<S: Sink, G: GeometryTrait>(
     put_member(out, &members[last], order, has_flags(form))
 }
 
-// Puts a geometry of any kind.
-#[cycle(put)]
-#[inline(always)]
-#[tactic(auto, using(crate::proofs::Steps::node_laws))]
-fn put_any<S: Sink, G: GeometryTrait>(
-    out: &mut Buffered<'_, S>,
-    geom: &G,
-    order: Endianness,
-    form: Form,
-) -> Put
-    requires fault { fault (G.geometry geom.now) ≡ None }
-    requires working { S.has_failed out.old.sink.now ≡ false }
-    ensures { Lays S.Sink out.old out.new (encoding order form (G.geometry geom.now)) result }
-{
-    match geom.as_type() {
-        GeometryType::Point(p) => PointKind::put(out, p, order, form),
-        GeometryType::LineString(l) => LineStringKind::put(out, l, order, form),
-        GeometryType::Polygon(p) => PolygonKind::put(out, p, order, form),
-        GeometryType::MultiPoint(m) => MultiPointKind::put(out, m, order, form),
-        GeometryType::MultiLineString(m) => MultiLineStringKind::put(out, m, order, form),
-        GeometryType::MultiPolygon(m) => MultiPolygonKind::put(out, m, order, form),
-        GeometryType::Rect(r) => RectKind::put(out, r, order, form),
-        GeometryType::Triangle(t) => TriangleKind::put(out, t, order, form),
-        GeometryType::Line(l) => LineKind::put(out, l, order, form),
-        GeometryType::GeometryCollection(members) => {
-            put_members(out, members, order, form, dimension_to_write(geom.dim()))
-        }
-    }
-}
-
 /// A geometry of any kind.
 pub struct GeometryKind;
 
@@ -197,7 +169,12 @@ impl<G: GeometryTrait> Writable<G> for GeometryKind {
     }
 
     fn put<S: Sink>(out: &mut Buffered<'_, S>, geom: &G, order: Endianness, form: Form) -> Put {
-        put_any(out, geom, order, form)
+        match members_of(geom) {
+            Some(members) => {
+                put_members(out, members, order, form, dimension_to_write(geom.dim()))
+            }
+            None => LeafKind::put_leaf(out, geom, order, form),
+        }
     }
 }
 

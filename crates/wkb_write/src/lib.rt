@@ -13,6 +13,7 @@ mod common;
 mod geometry;
 mod geometry_collection;
 mod items;
+mod leaf;
 mod lent;
 mod line;
 mod line_string;

@@ -6,15 +6,15 @@ use Rattle.wkb_write.specs.Measures.{Finds, IsAdded, IsMeasured, Measures, cappe
 use Rattle.wkb_write.proofs.Faults.{measured_err}
 use Rattle.wkb_write.proofs.Sums.{SoFar, parts_begin, parts_step, count_reports, part_reports, parts_behind, last_added}
 use Rattle.wkb_write.proofs.Whole.{added_alone, collected, whole_unsupported, members_length, said_of_member}
-use Rattle.wkb_write.proofs.Whole.{measured_same, members_fall, member_falls}
+use Rattle.wkb_write.proofs.Whole.{members_fall, member_falls}
 use Rattle.wkb_write.proofs.geometry.+measure.Goals as goal
 
 pub measure_geometry-add_members-requires : goal.measure_geometry-add_members-requires
-measure_geometry-add_members-requires g t c κs within = (members_fall _ _ _ t c.in-GeometryCollection.ensures.part c.decreases, within)
+measure_geometry-add_members-requires g t c κs within = (members_fall _ _ _ t c.in-Some.ensures c.decreases, within)
 
-pub measure_geometry-returns-in-GeometryCollection : goal.measure_geometry-returns-in-GeometryCollection
-measure_geometry-returns-in-GeometryCollection g t c =
-    record { measured = added_alone _ _ _ _ (rw c.dim.ensures at c.add_members.ensures) c.result.ensures c.in-GeometryCollection.ensures.part }
+pub measure_geometry-returns-in-Some : goal.measure_geometry-returns-in-Some
+measure_geometry-returns-in-Some g t c =
+    record { measured = added_alone _ _ _ _ (rw c.dim.ensures at c.add_members.ensures) c.result.ensures c.in-Some.ensures }
 
 pub add_members-returns-in-Err : goal.add_members-returns-in-Err
 unfolding IsAdded
@@ -61,16 +61,16 @@ add_members-loop-i-preserved g t c =
 pub add_members-add_members-requires : goal.add_members-add_members-requires
 add_members-add_members-requires g t c κs within =
     let falls = member_falls g.G.GeometryTrait.geometry c.args.members.now c.loop-i.i _ t c.loop-i-test.true c.index-members-i.is c.decreases in
-    (omega (arith, members_fall _ _ _ _ c.in-GeometryCollection.ensures.part refl, falls), within)
+    (omega (arith, members_fall _ _ _ _ c.in-Some.ensures refl, falls), within)
 
 -- the last member is a collection
-pub add_members-returns-in-GeometryCollection : goal.add_members-returns-in-GeometryCollection
+pub add_members-returns-in-Some : goal.add_members-returns-in-Some
 unfolding IsAdded
-add_members-returns-in-GeometryCollection g t c =
+add_members-returns-in-Some g t c =
     let xs = c.args.members.now in
     let geo = g.G.GeometryTrait.geometry in
     let r = result_of c.add_members.result in
-    let added = subst (λ h. IsAdded c.loop-i.total h r) c.in-GeometryCollection.ensures.part (rw c.dim.ensures at c.add_members.ensures) in
+    let added = subst (λ h. IsAdded c.loop-i.total h r) c.in-Some.ensures (rw c.dim.ensures at c.add_members.ensures) in
     let here = said_of_member geo (λ p. Measures p.fault (c.loop-i.total + p.size) r) xs c.loop-i.i _ c.loop-i-test.true c.index-members-i.is added in
     let is = c.in-Ok-check_count.ensures.1 ∙ members_length geo xs in
     collected _ _ _ r c.in-Ok.ensures
@@ -84,30 +84,3 @@ add_members-returns g t c =
     collected _ _ _ _ c.in-Ok.ensures
     (parts_behind _ _ 5 _ _ _ is (rw c.in-Ok-check_count.ensures.1 c.in-Ok-check_count.ensures.0)
     (omega (arith, members_length g.G.GeometryTrait.geometry xs, c.loop-i-test.false)) c.loop-i.invariant)
-
-pub measure_geometry-returns-in-Point : goal.measure_geometry-returns-in-Point
-measure_geometry-returns-in-Point g t c = record { measured = measured_same _ c.in-Point.ensures.part c.measure.ensures }
-
-pub measure_geometry-returns-in-LineString : goal.measure_geometry-returns-in-LineString
-measure_geometry-returns-in-LineString g t c = record { measured = measured_same _ c.in-LineString.ensures.part c.measure-in-LineString.ensures }
-
-pub measure_geometry-returns-in-Polygon : goal.measure_geometry-returns-in-Polygon
-measure_geometry-returns-in-Polygon g t c = record { measured = measured_same _ c.in-Polygon.ensures.part c.measure-in-Polygon.ensures }
-
-pub measure_geometry-returns-in-MultiPoint : goal.measure_geometry-returns-in-MultiPoint
-measure_geometry-returns-in-MultiPoint g t c = record { measured = measured_same _ c.in-MultiPoint.ensures.part c.measure-in-MultiPoint.ensures }
-
-pub measure_geometry-returns-in-MultiLineString : goal.measure_geometry-returns-in-MultiLineString
-measure_geometry-returns-in-MultiLineString g t c = record { measured = measured_same _ c.in-MultiLineString.ensures.part c.measure-in-MultiLineString.ensures }
-
-pub measure_geometry-returns-in-MultiPolygon : goal.measure_geometry-returns-in-MultiPolygon
-measure_geometry-returns-in-MultiPolygon g t c = record { measured = measured_same _ c.in-MultiPolygon.ensures.part c.measure-in-MultiPolygon.ensures }
-
-pub measure_geometry-returns-in-Line : goal.measure_geometry-returns-in-Line
-measure_geometry-returns-in-Line g t c = record { measured = measured_same _ c.in-Line.ensures.part c.measure-in-Line.ensures }
-
-pub measure_geometry-returns-in-Rect : goal.measure_geometry-returns-in-Rect
-measure_geometry-returns-in-Rect g t c = record { measured = measured_same _ c.in-Rect.ensures.part c.measure-in-Rect.ensures }
-
-pub measure_geometry-returns-in-Triangle : goal.measure_geometry-returns-in-Triangle
-measure_geometry-returns-in-Triangle g t c = record { measured = measured_same _ c.in-Triangle.ensures.part c.measure-in-Triangle.ensures }

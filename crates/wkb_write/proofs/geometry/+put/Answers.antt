@@ -1,6 +1,6 @@
 use Rattle.wkb_write.proofs.Prelude.{◌≡◌, ◌<◌, ◌-◌, ◌∙◌, sym, ap, length, arith, length-map, node_count, fault, encoding}
 use Rattle.wkb_write.proofs.Prelude.{inner}
-use Rattle.wkb_write.proofs.Collections.{collection_count, collection_members, lays_collection, lays_same, member_ready}
+use Rattle.wkb_write.proofs.Collections.{collection_count, collection_members, lays_collection, member_ready}
 use Rattle.wkb_sink.proofs.Laid.{exits}
 use Rattle.wkb_write.proofs.Loops.{head_cut, none_laid, next_laid, all_laid, next_cut, lays_last_encoding, encoding_there}
 use Rattle.wkb_write.proofs.geometry.+put.Goals as goal
@@ -8,11 +8,24 @@ use Rattle.wkb_write.proofs.geometry.+put.Goals as goal
 pub put_members-returns-in_err-put_head : goal.put_members-returns-in_err-put_head
 put_members-returns-in_err-put_head g t c = exits _ _ c.from_residual.ensures.1 (head_cut _ _ _ _ (length-map _ _) c.in_err-put_head.ensures)
 
-pub put_member-put_any-requires : goal.put_member-put_any-requires
-put_member-put_any-requires g t c κs within = (omega (arith, c.decreases), assumption (c.requires.fault, c.requires.working))
+pub put_member-put_leaf-requires-clause-leaf : goal.put_member-put_leaf-requires-clause-leaf
+put_member-put_leaf-requires-clause-leaf g t c = c.in-None.ensures
 
-pub put_member-returns : goal.put_member-returns
-put_member-returns g t c = rw c.member_form.ensures at c.put_any.ensures
+pub put_member-put_members-requires : goal.put_member-put_members-requires
+put_member-put_members-requires g t c κs within =
+    let members = c.in-Some.members.now in
+    let none = ap fault c.in-Some.ensures ∙ c.requires.fault in
+    let few = collection_count (g.G.Dimensioned.dimensions c.args.geom.now) g.G.GeometryTrait.geometry members none in
+    let fine = collection_members (g.G.Dimensioned.dimensions c.args.geom.now) g.G.GeometryTrait.geometry members none in
+    (omega (arith, ap node_count c.in-Some.ensures, c.decreases), assumption (few, fine, c.requires.working))
+
+pub put_member-returns-in-Some : goal.put_member-returns-in-Some
+put_member-returns-in-Some g t c =
+    rw c.member_form-form.ensures at
+    (lays_collection _ _ _ _ _ _ _ c.put_members.ensures c.dimension_to_write.ensures c.dim.ensures c.in-Some.ensures)
+
+pub put_member-returns-in-None : goal.put_member-returns-in-None
+put_member-returns-in-None g t c = rw c.member_form-form.ensures at c.put_leaf.ensures
 
 pub put_members-put_member-requires : goal.put_members-put_member-requires
 put_members-put_member-requires g t c κs within =
@@ -47,99 +60,6 @@ put_members-returns-in_err-put_member g t c =
     let there : c.loop-i.i < length c.args.members.now = omega (arith, c.loop-i-test.true) in
     let cut = rw (← c.has_flags.ensures) at c.in_err-put_member.ensures in
     exits _ _ c.from_residual-in_err-put_member.ensures.1 (next_cut c.loop-i.invariant (encoding_there _ _ _ _ there c.index-members-i.is) cut)
-
-pub put_any-put-requires-clause-fault : goal.put_any-put-requires-clause-fault
-put_any-put-requires-clause-fault g t c = ap fault c.in-Point.ensures.part ∙ c.requires.fault
-
-pub put_any-put-requires-in-LineString-clause-fault : goal.put_any-put-requires-in-LineString-clause-fault
-put_any-put-requires-in-LineString-clause-fault g t c = ap fault c.in-LineString.ensures.part ∙ c.requires.fault
-
-pub put_any-put-requires-in-Polygon-clause-fault : goal.put_any-put-requires-in-Polygon-clause-fault
-put_any-put-requires-in-Polygon-clause-fault g t c = ap fault c.in-Polygon.ensures.part ∙ c.requires.fault
-
-pub put_any-put-requires-in-MultiPoint-clause-fault : goal.put_any-put-requires-in-MultiPoint-clause-fault
-put_any-put-requires-in-MultiPoint-clause-fault g t c = ap fault c.in-MultiPoint.ensures.part ∙ c.requires.fault
-
-pub put_any-put-requires-in-MultiLineString-clause-fault : goal.put_any-put-requires-in-MultiLineString-clause-fault
-put_any-put-requires-in-MultiLineString-clause-fault g t c = ap fault c.in-MultiLineString.ensures.part ∙ c.requires.fault
-
-pub put_any-put-requires-in-MultiPolygon-clause-fault : goal.put_any-put-requires-in-MultiPolygon-clause-fault
-put_any-put-requires-in-MultiPolygon-clause-fault g t c = ap fault c.in-MultiPolygon.ensures.part ∙ c.requires.fault
-
-pub put_any-put-requires-in-Rect-clause-fault : goal.put_any-put-requires-in-Rect-clause-fault
-put_any-put-requires-in-Rect-clause-fault g t c = ap fault c.in-Rect.ensures.part ∙ c.requires.fault
-
-pub put_any-put-requires-in-Triangle-clause-fault : goal.put_any-put-requires-in-Triangle-clause-fault
-put_any-put-requires-in-Triangle-clause-fault g t c = ap fault c.in-Triangle.ensures.part ∙ c.requires.fault
-
-pub put_any-put-requires-in-Line-clause-fault : goal.put_any-put-requires-in-Line-clause-fault
-put_any-put-requires-in-Line-clause-fault g t c = ap fault c.in-Line.ensures.part ∙ c.requires.fault
-
-pub put_any-put_members-requires : goal.put_any-put_members-requires
-put_any-put_members-requires g t c κs within =
-    let members = c.in-GeometryCollection.members.now in
-    let none = ap fault c.in-GeometryCollection.ensures.part ∙ c.requires.fault in
-    let few = collection_count (g.G.Dimensioned.dimensions c.args.geom.now) g.G.GeometryTrait.geometry members none in
-    let fine = collection_members (g.G.Dimensioned.dimensions c.args.geom.now) g.G.GeometryTrait.geometry members none in
-    (omega (arith, ap node_count c.in-GeometryCollection.ensures.part, c.decreases), assumption (few, fine, c.requires.working))
-
-pub put_any-returns-in-GeometryCollection : goal.put_any-returns-in-GeometryCollection
-put_any-returns-in-GeometryCollection g t c =
-    lays_collection _ _ _ _ _ _ _ c.put_members.ensures c.dimension_to_write.ensures c.dim.ensures c.in-GeometryCollection.ensures.part
-
-pub put_any-put-requires-clause-working : goal.put_any-put-requires-clause-working
-put_any-put-requires-clause-working g t c = c.requires.working
-
-pub put_any-returns-in-Point : goal.put_any-returns-in-Point
-put_any-returns-in-Point g t c = lays_same _ _ _ c.args.order c.args.form c.in-Point.ensures.part c.put.ensures
-
-pub put_any-put-requires-in-LineString-clause-working : goal.put_any-put-requires-in-LineString-clause-working
-put_any-put-requires-in-LineString-clause-working g t c = c.requires.working
-
-pub put_any-returns-in-LineString : goal.put_any-returns-in-LineString
-put_any-returns-in-LineString g t c = lays_same _ _ _ c.args.order c.args.form c.in-LineString.ensures.part c.put-in-LineString.ensures
-
-pub put_any-put-requires-in-Polygon-clause-working : goal.put_any-put-requires-in-Polygon-clause-working
-put_any-put-requires-in-Polygon-clause-working g t c = c.requires.working
-
-pub put_any-returns-in-Polygon : goal.put_any-returns-in-Polygon
-put_any-returns-in-Polygon g t c = lays_same _ _ _ c.args.order c.args.form c.in-Polygon.ensures.part c.put-in-Polygon.ensures
-
-pub put_any-put-requires-in-MultiPoint-clause-working : goal.put_any-put-requires-in-MultiPoint-clause-working
-put_any-put-requires-in-MultiPoint-clause-working g t c = c.requires.working
-
-pub put_any-returns-in-MultiPoint : goal.put_any-returns-in-MultiPoint
-put_any-returns-in-MultiPoint g t c = lays_same _ _ _ c.args.order c.args.form c.in-MultiPoint.ensures.part c.put-in-MultiPoint.ensures
-
-pub put_any-put-requires-in-MultiLineString-clause-working : goal.put_any-put-requires-in-MultiLineString-clause-working
-put_any-put-requires-in-MultiLineString-clause-working g t c = c.requires.working
-
-pub put_any-returns-in-MultiLineString : goal.put_any-returns-in-MultiLineString
-put_any-returns-in-MultiLineString g t c = lays_same _ _ _ c.args.order c.args.form c.in-MultiLineString.ensures.part c.put-in-MultiLineString.ensures
-
-pub put_any-put-requires-in-MultiPolygon-clause-working : goal.put_any-put-requires-in-MultiPolygon-clause-working
-put_any-put-requires-in-MultiPolygon-clause-working g t c = c.requires.working
-
-pub put_any-returns-in-MultiPolygon : goal.put_any-returns-in-MultiPolygon
-put_any-returns-in-MultiPolygon g t c = lays_same _ _ _ c.args.order c.args.form c.in-MultiPolygon.ensures.part c.put-in-MultiPolygon.ensures
-
-pub put_any-put-requires-in-Rect-clause-working : goal.put_any-put-requires-in-Rect-clause-working
-put_any-put-requires-in-Rect-clause-working g t c = c.requires.working
-
-pub put_any-returns-in-Rect : goal.put_any-returns-in-Rect
-put_any-returns-in-Rect g t c = lays_same _ _ _ c.args.order c.args.form c.in-Rect.ensures.part c.put-in-Rect.ensures
-
-pub put_any-put-requires-in-Triangle-clause-working : goal.put_any-put-requires-in-Triangle-clause-working
-put_any-put-requires-in-Triangle-clause-working g t c = c.requires.working
-
-pub put_any-returns-in-Triangle : goal.put_any-returns-in-Triangle
-put_any-returns-in-Triangle g t c = lays_same _ _ _ c.args.order c.args.form c.in-Triangle.ensures.part c.put-in-Triangle.ensures
-
-pub put_any-put-requires-in-Line-clause-working : goal.put_any-put-requires-in-Line-clause-working
-put_any-put-requires-in-Line-clause-working g t c = c.requires.working
-
-pub put_any-returns-in-Line : goal.put_any-returns-in-Line
-put_any-returns-in-Line g t c = lays_same _ _ _ c.args.order c.args.form c.in-Line.ensures.part c.put-in-Line.ensures
 
 pub put_members-put_head-requires : goal.put_members-put_head-requires
 put_members-put_head-requires g t c = record { working = c.requires.working }

@@ -3,14 +3,11 @@ use Rattle.wkb_write.proofs.Prelude.{progress}
 use Rattle.wkb_write.proofs.Loops.{HasLaid}
 use Rattle.wkb_write.proofs.geometry.+put.Given as goal
 
-abbrev pub decreases-put_any : goal.decreases-put_any
-decreases-put_any g l = 3 * node_count (g.G.GeometryTrait.geometry l.geom.now)
-
 abbrev pub decreases-put_member : goal.decreases-put_member
-decreases-put_member g l = 3 * node_count (g.G.GeometryTrait.geometry l.geom.now) + 1
+decreases-put_member g l = 2 * node_count (g.G.GeometryTrait.geometry l.geom.now)
 
 abbrev pub decreases-put_members : goal.decreases-put_members
-decreases-put_members g l = 3 * node_counts (geometries (map g.G.GeometryTrait.geometry l.members.now)) + 2
+decreases-put_members g l = 2 * node_counts (geometries (map g.G.GeometryTrait.geometry l.members.now)) + 1
 
 abbrev pub invariant-put_members-loop-i : goal.invariant-put_members-loop-i
 invariant-put_members-loop-i g l =
