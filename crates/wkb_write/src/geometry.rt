@@ -6,7 +6,7 @@ ghost use Rattle.wkb_write.specs.Words.{fault, first_fault};
 ghost use Rattle.wkb_write.specs.Words.{header_encoding, inner, encoding, Lays, IsSizeOf, WritesTo, counted};
 ghost use Rattle.wkb_write.specs.Words.{form_with_flags, IsAdded, IsLeaf, IsMeasured, Reports, result_of};
 
-use crate::leaf::{Leaf, LeafKind};
+use crate::leaf::{measure_leaf, put_leaf};
 use crate::lent::{lent_encoding, write_lent};
 use crate::line_string::write_line_string;
 use crate::measure::{Measured, check_count, check_dimensions};
@@ -76,7 +76,7 @@ fn measure_geometry<G: GeometryTrait>(geom: &G) -> Result<usize, Fault>
 {
     match members_of(geom) {
         Some(members) => add_members(0, geom.dim(), members).result(),
-        None => LeafKind::measure_leaf(geom),
+        None => measure_leaf(geom),
     }
 }
 
@@ -120,7 +120,7 @@ fn put_member<S: Sink, G: GeometryTrait>(
     let form = member_form(has_flags);
     match members_of(geom) {
         Some(members) => { put_members(out, members, order, form, dimension_to_write(geom.dim())) }
-        None => LeafKind::put_leaf(out, geom, order, form),
+        None => put_leaf(out, geom, order, form),
     }
 }
 
@@ -173,7 +173,7 @@ impl<G: GeometryTrait> Writable<G> for GeometryKind {
             Some(members) => {
                 put_members(out, members, order, form, dimension_to_write(geom.dim()))
             }
-            None => LeafKind::put_leaf(out, geom, order, form),
+            None => put_leaf(out, geom, order, form),
         }
     }
 }
@@ -226,7 +226,7 @@ pub fn write_geometry<S: Sink, G: GeometryTrait>(
     ensures { WritesTo S.Sink writer.old writer.new options.now (G.geometry geom.now) result }
 {
     if let Some(encoding) = lent_encoding(geom, options) {
-        return write_lent(writer, geom, encoding, options);
+        return write_lent(writer, encoding, options);
     }
     match geom.as_type() {
         // Most geometries are of these kinds, and go by their own writers at once.

@@ -1,7 +1,7 @@
 //! A leaf: a geometry of any kind but a collection, which recursion ends at.
 
 ghost use Rattle.std.specs.Prelude.{◌≡◌, None, false};
-ghost use Rattle.wkb_write.specs.Words.{Geometry, fault, encoding, Lays, IsMeasured, IsLeaf};
+ghost use Rattle.wkb_write.specs.Words.{fault, encoding, Lays, IsMeasured, IsLeaf};
 
 use crate::common::*;
 use crate::line::LineKind;
@@ -15,64 +15,49 @@ use crate::rect::RectKind;
 use crate::triangle::TriangleKind;
 use wkb_geom::{GeometryTrait, GeometryType};
 
-/// How a leaf is measured and put.
-pub trait Leaf<G> {
-    // What a geometry means.
-    ghost geometry: { G → Geometry };
-
-    /// The bytes after the header, or the first fault.
-    fn measure_leaf(geom: &G) -> Result<usize, Fault>
-        requires { IsLeaf (geometry geom.now) }
-        ensures { IsMeasured (geometry geom.now) result };
-
-    /// Puts a leaf that has no fault.
-    fn put_leaf<S: Sink>(out: &mut Buffered<'_, S>, geom: &G, order: Endianness, form: Form) -> Put
-        requires leaf { IsLeaf (geometry geom.now) }
-        requires fault { fault (geometry geom.now) ≡ None }
-        requires working { S.has_failed out.old.sink.now ≡ false }
-        ensures { Lays S.Sink out.old out.new (encoding order form (geometry geom.now)) result };
+/// The bytes of a leaf after its header, or its first fault.
+#[inline(always)]
+pub fn measure_leaf<G: GeometryTrait>(geom: &G) -> Result<usize, Fault>
+    requires { IsLeaf (G.geometry geom.now) }
+    ensures { IsMeasured (G.geometry geom.now) result }
+{
+    match geom.as_type() {
+        GeometryType::Point(p) => PointKind::measure(p),
+        GeometryType::LineString(l) => LineStringKind::measure(l),
+        GeometryType::Polygon(p) => PolygonKind::measure(p),
+        GeometryType::MultiPoint(m) => MultiPointKind::measure(m),
+        GeometryType::MultiLineString(m) => MultiLineStringKind::measure(m),
+        GeometryType::MultiPolygon(m) => MultiPolygonKind::measure(m),
+        GeometryType::Line(l) => LineKind::measure(l),
+        GeometryType::Rect(r) => RectKind::measure(r),
+        GeometryType::Triangle(t) => TriangleKind::measure(t),
+        GeometryType::GeometryCollection(_) => unreachable!(),
+    }
 }
 
-/// A leaf of any kind.
-pub struct LeafKind;
-
-impl<G: GeometryTrait> Leaf<G> for LeafKind {
-    ghost geometry = { λ g. G.geometry g };
-
-    #[inline(always)]
-    fn measure_leaf(geom: &G) -> Result<usize, Fault> {
-        match geom.as_type() {
-            GeometryType::Point(p) => PointKind::measure(p),
-            GeometryType::LineString(l) => LineStringKind::measure(l),
-            GeometryType::Polygon(p) => PolygonKind::measure(p),
-            GeometryType::MultiPoint(m) => MultiPointKind::measure(m),
-            GeometryType::MultiLineString(m) => MultiLineStringKind::measure(m),
-            GeometryType::MultiPolygon(m) => MultiPolygonKind::measure(m),
-            GeometryType::Line(l) => LineKind::measure(l),
-            GeometryType::Rect(r) => RectKind::measure(r),
-            GeometryType::Triangle(t) => TriangleKind::measure(t),
-            GeometryType::GeometryCollection(_) => unreachable!(),
-        }
-    }
-
-    #[inline(always)]
-    fn put_leaf<S: Sink>(
-        out: &mut Buffered<'_, S>,
-        geom: &G,
-        order: Endianness,
-        form: Form,
-    ) -> Put {
-        match geom.as_type() {
-            GeometryType::Point(p) => PointKind::put(out, p, order, form),
-            GeometryType::LineString(l) => LineStringKind::put(out, l, order, form),
-            GeometryType::Polygon(p) => PolygonKind::put(out, p, order, form),
-            GeometryType::MultiPoint(m) => MultiPointKind::put(out, m, order, form),
-            GeometryType::MultiLineString(m) => MultiLineStringKind::put(out, m, order, form),
-            GeometryType::MultiPolygon(m) => MultiPolygonKind::put(out, m, order, form),
-            GeometryType::Rect(r) => RectKind::put(out, r, order, form),
-            GeometryType::Triangle(t) => TriangleKind::put(out, t, order, form),
-            GeometryType::Line(l) => LineKind::put(out, l, order, form),
-            GeometryType::GeometryCollection(_) => unreachable!(),
-        }
+/// Puts a leaf that has no fault.
+#[inline(always)]
+pub fn put_leaf<S: Sink, G: GeometryTrait>(
+    out: &mut Buffered<'_, S>,
+    geom: &G,
+    order: Endianness,
+    form: Form,
+) -> Put
+    requires leaf { IsLeaf (G.geometry geom.now) }
+    requires fault { fault (G.geometry geom.now) ≡ None }
+    requires working { S.has_failed out.old.sink.now ≡ false }
+    ensures { Lays S.Sink out.old out.new (encoding order form (G.geometry geom.now)) result }
+{
+    match geom.as_type() {
+        GeometryType::Point(p) => PointKind::put(out, p, order, form),
+        GeometryType::LineString(l) => LineStringKind::put(out, l, order, form),
+        GeometryType::Polygon(p) => PolygonKind::put(out, p, order, form),
+        GeometryType::MultiPoint(m) => MultiPointKind::put(out, m, order, form),
+        GeometryType::MultiLineString(m) => MultiLineStringKind::put(out, m, order, form),
+        GeometryType::MultiPolygon(m) => MultiPolygonKind::put(out, m, order, form),
+        GeometryType::Rect(r) => RectKind::put(out, r, order, form),
+        GeometryType::Triangle(t) => TriangleKind::put(out, t, order, form),
+        GeometryType::Line(l) => LineKind::put(out, l, order, form),
+        GeometryType::GeometryCollection(_) => unreachable!(),
     }
 }

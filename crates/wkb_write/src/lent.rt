@@ -1,7 +1,7 @@
 //! Geometries whose whole encoding stands in memory: it is written in one copy.
 
 ghost use Rattle.std.specs.Prelude.{◌≡◌, None, IfSome, false, length};
-ghost use Rattle.wkb_write.specs.Words.{encoding_of, refusal_of, WritesTo};
+ghost use Rattle.wkb_write.specs.Words.{Geometry, IsGeometry, encoding_of, refusal_of, WritesTo};
 
 use crate::measure::length_of_header;
 use crate::writable::wkb_result;
@@ -29,18 +29,13 @@ pub fn lent_encoding<'a, G: GeometryTrait>(geom: &'a G, options: &WriteOptions) 
     Some(encoding)
 }
 
-/// Writes a geometry by its encoding, which stands in memory.
+/// Writes an encoding that stands in memory.
 #[inline(always)]
-pub fn write_lent<S: Sink, G: GeometryTrait>(
-    writer: &mut S,
-    geom: &G,
-    bytes: &[u8],
-    options: &WriteOptions,
-) -> WkbResult<()>
-    requires encoding { bytes.now ≡ encoding_of options.now (G.geometry geom.now) }
-    requires writable { refusal_of options.now (G.geometry geom.now) ≡ None }
+pub fn write_lent<S: Sink>(writer: &mut S, bytes: &[u8], options: &WriteOptions) -> WkbResult<()>
     requires working { S.has_failed writer.old ≡ false }
-    ensures { WritesTo S.Sink writer.old writer.new options.now (G.geometry geom.now) result }
+    ensures { (g : Geometry) → IsGeometry g → refusal_of options.now g ≡ None
+        → bytes.now ≡ encoding_of options.now g
+        → WritesTo S.Sink writer.old writer.new options.now g result }
 {
     length_of_header(options.form);
     wkb_result(put_all(writer, bytes))

@@ -9,3 +9,7 @@ returns-in-LineString g c = writes_same c.in-LineString.ensures.part c.write_lin
 
 pub returns-in-Polygon : goal.returns-in-Polygon
 returns-in-Polygon g c = writes_same c.in-Polygon.ensures.part c.write_polygon.ensures
+
+pub returns-in-Some : goal.returns-in-Some
+returns-in-Some g c =
+    c.write_lent.ensures _ (g.met.G.GeometryTrait.lawful c.args.geom.now) c.in-Some.ensures.writable c.in-Some.ensures.encoding

@@ -2,6 +2,6 @@ use Rattle.wkb_write.proofs.Writing.{put_writes, told}
 use Rattle.wkb_write.proofs.lent.write_lent.Goals as goal
 
 pub returns : goal.returns
-returns g c =
-    let puts = told _ _ _ (g.S.Sink.fails_by c.put_all.new.sink) _ _ _ (rw c.requires.encoding at c.put_all.ensures) c.wkb_result.ensures in
-    put_writes c.requires.writable (g.met.G.GeometryTrait.lawful c.args.geom.now) c.length_of_header.ensures.fits puts
+returns g c = λ geo lawful none is.
+    let puts = told _ _ _ (g.S.Sink.fails_by c.put_all.new.sink) _ _ _ (rw is at c.put_all.ensures) c.wkb_result.ensures in
+    put_writes none lawful c.length_of_header.ensures.fits puts
