@@ -22,7 +22,8 @@ unfolding count_fault
 count_without_fault n h = grind (arith, nat_tests)
 
 -- the error of a dimension without a name
-pub reports_dimensions : (n : ℕ) → (n < 2) ⊎ (4 < n) → Finds (found.UnsupportedDimensions n) (dimensions_fault (Unknown n))
+pub reports_dimensions : (n : ℕ) → (n < 2) ⊎ (4 < n)
+    → Finds (found.UnsupportedDimensions n) (dimensions_fault (Unknown n))
 unfolding dimensions_fault
 reports_dimensions n h = record { is = grind (arith, nat_tests) }
 
@@ -35,7 +36,8 @@ unfolding count_fault
 reports_count n h = record { is = grind (arith, nat_tests) }
 
 -- what an exit answers
-pub measured_err : (e : Fault) (fault : Option Fault) (size : ℕ) (r : Result ℕ Fault) → r ≡ Err e → Finds e fault → Measures fault size r
+pub measured_err : (e : Fault) (fault : Option Fault) (size : ℕ) (r : Result ℕ Fault) → r ≡ Err e → Finds e fault
+    → Measures fault size r
 measured_err e fault size r is reports = rw is reports
 
 -- no dimension that can be written has more words

@@ -1,32 +1,37 @@
 -- The steps of a loop that lays the encodings of a list's items.
 use Rattle.wkb_write.proofs.Prelude.{◌≡◌, ℕ, zero, suc, ◌+◌, ◌<◌, ◌≤◌, List, [], ◌∷◌, ◌++◌, length, take, drop, Some}
-use Rattle.wkb_write.proofs.Prelude.{sym, subst, ap, ◌∙◌, append_assoc, append-nil}
-use Rattle.wkb_write.proofs.Prelude.{take_all, take-append-drop, slice_get, add-one, map, get_or, Result, flat_map}
-use Rattle.wkb_write.proofs.Prelude.{length-map, get_or-map, take-take}
-use Rattle.wkb_write.proofs.Prelude.{slice_get_read, slice_get-get_or, Stopped, flat_map-append, Endianness, Form}
-use Rattle.wkb_write.proofs.Prelude.{Dimension, Dimensions, Option, None, number_bytes, coordinates_encoding}
-use Rattle.wkb_write.proofs.Prelude.{words_encoding, header_encoding, members_encoding, counted, Progress, IsLaid, IsCut, Advances}
-use Rattle.wkb_write.proofs.Prelude.{Ok, Err}
+use Rattle.wkb_write.proofs.Prelude.{sym, subst, ap, ◌∙◌, append_assoc, append-nil, take_all, take-append-drop}
+use Rattle.wkb_write.proofs.Prelude.{slice_get, add-one, map, get_or, Result, flat_map, length-map, get_or-map}
+use Rattle.wkb_write.proofs.Prelude.{take-take, slice_get_read, slice_get-get_or, Stopped, flat_map-append, Endianness}
+use Rattle.wkb_write.proofs.Prelude.{Form, Dimension, Dimensions, Option, None, number_bytes, coordinates_encoding}
+use Rattle.wkb_write.proofs.Prelude.{words_encoding, header_encoding, members_encoding, counted, Progress, IsLaid}
+use Rattle.wkb_write.proofs.Prelude.{IsCut, Advances, Ok, Err}
 use Rattle.std.specs.Prelude.{IfSome}
 use Rattle.std.specs.Option.{option_map}
 use Rattle.std.proofs.lemmas.List.Folds.{flat_map-map}
 use Rattle.wkb_sink.proofs.Stores.{flat_map_step}
 use Rattle.wkb_sink.proofs.Laid.{laid_then, cut_then, cut_first}
 
-flat_map_parts : {X : Type 0} (f : X → List ℕ) (xs : List X) (i : ℕ) → flat_map f xs ≡ flat_map f (take i xs) ++ flat_map f (drop i xs)
+flat_map_parts : {X : Type 0} (f : X → List ℕ) (xs : List X) (i : ℕ)
+    → flat_map f xs ≡ flat_map f (take i xs) ++ flat_map f (drop i xs)
 flat_map_parts f xs i = ap (flat_map f) (sym (take-append-drop i xs)) ∙ flat_map-append f (take i xs) (drop i xs)
 
 -- the count of these coordinates, and the first of them were laid
 pub record HasRun (a b : Progress) (order : Endianness) (cs : List (List ℕ)) (i : ℕ) : Type 0 where
   pub laid : IsLaid a b (number_bytes order 4 (length cs) ++ flat_map (words_encoding order) (take i cs))
 
-pub no_run : {a b : Progress} {order : Endianness} {cs : List (List ℕ)} (n : ℕ) → n ≡ length cs → IsLaid a b (number_bytes order 4 n) → HasRun a b order cs 0
+pub no_run : {a b : Progress} {order : Endianness} {cs : List (List ℕ)} (n : ℕ) → n ≡ length cs
+    → IsLaid a b (number_bytes order 4 n) → HasRun a b order cs 0
 no_run n is p = record { laid = rw (← is, append-nil) p }
 
 module _ {a b : Progress} {order : Endianness} {cs : List (List ℕ)} {i : ℕ} where
-  pub next_run : {c : Progress} {j : ℕ} → HasRun a b order cs i → i ≤ j → IsLaid b c (flat_map (words_encoding order) (drop i (take j cs))) → HasRun a c order cs j
+  pub next_run : {c : Progress} {j : ℕ} → HasRun a b order cs i → i ≤ j
+      → IsLaid b c (flat_map (words_encoding order) (drop i (take j cs))) → HasRun a c order cs j
   next_run {j = j} p h q =
-      record { laid = rw (flat_map_parts (words_encoding order) (take j cs) i, take-take i j cs h, ← append_assoc) (laid_then p.laid q) }
+      record {
+        laid = rw (flat_map_parts (words_encoding order) (take j cs) i, take-take i j cs h, ← append_assoc)
+            (laid_then p.laid q);
+      }
 
   pub whole_run : HasRun a b order cs i → length cs ≤ i → IsLaid a b (coordinates_encoding order cs)
   unfolding coordinates_encoding
@@ -37,75 +42,106 @@ module _ {a b : Progress} {order : Endianness} {cs : List (List ℕ)} {i : ℕ} 
   run_cut p q = rw (flat_map_parts (words_encoding order) cs i, ← append_assoc) (cut_then p.laid (cut_first _ q))
 
 -- a header, a count and the encodings of items, told by the items
-pub lays_counted : {X : Type 0} (a b : Progress) (r : Result (Unit {0}) Stopped) (order : Endianness) (header : List ℕ) (f : X → List ℕ) (xs : List X)
-    → Advances a b (header ++ counted order (map f xs)) r → Advances a b (header ++ (number_bytes order 4 (length xs) ++ flat_map f xs)) r
+pub lays_counted : {X : Type 0} (a b : Progress) (r : Result (Unit {0}) Stopped) (order : Endianness) (header : List ℕ)
+    (f : X → List ℕ) (xs : List X) → Advances a b (header ++ counted order (map f xs)) r
+    → Advances a b (header ++ (number_bytes order 4 (length xs) ++ flat_map f xs)) r
 unfolding counted
 lays_counted a b r order header f xs p = rw (← length-map xs f, ← flat_map-map (λ t. t) f xs) p
 
-pub lays_members : {X : Type 0} (a b : Progress) (r : Result (Unit {0}) Stopped) (order : Endianness) (form : Form) (k : ℕ) (d : Dimension) (f : X → List ℕ)
-    (xs : List X) → Advances a b (header_encoding order form k d ++ counted order (map f xs)) r
+pub lays_members : {X : Type 0} (a b : Progress) (r : Result (Unit {0}) Stopped) (order : Endianness) (form : Form)
+    (k : ℕ) (d : Dimension) (f : X → List ℕ) (xs : List X)
+    → Advances a b (header_encoding order form k d ++ counted order (map f xs)) r
     → Advances a b (members_encoding order form k d (length xs) (flat_map f xs)) r
 unfolding members_encoding
 lays_members a b r order form k d f xs p = lays_counted a b r order _ f xs p
 
 -- a header, the count of these encodings, and the first of them were laid
-pub record HasLaid (a b : Progress) (order : Endianness) (header : List ℕ) (encodings : List (List ℕ)) (i : ℕ) : Type 0 where
+pub record HasLaid (a b : Progress) (order : Endianness) (header : List ℕ) (encodings : List (List ℕ))
+    (i : ℕ) : Type 0 where
   pub laid : IsLaid a b ((header ++ number_bytes order 4 (length encodings)) ++ flat_map (λ t. t) (take i encodings))
 
-pub none_laid : {a b : Progress} {order : Endianness} {header : List ℕ} {encodings : List (List ℕ)} (n : ℕ) → n ≡ length encodings
-    → IsLaid a b (header ++ number_bytes order 4 n) → HasLaid a b order header encodings 0
+pub none_laid : {a b : Progress} {order : Endianness} {header : List ℕ} {encodings : List (List ℕ)} (n : ℕ)
+    → n ≡ length encodings → IsLaid a b (header ++ number_bytes order 4 n) → HasLaid a b order header encodings 0
 none_laid n is p = record { laid = rw (← is, append-nil) p }
 
 module _ {a b : Progress} {order : Endianness} {header : List ℕ} {encodings : List (List ℕ)} {i : ℕ} where
-  pub next_laid : {c : Progress} {t : List ℕ} → HasLaid a b order header encodings i → slice_get encodings i ≡ Some t → IsLaid b c t
-      → HasLaid a c order header encodings (i + 1)
-  next_laid {t = t} p item q = record { laid = rw (flat_map_step (λ t. t) encodings i t item, ← append_assoc) (laid_then p.laid q) }
+  pub next_laid : {c : Progress} {t : List ℕ} → HasLaid a b order header encodings i → slice_get encodings i ≡ Some t
+      → IsLaid b c t → HasLaid a c order header encodings (i + 1)
+  next_laid {t = t} p item q = record {
+    laid = rw (flat_map_step (λ t. t) encodings i t item, ← append_assoc)
+        (laid_then p.laid q);
+  }
 
-  pub all_laid : HasLaid a b order header encodings i → length encodings ≤ i → IsLaid a b (header ++ counted order encodings)
+  pub all_laid : HasLaid a b order header encodings i → length encodings ≤ i
+      → IsLaid a b (header ++ counted order encodings)
   unfolding counted
   all_laid p past = rw (← append_assoc) (rw take_all at p.laid)
 
   -- where one of the encodings was cut, the whole was
-  pub next_cut : {c : Progress} {t : List ℕ} → HasLaid a b order header encodings i → slice_get encodings i ≡ Some t → IsCut b c t
-      → IsCut a c (header ++ counted order encodings)
+  pub next_cut : {c : Progress} {t : List ℕ} → HasLaid a b order header encodings i → slice_get encodings i ≡ Some t
+      → IsCut b c t → IsCut a c (header ++ counted order encodings)
   unfolding counted
   next_cut {t = t} p item q =
-      rw (flat_map_parts (λ t. t) encodings (i + 1), flat_map_step (λ t. t) encodings i t item, ← append_assoc, ← append_assoc, ← append_assoc)
+      rw (
+        flat_map_parts (λ t. t) encodings (i + 1),
+        flat_map_step (λ t. t) encodings i t item,
+        ← append_assoc,
+        ← append_assoc,
+        ← append_assoc,
+      )
       (cut_first _ (cut_then p.laid q))
 
 -- the answer of the last encoding is that of all
-pub lays_last_encoding : {a b : Progress} (c : Progress) {order : Endianness} {header : List ℕ} {encodings : List (List ℕ)} {i : ℕ} {t : List ℕ}
-    (r : Result (Unit {0}) Stopped) → HasLaid a b order header encodings i → slice_get encodings i ≡ Some t → length encodings ≤ i + 1 → Advances b c t r
-    → Advances a c (header ++ counted order encodings) r
+pub lays_last_encoding : {a b : Progress} (c : Progress) {order : Endianness} {header : List ℕ}
+    {encodings : List (List ℕ)} {i : ℕ} {t : List ℕ} (r : Result (Unit {0}) Stopped)
+    → HasLaid a b order header encodings i → slice_get encodings i ≡ Some t → length encodings ≤ i + 1
+    → Advances b c t r → Advances a c (header ++ counted order encodings) r
 lays_last_encoding c (Ok x) p item whole q = all_laid (next_laid p item q) whole
 lays_last_encoding c (Err e) p item whole q = next_cut p item q
 
 -- the same where the header or the count was cut
-pub head_cut : {a b : Progress} (order : Endianness) (header : List ℕ) (encodings : List (List ℕ)) (n : ℕ) → length encodings ≡ n
-    → IsCut a b (header ++ number_bytes order 4 n) → IsCut a b (header ++ counted order encodings)
+pub head_cut : {a b : Progress} (order : Endianness) (header : List ℕ) (encodings : List (List ℕ)) (n : ℕ)
+    → length encodings ≡ n → IsCut a b (header ++ number_bytes order 4 n)
+    → IsCut a b (header ++ counted order encodings)
 unfolding counted
 head_cut order header encodings n is p = rw (is, ← append_assoc) (cut_first _ p)
 
 -- the encoding of an item stands at the item's place
-pub encoding_there : {X : Type 0} (f : X → List ℕ) (xs : List X) (i : ℕ) (x : X) → i < length xs → x ≡ get_or xs i x → slice_get (map f xs) i ≡ Some (f x)
+pub encoding_there : {X : Type 0} (f : X → List ℕ) (xs : List X) (i : ℕ) (x : X) → i < length xs → x ≡ get_or xs i x
+    → slice_get (map f xs) i ≡ Some (f x)
 encoding_there f xs i x within is =
-    slice_get_read (map f xs) (length xs) i (f x) (sym (length-map xs f)) within (ap f is ∙ sym (get_or-map f xs i x (f x) within))
+    slice_get_read (map f xs) (length xs) i (f x) (sym (length-map xs f))
+    within (ap f is ∙ sym (get_or-map f xs i x (f x) within))
 
 -- the encoding of the item at a place was laid
-pub lays_item : {X : Type 0} (a b : Progress) (r : Result (Unit {0}) Stopped) (f : X → List ℕ) (xs : List X) (i : ℕ) (x : X) → slice_get xs i ≡ Some x
-    → Advances a b (f x) r → Advances a b (get_or (map f xs) i []) r
+pub lays_item : {X : Type 0} (a b : Progress) (r : Result (Unit {0}) Stopped) (f : X → List ℕ) (xs : List X) (i : ℕ)
+    (x : X) → slice_get xs i ≡ Some x → Advances a b (f x) r → Advances a b (get_or (map f xs) i []) r
 lays_item a b r f [] i x item laid = absurd (cc)
 lays_item a b r f (y ∷ xs) zero x item laid = let same : x ≡ y = cc in subst (λ z. Advances a b (f z) r) same laid
 lays_item a b r f (y ∷ xs) (suc i) x item laid = lays_item a b r f xs i x item laid
 
 -- the same of an item that was handed out, whose dimension is that of the whole
-pub lays_member : {X V : Type 0} (a b : Progress) (r : Result (Unit {0}) Stopped) (f : Dimensions → V → List ℕ) (value : X → V)
-    (dimensions : X → Dimensions) (d : Dimensions) (vs : List V) (i : ℕ) (o : Option X) (x : X) → o ≡ Some x → option_map value o ≡ slice_get vs i
-    → IfSome o (λ y. dimensions y ≡ d) → Advances a b (f (dimensions x) (value x)) r → Advances a b (get_or (map (f d) vs) i []) r
+pub lays_member : {X V : Type 0} (a b : Progress) (r : Result (Unit {0}) Stopped) (f : Dimensions → V → List ℕ)
+    (value : X → V) (dimensions : X → Dimensions) (d : Dimensions) (vs : List V) (i : ℕ) (o : Option X) (x : X)
+    → o ≡ Some x → option_map value o ≡ slice_get vs i → IfSome o (λ y. dimensions y ≡ d)
+    → Advances a b (f (dimensions x) (value x)) r → Advances a b (get_or (map (f d) vs) i []) r
 lays_member a b r f value dimensions d vs i None x is there same laid = absurd (cc)
 lays_member a b r f value dimensions d vs i (Some y) x is there same laid =
     let one : x ≡ y = cc in
     lays_item a b r (f d) vs i (value y) (sym there) (subst (λ e. Advances a b (f e (value y)) r) same
     (subst (λ z. Advances a b (f (dimensions z) (value z)) r) one laid))
 
-pub ruleset loop_laws = (slice_get-get_or, length-map, encoding_there, none_laid, next_laid, all_laid, next_cut, head_cut, no_run, next_run, whole_run, run_cut)
+pub ruleset loop_laws = (
+  slice_get-get_or,
+  length-map,
+  encoding_there,
+  none_laid,
+  next_laid,
+  all_laid,
+  next_cut,
+  head_cut,
+  no_run,
+  next_run,
+  whole_run,
+  run_cut,
+)

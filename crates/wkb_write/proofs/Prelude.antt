@@ -1,10 +1,8 @@
 -- The words that the proofs of this crate share, passed on from one place. Declares nothing.
 pub use Rattle.wkb_geom.specs.declared.error.Fault.{Fault}
-pub use Rattle.std.proofs.Common.{◌≡◌, ℕ, ◌≤◌, List, [], ◌++◌, length, take, drop, Option, Some, None, sym, subst, ap, ◌∙◌}
-pub use Rattle.std.proofs.Common.{append_assoc, append-nil, arith}
-pub use Rattle.std.proofs.Common.{take_all, take-append-drop, ◌-◌, ◌+◌, refl, ◌*◌, ◌<◌, ◌∷◌, map, get_or, ◌^◌, Result}
-pub use Rattle.std.proofs.Common.{zero, suc}
-pub use Rattle.std.proofs.Common.{slice_get, Ok, Err, add-one, rules}
+pub use Rattle.std.proofs.Common.{◌≡◌, ℕ, ◌≤◌, List, [], ◌++◌, length, take, drop, Option, Some, None, sym, subst, ap}
+pub use Rattle.std.proofs.Common.{◌∙◌, append_assoc, append-nil, arith, take_all, take-append-drop, ◌-◌, ◌+◌, refl, ◌*◌}
+pub use Rattle.std.proofs.Common.{◌<◌, ◌∷◌, map, get_or, ◌^◌, Result, zero, suc, slice_get, Ok, Err, add-one, rules}
 pub use Rattle.std.proofs.lemmas.List.{length-map, get_or-map, take-take}
 pub use Rattle.std.proofs.lemmas.List.Concat.{flat_map-append}
 pub use Rattle.std.proofs.lemmas.Option.{slice_get_read, slice_get-get_or}
@@ -18,8 +16,8 @@ pub use Rattle.wkb_geom.specs.Geometries.{Geometry, geometries, collection}
 pub use Rattle.wkb_geom.specs.Numbers.{number_bytes}
 pub use Rattle.wkb_geom.specs.Sizes.{node_count, node_counts}
 pub use Rattle.wkb_geom.specs.Encodings.{encoding, encodings, fault, fault_each, count_geometries, inner}
-unfoldable pub use Rattle.wkb_geom.specs.Encodings.{words_encoding, first_fault, or_else, members_encoding, header_encoding}
-unfoldable pub use Rattle.wkb_geom.specs.Encodings.{dimensions_fault, coordinates_encoding}
+unfoldable pub use Rattle.wkb_geom.specs.Encodings.{words_encoding, first_fault, or_else, members_encoding}
+unfoldable pub use Rattle.wkb_geom.specs.Encodings.{header_encoding, dimensions_fault, coordinates_encoding}
 unfoldable pub use Rattle.wkb_geom.specs.Encodings.{line_string_encoding, point_encoding, point_words, polygon_encoding}
 pub use Rattle.wkb_geom.proofs.Faults.{none_first, none_rest, none_both, count_below}
 unfoldable pub use Rattle.wkb_write.specs.Counted.{counted}

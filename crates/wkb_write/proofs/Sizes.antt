@@ -33,20 +33,22 @@ size_without_fault n h = grind (arith, nat_tests)
 -- the encoding of a geometry without a fault is as long as measured, and four bytes longer where it has an SRID
 measured_length : (order : Endianness) (form : Form) (g : Geometry) → IsForm form → IsGeometry g → fault g ≡ None
     → length (encoding order form g) ≡ byte_size g + srid_size (is_some (form_srid form))
-measured_length order form g fits lawful none = encoding_has_size_lem order form g fits lawful none ∙ ap (λ n. byte_size g + n) (of_flag (is_some (form_srid form)))
+measured_length order form g fits lawful none =
+    encoding_has_size_lem order form g fits lawful none ∙ ap (λ n. byte_size g + n) (of_flag (is_some (form_srid form)))
   where
     of_flag : (srid : Bool) → 4 * (if srid then 1 else 0) ≡ srid_size srid
     of_flag true = refl
     of_flag false = refl
 
 -- what was measured without a fault
-at_ok : (measured : Result ℕ Fault) (s : ℕ) (g : Geometry) → measured ≡ Ok s → Measures (fault g) (bytes_behind_header g) measured
-    → (fault g ≡ None) × (s ≡ capped (bytes_behind_header g))
+at_ok : (measured : Result ℕ Fault) (s : ℕ) (g : Geometry) → measured ≡ Ok s
+    → Measures (fault g) (bytes_behind_header g) measured → (fault g ≡ None) × (s ≡ capped (bytes_behind_header g))
 at_ok measured s g is h = subst (Measures (fault g) (bytes_behind_header g)) is h
 
 -- a fault is what the size refuses
-pub size_refused : (measured : Result ℕ Fault) (e : Fault) (form : Form) (g : Geometry) (r : Result ℕ Fault) → measured ≡ Err e → IsErrAnd r (λ y. y ≡ e)
-    → Measures (fault g) (bytes_behind_header g) measured → IsSized form g r
+pub size_refused : (measured : Result ℕ Fault) (e : Fault) (form : Form) (g : Geometry) (r : Result ℕ Fault)
+    → measured ≡ Err e → IsErrAnd r (λ y. y ≡ e) → Measures (fault g) (bytes_behind_header g) measured
+    → IsSized form g r
 size_refused measured e form g r is exit h = λ order.
     let told : Finds e (fault g) = subst (Measures (fault g) (bytes_behind_header g)) is h in
     let p = err_from_is_err_and r exit in
@@ -54,8 +56,9 @@ size_refused measured e form g r is exit h = λ order.
     rw p.1 (subst P (sym p.2) (reports_first e (fault g) _ told))
 
 -- the size that was measured is that of the encoding, and fits
-pub size_told : (measured : Result ℕ Fault) (s total : ℕ) (form : Form) (g : Geometry) → measured ≡ Ok s → IsForm form → IsGeometry g
-    → Measures (fault g) (bytes_behind_header g) measured → total ≡ s + (5 + srid_size (is_some (form_srid form))) → total < 2 ^ 64 → IsSized form g (Ok total)
+pub size_told : (measured : Result ℕ Fault) (s total : ℕ) (form : Form) (g : Geometry) → measured ≡ Ok s → IsForm form
+    → IsGeometry g → Measures (fault g) (bytes_behind_header g) measured
+    → total ≡ s + (5 + srid_size (is_some (form_srid form))) → total < 2 ^ 64 → IsSized form g (Ok total)
 size_told measured s total form g is srid_fits lawful h sum fits = λ order.
     let m = at_ok measured s g is h in
     let whole = measured_length order form g srid_fits lawful m.0 in
@@ -63,15 +66,16 @@ size_told measured s total form g is srid_fits lawful h sum fits = λ order.
     (none_both (fault g) _ m.0 (size_without_fault _ (subst (λ n. n < 2 ^ 64) exact fits)), exact)
 
 -- the size that was measured does not fit
-pub size_past : (measured : Result ℕ Fault) (s : ℕ) (form : Form) (g : Geometry) → measured ≡ Ok s → IsForm form → IsGeometry g
-    → Measures (fault g) (bytes_behind_header g) measured → 2 ^ 64 ≤ s + (5 + srid_size (is_some (form_srid form))) → IsSized form g (Err found.Size)
+pub size_past : (measured : Result ℕ Fault) (s : ℕ) (form : Form) (g : Geometry) → measured ≡ Ok s → IsForm form
+    → IsGeometry g → Measures (fault g) (bytes_behind_header g) measured
+    → 2 ^ 64 ≤ s + (5 + srid_size (is_some (form_srid form))) → IsSized form g (Err found.Size)
 size_past measured s form g is srid_fits lawful h past = λ order.
     let m = at_ok measured s g is h in
     let whole = measured_length order form g srid_fits lawful m.0 in
     reports_rest _ (fault g) _ m.0 (reports_size _ (omega (arith, m.1, past, whole, header_within g)))
 
 -- the error tells the fault that was found
-pub size_answered : (form : Form) (g : Geometry) (f : Fault) (r : Result ℕ WkbError) → IsErrAnd r (λ e. TellsFault e f) → IsSized form g (Err f)
-    → IsSizeOf form g r
+pub size_answered : (form : Form) (g : Geometry) (f : Fault) (r : Result ℕ WkbError) → IsErrAnd r (λ e. TellsFault e f)
+    → IsSized form g (Err f) → IsSizeOf form g r
 size_answered form g f (Err e) tells size = λ order. record { fault = f; is = (size order).is; told = tells }
 size_answered form g f (Ok n) tells size = absurd tells

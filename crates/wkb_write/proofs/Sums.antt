@@ -1,7 +1,6 @@
 -- Parts one after another, as a loop meets them.
 use Rattle.std.proofs.Common.{◌≡◌, ℕ, zero, suc, ◌+◌, ◌<◌, ◌≤◌, List, [], ◌∷◌, length, take, get_or, Some, None, Result}
-use Rattle.std.proofs.Common.{Ok, Err, ◌*◌, ◌^◌, refl, sym, ap}
-use Rattle.std.proofs.Common.{subst, ◌∙◌, arith, slice_get, add-one, take_all}
+use Rattle.std.proofs.Common.{Ok, Err, ◌*◌, ◌^◌, refl, sym, ap, subst, ◌∙◌, arith, slice_get, add-one, take_all}
 use Rattle.std.specs.List.{sum_by}
 use Rattle.std.specs.Prelude.{IfSome}
 use Rattle.std.proofs.lemmas.List.Sums.{sum_by_more}
@@ -19,7 +18,8 @@ pub record SoFar (ps : List Measure) (first i total : ℕ) : Type 0 where
   pub none : first_fault (λ p. p.fault) (take i ps) ≡ None
   pub sum : total ≡ capped (first + sum_by (λ p. p.size) (take i ps))
 
-first_fault_step : (ps : List Measure) (i : ℕ) (p : Measure) → slice_get ps i ≡ Some p → first_fault (λ q. q.fault) (take i ps) ≡ None → p.fault ≡ None
+first_fault_step : (ps : List Measure) (i : ℕ) (p : Measure) → slice_get ps i ≡ Some p
+    → first_fault (λ q. q.fault) (take i ps) ≡ None → p.fault ≡ None
     → first_fault (λ q. q.fault) (take (i + 1) ps) ≡ None
 unfolding first_fault
 first_fault_step [] i p item h here = cc
@@ -27,23 +27,33 @@ first_fault_step (q ∷ ps) zero p item h here =
     let e : q ≡ p = cc in none_both q.fault None (ap (λ r. r.fault) e ∙ here) refl
 first_fault_step (q ∷ ps) (suc i) p item h here =
     let rest = first_fault_step ps i p item (none_rest q.fault _ h) here in
-    rw add-one (none_both q.fault (first_fault (λ r. r.fault) (take (suc i) ps)) (none_first _ _ h) (rw add-one at rest))
+    rw add-one (none_both q.fault (first_fault (λ r. r.fault) (take (suc i) ps)) (none_first _ _ h)
+    (rw add-one at rest))
 
 -- the first fault is that of a part, where those before it have none
-first_reports : (ps : List Measure) (i : ℕ) (p : Measure) (e : Fault) → slice_get ps i ≡ Some p → first_fault (λ q. q.fault) (take i ps) ≡ None → Finds e p.fault
-    → Finds e (first_fault (λ q. q.fault) ps)
+first_reports : (ps : List Measure) (i : ℕ) (p : Measure) (e : Fault) → slice_get ps i ≡ Some p
+    → first_fault (λ q. q.fault) (take i ps) ≡ None → Finds e p.fault → Finds e (first_fault (λ q. q.fault) ps)
 unfolding first_fault
 first_reports [] i p e item h r = cc
 first_reports (q ∷ ps) zero p e item h r =
     let is : p ≡ q = cc in reports_first e q.fault (first_fault (λ s. s.fault) ps) (subst (λ s. Finds e s.fault) is r)
 first_reports (q ∷ ps) (suc i) p e item h r =
-    reports_rest e q.fault (first_fault (λ s. s.fault) ps) (none_first _ _ h) (first_reports ps i p e item (none_rest q.fault _ h) r)
+    reports_rest e q.fault (first_fault (λ s. s.fault) ps) (none_first _ _ h)
+    (first_reports ps i p e item (none_rest q.fault _ h) r)
 
-pub parts_start : (ps : List Measure) (header n : ℕ) → header < 2 ^ 8 → count_fault n ≡ None → SoFar ps (4 + header * n) 0 (4 + header * n)
+pub parts_start : (ps : List Measure) (header n : ℕ) → header < 2 ^ 8 → count_fault n ≡ None
+    → SoFar ps (4 + header * n) 0 (4 + header * n)
 unfolding first_fault
 parts_start ps header n short counted =
     let few = count_below n counted in
-    record { none = refl; sum = omega (arith, mul-le header n (2 ^ 8) (2 ^ 32) (omega (arith, short)) (omega (arith, few))) }
+    record {
+      none = refl;
+      sum = omega (
+        arith,
+        mul-le header n (2 ^ 8) (2 ^ 32) (omega (arith, short))
+            (omega (arith, few)),
+      );
+    }
 
 no_part : Measure
 no_part = record { fault = None; size = 0 }
@@ -53,12 +63,14 @@ unfolding first_fault
 parts_begin ps first = record { none = refl; sum = omega arith }
 
 -- what is said of the part at i
-part_there : (ps : List Measure) (i : ℕ) (Q : Measure → Type 0) → i < length ps → IfSome (slice_get ps i) Q → Q (get_or ps i no_part)
+part_there : (ps : List Measure) (i : ℕ) (Q : Measure → Type 0) → i < length ps → IfSome (slice_get ps i) Q
+    → Q (get_or ps i no_part)
 part_there ps i Q within told = subst (λ o. IfSome o Q) (slice_get-get_or ps i no_part within) told
 
 -- one more part
-pub parts_step : (ps : List Measure) (first i total n : ℕ) → i < length ps → IfSome (slice_get ps i) (λ p. (p.fault ≡ None) × (n ≡ capped p.size))
-    → SoFar ps first i total → SoFar ps first (i + 1) (capped (total + n))
+pub parts_step : (ps : List Measure) (first i total n : ℕ) → i < length ps
+    → IfSome (slice_get ps i) (λ p. (p.fault ≡ None) × (n ≡ capped p.size)) → SoFar ps first i total
+    → SoFar ps first (i + 1) (capped (total + n))
 parts_step ps first i total n within told s =
     let p = get_or ps i no_part in
     let item = slice_get-get_or ps i no_part within in
@@ -71,22 +83,25 @@ parts_step ps first i total n within told s =
     }
 
 -- the fault of the count, and of a part
-pub count_reports : (ps : List Measure) (size n : ℕ) (e : Fault) (r : Result ℕ Fault) → n ≡ length ps → r ≡ Err e → Finds e (count_fault n)
-    → Measures (parts_fault ps) size r
+pub count_reports : (ps : List Measure) (size n : ℕ) (e : Fault) (r : Result ℕ Fault) → n ≡ length ps → r ≡ Err e
+    → Finds e (count_fault n) → Measures (parts_fault ps) size r
 unfolding parts_fault
-count_reports ps size n e r is exit told = measured_err e _ _ r exit (reports_first e _ _ (subst (λ k. Finds e (count_fault k)) is told))
+count_reports ps size n e r is exit told =
+    measured_err e _ _ r exit (reports_first e _ _ (subst (λ k. Finds e (count_fault k)) is told))
 
-pub part_reports : (ps : List Measure) (size n first i total : ℕ) (e : Fault) (r : Result ℕ Fault) → n ≡ length ps → count_fault n ≡ None → i < length ps
-    → IfSome (slice_get ps i) (λ p. Finds e p.fault) → SoFar ps first i total → r ≡ Err e → Measures (parts_fault ps) size r
+pub part_reports : (ps : List Measure) (size n first i total : ℕ) (e : Fault) (r : Result ℕ Fault) → n ≡ length ps
+    → count_fault n ≡ None → i < length ps → IfSome (slice_get ps i) (λ p. Finds e p.fault) → SoFar ps first i total
+    → r ≡ Err e → Measures (parts_fault ps) size r
 unfolding parts_fault
 part_reports ps size n first i total e r is counted within told s exit =
     let here = part_there ps i (λ q. Finds e q.fault) within told in
     let item = slice_get-get_or ps i no_part within in
-    measured_err e _ _ r exit (reports_rest e _ _ (ap count_fault (sym is) ∙ counted) (first_reports ps i (get_or ps i no_part) e item s.none here))
+    measured_err e _ _ r exit (reports_rest e _ _ (ap count_fault (sym is) ∙ counted)
+    (first_reports ps i (get_or ps i no_part) e item s.none here))
 
 -- all of the parts
-pub parts_all : (ps : List Measure) (header n i total : ℕ) → n ≡ length ps → count_fault n ≡ None → length ps ≤ i → SoFar ps (4 + header * n) i total
-    → (parts_fault ps ≡ None) × (total ≡ capped (parts_size header ps))
+pub parts_all : (ps : List Measure) (header n i total : ℕ) → n ≡ length ps → count_fault n ≡ None → length ps ≤ i
+    → SoFar ps (4 + header * n) i total → (parts_fault ps ≡ None) × (total ≡ capped (parts_size header ps))
 unfolding parts_fault parts_size
 parts_all ps header n i total is counted past s =
     let whole = take_all i ps past in (
@@ -95,17 +110,18 @@ parts_all ps header n i total is counted past s =
     )
 
 -- the same behind other bytes
-pub parts_behind : (ps : List Measure) (before header n i total : ℕ) → n ≡ length ps → count_fault n ≡ None → length ps ≤ i
-    → SoFar ps (before + (4 + header * n)) i total → (parts_fault ps ≡ None) × (total ≡ capped (before + parts_size header ps))
+pub parts_behind : (ps : List Measure) (before header n i total : ℕ) → n ≡ length ps → count_fault n ≡ None
+    → length ps ≤ i → SoFar ps (before + (4 + header * n)) i total
+    → (parts_fault ps ≡ None) × (total ≡ capped (before + parts_size header ps))
 unfolding parts_size
 parts_behind ps before header n i total is counted past s =
     let alone = parts_all ps header n i _ is counted past (record { none = s.none; sum = refl }) in
     (alone.0, omega (arith, s.sum, ap (λ l. sum_by (λ q. q.size) l) (take_all i ps past), ap (λ k. header * k) is))
 
 -- the answer of the last part, added to the parts before it, is that of all
-pub last_added : (ps : List Measure) (before header n i total : ℕ) (r : Result ℕ Fault) → n ≡ length ps → count_fault n ≡ None → length ps ≡ i + 1
-    → IfSome (slice_get ps i) (λ p. Measures p.fault (total + p.size) r) → SoFar ps (before + (4 + header * n)) i total
-    → Measures (parts_fault ps) (before + parts_size header ps) r
+pub last_added : (ps : List Measure) (before header n i total : ℕ) (r : Result ℕ Fault) → n ≡ length ps
+    → count_fault n ≡ None → length ps ≡ i + 1 → IfSome (slice_get ps i) (λ p. Measures p.fault (total + p.size) r)
+    → SoFar ps (before + (4 + header * n)) i total → Measures (parts_fault ps) (before + parts_size header ps) r
 last_added ps before header n i total (Ok m) is counted end told s =
     let p = get_or ps i no_part in
     let here = part_there ps i (λ q. (q.fault ≡ None) × (m ≡ capped (total + q.size))) (omega (arith, end)) told in

@@ -6,7 +6,8 @@ use Rattle.std.proofs.lemmas.Bool.Decides.{nat_tests}
 use Rattle.wkb_geom.specs.declared.common.Dimensions.TheVariants.{Unknown}
 
 -- where no item has a fault, the item at i has none
-pub none_at : {X : Type 0} (f : X → Option Fault) (xs : List X) (i : ℕ) (x : X) → first_fault f xs ≡ None → slice_get xs i ≡ Some x → f x ≡ None
+pub none_at : {X : Type 0} (f : X → Option Fault) (xs : List X) (i : ℕ) (x : X) → first_fault f xs ≡ None
+    → slice_get xs i ≡ Some x → f x ≡ None
 unfolding first_fault
 none_at f [] i x h is = cc
 none_at f (y ∷ ys) zero x h is = let same : x ≡ y = cc in ap f same ∙ none_first (f y) (first_fault f ys) h

@@ -1,7 +1,6 @@
 -- A geometry's fault and size, by its header and its body.
 use Rattle.std.proofs.Common.{◌≡◌, ℕ, zero, suc, ◌+◌, ◌*◌, ◌<◌, ◌≤◌, List, [], ◌∷◌, length, map, get_or, slice_get}
-use Rattle.std.proofs.Common.{Option, Some, None, Result, Ok, Err, refl}
-use Rattle.std.proofs.Common.{sym, ap, subst, ◌∙◌, arith}
+use Rattle.std.proofs.Common.{Option, Some, None, Result, Ok, Err, refl, sym, ap, subst, ◌∙◌, arith}
 use Rattle.std.specs.List.{sum_by}
 use Rattle.std.specs.Prelude.{IfSome}
 use Rattle.std.proofs.lemmas.Option.{slice_get_read}
@@ -16,13 +15,12 @@ use Rattle.wkb_geom.specs.Geometries.{triangle, line, no_geometries, geometry, g
 use Rattle.wkb_geom.specs.Sizes.{node_count, node_counts, dimensions_of, byte_size, byte_sizes, ring_size}
 use Rattle.wkb_geom.specs.Sizes.{line_string_size, polygon_size}
 use Rattle.wkb_geom.specs.Encodings.{or_else, first_fault, count_fault, count_geometries, dimensions_fault}
-use Rattle.wkb_geom.specs.Encodings.{coordinates_fault, rings_fault, fault}
-use Rattle.wkb_geom.specs.Encodings.{fault_each}
+use Rattle.wkb_geom.specs.Encodings.{coordinates_fault, rings_fault, fault, fault_each}
 use Rattle.wkb_geom.proofs.Faults.{none_both}
 use Rattle.wkb_geom.proofs.Nodes.{node_count-member}
 use Rattle.wkb_write.specs.Measures.{Finds, IsAdded, IsMeasured, Measures, capped}
-use Rattle.wkb_write.specs.Bodies.{Measure, parts_fault, parts_size, coordinate_words, ring_bytes, ring_measure, polygon_measure}
-use Rattle.wkb_write.specs.Bodies.{member_measure, member_measures, body_fault, bytes_behind_header}
+use Rattle.wkb_write.specs.Bodies.{Measure, parts_fault, parts_size, coordinate_words, ring_bytes, ring_measure}
+use Rattle.wkb_write.specs.Bodies.{polygon_measure, member_measure, member_measures, body_fault, bytes_behind_header}
 use Rattle.wkb_write.specs.Bodies.{size_by_parts}
 use Rattle.wkb_write.proofs.Faults.{reports_first, reports_rest, supported_words}
 
@@ -33,19 +31,26 @@ unfolding first_fault
 faults_of part f [] same = refl
 faults_of part f (x ∷ xs) same = rw (same x, faults_of part f xs same) refl
 
-sizes_of : {X : Type 0} (header : ℕ) (part : X → Measure) (s : X → ℕ) (xs : List X) → ((x : X) → header + (part x).size ≡ s x)
+sizes_of : {X : Type 0} (header : ℕ) (part : X → Measure) (s : X → ℕ) (xs : List X)
+    → ((x : X) → header + (part x).size ≡ s x)
     → header * length (map part xs) + sum_by (λ p. p.size) (map part xs) ≡ sum_by s xs
 sizes_of header part s [] same = omega arith
 sizes_of header part s (x ∷ xs) same =
-    omega (arith, sum_by-cons (λ p. p.size) (part x) (map part xs), sum_by-cons s x xs, same x, sizes_of header part s xs same)
+    omega (
+      arith,
+      sum_by-cons (λ p. p.size) (part x) (map part xs),
+      sum_by-cons s x xs,
+      same x,
+      sizes_of header part s xs same,
+    )
 
 items_fault : {X : Type 0} (part : X → Measure) (f : X → Option Fault) (xs : List X) → ((x : X) → (part x).fault ≡ f x)
     → parts_fault (map part xs) ≡ or_else (count_fault (length xs)) (first_fault f xs)
 unfolding parts_fault
 items_fault part f xs same = rw (length-map xs part, faults_of part f xs same) refl
 
-items_size : {X : Type 0} (header : ℕ) (part : X → Measure) (s : X → ℕ) (xs : List X) → ((x : X) → header + (part x).size ≡ s x)
-    → parts_size header (map part xs) ≡ 4 + sum_by s xs
+items_size : {X : Type 0} (header : ℕ) (part : X → Measure) (s : X → ℕ) (xs : List X)
+    → ((x : X) → header + (part x).size ≡ s x) → parts_size header (map part xs) ≡ 4 + sum_by s xs
 unfolding parts_size
 items_size header part s xs same = omega (arith, sizes_of header part s xs same)
 
@@ -63,12 +68,14 @@ pub header_within : (g : Geometry) → 5 ≤ byte_size g
 header_within (rectangle d least greatest) = omega arith
 header_within _ = omega arith
 
-members_sizes : (gs : Geometries) → 5 * length (member_measures gs) + sum_by (λ p. p.size) (member_measures gs) ≡ byte_sizes gs
+members_sizes : (gs : Geometries)
+    → 5 * length (member_measures gs) + sum_by (λ p. p.size) (member_measures gs) ≡ byte_sizes gs
 members_sizes no_geometries = refl
 members_sizes (geometry g gs) =
     omega (arith, sum_by-cons (λ p. p.size) (member_measure g) (member_measures gs), members_sizes gs, header_within g)
 
-members_fault : (gs : Geometries) → parts_fault (member_measures gs) ≡ or_else (count_fault (count_geometries gs)) (fault_each gs)
+members_fault : (gs : Geometries)
+    → parts_fault (member_measures gs) ≡ or_else (count_fault (count_geometries gs)) (fault_each gs)
 unfolding parts_fault
 members_fault gs = rw (members_count gs, members_faults gs) refl
 
@@ -80,10 +87,12 @@ ring_takes : (d : Dimensions) → coordinate_words d ≡ size d → (cs : List (
 ring_takes d is cs = ap (λ w. 4 + 8 * w * length cs) is
 
 -- the rings of a polygon
-rings_are : (d : Dimensions) (rings : List (List (List ℕ))) → parts_fault (map (ring_measure d) rings) ≡ rings_fault rings
+rings_are : (d : Dimensions) (rings : List (List (List ℕ)))
+    → parts_fault (map (ring_measure d) rings) ≡ rings_fault rings
 rings_are d rings = items_fault (ring_measure d) coordinates_fault rings (λ r. refl)
 
-rings_take : (d : Dimensions) (rings : List (List (List ℕ))) → coordinate_words d ≡ size d → parts_size 0 (map (ring_measure d) rings) ≡ 4 + sum_by (ring_size d) rings
+rings_take : (d : Dimensions) (rings : List (List (List ℕ))) → coordinate_words d ≡ size d
+    → parts_size 0 (map (ring_measure d) rings) ≡ 4 + sum_by (ring_size d) rings
 rings_take d rings is = items_size 0 (ring_measure d) (ring_size d) rings (λ cs. omega (arith, ring_takes d is cs))
 
 alone : (a : Option Fault) → a ≡ or_else a None
@@ -96,28 +105,34 @@ fault_by_body (point d c) = alone (dimensions_fault d)
 fault_by_body (line_string d cs) = refl
 fault_by_body (polygon d rings) = ap (or_else (dimensions_fault d)) (sym (rings_are d rings))
 fault_by_body (multi_point d points) = refl
-fault_by_body (multi_line_string d lines) = ap (or_else (dimensions_fault d)) (sym (items_fault (ring_measure d) coordinates_fault lines (λ l. refl)))
-fault_by_body (multi_polygon d polygons) = ap (or_else (dimensions_fault d)) (sym (items_fault (polygon_measure d) rings_fault polygons (rings_are d)))
+fault_by_body (multi_line_string d lines) =
+    ap (or_else (dimensions_fault d)) (sym (items_fault (ring_measure d) coordinates_fault lines (λ l. refl)))
+fault_by_body (multi_polygon d polygons) =
+    ap (or_else (dimensions_fault d)) (sym (items_fault (polygon_measure d) rings_fault polygons (rings_are d)))
 fault_by_body (collection d gs) = ap (or_else (dimensions_fault d)) (sym (members_fault gs))
 fault_by_body (line d start end) = alone (dimensions_fault d)
 fault_by_body (rectangle d least greatest) = alone (dimensions_fault d)
 fault_by_body (triangle d first second third) = alone (dimensions_fault d)
 
-pub size_by_body : (g : Geometry) → coordinate_words (dimensions_of g) ≡ size (dimensions_of g) → byte_size g ≡ 5 + size_by_parts g
+pub size_by_body : (g : Geometry) → coordinate_words (dimensions_of g) ≡ size (dimensions_of g)
+    → byte_size g ≡ 5 + size_by_parts g
 size_by_body (point d c) is = omega (arith, is)
 size_by_body (line_string d cs) is = omega (arith, ring_takes d is cs)
 size_by_body (polygon d rings) is = omega (arith, rings_take d rings is)
 size_by_body (multi_point d points) is = rw is (omega arith)
-size_by_body (multi_line_string d lines) is = omega (arith, items_size 5 (ring_measure d) (line_string_size d) lines (λ l. omega (arith, ring_takes d is l)))
-size_by_body (multi_polygon d polygons) is = omega (arith, items_size 5 (polygon_measure d) (polygon_size d) polygons (λ p. omega (arith, rings_take d p is)))
+size_by_body (multi_line_string d lines) is =
+    omega (arith, items_size 5 (ring_measure d) (line_string_size d) lines (λ l. omega (arith, ring_takes d is l)))
+size_by_body (multi_polygon d polygons) is =
+    omega (arith, items_size 5 (polygon_measure d) (polygon_size d) polygons (λ p. omega (arith, rings_take d p is)))
 size_by_body (collection d gs) is = omega (arith, members_size gs)
 size_by_body (line d start end) is = omega (arith, is)
 size_by_body (rectangle d least greatest) is = refl
 size_by_body (triangle d first second third) is = omega (arith, is)
 
 -- what was measured of a header and a body is measured of the geometry
-pub whole_measured : (g : Geometry) (dims : Dimensions) (r : Result ℕ Fault) → dims ≡ dimensions_of g → dimensions_fault dims ≡ None
-    → Measures (body_fault g) (size_by_parts g) r → Measures (fault g) (bytes_behind_header g) r
+pub whole_measured : (g : Geometry) (dims : Dimensions) (r : Result ℕ Fault) → dims ≡ dimensions_of g
+    → dimensions_fault dims ≡ None → Measures (body_fault g) (size_by_parts g) r
+    → Measures (fault g) (bytes_behind_header g) r
 whole_measured g dims (Ok n) is supported h =
     let fine = ap dimensions_fault (sym is) ∙ supported in
     let whole = size_by_body g (supported_words (dimensions_of g) fine) in
@@ -125,16 +140,19 @@ whole_measured g dims (Ok n) is supported h =
 whole_measured g dims (Err e) is supported h =
     subst (Finds e) (sym (fault_by_body g)) (reports_rest e _ _ (ap dimensions_fault (sym is) ∙ supported) h)
 
-pub whole_unsupported : (g : Geometry) (dims : Dimensions) (e : Fault) → dims ≡ dimensions_of g → Finds e (dimensions_fault dims) → Finds e (fault g)
+pub whole_unsupported : (g : Geometry) (dims : Dimensions) (e : Fault) → dims ≡ dimensions_of g
+    → Finds e (dimensions_fault dims) → Finds e (fault g)
 whole_unsupported g dims e is told =
     subst (Finds e) (sym (fault_by_body g)) (reports_first e _ _ (subst (λ d. Finds e (dimensions_fault d)) is told))
 
 -- what was measured of a collection's members as its parts is measured of the collection
 pub collected : (before : ℕ) (d : Dimensions) (gs : Geometries) (r : Result ℕ Fault) → dimensions_fault d ≡ None
-    → Measures (parts_fault (member_measures gs)) (before + parts_size 5 (member_measures gs)) r → IsAdded before (collection d gs) r
+    → Measures (parts_fault (member_measures gs)) (before + parts_size 5 (member_measures gs)) r
+    → IsAdded before (collection d gs) r
 unfolding IsAdded
 collected before d gs (Ok n) supported h =
-    let whole = whole_measured (collection d gs) d (Ok (capped (parts_size 5 (member_measures gs)))) refl supported (h.0, refl) in
+    let whole = whole_measured (collection d gs) d (Ok (capped (parts_size 5 (member_measures gs)))) refl supported
+    (h.0, refl) in
     (whole.0, omega (arith, h.1, whole.1))
 collected before d gs (Err e) supported h = whole_measured (collection d gs) d (Err e) refl supported h
 
@@ -149,7 +167,8 @@ pub measured_same : {g h : Geometry} (r : Result ℕ Fault) → g ≡ h → IsMe
 measured_same r same measured = subst (λ t. IsMeasured t r) same measured
 
 -- the parts of members that are lent as a slice
-pub members_length : {X : Type 0} (f : X → Geometry) (xs : List X) → length xs ≡ length (member_measures (geometries (map f xs)))
+pub members_length : {X : Type 0} (f : X → Geometry) (xs : List X)
+    → length xs ≡ length (member_measures (geometries (map f xs)))
 members_length f [] = refl
 members_length f (x ∷ xs) = omega (arith, members_length f xs)
 
@@ -160,17 +179,19 @@ members_at f (y ∷ xs) zero x item = let is : y ≡ x = cc in ap (λ z. Some (m
 members_at f (y ∷ xs) (suc i) x item = members_at f xs i x item
 
 -- what is said of a member is said of its part
-pub said_of_member : {X : Type 0} (f : X → Geometry) (Q : Measure → Type 0) (xs : List X) (i : ℕ) (x : X) → i < length xs → x ≡ get_or xs i x
-    → Q (member_measure (f x)) → IfSome (slice_get (member_measures (geometries (map f xs))) i) Q
+pub said_of_member : {X : Type 0} (f : X → Geometry) (Q : Measure → Type 0) (xs : List X) (i : ℕ) (x : X)
+    → i < length xs → x ≡ get_or xs i x → Q (member_measure (f x))
+    → IfSome (slice_get (member_measures (geometries (map f xs))) i) Q
 said_of_member f Q xs i x within item told =
     subst (λ o. IfSome o Q) (sym (members_at f xs i x (slice_get_read xs (length xs) i x refl within item))) told
 
 -- the measure of the recursion falls
-pub members_fall : (d : Dimensions) (gs : Geometries) (geo : Geometry) (t : ℕ) → collection d gs ≡ geo → 2 * node_count geo ≡ t → 2 * node_counts gs + 1 < t
+pub members_fall : (d : Dimensions) (gs : Geometries) (geo : Geometry) (t : ℕ) → collection d gs ≡ geo
+    → 2 * node_count geo ≡ t → 2 * node_counts gs + 1 < t
 members_fall d gs geo t is measure = let whole = ap node_count is in omega (arith, whole)
 
-pub member_falls : {X : Type 0} (f : X → Geometry) (xs : List X) (i : ℕ) (x : X) (t : ℕ) → i < length xs → x ≡ get_or xs i x
-    → 2 * node_counts (geometries (map f xs)) + 1 ≡ t → 2 * node_count (f x) < t
+pub member_falls : {X : Type 0} (f : X → Geometry) (xs : List X) (i : ℕ) (x : X) (t : ℕ) → i < length xs
+    → x ≡ get_or xs i x → 2 * node_counts (geometries (map f xs)) + 1 ≡ t → 2 * node_count (f x) < t
 member_falls f xs i x t within item measure =
     let member = node_count-member f xs i x within in
     let here = ap (λ y. node_count (f y)) item in

@@ -25,29 +25,32 @@ pub no_fault : (form : Form) (g : Geometry) (n : ℕ) → IsSized form g (Ok n) 
 no_fault form g n size = none_first (fault g) _ (size LittleEndian).0
 
 -- the fault of the size is the writer's
-pub refused_as : (o : WriteOptions) (g : Geometry) (f : Fault) (r : Result (Unit {0}) WkbError) (untouched : Type 0) → IsSized o.form g (Err f)
-    → IsErrAnd r (λ e. TellsFault e f) → untouched → IsRefusedAs o g r untouched
+pub refused_as : (o : WriteOptions) (g : Geometry) (f : Fault) (r : Result (Unit {0}) WkbError) (untouched : Type 0)
+    → IsSized o.form g (Err f) → IsErrAnd r (λ e. TellsFault e f) → untouched → IsRefusedAs o g r untouched
 refused_as o g f r untouched size tells kept = λ h is.
     let both = sym (size o.endianness).is ∙ is in
     let same : f ≡ h = cc in
     (subst (λ k. IsErrAnd r (λ e. TellsFault e k)) same tells, kept)
 
 -- what has a fault is refused
-pub not_written : {A : Type 0} (o : WriteOptions) (g : Geometry) (f : Fault) → IsSized o.form g (Err f) → refusal o.endianness o.form g ≡ None → A
+pub not_written : {A : Type 0} (o : WriteOptions) (g : Geometry) (f : Fault) → IsSized o.form g (Err f)
+    → refusal o.endianness o.form g ≡ None → A
 not_written o g f size none = let both = sym (size o.endianness).is ∙ none in absurd cc
 
 -- the encoding that was put spells the normal value
-pub spelled_as : (o : WriteOptions) (g : Geometry) (r : Result (Unit {0}) WkbError) (old new : Option (List ℕ)) (failed : Bool)
-    → fault g ≡ None → IsGeometry g → IsForm o.form → Puts old new failed (encoding_of o g) r → IsSpelledAs o g r old new
+pub spelled_as : (o : WriteOptions) (g : Geometry) (r : Result (Unit {0}) WkbError) (old new : Option (List ℕ))
+    (failed : Bool) → fault g ≡ None → IsGeometry g → IsForm o.form → Puts old new failed (encoding_of o g) r
+    → IsSpelledAs o g r old new
 spelled_as o g (Ok u) old new failed none lawful fits puts =
     let s = encoding_spells_lem o.endianness o.form g fits lawful none in
     record { encoding = encoding_of o g; spelling = s.0; spelled = s.1; options_kept = s.2; appended = puts.0.appended }
 spelled_as o g (Err e) old new failed none lawful fits puts = tt
 
 -- what was put of a geometry that isn't refused was written
-pub put_writes : {o : WriteOptions} {g : Geometry} {r : Result (Unit {0}) WkbError} {untouched : Type 0} {old new : Option (List ℕ)} {failed : Bool}
-    {fails_by : Option Error → Type 0} → refusal_of o g ≡ None → IsGeometry g → IsForm o.form
-    → Puts old new failed (encoding_of o g) r × IfErr r (IsOwnError fails_by) → Writes o g r untouched old new failed fails_by
+pub put_writes : {o : WriteOptions} {g : Geometry} {r : Result (Unit {0}) WkbError} {untouched : Type 0}
+    {old new : Option (List ℕ)} {failed : Bool} {fails_by : Option Error → Type 0} → refusal_of o g ≡ None
+    → IsGeometry g → IsForm o.form → Puts old new failed (encoding_of o g) r × IfErr r (IsOwnError fails_by)
+    → Writes o g r untouched old new failed fails_by
 put_writes {o} {g} {r} {untouched} {old} {new} {failed} none lawful fits puts = record {
   refused = λ f is. absurd (cc);
   written = λ _. puts.0;
@@ -56,7 +59,8 @@ put_writes {o} {g} {r} {untouched} {old} {new} {failed} none lawful fits puts = 
 }
 
 -- bytes that stand in memory are not refused for their length
-pub lent_fits : (o : WriteOptions) (g : Geometry) (bytes : List ℕ) → bytes ≡ encoding_of o g → fault g ≡ None → length bytes < 2 ^ 64 → refusal_of o g ≡ None
+pub lent_fits : (o : WriteOptions) (g : Geometry) (bytes : List ℕ) → bytes ≡ encoding_of o g → fault g ≡ None
+    → length bytes < 2 ^ 64 → refusal_of o g ≡ None
 lent_fits o g bytes is none fits =
     none_both (fault g) _ none (size_without_fault (length (encoding_of o g)) (subst (λ t. length t < 2 ^ 64) is fits))
 
@@ -66,28 +70,31 @@ is_io (errors.IOError e) None told = tt
 is_io _ None told = absurd told
 
 -- what a sink answered to bytes that it didn't take
-stops : {old new : Option (List ℕ)} {failed : Bool} {bytes : List ℕ} (fails_by : Option Error → Type 0) (failure : Option Error)
-    (r : Result (Unit {0}) WkbError) → IsErrAnd r (λ e. TellsFailure e failure) → IsBegun old new bytes → failed ≡ true → fails_by failure
+stops : {old new : Option (List ℕ)} {failed : Bool} {bytes : List ℕ} (fails_by : Option Error → Type 0)
+    (failure : Option Error) (r : Result (Unit {0}) WkbError) → IsErrAnd r (λ e. TellsFailure e failure)
+    → IsBegun old new bytes → failed ≡ true → fails_by failure
     → Puts old new failed bytes r × IfErr r (IsOwnError fails_by)
 stops fails_by failure (Ok u) never begun is so = absurd never
 stops fails_by failure (Err e) tells begun is so = ((is_io e failure tells, begun, is), (failure, so, tells))
 
 -- what the caller is told of what was put
-pub told : (old new : Option (List ℕ)) (failed : Bool) (fails_by : Option Error → Type 0) (bytes : List ℕ) (put : Result (Unit {0}) (Option Error))
-    (r : Result (Unit {0}) WkbError) → PutsOrStops old new failed fails_by bytes put
+pub told : (old new : Option (List ℕ)) (failed : Bool) (fails_by : Option Error → Type 0) (bytes : List ℕ)
+    (put : Result (Unit {0}) (Option Error)) (r : Result (Unit {0}) WkbError)
+    → PutsOrStops old new failed fails_by bytes put
     → MatchResult put (λ u. r ≡ Ok u) (λ failure. IsErrAnd r (λ e. TellsFailure e failure))
     → Puts old new failed bytes r × IfErr r (IsOwnError fails_by)
 told old new failed fails_by bytes (Ok u) r puts is = rw is (puts, tt)
 told old new failed fails_by bytes (Err failure) r puts tells = stops fails_by failure r tells puts.0 puts.1 puts.2
 
 -- and what was refused did not
-pub not_spelled : (o : WriteOptions) (g : Geometry) (r : Result (Unit {0}) WkbError) (old new : Option (List ℕ)) (P : WkbError → Type 0)
-    → IsErrAnd r P → IsSpelledAs o g r old new
+pub not_spelled : (o : WriteOptions) (g : Geometry) (r : Result (Unit {0}) WkbError) (old new : Option (List ℕ))
+    (P : WkbError → Type 0) → IsErrAnd r P → IsSpelledAs o g r old new
 not_spelled o g (Err e) old new P h = tt
 not_spelled o g (Ok u) old new P h = absurd h
 
 -- what is promised of a geometry is promised of an equal one
-pub writes_same : {o : WriteOptions} {g h : Geometry} {r : Result (Unit {0}) WkbError} {untouched : Type 0} {old new : Option (List ℕ)} {failed : Bool}
-    {fails_by : Option Error → Type 0} → g ≡ h → Writes o g r untouched old new failed fails_by → Writes o h r untouched old new failed fails_by
+pub writes_same : {o : WriteOptions} {g h : Geometry} {r : Result (Unit {0}) WkbError} {untouched : Type 0}
+    {old new : Option (List ℕ)} {failed : Bool} {fails_by : Option Error → Type 0} → g ≡ h
+    → Writes o g r untouched old new failed fails_by → Writes o h r untouched old new failed fails_by
 writes_same {o} {g} {h} {r} {untouched} {old} {new} {failed} {fails_by} same writes =
     subst (λ t. Writes o t r untouched old new failed fails_by) same writes

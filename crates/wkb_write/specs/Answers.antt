@@ -1,5 +1,6 @@
 -- What a size and a writer answer.
-use Rattle.std.specs.Prelude.{◌≡◌, ℕ, length, Bool, List, Option, Some, None, Result, MatchResult, IsErrAnd, IfOk, IfErr}
+use Rattle.std.specs.Prelude.{◌≡◌, ℕ, length, Bool, List, Option, Some, None, Result, MatchResult, IsErrAnd, IfOk}
+use Rattle.std.specs.Prelude.{IfErr}
 use Rattle.std.specs.declared.io.Error.{Error}
 use Rattle.std.specs.Io.KnownBytes.{Appends}
 use Rattle.wkb_geom.specs.declared.common.Endianness.{Endianness}
@@ -28,12 +29,16 @@ refusal_of options g = refusal options.endianness options.form g
 -- the answer is the length of the encoding, in either order, or the error that tells what is refused
 abbrev pub IsSizeOf : Form → Geometry → Result ℕ WkbError → Type 0
 IsSizeOf form g r =
-    (order : Endianness) → MatchResult r (λ n. (refusal order form g ≡ None) × (n ≡ length (encoding order form g))) (λ e. Reports e (refusal order form g))
+    (order : Endianness)
+    → MatchResult r (λ n. (refusal order form g ≡ None) × (n ≡ length (encoding order form g)))
+    (λ e. Reports e (refusal order form g))
 
 -- the same with the fault itself
 abbrev pub IsSized : Form → Geometry → Result ℕ Fault → Type 0
 IsSized form g r =
-    (order : Endianness) → MatchResult r (λ n. (refusal order form g ≡ None) × (n ≡ length (encoding order form g))) (λ e. Finds e (refusal order form g))
+    (order : Endianness)
+    → MatchResult r (λ n. (refusal order form g ≡ None) × (n ≡ length (encoding order form g)))
+    (λ e. Finds e (refusal order form g))
 
 -- what is refused is answered by the error that tells it, and the sink is untouched
 abbrev pub IsRefusedAs : WriteOptions → Geometry → Result (Unit {0}) WkbError → Type 0 → Type 0
@@ -41,12 +46,14 @@ IsRefusedAs options g r untouched =
     (f : Fault) → refusal options.endianness options.form g ≡ Some f → IsErrAnd r (λ e. TellsFault e f) × untouched
 
 -- what is not refused is put to the sink, whole at Ok
-abbrev pub IsWrittenAs : WriteOptions → Geometry → Result (Unit {0}) WkbError → Option (List ℕ) → Option (List ℕ) → Bool → Type 0
+abbrev pub IsWrittenAs : WriteOptions → Geometry → Result (Unit {0}) WkbError → Option (List ℕ) → Option (List ℕ) → Bool
+    → Type 0
 IsWrittenAs options g r old new failed =
-    refusal options.endianness options.form g ≡ None → Puts old new failed (encoding options.endianness options.form g) r
+    refusal options.endianness options.form g ≡ None
+    → Puts old new failed (encoding options.endianness options.form g) r
 
--- bytes that spell the value were appended, once: each geometry in the options' order, the outermost with their SRID and
--- no other with one
+-- bytes that spell the value were appended, once: each geometry in the options' order, the outermost with their
+-- SRID and no other with one
 pub record IsSpelled (options : WriteOptions) (t : Value) (old new : Option (List ℕ)) : Type 0 where
   pub encoding : List ℕ
   pub spelling : Spelling
@@ -55,7 +62,8 @@ pub record IsSpelled (options : WriteOptions) (t : Value) (old new : Option (Lis
   pub appended : Appends old new encoding
 
 -- what stands appended at Ok spells the value that the geometry stands for
-abbrev pub IsSpelledAs : WriteOptions → Geometry → Result (Unit {0}) WkbError → Option (List ℕ) → Option (List ℕ) → Type 0
+abbrev pub IsSpelledAs : WriteOptions → Geometry → Result (Unit {0}) WkbError → Option (List ℕ) → Option (List ℕ)
+    → Type 0
 IsSpelledAs options g r old new = IfOk r (λ _. IsSpelled options (normal g) old new)
 
 -- the error for what is not refused is the sink's own, or says that the sink took nothing
@@ -64,8 +72,8 @@ IsFailedAs options g r fails_by = refusal options.endianness options.form g ≡ 
 
 -- what a writer promises of a geometry under its options: what becomes of a refused one and of one that is not, what
 -- stands appended, and whose error is answered
-pub record Writes (options : WriteOptions) (g : Geometry) (r : Result (Unit {0}) WkbError) (untouched : Type 0) (old new : Option (List ℕ))
-    (failed : Bool) (fails_by : Option Error → Type 0) : Type 0 where
+pub record Writes (options : WriteOptions) (g : Geometry) (r : Result (Unit {0}) WkbError) (untouched : Type 0)
+    (old new : Option (List ℕ)) (failed : Bool) (fails_by : Option Error → Type 0) : Type 0 where
   pub refused : IsRefusedAs options g r untouched
   pub written : IsWrittenAs options g r old new failed
   pub spelled : IsSpelledAs options g r old new

@@ -6,8 +6,7 @@ use Rattle.wkb_geom.specs.declared.common.Dimensions.{Dimensions}
 use Rattle.wkb_geom.specs.Dimensions.{size}
 use Rattle.wkb_geom.specs.Values.{Coordinate}
 use Rattle.wkb_geom.specs.Geometries.{Geometry, Geometries, point, line_string, polygon, multi_point, multi_line_string}
-use Rattle.wkb_geom.specs.Geometries.{multi_polygon, collection, rectangle}
-use Rattle.wkb_geom.specs.Geometries.{triangle, line, no_geometries, geometry}
+use Rattle.wkb_geom.specs.Geometries.{multi_polygon, collection, rectangle, triangle, line, no_geometries, geometry}
 use Rattle.wkb_geom.specs.Sizes.{byte_size}
 use Rattle.wkb_geom.specs.Encodings.{or_else, count_fault, first_fault, coordinates_fault, fault}
 
@@ -39,7 +38,9 @@ abbrev pub ring_measure : Dimensions → List Coordinate → Measure
 ring_measure d cs = record { fault = coordinates_fault cs; size = ring_bytes d cs }
 
 abbrev pub polygon_measure : Dimensions → List (List Coordinate) → Measure
-polygon_measure d rings = record { fault = parts_fault (map (ring_measure d) rings); size = parts_size 0 (map (ring_measure d) rings) }
+polygon_measure d rings =
+    let parts = map (ring_measure d) rings in
+    record { fault = parts_fault parts; size = parts_size 0 parts }
 
 -- the bytes behind a geometry's header
 abbrev pub bytes_behind_header : Geometry → ℕ

@@ -1,7 +1,8 @@
 -- The words of the clauses of all kinds, passed on from one place. Declares nothing.
 pub use Rattle.wkb_geom.specs.Errors.{IsMemory}
 pub use Rattle.wkb_geom.specs.Geometries.{Geometry, IsGeometry, IsPoint, collection, geometries, line, line_string}
-pub use Rattle.wkb_geom.specs.Geometries.{multi_line_string, multi_point, multi_polygon, point, polygon, rectangle, triangle}
+pub use Rattle.wkb_geom.specs.Geometries.{multi_line_string, multi_point, multi_polygon, point, polygon, rectangle}
+pub use Rattle.wkb_geom.specs.Geometries.{triangle}
 pub use Rattle.wkb_geom.specs.Reading.{type_dimension, type_kind}
 pub use Rattle.wkb_geom.specs.Encodings.{coordinates_fault, coordinates_encoding, count_fault, dimensions_fault, fault}
 pub use Rattle.wkb_geom.specs.Encodings.{first_fault, header_encoding, inner, refusal, encoding}

@@ -1,10 +1,12 @@
 //! A geometry of any kind, and the members of a collection: their recursion, in measuring and in putting.
 
-ghost use Rattle.std.specs.Prelude.{◌≡◌, ◌<◌, ◌^◌, ◌++◌, ◌⊎◌, None, IfOk, IfErr, false, length, map, MatchOption};
-ghost use Rattle.wkb_write.specs.Words.{encoding_of, refusal_of, Iso, IsMemory, collection, geometries};
-ghost use Rattle.wkb_write.specs.Words.{fault, first_fault};
-ghost use Rattle.wkb_write.specs.Words.{header_encoding, inner, encoding, Lays, IsSizeOf, WritesTo, counted};
-ghost use Rattle.wkb_write.specs.Words.{form_with_flags, IsAdded, IsLeaf, IsMeasured, Reports, result_of};
+ghost use Rattle.std.specs.Prelude.{◌≡◌, ◌<◌, ◌^◌, ◌++◌, ◌⊎◌, None, IfOk, IfErr, false, length};
+ghost use Rattle.std.specs.Prelude.{map, MatchOption};
+ghost use Rattle.wkb_write.specs.Words.{encoding_of, refusal_of, Iso, IsMemory, collection};
+ghost use Rattle.wkb_write.specs.Words.{geometries, fault, first_fault, header_encoding, inner};
+ghost use Rattle.wkb_write.specs.Words.{encoding, Lays, IsSizeOf, WritesTo, counted};
+ghost use Rattle.wkb_write.specs.Words.{form_with_flags, IsAdded, IsLeaf, IsMeasured, Reports};
+ghost use Rattle.wkb_write.specs.Words.{result_of};
 
 use crate::leaf::{measure_leaf, put_leaf};
 use crate::lent::{lent_encoding, write_lent};
@@ -141,7 +143,8 @@ pub fn put_members<S: Sink, G: GeometryTrait>(
     requires working { S.has_failed out.old.sink.now ≡ false }
     ensures { Lays S.Sink out.old out.new
         (header_encoding order form 7 dim
-        ++ counted order (map (λ m. encoding order (inner form) (G.geometry m)) members.now)) result }
+        ++ counted order
+        (map (λ m. encoding order (inner form) (G.geometry m)) members.now)) result }
 {
     let count = members.len();
     out.put_head(order, form, WkbType::GeometryCollection(dim), count as u32)?;

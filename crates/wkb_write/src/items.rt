@@ -1,8 +1,10 @@
 //! Items behind a count: the rings of a polygon, the members of a multi geometry.
 
-ghost use Rattle.std.specs.Prelude.{◌≡◌, ◌<◌, ◌^◌, ◌++◌, ℕ, List, [], false, length, get_or, IfSome, slice_get};
-ghost use Rattle.wkb_write.specs.Words.{Endianness, Form, type_kind, type_dimension, header_encoding, inner};
-ghost use Rattle.wkb_write.specs.Words.{Lays, Measure, parts_fault, parts_size, counted, Measures, result_of};
+ghost use Rattle.std.specs.Prelude.{◌≡◌, ◌<◌, ◌^◌, ◌++◌, ℕ, List, [], false, length, get_or};
+ghost use Rattle.std.specs.Prelude.{IfSome, slice_get};
+ghost use Rattle.wkb_write.specs.Words.{Endianness, Form, type_kind, type_dimension};
+ghost use Rattle.wkb_write.specs.Words.{header_encoding, inner, Lays, Measure, parts_fault};
+ghost use Rattle.wkb_write.specs.Words.{parts_size, counted, Measures, result_of};
 
 use crate::Sink;
 use crate::measure::{Measured, check_count};
@@ -45,7 +47,8 @@ pub trait Items<G> {
         requires fine { is_fine geom.now }
         requires within { i < length (encodings order form geom.now) }
         requires working { S.has_failed out.old.sink.now ≡ false }
-        ensures { Lays S.Sink out.old out.new (get_or (encodings order form geom.now) i []) result };
+        ensures { Lays S.Sink out.old out.new
+            (get_or (encodings order form geom.now) i []) result };
 }
 
 /// Measures the count and the items in order, each behind a header of so many bytes.

@@ -2,7 +2,8 @@
 
 ghost use Rattle.std.specs.Prelude.{◌≡◌, ◌<◌, ◌^◌, None, false, length};
 ghost use Rattle.wkb_write.specs.Words.{Iso, line_string, coordinates_fault, coordinates_encoding};
-ghost use Rattle.wkb_write.specs.Words.{dimensions_fault, Lays, IsSizeOf, WritesTo, ring_bytes, Measures};
+ghost use Rattle.wkb_write.specs.Words.{dimensions_fault, Lays, IsSizeOf, WritesTo, ring_bytes};
+ghost use Rattle.wkb_write.specs.Words.{Measures};
 
 use crate::common::*;
 use crate::measure::{behind_header, check_count, words_size};

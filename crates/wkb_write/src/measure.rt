@@ -3,7 +3,8 @@
 //! A fault is met in preorder: a geometry's dimensions, its count, then its items. Only the bytes after the header are
 //! measured, and the greatest `usize` stands for all sizes from there on: with a header none of them fits.
 
-ghost use Rattle.std.specs.Prelude.{◌≡◌, ◌+◌, ◌*◌, ◌^◌, ◌<◌, None, Err, is_some, MatchResult, IsErrAnd};
+ghost use Rattle.std.specs.Prelude.{◌≡◌, ◌+◌, ◌*◌, ◌^◌, ◌<◌, None, Err, is_some, MatchResult};
+ghost use Rattle.std.specs.Prelude.{IsErrAnd};
 ghost use Rattle.wkb_geom.specs.Errors.{TellsFault};
 ghost use Rattle.wkb_geom.specs.Geometries.{Geometry, IsGeometry};
 ghost use Rattle.wkb_geom.specs.Refusals.{srid_size};

@@ -1,8 +1,8 @@
 //! A multi line string.
 
 ghost use Rattle.std.specs.Prelude.{◌≡◌, None, false, map};
-ghost use Rattle.wkb_write.specs.Words.{Iso, line_string, multi_line_string, fault, encoding, IsSizeOf, WritesTo};
-ghost use Rattle.wkb_write.specs.Words.{ring_measure};
+ghost use Rattle.wkb_write.specs.Words.{Iso, line_string, multi_line_string, fault, encoding};
+ghost use Rattle.wkb_write.specs.Words.{IsSizeOf, WritesTo, ring_measure};
 
 use crate::common::*;
 use crate::items::{Items, measure_items, put_items};

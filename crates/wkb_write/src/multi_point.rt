@@ -1,7 +1,8 @@
 //! A multi point.
 
 ghost use Rattle.std.specs.Prelude.{◌≡◌, None, false, map, length, ◌+◌, ◌*◌};
-ghost use Rattle.wkb_write.specs.Words.{Iso, multi_point, point, count_fault, fault, encoding, IsSizeOf, WritesTo};
+ghost use Rattle.wkb_write.specs.Words.{Iso, multi_point, point, count_fault, fault, encoding};
+ghost use Rattle.wkb_write.specs.Words.{IsSizeOf, WritesTo};
 ghost use Rattle.wkb_write.specs.Words.{point_measure, coordinate_words, Measures};
 
 use crate::common::*;
@@ -37,7 +38,8 @@ impl<M: MultiPointTrait> Items<M> for MultiPointKind {
 
     ghost measures = { λ m. map (point_measure (M.dimensions m)) (M.points m) };
 
-    ghost encodings = { λ order form m. map (λ c. encoding order form (point (M.dimensions m) c)) (M.points m) };
+    ghost encodings = { λ order form m.
+        map (λ c. encoding order form (point (M.dimensions m) c)) (M.points m) };
 
     fn count(geom: &M) -> u128 {
         geom.num_points() as u128
@@ -63,7 +65,8 @@ impl<M: MultiPointTrait> Items<M> for MultiPointKind {
 // A count and points: by their number, since all are of one size.
 fn measure_points<M: MultiPointTrait>(geom: &M) -> Result<usize, Fault>
     ensures { Measures (count_fault (length (M.points geom.now)))
-        (4 + length (M.points geom.now) * (5 + 8 * coordinate_words (M.dimensions geom.now))) result }
+        (4 + length (M.points geom.now) * (5 + 8 * coordinate_words (M.dimensions geom.now)))
+        result }
 {
     let count = check_count(geom.num_points() as u128)?;
     Ok(4 + MEMBER_HEADER * count as usize + words_size(geom.dim(), count))

@@ -1,8 +1,8 @@
 //! A multi polygon.
 
 ghost use Rattle.std.specs.Prelude.{◌≡◌, None, false, map};
-ghost use Rattle.wkb_write.specs.Words.{Iso, multi_polygon, polygon, fault, encoding, IsSizeOf, WritesTo};
-ghost use Rattle.wkb_write.specs.Words.{polygon_measure};
+ghost use Rattle.wkb_write.specs.Words.{Iso, multi_polygon, polygon, fault, encoding, IsSizeOf};
+ghost use Rattle.wkb_write.specs.Words.{WritesTo, polygon_measure};
 
 use crate::common::*;
 use crate::items::{Items, measure_items, put_items};
@@ -38,7 +38,8 @@ impl<M: MultiPolygonTrait> Items<M> for MultiPolygonKind {
 
     ghost measures = { λ m. map (polygon_measure (M.dimensions m)) (M.polygons m) };
 
-    ghost encodings = { λ order form m. map (λ c. encoding order form (polygon (M.dimensions m) c)) (M.polygons m) };
+    ghost encodings = { λ order form m.
+        map (λ c. encoding order form (polygon (M.dimensions m) c)) (M.polygons m) };
 
     fn count(geom: &M) -> u128 {
         geom.num_polygons() as u128

@@ -1,7 +1,8 @@
 //! A polygon: its rings, the exterior first.
 
 ghost use Rattle.std.specs.Prelude.{◌≡◌, None, false, map};
-ghost use Rattle.wkb_write.specs.Words.{Iso, polygon, coordinates_encoding, fault, IsSizeOf, WritesTo, ring_measure};
+ghost use Rattle.wkb_write.specs.Words.{Iso, polygon, coordinates_encoding, fault, IsSizeOf};
+ghost use Rattle.wkb_write.specs.Words.{WritesTo, ring_measure};
 
 use crate::common::*;
 use crate::items::{Items, measure_items, put_items};

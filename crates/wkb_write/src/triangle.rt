@@ -15,7 +15,8 @@ pub struct TriangleKind;
 
 #[tactic(auto, using(crate::proofs::Steps::step_laws))]
 impl<T: TriangleTrait> Writable<T> for TriangleKind {
-    ghost geometry = { λ t. triangle (T.dimensions t) (T.first_words t) (T.second_words t) (T.third_words t) };
+    ghost geometry = { λ t. triangle (T.dimensions t) (T.first_words t)
+        (T.second_words t) (T.third_words t) };
 
     ghost lawful = { λ g. T.lawful g };
 

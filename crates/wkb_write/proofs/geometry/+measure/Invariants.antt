@@ -13,4 +13,5 @@ decreases-add_members g l = 2 * node_counts (geometries (map g.G.GeometryTrait.g
 
 abbrev pub invariant-add_members-loop-i : goal.invariant-add_members-loop-i
 invariant-add_members-loop-i g l =
-    SoFar (member_measures (geometries (map g.G.GeometryTrait.geometry l.members))) (l.before + (4 + 5 * l.count)) l.i l.total
+    SoFar (member_measures (geometries (map g.G.GeometryTrait.geometry l.members)))
+    (l.before + (4 + 5 * l.count)) l.i l.total

@@ -1,12 +1,14 @@
-use Rattle.wkb_write.proofs.Prelude.{◌≡◌, ◌<◌, ◌-◌, ◌∙◌, sym, ap, length, arith, length-map, node_count, fault, encoding}
-use Rattle.wkb_write.proofs.Prelude.{inner}
+use Rattle.wkb_write.proofs.Prelude.{◌≡◌, ◌<◌, ◌-◌, ◌∙◌, sym, ap, length, arith, length-map, node_count, fault}
+use Rattle.wkb_write.proofs.Prelude.{encoding, inner}
 use Rattle.wkb_write.proofs.Collections.{collection_count, collection_members, lays_collection, member_ready}
 use Rattle.wkb_sink.proofs.Laid.{exits}
-use Rattle.wkb_write.proofs.Loops.{head_cut, none_laid, next_laid, all_laid, next_cut, lays_last_encoding, encoding_there}
+use Rattle.wkb_write.proofs.Loops.{head_cut, none_laid, next_laid, all_laid, next_cut, lays_last_encoding}
+use Rattle.wkb_write.proofs.Loops.{encoding_there}
 use Rattle.wkb_write.proofs.geometry.+put.Goals as goal
 
 pub put_members-returns-in_err-put_head : goal.put_members-returns-in_err-put_head
-put_members-returns-in_err-put_head g t c = exits _ _ c.from_residual.ensures.1 (head_cut _ _ _ _ (length-map _ _) c.in_err-put_head.ensures)
+put_members-returns-in_err-put_head g t c =
+    exits _ _ c.from_residual.ensures.1 (head_cut _ _ _ _ (length-map _ _) c.in_err-put_head.ensures)
 
 pub put_member-put_leaf-requires-clause-leaf : goal.put_member-put_leaf-requires-clause-leaf
 put_member-put_leaf-requires-clause-leaf g t c = c.in-None.ensures
@@ -16,7 +18,8 @@ put_member-put_members-requires g t c κs within =
     let members = c.in-Some.members.now in
     let none = ap fault c.in-Some.ensures ∙ c.requires.fault in
     let few = collection_count (g.G.Dimensioned.dimensions c.args.geom.now) g.G.GeometryTrait.geometry members none in
-    let fine = collection_members (g.G.Dimensioned.dimensions c.args.geom.now) g.G.GeometryTrait.geometry members none in
+    let fine = collection_members (g.G.Dimensioned.dimensions c.args.geom.now) g.G.GeometryTrait.geometry members none
+    in
     (omega (arith, ap node_count c.in-Some.ensures, c.decreases), assumption (few, fine, c.requires.working))
 
 pub put_member-returns-in-Some : goal.put_member-returns-in-Some
@@ -43,7 +46,8 @@ put_members-put_member-requires-2 g t c κs within =
 
 pub put_members-returns-then-count-eq0 : goal.put_members-returns-then-count-eq0
 put_members-returns-then-count-eq0 g t c =
-    let same = length-map c.args.members.now (λ m. encoding c.args.order (inner c.args.form) (g.G.GeometryTrait.geometry m)) in
+    let same = length-map c.args.members.now
+    (λ m. encoding c.args.order (inner c.args.form) (g.G.GeometryTrait.geometry m)) in
     all_laid (none_laid _ (sym same) c.in_ok-put_head.ensures) (omega (arith, same, c.if-count-eq0.true))
 
 pub put_members-returns : goal.put_members-returns
@@ -52,24 +56,28 @@ put_members-returns g t c =
     let same = length-map members (λ m. encoding c.args.order (inner c.args.form) (g.G.GeometryTrait.geometry m)) in
     let there : length members - 1 < length members = omega (arith, c.if-count-eq0.false) in
     let at_end : c.loop-i.i ≡ length members - 1 = omega (arith, c.loop-i.auto.i-end, c.loop-i-test.false) in
-    lays_last_encoding _ _ (rw at_end at c.loop-i.invariant) (encoding_there _ _ _ _ there c.index-members-last.is) (omega (arith, same, there))
+    lays_last_encoding _ _ (rw at_end at c.loop-i.invariant) (encoding_there _ _ _ _ there c.index-members-last.is)
+    (omega (arith, same, there))
     (rw (← c.has_flags-2.ensures) at c.put_member-2.ensures)
 
 pub put_members-returns-in_err-put_member : goal.put_members-returns-in_err-put_member
 put_members-returns-in_err-put_member g t c =
     let there : c.loop-i.i < length c.args.members.now = omega (arith, c.loop-i-test.true) in
     let cut = rw (← c.has_flags.ensures) at c.in_err-put_member.ensures in
-    exits _ _ c.from_residual-in_err-put_member.ensures.1 (next_cut c.loop-i.invariant (encoding_there _ _ _ _ there c.index-members-i.is) cut)
+    exits _ _ c.from_residual-in_err-put_member.ensures.1
+    (next_cut c.loop-i.invariant (encoding_there _ _ _ _ there c.index-members-i.is) cut)
 
 pub put_members-put_head-requires : goal.put_members-put_head-requires
 put_members-put_head-requires g t c = record { working = c.requires.working }
 
 pub put_members-loop-i-init : goal.put_members-loop-i-init
 put_members-loop-i-init g t c =
-    let same = length-map c.args.members.now (λ m. encoding c.args.order (inner c.args.form) (g.G.GeometryTrait.geometry m)) in
+    let same = length-map c.args.members.now
+    (λ m. encoding c.args.order (inner c.args.form) (g.G.GeometryTrait.geometry m)) in
     none_laid _ (sym same) c.in_ok-put_head.ensures
 
 pub put_members-loop-i-preserved : goal.put_members-loop-i-preserved
 put_members-loop-i-preserved g t c =
     let there : c.loop-i.i < length c.args.members.now = omega (arith, c.loop-i-test.true) in
-    next_laid c.loop-i.invariant (encoding_there _ _ _ _ there c.index-members-i.is) (rw (← c.has_flags.ensures) at c.in_ok-put_member.ensures)
+    next_laid c.loop-i.invariant (encoding_there _ _ _ _ there c.index-members-i.is)
+    (rw (← c.has_flags.ensures) at c.in_ok-put_member.ensures)

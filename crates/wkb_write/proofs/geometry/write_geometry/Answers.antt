@@ -12,4 +12,5 @@ returns-in-Polygon g c = writes_same c.in-Polygon.ensures.part c.write_polygon.e
 
 pub returns-in-Some : goal.returns-in-Some
 returns-in-Some g c =
-    c.write_lent.ensures _ (g.met.G.GeometryTrait.lawful c.args.geom.now) c.in-Some.ensures.writable c.in-Some.ensures.encoding
+    c.write_lent.ensures _ (g.met.G.GeometryTrait.lawful c.args.geom.now) c.in-Some.ensures.writable
+    c.in-Some.ensures.encoding

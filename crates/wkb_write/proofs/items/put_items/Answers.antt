@@ -5,8 +5,10 @@ use Rattle.wkb_write.proofs.items.put_items.Goals as goal
 
 pub returns-in_err-put_item : goal.returns-in_err-put_item
 returns-in_err-put_item g c =
-    let item = slice_get-get_or _ c.loop-i.i _ (omega (arith, c.count-count.ensures.put c.args.order (inner c.args.form))) in
-    exits _ _ c.from_residual-in_err-put_item.ensures.1 (next_cut c.loop-i.invariant item (rw c.inner.ensures at c.in_err-put_item.ensures))
+    let item = slice_get-get_or _ c.loop-i.i _
+    (omega (arith, c.count-count.ensures.put c.args.order (inner c.args.form))) in
+    exits _ _ c.from_residual-in_err-put_item.ensures.1
+    (next_cut c.loop-i.invariant item (rw c.inner.ensures at c.in_err-put_item.ensures))
 
 pub returns-in_err-put_head : goal.returns-in_err-put_head
 returns-in_err-put_head g c =
@@ -18,7 +20,8 @@ loop-i-init g c = none_laid _ (c.count-count.ensures.put c.args.order (inner c.a
 
 pub loop-i-preserved : goal.loop-i-preserved
 loop-i-preserved g c =
-    let item = slice_get-get_or _ c.loop-i.i _ (omega (arith, c.count-count.ensures.put c.args.order (inner c.args.form))) in
+    let item = slice_get-get_or _ c.loop-i.i _
+    (omega (arith, c.count-count.ensures.put c.args.order (inner c.args.form))) in
     next_laid c.loop-i.invariant item (rw c.inner.ensures at c.in_ok-put_item.ensures)
 
 pub returns : goal.returns

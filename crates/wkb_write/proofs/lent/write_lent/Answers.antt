@@ -3,5 +3,6 @@ use Rattle.wkb_write.proofs.lent.write_lent.Goals as goal
 
 pub returns : goal.returns
 returns g c = λ geo lawful none is.
-    let puts = told _ _ _ (g.S.Sink.fails_by c.put_all.new.sink) _ _ _ (rw is at c.put_all.ensures) c.wkb_result.ensures in
+    let puts = told _ _ _ (g.S.Sink.fails_by c.put_all.new.sink) _ _ _
+    (rw is at c.put_all.ensures) c.wkb_result.ensures in
     put_writes none lawful c.length_of_header.ensures.fits puts

@@ -5,4 +5,5 @@ pub returns-in-Ok : goal.returns-in-Ok
 returns-in-Ok c = λ g lawful measured. c.in-Ok.ensures.size g lawful measured
 
 pub returns-in-Err : goal.returns-in-Err
-returns-in-Err c = λ g lawful measured. size_answered c.args.form g _ _ c.refuse.ensures (c.in-Err.ensures.size g lawful measured)
+returns-in-Err c = λ g lawful measured. size_answered c.args.form g _ _ c.refuse.ensures
+    (c.in-Err.ensures.size g lawful measured)

@@ -8,7 +8,8 @@ put_members-requires-clause-count g c =
 
 pub put_members-requires-clause-fault : goal.put_members-requires-clause-fault
 put_members-requires-clause-fault g c =
-    collection_members _ g.G.GeometryTrait.geometry c.in-Some.members.now (ap fault c.in-Some.ensures ∙ c.requires.fault)
+    collection_members _ g.G.GeometryTrait.geometry c.in-Some.members.now
+    (ap fault c.in-Some.ensures ∙ c.requires.fault)
 
 pub returns-in-Some : goal.returns-in-Some
 returns-in-Some g c =

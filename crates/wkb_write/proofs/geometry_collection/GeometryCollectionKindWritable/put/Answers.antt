@@ -4,11 +4,13 @@ use Rattle.wkb_write.proofs.geometry_collection.GeometryCollectionKindWritable.p
 
 pub put_members-requires-clause-count : goal.put_members-requires-clause-count
 put_members-requires-clause-count g c =
-    collection_count _ g.C.GeometryType.GeometryTrait.geometry c.geometries.result.now (rw (← c.geometries.ensures) at c.requires.fault)
+    collection_count _ g.C.GeometryType.GeometryTrait.geometry c.geometries.result.now
+    (rw (← c.geometries.ensures) at c.requires.fault)
 
 pub put_members-requires-clause-fault : goal.put_members-requires-clause-fault
 put_members-requires-clause-fault g c =
-    collection_members _ g.C.GeometryType.GeometryTrait.geometry c.geometries.result.now (rw (← c.geometries.ensures) at c.requires.fault)
+    collection_members _ g.C.GeometryType.GeometryTrait.geometry c.geometries.result.now
+    (rw (← c.geometries.ensures) at c.requires.fault)
 
 pub returns : goal.returns
 returns g c =

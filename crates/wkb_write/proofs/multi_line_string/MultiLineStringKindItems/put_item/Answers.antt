@@ -8,5 +8,6 @@ put-requires-clause-working g c = c.requires.working
 
 pub returns : goal.returns
 returns g c =
-    lays_member _ _ _ (λ d v. encoding c.args.order c.args.form (line_string d v)) g.M.InnerLineStringType.LineStringTrait.coordinates g.M.InnerLineStringType.Dimensioned.dimensions _ _ c.args.i _ _
+    lays_member _ _ _ (λ d v. encoding c.args.order c.args.form (line_string d v))
+    g.M.InnerLineStringType.LineStringTrait.coordinates g.M.InnerLineStringType.Dimensioned.dimensions _ _ c.args.i _ _
     c.unwrap-line_string.ensures c.line_string.ensures.value c.line_string.ensures.dimensions c.put.ensures

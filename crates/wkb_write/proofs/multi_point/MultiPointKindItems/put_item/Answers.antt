@@ -8,5 +8,6 @@ put-requires-clause-working g c = c.requires.working
 
 pub returns : goal.returns
 returns g c =
-    lays_member _ _ _ (λ d v. encoding c.args.order c.args.form (point d v)) g.M.InnerPointType.PointTrait.coordinate g.M.InnerPointType.Dimensioned.dimensions _ _ c.args.i _ _
+    lays_member _ _ _ (λ d v. encoding c.args.order c.args.form (point d v)) g.M.InnerPointType.PointTrait.coordinate
+    g.M.InnerPointType.Dimensioned.dimensions _ _ c.args.i _ _
     c.unwrap-point.ensures c.point.ensures.value c.point.ensures.dimensions c.put.ensures

@@ -8,5 +8,7 @@ put-requires-clause-working g c = c.requires.working
 
 pub returns : goal.returns
 returns g c =
-    lays_member _ _ _ (λ d v. encoding c.args.order c.args.form (polygon d v)) (λ p. g.M.InnerPolygonType.PolygonTrait.rings p.now) (λ p. g.M.InnerPolygonType.Dimensioned.dimensions p.now) _ _ c.args.i _ _
+    lays_member _ _ _ (λ d v. encoding c.args.order c.args.form (polygon d v))
+    (λ p. g.M.InnerPolygonType.PolygonTrait.rings p.now)
+    (λ p. g.M.InnerPolygonType.Dimensioned.dimensions p.now) _ _ c.args.i _ _
     c.unwrap-polygon.ensures c.polygon.ensures.value c.polygon.ensures.dimensions c.put.ensures

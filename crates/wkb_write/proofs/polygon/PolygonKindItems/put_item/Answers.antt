@@ -6,4 +6,5 @@ pub put_coordinates-requires-clause-working : goal.put_coordinates-requires-clau
 put_coordinates-requires-clause-working g c = c.requires.working
 
 pub returns : goal.returns
-returns g c = lays_item _ _ _ (coordinates_encoding c.args.order) _ c.args.i _ c.nth_ring.ensures.value c.put_coordinates.ensures
+returns g c = lays_item _ _ _ (coordinates_encoding c.args.order) _ c.args.i _ c.nth_ring.ensures.value
+    c.put_coordinates.ensures

@@ -6,7 +6,14 @@ use Rattle.wkb_write.proofs.rect.RectKindWritable.put.Goals as goal
 pub returns : goal.returns
 unfolding polygon_encoding coordinates_encoding
 returns g c =
-    rw (← c.min.ensures.value, ← c.max.ensures.value, ← c.x_y-x0.ensures.x, ← c.x_y-x0.ensures.y, ← c.x_y-x1.ensures.x, ← c.x_y-x1.ensures.y)
+    rw (
+      ← c.min.ensures.value,
+      ← c.max.ensures.value,
+      ← c.x_y-x0.ensures.x,
+      ← c.x_y-x0.ensures.y,
+      ← c.x_y-x1.ensures.x,
+      ← c.x_y-x1.ensures.y,
+    )
     (laid_here c.in_ok-make_room.ensures.laid (behind c.lay_header.ensures.bytes
     (behind c.lay_count.ensures.bytes
     (last (behind c.lay_count-2.ensures.bytes

@@ -7,7 +7,13 @@ use Rattle.wkb_write.proofs.triangle.TriangleKindWritable.put.Goals as goal
 pub returns : goal.returns
 unfolding polygon_encoding coordinates_encoding
 returns g c =
-    rw (← c.dim.ensures, ← c.dimension_to_write.ensures, ← c.first-first.ensures.value, ← c.second.ensures.value, ← c.third.ensures.value)
+    rw (
+      ← c.dim.ensures,
+      ← c.dimension_to_write.ensures,
+      ← c.first-first.ensures.value,
+      ← c.second.ensures.value,
+      ← c.third.ensures.value,
+    )
     (laid_here c.in_ok-make_room.ensures.laid (behind c.lay_header.ensures.bytes
     (behind c.lay_count.ensures.bytes
     (last (behind c.lay_count-2.ensures.bytes
