@@ -1,6 +1,6 @@
 -- A collection's members, as a list of what they mean.
 use Rattle.wkb_write.proofs.Prelude.{◌≡◌, ℕ, ◌+◌, ◌*◌, ◌<◌, List, [], ◌∷◌, ◌++◌, length, map, get_or, refl, sym, ap}
-use Rattle.wkb_write.proofs.Prelude.{◌∙◌, subst, arith, None, ◌^◌, Result, flat_map, Endianness, Form, Dimension}
+use Rattle.wkb_write.proofs.Prelude.{◌∙◌, arith, None, ◌^◌, Result, flat_map, Endianness, Form, Dimension}
 use Rattle.wkb_write.proofs.Prelude.{Dimensions, Stopped, written_dimension, Geometry, geometries, collection}
 use Rattle.wkb_write.proofs.Prelude.{node_count, node_counts, encoding, encodings, fault, fault_each, first_fault}
 use Rattle.wkb_write.proofs.Prelude.{or_else, count_geometries, members_encoding, header_encoding, inner}
@@ -36,11 +36,6 @@ unfolding members_encoding
 lays_collection a b r order form f xs p name same is =
     rw (← is, ← same, ← name, count-geometries f xs, encodings-geometries order (inner form) f xs)
     (lays_counted a b r order _ (λ x. encoding order (inner form) (f x)) xs p)
-
--- the encoding of a geometry is that of an equal one
-pub lays_same : (a b : Progress) (r : Result (Unit {0}) Stopped) (order : Endianness) (form : Form) {g h : Geometry}
-    → g ≡ h → Advances a b (encoding order form g) r → Advances a b (encoding order form h) r
-lays_same a b r order form same laid = subst (λ t. Advances a b (encoding order form t) r) same laid
 
 -- a collection without a fault has a count that four bytes hold, and members without a fault
 pub collection_count : {X : Type 0} (d : Dimensions) (f : X → Geometry) (xs : List X)

@@ -162,10 +162,6 @@ unfolding IsAdded IsMeasured
 added_alone g h (Ok n) s added is same = rw (is, ← same) (added.0, omega (arith, added.1))
 added_alone g h (Err e) s added is same = rw (is, ← same) added
 
--- what was measured of a geometry is measured of an equal one
-pub measured_same : {g h : Geometry} (r : Result ℕ Fault) → g ≡ h → IsMeasured g r → IsMeasured h r
-measured_same r same measured = subst (λ t. IsMeasured t r) same measured
-
 -- the parts of members that are lent as a slice
 pub members_length : {X : Type 0} (f : X → Geometry) (xs : List X)
     → length xs ≡ length (member_measures (geometries (map f xs)))

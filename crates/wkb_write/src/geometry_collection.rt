@@ -28,7 +28,6 @@ impl<C: GeometryCollectionTrait> Writable<C> for GeometryCollectionKind {
 }
 
 /// The size of a GeometryCollection in ISO codes.
-/// Refuses as `geometry_wkb_size`.
 pub fn geometry_collection_wkb_size<C: GeometryCollectionTrait>(geom: &C) -> WkbResult<usize>
     ensures size { IsSizeOf Iso
         (collection (C.dimensions geom.now) (geometries (C.members geom.now))) result }
@@ -36,8 +35,7 @@ pub fn geometry_collection_wkb_size<C: GeometryCollectionTrait>(geom: &C) -> Wkb
     size_as::<C, GeometryCollectionKind>(geom, Form::Iso)
 }
 
-/// Writes a GeometryCollection. The whole of it is tested before a byte is put.
-/// Refuses and fails as `write_geometry`.
+/// Writes a GeometryCollection.
 pub fn write_geometry_collection<S: Sink, C: GeometryCollectionTrait>(
     writer: &mut S,
     geom: &C,

@@ -2,11 +2,13 @@
 //! it), one of each for every kind of geometry.
 //!
 //! A writer tests the whole geometry first, and refuses what the size under the same options
-//! refuses, by the same error.
+//! refuses, by the same error. Every size refuses as `geometry_wkb_size`, and every writer refuses
+//! and fails as `write_geometry`, where the docs of one don't say otherwise.
 //!
 //! A file for each kind says what it means, how it is measured and put, and has its size and its writer. What they
 //! share: `writable` (the trait of kinds, and the way from it to a writer), `items` (the trait of what stands after a
-//! count, and its two loops) and `measure`.
+//! count, and its two loops) and `measure`. A *leaf* is a geometry of any kind but a collection (`leaf`): collections
+//! alone recurse (`geometry`).
 #![tactic(auto)]
 
 mod common;

@@ -36,7 +36,6 @@ impl<L: LineTrait> Writable<L> for LineKind {
 }
 
 /// The size of a line, as a line string of two coordinates, in ISO codes.
-/// Refuses as `geometry_wkb_size`.
 pub fn line_wkb_size<L: LineTrait>(geom: &L) -> WkbResult<usize>
     ensures size { IsSizeOf Iso
         (line (L.dimensions geom.now) (L.start_words geom.now) (L.end_words geom.now)) result }
@@ -45,7 +44,6 @@ pub fn line_wkb_size<L: LineTrait>(geom: &L) -> WkbResult<usize>
 }
 
 /// Writes a line, as a line string of two coordinates.
-/// Refuses and fails as `write_geometry`.
 pub fn write_line<S: Sink, L: LineTrait>(
     writer: &mut S,
     geom: &L,

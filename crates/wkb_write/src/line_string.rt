@@ -78,7 +78,6 @@ impl<L: LineStringTrait> Writable<L> for LineStringKind {
 }
 
 /// The size of a line string in ISO codes.
-/// Refuses as `geometry_wkb_size`.
 pub fn line_string_wkb_size<L: LineStringTrait>(geom: &L) -> WkbResult<usize>
     ensures size { IsSizeOf Iso
         (line_string (L.dimensions geom.now) (L.coordinates geom.now)) result }
@@ -87,7 +86,6 @@ pub fn line_string_wkb_size<L: LineStringTrait>(geom: &L) -> WkbResult<usize>
 }
 
 /// Writes a line string.
-/// Refuses and fails as `write_geometry`.
 pub fn write_line_string<S: Sink, L: LineStringTrait>(
     writer: &mut S,
     geom: &L,

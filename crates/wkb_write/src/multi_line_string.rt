@@ -62,7 +62,6 @@ impl<M: MultiLineStringTrait> Items<M> for MultiLineStringKind {
 }
 
 /// The size of a MultiLineString in ISO codes.
-/// Refuses as `geometry_wkb_size`.
 pub fn multi_line_string_wkb_size<M: MultiLineStringTrait>(geom: &M) -> WkbResult<usize>
     ensures size { IsSizeOf Iso
         (multi_line_string (M.dimensions geom.now) (M.line_strings geom.now)) result }
@@ -71,7 +70,6 @@ pub fn multi_line_string_wkb_size<M: MultiLineStringTrait>(geom: &M) -> WkbResul
 }
 
 /// Writes a MultiLineString.
-/// Refuses and fails as `write_geometry`.
 pub fn write_multi_line_string<S: Sink, M: MultiLineStringTrait>(
     writer: &mut S,
     geom: &M,

@@ -73,7 +73,6 @@ fn measure_points<M: MultiPointTrait>(geom: &M) -> Result<usize, Fault>
 }
 
 /// The size of a MultiPoint in ISO codes.
-/// Refuses as `geometry_wkb_size`.
 pub fn multi_point_wkb_size<M: MultiPointTrait>(geom: &M) -> WkbResult<usize>
     ensures size { IsSizeOf Iso (multi_point (M.dimensions geom.now) (M.points geom.now)) result }
 {
@@ -81,7 +80,6 @@ pub fn multi_point_wkb_size<M: MultiPointTrait>(geom: &M) -> WkbResult<usize>
 }
 
 /// Writes a MultiPoint.
-/// Refuses and fails as `write_geometry`.
 pub fn write_multi_point<S: Sink, M: MultiPointTrait>(
     writer: &mut S,
     geom: &M,

@@ -63,7 +63,6 @@ impl<M: MultiPolygonTrait> Items<M> for MultiPolygonKind {
 }
 
 /// The size of a MultiPolygon in ISO codes.
-/// Refuses as `geometry_wkb_size`.
 pub fn multi_polygon_wkb_size<M: MultiPolygonTrait>(geom: &M) -> WkbResult<usize>
     ensures size { IsSizeOf Iso
         (multi_polygon (M.dimensions geom.now) (M.polygons geom.now)) result }
@@ -72,7 +71,6 @@ pub fn multi_polygon_wkb_size<M: MultiPolygonTrait>(geom: &M) -> WkbResult<usize
 }
 
 /// Writes a MultiPolygon.
-/// Refuses and fails as `write_geometry`.
 pub fn write_multi_polygon<S: Sink, M: MultiPolygonTrait>(
     writer: &mut S,
     geom: &M,

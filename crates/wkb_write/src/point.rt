@@ -55,7 +55,6 @@ pub fn point_wkb_size(dim: Dimensions) -> WkbResult<usize>
 }
 
 /// Writes a point, an empty point as not-a-numbers.
-/// Refuses and fails as `write_geometry`.
 #[inline(always)]
 pub fn write_point<S: Sink, P: PointTrait>(
     writer: &mut S,

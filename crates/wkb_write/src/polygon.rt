@@ -60,7 +60,6 @@ impl<P: PolygonTrait> Items<P> for PolygonKind {
 }
 
 /// The size of a polygon, the exterior first, in ISO codes.
-/// Refuses as `geometry_wkb_size`.
 pub fn polygon_wkb_size<P: PolygonTrait>(geom: &P) -> WkbResult<usize>
     ensures size { IsSizeOf Iso (polygon (P.dimensions geom.now) (P.rings geom.now)) result }
 {
@@ -68,7 +67,6 @@ pub fn polygon_wkb_size<P: PolygonTrait>(geom: &P) -> WkbResult<usize>
 }
 
 /// Writes a polygon, the exterior first.
-/// Refuses and fails as `write_geometry`.
 pub fn write_polygon<S: Sink, P: PolygonTrait>(
     writer: &mut S,
     geom: &P,

@@ -41,7 +41,6 @@ impl<R: RectTrait> Writable<R> for RectKind {
 }
 
 /// The size of a rectangle, as a polygon of one ring, with x and y alone, in ISO codes.
-/// Refuses as `geometry_wkb_size`.
 pub fn rect_wkb_size<R: RectTrait>(geom: &R) -> WkbResult<usize>
     ensures size { IsSizeOf Iso
         (rectangle (R.dimensions geom.now) (R.min_words geom.now) (R.max_words geom.now)) result }
@@ -50,7 +49,6 @@ pub fn rect_wkb_size<R: RectTrait>(geom: &R) -> WkbResult<usize>
 }
 
 /// Writes a rectangle, as a polygon of one ring, with x and y alone.
-/// Refuses and fails as `write_geometry`.
 pub fn write_rect<S: Sink, R: RectTrait>(
     writer: &mut S,
     geom: &R,

@@ -41,7 +41,6 @@ impl<T: TriangleTrait> Writable<T> for TriangleKind {
 }
 
 /// The size of a triangle, as a polygon of one ring, in ISO codes.
-/// Refuses as `geometry_wkb_size`.
 pub fn triangle_wkb_size<T: TriangleTrait>(geom: &T) -> WkbResult<usize>
     ensures size { IsSizeOf Iso
         (triangle (T.dimensions geom.now) (T.first_words geom.now)
@@ -52,7 +51,6 @@ pub fn triangle_wkb_size<T: TriangleTrait>(geom: &T) -> WkbResult<usize>
 }
 
 /// Writes a triangle, as a polygon of one ring.
-/// Refuses and fails as `write_geometry`.
 pub fn write_triangle<S: Sink, T: TriangleTrait>(
     writer: &mut S,
     geom: &T,
