@@ -4,3 +4,4 @@ pub mod Laid
 pub mod Prelude
 pub mod Steps
 pub mod Stores
+pub mod Turned

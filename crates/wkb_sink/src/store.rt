@@ -1,12 +1,13 @@
 //! Numbers and coordinates into bytes that stand ready for them.
 
-ghost use Rattle.std.specs.Prelude.{◌≡◌, ◌-◌, ◌*◌, ◌≤◌, ◌++◌, length, drop, take};
-ghost use Rattle.std.specs.List.{flat_map};
+ghost use Rattle.std.specs.Prelude.{◌≡◌, ◌-◌, ◌*◌, ◌≤◌, ◌++◌, ℕ, List, length, drop, take};
+ghost use Rattle.std.specs.List.{flat_map, AllByRecursion};
 ghost use Rattle.wkb_geom.specs.Dimensions.{size};
-ghost use Rattle.wkb_geom.specs.Numbers.{number_bytes};
+ghost use Rattle.wkb_geom.specs.Numbers.{number_bytes, IsWord};
 ghost use Rattle.wkb_geom.specs.Encodings.{words_encoding};
 
 use byteorder::{BigEndian, ByteOrder, LittleEndian};
+use wkb_geom::words::{WORD, u64_at};
 use wkb_geom::{CoordTrait, Endianness, LineStringTrait};
 
 /// The four bytes of a count, a code or an SRID.
@@ -91,8 +92,62 @@ fn store_run<L: LineStringTrait>(
     at
 }
 
-/// Stores the coordinates between two places one after another, and answers how many bytes they take: a loop an order,
-/// and one for two words by itself.
+/// The bytes of the items between two places, of one size each, out of the bytes of all.
+#[inline(always)]
+fn items_between(all: &[u8], size: usize, from: usize, to: usize) -> &[u8]
+    requires order { from ≤ to }
+    requires within { size * to ≤ length all.now }
+    ensures { result.now ≡ take (size * to - size * from) (drop (size * from) all.now) }
+{
+    &all[size * from..size * to]
+}
+
+/// Stores words in one order out of bytes that hold them in another.
+#[inline(always)]
+fn store_words(bytes: &mut [u8], lent: &[u8], held: Endianness, order: Endianness)
+    requires { length lent.now ≤ length bytes.old }
+    ensures { (words : List ℕ) → AllByRecursion IsWord words → lent.now ≡ words_encoding held words
+        → take (length lent.now) bytes.new ≡ words_encoding order words }
+{
+    for i in 0..lent.len() / WORD {
+        let word = u64_at(lent, WORD * i, held);
+        store_word(&mut bytes[WORD * i..], order, word);
+    }
+}
+
+/// Stores the coordinates between two places one after another, and answers how many bytes they take: out of the bytes
+/// that hold them in the other order, where the line lends those, and else one by one.
+#[inline(always)]
+fn store_in<L: LineStringTrait>(
+    bytes: &mut [u8],
+    line: &L,
+    from: usize,
+    to: usize,
+    other: Endianness,
+    order: Endianness,
+) -> usize
+    requires order { from ≤ to }
+    requires within { to ≤ length (L.coordinates line.now) }
+    requires least { 2 ≤ size (L.dimensions line.now) }
+    requires most { size (L.dimensions line.now) ≤ 4 }
+    requires room { 8 * size (L.dimensions line.now) * (to - from) ≤ length bytes.old }
+    ensures len { result ≤ 8 * size (L.dimensions line.now) * (to - from) }
+    ensures bytes { take result bytes.new
+        ≡ flat_map (words_encoding order) (drop from (take to (L.coordinates line.now))) }
+{
+    let width = line.dim().size();
+    if let Some(all) = line.standing(other) {
+        let lent = items_between(all, WORD * width, from, to);
+        store_words(bytes, lent, other, order);
+        lent.len()
+    } else if width == 2 {
+        store_run(bytes, line, from, to, order, 2)
+    } else {
+        store_run(bytes, line, from, to, order, width)
+    }
+}
+
+/// Stores the coordinates between two places one after another, and answers how many bytes they take.
 #[inline]
 pub fn store_coordinates<L: LineStringTrait>(
     bytes: &mut [u8],
@@ -110,21 +165,26 @@ pub fn store_coordinates<L: LineStringTrait>(
     ensures bytes { take result bytes.new
         ≡ flat_map (words_encoding order) (drop from (take to (L.coordinates line.now))) }
 {
-    let width = line.dim().size();
     match order {
         Endianness::BigEndian => {
-            if width == 2 {
-                store_run(bytes, line, from, to, Endianness::BigEndian, 2)
-            } else {
-                store_run(bytes, line, from, to, Endianness::BigEndian, width)
-            }
+            store_in(
+                bytes,
+                line,
+                from,
+                to,
+                Endianness::LittleEndian,
+                Endianness::BigEndian,
+            )
         }
         Endianness::LittleEndian => {
-            if width == 2 {
-                store_run(bytes, line, from, to, Endianness::LittleEndian, 2)
-            } else {
-                store_run(bytes, line, from, to, Endianness::LittleEndian, width)
-            }
+            store_in(
+                bytes,
+                line,
+                from,
+                to,
+                Endianness::BigEndian,
+                Endianness::LittleEndian,
+            )
         }
     }
 }
