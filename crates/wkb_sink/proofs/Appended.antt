@@ -4,12 +4,15 @@ use Rattle.wkb_sink.proofs.Prelude.{arith}
 use Rattle.std.proofs.KnownBytes.{Appends-trans}
 use Rattle.wkb_sink.proofs.Prelude.{length-drop, take_all, take-append-drop, ◌-◌, Appends, IsWritten}
 
-pub written_more : {a b c : Option (List ℕ)} {s : List ℕ} (t : List ℕ) → IsWritten a b s → Appends b c t → IsWritten a c (s ++ t)
+pub written_more : {a b c : Option (List ℕ)} {s : List ℕ} (t : List ℕ) → IsWritten a b s → Appends b c t
+    → IsWritten a c (s ++ t)
 written_more t p q = record { appended = Appends-trans _ _ _ _ _ p.appended q }
 
 -- the part that was taken, and what is left
-pub taken : (all front rest : List ℕ) (n : ℕ) → all ≡ front ++ rest → n ≤ length rest → all ≡ (front ++ take n rest) ++ take (length rest - n) (drop n rest)
+pub taken : (all front rest : List ℕ) (n : ℕ) → all ≡ front ++ rest → n ≤ length rest
+    → all ≡ (front ++ take n rest) ++ take (length rest - n) (drop n rest)
 taken all front rest n is h =
     is ∙ ap (λ l. front ++ l) (sym (take-append-drop n rest))
     ∙ sym (append_assoc front (take n rest) (drop n rest))
-    ∙ ap (λ l. (front ++ take n rest) ++ l) (sym (take_all (length rest - n) (drop n rest) (omega (arith, length-drop n rest))))
+    ∙ ap (λ l. (front ++ take n rest) ++ l)
+    (sym (take_all (length rest - n) (drop n rest) (omega (arith, length-drop n rest))))

@@ -13,7 +13,8 @@ pub nothing_behind : (a : List ℕ) → IsExtended a a []
 nothing_behind a = record { is = sym (append-nil a) }
 
 -- one word more of the same
-pub word_more : (order : Endianness) (n w : ℕ) → words_encoding order (replicate (n + 1) w) ≡ words_encoding order (replicate n w) ++ number_bytes order 8 w
+pub word_more : (order : Endianness) (n w : ℕ)
+    → words_encoding order (replicate (n + 1) w) ≡ words_encoding order (replicate n w) ++ number_bytes order 8 w
 unfolding words_encoding
 word_more order n w = rw (← replicate_more n w, flat_map-append, append-nil) refl
 

@@ -10,7 +10,8 @@ use Rattle.wkb_sink.specs.declared.sink.Sink.{Ghosts}
 use Rattle.std.proofs.KnownBytes.{Appends-trans, Appends-nil}
 
 pub laid_none : (a : Progress) → a.failed ≡ false → IsLaid a a []
-laid_none a works = record { same = refl; works = works; moved = []; whole = append-nil a.waiting; appended = Appends-nil a.appended }
+laid_none a works =
+    record { same = refl; works = works; moved = []; whole = append-nil a.waiting; appended = Appends-nil a.appended }
 
 pub laid_then : {a b c : Progress} {s t : List ℕ} → IsLaid a b s → IsLaid b c t → IsLaid a c (s ++ t)
 laid_then {a = a} {b = b} {c = c} {s = s} {t = t} p q = record {
@@ -54,16 +55,19 @@ pub cut_early : {a b : Progress} (t : List ℕ) → IsCut a b [] → IsCut a b t
 cut_early t p = cut_first t p
 
 -- what the exit of a `?` answers
-pub exits : {a b : Progress} {all : List ℕ} (e : Stopped) (r : Result (Unit {0}) Stopped) → IsErrAnd r (λ y. y ≡ e) → IsCut a b all → Advances a b all r
+pub exits : {a b : Progress} {all : List ℕ} (e : Stopped) (r : Result (Unit {0}) Stopped) → IsErrAnd r (λ y. y ≡ e)
+    → IsCut a b all → Advances a b all r
 exits e r is cut = rw (err_from_is_err_and r is).1 cut
 
 -- the answer of what was stopped
-pub stopped_at : {a b : Progress} {t : List ℕ} {e : Stopped} (P : Unit {0} → Type 0) (r : Result (Unit {0}) Stopped) → r ≡ Err e → IsCut a b t
+pub stopped_at : {a b : Progress} {t : List ℕ} {e : Stopped} (P : Unit {0} → Type 0) (r : Result (Unit {0}) Stopped)
+    → r ≡ Err e → IsCut a b t
     → Advances a b t r × IfOk r P
 stopped_at P r is cut = rw is (cut, tt)
 
 -- the last part's answer is the whole's
-pub lays_then : {a b : Progress} (c : Progress) {s : List ℕ} (t : List ℕ) (r : Result (Unit {0}) Stopped) → IsLaid a b s → Advances b c t r
+pub lays_then : {a b : Progress} (c : Progress) {s : List ℕ} (t : List ℕ) (r : Result (Unit {0}) Stopped) → IsLaid a b s
+    → Advances b c t r
     → Advances a c (s ++ t) r
 lays_then c t (Ok x) p q = laid_then p q
 lays_then c t (Err e) p q = cut_then p q
@@ -76,12 +80,14 @@ laid_here {a = a} {t = t} p is = record {
   same = p.same;
   works = p.works;
   moved = p.moved;
-  whole = ap (λ l. l ++ t) (sym (append-nil a.waiting) ∙ p.whole) ∙ append_assoc p.moved _ t ∙ ap (λ l. p.moved ++ l) (sym is.is);
+  whole = ap (λ l. l ++ t) (sym (append-nil a.waiting) ∙ p.whole) ∙ append_assoc p.moved _ t
+      ∙ ap (λ l. p.moved ++ l) (sym is.is);
   appended = p.appended;
 }
 
 -- all that waited was put
-pub flushed : (n : ℕ) (a b : Option (List ℕ)) (s f : Bool) (k m : Type 0) (w v bytes : List ℕ) → IsWritten a b bytes → f ≡ false → bytes ≡ w
+pub flushed : (n : ℕ) (a b : Option (List ℕ)) (s f : Bool) (k m : Type 0) (w v bytes : List ℕ) → IsWritten a b bytes
+    → f ≡ false → bytes ≡ w
     → v ≡ []
     → IsLaid (record { sink = n; appended = a; failed = s; fails_by = k; waiting = w })
     (record { sink = n; appended = b; failed = f; fails_by = m; waiting = v }) []
@@ -94,7 +100,8 @@ flushed n a b s f k m w v bytes p works is empty = record {
 }
 
 -- or not all
-pub flush_cut : (n : ℕ) (a b : Option (List ℕ)) (s f : Bool) (k m : Type 0) (w v bytes : List ℕ) → IsBegun a b bytes → f ≡ true → m → bytes ≡ w
+pub flush_cut : (n : ℕ) (a b : Option (List ℕ)) (s f : Bool) (k m : Type 0) (w v bytes : List ℕ) → IsBegun a b bytes
+    → f ≡ true → m → bytes ≡ w
     → IsCut (record { sink = n; appended = a; failed = s; fails_by = k; waiting = w })
     (record { sink = n; appended = b; failed = f; fails_by = m; waiting = v }) []
 flush_cut n a b s f k m w v bytes p stopped cause is = record {
@@ -110,7 +117,8 @@ flush_cut n a b s f k m w v bytes p stopped cause is = record {
 
 -- bytes that were put past a block in which nothing waits
 pub past_laid : {a : Progress} (n : ℕ) (b c : Option (List ℕ)) (s f : Bool) (k m : Type 0) (w bytes : List ℕ)
-    → IsLaid a (record { sink = n; appended = b; failed = s; fails_by = k; waiting = w }) [] → w ≡ [] → IsWritten b c bytes → f ≡ false
+    → IsLaid a (record { sink = n; appended = b; failed = s; fails_by = k; waiting = w }) [] → w ≡ []
+    → IsWritten b c bytes → f ≡ false
     → IsLaid a (record { sink = n; appended = c; failed = f; fails_by = m; waiting = w }) bytes
 past_laid n b c s f k m w bytes before empty p works = laid_then before (record {
   same = refl;
@@ -122,7 +130,8 @@ past_laid n b c s f k m w bytes before empty p works = laid_then before (record 
 
 -- or not all of them
 pub past_cut : {a : Progress} (n : ℕ) (b c : Option (List ℕ)) (s f : Bool) (k m : Type 0) (w bytes : List ℕ)
-    → IsLaid a (record { sink = n; appended = b; failed = s; fails_by = k; waiting = w }) [] → w ≡ [] → IsBegun b c bytes → f ≡ true → m
+    → IsLaid a (record { sink = n; appended = b; failed = s; fails_by = k; waiting = w }) [] → w ≡ []
+    → IsBegun b c bytes → f ≡ true → m
     → IsCut a (record { sink = n; appended = c; failed = f; fails_by = m; waiting = w }) bytes
 past_cut n b c s f k m w bytes before empty p stopped cause = cut_then before (record {
   same = refl;
@@ -136,18 +145,23 @@ past_cut n b c s f k m w bytes before empty p stopped cause = cut_then before (r
 })
 
 -- the whole of an encoding, and then what waits
-pub lays_last : {a b : Progress} (c : Progress) (t : List ℕ) (r : Result (Unit {0}) Stopped) → IsLaid a b t → Advances b c [] r → Advances a c t r
+pub lays_last : {a b : Progress} (c : Progress) (t : List ℕ) (r : Result (Unit {0}) Stopped) → IsLaid a b t
+    → Advances b c [] r → Advances a c t r
 lays_last {a = a} c t r p q = subst (λ s. Advances a c s r) (append-nil t) (lays_then c [] r p q)
 
 -- an encoding for which nothing waited at first, nor at the end; x is what the lent sink ends as
-pub ends : {S : Type 0} (sink : Ghosts S) (t : List ℕ) (a : Progress) (b : Buffered S) (x : S) (r : Result (Unit {0}) Stopped)
-    → Advances a (progress sink b) t r → a.waiting ≡ [] → IfOk r (λ _. b.block.waiting ≡ []) → (a.sink ≡ b.sink.ghost_name → x ≡ b.sink.now)
+pub ends : {S : Type 0} (sink : Ghosts S) (t : List ℕ) (a : Progress) (b : Buffered S) (x : S)
+    (r : Result (Unit {0}) Stopped)
+    → Advances a (progress sink b) t r → a.waiting ≡ [] → IfOk r (λ _. b.block.waiting ≡ [])
+    → (a.sink ≡ b.sink.ghost_name → x ≡ b.sink.now)
     → PutsOrStops a.appended (sink.appended x) (sink.has_failed x) (sink.fails_by x) t (failure_of r b.error)
 ends sink t a b x (Ok u) p none empty known =
     let is : x ≡ b.sink.now = known (sym p.same) in
-    let whole : t ≡ p.moved = ap (λ l. l ++ t) (sym none) ∙ p.whole ∙ ap (λ l. p.moved ++ l) empty ∙ append-nil p.moved in
+    let whole : t ≡ p.moved =
+    ap (λ l. l ++ t) (sym none) ∙ p.whole ∙ ap (λ l. p.moved ++ l) empty ∙ append-nil p.moved in
     rw is (record { appended = subst (Appends a.appended (sink.appended b.sink.now)) (sym whole) p.appended }, p.works)
 ends sink t a b x (Err e) p none empty known =
     let is : x ≡ b.sink.now = known (sym p.same) in
     let whole = ap (λ l. l ++ t) (sym none) ∙ p.whole in
-    rw is (record { front = p.front; rest = p.rest; whole = whole; left = p.left; appended = p.appended }, p.stopped, p.cause)
+    rw is
+    (record { front = p.front; rest = p.rest; whole = whole; left = p.left; appended = p.appended }, p.stopped, p.cause)

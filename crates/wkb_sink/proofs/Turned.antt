@@ -1,10 +1,11 @@
 -- Words that are read where they stand in one order, and stored in another.
-use Rattle.wkb_sink.proofs.Prelude.{◌≡◌, ℕ, zero, suc, ◌+◌, ◌-◌, ◌*◌, ◌<◌, ◌≤◌, List, [], ◌∷◌, ◌++◌, length, take, drop, Some}
-use Rattle.wkb_sink.proofs.Prelude.{refl, sym, ap, ◌∙◌, arith, slice_get, length-append, flat_map, flat_map-append}
+use Rattle.wkb_sink.proofs.Prelude.{◌≡◌, ℕ, zero, suc, ◌+◌, ◌-◌, ◌*◌, ◌<◌, ◌≤◌, List, [], ◌∷◌, ◌++◌, length, take, drop}
+use Rattle.wkb_sink.proofs.Prelude.{Some, refl, sym, ap, ◌∙◌, arith, slice_get, length-append, flat_map, flat_map-append}
 use Rattle.wkb_sink.proofs.Prelude.{Endianness, words_encoding}
 use Rattle.std.specs.List.{AllByRecursion, concat}
 use Rattle.std.proofs.Math.Seq.{drop-append-add, take-append-add}
-use Rattle.byteorder.specs.Numbers.{big_number-reads_back, little_number-reads_back, length-bytes_high_first, length-bytes_low_first}
+use Rattle.byteorder.specs.Numbers.{big_number-reads_back, little_number-reads_back}
+use Rattle.byteorder.specs.Numbers.{length-bytes_high_first, length-bytes_low_first}
 use Rattle.wkb_geom.specs.declared.common.Endianness.TheVariants.{BigEndian, LittleEndian}
 use Rattle.wkb_geom.specs.declared.common.Dimensions.{Dimensions}
 use Rattle.wkb_geom.specs.Dimensions.{size}
@@ -16,7 +17,8 @@ unfolding number_bytes
 word_length BigEndian w = length-bytes_high_first 8 w
 word_length LittleEndian w = length-bytes_low_first 0 8 w
 
-read_back : (order : Endianness) (w : ℕ) (rest : List ℕ) → IsWord w → number order 8 (number_bytes order 8 w ++ rest) ≡ w
+read_back : (order : Endianness) (w : ℕ) (rest : List ℕ) → IsWord w
+    → number order 8 (number_bytes order 8 w ++ rest) ≡ w
 unfolding number number_bytes
 read_back BigEndian w rest h = big_number-reads_back 8 w rest (omega (arith, h))
 read_back LittleEndian w rest h = little_number-reads_back 8 w rest (omega (arith, h))
@@ -25,7 +27,8 @@ pub words_length : (order : Endianness) (ws : List ℕ) → length (words_encodi
 unfolding words_encoding
 words_length order [] = refl
 words_length order (w ∷ ws) =
-    omega (arith, length-append (number_bytes order 8 w) (flat_map (number_bytes order 8) ws), word_length order w, words_length order ws)
+    let whole = length-append (number_bytes order 8 w) (flat_map (number_bytes order 8) ws) in
+    omega (arith, whole, word_length order w, words_length order ws)
 
 -- the word at an index, read off the bytes
 pub word_at : (order : Endianness) (ws : List ℕ) (i : ℕ) → AllByRecursion IsWord ws → i < length ws
@@ -40,16 +43,19 @@ word_at order (w ∷ ws) (suc i) h there =
     rw (place, drop-append-add first rest (8 * i)) (word_at order ws i h.1 (omega arith))
 
 -- a run of items of k bytes each
-run_front : {X : Type 0} (f : X → List ℕ) (k : ℕ) (xs : List X) (to : ℕ) → AllByRecursion (λ x. length (f x) ≡ k) xs → to ≤ length xs
+run_front : {X : Type 0} (f : X → List ℕ) (k : ℕ) (xs : List X) (to : ℕ) → AllByRecursion (λ x. length (f x) ≡ k) xs
+    → to ≤ length xs
     → take (k * to) (flat_map f xs) ≡ flat_map f (take to xs)
 run_front f k xs zero h within = let none : k * zero ≡ 0 = omega arith in rw none refl
 run_front f k [] (suc to) h within = absurd (omega arith)
 run_front f k (x ∷ xs) (suc to) h within =
     let place : k * suc to ≡ length (f x) + k * to = omega (arith, h.0) in
-    rw (place, take-append-add (f x) (flat_map f xs) (k * to)) (ap (λ l. f x ++ l) (run_front f k xs to h.1 (omega arith)))
+    rw (place, take-append-add (f x) (flat_map f xs) (k * to))
+    (ap (λ l. f x ++ l) (run_front f k xs to h.1 (omega arith)))
 
-run_bytes : {X : Type 0} (f : X → List ℕ) (k : ℕ) (xs : List X) (from to : ℕ) → AllByRecursion (λ x. length (f x) ≡ k) xs
-    → from ≤ to → to ≤ length xs → take (k * to - k * from) (drop (k * from) (flat_map f xs)) ≡ flat_map f (drop from (take to xs))
+run_bytes : {X : Type 0} (f : X → List ℕ) (k : ℕ) (xs : List X) (from to : ℕ)
+    → AllByRecursion (λ x. length (f x) ≡ k) xs → from ≤ to → to ≤ length xs
+    → take (k * to - k * from) (drop (k * from) (flat_map f xs)) ≡ flat_map f (drop from (take to xs))
 run_bytes f k xs zero to h order within =
     let none : k * zero ≡ 0 = omega arith in
     let all : k * to - 0 ≡ k * to = omega arith in
@@ -59,50 +65,62 @@ run_bytes f k [] (suc from) (suc to) h order within = absurd (omega arith)
 run_bytes f k (x ∷ xs) (suc from) (suc to) h order within =
     let place : k * suc from ≡ length (f x) + k * from = omega (arith, h.0) in
     let many : k * suc to - k * suc from ≡ k * to - k * from = omega arith in
-    rw (many, place, drop-append-add (f x) (flat_map f xs) (k * from)) (run_bytes f k xs from to h.1 (omega arith) (omega arith))
+    rw (many, place, drop-append-add (f x) (flat_map f xs) (k * from))
+    (run_bytes f k xs from to h.1 (omega arith) (omega arith))
 
-items_fit : {X : Type 0} (f : X → List ℕ) (k : ℕ) (xs : List X) (n : ℕ) → AllByRecursion (λ x. length (f x) ≡ k) xs → n ≤ length xs
+items_fit : {X : Type 0} (f : X → List ℕ) (k : ℕ) (xs : List X) (n : ℕ) → AllByRecursion (λ x. length (f x) ≡ k) xs
+    → n ≤ length xs
     → k * n ≤ length (flat_map f xs)
 items_fit f k xs zero h within = omega arith
 items_fit f k [] (suc n) h within = absurd (omega arith)
-items_fit f k (x ∷ xs) (suc n) h within = omega (arith, h.0, length-append (f x) (flat_map f xs), items_fit f k xs n h.1 (omega arith))
+items_fit f k (x ∷ xs) (suc n) h within =
+    omega (arith, h.0, length-append (f x) (flat_map f xs), items_fit f k xs n h.1 (omega arith))
 
 -- the words of a run of coordinates
 abbrev pub run_words : List (List ℕ) → ℕ → ℕ → List ℕ
 run_words cs from to = concat (drop from (take to cs))
 
-pub words_joined : (order : Endianness) (cs : List (List ℕ)) → words_encoding order (concat cs) ≡ flat_map (words_encoding order) cs
+pub words_joined : (order : Endianness) (cs : List (List ℕ))
+    → words_encoding order (concat cs) ≡ flat_map (words_encoding order) cs
 unfolding words_encoding
 words_joined order [] = refl
 words_joined order (c ∷ cs) =
-    flat_map-append (number_bytes order 8) c (concat cs) ∙ ap (λ l. flat_map (number_bytes order 8) c ++ l) (words_joined order cs)
+    flat_map-append (number_bytes order 8) c (concat cs)
+    ∙ ap (λ l. flat_map (number_bytes order 8) c ++ l) (words_joined order cs)
 
 are_words : (xs ys : List ℕ) → AllByRecursion IsWord xs → AllByRecursion IsWord ys → AllByRecursion IsWord (xs ++ ys)
 are_words [] ys h k = k
 are_words (x ∷ xs) ys h k = (h.0, are_words xs ys h.1 k)
 
-pub run_are_words : (dims : Dimensions) (cs : List (List ℕ)) (from to : ℕ) → AreCoordinates dims cs → AllByRecursion IsWord (run_words cs from to)
+pub run_are_words : (dims : Dimensions) (cs : List (List ℕ)) (from to : ℕ) → AreCoordinates dims cs
+    → AllByRecursion IsWord (run_words cs from to)
 run_are_words dims [] zero zero h = tt
 run_are_words dims [] zero (suc to) h = tt
 run_are_words dims [] (suc from) zero h = tt
 run_are_words dims [] (suc from) (suc to) h = tt
 run_are_words dims (c ∷ cs) zero zero h = tt
 run_are_words dims (c ∷ cs) (suc from) zero h = tt
-run_are_words dims (c ∷ cs) zero (suc to) h = are_words c (run_words cs zero to) h.0.words (run_are_words dims cs zero to h.1)
+run_are_words dims (c ∷ cs) zero (suc to) h =
+    are_words c (run_words cs zero to) h.0.words (run_are_words dims cs zero to h.1)
 run_are_words dims (c ∷ cs) (suc from) (suc to) h = run_are_words dims cs from to h.1
 
 coordinates_length : (order : Endianness) (dims : Dimensions) (cs : List (List ℕ)) → AreCoordinates dims cs
     → AllByRecursion (λ c. length (words_encoding order c) ≡ 8 * size dims) cs
 coordinates_length order dims [] h = tt
-coordinates_length order dims (c ∷ cs) h = (words_length order c ∙ ap (λ n. 8 * n) h.0.len, coordinates_length order dims cs h.1)
+coordinates_length order dims (c ∷ cs) h =
+    (words_length order c ∙ ap (λ n. 8 * n) h.0.len, coordinates_length order dims cs h.1)
 
 -- the bytes of a run are among all that are lent
-pub run_within : (order : Endianness) (dims : Dimensions) (cs : List (List ℕ)) (to : ℕ) → AreCoordinates dims cs → to ≤ length cs
+pub run_within : (order : Endianness) (dims : Dimensions) (cs : List (List ℕ)) (to : ℕ) → AreCoordinates dims cs
+    → to ≤ length cs
     → 8 * size dims * to ≤ length (flat_map (words_encoding order) cs)
-run_within order dims cs to h within = items_fit (words_encoding order) (8 * size dims) cs to (coordinates_length order dims cs h) within
+run_within order dims cs to h within =
+    items_fit (words_encoding order) (8 * size dims) cs to (coordinates_length order dims cs h) within
 
-pub run_lent : (order : Endianness) (dims : Dimensions) (cs : List (List ℕ)) (from to : ℕ) → AreCoordinates dims cs → from ≤ to → to ≤ length cs
-    → take (8 * size dims * to - 8 * size dims * from) (drop (8 * size dims * from) (flat_map (words_encoding order) cs)) ≡ words_encoding order (run_words cs from to)
+pub run_lent : (order : Endianness) (dims : Dimensions) (cs : List (List ℕ)) (from to : ℕ) → AreCoordinates dims cs
+    → from ≤ to → to ≤ length cs
+    → take (8 * size dims * to - 8 * size dims * from) (drop (8 * size dims * from) (flat_map (words_encoding order) cs))
+    ≡ words_encoding order (run_words cs from to)
 run_lent order dims cs from to h ordered within =
     run_bytes (words_encoding order) (8 * size dims) cs from to (coordinates_length order dims cs h) ordered within
     ∙ sym (words_joined order (drop from (take to cs)))

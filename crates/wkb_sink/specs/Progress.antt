@@ -7,8 +7,8 @@ use Rattle.wkb_sink.specs.declared.buffered.Buffered.{Buffered}
 use Rattle.wkb_sink.specs.declared.buffered.Stopped.{Stopped}
 use Rattle.wkb_sink.specs.declared.sink.Sink.{Ghosts}
 
--- which sink it is, what stands appended to it, where it tells its bytes, whether it has failed and whether by the error
--- that is kept, and what waits in the block
+-- which sink it is, what stands appended to it, where it tells its bytes, whether it has failed and whether by the
+-- error that is kept, and what waits in the block
 pub record Progress : Type 1 where
   pub sink : ℕ
   pub appended : Option (List ℕ)
@@ -24,7 +24,8 @@ pub record IsLaid (old new : Progress) (encoding : List ℕ) : Type 0 where
   pub whole : old.waiting ++ encoding ≡ moved ++ new.waiting
   pub appended : Appends old.appended new.appended moved
 
--- the sink failed by the error that is kept, and a beginning of what waited and the encoding, shorter than both, was appended
+-- the sink failed by the error that is kept, and a beginning of what waited and the encoding, shorter than both, was
+-- appended
 pub record IsCut (old new : Progress) (encoding : List ℕ) : Type 0 where
   pub same : new.sink ≡ old.sink
   pub stopped : new.failed ≡ true
@@ -56,7 +57,8 @@ failure_of (Err e) kept = Err kept
 
 -- the sink took the encoding, or failed as is answered
 abbrev pub PutsTo : {S : Type 0} → Ghosts S → S → S → List ℕ → Result (Unit {0}) (Option Error) → Type 0
-PutsTo sink old new encoding r = PutsOrStops (sink.appended old) (sink.appended new) (sink.has_failed new) (sink.fails_by new) encoding r
+PutsTo sink old new encoding r =
+    PutsOrStops (sink.appended old) (sink.appended new) (sink.has_failed new) (sink.fails_by new) encoding r
 
 -- the same of a sink and a block before a step and after it
 abbrev pub Lays : {S : Type 0} → Ghosts S → Buffered S → Buffered S → List ℕ → Result (Unit {0}) Stopped → Type 0

@@ -47,9 +47,12 @@ IsOwnError fails_by e = (failure : Option Error) × fails_by failure × TellsFai
 -- a writer that wrote the encoding, or an error for which the sink failed
 abbrev pub Puts : Option (List ℕ) → Option (List ℕ) → Bool → List ℕ → Result (Unit {0}) WkbError → Type 0
 Puts old new failed encoding r =
-    MatchResult r (λ _. IsWritten old new encoding × (failed ≡ false)) (λ e. IsIOError e × IsBegun old new encoding × (failed ≡ true))
+    MatchResult r (λ _. IsWritten old new encoding × (failed ≡ false))
+    (λ e. IsIOError e × IsBegun old new encoding × (failed ≡ true))
 
 -- the same of a step inside, which answers how the sink failed
-abbrev pub PutsOrStops : Option (List ℕ) → Option (List ℕ) → Bool → (Option Error → Type 0) → List ℕ → Result (Unit {0}) (Option Error) → Type 0
+abbrev pub PutsOrStops : Option (List ℕ) → Option (List ℕ) → Bool → (Option Error → Type 0) → List ℕ
+    → Result (Unit {0}) (Option Error) → Type 0
 PutsOrStops old new failed fails_by encoding r =
-    MatchResult r (λ _. IsWritten old new encoding × (failed ≡ false)) (λ e. IsBegun old new encoding × (failed ≡ true) × fails_by e)
+    MatchResult r (λ _. IsWritten old new encoding × (failed ≡ false))
+    (λ e. IsBegun old new encoding × (failed ≡ true) × fails_by e)

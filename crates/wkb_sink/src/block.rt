@@ -1,6 +1,7 @@
 //! Bytes that wait to go to a sink together, and the parts of an encoding that are laid there.
 
-ghost use Rattle.std.specs.Prelude.{◌≡◌, ◌+◌, ◌-◌, ◌*◌, ◌≤◌, ◌∷◌, [], length, take, drop, replicate};
+ghost use Rattle.std.specs.Prelude.{◌≡◌, ◌+◌, ◌-◌, ◌*◌, ◌≤◌, ◌∷◌, []};
+ghost use Rattle.std.specs.Prelude.{length, take, drop, replicate};
 ghost use Rattle.std.specs.List.{flat_map};
 ghost use Rattle.wkb_geom.specs.Dimensions.{size, width, written_dimension};
 ghost use Rattle.wkb_geom.specs.Numbers.{number_bytes, empty_word};
@@ -37,7 +38,10 @@ pub struct Block<'a> {
 impl<'a> Model for Block<'a> {
     ghost Value = { Waiting };
 
-    ghost view = { λ b. record { waiting = take b.len b.bytes.now; room = length b.bytes.now - b.len } };
+    ghost view = { λ b. record {
+      waiting = take b.len b.bytes.now;
+      room = length b.bytes.now - b.len;
+    } };
 
     ghost invariant = { λ b. (b.len ≤ length b.bytes.now) × (LEAST ≤ length b.bytes.now) };
 }

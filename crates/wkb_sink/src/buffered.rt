@@ -156,7 +156,8 @@ impl<'a, S: Sink> Buffered<'a, S> {
     ) -> Result<(), Stopped>
         requires working { S.has_failed self.old.sink.now ≡ false }
         ensures { Lays S.Sink self.old self.new
-            (header_encoding order form (type_kind kind) (type_dimension kind) ++ number_bytes order 4 n) result }
+            (header_encoding order form (type_kind kind) (type_dimension kind)
+            ++ number_bytes order 4 n) result }
     {
         self.make_room(LONGEST_HEADER + COUNT)?;
         lay_header(&mut self.block, order, form, kind);

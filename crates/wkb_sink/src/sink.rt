@@ -1,6 +1,7 @@
 //! Where bytes are written to.
 
-ghost use Rattle.std.specs.Prelude.{◌≡◌, ◌||◌, ◌+◌, ◌≤◌, ◌-◌, min, ℕ, Bool, false, List, [], length, take};
+ghost use Rattle.std.specs.Prelude.{◌≡◌, ◌||◌, ◌+◌, ◌≤◌, ◌-◌, min, ℕ, Bool, false};
+ghost use Rattle.std.specs.Prelude.{List, [], length, take};
 ghost use Rattle.std.specs.Prelude.{Option, None, Some, IsOk, IfOk, IsSomeAnd, vec_capacity, ⊤};
 ghost use Rattle.std.specs.declared.io.Error.{Error};
 ghost use Rattle.std.specs.declared.io.ErrorKind.TheVariants.{OutOfMemory};
@@ -119,7 +120,11 @@ pub struct VecSink {
 impl Model for VecSink {
     ghost Value = { Growing };
 
-    ghost view = { λ s. record { bytes = s.bytes.items; capacity = vec_capacity s.bytes; failed = s.has_failed } };
+    ghost view = { λ s. record {
+      bytes = s.bytes.items;
+      capacity = vec_capacity s.bytes;
+      failed = s.has_failed;
+    } };
 }
 
 impl VecSink {

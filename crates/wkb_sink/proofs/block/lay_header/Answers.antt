@@ -11,4 +11,5 @@ returns-in-Some-clause-bytes c =
 pub returns-in_default-clause-bytes : goal.returns-in_default-clause-bytes
 unfolding header_encoding srid_encoding
 returns-in_default-clause-bytes c =
-    rw (← c.from.ensures, ← c.code.ensures, ← c.srid.ensures, c.in_default.is) (behind c.lay.ensures.bytes (last c.lay_count.ensures.bytes))
+    rw (← c.from.ensures, ← c.code.ensures, ← c.srid.ensures, c.in_default.is)
+    (behind c.lay.ensures.bytes (last c.lay_count.ensures.bytes))

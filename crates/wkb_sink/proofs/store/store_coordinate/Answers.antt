@@ -20,5 +20,6 @@ returns-in_default g c =
     let words = g.C.CoordTrait.words c.args.coord.now in
     let wide : c.args.width ≡ 4 = omega arith in
     let len : length words ≡ 4 = omega (arith, (g.met.C.CoordTrait.lawful c.args.coord.now).len) in
-    rw (wide, four_words c.args.order words len, ← c.x.ensures, ← c.y.ensures, ← c.at-in_default.ensures, ← c.at-in_default-2.ensures)
+    let word = four_words c.args.order words len in
+    rw (wide, word, ← c.x.ensures, ← c.y.ensures, ← c.at-in_default.ensures, ← c.at-in_default-2.ensures)
     (stored_next _ _ _ _ 16 16 _ c.store_two.ensures (omega arith) c.store_two-in_default.ensures (omega arith))
