@@ -6,4 +6,5 @@ pub mod Each
 pub mod Bounds
 pub mod Opening
 pub mod Marks
+pub mod Heads
 pub mod Public

@@ -1,5 +1,5 @@
 -- The loop over the open collections: what was counted, what is looked at, and what comes of it outward.
-use Rattle.std.proofs.Common.{◌≡◌, ℕ, zero, suc, ◌+◌, ◌-◌, ◌<◌, ◌≤◌, List, ◌∷◌, length, take, slice_set, Ok, Err, refl}
+use Rattle.std.proofs.Common.{◌≡◌, ◌≢◌, ℕ, zero, suc, ◌+◌, ◌-◌, ◌<◌, ◌≤◌, List, ◌∷◌, length, take, slice_set, Ok, Err, refl}
 use Rattle.std.proofs.Common.{sym, ap, ◌∙◌, arith}
 use Rattle.std.proofs.Common.{length-take}
 use Rattle.std.proofs.lemmas.List.{length-reverse}
@@ -14,7 +14,7 @@ use Rattle.wkb_geom.specs.Reading.{layout_of}
 unfoldable use Rattle.wkb_geom.specs.Reading.{head_at}
 use Rattle.wkb_check.specs.Passes.{open_counts}
 use Rattle.wkb_check.specs.Skims.{Tally, Skim, after, onward, stop, skim_inside, skim_body_inside, skim_outward, skim_headed}
-use Rattle.wkb_check.specs.Skims.{skim_body, skim_collection, skim_list}
+use Rattle.wkb_check.specs.Skims.{skim_body, skim_collection, skim_list, skim_too_deep}
 unfoldable use Rattle.wkb_check.specs.Skims.{skims, skim_geometry, skim_by_type}
 use Rattle.wkb_check.proofs.Skimming.{tally_none, after-after, onward_err, Within, within, tally_is}
 use Rattle.wkb_check.proofs.Closing.{top_set}
@@ -114,3 +114,14 @@ collection_behind around h l d bytes is l-is shallow =
     let k : max_nesting - around ≡ suc (max_nesting - suc around) = omega arith in
     rw l-is (ap (λ (t : WkbType). skim_body (skim_collection (max_nesting - around)) t (layout_of h) bytes) is
     ∙ ap (λ (n : ℕ). skim_collection n (layout_of h) bytes) k)
+
+-- ---- what stands behind another header
+
+pub plain_behind : (around : ℕ) (h : Head) (l : Layout) (bytes : List ℕ) → ((d : Dimension) → h.wkb_type ≢ kinds.GeometryCollection d)
+    → l ≡ layout_of h → skim_body skim_too_deep h.wkb_type l bytes ≡ skim_body_inside around h bytes
+plain_behind around h l bytes plain l-is = rw l-is (by_type h.wkb_type (layout_of h) bytes (skim_collection (max_nesting - around)) plain)
+  where
+    by_type : (t : WkbType) (l : Layout) (bytes : List ℕ) (f : Layout → List ℕ → Skim) → ((d : Dimension) → t ≢ kinds.GeometryCollection d)
+        → skim_body skim_too_deep t l bytes ≡ skim_body f t l bytes
+    by_type (kinds.GeometryCollection d) l bytes f plain = absurd (plain d refl)
+    by_type _ l bytes f plain = refl

@@ -1,8 +1,15 @@
 //! What a check tells.
 
+ghost use Rattle.std.specs.Prelude.{◌≡◌, IfSome, Ok};
+ghost use Rattle.wkb_geom.specs.Fronts.{max_nesting};
+ghost use Rattle.wkb_geom.specs.Reading.{head_at};
+ghost use Rattle.wkb_check.specs.Passes.{tally};
 ghost use Rattle.wkb_check.specs.Public.{Checks, IsBounded};
+ghost use Rattle.wkb_check.specs.Skims.{skim_geometry};
 
+use crate::head::read;
 use crate::nested::skip_geometry;
+use crate::skip::skip_plain;
 use crate::walk::Walk;
 use wkb_geom::code::WkbType;
 use wkb_geom::{Cause, Header};
@@ -33,6 +40,51 @@ pub struct Refused {
     pub offset: usize,
 }
 
+/// What is told of the geometry behind this header, where so much of it was counted and these bytes are left.
+#[inline(always)]
+fn summary_of(header: Header, buf: &[u8], walk: Walk, rest: &[u8]) -> Summary
+    requires head { head_at buf.now ≡ Ok header }
+    requires passed { skim_geometry max_nesting buf.now ≡ (tally walk, Ok rest.now) }
+    ensures checks { Checks buf.now (Ok result) }
+    ensures bounded { IsBounded buf.now (Ok result) }
+{
+    Summary {
+        bytes: buf.len() - rest.len(),
+        parts: walk.turns + 1,
+        coordinates: walk.coordinates,
+        wkb_type: header.wkb_type,
+        srid: header.layout().srid(buf),
+    }
+}
+
+/// What stands at the front of the bytes, where it is no collection and nothing refuses it. None says nothing: `check`
+/// tells then.
+///
+/// It lends nothing to a call that stays one, so that all it counts is in registers.
+#[inline(always)]
+pub fn check_plain(buf: &[u8]) -> Option<Summary>
+    ensures checks { IfSome result (λ found. Checks buf.now (Ok found)) }
+    ensures bounded { IfSome result (λ found. IsBounded buf.now (Ok found)) }
+{
+    let header = match read(buf) {
+        Ok(header) => header,
+        Err(_) => return None,
+    };
+    let mut walk = Walk {
+        turns: 0,
+        coordinates: 0,
+        left: buf.len(),
+    };
+    let passed = match header.wkb_type {
+        WkbType::GeometryCollection(_) => return None,
+        wkb_type => skip_plain(wkb_type, header.layout(), buf, &mut walk),
+    };
+    match passed {
+        Ok(rest) => Some(summary_of(header, buf, walk, rest)),
+        Err(_) => None,
+    }
+}
+
 /// Checks the geometry at the front of the bytes; what stands behind it is not looked at.
 ///
 /// It accepts and refuses what `read_wkb` does, and takes no memory: nothing it answers tells want of memory.
@@ -40,7 +92,7 @@ pub fn check(buf: &[u8]) -> Result<Summary, Refused>
     ensures checks { Checks buf.now result }
     ensures bounded { IsBounded buf.now result }
 {
-    let header = match Header::read(buf) {
+    let header = match read(buf) {
         Ok(header) => header,
         Err(cause) => {
             return Err(Refused {
@@ -56,13 +108,7 @@ pub fn check(buf: &[u8]) -> Result<Summary, Refused>
         left: buf.len(),
     };
     match skip_geometry(header, buf, &mut walk) {
-        Ok(rest) => Ok(Summary {
-            bytes: buf.len() - rest.len(),
-            parts: walk.turns + 1,
-            coordinates: walk.coordinates,
-            wkb_type: header.wkb_type,
-            srid: header.layout().srid(buf),
-        }),
+        Ok(rest) => Ok(summary_of(header, buf, walk, rest)),
         Err(cause) => Err(Refused {
             cause,
             part: walk.turns,

@@ -3,8 +3,9 @@
 #![tactic(auto)]
 
 mod answer;
+mod head;
 mod nested;
 mod skip;
 mod walk;
 
-pub use answer::{Refused, Summary, check};
+pub use answer::{Refused, Summary, check, check_plain};

@@ -4,6 +4,7 @@ ghost use Rattle.std.specs.Prelude.{◌≡◌, ◌≤◌, length};
 ghost use Rattle.wkb_check.specs.Skims.{skim_body_inside};
 ghost use Rattle.wkb_check.specs.Passes.{FitsCounters, Passes, PassesOrOpens, IsSettled, open_counts};
 
+use crate::head::read;
 use crate::skip::skip_plain;
 use crate::walk::Walk;
 use wkb_geom::code::WkbType;
@@ -105,7 +106,7 @@ fn skip_collection<'a>(outermost: Header, buf: &'a [u8], walk: &mut Walk) -> Res
         }
         walk.turns += 1;
         walk.left = bytes.len();
-        header = match Header::read(bytes) {
+        header = match read(bytes) {
             Ok(header) => header,
             Err(cause) => return Err(cause),
         };

@@ -74,7 +74,7 @@ fn after_ring(order: Endianness, dimension: Dimension, bytes: &[u8]) -> Result<(
 }
 
 /// The bytes after the point behind this header.
-#[inline]
+#[inline(always)]
 pub(crate) fn skip_point<'a>(
     layout: Layout,
     bytes: &'a [u8],
@@ -94,7 +94,7 @@ pub(crate) fn skip_point<'a>(
 }
 
 /// The bytes after the line string behind this header.
-#[inline]
+#[inline(always)]
 pub(crate) fn skip_line_string<'a>(
     layout: Layout,
     bytes: &'a [u8],
@@ -115,7 +115,7 @@ pub(crate) fn skip_line_string<'a>(
 }
 
 /// The bytes after the ring at the front of the bytes, of a polygon that is laid out so.
-#[inline]
+#[inline(always)]
 pub(crate) fn skip_ring<'a>(
     layout: Layout,
     bytes: &'a [u8],
@@ -135,7 +135,7 @@ pub(crate) fn skip_ring<'a>(
 }
 
 /// The bytes after so many rings.
-#[inline]
+#[inline(always)]
 pub(crate) fn skip_rings<'a>(
     layout: Layout,
     count: u32,
@@ -159,7 +159,7 @@ pub(crate) fn skip_rings<'a>(
 }
 
 /// The bytes after the polygon behind this header.
-#[inline]
+#[inline(always)]
 pub(crate) fn skip_polygon<'a>(
     layout: Layout,
     bytes: &'a [u8],
@@ -176,7 +176,7 @@ pub(crate) fn skip_polygon<'a>(
 }
 
 /// The bytes after the member of this kind behind its header: a point, a line string or a polygon.
-#[inline]
+#[inline(always)]
 pub(crate) fn skip_member_body<'a>(
     kind: u32,
     layout: Layout,
@@ -198,7 +198,7 @@ pub(crate) fn skip_member_body<'a>(
 }
 
 /// The bytes after the member of this kind and dimension.
-#[inline]
+#[inline(always)]
 pub(crate) fn skip_member<'a>(
     kind: u32,
     dimension: Dimension,
@@ -217,7 +217,7 @@ pub(crate) fn skip_member<'a>(
 }
 
 /// The bytes after so many members of this kind and dimension.
-#[inline]
+#[inline(always)]
 pub(crate) fn skip_members<'a>(
     kind: u32,
     dimension: Dimension,
@@ -242,6 +242,7 @@ pub(crate) fn skip_members<'a>(
 }
 
 /// The bytes after the multi point behind this header.
+#[inline(always)]
 pub(crate) fn skip_multi_point<'a>(
     layout: Layout,
     bytes: &'a [u8],
@@ -268,6 +269,7 @@ pub(crate) fn skip_multi_point<'a>(
 }
 
 /// The bytes after the multi line string or multi polygon of members of this kind.
+#[inline(always)]
 pub(crate) fn skip_multi<'a>(
     kind: u32,
     layout: Layout,
@@ -292,7 +294,7 @@ pub(crate) fn skip_multi<'a>(
 }
 
 /// The bytes after the geometry behind this header, which is no collection.
-#[inline]
+#[inline(always)]
 pub(crate) fn skip_plain<'a>(
     wkb_type: WkbType,
     layout: Layout,

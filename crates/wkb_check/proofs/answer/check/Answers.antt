@@ -1,11 +1,7 @@
-use Rattle.std.proofs.Common.{◌∙◌, ap, refl, arith}
-use Rattle.wkb_geom.specs.declared.header.Layout.{Layout}
-use Rattle.wkb_geom.specs.Reading.{srid_in}
+use Rattle.std.proofs.Common.{ap, refl, arith}
 use Rattle.wkb_check.specs.Skims.{Skim}
 use Rattle.wkb_check.proofs.Bounds.{coordinates_held}
-use Rattle.wkb_check.proofs.Public.{few_turns, body_is, answered, headless, rest_within, left_within, header_long}
-use Rattle.wkb_check.proofs.Public.{found_checks, found_bounded}
-use Rattle.wkb_check.proofs.Public.{refusal_checks, refusal_bounded}
+use Rattle.wkb_check.proofs.Public.{few_turns, body_is, answered, headless, left_within, refusal_checks, refusal_bounded}
 use Rattle.wkb_check.proofs.answer.check.Goals as goal
 
 pub returns-in-Err-clause-checks : goal.returns-in-Err-clause-checks
@@ -21,38 +17,13 @@ skip_geometry-requires-clause-fits c =
       coordinates = omega (arith, coordinates_held 128 buf, ap (λ (s : Skim). s.0.1) same);
     }
 
+pub summary_of-requires-clause-passed : goal.summary_of-requires-clause-passed
+summary_of-requires-clause-passed c = answered c.args.buf.now c.in-Ok.header c.in-Ok.ensures _ c.in-Ok-skip_geometry.ensures
+
 pub overflow_sub-result : goal.overflow_sub-result
 overflow_sub-result c =
     let buf = c.args.buf.now in
-    rest_within buf _ _ (answered buf c.in-Ok.header c.in-Ok.ensures _ c.in-Ok-skip_geometry.ensures)
-
-pub overflow_add-result : goal.overflow_add-result
-overflow_add-result c =
-    let buf = c.args.buf.now in
-    omega (arith, few_turns buf, ap (λ (s : Skim). s.0.0) (answered buf c.in-Ok.header c.in-Ok.ensures _ c.in-Ok-skip_geometry.ensures))
-
-pub srid-requires : goal.srid-requires
-srid-requires c =
-    let buf = c.args.buf.now in
-    let long = header_long buf _ _ _ (answered buf c.in-Ok.header c.in-Ok.ensures _ c.in-Ok-skip_geometry.ensures) c.in-Ok.header c.in-Ok.ensures in
-    rw c.layout.ensures long
-
-pub overflow_sub-result-in-Err-skip_geometry : goal.overflow_sub-result-in-Err-skip_geometry
-overflow_sub-result-in-Err-skip_geometry c =
-    let buf = c.args.buf.now in
     left_within buf _ _ _ (answered buf c.in-Ok.header c.in-Ok.ensures _ c.in-Err-skip_geometry.ensures)
-
-pub returns-in-Ok-skip_geometry-clause-checks : goal.returns-in-Ok-skip_geometry-clause-checks
-returns-in-Ok-skip_geometry-clause-checks c =
-    let buf = c.args.buf.now in
-    found_checks buf _ _ _ (answered buf c.in-Ok.header c.in-Ok.ensures _ c.in-Ok-skip_geometry.ensures) _ c.in-Ok.header c.in-Ok.ensures
-    refl refl refl refl (c.srid.ensures ∙ ap (λ (l : Layout). srid_in l.order l.has_srid buf) c.layout.ensures)
-
-pub returns-in-Ok-skip_geometry-clause-bounded : goal.returns-in-Ok-skip_geometry-clause-bounded
-returns-in-Ok-skip_geometry-clause-bounded c =
-    let buf = c.args.buf.now in
-    found_bounded buf _ _ _ (answered buf c.in-Ok.header c.in-Ok.ensures _ c.in-Ok-skip_geometry.ensures) _ c.in-Ok.header c.in-Ok.ensures
-    refl refl refl refl (c.srid.ensures ∙ ap (λ (l : Layout). srid_in l.order l.has_srid buf) c.layout.ensures)
 
 pub returns-in-Err-skip_geometry-clause-checks : goal.returns-in-Err-skip_geometry-clause-checks
 returns-in-Err-skip_geometry-clause-checks c =

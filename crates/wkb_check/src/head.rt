@@ -1,0 +1,73 @@
+//! The header of a geometry, by the shortest way for the codes that most have.
+
+ghost use Rattle.std.specs.Prelude.{◌≡◌, ◌+◌, IfSome, Some, Ok, true, false};
+ghost use Rattle.wkb_geom.specs.Codes.{srid_flag};
+ghost use Rattle.wkb_geom.specs.Reading.{head_at, meaning, meaning_of, order_of_byte};
+
+use wkb_geom::code::WkbType;
+use wkb_geom::header::MEMBER_HEADER;
+use wkb_geom::words::u32_at;
+use wkb_geom::{Cause, Dimension, Endianness, Header};
+
+/// The flag of an SRID.
+const SRID_FLAG: u32 = 0x2000_0000;
+
+/// The order that a geometry's first byte says, if it says one.
+fn order_of(byte: u8) -> Option<Endianness>
+    ensures { result ≡ order_of_byte byte }
+{
+    match byte {
+        0 => Some(Endianness::BigEndian),
+        1 => Some(Endianness::LittleEndian),
+        _ => None,
+    }
+}
+
+/// The type whose code is the number of its kind alone.
+#[tactic(auto, unfolding(wkb_geom::specs::Reading::meaning_of))]
+#[inline(always)]
+fn type_of_bare(code: u32) -> Option<WkbType>
+    ensures alone { IfSome result (λ t. meaning_of code ≡ Some (meaning t false)) }
+    ensures flagged { IfSome result (λ t. meaning_of (srid_flag + code) ≡ Some (meaning t true)) }
+{
+    match code {
+        1 => Some(WkbType::Point(Dimension::Xy)),
+        2 => Some(WkbType::LineString(Dimension::Xy)),
+        3 => Some(WkbType::Polygon(Dimension::Xy)),
+        4 => Some(WkbType::MultiPoint(Dimension::Xy)),
+        5 => Some(WkbType::MultiLineString(Dimension::Xy)),
+        6 => Some(WkbType::MultiPolygon(Dimension::Xy)),
+        7 => Some(WkbType::GeometryCollection(Dimension::Xy)),
+        _ => None,
+    }
+}
+
+/// The header at the front of the bytes, where its code is the number of a kind, with the flag of an SRID or without.
+#[inline(always)]
+fn read_bare(bytes: &[u8]) -> Option<Header>
+    ensures { IfSome result (λ header. head_at bytes.now ≡ Ok header) }
+{
+    if bytes.len() < MEMBER_HEADER {
+        return None;
+    }
+    let order = order_of(bytes[0])?;
+    let code = u32_at(bytes, 1, order);
+    let has_srid = SRID_FLAG <= code;
+    let wkb_type = type_of_bare(if has_srid { code - SRID_FLAG } else { code })?;
+    Some(Header {
+        order,
+        wkb_type,
+        has_srid,
+    })
+}
+
+/// The header at the front of the bytes, which may go on behind it.
+#[inline(always)]
+pub(crate) fn read(bytes: &[u8]) -> Result<Header, Cause>
+    ensures { head_at bytes.now ≡ result }
+{
+    match read_bare(bytes) {
+        Some(header) => Ok(header),
+        None => Header::read(bytes),
+    }
+}
