@@ -6,6 +6,7 @@ ghost use Rattle.wkb_c.specs.Columns.{IsStatusOf, IsStatusOfRow, AreStatuses};
 
 use crate::fault::{WkbFault, check_input};
 use crate::status::{BAD_OFFSETS, NULL_ROW, OK};
+use wkb_check::check_plain;
 
 /// Whether the row of this number is null. Without validity bits none is.
 pub fn is_null(validity: &[u8], i: usize) -> bool
@@ -51,6 +52,9 @@ fn status_of_bytes(buf: &[u8]) -> u32
     ensures status { IsStatusOf buf.now result }
     ensures small { result < 14 }
 {
+    if let Some(_plain) = check_plain(buf) {
+        return OK;
+    }
     let mut fault = WkbFault {
         part: 0,
         offset: 0,

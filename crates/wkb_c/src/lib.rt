@@ -34,12 +34,33 @@ use parts::{Part, list_parts};
 use status::{FIRST, IO_ERROR, NO_MEMORY, NO_ROOM, OK, SECOND, SIZE_OVERFLOW, UNKNOWN_OPTION};
 use std::alloc::Global;
 use wkb::canon::same;
+use wkb_check::check_plain;
 
 /// Whether a geometry stands at the front of the bytes. It takes no memory.
 ///
 /// `OK`, and what was found; or the status of the one refusal, and its numbers.
 #[unsafe(no_mangle)]
 pub extern "C" fn wkb_raw_check(buf: &[u8], found: &mut Found, fault: &mut WkbFault) -> u32
+    ensures accepted { result ≡ OK → IsFound buf.now found.new }
+    ensures refused { result ≢ OK → IsFault buf.now result fault.new }
+    ensures no_memory { result ≢ NO_MEMORY }
+    ensures found_kept { result ≢ OK → found.new ≡ found.old }
+    ensures fault_kept { result ≡ OK → fault.new ≡ fault.old }
+{
+    match check_plain(buf) {
+        Some(plain) => {
+            *found = found_of(&plain);
+            OK
+        }
+        None => check_any(buf, found, fault),
+    }
+}
+
+/// The same of any bytes: of a collection, or of bytes that are refused.
+///
+/// It stands apart so that its frame is laid out for no other bytes.
+#[inline(never)]
+fn check_any(buf: &[u8], found: &mut Found, fault: &mut WkbFault) -> u32
     ensures accepted { result ≡ OK → IsFound buf.now found.new }
     ensures refused { result ≢ OK → IsFault buf.now result fault.new }
     ensures no_memory { result ≢ NO_MEMORY }
