@@ -3,6 +3,7 @@
 use crate::line::Line;
 use crate::notation::input_of_run;
 use std::alloc::{AllocError, Global};
+use std::io::{Read, Write};
 use wkb_command::program::run;
 
 /// The arguments of a run.
@@ -14,11 +15,16 @@ fn arguments(alloc: Global, words: &str) -> Result<Vec<String>, AllocError> {
     Ok(arguments)
 }
 
+/// The status of a run. It is generic and has no clauses, so that its caller reads few facts.
+fn status_of<R: Read, W: Write>(alloc: Global, words: &[String], input: &mut R, out: &mut W) -> u8 {
+    run(alloc, words, input, out)
+}
+
 /// Shows the status of a run, and the line that it wrote.
 fn show_outcome(line: &mut Line, alloc: Global, words: &[String], input: &[u8]) {
     let mut reader = input;
     let mut out = Vec::new(alloc);
-    line.show("", run(alloc, words, &mut reader, &mut out));
+    line.show("", status_of(alloc, words, &mut reader, &mut out));
     line.say(" ");
     match out.as_slice().strip_suffix(b"\n") {
         Some(written) => line.append(written),
@@ -28,10 +34,11 @@ fn show_outcome(line: &mut Line, alloc: Global, words: &[String], input: &[u8]) 
 
 /// Shows what a run with these words answers to an input.
 pub fn show_run(line: &mut Line, alloc: Global, words: &str, input: &str) {
-    match (arguments(alloc, words), input_of_run(alloc, input)) {
-        (Ok(words), Ok(input)) => {
-            show_outcome(line, alloc, words.as_slice(), input.as_slice());
-        }
-        _ => line.say("not spelled"),
+    let (Ok(words), Ok(input)) = (arguments(alloc, words), input_of_run(alloc, input)) else {
+        return line.say("not spelled");
+    };
+    match input.whole() {
+        Some(input) => show_outcome(line, alloc, words.as_slice(), input),
+        None => line.say("out of memory"),
     }
 }

@@ -59,12 +59,20 @@ impl Line {
         }
     }
 
+    /// What was written, if no memory was refused.
+    pub fn whole(&self) -> Option<&[u8]> {
+        if self.is_whole {
+            Some(self.bytes.as_slice())
+        } else {
+            None
+        }
+    }
+
     /// What was written.
     pub fn as_slice(&self) -> &[u8] {
-        if self.is_whole {
-            self.bytes.as_slice()
-        } else {
-            b"out of memory"
+        match self.whole() {
+            Some(bytes) => bytes,
+            None => b"out of memory",
         }
     }
 
