@@ -72,8 +72,8 @@ pub fn view_size(wkb: &Wkb<'_>) -> u64 {
     }
 }
 
-fn outcome_of(answer: &WkbResult<Wkb<'_>>) -> Outcome {
-    match answer {
+fn outcome_of(answer: WkbResult<Wkb<'_>>) -> Outcome {
+    match &answer {
         Ok(wkb) => Outcome::Accepted(view_size(wkb)),
         Err(WkbError::IOError(fault)) => match fault.kind() {
             io::ErrorKind::UnexpectedEof => Outcome::EndOfInput,
@@ -94,18 +94,18 @@ pub fn read<'a>(alloc: Global, input: &'a [u8]) -> WkbResult<Wkb<'a>> {
 
 /// What `read_wkb` answers to these bytes.
 pub fn answer_to(alloc: Global, input: &[u8]) -> Outcome {
-    outcome_of(&read_wkb(alloc, input))
+    outcome_of(read(alloc, input))
 }
 
 /// What `Wkb::try_new` answers to these bytes.
 pub fn tried(alloc: Global, input: &[u8]) -> Outcome {
-    outcome_of(&Wkb::try_new(alloc, input))
+    outcome_of(Wkb::try_new(alloc, input))
 }
 
 /// What `read_wkb_counted` answers, with its turns and slots.
 pub fn counts(alloc: Global, input: &[u8]) -> (Outcome, u128, u128) {
     let (answer, counts) = read_wkb_counted(alloc, input);
-    (outcome_of(&answer), counts.turns, counts.slots)
+    (outcome_of(answer), counts.turns, counts.slots)
 }
 
 /// The canonical form under these options.
