@@ -2,13 +2,14 @@
 //! fails, the writer answers the sink's own error.
 
 use crate::answers::{Answer, writer_answer};
+use crate::kinds::{put_multi_line_string, put_point};
 use crate::sinks::{FULL, LimitedSink, Limits};
 use std::io;
 use std::test::Fail;
 use wkb::Endianness;
 use wkb::geom::{Dimensions, MultiLineString};
-use wkb::writer::{Sink, write_multi_line_string, write_point};
-use wkb_cases::spelled::{Spelled, bytes};
+use wkb::writer::Sink;
+use wkb_cases::spelled::Spelled;
 use wkb_cases::support::{ONE, iso, line_string_of, multi_line_string_of, point_of};
 
 /// The words of sixty-four coordinates: a line string of so many is longer than any block.
@@ -27,19 +28,34 @@ fn push_count(encoding: &mut Spelled, count: usize) -> Result<(), Fail> {
     encoding.extend_from_slice(&count.to_le_bytes())
 }
 
-/// The encoding of so many line strings without coordinates, one of these words, and another without, little endian.
-fn encoding_of(empty: usize, words: &[u64]) -> Result<Spelled, Fail> {
-    let mut encoding = bytes("01 05000000")?;
-    push_count(&mut encoding, empty.saturating_add(2))?;
+fn push_empty(encoding: &mut Spelled, empty: usize) -> Result<(), Fail> {
     for _line_string in 0..empty {
         encoding.spell(EMPTY)?;
     }
+    Ok(())
+}
+
+fn push_words(encoding: &mut Spelled, words: &[u64]) -> Result<(), Fail> {
     encoding.spell("01 02000000")?;
-    push_count(&mut encoding, words.len() / 2)?;
+    push_count(encoding, words.len() / 2)?;
     for word in words {
         encoding.extend_from_slice(&word.to_le_bytes())?;
     }
-    encoding.spell(EMPTY)?;
+    Ok(())
+}
+
+fn push_multi(encoding: &mut Spelled, empty: usize, words: &[u64]) -> Result<(), Fail> {
+    encoding.spell("01 05000000")?;
+    push_count(encoding, empty.saturating_add(2))?;
+    push_empty(encoding, empty)?;
+    push_words(encoding, words)?;
+    encoding.spell(EMPTY)
+}
+
+/// The encoding of so many line strings without coordinates, one of these words, and another without, little endian.
+fn encoding_of(empty: usize, words: &[u64]) -> Result<Spelled, Fail> {
+    let mut encoding = Spelled::new();
+    push_multi(&mut encoding, empty, words)?;
     Ok(encoding)
 }
 
@@ -53,7 +69,7 @@ fn fills(multi: &MultiLineString<'_>, encoding: &[u8], room: usize, most: usize)
     };
     let mut sink = LimitedSink::new(limits);
     let options = iso(Endianness::LittleEndian);
-    let written = writer_answer(&write_multi_line_string(&mut sink, multi, &options));
+    let written = writer_answer(&put_multi_line_string(&mut sink, multi, &options));
     let expected = if room < encoding.len() {
         Answer::Failed(io::ErrorKind::PermissionDenied)
     } else {
@@ -120,7 +136,7 @@ fn own_error(rt: HostRuntime) -> Result<(), Fail> {
         most: 1,
         room: 1,
     });
-    match write_point(&mut sink, &point, &iso(Endianness::LittleEndian)) {
+    match put_point(&mut sink, &point, &iso(Endianness::LittleEndian)) {
         Err(error) => {
             let printed = format!(in rt.alloc(); "{error}")?;
             assert!(rt; printed.as_str() == FULL);

@@ -8,13 +8,15 @@ use std::io;
 use std::test::Fail;
 use wkb::Endianness;
 use wkb::error::WkbResult;
-use wkb::geom::{Coord, Dimensioned, Dimensions, Geometry, LineString, Point, Polygon};
+use wkb::geom::{
+    Coord, Dimensioned, Dimensions, Geometry, LineString, MultiLineString, Point, Polygon, Rect,
+};
 use wkb::writer::{
-    Sink, geometry_collection_wkb_size, geometry_wkb_size, line_string_wkb_size, line_wkb_size,
-    multi_line_string_wkb_size, multi_point_wkb_size, multi_polygon_wkb_size, point_wkb_size,
-    polygon_wkb_size, rect_wkb_size, triangle_wkb_size, write_geometry, write_geometry_collection,
-    write_line, write_line_string, write_multi_line_string, write_multi_point, write_multi_polygon,
-    write_point, write_polygon, write_rect, write_triangle,
+    Sink, WriteOptions, geometry_collection_wkb_size, geometry_wkb_size, line_string_wkb_size,
+    line_wkb_size, multi_line_string_wkb_size, multi_point_wkb_size, multi_polygon_wkb_size,
+    point_wkb_size, polygon_wkb_size, rect_wkb_size, triangle_wkb_size, write_geometry,
+    write_geometry_collection, write_line, write_line_string, write_multi_line_string,
+    write_multi_point, write_multi_polygon, write_point, write_polygon, write_rect, write_triangle,
 };
 use wkb_cases::support::{
     ONE, TWO, collection_of_two, coord_of, iso, line_of, line_string_of, multi_line_string_of,
@@ -176,22 +178,69 @@ impl<'w> Parts<'w> {
     }
 }
 
-/// Puts a geometry little endian by the writer of its kind.
-fn put_by_kind<S: Sink>(sink: &mut S, geometry: &Geometry<'_>) -> WkbResult<()>
+// Each test makes these calls here, so that what they take is proved once.
+
+pub fn put_point<S: Sink>(sink: &mut S, point: &Point<'_>, options: &WriteOptions) -> WkbResult<()>
     requires working { S.has_failed sink.old ≡ false }
 {
-    let options = iso(Endianness::LittleEndian);
+    write_point(sink, point, options)
+}
+
+pub fn put_multi_line_string<S: Sink>(
+    sink: &mut S,
+    multi: &MultiLineString<'_>,
+    options: &WriteOptions,
+) -> WkbResult<()>
+    requires working { S.has_failed sink.old ≡ false }
+{
+    write_multi_line_string(sink, multi, options)
+}
+
+pub fn put_rect<S: Sink>(sink: &mut S, rect: &Rect<'_>, options: &WriteOptions) -> WkbResult<()>
+    requires working { S.has_failed sink.old ≡ false }
+{
+    write_rect(sink, rect, options)
+}
+
+pub fn rect_size(rect: &Rect<'_>) -> WkbResult<usize> {
+    rect_wkb_size(rect)
+}
+
+/// Puts a geometry by `write_geometry`.
+pub fn put_any<S: Sink>(
+    sink: &mut S,
+    geometry: &Geometry<'_>,
+    options: &WriteOptions,
+) -> WkbResult<()>
+    requires working { S.has_failed sink.old ≡ false }
+{
+    write_geometry(sink, geometry, options)
+}
+
+/// The size of any geometry in ISO codes.
+pub fn iso_size(geometry: &Geometry<'_>) -> WkbResult<usize> {
+    geometry_wkb_size(geometry)
+}
+
+/// Puts a geometry by the writer of its kind.
+fn put_by_kind<S: Sink>(
+    sink: &mut S,
+    geometry: &Geometry<'_>,
+    options: &WriteOptions,
+) -> WkbResult<()>
+    requires working { S.has_failed sink.old ≡ false }
+{
     match geometry {
-        Geometry::Point(point) => write_point(sink, point, &options),
-        Geometry::LineString(line_string) => write_line_string(sink, line_string, &options),
-        Geometry::Polygon(polygon) => write_polygon(sink, polygon, &options),
-        Geometry::MultiPoint(multi) => write_multi_point(sink, multi, &options),
-        Geometry::MultiLineString(multi) => write_multi_line_string(sink, multi, &options),
-        Geometry::MultiPolygon(multi) => write_multi_polygon(sink, multi, &options),
-        Geometry::GeometryCollection(it) => write_geometry_collection(sink, it, &options),
-        Geometry::Rect(rect) => write_rect(sink, rect, &options),
-        Geometry::Triangle(triangle) => write_triangle(sink, triangle, &options),
-        Geometry::Line(line) => write_line(sink, line, &options),
+        Geometry::Point(point) => put_point(sink, point, options),
+        Geometry::LineString(line_string) => write_line_string(sink, line_string, options),
+        Geometry::Polygon(polygon) => write_polygon(sink, polygon, options),
+        Geometry::MultiPoint(multi) => write_multi_point(sink, multi, options),
+        Geometry::MultiLineString(multi) => put_multi_line_string(sink, multi, options),
+        Geometry::MultiPolygon(multi) => write_multi_polygon(sink, multi, options),
+        Geometry::GeometryCollection(it) => write_geometry_collection(sink, it, options),
+        Geometry::Rect(rect) => put_rect(sink, rect, options),
+        Geometry::Triangle(triangle) => write_triangle(sink, triangle, options),
+        Geometry::Line(line) => write_line(sink, line, options),
     }
 }
 
@@ -205,15 +254,41 @@ fn size_by_kind(geometry: &Geometry<'_>) -> WkbResult<usize> {
         Geometry::MultiLineString(multi) => multi_line_string_wkb_size(multi),
         Geometry::MultiPolygon(multi) => multi_polygon_wkb_size(multi),
         Geometry::GeometryCollection(collection) => geometry_collection_wkb_size(collection),
-        Geometry::Rect(rect) => rect_wkb_size(rect),
+        Geometry::Rect(rect) => rect_size(rect),
         Geometry::Triangle(triangle) => triangle_wkb_size(triangle),
         Geometry::Line(line) => line_wkb_size(line),
     }
 }
 
-/// The size of any geometry in ISO codes. Each test calls it here, so that what this call takes is proved once.
-pub fn iso_size(geometry: &Geometry<'_>) -> WkbResult<usize> {
-    geometry_wkb_size(geometry)
+/// What size function and writer answer of a geometry, little endian.
+pub fn answers_of<S: Sink>(sink: &mut S, kind: Kind, geometry: &Geometry<'_>) -> Answers
+    requires working { S.has_failed sink.old ≡ false }
+{
+    let options = iso(Endianness::LittleEndian);
+    let (size, written) = match kind {
+        Kind::Any => (iso_size(geometry), put_any(sink, geometry, &options)),
+        _ => (
+            size_by_kind(geometry),
+            put_by_kind(sink, geometry, &options),
+        ),
+    };
+    Answers {
+        size: size_answer(&size),
+        written: writer_answer(&written),
+    }
+}
+
+/// Measures and puts the geometry of a kind that is made of these parts.
+fn put_parts<S: Sink>(
+    alloc: Global,
+    sink: &mut S,
+    kind: Kind,
+    parts: Parts<'_>,
+) -> Result<Answers, Fail>
+    requires working { S.has_failed sink.old ≡ false }
+{
+    let geometry = parts.geometry(alloc, kind)?;
+    Ok(answers_of(sink, kind, &geometry))
 }
 
 /// Measures and puts a geometry of the kind, little endian.
@@ -238,18 +313,9 @@ pub fn put_kind<S: Sink>(
         polygon,
         polygons: &polygons,
     };
-    let geometry = parts.geometry(alloc, kind)?;
-    let options = iso(Endianness::LittleEndian);
-    let (size, written) = match kind {
-        Kind::Any => (
-            iso_size(&geometry),
-            write_geometry(sink, &geometry, &options),
-        ),
-        _ => (size_by_kind(&geometry), put_by_kind(sink, &geometry)),
-    };
-    let (size, written) = (size_answer(&size), writer_answer(&written));
-    if written == Answer::Failed(io::ErrorKind::OutOfMemory) {
+    let answers = put_parts(alloc, sink, kind, parts)?;
+    if answers.written == Answer::Failed(io::ErrorKind::OutOfMemory) {
         return Err(Fail::new("out of memory"));
     }
-    Ok(Answers { size, written })
+    Ok(answers)
 }

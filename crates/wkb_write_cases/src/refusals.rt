@@ -3,16 +3,14 @@
 ghost use Rattle.std.specs.Prelude.{◌≡◌, false};
 
 use crate::answers::{Answer, size_answer, writer_answer};
-use crate::kinds::{Answers, ENCODINGS, FIVE_WORDS, Kind, iso_size, put_kind};
+use crate::kinds::{Answers, ENCODINGS, FIVE_WORDS, Kind, answers_of, put_kind};
 use crate::long_line::LongLine;
 use crate::sinks::{LimitedSink, LimitedWriter, Limits};
 use std::alloc::Global;
 use std::test::Fail;
 use wkb::Endianness;
 use wkb::geom::{Dimensions, Geometry};
-use wkb::writer::{
-    Out, Sink, SliceSink, VecSink, line_string_wkb_size, write_geometry, write_line_string,
-};
+use wkb::writer::{Out, Sink, SliceSink, VecSink, line_string_wkb_size, write_line_string};
 use wkb_cases::spelled::Spelled;
 use wkb_cases::support::{collection_of_two, empty_point_of, iso};
 
@@ -63,15 +61,31 @@ fn unknown_dimensions(rt: HostRuntime) -> Result<(), Fail> {
     Ok(())
 }
 
+// A collection of two empty points, of which the second can't be written.
+fn two_points(alloc: Global) -> Result<Geometry<'static>, Fail> {
+    let (first, second) = (
+        empty_point_of(Dimensions::Xy)?,
+        empty_point_of(Dimensions::Unknown(5))?,
+    );
+    collection_of_two(
+        alloc,
+        Dimensions::Xy,
+        Geometry::Point(first),
+        Geometry::Point(second),
+    )
+}
+
+fn two_points_put<S: Sink>(alloc: Global, sink: &mut S) -> Result<Answers, Fail>
+    requires working { S.has_failed sink.old ≡ false }
+{
+    let geometry = two_points(alloc)?;
+    Ok(answers_of(sink, Kind::Any, &geometry))
+}
+
 #[test]
 fn unknown_dimensions_in_a_collection(rt: HostRuntime) -> Result<(), Fail> {
-    let first = Geometry::Point(empty_point_of(Dimensions::Xy)?);
-    let second = Geometry::Point(empty_point_of(Dimensions::Unknown(5))?);
-    let collection = collection_of_two(rt.alloc(), Dimensions::Xy, first, second)?;
     let mut sink = VecSink::new(rt.alloc());
-    let size = size_answer(&iso_size(&collection));
-    let options = iso(Endianness::LittleEndian);
-    let written = writer_answer(&write_geometry(&mut sink, &collection, &options));
+    let Answers { size, written } = two_points_put(rt.alloc(), &mut sink)?;
     assert!(rt; size == Answer::UnsupportedDimensions(5));
     assert!(rt; written == Answer::UnsupportedDimensions(5));
     assert!(rt; !sink.failed() && sink.into_vec().is_empty());

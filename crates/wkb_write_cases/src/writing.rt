@@ -1,20 +1,17 @@
 //! Points, rectangles and collections of a caller's own, as bytes.
 
-use crate::kinds::{RECT, iso_size};
-use std::alloc::Global;
+use crate::kinds::{RECT, iso_size, put_any, put_point, put_rect, rect_size};
+use std::alloc::{AllocError, Global};
 use std::test::Fail;
 use wkb::Endianness;
 use wkb::error::WkbResult;
 use wkb::geom::{Dimensions, Geometry, LineString, LineStringTrait, Point, Rect};
-use wkb::writer::{
-    Out, SliceSink, VecSink, WriteOptions, geometry_wkb_size_with, rect_wkb_size, write_point,
-    write_rect,
-};
+use wkb::writer::{Out, SliceSink, VecSink, WriteOptions, geometry_wkb_size_with};
 use wkb_cases::reading::{Outcome, answer_to, words};
 use wkb_cases::spelled::{Spelled, bytes};
 use wkb_cases::support::{
     ONE, THREE, TWO, collection_of, collection_of_two, coord_of, empty_point_of, ewkb, iso,
-    line_of, line_string_of, point_of, rect_of, written,
+    line_of, line_string_of, point_of, rect_of,
 };
 
 /// A point of 1.0 and 2.0, big endian.
@@ -25,11 +22,11 @@ fn sinks(rt: HostRuntime) -> Result<(), Fail> {
     let point = point_of(Dimensions::Xy, &[ONE, TWO])?;
     let expected = bytes(POINT)?;
     let mut out = Out::new(Spelled::new());
-    write_point(&mut out, &point, &iso(Endianness::BigEndian))?;
+    put_point(&mut out, &point, &iso(Endianness::BigEndian))?;
     assert!(rt; out.into_inner().as_slice() == expected.as_slice());
     let mut slice = [0u8; 21];
     let mut sink = SliceSink::new(&mut slice);
-    write_point(&mut sink, &point, &iso(Endianness::BigEndian))?;
+    put_point(&mut sink, &point, &iso(Endianness::BigEndian))?;
     assert!(rt; sink.written() == expected.as_slice());
     assert!(rt; slice.as_slice() == expected.as_slice());
     Ok(())
@@ -42,7 +39,7 @@ fn is_written(
     text: &str,
 ) -> Result<bool, Fail> {
     let mut sink = VecSink::new(alloc);
-    write_point(&mut sink, point, options)?;
+    put_point(&mut sink, point, options)?;
     let expected = bytes(text)?;
     Ok(sink.into_vec().as_slice() == expected.as_slice())
 }
@@ -110,16 +107,22 @@ const CORNERS: [(Dimensions, &[u64], &[u64]); 5] = [
 fn is_rect(alloc: Global, rect: Rect<'_>) -> Result<bool, Fail> {
     let expected = bytes(RECT)?;
     let mut sink = VecSink::new(alloc);
-    write_rect(&mut sink, &rect, &iso(Endianness::LittleEndian))?;
-    Ok(sink.into_vec().as_slice() == expected.as_slice() && rect_wkb_size(&rect)? == 93)
+    put_rect(&mut sink, &rect, &iso(Endianness::LittleEndian))?;
+    Ok(sink.into_vec().as_slice() == expected.as_slice() && rect_size(&rect)? == 93)
+}
+
+// The size of a geometry under EWKB.
+fn ewkb_size(geometry: &Geometry<'_>, srid: Option<u32>) -> WkbResult<usize> {
+    geometry_wkb_size_with(geometry, &ewkb(srid))
 }
 
 // Its sizes under EWKB, with an SRID and without.
 fn ewkb_sizes(rect: Rect<'_>) -> WkbResult<(usize, usize)> {
     let geometry = Geometry::Rect(rect);
-    let with_srid = geometry_wkb_size_with(&geometry, &ewkb(Some(4326)))?;
-    let without = geometry_wkb_size_with(&geometry, &ewkb(None))?;
-    Ok((with_srid, without))
+    Ok((
+        ewkb_size(&geometry, Some(4326))?,
+        ewkb_size(&geometry, None)?,
+    ))
 }
 
 // Also the cases rect-sizes and ewkb-sizes. Of corners past Xy, x and y alone are written.
@@ -135,23 +138,36 @@ fn rect(rt: HostRuntime) -> Result<(), Fail> {
 
 // The size of a geometry, and its encoding.
 fn size_and_encoding(alloc: Global, geometry: &Geometry<'_>) -> WkbResult<(usize, Vec<u8>)> {
-    Ok((iso_size(geometry)?, written(alloc, geometry)?))
+    let size = iso_size(geometry)?;
+    let mut sink = VecSink::new(alloc);
+    put_any(&mut sink, geometry, &iso(Endianness::LittleEndian))?;
+    Ok((size, sink.into_vec()))
 }
 
+// A line and a rectangle in a collection.
 fn line_and_rect(alloc: Global) -> Result<Geometry<'static>, Fail> {
     let origin = coord_of(Dimensions::Xy, &[0, 0])?;
     let corner = coord_of(Dimensions::Xy, &[ONE, TWO])?;
-    let line = Geometry::Line(line_of(corner, corner)?);
-    let rect = Geometry::Rect(rect_of(origin, corner)?);
-    collection_of_two(alloc, Dimensions::Xy, line, rect)
+    let line = line_of(corner, corner)?;
+    let rect = rect_of(origin, corner)?;
+    collection_of_two(
+        alloc,
+        Dimensions::Xy,
+        Geometry::Line(line),
+        Geometry::Rect(rect),
+    )
+}
+
+// The size and the encoding of such a collection.
+fn line_and_rect_written(alloc: Global) -> Result<(usize, Vec<u8>), Fail> {
+    Ok(size_and_encoding(alloc, &line_and_rect(alloc)?)?)
 }
 
 #[test]
 fn line_triangle(rt: HostRuntime) -> Result<(), Fail> {
-    let collection = line_and_rect(rt.alloc())?;
-    let (size, encoding) = size_and_encoding(rt.alloc(), &collection)?;
     let mut expected = bytes("01 07000000 02000000 01 02000000 02000000 P P")?;
     expected.spell(RECT)?;
+    let (size, encoding) = line_and_rect_written(rt.alloc())?;
     assert!(rt; size == 143);
     assert!(rt; encoding.as_slice() == expected.as_slice());
     Ok(())
@@ -172,15 +188,36 @@ fn line_plain(rt: HostRuntime) -> Result<(), Fail> {
     Ok(())
 }
 
+// A collection of this one member.
+fn collection_around<'w>(alloc: Global, member: Geometry<'w>) -> Result<Geometry<'w>, AllocError> {
+    let mut members = Vec::with_capacity(alloc, 1)?;
+    members.push(member)?;
+    Ok(collection_of(Dimensions::Xy, members))
+}
+
+// So many collections, one in the other, round this geometry.
+fn nested_around<'w>(
+    alloc: Global,
+    levels: usize,
+    inner: Geometry<'w>,
+) -> Result<Geometry<'w>, AllocError> {
+    let mut geometry = inner;
+    for _level in 0..levels {
+        geometry = collection_around(alloc, geometry)?;
+    }
+    Ok(geometry)
+}
+
+// The size and the encoding of so many collections round a point.
+fn nested_written(alloc: Global, levels: usize) -> Result<(usize, Vec<u8>), Fail> {
+    let point = point_of(Dimensions::Xy, &[ONE, TWO])?;
+    let geometry = nested_around(alloc, levels, Geometry::Point(point))?;
+    Ok(size_and_encoding(alloc, &geometry)?)
+}
+
 #[test]
 fn plain_129(rt: HostRuntime) -> Result<(), Fail> {
-    let mut geometry = Geometry::Point(point_of(Dimensions::Xy, &[ONE, TWO])?);
-    for _level in 0..129 {
-        let mut members = Vec::with_capacity(rt.alloc(), 1)?;
-        members.push(geometry)?;
-        geometry = collection_of(Dimensions::Xy, members);
-    }
-    let (size, encoding) = size_and_encoding(rt.alloc(), &geometry)?;
+    let (size, encoding) = nested_written(rt.alloc(), 129)?;
     assert!(rt; size == 1182 && encoding.len() == 1182);
     let answer = answer_to(rt.alloc(), encoding.as_slice());
     if answer == Outcome::Memory {
