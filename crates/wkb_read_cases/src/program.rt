@@ -2,6 +2,7 @@
 
 use crate::cases::{CASES, Case, case_at};
 use std::alloc::{AllocError, Global};
+use std::io::{Read, Write};
 use std::str;
 use std::test::Fail;
 use wkb::Endianness;
@@ -72,11 +73,16 @@ fn words_of(alloc: Global, word: &str) -> Result<Vec<String>, AllocError> {
     Ok(words)
 }
 
+/// The status of a run. It is generic and has no clauses, so that its caller reads few facts.
+fn status_of<R: Read, W: Write>(alloc: Global, words: &[String], input: &mut R, out: &mut W) -> u8 {
+    run(alloc, words, input, out)
+}
+
 /// The status of a run, and what it wrote.
 fn outcome(alloc: Global, words: &[String], input: &[u8]) -> (u8, Spelled) {
     let mut reader = input;
     let mut out = Spelled::new();
-    let status = run(alloc, words, &mut reader, &mut out);
+    let status = status_of(alloc, words, &mut reader, &mut out);
     (status, out)
 }
 
