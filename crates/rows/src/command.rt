@@ -21,8 +21,10 @@ fn status_of<R: Read, W: Write>(alloc: Global, words: &[String], input: &mut R, 
 }
 
 /// Shows the status of a run, and the line that it wrote.
-fn show_outcome(line: &mut Line, alloc: Global, words: &[String], input: &[u8]) {
-    let mut reader = input;
+fn show_outcome(line: &mut Line, alloc: Global, words: &[String], input: &Line) {
+    let Some(mut reader) = input.whole() else {
+        return line.say("out of memory");
+    };
     let mut out = Vec::new(alloc);
     line.show("", status_of(alloc, words, &mut reader, &mut out));
     line.say(" ");
@@ -34,11 +36,8 @@ fn show_outcome(line: &mut Line, alloc: Global, words: &[String], input: &[u8]) 
 
 /// Shows what a run with these words answers to an input.
 pub fn show_run(line: &mut Line, alloc: Global, words: &str, input: &str) {
-    let (Ok(words), Ok(input)) = (arguments(alloc, words), input_of_run(alloc, input)) else {
-        return line.say("not spelled");
-    };
-    match input.whole() {
-        Some(input) => show_outcome(line, alloc, words.as_slice(), input),
-        None => line.say("out of memory"),
+    match (arguments(alloc, words), input_of_run(alloc, input)) {
+        (Ok(words), Ok(input)) => show_outcome(line, alloc, words.as_slice(), &input),
+        _ => line.say("not spelled"),
     }
 }
