@@ -2,7 +2,8 @@
 use Rattle.std.proofs.Common.{◌≡◌, ℕ, zero, suc, ◌<◌, ◌≤◌, List, length, Bool, refl, sym, ap, ◌∙◌, arith, ◌-◌}
 use Rattle.std.proofs.lemmas.Bool.{cond-true}
 use Rattle.wkb_laws.specs.Words.{Endianness, Dimension, Wanted, any, part, member_part, multi_point_end, room_inside}
-use Rattle.wkb_laws.specs.Words.{OpensCounted, type_dimension, type_of, laid, body_start, is_member, layout_wanted, width}
+use Rattle.wkb_laws.specs.Words.{OpensCounted, type_dimension, type_of, laid}
+use Rattle.wkb_laws.specs.Words.{body_start, is_member, layout_wanted, width}
 use Rattle.wkb_laws.proofs.Complete.{head_of, head_opened, count_read}
 use Rattle.wkb_laws.proofs.Lists.{by_list_kind}
 use Rattle.wkb_laws.proofs.Sound.{is_passed}
@@ -26,13 +27,16 @@ counted_list {n = n} {input = input} {rest = rest} {order = order} {d = d} {srid
 
 -- the rings of a polygon
 pub rings_counted : {room n : ℕ} {w : Wanted} {input rest : List ℕ} {order : Endianness} {d : Dimension} {srid : Bool}
-    → OpensCounted room w input order 3 d srid n rest → skimmer room w input ≡ skims n (skim_ring (laid order d srid)) rest
+    → OpensCounted room w input order 3 d srid n rest
+    → skimmer room w input ≡ skims n (skim_ring (laid order d srid)) rest
 rings_counted {room} {w = any} {input = input} {order = order} {d = d} {srid = srid} c =
-    geometry_is room input ∙ ap (skim_headed (skim_collection room) input) (head_opened c.opens) ∙ counted_list c (skim_ring (laid order d srid))
+    geometry_is room input ∙ ap (skim_headed (skim_collection room) input) (head_opened c.opens)
+    ∙ counted_list c (skim_ring (laid order d srid))
 rings_counted {room} {w = part l e} {input = input} {order = order} {d = d} {srid = srid} c =
     let p = c.allowed.wanted in
     ap (λ r. skim_laid l input (layout_wanted l e r)) (head_opened c.opens)
-    ∙ ap (λ r. skim_laid l input r) (cond-true (is_member l e (head_of order 3 d srid)) _ _ (is_passed l e (head_of order 3 d srid) (p.0, p.1, p.2)))
+    ∙ ap (λ r. skim_laid l input r) (cond-true (is_member l e (head_of order 3 d srid)) _ _
+    (is_passed l e (head_of order 3 d srid) (p.0, p.1, p.2)))
     ∙ (λ i. skim_member_body (sym p.0 i) (laid order (sym p.1 i) srid) input)
     ∙ counted_list c (skim_ring (laid order d srid))
 
@@ -50,11 +54,14 @@ module _ (room : ℕ) (input rest : List ℕ) (order : Endianness) (d : Dimensio
   points_counted c long =
       let r = count_read c in
       let l = laid order d srid in
-      opened 4 c ∙ points_there l input n (body_start srid) (width d) r.long (sym r.many) refl refl rest (omega (arith, long refl)) (sym r.behind)
+      opened 4 c ∙ points_there l input n (body_start srid) (width d) r.long (sym r.many) refl refl rest
+      (omega (arith, long refl)) (sym r.behind)
 
-  collection_is : (room : ℕ) → 0 < room → skim_collection room (laid order d srid) input ≡ skim_list (laid order d srid) (skim_geometry (room - 1)) input
+  collection_is : (room : ℕ) → 0 < room
+      → skim_collection room (laid order d srid) input ≡ skim_list (laid order d srid) (skim_geometry (room - 1)) input
   collection_is zero some = absurd (omega arith)
-  collection_is (suc r) some = let inside : r ≡ suc r - 1 = omega arith in ap (λ z. skim_list (laid order d srid) (skim_geometry z) input) inside
+  collection_is (suc r) some =
+      let inside : r ≡ suc r - 1 = omega arith in ap (λ z. skim_list (laid order d srid) (skim_geometry z) input) inside
 
   pub members_counted : (k : ℕ) → 3 < k → k ≤ 7 → AreCounted k
   members_counted k low high =

@@ -48,7 +48,12 @@ skim_turns (c, Err f) s h = ap (λ (s : Skim). s.0.0) h.2
 
 pub few_turns : (input : List ℕ) → 4 * (skim_of input).0.0 ≤ length input + 4
 few_turns input =
-    omega (arith, (reading_is_bounded_lem input).0, skim_turns (geometry_at max_nesting input) (skim_of input) (geometry_skim max_nesting input))
+    omega (
+      arith,
+      (reading_is_bounded_lem input).0,
+      skim_turns (geometry_at max_nesting input) (skim_of input)
+          (geometry_skim max_nesting input),
+    )
 
 -- ---- what the code answers is the skim of the input
 
@@ -62,10 +67,12 @@ module _ (input : List ℕ) (h : Head) (head : head_at input ≡ Ok h) where
 pub headless : (input : List ℕ) (c : Cause) → head_at input ≡ Err c → skim_of input ≡ stop input c
 headless input c e = no_header 0 input c e
 
-pub rest_within : (input : List ℕ) (t : Tally) (rest : List ℕ) → skim_of input ≡ (t, Ok rest) → length rest ≤ length input
+pub rest_within : (input : List ℕ) (t : Tally) (rest : List ℕ) → skim_of input ≡ (t, Ok rest)
+    → length rest ≤ length input
 rest_within input t rest e = let h = subst (Held input) e (geometry_held max_nesting input) in omega (arith, h)
 
-pub left_within : (input : List ℕ) (t : Tally) (c : Cause) (left : ℕ) → skim_of input ≡ (t, Err (c, left)) → left ≤ length input
+pub left_within : (input : List ℕ) (t : Tally) (c : Cause) (left : ℕ) → skim_of input ≡ (t, Err (c, left))
+    → left ≤ length input
 left_within input t c left e = (subst (Held input) e (geometry_held max_nesting input)).1
 
 -- ---- the header of a front
@@ -75,7 +82,8 @@ pub record HeaderSays (input : List ℕ) (s : Spelling) (t : Value) : Type 0 whe
   pub srid : srid_in (header s).order (is_some (header s).srid) input ≡ (header s).srid
   pub long : body_start (is_some (header s).srid) ≤ length input
 
-srid_read : (order : Endianness) (srid : Option ℕ) (field x y : List ℕ) → IsSrid order srid field → drop 5 x ≡ field ++ y
+srid_read : (order : Endianness) (srid : Option ℕ) (field x y : List ℕ) → IsSrid order srid field
+    → drop 5 x ≡ field ++ y
     → srid_in order (is_some srid) x ≡ srid
 srid_read order None field x y is e = refl
 srid_read order (Some v) field x y is e = ap Some (ap (number order 4) e ∙ number-front order 4 v field y is)
@@ -85,20 +93,29 @@ front_opens input (node h words ss) t rest f =
     let x = f.spelled in
     let i = x.first in
     let behind = i.srid_field ++ (x.rest ++ rest) in
-    let shape : input ≡ x.front ++ (x.rest ++ rest) = f.whole ∙ ap (λ z. z ++ rest) x.whole ∙ append_assoc x.front x.rest rest in
+    let shape : input ≡ x.front ++ (x.rest ++ rest) = f.whole ∙ ap (λ z. z ++ rest) x.whole
+    ∙ append_assoc x.front x.rest rest in
     let opens : Opens input h.order (kind t) (dimension t) (is_some h.srid) behind = record {
       code = h.code;
       behind = i.code_field ++ behind;
       whole = shape ∙ ap (λ z. z ++ (x.rest ++ rest)) i.whole
-          ∙ ap (λ z. Rattle.wkb_laws.specs.Words.order_byte h.order ∷ z) (append_assoc i.code_field i.srid_field (x.rest ++ rest));
+          ∙ ap (λ z. Rattle.wkb_laws.specs.Words.order_byte h.order ∷ z)
+          (append_assoc i.code_field i.srid_field (x.rest ++ rest));
       number = record { front = i.code_field; whole = refl; first = i.code };
       meaning = i.meaning;
     } in
-    let drop5 : drop 5 input ≡ behind = ap (drop 5) opens.whole ∙ (begins_number h.order 4 h.code opens.behind behind opens.number).2 in
+    let drop5 : drop 5 input ≡ behind = ap (drop 5) opens.whole
+    ∙ (begins_number h.order 4 h.code opens.behind behind opens.number).2 in
     record {
       head = head_opened opens;
       srid = srid_read h.order h.srid i.srid_field input (x.rest ++ rest) i.srid drop5;
-      long = omega (arith, ap length shape, length-append x.front (x.rest ++ rest), header_length h (kind t) (dimension t) x.front i);
+      long = omega (
+        arith,
+        ap length shape,
+        length-append x.front (x.rest ++ rest),
+        header_length h (kind t)
+            (dimension t) x.front i,
+      );
     }
 
 -- ---- a geometry that is found
@@ -110,13 +127,22 @@ module _ (input : List ℕ) (turns many : ℕ) (rest : List ℕ) (is : skim_of i
     pub many_are : many ≡ coordinate_count t
     pub rest_is : x-rest ≡ rest
 
-  pub front_counted : (s : Spelling) (t : Value) (more : List ℕ) → (x : Front input s t more) → IsCounted s t x.front more
+  pub front_counted : (s : Spelling) (t : Value) (more : List ℕ) → (x : Front input s t more)
+      → IsCounted s t x.front more
   front_counted s t more x =
-      let e = subst (λ (r : Reading Item). IsSkim counted r (skim_of input)) (front_is_read_lem input s t more x) (geometry_skim max_nesting input) in
+      let e =
+      subst (λ (r : Reading Item). IsSkim counted r (skim_of input)) (front_is_read_lem input s t more x)
+      (geometry_skim max_nesting input) in
       let same = sym is ∙ e in
-      record { turns_are = ap (λ (s : Skim). s.0.0) same; many_are = ap (λ (s : Skim). s.0.1) same; rest_is = sym (one_rest (left_is _ _ same)) }
+      record {
+        turns_are = ap (λ (s : Skim). s.0.0) same;
+        many_are = ap (λ (s : Skim). s.0.1) same;
+        rest_is = sym
+            (one_rest (left_is _ _ same));
+      }
 
-  front_of : (r : Reading Item) → Agrees input r → IsSkim counted r (skim_of input) → (s : Spelling) × (t : Value) × (more : List ℕ) × Front input s t more
+  front_of : (r : Reading Item) → Agrees input r → IsSkim counted r (skim_of input)
+      → (s : Spelling) × (t : Value) × (more : List ℕ) × Front input s t more
   front_of (c, Ok x) h e = (x.0.spelled, x.0.value, x.1, h.0)
   front_of (c, Err f) h e = absurd (not_both (left_is _ _ (sym is ∙ e.2)))
 
@@ -127,16 +153,19 @@ module _ (input : List ℕ) (turns many : ℕ) (rest : List ℕ) (is : skim_of i
   header_long h head =
       let f = a_front in
       let o = front_opens input f.0 f.1 f.2 f.3 in
-      let same : h ≡ head_of (header f.0).order (kind f.1) (dimension f.1) (is_some (header f.0).srid) = one_head (sym head ∙ o.head) in
+      let same : h ≡ head_of (header f.0).order (kind f.1) (dimension f.1) (is_some (header f.0).srid) =
+      one_head (sym head ∙ o.head) in
       subst (λ (g : Head). body_start g.has_srid ≤ length input) (sym same) o.long
 
-  module _ (f : Summary) (h : Head) (head : head_at input ≡ Ok h) (bytes : f.bytes ≡ length input - length rest) (parts : f.parts ≡ turns + 1)
+  module _ (f : Summary) (h : Head) (head : head_at input ≡ Ok h) (bytes : f.bytes ≡ length input - length rest)
+      (parts : f.parts ≡ turns + 1)
       (coordinates : f.coordinates ≡ many) (type : f.wkb_type ≡ h.wkb_type) (srid : f.srid ≡ srid_in h.order h.has_srid input) where
     described : DescribesOnlyFront input f
     described s t more x =
         let c = front_counted s t more x in
         let o = front_opens input s t more x in
-        let same : h ≡ head_of (header s).order (kind t) (dimension t) (is_some (header s).srid) = one_head (sym head ∙ o.head) in
+        let same : h ≡ head_of (header s).order (kind t) (dimension t) (is_some (header s).srid) =
+        one_head (sym head ∙ o.head) in
         record {
           bytes_are = omega (arith, bytes, ap length x.whole, length-append x.front more, ap length c.rest_is);
           parts = omega (arith, parts, c.turns_are);
@@ -160,12 +189,19 @@ module _ (input : List ℕ) (turns many : ℕ) (rest : List ℕ) (is : skim_of i
     found_bounded =
         let s = ap (λ (s : Skim). s.0.0) is in
         let k = ap (λ (s : Skim). s.0.1) is in
-        record { parts = omega (arith, parts, few_turns input, s); coordinates = omega (arith, coordinates, coordinates_held max_nesting input, k); part = tt }
+        record {
+          parts = omega (arith, parts, few_turns input, s);
+          coordinates = omega
+              (arith, coordinates, coordinates_held max_nesting input, k);
+          part = tt;
+        }
 
 -- ---- a refusal
 
-module _ (input : List ℕ) (turns many : ℕ) (c : Cause) (left : ℕ) (is : skim_of input ≡ ((turns, many), Err (c, left))) where
-  refusal_of : (r : Reading Item) → Agrees input r → IsSkim counted r (skim_of input) → (slots : ℕ) × Refuses max_nesting any input c turns slots
+module _ (input : List ℕ) (turns many : ℕ) (c : Cause) (left : ℕ)
+    (is : skim_of input ≡ ((turns, many), Err (c, left))) where
+  refusal_of : (r : Reading Item) → Agrees input r → IsSkim counted r (skim_of input)
+      → (slots : ℕ) × Refuses max_nesting any input c turns slots
   refusal_of (cost, Ok x) h e = absurd (not_both (left_is _ _ (sym e ∙ is)))
   refusal_of (cost, Err f) h e =
       let same = sym is ∙ e.2 in
@@ -187,8 +223,12 @@ module _ (input : List ℕ) (turns many : ℕ) (c : Cause) (left : ℕ) (is : sk
     one_way : IsRefusedOnlyFor input e
     one_way d begun slots r =
         let own = a_refusal in
-        let one = one_refusal_lem input d c begun turns slots own.0 r own.1 in
-        (one.0 ∙ sym cause, one.1 ∙ sym part, omega (arith, offset, marked d begun slots r, left_within input (turns, many) c left is))
+        let one = one_refusal_lem input d c begun turns slots own.0 r own.1 in (
+          one.0 ∙ sym cause,
+          one.1 ∙ sym part,
+          omega
+              (arith, offset, marked d begun slots r, left_within input (turns, many) c left is),
+        )
 
     pub refusal_checks : Checks input (Err e)
     refusal_checks =
@@ -204,4 +244,10 @@ module _ (input : List ℕ) (turns many : ℕ) (c : Cause) (left : ℕ) (is : sk
         }
 
     pub refusal_bounded : IsBounded input (Err e)
-    refusal_bounded = record { parts = tt; coordinates = tt; part = omega (arith, part, few_turns input, ap (λ (s : Skim). s.0.0) is) }
+    refusal_bounded =
+        record {
+          parts = tt;
+          coordinates = tt;
+          part = omega
+              (arith, part, few_turns input, ap (λ (s : Skim). s.0.0) is);
+        }

@@ -52,17 +52,20 @@ pub leaf_stops : {A : Type 0} (t : Tally) (n : ℕ) (bytes : List ℕ) (c : Caus
 leaf_stops t n bytes c (Ok x) e = absurd cc
 leaf_stops t n bytes c (Err d) e = let same : d ≡ c = cc in λ i. (tally_none t i, Err (same i, length bytes))
 
-pub leaf_many : {A : Type 0} (n : ℕ) (bytes rest : List ℕ) (p : Outcome A) → left_of p ≡ Ok rest → (leaf n bytes p).0.1 ≡ n
+pub leaf_many : {A : Type 0} (n : ℕ) (bytes rest : List ℕ) (p : Outcome A) → left_of p ≡ Ok rest
+    → (leaf n bytes p).0.1 ≡ n
 leaf_many n bytes rest (Ok x) e = refl
 leaf_many n bytes rest (Err c) e = absurd cc
 
 -- what is refused itself
-pub stops : (t : Tally) (bytes : List ℕ) (c : Cause) (s : Skim) → s ≡ stop bytes c → after t s ≡ (t, Err (c, length bytes))
+pub stops : (t : Tally) (bytes : List ℕ) (c : Cause) (s : Skim) → s ≡ stop bytes c
+    → after t s ≡ (t, Err (c, length bytes))
 stops t bytes c s e = ap (after t) e ∙ (λ i. (tally_none t i, Err (c, length bytes)))
 
 -- ---- one step
 
-pub onward_ok : (t u : Tally) (rest : List ℕ) (s : Skim) (f : List ℕ → Skim) → after t s ≡ (u, Ok rest) → after t (onward s f) ≡ after u (f rest)
+pub onward_ok : (t u : Tally) (rest : List ℕ) (s : Skim) (f : List ℕ → Skim) → after t s ≡ (u, Ok rest)
+    → after t (onward s f) ≡ after u (f rest)
 onward_ok t u rest (k, Ok x) f e =
     let left : Ok x ≡ Ok rest = ap (λ (s : Skim). s.1) e in
     let same : x ≡ rest = cc in
@@ -70,7 +73,8 @@ onward_ok t u rest (k, Ok x) f e =
     after-after t k (f x) ∙ (λ i. after (sum i) (f (same i)))
 onward_ok t u rest (k, Err c) f e = let left : Err c ≡ Ok rest = ap (λ (s : Skim). s.1) e in absurd cc
 
-pub onward_err : (t u : Tally) (c : Cause × ℕ) (s : Skim) (f : List ℕ → Skim) → after t s ≡ (u, Err c) → after t (onward s f) ≡ (u, Err c)
+pub onward_err : (t u : Tally) (c : Cause × ℕ) (s : Skim) (f : List ℕ → Skim) → after t s ≡ (u, Err c)
+    → after t (onward s f) ≡ (u, Err c)
 onward_err t u c (k, Err d) f e = e
 onward_err t u c (k, Ok x) f e = let left : Ok x ≡ Err c = ap (λ (s : Skim). s.1) e in absurd cc
 
@@ -93,11 +97,16 @@ pub record Within (now : Tally) (s : Skim) (start : Tally) (whole : Skim) : Type
   pub turns : now.0 + s.0.0 ≤ start.0 + whole.0.0
   pub coordinates : now.1 + s.0.1 ≤ start.1 + whole.0.1
 
-pub within : (now start : Tally) (s whole : Skim) (f : List ℕ → Skim) → after now (onward s f) ≡ after start whole → Within now s start whole
+pub within : (now start : Tally) (s whole : Skim) (f : List ℕ → Skim) → after now (onward s f) ≡ after start whole
+    → Within now s start whole
 within now start s whole f e =
     let t = tally_is _ _ e in
     let l = least s f in
-    record { turns = omega (arith, l.turns, ap (λ (t : Tally). t.0) t); coordinates = omega (arith, l.coordinates, ap (λ (t : Tally). t.1) t) }
+    record {
+      turns = omega (arith, l.turns, ap (λ (t : Tally). t.0) t);
+      coordinates = omega
+          (arith, l.coordinates, ap (λ (t : Tally). t.1) t);
+    }
 
 module _ {part : List ℕ → Skim} {count i : ℕ} {rest : List ℕ} {start now : Tally} {whole : Skim} where
   next : i < count → Goes part count i rest start now whole
@@ -109,14 +118,17 @@ module _ {part : List ℕ → Skim} {count i : ℕ} {rest : List ℕ} {start now
       let none : now.1 + 0 ≡ now.1 = omega arith in
       (λ j. after (now.0 + 1, sym none j) s) ∙ sym (after-after now (1, 0) s) ∙ rw k at g.goes
 
-  pub part_within : i < count → Goes part count i rest start now whole → Within (now.0 + 1, now.1) (part rest) start whole
+  pub part_within : i < count → Goes part count i rest start now whole
+      → Within (now.0 + 1, now.1) (part rest) start whole
   part_within lt g = within _ _ (part rest) whole (skims (count - (i + 1)) part) (next lt g)
 
-  pub part_read : (new : Tally) (left : List ℕ) → i < count → Goes part count i rest start now whole → after (now.0 + 1, now.1) (part rest) ≡ (new, Ok left)
+  pub part_read : (new : Tally) (left : List ℕ) → i < count → Goes part count i rest start now whole
+      → after (now.0 + 1, now.1) (part rest) ≡ (new, Ok left)
       → Goes part count (i + 1) left start new whole
   part_read new left lt g e = record { goes = sym (onward_ok _ _ _ _ (skims (count - (i + 1)) part) e) ∙ next lt g }
 
-  pub part_stops : (new : Tally) (c : Cause × ℕ) → i < count → Goes part count i rest start now whole → after (now.0 + 1, now.1) (part rest) ≡ (new, Err c)
+  pub part_stops : (new : Tally) (c : Cause × ℕ) → i < count → Goes part count i rest start now whole
+      → after (now.0 + 1, now.1) (part rest) ≡ (new, Err c)
       → after start whole ≡ (new, Err c)
   part_stops new c lt g e = sym (next lt g) ∙ onward_err _ _ _ _ (skims (count - (i + 1)) part) e
 
@@ -135,10 +147,12 @@ module _ (l : Layout) (part : List ℕ → Skim) (bytes : List ℕ) where
       let test : ltb (length bytes) (body_start l.has_srid + 4) ≡ true = lt-ltb _ _ short in
       stops t bytes c (skim_list l part bytes) (rw (test, is) refl)
 
-  pub list_there : (n : ℕ) (start : List ℕ) → n ≡ count_at l bytes → body_start l.has_srid + 4 ≤ length bytes → start ≡ parts_start l.has_srid bytes
+  pub list_there : (n : ℕ) (start : List ℕ) → n ≡ count_at l bytes → body_start l.has_srid + 4 ≤ length bytes
+      → start ≡ parts_start l.has_srid bytes
       → skim_list l part bytes ≡ skims n part start
   list_there n start counted whole at =
-      let test : ltb (length bytes) (body_start l.has_srid + 4) ≡ false = le-ltb _ _ whole in rw (test, counted, at) refl
+      let test : ltb (length bytes) (body_start l.has_srid + 4) ≡ false =
+      le-ltb _ _ whole in rw (test, counted, at) refl
 
 -- ---- multi points
 
@@ -149,7 +163,8 @@ module _ (l : Layout) (bytes : List ℕ) where
       let test : ltb (length bytes) (body_start l.has_srid + 4) ≡ true = lt-ltb _ _ short in
       stops t bytes c (skim_multi_point l bytes) (rw (test, is) refl)
 
-  module _ (n s w : ℕ) (whole : body_start l.has_srid + 4 ≤ length bytes) (counted : n ≡ count_at l bytes) (s-is : s ≡ body_start l.has_srid)
+  module _ (n s w : ℕ) (whole : body_start l.has_srid + 4 ≤ length bytes) (counted : n ≡ count_at l bytes)
+      (s-is : s ≡ body_start l.has_srid)
       (w-is : w ≡ width l.dimension) where
     end_is : multi_point_end l.dimension l.has_srid (count_at l bytes) ≡ s + 4 + (5 + 8 * w) * n
     end_is = rw (s-is, w-is, counted) (omega arith)
@@ -158,7 +173,8 @@ module _ (l : Layout) (bytes : List ℕ) where
         → after t (skim_multi_point l bytes) ≡ (t, Err (general (ShortMultiPoint (s + 4 + (5 + 8 * w) * n) (length bytes)), length bytes))
     points_short t short =
         let there : ltb (length bytes) (body_start l.has_srid + 4) ≡ false = le-ltb _ _ whole in
-        let long : ltb (length bytes) (multi_point_end l.dimension l.has_srid (count_at l bytes)) ≡ true = lt-ltb _ _ (rw end_is short) in
+        let long : ltb (length bytes) (multi_point_end l.dimension l.has_srid (count_at l bytes)) ≡ true =
+        lt-ltb _ _ (rw end_is short) in
         stops t bytes _ (skim_multi_point l bytes)
         (rw (there, long) (ap (λ (e : ℕ). stop bytes (general (ShortMultiPoint e (length bytes)))) end_is))
 

@@ -32,7 +32,8 @@ Passes view (Err c) s old new = after (tally old) s ≡ (tally new, Err (c, new.
 -- So it is of a part that may be a collection, inside those that have so many members to come: a part is passed over,
 -- of a collection its count, and then it is open too.
 abbrev pub PassesOrOpens : {X : Type 0} → (X → List ℕ) → Result X Cause → Skim → List ℕ → List ℕ → Walk → Walk → Type 0
-PassesOrOpens view (Ok x) s before now old new = after (tally old) (onward s (skim_outward before)) ≡ after (tally new) (skim_outward now (view x))
+PassesOrOpens view (Ok x) s before now old new =
+    after (tally old) (onward s (skim_outward before)) ≡ after (tally new) (skim_outward now (view x))
 PassesOrOpens view (Err c) s before now old new = after (tally old) s ≡ (tally new, Err (c, new.left))
 
 -- the counts of the open collections, the innermost first
@@ -41,5 +42,6 @@ open_counts left depth = reverse (take depth left)
 
 -- what is known once a part is finished: the next member begins, or all is read
 abbrev pub IsSettled : List ℕ → List ℕ → Bool → Type 0
-IsSettled before now true = (rest : List ℕ) → skim_outward before rest ≡ after (1, 0) (onward (skim_inside (length now) rest) (skim_outward now))
+IsSettled before now true =
+    (rest : List ℕ) → skim_outward before rest ≡ after (1, 0) (onward (skim_inside (length now) rest) (skim_outward now))
 IsSettled before now false = (rest : List ℕ) → skim_outward before rest ≡ ((0, 0), Ok rest)

@@ -28,7 +28,8 @@ pub record DescribesFront (input : List ℕ) (f : Summary) : Type 0 where
 
 -- whatever geometry the input begins with, this is told of it
 abbrev pub DescribesOnlyFront : List ℕ → Summary → Type 0
-DescribesOnlyFront input f = (s : Spelling) (t : Value) (rest : List ℕ) → (x : Front input s t rest) → Describes f x.front s t
+DescribesOnlyFront input f =
+    (s : Spelling) (t : Value) (rest : List ℕ) → (x : Front input s t rest) → Describes f x.front s t
 
 -- The input is refused for this cause at the part of this number, and from the offset on it has as many bytes as from
 -- the refused part on.

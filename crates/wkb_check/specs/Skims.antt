@@ -68,7 +68,8 @@ count_at l bytes = number l.order 4 (drop (body_start l.has_srid) bytes)
 -- a list of parts behind a count
 abbrev pub skim_list : Layout → (List ℕ → Skim) → List ℕ → Skim
 skim_list l part bytes =
-    if nat_lt (length bytes) (body_start l.has_srid + 4) then stop bytes end_of_input else skims (count_at l bytes) part (parts_start l.has_srid bytes)
+    if nat_lt (length bytes) (body_start l.has_srid + 4) then stop bytes end_of_input else skims (count_at l bytes)
+    part (parts_start l.has_srid bytes)
 
 -- a point, a line string, a ring and a polygon
 abbrev pub skim_point : Layout → List ℕ → Skim
@@ -85,7 +86,8 @@ skim_polygon l bytes = skim_list l (skim_ring l) bytes
 
 -- what stands behind the header of a member, by its kind
 abbrev pub skim_member_body : ℕ → Layout → List ℕ → Skim
-skim_member_body k l bytes = if k == 1 then skim_point l bytes else if k == 2 then skim_line_string l bytes else skim_polygon l bytes
+skim_member_body k l bytes =
+    if k == 1 then skim_point l bytes else if k == 2 then skim_line_string l bytes else skim_polygon l bytes
 
 -- the same where the header's layout was read, or its fault
 abbrev pub skim_laid : ℕ → List ℕ → Result Layout Cause → Skim
@@ -105,7 +107,8 @@ skim_points l bytes =
 
 -- a multi point
 abbrev pub skim_multi_point : Layout → List ℕ → Skim
-skim_multi_point l bytes = if nat_lt (length bytes) (body_start l.has_srid + 4) then stop bytes end_of_input else skim_points l bytes
+skim_multi_point l bytes =
+    if nat_lt (length bytes) (body_start l.has_srid + 4) then stop bytes end_of_input else skim_points l bytes
 
 -- a multi line string or a multi polygon, by the kind of its members
 abbrev pub skim_multi : ℕ → Layout → List ℕ → Skim

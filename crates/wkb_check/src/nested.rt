@@ -123,7 +123,8 @@ pub(crate) fn skip_geometry<'a>(
 ) -> Result<&'a [u8], Cause>
     requires here { walk.old.left ≡ length buf.now }
     requires fits { FitsCounters walk.old (skim_body_inside 0 header buf.now) }
-    ensures { Passes (λ rest. rest.now) result (skim_body_inside 0 header buf.now) walk.old walk.new }
+    ensures { Passes (λ rest. rest.now) result (skim_body_inside 0 header buf.now)
+        walk.old walk.new }
 {
     match header.wkb_type {
         WkbType::GeometryCollection(_) => skip_collection(header, buf, walk),

@@ -11,7 +11,8 @@ skip_plain-passed-requires-clause-fits c =
     let buf = c.args.buf.now in
     let h = c.in-Ok.header in
     let same : skim_body skim_too_deep h.wkb_type c.layout.result buf ≡ skim_geometry 128 buf =
-    plain_behind 0 h c.layout.result buf c.in_default.not-GeometryCollection c.layout.ensures ∙ body_is buf h c.in-Ok.ensures in
+    plain_behind 0 h c.layout.result buf c.in_default.not-GeometryCollection c.layout.ensures
+    ∙ body_is buf h c.in-Ok.ensures in
     record {
       turns = omega (arith, few_turns buf, ap (λ (s : Skim). s.0.0) same);
       coordinates = omega (arith, coordinates_held 128 buf, ap (λ (s : Skim). s.0.1) same);
@@ -22,4 +23,5 @@ summary_of-requires-clause-passed c =
     let buf = c.args.buf.now in
     let h = c.in-Ok.header in
     answered buf h c.in-Ok.ensures _
-    (ap (after (0, 0)) (sym (plain_behind 0 h c.layout.result buf c.in_default.not-GeometryCollection c.layout.ensures)) ∙ c.in-Ok-passed.ensures)
+    (ap (after (0, 0)) (sym (plain_behind 0 h c.layout.result buf c.in_default.not-GeometryCollection
+    c.layout.ensures)) ∙ c.in-Ok-passed.ensures)

@@ -14,9 +14,11 @@ loop-rest-init c = record {
 pub returns-in-Err-read : goal.returns-in-Err-read
 returns-in-Err-read c =
     next_stops c.skip_or_open.new.self.left _ c.skip_or_open.new.self.depth _ _ _ _ _
-    (finishes c.loop-rest.open.left c.skip_or_open.new.self.left c.loop-rest.open.depth c.skip_or_open.new.self.depth _ _ _ _ _ _ _
+    (finishes c.loop-rest.open.left c.skip_or_open.new.self.left c.loop-rest.open.depth c.skip_or_open.new.self.depth
+    _ _ _ _ _ _ _
     c.loop-rest.invariant.reaches c.in-Ok.ensures.begins)
-    c.if-not-close_finished.ensures.len c.if-not-close_finished.ensures.depth c.if-not-close_finished.ensures.settled _ c.in-Err-read.ensures
+    c.if-not-close_finished.ensures.len c.if-not-close_finished.ensures.depth c.if-not-close_finished.ensures.settled
+    _ c.in-Err-read.ensures
 
 pub loop-rest-smaller : goal.loop-rest-smaller
 loop-rest-smaller c =
@@ -24,17 +26,21 @@ loop-rest-smaller c =
       arith,
       c.skip_or_open.ensures.grows,
       turn_fits c.skip_or_open.new.self.left _ c.skip_or_open.new.self.depth _ _ _ _ _
-          (finishes c.loop-rest.open.left c.skip_or_open.new.self.left c.loop-rest.open.depth c.skip_or_open.new.self.depth _ _ _ _ _ _ _
+          (finishes c.loop-rest.open.left c.skip_or_open.new.self.left c.loop-rest.open.depth
+          c.skip_or_open.new.self.depth _ _ _ _ _ _ _
           c.loop-rest.invariant.reaches c.in-Ok.ensures.begins)
-          c.if-not-close_finished.ensures.len c.if-not-close_finished.ensures.depth c.if-not-close_finished.ensures.settled,
+          c.if-not-close_finished.ensures.len c.if-not-close_finished.ensures.depth
+          c.if-not-close_finished.ensures.settled,
     )
 
 pub loop-rest-preserved : goal.loop-rest-preserved
 loop-rest-preserved c = record {
   reaches = next_begins c.skip_or_open.new.self.left _ c.skip_or_open.new.self.depth _ _ _ _ _
-      (finishes c.loop-rest.open.left c.skip_or_open.new.self.left c.loop-rest.open.depth c.skip_or_open.new.self.depth _ _ _ _ _ _ _
+      (finishes c.loop-rest.open.left c.skip_or_open.new.self.left c.loop-rest.open.depth
+      c.skip_or_open.new.self.depth _ _ _ _ _ _ _
       c.loop-rest.invariant.reaches c.in-Ok.ensures.begins)
-      c.if-not-close_finished.ensures.len c.if-not-close_finished.ensures.depth c.if-not-close_finished.ensures.settled _ c.in-Ok-read.ensures;
+      c.if-not-close_finished.ensures.len c.if-not-close_finished.ensures.depth
+      c.if-not-close_finished.ensures.settled _ c.in-Ok-read.ensures;
   here = refl;
   shallow = c.close_finished.ensures.depth;
   len = c.close_finished.ensures.len;

@@ -3,12 +3,17 @@ use Rattle.wkb_check.proofs.Skimming.{part_within, part_read, part_stops, parts_
 use Rattle.wkb_check.proofs.skip.skip_members.Goals as goal
 
 pub overflow_add-walk : goal.overflow_add-walk
-overflow_add-walk c = let w = part_within c.loop-test.true c.loop.invariant.goes in omega (arith, w.turns, c.requires.fits.turns)
+overflow_add-walk c =
+    let w = part_within c.loop-test.true c.loop.invariant.goes in omega (arith, w.turns, c.requires.fits.turns)
 
 pub skip_member-requires-clause-fits : goal.skip_member-requires-clause-fits
 skip_member-requires-clause-fits c =
     let w = part_within c.loop-test.true c.loop.invariant.goes in
-    record { turns = omega (arith, w.turns, c.requires.fits.turns); coordinates = omega (arith, w.coordinates, c.requires.fits.coordinates) }
+    record {
+      turns = omega (arith, w.turns, c.requires.fits.turns);
+      coordinates = omega
+          (arith, w.coordinates, c.requires.fits.coordinates);
+    }
 
 pub returns-in-Err : goal.returns-in-Err
 returns-in-Err c = part_stops _ _ c.loop-test.true c.loop.invariant.goes c.in-Err.ensures

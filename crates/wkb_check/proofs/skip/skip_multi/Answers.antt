@@ -6,13 +6,19 @@ use Rattle.wkb_check.proofs.Skimming.{list_cut, list_there}
 use Rattle.wkb_check.proofs.skip.skip_multi.Goals as goal
 use Rattle.wkb_check.proofs.skip.skip_multi.Goals.{After-after_count}
 
-is : (c : After-after_count) → skim_multi c.args.kind c.args.layout c.args.bytes.now ≡ skims c.in-Ok.count (skim_member c.args.kind c.args.layout.dimension) c.after_count.result.now
+is : (c : After-after_count)
+    → skim_multi c.args.kind c.args.layout c.args.bytes.now ≡ skims c.in-Ok.count (skim_member c.args.kind c.args.layout.dimension) c.after_count.result.now
 is c =
-    list_there c.args.layout (skim_member c.args.kind c.args.layout.dimension) c.args.bytes.now c.in-Ok.count c.after_count.result.now c.in-Ok.ensures.counted c.in-Ok.ensures.whole
+    list_there c.args.layout (skim_member c.args.kind c.args.layout.dimension) c.args.bytes.now c.in-Ok.count
+    c.after_count.result.now c.in-Ok.ensures.counted c.in-Ok.ensures.whole
     c.after_count.ensures
 
 pub skip_members-requires : goal.skip_members-requires
-skip_members-requires c = record { fits = subst (FitsCounters c.args.walk.now) (is (goal.at.skip_members-requires c).After-after_count) c.requires.fits }
+skip_members-requires c =
+    record {
+      fits = subst (FitsCounters c.args.walk.now) (is (goal.at.skip_members-requires c).After-after_count)
+          c.requires.fits;
+    }
 
 pub returns-in-Ok : goal.returns-in-Ok
 returns-in-Ok c = rw (is (goal.at.returns-in-Ok c).After-after_count) c.skip_members.ensures
@@ -20,4 +26,5 @@ returns-in-Ok c = rw (is (goal.at.returns-in-Ok c).After-after_count) c.skip_mem
 pub returns-in-Err : goal.returns-in-Err
 returns-in-Err c =
     rw c.requires.here
-    (list_cut c.args.layout (skim_member c.args.kind c.args.layout.dimension) c.args.bytes.now (tally c.args.walk.now) _ c.in-Err.ensures.short.0 c.in-Err.ensures.short.1)
+    (list_cut c.args.layout (skim_member c.args.kind c.args.layout.dimension) c.args.bytes.now
+    (tally c.args.walk.now) _ c.in-Err.ensures.short.0 c.in-Err.ensures.short.1)

@@ -5,7 +5,8 @@ use Rattle.wkb_check.proofs.nested.OpenCounts.close_finished.Given as goal
 
 abbrev pub invariant-loop-self : goal.invariant-loop-self
 invariant-loop-self l = record {
-  same : (rest : List ℕ) → skim_outward (open_counts l.fn.self.left l.fn.self.depth) rest ≡ skim_outward (open_counts l.self.left l.self.depth) rest;
+  same : (rest : List ℕ)
+      → skim_outward (open_counts l.fn.self.left l.fn.self.depth) rest ≡ skim_outward (open_counts l.self.left l.self.depth) rest;
   depth : l.self.depth ≤ 128;
   len : length l.self.left ≡ 128;
 }
