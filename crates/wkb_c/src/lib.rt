@@ -56,7 +56,7 @@ pub extern "C" fn wkb_raw_check(buf: &[u8], found: &mut Found, fault: &mut WkbFa
     }
 }
 
-/// The same of any bytes: of a collection, or of bytes that are refused.
+/// Checks any bytes by the long way, which collections and refused bytes need.
 ///
 /// It stands apart so that its frame is laid out for no other bytes.
 #[inline(never)]

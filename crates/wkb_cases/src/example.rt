@@ -19,7 +19,7 @@ pub fn corners(alloc: Global, bytes: &[u8]) -> WkbResult<Option<usize>> {
     }
 }
 
-/// The same geometry as big endian EWKB with this SRID.
+/// The geometry of these bytes as big endian EWKB with this SRID.
 pub fn with_srid(alloc: Global, bytes: &[u8], srid: u32) -> WkbResult<Vec<u8>> {
     let wkb = read_wkb(alloc, bytes)?;
     let options = WriteOptions {

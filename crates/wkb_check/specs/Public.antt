@@ -1,8 +1,11 @@
 -- What the check's answer says of its input.
-use Rattle.std.specs.Prelude.{◌≡◌, ℕ, ◌+◌, ◌*◌, ◌≤◌, List, length, Result, IfOk, IfErr}
+use Rattle.std.specs.Prelude.{◌≡◌, ℕ, ◌+◌, ◌*◌, ◌≤◌, List, length, Result, Ok, Err, IfOk, IfErr}
+use Rattle.wkb_geom.specs.declared.code.WkbType.TheVariants.{GeometryCollection}
+use Rattle.wkb_geom.specs.declared.common.Dimension.{Dimension}
 use Rattle.wkb_geom.specs.declared.error.Cause.{Cause}
+use Rattle.wkb_geom.specs.declared.header.Header.{Header}
 use Rattle.wkb_geom.specs.Fronts.{Front, HasNoFront, max_nesting}
-use Rattle.wkb_geom.specs.Reading.{type_of}
+use Rattle.wkb_geom.specs.Reading.{head_at, type_of}
 use Rattle.wkb_geom.specs.Refusals.{Refuses}
 use Rattle.wkb_geom.specs.Spellings.{Spelling, header, any}
 use Rattle.wkb_geom.specs.Values.{Value, kind, dimension, member_count}
@@ -50,6 +53,12 @@ pub record Checks (input : List ℕ) (r : Result Summary Refused) : Type 0 where
   pub refusal : IfErr r (λ e. IsRefusedFor input e)
   pub one_refusal : IfErr r (λ e. IsRefusedOnlyFor input e)
   pub no_front : IfErr r (λ e. HasNoFront input)
+
+-- Why the short way finds nothing: the bytes are refused, or begin with the header of a collection.
+pub data HasNoPlain (input : List ℕ) : Type 0 where
+  refused : (e : Refused) → Checks input (Err e) → HasNoPlain input
+  collection : (h : Header) (d : Dimension) → head_at input ≡ Ok h → h.wkb_type ≡ GeometryCollection d
+      → HasNoPlain input
 
 -- parts that are begun have four bytes each, and coordinates that are passed sixteen
 pub record IsBounded (input : List ℕ) (r : Result Summary Refused) : Type 0 where

@@ -1,10 +1,10 @@
 //! What a check tells.
 
-ghost use Rattle.std.specs.Prelude.{◌≡◌, IfSome, Ok};
+ghost use Rattle.std.specs.Prelude.{◌≡◌, IfNone, IfSome, Ok};
 ghost use Rattle.wkb_geom.specs.Fronts.{max_nesting};
 ghost use Rattle.wkb_geom.specs.Reading.{head_at};
 ghost use Rattle.wkb_check.specs.Passes.{tally};
-ghost use Rattle.wkb_check.specs.Public.{Checks, IsBounded};
+ghost use Rattle.wkb_check.specs.Public.{Checks, HasNoPlain, IsBounded};
 ghost use Rattle.wkb_check.specs.Skims.{skim_geometry};
 
 use crate::head::read;
@@ -57,14 +57,15 @@ fn summary_of(header: Header, buf: &[u8], walk: Walk, rest: &[u8]) -> Summary
     }
 }
 
-/// What stands at the front of the bytes, where it is no collection and nothing refuses it. None says nothing: `check`
-/// tells then.
+/// What stands at the front of the bytes, where it is no collection and nothing refuses it. Where there is none, `check`
+/// tells what there is.
 ///
 /// It lends nothing to a call that stays one, so that all it counts is in registers.
 #[inline(always)]
 pub fn check_plain(buf: &[u8]) -> Option<Summary>
     ensures checks { IfSome result (λ found. Checks buf.now (Ok found)) }
     ensures bounded { IfSome result (λ found. IsBounded buf.now (Ok found)) }
+    ensures none { IfNone result (HasNoPlain buf.now) }
 {
     let header = match read(buf) {
         Ok(header) => header,

@@ -2,26 +2,12 @@
 
 ghost use Rattle.std.specs.Prelude.{◌≡◌, ◌+◌, IfSome, Some, Ok, true, false};
 ghost use Rattle.wkb_geom.specs.Codes.{srid_flag};
-ghost use Rattle.wkb_geom.specs.Reading.{head_at, meaning, meaning_of, order_of_byte};
+ghost use Rattle.wkb_geom.specs.Reading.{head_at, meaning, meaning_of};
 
-use wkb_geom::code::WkbType;
+use wkb_geom::code::{SRID_FLAG, WkbType};
 use wkb_geom::header::MEMBER_HEADER;
 use wkb_geom::words::u32_at;
 use wkb_geom::{Cause, Dimension, Endianness, Header};
-
-/// The flag of an SRID.
-const SRID_FLAG: u32 = 0x2000_0000;
-
-/// The order that a geometry's first byte says, if it says one.
-fn order_of(byte: u8) -> Option<Endianness>
-    ensures { result ≡ order_of_byte byte }
-{
-    match byte {
-        0 => Some(Endianness::BigEndian),
-        1 => Some(Endianness::LittleEndian),
-        _ => None,
-    }
-}
 
 /// The type whose code is the number of its kind alone.
 #[tactic(auto, unfolding(wkb_geom::specs::Reading::meaning_of))]
@@ -50,7 +36,7 @@ fn read_bare(bytes: &[u8]) -> Option<Header>
     if bytes.len() < MEMBER_HEADER {
         return None;
     }
-    let order = order_of(bytes[0])?;
+    let order = Endianness::of_byte(bytes[0])?;
     let code = u32_at(bytes, 1, order);
     let has_srid = SRID_FLAG <= code;
     let wkb_type = type_of_bare(if has_srid { code - SRID_FLAG } else { code })?;

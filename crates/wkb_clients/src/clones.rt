@@ -10,8 +10,8 @@ use wkb::geom::{GeometryCollectionTrait, MultiLineStringTrait, MultiPolygonTrait
 use wkb::laws::{are_bytes, one_encoding, spelled_in_full};
 use wkb::reader::{GeometryCollection, LineString, MultiLineString, MultiPolygon, Polygon, Wkb};
 
-/// The geometry of one index in two equal collections: the same bytes, spelled alike, of one value.
-pub fn geometries<'m, 'a>(
+/// The geometries of one index in two equal collections: the same bytes, spelled alike, of one value.
+pub fn both_geometries<'m, 'a>(
     source: &'m GeometryCollection<'a>,
     clone: &'m GeometryCollection<'a>,
     i: usize,
@@ -44,8 +44,8 @@ fn line_string_spelled(line_string: &LineString)
     are_bytes(line_string.buf());
 }
 
-/// The same of the polygons of one index in two equal multi polygons.
-pub fn polygons<'m, 'a>(
+/// The polygons of one index in two equal multi polygons.
+pub fn both_polygons<'m, 'a>(
     source: &'m MultiPolygon<'a>,
     clone: &'m MultiPolygon<'a>,
     i: usize,
@@ -64,8 +64,8 @@ pub fn polygons<'m, 'a>(
     }
 }
 
-/// The same of the line strings of one index in two equal multi line strings.
-pub fn line_strings<'a>(
+/// The line strings of one index in two equal multi line strings.
+pub fn both_line_strings<'a>(
     source: &MultiLineString<'a>,
     clone: &MultiLineString<'a>,
     i: usize,

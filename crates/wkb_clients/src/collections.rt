@@ -53,7 +53,7 @@ pub fn member_bytes<'a>(alloc: Global, input: &'a [u8], index: usize) -> WkbResu
 /// A ring of the polygon that is a member of this collection, the exterior first.
 ///
 /// None where this is no collection, the member no polygon, or one of the indices too large.
-pub fn ring<'a>(geometry: &Wkb<'a>, member: usize, ring: usize) -> Option<LinearRing<'a>>
+pub fn ring_of_member<'a>(geometry: &Wkb<'a>, member: usize, ring: usize) -> Option<LinearRing<'a>>
     ensures { MatchOption result (HasNoRing geometry.now member ring)
         (λ r. IsRingOf geometry.now member ring (ring_seen r)) }
 {
@@ -92,7 +92,7 @@ pub fn ring_word(alloc: Global, blob: &[u8], offset: usize, at: Place) -> WkbRes
         Ok(geometry) => geometry,
         Err(e) => return Err(e),
     };
-    match ring(&geometry, at.member, at.ring) {
+    match ring_of_member(&geometry, at.member, at.ring) {
         Some(ring) => match ring.coord(at.coordinate) {
             Some(coord) => Ok(coord.nth(at.word)),
             None => Ok(None),

@@ -30,7 +30,8 @@ pub fn point_bytes<'a>(multi: &MultiPoint<'a>, i: usize) -> Option<&'a [u8]>
     }
 }
 
-/// The same of a line string of a multi line string.
+/// The bytes of a line string of a multi line string, if there is one of this index: at its place in those of the multi
+/// line string.
 pub fn line_string_bytes<'a>(multi: &MultiLineString<'a>, i: usize) -> Option<&'a [u8]>
     ensures { IfSome result
         (λ bytes. LendsMember (whole_of multi_line_string multi.now) i bytes.now) }
@@ -48,7 +49,7 @@ pub fn line_string_bytes<'a>(multi: &MultiLineString<'a>, i: usize) -> Option<&'
     }
 }
 
-/// The same of a polygon of a multi polygon.
+/// The bytes of a polygon of a multi polygon, if there is one of this index: at its place in those of the multi polygon.
 pub fn polygon_bytes<'a>(multi: &MultiPolygon<'a>, i: usize) -> Option<&'a [u8]>
     ensures { IfSome result (λ bytes. LendsMember (whole_of multi_polygon multi.now) i bytes.now) }
 {

@@ -19,7 +19,7 @@ const Z_FLAG: u32 = 0x8000_0000;
 const M_FLAG: u32 = 0x4000_0000;
 
 /// The flag of an SRID.
-const SRID_FLAG: u32 = 0x2000_0000;
+pub const SRID_FLAG: u32 = 0x2000_0000;
 
 /// The number of a point's kind.
 pub const POINT: u32 = 1;

@@ -22,7 +22,7 @@ pub enum Endianness {
 impl Endianness {
     /// The order that a geometry's first byte says, if it says one.
     #[inline]
-    pub(crate) fn of_byte(byte: u8) -> Option<Endianness>
+    pub fn of_byte(byte: u8) -> Option<Endianness>
         ensures { result ≡ order_of_byte byte }
     {
         match byte {

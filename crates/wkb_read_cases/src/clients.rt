@@ -12,7 +12,7 @@ use wkb_clients::package::word;
 const LINE: &str = "47500001 00000000
     00 000003ea 00000001 3ff0000000000000 4000000000000000 4008000000000000";
 
-/// The same eight bytes, and a collection of a point and of a polygon with a hole that has no coordinates.
+/// Eight such bytes, and a collection of a point and of a polygon with a hole that has no coordinates.
 const POLYGON: &str = "47500001 00000000 01 07000000 02000000
     00 000003e9 3ff0000000000000 4000000000000000 4008000000000000
     01 03000000 02000000 01000000 P 00000000";

@@ -60,7 +60,7 @@ impl<'a> Coord<'a> {
     }
 
     /// Whether all its words are not-a-numbers.
-    pub(crate) fn is_nan(&self) -> bool
+    pub(crate) fn is_all_nan(&self) -> bool
         ensures { result ≡ all_nan (words_seen self.now) }
     {
         for n in 0..self.dimension.width() {

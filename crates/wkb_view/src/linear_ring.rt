@@ -223,7 +223,7 @@ impl<'a> GeometryTrait for LinearRing<'a> {
 /// The bytes after the ring at the front of the bytes.
 #[tactic(auto, unfolding(wkb_geom::specs::Reading::ring_at))]
 #[inline]
-pub(crate) fn ring<'a>(
+pub(crate) fn pass_ring<'a>(
     order: Endianness,
     dimension: Dimension,
     bytes: &'a [u8],

@@ -137,7 +137,7 @@ impl<'a> MultiLineString<'a> {
         ensures no_memory { (multi_line_string_at layout bytes.now).0.slots ≡ 0 → IsNoWant result }
     {
         let (count, ends) = counted_list(alloc, layout, bytes, LEAST_MEMBER, counts)?;
-        let (ends, rest) = line_strings(layout, bytes, ends, count, counts)?;
+        let (ends, rest) = pass_line_strings(layout, bytes, ends, count, counts)?;
         let multi_line_string = MultiLineString {
             buf: &bytes[..bytes.len() - rest.len()],
             layout,
@@ -242,7 +242,7 @@ impl<'a> GeometryTrait for MultiLineString<'a> {
 }
 
 /// Passes the line string of this dimension at the front of the bytes.
-fn line_string<'a>(dimension: Dimension, bytes: &'a [u8]) -> Result<&'a [u8], Cause>
+fn pass_line_string<'a>(dimension: Dimension, bytes: &'a [u8]) -> Result<&'a [u8], Cause>
     ensures answer { Freely
         (λ rest. (member_item 2 dimension (consumed bytes.now rest.now), rest.now))
         result (member_at 2 dimension bytes.now) }
@@ -262,7 +262,7 @@ fn line_string<'a>(dimension: Dimension, bytes: &'a [u8]) -> Result<&'a [u8], Ca
 
 /// Passes so many line strings, and keeps the offsets at which they end.
 #[tactic(auto, using(crate::proofs::Lists::parts_length))]
-fn line_strings<'a>(
+fn pass_line_strings<'a>(
     layout: Layout,
     bytes: &'a [u8],
     mut ends: Reserved<usize>,
@@ -284,7 +284,7 @@ fn line_strings<'a>(
     let mut rest = layout.after_count(bytes);
     for _ in 0..count {
         counts.turns += 1;
-        rest = line_string(layout.dimension, rest)?;
+        rest = pass_line_string(layout.dimension, rest)?;
         ends.push(bytes.len() - rest.len());
     }
     Ok((ends, rest))

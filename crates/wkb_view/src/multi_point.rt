@@ -104,7 +104,7 @@ impl<'a> MultiPoint<'a> {
                 len: bytes.len(),
             }));
         }
-        let rest = points(layout, bytes, count, counts)?;
+        let rest = pass_points(layout, bytes, count, counts)?;
         let buf = &bytes[..bytes.len() - rest.len()];
         Ok((MultiPoint { buf, layout, count }, rest))
     }
@@ -228,7 +228,7 @@ impl<'a> GeometryTrait for MultiPoint<'a> {
 
 /// Passes the point of this dimension, without an SRID, at the front of the bytes.
 #[inline]
-fn point<'a>(dimension: Dimension, bytes: &'a [u8]) -> Result<&'a [u8], Cause>
+fn pass_point<'a>(dimension: Dimension, bytes: &'a [u8]) -> Result<&'a [u8], Cause>
     ensures answer { Freely
         (λ rest. (member_item 1 dimension (consumed bytes.now rest.now), rest.now))
         result (member_at 1 dimension bytes.now) }
@@ -247,7 +247,7 @@ fn point<'a>(dimension: Dimension, bytes: &'a [u8]) -> Result<&'a [u8], Cause>
 }
 
 /// Passes so many points.
-fn points<'a>(
+fn pass_points<'a>(
     layout: Layout,
     bytes: &'a [u8],
     count: u32,
@@ -266,7 +266,7 @@ fn points<'a>(
     let mut rest = layout.after_count(bytes);
     for _ in 0..count {
         counts.turns += 1;
-        rest = point(layout.dimension, rest)?;
+        rest = pass_point(layout.dimension, rest)?;
     }
     Ok(rest)
 }

@@ -118,7 +118,7 @@ impl<'a> MultiPolygon<'a> {
         ensures no_memory { (multi_polygon_at layout bytes.now).0.slots ≡ 0 → IsNoWant result }
     {
         let (count, members) = counted_list(alloc, layout, bytes, LEAST_MEMBER, counts)?;
-        let (members, rest) = polygons(alloc, layout, bytes, members, count, counts)?;
+        let (members, rest) = read_members(alloc, layout, bytes, members, count, counts)?;
         let multi_polygon = MultiPolygon {
             buf: &bytes[..bytes.len() - rest.len()],
             layout,
@@ -226,7 +226,7 @@ impl<'a> GeometryTrait for MultiPolygon<'a> {
 }
 
 /// The polygon of this dimension at the front of the bytes, and the bytes after it.
-fn member<'a>(
+fn read_member<'a>(
     alloc: Global,
     dimension: Dimension,
     bytes: &'a [u8],
@@ -244,7 +244,7 @@ fn member<'a>(
 }
 
 /// So many polygons, and the bytes after them.
-fn polygons<'a>(
+fn read_members<'a>(
     alloc: Global,
     layout: Layout,
     bytes: &'a [u8],
@@ -269,7 +269,7 @@ fn polygons<'a>(
     let mut rest = layout.after_count(bytes);
     for _ in 0..count {
         counts.turns += 1;
-        let (polygon, after) = member(alloc, layout.dimension, rest, counts)?;
+        let (polygon, after) = read_member(alloc, layout.dimension, rest, counts)?;
         members.push(polygon);
         rest = after;
     }

@@ -61,7 +61,7 @@ impl<'a> Point<'a> {
     pub fn is_empty(&self) -> bool
         ensures { result ≡ is_none (point_of (point_seen self.now).value) }
     {
-        self.words().is_nan()
+        self.words().is_all_nan()
     }
 
     /// The order of its numbers.
@@ -195,7 +195,7 @@ impl<'a> PointTrait for Point<'a> {
             (body_start (point_layout self.now).has_srid) (point_seen self.now).encoding) }
     {
         let words = self.words();
-        if words.is_nan() { None } else { Some(words) }
+        if words.is_all_nan() { None } else { Some(words) }
     }
 }
 
@@ -238,7 +238,7 @@ impl<'a> GeometryTrait for Point<'a> {
         if !self.layout.begins_as(wkb_type, self.buf, order, form) {
             return None;
         }
-        let is_empty = self.words().is_nan();
+        let is_empty = self.words().is_all_nan();
         if is_empty { None } else { Some(self.buf) }
     }
 

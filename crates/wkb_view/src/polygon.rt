@@ -11,7 +11,7 @@ use crate::any::{
     AnyView, Line, LineString, MultiLineString, MultiPoint, MultiPolygon, Point, Rect, Triangle,
 };
 use crate::counts::Counts;
-use crate::linear_ring::{LinearRing, ring};
+use crate::linear_ring::{LinearRing, pass_ring};
 use crate::own_srid::OwnSrid;
 use crate::part::part_at;
 use crate::reserved::{Reserved, counted_list};
@@ -137,7 +137,7 @@ impl<'a> Polygon<'a> {
         ensures no_memory { (polygon_at layout bytes.now).0.slots ≡ 0 → IsNoWant result }
     {
         let (count, ends) = counted_list(alloc, layout, bytes, COUNT, counts)?;
-        let (ends, rest) = rings(layout, bytes, ends, count, counts)?;
+        let (ends, rest) = pass_rings(layout, bytes, ends, count, counts)?;
         let polygon = Polygon {
             buf: &bytes[..bytes.len() - rest.len()],
             layout,
@@ -260,7 +260,7 @@ impl<'a> GeometryTrait for Polygon<'a> {
 }
 
 /// Passes so many rings, and keeps the offsets at which they end.
-fn rings<'a>(
+fn pass_rings<'a>(
     layout: Layout,
     bytes: &'a [u8],
     mut ends: Reserved<usize>,
@@ -281,7 +281,7 @@ fn rings<'a>(
     let mut rest = layout.after_count(bytes);
     for _ in 0..count {
         counts.turns += 1;
-        rest = ring(layout.order, layout.dimension, rest)?;
+        rest = pass_ring(layout.order, layout.dimension, rest)?;
         ends.push(bytes.len() - rest.len());
     }
     Ok((ends, rest))

@@ -17,11 +17,11 @@ returns c =
           omega (arith, w.type_of_bare-is, w.if-has_srid.true) in
           rw (le-leb srid_flag code w.if-has_srid.true)
           (head_meant c.args.bytes.now c.in_ok-order.order code c.in_ok-wkb_type.wkb_type true (omega (arith, long))
-          (sym c.order_of.ensures ∙ c.in_ok-order.was)
+          (sym c.of_byte.ensures ∙ c.in_ok-order.was)
           c.u32_at-code.ensures (sym (ap meaning_of whole) ∙ t.flagged))
       | else-has_srid w ↦
           rw (lt-leb srid_flag code w.if-has_srid.false)
           (head_meant c.args.bytes.now c.in_ok-order.order code c.in_ok-wkb_type.wkb_type false (omega (arith, long))
-          (sym c.order_of.ensures ∙ c.in_ok-order.was)
+          (sym c.of_byte.ensures ∙ c.in_ok-order.was)
           c.u32_at-code.ensures (sym (ap meaning_of w.type_of_bare-is) ∙ t.alone))
     ]

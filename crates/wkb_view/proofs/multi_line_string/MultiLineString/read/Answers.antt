@@ -25,13 +25,13 @@ invariant_of-multi_line_string c =
       body_spelled bytes _ _ _ c.requires.head read.0,
     )
 
-pub line_strings-requires-clause-room : goal.line_strings-requires-clause-room
-line_strings-requires-clause-room c =
+pub pass_line_strings-requires-clause-room : goal.pass_line_strings-requires-clause-room
+pass_line_strings-requires-clause-room c =
     rw (parts_length c.args.layout.has_srid c.args.bytes.now)
     (omega (arith, c.in_ok-count.ensures.room, c.in_ok-count.ensures.count))
 
-pub line_strings-requires-clause-fits : goal.line_strings-requires-clause-fits
-line_strings-requires-clause-fits c =
+pub pass_line_strings-requires-clause-fits : goal.pass_line_strings-requires-clause-fits
+pass_line_strings-requires-clause-fits c =
     list_fits
     (line_strings_here c.args.layout c.args.bytes.now _ c.args.counts.now c.counted_list.new.counts
     c.in_ok-count.ensures.whole c.in_ok-count.ensures.count

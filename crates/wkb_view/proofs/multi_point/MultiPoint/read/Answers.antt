@@ -6,8 +6,8 @@ use Rattle.wkb_view.proofs.Lists.{points_here, list_fits, list_reads, list_stops
 use Rattle.wkb_view.proofs.SpelledRead.{body_spelled}
 use Rattle.wkb_view.proofs.multi_point.MultiPoint.read.Goals as goal
 
-pub points-requires-clause-fits : goal.points-requires-clause-fits
-points-requires-clause-fits c =
+pub pass_points-requires-clause-fits : goal.pass_points-requires-clause-fits
+pass_points-requires-clause-fits c =
     list_fits
     (points_here c.args.layout c.args.bytes.now c.in_ok-count.count _ _ c.args.counts.now c.in_ok-count.ensures.whole
     c.in_ok-count.ensures.counted

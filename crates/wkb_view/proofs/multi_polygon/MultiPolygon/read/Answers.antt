@@ -33,13 +33,13 @@ invariant_of-multi_polygon c =
       rw c.into_vec.ensures (body_spelled bytes _ _ _ c.requires.head read.0),
     )
 
-pub polygons-requires-clause-room : goal.polygons-requires-clause-room
-polygons-requires-clause-room c =
+pub read_members-requires-clause-room : goal.read_members-requires-clause-room
+read_members-requires-clause-room c =
     rw (parts_length c.args.layout.has_srid c.args.bytes.now)
     (omega (arith, c.in_ok-count.ensures.room, c.in_ok-count.ensures.count))
 
-pub polygons-requires-clause-fits : goal.polygons-requires-clause-fits
-polygons-requires-clause-fits c =
+pub read_members-requires-clause-fits : goal.read_members-requires-clause-fits
+read_members-requires-clause-fits c =
     list_fits
     (polygons_here c.args.layout c.args.bytes.now _ c.args.counts.now c.counted_list.new.counts
     c.in_ok-count.ensures.whole c.in_ok-count.ensures.count

@@ -11,7 +11,7 @@ returns-else-is_empty-clause-encoding c =
     let header : HasWrittenHeader 1 p.layout p.buf.now c.args.order c.args.form =
     record { order_is = is.order refl; plain = is.plain refl; form_is = is.form refl; code = is.code refl } in
     let known : all_nan (point_words_in p.layout p.buf.now) ≡ false =
-    ap all_nan (sym c.words.ensures.words) ∙ sym c.is_nan-is_empty.ensures ∙ c.if-is_empty.false in
+    ap all_nan (sym c.words.ensures.words) ∙ sym c.is_all_nan-is_empty.ensures ∙ c.if-is_empty.false in
     (point_whole p.layout p.buf.now c.args.order c.args.form p.in_range p.spells header known).encoding
 
 pub returns-else-is_empty-clause-writable : goal.returns-else-is_empty-clause-writable

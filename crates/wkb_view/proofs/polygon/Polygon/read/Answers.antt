@@ -25,13 +25,13 @@ invariant_of-polygon c =
       body_spelled bytes _ _ _ c.requires.head read.0,
     )
 
-pub rings-requires-clause-room : goal.rings-requires-clause-room
-rings-requires-clause-room c =
+pub pass_rings-requires-clause-room : goal.pass_rings-requires-clause-room
+pass_rings-requires-clause-room c =
     rw (parts_length c.args.layout.has_srid c.args.bytes.now)
     (omega (arith, c.in_ok-count.ensures.room, c.in_ok-count.ensures.count))
 
-pub rings-requires-clause-fits : goal.rings-requires-clause-fits
-rings-requires-clause-fits c =
+pub pass_rings-requires-clause-fits : goal.pass_rings-requires-clause-fits
+pass_rings-requires-clause-fits c =
     list_fits
     (rings_here c.args.layout c.args.bytes.now _ c.args.counts.now c.counted_list.new.counts
     c.in_ok-count.ensures.whole c.in_ok-count.ensures.count

@@ -3,7 +3,7 @@ use Rattle.std.proofs.lemmas.Bool.{ltb-true, ltb-false}
 use Rattle.std.proofs.lemmas.Option.{slice_get-get_or, slice_get_past}
 use Rattle.wkb_clients.proofs.KindsHanded.{not_polygon}
 use Rattle.wkb_clients.proofs.Rings.{no_member, no_polygon, ring_or_none}
-use Rattle.wkb_clients.proofs.collections.ring.Goals as goal
+use Rattle.wkb_clients.proofs.collections.ring_of_member.Goals as goal
 
 pub returns-in_default-get : goal.returns-in_default-get
 returns-in_default-get c =

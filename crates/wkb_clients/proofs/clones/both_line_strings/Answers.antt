@@ -1,7 +1,7 @@
 use Rattle.std.proofs.Common.{Some, ap, refl}
 use Rattle.wkb_clients.specs.Common.{line_string_seen}
 use Rattle.wkb_clients.proofs.Equal.{same_line_string}
-use Rattle.wkb_clients.proofs.clones.line_strings.Goals as goal
+use Rattle.wkb_clients.proofs.clones.both_line_strings.Goals as goal
 
 pub returns-in-Some-Some : goal.returns-in-Some-Some
 returns-in-Some-Some c =

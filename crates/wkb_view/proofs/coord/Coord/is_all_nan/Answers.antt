@@ -3,7 +3,7 @@ use Rattle.std.proofs.lemmas.List.{take_all}
 use Rattle.std.proofs.lemmas.List.Folds.{list_all_at, list_all_more}
 use Rattle.wkb_view.specs.Words.{all_nan, is_nan, number, width, length-items, coordinate}
 use Rattle.wkb_view.proofs.Items.{word_is}
-use Rattle.wkb_view.proofs.coord.Coord.is_nan.Goals as goal
+use Rattle.wkb_view.proofs.coord.Coord.is_all_nan.Goals as goal
 
 pub returns-then-not-is_nan : goal.returns-then-not-is_nan
 returns-then-not-is_nan c =

@@ -1,6 +1,6 @@
 use Rattle.std.proofs.Common.{Some, ap}
 use Rattle.wkb_clients.proofs.Equal.{same_polygon}
-use Rattle.wkb_clients.proofs.clones.polygons.Goals as goal
+use Rattle.wkb_clients.proofs.clones.both_polygons.Goals as goal
 
 pub returns-in-Some-Some : goal.returns-in-Some-Some
 returns-in-Some-Some c =

@@ -3,7 +3,7 @@ use Rattle.wkb_view.specs.Words.{body_start, parts_start, member_at}
 use Rattle.wkb_view.specs.Entries.{entries, capacity}
 use Rattle.wkb_view.specs.Members.{members_behind, IsMemberOfKind, member_item}
 use Rattle.wkb_view.proofs.Pieces.{SoFar}
-use Rattle.wkb_view.proofs.multi_line_string.line_strings.Given as goal
+use Rattle.wkb_view.proofs.multi_line_string.pass_line_strings.Given as goal
 
 abbrev pub invariant-loop : goal.invariant-loop
 invariant-loop l = record {

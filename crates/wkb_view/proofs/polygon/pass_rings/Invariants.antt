@@ -4,7 +4,7 @@ use Rattle.wkb_view.specs.Entries.{entries, capacity}
 use Rattle.wkb_view.specs.Members.{parts_behind}
 use Rattle.wkb_view.specs.Pieces.{IsRing}
 use Rattle.wkb_view.proofs.Pieces.{SoFar}
-use Rattle.wkb_view.proofs.polygon.rings.Given as goal
+use Rattle.wkb_view.proofs.polygon.pass_rings.Given as goal
 
 abbrev pub invariant-loop : goal.invariant-loop
 invariant-loop l = record {

@@ -4,7 +4,7 @@ use Rattle.wkb_view.specs.Words.{Fault}
 use Rattle.wkb_view.proofs.Lists.{freely, part_costs, part_stops}
 use Rattle.wkb_view.proofs.Pieces.{pieces_next, pieces_read}
 use Rattle.wkb_view.proofs.Members.{ends_next, points_end}
-use Rattle.wkb_view.proofs.multi_point.points.Goals as goal
+use Rattle.wkb_view.proofs.multi_point.pass_points.Goals as goal
 
 pub overflow_add-counts : goal.overflow_add-counts
 overflow_add-counts c =

@@ -1,7 +1,7 @@
 use Rattle.std.proofs.Common.{◌+◌, ◌*◌, ◌-◌, length, take, drop, refl, length-drop, arith}
 use Rattle.std.proofs.lemmas.List.{take_all}
 use Rattle.wkb_view.proofs.Leaves.{ring_passed}
-use Rattle.wkb_view.proofs.linear_ring.ring.Goals as goal
+use Rattle.wkb_view.proofs.linear_ring.pass_ring.Goals as goal
 
 pub returns-clause-passed : goal.returns-clause-passed
 returns-clause-passed c =

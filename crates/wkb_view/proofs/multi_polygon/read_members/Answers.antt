@@ -5,13 +5,13 @@ use Rattle.std.proofs.lemmas.List.{map-append}
 use Rattle.std.proofs.lemmas.Result.{err_from_is_err_and}
 use Rattle.wkb_view.proofs.Lists.{part_costs, next_part, part_stops, parts_end}
 use Rattle.wkb_view.proofs.Members.{all_more}
-use Rattle.wkb_view.proofs.multi_polygon.polygons.Goals as goal
+use Rattle.wkb_view.proofs.multi_polygon.read_members.Goals as goal
 
 pub overflow_add-counts : goal.overflow_add-counts
 overflow_add-counts c = omega (arith, (part_costs c.loop-test.true c.loop.invariant.left).0, c.requires.fits.turns)
 
-pub member-requires : goal.member-requires
-member-requires c =
+pub read_member-requires : goal.read_member-requires
+read_member-requires c =
     let p = part_costs c.loop-test.true c.loop.invariant.left in
     record {
       fits = record {

@@ -1,23 +1,24 @@
-use Rattle.std.proofs.Common.{List, ℕ, ap, map-id, arith}
+use Rattle.std.proofs.Common.{arith}
 use Rattle.std.proofs.lemmas.Result.{err_from_is_err_and}
-use Rattle.wkb_view.specs.Words.{Fault, Outcome, at_no_cost}
+use Rattle.wkb_view.specs.Words.{Fault}
 use Rattle.wkb_view.proofs.Lists.{parts_length, freely, part_costs, part_stops}
 use Rattle.wkb_view.proofs.Pieces.{pieces_next, pieces_read}
-use Rattle.wkb_view.proofs.polygon.rings.Goals as goal
+use Rattle.wkb_view.proofs.multi_line_string.pass_line_strings.Goals as goal
 
 pub overflow_add-counts : goal.overflow_add-counts
 overflow_add-counts c =
     omega (arith, (part_costs c.loop-test.true c.loop.invariant.so_far.left).0, c.requires.fits.turns)
 
-pub returns-in_err-rest-clause-rings : goal.returns-in_err-rest-clause-rings
-returns-in_err-rest-clause-rings c =
+pub returns-in_err-rest-clause-line_strings : goal.returns-in_err-rest-clause-line_strings
+returns-in_err-rest-clause-line_strings c =
     let p = err_from_is_err_and c.from_residual.result c.from_residual.ensures.1 in
-    rw (p.1, p.2) (part_stops (Fault c.in_err-rest.field-0.0) _ c.loop-test.true c.loop.invariant.so_far.left
-    (freely _ _ _ (ap (λ (r : Outcome (List ℕ)). at_no_cost r) c.in_err-rest.ensures.answer)))
+    rw (p.1, p.2)
+    (part_stops (Fault c.in_err-rest.field-0.0) _ c.loop-test.true c.loop.invariant.so_far.left
+    (freely _ _ _ c.in_err-rest.ensures.answer))
 
 pub loop-preserved : goal.loop-preserved
 loop-preserved c =
-    let gives = freely _ _ _ (ap (λ (r : Outcome (List ℕ)). at_no_cost r) c.in_ok-rest.ensures.answer) in
+    let gives = freely _ _ _ c.in_ok-rest.ensures.answer in
     record {
       so_far =
           rw c.push.ensures.entries
@@ -26,8 +27,8 @@ loop-preserved c =
       room = omega (arith, c.push.ensures.room, c.loop.invariant.room);
     }
 
-pub returns-clause-rings : goal.returns-clause-rings
-returns-clause-rings c = let r = pieces_read c.loop-test.false c.loop.invariant.so_far in (rw map-id at r.0, r.1)
+pub returns-clause-line_strings : goal.returns-clause-line_strings
+returns-clause-line_strings c = let r = pieces_read c.loop-test.false c.loop.invariant.so_far in (r.0, r.1)
 
 pub returns-clause-ends : goal.returns-clause-ends
 returns-clause-ends c = (pieces_read c.loop-test.false c.loop.invariant.so_far).2

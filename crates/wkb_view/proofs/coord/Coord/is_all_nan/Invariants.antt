@@ -1,6 +1,6 @@
 use Rattle.std.proofs.Common.{◌≡◌, true, take}
 use Rattle.wkb_view.specs.Words.{all_nan, coordinate}
-use Rattle.wkb_view.proofs.coord.Coord.is_nan.Given as goal
+use Rattle.wkb_view.proofs.coord.Coord.is_all_nan.Given as goal
 
 abbrev pub invariant-loop-n : goal.invariant-loop-n
 invariant-loop-n l =

@@ -2,7 +2,7 @@ use Rattle.std.proofs.Common.{◌+◌}
 use Rattle.wkb_view.specs.Words.{body_start, member_at}
 use Rattle.wkb_view.specs.Members.{members_behind, IsMemberOfKind, member_item, point_ends}
 use Rattle.wkb_view.proofs.Pieces.{SoFar}
-use Rattle.wkb_view.proofs.multi_point.points.Given as goal
+use Rattle.wkb_view.proofs.multi_point.pass_points.Given as goal
 
 abbrev pub invariant-loop : goal.invariant-loop
 invariant-loop l = record {

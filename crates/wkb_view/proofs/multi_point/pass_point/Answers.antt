@@ -2,7 +2,7 @@ use Rattle.std.proofs.Common.{◌∙◌, ap}
 use Rattle.wkb_view.specs.Words.{Outcome, Item, at_no_cost}
 use Rattle.wkb_view.proofs.Members.{point_laid}
 use Rattle.wkb_view.proofs.Leaves.{found, member_gives, member_passed}
-use Rattle.wkb_view.proofs.multi_point.point.Goals as goal
+use Rattle.wkb_view.proofs.multi_point.pass_point.Goals as goal
 
 pub returns-clause-answer : goal.returns-clause-answer
 returns-clause-answer c =

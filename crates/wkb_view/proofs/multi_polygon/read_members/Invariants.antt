@@ -4,7 +4,7 @@ use Rattle.wkb_view.specs.Words.{parts_start, member_at}
 use Rattle.wkb_view.specs.Entries.{entries, capacity}
 use Rattle.wkb_view.specs.Members.{members_behind, polygon_items}
 use Rattle.wkb_view.proofs.Lists.{Loop}
-use Rattle.wkb_view.proofs.multi_polygon.polygons.Given as goal
+use Rattle.wkb_view.proofs.multi_polygon.read_members.Given as goal
 
 abbrev pub invariant-loop : goal.invariant-loop
 invariant-loop l = record {
