@@ -75,15 +75,21 @@ pub fn view_size(wkb: &Wkb<'_>) -> u64 {
 fn outcome_of(answer: WkbResult<Wkb<'_>>) -> Outcome {
     match &answer {
         Ok(wkb) => Outcome::Accepted(view_size(wkb)),
-        Err(WkbError::IOError(fault)) => match fault.kind() {
+        Err(error) => outcome_of_error(error),
+    }
+}
+
+fn outcome_of_error(error: &WkbError) -> Outcome {
+    match error {
+        WkbError::IOError(fault) => match fault.kind() {
             io::ErrorKind::UnexpectedEof => Outcome::EndOfInput,
             _ => Outcome::Other,
         },
-        Err(WkbError::IncorrectType("multi geometry member")) => Outcome::WrongMember,
-        Err(WkbError::General(fault)) => Outcome::Refused(*fault),
-        Err(WkbError::NestingDepthExceeded(limit)) => Outcome::TooDeep(*limit),
-        Err(WkbError::Memory(_)) => Outcome::Memory,
-        Err(_) => Outcome::Other,
+        WkbError::IncorrectType("multi geometry member") => Outcome::WrongMember,
+        WkbError::General(fault) => Outcome::Refused(*fault),
+        WkbError::NestingDepthExceeded(limit) => Outcome::TooDeep(*limit),
+        WkbError::Memory(_) => Outcome::Memory,
+        _ => Outcome::Other,
     }
 }
 

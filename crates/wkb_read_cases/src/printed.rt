@@ -10,20 +10,38 @@ fn prints(alloc: Global, error: WkbError, text: &str) -> Result<bool, AllocError
     Ok(printed.as_str() == text)
 }
 
+// An error, and the text that it prints.
+fn printed(number: usize) -> (WkbError, &'static str) {
+    match number {
+        0 => {
+            let text = "General error: Unsupported number of dimensions: 5";
+            (WkbError::General(General::UnsupportedDimensions(5)), text)
+        }
+        1 => (
+            WkbError::NotYetImplemented("curves"),
+            "Not yet implemented: curves",
+        ),
+        2 => (
+            WkbError::OverflowError(Overflow::Count),
+            "count does not fit 32 bits",
+        ),
+        3 => (
+            WkbError::OverflowError(Overflow::Size),
+            "size does not fit usize",
+        ),
+        4 => {
+            let error = io::Error::from(io::ErrorKind::UnexpectedEof);
+            (WkbError::IOError(error), "unexpected end of file")
+        }
+        _ => (WkbError::Memory(AllocError), "out of memory"),
+    }
+}
+
 #[test]
 fn printed_texts(rt: HostRuntime) -> Result<(), Fail> {
-    let error = WkbError::General(General::UnsupportedDimensions(5));
-    let text = "General error: Unsupported number of dimensions: 5";
-    assert!(rt; prints(rt.alloc(), error, text)?);
-    let error = WkbError::NotYetImplemented("curves");
-    assert!(rt; prints(rt.alloc(), error, "Not yet implemented: curves")?);
-    let error = WkbError::OverflowError(Overflow::Count);
-    assert!(rt; prints(rt.alloc(), error, "count does not fit 32 bits")?);
-    let error = WkbError::OverflowError(Overflow::Size);
-    assert!(rt; prints(rt.alloc(), error, "size does not fit usize")?);
-    let error = WkbError::IOError(io::Error::from(io::ErrorKind::UnexpectedEof));
-    assert!(rt; prints(rt.alloc(), error, "unexpected end of file")?);
-    let error = WkbError::Memory(AllocError);
-    assert!(rt; prints(rt.alloc(), error, "out of memory")?);
+    for number in 0..6 {
+        let (error, text) = printed(number);
+        assert!(rt; prints(rt.alloc(), error, text)?, "{text}");
+    }
     Ok(())
 }

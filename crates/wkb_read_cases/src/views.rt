@@ -70,6 +70,13 @@ fn begins_with_one_and_two(part: Part<'_>) -> Result<bool, Fail> {
     }
 }
 
+// Whether the coordinate of these bytes is there still when the geometry is let go.
+fn is_kept(alloc: Global, text: &str) -> Result<bool, Fail> {
+    let input = bytes(text)?;
+    let part = part_of(&read(alloc, input.as_slice())?)?;
+    begins_with_one_and_two(part)
+}
+
 // Also the cases point-lifetime and line-lifetime.
 #[test]
 fn kept_parts(rt: HostRuntime) -> Result<(), Fail> {
@@ -79,9 +86,7 @@ fn kept_parts(rt: HostRuntime) -> Result<(), Fail> {
         POLYGON_HOLE,
         MULTI_LINE_TWO,
     ] {
-        let input = bytes(text)?;
-        let part = part_of(&read(rt.alloc(), input.as_slice())?)?;
-        assert!(rt; begins_with_one_and_two(part)?, "{text}");
+        assert!(rt; is_kept(rt.alloc(), text)?, "{text}");
     }
     Ok(())
 }

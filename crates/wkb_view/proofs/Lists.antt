@@ -1,10 +1,11 @@
 -- Parts read one after the other, as a loop does, and lists of them behind a count.
 use Rattle.std.proofs.Common.{◌≡◌, ℕ, suc, ◌+◌, ◌-◌, ◌*◌, ◌≤◌, ◌<◌, List, [], ◌∷◌, ◌++◌, Ok, Err, refl, sym, ap, ◌∙◌}
-use Rattle.std.proofs.Common.{append_assoc, arith, Bool, false}
-use Rattle.std.proofs.Common.{length, drop, ltb, length-drop}
+use Rattle.std.proofs.Common.{append_assoc, arith, Bool, true, false, cond}
+use Rattle.std.proofs.Common.{length, drop, ltb, ltb-true, length-drop}
 use Rattle.std.proofs.lemmas.List.{append-nil}
-use Rattle.std.proofs.lemmas.Bool.{le-ltb}
-use Rattle.wkb_view.specs.Words.{Cause, Refusal, Fault, Memory, Cost, free, one_turn, Outcome, Reading, costs, done}
+use Rattle.std.proofs.lemmas.Bool.{le-ltb, lt-ltb}
+use Rattle.wkb_view.specs.Words.{Cause, refused, end_of_input, Refusal, Fault, Memory, Cost, free, one_turn, Outcome}
+use Rattle.wkb_view.specs.Words.{Reading, costs, done}
 use Rattle.wkb_view.specs.Words.{and_then, repeated, Layout, Item, number}
 use Rattle.wkb_view.specs.Words.{multi_point_end, slots_asked, slots_of, consumed, body_start, parts_start, list_at}
 use Rattle.wkb_view.specs.Words.{list_item, ring_part, member_at}
@@ -14,7 +15,7 @@ use Rattle.wkb_view.specs.Words.{polygon_at, multi_point_at, multi_line_string_a
 use Rattle.wkb_view.specs.declared.counts.Counts.{Counts}
 use Rattle.wkb_view.specs.Outcome.{Spent, CanCount, Stops}
 use Rattle.wkb_view.specs.Members.{parts_behind}
-use Rattle.wkb_view.specs.Entries.{count_in}
+use Rattle.wkb_view.specs.Entries.{count_in, entries_asked, HasNoList}
 
 -- what was spent since the start and what is still to be read make up the whole
 pub record Leads {A : Type 0} (start now : Counts) (left whole : Reading A) : Type 0 where
@@ -178,6 +179,61 @@ module _ (l : Layout) (bytes : List ℕ) (n : ℕ) (old mid : Counts) (whole : b
       → IsList 6 l (member_at 3 l.dimension) (list_item l multi_polygon_with) bytes n old mid (multi_polygon_at l bytes)
   unfolding multi_polygon_at
   polygons_here = list_here 6 (member_at 3 l.dimension) (list_item l multi_polygon_with)
+
+-- A list whose count is cut short, or for whose entries memory is refused: its reading, where the count is there, costs
+-- the entries that were asked for.
+module _ (least : ℕ) (l : Layout) (bytes : List ℕ) where
+  abbrev has_no_count : Bool
+  has_no_count = ltb (length bytes) (body_start l.has_srid + 4)
+
+  asked_by : (b : Bool) (long : Reading Item) → has_no_count ≡ b → entries_asked least l bytes ≤ long.0.slots
+      → entries_asked least l bytes ≤ (cond b (refused end_of_input) long).0.slots
+  asked_by true long is asked = let cut = ltb-true (length bytes) (body_start l.has_srid + 4) is in omega (arith, cut)
+  asked_by false long is asked = asked
+
+  module _ (long : Reading Item) (asked : entries_asked least l bytes ≤ long.0.slots) where
+    abbrev list_or_cut : Reading Item
+    list_or_cut = cond has_no_count (refused end_of_input) long
+
+    pub entries_within : entries_asked least l bytes ≤ list_or_cut.0.slots
+    entries_within = asked_by _ long refl asked
+
+    pub list_refused : (refusal : Refusal) (old new : Counts) → HasNoList l bytes refusal → new.turns ≡ old.turns
+        → new.slots ≡ old.slots + entries_asked least l bytes → Stops refusal list_or_cut old new
+    list_refused (Fault cause) old new none turns slots =
+        let short : has_no_count ≡ true = lt-ltb _ _ none.1 in
+        rw (short, none.0) (refl, record { turns = omega (arith, turns); slots = omega (arith, slots, none.1) })
+    list_refused Memory old new none turns slots =
+        record { turns = omega (arith, turns); slots = omega (arith, slots, entries_within) }
+
+module _ (l : Layout) (bytes : List ℕ) where
+  pub rings_within : entries_asked 4 l bytes ≤ (polygon_at l bytes).0.slots
+  unfolding polygon_at
+  rings_within = entries_within 4 l bytes _ (omega (arith, parts_length l.has_srid bytes))
+
+  pub rings_refused : (refusal : Refusal) (old new : Counts) → HasNoList l bytes refusal → new.turns ≡ old.turns
+      → new.slots ≡ old.slots + entries_asked 4 l bytes → Stops refusal (polygon_at l bytes) old new
+  unfolding polygon_at
+  rings_refused = list_refused 4 l bytes _ (omega (arith, parts_length l.has_srid bytes))
+
+  pub line_strings_within : entries_asked 9 l bytes ≤ (multi_line_string_at l bytes).0.slots
+  unfolding multi_line_string_at
+  line_strings_within = entries_within 9 l bytes _ (omega (arith, parts_length l.has_srid bytes))
+
+  pub line_strings_refused : (refusal : Refusal) (old new : Counts) → HasNoList l bytes refusal
+      → new.turns ≡ old.turns
+      → new.slots ≡ old.slots + entries_asked 9 l bytes → Stops refusal (multi_line_string_at l bytes) old new
+  unfolding multi_line_string_at
+  line_strings_refused = list_refused 9 l bytes _ (omega (arith, parts_length l.has_srid bytes))
+
+  pub polygons_within : entries_asked 9 l bytes ≤ (multi_polygon_at l bytes).0.slots
+  unfolding multi_polygon_at
+  polygons_within = entries_within 9 l bytes _ (omega (arith, parts_length l.has_srid bytes))
+
+  pub polygons_refused : (refusal : Refusal) (old new : Counts) → HasNoList l bytes refusal → new.turns ≡ old.turns
+      → new.slots ≡ old.slots + entries_asked 9 l bytes → Stops refusal (multi_polygon_at l bytes) old new
+  unfolding multi_polygon_at
+  polygons_refused = list_refused 9 l bytes _ (omega (arith, parts_length l.has_srid bytes))
 
 -- where its bytes are there, a multi point is a list that asks for no entry
 pub points_here : (l : Layout) (bytes : List ℕ) (n s w : ℕ) (old : Counts) → body_start l.has_srid + 4 ≤ length bytes

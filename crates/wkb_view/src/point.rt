@@ -195,7 +195,11 @@ impl<'a> PointTrait for Point<'a> {
             (body_start (point_layout self.now).has_srid) (point_seen self.now).encoding) }
     {
         let words = self.words();
-        if words.is_all_nan() { None } else { Some(words) }
+        if words.is_all_nan() {
+            None
+        } else {
+            Some(words)
+        }
     }
 }
 

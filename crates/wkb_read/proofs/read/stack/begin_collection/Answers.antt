@@ -1,5 +1,11 @@
-use Rattle.wkb_read.proofs.Words.{◌≡◌, ◌+◌, [], length, refl, sym, arith, ap, ◌∙◌, drop-drop, body_start, cost_of}
-use Rattle.wkb_view.specs.Entries.{entries}
+use Rattle.wkb_read.proofs.Words.{◌≡◌, ◌+◌, ◌-◌, ◌<◌, ◌≤◌, ℕ, suc, List, [], length, false, refl, sym, arith}
+use Rattle.wkb_read.proofs.Words.{ap, ◌∙◌, drop-drop, Item, Reading, Layout, Counts, Stops, max_nesting}
+use Rattle.wkb_read.proofs.Words.{body_start, collection_at, collection_inside, cost_of}
+use Rattle.std.proofs.Common.{true}
+use Rattle.wkb_geom.specs.declared.error.Refusal.{Refusal}
+use Rattle.std.proofs.lemmas.Result.{err_from_is_err_and}
+use Rattle.wkb_view.proofs.Lists.{parts_length, entries_within, list_refused}
+use Rattle.wkb_view.specs.Entries.{entries, entries_asked, HasNoList}
 use Rattle.wkb_read.proofs.Placed.{closed, front_taken}
 use Rattle.wkb_read.proofs.Opens.{opens, without_members, first_begins, too_many_around}
 use Rattle.wkb_read.proofs.read.stack.begin_collection.Goals as goal
@@ -65,3 +71,46 @@ returns-then-depth-ge-MAX_WKB_NESTING_DEPTH-clause-begins c =
 
 pub returns-clause-no_memory : goal.returns-clause-no_memory
 returns-clause-no_memory c = λ short. absurd (omega (arith, short, c.in_ok-count.ensures.whole))
+
+module _ (l : Layout) (bytes : List ℕ) where
+  within : (member : List ℕ → Reading Item) → entries_asked 9 l bytes ≤ (collection_at member l bytes).0.slots
+  unfolding collection_at
+  within member = entries_within 9 l bytes _ (omega (arith, parts_length l.has_srid bytes))
+
+  refused : (member : List ℕ → Reading Item) (refusal : Refusal) (old new : Counts) → HasNoList l bytes refusal
+      → new.turns ≡ old.turns
+      → new.slots ≡ old.slots + entries_asked 9 l bytes → Stops refusal (collection_at member l bytes) old new
+  unfolding collection_at
+  refused member = list_refused 9 l bytes _ (omega (arith, parts_length l.has_srid bytes))
+
+  module _ (depth : ℕ) (shallow : depth < 128) where
+    level : max_nesting - depth ≡ suc (max_nesting - suc depth)
+    level = omega (arith, shallow)
+
+    members_within : entries_asked 9 l bytes ≤ (collection_inside depth l bytes).0.slots
+    members_within = rw level (within _)
+
+    members_refused : (refusal : Refusal) (old new : Counts) → HasNoList l bytes refusal → new.turns ≡ old.turns
+        → new.slots ≡ old.slots + entries_asked 9 l bytes → Stops refusal (collection_inside depth l bytes) old new
+    members_refused refusal old new none turns slots = rw level (refused _ refusal old new none turns slots)
+
+pub counted_list-requires-clause-fits : goal.counted_list-requires-clause-fits
+counted_list-requires-clause-fits c =
+    omega (
+      arith,
+      members_within c.args.layout c.args.bytes.now c.args.depth c.if-depth-ge-MAX_WKB_NESTING_DEPTH.false,
+      c.requires.fits.slots,
+    )
+
+pub returns-in_err-count-clause-begins : goal.returns-in_err-count-clause-begins
+returns-in_err-count-clause-begins c =
+    let stopped = err_from_is_err_and c.from_residual.result c.from_residual.ensures.1 in
+    rw (stopped.1, stopped.2)
+    (members_refused c.args.layout c.args.bytes.now c.args.depth c.if-depth-ge-MAX_WKB_NESTING_DEPTH.false
+    c.in_err-count.field-0.0 c.args.counts.now c.counted_list.new.counts
+    c.in_err-count.ensures.no_list c.counted_list.ensures.turns c.counted_list.ensures.slots)
+
+pub returns-in_err-count-clause-no_memory : goal.returns-in_err-count-clause-no_memory
+returns-in_err-count-clause-no_memory c = λ short.
+    let stopped = err_from_is_err_and c.from_residual.result c.from_residual.ensures.1 in
+    rw (stopped.1, stopped.2) (c.in_err-count.ensures.no_memory (omega (arith, short)))

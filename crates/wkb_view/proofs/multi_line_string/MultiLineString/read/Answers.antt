@@ -1,5 +1,7 @@
 use Rattle.std.proofs.Common.{◌-◌, length, length-take, arith}
-use Rattle.wkb_view.proofs.Lists.{parts_length, line_strings_here, list_fits, list_reads}
+use Rattle.std.proofs.lemmas.Result.{err_from_is_err_and}
+use Rattle.wkb_view.specs.Words.{Fault}
+use Rattle.wkb_view.proofs.Lists.{parts_length, line_strings_here, list_fits, list_reads, line_strings_within, line_strings_refused, list_stops}
 use Rattle.wkb_view.proofs.SpelledRead.{body_spelled}
 use Rattle.wkb_view.proofs.multi_line_string.MultiLineString.read.Goals as goal
 
@@ -36,3 +38,33 @@ pass_line_strings-requires-clause-fits c =
     (line_strings_here c.args.layout c.args.bytes.now _ c.args.counts.now c.counted_list.new.counts
     c.in_ok-count.ensures.whole c.in_ok-count.ensures.count
     c.counted_list.ensures.turns c.counted_list.ensures.slots) c.requires.fits
+
+pub counted_list-requires-clause-fits : goal.counted_list-requires-clause-fits
+counted_list-requires-clause-fits c =
+    omega (arith, line_strings_within c.args.layout c.args.bytes.now, c.requires.fits.slots)
+
+pub returns-in_err-count-clause-answer : goal.returns-in_err-count-clause-answer
+returns-in_err-count-clause-answer c =
+    let stopped = err_from_is_err_and c.from_residual.result c.from_residual.ensures.1 in
+    rw (stopped.1, stopped.2)
+    (line_strings_refused c.args.layout c.args.bytes.now c.in_err-count.field-0.0 c.args.counts.now c.counted_list.new.counts
+    c.in_err-count.ensures.no_list c.counted_list.ensures.turns c.counted_list.ensures.slots)
+
+pub returns-in_err-count-clause-no_memory : goal.returns-in_err-count-clause-no_memory
+returns-in_err-count-clause-no_memory c = λ none.
+    let stopped = err_from_is_err_and c.from_residual.result c.from_residual.ensures.1 in
+    rw (stopped.1, stopped.2)
+    (c.in_err-count.ensures.no_memory (omega (arith, none, line_strings_within c.args.layout c.args.bytes.now)))
+
+pub returns-in_err-ends-clause-answer : goal.returns-in_err-ends-clause-answer
+returns-in_err-ends-clause-answer c =
+    let p = err_from_is_err_and c.from_residual-in_err-ends.result c.from_residual-in_err-ends.ensures.1 in
+    rw (p.1, p.2) (list_stops (Fault c.in_err-ends.field-0.0) _
+    (line_strings_here c.args.layout c.args.bytes.now _ c.args.counts.now c.counted_list.new.counts
+    c.in_ok-count.ensures.whole c.in_ok-count.ensures.count
+    c.counted_list.ensures.turns c.counted_list.ensures.slots) c.in_err-ends.ensures.line_strings)
+
+pub returns-in_err-ends-clause-no_memory : goal.returns-in_err-ends-clause-no_memory
+returns-in_err-ends-clause-no_memory c = λ none.
+    let p = err_from_is_err_and c.from_residual-in_err-ends.result c.from_residual-in_err-ends.ensures.1 in
+    rw (p.1, p.2) tt
