@@ -57,8 +57,8 @@ fn summary_of(header: Header, buf: &[u8], walk: Walk, rest: &[u8]) -> Summary
     }
 }
 
-/// What stands at the front of the bytes, where it is no collection and nothing refuses it. Where there is none, `check`
-/// tells what there is.
+/// What stands at the front of the bytes, where it is no collection and nothing refuses it. Where nothing is found,
+/// `check` tells what there is.
 ///
 /// It lends nothing to a call that stays one, so that all it counts is in registers.
 #[inline(always)]

@@ -49,7 +49,8 @@ pub fn line_string_bytes<'a>(multi: &MultiLineString<'a>, i: usize) -> Option<&'
     }
 }
 
-/// The bytes of a polygon of a multi polygon, if there is one of this index: at its place in those of the multi polygon.
+/// The bytes of a polygon of a multi polygon, if there is one of this index: at its place in those of the multi
+/// polygon.
 pub fn polygon_bytes<'a>(multi: &MultiPolygon<'a>, i: usize) -> Option<&'a [u8]>
     ensures { IfSome result (λ bytes. LendsMember (whole_of multi_polygon multi.now) i bytes.now) }
 {

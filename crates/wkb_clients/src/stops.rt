@@ -81,7 +81,7 @@ impl Stop {
     /// The words that are read again once the stop is written: its own.
     ///
     /// None where both are not-a-numbers, since an empty point is written so.
-    pub fn read_again(&self, alloc: Global, options: &WriteOptions) -> WkbResult<Option<(u64, u64)>>
+    pub fn round_trip(&self, alloc: Global, options: &WriteOptions) -> WkbResult<Option<(u64, u64)>>
         ensures { IfOk result (λ found. MatchOption found (all_nan (stop_words self.now) ≡ true)
             (λ words. words ≡ (self.now.x, self.now.y))) }
     {

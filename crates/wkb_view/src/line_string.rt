@@ -59,7 +59,7 @@ impl<'a> LineString<'a> {
         requires { i ≤ length (line_string_coordinates self.now) }
         ensures { result ≡ line_string_offset self.now i }
     {
-        self.layout.header_length() as u64 + self.ring().coord_offset(i)
+        self.layout.header_length() as u64 + self.as_ring().coord_offset(i)
     }
 
     /// Its dimension.
@@ -98,7 +98,7 @@ impl<'a> LineString<'a> {
 
     /// Its count and its coordinates, as a ring has them.
     #[inline]
-    fn ring(&self) -> LinearRing<'a>
+    fn as_ring(&self) -> LinearRing<'a>
         ensures encoding { ring_encoding result
             ≡ drop (body_start (line_string_layout self.now).has_srid)
             (line_string_seen self.now).encoding }
@@ -219,7 +219,7 @@ impl<'a> LineStringTrait for LineString<'a> {
             ≡ coordinate_encoding (line_string_layout self.now).dimension
             (line_string_offset self.now i) (line_string_seen self.now).encoding) }
     {
-        self.ring().coord(i)
+        self.as_ring().coord(i)
     }
 
     #[inline]
@@ -233,7 +233,7 @@ impl<'a> LineStringTrait for LineString<'a> {
             ≡ coordinate_encoding (line_string_layout self.now).dimension
             (line_string_offset self.now i) (line_string_seen self.now).encoding }
     {
-        self.ring().coord_at(i)
+        self.as_ring().coord_at(i)
     }
 }
 

@@ -1,7 +1,8 @@
 use Rattle.std.proofs.Common.{◌-◌, length, length-take, arith}
 use Rattle.std.proofs.lemmas.Result.{err_from_is_err_and}
 use Rattle.wkb_view.specs.Words.{Fault}
-use Rattle.wkb_view.proofs.Lists.{parts_length, line_strings_here, list_fits, list_reads, line_strings_within, line_strings_refused, list_stops}
+use Rattle.wkb_view.proofs.Lists.{parts_length, line_strings_here, list_fits, list_reads, list_stops}
+use Rattle.wkb_view.proofs.Lists.{line_strings_within, line_strings_refused}
 use Rattle.wkb_view.proofs.SpelledRead.{body_spelled}
 use Rattle.wkb_view.proofs.multi_line_string.MultiLineString.read.Goals as goal
 
@@ -47,7 +48,8 @@ pub returns-in_err-count-clause-answer : goal.returns-in_err-count-clause-answer
 returns-in_err-count-clause-answer c =
     let stopped = err_from_is_err_and c.from_residual.result c.from_residual.ensures.1 in
     rw (stopped.1, stopped.2)
-    (line_strings_refused c.args.layout c.args.bytes.now c.in_err-count.field-0.0 c.args.counts.now c.counted_list.new.counts
+    (line_strings_refused c.args.layout c.args.bytes.now c.in_err-count.field-0.0 c.args.counts.now
+    c.counted_list.new.counts
     c.in_err-count.ensures.no_list c.counted_list.ensures.turns c.counted_list.ensures.slots)
 
 pub returns-in_err-count-clause-no_memory : goal.returns-in_err-count-clause-no_memory

@@ -1,7 +1,8 @@
 use Rattle.std.specs.List.{AllByRecursion}
 use Rattle.std.proofs.Common.{◌≡◌, subst, sym, ◌-◌, length, length-take, arith}
 use Rattle.std.proofs.lemmas.Result.{err_from_is_err_and}
-use Rattle.wkb_view.proofs.Lists.{parts_length, polygons_here, list_fits, list_reads, list_stops, polygons_within, polygons_refused}
+use Rattle.wkb_view.proofs.Lists.{parts_length, polygons_here, list_fits, list_reads, list_stops}
+use Rattle.wkb_view.proofs.Lists.{polygons_within, polygons_refused}
 use Rattle.wkb_view.proofs.SpelledRead.{body_spelled}
 use Rattle.wkb_view.proofs.multi_polygon.MultiPolygon.read.Goals as goal
 
@@ -61,7 +62,8 @@ pub returns-in_err-count-clause-answer : goal.returns-in_err-count-clause-answer
 returns-in_err-count-clause-answer c =
     let stopped = err_from_is_err_and c.from_residual.result c.from_residual.ensures.1 in
     rw (stopped.1, stopped.2)
-    (polygons_refused c.args.layout c.args.bytes.now c.in_err-count.field-0.0 c.args.counts.now c.counted_list.new.counts
+    (polygons_refused c.args.layout c.args.bytes.now c.in_err-count.field-0.0 c.args.counts.now
+    c.counted_list.new.counts
     c.in_err-count.ensures.no_list c.counted_list.ensures.turns c.counted_list.ensures.slots)
 
 pub returns-in_err-count-clause-no_memory : goal.returns-in_err-count-clause-no_memory

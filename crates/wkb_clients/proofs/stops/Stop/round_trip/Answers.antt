@@ -4,7 +4,7 @@ use Rattle.wkb_clients.specs.Common.{kind, words_seen, point_seen}
 use Rattle.wkb_clients.specs.Stops.{stop_words}
 use Rattle.wkb_clients.proofs.KindsHanded.{not_point}
 use Rattle.wkb_clients.proofs.PointRead.{value_read, empty_is, words_are}
-use Rattle.wkb_clients.proofs.stops.Stop.read_again.Goals as goal
+use Rattle.wkb_clients.proofs.stops.Stop.round_trip.Goals as goal
 
 pub returns-in_default : goal.returns-in_default
 returns-in_default c =
