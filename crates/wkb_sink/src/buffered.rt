@@ -128,23 +128,6 @@ impl<'a, S: Sink> Buffered<'a, S> {
         Ok(())
     }
 
-    /// Puts a header of this code.
-    #[tactic(auto, using(crate::proofs::Steps::step_laws))]
-    pub fn put_header(
-        &mut self,
-        order: Endianness,
-        form: Form,
-        kind: WkbType,
-    ) -> Result<(), Stopped>
-        requires working { S.has_failed self.old.sink.now ≡ false }
-        ensures { Lays S.Sink self.old self.new
-            (header_encoding order form (type_kind kind) (type_dimension kind)) result }
-    {
-        self.make_room(LONGEST_HEADER)?;
-        lay_header(&mut self.block, order, form, kind);
-        Ok(())
-    }
-
     /// Puts a header of this code, and a count.
     #[tactic(auto, using(crate::proofs::Steps::step_laws, crate::proofs::Behind::behind))]
     pub fn put_head(

@@ -115,15 +115,24 @@ fn store_words(bytes: &mut [u8], lent: &[u8], held: Endianness, order: Endiannes
     }
 }
 
+// The order that isn't this one. Coordinates that are lent in this one are put as they are.
+#[inline(always)]
+fn other(order: Endianness) -> Endianness {
+    match order {
+        Endianness::BigEndian => Endianness::LittleEndian,
+        Endianness::LittleEndian => Endianness::BigEndian,
+    }
+}
+
 /// Stores the coordinates between two places one after another, and answers how many bytes they take: out of the bytes
-/// that hold them in the other order, where the line lends those, and else one by one.
+/// that hold them in the other order, where the line lends those, and else one by one. The order is known where it is
+/// inlined.
 #[inline(always)]
 fn store_in<L: LineStringTrait>(
     bytes: &mut [u8],
     line: &L,
     from: usize,
     to: usize,
-    other: Endianness,
     order: Endianness,
 ) -> usize
     requires order { from ≤ to }
@@ -136,9 +145,10 @@ fn store_in<L: LineStringTrait>(
         ≡ flat_map (words_encoding order) (drop from (take to (L.coordinates line.now))) }
 {
     let width = line.dim().size();
-    if let Some(all) = line.standing(other) {
+    let held = other(order);
+    if let Some(all) = line.standing(held) {
         let lent = items_between(all, WORD * width, from, to);
-        store_words(bytes, lent, other, order);
+        store_words(bytes, lent, held, order);
         lent.len()
     } else if width == 2 {
         store_run(bytes, line, from, to, order, 2)
@@ -166,25 +176,7 @@ pub fn store_coordinates<L: LineStringTrait>(
         ≡ flat_map (words_encoding order) (drop from (take to (L.coordinates line.now))) }
 {
     match order {
-        Endianness::BigEndian => {
-            store_in(
-                bytes,
-                line,
-                from,
-                to,
-                Endianness::LittleEndian,
-                Endianness::BigEndian,
-            )
-        }
-        Endianness::LittleEndian => {
-            store_in(
-                bytes,
-                line,
-                from,
-                to,
-                Endianness::BigEndian,
-                Endianness::LittleEndian,
-            )
-        }
+        Endianness::BigEndian => store_in(bytes, line, from, to, Endianness::BigEndian),
+        Endianness::LittleEndian => store_in(bytes, line, from, to, Endianness::LittleEndian),
     }
 }

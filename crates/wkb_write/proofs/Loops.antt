@@ -3,7 +3,7 @@ use Rattle.wkb_write.proofs.Prelude.{◌≡◌, ℕ, zero, suc, ◌+◌, ◌<◌
 use Rattle.wkb_write.proofs.Prelude.{sym, subst, ap, ◌∙◌, append_assoc, append-nil, take_all, take-append-drop}
 use Rattle.wkb_write.proofs.Prelude.{slice_get, add-one, map, get_or, Result, flat_map, length-map, get_or-map}
 use Rattle.wkb_write.proofs.Prelude.{take-take, slice_get_read, slice_get-get_or, Stopped, flat_map-append, Endianness}
-use Rattle.wkb_write.proofs.Prelude.{Form, Dimension, Dimensions, Option, None, number_bytes, coordinates_encoding}
+use Rattle.wkb_write.proofs.Prelude.{Form, Dimension, Dimensions, Option, None, number_bytes}
 use Rattle.wkb_write.proofs.Prelude.{words_encoding, header_encoding, members_encoding, counted, Progress, IsLaid}
 use Rattle.wkb_write.proofs.Prelude.{IsCut, Advances, Ok, Err}
 use Rattle.std.specs.Prelude.{IfSome}
@@ -16,30 +16,21 @@ flat_map_parts : {X : Type 0} (f : X → List ℕ) (xs : List X) (i : ℕ)
     → flat_map f xs ≡ flat_map f (take i xs) ++ flat_map f (drop i xs)
 flat_map_parts f xs i = ap (flat_map f) (sym (take-append-drop i xs)) ∙ flat_map-append f (take i xs) (drop i xs)
 
--- the count of these coordinates, and the first of them were laid
+-- the first of these coordinates were laid
 pub record HasRun (a b : Progress) (order : Endianness) (cs : List (List ℕ)) (i : ℕ) : Type 0 where
-  pub laid : IsLaid a b (number_bytes order 4 (length cs) ++ flat_map (words_encoding order) (take i cs))
-
-pub no_run : {a b : Progress} {order : Endianness} {cs : List (List ℕ)} (n : ℕ) → n ≡ length cs
-    → IsLaid a b (number_bytes order 4 n) → HasRun a b order cs 0
-no_run n is p = record { laid = rw (← is, append-nil) p }
+  pub laid : IsLaid a b (flat_map (words_encoding order) (take i cs))
 
 module _ {a b : Progress} {order : Endianness} {cs : List (List ℕ)} {i : ℕ} where
   pub next_run : {c : Progress} {j : ℕ} → HasRun a b order cs i → i ≤ j
       → IsLaid b c (flat_map (words_encoding order) (drop i (take j cs))) → HasRun a c order cs j
   next_run {j = j} p h q =
-      record {
-        laid = rw (flat_map_parts (words_encoding order) (take j cs) i, take-take i j cs h, ← append_assoc)
-            (laid_then p.laid q);
-      }
+      record { laid = rw (flat_map_parts (words_encoding order) (take j cs) i, take-take i j cs h) (laid_then p.laid q) }
 
-  pub whole_run : HasRun a b order cs i → length cs ≤ i → IsLaid a b (coordinates_encoding order cs)
-  unfolding coordinates_encoding
+  pub whole_run : HasRun a b order cs i → length cs ≤ i → IsLaid a b (flat_map (words_encoding order) cs)
   whole_run p past = rw take_all at p.laid
 
-  pub run_cut : {c : Progress} → HasRun a b order cs i → IsCut b c [] → IsCut a c (coordinates_encoding order cs)
-  unfolding coordinates_encoding
-  run_cut p q = rw (flat_map_parts (words_encoding order) cs i, ← append_assoc) (cut_then p.laid (cut_first _ q))
+  pub run_cut : {c : Progress} → HasRun a b order cs i → IsCut b c [] → IsCut a c (flat_map (words_encoding order) cs)
+  run_cut p q = rw (flat_map_parts (words_encoding order) cs i) (cut_then p.laid (cut_first _ q))
 
 -- a header, a count and the encodings of items, told by the items
 pub lays_counted : {X : Type 0} (a b : Progress) (r : Result (Unit {0}) Stopped) (order : Endianness) (header : List ℕ)
@@ -140,7 +131,6 @@ pub ruleset loop_laws = (
   all_laid,
   next_cut,
   head_cut,
-  no_run,
   next_run,
   whole_run,
   run_cut,

@@ -1,7 +1,8 @@
 //! A line string: its coordinates, which a ring has too.
 
 ghost use Rattle.std.specs.Prelude.{◌≡◌, ◌<◌, ◌^◌, None, false, length};
-ghost use Rattle.wkb_write.specs.Words.{Iso, line_string, coordinates_fault, coordinates_encoding};
+ghost use Rattle.std.specs.List.{flat_map};
+ghost use Rattle.wkb_write.specs.Words.{Iso, line_string, coordinates_fault, words_encoding};
 ghost use Rattle.wkb_write.specs.Words.{dimensions_fault, Lays, IsSizeOf, WritesTo, ring_bytes};
 ghost use Rattle.wkb_write.specs.Words.{Measures};
 
@@ -22,8 +23,8 @@ pub fn measure_coordinates<L: LineStringTrait>(line: &L) -> Result<usize, Fault>
     Ok(4 + words_size(line.dim(), count))
 }
 
-/// Puts the coordinates of a line string or a ring, after their count.
-#[tactic(auto, using(crate::proofs::Steps::step_laws), unfolding(wkb_geom::specs::Encodings::coordinates_encoding))]
+/// Puts the coordinates of a line string or a ring.
+#[tactic(auto, using(crate::proofs::Steps::step_laws))]
 pub fn put_coordinates<S: Sink, L: LineStringTrait>(
     out: &mut Buffered<'_, S>,
     line: &L,
@@ -33,11 +34,10 @@ pub fn put_coordinates<S: Sink, L: LineStringTrait>(
     requires count { length (L.coordinates line.now) < 2 ^ 32 }
     requires working { S.has_failed out.old.sink.now ≡ false }
     ensures { Lays S.Sink out.old out.new
-        (coordinates_encoding order (L.coordinates line.now)) result }
+        (flat_map (words_encoding order) (L.coordinates line.now)) result }
 {
     let count = line.num_coords();
     let bytes = 8 * line.dim().size();
-    out.put_count(order, count as u32)?;
     if let Some(bytes) = line.standing(order) {
         return out.put_bytes(bytes);
     }
@@ -72,7 +72,7 @@ impl<L: LineStringTrait> Writable<L> for LineStringKind {
 
     fn put<S: Sink>(out: &mut Buffered<'_, S>, geom: &L, order: Endianness, form: Form) -> Put {
         let kind = WkbType::LineString(dimension_to_write(geom.dim()));
-        out.put_header(order, form, kind)?;
+        out.put_head(order, form, kind, geom.num_coords() as u32)?;
         put_coordinates(out, geom, order)
     }
 }

@@ -8,8 +8,8 @@ use crate::common::*;
 use crate::items::{Items, measure_items, put_items};
 use crate::line_string::{measure_coordinates, put_coordinates};
 use crate::measure::behind_header;
-use wkb_geom::PolygonTrait;
 use wkb_geom::rings::{nth_ring, ring_count};
+use wkb_geom::{LineStringTrait, PolygonTrait};
 
 /// A polygon.
 pub struct PolygonKind;
@@ -55,7 +55,9 @@ impl<P: PolygonTrait> Items<P> for PolygonKind {
         order: Endianness,
         _form: Form,
     ) -> Put {
-        put_coordinates(out, &nth_ring(geom, i), order)
+        let ring = nth_ring(geom, i);
+        out.put_count(order, ring.num_coords() as u32)?;
+        put_coordinates(out, &ring, order)
     }
 }
 
