@@ -75,14 +75,13 @@ fn put_through<S: Sink, G, K: Writable<G>>(
     writer: &mut S,
     bytes: &mut [u8],
     geom: &G,
-    order: Endianness,
-    form: Form,
+    options: &WriteOptions,
 ) -> Result<(), Option<io::Error>>
     requires least { LEAST ≤ length bytes.old }
     requires fault { fault (K.geometry geom.now) ≡ None }
     requires working { S.has_failed writer.old ≡ false }
     ensures { PutsTo S.Sink writer.old writer.new
-        (encoding order form (K.geometry geom.now)) result }
+        (encoding_of options.now (K.geometry geom.now)) result }
 {
     let error = None;
     let block = Block::over(bytes);
@@ -91,7 +90,7 @@ fn put_through<S: Sink, G, K: Writable<G>>(
         block,
         error,
     };
-    let put = match K::put(&mut out, geom, order, form) {
+    let put = match K::put(&mut out, geom, options.endianness, options.form) {
         Ok(()) => out.flush(),
         Err(Stopped) => Err(Stopped),
     };
@@ -115,29 +114,6 @@ fn failure(put: Put, error: Option<io::Error>) -> Result<(), Option<io::Error>>
     }
 }
 
-// Puts a geometry that has no fault, by a block for the size of its encoding.
-#[inline(always)]
-fn put_sized<S: Sink, G, K: Writable<G>>(
-    writer: &mut S,
-    geom: &G,
-    options: &WriteOptions,
-    size: usize,
-) -> Result<(), Option<io::Error>>
-    requires fault { fault (K.geometry geom.now) ≡ None }
-    requires working { S.has_failed writer.old ≡ false }
-    ensures { PutsTo S.Sink writer.old writer.new
-        (encoding_of options.now (K.geometry geom.now)) result }
-{
-    let WriteOptions { endianness, form } = *options;
-    if size <= SHORT {
-        let mut bytes = [0; SMALL];
-        put_through::<S, G, K>(writer, &mut bytes, geom, endianness, form)
-    } else {
-        let mut bytes = [0; LARGE];
-        put_through::<S, G, K>(writer, &mut bytes, geom, endianness, form)
-    }
-}
-
 /// The size of a geometry of a kind, under the form.
 #[inline(always)]
 pub fn size_as<G, K: Writable<G>>(geom: &G, form: Form) -> WkbResult<usize>
@@ -158,7 +134,10 @@ pub fn write_as<S: Sink, G, K: Writable<G>>(
 {
     let measured = K::measure(geom);
     match whole_size(measured, options.form) {
-        Ok(size) => wkb_result(put_sized::<S, G, K>(writer, geom, options, size)),
+        Ok(size) if size <= SHORT => {
+            wkb_result(put_through::<S, G, K>(writer, &mut [0; SMALL], geom, options))
+        }
+        Ok(_) => wkb_result(put_through::<S, G, K>(writer, &mut [0; LARGE], geom, options)),
         Err(fault) => refuse(fault),
     }
 }
@@ -204,7 +183,12 @@ pub fn vec_as<G, K: Writable<G>>(
         Err(fault) => return refuse(fault),
     };
     let mut sink = VecSink::with_capacity(alloc, size)?;
-    match put_sized::<VecSink, G, K>(&mut sink, geom, options, size) {
+    let put = if size <= SHORT {
+        put_through::<VecSink, G, K>(&mut sink, &mut [0; SMALL], geom, options)
+    } else {
+        put_through::<VecSink, G, K>(&mut sink, &mut [0; LARGE], geom, options)
+    };
+    match put {
         Ok(()) => Ok(sink.into_vec()),
         // This sink fails only for want of memory.
         Err(_) => Err(WkbError::from(AllocError)),
