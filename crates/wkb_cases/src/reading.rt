@@ -153,13 +153,6 @@ pub fn as_line_string<'a>(wkb: &Wkb<'a>) -> Result<LineString<'a>, Fail> {
     }
 }
 
-pub fn as_multi_point<'a>(wkb: &Wkb<'a>) -> Result<MultiPoint<'a>, Fail> {
-    match view_of(wkb) {
-        View::MultiPoint(multi_point) => Ok(*multi_point),
-        _ => Err(Fail::new("not a multi point")),
-    }
-}
-
 pub fn as_polygon<'v, 'a>(wkb: &'v Wkb<'a>) -> Result<&'v Polygon<'a>, Fail> {
     match view_of(wkb) {
         View::Polygon(polygon) => Ok(polygon),

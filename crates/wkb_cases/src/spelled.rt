@@ -37,7 +37,7 @@ impl Spelled {
         self.len
     }
 
-    pub fn push(&mut self, byte: u8) -> Result<(), Fail> {
+    fn push(&mut self, byte: u8) -> Result<(), Fail> {
         self.extend_from_slice(&[byte])
     }
 

@@ -21,7 +21,7 @@ pub const MIXED_DIMENSIONS: &str = "01 07000000 02000000
 const ONE_MEMBER: &str = "01 07000000 01000000";
 
 /// A point of two zeros.
-pub const ZEROS: &str = "01 01000000 0000000000000000 0000000000000000";
+const ZEROS: &str = "01 01000000 0000000000000000 0000000000000000";
 
 /// So many collections, one in the other, round a point.
 pub fn nested_in(levels: usize) -> Result<Spelled, Fail> {

@@ -18,20 +18,14 @@ const TWO_MEMBERS: &str =
 const TWO_MEMBERS_EWKB: &str =
     "01 07000000 02000000 01 01000080 P 0000000000000840 01 03000000 00000000";
 
-/// The program's line on the cost of a geometry of one part, and of two.
-const COST_OF_ONE: &str = "accepted turns 1 slots 1\n";
-
-const COST_OF_TWO: &str = "accepted turns 2 slots 2\n";
-
 /// An input without an SRID of its own, its encodings under ISO and EWKB, little endian, and what reading it costs: as
-/// many turns as slots, and how the program says so.
+/// many turns as slots.
 #[derive(Drop)]
 pub struct Case {
     pub input: Spelled,
     pub iso: Spelled,
     pub ewkb: Spelled,
     pub turns: u128,
-    pub cost: &'static str,
 }
 
 /// How many cases there are.
@@ -40,35 +34,25 @@ pub const CASES: usize = 5;
 /// A case by its number.
 pub fn case_at(number: usize) -> Result<Case, Fail> {
     match number {
-        0 => case_of([POLYGON_HOLE, POLYGON_HOLE, POLYGON_HOLE], 2, COST_OF_TWO),
-        1 => case_of(
-            [MULTI_POLYGON, MULTI_POLYGON, MULTI_POLYGON],
-            1,
-            COST_OF_ONE,
-        ),
-        2 => case_of([MULTI_LINE_TWO, TWO_LINES, TWO_LINES], 2, COST_OF_TWO),
-        3 => case_of(
-            [MIXED_DIMENSIONS, TWO_MEMBERS, TWO_MEMBERS_EWKB],
-            2,
-            COST_OF_TWO,
-        ),
+        0 => case_of([POLYGON_HOLE, POLYGON_HOLE, POLYGON_HOLE], 2),
+        1 => case_of([MULTI_POLYGON, MULTI_POLYGON, MULTI_POLYGON], 1),
+        2 => case_of([MULTI_LINE_TWO, TWO_LINES, TWO_LINES], 2),
+        3 => case_of([MIXED_DIMENSIONS, TWO_MEMBERS, TWO_MEMBERS_EWKB], 2),
         _ => Ok(Case {
             input: nested_in(128)?,
             iso: nested_in(128)?,
             ewkb: nested_in(128)?,
             turns: 128,
-            cost: "accepted turns 128 slots 128\n",
         }),
     }
 }
 
-fn case_of(texts: [&str; 3], turns: u128, cost: &'static str) -> Result<Case, Fail> {
+fn case_of(texts: [&str; 3], turns: u128) -> Result<Case, Fail> {
     let [input, iso, ewkb] = texts;
     Ok(Case {
         input: bytes(input)?,
         iso: bytes(iso)?,
         ewkb: bytes(ewkb)?,
         turns,
-        cost,
     })
 }

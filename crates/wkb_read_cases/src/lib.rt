@@ -24,8 +24,6 @@ mod program;
 #[cfg(test)]
 mod reading;
 #[cfg(test)]
-mod rewriting;
-#[cfg(test)]
 mod views;
 #[cfg(test)]
 mod without_memory;

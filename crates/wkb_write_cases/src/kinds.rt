@@ -12,7 +12,7 @@ use wkb::geom::{
     Coord, Dimensioned, Dimensions, Geometry, LineString, MultiLineString, Point, Polygon, Rect,
 };
 use wkb::writer::{
-    Sink, WriteOptions, geometry_collection_wkb_size, geometry_wkb_size, line_string_wkb_size,
+    Sink, WriteOptions, geometry_collection_wkb_size, geometry_wkb_size_with, line_string_wkb_size,
     line_wkb_size, multi_line_string_wkb_size, multi_point_wkb_size, multi_polygon_wkb_size,
     point_wkb_size, polygon_wkb_size, rect_wkb_size, triangle_wkb_size, write_geometry,
     write_geometry_collection, write_line, write_line_string, write_multi_line_string,
@@ -36,7 +36,7 @@ pub enum Kind {
     Rect,
     Triangle,
     Line,
-    /// A point by `geometry_wkb_size` and `write_geometry`.
+    /// A point by `geometry_wkb_size_with` and `write_geometry`.
     Any,
 }
 
@@ -217,9 +217,9 @@ pub fn put_any<S: Sink>(
     write_geometry(sink, geometry, options)
 }
 
-/// The size of any geometry in ISO codes.
-pub fn iso_size(geometry: &Geometry<'_>) -> WkbResult<usize> {
-    geometry_wkb_size(geometry)
+/// The size of any geometry.
+pub fn any_size(geometry: &Geometry<'_>, options: &WriteOptions) -> WkbResult<usize> {
+    geometry_wkb_size_with(geometry, options)
 }
 
 /// Puts a geometry by the writer of its kind.
@@ -266,7 +266,10 @@ pub fn answers_of<S: Sink>(sink: &mut S, kind: Kind, geometry: &Geometry<'_>) ->
 {
     let options = iso(Endianness::LittleEndian);
     let (size, written) = match kind {
-        Kind::Any => (iso_size(geometry), put_any(sink, geometry, &options)),
+        Kind::Any => (
+            any_size(geometry, &options),
+            put_any(sink, geometry, &options),
+        ),
         _ => (
             size_by_kind(geometry),
             put_by_kind(sink, geometry, &options),

@@ -1,12 +1,12 @@
 //! Points, rectangles and collections of a caller's own, as bytes.
 
-use crate::kinds::{RECT, iso_size, put_any, put_point, put_rect, rect_size};
+use crate::kinds::{RECT, any_size, put_any, put_point, put_rect, rect_size};
 use std::alloc::{AllocError, Global};
 use std::test::Fail;
 use wkb::Endianness;
 use wkb::error::WkbResult;
 use wkb::geom::{Dimensions, Geometry, LineString, LineStringTrait, Point, Rect};
-use wkb::writer::{Out, SliceSink, VecSink, WriteOptions, geometry_wkb_size_with};
+use wkb::writer::{Out, SliceSink, VecSink, WriteOptions};
 use wkb_cases::reading::{Outcome, answer_to, words};
 use wkb_cases::spelled::{Spelled, bytes};
 use wkb_cases::support::{
@@ -111,17 +111,12 @@ fn is_rect(alloc: Global, rect: Rect<'_>) -> Result<bool, Fail> {
     Ok(sink.into_vec().as_slice() == expected.as_slice() && rect_size(&rect)? == 93)
 }
 
-// The size of a geometry under EWKB.
-fn ewkb_size(geometry: &Geometry<'_>, srid: Option<u32>) -> WkbResult<usize> {
-    geometry_wkb_size_with(geometry, &ewkb(srid))
-}
-
 // Its sizes under EWKB, with an SRID and without.
 fn ewkb_sizes(rect: Rect<'_>) -> WkbResult<(usize, usize)> {
     let geometry = Geometry::Rect(rect);
     Ok((
-        ewkb_size(&geometry, Some(4326))?,
-        ewkb_size(&geometry, None)?,
+        any_size(&geometry, &ewkb(Some(4326)))?,
+        any_size(&geometry, &ewkb(None))?,
     ))
 }
 
@@ -138,9 +133,10 @@ fn rect(rt: HostRuntime) -> Result<(), Fail> {
 
 // The size of a geometry, and its encoding.
 fn size_and_encoding(alloc: Global, geometry: &Geometry<'_>) -> WkbResult<(usize, Vec<u8>)> {
-    let size = iso_size(geometry)?;
+    let options = iso(Endianness::LittleEndian);
+    let size = any_size(geometry, &options)?;
     let mut sink = VecSink::new(alloc);
-    put_any(&mut sink, geometry, &iso(Endianness::LittleEndian))?;
+    put_any(&mut sink, geometry, &options)?;
     Ok((size, sink.into_vec()))
 }
 
