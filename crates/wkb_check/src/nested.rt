@@ -63,7 +63,7 @@ impl OpenCounts {
 
     /// Closes each collection that has all its members. Whether one is left, whose next member begins.
     #[inline]
-    fn close_finished(&mut self) -> bool
+    fn next_member(&mut self) -> bool
         requires depth { self.old.depth ≤ 128 }
         requires len { length self.old.left ≡ 128 }
         ensures settled { IsSettled (open_counts self.old.left self.old.depth)
@@ -101,7 +101,7 @@ fn skip_collection<'a>(outermost: Header, buf: &'a [u8], walk: &mut Walk) -> Res
             Ok(rest) => bytes = rest,
             Err(cause) => return Err(cause),
         }
-        if !open.close_finished() {
+        if !open.next_member() {
             return Ok(bytes);
         }
         walk.turns += 1;

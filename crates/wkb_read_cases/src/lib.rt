@@ -1,12 +1,14 @@
 //! What can't be a row of the worked cases of reading: what outlives a geometry, views as geometries, cut inputs, what
-//! clients answer, printed texts, and the calls that take memory, as tests of public calls. The bytes and numbers that
-//! they expect were written down before the program ran.
+//! clients answer, printed texts, and readings, clones and hex calls that take memory, as tests of public calls. The
+//! bytes and numbers that they expect were written down before the program ran.
 //!
 //! The inputs of the calls that take memory take none, so that each growth which the call under test asks for can be
 //! refused in turn: `memory/run wkb_read_cases` does that. A test in which a growth was refused ends with that error and
 //! no other, and one in which none was passes.
 #![tactic(auto)]
 
+#[cfg(test)]
+mod calls;
 #[cfg(test)]
 mod cases;
 #[cfg(test)]
@@ -19,8 +21,6 @@ mod cut_inputs;
 mod equality;
 #[cfg(test)]
 mod printed;
-#[cfg(test)]
-mod program;
 #[cfg(test)]
 mod reading;
 #[cfg(test)]

@@ -17,7 +17,7 @@ returns-in-Err-read c =
     (finishes c.loop-rest.open.left c.skip_or_open.new.self.left c.loop-rest.open.depth c.skip_or_open.new.self.depth
     _ _ _ _ _ _ _
     c.loop-rest.invariant.reaches c.in-Ok.ensures.begins)
-    c.if-not-close_finished.ensures.len c.if-not-close_finished.ensures.depth c.if-not-close_finished.ensures.settled
+    c.if-not-next_member.ensures.len c.if-not-next_member.ensures.depth c.if-not-next_member.ensures.settled
     _ c.in-Err-read.ensures
 
 pub loop-rest-smaller : goal.loop-rest-smaller
@@ -29,8 +29,8 @@ loop-rest-smaller c =
           (finishes c.loop-rest.open.left c.skip_or_open.new.self.left c.loop-rest.open.depth
           c.skip_or_open.new.self.depth _ _ _ _ _ _ _
           c.loop-rest.invariant.reaches c.in-Ok.ensures.begins)
-          c.if-not-close_finished.ensures.len c.if-not-close_finished.ensures.depth
-          c.if-not-close_finished.ensures.settled,
+          c.if-not-next_member.ensures.len c.if-not-next_member.ensures.depth
+          c.if-not-next_member.ensures.settled,
     )
 
 pub loop-rest-preserved : goal.loop-rest-preserved
@@ -39,9 +39,9 @@ loop-rest-preserved c = record {
       (finishes c.loop-rest.open.left c.skip_or_open.new.self.left c.loop-rest.open.depth
       c.skip_or_open.new.self.depth _ _ _ _ _ _ _
       c.loop-rest.invariant.reaches c.in-Ok.ensures.begins)
-      c.if-not-close_finished.ensures.len c.if-not-close_finished.ensures.depth
-      c.if-not-close_finished.ensures.settled _ c.in-Ok-read.ensures;
+      c.if-not-next_member.ensures.len c.if-not-next_member.ensures.depth
+      c.if-not-next_member.ensures.settled _ c.in-Ok-read.ensures;
   here = refl;
-  shallow = c.close_finished.ensures.depth;
-  len = c.close_finished.ensures.len;
+  shallow = c.next_member.ensures.depth;
+  len = c.next_member.ensures.len;
 }

@@ -1,7 +1,7 @@
 use Rattle.std.proofs.Common.{◌≡◌, ℕ, ◌≤◌, List, length}
 use Rattle.wkb_check.specs.Passes.{open_counts}
 use Rattle.wkb_check.specs.Skims.{skim_outward}
-use Rattle.wkb_check.proofs.nested.OpenCounts.close_finished.Given as goal
+use Rattle.wkb_check.proofs.nested.OpenCounts.next_member.Given as goal
 
 abbrev pub invariant-loop-self : goal.invariant-loop-self
 invariant-loop-self l = record {

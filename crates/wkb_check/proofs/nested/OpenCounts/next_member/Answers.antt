@@ -1,6 +1,6 @@
 use Rattle.std.proofs.Common.{◌∙◌, refl, arith}
 use Rattle.wkb_check.proofs.Closing.{closes, goes_on}
-use Rattle.wkb_check.proofs.nested.OpenCounts.close_finished.Goals as goal
+use Rattle.wkb_check.proofs.nested.OpenCounts.next_member.Goals as goal
 
 pub returns-then-left-gt0-clause-settled : goal.returns-then-left-gt0-clause-settled
 returns-then-left-gt0-clause-settled c =
