@@ -2,10 +2,10 @@
 use Rattle.wkb_write.proofs.Prelude.{◌≡◌, ℕ, zero, suc, ◌+◌, ◌<◌, ◌≤◌, List, [], ◌∷◌, ◌++◌, length, take, drop, Some}
 use Rattle.wkb_write.proofs.Prelude.{sym, subst, ap, ◌∙◌, append_assoc, append-nil, take_all, take-append-drop}
 use Rattle.wkb_write.proofs.Prelude.{slice_get, add-one, map, get_or, Result, flat_map, length-map, get_or-map}
-use Rattle.wkb_write.proofs.Prelude.{take-take, slice_get_read, slice_get-get_or, Stopped, flat_map-append, Endianness}
+use Rattle.wkb_write.proofs.Prelude.{take-take, slice_get_read, Stopped, flat_map-append, Endianness}
 use Rattle.wkb_write.proofs.Prelude.{Form, Dimension, Dimensions, Option, None, number_bytes}
 use Rattle.wkb_write.proofs.Prelude.{words_encoding, header_encoding, members_encoding, counted, Progress, IsLaid}
-use Rattle.wkb_write.proofs.Prelude.{IsCut, Advances, Ok, Err}
+use Rattle.wkb_write.proofs.Prelude.{IsCut, Advances, Ok, Err, arith, ◌-◌}
 use Rattle.std.specs.Prelude.{IfSome}
 use Rattle.std.specs.Option.{option_map}
 use Rattle.std.proofs.lemmas.List.Folds.{flat_map-map}
@@ -83,7 +83,7 @@ module _ {a b : Progress} {order : Endianness} {header : List ℕ} {encodings : 
       (cut_first _ (cut_then p.laid q))
 
 -- the answer of the last encoding is that of all
-pub lays_last_encoding : {a b : Progress} (c : Progress) {order : Endianness} {header : List ℕ}
+lays_last_encoding : {a b : Progress} (c : Progress) {order : Endianness} {header : List ℕ}
     {encodings : List (List ℕ)} {i : ℕ} {t : List ℕ} (r : Result (Unit {0}) Stopped)
     → HasLaid a b order header encodings i → slice_get encodings i ≡ Some t → length encodings ≤ i + 1
     → Advances b c t r → Advances a c (header ++ counted order encodings) r
@@ -98,11 +98,41 @@ unfolding counted
 head_cut order header encodings n is p = rw (is, ← append_assoc) (cut_first _ p)
 
 -- the encoding of an item stands at the item's place
-pub encoding_there : {X : Type 0} (f : X → List ℕ) (xs : List X) (i : ℕ) (x : X) → i < length xs → x ≡ get_or xs i x
+encoding_there : {X : Type 0} (f : X → List ℕ) (xs : List X) (i : ℕ) (x : X) → i < length xs → x ≡ get_or xs i x
     → slice_get (map f xs) i ≡ Some (f x)
 encoding_there f xs i x within is =
     slice_get_read (map f xs) (length xs) i (f x) (sym (length-map xs f))
     within (ap f is ∙ sym (get_or-map f xs i x (f x) within))
+
+-- members that are put one after another in their form, which is told otherwise; the last one's answer is that of all
+pub no_member : {X : Type 0} {a b : Progress} (order : Endianness) (header : List ℕ) (f : X → List ℕ) (xs : List X)
+    → length xs ≡ 0 → IsLaid a b (header ++ number_bytes order 4 (length xs))
+    → IsLaid a b (header ++ counted order (map f xs))
+no_member order header f xs none p =
+    all_laid (none_laid _ (sym (length-map xs f)) p) (omega (arith, length-map xs f, none))
+
+module _ {X : Type 0} {a b : Progress} {order : Endianness} {header : List ℕ} (f : Form → X → List ℕ) (xs : List X)
+    {own told : Form} {i : ℕ} {x : X} where
+  pub next_member : {c : Progress} → own ≡ told → HasLaid a b order header (map (f own) xs) i → i < length xs - 1
+      → x ≡ get_or xs i x → IsLaid b c (f told x) → HasLaid a c order header (map (f own) xs) (i + 1)
+  next_member {c = c} same p within is q =
+      next_laid p (encoding_there (f own) xs i x (omega (arith, within)) is) (subst (λ k. IsLaid b c (f k x)) (sym same) q)
+
+  pub member_cut : {c : Progress} → own ≡ told → HasLaid a b order header (map (f own) xs) i → i < length xs - 1
+      → x ≡ get_or xs i x → IsCut b c (f told x) → IsCut a c (header ++ counted order (map (f own) xs))
+  member_cut {c = c} same p within is q =
+      next_cut p (encoding_there (f own) xs i x (omega (arith, within)) is) (subst (λ k. IsCut b c (f k x)) (sym same) q)
+
+  pub last_member : (c : Progress) (r : Result (Unit {0}) Stopped) → own ≡ told
+      → HasLaid a b order header (map (f own) xs) i → (length xs ≡ 0 → ⊥) → i ≤ length xs - 1 → length xs - 1 ≤ i
+      → x ≡ get_or xs (length xs - 1) x → Advances b c (f told x) r
+      → Advances a c (header ++ counted order (map (f own) xs)) r
+  last_member c r same p some up past is q =
+      let at_end : length xs - 1 ≡ i = omega (arith, up, past) in
+      let there = encoding_there (f own) xs i x (omega (arith, some, up, past)) (subst (λ k. x ≡ get_or xs k x) at_end is)
+      in
+      lays_last_encoding c r p there (omega (arith, length-map xs (f own), past))
+      (subst (λ k. Advances b c (f k x) r) (sym same) q)
 
 -- the encoding of the item at a place was laid
 pub lays_item : {X : Type 0} (a b : Progress) (r : Result (Unit {0}) Stopped) (f : X → List ℕ) (xs : List X) (i : ℕ)
@@ -121,17 +151,3 @@ lays_member a b r f value dimensions d vs i (Some y) x is there same laid =
     let one : x ≡ y = cc in
     lays_item a b r (f d) vs i (value y) (sym there) (subst (λ e. Advances a b (f e (value y)) r) same
     (subst (λ z. Advances a b (f (dimensions z) (value z)) r) one laid))
-
-pub ruleset loop_laws = (
-  slice_get-get_or,
-  length-map,
-  encoding_there,
-  none_laid,
-  next_laid,
-  all_laid,
-  next_cut,
-  head_cut,
-  next_run,
-  whole_run,
-  run_cut,
-)

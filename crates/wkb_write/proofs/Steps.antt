@@ -2,10 +2,10 @@
 use Rattle.wkb_write.proofs.Prelude.{none_first, none_rest, none_both, count_below}
 use Rattle.wkb_geom.proofs.FirstItem.{some_below}
 use Rattle.wkb_write.proofs.Supported.{supported_at_least, supported_at_most, none_at}
-use Rattle.wkb_write.proofs.Loops.{loop_laws, lays_counted, lays_members}
+use Rattle.wkb_write.proofs.Loops.{lays_counted, lays_members}
 use Rattle.wkb_sink.proofs.Steps.{step_laws as sink_laws}
 
-pub ruleset step_laws = (supported_at_least, supported_at_most, sink_laws, loop_laws)
+pub ruleset step_laws = (supported_at_least, supported_at_most, sink_laws)
 
 pub ruleset item_laws = (step_laws, some_below, none_first, none_rest, none_at, none_both, count_below)
 

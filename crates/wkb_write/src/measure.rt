@@ -19,7 +19,7 @@ use wkb_geom::{Dimensions, Fault, Form, WkbError, WkbResult};
 
 /// So many bytes, or the fault, in two words: these come back in registers. A `Result` of the two takes three, and
 /// comes back in memory.
-#[derive(Debug, Clone, Copy)]
+#[derive(Clone, Copy)]
 pub enum Measured {
     Bytes(usize),
     UnsupportedDimensions(usize),

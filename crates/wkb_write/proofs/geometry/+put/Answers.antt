@@ -2,8 +2,7 @@ use Rattle.wkb_write.proofs.Prelude.{◌≡◌, ◌<◌, ◌-◌, ◌∙◌, sym
 use Rattle.wkb_write.proofs.Prelude.{encoding, inner}
 use Rattle.wkb_write.proofs.Collections.{collection_count, collection_members, lays_collection, member_ready}
 use Rattle.wkb_sink.proofs.Laid.{exits}
-use Rattle.wkb_write.proofs.Loops.{head_cut, none_laid, next_laid, all_laid, next_cut, lays_last_encoding}
-use Rattle.wkb_write.proofs.Loops.{encoding_there}
+use Rattle.wkb_write.proofs.Loops.{head_cut, none_laid, no_member, next_member, member_cut, last_member}
 use Rattle.wkb_write.proofs.geometry.+put.Goals as goal
 
 pub put_members-returns-in_err-put_head : goal.put_members-returns-in_err-put_head
@@ -45,39 +44,27 @@ put_members-put_member-requires-2 g t c κs within =
     (omega (arith, ready.1, c.decreases), assumption (ready.0, c.loop-i.invariant.laid.works))
 
 pub put_members-returns-then-count-eq0 : goal.put_members-returns-then-count-eq0
-put_members-returns-then-count-eq0 g t c =
-    let same = length-map c.args.members.now
-    (λ m. encoding c.args.order (inner c.args.form) (g.G.GeometryTrait.geometry m)) in
-    all_laid (none_laid _ (sym same) c.in_ok-put_head.ensures) (omega (arith, same, c.if-count-eq0.true))
+put_members-returns-then-count-eq0 g t c = no_member _ _ _ _ c.if-count-eq0.true c.in_ok-put_head.ensures
 
 pub put_members-returns : goal.put_members-returns
 put_members-returns g t c =
-    let members = c.args.members.now in
-    let same = length-map members (λ m. encoding c.args.order (inner c.args.form) (g.G.GeometryTrait.geometry m)) in
-    let there : length members - 1 < length members = omega (arith, c.if-count-eq0.false) in
-    let at_end : c.loop-i.i ≡ length members - 1 = omega (arith, c.loop-i.auto.i-end, c.loop-i-test.false) in
-    lays_last_encoding _ _ (rw at_end at c.loop-i.invariant) (encoding_there _ _ _ _ there c.index-members-last.is)
-    (omega (arith, same, there))
-    (rw (← c.has_flags-2.ensures) at c.put_member-2.ensures)
+    last_member (λ form m. encoding c.args.order form (g.G.GeometryTrait.geometry m)) _ _ _ c.has_flags-2.ensures
+    c.loop-i.invariant c.if-count-eq0.false c.loop-i.auto.i-end c.loop-i-test.false c.index-members-last.is
+    c.put_member-2.ensures
 
 pub put_members-returns-in_err-put_member : goal.put_members-returns-in_err-put_member
 put_members-returns-in_err-put_member g t c =
-    let there : c.loop-i.i < length c.args.members.now = omega (arith, c.loop-i-test.true) in
-    let cut = rw (← c.has_flags.ensures) at c.in_err-put_member.ensures in
     exits _ _ c.from_residual-in_err-put_member.ensures.1
-    (next_cut c.loop-i.invariant (encoding_there _ _ _ _ there c.index-members-i.is) cut)
+    (member_cut (λ form m. encoding c.args.order form (g.G.GeometryTrait.geometry m)) _ c.has_flags.ensures
+    c.loop-i.invariant c.loop-i-test.true c.index-members-i.is c.in_err-put_member.ensures)
 
 pub put_members-put_head-requires : goal.put_members-put_head-requires
 put_members-put_head-requires g t c = record { working = c.requires.working }
 
 pub put_members-loop-i-init : goal.put_members-loop-i-init
-put_members-loop-i-init g t c =
-    let same = length-map c.args.members.now
-    (λ m. encoding c.args.order (inner c.args.form) (g.G.GeometryTrait.geometry m)) in
-    none_laid _ (sym same) c.in_ok-put_head.ensures
+put_members-loop-i-init g t c = none_laid _ (sym (length-map _ _)) c.in_ok-put_head.ensures
 
 pub put_members-loop-i-preserved : goal.put_members-loop-i-preserved
 put_members-loop-i-preserved g t c =
-    let there : c.loop-i.i < length c.args.members.now = omega (arith, c.loop-i-test.true) in
-    next_laid c.loop-i.invariant (encoding_there _ _ _ _ there c.index-members-i.is)
-    (rw (← c.has_flags.ensures) at c.in_ok-put_member.ensures)
+    next_member (λ form m. encoding c.args.order form (g.G.GeometryTrait.geometry m)) _ c.has_flags.ensures
+    c.loop-i.invariant c.loop-i-test.true c.index-members-i.is c.in_ok-put_member.ensures
