@@ -1,4 +1,5 @@
 pub mod Blocks
 pub mod Held
 pub mod Progress
+pub mod Runs
 pub mod Sinks

@@ -1,8 +1,6 @@
 //! Bytes that wait to go to a sink together, and the parts of an encoding that are laid there.
 
-ghost use Rattle.std.specs.Prelude.{◌≡◌, ◌+◌, ◌-◌, ◌*◌, ◌≤◌, ◌∷◌, []};
-ghost use Rattle.std.specs.Prelude.{length, take, drop, replicate};
-ghost use Rattle.std.specs.List.{flat_map};
+ghost use Rattle.std.specs.Prelude.{◌≡◌, ◌+◌, ◌-◌, ◌≤◌, ◌∷◌, [], length, take, replicate};
 ghost use Rattle.wkb_geom.specs.Dimensions.{size, width, written_dimension};
 ghost use Rattle.wkb_geom.specs.Numbers.{number_bytes, empty_word};
 ghost use Rattle.wkb_geom.specs.Reading.{type_kind, type_dimension};
@@ -10,6 +8,7 @@ ghost use Rattle.wkb_geom.specs.Encodings.{code_of, header_encoding, words_encod
 ghost use Rattle.wkb_geom.specs.declared.header.TheConstants.{LONGEST_HEADER};
 ghost use Rattle.wkb_geom.specs.declared.words.TheConstants.{COUNT};
 ghost use Rattle.wkb_sink.specs.Blocks.{Waiting, IsExtended};
+ghost use Rattle.wkb_sink.specs.Runs.{IsRun, run_size, run_encoding};
 ghost use Rattle.wkb_sink.specs.declared.block.TheConstants.{LEAST};
 
 use crate::store::{store_coordinate, store_coordinates, store_word, u32_bytes};
@@ -129,13 +128,10 @@ impl<'a> Block<'a> {
         to: usize,
         order: Endianness,
     )
-        requires order { from ≤ to }
-        requires within { to ≤ length (L.coordinates line.now) }
-        requires least { 2 ≤ size (L.dimensions line.now) }
-        requires most { size (L.dimensions line.now) ≤ 4 }
-        requires room { 8 * size (L.dimensions line.now) * (to - from) ≤ self.old.room }
+        requires run { IsRun (L.dimensions line.now) (L.coordinates line.now) from to }
+        requires room { run_size (L.dimensions line.now) from to ≤ self.old.room }
         ensures { IsExtended self.old.waiting self.new.waiting
-            (flat_map (words_encoding order) (drop from (take to (L.coordinates line.now)))) }
+            (run_encoding order (L.coordinates line.now) from to) }
     {
         let n = store_coordinates(&mut self.bytes[self.len..], line, from, to, order);
         self.len += n;

@@ -53,6 +53,17 @@ pub trait Sink {
         ensures { result ≡ has_failed self.now };
 }
 
+// Whether this is the answer of a put that failed: an error, or no byte taken of some.
+#[inline]
+fn is_failure(answer: &io::Result<usize>, bytes: &[u8]) -> bool
+    ensures { result ≡ put_fails (length bytes.now) answer.now }
+{
+    match answer {
+        Ok(count) => *count == 0 && !bytes.is_empty(),
+        Err(_) => true,
+    }
+}
+
 /// A sink over a writer: one write for each put, which isn't tried again where it was interrupted.
 #[derive(Drop)]
 pub struct Out<W> {
@@ -97,11 +108,7 @@ impl<W: Write> Sink for Out<W> {
 
     fn put(&mut self, bytes: &[u8]) -> io::Result<usize> {
         let result = self.writer.write(bytes);
-        match &result {
-            Ok(0) if !bytes.is_empty() => self.has_failed = true,
-            Ok(_) => {}
-            Err(_) => self.has_failed = true,
-        }
+        self.has_failed |= is_failure(&result, bytes);
         result
     }
 
@@ -267,10 +274,9 @@ impl Sink for SliceSink<'_> {
         let n = bytes.len().min(room);
         self.slice[self.len..self.len + n].copy_from_slice(&bytes[..n]);
         self.len += n;
-        if n == 0 && !bytes.is_empty() {
-            self.has_failed = true;
-        }
-        Ok(n)
+        let result = Ok(n);
+        self.has_failed |= is_failure(&result, bytes);
+        result
     }
 
     fn failed(&self) -> bool {

@@ -1,10 +1,11 @@
 //! Numbers and coordinates into bytes that stand ready for them.
 
 ghost use Rattle.std.specs.Prelude.{◌≡◌, ◌-◌, ◌*◌, ◌≤◌, ◌++◌, ℕ, List, length, drop, take};
-ghost use Rattle.std.specs.List.{flat_map, AllByRecursion};
+ghost use Rattle.std.specs.List.{AllByRecursion};
 ghost use Rattle.wkb_geom.specs.Dimensions.{size};
 ghost use Rattle.wkb_geom.specs.Numbers.{number_bytes, IsWord};
 ghost use Rattle.wkb_geom.specs.Encodings.{words_encoding};
+ghost use Rattle.wkb_sink.specs.Runs.{IsRun, run_size, run_encoding};
 
 use byteorder::{BigEndian, ByteOrder, LittleEndian};
 use wkb_geom::words::{WORD, u64_at};
@@ -74,15 +75,12 @@ fn store_run<L: LineStringTrait>(
     order: Endianness,
     width: usize,
 ) -> usize
-    requires order { from ≤ to }
+    requires run { IsRun (L.dimensions line.now) (L.coordinates line.now) from to }
     requires width { width ≡ size (L.dimensions line.now) }
-    requires within { to ≤ length (L.coordinates line.now) }
-    requires least { 2 ≤ size (L.dimensions line.now) }
-    requires most { size (L.dimensions line.now) ≤ 4 }
     requires room { 8 * width * (to - from) ≤ length bytes.old }
     ensures len { result ≤ 8 * width * (to - from) }
     ensures bytes { take result bytes.new
-        ≡ flat_map (words_encoding order) (drop from (take to (L.coordinates line.now))) }
+        ≡ run_encoding order (L.coordinates line.now) from to }
 {
     let mut at = 0;
     for i in from..to {
@@ -135,14 +133,11 @@ fn store_in<L: LineStringTrait>(
     to: usize,
     order: Endianness,
 ) -> usize
-    requires order { from ≤ to }
-    requires within { to ≤ length (L.coordinates line.now) }
-    requires least { 2 ≤ size (L.dimensions line.now) }
-    requires most { size (L.dimensions line.now) ≤ 4 }
-    requires room { 8 * size (L.dimensions line.now) * (to - from) ≤ length bytes.old }
-    ensures len { result ≤ 8 * size (L.dimensions line.now) * (to - from) }
+    requires run { IsRun (L.dimensions line.now) (L.coordinates line.now) from to }
+    requires room { run_size (L.dimensions line.now) from to ≤ length bytes.old }
+    ensures len { result ≤ run_size (L.dimensions line.now) from to }
     ensures bytes { take result bytes.new
-        ≡ flat_map (words_encoding order) (drop from (take to (L.coordinates line.now))) }
+        ≡ run_encoding order (L.coordinates line.now) from to }
 {
     let width = line.dim().size();
     let held = other(order);
@@ -166,14 +161,11 @@ pub fn store_coordinates<L: LineStringTrait>(
     to: usize,
     order: Endianness,
 ) -> usize
-    requires order { from ≤ to }
-    requires within { to ≤ length (L.coordinates line.now) }
-    requires least { 2 ≤ size (L.dimensions line.now) }
-    requires most { size (L.dimensions line.now) ≤ 4 }
-    requires room { 8 * size (L.dimensions line.now) * (to - from) ≤ length bytes.old }
-    ensures len { result ≤ 8 * size (L.dimensions line.now) * (to - from) }
+    requires run { IsRun (L.dimensions line.now) (L.coordinates line.now) from to }
+    requires room { run_size (L.dimensions line.now) from to ≤ length bytes.old }
+    ensures len { result ≤ run_size (L.dimensions line.now) from to }
     ensures bytes { take result bytes.new
-        ≡ flat_map (words_encoding order) (drop from (take to (L.coordinates line.now))) }
+        ≡ run_encoding order (L.coordinates line.now) from to }
 {
     match order {
         Endianness::BigEndian => store_in(bytes, line, from, to, Endianness::BigEndian),

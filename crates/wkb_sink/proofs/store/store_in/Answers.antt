@@ -10,7 +10,7 @@ items_between-lent-requires-clause-within g c =
     let wide : c.size-width.result ≡ size (g.L.Dimensioned.dimensions line) =
     c.size-width.ensures ∙ ap size c.dim.ensures in
     rw (wide, c.in-Some.ensures)
-    (run_within c.other-held.result _ (g.L.LineStringTrait.coordinates line) c.args.to lawful c.requires.within)
+    (run_within c.other-held.result _ (g.L.LineStringTrait.coordinates line) c.args.to lawful c.requires.run.within)
 
 pub returns-in-Some-clause-bytes : goal.returns-in-Some-clause-bytes
 returns-in-Some-clause-bytes g c =
@@ -21,6 +21,6 @@ returns-in-Some-clause-bytes g c =
     c.size-width.ensures ∙ ap size c.dim.ensures in
     let lent : c.items_between-lent.result.now ≡ words_encoding c.other-held.result (run_words cs c.args.from c.args.to) =
     rw (c.items_between-lent.ensures, wide, c.in-Some.ensures)
-    (run_lent c.other-held.result _ cs c.args.from c.args.to lawful c.requires.order c.requires.within) in
+    (run_lent c.other-held.result _ cs c.args.from c.args.to lawful c.requires.run.order c.requires.run.within) in
     c.store_words.ensures (run_words cs c.args.from c.args.to) (run_are_words _ cs c.args.from c.args.to lawful) lent
     ∙ words_joined c.args.order _

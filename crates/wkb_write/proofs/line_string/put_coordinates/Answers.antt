@@ -28,8 +28,10 @@ returns-in-Some g c = rw (← c.in-Some.ensures) c.put_bytes.ensures
 pub make_room-requires-clause-working : goal.make_room-requires-clause-working
 make_room-requires-clause-working g c = c.loop-done.invariant.laid.laid.works
 
-pub lay_coordinates-requires-clause-least : goal.lay_coordinates-requires-clause-least
-lay_coordinates-requires-clause-least g c = supported_at_least _ c.requires.supported
-
-pub lay_coordinates-requires-clause-most : goal.lay_coordinates-requires-clause-most
-lay_coordinates-requires-clause-most g c = supported_at_most _ c.requires.supported
+pub lay_coordinates-requires-clause-run : goal.lay_coordinates-requires-clause-run
+lay_coordinates-requires-clause-run g c = record {
+  order = omega arith;
+  within = omega arith;
+  least = supported_at_least _ c.requires.supported;
+  most = supported_at_most _ c.requires.supported;
+}

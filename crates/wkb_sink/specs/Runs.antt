@@ -1,0 +1,23 @@
+-- Runs: the coordinates between two places of a line.
+use Rattle.std.specs.Prelude.{ℕ, ◌≤◌, ◌-◌, ◌*◌, List, length, take, drop}
+use Rattle.std.specs.List.{flat_map}
+use Rattle.wkb_geom.specs.declared.common.Dimensions.{Dimensions}
+use Rattle.wkb_geom.specs.declared.common.Endianness.{Endianness}
+use Rattle.wkb_geom.specs.Dimensions.{size}
+use Rattle.wkb_geom.specs.Encodings.{words_encoding}
+use Rattle.wkb_geom.specs.Values.{Coordinate}
+
+-- the two places are a run's, and the dimension can be written
+pub record IsRun (d : Dimensions) (cs : List Coordinate) (from to : ℕ) : Type 0 where
+  pub order : from ≤ to
+  pub within : to ≤ length cs
+  pub least : 2 ≤ size d
+  pub most : size d ≤ 4
+
+-- the bytes of a run
+abbrev pub run_size : Dimensions → ℕ → ℕ → ℕ
+run_size d from to = 8 * size d * (to - from)
+
+-- the encodings of a run's coordinates, one after another
+abbrev pub run_encoding : Endianness → List Coordinate → ℕ → ℕ → List ℕ
+run_encoding order cs from to = flat_map (words_encoding order) (drop from (take to cs))
