@@ -1,14 +1,14 @@
 //! A geometry of any kind, and the members of a collection: their recursion, in measuring and in putting.
 
 ghost use Rattle.std.specs.Prelude.{◌≡◌, ◌<◌, ◌^◌, ◌++◌, ◌⊎◌, None, IfOk, IfErr, false, length};
-ghost use Rattle.std.specs.Prelude.{map, MatchOption};
+ghost use Rattle.std.specs.Prelude.{map};
 ghost use Rattle.wkb_write.specs.Words.{encoding_of, refusal_of, Iso, IsMemory, collection};
 ghost use Rattle.wkb_write.specs.Words.{geometries, fault, first_fault, header_encoding, inner};
 ghost use Rattle.wkb_write.specs.Words.{encoding, Lays, IsSizeOf, WritesTo, counted};
 ghost use Rattle.wkb_write.specs.Words.{form_with_flags, IsAdded, IsLeaf, IsMeasured, Reports};
 ghost use Rattle.wkb_write.specs.Words.{result_of};
 
-use crate::leaf::{measure_leaf, put_leaf};
+use crate::leaf::Nested;
 use crate::lent::{lent_encoding, write_lent};
 use crate::line_string::write_line_string;
 use crate::measure::{Measured, check_count, check_dimensions};
@@ -26,24 +26,11 @@ use wkb_geom::{
 use wkb_sink::Buffered;
 use wkb_sink::block::dimension_to_write;
 
-// The members of a collection; none of a leaf.
-#[inline(always)]
-fn members_of<G: GeometryTrait>(geom: &G) -> Option<&[G]>
-    ensures { MatchOption result (IsLeaf (G.geometry geom.now))
-        (λ members. collection (G.dimensions geom.now) (geometries (map G.geometry members.now))
-        ≡ G.geometry geom.now) }
-{
-    match geom.as_type() {
-        GeometryType::GeometryCollection(members) => Some(members),
-        _ => None,
-    }
-}
-
 // Adds a collection of these dimensions and members to the bytes before it. Where the last member is a collection, it
 // is added by the last call, which the compiler makes a jump.
 #[cycle(measure)]
-pub fn add_members<G: GeometryTrait>(before: usize, dim: Dimensions, members: &[G]) -> Measured
-    ensures { IsAdded before (collection dim (geometries (map G.geometry members.now)))
+pub fn add_members<G, K: Nested<G>>(before: usize, dim: Dimensions, members: &[G]) -> Measured
+    ensures { IsAdded before (collection dim (geometries (map K.geometry members.now)))
         (result_of result) }
 {
     match check_dimensions(dim) {
@@ -57,11 +44,11 @@ pub fn add_members<G: GeometryTrait>(before: usize, dim: Dimensions, members: &[
     let mut total = before.saturating_add(4 + MEMBER_HEADER * count);
     for (i, member) in members.iter().enumerate() {
         if i + 1 == count {
-            if let Some(inner) = members_of(member) {
-                return add_members(total, member.dim(), inner);
+            if let Some(inner) = K::members_of(member) {
+                return add_members::<G, K>(total, K::dim(member), inner);
             }
         }
-        match measure_geometry(member) {
+        match measure_geometry::<G, K>(member) {
             Ok(size) => total = total.saturating_add(size),
             Err(fault) => return Measured::from(fault),
         }
@@ -73,12 +60,12 @@ pub fn add_members<G: GeometryTrait>(before: usize, dim: Dimensions, members: &[
 // header none of them fits.
 #[cycle(measure)]
 #[inline(always)]
-fn measure_geometry<G: GeometryTrait>(geom: &G) -> Result<usize, Fault>
-    ensures measured { IsMeasured (G.geometry geom.now) result }
+fn measure_geometry<G, K: Nested<G>>(geom: &G) -> Result<usize, Fault>
+    ensures measured { IsMeasured (K.geometry geom.now) result }
 {
-    match members_of(geom) {
-        Some(members) => add_members(0, geom.dim(), members).result(),
-        None => measure_leaf(geom),
+    match K::members_of(geom) {
+        Some(members) => add_members::<G, K>(0, K::dim(geom), members).result(),
+        None => K::measure_leaf(geom),
     }
 }
 
@@ -108,21 +95,23 @@ fn member_form(has_flags: bool) -> Form
 // Puts a member: a geometry without an SRID. Not inlined, so that each level hands on the form in a register.
 #[cycle(put)]
 #[inline(never)]
-fn put_member<S: Sink, G: GeometryTrait>(
+fn put_member<S: Sink, G, K: Nested<G>>(
     out: &mut Buffered<'_, S>,
     geom: &G,
     order: Endianness,
     has_flags: bool,
 ) -> Put
-    requires fault { fault (G.geometry geom.now) ≡ None }
+    requires fault { fault (K.geometry geom.now) ≡ None }
     requires working { S.has_failed out.old.sink.now ≡ false }
     ensures { Lays S.Sink out.old out.new
-        (encoding order (form_with_flags has_flags) (G.geometry geom.now)) result }
+        (encoding order (form_with_flags has_flags) (K.geometry geom.now)) result }
 {
     let form = member_form(has_flags);
-    match members_of(geom) {
-        Some(members) => { put_members(out, members, order, form, dimension_to_write(geom.dim())) }
-        None => put_leaf(out, geom, order, form),
+    match K::members_of(geom) {
+        Some(members) => {
+            put_members::<S, G, K>(out, members, order, form, dimension_to_write(K::dim(geom)))
+        }
+        None => K::put_leaf(out, geom, order, form),
     }
 }
 
@@ -131,7 +120,7 @@ fn put_member<S: Sink, G: GeometryTrait>(
 #[cycle(put)]
 #[inline(always)]
 #[tactic(auto, using(crate::proofs::Steps::node_laws))]
-pub fn put_members<S: Sink, G: GeometryTrait>(
+pub fn put_members<S: Sink, G, K: Nested<G>>(
     out: &mut Buffered<'_, S>,
     members: &[G],
     order: Endianness,
@@ -139,12 +128,12 @@ pub fn put_members<S: Sink, G: GeometryTrait>(
     dim: Dimension,
 ) -> Put
     requires count { length members.now < 2 ^ 32 }
-    requires fault { first_fault (λ m. fault (G.geometry m)) members.now ≡ None }
+    requires fault { first_fault (λ m. fault (K.geometry m)) members.now ≡ None }
     requires working { S.has_failed out.old.sink.now ≡ false }
     ensures { Lays S.Sink out.old out.new
         (header_encoding order form 7 dim
         ++ counted order
-        (map (λ m. encoding order (inner form) (G.geometry m)) members.now)) result }
+        (map (λ m. encoding order (inner form) (K.geometry m)) members.now)) result }
 {
     let count = members.len();
     out.put_head(order, form, WkbType::GeometryCollection(dim), count as u32)?;
@@ -153,9 +142,9 @@ pub fn put_members<S: Sink, G: GeometryTrait>(
     }
     let last = count - 1;
     for i in 0..last {
-        put_member(out, &members[i], order, has_flags(form))?;
+        put_member::<S, G, K>(out, &members[i], order, has_flags(form))?;
     }
-    put_member(out, &members[last], order, has_flags(form))
+    put_member::<S, G, K>(out, &members[last], order, has_flags(form))
 }
 
 /// A geometry of any kind.
@@ -168,15 +157,16 @@ impl<G: GeometryTrait> Writable<G> for GeometryKind {
 
     #[inline(always)]
     fn measure(geom: &G) -> Result<usize, Fault> {
-        measure_geometry(geom)
+        measure_geometry::<G, GeometryKind>(geom)
     }
 
     fn put<S: Sink>(out: &mut Buffered<'_, S>, geom: &G, order: Endianness, form: Form) -> Put {
-        match members_of(geom) {
+        match GeometryKind::members_of(geom) {
             Some(members) => {
-                put_members(out, members, order, form, dimension_to_write(geom.dim()))
+                let dim = dimension_to_write(geom.dim());
+                put_members::<S, G, GeometryKind>(out, members, order, form, dim)
             }
-            None => put_leaf(out, geom, order, form),
+            None => GeometryKind::put_leaf(out, geom, order, form),
         }
     }
 }

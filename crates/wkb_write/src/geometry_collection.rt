@@ -4,7 +4,7 @@ ghost use Rattle.std.specs.Prelude.{◌≡◌, false};
 ghost use Rattle.wkb_write.specs.Words.{Iso, collection, geometries, IsSizeOf, WritesTo};
 
 use crate::common::*;
-use crate::geometry::{add_members, put_members};
+use crate::geometry::{GeometryKind, add_members, put_members};
 use wkb_geom::GeometryCollectionTrait;
 
 /// A collection, whose members are of another type.
@@ -18,12 +18,12 @@ impl<C: GeometryCollectionTrait> Writable<C> for GeometryCollectionKind {
 
     #[inline(always)]
     fn measure(geom: &C) -> Result<usize, Fault> {
-        add_members(0, geom.dim(), geom.geometries()).result()
+        add_members::<C::GeometryType, GeometryKind>(0, geom.dim(), geom.geometries()).result()
     }
 
     fn put<S: Sink>(out: &mut Buffered<'_, S>, geom: &C, order: Endianness, form: Form) -> Put {
         let dim = dimension_to_write(geom.dim());
-        put_members(out, geom.geometries(), order, form, dim)
+        put_members::<S, C::GeometryType, GeometryKind>(out, geom.geometries(), order, form, dim)
     }
 }
 

@@ -20,13 +20,13 @@ measure_geometry-returns-in-Some g t c =
 pub add_members-returns-in-Err : goal.add_members-returns-in-Err
 unfolding IsAdded
 add_members-returns-in-Err g t c =
-    let whole = collection c.args.dim (geometries (map g.G.GeometryTrait.geometry c.args.members.now)) in
+    let whole = collection c.args.dim (geometries (map g.K.Nested.geometry c.args.members.now)) in
     measured_err _ _ _ _ c.from.ensures (whole_unsupported whole _ _ refl c.in-Err.ensures)
 
 pub add_members-returns-in-Err-check_count : goal.add_members-returns-in-Err-check_count
 add_members-returns-in-Err-check_count g t c =
     collected _ _ _ _ c.in-Ok.ensures
-    (count_reports _ _ _ _ _ (members_length g.G.GeometryTrait.geometry c.args.members.now)
+    (count_reports _ _ _ _ _ (members_length g.K.Nested.geometry c.args.members.now)
     c.from-in-Err-check_count.ensures c.in-Err-check_count.ensures)
 
 pub add_members-loop-i-init : goal.add_members-loop-i-init
@@ -34,36 +34,36 @@ add_members-loop-i-init g t c = rw c.saturating_add-total.ensures (parts_begin _
 
 pub add_members-measure_geometry-requires : goal.add_members-measure_geometry-requires
 add_members-measure_geometry-requires g t c κs within = (
-  member_falls g.G.GeometryTrait.geometry c.args.members.now c.loop-i.i _ t c.loop-i-test.true c.index-members-i.is
+  member_falls g.K.Nested.geometry c.args.members.now c.loop-i.i _ t c.loop-i-test.true c.index-members-i.is
       c.decreases,
   within,
 )
 
 pub add_members-returns-in-Err-measure_geometry : goal.add_members-returns-in-Err-measure_geometry
 add_members-returns-in-Err-measure_geometry g t c =
-    member_refused g.G.GeometryTrait.geometry _ _ _ c.in-Ok.ensures c.in-Ok-check_count.ensures c.loop-i.invariant
+    member_refused g.K.Nested.geometry _ _ _ c.in-Ok.ensures c.in-Ok-check_count.ensures c.loop-i.invariant
     _ _ c.loop-i-test.true c.index-members-i.is c.in-Err-measure_geometry.ensures.measured
     c.from-in-Err-measure_geometry.ensures
 
 pub add_members-loop-i-preserved : goal.add_members-loop-i-preserved
 add_members-loop-i-preserved g t c =
-    member_step g.G.GeometryTrait.geometry _ _ c.loop-i-test.true c.index-members-i.is
+    member_step g.K.Nested.geometry _ _ c.loop-i-test.true c.index-members-i.is
     c.in-Ok-measure_geometry.ensures.measured c.saturating_add-total-in-Ok-measure_geometry.ensures c.loop-i.invariant
 
 pub add_members-add_members-requires : goal.add_members-add_members-requires
 add_members-add_members-requires g t c κs within =
-    let falls = member_falls g.G.GeometryTrait.geometry c.args.members.now c.loop-i.i _ t c.loop-i-test.true
+    let falls = member_falls g.K.Nested.geometry c.args.members.now c.loop-i.i _ t c.loop-i-test.true
     c.index-members-i.is c.decreases in
     (omega (arith, members_fall _ _ _ _ c.in-Some.ensures refl, falls), within)
 
 -- the last member is a collection
 pub add_members-returns-in-Some : goal.add_members-returns-in-Some
 add_members-returns-in-Some g t c =
-    member_last g.G.GeometryTrait.geometry _ _ _ c.in-Ok.ensures c.in-Ok-check_count.ensures c.loop-i.invariant
+    member_last g.K.Nested.geometry _ _ _ c.in-Ok.ensures c.in-Ok-check_count.ensures c.loop-i.invariant
     (result_of c.add_members.result) c.loop-i-test.true c.if-i-count.true c.index-members-i.is
     (added_as _ _ c.dim.ensures c.in-Some.ensures c.add_members.ensures)
 
 pub add_members-returns : goal.add_members-returns
 add_members-returns g t c =
-    members_whole g.G.GeometryTrait.geometry _ _ _ c.in-Ok.ensures c.in-Ok-check_count.ensures c.loop-i.invariant
+    members_whole g.K.Nested.geometry _ _ _ c.in-Ok.ensures c.in-Ok-check_count.ensures c.loop-i.invariant
     c.loop-i-test.false

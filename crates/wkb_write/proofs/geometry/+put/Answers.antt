@@ -16,8 +16,8 @@ pub put_member-put_members-requires : goal.put_member-put_members-requires
 put_member-put_members-requires g t c κs within =
     let members = c.in-Some.members.now in
     let none = ap fault c.in-Some.ensures ∙ c.requires.fault in
-    let few = collection_count (g.G.Dimensioned.dimensions c.args.geom.now) g.G.GeometryTrait.geometry members none in
-    let fine = collection_members (g.G.Dimensioned.dimensions c.args.geom.now) g.G.GeometryTrait.geometry members none
+    let few = collection_count (g.K.Nested.dimensions c.args.geom.now) g.K.Nested.geometry members none in
+    let fine = collection_members (g.K.Nested.dimensions c.args.geom.now) g.K.Nested.geometry members none
     in
     (omega (arith, ap node_count c.in-Some.ensures, c.decreases), assumption (few, fine, c.requires.working))
 
@@ -33,14 +33,14 @@ pub put_members-put_member-requires : goal.put_members-put_member-requires
 put_members-put_member-requires g t c κs within =
     let members = c.args.members.now in
     let there : c.loop-i.i < length members = omega (arith, c.loop-i-test.true) in
-    let ready = member_ready g.G.GeometryTrait.geometry members _ _ there c.index-members-i.is c.requires.fault in
+    let ready = member_ready g.K.Nested.geometry members _ _ there c.index-members-i.is c.requires.fault in
     (omega (arith, ready.1, c.decreases), assumption (ready.0, c.loop-i.invariant.laid.works))
 
 pub put_members-put_member-requires-2 : goal.put_members-put_member-requires-2
 put_members-put_member-requires-2 g t c κs within =
     let members = c.args.members.now in
     let there : length members - 1 < length members = omega (arith, c.if-count-eq0.false) in
-    let ready = member_ready g.G.GeometryTrait.geometry members _ _ there c.index-members-last.is c.requires.fault in
+    let ready = member_ready g.K.Nested.geometry members _ _ there c.index-members-last.is c.requires.fault in
     (omega (arith, ready.1, c.decreases), assumption (ready.0, c.loop-i.invariant.laid.works))
 
 pub put_members-returns-then-count-eq0 : goal.put_members-returns-then-count-eq0
@@ -48,14 +48,14 @@ put_members-returns-then-count-eq0 g t c = no_member _ _ _ _ c.if-count-eq0.true
 
 pub put_members-returns : goal.put_members-returns
 put_members-returns g t c =
-    last_member (λ form m. encoding c.args.order form (g.G.GeometryTrait.geometry m)) _ _ _ c.has_flags-2.ensures
+    last_member (λ form m. encoding c.args.order form (g.K.Nested.geometry m)) _ _ _ c.has_flags-2.ensures
     c.loop-i.invariant c.if-count-eq0.false c.loop-i.auto.i-end c.loop-i-test.false c.index-members-last.is
     c.put_member-2.ensures
 
 pub put_members-returns-in_err-put_member : goal.put_members-returns-in_err-put_member
 put_members-returns-in_err-put_member g t c =
     exits _ _ c.from_residual-in_err-put_member.ensures.1
-    (member_cut (λ form m. encoding c.args.order form (g.G.GeometryTrait.geometry m)) _ c.has_flags.ensures
+    (member_cut (λ form m. encoding c.args.order form (g.K.Nested.geometry m)) _ c.has_flags.ensures
     c.loop-i.invariant c.loop-i-test.true c.index-members-i.is c.in_err-put_member.ensures)
 
 pub put_members-put_head-requires : goal.put_members-put_head-requires
@@ -66,5 +66,5 @@ put_members-loop-i-init g t c = none_laid _ (sym (length-map _ _)) c.in_ok-put_h
 
 pub put_members-loop-i-preserved : goal.put_members-loop-i-preserved
 put_members-loop-i-preserved g t c =
-    next_member (λ form m. encoding c.args.order form (g.G.GeometryTrait.geometry m)) _ c.has_flags.ensures
+    next_member (λ form m. encoding c.args.order form (g.K.Nested.geometry m)) _ c.has_flags.ensures
     c.loop-i.invariant c.loop-i-test.true c.index-members-i.is c.in_ok-put_member.ensures

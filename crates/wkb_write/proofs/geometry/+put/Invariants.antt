@@ -4,13 +4,13 @@ use Rattle.wkb_write.proofs.Loops.{HasLaid}
 use Rattle.wkb_write.proofs.geometry.+put.Given as goal
 
 abbrev pub decreases-put_member : goal.decreases-put_member
-decreases-put_member g l = 2 * node_count (g.G.GeometryTrait.geometry l.geom.now)
+decreases-put_member g l = 2 * node_count (g.K.Nested.geometry l.geom.now)
 
 abbrev pub decreases-put_members : goal.decreases-put_members
-decreases-put_members g l = 2 * node_counts (geometries (map g.G.GeometryTrait.geometry l.members.now)) + 1
+decreases-put_members g l = 2 * node_counts (geometries (map g.K.Nested.geometry l.members.now)) + 1
 
 abbrev pub invariant-put_members-loop-i : goal.invariant-put_members-loop-i
 invariant-put_members-loop-i g l =
     HasLaid (progress g.S.Sink l.fn.out) (progress g.S.Sink l.out) l.order
     (header_encoding l.order l.form 7 l.fn.dim)
-    (map (λ m. encoding l.order (inner l.form) (g.G.GeometryTrait.geometry m)) l.members) l.i
+    (map (λ m. encoding l.order (inner l.form) (g.K.Nested.geometry m)) l.members) l.i

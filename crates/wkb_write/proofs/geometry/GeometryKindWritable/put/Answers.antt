@@ -13,4 +13,4 @@ put_members-requires-clause-fault g c =
 
 pub returns-in-Some : goal.returns-in-Some
 returns-in-Some g c =
-    lays_collection _ _ _ _ _ _ _ c.put_members.ensures c.dimension_to_write.ensures c.dim.ensures c.in-Some.ensures
+    lays_collection _ _ _ _ _ _ _ c.put_members.ensures c.dimension_to_write-dim.ensures c.dim.ensures c.in-Some.ensures
