@@ -1,154 +1,83 @@
-//! A geometry of any kind, and the members of a collection: their recursion, in measuring and in putting.
+//! A geometry of any kind: what it has of the other kinds, its sizes, its writer, and its encoding in a vector.
 
-ghost use Rattle.std.specs.Prelude.{◌≡◌, ◌<◌, ◌^◌, ◌++◌, ◌⊎◌, None, IfOk, IfErr, false, length};
-ghost use Rattle.std.specs.Prelude.{map};
-ghost use Rattle.wkb_write.specs.Words.{encoding_of, refusal_of, Iso, IsMemory, collection};
-ghost use Rattle.wkb_write.specs.Words.{geometries, fault, first_fault, header_encoding, inner};
-ghost use Rattle.wkb_write.specs.Words.{encoding, Lays, IsSizeOf, WritesTo, counted};
-ghost use Rattle.wkb_write.specs.Words.{form_with_flags, IsAdded, IsLeaf, IsMeasured, Reports};
-ghost use Rattle.wkb_write.specs.Words.{result_of};
+ghost use Rattle.std.specs.Prelude.{◌≡◌, ◌⊎◌, None, IfOk, IfErr, false};
+ghost use Rattle.wkb_write.specs.Words.{encoding_of, refusal_of, Iso, IsMemory, IsSizeOf};
+ghost use Rattle.wkb_write.specs.Words.{WritesTo, Reports};
 
-use crate::leaf::Nested;
+use crate::common::*;
 use crate::lent::{lent_encoding, write_lent};
-use crate::line_string::write_line_string;
-use crate::measure::{Measured, check_count, check_dimensions};
+use crate::line::LineKind;
+use crate::line_string::{LineStringKind, write_line_string};
+use crate::multi_line_string::MultiLineStringKind;
+use crate::multi_point::MultiPointKind;
+use crate::multi_polygon::MultiPolygonKind;
+use crate::nested::{Nested, measure_geometry, put_members};
 use crate::point::{PointKind, write_point};
-use crate::polygon::write_polygon;
-use crate::writable::{Put, Writable, size_as, vec_as, write_as};
-use crate::{Sink, WriteOptions};
+use crate::polygon::{PolygonKind, write_polygon};
+use crate::rect::RectKind;
+use crate::triangle::TriangleKind;
+use crate::writable::vec_as;
 use std::alloc::Global;
-use wkb_geom::code::WkbType;
-use wkb_geom::header::MEMBER_HEADER;
-use wkb_geom::{
-    Dimension, Dimensioned, Dimensions, Endianness, Fault, Form, GeometryTrait, GeometryType,
-    WkbResult,
-};
-use wkb_sink::Buffered;
-use wkb_sink::block::dimension_to_write;
-
-// Adds a collection of these dimensions and members to the bytes before it. Where the last member is a collection, it
-// is added by the last call, which the compiler makes a jump.
-#[cycle(measure)]
-pub fn add_members<G, K: Nested<G>>(before: usize, dim: Dimensions, members: &[G]) -> Measured
-    ensures { IsAdded before (collection dim (geometries (map K.geometry members.now)))
-        (result_of result) }
-{
-    match check_dimensions(dim) {
-        Ok(()) => {}
-        Err(fault) => return Measured::from(fault),
-    }
-    let count = match check_count(members.len() as u128) {
-        Ok(count) => count as usize,
-        Err(fault) => return Measured::from(fault),
-    };
-    let mut total = before.saturating_add(4 + MEMBER_HEADER * count);
-    for (i, member) in members.iter().enumerate() {
-        if i + 1 == count {
-            if let Some(inner) = K::members_of(member) {
-                return add_members::<G, K>(total, K::dim(member), inner);
-            }
-        }
-        match measure_geometry::<G, K>(member) {
-            Ok(size) => total = total.saturating_add(size),
-            Err(fault) => return Measured::from(fault),
-        }
-    }
-    Measured::Bytes(total)
-}
-
-// The bytes of a geometry after its header, or its first fault. `usize::MAX` stands for all that are more: with a
-// header none of them fits.
-#[cycle(measure)]
-#[inline(always)]
-fn measure_geometry<G, K: Nested<G>>(geom: &G) -> Result<usize, Fault>
-    ensures measured { IsMeasured (K.geometry geom.now) result }
-{
-    match K::members_of(geom) {
-        Some(members) => add_members::<G, K>(0, K::dim(geom), members).result(),
-        None => K::measure_leaf(geom),
-    }
-}
-
-// Whether the codes are EWKB's: all that a member keeps of the form, and it goes in a register.
-#[inline(always)]
-fn has_flags(form: Form) -> bool
-    ensures { inner form ≡ form_with_flags result }
-{
-    match form {
-        Form::Iso => false,
-        Form::Ewkb { srid: _ } => true,
-    }
-}
-
-// The form of a member.
-#[inline(always)]
-fn member_form(has_flags: bool) -> Form
-    ensures { result ≡ form_with_flags has_flags }
-{
-    if has_flags {
-        Form::Ewkb { srid: None }
-    } else {
-        Form::Iso
-    }
-}
-
-// Puts a member: a geometry without an SRID. Not inlined, so that each level hands on the form in a register.
-#[cycle(put)]
-#[inline(never)]
-fn put_member<S: Sink, G, K: Nested<G>>(
-    out: &mut Buffered<'_, S>,
-    geom: &G,
-    order: Endianness,
-    has_flags: bool,
-) -> Put
-    requires fault { fault (K.geometry geom.now) ≡ None }
-    requires working { S.has_failed out.old.sink.now ≡ false }
-    ensures { Lays S.Sink out.old out.new
-        (encoding order (form_with_flags has_flags) (K.geometry geom.now)) result }
-{
-    let form = member_form(has_flags);
-    match K::members_of(geom) {
-        Some(members) => {
-            put_members::<S, G, K>(out, members, order, form, dimension_to_write(K::dim(geom)))
-        }
-        None => K::put_leaf(out, geom, order, form),
-    }
-}
-
-// Puts a collection's header, and its members after their count. The last one is put by the last call, which the
-// compiler makes a jump.
-#[cycle(put)]
-#[inline(always)]
-#[tactic(auto, using(crate::proofs::Steps::node_laws))]
-pub fn put_members<S: Sink, G, K: Nested<G>>(
-    out: &mut Buffered<'_, S>,
-    members: &[G],
-    order: Endianness,
-    form: Form,
-    dim: Dimension,
-) -> Put
-    requires count { length members.now < 2 ^ 32 }
-    requires fault { first_fault (λ m. fault (K.geometry m)) members.now ≡ None }
-    requires working { S.has_failed out.old.sink.now ≡ false }
-    ensures { Lays S.Sink out.old out.new
-        (header_encoding order form 7 dim
-        ++ counted order
-        (map (λ m. encoding order (inner form) (K.geometry m)) members.now)) result }
-{
-    let count = members.len();
-    out.put_head(order, form, WkbType::GeometryCollection(dim), count as u32)?;
-    if count == 0 {
-        return Ok(());
-    }
-    let last = count - 1;
-    for i in 0..last {
-        put_member::<S, G, K>(out, &members[i], order, has_flags(form))?;
-    }
-    put_member::<S, G, K>(out, &members[last], order, has_flags(form))
-}
+use wkb_geom::{Dimensions, GeometryTrait, GeometryType};
 
 /// A geometry of any kind.
 pub struct GeometryKind;
+
+impl<G: GeometryTrait> Nested<G> for GeometryKind {
+    ghost geometry = { λ g. G.geometry g };
+
+    ghost dimensions = { λ g. G.dimensions g };
+
+    #[inline(always)]
+    fn dim(geom: &G) -> Dimensions {
+        geom.dim()
+    }
+
+    #[inline(always)]
+    fn members_of(geom: &G) -> Option<&[G]> {
+        match geom.as_type() {
+            GeometryType::GeometryCollection(members) => Some(members),
+            _ => None,
+        }
+    }
+
+    #[inline(always)]
+    fn measure_leaf(geom: &G) -> Result<usize, Fault> {
+        match geom.as_type() {
+            GeometryType::Point(p) => PointKind::measure(p),
+            GeometryType::LineString(l) => LineStringKind::measure(l),
+            GeometryType::Polygon(p) => PolygonKind::measure(p),
+            GeometryType::MultiPoint(m) => MultiPointKind::measure(m),
+            GeometryType::MultiLineString(m) => MultiLineStringKind::measure(m),
+            GeometryType::MultiPolygon(m) => MultiPolygonKind::measure(m),
+            GeometryType::Line(l) => LineKind::measure(l),
+            GeometryType::Rect(r) => RectKind::measure(r),
+            GeometryType::Triangle(t) => TriangleKind::measure(t),
+            GeometryType::GeometryCollection(_) => unreachable!(),
+        }
+    }
+
+    #[inline(always)]
+    fn put_leaf<S: Sink>(
+        out: &mut Buffered<'_, S>,
+        geom: &G,
+        order: Endianness,
+        form: Form,
+    ) -> Put {
+        match geom.as_type() {
+            GeometryType::Point(p) => PointKind::put(out, p, order, form),
+            GeometryType::LineString(l) => LineStringKind::put(out, l, order, form),
+            GeometryType::Polygon(p) => PolygonKind::put(out, p, order, form),
+            GeometryType::MultiPoint(m) => MultiPointKind::put(out, m, order, form),
+            GeometryType::MultiLineString(m) => MultiLineStringKind::put(out, m, order, form),
+            GeometryType::MultiPolygon(m) => MultiPolygonKind::put(out, m, order, form),
+            GeometryType::Rect(r) => RectKind::put(out, r, order, form),
+            GeometryType::Triangle(t) => TriangleKind::put(out, t, order, form),
+            GeometryType::Line(l) => LineKind::put(out, l, order, form),
+            GeometryType::GeometryCollection(_) => unreachable!(),
+        }
+    }
+}
 
 impl<G: GeometryTrait> Writable<G> for GeometryKind {
     ghost geometry = { λ g. G.geometry g };

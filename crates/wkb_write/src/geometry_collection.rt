@@ -4,7 +4,8 @@ ghost use Rattle.std.specs.Prelude.{◌≡◌, false};
 ghost use Rattle.wkb_write.specs.Words.{Iso, collection, geometries, IsSizeOf, WritesTo};
 
 use crate::common::*;
-use crate::geometry::{GeometryKind, add_members, put_members};
+use crate::geometry::GeometryKind;
+use crate::nested::{add_members, put_members};
 use wkb_geom::GeometryCollectionTrait;
 
 /// A collection, whose members are of another type.

@@ -7,15 +7,14 @@
 //!
 //! A file for each kind says what it means, how it is measured and put, and has its size and its writer. What they
 //! share: `writable` (the trait of kinds, and the way from it to a writer), `items` (the trait of what stands after a
-//! count, and its two loops) and `measure`. A *leaf* is a geometry of any kind but a collection (`leaf`): collections
-//! alone recurse (`geometry`).
+//! count, and its two loops), `nested` (the recursion of collections, and the trait of what it knows of a geometry) and
+//! `measure`.
 #![tactic(auto)]
 
 mod common;
 mod geometry;
 mod geometry_collection;
 mod items;
-mod leaf;
 mod lent;
 mod line;
 mod line_string;
@@ -23,6 +22,7 @@ mod measure;
 mod multi_line_string;
 mod multi_point;
 mod multi_polygon;
+mod nested;
 mod point;
 mod polygon;
 mod rect;

@@ -1,7 +1,7 @@
 use Rattle.wkb_write.proofs.Prelude.{◌+◌, ◌*◌, map, geometries, node_count, node_counts, header_encoding, encoding}
 use Rattle.wkb_write.proofs.Prelude.{inner, progress}
 use Rattle.wkb_write.proofs.Loops.{HasLaid}
-use Rattle.wkb_write.proofs.geometry.+put.Given as goal
+use Rattle.wkb_write.proofs.nested.+put.Given as goal
 
 abbrev pub decreases-put_member : goal.decreases-put_member
 decreases-put_member g l = 2 * node_count (g.K.Nested.geometry l.geom.now)

@@ -3,7 +3,7 @@ use Rattle.wkb_geom.specs.Geometries.{geometries}
 use Rattle.wkb_geom.specs.Sizes.{node_count, node_counts}
 use Rattle.wkb_write.specs.Bodies.{member_measures}
 use Rattle.wkb_write.proofs.Sums.{SoFar}
-use Rattle.wkb_write.proofs.geometry.+measure.Given as goal
+use Rattle.wkb_write.proofs.nested.+measure.Given as goal
 
 abbrev pub decreases-measure_geometry : goal.decreases-measure_geometry
 decreases-measure_geometry g l = 2 * node_count (g.K.Nested.geometry l.geom.now)

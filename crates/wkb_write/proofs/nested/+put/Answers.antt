@@ -3,7 +3,7 @@ use Rattle.wkb_write.proofs.Prelude.{encoding, inner}
 use Rattle.wkb_write.proofs.Collections.{collection_count, collection_members, lays_collection, member_ready}
 use Rattle.wkb_sink.proofs.Laid.{exits}
 use Rattle.wkb_write.proofs.Loops.{head_cut, none_laid, no_member, next_member, member_cut, last_member}
-use Rattle.wkb_write.proofs.geometry.+put.Goals as goal
+use Rattle.wkb_write.proofs.nested.+put.Goals as goal
 
 pub put_members-returns-in_err-put_head : goal.put_members-returns-in_err-put_head
 put_members-returns-in_err-put_head g t c =

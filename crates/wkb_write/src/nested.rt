@@ -1,0 +1,168 @@
+//! Collections in collections: their recursion, in measuring and in putting.
+//!
+//! A *leaf* is a geometry of any kind but a collection. The recursion ends there.
+
+ghost use Rattle.std.specs.Prelude.{◌≡◌, ◌<◌, ◌^◌, ◌++◌, None, false, length, map, MatchOption};
+ghost use Rattle.wkb_write.specs.Words.{Dimensions, Geometry, collection, geometries, fault, first_fault};
+ghost use Rattle.wkb_write.specs.Words.{header_encoding, inner, encoding, counted, form_with_flags};
+ghost use Rattle.wkb_write.specs.Words.{Lays, IsAdded, IsLeaf, IsMeasured, result_of};
+
+use crate::Sink;
+use crate::measure::{Measured, check_count, check_dimensions};
+use crate::writable::Put;
+use wkb_geom::code::WkbType;
+use wkb_geom::header::MEMBER_HEADER;
+use wkb_geom::{Dimension, Dimensions, Endianness, Fault, Form};
+use wkb_sink::Buffered;
+use wkb_sink::block::dimension_to_write;
+
+/// A kind whose geometries may be collections of more of them. The recursion knows no more of a geometry than this, so
+/// that it is proved over few types.
+pub trait Nested<G> {
+    // What a geometry means.
+    ghost geometry: { G → Geometry };
+
+    ghost dimensions: { G → Dimensions };
+
+    fn dim(geom: &G) -> Dimensions
+        ensures { result ≡ dimensions geom.now };
+
+    /// The members of a collection; none of a leaf.
+    fn members_of(geom: &G) -> Option<&[G]>
+        ensures { MatchOption result (IsLeaf (geometry geom.now))
+            (λ members. collection (dimensions geom.now) (geometries (map geometry members.now))
+            ≡ geometry geom.now) };
+
+    /// The bytes of a leaf after its header, or its first fault.
+    fn measure_leaf(geom: &G) -> Result<usize, Fault>
+        requires { IsLeaf (geometry geom.now) }
+        ensures { IsMeasured (geometry geom.now) result };
+
+    /// Puts a leaf that has no fault.
+    fn put_leaf<S: Sink>(out: &mut Buffered<'_, S>, geom: &G, order: Endianness, form: Form) -> Put
+        requires leaf { IsLeaf (geometry geom.now) }
+        requires fault { fault (geometry geom.now) ≡ None }
+        requires working { S.has_failed out.old.sink.now ≡ false }
+        ensures { Lays S.Sink out.old out.new (encoding order form (geometry geom.now)) result };
+}
+
+// Adds a collection of these dimensions and members to the bytes before it. Where the last member is a collection, it
+// is added by the last call, which the compiler makes a jump.
+#[cycle(measure)]
+pub fn add_members<G, K: Nested<G>>(before: usize, dim: Dimensions, members: &[G]) -> Measured
+    ensures { IsAdded before (collection dim (geometries (map K.geometry members.now)))
+        (result_of result) }
+{
+    match check_dimensions(dim) {
+        Ok(()) => {}
+        Err(fault) => return Measured::from(fault),
+    }
+    let count = match check_count(members.len() as u128) {
+        Ok(count) => count as usize,
+        Err(fault) => return Measured::from(fault),
+    };
+    let mut total = before.saturating_add(4 + MEMBER_HEADER * count);
+    for (i, member) in members.iter().enumerate() {
+        if i + 1 == count {
+            if let Some(inner) = K::members_of(member) {
+                return add_members::<G, K>(total, K::dim(member), inner);
+            }
+        }
+        match measure_geometry::<G, K>(member) {
+            Ok(size) => total = total.saturating_add(size),
+            Err(fault) => return Measured::from(fault),
+        }
+    }
+    Measured::Bytes(total)
+}
+
+// The bytes of a geometry after its header, or its first fault. `usize::MAX` stands for all that are more: with a
+// header none of them fits.
+#[cycle(measure)]
+#[inline(always)]
+pub fn measure_geometry<G, K: Nested<G>>(geom: &G) -> Result<usize, Fault>
+    ensures measured { IsMeasured (K.geometry geom.now) result }
+{
+    match K::members_of(geom) {
+        Some(members) => add_members::<G, K>(0, K::dim(geom), members).result(),
+        None => K::measure_leaf(geom),
+    }
+}
+
+// Whether the codes are EWKB's: all that a member keeps of the form, and it goes in a register.
+#[inline(always)]
+fn has_flags(form: Form) -> bool
+    ensures { inner form ≡ form_with_flags result }
+{
+    match form {
+        Form::Iso => false,
+        Form::Ewkb { srid: _ } => true,
+    }
+}
+
+// The form of a member.
+#[inline(always)]
+fn member_form(has_flags: bool) -> Form
+    ensures { result ≡ form_with_flags has_flags }
+{
+    if has_flags {
+        Form::Ewkb { srid: None }
+    } else {
+        Form::Iso
+    }
+}
+
+// Puts a member: a geometry without an SRID. Not inlined, so that each level hands on the form in a register.
+#[cycle(put)]
+#[inline(never)]
+fn put_member<S: Sink, G, K: Nested<G>>(
+    out: &mut Buffered<'_, S>,
+    geom: &G,
+    order: Endianness,
+    has_flags: bool,
+) -> Put
+    requires fault { fault (K.geometry geom.now) ≡ None }
+    requires working { S.has_failed out.old.sink.now ≡ false }
+    ensures { Lays S.Sink out.old out.new
+        (encoding order (form_with_flags has_flags) (K.geometry geom.now)) result }
+{
+    let form = member_form(has_flags);
+    match K::members_of(geom) {
+        Some(members) => {
+            put_members::<S, G, K>(out, members, order, form, dimension_to_write(K::dim(geom)))
+        }
+        None => K::put_leaf(out, geom, order, form),
+    }
+}
+
+// Puts a collection's header, and its members after their count. The last one is put by the last call, which the
+// compiler makes a jump.
+#[cycle(put)]
+#[inline(always)]
+#[tactic(auto, using(crate::proofs::Steps::node_laws))]
+pub fn put_members<S: Sink, G, K: Nested<G>>(
+    out: &mut Buffered<'_, S>,
+    members: &[G],
+    order: Endianness,
+    form: Form,
+    dim: Dimension,
+) -> Put
+    requires count { length members.now < 2 ^ 32 }
+    requires fault { first_fault (λ m. fault (K.geometry m)) members.now ≡ None }
+    requires working { S.has_failed out.old.sink.now ≡ false }
+    ensures { Lays S.Sink out.old out.new
+        (header_encoding order form 7 dim
+        ++ counted order
+        (map (λ m. encoding order (inner form) (K.geometry m)) members.now)) result }
+{
+    let count = members.len();
+    out.put_head(order, form, WkbType::GeometryCollection(dim), count as u32)?;
+    if count == 0 {
+        return Ok(());
+    }
+    let last = count - 1;
+    for i in 0..last {
+        put_member::<S, G, K>(out, &members[i], order, has_flags(form))?;
+    }
+    put_member::<S, G, K>(out, &members[last], order, has_flags(form))
+}
