@@ -5,7 +5,7 @@ ghost use Rattle.wkb_write.specs.Words.{encoding_of, refusal_of, Iso, IsMemory, 
 ghost use Rattle.wkb_write.specs.Words.{WritesTo, Reports};
 
 use crate::common::*;
-use crate::lent::{lent_encoding, write_lent};
+use crate::lent::{vec_lent, write_lent};
 use crate::line::LineKind;
 use crate::line_string::{LineStringKind, write_line_string};
 use crate::multi_line_string::MultiLineStringKind;
@@ -147,7 +147,7 @@ pub fn write_geometry<S: Sink, G: GeometryTrait>(
     requires working { S.has_failed writer.old ≡ false }
     ensures { WritesTo S.Sink writer.old writer.new options.now (G.geometry geom.now) result }
 {
-    if let Some(encoding) = lent_encoding(geom, options) {
+    if let Some(encoding) = geom.whole(options.endianness, options.form) {
         return write_lent(writer, encoding, options);
     }
     match geom.as_type() {
@@ -178,8 +178,8 @@ pub fn to_vec<G: GeometryTrait>(
     ensures err { IfErr result
         (λ e. IsMemory e ⊎ Reports e (refusal_of options.now (G.geometry geom.now))) }
 {
-    if let Some(encoding) = lent_encoding(geom, options) {
-        return Ok(Vec::from_slice(alloc, encoding)?);
+    if let Some(encoding) = geom.whole(options.endianness, options.form) {
+        return vec_lent(alloc, encoding);
     }
     match geom.as_type() {
         // By itself a point needs no call.

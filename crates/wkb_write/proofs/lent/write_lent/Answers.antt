@@ -1,8 +1,10 @@
-use Rattle.wkb_write.proofs.Writing.{put_writes, told}
+use Rattle.std.proofs.Common.{arith}
+use Rattle.wkb_write.proofs.Writing.{lent_fits, put_writes, told}
 use Rattle.wkb_write.proofs.lent.write_lent.Goals as goal
 
 pub returns : goal.returns
 returns g c = λ geo lawful none is.
     let puts = told _ _ _ (g.S.Sink.fails_by c.put_all.new.sink) _ _ _
     (rw is at c.put_all.ensures) c.wkb_result.ensures in
-    put_writes none lawful c.length_of_header.ensures.fits puts
+    let fits = lent_fits _ _ _ is none (omega (arith, c.length.ensures, c.length.type_inv)) in
+    put_writes fits lawful c.length_of_header.ensures.fits puts
