@@ -50,14 +50,14 @@ pub enum Cause {
 }
 
 /// Why a reader stops: a fault of the bytes, or memory that was asked for and refused.
-#[derive(Debug, Clone, Copy)]
+#[derive(Clone, Copy)]
 pub enum Refusal {
     Fault(Cause),
     Memory,
 }
 
 /// Why a geometry is not written: the first fault in preorder, else its size.
-#[derive(Debug, Clone, Copy)]
+#[derive(Clone, Copy)]
 pub enum Fault {
     /// A geometry has this many numbers in a coordinate, and no name for its dimension.
     UnsupportedDimensions(usize),

@@ -24,7 +24,7 @@ pub const LONGEST_HEADER: usize = MEMBER_HEADER + SRID;
 pub const LEAST_MEMBER: usize = MEMBER_HEADER + COUNT;
 
 /// What stands in front of a body.
-#[derive(Clone, Copy, Debug)]
+#[derive(Clone, Copy)]
 pub struct Header {
     pub order: Endianness,
     pub wkb_type: WkbType,
