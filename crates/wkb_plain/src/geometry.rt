@@ -9,7 +9,9 @@ ghost use Rattle.wkb_plain.specs.PlainGeometry.{collection_members, collection_l
 use crate::{
     Line, LineString, MultiLineString, MultiPoint, MultiPolygon, Point, Polygon, Rect, Triangle,
 };
-use wkb_geom::{Dimensioned, Dimensions, GeometryCollectionTrait, GeometryTrait, GeometryType};
+use wkb_geom::{
+    Dimensioned, Dimensions, Endianness, Form, GeometryCollectionTrait, GeometryTrait, GeometryType,
+};
 
 /// A plain geometry of any kind.
 #[cycle(geometry)]
@@ -147,5 +149,11 @@ impl<'w> GeometryTrait for Geometry<'w> {
             Geometry::Triangle(t) => GeometryType::Triangle(t),
             Geometry::Line(l) => GeometryType::Line(l),
         }
+    }
+
+    // Its words stand in the caller's slices, and no header beside them.
+    #[inline]
+    fn whole(&self, _order: Endianness, _form: Form) -> Option<&[u8]> {
+        None
     }
 }
