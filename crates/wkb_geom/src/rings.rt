@@ -16,7 +16,6 @@ pub fn ring_count<P: PolygonTrait>(polygon: &P) -> u128
 }
 
 /// The ring at a place.
-#[tactic(auto, using(crate::proofs::FirstItem::ring_laws))]
 pub fn nth_ring<P: PolygonTrait>(polygon: &P, i: usize) -> P::RingType
     requires { i < length (P.rings polygon.now) }
     ensures value { slice_get (P.rings polygon.now) i ≡ Some (P.RingType.coordinates result) }
