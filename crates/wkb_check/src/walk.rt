@@ -1,7 +1,7 @@
 //! How far a check came.
 
 /// What was counted, and where the part begins that is looked at.
-#[derive(Clone, Copy, Debug, PartialEq)]
+#[derive(Clone, Copy)]
 pub struct Walk {
     /// How many parts were begun inside the outermost geometry.
     pub turns: usize,
