@@ -14,7 +14,6 @@ use wkb_geom::words::u32_at;
 use wkb_geom::{Cause, Dimension, Endianness, General, Layout};
 
 /// The bytes after the point behind this header.
-#[tactic(auto, unfolding(wkb_geom::specs::Reading::point_at))]
 #[inline(always)]
 fn after_point(layout: Layout, bytes: &[u8]) -> Result<&[u8], Cause>
     ensures { Leaves (λ rest. rest.now) result (point_at layout bytes.now) }
@@ -30,7 +29,6 @@ fn after_point(layout: Layout, bytes: &[u8]) -> Result<&[u8], Cause>
 }
 
 /// How many coordinates the line string behind this header has, and the bytes after it.
-#[tactic(auto, unfolding(wkb_geom::specs::Reading::line_string_at))]
 #[inline(always)]
 fn after_line_string(layout: Layout, bytes: &[u8]) -> Result<(u32, &[u8]), Cause>
     ensures rest { Leaves (λ x. x.1.now) result (line_string_at layout bytes.now).1 }
@@ -53,7 +51,6 @@ fn after_line_string(layout: Layout, bytes: &[u8]) -> Result<(u32, &[u8]), Cause
 }
 
 /// How many coordinates the ring at the front of the bytes has, and the bytes after it.
-#[tactic(auto, unfolding(wkb_geom::specs::Reading::ring_at))]
 #[inline(always)]
 fn after_ring(order: Endianness, dimension: Dimension, bytes: &[u8]) -> Result<(u32, &[u8]), Cause>
     ensures rest { Leaves (λ x. x.1.now) result (ring_at order dimension bytes.now) }
