@@ -7,7 +7,7 @@ use Rattle.wkb_read.proofs.Words.{Refusal, Fault, Memory, Counts, Spent, AtMost,
 use Rattle.wkb_read.proofs.Words.{Opened, IsCollectionIn, closing, list_item}
 use Rattle.wkb_read.proofs.Words.{collection_with, geometry_inside, behind_member, in_collection, outward, first_member}
 use Rattle.wkb_read.proofs.Words.{cost_of, next_turn, IsOpen, AreOpen}
-use Rattle.wkb_read.proofs.Words.{IsFinished, BeginsAs}
+use Rattle.wkb_read.proofs.Words.{IsFinished, BeginsAs, ReadsAs, Result}
 use Rattle.wkb_read.proofs.Algebra.{cost_is, costs-costs, and_then-costs, and_then-assoc, and_then-same, and_then-least}
 use Rattle.wkb_read.proofs.Algebra.{done_then, repeated_more}
 use Rattle.wkb_read.proofs.Algebra.{repeated_none}
@@ -125,6 +125,28 @@ all_read w rest whole old new e = (
     slots = omega (arith, ap (λ (s : Reading Item). s.0.slots) e);
   },
 )
+
+-- what this reading leads to is what is read
+pub reads_on : (result : Result Wkb Refusal) (r whole : Reading Item) (old mid new : Counts)
+    → costs (cost_of mid) r ≡ costs (cost_of old) whole → ReadsAs r result mid new → ReadsAs whole result old new
+reads_on (Ok w) r whole old mid new e h = (
+  (h.0.0, sym (ap (λ (s : Reading Item). s.1) e) ∙ h.0.1),
+  record {
+    turns = omega (arith, h.1.turns, ap (λ (s : Reading Item). s.0.turns) e);
+    slots = omega (arith, h.1.slots, ap (λ (s : Reading Item). s.0.slots) e);
+  },
+)
+reads_on (Err (Fault cause)) r whole old mid new e h = (
+  sym (ap (λ (s : Reading Item). s.1) e) ∙ h.0,
+  record {
+    turns = omega (arith, h.1.turns, ap (λ (s : Reading Item). s.0.turns) e);
+    slots = omega (arith, h.1.slots, ap (λ (s : Reading Item). s.0.slots) e);
+  },
+)
+reads_on (Err Memory) r whole old mid new e h = record {
+  turns = omega (arith, h.turns, ap (λ (s : Reading Item). s.0.turns) e);
+  slots = omega (arith, h.slots, ap (λ (s : Reading Item). s.0.slots) e);
+}
 
 -- ---- a part is finished
 

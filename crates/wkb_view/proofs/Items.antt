@@ -9,7 +9,8 @@ use Rattle.std.proofs.Math.Nat.{mul-le-mul_left, mul-le-mul_right, mul-add}
 use Rattle.wkb_geom.specs.Spellings.{header}
 use Rattle.wkb_geom.specs.Reading.{point_words_in}
 use Rattle.wkb_view.specs.Words.{Endianness, Dimension, Xy, Xyz, Xym, Xyzm, number, width, number-take, length-items}
-use Rattle.wkb_view.specs.Words.{items, coordinate, coordinates}
+use Rattle.wkb_view.specs.Words.{items, coordinate, coordinates, body_start}
+use Rattle.wkb_view.specs.Coords.{coordinate_encoding}
 use Rattle.wkb_view.specs.Words.{ring_in, Layout, is_nan, all_nan, point_of, point_item, point_item_of, srid_in}
 
 pub items_at : {A : Type 0} (size : ℕ) (item : List ℕ → A) (n i : ℕ) (xs : List ℕ) → i < n
@@ -52,6 +53,14 @@ coordinate_between e d n i start encoding h =
     ∙ ap (λ (t : List ℕ). coordinate e d t) (sym (drop-drop (8 * width d * i) start encoding)))
     ∙ sym (items_at (8 * width d) (coordinate e d) n i (drop start encoding) h)
 
+-- a coordinate behind a header and a count
+pub coordinate_behind : (d : Dimension) (start i : ℕ) (encoding : List ℕ)
+    → coordinate_encoding d (4 + 8 * width d * i) (drop start encoding)
+    ≡ coordinate_encoding d (start + 4 + 8 * width d * i) encoding
+coordinate_behind d start i encoding =
+    ap (λ (t : List ℕ). take (8 * width d) t)
+    (drop-drop (4 + 8 * width d * i) start encoding ∙ ap (λ (k : ℕ). drop k encoding) (omega arith))
+
 pub ring_counted : (e : Endianness) (d : Dimension) (encoding : List ℕ)
     → length (ring_in e d encoding) ≡ number e 4 encoding
 ring_counted e d encoding = length-items (8 * width d) (coordinate e d) (number e 4 encoding) (drop 4 encoding)
@@ -61,6 +70,10 @@ width-within Xy = (omega arith, omega arith)
 width-within Xyz = (omega arith, omega arith)
 width-within Xym = (omega arith, omega arith)
 width-within Xyzm = (omega arith, omega arith)
+
+pub start-within : (srid : Bool) → body_start srid ≤ 9
+start-within true = omega arith
+start-within false = omega arith
 
 pub few_words : (d : Dimension) (i : ℕ) → 8 * width d * i ≤ 32 * i
 few_words d i = mul-le-mul_right i (omega (arith, (width-within d).1))

@@ -41,6 +41,16 @@ begun c = record { turns = c.turns + 1; slots = c.slots }
 pub freely : {A : Type 0} (r : Reading A) (p : Outcome A) (c : Counts) → r ≡ (free, p) → (r.1 ≡ p) × Spent c c r.0
 freely {A = A} r p c is = (ap (λ (q : Reading A). q.1) is, rw is (record { turns = omega arith; slots = omega arith }))
 
+begin_by : {A : Type 0} (c : Counts) (r : Reading (List A)) → Leads c c (goes_on [] r) r
+begin_by c (k, Ok x) = record { answer = refl; turns_are = omega arith; slots_are = omega arith }
+begin_by c (k, Err f) = record { answer = refl; turns_are = omega arith; slots_are = omega arith }
+
+-- before the first part
+pub parts_begin : {A : Type 0} (part : List ℕ → Reading A) (count : ℕ) (rest : List ℕ) (c : Counts)
+    → Loop part count 0 [] rest c c (repeated count part rest)
+parts_begin part count rest c =
+    let all : count - 0 ≡ count = omega arith in record { leads = rw all (begin_by c (repeated count part rest)) }
+
 module _ {A : Type 0} {start : Counts} {whole : Reading (List A)} where
   next_by : (front : List A) (x : A) (c : Cost) (old new : Counts) (r : Reading (List A)) → Spent (begun old) new c
       → Leads start old (goes_on front (costs one_turn (costs c (and_then r (λ xs after. done (x ∷ xs) after))))) whole
@@ -269,6 +279,10 @@ module _ {A : Type 0} (end : List A → List ℕ → Item) (bytes : List ℕ) (o
         record { turns = omega (arith, spent.turns); slots = omega (arith, spent.slots) },
       )
 
+  costs_by : (capacity : ℕ) (r : Reading (List A)) → r.0.slots ≤ (made capacity r).0.slots
+  costs_by capacity (c, Ok x) = omega arith
+  costs_by capacity (c, Err f) = omega arith
+
   ends_by : (e : Refusal) (capacity : ℕ) (new : Counts) (r : Reading (List A)) → mid.turns ≡ old.turns
       → mid.slots ≡ old.slots + capacity → Stops e r mid new
       → Stops e (made capacity r) old new
@@ -292,6 +306,10 @@ module _ {A : Type 0} {k n : ℕ} {l : Layout} {part : List ℕ → Reading A} {
   pub list_fits : IsList k l part end bytes n old mid whole → CanCount old whole.0
       → CanCount mid (parts_behind part l n bytes).0
   list_fits h fits = fits_by end bytes old mid _ (parts_behind part l n bytes) h.turns h.slots (rw h.is at fits)
+
+  -- the entries of its parts are among those of the whole
+  pub list_costs : IsList k l part end bytes n old mid whole → (parts_behind part l n bytes).0.slots ≤ whole.0.slots
+  list_costs h = rw h.is (costs_by end bytes old mid _ (parts_behind part l n bytes))
 
   -- a list whose parts are read
   pub list_reads : (new : Counts) (parts : List A) (rest : List ℕ) → IsList k l part end bytes n old mid whole

@@ -1,15 +1,15 @@
 -- Parts of one form one after another, by the offsets at which they end.
 use Rattle.std.proofs.Common.{◌≡◌, ℕ, suc, zero, Option, ◌-◌, ◌+◌, ◌≤◌, ◌<◌, List, [], ◌∷◌, length, take, drop, map}
 use Rattle.std.proofs.Common.{Some, None, refl, sym, ap, subst, ◌∙◌}
-use Rattle.std.proofs.Common.{get_or, arith, ◌*◌, ◌++◌, Ok, length-append, length-drop, length-take}
+use Rattle.std.proofs.Common.{get_or, arith, Bool, ◌*◌, ◌++◌, Ok, length-append, length-drop, length-take}
 use Rattle.std.specs.Prelude.{slice_get, option_map}
 use Rattle.std.proofs.lemmas.List.{length-map, drop-drop, drop-take, take-take}
 use Rattle.std.proofs.lemmas.Option.{slice_get_past, slice_get-map}
-use Rattle.wkb_view.specs.Words.{Reading, consumed}
+use Rattle.wkb_view.specs.Words.{Reading, consumed, body_start, parts_start, repeated}
 use Rattle.wkb_view.specs.Pieces.{pieces, ArePieces, AreInOrder, IsPiece, Passed}
 use Rattle.wkb_view.specs.declared.counts.Counts.{Counts}
 use Rattle.wkb_view.specs.Outcome.{Spent}
-use Rattle.wkb_view.proofs.Lists.{begun, Loop, next_part, parts_end}
+use Rattle.wkb_view.proofs.Lists.{begun, Loop, parts_begin, next_part, parts_end}
 
 -- ---- the part at an index
 
@@ -148,6 +148,25 @@ pub record SoFar {A : Type 0} (least : ℕ) (P : List ℕ → Type 0) (seen : Li
   pub within : last_end start ends ≤ length bytes
   pub taken_in_all : least * length ends + length rest + start ≤ length bytes
   pub as_many : length ends ≡ i
+
+-- before the first of them
+pub pieces_begin : {A : Type 0} {least : ℕ} {P : List ℕ → Type 0} {seen : List ℕ → A} {part : List ℕ → Reading A}
+    (srid : Bool) (count : ℕ) (bytes rest : List ℕ) (began : Counts) → body_start srid + 4 ≤ length bytes
+    → rest ≡ parts_start srid bytes
+    → SoFar least P seen part (body_start srid + 4) count 0 bytes [] rest began began
+    (repeated count part (parts_start srid bytes))
+pieces_begin {part = part} srid count bytes rest began whole rest-is =
+    let start = body_start srid + 4 in
+    let behind : parts_start srid bytes ≡ drop start bytes =
+    drop-drop 4 (body_start srid) bytes ∙ ap (λ (n : ℕ). drop n bytes) (omega arith) in
+    record {
+      left = rw rest-is (parts_begin part count (parts_start srid bytes) began);
+      stand = whole;
+      rest_is = rest-is ∙ behind;
+      within = whole;
+      taken_in_all = omega (arith, ap length (rest-is ∙ behind), length-drop start bytes);
+      as_many = refl;
+    }
 
 module _ {A : Type 0} {least : ℕ} {P : List ℕ → Type 0} {seen : List ℕ → A} {part : List ℕ
     → Reading A} {start count : ℕ} {bytes : List ℕ}

@@ -2,7 +2,7 @@ use Rattle.std.proofs.Common.{arith}
 use Rattle.std.proofs.lemmas.Result.{err_from_is_err_and}
 use Rattle.wkb_view.specs.Words.{Fault}
 use Rattle.wkb_view.proofs.Lists.{parts_length, freely, part_costs, part_stops}
-use Rattle.wkb_view.proofs.Pieces.{pieces_next, pieces_read}
+use Rattle.wkb_view.proofs.Pieces.{pieces_begin, pieces_next, pieces_read}
 use Rattle.wkb_view.proofs.multi_line_string.pass_line_strings.Goals as goal
 
 pub overflow_add-counts : goal.overflow_add-counts
@@ -46,3 +46,19 @@ push-requires c =
       c.requires.whole,
       parts_length c.args.layout.has_srid c.args.bytes.now,
     )
+
+pub loop-init : goal.loop-init
+loop-init c =
+    rw c.requires.empty (record {
+      so_far =
+          pieces_begin c.args.layout.has_srid c.args.count c.args.bytes.now _ c.args.counts.now c.requires.whole
+          c.after_count-rest.ensures;
+      room = c.requires.room;
+    })
+
+pub overflow_sub-bytes : goal.overflow_sub-bytes
+overflow_sub-bytes c =
+    omega (arith, c.loop.invariant.so_far.taken_in_all, c.in_ok-rest.ensures.passed.shorter)
+
+pub returns-clause-shorter : goal.returns-clause-shorter
+returns-clause-shorter c = omega (arith, c.loop.invariant.so_far.taken_in_all)

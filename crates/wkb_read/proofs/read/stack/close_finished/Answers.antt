@@ -1,6 +1,8 @@
 use Rattle.wkb_read.proofs.Words.{◌≡◌, ◌<◌, ◌+◌, ◌-◌, ℕ, ◌∷◌, [], ◌++◌, length, reverse, length-append, length-reverse}
 use Rattle.wkb_read.proofs.Words.{refl, sym, ap, ◌∙◌, arith, vec_len}
 use Rattle.wkb_read.proofs.Words.{List, slice_set, Item, Reading, costs, Open, cost_of, outward}
+use Rattle.std.proofs.Common.{length-take, true, false}
+use Rattle.std.proofs.lemmas.Bool.{false≢true}
 use Rattle.wkb_view.specs.Entries.{entries}
 use Rattle.wkb_read.proofs.LastItem.{Top, top, popped}
 use Rattle.wkb_read.proofs.Stacks.{Reaches, Finishes, Completes, next_begins, completes}
@@ -107,3 +109,55 @@ loop-top-preserved c =
             (on_top p).count,
           );
     })
+
+pub loop-top-init : goal.loop-top-init
+loop-top-init c = record {
+  finishes = record { so_far = refl; stand = c.requires.stand; part = c.requires.part };
+  fewer = omega arith;
+}
+
+pub push-requires : goal.push-requires
+push-requires c =
+    let t =
+    top c.loop-top.stack.items (vec_len c.loop-top.stack - 1) c.in-Some.top.now
+    (omega (arith, c.in-Some.ensures.variant.0 refl, c.loop-top.stack.ok)) c.in-Some.ensures.value in
+    let f = rw t.is at c.loop-top.invariant.finishes in
+    omega (
+      arith,
+      f.stand.0.room,
+      f.stand.0.within,
+      f.part.long,
+      length-append c.loop-top.finished.encoding c.args.rest.now,
+    )
+
+pub slice_bounds-finished-length : goal.slice_bounds-finished-length
+slice_bounds-finished-length c =
+    let bytes = c.in-Some-pop.collection.bytes.now in
+    omega (arith, length-take (length bytes - length c.args.rest.now) bytes)
+
+-- an empty stack
+none_in : (os : List Open) (n : ℕ) → n ≡ length os → (0 < n → false ≡ true) → os ≡ []
+none_in [] n is some = refl
+none_in (o ∷ os) n is some = absurd (false≢true (some (omega arith)))
+
+pub returns-in_default : goal.returns-in_default
+returns-in_default c =
+    let s = c.loop-top.stack in
+    let none = ap reverse (none_in s.items (vec_len s) (omega (arith, s.ok)) c.in_default.ensures.variant.1) in
+    (none, (rw none at c.loop-top.invariant.finishes).so_far)
+
+pub unreachable-requires : goal.unreachable-requires
+unreachable-requires c = false≢true (c.in_default-pop.ensures.variant.1 (c.in-Some.ensures.variant.0 refl))
+
+pub loop-top-smaller : goal.loop-top-smaller
+loop-top-smaller c =
+    let p = (goal.at.loop-top-smaller c).After-push in
+    let off = taken_off p _ _ c.in-Some-pop.ensures.items in
+    omega (
+      arith,
+      ap length off.1,
+      length-reverse c.pop.new.self.items,
+      (on_top p).count,
+      c.pop.new.self.ok,
+      c.loop-top.stack.ok,
+    )

@@ -70,3 +70,13 @@ pub returns-in_err-ends-clause-no_memory : goal.returns-in_err-ends-clause-no_me
 returns-in_err-ends-clause-no_memory c = λ none.
     let p = err_from_is_err_and c.from_residual-in_err-ends.result c.from_residual-in_err-ends.ensures.1 in
     rw (p.1, p.2) tt
+
+pub slice_bounds-multi_line_string-count : goal.slice_bounds-multi_line_string-count
+slice_bounds-multi_line_string-count c = omega (arith, c.in_ok-ends.ensures.shorter)
+
+pub slice_bounds-multi_line_string-length : goal.slice_bounds-multi_line_string-length
+slice_bounds-multi_line_string-length c =
+    omega (arith, length-take (length c.args.bytes.now - length c.in_ok-ends.rest.now) c.args.bytes.now)
+
+pub returns-clause-shorter : goal.returns-clause-shorter
+returns-clause-shorter c = omega (arith, c.in_ok-ends.ensures.shorter)

@@ -1,7 +1,7 @@
 use Rattle.std.specs.List.{AllByRecursion}
 use Rattle.std.proofs.Common.{◌≡◌, subst, sym, ◌-◌, length, length-take, arith}
 use Rattle.std.proofs.lemmas.Result.{err_from_is_err_and}
-use Rattle.wkb_view.proofs.Lists.{parts_length, polygons_here, list_fits, list_reads, list_stops}
+use Rattle.wkb_view.proofs.Lists.{parts_length, polygons_here, list_fits, list_costs, list_reads, list_stops}
 use Rattle.wkb_view.proofs.Lists.{polygons_within, polygons_refused}
 use Rattle.wkb_view.proofs.SpelledRead.{body_spelled}
 use Rattle.wkb_view.proofs.multi_polygon.MultiPolygon.read.Goals as goal
@@ -71,3 +71,30 @@ returns-in_err-count-clause-no_memory c = λ none.
     let stopped = err_from_is_err_and c.from_residual.result c.from_residual.ensures.1 in
     rw (stopped.1, stopped.2)
     (c.in_err-count.ensures.no_memory (omega (arith, none, polygons_within c.args.layout c.args.bytes.now)))
+
+pub slice_bounds-multi_polygon-count : goal.slice_bounds-multi_polygon-count
+slice_bounds-multi_polygon-count c =
+    omega (arith, c.in_ok-members.ensures.shorter, parts_length c.args.layout.has_srid c.args.bytes.now)
+
+pub slice_bounds-multi_polygon-length : goal.slice_bounds-multi_polygon-length
+slice_bounds-multi_polygon-length c =
+    omega (arith, length-take (length c.args.bytes.now - length c.in_ok-members.rest.now) c.args.bytes.now)
+
+pub returns-clause-shorter : goal.returns-clause-shorter
+returns-clause-shorter c =
+    omega (
+      arith,
+      c.in_ok-members.ensures.shorter,
+      c.in_ok-count.ensures.whole,
+      parts_length c.args.layout.has_srid c.args.bytes.now,
+    )
+
+pub returns-in_err-members-clause-no_memory : goal.returns-in_err-members-clause-no_memory
+returns-in_err-members-clause-no_memory c = λ none.
+    let p = err_from_is_err_and c.from_residual-in_err-members.result c.from_residual-in_err-members.ensures.1 in
+    let costs =
+    list_costs
+    (polygons_here c.args.layout c.args.bytes.now _ c.args.counts.now c.counted_list.new.counts
+    c.in_ok-count.ensures.whole c.in_ok-count.ensures.count
+    c.counted_list.ensures.turns c.counted_list.ensures.slots) in
+    rw (p.1, p.2) (c.in_err-members.ensures.no_memory (omega (arith, none, costs)))

@@ -1,3 +1,4 @@
+use Rattle.std.proofs.Common.{refl}
 use Rattle.wkb_view.specs.Words.{ring_in}
 use Rattle.wkb_view.specs.Pieces.{IsRing}
 use Rattle.wkb_view.proofs.Pieces.{in_order, piece_form, piece_seen}
@@ -32,3 +33,16 @@ returns-clause-value c =
     let p = c.self.inside in
     rw (← c.self.view_is) (piece_seen (ring_in p.layout.order p.layout.dimension) _ p.ends.items p.buf.now c.args.i _
     (rw (c.header_length.ensures, c.deref.ensures.value) at c.in_ok-bytes.ensures.part))
+
+pub returns-in_err-bytes-clause-value : goal.returns-in_err-bytes-clause-value
+returns-in_err-bytes-clause-value c =
+    let p = c.self.inside in
+    rw (c.from_residual.ensures, ← c.self.view_is)
+    (piece_seen (ring_in p.layout.order p.layout.dimension) _ p.ends.items p.buf.now c.args.i _
+    (rw (c.header_length.ensures, c.deref.ensures.value) at c.in_err-bytes.ensures.part))
+
+pub returns-clause-dimension : goal.returns-clause-dimension
+returns-clause-dimension c = rw (← c.self.view_is) refl
+
+pub returns-clause-order : goal.returns-clause-order
+returns-clause-order c = rw (← c.self.view_is) refl

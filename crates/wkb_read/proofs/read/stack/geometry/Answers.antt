@@ -1,0 +1,30 @@
+use Rattle.wkb_read.proofs.Words.{ap, arith, Item, Reading, max_nesting, geometry_at}
+use Rattle.wkb_read.proofs.Stacks.{reads_on}
+use Rattle.wkb_read.proofs.read.stack.geometry.Goals as goal
+
+pub nested-requires-clause-stands : goal.nested-requires-clause-stands
+nested-requires-clause-stands c =
+    (rw c.in-Ok-Opened.field-0-is at c.in-Ok-Opened.ensures.begins).3
+
+pub nested-requires-clause-fits : goal.nested-requires-clause-fits
+nested-requires-clause-fits c =
+    let begun = (rw c.in-Ok-Opened.field-0-is at c.in-Ok-Opened.ensures.begins).0 in
+    record {
+      turns = omega (arith, ap (λ (s : Reading Item). s.0.turns) begun, c.requires.fits.turns);
+      slots = omega (arith, ap (λ (s : Reading Item). s.0.slots) begun, c.requires.fits.slots);
+    }
+
+pub returns-in-Ok-Opened-clause-reads : goal.returns-in-Ok-Opened-clause-reads
+returns-in-Ok-Opened-clause-reads c =
+    reads_on c.nested.result _ (geometry_at max_nesting c.args.buf.now) c.args.counts.now c.begin.new.counts
+    c.nested.new.counts (rw c.in-Ok-Opened.field-0-is at c.in-Ok-Opened.ensures.begins).0 c.nested.ensures
+
+pub returns-in-Ok-Opened-clause-no_memory : goal.returns-in-Ok-Opened-clause-no_memory
+returns-in-Ok-Opened-clause-no_memory c = λ none.
+    absurd ((rw c.in-Ok-Opened.field-0-is at c.in-Ok-Opened.ensures.no_memory) none)
+
+pub returns-in-Err-clause-reads : goal.returns-in-Err-clause-reads
+returns-in-Err-clause-reads c = c.in-Err.ensures.begins
+
+pub returns-in-Err-clause-no_memory : goal.returns-in-Err-clause-no_memory
+returns-in-Err-clause-no_memory c = c.in-Err.ensures.no_memory

@@ -1,0 +1,18 @@
+use Rattle.std.proofs.Common.{◌∙◌}
+use Rattle.wkb_view.specs.Words.{body_start}
+use Rattle.wkb_view.proofs.Items.{coordinate_behind}
+use Rattle.wkb_view.proofs.line_string.LineStringLineStringTrait.coord_at.Goals as goal
+
+pub coord_at-requires : goal.coord_at-requires
+coord_at-requires c =
+    rw (c.as_ring.ensures.encoding, c.as_ring.ensures.order, c.as_ring.ensures.dimension) c.requires
+
+pub returns-clause-value : goal.returns-clause-value
+returns-clause-value c =
+    rw (c.as_ring.ensures.encoding, c.as_ring.ensures.order, c.as_ring.ensures.dimension) at c.coord_at.ensures.value
+
+pub returns-clause-bytes : goal.returns-clause-bytes
+returns-clause-bytes c =
+    let l = c.args.self.now in
+    (rw (c.as_ring.ensures.encoding, c.as_ring.ensures.dimension) at c.coord_at.ensures.bytes)
+    ∙ coordinate_behind l.layout.dimension (body_start l.layout.has_srid) c.args.i l.buf.now
