@@ -6,7 +6,6 @@ pub use Rattle.wkb_geom.specs.Geometries.{triangle}
 pub use Rattle.wkb_geom.specs.Reading.{type_dimension, type_kind}
 pub use Rattle.wkb_geom.specs.Encodings.{coordinates_fault, coordinates_encoding, count_fault, dimensions_fault, fault}
 pub use Rattle.wkb_geom.specs.Encodings.{first_fault, header_encoding, inner, refusal, encoding, words_encoding}
-pub use Rattle.wkb_geom.specs.declared.common.Dimensions.{Dimensions}
 pub use Rattle.wkb_geom.specs.declared.common.Endianness.{Endianness}
 pub use Rattle.wkb_geom.specs.declared.common.Form.{Form}
 pub use Rattle.wkb_geom.specs.declared.common.Form.TheVariants.{Iso}

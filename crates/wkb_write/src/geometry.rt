@@ -18,20 +18,13 @@ use crate::rect::RectKind;
 use crate::triangle::TriangleKind;
 use crate::writable::vec_as;
 use std::alloc::Global;
-use wkb_geom::{Dimensions, GeometryTrait, GeometryType};
+use wkb_geom::{GeometryTrait, GeometryType};
 
 /// A geometry of any kind.
 pub struct GeometryKind;
 
 impl<G: GeometryTrait> Nested<G> for GeometryKind {
     ghost geometry = { λ g. G.geometry g };
-
-    ghost dimensions = { λ g. G.dimensions g };
-
-    #[inline(always)]
-    fn dim(geom: &G) -> Dimensions {
-        geom.dim()
-    }
 
     #[inline(always)]
     fn members_of(geom: &G) -> Option<&[G]> {

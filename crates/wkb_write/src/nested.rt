@@ -3,7 +3,7 @@
 //! A *leaf* is a geometry of any kind but a collection. The recursion ends there.
 
 ghost use Rattle.std.specs.Prelude.{◌≡◌, ◌<◌, ◌^◌, ◌++◌, None, false, length, map, MatchOption};
-ghost use Rattle.wkb_write.specs.Words.{Dimensions, Geometry, collection, geometries, fault, first_fault};
+ghost use Rattle.wkb_write.specs.Words.{Geometry, collection, geometries, fault, first_fault};
 ghost use Rattle.wkb_write.specs.Words.{header_encoding, inner, encoding, counted, form_with_flags};
 ghost use Rattle.wkb_write.specs.Words.{Lays, IsAdded, IsLeaf, IsMeasured, result_of};
 
@@ -12,25 +12,20 @@ use crate::measure::{Measured, check_count, check_dimensions};
 use crate::writable::Put;
 use wkb_geom::code::WkbType;
 use wkb_geom::header::MEMBER_HEADER;
-use wkb_geom::{Dimension, Dimensions, Endianness, Fault, Form};
+use wkb_geom::{Dimension, Dimensioned, Dimensions, Endianness, Fault, Form};
 use wkb_sink::Buffered;
 use wkb_sink::block::dimension_to_write;
 
 /// A kind whose geometries may be collections of more of them. The recursion knows no more of a geometry than this, so
 /// that it is proved over few types.
-pub trait Nested<G> {
+pub trait Nested<G: Dimensioned> {
     // What a geometry means.
     ghost geometry: { G → Geometry };
-
-    ghost dimensions: { G → Dimensions };
-
-    fn dim(geom: &G) -> Dimensions
-        ensures { result ≡ dimensions geom.now };
 
     /// The members of a collection; none of a leaf.
     fn members_of(geom: &G) -> Option<&[G]>
         ensures { MatchOption result (IsLeaf (geometry geom.now))
-            (λ members. collection (dimensions geom.now) (geometries (map geometry members.now))
+            (λ members. collection (G.dimensions geom.now) (geometries (map geometry members.now))
             ≡ geometry geom.now) };
 
     /// The bytes of a leaf after its header, or its first fault.
@@ -49,7 +44,11 @@ pub trait Nested<G> {
 // Adds a collection of these dimensions and members to the bytes before it. Where the last member is a collection, it
 // is added by the last call, which the compiler makes a jump.
 #[cycle(measure)]
-pub fn add_members<G, K: Nested<G>>(before: usize, dim: Dimensions, members: &[G]) -> Measured
+pub fn add_members<G: Dimensioned, K: Nested<G>>(
+    before: usize,
+    dim: Dimensions,
+    members: &[G],
+) -> Measured
     ensures { IsAdded before (collection dim (geometries (map K.geometry members.now)))
         (result_of result) }
 {
@@ -65,7 +64,7 @@ pub fn add_members<G, K: Nested<G>>(before: usize, dim: Dimensions, members: &[G
     for (i, member) in members.iter().enumerate() {
         if i + 1 == count {
             if let Some(inner) = K::members_of(member) {
-                return add_members::<G, K>(total, K::dim(member), inner);
+                return add_members::<G, K>(total, member.dim(), inner);
             }
         }
         match measure_geometry::<G, K>(member) {
@@ -80,11 +79,11 @@ pub fn add_members<G, K: Nested<G>>(before: usize, dim: Dimensions, members: &[G
 // header none of them fits.
 #[cycle(measure)]
 #[inline(always)]
-pub fn measure_geometry<G, K: Nested<G>>(geom: &G) -> Result<usize, Fault>
+pub fn measure_geometry<G: Dimensioned, K: Nested<G>>(geom: &G) -> Result<usize, Fault>
     ensures measured { IsMeasured (K.geometry geom.now) result }
 {
     match K::members_of(geom) {
-        Some(members) => add_members::<G, K>(0, K::dim(geom), members).result(),
+        Some(members) => add_members::<G, K>(0, geom.dim(), members).result(),
         None => K::measure_leaf(geom),
     }
 }
@@ -115,7 +114,7 @@ fn member_form(has_flags: bool) -> Form
 // Puts a member: a geometry without an SRID. Not inlined, so that each level hands on the form in a register.
 #[cycle(put)]
 #[inline(never)]
-fn put_member<S: Sink, G, K: Nested<G>>(
+fn put_member<S: Sink, G: Dimensioned, K: Nested<G>>(
     out: &mut Buffered<'_, S>,
     geom: &G,
     order: Endianness,
@@ -129,7 +128,7 @@ fn put_member<S: Sink, G, K: Nested<G>>(
     let form = member_form(has_flags);
     match K::members_of(geom) {
         Some(members) => {
-            put_members::<S, G, K>(out, members, order, form, dimension_to_write(K::dim(geom)))
+            put_members::<S, G, K>(out, members, order, form, dimension_to_write(geom.dim()))
         }
         None => K::put_leaf(out, geom, order, form),
     }
@@ -140,7 +139,7 @@ fn put_member<S: Sink, G, K: Nested<G>>(
 #[cycle(put)]
 #[inline(always)]
 #[tactic(auto, using(crate::proofs::Steps::node_laws))]
-pub fn put_members<S: Sink, G, K: Nested<G>>(
+pub fn put_members<S: Sink, G: Dimensioned, K: Nested<G>>(
     out: &mut Buffered<'_, S>,
     members: &[G],
     order: Endianness,

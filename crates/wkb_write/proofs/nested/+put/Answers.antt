@@ -16,8 +16,8 @@ pub put_member-put_members-requires : goal.put_member-put_members-requires
 put_member-put_members-requires g t c κs within =
     let members = c.in-Some.members.now in
     let none = ap fault c.in-Some.ensures ∙ c.requires.fault in
-    let few = collection_count (g.K.Nested.dimensions c.args.geom.now) g.K.Nested.geometry members none in
-    let fine = collection_members (g.K.Nested.dimensions c.args.geom.now) g.K.Nested.geometry members none
+    let few = collection_count (g.G.Dimensioned.dimensions c.args.geom.now) g.K.Nested.geometry members none in
+    let fine = collection_members (g.G.Dimensioned.dimensions c.args.geom.now) g.K.Nested.geometry members none
     in
     (omega (arith, ap node_count c.in-Some.ensures, c.decreases), assumption (few, fine, c.requires.working))
 
