@@ -40,8 +40,11 @@ fn is_one_write(alloc: Global, kind: Kind, encoding: &Spelled) -> Result<bool, F
 fn each_kind(rt: HostRuntime) -> Result<(), Fail> {
     for (kind, text) in ENCODINGS {
         let encoding = bytes(text)?;
-        assert!(rt; is_put_in_a_vec(rt.alloc(), kind, &encoding)?, "{text}");
-        assert!(rt; is_one_write(rt.alloc(), kind, &encoding)?, "{text}");
+        assert!(rt;
+            is_put_in_a_vec(rt.alloc(), kind, &encoding)?
+                && is_one_write(rt.alloc(), kind, &encoding)?,
+            "{text}"
+        );
     }
     Ok(())
 }
@@ -56,7 +59,6 @@ fn one_write_a_put(rt: HostRuntime) -> Result<(), Fail> {
     assert!(rt; matches!(&answer, Err(error) if error.kind() == io::ErrorKind::Interrupted));
     assert!(rt; out.failed());
     let writer = out.into_inner();
-    assert!(rt; writer.writes == 3);
-    assert!(rt; writer.taken.as_slice() == [1, 2, 3, 4, 5].as_slice());
+    assert!(rt; writer.writes == 3 && writer.taken.as_slice() == [1, 2, 3, 4, 5].as_slice());
     Ok(())
 }

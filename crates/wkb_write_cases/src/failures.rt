@@ -48,31 +48,34 @@ fn takes(
     )
 }
 
+// Whether each sink takes what it should.
+fn takes_all(alloc: Global, kind: Kind, encoding: &Spelled) -> Result<bool, Fail> {
+    let room = encoding.len();
+    // A byte a call, until a call fails.
+    for puts in 0..=room {
+        let limits = Limits {
+            puts,
+            most: 1,
+            room,
+        };
+        if !takes(alloc, kind, encoding, limits, puts)? {
+            return Ok(false);
+        }
+    }
+    // A short encoding is one call.
+    for (puts, most, len) in [(0, room, 0), (1, room, room), (room, 0, 0)] {
+        let limits = Limits { puts, most, room };
+        if !takes(alloc, kind, encoding, limits, len)? {
+            return Ok(false);
+        }
+    }
+    Ok(true)
+}
+
 #[test]
 fn failing_sinks(rt: HostRuntime) -> Result<(), Fail> {
     for (kind, text) in ENCODINGS {
-        let encoding = bytes(text)?;
-        let room = encoding.len();
-        // A byte a call, until a call fails.
-        for puts in 0..=room {
-            let limits = Limits {
-                puts,
-                most: 1,
-                room,
-            };
-            assert!(rt;
-                takes(rt.alloc(), kind, &encoding, limits, puts)?,
-                "{text} {puts}"
-            );
-        }
-        // A short encoding is one call.
-        for (puts, most, len) in [(0, room, 0), (1, room, room), (room, 0, 0)] {
-            let limits = Limits { puts, most, room };
-            assert!(rt;
-                takes(rt.alloc(), kind, &encoding, limits, len)?,
-                "{text} {puts}"
-            );
-        }
+        assert!(rt; takes_all(rt.alloc(), kind, &bytes(text)?)?, "{text}");
     }
     Ok(())
 }
@@ -113,15 +116,21 @@ fn fills(alloc: Global, kind: Kind, encoding: &Spelled, room: usize) -> Result<b
     Ok(is_told && is_beginning(taken, encoding, len) && Some(behind) == [7u8; ROOM].get(len..))
 }
 
+// Whether a slice of each length up to the encoding's is filled, and a longer one.
+fn fills_all(alloc: Global, kind: Kind, encoding: &Spelled) -> Result<bool, Fail> {
+    for room in 0..=encoding.len() {
+        if !fills(alloc, kind, encoding, room)? {
+            return Ok(false);
+        }
+    }
+    fills(alloc, kind, encoding, ROOM)
+}
+
 // The case's rectangle, and each other kind.
 #[test]
 fn rect_cut(rt: HostRuntime) -> Result<(), Fail> {
     for (kind, text) in ENCODINGS {
-        let encoding = bytes(text)?;
-        for room in 0..=encoding.len() {
-            assert!(rt; fills(rt.alloc(), kind, &encoding, room)?, "{text} {room}");
-        }
-        assert!(rt; fills(rt.alloc(), kind, &encoding, ROOM)?, "{text}");
+        assert!(rt; fills_all(rt.alloc(), kind, &bytes(text)?)?, "{text}");
     }
     Ok(())
 }

@@ -9,17 +9,19 @@ use std::test::Fail;
 use wkb::Endianness;
 use wkb::error::WkbResult;
 use wkb::geom::{
-    Coord, Dimensioned, Dimensions, Geometry, LineString, MultiLineString, Point, Polygon, Rect,
+    Coord, Dimensioned, Dimensions, Geometry, GeometryCollection, LineString, MultiLineString,
+    Point, Rect,
 };
 use wkb::writer::{
-    Sink, WriteOptions, geometry_collection_wkb_size, geometry_wkb_size_with, line_string_wkb_size,
-    line_wkb_size, multi_line_string_wkb_size, multi_point_wkb_size, multi_polygon_wkb_size,
-    point_wkb_size, polygon_wkb_size, rect_wkb_size, triangle_wkb_size, write_geometry,
-    write_geometry_collection, write_line, write_line_string, write_multi_line_string,
-    write_multi_point, write_multi_polygon, write_point, write_polygon, write_rect, write_triangle,
+    Form, Sink, WriteOptions, geometry_collection_wkb_size, geometry_wkb_size_with,
+    line_string_wkb_size, line_wkb_size, multi_line_string_wkb_size, multi_point_wkb_size,
+    multi_polygon_wkb_size, point_wkb_size, polygon_wkb_size, rect_wkb_size, triangle_wkb_size,
+    write_geometry, write_geometry_collection, write_line, write_line_string,
+    write_multi_line_string, write_multi_point, write_multi_polygon, write_point, write_polygon,
+    write_rect, write_triangle,
 };
 use wkb_cases::support::{
-    ONE, TWO, collection_of_two, coord_of, iso, line_of, line_string_of, multi_line_string_of,
+    ONE, TWO, collection_of_two, coord_of, line_of, line_string_of, multi_line_string_of,
     multi_point_of, multi_polygon_of, point_of, polygon_of, rect_of, triangle_of,
 };
 
@@ -74,6 +76,12 @@ pub const RECT: &str = "01 03000000 01000000 05000000
     0000000000000000 0000000000000000 0000000000000000 0000000000000040
     P 000000000000f03f 0000000000000000 0000000000000000 0000000000000000";
 
+/// How the geometries are written.
+pub const LITTLE: WriteOptions = WriteOptions {
+    endianness: Endianness::LittleEndian,
+    form: Form::Iso,
+};
+
 /// A corner of two words.
 pub const TWO_WORDS: Corner<'static> = Corner {
     dim: Dimensions::Xy,
@@ -116,65 +124,9 @@ impl<'w> Corner<'w> {
         line_string_of(self.dim, self.words)
     }
 
-    fn rect(self) -> Result<Geometry<'w>, Fail> {
-        let origin = coord_of(self.dim, self.origin)?;
-        Ok(Geometry::Rect(rect_of(origin, self.coord()?)?))
-    }
-
-    fn triangle(self) -> Result<Geometry<'w>, Fail> {
-        let coord = self.coord()?;
-        Ok(Geometry::Triangle(triangle_of(coord, coord, coord)?))
-    }
-
-    fn line(self) -> Result<Geometry<'w>, Fail> {
-        let coord = self.coord()?;
-        Ok(Geometry::Line(line_of(coord, coord)?))
-    }
-}
-
-/// What geometries are made of: a part, and two of them.
-#[derive(Clone, Copy)]
-struct Parts<'w> {
-    corner: Corner<'w>,
-    point: Point<'w>,
-    points: &'w [Point<'w>],
-    line_string: LineString<'w>,
-    line_strings: &'w [LineString<'w>],
-    polygon: Polygon<'w>,
-    polygons: &'w [Polygon<'w>],
-}
-
-impl<'w> Parts<'w> {
-    fn multi(self, kind: Kind) -> Result<Geometry<'w>, Fail> {
-        let dim = self.corner.dim;
-        let (points, line_strings, polygons) = (self.points, self.line_strings, self.polygons);
-        match kind {
-            Kind::MultiPoint => Ok(Geometry::MultiPoint(multi_point_of(dim, points)?)),
-            Kind::MultiLineString => {
-                let multi = multi_line_string_of(dim, line_strings)?;
-                Ok(Geometry::MultiLineString(multi))
-            }
-            _ => Ok(Geometry::MultiPolygon(multi_polygon_of(dim, polygons)?)),
-        }
-    }
-
-    /// The geometry that a kind's writer is given.
-    fn geometry(self, alloc: Global, kind: Kind) -> Result<Geometry<'w>, Fail> {
-        match kind {
-            Kind::Point | Kind::Any => Ok(Geometry::Point(self.point)),
-            Kind::LineString => Ok(Geometry::LineString(self.line_string)),
-            Kind::Polygon => Ok(Geometry::Polygon(self.polygon)),
-            Kind::MultiPoint | Kind::MultiLineString | Kind::MultiPolygon => self.multi(kind),
-            Kind::GeometryCollection => collection_of_two(
-                alloc,
-                self.corner.dim,
-                Geometry::Point(self.point),
-                Geometry::LineString(self.line_string),
-            ),
-            Kind::Rect => self.corner.rect(),
-            Kind::Triangle => self.corner.triangle(),
-            Kind::Line => self.corner.line(),
-        }
+    /// A rectangle from the origin.
+    pub fn rect(self) -> Result<Rect<'w>, Fail> {
+        rect_of(coord_of(self.dim, self.origin)?, self.coord()?)
     }
 }
 
@@ -196,16 +148,6 @@ pub fn put_multi_line_string<S: Sink>(
     write_multi_line_string(sink, multi, options)
 }
 
-pub fn put_rect<S: Sink>(sink: &mut S, rect: &Rect<'_>, options: &WriteOptions) -> WkbResult<()>
-    requires working { S.has_failed sink.old ≡ false }
-{
-    write_rect(sink, rect, options)
-}
-
-pub fn rect_size(rect: &Rect<'_>) -> WkbResult<usize> {
-    rect_wkb_size(rect)
-}
-
 /// Puts a geometry by `write_geometry`.
 pub fn put_any<S: Sink>(
     sink: &mut S,
@@ -222,79 +164,168 @@ pub fn any_size(geometry: &Geometry<'_>, options: &WriteOptions) -> WkbResult<us
     geometry_wkb_size_with(geometry, options)
 }
 
-/// Puts a geometry by the writer of its kind.
-fn put_by_kind<S: Sink>(
-    sink: &mut S,
-    geometry: &Geometry<'_>,
-    options: &WriteOptions,
-) -> WkbResult<()>
-    requires working { S.has_failed sink.old ≡ false }
-{
-    match geometry {
-        Geometry::Point(point) => put_point(sink, point, options),
-        Geometry::LineString(line_string) => write_line_string(sink, line_string, options),
-        Geometry::Polygon(polygon) => write_polygon(sink, polygon, options),
-        Geometry::MultiPoint(multi) => write_multi_point(sink, multi, options),
-        Geometry::MultiLineString(multi) => put_multi_line_string(sink, multi, options),
-        Geometry::MultiPolygon(multi) => write_multi_polygon(sink, multi, options),
-        Geometry::GeometryCollection(it) => write_geometry_collection(sink, it, options),
-        Geometry::Rect(rect) => put_rect(sink, rect, options),
-        Geometry::Triangle(triangle) => write_triangle(sink, triangle, options),
-        Geometry::Line(line) => write_line(sink, line, options),
-    }
-}
-
-/// The size that the function of its kind answers.
-fn size_by_kind(geometry: &Geometry<'_>) -> WkbResult<usize> {
-    match geometry {
-        Geometry::Point(point) => point_wkb_size(point.dim()),
-        Geometry::LineString(line_string) => line_string_wkb_size(line_string),
-        Geometry::Polygon(polygon) => polygon_wkb_size(polygon),
-        Geometry::MultiPoint(multi) => multi_point_wkb_size(multi),
-        Geometry::MultiLineString(multi) => multi_line_string_wkb_size(multi),
-        Geometry::MultiPolygon(multi) => multi_polygon_wkb_size(multi),
-        Geometry::GeometryCollection(collection) => geometry_collection_wkb_size(collection),
-        Geometry::Rect(rect) => rect_size(rect),
-        Geometry::Triangle(triangle) => triangle_wkb_size(triangle),
-        Geometry::Line(line) => line_wkb_size(line),
-    }
-}
-
-/// What size function and writer answer of a geometry, little endian.
-pub fn answers_of<S: Sink>(sink: &mut S, kind: Kind, geometry: &Geometry<'_>) -> Answers
-    requires working { S.has_failed sink.old ≡ false }
-{
-    let options = iso(Endianness::LittleEndian);
-    let (size, written) = match kind {
-        Kind::Any => (
-            any_size(geometry, &options),
-            put_any(sink, geometry, &options),
-        ),
-        _ => (
-            size_by_kind(geometry),
-            put_by_kind(sink, geometry, &options),
-        ),
-    };
+/// What a size function and a writer answered.
+fn told(size: WkbResult<usize>, written: WkbResult<()>) -> Answers {
     Answers {
         size: size_answer(&size),
         written: writer_answer(&written),
     }
 }
 
-/// Measures and puts the geometry of a kind that is made of these parts.
-fn put_parts<S: Sink>(
+// What size function and writer answer of a geometry of each kind, little endian, whose parts are this corner, twice
+// where it has several.
+
+fn point<S: Sink>(sink: &mut S, corner: Corner<'_>) -> Result<Answers, Fail>
+    requires working { S.has_failed sink.old ≡ false }
+{
+    let point = corner.point()?;
+    Ok(told(
+        point_wkb_size(point.dim()),
+        put_point(sink, &point, &LITTLE),
+    ))
+}
+
+fn line_string<S: Sink>(sink: &mut S, corner: Corner<'_>) -> Result<Answers, Fail>
+    requires working { S.has_failed sink.old ≡ false }
+{
+    let line = corner.line_string()?;
+    Ok(told(
+        line_string_wkb_size(&line),
+        write_line_string(sink, &line, &LITTLE),
+    ))
+}
+
+fn polygon<S: Sink>(sink: &mut S, corner: Corner<'_>) -> Result<Answers, Fail>
+    requires working { S.has_failed sink.old ≡ false }
+{
+    let rings = [corner.line_string()?; 2];
+    let polygon = polygon_of(corner.dim, &rings)?;
+    Ok(told(
+        polygon_wkb_size(&polygon),
+        write_polygon(sink, &polygon, &LITTLE),
+    ))
+}
+
+fn multi_point<S: Sink>(sink: &mut S, corner: Corner<'_>) -> Result<Answers, Fail>
+    requires working { S.has_failed sink.old ≡ false }
+{
+    let points = [corner.point()?; 2];
+    let multi = multi_point_of(corner.dim, &points)?;
+    Ok(told(
+        multi_point_wkb_size(&multi),
+        write_multi_point(sink, &multi, &LITTLE),
+    ))
+}
+
+fn multi_line_string<S: Sink>(sink: &mut S, corner: Corner<'_>) -> Result<Answers, Fail>
+    requires working { S.has_failed sink.old ≡ false }
+{
+    let line_strings = [corner.line_string()?; 2];
+    let multi = multi_line_string_of(corner.dim, &line_strings)?;
+    Ok(told(
+        multi_line_string_wkb_size(&multi),
+        put_multi_line_string(sink, &multi, &LITTLE),
+    ))
+}
+
+fn multi_polygon<S: Sink>(sink: &mut S, corner: Corner<'_>) -> Result<Answers, Fail>
+    requires working { S.has_failed sink.old ≡ false }
+{
+    let rings = [corner.line_string()?; 2];
+    let polygons = [polygon_of(corner.dim, &rings)?; 2];
+    let multi = multi_polygon_of(corner.dim, &polygons)?;
+    Ok(told(
+        multi_polygon_wkb_size(&multi),
+        write_multi_polygon(sink, &multi, &LITTLE),
+    ))
+}
+
+fn rect<S: Sink>(sink: &mut S, corner: Corner<'_>) -> Result<Answers, Fail>
+    requires working { S.has_failed sink.old ≡ false }
+{
+    let rect = corner.rect()?;
+    Ok(told(rect_wkb_size(&rect), write_rect(sink, &rect, &LITTLE)))
+}
+
+fn triangle<S: Sink>(sink: &mut S, corner: Corner<'_>) -> Result<Answers, Fail>
+    requires working { S.has_failed sink.old ≡ false }
+{
+    let coord = corner.coord()?;
+    let triangle = triangle_of(coord, coord, coord)?;
+    Ok(told(
+        triangle_wkb_size(&triangle),
+        write_triangle(sink, &triangle, &LITTLE),
+    ))
+}
+
+fn line<S: Sink>(sink: &mut S, corner: Corner<'_>) -> Result<Answers, Fail>
+    requires working { S.has_failed sink.old ≡ false }
+{
+    let coord = corner.coord()?;
+    let line = line_of(coord, coord)?;
+    Ok(told(line_wkb_size(&line), write_line(sink, &line, &LITTLE)))
+}
+
+fn collection_answers<S: Sink>(sink: &mut S, it: &GeometryCollection<'_>) -> Answers
+    requires working { S.has_failed sink.old ≡ false }
+{
+    told(
+        geometry_collection_wkb_size(it),
+        write_geometry_collection(sink, it, &LITTLE),
+    )
+}
+
+fn collection<S: Sink>(alloc: Global, sink: &mut S, corner: Corner<'_>) -> Result<Answers, Fail>
+    requires working { S.has_failed sink.old ≡ false }
+{
+    let point = Geometry::Point(corner.point()?);
+    let line_string = Geometry::LineString(corner.line_string()?);
+    match &collection_of_two(alloc, corner.dim, point, line_string)? {
+        Geometry::GeometryCollection(it) => Ok(collection_answers(sink, it)),
+        _ => Err(Fail::new("no collection")),
+    }
+}
+
+/// What `geometry_wkb_size_with` and `write_geometry` answer of any geometry, little endian.
+pub fn any<S: Sink>(sink: &mut S, geometry: &Geometry<'_>) -> Answers
+    requires working { S.has_failed sink.old ≡ false }
+{
+    told(
+        any_size(geometry, &LITTLE),
+        put_any(sink, geometry, &LITTLE),
+    )
+}
+
+fn any_point<S: Sink>(sink: &mut S, corner: Corner<'_>) -> Result<Answers, Fail>
+    requires working { S.has_failed sink.old ≡ false }
+{
+    Ok(any(sink, &Geometry::Point(corner.point()?)))
+}
+
+fn put_corner<S: Sink>(
     alloc: Global,
     sink: &mut S,
     kind: Kind,
-    parts: Parts<'_>,
+    corner: Corner<'_>,
 ) -> Result<Answers, Fail>
     requires working { S.has_failed sink.old ≡ false }
 {
-    let geometry = parts.geometry(alloc, kind)?;
-    Ok(answers_of(sink, kind, &geometry))
+    match kind {
+        Kind::Point => point(sink, corner),
+        Kind::LineString => line_string(sink, corner),
+        Kind::Polygon => polygon(sink, corner),
+        Kind::MultiPoint => multi_point(sink, corner),
+        Kind::MultiLineString => multi_line_string(sink, corner),
+        Kind::MultiPolygon => multi_polygon(sink, corner),
+        Kind::GeometryCollection => collection(alloc, sink, corner),
+        Kind::Rect => rect(sink, corner),
+        Kind::Triangle => triangle(sink, corner),
+        Kind::Line => line(sink, corner),
+        Kind::Any => any_point(sink, corner),
+    }
 }
 
-/// Measures and puts a geometry of the kind, little endian.
+/// Measures and puts a geometry of the kind, little endian. Want of memory is an error of its own.
 pub fn put_kind<S: Sink>(
     alloc: Global,
     sink: &mut S,
@@ -303,20 +334,7 @@ pub fn put_kind<S: Sink>(
 ) -> Result<Answers, Fail>
     requires working { S.has_failed sink.old ≡ false }
 {
-    let (point, line_string) = (corner.point()?, corner.line_string()?);
-    let (points, line_strings) = ([point, point], [line_string, line_string]);
-    let polygon = polygon_of(corner.dim, &line_strings)?;
-    let polygons = [polygon, polygon];
-    let parts = Parts {
-        corner,
-        point,
-        points: &points,
-        line_string,
-        line_strings: &line_strings,
-        polygon,
-        polygons: &polygons,
-    };
-    let answers = put_parts(alloc, sink, kind, parts)?;
+    let answers = put_corner(alloc, sink, kind, corner)?;
     if answers.written == Answer::Failed(io::ErrorKind::OutOfMemory) {
         return Err(Fail::new("out of memory"));
     }

@@ -3,7 +3,7 @@
 ghost use Rattle.std.specs.Prelude.{◌≡◌, false};
 
 use crate::answers::{Answer, size_answer, writer_answer};
-use crate::kinds::{Answers, ENCODINGS, FIVE_WORDS, Kind, answers_of, put_kind};
+use crate::kinds::{Answers, ENCODINGS, FIVE_WORDS, Kind, any, put_kind};
 use crate::long_line::LongLine;
 use crate::sinks::{LimitedSink, LimitedWriter, Limits};
 use std::alloc::Global;
@@ -39,55 +39,49 @@ fn is_refused_in_out(alloc: Global, kind: Kind) -> Result<bool, Fail> {
     Ok(is_refused && out.into_inner().len() == 0 && interrupted.into_inner().writes == 0)
 }
 
-fn is_refused_in(alloc: Global, limits: Limits, kind: Kind) -> Result<bool, Fail> {
-    let mut sink = LimitedSink::new(limits);
+fn is_refused_in(alloc: Global, puts: usize, most: usize, kind: Kind) -> Result<bool, Fail> {
+    let mut sink = LimitedSink::new(Limits {
+        puts,
+        most,
+        room: 128,
+    });
     Ok(refuses(alloc, &mut sink, kind)? && sink.taken.len() == 0)
+}
+
+fn is_refused(alloc: Global, kind: Kind) -> Result<bool, Fail> {
+    Ok(
+        is_refused_in_memory(alloc, kind)?
+            && is_refused_in_out(alloc, kind)?
+            && is_refused_in(alloc, 0, 128, kind)?
+            && is_refused_in(alloc, 128, 0, kind)?
+            && is_refused_in(alloc, 128, 1, kind)?,
+    )
 }
 
 #[test]
 fn unknown_dimensions(rt: HostRuntime) -> Result<(), Fail> {
     for (kind, text) in ENCODINGS {
-        assert!(rt; is_refused_in_memory(rt.alloc(), kind)?, "{text}");
-        assert!(rt; is_refused_in_out(rt.alloc(), kind)?, "{text}");
-        for (puts, most) in [(0, 128), (128, 0), (128, 1)] {
-            let limits = Limits {
-                puts,
-                most,
-                room: 128,
-            };
-            assert!(rt; is_refused_in(rt.alloc(), limits, kind)?, "{text}");
-        }
+        assert!(rt; is_refused(rt.alloc(), kind)?, "{text}");
     }
     Ok(())
 }
 
-// A collection of two empty points, of which the second can't be written.
-fn two_points(alloc: Global) -> Result<Geometry<'static>, Fail> {
-    let (first, second) = (
-        empty_point_of(Dimensions::Xy)?,
-        empty_point_of(Dimensions::Unknown(5))?,
-    );
-    collection_of_two(
-        alloc,
-        Dimensions::Xy,
-        Geometry::Point(first),
-        Geometry::Point(second),
-    )
-}
-
-fn two_points_put<S: Sink>(alloc: Global, sink: &mut S) -> Result<Answers, Fail>
+// What is answered of a collection of two empty points, of which the second can't be written.
+fn two_points<S: Sink>(alloc: Global, sink: &mut S) -> Result<Answers, Fail>
     requires working { S.has_failed sink.old ≡ false }
 {
-    let geometry = two_points(alloc)?;
-    Ok(answers_of(sink, Kind::Any, &geometry))
+    let first = Geometry::Point(empty_point_of(Dimensions::Xy)?);
+    let second = Geometry::Point(empty_point_of(Dimensions::Unknown(5))?);
+    let geometry = collection_of_two(alloc, Dimensions::Xy, first, second)?;
+    Ok(any(sink, &geometry))
 }
 
 #[test]
 fn unknown_dimensions_in_a_collection(rt: HostRuntime) -> Result<(), Fail> {
     let mut sink = VecSink::new(rt.alloc());
-    let Answers { size, written } = two_points_put(rt.alloc(), &mut sink)?;
-    assert!(rt; size == Answer::UnsupportedDimensions(5));
-    assert!(rt; written == Answer::UnsupportedDimensions(5));
+    let Answers { size, written } = two_points(rt.alloc(), &mut sink)?;
+    let refusal = Answer::UnsupportedDimensions(5);
+    assert!(rt; size == refusal && written == refusal);
     assert!(rt; !sink.failed() && sink.into_vec().is_empty());
     Ok(())
 }

@@ -1,12 +1,12 @@
 //! Points, rectangles and collections of a caller's own, as bytes.
 
-use crate::kinds::{RECT, any_size, put_any, put_point, put_rect, rect_size};
+use crate::answers::Answer;
+use crate::kinds::{Answers, Corner, Kind, LITTLE, RECT, any_size, put_any, put_kind, put_point};
 use std::alloc::{AllocError, Global};
 use std::test::Fail;
 use wkb::Endianness;
-use wkb::error::WkbResult;
-use wkb::geom::{Dimensions, Geometry, LineString, LineStringTrait, Point, Rect};
-use wkb::writer::{Out, SliceSink, VecSink, WriteOptions};
+use wkb::geom::{Dimensions, Geometry, LineString, LineStringTrait};
+use wkb::writer::{Form, Out, SliceSink, VecSink, WriteOptions};
 use wkb_cases::reading::{Outcome, answer_to, words};
 use wkb_cases::spelled::{Spelled, bytes};
 use wkb_cases::support::{
@@ -32,14 +32,64 @@ fn sinks(rt: HostRuntime) -> Result<(), Fail> {
     Ok(())
 }
 
+/// Points of these words, or empty ones where there are none, the form that they are written in, and their encodings.
+const POINTS: [(Dimensions, &[u64], Form, &str); 6] = [
+    (
+        Dimensions::Xy,
+        &[],
+        Form::Iso,
+        "01 01000000 000000000000f87f 000000000000f87f",
+    ),
+    (
+        Dimensions::Xy,
+        &[0xfff8_0000_0000_0001, 0xfff8_0000_0000_0001],
+        Form::Iso,
+        "01 01000000 010000000000f8ff 010000000000f8ff",
+    ),
+    (
+        Dimensions::Xyz,
+        &[],
+        Form::Ewkb { srid: None },
+        "01 01000080 000000000000f87f 000000000000f87f 000000000000f87f",
+    ),
+    (
+        Dimensions::Unknown(2),
+        &[ONE, TWO],
+        Form::Iso,
+        "01 01000000 P",
+    ),
+    (
+        Dimensions::Unknown(3),
+        &[ONE, TWO, THREE],
+        Form::Iso,
+        "01 e9030000 P 0000000000000840",
+    ),
+    (
+        Dimensions::Unknown(4),
+        &[ONE, TWO, THREE, 0],
+        Form::Iso,
+        "01 b90b0000 P 0000000000000840 0000000000000000",
+    ),
+];
+
 fn is_written(
     alloc: Global,
-    point: &Point<'_>,
-    options: &WriteOptions,
+    dim: Dimensions,
+    words: &[u64],
+    form: Form,
     text: &str,
 ) -> Result<bool, Fail> {
+    let point = if words.is_empty() {
+        empty_point_of(dim)?
+    } else {
+        point_of(dim, words)?
+    };
+    let options = WriteOptions {
+        endianness: Endianness::LittleEndian,
+        form,
+    };
     let mut sink = VecSink::new(alloc);
-    put_point(&mut sink, point, options)?;
+    put_point(&mut sink, &point, &options)?;
     let expected = bytes(text)?;
     Ok(sink.into_vec().as_slice() == expected.as_slice())
 }
@@ -47,42 +97,8 @@ fn is_written(
 // Also the cases written-nans and ewkb-empty, and of unknown-dimensions the dimensions with a name.
 #[test]
 fn empty_point(rt: HostRuntime) -> Result<(), Fail> {
-    let nans = [0xfff8_0000_0000_0001; 2];
-    let four = [ONE, TWO, THREE, 0];
-    let little = iso(Endianness::LittleEndian);
-    for (point, options, text) in [
-        (
-            empty_point_of(Dimensions::Xy)?,
-            little,
-            "01 01000000 000000000000f87f 000000000000f87f",
-        ),
-        (
-            point_of(Dimensions::Xy, &nans)?,
-            little,
-            "01 01000000 010000000000f8ff 010000000000f8ff",
-        ),
-        (
-            empty_point_of(Dimensions::Xyz)?,
-            ewkb(None),
-            "01 01000080 000000000000f87f 000000000000f87f 000000000000f87f",
-        ),
-        (
-            point_of(Dimensions::Unknown(2), &[ONE, TWO])?,
-            little,
-            "01 01000000 P",
-        ),
-        (
-            point_of(Dimensions::Unknown(3), &[ONE, TWO, THREE])?,
-            little,
-            "01 e9030000 P 0000000000000840",
-        ),
-        (
-            point_of(Dimensions::Unknown(4), &four)?,
-            little,
-            "01 b90b0000 P 0000000000000840 0000000000000000",
-        ),
-    ] {
-        assert!(rt; is_written(rt.alloc(), &point, &options, text)?, "{text}");
+    for (dim, words, form, text) in POINTS {
+        assert!(rt; is_written(rt.alloc(), dim, words, form, text)?, "{text}");
     }
     Ok(())
 }
@@ -104,59 +120,47 @@ const CORNERS: [(Dimensions, &[u64], &[u64]); 5] = [
     ),
 ];
 
-fn is_rect(alloc: Global, rect: Rect<'_>) -> Result<bool, Fail> {
+fn is_rect(alloc: Global, corner: Corner<'_>) -> Result<bool, Fail> {
     let expected = bytes(RECT)?;
     let mut sink = VecSink::new(alloc);
-    put_rect(&mut sink, &rect, &iso(Endianness::LittleEndian))?;
-    Ok(sink.into_vec().as_slice() == expected.as_slice() && rect_size(&rect)? == 93)
+    let Answers { size, written } = put_kind(alloc, &mut sink, Kind::Rect, corner)?;
+    Ok(
+        size == Answer::Size(93)
+            && written == Answer::Written
+            && sink.into_vec().as_slice() == expected.as_slice(),
+    )
 }
 
-// Its sizes under EWKB, with an SRID and without.
-fn ewkb_sizes(rect: Rect<'_>) -> WkbResult<(usize, usize)> {
-    let geometry = Geometry::Rect(rect);
-    Ok((
-        any_size(&geometry, &ewkb(Some(4326)))?,
-        any_size(&geometry, &ewkb(None))?,
-    ))
+fn ewkb_size(corner: Corner<'_>, srid: Option<u32>) -> Result<usize, Fail> {
+    Ok(any_size(&Geometry::Rect(corner.rect()?), &ewkb(srid))?)
 }
 
 // Also the cases rect-sizes and ewkb-sizes. Of corners past Xy, x and y alone are written.
 #[test]
 fn rect(rt: HostRuntime) -> Result<(), Fail> {
-    for (dim, min, max) in CORNERS {
-        let rect = rect_of(coord_of(dim, min)?, coord_of(dim, max)?)?;
-        assert!(rt; is_rect(rt.alloc(), rect)?, "{dim:?}");
-        assert!(rt; ewkb_sizes(rect)? == (97, 93), "{dim:?}");
+    for (dim, origin, words) in CORNERS {
+        let corner = Corner { dim, words, origin };
+        assert!(rt; is_rect(rt.alloc(), corner)?, "{dim:?}");
+        assert!(rt; ewkb_size(corner, Some(4326))? == 97 && ewkb_size(corner, None)? == 93);
     }
     Ok(())
 }
 
 // The size of a geometry, and its encoding.
-fn size_and_encoding(alloc: Global, geometry: &Geometry<'_>) -> WkbResult<(usize, Vec<u8>)> {
-    let options = iso(Endianness::LittleEndian);
-    let size = any_size(geometry, &options)?;
+fn size_and_encoding(alloc: Global, geometry: Geometry<'_>) -> Result<(usize, Vec<u8>), Fail> {
+    let size = any_size(&geometry, &LITTLE)?;
     let mut sink = VecSink::new(alloc);
-    put_any(&mut sink, geometry, &options)?;
+    put_any(&mut sink, &geometry, &LITTLE)?;
     Ok((size, sink.into_vec()))
 }
 
-// A line and a rectangle in a collection.
-fn line_and_rect(alloc: Global) -> Result<Geometry<'static>, Fail> {
+// The size and the encoding of a line and a rectangle in a collection.
+fn line_and_rect_written(alloc: Global) -> Result<(usize, Vec<u8>), Fail> {
     let origin = coord_of(Dimensions::Xy, &[0, 0])?;
     let corner = coord_of(Dimensions::Xy, &[ONE, TWO])?;
-    let line = line_of(corner, corner)?;
-    let rect = rect_of(origin, corner)?;
-    collection_of_two(
-        alloc,
-        Dimensions::Xy,
-        Geometry::Line(line),
-        Geometry::Rect(rect),
-    )
-}
-
-// The size and the encoding of such a collection.
-fn line_and_rect_written(alloc: Global) -> Result<(usize, Vec<u8>), Fail> {
-    Ok(size_and_encoding(alloc, &line_and_rect(alloc)?)?)
+    let line = Geometry::Line(line_of(corner, corner)?);
+    let rect = Geometry::Rect(rect_of(origin, corner)?);
+    size_and_encoding(alloc, collection_of_two(alloc, Dimensions::Xy, line, rect)?)
 }
 
 #[test]
@@ -169,17 +173,21 @@ fn line_triangle(rt: HostRuntime) -> Result<(), Fail> {
     Ok(())
 }
 
+fn words_at(
+    line: &LineString<'_>,
+    i: usize,
+) -> Result<(Option<u64>, Option<u64>, Option<u64>), Fail> {
+    Ok(words(&line.coord(i).ok_or("no coordinate")?))
+}
+
 #[test]
 fn line_plain(rt: HostRuntime) -> Result<(), Fail> {
     let line = line_string_of(Dimensions::Xyz, &[ONE, TWO, THREE, 4, 5, 6])?;
-    assert!(rt; line.num_coords() == 2);
-    let first = line.coord(0).ok_or("no coordinate")?;
-    assert!(rt; words(&first) == (Some(ONE), Some(TWO), Some(THREE)));
-    let second = line.coord(1).ok_or("no coordinate")?;
-    assert!(rt; words(&second) == (Some(4), Some(5), Some(6)));
-    assert!(rt; line.coord(2).is_none());
-    assert!(rt; LineString::new(Dimensions::Xyz, &[0; 7]).is_none());
+    assert!(rt; line.num_coords() == 2 && line.coord(2).is_none());
+    assert!(rt; words_at(&line, 0)? == (Some(ONE), Some(TWO), Some(THREE)));
+    assert!(rt; words_at(&line, 1)? == (Some(4), Some(5), Some(6)));
     assert!(rt; line_string_of(Dimensions::Xyz, &[])?.num_coords() == 0);
+    assert!(rt; LineString::new(Dimensions::Xyz, &[0; 7]).is_none());
     assert!(rt; LineString::new(Dimensions::Unknown(0), &[]).is_none());
     Ok(())
 }
@@ -191,24 +199,13 @@ fn collection_around<'w>(alloc: Global, member: Geometry<'w>) -> Result<Geometry
     Ok(collection_of(Dimensions::Xy, members))
 }
 
-// So many collections, one in the other, round this geometry.
-fn nested_around<'w>(
-    alloc: Global,
-    levels: usize,
-    inner: Geometry<'w>,
-) -> Result<Geometry<'w>, AllocError> {
-    let mut geometry = inner;
+// The size and the encoding of so many collections, one in the other, round a point.
+fn nested_written(alloc: Global, levels: usize) -> Result<(usize, Vec<u8>), Fail> {
+    let mut geometry = Geometry::Point(point_of(Dimensions::Xy, &[ONE, TWO])?);
     for _level in 0..levels {
         geometry = collection_around(alloc, geometry)?;
     }
-    Ok(geometry)
-}
-
-// The size and the encoding of so many collections round a point.
-fn nested_written(alloc: Global, levels: usize) -> Result<(usize, Vec<u8>), Fail> {
-    let point = point_of(Dimensions::Xy, &[ONE, TWO])?;
-    let geometry = nested_around(alloc, levels, Geometry::Point(point))?;
-    Ok(size_and_encoding(alloc, &geometry)?)
+    size_and_encoding(alloc, geometry)
 }
 
 #[test]
