@@ -18,22 +18,24 @@ const POLYGON: &str = "47500001 00000000 01 07000000 02000000
     01 03000000 02000000 01000000 P 00000000";
 
 /// The first coordinate's z behind the eight bytes.
-fn z_of_line(alloc: Global, blob: &[u8]) -> Result<Option<u64>, Fail> {
-    match word(alloc, blob, 8, 0, 2) {
+fn z_of_line(alloc: Global) -> Result<Option<u64>, Fail> {
+    let blob = bytes(LINE)?;
+    match word(alloc, blob.as_slice(), 8, 0, 2) {
         Ok(found) => Ok(found),
         Err(error) => Err(Fail::new(error)),
     }
 }
 
 /// The first coordinate's y of the exterior of the second member behind the eight bytes.
-fn y_of_exterior(alloc: Global, blob: &[u8]) -> Result<Option<u64>, Fail> {
+fn y_of_exterior(alloc: Global) -> Result<Option<u64>, Fail> {
+    let blob = bytes(POLYGON)?;
     let at = Place {
         member: 1,
         ring: 0,
         coordinate: 0,
         word: 1,
     };
-    match ring_word(alloc, blob, 8, at) {
+    match ring_word(alloc, blob.as_slice(), 8, at) {
         Ok(found) => Ok(found),
         Err(error) => Err(Fail::new(error)),
     }
@@ -41,10 +43,8 @@ fn y_of_exterior(alloc: Global, blob: &[u8]) -> Result<Option<u64>, Fail> {
 
 #[test]
 fn words_in_blobs(rt: HostRuntime) -> Result<(), Fail> {
-    let line = bytes(LINE)?;
-    let polygon = bytes(POLYGON)?;
-    assert!(rt; z_of_line(rt.alloc(), line.as_slice())? == Some(THREE));
-    assert!(rt; y_of_exterior(rt.alloc(), polygon.as_slice())? == Some(TWO));
+    assert!(rt; z_of_line(rt.alloc())? == Some(THREE));
+    assert!(rt; y_of_exterior(rt.alloc())? == Some(TWO));
     Ok(())
 }
 

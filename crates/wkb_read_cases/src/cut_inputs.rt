@@ -16,22 +16,27 @@ fn outcome(alloc: Global, input: &[u8]) -> Result<Outcome, Fail> {
     }
 }
 
+// What is answered to so many bytes of the nested collections.
+fn outcome_of_cut(len: usize) -> Outcome {
+    if len <= 1156 {
+        return Outcome::EndOfInput;
+    }
+    Outcome::Refused(General::ShortPoint {
+        end: 21,
+        len: len - 1152,
+    })
+}
+
 #[test]
 fn cut_nested(rt: HostRuntime) -> Result<(), Fail> {
     let input = nested_in(128)?;
     let whole = input.as_slice();
     assert!(rt; whole.len() == 1173);
     for len in 0..whole.len() {
-        let answer = outcome(rt.alloc(), &whole[..len])?;
-        let expected = if len <= 1156 {
-            Outcome::EndOfInput
-        } else {
-            Outcome::Refused(General::ShortPoint {
-                end: 21,
-                len: len - 1152,
-            })
-        };
-        assert!(rt; answer == expected, "{len}");
+        assert!(rt;
+            outcome(rt.alloc(), &whole[..len])? == outcome_of_cut(len),
+            "{len}"
+        );
     }
     Ok(())
 }
@@ -51,6 +56,18 @@ fn is_short(answer: Outcome) -> bool {
     }
 }
 
+// Whether this is so of every proper beginning.
+fn are_short(alloc: Global, text: &str) -> Result<bool, Fail> {
+    let input = bytes(text)?;
+    let whole = input.as_slice();
+    for len in 0..whole.len() {
+        if !is_short(outcome(alloc, &whole[..len])?) {
+            return Ok(false);
+        }
+    }
+    Ok(true)
+}
+
 #[test]
 fn cut_others(rt: HostRuntime) -> Result<(), Fail> {
     for text in [
@@ -59,12 +76,7 @@ fn cut_others(rt: HostRuntime) -> Result<(), Fail> {
         MEMBER_WITH_SRID,
         MIXED_DIMENSIONS,
     ] {
-        let input = bytes(text)?;
-        let whole = input.as_slice();
-        for len in 0..whole.len() {
-            let answer = outcome(rt.alloc(), &whole[..len])?;
-            assert!(rt; is_short(answer), "{len} of {text}");
-        }
+        assert!(rt; are_short(rt.alloc(), text)?, "{text}");
     }
     Ok(())
 }

@@ -24,20 +24,20 @@ fn is_counted(alloc: Global, case: &Case) -> Result<bool, Fail> {
     Ok(is_accepted(answer, case)? && is_whole)
 }
 
-fn is_read(alloc: Global, case: &Case) -> Result<bool, Fail> {
+fn is_read(alloc: Global, number: usize) -> Result<bool, Fail> {
+    let case = case_at(number)?;
     let input = case.input.as_slice();
     Ok(
-        is_accepted(answer_to(alloc, input), case)?
-            && is_accepted(tried(alloc, input), case)?
-            && is_counted(alloc, case)?,
+        is_accepted(answer_to(alloc, input), &case)?
+            && is_accepted(tried(alloc, input), &case)?
+            && is_counted(alloc, &case)?,
     )
 }
 
 #[test]
 fn each_call(rt: HostRuntime) -> Result<(), Fail> {
     for number in 0..CASES {
-        let case = case_at(number)?;
-        assert!(rt; is_read(rt.alloc(), &case)?, "{number}");
+        assert!(rt; is_read(rt.alloc(), number)?, "{number}");
     }
     Ok(())
 }

@@ -107,11 +107,10 @@ fn is_accepted(alloc: Global, text: &str) -> Result<Option<bool>, Fail> {
 
 #[test]
 fn no_growth(rt: HostRuntime) -> Result<(), Fail> {
-    for text in ACCEPTED.lines() {
-        assert!(rt; is_accepted(rt.alloc(), text)? == Some(true), "{text}");
-    }
-    for text in REFUSED.lines() {
-        assert!(rt; is_accepted(rt.alloc(), text)? == Some(false), "{text}");
+    for (texts, accepted) in [(ACCEPTED, true), (REFUSED, false)] {
+        for text in texts.lines() {
+            assert!(rt; is_accepted(rt.alloc(), text)? == Some(accepted), "{text}");
+        }
     }
     Ok(())
 }
