@@ -47,10 +47,14 @@ def crate(name):
 
 
 def is_built(library):
-    """Whether a library is built, and is younger than its sources."""
-    built = pathlib.Path(library.rlib, "format")
+    """Whether a library is built, and stands in its place since its sources were last changed.
+
+    `rt ci` may take it from an earlier run, with the times of its files then. When it came here is told by the change
+    time of its folder, which nothing can set.
+    """
+    built = pathlib.Path(library.rlib)
     sources = map(os.path.getmtime, rt.rtlib.files_of(library.folder))
-    return built.is_file() and max(sources) < built.stat().st_mtime
+    return (built / "format").is_file() and max(sources) < built.stat().st_ctime
 
 
 def unbuilt(crates):
