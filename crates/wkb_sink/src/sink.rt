@@ -274,9 +274,8 @@ impl Sink for SliceSink<'_> {
         let n = bytes.len().min(room);
         self.slice[self.len..self.len + n].copy_from_slice(&bytes[..n]);
         self.len += n;
-        let result = Ok(n);
-        self.has_failed |= is_failure(&result, bytes);
-        result
+        self.has_failed |= n == 0 && !bytes.is_empty();
+        Ok(n)
     }
 
     fn failed(&self) -> bool {

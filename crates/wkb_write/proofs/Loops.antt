@@ -116,12 +116,14 @@ module _ {X : Type 0} {a b : Progress} {order : Endianness} {header : List ℕ} 
   pub next_member : {c : Progress} → own ≡ told → HasLaid a b order header (map (f own) xs) i → i < length xs - 1
       → x ≡ get_or xs i x → IsLaid b c (f told x) → HasLaid a c order header (map (f own) xs) (i + 1)
   next_member {c = c} same p within is q =
-      next_laid p (encoding_there (f own) xs i x (omega (arith, within)) is) (subst (λ k. IsLaid b c (f k x)) (sym same) q)
+      next_laid p (encoding_there (f own) xs i x (omega (arith, within)) is)
+      (subst (λ k. IsLaid b c (f k x)) (sym same) q)
 
   pub member_cut : {c : Progress} → own ≡ told → HasLaid a b order header (map (f own) xs) i → i < length xs - 1
       → x ≡ get_or xs i x → IsCut b c (f told x) → IsCut a c (header ++ counted order (map (f own) xs))
   member_cut {c = c} same p within is q =
-      next_cut p (encoding_there (f own) xs i x (omega (arith, within)) is) (subst (λ k. IsCut b c (f k x)) (sym same) q)
+      next_cut p (encoding_there (f own) xs i x (omega (arith, within)) is)
+      (subst (λ k. IsCut b c (f k x)) (sym same) q)
 
   pub last_member : (c : Progress) (r : Result (Unit {0}) Stopped) → own ≡ told
       → HasLaid a b order header (map (f own) xs) i → (length xs ≡ 0 → ⊥) → i ≤ length xs - 1 → length xs - 1 ≤ i
