@@ -8,7 +8,7 @@ use Rattle.wkb_write.proofs.Prelude.{dimensions_fault, Progress, Advances, count
 use Rattle.wkb_write.proofs.Prelude.{slice_get_read}
 use Rattle.wkb_geom.proofs.Nodes.{node_count-member}
 use Rattle.wkb_write.proofs.Supported.{none_at}
-use Rattle.wkb_write.proofs.Loops.{lays_counted}
+use Rattle.wkb_write.proofs.Loops.{counted_of}
 
 encodings-geometries : {X : Type 0} (order : Endianness) (form : Form) (f : X → Geometry) (xs : List X)
     → encodings order form (geometries (map f xs)) ≡ flat_map (λ x. encoding order form (f x)) xs
@@ -34,8 +34,15 @@ pub lays_collection : {X : Type 0} {d read : Dimensions} {named : Dimension} {ge
     → collection d (geometries (map f xs)) ≡ geo → Advances a b (encoding order form geo) r
 unfolding members_encoding
 lays_collection a b r order form f xs p name same is =
-    rw (← is, ← same, ← name, count-geometries f xs, encodings-geometries order (inner form) f xs)
-    (lays_counted a b r order _ (λ x. encoding order (inner form) (f x)) xs p)
+    rw (
+      ← is,
+      ← same,
+      ← name,
+      count-geometries f xs,
+      encodings-geometries order (inner form) f xs,
+      counted_of order _ (λ x. encoding order (inner form) (f x)) xs,
+    )
+    p
 
 -- a collection without a fault has a count that four bytes hold, and members without a fault
 pub collection_count : {X : Type 0} (d : Dimensions) (f : X → Geometry) (xs : List X)

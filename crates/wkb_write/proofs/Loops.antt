@@ -1,11 +1,12 @@
 -- The steps of a loop that lays the encodings of a list's items.
 use Rattle.wkb_write.proofs.Prelude.{◌≡◌, ℕ, zero, suc, ◌+◌, ◌<◌, ◌≤◌, List, [], ◌∷◌, ◌++◌, length, take, drop, Some}
 use Rattle.wkb_write.proofs.Prelude.{sym, subst, ap, ◌∙◌, append_assoc, append-nil, take_all, take-append-drop}
-use Rattle.wkb_write.proofs.Prelude.{slice_get, add-one, map, get_or, Result, flat_map, length-map, get_or-map}
+use Rattle.wkb_write.proofs.Prelude.{slice_get, map, get_or, Result, flat_map, length-map, get_or-map}
 use Rattle.wkb_write.proofs.Prelude.{take-take, slice_get_read, Stopped, flat_map-append, Endianness}
 use Rattle.wkb_write.proofs.Prelude.{Form, Dimension, Dimensions, Option, None, number_bytes}
 use Rattle.wkb_write.proofs.Prelude.{words_encoding, header_encoding, members_encoding, counted, Progress, IsLaid}
-use Rattle.wkb_write.proofs.Prelude.{IsCut, Advances, Ok, Err, arith, ◌-◌}
+use Rattle.wkb_write.proofs.Prelude.{IsCut, Advances, Ok, Err, arith, ◌-◌, refl, polygon_encoding, coordinates_encoding}
+use Rattle.wkb_geom.specs.Values.{Coordinate}
 use Rattle.std.specs.Prelude.{IfSome}
 use Rattle.std.specs.Option.{option_map}
 use Rattle.std.proofs.lemmas.List.Folds.{flat_map-map}
@@ -33,47 +34,57 @@ module _ {a b : Progress} {order : Endianness} {cs : List (List ℕ)} {i : ℕ} 
   run_cut p q = rw (flat_map_parts (words_encoding order) cs i) (cut_then p.laid (cut_first _ q))
 
 -- a header, a count and the encodings of items, told by the items
-pub lays_counted : {X : Type 0} (a b : Progress) (r : Result (Unit {0}) Stopped) (order : Endianness) (header : List ℕ)
-    (f : X → List ℕ) (xs : List X) → Advances a b (header ++ counted order (map f xs)) r
-    → Advances a b (header ++ (number_bytes order 4 (length xs) ++ flat_map f xs)) r
+pub counted_of : {X : Type 0} (order : Endianness) (header : List ℕ) (f : X → List ℕ) (xs : List X)
+    → header ++ (number_bytes order 4 (length xs) ++ flat_map f xs) ≡ header ++ counted order (map f xs)
 unfolding counted
-lays_counted a b r order header f xs p = rw (← length-map xs f, ← flat_map-map (λ t. t) f xs) p
+counted_of order header f xs = rw (← length-map xs f, ← flat_map-map (λ t. t) f xs) refl
 
-pub lays_members : {X : Type 0} (a b : Progress) (r : Result (Unit {0}) Stopped) (order : Endianness) (form : Form)
-    (k : ℕ) (d : Dimension) (f : X → List ℕ) (xs : List X)
-    → Advances a b (header_encoding order form k d ++ counted order (map f xs)) r
-    → Advances a b (members_encoding order form k d (length xs) (flat_map f xs)) r
-unfolding members_encoding
-lays_members a b r order form k d f xs p = lays_counted a b r order _ f xs p
+module _ (order : Endianness) (form : Form) {d named : Dimension} (same : named ≡ d) where
+  pub members_told : {X : Type 0} (k : ℕ) (f : X → List ℕ) (xs : List X)
+      → members_encoding order form k d (length xs) (flat_map f xs)
+      ≡ header_encoding order form k named ++ counted order (map f xs)
+  unfolding members_encoding
+  members_told k f xs = rw same (counted_of order _ f xs)
 
--- a header, the count of these encodings, and the first of them were laid
-pub record HasLaid (a b : Progress) (order : Endianness) (header : List ℕ) (encodings : List (List ℕ))
+  pub rings_told : (rings : List (List Coordinate)) → polygon_encoding order form d rings
+      ≡ header_encoding order form 3 named ++ counted order (map (coordinates_encoding order) rings)
+  unfolding polygon_encoding
+  rings_told rings = rw same (counted_of order _ (coordinates_encoding order) rings)
+
+-- of a header, a count and these encodings, all before the encoding at this index was laid
+pub record HasLaid (a b : Progress) (order : Endianness) (whole : List ℕ) (encodings : List (List ℕ))
     (i : ℕ) : Type 0 where
+  pub header : List ℕ
+  pub is : whole ≡ header ++ counted order encodings
   pub laid : IsLaid a b ((header ++ number_bytes order 4 (length encodings)) ++ flat_map (λ t. t) (take i encodings))
 
-pub none_laid : {a b : Progress} {order : Endianness} {header : List ℕ} {encodings : List (List ℕ)} (n : ℕ)
-    → n ≡ length encodings → IsLaid a b (header ++ number_bytes order 4 n) → HasLaid a b order header encodings 0
-none_laid n is p = record { laid = rw (← is, append-nil) p }
+pub none_laid : {a b : Progress} {order : Endianness} {whole : List ℕ} {encodings : List (List ℕ)} (header : List ℕ)
+    (n : ℕ) → whole ≡ header ++ counted order encodings → n ≡ length encodings
+    → IsLaid a b (header ++ number_bytes order 4 n) → HasLaid a b order whole encodings 0
+none_laid header n is count p =
+    record { header = header; is = is; laid = rw (← count, append-nil) p }
 
-module _ {a b : Progress} {order : Endianness} {header : List ℕ} {encodings : List (List ℕ)} {i : ℕ} where
-  pub next_laid : {c : Progress} {t : List ℕ} → HasLaid a b order header encodings i → slice_get encodings i ≡ Some t
-      → IsLaid b c t → HasLaid a c order header encodings (i + 1)
+module _ {a b : Progress} {order : Endianness} {whole : List ℕ} {encodings : List (List ℕ)} {i : ℕ} where
+  pub next_laid : {c : Progress} {t : List ℕ} → HasLaid a b order whole encodings i → slice_get encodings i ≡ Some t
+      → IsLaid b c t → HasLaid a c order whole encodings (i + 1)
   next_laid {t = t} p item q = record {
+    header = p.header;
+    is = p.is;
     laid = rw (flat_map_step (λ t. t) encodings i t item, ← append_assoc)
         (laid_then p.laid q);
   }
 
-  pub all_laid : HasLaid a b order header encodings i → length encodings ≤ i
-      → IsLaid a b (header ++ counted order encodings)
+  pub all_laid : HasLaid a b order whole encodings i → length encodings ≤ i → IsLaid a b whole
   unfolding counted
-  all_laid p past = rw (← append_assoc) (rw take_all at p.laid)
+  all_laid p past = rw (p.is, ← append_assoc) (rw take_all at p.laid)
 
   -- where one of the encodings was cut, the whole was
-  pub next_cut : {c : Progress} {t : List ℕ} → HasLaid a b order header encodings i → slice_get encodings i ≡ Some t
-      → IsCut b c t → IsCut a c (header ++ counted order encodings)
+  pub next_cut : {c : Progress} {t : List ℕ} → HasLaid a b order whole encodings i → slice_get encodings i ≡ Some t
+      → IsCut b c t → IsCut a c whole
   unfolding counted
   next_cut {t = t} p item q =
       rw (
+        p.is,
         flat_map_parts (λ t. t) encodings (i + 1),
         flat_map_step (λ t. t) encodings i t item,
         ← append_assoc,
@@ -83,19 +94,19 @@ module _ {a b : Progress} {order : Endianness} {header : List ℕ} {encodings : 
       (cut_first _ (cut_then p.laid q))
 
 -- the answer of the last encoding is that of all
-lays_last_encoding : {a b : Progress} (c : Progress) {order : Endianness} {header : List ℕ}
+lays_last_encoding : {a b : Progress} (c : Progress) {order : Endianness} {whole : List ℕ}
     {encodings : List (List ℕ)} {i : ℕ} {t : List ℕ} (r : Result (Unit {0}) Stopped)
-    → HasLaid a b order header encodings i → slice_get encodings i ≡ Some t → length encodings ≤ i + 1
-    → Advances b c t r → Advances a c (header ++ counted order encodings) r
-lays_last_encoding c (Ok x) p item whole q = all_laid (next_laid p item q) whole
-lays_last_encoding c (Err e) p item whole q = next_cut p item q
+    → HasLaid a b order whole encodings i → slice_get encodings i ≡ Some t → length encodings ≤ i + 1
+    → Advances b c t r → Advances a c whole r
+lays_last_encoding c (Ok x) p item past q = all_laid (next_laid p item q) past
+lays_last_encoding c (Err e) p item past q = next_cut p item q
 
--- the same where the header or the count was cut
-pub head_cut : {a b : Progress} (order : Endianness) (header : List ℕ) (encodings : List (List ℕ)) (n : ℕ)
-    → length encodings ≡ n → IsCut a b (header ++ number_bytes order 4 n)
-    → IsCut a b (header ++ counted order encodings)
+-- where the header or the count was cut, the whole was
+pub head_cut : {a b : Progress} {whole : List ℕ} (order : Endianness) (header : List ℕ) (encodings : List (List ℕ))
+    (n : ℕ) → whole ≡ header ++ counted order encodings → n ≡ length encodings
+    → IsCut a b (header ++ number_bytes order 4 n) → IsCut a b whole
 unfolding counted
-head_cut order header encodings n is p = rw (is, ← append_assoc) (cut_first _ p)
+head_cut order header encodings n is count p = rw (is, ← count, ← append_assoc) (cut_first _ p)
 
 -- the encoding of an item stands at the item's place
 encoding_there : {X : Type 0} (f : X → List ℕ) (xs : List X) (i : ℕ) (x : X) → i < length xs → x ≡ get_or xs i x
@@ -109,26 +120,25 @@ pub no_member : {X : Type 0} {a b : Progress} (order : Endianness) (header : Lis
     → length xs ≡ 0 → IsLaid a b (header ++ number_bytes order 4 (length xs))
     → IsLaid a b (header ++ counted order (map f xs))
 no_member order header f xs none p =
-    all_laid (none_laid _ (sym (length-map xs f)) p) (omega (arith, length-map xs f, none))
+    all_laid (none_laid _ _ refl (sym (length-map xs f)) p) (omega (arith, length-map xs f, none))
 
-module _ {X : Type 0} {a b : Progress} {order : Endianness} {header : List ℕ} (f : Form → X → List ℕ) (xs : List X)
+module _ {X : Type 0} {a b : Progress} {order : Endianness} {whole : List ℕ} (f : Form → X → List ℕ) (xs : List X)
     {own told : Form} {i : ℕ} {x : X} where
-  pub next_member : {c : Progress} → own ≡ told → HasLaid a b order header (map (f own) xs) i → i < length xs - 1
-      → x ≡ get_or xs i x → IsLaid b c (f told x) → HasLaid a c order header (map (f own) xs) (i + 1)
+  pub next_member : {c : Progress} → own ≡ told → HasLaid a b order whole (map (f own) xs) i → i < length xs - 1
+      → x ≡ get_or xs i x → IsLaid b c (f told x) → HasLaid a c order whole (map (f own) xs) (i + 1)
   next_member {c = c} same p within is q =
       next_laid p (encoding_there (f own) xs i x (omega (arith, within)) is)
       (subst (λ k. IsLaid b c (f k x)) (sym same) q)
 
-  pub member_cut : {c : Progress} → own ≡ told → HasLaid a b order header (map (f own) xs) i → i < length xs - 1
-      → x ≡ get_or xs i x → IsCut b c (f told x) → IsCut a c (header ++ counted order (map (f own) xs))
+  pub member_cut : {c : Progress} → own ≡ told → HasLaid a b order whole (map (f own) xs) i → i < length xs - 1
+      → x ≡ get_or xs i x → IsCut b c (f told x) → IsCut a c whole
   member_cut {c = c} same p within is q =
       next_cut p (encoding_there (f own) xs i x (omega (arith, within)) is)
       (subst (λ k. IsCut b c (f k x)) (sym same) q)
 
   pub last_member : (c : Progress) (r : Result (Unit {0}) Stopped) → own ≡ told
-      → HasLaid a b order header (map (f own) xs) i → (length xs ≡ 0 → ⊥) → i ≤ length xs - 1 → length xs - 1 ≤ i
-      → x ≡ get_or xs (length xs - 1) x → Advances b c (f told x) r
-      → Advances a c (header ++ counted order (map (f own) xs)) r
+      → HasLaid a b order whole (map (f own) xs) i → (length xs ≡ 0 → ⊥) → i ≤ length xs - 1 → length xs - 1 ≤ i
+      → x ≡ get_or xs (length xs - 1) x → Advances b c (f told x) r → Advances a c whole r
   last_member c r same p some up past is q =
       let at_end : length xs - 1 ≡ i = omega (arith, up, past) in
       let there = encoding_there (f own) xs i x (omega (arith, some, up, past)) (subst (λ k. x ≡ get_or xs k x) at_end is)

@@ -2,11 +2,11 @@
 use Rattle.wkb_write.proofs.Prelude.{none_first, none_rest, none_both, count_below}
 use Rattle.wkb_geom.proofs.FirstItem.{some_below}
 use Rattle.wkb_write.proofs.Supported.{supported_at_least, supported_at_most, none_at}
-use Rattle.wkb_write.proofs.Loops.{lays_counted, lays_members}
+use Rattle.wkb_write.proofs.Loops.{members_told, rings_told}
 use Rattle.wkb_sink.proofs.Steps.{step_laws as sink_laws}
 
 pub ruleset step_laws = (supported_at_least, supported_at_most, sink_laws)
 
-pub ruleset item_laws = (step_laws, some_below, none_first, none_rest, none_at, none_both, count_below)
+pub ruleset item_laws = (step_laws, some_below, none_first, none_rest, none_at, none_both, count_below, members_told, rings_told)
 
-pub ruleset node_laws = (step_laws, none_first, none_rest, none_at, count_below, lays_counted, lays_members)
+pub ruleset node_laws = (step_laws, none_first, none_rest, none_at, count_below)

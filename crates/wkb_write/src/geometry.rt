@@ -5,13 +5,14 @@ ghost use Rattle.wkb_write.specs.Words.{encoding_of, refusal_of, Iso, IsMemory, 
 ghost use Rattle.wkb_write.specs.Words.{WritesTo, Reports};
 
 use crate::common::*;
+use crate::items::{Counted, Items};
 use crate::lent::{vec_lent, write_lent};
 use crate::line::LineKind;
 use crate::line_string::{LineStringKind, write_line_string};
 use crate::multi_line_string::MultiLineStringKind;
 use crate::multi_point::MultiPointKind;
 use crate::multi_polygon::MultiPolygonKind;
-use crate::nested::{Nested, measure_geometry, put_members};
+use crate::nested::{Nested, Node};
 use crate::point::{PointKind, write_point};
 use crate::polygon::{PolygonKind, write_polygon};
 use crate::rect::RectKind;
@@ -25,6 +26,8 @@ pub struct GeometryKind;
 
 impl<G: GeometryTrait> Nested<G> for GeometryKind {
     ghost geometry = { λ g. G.geometry g };
+
+    ghost lawful = { λ g. G.lawful g };
 
     #[inline(always)]
     fn members_of(geom: &G) -> Option<&[G]> {
@@ -60,35 +63,16 @@ impl<G: GeometryTrait> Nested<G> for GeometryKind {
         match geom.as_type() {
             GeometryType::Point(p) => PointKind::put(out, p, order, form),
             GeometryType::LineString(l) => LineStringKind::put(out, l, order, form),
-            GeometryType::Polygon(p) => PolygonKind::put(out, p, order, form),
-            GeometryType::MultiPoint(m) => MultiPointKind::put(out, m, order, form),
-            GeometryType::MultiLineString(m) => MultiLineStringKind::put(out, m, order, form),
-            GeometryType::MultiPolygon(m) => MultiPolygonKind::put(out, m, order, form),
+            GeometryType::Polygon(p) => Counted::<PolygonKind>::put(out, p, order, form),
+            GeometryType::MultiPoint(m) => Counted::<MultiPointKind>::put(out, m, order, form),
+            GeometryType::MultiLineString(m) => Counted::<MultiLineStringKind>::put(
+                out, m, order, form,
+            ),
+            GeometryType::MultiPolygon(m) => Counted::<MultiPolygonKind>::put(out, m, order, form),
             GeometryType::Rect(r) => RectKind::put(out, r, order, form),
             GeometryType::Triangle(t) => TriangleKind::put(out, t, order, form),
             GeometryType::Line(l) => LineKind::put(out, l, order, form),
             GeometryType::GeometryCollection(_) => unreachable!(),
-        }
-    }
-}
-
-impl<G: GeometryTrait> Writable<G> for GeometryKind {
-    ghost geometry = { λ g. G.geometry g };
-
-    ghost lawful = { λ g. G.lawful g };
-
-    #[inline(always)]
-    fn measure(geom: &G) -> Result<usize, Fault> {
-        measure_geometry::<G, GeometryKind>(geom)
-    }
-
-    fn put<S: Sink>(out: &mut Buffered<'_, S>, geom: &G, order: Endianness, form: Form) -> Put {
-        match GeometryKind::members_of(geom) {
-            Some(members) => {
-                let dim = dimension_to_write(geom.dim());
-                put_members::<S, G, GeometryKind>(out, members, order, form, dim)
-            }
-            None => GeometryKind::put_leaf(out, geom, order, form),
         }
     }
 }
@@ -102,7 +86,7 @@ impl<G: GeometryTrait> Writable<G> for GeometryKind {
 pub fn geometry_wkb_size<G: GeometryTrait>(geom: &G) -> WkbResult<usize>
     ensures size { IsSizeOf Iso (G.geometry geom.now) result }
 {
-    size_as::<G, GeometryKind>(geom, Form::Iso)
+    size_as::<G, Node<GeometryKind>>(geom, Form::Iso)
 }
 
 /// The size of a geometry under the options: four bytes more where they have an SRID.
@@ -115,7 +99,7 @@ pub fn geometry_wkb_size_with<G: GeometryTrait>(
 ) -> WkbResult<usize>
     ensures size { IsSizeOf options.now.form (G.geometry geom.now) result }
 {
-    size_as::<G, GeometryKind>(geom, options.form)
+    size_as::<G, Node<GeometryKind>>(geom, options.form)
 }
 
 /// Writes a geometry. The whole of it is tested before a byte is put.
@@ -148,7 +132,7 @@ pub fn write_geometry<S: Sink, G: GeometryTrait>(
         GeometryType::Point(p) => write_point(writer, p, options),
         GeometryType::LineString(l) => write_line_string(writer, l, options),
         GeometryType::Polygon(p) => write_polygon(writer, p, options),
-        _ => write_as::<S, G, GeometryKind>(writer, geom, options),
+        _ => write_as::<S, G, Node<GeometryKind>>(writer, geom, options),
     }
 }
 
@@ -177,6 +161,6 @@ pub fn to_vec<G: GeometryTrait>(
     match geom.as_type() {
         // By itself a point needs no call.
         GeometryType::Point(p) => vec_as::<G::PointType, PointKind>(alloc, p, options),
-        _ => vec_as::<G, GeometryKind>(alloc, geom, options),
+        _ => vec_as::<G, Node<GeometryKind>>(alloc, geom, options),
     }
 }

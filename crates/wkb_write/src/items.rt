@@ -1,40 +1,38 @@
 //! Items behind a count: the rings of a polygon, the members of a multi geometry.
 
-ghost use Rattle.std.specs.Prelude.{◌≡◌, ◌<◌, ◌^◌, ◌++◌, ℕ, List, [], false, length, get_or};
-ghost use Rattle.std.specs.Prelude.{IfSome, slice_get};
-ghost use Rattle.wkb_write.specs.Words.{Endianness, Form, type_kind, type_dimension};
-ghost use Rattle.wkb_write.specs.Words.{header_encoding, inner, Lays, Measure, parts_fault};
-ghost use Rattle.wkb_write.specs.Words.{parts_size, counted, Measures, result_of};
+ghost use Rattle.std.specs.Prelude.{◌≡◌, ◌<◌, ◌^◌, ◌++◌, ℕ, List, [], None, false, length};
+ghost use Rattle.std.specs.Prelude.{get_or, IfSome, slice_get};
+ghost use Rattle.wkb_write.specs.Words.{Endianness, Form, Geometry, IsGeometry, encoding, fault};
+ghost use Rattle.wkb_write.specs.Words.{header_encoding, inner, type_kind, type_dimension};
+ghost use Rattle.wkb_write.specs.Words.{counted, parts_fault, parts_size, result_of};
+ghost use Rattle.wkb_write.specs.Words.{IsMeasured, Lays, Measure, Measures};
 
-use crate::Sink;
+use crate::common::*;
 use crate::measure::{Measured, check_count};
-use crate::writable::Put;
-use wkb_geom::code::WkbType;
-use wkb_geom::{Endianness, Fault, Form};
-use wkb_sink::Buffered;
 
 /// A kind whose geometries are items behind a count.
 pub trait Items<G> {
-    // Whether a geometry has no fault.
-    ghost is_fine: { G → Type 0 };
-
-    // The fault and the size of each item, in order.
-    ghost measures: { G → List Measure };
+    // What a geometry means.
+    ghost geometry: { G → Geometry };
 
     // The encodings of the items, in order, under the order and the form of items.
     ghost encodings: { Endianness → Form → G → List (List ℕ) };
 
+    /// The kind and the dimension that the header tells.
+    fn kind(geom: &G) -> WkbType
+        ensures { (order : Endianness) (form : Form) → encoding order form (geometry geom.now)
+            ≡ header_encoding order form (type_kind result) (type_dimension result)
+            ++ counted order (encodings order (inner form) geom.now) };
+
     /// How many items stand behind the count.
     fn count(geom: &G) -> u128
-        ensures measured { result ≡ length (measures geom.now) }
-        ensures put { (order : Endianness) (form : Form)
+        ensures counted { (order : Endianness) (form : Form)
             → result ≡ length (encodings order form geom.now) }
-        ensures few { is_fine geom.now → result < 2 ^ 32 };
+        ensures few { fault (geometry geom.now) ≡ None → result < 2 ^ 32 };
 
-    /// The fault of the item at an index, or its bytes without its header.
-    fn measure_item(geom: &G, i: usize) -> Result<usize, Fault>
-        requires { i < length (measures geom.now) }
-        ensures { IfSome (slice_get (measures geom.now) i) (λ m. Measures m.fault m.size result) };
+    /// The bytes after the header, or the first fault.
+    fn measure(geom: &G) -> Result<usize, Fault>
+        ensures { IsMeasured (geometry geom.now) result };
 
     /// Puts the item at an index.
     fn put_item<S: Sink>(
@@ -44,19 +42,59 @@ pub trait Items<G> {
         order: Endianness,
         form: Form,
     ) -> Put
-        requires fine { is_fine geom.now }
+        requires fault { fault (geometry geom.now) ≡ None }
         requires within { i < length (encodings order form geom.now) }
         requires working { S.has_failed out.old.sink.now ≡ false }
         ensures { Lays S.Sink out.old out.new
             (get_or (encodings order form geom.now) i []) result };
+
+    // Every coordinate fits the dimension.
+    ghost lawful: { (g : G) → IsGeometry (geometry g) };
 }
 
-/// Measures the count and the items in order, each behind a header of so many bytes.
-pub fn measure_items<G, I: Items<G>>(geom: &G, header: u8) -> Measured
+/// A kind of items, as a kind: how the items are put after their count.
+pub struct Counted<I>(I);
+
+#[tactic(auto, using(crate::proofs::Steps::step_laws))]
+impl<G, I: Items<G>> Writable<G> for Counted<I> {
+    ghost geometry = { λ g. I.geometry g };
+
+    ghost lawful = { λ g. I.lawful g };
+
+    #[inline(always)]
+    fn measure(geom: &G) -> Result<usize, Fault> {
+        I::measure(geom)
+    }
+
+    fn put<S: Sink>(out: &mut Buffered<'_, S>, geom: &G, order: Endianness, form: Form) -> Put {
+        let kind = I::kind(geom);
+        let count = I::count(geom) as u32;
+        out.put_head(order, form, kind, count)?;
+        for i in 0..count as usize {
+            I::put_item(out, geom, i, order, form.inner())?;
+        }
+        Ok(())
+    }
+}
+
+/// A kind whose items are measured one by one.
+pub trait MeasuredItems<G> {
+    // The fault and the size of each item, in order.
+    ghost measures: { G → List Measure };
+
+    /// The fault of the item at an index, or its bytes without its header.
+    fn measure_item(geom: &G, i: usize) -> Result<usize, Fault>
+        requires { i < length (measures geom.now) }
+        ensures { IfSome (slice_get (measures geom.now) i) (λ m. Measures m.fault m.size result) };
+}
+
+/// Measures the count and so many items in order, each behind a header of so many bytes.
+pub fn measure_items<G, I: MeasuredItems<G>>(geom: &G, count: u128, header: u8) -> Measured
+    requires { count ≡ length (I.measures geom.now) }
     ensures { Measures (parts_fault (I.measures geom.now)) (parts_size header (I.measures geom.now))
         (result_of result) }
 {
-    let count = match check_count(I::count(geom)) {
+    let count = match check_count(count) {
         Ok(count) => count as usize,
         Err(fault) => return Measured::from(fault),
     };
@@ -68,27 +106,4 @@ pub fn measure_items<G, I: Items<G>>(geom: &G, header: u8) -> Measured
         }
     }
     Measured::Bytes(total)
-}
-
-/// Puts a header of this code, and the items after their count.
-#[tactic(auto, using(crate::proofs::Steps::step_laws))]
-pub fn put_items<S: Sink, G, I: Items<G>>(
-    out: &mut Buffered<'_, S>,
-    geom: &G,
-    order: Endianness,
-    form: Form,
-    kind: WkbType,
-) -> Put
-    requires fine { I.is_fine geom.now }
-    requires working { S.has_failed out.old.sink.now ≡ false }
-    ensures { Lays S.Sink out.old out.new
-        (header_encoding order form (type_kind kind) (type_dimension kind)
-        ++ counted order (I.encodings order (inner form) geom.now)) result }
-{
-    let count = I::count(geom) as u32;
-    out.put_head(order, form, kind, count)?;
-    for i in 0..count as usize {
-        I::put_item(out, geom, i, order, form.inner())?;
-    }
-    Ok(())
 }

@@ -6,8 +6,8 @@
 //! and fails as `write_geometry`, where the docs of one don't say otherwise.
 //!
 //! A file for each kind says what it means, how it is measured and put, and has its size and its writer. What they
-//! share: `writable` (the trait of kinds, and the way from it to a writer), `items` (the trait of what stands after a
-//! count, and its two loops), `nested` (the recursion of collections, and the trait of what it knows of a geometry) and
+//! share: `writable` (the trait of kinds, and the way from it to a writer), `items` (the kinds of items behind a count,
+//! and their two loops), `nested` (the recursion of collections, and the trait of what it knows of a geometry) and
 //! `measure`.
 #![tactic(auto)]
 

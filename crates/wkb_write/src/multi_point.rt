@@ -6,7 +6,7 @@ ghost use Rattle.wkb_write.specs.Words.{IsSizeOf, WritesTo};
 ghost use Rattle.wkb_write.specs.Words.{point_measure, coordinate_words, Measures};
 
 use crate::common::*;
-use crate::items::{Items, put_items};
+use crate::items::{Counted, Items};
 use crate::measure::{behind_header, check_count, words_size};
 use crate::point::PointKind;
 use wkb_geom::MultiPointTrait;
@@ -15,39 +15,26 @@ use wkb_geom::header::MEMBER_HEADER;
 /// A multi point.
 pub struct MultiPointKind;
 
-#[tactic(auto, using(crate::proofs::Steps::node_laws))]
-impl<M: MultiPointTrait> Writable<M> for MultiPointKind {
-    ghost geometry = { λ m. multi_point (M.dimensions m) (M.points m) };
-
-    ghost lawful = { λ g. M.lawful g };
-
-    #[inline(always)]
-    fn measure(geom: &M) -> Result<usize, Fault> {
-        behind_header(geom.dim(), measure_points(geom))
-    }
-
-    fn put<S: Sink>(out: &mut Buffered<'_, S>, geom: &M, order: Endianness, form: Form) -> Put {
-        let kind = WkbType::MultiPoint(dimension_to_write(geom.dim()));
-        put_items::<S, M, MultiPointKind>(out, geom, order, form, kind)
-    }
-}
-
 #[tactic(auto, using(crate::proofs::Steps::item_laws))]
 impl<M: MultiPointTrait> Items<M> for MultiPointKind {
-    ghost is_fine = { λ m. fault (multi_point (M.dimensions m) (M.points m)) ≡ None };
-
-    ghost measures = { λ m. map (point_measure (M.dimensions m)) (M.points m) };
+    ghost geometry = { λ m. multi_point (M.dimensions m) (M.points m) };
 
     ghost encodings = { λ order form m.
         map (λ c. encoding order form (point (M.dimensions m) c)) (M.points m) };
+
+    ghost lawful = { λ g. M.lawful g };
+
+    fn kind(geom: &M) -> WkbType {
+        WkbType::MultiPoint(dimension_to_write(geom.dim()))
+    }
 
     fn count(geom: &M) -> u128 {
         geom.num_points() as u128
     }
 
-    fn measure_item(geom: &M, i: usize) -> Result<usize, Fault> {
-        let point = geom.point(i).unwrap();
-        Ok(words_size(point.dim(), 1))
+    #[inline(always)]
+    fn measure(geom: &M) -> Result<usize, Fault> {
+        behind_header(geom.dim(), measure_points(geom))
     }
 
     fn put_item<S: Sink>(
@@ -76,7 +63,7 @@ fn measure_points<M: MultiPointTrait>(geom: &M) -> Result<usize, Fault>
 pub fn multi_point_wkb_size<M: MultiPointTrait>(geom: &M) -> WkbResult<usize>
     ensures size { IsSizeOf Iso (multi_point (M.dimensions geom.now) (M.points geom.now)) result }
 {
-    size_as::<M, MultiPointKind>(geom, Form::Iso)
+    size_as::<M, Counted<MultiPointKind>>(geom, Form::Iso)
 }
 
 /// Writes a MultiPoint.
@@ -89,5 +76,5 @@ pub fn write_multi_point<S: Sink, M: MultiPointTrait>(
     ensures { WritesTo S.Sink writer.old writer.new options.now
         (multi_point (M.dimensions geom.now) (M.points geom.now)) result }
 {
-    write_as::<S, M, MultiPointKind>(writer, geom, options)
+    write_as::<S, M, Counted<MultiPointKind>>(writer, geom, options)
 }

@@ -5,49 +5,41 @@ ghost use Rattle.wkb_write.specs.Words.{Iso, multi_polygon, polygon, fault, enco
 ghost use Rattle.wkb_write.specs.Words.{WritesTo, polygon_measure};
 
 use crate::common::*;
-use crate::items::{Items, measure_items, put_items};
+use crate::items::{Counted, Items, MeasuredItems, measure_items};
 use crate::measure::behind_header;
 use crate::polygon::PolygonKind;
 use wkb_geom::MultiPolygonTrait;
 use wkb_geom::header::MEMBER_HEADER;
+use wkb_geom::rings::ring_count;
 
 /// A multi polygon.
 pub struct MultiPolygonKind;
 
-#[tactic(auto, using(crate::proofs::Steps::node_laws))]
-impl<M: MultiPolygonTrait> Writable<M> for MultiPolygonKind {
-    ghost geometry = { λ m. multi_polygon (M.dimensions m) (M.polygons m) };
-
-    ghost lawful = { λ g. M.lawful g };
-
-    #[inline(always)]
-    fn measure(geom: &M) -> Result<usize, Fault> {
-        let body = measure_items::<M, MultiPolygonKind>(geom, MEMBER_HEADER as u8).result();
-        behind_header(geom.dim(), body)
-    }
-
-    fn put<S: Sink>(out: &mut Buffered<'_, S>, geom: &M, order: Endianness, form: Form) -> Put {
-        let kind = WkbType::MultiPolygon(dimension_to_write(geom.dim()));
-        put_items::<S, M, MultiPolygonKind>(out, geom, order, form, kind)
-    }
-}
-
 #[tactic(auto, using(crate::proofs::Steps::item_laws))]
 impl<M: MultiPolygonTrait> Items<M> for MultiPolygonKind {
-    ghost is_fine = { λ m. fault (multi_polygon (M.dimensions m) (M.polygons m)) ≡ None };
-
-    ghost measures = { λ m. map (polygon_measure (M.dimensions m)) (M.polygons m) };
+    ghost geometry = { λ m. multi_polygon (M.dimensions m) (M.polygons m) };
 
     ghost encodings = { λ order form m.
         map (λ c. encoding order form (polygon (M.dimensions m) c)) (M.polygons m) };
+
+    ghost lawful = { λ g. M.lawful g };
+
+    fn kind(geom: &M) -> WkbType {
+        WkbType::MultiPolygon(dimension_to_write(geom.dim()))
+    }
 
     fn count(geom: &M) -> u128 {
         geom.num_polygons() as u128
     }
 
-    fn measure_item(geom: &M, i: usize) -> Result<usize, Fault> {
-        let polygon = geom.polygon(i).unwrap();
-        measure_items::<M::InnerPolygonType, PolygonKind>(polygon, 0).result()
+    #[inline(always)]
+    fn measure(geom: &M) -> Result<usize, Fault> {
+        let body = measure_items::<M, MultiPolygonKind>(
+            geom,
+            geom.num_polygons() as u128,
+            MEMBER_HEADER as u8,
+        ).result();
+        behind_header(geom.dim(), body)
     }
 
     fn put_item<S: Sink>(
@@ -58,7 +50,17 @@ impl<M: MultiPolygonTrait> Items<M> for MultiPolygonKind {
         form: Form,
     ) -> Put {
         let polygon = geom.polygon(i).unwrap();
-        PolygonKind::put(out, polygon, order, form)
+        Counted::<PolygonKind>::put(out, polygon, order, form)
+    }
+}
+
+#[tactic(auto, using(crate::proofs::Steps::item_laws))]
+impl<M: MultiPolygonTrait> MeasuredItems<M> for MultiPolygonKind {
+    ghost measures = { λ m. map (polygon_measure (M.dimensions m)) (M.polygons m) };
+
+    fn measure_item(geom: &M, i: usize) -> Result<usize, Fault> {
+        let polygon = geom.polygon(i).unwrap();
+        measure_items::<M::InnerPolygonType, PolygonKind>(polygon, ring_count(polygon), 0).result()
     }
 }
 
@@ -67,7 +69,7 @@ pub fn multi_polygon_wkb_size<M: MultiPolygonTrait>(geom: &M) -> WkbResult<usize
     ensures size { IsSizeOf Iso
         (multi_polygon (M.dimensions geom.now) (M.polygons geom.now)) result }
 {
-    size_as::<M, MultiPolygonKind>(geom, Form::Iso)
+    size_as::<M, Counted<MultiPolygonKind>>(geom, Form::Iso)
 }
 
 /// Writes a MultiPolygon.
@@ -80,5 +82,5 @@ pub fn write_multi_polygon<S: Sink, M: MultiPolygonTrait>(
     ensures { WritesTo S.Sink writer.old writer.new options.now
         (multi_polygon (M.dimensions geom.now) (M.polygons geom.now)) result }
 {
-    write_as::<S, M, MultiPolygonKind>(writer, geom, options)
+    write_as::<S, M, Counted<MultiPolygonKind>>(writer, geom, options)
 }

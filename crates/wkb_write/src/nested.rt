@@ -3,18 +3,14 @@
 //! A *leaf* is a geometry of any kind but a collection. The recursion ends there.
 
 ghost use Rattle.std.specs.Prelude.{◌≡◌, ◌<◌, ◌^◌, ◌++◌, None, false, length, map, MatchOption};
-ghost use Rattle.wkb_write.specs.Words.{Geometry, collection, geometries, fault, first_fault};
+ghost use Rattle.wkb_write.specs.Words.{Geometry, IsGeometry, collection, geometries, fault, first_fault};
 ghost use Rattle.wkb_write.specs.Words.{header_encoding, inner, encoding, counted, form_with_flags};
 ghost use Rattle.wkb_write.specs.Words.{Lays, IsAdded, IsLeaf, IsMeasured, result_of};
 
-use crate::Sink;
+use crate::common::*;
 use crate::measure::{Measured, check_count, check_dimensions};
-use crate::writable::Put;
-use wkb_geom::code::WkbType;
 use wkb_geom::header::MEMBER_HEADER;
-use wkb_geom::{Dimension, Dimensioned, Dimensions, Endianness, Fault, Form};
-use wkb_sink::Buffered;
-use wkb_sink::block::dimension_to_write;
+use wkb_geom::{Dimension, Dimensions};
 
 /// A kind whose geometries may be collections of more of them. The recursion knows no more of a geometry than this, so
 /// that it is proved over few types.
@@ -39,6 +35,33 @@ pub trait Nested<G: Dimensioned> {
         requires fault { fault (geometry geom.now) ≡ None }
         requires working { S.has_failed out.old.sink.now ≡ false }
         ensures { Lays S.Sink out.old out.new (encoding order form (geometry geom.now)) result };
+
+    // Every coordinate fits the dimension.
+    ghost lawful: { (g : G) → IsGeometry (geometry g) };
+}
+
+/// A kind of leaves and collections, as a kind: how a geometry that may be either is measured and put.
+pub struct Node<K>(K);
+
+impl<G: Dimensioned, K: Nested<G>> Writable<G> for Node<K> {
+    ghost geometry = { λ g. K.geometry g };
+
+    ghost lawful = { λ g. K.lawful g };
+
+    #[inline(always)]
+    fn measure(geom: &G) -> Result<usize, Fault> {
+        measure_geometry::<G, K>(geom)
+    }
+
+    fn put<S: Sink>(out: &mut Buffered<'_, S>, geom: &G, order: Endianness, form: Form) -> Put {
+        match K::members_of(geom) {
+            Some(members) => {
+                let dim = dimension_to_write(geom.dim());
+                put_members::<S, G, K>(out, members, order, form, dim)
+            }
+            None => K::put_leaf(out, geom, order, form),
+        }
+    }
 }
 
 // Adds a collection of these dimensions and members to the bytes before it. Where the last member is a collection, it

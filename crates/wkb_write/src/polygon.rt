@@ -5,7 +5,7 @@ ghost use Rattle.wkb_write.specs.Words.{Iso, polygon, coordinates_encoding, faul
 ghost use Rattle.wkb_write.specs.Words.{WritesTo, ring_measure};
 
 use crate::common::*;
-use crate::items::{Items, measure_items, put_items};
+use crate::items::{Counted, Items, MeasuredItems, measure_items};
 use crate::line_string::{measure_coordinates, put_coordinates};
 use crate::measure::behind_header;
 use wkb_geom::rings::{nth_ring, ring_count};
@@ -14,38 +14,26 @@ use wkb_geom::{LineStringTrait, PolygonTrait};
 /// A polygon.
 pub struct PolygonKind;
 
-#[tactic(auto, using(crate::proofs::Steps::node_laws), unfolding(wkb_geom::specs::Encodings::polygon_encoding))]
-impl<P: PolygonTrait> Writable<P> for PolygonKind {
+#[tactic(auto, using(crate::proofs::Steps::item_laws))]
+impl<P: PolygonTrait> Items<P> for PolygonKind {
     ghost geometry = { λ p. polygon (P.dimensions p) (P.rings p) };
+
+    ghost encodings = { λ order form p. map (coordinates_encoding order) (P.rings p) };
 
     ghost lawful = { λ g. P.lawful g };
 
-    #[inline(always)]
-    fn measure(geom: &P) -> Result<usize, Fault> {
-        let body = measure_items::<P, PolygonKind>(geom, 0).result();
-        behind_header(geom.dim(), body)
+    fn kind(geom: &P) -> WkbType {
+        WkbType::Polygon(dimension_to_write(geom.dim()))
     }
-
-    fn put<S: Sink>(out: &mut Buffered<'_, S>, geom: &P, order: Endianness, form: Form) -> Put {
-        let kind = WkbType::Polygon(dimension_to_write(geom.dim()));
-        put_items::<S, P, PolygonKind>(out, geom, order, form, kind)
-    }
-}
-
-#[tactic(auto, using(crate::proofs::Steps::item_laws))]
-impl<P: PolygonTrait> Items<P> for PolygonKind {
-    ghost is_fine = { λ p. fault (polygon (P.dimensions p) (P.rings p)) ≡ None };
-
-    ghost measures = { λ p. map (ring_measure (P.dimensions p)) (P.rings p) };
-
-    ghost encodings = { λ order form p. map (coordinates_encoding order) (P.rings p) };
 
     fn count(geom: &P) -> u128 {
         ring_count(geom)
     }
 
-    fn measure_item(geom: &P, i: usize) -> Result<usize, Fault> {
-        measure_coordinates(&nth_ring(geom, i))
+    #[inline(always)]
+    fn measure(geom: &P) -> Result<usize, Fault> {
+        let body = measure_items::<P, PolygonKind>(geom, ring_count(geom), 0).result();
+        behind_header(geom.dim(), body)
     }
 
     fn put_item<S: Sink>(
@@ -61,11 +49,20 @@ impl<P: PolygonTrait> Items<P> for PolygonKind {
     }
 }
 
+#[tactic(auto, using(crate::proofs::Steps::item_laws))]
+impl<P: PolygonTrait> MeasuredItems<P> for PolygonKind {
+    ghost measures = { λ p. map (ring_measure (P.dimensions p)) (P.rings p) };
+
+    fn measure_item(geom: &P, i: usize) -> Result<usize, Fault> {
+        measure_coordinates(&nth_ring(geom, i))
+    }
+}
+
 /// The size of a polygon, the exterior first, in ISO codes.
 pub fn polygon_wkb_size<P: PolygonTrait>(geom: &P) -> WkbResult<usize>
     ensures size { IsSizeOf Iso (polygon (P.dimensions geom.now) (P.rings geom.now)) result }
 {
-    size_as::<P, PolygonKind>(geom, Form::Iso)
+    size_as::<P, Counted<PolygonKind>>(geom, Form::Iso)
 }
 
 /// Writes a polygon, the exterior first.
@@ -78,5 +75,5 @@ pub fn write_polygon<S: Sink, P: PolygonTrait>(
     ensures { WritesTo S.Sink writer.old writer.new options.now
         (polygon (P.dimensions geom.now) (P.rings geom.now)) result }
 {
-    write_as::<S, P, PolygonKind>(writer, geom, options)
+    write_as::<S, P, Counted<PolygonKind>>(writer, geom, options)
 }

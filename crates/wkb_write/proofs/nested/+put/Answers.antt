@@ -1,5 +1,5 @@
-use Rattle.wkb_write.proofs.Prelude.{◌≡◌, ◌<◌, ◌-◌, ◌∙◌, sym, ap, length, arith, length-map, node_count, fault}
-use Rattle.wkb_write.proofs.Prelude.{encoding, inner}
+use Rattle.wkb_write.proofs.Prelude.{◌<◌, ◌-◌, ◌∙◌, sym, ap, length, arith, length-map, node_count, fault}
+use Rattle.wkb_write.proofs.Prelude.{encoding, refl}
 use Rattle.wkb_write.proofs.Collections.{collection_count, collection_members, lays_collection, member_ready}
 use Rattle.wkb_sink.proofs.Laid.{exits}
 use Rattle.wkb_write.proofs.Loops.{head_cut, none_laid, no_member, next_member, member_cut, last_member}
@@ -7,7 +7,7 @@ use Rattle.wkb_write.proofs.nested.+put.Goals as goal
 
 pub put_members-returns-in_err-put_head : goal.put_members-returns-in_err-put_head
 put_members-returns-in_err-put_head g t c =
-    exits _ _ c.from_residual.ensures.1 (head_cut _ _ _ _ (length-map _ _) c.in_err-put_head.ensures)
+    exits _ _ c.from_residual.ensures.1 (head_cut _ _ _ _ refl (sym (length-map _ _)) c.in_err-put_head.ensures)
 
 pub put_member-put_leaf-requires-clause-leaf : goal.put_member-put_leaf-requires-clause-leaf
 put_member-put_leaf-requires-clause-leaf g t c = c.in-None.ensures
@@ -62,7 +62,7 @@ pub put_members-put_head-requires : goal.put_members-put_head-requires
 put_members-put_head-requires g t c = record { working = c.requires.working }
 
 pub put_members-loop-i-init : goal.put_members-loop-i-init
-put_members-loop-i-init g t c = none_laid _ (sym (length-map _ _)) c.in_ok-put_head.ensures
+put_members-loop-i-init g t c = none_laid _ _ refl (sym (length-map _ _)) c.in_ok-put_head.ensures
 
 pub put_members-loop-i-preserved : goal.put_members-loop-i-preserved
 put_members-loop-i-preserved g t c =

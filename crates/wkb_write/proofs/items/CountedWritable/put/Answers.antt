@@ -1,0 +1,31 @@
+use Rattle.wkb_write.proofs.Prelude.{arith, slice_get-get_or, inner}
+use Rattle.wkb_sink.proofs.Laid.{exits}
+use Rattle.wkb_write.proofs.Loops.{head_cut, none_laid, next_laid, all_laid, next_cut}
+use Rattle.wkb_write.proofs.items.CountedWritable.put.Goals as goal
+
+pub returns-in_err-put_head : goal.returns-in_err-put_head
+returns-in_err-put_head g c =
+    exits _ _ c.from_residual.ensures.1
+    (head_cut _ _ _ _ (c.kind-kind.ensures c.args.order c.args.form)
+    (c.count-count.ensures.counted c.args.order (inner c.args.form)) c.in_err-put_head.ensures)
+
+pub loop-i-init : goal.loop-i-init
+loop-i-init g c =
+    none_laid _ _ (c.kind-kind.ensures c.args.order c.args.form)
+    (c.count-count.ensures.counted c.args.order (inner c.args.form)) c.in_ok-put_head.ensures
+
+pub loop-i-preserved : goal.loop-i-preserved
+loop-i-preserved g c =
+    let item = slice_get-get_or _ c.loop-i.i _
+    (omega (arith, c.count-count.ensures.counted c.args.order (inner c.args.form))) in
+    next_laid c.loop-i.invariant item (rw c.inner.ensures at c.in_ok-put_item.ensures)
+
+pub returns-in_err-put_item : goal.returns-in_err-put_item
+returns-in_err-put_item g c =
+    let item = slice_get-get_or _ c.loop-i.i _
+    (omega (arith, c.count-count.ensures.counted c.args.order (inner c.args.form))) in
+    exits _ _ c.from_residual-in_err-put_item.ensures.1
+    (next_cut c.loop-i.invariant item (rw c.inner.ensures at c.in_err-put_item.ensures))
+
+pub returns : goal.returns
+returns g c = all_laid c.loop-i.invariant (omega (arith, c.count-count.ensures.counted c.args.order (inner c.args.form)))
