@@ -186,8 +186,9 @@ says_counted text line is_accepted turns slots is whole h =
     let refusal = rw is at h.2 in
     rw (whole, counts_line (codes "refused") turns slots) (counted_refusal (one_input Cost text h.0 refl h.1) refusal.1)
 
-pub says_srid : (text line : List ℕ) (number : ℕ) (found : Option ℕ) → found ≡ Some number → line ≡ codes "srid " ++ decimal number
-    → (bytes : List ℕ) × IsHexOf text bytes × HasSrid bytes found → Says (text ∷ []) Srid line 0
+pub says_srid : (text line : List ℕ) (number : ℕ) (found : Option ℕ) → found ≡ Some number
+    → line ≡ codes "srid " ++ decimal number → (bytes : List ℕ) × IsHexOf text bytes × HasSrid bytes found
+    → Says (text ∷ []) Srid line 0
 says_srid text line number found is whole h =
     rw whole (srid (one_input Srid text h.0 refl h.1) (rw is at h.2))
 

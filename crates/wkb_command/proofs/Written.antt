@@ -1,11 +1,13 @@
 -- What stands where a line is written in parts, and its hex in pieces.
-use Rattle.std.proofs.Common.{◌≡◌, ℕ, ◌<◌, ◌*◌, ◌+◌, List, [], ◌∷◌, ◌++◌, length, take, drop, slice_set, append_assoc}
-use Rattle.std.proofs.Common.{◌/◌, ◌%◌, slice_index, Option, Result, Ok, Err, refl, sym, ap, ◌∙◌, arith}
+use Rattle.std.proofs.Common.{◌≡◌, ℕ, ◌<◌, ◌≤◌, ◌*◌, ◌+◌, ◌-◌, List, [], ◌∷◌, ◌++◌, length, take, drop}
+use Rattle.std.proofs.Common.{slice_set, append_assoc, ◌/◌, ◌%◌, slice_index, Option, Result, Ok, Err, refl, sym, ap}
+use Rattle.std.proofs.Common.{◌∙◌, arith}
 use Rattle.std.specs.Prelude.{OnOk}
-use Rattle.std.specs.Result.{IsErr}
-use Rattle.std.specs.Io.{StartsWith}
-use Rattle.std.specs.Io.KnownBytes.{Appends}
-use Rattle.std.proofs.KnownBytes.{Appends-trans, starts_with_rest}
+use Rattle.std.specs.Result.{IsErr, result_unwrap_or}
+use Rattle.std.specs.Io.{StartsWith, WritesAtMost}
+use Rattle.std.specs.Io.KnownBytes.{Appends, WriteAppends}
+use Rattle.std.proofs.KnownBytes.{Appends-kept, Appends-nil, Appends-trans, starts_with_rest}
+use Rattle.std.proofs.Math.Seq.{take-append_seam}
 use Rattle.std.proofs.lemmas.Grind.{common_steps}
 use Rattle.std.proofs.lemmas.List.{take_more_set}
 use Rattle.hex.specs.Hex.{encode_with, encode_lower, lower_digits}
@@ -33,6 +35,10 @@ piece_written before written rest piece behind bytes wrote parts h =
     ∙ ap (λ l. before ++ (l ++ encode_lower behind)) wrote
     ∙ ap (λ l. before ++ l) (sym (encode_with-append lower_digits piece behind) ∙ ap encode_lower (sym parts))
     ∙ h
+
+regroup : (written rest bytes : List ℕ) (n : ℕ) → written ++ rest ≡ bytes
+    → (written ++ take n rest) ++ take (length rest - n) (drop n rest) ≡ bytes
+regroup written rest bytes n e = grind (arith, common_steps, append_assoc)
 
 -- the digits of a piece, as many as are written
 pub digits_of_piece : (digits piece : List ℕ) (count : ℕ) → take (2 * length piece) digits ≡ encode_lower piece
@@ -93,6 +99,42 @@ OnOk-from (Err e) P Q h f = tt
 OnOk-never : {T E : Type 0} (r : Result T E) (P : Type 0) → IsErr r → OnOk r P
 OnOk-never (Ok x) P h = absurd cc
 OnOk-never (Err e) P h = tt
+
+-- a write appended as many bytes as it took, at an error none
+taken : {E : Type 0} (old new : Option (List ℕ)) (r : Result ℕ E) (bytes : List ℕ) → WriteAppends old new r bytes
+    → Appends old new (take (result_unwrap_or r 0) bytes)
+taken old new (Ok n) bytes p = p
+taken old new (Err e) bytes p = Appends-kept _ _ _ _ (Appends-nil old) p
+
+pub taken_fits : {E : Type 0} (r : Result ℕ E) (bytes : List ℕ) → WritesAtMost r bytes
+    → result_unwrap_or r 0 ≤ length bytes
+taken_fits (Ok n) bytes p = p
+taken_fits (Err e) bytes p = omega arith
+
+-- the text as far as it is written, and the rest
+pub record Stands (old new : Option (List ℕ)) (rest text : List ℕ) : Type 0 where
+  pub written : List ℕ
+  pub appended : Appends old new written
+  pub parts : written ++ rest ≡ text
+
+pub attempted : {E : Type 0} {old mid : Option (List ℕ)} {rest text : List ℕ} (new : Option (List ℕ)) (r : Result ℕ E)
+    (count : ℕ) → Stands old mid rest text → count ≡ result_unwrap_or r 0 → WriteAppends mid new r rest
+    → Stands old new (take (length rest - count) (drop count rest)) text
+attempted {rest = rest} {text = text} new r count h is p = record {
+  written = h.written ++ take count rest;
+  appended = Appends-trans _ _ _ _ _ h.appended (rw is (taken _ _ r rest p));
+  parts = regroup h.written rest text count h.parts;
+}
+
+-- where the writer failed, what was written so far stands
+pub wrote_so_far : {T E : Type 0} {old new : Option (List ℕ)} {rest text : List ℕ} (e : E)
+    → Stands old new rest text → WroteBeginning {T = T} old new text (Err e)
+wrote_so_far {rest = rest} e h = record {
+  written = h.written;
+  appended = h.appended;
+  beginning = rw (sym h.parts) (take-append_seam h.written rest);
+  whole = tt;
+}
 
 -- the last part, or a beginning of it, is written behind the others
 pub wrote_last : {T E : Type 0} (old mid new : Option (List ℕ)) (front part line : List ℕ) (r : Result T E)

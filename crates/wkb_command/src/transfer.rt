@@ -57,10 +57,12 @@ pub fn write_whole<W: Write>(out: &mut W, bytes: &[u8]) -> Result<(), WriteFault
 {
     let mut rest = bytes;
     while !rest.is_empty() {
-        match out.write(rest) {
-            Ok(0) | Err(_) => return Err(WriteFault),
-            Ok(count) => rest = &rest[count..],
+        // At an error it took nothing.
+        let count = out.write(rest).unwrap_or(0);
+        if count == 0 {
+            return Err(WriteFault);
         }
+        rest = &rest[count..];
     }
     Ok(())
 }

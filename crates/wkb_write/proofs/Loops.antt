@@ -25,7 +25,8 @@ module _ {a b : Progress} {order : Endianness} {cs : List (List ℕ)} {i : ℕ} 
   pub next_run : {c : Progress} {j : ℕ} → HasRun a b order cs i → i ≤ j
       → IsLaid b c (flat_map (words_encoding order) (drop i (take j cs))) → HasRun a c order cs j
   next_run {j = j} p h q =
-      record { laid = rw (flat_map_parts (words_encoding order) (take j cs) i, take-take i j cs h) (laid_then p.laid q) }
+      let parts = flat_map_parts (words_encoding order) (take j cs) i in
+      record { laid = rw (parts, take-take i j cs h) (laid_then p.laid q) }
 
   pub whole_run : HasRun a b order cs i → length cs ≤ i → IsLaid a b (flat_map (words_encoding order) cs)
   whole_run p past = rw take_all at p.laid
@@ -141,8 +142,8 @@ module _ {X : Type 0} {a b : Progress} {order : Endianness} {whole : List ℕ} (
       → x ≡ get_or xs (length xs - 1) x → Advances b c (f told x) r → Advances a c whole r
   last_member c r same p some up past is q =
       let at_end : length xs - 1 ≡ i = omega (arith, up, past) in
-      let there = encoding_there (f own) xs i x (omega (arith, some, up, past)) (subst (λ k. x ≡ get_or xs k x) at_end is)
-      in
+      let item = subst (λ k. x ≡ get_or xs k x) at_end is in
+      let there = encoding_there (f own) xs i x (omega (arith, some, up, past)) item in
       lays_last_encoding c r p there (omega (arith, length-map xs (f own), past))
       (subst (λ k. Advances b c (f k x) r) (sym same) q)
 

@@ -27,7 +27,8 @@ member_step f xs {first} {i} {total} n {x} within item told sum so_far =
 
 -- what comes of the whole collection
 module _ {X : Type 0} (f : X → Geometry) (xs : List X) (before : ℕ) (d : Dimensions)
-    (supported : dimensions_fault d ≡ None) {count : ℕ} (counted : (count_fault (length xs) ≡ None) × (count ≡ length xs)) {i total : ℕ}
+    (supported : dimensions_fault d ≡ None) {count : ℕ}
+    (counted : (count_fault (length xs) ≡ None) × (count ≡ length xs)) {i total : ℕ}
     (so_far : SoFar (member_measures (geometries (map f xs))) (before + (4 + 5 * count)) i total) where
   fine : count_fault count ≡ None
   fine = subst (λ n. count_fault n ≡ None) (sym counted.1) counted.0

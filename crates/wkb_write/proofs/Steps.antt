@@ -7,6 +7,6 @@ use Rattle.wkb_sink.proofs.Steps.{step_laws as sink_laws}
 
 pub ruleset step_laws = (supported_at_least, supported_at_most, sink_laws)
 
-pub ruleset item_laws = (step_laws, some_below, none_first, none_rest, none_at, none_both, count_below, members_told, rings_told)
-
 pub ruleset node_laws = (step_laws, none_first, none_rest, none_at, count_below)
+
+pub ruleset item_laws = (node_laws, some_below, none_both, members_told, rings_told)

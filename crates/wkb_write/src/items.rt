@@ -52,7 +52,7 @@ pub trait Items<G> {
     ghost lawful: { (g : G) → IsGeometry (geometry g) };
 }
 
-/// A kind of items, as a kind: how the items are put after their count.
+/// The geometries of a kind of items, which are all put in one way: the items after their count.
 pub struct Counted<I>(I);
 
 #[tactic(auto, using(crate::proofs::Steps::step_laws))]

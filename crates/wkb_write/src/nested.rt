@@ -40,7 +40,7 @@ pub trait Nested<G: Dimensioned> {
     ghost lawful: { (g : G) → IsGeometry (geometry g) };
 }
 
-/// A kind of leaves and collections, as a kind: how a geometry that may be either is measured and put.
+/// The geometries of a kind, each a leaf or a collection.
 pub struct Node<K>(K);
 
 impl<G: Dimensioned, K: Nested<G>> Writable<G> for Node<K> {

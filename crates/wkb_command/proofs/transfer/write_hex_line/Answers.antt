@@ -15,7 +15,8 @@ returns-in_err-write_whole g c =
     digits_of_piece c.encode_piece.new.digits _ 65536 c.encode_piece.ensures.hex
     (omega (arith, c.split_at.ensures.front_len)) in
     let h = c.loop-rest.invariant in
-    wrote_no_more _ _ _ h.0 _ _ _ _ _ h.1 (part_and_more h.0 _ _ _ _ _ text c.split_at.ensures.by_index.0 h.2)
+    wrote_no_more _ _ _ h.written _ _ _ _ _ h.appended
+    (part_and_more h.written _ _ _ _ _ text c.split_at.ensures.by_index.0 h.parts)
     c.write_whole.ensures c.from_residual.ensures.0
 
 pub loop-rest-preserved : goal.loop-rest-preserved
@@ -24,11 +25,12 @@ loop-rest-preserved g c =
     digits_of_piece c.encode_piece.new.digits _ 65536 c.encode_piece.ensures.hex
     (omega (arith, c.split_at.ensures.front_len)) in
     let h = c.loop-rest.invariant in
-    let wrote = c.in_ok-write_whole.ensures in (
-      h.0 ++ wrote.written,
-      Appends-trans _ _ _ _ _ h.1 wrote.appended,
-      piece_written h.0 wrote.written _ _ _ _ (wrote.whole ∙ text) c.split_at.ensures.by_index.0 h.2,
-    )
+    let wrote = c.in_ok-write_whole.ensures in record {
+      written = h.written ++ wrote.written;
+      appended = Appends-trans _ _ _ _ _ h.appended wrote.appended;
+      parts =
+          piece_written h.written wrote.written _ _ _ _ (wrote.whole ∙ text) c.split_at.ensures.by_index.0 h.parts;
+    }
 
 pub returns : goal.returns
 returns g c =
@@ -37,4 +39,5 @@ returns g c =
     omega (arith, c.encode_piece-2.ensures.room, room) in
     let text = digits_and_feed c.encode_piece-2.new.digits c.loop-rest.rest.now c.encode_piece-2.ensures.hex fits in
     let h = c.loop-rest.invariant in
-    wrote_last _ _ _ h.0 _ _ _ h.1 (last_part h.0 c.loop-rest.rest.now _ _ text h.2) c.write_whole-2.ensures
+    wrote_last _ _ _ h.written _ _ _ h.appended (last_part h.written c.loop-rest.rest.now _ _ text h.parts)
+    c.write_whole-2.ensures

@@ -1,13 +1,11 @@
-use Rattle.std.proofs.Common.{◌≡◌, ℕ, List, ◌++◌, length}
-use Rattle.std.specs.Io.KnownBytes.{Appends}
+use Rattle.std.proofs.Common.{length}
 use Rattle.hex.specs.Hex.{encode_lower}
+use Rattle.wkb_command.proofs.Written.{Stands}
 use Rattle.wkb_command.proofs.transfer.write_hex_line.Given as goal
 
--- what is written so far, and the hex of the rest
 abbrev pub invariant-loop-rest : goal.invariant-loop-rest
 invariant-loop-rest g l =
-    (written : List ℕ) × Appends (g.W.Write.contents l.initial.out) (g.W.Write.contents l.out) written
-    × (written ++ encode_lower l.rest ≡ encode_lower l.bytes)
+    Stands (g.W.Write.contents l.initial.out) (g.W.Write.contents l.out) (encode_lower l.rest) (encode_lower l.bytes)
 
 abbrev pub decreases-loop-rest : goal.decreases-loop-rest
 decreases-loop-rest g l = length l.rest

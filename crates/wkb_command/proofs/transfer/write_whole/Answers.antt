@@ -1,15 +1,12 @@
-use Rattle.std.proofs.Common.{◌≡◌, ℕ, ◌-◌, List, ◌++◌, length, take, drop, append_assoc, arith}
-use Rattle.std.proofs.lemmas.Grind.{common_steps}
-use Rattle.std.proofs.KnownBytes.{Appends-trans}
+use Rattle.wkb_command.proofs.Written.{attempted, taken_fits, wrote_so_far}
 use Rattle.wkb_command.proofs.transfer.write_whole.Goals as goal
 
-regroup : (written rest bytes : List ℕ) (n : ℕ) → written ++ rest ≡ bytes
-    → (written ++ take n rest) ++ take (length rest - n) (drop n rest) ≡ bytes
-regroup written rest bytes n e = grind (arith, common_steps, append_assoc)
+pub slice_bounds-rest-count : goal.slice_bounds-rest-count
+slice_bounds-rest-count g c = rw c.unwrap_or-count.ensures (taken_fits _ _ c.write.ensures.bound)
 
 pub loop-rest-preserved : goal.loop-rest-preserved
-loop-rest-preserved g c = (
-  c.loop-rest.invariant.0 ++ take c.in-Ok.count c.loop-rest.rest.now,
-  Appends-trans _ _ _ _ _ c.loop-rest.invariant.1 c.in-Ok.ensures.bytes,
-  regroup c.loop-rest.invariant.0 c.loop-rest.rest.now c.args.bytes.now c.in-Ok.count c.loop-rest.invariant.2,
-)
+loop-rest-preserved g c = attempted _ _ _ c.loop-rest.invariant c.unwrap_or-count.ensures c.write.ensures.bytes
+
+pub returns-then-count-eq0 : goal.returns-then-count-eq0
+returns-then-count-eq0 g c =
+    wrote_so_far _ (attempted _ _ _ c.loop-rest.invariant c.unwrap_or-count.ensures c.write.ensures.bytes)

@@ -6,7 +6,8 @@ pub returns-in-Err : goal.returns-in-Err
 returns-in-Err g c = count_reports _ _ _ _ _ c.requires c.from.ensures c.in-Err.ensures
 
 pub loop-i-init : goal.loop-i-init
-loop-i-init g c = parts_start (g.I.MeasuredItems.measures c.args.geom.now) c.args.header c.in-Ok.count c.ranges.header.fits
+loop-i-init g c =
+    parts_start (g.I.MeasuredItems.measures c.args.geom.now) c.args.header c.in-Ok.count c.ranges.header.fits
     (rw c.in-Ok.ensures.1 c.in-Ok.ensures.0)
 
 pub returns-in-Err-measure_item : goal.returns-in-Err-measure_item

@@ -28,4 +28,5 @@ returns-in_err-put_item g c =
     (next_cut c.loop-i.invariant item (rw c.inner.ensures at c.in_err-put_item.ensures))
 
 pub returns : goal.returns
-returns g c = all_laid c.loop-i.invariant (omega (arith, c.count-count.ensures.counted c.args.order (inner c.args.form)))
+returns g c =
+    all_laid c.loop-i.invariant (omega (arith, c.count-count.ensures.counted c.args.order (inner c.args.form)))
