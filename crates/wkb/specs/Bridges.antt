@@ -93,7 +93,8 @@ pub appended : {options : WriteOptions} {g : Geometry} {r : Result
     (Unit {0}) WkbError} {x : Unit {0}} {untouched : Type 0} {old new : Option (List ℕ)} {failed : Bool}
     {fails_by : Option Error → Type 0} → Writes options g r untouched old new failed fails_by → r ≡ Ok x
     → Appends old new (encoding options.endianness options.form g)
-appended {options = options} {g = g} {x = x} {untouched = untouched} {old = old} {new = new} {failed = failed} {fails_by = fails_by} w is =
+appended {options = options} {g = g} {x = x} {untouched = untouched} {old = old} {new = new} {failed = failed}
+    {fails_by = fails_by} w is =
     appended_by options g x untouched old new failed fails_by _ refl
     (subst (λ q. Writes options g q untouched old new failed fails_by) is w)
 

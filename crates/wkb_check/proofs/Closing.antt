@@ -23,7 +23,8 @@ none_left ns rest = after-none (skim_outward ns rest)
 
 -- the next member of one that has not
 one_more : (n : ℕ) (ns rest : List ℕ)
-    → skim_outward (suc n ∷ ns) rest ≡ after (1, 0) (onward (skim_inside (length (n ∷ ns)) rest) (skim_outward (n ∷ ns)))
+    → skim_outward (suc n ∷ ns) rest
+    ≡ after (1, 0) (onward (skim_inside (length (n ∷ ns)) rest) (skim_outward (n ∷ ns)))
 unfolding skims
 one_more n ns rest =
     onward-after (1, 0) (onward (skim_inside (suc (length ns)) rest) (skims n (skim_inside (suc (length ns)))))

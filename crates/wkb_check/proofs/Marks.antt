@@ -147,7 +147,8 @@ ring_passed l ring input rest x whole h =
     ∙ cond-false (nat_lt (length input) end) _ _ (le-ltb (length input) end (omega arith)) in
     ap (λ p. (leaf (number l.order 4 input) input p).1) found ∙ ap Ok (ap (drop end) whole ∙ drop_front end x rest long)
 
-rings_marked : {d : Dimension} {order : Endianness} {n : ℕ} {input : List ℕ} {cause : Cause} {begun : ℕ} (srid : Bool) (r : RefusesRings order d n input cause begun)
+rings_marked : {d : Dimension} {order : Endianness} {n : ℕ} {input : List ℕ} {cause : Cause} {begun : ℕ}
+    (srid : Bool) (r : RefusesRings order d n input cause begun)
     → (skims n (skim_ring (laid order d srid)) input).1 ≡ Err (cause, left_in_rings r)
 unfolding ring_at
 rings_marked {d} {order} {input = input} srid (no_ring_count {more = more} short) =
@@ -170,7 +171,8 @@ rings_marked {d} {order} {input = input} srid (later_ring {more = more} {rest = 
     ∙ rings_marked srid r
 
 mutual
-  pub refusal_marked : {room : ℕ} {w : Wanted} {input : List ℕ} {cause : Cause} {begun slots : ℕ} (r : Refuses room w input cause begun slots) → IsWanted w
+  pub refusal_marked : {room : ℕ} {w : Wanted} {input : List ℕ} {cause : Cause} {begun slots : ℕ}
+      (r : Refuses room w input cause begun slots) → IsWanted w
       → (skimmer room w input).1 ≡ Err (cause, left_in r)
   refusal_marked (bad_ring {srid = srid} c h) good = ap (λ (s : Skim). s.1) (rings_counted c) ∙ rings_marked srid h
   refusal_marked {room} {w = any} {input = input} (bad_member {k = k} {n = n} {order = order} {d = d} {srid = srid}
@@ -183,7 +185,8 @@ mutual
   refusal_marked {room} {w = w} {input = input} {cause = cause} {slots = slots} r good =
       refused_itself room w input cause slots good r
 
-  each_marked : {room : ℕ} {w : Wanted} {n : ℕ} {input : List ℕ} {cause : Cause} {begun slots : ℕ} (r : RefusesEach room w n input cause begun slots) → IsWanted w
+  each_marked : {room : ℕ} {w : Wanted} {n : ℕ} {input : List ℕ} {cause : Cause} {begun slots : ℕ}
+      (r : RefusesEach room w n input cause begun slots) → IsWanted w
       → (skims n (skimmer room w) input).1 ≡ Err (cause, left_in_each r)
   each_marked {room} {w} {input = input} (this_member {more = more} h) good =
       first_refused more (skimmer room w) input _ (refusal_marked h good)

@@ -18,7 +18,8 @@ abbrev pub skimmer : ℕ → Wanted → List ℕ → Skim
 skimmer room any = skim_geometry room
 skimmer room (part k d) = skim_member k d
 
-counted_list : {room n : ℕ} {w : Wanted} {input rest : List ℕ} {order : Endianness} {k : ℕ} {d : Dimension} {srid : Bool}
+counted_list : {room n : ℕ} {w : Wanted} {input rest : List ℕ} {order : Endianness} {k : ℕ} {d : Dimension}
+    {srid : Bool}
     → OpensCounted room w input order k d srid n rest → (one : List ℕ → Skim)
     → skim_list (laid order d srid) one input ≡ skims n one rest
 counted_list {n = n} {input = input} {rest = rest} {order = order} {d = d} {srid = srid} c one =
@@ -47,7 +48,8 @@ module _ (room : ℕ) (input rest : List ℕ) (order : Endianness) (d : Dimensio
       → skim_geometry room input ≡ skims n (skimmer (room_inside k room) (member_part k d)) rest
 
   opened : (k : ℕ) → OpensCounted room any input order k d srid n rest
-      → skim_geometry room input ≡ skim_body (skim_collection room) (type_of k d) (laid order (type_dimension (type_of k d)) srid) input
+      → skim_geometry room input
+      ≡ skim_body (skim_collection room) (type_of k d) (laid order (type_dimension (type_of k d)) srid) input
   opened k c = geometry_is room input ∙ ap (skim_headed (skim_collection room) input) (head_opened c.opens)
 
   points_counted : AreCounted 4

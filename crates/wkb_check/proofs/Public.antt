@@ -159,7 +159,8 @@ module _ (input : List ℕ) (turns many : ℕ) (rest : List ℕ) (is : skim_of i
 
   module _ (f : Summary) (h : Head) (head : head_at input ≡ Ok h) (bytes : f.bytes ≡ length input - length rest)
       (parts : f.parts ≡ turns + 1)
-      (coordinates : f.coordinates ≡ many) (type : f.wkb_type ≡ h.wkb_type) (srid : f.srid ≡ srid_in h.order h.has_srid input) where
+      (coordinates : f.coordinates ≡ many) (type : f.wkb_type ≡ h.wkb_type)
+      (srid : f.srid ≡ srid_in h.order h.has_srid input) where
     described : DescribesOnlyFront input f
     described s t more x =
         let c = front_counted s t more x in

@@ -70,7 +70,8 @@ ring_many order d start end bytes counted whole =
     (drop 4 (drop start encoding)))
 
 line_string_skim : (many : Item → ℕ) → ((l : Layout) (encoding : List ℕ)
-    → many (Rattle.wkb_geom.specs.Reading.line_string_item l encoding) ≡ length (ring_in l.order l.dimension (drop (body_start l.has_srid) encoding)))
+    → many (Rattle.wkb_geom.specs.Reading.line_string_item l encoding)
+    ≡ length (ring_in l.order l.dimension (drop (body_start l.has_srid) encoding)))
     → (l : Layout) (bytes : List ℕ) → IsSkim many (line_string_at l bytes) (skim_line_string l bytes)
 unfolding line_string_at
 line_string_skim many own l bytes =
@@ -106,7 +107,8 @@ cond_skim many false p q s t first second = second
 
 module _ {A : Type 0} (many : A → ℕ) where
   rest_skim : (x : A) (n : ℕ) (cost : Cost) (r : Reading (List A)) (s : Skim) → n ≡ many x → IsSkim (sum_by many) r s
-      → IsSkim (sum_by many) (costs one_turn (costs cost (and_then r (λ xs rest. done (x ∷ xs) rest)))) (after (1, 0) (after (cost.turns, n) s))
+      → IsSkim (sum_by many) (costs one_turn (costs cost (and_then r (λ xs rest. done (x ∷ xs) rest))))
+      (after (1, 0) (after (cost.turns, n) s))
   rest_skim x n cost (c, Ok xs) s own e =
       let sum : 0 + (n + sum_by many xs.0) ≡ sum_by many (x ∷ xs.0) = omega (arith, sum_by-cons many x xs.0) in
       let turns : 1 + (cost.turns + c.turns) ≡ 1 + (cost.turns + (c.turns + 0)) = omega arith in
@@ -117,7 +119,9 @@ module _ {A : Type 0} (many : A → ℕ) where
   next_skim : (n : ℕ) (p : Reading A) (s : Skim) (others : List ℕ → Reading (List A)) (skim : List ℕ → Skim)
       → IsSkim many p s
       → ((rest : List ℕ) → IsSkim (sum_by many) (others rest) (skim rest))
-      → IsSkim (sum_by many) (costs one_turn (and_then p (λ x rest. and_then (others rest) (λ xs after. done (x ∷ xs) after)))) (after (1, 0) (onward s skim))
+      → IsSkim (sum_by many)
+      (costs one_turn (and_then p (λ x rest. and_then (others rest) (λ xs after. done (x ∷ xs) after))))
+      (after (1, 0) (onward s skim))
   next_skim n (c, Ok x) s others skim e all =
       subst (λ (s : Skim). IsSkim (sum_by many) (costs one_turn
       (costs c (and_then (others x.1) (λ xs after. done (x.0 ∷ xs) after)))) (after (1, 0) (onward s skim)))

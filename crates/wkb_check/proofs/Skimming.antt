@@ -170,7 +170,8 @@ module _ (l : Layout) (bytes : List ℕ) where
     end_is = rw (s-is, w-is, counted) (omega arith)
 
     pub points_short : (t : Tally) → length bytes < s + 4 + (5 + 8 * w) * n
-        → after t (skim_multi_point l bytes) ≡ (t, Err (general (ShortMultiPoint (s + 4 + (5 + 8 * w) * n) (length bytes)), length bytes))
+        → after t (skim_multi_point l bytes)
+        ≡ (t, Err (general (ShortMultiPoint (s + 4 + (5 + 8 * w) * n) (length bytes)), length bytes))
     points_short t short =
         let there : ltb (length bytes) (body_start l.has_srid + 4) ≡ false = le-ltb _ _ whole in
         let long : ltb (length bytes) (multi_point_end l.dimension l.has_srid (count_at l bytes)) ≡ true =

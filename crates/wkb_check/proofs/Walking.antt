@@ -48,7 +48,8 @@ many left depth len shallow = length-reverse (take depth left) ∙ omega (arith,
 -- before what stands behind a header is looked at
 pub record Reaches (left : List ℕ) (depth : ℕ) (h : Head) (bytes : List ℕ)
     (start now : Tally) (whole : Skim) : Type 0 where
-  pub goes : after now (onward (skim_body_inside depth h bytes) (skim_outward (open_counts left depth))) ≡ after start whole
+  pub goes : after now (onward (skim_body_inside depth h bytes) (skim_outward (open_counts left depth)))
+      ≡ after start whole
 
 -- once a part is finished
 pub record Finishes (left : List ℕ) (depth : ℕ) (bytes : List ℕ) (start now : Tally) (whole : Skim) : Type 0 where
@@ -70,7 +71,8 @@ module _ {left : List ℕ} {depth : ℕ} {h : Head} {bytes : List ℕ} {start no
 -- a collection that is opened
 pub opens : (left : List ℕ) (depth n : ℕ) (now : Tally) (s : Skim) (rest : List ℕ) → length left ≡ 128 → depth < 128
     → s ≡ skims n (skim_inside (suc depth)) rest
-    → after now (onward s (skim_outward (open_counts left depth))) ≡ after now (skim_outward (open_counts (slice_set left depth n) (depth + 1)) rest)
+    → after now (onward s (skim_outward (open_counts left depth)))
+    ≡ after now (skim_outward (open_counts (slice_set left depth n) (depth + 1)) rest)
 opens left depth n now s rest len shallow is =
     let ns = open_counts left depth in
     let one : depth + 1 ≡ suc depth = omega arith in
@@ -81,9 +83,11 @@ opens left depth n now s rest len shallow is =
     ap (λ (t : Skim). after now (onward t (skim_outward ns))) (is ∙ sym level)
     ∙ ap (λ (cs : List ℕ). after now (skim_outward cs rest)) (sym more)
 
-pub finishes : (left next : List ℕ) (depth deep : ℕ) (h : Head) (bytes rest : List ℕ) (start now new : Tally) (whole : Skim)
+pub finishes : (left next : List ℕ) (depth deep : ℕ) (h : Head) (bytes rest : List ℕ) (start now new : Tally)
+    (whole : Skim)
     → Reaches left depth h bytes start now whole
-    → after now (onward (skim_body_inside depth h bytes) (skim_outward (open_counts left depth))) ≡ after new (skim_outward (open_counts next deep) rest)
+    → after now (onward (skim_body_inside depth h bytes) (skim_outward (open_counts left depth)))
+    ≡ after new (skim_outward (open_counts next deep) rest)
     → Finishes next deep rest start new whole
 finishes left next depth deep h bytes rest start now new whole r e = record { goes = sym e ∙ r.goes }
 

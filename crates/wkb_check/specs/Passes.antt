@@ -43,5 +43,6 @@ open_counts left depth = reverse (take depth left)
 -- what is known once a part is finished: the next member begins, or all is read
 abbrev pub IsSettled : List ℕ → List ℕ → Bool → Type 0
 IsSettled before now true =
-    (rest : List ℕ) → skim_outward before rest ≡ after (1, 0) (onward (skim_inside (length now) rest) (skim_outward now))
+    (rest : List ℕ)
+    → skim_outward before rest ≡ after (1, 0) (onward (skim_inside (length now) rest) (skim_outward now))
 IsSettled before now false = (rest : List ℕ) → skim_outward before rest ≡ ((0, 0), Ok rest)

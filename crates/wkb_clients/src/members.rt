@@ -81,8 +81,8 @@ pub fn interior_bytes<'a>(polygon: &Polygon<'a>, i: usize) -> Option<&'a [u8]>
     }
 }
 
-/// A word of a coordinate of the exterior of a polygon of a multi polygon, if there is one: it stands in the bytes of the
-/// multi polygon, at an offset that the sizes of what is before it tell.
+/// A word of a coordinate of the exterior of a polygon of a multi polygon, if there is one: it stands in the bytes of
+/// the multi polygon, at an offset that the sizes of what is before it tell.
 pub fn corner_word(
     multi: &MultiPolygon,
     member: usize,

@@ -163,4 +163,5 @@ pub data Ends (arguments : List (List ℕ)) (input : List ℕ) : ℕ → List �
   answered : {line : List ℕ} {status : ℕ} → Answers arguments input line status → Ends arguments input status line
   cut_short : {line written : List ℕ} {status : ℕ} → Answers arguments input line status → StartsWith line written
       → Ends arguments input status_failed written
-  out_of_memory : {written : List ℕ} → StartsWith (codes "out of memory" ++ line_feed ∷ []) written → Ends arguments input status_failed written
+  out_of_memory : {written : List ℕ} → StartsWith (codes "out of memory" ++ line_feed ∷ []) written
+      → Ends arguments input status_failed written

@@ -104,14 +104,26 @@ iso_encodings : Encodings LittleEndian Iso (
     ∷ (line_string asked.Xy (one_two ∷ one_two ∷ []), hex "01 02000000 02000000" ++ P ++ P)
     ∷ (polygon asked.Xy (replicate 4 one_two ∷ []), hex "01 03000000 01000000 04000000" ++ copies 4 P)
     ∷ (polygon asked.Xy ((one_two ∷ []) ∷ [] ∷ []), hex "01 03000000 02000000 01000000" ++ P ++ hex "00000000")
-    ∷ (multi_point asked.Xy (Some one_two ∷ Some one_two ∷ []), hex "01 04000000 02000000" ++ copies 2 (hex "01 01000000" ++ P))
-    ∷ (multi_line_string asked.Xy ((one_two ∷ []) ∷ (one_two ∷ []) ∷ []), hex "01 05000000 02000000" ++ copies 2 (hex "01 02000000 01000000" ++ P))
-    ∷ (multi_polygon asked.Xy (((one_two ∷ []) ∷ []) ∷ []), hex "01 06000000 01000000 01 03000000 01000000 01000000" ++ P)
+    ∷ (
+      multi_point asked.Xy (Some one_two ∷ Some one_two ∷ []),
+      hex "01 04000000 02000000" ++ copies 2 (hex "01 01000000" ++ P),
+    )
+    ∷ (
+      multi_line_string asked.Xy ((one_two ∷ []) ∷ (one_two ∷ []) ∷ []),
+      hex "01 05000000 02000000" ++ copies 2 (hex "01 02000000 01000000" ++ P),
+    )
+    ∷ (
+      multi_polygon asked.Xy (((one_two ∷ []) ∷ []) ∷ []),
+      hex "01 06000000 01000000 01 03000000 01000000 01000000" ++ P,
+    )
     ∷ (one_dimension, hex "01 07000000 02000000 01 01000000" ++ P ++ hex "01 02000000 01000000" ++ P)
     ∷ (two_dimensions, hex "01 07000000 02000000 01 e9030000" ++ P ++ hex "0000000000000840 01 03000000 00000000")
     ∷ (line asked.Xy one_two one_two, hex "01 02000000 02000000" ++ P ++ P)
     ∷ (triangle asked.Xy one_two one_two one_two, hex "01 03000000 01000000 04000000" ++ copies 4 P)
-    ∷ (rectangle asked.Xyzm (0 ∷ 0 ∷ 7 ∷ 7 ∷ []) (one_two ++ (7 ∷ 7 ∷ [])), hex "01 03000000 01000000 05000000" ++ corners)
+    ∷ (
+      rectangle asked.Xyzm (0 ∷ 0 ∷ 7 ∷ 7 ∷ []) (one_two ++ (7 ∷ 7 ∷ [])),
+      hex "01 03000000 01000000 05000000" ++ corners,
+    )
     ∷ [])
 unfolding encodings
 iso_encodings = refl
@@ -132,16 +144,20 @@ unfolding encodings
 ewkb_encodings = refl
 
 -- With an SRID, which stands on the outermost geometry alone.
-srid_encodings : Encodings LittleEndian (Ewkb (Some 4326)) (
-    (two_dimensions, hex "01 07000020 e6100000 02000000 01 01000080" ++ P ++ hex "0000000000000840 01 03000000 00000000")
+srid_encodings : Encodings LittleEndian (Ewkb (Some 4326)) ((
+  two_dimensions,
+  hex "01 07000020 e6100000 02000000 01 01000080" ++ P ++ hex "0000000000000840 01 03000000 00000000",
+)
     ∷ (point asked.Xyz (Some one_two_three), hex "01 010000a0 e6100000" ++ P ++ hex "0000000000000840")
     ∷ [])
 unfolding encodings
 srid_encodings = refl
 
 -- The same, the highest byte first.
-big_srid_encodings : Encodings BigEndian (Ewkb (Some 4326)) (
-    (point asked.Xyz (Some one_two_three), hex "00 a0000001 000010e6 3ff0000000000000 4000000000000000 4008000000000000")
+big_srid_encodings : Encodings BigEndian (Ewkb (Some 4326)) ((
+  point asked.Xyz (Some one_two_three),
+  hex "00 a0000001 000010e6 3ff0000000000000 4000000000000000 4008000000000000",
+)
     ∷ [])
 unfolding encodings
 big_srid_encodings = refl

@@ -102,13 +102,16 @@ codes = refl
 
 -- Codes that stand for nothing; the first are a point's with a bit turned.
 unknown_codes : AreAnswered (
-    unknown P ((hex "00000000", 0) ∷ (hex "09000000", 9) ∷ (hex "11000000", 17) ∷ (hex "21000000", 33) ∷ (hex "41000000", 65) ∷ (hex "81000000", 129)
-    ∷ (hex "01010000", 257) ∷ (hex "01020000", 513) ∷ (hex "01040000", 1025) ∷ (hex "01080000", 2049) ∷ (hex "01100000", 4097) ∷ (hex "01200000", 8193)
-    ∷ (hex "01400000", 16385) ∷ (hex "01800000", 32769) ∷ (hex "01000100", 65537) ∷ (hex "01000200", 131073) ∷ (hex "01000400", 262145)
-    ∷ (hex "01000800", 524289) ∷ (hex "01001000", 1048577) ∷ (hex "01002000", 2097153) ∷ (hex "01004000", 4194305) ∷ (hex "01008000", 8388609)
-    ∷ (hex "01000001", 16777217) ∷ (hex "01000002", 33554433) ∷ (hex "01000004", 67108865) ∷ (hex "01000008", 134217729) ∷ (hex "01000010", 268435457) ∷ [])
-    ++ unknown (zeros 16) ((hex "11000000", 17) ∷ (hex "09000000", 9) ∷ (hex "0a000000", 10) ∷ (hex "e8030000", 1000) ∷ (hex "c00b0000", 3008)
-    ∷ (hex "a10f0000", 4001) ∷ (hex "01000010", 268435457) ∷ []))
+    unknown P ((hex "00000000", 0) ∷ (hex "09000000", 9) ∷ (hex "11000000", 17) ∷ (hex "21000000", 33)
+    ∷ (hex "41000000", 65) ∷ (hex "81000000", 129) ∷ (hex "01010000", 257) ∷ (hex "01020000", 513)
+    ∷ (hex "01040000", 1025) ∷ (hex "01080000", 2049) ∷ (hex "01100000", 4097) ∷ (hex "01200000", 8193)
+    ∷ (hex "01400000", 16385) ∷ (hex "01800000", 32769) ∷ (hex "01000100", 65537) ∷ (hex "01000200", 131073)
+    ∷ (hex "01000400", 262145) ∷ (hex "01000800", 524289) ∷ (hex "01001000", 1048577)
+    ∷ (hex "01002000", 2097153) ∷ (hex "01004000", 4194305) ∷ (hex "01008000", 8388609)
+    ∷ (hex "01000001", 16777217) ∷ (hex "01000002", 33554433) ∷ (hex "01000004", 67108865)
+    ∷ (hex "01000008", 134217729) ∷ (hex "01000010", 268435457) ∷ [])
+    ++ unknown (zeros 16) ((hex "11000000", 17) ∷ (hex "09000000", 9) ∷ (hex "0a000000", 10)
+    ∷ (hex "e8030000", 1000) ∷ (hex "c00b0000", 3008) ∷ (hex "a10f0000", 4001) ∷ (hex "01000010", 268435457) ∷ []))
 unfolding answer
 unknown_codes = refl
 
@@ -144,8 +147,14 @@ geometries : AreAnswered (
     ∷ (hex "01 04000000 01000000 00 20000001" ++ big_P, refused incorrect_type 1 0)
     ∷ (hex "01 04000000 01000000 00 00000002" ++ big_P, refused incorrect_type 1 0)
     ∷ (hex "01 04000000 01000000 02 00000001" ++ big_P, refused (general InvalidByteOrder) 1 0)
-    ∷ (hex "01 04000000 01000000 00 00000001 3ff0000000000000 40000000000000", refused (general (ShortMultiPoint 30 29)) 0 0)
-    ∷ (hex "01 04000000 01000000 00 20000001 3ff0000000000000 40000000000000", refused (general (ShortMultiPoint 30 29)) 0 0)
+    ∷ (
+      hex "01 04000000 01000000 00 00000001 3ff0000000000000 40000000000000",
+      refused (general (ShortMultiPoint 30 29)) 0 0,
+    )
+    ∷ (
+      hex "01 04000000 01000000 00 20000001 3ff0000000000000 40000000000000",
+      refused (general (ShortMultiPoint 30 29)) 0 0,
+    )
     ∷ (hex "01 04000000 01000000", refused (general (ShortMultiPoint 30 9)) 0 0)
     ∷ (hex "01 04000000 01000000 01 01000000" ++ zeros 8, refused (general (ShortMultiPoint 30 22)) 0 0)
     ∷ (hex "01 04000020 01000000 01 01000000" ++ P, refused (general (ShortMultiPoint 5410 30)) 0 0)
@@ -167,9 +176,11 @@ early turns slots inputs = map (λ input. (input, refused end_of_input turns slo
 
 -- A count that is missing, a member that is missing, and counts that claim all that they can.
 counts : AreAnswered (
-    early 0 0 (hex "01 02000000" ∷ hex "01 03000000" ∷ hex "01 04000000" ∷ hex "01 05000000" ∷ hex "01 06000000" ∷ hex "01 07000000" ∷ [])
-    ++ early 1 0 (hex "01 05000000 01000000" ∷ hex "01 06000000 01000000" ∷ hex "01 07000000 01000000" ∷ hex "01 03000000 ffffffff"
-    ∷ hex "01 05000000 ffffffff" ∷ hex "01 06000000 ffffffff" ∷ hex "01 07000000 ffffffff" ∷ []))
+    early 0 0 (hex "01 02000000" ∷ hex "01 03000000" ∷ hex "01 04000000" ∷ hex "01 05000000" ∷ hex "01 06000000"
+    ∷ hex "01 07000000" ∷ [])
+    ++ early 1 0 (hex "01 05000000 01000000" ∷ hex "01 06000000 01000000" ∷ hex "01 07000000 01000000"
+    ∷ hex "01 03000000 ffffffff" ∷ hex "01 05000000 ffffffff" ∷ hex "01 06000000 ffffffff"
+    ∷ hex "01 07000000 ffffffff" ∷ []))
 unfolding answer
 counts = refl
 
@@ -226,7 +237,10 @@ one_two_three = one_two ++ 0x4008000000000000 ∷ []
 values : Values (
     (hex "01 01000000" ++ P, point Xy (Some one_two))
     ∷ (hex "01 01000000 010000000000f8ff 010000000000f8ff", point Xy None)
-    ∷ (hex "01 01000000 ffffffffffffffff 0000000000000040", point Xy (Some (0xffffffffffffffff ∷ 0x4000000000000000 ∷ [])))
+    ∷ (
+      hex "01 01000000 ffffffffffffffff 0000000000000040",
+      point Xy (Some (0xffffffffffffffff ∷ 0x4000000000000000 ∷ [])),
+    )
     ∷ (hex "01 01000000 0000000000000000 0000000000000000", point Xy (Some (0 ∷ 0 ∷ [])))
     ∷ (hex "01 01000000 0000000000000000 0000000000000080", point Xy (Some (0 ∷ 0x8000000000000000 ∷ [])))
     ∷ (a_high_line, line_string Xyz (one_two_three ∷ []))
@@ -300,9 +314,15 @@ rewritings : Gives (
     ∷ (hex "01 01000000 ffffffffffffffff 0000000000000040", hex "01 01000000 ffffffffffffffff 0000000000000040")
     ∷ (a_high_point, hex "01 e9030000" ++ P ++ hex "0000000000000840")
     ∷ (a_high_line, hex "01 ea030000 01000000" ++ P ++ hex "0000000000000840")
-    ∷ (hex "01 03000000 02000000 01000000" ++ P ++ hex "00000000", hex "01 03000000 02000000 01000000" ++ P ++ hex "00000000")
+    ∷ (
+      hex "01 03000000 02000000 01000000" ++ P ++ hex "00000000",
+      hex "01 03000000 02000000 01000000" ++ P ++ hex "00000000",
+    )
     ∷ (hex "01 04000000 01000000 00 00000001" ++ big_P, hex "01 04000000 01000000 01 01000000" ++ P)
-    ∷ (hex "01 05000000 01000000 01 02000020 e6100000 01000000" ++ P, hex "01 05000000 01000000 01 02000000 01000000" ++ P)
+    ∷ (
+      hex "01 05000000 01000000 01 02000020 e6100000 01000000" ++ P,
+      hex "01 05000000 01000000 01 02000000 01000000" ++ P,
+    )
     ∷ (two_lines, hex "01 05000000 02000000 01 02000000 01000000" ++ P ++ hex "01 02000000 00000000")
     ∷ (two_kinds, hex "01 07000000 02000000 01 e9030000" ++ P ++ hex "0000000000000840 01 03000000 00000000")
     ∷ (copies 64 (hex "01 07000000 01000000 00 00000007 00000001") ++ a_point, levels 128 a_point)
@@ -314,16 +334,22 @@ rewritings : Gives (
     -- Under EWKB without an SRID, and with one, which stands on the outermost geometry alone.
     ++ by (rewritten LittleEndian (Ewkb None)) (
     (two_kinds, hex "01 07000000 02000000 01 01000080" ++ P ++ hex "0000000000000840 01 03000000 00000000") ∷ [])
-    ++ by (rewritten LittleEndian (Ewkb (Some 4326))) (
-    (two_kinds, hex "01 07000020 e6100000 02000000 01 01000080" ++ P ++ hex "0000000000000840 01 03000000 00000000") ∷ [])
+    ++ by (rewritten LittleEndian (Ewkb (Some 4326))) ((
+      two_kinds,
+      hex "01 07000020 e6100000 02000000 01 01000080" ++ P ++ hex "0000000000000840 01 03000000 00000000",
+    ) ∷ [])
     -- With the SRID that the outermost geometry has, the lowest byte first, and the highest.
     ++ by (rewritten_with_srid LittleEndian) (
     (a_high_point, hex "01 010000a0 e6100000" ++ P ++ hex "0000000000000840")
-    ∷ (hex "01 05000000 01000000 01 02000020 e6100000 01000000" ++ P, hex "01 05000000 01000000 01 02000000 01000000" ++ P)
+    ∷ (
+      hex "01 05000000 01000000 01 02000020 e6100000 01000000" ++ P,
+      hex "01 05000000 01000000 01 02000000 01000000" ++ P,
+    )
     ∷ (hex "01 03000000 01000000 01000000" ++ P, hex "01 03000000 01000000 01000000" ++ P)
     ∷ (a_polygon, hex "01 03000020 e6100000 01000000 01000000" ++ P)
     ∷ [])
-    ++ by (rewritten_with_srid BigEndian) ((a_high_point, hex "00 a0000001 000010e6" ++ big_P ++ hex "4008000000000000") ∷ []))
+    ++ by (rewritten_with_srid BigEndian)
+    ((a_high_point, hex "00 a0000001 000010e6" ++ big_P ++ hex "4008000000000000") ∷ []))
 unfolding rewritten rewritten_with_srid
 rewritings = refl
 

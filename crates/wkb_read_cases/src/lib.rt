@@ -3,8 +3,8 @@
 //! bytes and numbers that they expect were written down before the program ran.
 //!
 //! The inputs of the calls that take memory take none, so that each growth which the call under test asks for can be
-//! refused in turn: `memory/run wkb_read_cases` does that. A test in which a growth was refused ends with that error and
-//! no other, and one in which none was passes.
+//! refused in turn: `memory/run wkb_read_cases` does that. A test in which a growth was refused ends with that error
+//! and no other, and one in which none was passes.
 #![tactic(auto)]
 
 #[cfg(test)]

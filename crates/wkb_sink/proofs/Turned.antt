@@ -1,6 +1,7 @@
 -- Words that are read where they stand in one order, and stored in another.
 use Rattle.wkb_sink.proofs.Prelude.{◌≡◌, ℕ, zero, suc, ◌+◌, ◌-◌, ◌*◌, ◌<◌, ◌≤◌, List, [], ◌∷◌, ◌++◌, length, take, drop}
-use Rattle.wkb_sink.proofs.Prelude.{Some, refl, sym, ap, ◌∙◌, arith, slice_get, length-append, flat_map, flat_map-append}
+use Rattle.wkb_sink.proofs.Prelude.{Some, refl, sym, ap, ◌∙◌, arith, slice_get, length-append, flat_map}
+use Rattle.wkb_sink.proofs.Prelude.{flat_map-append}
 use Rattle.wkb_sink.proofs.Prelude.{Endianness, words_encoding}
 use Rattle.std.specs.List.{AllByRecursion, concat}
 use Rattle.std.proofs.Math.Seq.{drop-append-add, take-append-add}
@@ -119,7 +120,8 @@ run_within order dims cs to h within =
 
 pub run_lent : (order : Endianness) (dims : Dimensions) (cs : List (List ℕ)) (from to : ℕ) → AreCoordinates dims cs
     → from ≤ to → to ≤ length cs
-    → take (8 * size dims * to - 8 * size dims * from) (drop (8 * size dims * from) (flat_map (words_encoding order) cs))
+    → take (8 * size dims * to - 8 * size dims * from)
+    (drop (8 * size dims * from) (flat_map (words_encoding order) cs))
     ≡ words_encoding order (run_words cs from to)
 run_lent order dims cs from to h ordered within =
     run_bytes (words_encoding order) (8 * size dims) cs from to (coordinates_length order dims cs h) ordered within

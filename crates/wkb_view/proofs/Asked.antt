@@ -1,6 +1,6 @@
 -- What is asked for behind a count, and what is answered where the count, or what it counts, is missing.
 use Rattle.std.proofs.Common.{◌≡◌, ℕ, ◌+◌, ◌/◌, ◌≤◌, ◌<◌, min, List, [], ◌∷◌, length, take, drop, ltb, true, false, Ok}
-use Rattle.std.proofs.Common.{Err, refl, sym, ap}
+use Rattle.std.proofs.Common.{◌++◌, Err, refl, sym, ap}
 use Rattle.std.proofs.lemmas.Bool.{le-ltb, lt-ltb}
 use Rattle.wkb_geom.specs.declared.error.Cause.TheVariants.{General as general}
 use Rattle.wkb_geom.specs.declared.error.General.TheVariants.{ShortLineString}
@@ -22,7 +22,8 @@ worked_capacities = refl
 -- worked values: two rings of a polygon, and two members of a multi line string
 worked_ends :
     pieces 9 (29 ∷ 33 ∷ []) (hex "01 03000000 02000000 01000000 000000000000f03f 0000000000000040 00000000")
-    ∷ pieces 9 (34 ∷ 47 ∷ []) (hex "01 05000000 02000000 01 02000000 01000000 000000000000f03f 0000000000000040 00 20000002 000010e6 00000000")
+    ∷ pieces 9 (34 ∷ 47 ∷ []) (hex "01 05000000 02000000"
+    ++ hex "01 02000000 01000000 000000000000f03f 0000000000000040" ++ hex "00 20000002 000010e6 00000000")
     ∷ [] ≡ (hex "01000000 000000000000f03f 0000000000000040" ∷ hex "00000000" ∷ [])
     ∷ (hex "01 02000000 01000000 000000000000f03f 0000000000000040" ∷ hex "00 20000002 000010e6 00000000" ∷ []) ∷ []
 worked_ends = refl

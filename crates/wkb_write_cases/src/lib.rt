@@ -1,6 +1,6 @@
 //! What can't be a row of the worked cases of writing: a caller's own geometries, sinks and writers, and the program
-//! over readers and writers that fail, as tests of public calls. The bytes and numbers that they expect were written down
-//! before the program ran.
+//! over readers and writers that fail, as tests of public calls. The bytes and numbers that they expect were written
+//! down before the program ran.
 #![tactic(auto)]
 
 #[cfg(test)]

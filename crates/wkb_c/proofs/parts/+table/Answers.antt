@@ -41,7 +41,8 @@ add_geometry-returns-in_ok-add_points-in-MultiPoint t c =
     (c.len-index.ensures ∙ c.args.table.now.parts.ok.0) c.in_ok-add_whole-in-MultiPoint.ensures
     c.in_ok-add_points-in-MultiPoint.ensures c.close.ensures
 
-pub add_geometry-returns-in_ok-add_line_strings-in-MultiLineString : goal.add_geometry-returns-in_ok-add_line_strings-in-MultiLineString
+pub add_geometry-returns-in_ok-add_line_strings-in-MultiLineString :
+    goal.add_geometry-returns-in_ok-add_line_strings-in-MultiLineString
 add_geometry-returns-in_ok-add_line_strings-in-MultiLineString t c =
     let m = c.in-MultiLineString.multi.now in
     let k = c.close-in-MultiLineString in
@@ -52,7 +53,8 @@ add_geometry-returns-in_ok-add_line_strings-in-MultiLineString t c =
     (c.len-index.ensures ∙ c.args.table.now.parts.ok.0) c.in_ok-add_whole-in-MultiLineString.ensures
     c.in_ok-add_line_strings-in-MultiLineString.ensures k.ensures
 
-pub add_geometry-returns-in_ok-add_polygons-in-MultiPolygon : goal.add_geometry-returns-in_ok-add_polygons-in-MultiPolygon
+pub add_geometry-returns-in_ok-add_polygons-in-MultiPolygon :
+    goal.add_geometry-returns-in_ok-add_polygons-in-MultiPolygon
 add_geometry-returns-in_ok-add_polygons-in-MultiPolygon t c =
     let m = c.in-MultiPolygon.multi.now in
     let k = c.close-in-MultiPolygon in
@@ -62,7 +64,8 @@ add_geometry-returns-in_ok-add_polygons-in-MultiPolygon t c =
     (c.len-index.ensures ∙ c.args.table.now.parts.ok.0) c.in_ok-add_whole-in-MultiPolygon.ensures
     c.in_ok-add_polygons-in-MultiPolygon.ensures k.ensures
 
-pub add_geometry-returns-in_ok-add_each_member-in-GeometryCollection : goal.add_geometry-returns-in_ok-add_each_member-in-GeometryCollection
+pub add_geometry-returns-in_ok-add_each_member-in-GeometryCollection :
+    goal.add_geometry-returns-in_ok-add_each_member-in-GeometryCollection
 add_geometry-returns-in_ok-add_each_member-in-GeometryCollection t c =
     let k = c.close-in-GeometryCollection in
     listed_collection c.args.wkb.now c.in-GeometryCollection.members.now c.args.table.now _ _ k.new.table _ _

@@ -6,7 +6,8 @@ use Rattle.wkb_check.proofs.nested.skip_collection.Given as goal
 
 abbrev pub invariant-loop-rest : goal.invariant-loop-rest
 invariant-loop-rest l = record {
-  reaches : Reaches l.open.left l.open.depth l.header l.bytes (tally l.fn.walk) (tally l.walk) (skim_body_inside 0 l.fn.outermost l.buf);
+  reaches : Reaches l.open.left l.open.depth l.header l.bytes (tally l.fn.walk) (tally l.walk)
+      (skim_body_inside 0 l.fn.outermost l.buf);
   here : l.walk.left ≡ length l.bytes;
   shallow : l.open.depth ≤ 128;
   len : length l.open.left ≡ 128;

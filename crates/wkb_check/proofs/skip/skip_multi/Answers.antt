@@ -7,7 +7,8 @@ use Rattle.wkb_check.proofs.skip.skip_multi.Goals as goal
 use Rattle.wkb_check.proofs.skip.skip_multi.Goals.{After-after_count}
 
 is : (c : After-after_count)
-    → skim_multi c.args.kind c.args.layout c.args.bytes.now ≡ skims c.in-Ok.count (skim_member c.args.kind c.args.layout.dimension) c.after_count.result.now
+    → skim_multi c.args.kind c.args.layout c.args.bytes.now
+    ≡ skims c.in-Ok.count (skim_member c.args.kind c.args.layout.dimension) c.after_count.result.now
 is c =
     list_there c.args.layout (skim_member c.args.kind c.args.layout.dimension) c.args.bytes.now c.in-Ok.count
     c.after_count.result.now c.in-Ok.ensures.counted c.in-Ok.ensures.whole

@@ -7,7 +7,8 @@ use Rattle.wkb_check.proofs.skip.skip_polygon.Goals as goal
 use Rattle.wkb_check.proofs.skip.skip_polygon.Goals.{After-after_count}
 
 is : (c : After-after_count)
-    → skim_polygon c.args.layout c.args.bytes.now ≡ skims c.in-Ok.count (skim_ring c.args.layout) c.after_count.result.now
+    → skim_polygon c.args.layout c.args.bytes.now
+    ≡ skims c.in-Ok.count (skim_ring c.args.layout) c.after_count.result.now
 is c =
     list_there c.args.layout (skim_ring c.args.layout) c.args.bytes.now c.in-Ok.count c.after_count.result.now
     c.in-Ok.ensures.counted c.in-Ok.ensures.whole

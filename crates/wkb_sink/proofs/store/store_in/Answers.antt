@@ -19,7 +19,8 @@ returns-in-Some-clause-bytes g c =
     let lawful = g.met.L.LineStringTrait.lawful line in
     let wide : c.size-width.result ≡ size (g.L.Dimensioned.dimensions line) =
     c.size-width.ensures ∙ ap size c.dim.ensures in
-    let lent : c.items_between-lent.result.now ≡ words_encoding c.other-held.result (run_words cs c.args.from c.args.to) =
+    let lent : c.items_between-lent.result.now
+    ≡ words_encoding c.other-held.result (run_words cs c.args.from c.args.to) =
     rw (c.items_between-lent.ensures, wide, c.in-Some.ensures)
     (run_lent c.other-held.result _ cs c.args.from c.args.to lawful c.requires.run.order c.requires.run.within) in
     c.store_words.ensures (run_words cs c.args.from c.args.to) (run_are_words _ cs c.args.from c.args.to lawful) lent

@@ -64,7 +64,8 @@ invariant_of-whole c =
     (sym c.in_ok-count.ensures.count ∙ c.if-count-eq0.true) c.in_ok-count.ensures.whole
     (drop-drop 4 start bytes ∙ sym back) tt).collection
 
-pub returns-then-depth-ge-MAX_WKB_NESTING_DEPTH-clause-begins : goal.returns-then-depth-ge-MAX_WKB_NESTING_DEPTH-clause-begins
+pub returns-then-depth-ge-MAX_WKB_NESTING_DEPTH-clause-begins :
+    goal.returns-then-depth-ge-MAX_WKB_NESTING_DEPTH-clause-begins
 returns-then-depth-ge-MAX_WKB_NESTING_DEPTH-clause-begins c =
     too_many_around c.args.layout c.args.bytes.now c.args.depth c.args.counts.now
     c.if-depth-ge-MAX_WKB_NESTING_DEPTH.true
