@@ -133,8 +133,14 @@ impl<'a> Block<'a> {
         ensures { IsExtended self.old.waiting self.new.waiting
             (run_encoding order (L.coordinates line.now) from to) }
     {
-        let n = store_coordinates(&mut self.bytes[self.len..], line, from, to, order);
-        self.len += n;
+        let rest = &mut self.bytes[self.len..];
+        // In each arm the order is a constant.
+        self.len += match order {
+            Endianness::BigEndian => store_coordinates(rest, line, from, to, Endianness::BigEndian),
+            Endianness::LittleEndian => {
+                store_coordinates(rest, line, from, to, Endianness::LittleEndian)
+            }
+        };
     }
 }
 

@@ -93,11 +93,7 @@ impl<W: Write> Out<W> {
     pub fn into_inner(self) -> W
         ensures { result ≡ self.writer }
     {
-        let Out {
-            writer,
-            has_failed: _,
-        } = self;
-        writer
+        self.writer
     }
 }
 
@@ -163,11 +159,7 @@ impl VecSink {
     pub fn into_vec(self) -> Vec<u8>
         ensures { result.items ≡ self.bytes }
     {
-        let VecSink {
-            bytes,
-            has_failed: _,
-        } = self;
-        bytes
+        self.bytes
     }
 }
 

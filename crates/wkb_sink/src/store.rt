@@ -126,7 +126,7 @@ fn other(order: Endianness) -> Endianness {
 /// that hold them in the other order, where the line lends those, and else one by one. The order is known where it is
 /// inlined.
 #[inline(always)]
-fn store_in<L: LineStringTrait>(
+pub fn store_coordinates<L: LineStringTrait>(
     bytes: &mut [u8],
     line: &L,
     from: usize,
@@ -149,26 +149,5 @@ fn store_in<L: LineStringTrait>(
         store_run(bytes, line, from, to, order, 2)
     } else {
         store_run(bytes, line, from, to, order, width)
-    }
-}
-
-/// Stores the coordinates between two places one after another, and answers how many bytes they take.
-#[inline]
-pub fn store_coordinates<L: LineStringTrait>(
-    bytes: &mut [u8],
-    line: &L,
-    from: usize,
-    to: usize,
-    order: Endianness,
-) -> usize
-    requires run { IsRun (L.dimensions line.now) (L.coordinates line.now) from to }
-    requires room { run_size (L.dimensions line.now) from to ≤ length bytes.old }
-    ensures len { result ≤ run_size (L.dimensions line.now) from to }
-    ensures bytes { take result bytes.new
-        ≡ run_encoding order (L.coordinates line.now) from to }
-{
-    match order {
-        Endianness::BigEndian => store_in(bytes, line, from, to, Endianness::BigEndian),
-        Endianness::LittleEndian => store_in(bytes, line, from, to, Endianness::LittleEndian),
     }
 }

@@ -5,14 +5,10 @@
 
 ghost use Rattle.std.specs.Prelude.{◌≡◌, ◌+◌, ◌*◌, ◌^◌, ◌<◌, None, Err, is_some, MatchResult};
 ghost use Rattle.std.specs.Prelude.{IsErrAnd};
-ghost use Rattle.wkb_geom.specs.Errors.{TellsFault};
-ghost use Rattle.wkb_geom.specs.Geometries.{Geometry, IsGeometry};
-ghost use Rattle.wkb_geom.specs.Refusals.{srid_size};
-ghost use Rattle.wkb_geom.specs.Sizes.{dimensions_of};
-ghost use Rattle.wkb_geom.specs.Encodings.{count_fault, dimensions_fault, form_srid, IsForm};
-ghost use Rattle.wkb_write.specs.Answers.{IsSized, IsSizeOf};
-ghost use Rattle.wkb_write.specs.Bodies.{body_fault, size_by_parts, coordinate_words};
-ghost use Rattle.wkb_write.specs.Measures.{Finds, IsMeasured, Measures, result_of};
+ghost use Rattle.wkb_write.specs.Words.{Geometry, IsGeometry, IsForm, dimensions_of, form_srid};
+ghost use Rattle.wkb_write.specs.Words.{count_fault, dimensions_fault, body_fault, TellsFault};
+ghost use Rattle.wkb_write.specs.Words.{coordinate_words, size_by_parts, srid_size, result_of};
+ghost use Rattle.wkb_write.specs.Words.{Finds, IsMeasured, Measures, IsSized, IsSizeOf};
 
 use wkb_geom::header::{LONGEST_HEADER, MEMBER_HEADER};
 use wkb_geom::{Dimensions, Fault, Form, WkbError, WkbResult};
@@ -63,13 +59,7 @@ pub fn check_dimensions(dim: Dimensions) -> Result<(), Fault>
         (λ e. Finds e (dimensions_fault dim)) }
 {
     match dim {
-        Dimensions::Unknown(n) => {
-            if n < 2 || 4 < n {
-                Err(Fault::UnsupportedDimensions(n))
-            } else {
-                Ok(())
-            }
-        }
+        Dimensions::Unknown(n) if n < 2 || 4 < n => Err(Fault::UnsupportedDimensions(n)),
         _ => Ok(()),
     }
 }

@@ -33,11 +33,8 @@ impl<M: MultiLineStringTrait> Items<M> for MultiLineStringKind {
 
     #[inline(always)]
     fn measure(geom: &M) -> Result<usize, Fault> {
-        let body = measure_items::<M, MultiLineStringKind>(
-            geom,
-            geom.num_line_strings() as u128,
-            MEMBER_HEADER as u8,
-        ).result();
+        let count = geom.num_line_strings() as u128;
+        let body = measure_items::<M, Self>(geom, count, MEMBER_HEADER as u8).result();
         behind_header(geom.dim(), body)
     }
 

@@ -34,11 +34,8 @@ impl<M: MultiPolygonTrait> Items<M> for MultiPolygonKind {
 
     #[inline(always)]
     fn measure(geom: &M) -> Result<usize, Fault> {
-        let body = measure_items::<M, MultiPolygonKind>(
-            geom,
-            geom.num_polygons() as u128,
-            MEMBER_HEADER as u8,
-        ).result();
+        let count = geom.num_polygons() as u128;
+        let body = measure_items::<M, Self>(geom, count, MEMBER_HEADER as u8).result();
         behind_header(geom.dim(), body)
     }
 

@@ -32,7 +32,7 @@ impl<P: PolygonTrait> Items<P> for PolygonKind {
 
     #[inline(always)]
     fn measure(geom: &P) -> Result<usize, Fault> {
-        let body = measure_items::<P, PolygonKind>(geom, ring_count(geom), 0).result();
+        let body = measure_items::<P, Self>(geom, ring_count(geom), 0).result();
         behind_header(geom.dim(), body)
     }
 

@@ -2,16 +2,10 @@
 
 ghost use Rattle.std.specs.Prelude.{◌≡◌, ◌⊎◌, ◌≤◌, false, length};
 ghost use Rattle.std.specs.Prelude.{None, Ok, IfOk, IfErr, IsErrAnd, MatchResult};
-ghost use Rattle.wkb_geom.specs.declared.common.Endianness.TheVariants.{LittleEndian};
-ghost use Rattle.wkb_geom.specs.declared.common.Form.TheVariants.{Iso};
-ghost use Rattle.wkb_geom.specs.Errors.{IsMemory};
-ghost use Rattle.wkb_geom.specs.Geometries.{Geometry, IsGeometry};
-ghost use Rattle.wkb_geom.specs.Encodings.{fault, encoding};
-ghost use Rattle.wkb_sink.specs.Progress.{Lays, PutsTo, failure_of};
-ghost use Rattle.wkb_sink.specs.Sinks.{TellsFailure};
-ghost use Rattle.wkb_sink.specs.declared.block.TheConstants.{LEAST};
-ghost use Rattle.wkb_write.specs.Answers.{encoding_of, refusal_of, IsSizeOf, WritesTo};
-ghost use Rattle.wkb_write.specs.Measures.{IsMeasured, Reports};
+ghost use Rattle.wkb_write.specs.Words.{LittleEndian, Iso, Geometry, IsGeometry, fault, encoding};
+ghost use Rattle.wkb_write.specs.Words.{encoding_of, refusal_of, IsMeasured, IsSizeOf, IsMemory};
+ghost use Rattle.wkb_write.specs.Words.{Lays, PutsTo, failure_of, TellsFailure, LEAST, WritesTo};
+ghost use Rattle.wkb_write.specs.Words.{Reports};
 
 use crate::measure::{refuse, size_of, whole_size};
 use crate::{Sink, VecSink};

@@ -1,5 +1,5 @@
 use Rattle.wkb_write.proofs.Prelude.{arith, line_string_encoding, coordinates_encoding}
-use Rattle.wkb_sink.proofs.Laid.{laid_here}
+use Rattle.wkb_sink.proofs.Laid.{exits, cut_early, laid_here}
 use Rattle.wkb_sink.proofs.Behind.{behind, last}
 use Rattle.wkb_write.proofs.Supported.{supported_at_least, supported_at_most}
 use Rattle.wkb_write.proofs.line.LineKindWritable.put.Goals as goal
@@ -28,3 +28,6 @@ lay_coordinate-requires-2-clause-most g c = rw c.end.ensures.dimensions (support
 
 pub lay_coordinate-requires-2-clause-room : goal.lay_coordinate-requires-2-clause-room
 lay_coordinate-requires-2-clause-room g c = omega (arith, c.in_ok-make_room.ensures.room)
+
+pub returns-in_err-make_room : goal.returns-in_err-make_room
+returns-in_err-make_room g c = exits _ _ c.from_residual.ensures.1 (cut_early _ c.in_err-make_room.ensures.laid)

@@ -1,5 +1,5 @@
 use Rattle.wkb_write.proofs.Prelude.{polygon_encoding, coordinates_encoding}
-use Rattle.wkb_sink.proofs.Laid.{laid_here}
+use Rattle.wkb_sink.proofs.Laid.{exits, cut_early, laid_here}
 use Rattle.wkb_sink.proofs.Behind.{behind, last}
 use Rattle.wkb_write.proofs.rect.RectKindWritable.put.Goals as goal
 
@@ -21,3 +21,6 @@ returns g c =
     (behind c.lay_corner-2.ensures.bytes
     (behind c.lay_corner-3.ensures.bytes
     (behind c.lay_corner-4.ensures.bytes (last c.lay_corner-5.ensures.bytes))))))))))
+
+pub returns-in_err-make_room : goal.returns-in_err-make_room
+returns-in_err-make_room g c = exits _ _ c.from_residual.ensures.1 (cut_early _ c.in_err-make_room.ensures.laid)

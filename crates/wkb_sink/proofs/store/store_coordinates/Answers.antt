@@ -1,7 +1,7 @@
 use Rattle.wkb_sink.proofs.Prelude.{◌≡◌, ◌∙◌, ap, words_encoding}
 use Rattle.wkb_geom.specs.Dimensions.{size}
 use Rattle.wkb_sink.proofs.Turned.{run_lent, run_within, run_words, run_are_words, words_joined}
-use Rattle.wkb_sink.proofs.store.store_in.Goals as goal
+use Rattle.wkb_sink.proofs.store.store_coordinates.Goals as goal
 
 pub items_between-lent-requires-clause-within : goal.items_between-lent-requires-clause-within
 items_between-lent-requires-clause-within g c =
