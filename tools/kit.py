@@ -2,9 +2,13 @@
 """The crates as the Rattle kit's command `rt` knows them, for scripts that call the prover over the libraries that are built.
 
     tools/kit.py archive NAME FILE     proves crates/NAME, a static library, alone, and builds it into FILE
+    tools/kit.py program NAME FILE     proves crates/NAME, a program, and all crates below it from nothing, and builds it
+                                       into FILE
 
-Ends with 2 where a library below the crate is not built, or is older than its sources.
+`archive` ends with 2 where a library below the crate is not built, or is older than its sources. `program` builds those
+libraries anew, and proves as many crates side by side as RT_JOBS says.
 """
+import functools
 import importlib.machinery
 import importlib.util
 import os
@@ -82,7 +86,38 @@ def archive(name, file):
     return ran.returncode
 
 
+def prove_anew(crate, given, _jobs):
+    """Proves a crate from nothing, where those below it are proved, and builds its library or its object file."""
+    if not all(given[it.name] for it in crate.below()):
+        return False
+    to = f"{crate.folder}/out/{crate.name}.o" if crate.is_program else crate.rlib
+    kind = ["--toolchain", f"{rt.KIT}/toolchain", "--backend", "llvm"] if crate.is_program else ["--statements"]
+    shutil.rmtree(os.path.dirname(crate.rlib), ignore_errors=True)
+    os.makedirs(os.path.dirname(to), exist_ok=True)
+    ran = prove("build", crate, ["--jobs", "1", *kind, "-o", to], crate.folder)
+    print(f"== {crate.name}\n{ran.stdout}", end="", flush=True)
+    return ran.returncode == 0
+
+
+def program(name, file):
+    """Proves a program and the crates below it from nothing, and builds it into the file. Answers the status."""
+    rt.rtlib.Crate, rt.Crate.allowed = rt.Crate, rt.handles_of(str(ROOT))
+    # Its first call sets a signal's handler, which no other thread may.
+    rt.rtlib.guarded()
+    whole = crate(name)
+    tasks = {}
+    for it in [*whole.below(), whole]:
+        below = [dep.name for dep in it.below()]
+        tasks[it.name] = below, it.count(rb"\n"), rt.need(it), functools.partial(prove_anew, it)
+    given = rt.in_lanes(tasks)
+    if not all(given.values()) or whole.link(f"out/{name}.o", f"out/{name}"):
+        return 1
+    shutil.move(f"{whole.folder}/out/{name}", file)
+    return 0
+
+
 if __name__ == "__main__":
-    if len(sys.argv) != 4 or sys.argv[1] != "archive":
+    verb = {"archive": archive, "program": program}.get("".join(sys.argv[1:2]))
+    if len(sys.argv) != 4 or verb is None:
         stop(__doc__)
-    sys.exit(archive(*sys.argv[2:]))
+    sys.exit(verb(*sys.argv[2:]))
