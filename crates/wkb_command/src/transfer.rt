@@ -44,9 +44,9 @@ pub fn read_to_end<R: Read>(alloc: Global, input: &mut R) -> Result<Vec<u8>, Rea
         if count == 0 {
             return Ok(bytes);
         }
-        bytes
-            .extend_from_slice(&chunk[..count])
-            .map_err(ReadFault::Memory)?;
+        if let Err(error) = bytes.extend_from_slice(&chunk[..count]) {
+            return Err(ReadFault::Memory(error));
+        }
     }
     Err(ReadFault::Unreadable)
 }
