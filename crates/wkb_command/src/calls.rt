@@ -125,13 +125,13 @@ pub fn cost_hex(alloc: Global, text: &str) -> Result<Cost, HexFault>
 {
     let bytes = decoded(alloc, text)?;
     let (read, counts) = read_wkb_counted(alloc, bytes.as_slice());
-    match read {
-        Ok(_) => Ok(Cost {
+    match read.err() {
+        None => Ok(Cost {
             accepted: true,
             counts,
         }),
-        Err(WkbError::Memory(_)) => Err(HexFault::Memory),
-        Err(_) => Ok(Cost {
+        Some(WkbError::Memory(_)) => Err(HexFault::Memory),
+        Some(_) => Ok(Cost {
             accepted: false,
             counts,
         }),
