@@ -1,5 +1,5 @@
 -- What is said of a refusal.
-use Rattle.std.proofs.Common.{◌≡◌, ◌≢◌, ℕ, List, [], ◌∷◌, ◌++◌, length, append_assoc, refl, sym, ◌∙◌, arith}
+use Rattle.std.proofs.Common.{◌≡◌, ◌≢◌, ℕ, List, [], ◌∷◌, ◌++◌, length, append_assoc, refl, sym, ap, ◌∙◌, arith}
 use Rattle.std.proofs.Common.{Bool, true, false, Option, Some, Result, Ok, Err, ◌⊎◌, inl, inr, IfOk}
 use Rattle.std.specs.Prelude.{codes}
 use Rattle.std.specs.Bool.{MatchBool}
@@ -25,7 +25,7 @@ use Rattle.wkb_command.specs.declared.program.Command.{Command}
 use Rattle.wkb_command.specs.declared.program.Command.TheVariants.{Rewrite, RewriteWithSrid, Same, Cost, Srid}
 use Rattle.wkb_command.specs.Calls.{AreHex, AreHexOf, IsHexOf, IsFaultOf, RefusedFirst, IsOversized}
 use Rattle.wkb_command.specs.Program.{Says, rewritten, rewritten_with_srid, accepted, counted_refusal, srid, refused}
-use Rattle.wkb_command.specs.Program.{not_hex}
+use Rattle.wkb_command.specs.Program.{not_hex, IsOneLine}
 use Rattle.wkb_command.specs.Program.{wanted_lines, Gives, counts, TellsCause, TellsError, TellsHexFault}
 use Rattle.wkb.proofs.Encodings.{iso_fits}
 use Rattle.wkb_command.proofs.Hexes.{AreHex-from, AreHexOf-length}
@@ -37,6 +37,13 @@ TellsCause-from (errors.General g) (general k) line told h = h
 TellsCause-from (errors.IncorrectType s) incorrect_type line told h = h
 TellsCause-from (errors.NestingDepthExceeded n) (nesting_depth_exceeded m) line told h = h
 TellsCause-from _ _ line told h = absurd told
+
+-- what is said of an error other than the end of the input
+pub tells_text : (e : WkbError) (text front line : List ℕ) → ((x : _) → e ≡ errors.IOError x → ⊥) → IsOneLine text
+    → front ≡ codes "refused: " → line ≡ front ++ text → TellsError e line
+tells_text (errors.IOError x) text front line other one begins whole = absurd (other x refl)
+tells_text _ text front line other one begins whole =
+    record { text = text; one_line = one; whole = whole ∙ ap (λ l. l ++ text) begins }
 
 -- as many texts as the command wants, all hex
 pub Gives-from : (command : Command) (texts inputs : List (List ℕ)) → length texts ≡ wanted_lines command
