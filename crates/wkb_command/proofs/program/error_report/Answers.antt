@@ -3,6 +3,8 @@ use Rattle.wkb_command.proofs.Told.{tells_text}
 use Rattle.wkb_command.proofs.program.error_report.Goals as goal
 
 pub returns : goal.returns
-returns c =
-    (tells_text _ _ _ _ c.in_default.not-IOError c.first_line.ensures.line c.in_ok-line.ensures.ok
-    c.in_ok-push_str.ensures.bytes, refl)
+returns c = (
+  tells_text _ _ _ _ c.in_default.not-IOError c.first_line.ensures.line c.in_ok-line.ensures.ok
+      c.in_ok-push_str.ensures.bytes,
+  refl,
+)
