@@ -1,7 +1,7 @@
 pub mod Collections
 pub mod Faults
 pub mod Loops
-pub mod Measured
+pub mod MeasuredItems
 pub mod Members
 pub mod Prelude
 pub mod Sizes

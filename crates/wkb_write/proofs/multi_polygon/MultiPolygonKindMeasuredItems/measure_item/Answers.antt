@@ -1,6 +1,6 @@
 use Rattle.wkb_write.proofs.Prelude.{◌∙◌, sym, length-map}
 use Rattle.wkb_write.specs.Bodies.{polygon_measure, ring_measure}
-use Rattle.wkb_write.proofs.Measured.{member_measured, member_there}
+use Rattle.wkb_write.proofs.MeasuredItems.{member_measured, member_there}
 use Rattle.wkb_write.proofs.multi_polygon.MultiPolygonKindMeasuredItems.measure_item.Goals as goal
 
 pub returns : goal.returns

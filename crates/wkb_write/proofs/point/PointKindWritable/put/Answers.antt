@@ -1,7 +1,6 @@
-use Rattle.wkb_write.proofs.Prelude.{arith, point_encoding, point_words}
+use Rattle.wkb_write.proofs.Prelude.{point_encoding, point_words}
 use Rattle.wkb_sink.proofs.Laid.{exits, cut_early, laid_here}
 use Rattle.wkb_sink.proofs.Behind.{behind}
-use Rattle.wkb_write.proofs.Supported.{supported_at_least, supported_at_most}
 use Rattle.wkb_write.proofs.point.PointKindWritable.put.Goals as goal
 
 pub returns-in-Some : goal.returns-in-Some
@@ -18,7 +17,3 @@ returns-in-None g c =
 
 pub returns-in_err-make_room : goal.returns-in_err-make_room
 returns-in_err-make_room g c = exits _ _ c.from_residual.ensures.1 (cut_early _ c.in_err-make_room.ensures.laid)
-
-pub lay_coordinate-requires-clause-least : goal.lay_coordinate-requires-clause-least
-lay_coordinate-requires-clause-least g c =
-    rw c.in-Some.ensures.dimensions (supported_at_least _ c.requires.fault)
