@@ -26,40 +26,40 @@ unfolding first_fault
 faults-geometries f [] = refl
 faults-geometries f (x ∷ xs) = ap (or_else (fault (f x))) (faults-geometries f xs)
 
--- the encoding of a geometry that is a collection of these members
-pub lays_collection : {X : Type 0} {d read : Dimensions} {named : Dimension} {geo : Geometry} (a b : Progress)
-    (r : Result (Unit {0}) Stopped) (order : Endianness) (form : Form) (f : X → Geometry) (xs : List X)
-    → Advances a b (header_encoding order form 7 named ++ counted order
-    (map (λ x. encoding order (inner form) (f x)) xs)) r → named ≡ written_dimension read → read ≡ d
-    → collection d (geometries (map f xs)) ≡ geo → Advances a b (encoding order form geo) r
+-- the encoding of a collection of these members, by the dimension that its header tells
+pub collection_told : {X : Type 0} {named : Dimension} (order : Endianness) (form : Form) (d : Dimensions)
+    (f : X → Geometry) (xs : List X) → named ≡ written_dimension d
+    → encoding order form (collection d (geometries (map f xs)))
+    ≡ header_encoding order form 7 named ++ counted order (map (λ x. encoding order (inner form) (f x)) xs)
 unfolding members_encoding
-lays_collection a b r order form f xs p name same is =
-    rw (
-      ← is,
-      ← same,
-      ← name,
-      count-geometries f xs,
-      encodings-geometries order (inner form) f xs,
-      counted_of order _ (λ x. encoding order (inner form) (f x)) xs,
-    )
-    p
+collection_told order form d f xs name =
+    rw (name, count-geometries f xs, encodings-geometries order (inner form) f xs)
+    (counted_of order _ (λ x. encoding order (inner form) (f x)) xs)
 
--- a collection without a fault has a count that four bytes hold, and members without a fault
+-- a geometry that is a collection of these members: where it has no fault, and where it was put
+module _ {X : Type 0} {d read : Dimensions} {geo : Geometry} (f : X → Geometry) (xs : List X) (same : read ≡ d)
+    (is : collection d (geometries (map f xs)) ≡ geo) where
+  pub collection_ready : fault geo ≡ None → fault (collection read (geometries (map f xs))) ≡ None
+  collection_ready none = rw same (ap fault is ∙ none)
+
+  pub lays_collection : (a b : Progress) (r : Result (Unit {0}) Stopped) (order : Endianness) (form : Form)
+      → Advances a b (encoding order form (collection read (geometries (map f xs)))) r
+      → Advances a b (encoding order form geo) r
+  lays_collection a b r order form p = rw (← is, ← same) p
+
+-- a collection without a fault has a count that four bytes hold
 pub collection_count : {X : Type 0} (d : Dimensions) (f : X → Geometry) (xs : List X)
     → fault (collection d (geometries (map f xs))) ≡ None → length xs < 2 ^ 32
 collection_count d f xs none =
     count_below (length xs) (rw count-geometries at (none_first _ _ (none_rest (dimensions_fault d) _ none)))
 
-pub collection_members : {X : Type 0} (d : Dimensions) (f : X → Geometry) (xs : List X)
-    → fault (collection d (geometries (map f xs))) ≡ None → first_fault (λ x. fault (f x)) xs ≡ None
-collection_members d f xs none = sym (faults-geometries f xs) ∙ none_rest _ _ (none_rest (dimensions_fault d) _ none)
-
--- where no member has a fault, this one has none, and no more nodes than all
-pub member_ready : {X : Type 0} (f : X → Geometry) (xs : List X) (i : ℕ) (x : X) → i < length xs → x ≡ get_or xs i x
-    → first_fault (λ y. fault (f y)) xs ≡ None
+-- where a collection has no fault, a member has none, and no more nodes than all
+pub member_ready : {X : Type 0} (d : Dimensions) (f : X → Geometry) (xs : List X) (i : ℕ) (x : X) → i < length xs
+    → x ≡ get_or xs i x → fault (collection d (geometries (map f xs))) ≡ None
     → (fault (f x) ≡ None) × (2 * node_count (f x) < 2 * node_counts (geometries (map f xs)) + 1)
-member_ready f xs i x within is none =
+member_ready d f xs i x within is none =
+    let fine = sym (faults-geometries f xs) ∙ none_rest _ _ (none_rest (dimensions_fault d) _ none) in
     let item = slice_get_read xs (length xs) i x refl within is in (
-      none_at (λ y. fault (f y)) xs i x none item,
+      none_at (λ y. fault (f y)) xs i x fine item,
       omega (arith, node_count-member f xs i x within, ap (λ y. node_count (f y)) is),
     )

@@ -117,11 +117,11 @@ encoding_there f xs i x within is =
     within (ap f is ∙ sym (get_or-map f xs i x (f x) within))
 
 -- members that are put one after another in their form, which is told otherwise; the last one's answer is that of all
-pub no_member : {X : Type 0} {a b : Progress} (order : Endianness) (header : List ℕ) (f : X → List ℕ) (xs : List X)
-    → length xs ≡ 0 → IsLaid a b (header ++ number_bytes order 4 (length xs))
-    → IsLaid a b (header ++ counted order (map f xs))
-no_member order header f xs none p =
-    all_laid (none_laid _ _ refl (sym (length-map xs f)) p) (omega (arith, length-map xs f, none))
+pub no_member : {X : Type 0} {a b : Progress} {whole : List ℕ} (order : Endianness) (header : List ℕ)
+    (f : X → List ℕ) (xs : List X) → whole ≡ header ++ counted order (map f xs) → length xs ≡ 0
+    → IsLaid a b (header ++ number_bytes order 4 (length xs)) → IsLaid a b whole
+no_member order header f xs is none p =
+    all_laid (none_laid _ _ is (sym (length-map xs f)) p) (omega (arith, length-map xs f, none))
 
 module _ {X : Type 0} {a b : Progress} {order : Endianness} {whole : List ℕ} (f : Form → X → List ℕ) (xs : List X)
     {own told : Form} {i : ℕ} {x : X} where

@@ -7,7 +7,7 @@ pub use Rattle.wkb_geom.specs.Reading.{type_dimension, type_kind}
 pub use Rattle.wkb_geom.specs.Refusals.{srid_size}
 pub use Rattle.wkb_geom.specs.Sizes.{dimensions_of}
 pub use Rattle.wkb_geom.specs.Encodings.{coordinates_fault, coordinates_encoding, count_fault, dimensions_fault, fault}
-pub use Rattle.wkb_geom.specs.Encodings.{first_fault, header_encoding, inner, refusal, encoding, words_encoding}
+pub use Rattle.wkb_geom.specs.Encodings.{header_encoding, inner, refusal, encoding, words_encoding}
 pub use Rattle.wkb_geom.specs.Encodings.{form_srid, IsForm}
 pub use Rattle.wkb_geom.specs.declared.common.Endianness.{Endianness}
 pub use Rattle.wkb_geom.specs.declared.common.Endianness.TheVariants.{LittleEndian}

@@ -23,8 +23,8 @@ impl<C: GeometryCollectionTrait> Writable<C> for GeometryCollectionKind {
     }
 
     fn put<S: Sink>(out: &mut Buffered<'_, S>, geom: &C, order: Endianness, form: Form) -> Put {
-        let dim = dimension_to_write(geom.dim());
-        put_members::<S, C::GeometryType, GeometryKind>(out, geom.geometries(), order, form, dim)
+        let members = geom.geometries();
+        put_members::<S, C::GeometryType, GeometryKind>(out, geom.dim(), members, order, form)
     }
 }
 

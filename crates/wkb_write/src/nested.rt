@@ -2,15 +2,15 @@
 //!
 //! A *leaf* is a geometry of any kind but a collection. The recursion ends there.
 
-ghost use Rattle.std.specs.Prelude.{◌≡◌, ◌<◌, ◌^◌, ◌++◌, None, false, length, map, MatchOption};
-ghost use Rattle.wkb_write.specs.Words.{Geometry, IsGeometry, collection, geometries, fault, first_fault};
-ghost use Rattle.wkb_write.specs.Words.{header_encoding, inner, encoding, counted, form_with_flags};
-ghost use Rattle.wkb_write.specs.Words.{Lays, IsAdded, IsLeaf, IsMeasured, result_of};
+ghost use Rattle.std.specs.Prelude.{◌≡◌, None, false, map, MatchOption};
+ghost use Rattle.wkb_write.specs.Words.{Geometry, IsGeometry, collection, geometries, fault, inner};
+ghost use Rattle.wkb_write.specs.Words.{encoding, form_with_flags, Lays, IsAdded, IsLeaf};
+ghost use Rattle.wkb_write.specs.Words.{IsMeasured, result_of};
 
 use crate::common::*;
 use crate::measure::{Measured, check_count, check_dimensions};
+use wkb_geom::Dimensions;
 use wkb_geom::header::MEMBER_HEADER;
-use wkb_geom::{Dimension, Dimensions};
 
 /// A kind whose geometries may be collections of more of them. The recursion knows no more of a geometry than this, so
 /// that it is proved over few types.
@@ -55,10 +55,7 @@ impl<G: Dimensioned, K: Nested<G>> Writable<G> for Node<K> {
 
     fn put<S: Sink>(out: &mut Buffered<'_, S>, geom: &G, order: Endianness, form: Form) -> Put {
         match K::members_of(geom) {
-            Some(members) => {
-                let dim = dimension_to_write(geom.dim());
-                put_members::<S, G, K>(out, members, order, form, dim)
-            }
+            Some(members) => put_members::<S, G, K>(out, geom.dim(), members, order, form),
             None => K::put_leaf(out, geom, order, form),
         }
     }
@@ -150,9 +147,7 @@ fn put_member<S: Sink, G: Dimensioned, K: Nested<G>>(
 {
     let form = member_form(has_flags);
     match K::members_of(geom) {
-        Some(members) => {
-            put_members::<S, G, K>(out, members, order, form, dimension_to_write(geom.dim()))
-        }
+        Some(members) => put_members::<S, G, K>(out, geom.dim(), members, order, form),
         None => K::put_leaf(out, geom, order, form),
     }
 }
@@ -164,21 +159,19 @@ fn put_member<S: Sink, G: Dimensioned, K: Nested<G>>(
 #[tactic(auto, using(crate::proofs::Steps::node_laws))]
 pub fn put_members<S: Sink, G: Dimensioned, K: Nested<G>>(
     out: &mut Buffered<'_, S>,
+    dim: Dimensions,
     members: &[G],
     order: Endianness,
     form: Form,
-    dim: Dimension,
 ) -> Put
-    requires count { length members.now < 2 ^ 32 }
-    requires fault { first_fault (λ m. fault (K.geometry m)) members.now ≡ None }
+    requires fault { fault (collection dim (geometries (map K.geometry members.now))) ≡ None }
     requires working { S.has_failed out.old.sink.now ≡ false }
     ensures { Lays S.Sink out.old out.new
-        (header_encoding order form 7 dim
-        ++ counted order
-        (map (λ m. encoding order (inner form) (K.geometry m)) members.now)) result }
+        (encoding order form (collection dim (geometries (map K.geometry members.now)))) result }
 {
     let count = members.len();
-    out.put_head(order, form, WkbType::GeometryCollection(dim), count as u32)?;
+    let kind = WkbType::GeometryCollection(dimension_to_write(dim));
+    out.put_head(order, form, kind, count as u32)?;
     if count == 0 {
         return Ok(());
     }

@@ -1,5 +1,5 @@
-use Rattle.wkb_write.proofs.Prelude.{◌+◌, ◌*◌, map, geometries, node_count, node_counts, header_encoding, encoding}
-use Rattle.wkb_write.proofs.Prelude.{counted, inner, progress, ◌++◌}
+use Rattle.wkb_write.proofs.Prelude.{◌+◌, ◌*◌, map, geometries, node_count, node_counts, collection, encoding}
+use Rattle.wkb_write.proofs.Prelude.{inner, progress}
 use Rattle.wkb_write.proofs.Loops.{HasLaid}
 use Rattle.wkb_write.proofs.nested.+put.Given as goal
 
@@ -12,6 +12,5 @@ decreases-put_members g l = 2 * node_counts (geometries (map g.K.Nested.geometry
 abbrev pub invariant-put_members-loop-i : goal.invariant-put_members-loop-i
 invariant-put_members-loop-i g l =
     HasLaid (progress g.S.Sink l.fn.out) (progress g.S.Sink l.out) l.order
-    (header_encoding l.order l.form 7 l.fn.dim ++ counted l.order
-    (map (λ m. encoding l.order (inner l.form) (g.K.Nested.geometry m)) l.members))
+    (encoding l.order l.form (collection l.fn.dim (geometries (map g.K.Nested.geometry l.members))))
     (map (λ m. encoding l.order (inner l.form) (g.K.Nested.geometry m)) l.members) l.i
