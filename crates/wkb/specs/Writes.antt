@@ -3,4 +3,4 @@ pub use Rattle.wkb_write.specs.Answers.{IsSizeOf, IsRefusedAs, IsWrittenAs, IsSp
 pub use Rattle.wkb_write.specs.Answers.{Writes, WritesTo}
 pub use Rattle.wkb_write.specs.Measures.{Reports}
 pub use Rattle.wkb_sink.specs.Sinks.{FailsBy, TellsFailure, IsIOError, IsOwnError, IsWritten, IsBegun, Puts}
-pub use Rattle.wkb_write.specs.declared.writable.WriteOptions.{WriteOptions}
+pub use Rattle.wkb_sink.specs.declared.options.WriteOptions.{WriteOptions}

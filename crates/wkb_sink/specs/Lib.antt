@@ -1,5 +1,6 @@
 pub mod Blocks
 pub mod Held
+pub mod Options
 pub mod Progress
 pub mod Runs
 pub mod Sinks

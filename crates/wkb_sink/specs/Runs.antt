@@ -1,4 +1,4 @@
--- Runs: the coordinates between two places of a line.
+-- Coordinates, and runs of them: those between two places of a line.
 use Rattle.std.specs.Prelude.{ℕ, ◌≤◌, ◌-◌, ◌*◌, List, length, take, drop}
 use Rattle.std.specs.List.{flat_map}
 use Rattle.wkb_geom.specs.declared.common.Dimensions.{Dimensions}
@@ -6,6 +6,13 @@ use Rattle.wkb_geom.specs.declared.common.Endianness.{Endianness}
 use Rattle.wkb_geom.specs.Dimensions.{size}
 use Rattle.wkb_geom.specs.Encodings.{words_encoding}
 use Rattle.wkb_geom.specs.Values.{Coordinate}
+use Rattle.wkb_sink.specs.declared.block.TheConstants.{COORDINATE}
+
+-- there is room for a coordinate of this dimension, which can be written
+pub record HasRoomFor (d : Dimensions) (left : ℕ) : Type 0 where
+  pub least : 2 ≤ size d
+  pub most : size d ≤ 4
+  pub room : COORDINATE ≤ left
 
 -- the two places are a run's, and the dimension can be written
 pub record IsRun (d : Dimensions) (cs : List Coordinate) (from to : ℕ) : Type 0 where

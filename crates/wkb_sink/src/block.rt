@@ -1,16 +1,18 @@
 //! Bytes that wait to go to a sink together, and the parts of an encoding that are laid there.
 
 ghost use Rattle.std.specs.Prelude.{◌≡◌, ◌+◌, ◌-◌, ◌≤◌, ◌∷◌, [], length, take, replicate};
-ghost use Rattle.wkb_geom.specs.Dimensions.{size, width, written_dimension};
+ghost use Rattle.wkb_geom.specs.Dimensions.{width, written_dimension};
 ghost use Rattle.wkb_geom.specs.Numbers.{number_bytes, empty_word};
 ghost use Rattle.wkb_geom.specs.Reading.{type_kind, type_dimension};
-ghost use Rattle.wkb_geom.specs.Encodings.{code_of, header_encoding, words_encoding};
+ghost use Rattle.wkb_geom.specs.Encodings.{code_of, words_encoding};
 ghost use Rattle.wkb_geom.specs.declared.header.TheConstants.{LONGEST_HEADER};
 ghost use Rattle.wkb_geom.specs.declared.words.TheConstants.{COUNT};
 ghost use Rattle.wkb_sink.specs.Blocks.{Waiting, IsExtended};
-ghost use Rattle.wkb_sink.specs.Runs.{IsRun, run_size, run_encoding};
+ghost use Rattle.wkb_sink.specs.Options.{header_of};
+ghost use Rattle.wkb_sink.specs.Runs.{HasRoomFor, IsRun, run_size, run_encoding};
 ghost use Rattle.wkb_sink.specs.declared.block.TheConstants.{LEAST};
 
+use crate::options::WriteOptions;
 use crate::store::{store_coordinate, store_coordinates, store_word, u32_bytes};
 use std::marker::Model;
 use wkb_geom::code::WkbType;
@@ -107,9 +109,7 @@ impl<'a> Block<'a> {
     /// Lays a coordinate of two, three or four words.
     #[inline(always)]
     pub fn lay_coordinate<C: CoordTrait>(&mut self, coord: &C, order: Endianness)
-        requires least { 2 ≤ size (C.dimensions coord.now) }
-        requires most { size (C.dimensions coord.now) ≤ 4 }
-        requires room { COORDINATE ≤ self.old.room }
+        requires { HasRoomFor (C.dimensions coord.now) self.old.room }
         ensures room { self.old.room ≤ self.new.room + COORDINATE }
         ensures bytes { IsExtended self.old.waiting self.new.waiting
             (words_encoding order (C.words coord.now)) }
@@ -172,12 +172,15 @@ pub fn lay_count(block: &mut Block<'_>, order: Endianness, n: u32)
 
 /// Lays the order's byte, the code, and the SRID where there is one.
 #[inline(always)]
-pub fn lay_header(block: &mut Block<'_>, order: Endianness, form: Form, kind: WkbType)
+pub fn lay_header(block: &mut Block<'_>, options: &WriteOptions, kind: WkbType)
     requires { LONGEST_HEADER ≤ block.old.room }
     ensures room { block.old.room ≤ block.new.room + LONGEST_HEADER }
-    ensures bytes { IsExtended block.old.waiting block.new.waiting
-        (header_encoding order form (type_kind kind) (type_dimension kind)) }
+    ensures bytes { IsExtended block.old.waiting block.new.waiting (header_of options.now kind) }
 {
+    let WriteOptions {
+        endianness: order,
+        form,
+    } = *options;
     block.lay(&[u8::from(order)]);
     lay_count(block, order, code(form, kind));
     if let Some(srid) = form.srid() {

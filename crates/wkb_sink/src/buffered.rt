@@ -2,17 +2,16 @@
 
 ghost use Rattle.std.specs.Prelude.{◌≡◌, ◌≤◌, ◌++◌, [], false, IfOk};
 ghost use Rattle.wkb_geom.specs.Numbers.{number_bytes};
-ghost use Rattle.wkb_geom.specs.Reading.{type_kind, type_dimension};
-ghost use Rattle.wkb_geom.specs.Encodings.{header_encoding};
+ghost use Rattle.wkb_sink.specs.Options.{header_of};
 ghost use Rattle.wkb_sink.specs.Progress.{Lays, PutsTo};
 
-use crate::Sink;
 use crate::block::{Block, LEAST, lay_count, lay_header};
+use crate::{Sink, WriteOptions};
 use std::io;
+use wkb_geom::Endianness;
 use wkb_geom::code::WkbType;
 use wkb_geom::header::LONGEST_HEADER;
 use wkb_geom::words::COUNT;
-use wkb_geom::{Endianness, Form};
 
 /// The sink failed. Its error is kept in one place, where it had one: an `io::Error` is too large to be handed on by
 /// each step.
@@ -130,21 +129,14 @@ impl<'a, S: Sink> Buffered<'a, S> {
 
     /// Puts a header of this code, and a count.
     #[tactic(auto, using(crate::proofs::Steps::step_laws, crate::proofs::Behind::behind))]
-    pub fn put_head(
-        &mut self,
-        order: Endianness,
-        form: Form,
-        kind: WkbType,
-        n: u32,
-    ) -> Result<(), Stopped>
+    pub fn put_head(&mut self, options: &WriteOptions, kind: WkbType, n: u32) -> Result<(), Stopped>
         requires working { S.has_failed self.old.sink.now ≡ false }
         ensures { Lays S.Sink self.old self.new
-            (header_encoding order form (type_kind kind) (type_dimension kind)
-            ++ number_bytes order 4 n) result }
+            (header_of options.now kind ++ number_bytes options.now.endianness 4 n) result }
     {
         self.make_room(LONGEST_HEADER + COUNT)?;
-        lay_header(&mut self.block, order, form, kind);
-        lay_count(&mut self.block, order, n);
+        lay_header(&mut self.block, options, kind);
+        lay_count(&mut self.block, options.endianness, n);
         Ok(())
     }
 }

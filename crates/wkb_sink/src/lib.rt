@@ -8,8 +8,10 @@
 
 pub mod block;
 pub mod buffered;
+pub mod options;
 mod sink;
 mod store;
 
 pub use buffered::{Buffered, Stopped};
+pub use options::WriteOptions;
 pub use sink::{Out, Sink, SliceSink, VecSink};

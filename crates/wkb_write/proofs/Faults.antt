@@ -46,4 +46,4 @@ unfolding dimensions_fault
 supported_words (Unknown n) e = grind (arith, nat_tests)
 supported_words _ e = refl
 
-pub ruleset supported_laws = (reports_dimensions, no_fault_between, reports_count, count_without_fault)
+pub ruleset fault_laws = (reports_dimensions, no_fault_between, reports_count, count_without_fault)

@@ -23,6 +23,13 @@ item_measured r f (w ∷ vs) zero v item told =
     let same : v ≡ w = cc in subst (λ z. Measures (f z).fault (f z).size r) same told
 item_measured r f (w ∷ vs) (suc i) v item told = item_measured r f vs i v item told
 
+-- what was measured of any item
+pub each_measured : {V : Type 0} (r : Result ℕ Fault) (f : V → Measure) (vs : List V) (i : ℕ)
+    → ((v : V) → Measures (f v).fault (f v).size r) → IfSome (slice_get (map f vs) i) (λ m. Measures m.fault m.size r)
+each_measured r f [] i told = tt
+each_measured r f (v ∷ vs) zero told = told v
+each_measured r f (v ∷ vs) (suc i) told = each_measured r f vs i told
+
 -- an item stands there
 pub member_there : {X V : Type 0} (f : V → Measure) (value : X → V) (vs : List V) {i : ℕ} (o : Option X)
     → option_map value o ≡ slice_get vs i → i < length (map f vs) → IsSome o

@@ -1,13 +1,15 @@
 -- The members of a collection, as a loop measures them.
-use Rattle.std.proofs.Common.{◌≡◌, ℕ, ◌+◌, ◌*◌, ◌<◌, ◌≤◌, List, length, map, get_or, None, Result, Ok, Err}
+use Rattle.std.proofs.Common.{◌≡◌, ℕ, ◌+◌, ◌*◌, ◌<◌, ◌≤◌, List, length, map, get_or, None, Result, Ok}
 use Rattle.std.proofs.Common.{◌∙◌, sym, subst, arith}
 use Rattle.wkb_geom.specs.declared.common.Dimensions.{Dimensions}
 use Rattle.wkb_geom.specs.declared.error.Fault.{Fault}
 use Rattle.wkb_geom.specs.Geometries.{Geometry, Geometries, collection, geometries}
 use Rattle.wkb_geom.specs.Encodings.{count_fault, dimensions_fault}
 use Rattle.wkb_write.specs.Bodies.{member_measures}
-use Rattle.wkb_write.specs.Measures.{Finds, IsAdded, IsMeasured, Measures, capped}
-use Rattle.wkb_write.proofs.Sums.{SoFar, parts_step, part_reports, parts_behind, last_added}
+use Rattle.wkb_write.specs.Measures.{IsAdded, IsMeasured, Measures, capped, result_of}
+use Rattle.wkb_write.specs.declared.measure.Measured.{Measured}
+use Rattle.wkb_write.specs.declared.measure.Measured.TheVariants.{Bytes}
+use Rattle.wkb_write.proofs.Sums.{SoFar, parts_step, part_refused, parts_behind, last_added}
 use Rattle.wkb_write.proofs.Whole.{collected, members_length, said_of_member}
 
 -- what was added of a collection was added of the geometry that is one
@@ -36,13 +38,13 @@ module _ {X : Type 0} (f : X → Geometry) (xs : List X) (before : ℕ) (d : Dim
   same : count ≡ length (member_measures (geometries (map f xs)))
   same = counted.1 ∙ members_length f xs
 
-  pub member_refused : {x : X} (e : Fault) (r : Result ℕ Fault) → i < length xs → x ≡ get_or xs i x
-      → IsMeasured (f x) (Err e) → r ≡ Err e → IsAdded before (collection d (geometries (map f xs))) r
+  pub member_refused : {x : X} (m : Measured) → i < length xs → x ≡ get_or xs i x → IsMeasured (f x) (result_of m)
+      → ((n : ℕ) → m ≡ Bytes n → ⊥) → IsAdded before (collection d (geometries (map f xs))) (result_of m)
   unfolding IsMeasured
-  member_refused {x = x} e r within item told exit =
-      let part = said_of_member f (λ p. Finds e p.fault) xs i x within item told in
-      collected before d _ r supported
-      (part_reports _ _ count _ i total e r same fine (omega (arith, members_length f xs, within)) part so_far exit)
+  member_refused {x = x} m within item told never =
+      let part = said_of_member f (λ p. Measures p.fault p.size (result_of m)) xs i x within item told in
+      collected before d _ _ supported
+      (part_refused _ _ count _ i total m same fine (omega (arith, members_length f xs, within)) part so_far never)
 
   pub member_last : {x : X} (r : Result ℕ Fault) → i < length xs → i + 1 ≡ count → x ≡ get_or xs i x
       → IsAdded total (f x) r → IsAdded before (collection d (geometries (map f xs))) r

@@ -8,7 +8,9 @@ use Rattle.std.proofs.lemmas.Nat.{mul-le}
 use Rattle.std.proofs.lemmas.Option.{slice_get-get_or, get_or_from_slice_get}
 use Rattle.wkb_geom.specs.declared.error.Fault.{Fault}
 use Rattle.wkb_geom.specs.Encodings.{first_fault, count_fault}
-use Rattle.wkb_write.specs.Measures.{Finds, Measures, capped}
+use Rattle.wkb_write.specs.Measures.{Finds, Measures, capped, result_of}
+use Rattle.wkb_write.specs.declared.measure.Measured.{Measured}
+use Rattle.wkb_write.specs.declared.measure.Measured.TheVariants as measured
 use Rattle.wkb_write.specs.Bodies.{Measure, parts_fault, parts_size}
 use Rattle.wkb_geom.proofs.Faults.{none_first, none_rest, none_both, count_below}
 use Rattle.wkb_write.proofs.Faults.{reports_first, reports_rest, measured_err}
@@ -41,20 +43,6 @@ first_reports (q ∷ ps) (suc i) p e item h r =
     reports_rest e q.fault (first_fault (λ s. s.fault) ps) (none_first _ _ h)
     (first_reports ps i p e item (none_rest q.fault _ h) r)
 
-pub parts_start : (ps : List Measure) (header n : ℕ) → header < 2 ^ 8 → count_fault n ≡ None
-    → SoFar ps (4 + header * n) 0 (4 + header * n)
-unfolding first_fault
-parts_start ps header n short counted =
-    let few = count_below n counted in
-    record {
-      none = refl;
-      sum = omega (
-        arith,
-        mul-le header n (2 ^ 8) (2 ^ 32) (omega (arith, short))
-            (omega (arith, few)),
-      );
-    }
-
 no_part : Measure
 no_part = record { fault = None; size = 0 }
 
@@ -82,6 +70,18 @@ parts_step ps first i total n within told s =
       sum = omega (arith, more, s.sum, here.1, ap (λ q. q.size) is);
     }
 
+-- the bytes of a part fit `usize`
+pub part_fits : (ps : List Measure) (i n : ℕ) → i < length ps
+    → IfSome (slice_get ps i) (λ p. (p.fault ≡ None) × (n ≡ capped p.size)) → n < 2 ^ 64
+part_fits ps i n within told =
+    let here = part_there ps i (λ p. (p.fault ≡ None) × (n ≡ capped p.size)) within told in omega (arith, here.1)
+
+-- the bytes that all parts begin with do
+pub headers_fit : (header n : ℕ) → header < 2 ^ 8 → count_fault n ≡ None → 4 + header * n < 2 ^ 64
+headers_fit header n short counted =
+    let few = count_below n counted in
+    omega (arith, mul-le header n (2 ^ 8) (2 ^ 32) (omega (arith, short)) (omega (arith, few)))
+
 -- the fault of the count, and of a part
 pub count_reports : (ps : List Measure) (size n : ℕ) (e : Fault) (r : Result ℕ Fault) → n ≡ length ps → r ≡ Err e
     → Finds e (count_fault n) → Measures (parts_fault ps) size r
@@ -98,6 +98,18 @@ part_reports ps size n first i total e r is counted within told s exit =
     let item = slice_get-get_or ps i no_part within in
     measured_err e _ _ r exit (reports_rest e _ _ (ap count_fault (sym is) ∙ counted)
     (first_reports ps i (get_or ps i no_part) e item s.none here))
+
+-- what was measured of a part is a fault
+pub part_refused : (ps : List Measure) (size n first i total : ℕ) (m : Measured) → n ≡ length ps
+    → count_fault n ≡ None → i < length ps → IfSome (slice_get ps i) (λ p. Measures p.fault p.size (result_of m))
+    → SoFar ps first i total → ((k : ℕ) → m ≡ measured.Bytes k → ⊥) → Measures (parts_fault ps) size (result_of m)
+part_refused ps size n first i total (measured.Bytes k) is counted within told s never = absurd (never k refl)
+part_refused ps size n first i total (measured.UnsupportedDimensions k) is counted within told s never =
+    part_reports ps size n first i total _ _ is counted within told s refl
+part_refused ps size n first i total measured.Count is counted within told s never =
+    part_reports ps size n first i total _ _ is counted within told s refl
+part_refused ps size n first i total measured.Size is counted within told s never =
+    part_reports ps size n first i total _ _ is counted within told s refl
 
 -- all of the parts
 pub parts_all : (ps : List Measure) (header n i total : ℕ) → n ≡ length ps → count_fault n ≡ None → length ps ≤ i

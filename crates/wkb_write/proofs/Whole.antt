@@ -20,7 +20,7 @@ use Rattle.wkb_geom.proofs.Faults.{none_both}
 use Rattle.wkb_geom.proofs.Nodes.{node_count-member}
 use Rattle.wkb_write.specs.Measures.{Finds, IsAdded, IsMeasured, Measures, capped}
 use Rattle.wkb_write.specs.Bodies.{Measure, parts_fault, parts_size, coordinate_words, ring_bytes, ring_measure}
-use Rattle.wkb_write.specs.Bodies.{polygon_measure, member_measure, member_measures, body_fault, bytes_behind_header}
+use Rattle.wkb_write.specs.Bodies.{point_measure, polygon_measure, member_measure, member_measures, body_fault, bytes_behind_header}
 use Rattle.wkb_write.specs.Bodies.{size_by_parts}
 use Rattle.wkb_write.proofs.Faults.{reports_first, reports_rest, supported_words}
 
@@ -100,11 +100,33 @@ unfolding or_else
 alone None = refl
 alone (Some f) = refl
 
+no_faults : {X : Type 0} (xs : List X) → first_fault (λ x. None) xs ≡ None
+unfolding first_fault or_else
+no_faults [] = refl
+no_faults (x ∷ xs) = no_faults xs
+
+same_sizes : {X : Type 0} (n : ℕ) (xs : List X) → sum_by (λ x. n) xs ≡ length xs * n
+same_sizes n [] = omega arith
+same_sizes n (x ∷ xs) = omega (arith, sum_by-cons (λ y. n) x xs, same_sizes n xs)
+
+-- the points of a multi point
+points_are : (d : Dimensions) (points : List (Option (List ℕ)))
+    → parts_fault (map (point_measure d) points) ≡ count_fault (length points)
+points_are d points =
+    items_fault (point_measure d) (λ c. None) points (λ c. refl)
+    ∙ ap (or_else (count_fault (length points))) (no_faults points) ∙ sym (alone _)
+
+points_take : (d : Dimensions) (points : List (Option (List ℕ))) → coordinate_words d ≡ size d
+    → parts_size 5 (map (point_measure d) points) ≡ 4 + length points * (5 + 8 * size d)
+points_take d points is =
+    items_size 5 (point_measure d) (λ c. 5 + 8 * size d) points (λ c. omega (arith, is))
+    ∙ ap (λ n. 4 + n) (same_sizes (5 + 8 * size d) points)
+
 pub fault_by_body : (g : Geometry) → fault g ≡ or_else (dimensions_fault (dimensions_of g)) (body_fault g)
 fault_by_body (point d c) = alone (dimensions_fault d)
 fault_by_body (line_string d cs) = refl
 fault_by_body (polygon d rings) = ap (or_else (dimensions_fault d)) (sym (rings_are d rings))
-fault_by_body (multi_point d points) = refl
+fault_by_body (multi_point d points) = ap (or_else (dimensions_fault d)) (sym (points_are d points))
 fault_by_body (multi_line_string d lines) =
     ap (or_else (dimensions_fault d)) (sym (items_fault (ring_measure d) coordinates_fault lines (λ l. refl)))
 fault_by_body (multi_polygon d polygons) =
@@ -119,7 +141,7 @@ pub size_by_body : (g : Geometry) → coordinate_words (dimensions_of g) ≡ siz
 size_by_body (point d c) is = omega (arith, is)
 size_by_body (line_string d cs) is = omega (arith, ring_takes d is cs)
 size_by_body (polygon d rings) is = omega (arith, rings_take d rings is)
-size_by_body (multi_point d points) is = rw is (omega arith)
+size_by_body (multi_point d points) is = omega (arith, points_take d points is)
 size_by_body (multi_line_string d lines) is =
     omega (arith, items_size 5 (ring_measure d) (line_string_size d) lines (λ l. omega (arith, ring_takes d is l)))
 size_by_body (multi_polygon d polygons) is =

@@ -17,7 +17,7 @@ use Rattle.std.specs.Prelude.{IfErr, IfOk, MatchResult}
 use Rattle.wkb_sink.specs.Sinks.{IsBegun, IsIOError, IsOwnError, Puts, PutsOrStops, TellsFailure}
 use Rattle.wkb_geom.specs.declared.error.WkbError.TheVariants as errors
 use Rattle.std.specs.Prelude.{Some}
-use Rattle.wkb_write.specs.declared.writable.WriteOptions.{WriteOptions}
+use Rattle.wkb_sink.specs.declared.options.WriteOptions.{WriteOptions}
 use Rattle.wkb_write.specs.Answers.{encoding_of, refusal_of, IsSized, IsRefusedAs, IsSpelledAs, Writes}
 
 -- where there is a size there is no fault

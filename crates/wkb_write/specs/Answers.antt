@@ -16,7 +16,7 @@ use Rattle.wkb_write.specs.Measures.{Reports, Finds}
 use Rattle.wkb_geom.specs.declared.error.Fault.{Fault}
 use Rattle.wkb_sink.specs.Sinks.{IsOwnError, Puts}
 use Rattle.wkb_sink.specs.declared.sink.Sink.{Ghosts}
-use Rattle.wkb_write.specs.declared.writable.WriteOptions.{WriteOptions}
+use Rattle.wkb_sink.specs.declared.options.WriteOptions.{WriteOptions}
 
 -- a geometry's one encoding under some options
 abbrev pub encoding_of : WriteOptions → Geometry → List ℕ

@@ -1,13 +1,13 @@
 -- A geometry's first fault behind its header, and how many bytes stand there, by its parts.
 use Rattle.wkb_geom.specs.declared.error.Fault.{Fault}
-use Rattle.std.specs.Prelude.{ℕ, ◌+◌, ◌-◌, ◌*◌, min, List, [], ◌∷◌, length, map, Option, None}
+use Rattle.std.specs.Prelude.{◌≡◌, ℕ, ◌+◌, ◌-◌, ◌*◌, min, List, [], ◌∷◌, length, map, Option, None}
 use Rattle.std.specs.List.{sum_by}
 use Rattle.wkb_geom.specs.declared.common.Dimensions.{Dimensions}
 use Rattle.wkb_geom.specs.Dimensions.{size}
 use Rattle.wkb_geom.specs.Values.{Coordinate}
 use Rattle.wkb_geom.specs.Geometries.{Geometry, Geometries, point, line_string, polygon, multi_point, multi_line_string}
 use Rattle.wkb_geom.specs.Geometries.{multi_polygon, collection, rectangle, triangle, line, no_geometries, geometry}
-use Rattle.wkb_geom.specs.Sizes.{byte_size}
+use Rattle.wkb_geom.specs.Sizes.{byte_size, dimensions_of}
 use Rattle.wkb_geom.specs.Encodings.{or_else, count_fault, first_fault, coordinates_fault, fault}
 
 -- the first fault and the bytes of a part
@@ -64,7 +64,7 @@ abbrev pub body_fault : Geometry → Option Fault
 body_fault (point d c) = None
 body_fault (line_string d cs) = coordinates_fault cs
 body_fault (polygon d rings) = parts_fault (map (ring_measure d) rings)
-body_fault (multi_point d points) = count_fault (length points)
+body_fault (multi_point d points) = parts_fault (map (point_measure d) points)
 body_fault (multi_line_string d lines) = parts_fault (map (ring_measure d) lines)
 body_fault (multi_polygon d polygons) = parts_fault (map (polygon_measure d) polygons)
 body_fault (collection d gs) = parts_fault (member_measures gs)
@@ -77,10 +77,16 @@ abbrev pub size_by_parts : Geometry → ℕ
 size_by_parts (point d c) = 8 * coordinate_words d
 size_by_parts (line_string d cs) = ring_bytes d cs
 size_by_parts (polygon d rings) = parts_size 0 (map (ring_measure d) rings)
-size_by_parts (multi_point d points) = 4 + length points * (5 + 8 * coordinate_words d)
+size_by_parts (multi_point d points) = parts_size 5 (map (point_measure d) points)
 size_by_parts (multi_line_string d lines) = parts_size 5 (map (ring_measure d) lines)
 size_by_parts (multi_polygon d polygons) = parts_size 5 (map (polygon_measure d) polygons)
 size_by_parts (collection d gs) = parts_size 5 (member_measures gs)
 size_by_parts (line d start end) = 4 + 16 * coordinate_words d
 size_by_parts (rectangle d least greatest) = 88
 size_by_parts (triangle d first second third) = 8 + 32 * coordinate_words d
+
+-- behind its header a geometry of this dimension is these parts, each with a header of so many bytes
+pub record HasMeasures (g : Geometry) (d : Dimensions) (header : ℕ) (parts : List Measure) : Type 0 where
+  pub dimensions : d ≡ dimensions_of g
+  pub fault : body_fault g ≡ parts_fault parts
+  pub size : size_by_parts g ≡ parts_size header parts

@@ -1,8 +1,11 @@
 //! What the files of all kinds use.
 
+pub use crate::measure::{Measured, behind_header, words_size};
 pub use crate::writable::{Put, Writable, size_as, write_as};
 pub use crate::{Sink, WriteOptions};
 pub use wkb_geom::code::WkbType;
-pub use wkb_geom::{Dimensioned, Endianness, Fault, Form, WkbResult};
+pub use wkb_geom::header::{LONGEST_HEADER, MEMBER_HEADER};
+pub use wkb_geom::words::COUNT;
+pub use wkb_geom::{Dimensioned, Form, WkbResult};
 pub use wkb_sink::Buffered;
-pub use wkb_sink::block::dimension_to_write;
+pub use wkb_sink::block::{COORDINATE, dimension_to_write, lay_count, lay_header};

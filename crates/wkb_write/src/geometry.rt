@@ -5,8 +5,7 @@ ghost use Rattle.wkb_write.specs.Words.{encoding_of, refusal_of, Iso, IsMemory, 
 ghost use Rattle.wkb_write.specs.Words.{WritesTo, Reports};
 
 use crate::common::*;
-use crate::items::{Counted, Items};
-use crate::lent::{vec_lent, write_lent};
+use crate::items::Counted;
 use crate::line::LineKind;
 use crate::line_string::{LineStringKind, write_line_string};
 use crate::multi_line_string::MultiLineStringKind;
@@ -17,7 +16,7 @@ use crate::point::{PointKind, write_point};
 use crate::polygon::{PolygonKind, write_polygon};
 use crate::rect::RectKind;
 use crate::triangle::TriangleKind;
-use crate::writable::vec_as;
+use crate::writable::{vec_as, vec_lent, write_lent};
 use std::alloc::Global;
 use wkb_geom::{GeometryTrait, GeometryType};
 
@@ -38,14 +37,14 @@ impl<G: GeometryTrait> Nested<G> for GeometryKind {
     }
 
     #[inline(always)]
-    fn measure_leaf(geom: &G) -> Result<usize, Fault> {
+    fn measure_leaf(geom: &G) -> Measured {
         match geom.as_type() {
             GeometryType::Point(p) => PointKind::measure(p),
             GeometryType::LineString(l) => LineStringKind::measure(l),
-            GeometryType::Polygon(p) => PolygonKind::measure(p),
-            GeometryType::MultiPoint(m) => MultiPointKind::measure(m),
-            GeometryType::MultiLineString(m) => MultiLineStringKind::measure(m),
-            GeometryType::MultiPolygon(m) => MultiPolygonKind::measure(m),
+            GeometryType::Polygon(p) => Counted::<PolygonKind>::measure(p),
+            GeometryType::MultiPoint(m) => Counted::<MultiPointKind>::measure(m),
+            GeometryType::MultiLineString(m) => Counted::<MultiLineStringKind>::measure(m),
+            GeometryType::MultiPolygon(m) => Counted::<MultiPolygonKind>::measure(m),
             GeometryType::Line(l) => LineKind::measure(l),
             GeometryType::Rect(r) => RectKind::measure(r),
             GeometryType::Triangle(t) => TriangleKind::measure(t),
@@ -54,24 +53,19 @@ impl<G: GeometryTrait> Nested<G> for GeometryKind {
     }
 
     #[inline(always)]
-    fn put_leaf<S: Sink>(
-        out: &mut Buffered<'_, S>,
-        geom: &G,
-        order: Endianness,
-        form: Form,
-    ) -> Put {
+    fn put_leaf<S: Sink>(out: &mut Buffered<'_, S>, geom: &G, options: &WriteOptions) -> Put {
         match geom.as_type() {
-            GeometryType::Point(p) => PointKind::put(out, p, order, form),
-            GeometryType::LineString(l) => LineStringKind::put(out, l, order, form),
-            GeometryType::Polygon(p) => Counted::<PolygonKind>::put(out, p, order, form),
-            GeometryType::MultiPoint(m) => Counted::<MultiPointKind>::put(out, m, order, form),
+            GeometryType::Point(p) => PointKind::put(out, p, options),
+            GeometryType::LineString(l) => LineStringKind::put(out, l, options),
+            GeometryType::Polygon(p) => Counted::<PolygonKind>::put(out, p, options),
+            GeometryType::MultiPoint(m) => Counted::<MultiPointKind>::put(out, m, options),
             GeometryType::MultiLineString(m) => Counted::<MultiLineStringKind>::put(
-                out, m, order, form,
+                out, m, options,
             ),
-            GeometryType::MultiPolygon(m) => Counted::<MultiPolygonKind>::put(out, m, order, form),
-            GeometryType::Rect(r) => RectKind::put(out, r, order, form),
-            GeometryType::Triangle(t) => TriangleKind::put(out, t, order, form),
-            GeometryType::Line(l) => LineKind::put(out, l, order, form),
+            GeometryType::MultiPolygon(m) => Counted::<MultiPolygonKind>::put(out, m, options),
+            GeometryType::Rect(r) => RectKind::put(out, r, options),
+            GeometryType::Triangle(t) => TriangleKind::put(out, t, options),
+            GeometryType::Line(l) => LineKind::put(out, l, options),
             GeometryType::GeometryCollection(_) => unreachable!(),
         }
     }

@@ -11,20 +11,21 @@ use wkb_geom::GeometryCollectionTrait;
 /// A collection, whose members are of another type.
 pub struct GeometryCollectionKind;
 
-#[tactic(auto, using(crate::proofs::Whole::added_alone))]
+#[tactic(auto, using(crate::proofs::Collections::whole_laws))]
 impl<C: GeometryCollectionTrait> Writable<C> for GeometryCollectionKind {
     ghost geometry = { λ c. collection (C.dimensions c) (geometries (C.members c)) };
 
-    ghost lawful = { λ g. C.lawful g };
+    ghost lawful = { λ c. C.lawful c };
 
     #[inline(always)]
-    fn measure(geom: &C) -> Result<usize, Fault> {
-        add_members::<C::GeometryType, GeometryKind>(0, geom.dim(), geom.geometries()).result()
+    fn measure(geom: &C) -> Measured {
+        add_members::<C::GeometryType, GeometryKind>(0, geom.dim(), geom.geometries())
     }
 
-    fn put<S: Sink>(out: &mut Buffered<'_, S>, geom: &C, order: Endianness, form: Form) -> Put {
+    fn put<S: Sink>(out: &mut Buffered<'_, S>, geom: &C, options: &WriteOptions) -> Put {
         let members = geom.geometries();
-        put_members::<S, C::GeometryType, GeometryKind>(out, geom.dim(), members, order, form)
+        let inner = options.inner();
+        put_members::<S, C::GeometryType, GeometryKind>(out, geom.dim(), members, options, &inner)
     }
 }
 

@@ -2,108 +2,107 @@
 
 ghost use Rattle.std.specs.Prelude.{◌≡◌, ◌<◌, ◌^◌, ◌++◌, ℕ, List, [], None, false, length};
 ghost use Rattle.std.specs.Prelude.{get_or, IfSome, slice_get};
-ghost use Rattle.wkb_write.specs.Words.{Endianness, Form, Geometry, IsGeometry, encoding, fault};
-ghost use Rattle.wkb_write.specs.Words.{header_encoding, inner, type_kind, type_dimension};
-ghost use Rattle.wkb_write.specs.Words.{counted, parts_fault, parts_size, result_of};
-ghost use Rattle.wkb_write.specs.Words.{IsMeasured, Lays, Measure, Measures};
+ghost use Rattle.wkb_write.specs.Words.{Geometry, IsGeometry, WriteOptions, encoding_of, fault};
+ghost use Rattle.wkb_write.specs.Words.{header_of, inner_options, counted, parts_fault, parts_size};
+ghost use Rattle.wkb_write.specs.Words.{result_of, HasMeasures, Lays, Measure, Measures};
 
 use crate::common::*;
-use crate::measure::{Measured, check_count};
+use crate::measure::short_count;
 
 /// A kind whose geometries are items behind a count.
-pub trait Items<G> {
+pub trait Items<G: Dimensioned> {
     // What a geometry means.
     ghost geometry: { G → Geometry };
 
-    // The encodings of the items, in order, under the order and the form of items.
-    ghost encodings: { Endianness → Form → G → List (List ℕ) };
+    // The encodings of the items, in order, under the options of items.
+    ghost encodings: { WriteOptions → G → List (List ℕ) };
+
+    // The fault and the size of each item without its header, in order.
+    ghost measures: { G → List Measure };
+
+    // The bytes of an item's header.
+    ghost ITEM_HEADER: { ℕ };
+
+    const ITEM_HEADER: u8;
 
     /// The kind and the dimension that the header tells.
     fn kind(geom: &G) -> WkbType
-        ensures { (order : Endianness) (form : Form) → encoding order form (geometry geom.now)
-            ≡ header_encoding order form (type_kind result) (type_dimension result)
-            ++ counted order (encodings order (inner form) geom.now) };
+        ensures { (options : WriteOptions) → encoding_of options (geometry geom.now)
+            ≡ header_of options result
+            ++ counted options.endianness (encodings (inner_options options) geom.now) };
 
     /// How many items stand behind the count.
     fn count(geom: &G) -> u128
-        ensures counted { (order : Endianness) (form : Form)
-            → result ≡ length (encodings order form geom.now) }
+        ensures counted { (options : WriteOptions) → result ≡ length (encodings options geom.now) }
+        ensures measured { result ≡ length (measures geom.now) }
         ensures few { fault (geometry geom.now) ≡ None → result < 2 ^ 32 };
 
-    /// The bytes after the header, or the first fault.
-    fn measure(geom: &G) -> Result<usize, Fault>
-        ensures { IsMeasured (geometry geom.now) result };
+    /// The fault of the item at an index, or its bytes without its header.
+    fn measure_item(geom: &G, i: usize) -> Measured
+        requires { i < length (measures geom.now) }
+        ensures { IfSome (slice_get (measures geom.now) i)
+            (λ m. Measures m.fault m.size (result_of result)) };
 
     /// Puts the item at an index.
     fn put_item<S: Sink>(
         out: &mut Buffered<'_, S>,
         geom: &G,
         i: usize,
-        order: Endianness,
-        form: Form,
+        options: &WriteOptions,
     ) -> Put
         requires fault { fault (geometry geom.now) ≡ None }
-        requires within { i < length (encodings order form geom.now) }
+        requires within { i < length (encodings options.now geom.now) }
         requires working { S.has_failed out.old.sink.now ≡ false }
-        ensures { Lays S.Sink out.old out.new
-            (get_or (encodings order form geom.now) i []) result };
+        ensures { Lays S.Sink out.old out.new (get_or (encodings options.now geom.now) i []) result };
+
+    // Behind its header a geometry is its items.
+    ghost parts: { (g : G) → HasMeasures (geometry g) (G.dimensions g) ITEM_HEADER (measures g) };
 
     // Every coordinate fits the dimension.
     ghost lawful: { (g : G) → IsGeometry (geometry g) };
 }
 
-/// The geometries of a kind of items, which are all put in one way: the items after their count.
+/// The geometries of a kind of items, which are all measured and put in one way: the items after their count.
 pub struct Counted<I>(I);
 
 #[tactic(auto, using(crate::proofs::Steps::step_laws))]
-impl<G, I: Items<G>> Writable<G> for Counted<I> {
+impl<G: Dimensioned, I: Items<G>> Writable<G> for Counted<I> {
     ghost geometry = { λ g. I.geometry g };
 
     ghost lawful = { λ g. I.lawful g };
 
     #[inline(always)]
-    fn measure(geom: &G) -> Result<usize, Fault> {
-        I::measure(geom)
+    fn measure(geom: &G) -> Measured {
+        behind_header(geom.dim(), measure_items::<G, I>(geom))
     }
 
-    fn put<S: Sink>(out: &mut Buffered<'_, S>, geom: &G, order: Endianness, form: Form) -> Put {
-        let kind = I::kind(geom);
+    // Not inlined: the recursion of collections, which calls it for each kind, stays small.
+    #[inline(never)]
+    fn put<S: Sink>(out: &mut Buffered<'_, S>, geom: &G, options: &WriteOptions) -> Put {
         let count = I::count(geom) as u32;
-        out.put_head(order, form, kind, count)?;
+        let inner = options.inner();
+        out.put_head(options, I::kind(geom), count)?;
         for i in 0..count as usize {
-            I::put_item(out, geom, i, order, form.inner())?;
+            I::put_item(out, geom, i, &inner)?;
         }
         Ok(())
     }
 }
 
-/// A kind whose items are measured one by one.
-pub trait MeasuredItems<G> {
-    // The fault and the size of each item, in order.
-    ghost measures: { G → List Measure };
-
-    /// The fault of the item at an index, or its bytes without its header.
-    fn measure_item(geom: &G, i: usize) -> Result<usize, Fault>
-        requires { i < length (measures geom.now) }
-        ensures { IfSome (slice_get (measures geom.now) i) (λ m. Measures m.fault m.size result) };
-}
-
-/// Measures the count and so many items in order, each behind a header of so many bytes.
-pub fn measure_items<G, I: MeasuredItems<G>>(geom: &G, count: u128, header: u8) -> Measured
-    requires { count ≡ length (I.measures geom.now) }
-    ensures { Measures (parts_fault (I.measures geom.now)) (parts_size header (I.measures geom.now))
-        (result_of result) }
+/// Measures the count and the items in order, each with its header.
+pub fn measure_items<G: Dimensioned, I: Items<G>>(geom: &G) -> Measured
+    ensures { Measures (parts_fault (I.measures geom.now))
+        (parts_size I.ITEM_HEADER (I.measures geom.now)) (result_of result) }
 {
-    let count = match check_count(count) {
-        Ok(count) => count as usize,
-        Err(fault) => return Measured::from(fault),
+    let Some(count) = short_count(I::count(geom)) else {
+        return Measured::Count;
     };
-    let mut total = 4 + header as usize * count;
-    for i in 0..count {
+    let mut total = 4 + I::ITEM_HEADER as u128 * count as u128;
+    for i in 0..count as usize {
         match I::measure_item(geom, i) {
-            Ok(size) => total = total.saturating_add(size),
-            Err(fault) => return Measured::from(fault),
+            Measured::Bytes(size) => total += size as u128,
+            fault => return fault,
         }
     }
-    Measured::Bytes(total)
+    Measured::Bytes(total.min(usize::MAX as u128) as usize)
 }

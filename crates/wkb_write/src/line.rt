@@ -4,11 +4,7 @@ ghost use Rattle.std.specs.Prelude.{◌≡◌, false};
 ghost use Rattle.wkb_write.specs.Words.{Iso, line, IsSizeOf, WritesTo};
 
 use crate::common::*;
-use crate::measure::{behind_header, words_size};
 use wkb_geom::LineTrait;
-use wkb_geom::header::LONGEST_HEADER;
-use wkb_geom::words::COUNT;
-use wkb_sink::block::{COORDINATE, lay_count, lay_header};
 
 /// A line, which is put as a line string of its two ends.
 pub struct LineKind;
@@ -17,17 +13,18 @@ pub struct LineKind;
 impl<L: LineTrait> Writable<L> for LineKind {
     ghost geometry = { λ l. line (L.dimensions l) (L.start_words l) (L.end_words l) };
 
-    ghost lawful = { λ g. L.lawful g };
+    ghost lawful = { λ l. L.lawful l };
 
     #[inline(always)]
-    fn measure(geom: &L) -> Result<usize, Fault> {
-        behind_header(geom.dim(), Ok(4 + words_size(geom.dim(), 2)))
+    fn measure(geom: &L) -> Measured {
+        behind_header(geom.dim(), Measured::Bytes(4 + words_size(geom.dim(), 2)))
     }
 
-    fn put<S: Sink>(out: &mut Buffered<'_, S>, geom: &L, order: Endianness, form: Form) -> Put {
+    fn put<S: Sink>(out: &mut Buffered<'_, S>, geom: &L, options: &WriteOptions) -> Put {
+        let order = options.endianness;
         let kind = WkbType::LineString(dimension_to_write(geom.dim()));
         out.make_room(LONGEST_HEADER + COUNT + 2 * COORDINATE)?;
-        lay_header(&mut out.block, order, form, kind);
+        lay_header(&mut out.block, options, kind);
         lay_count(&mut out.block, order, 2);
         out.block.lay_coordinate(&geom.start(), order);
         out.block.lay_coordinate(&geom.end(), order);

@@ -4,23 +4,21 @@ ghost use Rattle.std.specs.Prelude.{◌≡◌, ◌<◌, ◌^◌, None, false, le
 ghost use Rattle.std.specs.List.{flat_map};
 ghost use Rattle.wkb_write.specs.Words.{Iso, line_string, coordinates_fault, words_encoding};
 ghost use Rattle.wkb_write.specs.Words.{dimensions_fault, Lays, IsSizeOf, WritesTo, ring_bytes};
-ghost use Rattle.wkb_write.specs.Words.{Measures};
+ghost use Rattle.wkb_write.specs.Words.{Measures, result_of};
 
 use crate::common::*;
-use crate::measure::{behind_header, check_count, words_size};
-use wkb_geom::LineStringTrait;
-use wkb_sink::block::{COORDINATE, CORNER};
-
-/// As many coordinates make a run: for so many or more of two words the block has room before some of them are laid.
-const RUN: usize = 8;
+use crate::measure::short_count;
+use wkb_geom::{Endianness, LineStringTrait};
 
 /// Measures the coordinates of a line string or a ring, with their count.
-pub fn measure_coordinates<L: LineStringTrait>(line: &L) -> Result<usize, Fault>
+pub fn measure_coordinates<L: LineStringTrait>(line: &L) -> Measured
     ensures { Measures (coordinates_fault (L.coordinates line.now))
-        (ring_bytes (L.dimensions line.now) (L.coordinates line.now)) result }
+        (ring_bytes (L.dimensions line.now) (L.coordinates line.now)) (result_of result) }
 {
-    let count = check_count(line.num_coords() as u128)?;
-    Ok(4 + words_size(line.dim(), count))
+    match short_count(line.num_coords() as u128) {
+        Some(count) => Measured::Bytes(4 + words_size(line.dim(), count)),
+        None => Measured::Count,
+    }
 }
 
 /// Puts the coordinates of a line string or a ring.
@@ -43,12 +41,7 @@ pub fn put_coordinates<S: Sink, L: LineStringTrait>(
     }
     let mut done = 0;
     while done < count {
-        let least = if count - done < RUN {
-            COORDINATE
-        } else {
-            RUN * CORNER
-        };
-        out.make_room(least)?;
+        out.make_room(COORDINATE)?;
         let next = count.min(done + out.block.room() / bytes);
         out.block.lay_coordinates(line, done, next, order);
         done = next;
@@ -63,17 +56,17 @@ pub struct LineStringKind;
 impl<L: LineStringTrait> Writable<L> for LineStringKind {
     ghost geometry = { λ l. line_string (L.dimensions l) (L.coordinates l) };
 
-    ghost lawful = { λ g. L.lawful g };
+    ghost lawful = { λ l. L.lawful l };
 
     #[inline(always)]
-    fn measure(geom: &L) -> Result<usize, Fault> {
+    fn measure(geom: &L) -> Measured {
         behind_header(geom.dim(), measure_coordinates(geom))
     }
 
-    fn put<S: Sink>(out: &mut Buffered<'_, S>, geom: &L, order: Endianness, form: Form) -> Put {
+    fn put<S: Sink>(out: &mut Buffered<'_, S>, geom: &L, options: &WriteOptions) -> Put {
         let kind = WkbType::LineString(dimension_to_write(geom.dim()));
-        out.put_head(order, form, kind, geom.num_coords() as u32)?;
-        put_coordinates(out, geom, order)
+        out.put_head(options, kind, geom.num_coords() as u32)?;
+        put_coordinates(out, geom, options.endianness)
     }
 }
 

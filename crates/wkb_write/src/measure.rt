@@ -3,12 +3,12 @@
 //! A fault is met in preorder: a geometry's dimensions, its count, then its items. Only the bytes after the header are
 //! measured, and the greatest `usize` stands for all sizes from there on: with a header none of them fits.
 
-ghost use Rattle.std.specs.Prelude.{◌≡◌, ◌+◌, ◌*◌, ◌^◌, ◌<◌, None, Err, is_some, MatchResult};
-ghost use Rattle.std.specs.Prelude.{IsErrAnd};
+ghost use Rattle.std.specs.Prelude.{◌≡◌, ◌+◌, ◌*◌, ◌^◌, ◌<◌, None, is_some, IsErrAnd, MatchOption};
 ghost use Rattle.wkb_write.specs.Words.{Geometry, IsGeometry, IsForm, dimensions_of, form_srid};
-ghost use Rattle.wkb_write.specs.Words.{count_fault, dimensions_fault, body_fault, TellsFault};
+ghost use Rattle.wkb_write.specs.Words.{dimensions_fault, count_fault, body_fault, Finds};
 ghost use Rattle.wkb_write.specs.Words.{coordinate_words, size_by_parts, srid_size, result_of};
-ghost use Rattle.wkb_write.specs.Words.{Finds, IsMeasured, Measures, IsSized, IsSizeOf};
+ghost use Rattle.wkb_write.specs.Words.{IsMeasured, Measures, IsSized, IsSizeOf, TellsFault};
+ghost use Rattle.wkb_geom.specs.declared.error.Fault.TheVariants.{Count, UnsupportedDimensions};
 
 use wkb_geom::header::{LONGEST_HEADER, MEMBER_HEADER};
 use wkb_geom::{Dimensions, Fault, Form, WkbError, WkbResult};
@@ -23,58 +23,39 @@ pub enum Measured {
     Size,
 }
 
-impl Measured {
-    /// What was measured, as a `Result`.
-    #[inline(always)]
-    pub fn result(self) -> Result<usize, Fault>
-        ensures { result ≡ result_of self }
-    {
-        match self {
-            Measured::Bytes(n) => Ok(n),
-            Measured::UnsupportedDimensions(n) => Err(Fault::UnsupportedDimensions(n)),
-            Measured::Count => Err(Fault::Count),
-            Measured::Size => Err(Fault::Size),
-        }
-    }
-}
-
-impl From<Fault> for Measured {
-    ghost from_gives = { λ fault measured. result_of measured ≡ Err fault };
-
-    #[inline(always)]
-    fn from(fault: Fault) -> Measured {
-        match fault {
-            Fault::UnsupportedDimensions(n) => Measured::UnsupportedDimensions(n),
-            Fault::Count => Measured::Count,
-            Fault::Size => Measured::Size,
-        }
-    }
-}
-
-/// Refuses dimensions that can't be written.
+/// What was measured, as a `Result`.
 #[inline(always)]
-#[tactic(auto, using(crate::proofs::Faults::supported_laws), unfolding(wkb_geom::specs::Encodings::dimensions_fault))]
-pub fn check_dimensions(dim: Dimensions) -> Result<(), Fault>
-    ensures { MatchResult result (λ _. dimensions_fault dim ≡ None)
-        (λ e. Finds e (dimensions_fault dim)) }
+fn as_result(measured: Measured) -> Result<usize, Fault>
+    ensures { result ≡ result_of measured }
+{
+    match measured {
+        Measured::Bytes(n) => Ok(n),
+        Measured::UnsupportedDimensions(n) => Err(Fault::UnsupportedDimensions(n)),
+        Measured::Count => Err(Fault::Count),
+        Measured::Size => Err(Fault::Size),
+    }
+}
+
+/// The numbers in a coordinate, where a geometry of these dimensions can't be written.
+#[inline(always)]
+#[tactic(auto, using(crate::proofs::Faults::fault_laws), unfolding(wkb_geom::specs::Encodings::dimensions_fault))]
+pub fn unsupported(dim: Dimensions) -> Option<usize>
+    ensures { MatchOption result (dimensions_fault dim ≡ None)
+        (λ n. Finds (UnsupportedDimensions n) (dimensions_fault dim)) }
 {
     match dim {
-        Dimensions::Unknown(n) if n < 2 || 4 < n => Err(Fault::UnsupportedDimensions(n)),
-        _ => Ok(()),
+        Dimensions::Unknown(n) if n < 2 || 4 < n => Some(n),
+        _ => None,
     }
 }
 
 /// A count, where four bytes hold it.
-#[tactic(auto, using(crate::proofs::Faults::supported_laws))]
-pub fn check_count(n: u128) -> Result<u32, Fault>
-    ensures { MatchResult result (λ m. (count_fault n ≡ None) × (m ≡ n))
-        (λ e. Finds e (count_fault n)) }
+#[tactic(auto, using(crate::proofs::Faults::fault_laws))]
+pub fn short_count(n: u128) -> Option<u32>
+    ensures { MatchOption result (Finds Count (count_fault n))
+        (λ m. (count_fault n ≡ None) × (m ≡ n)) }
 {
-    if n <= u32::MAX as u128 {
-        Ok(n as u32)
-    } else {
-        Err(Fault::Count)
-    }
+    u32::try_from(n).ok()
 }
 
 /// The bytes of the words of so many coordinates. No dimension that can be written has more than four words.
@@ -88,13 +69,14 @@ pub fn words_size(dim: Dimensions, n: u32) -> usize
 
 /// A geometry of these dimensions, by what was measured of it otherwise.
 #[inline(always)]
-pub fn behind_header(dim: Dimensions, body: Result<usize, Fault>) -> Result<usize, Fault>
+pub fn behind_header(dim: Dimensions, body: Measured) -> Measured
     ensures { (g : Geometry) → dim ≡ dimensions_of g
-        → Measures (body_fault g) (size_by_parts g) body → IsMeasured g result }
+        → Measures (body_fault g) (size_by_parts g) (result_of body)
+        → IsMeasured g (result_of result) }
 {
-    match check_dimensions(dim) {
-        Ok(()) => body,
-        Err(fault) => Err(fault),
+    match unsupported(dim) {
+        None => body,
+        Some(n) => Measured::UnsupportedDimensions(n),
     }
 }
 
@@ -112,12 +94,13 @@ pub fn length_of_header(form: Form) -> usize
 
 /// The size that was measured with the header's bytes, where `usize` holds it.
 #[inline]
-pub fn whole_size(measured: Result<usize, Fault>, form: Form) -> Result<usize, Fault>
-    ensures size { (g : Geometry) → IsGeometry g → IsMeasured g measured → IsSized form g result }
+pub fn whole_size(measured: Measured, form: Form) -> Result<usize, Fault>
+    ensures size { (g : Geometry) → IsGeometry g → IsMeasured g (result_of measured)
+        → IsSized form g result }
     ensures fits { IsForm form }
 {
     let header = length_of_header(form);
-    match measured?.checked_add(header) {
+    match as_result(measured)?.checked_add(header) {
         Some(size) => Ok(size),
         None => Err(Fault::Size),
     }
@@ -125,8 +108,9 @@ pub fn whole_size(measured: Result<usize, Fault>, form: Form) -> Result<usize, F
 
 /// The size of an encoding under the form, or the error that tells the fault.
 #[inline]
-pub fn size_of(measured: Result<usize, Fault>, form: Form) -> WkbResult<usize>
-    ensures { (g : Geometry) → IsGeometry g → IsMeasured g measured → IsSizeOf form g result }
+pub fn size_of(measured: Measured, form: Form) -> WkbResult<usize>
+    ensures { (g : Geometry) → IsGeometry g → IsMeasured g (result_of measured)
+        → IsSizeOf form g result }
 {
     match whole_size(measured, form) {
         Ok(size) => Ok(size),

@@ -1,15 +1,13 @@
 //! A multi line string.
 
-ghost use Rattle.std.specs.Prelude.{◌≡◌, None, false, map};
-ghost use Rattle.wkb_write.specs.Words.{Iso, line_string, multi_line_string, fault, encoding};
+ghost use Rattle.std.specs.Prelude.{◌≡◌, None, false, map, refl};
+ghost use Rattle.wkb_write.specs.Words.{Iso, multi_line_string, line_string, fault, encoding_of};
 ghost use Rattle.wkb_write.specs.Words.{IsSizeOf, WritesTo, ring_measure};
 
 use crate::common::*;
-use crate::items::{Counted, Items, MeasuredItems, measure_items};
+use crate::items::{Counted, Items};
 use crate::line_string::{LineStringKind, measure_coordinates};
-use crate::measure::behind_header;
 use wkb_geom::MultiLineStringTrait;
-use wkb_geom::header::MEMBER_HEADER;
 
 /// A multi line string.
 pub struct MultiLineStringKind;
@@ -18,10 +16,18 @@ pub struct MultiLineStringKind;
 impl<M: MultiLineStringTrait> Items<M> for MultiLineStringKind {
     ghost geometry = { λ m. multi_line_string (M.dimensions m) (M.line_strings m) };
 
-    ghost encodings = { λ order form m.
-        map (λ c. encoding order form (line_string (M.dimensions m) c)) (M.line_strings m) };
+    ghost encodings = { λ options m.
+        map (λ c. encoding_of options (line_string (M.dimensions m) c)) (M.line_strings m) };
 
-    ghost lawful = { λ g. M.lawful g };
+    ghost measures = { λ m. map (ring_measure (M.dimensions m)) (M.line_strings m) };
+
+    ghost ITEM_HEADER = { 5 };
+
+    const ITEM_HEADER: u8 = MEMBER_HEADER as u8;
+
+    ghost parts = { λ m. record { dimensions = refl; fault = refl; size = refl } };
+
+    ghost lawful = { λ m. M.lawful m };
 
     fn kind(geom: &M) -> WkbType {
         WkbType::MultiLineString(dimension_to_write(geom.dim()))
@@ -31,31 +37,17 @@ impl<M: MultiLineStringTrait> Items<M> for MultiLineStringKind {
         geom.num_line_strings() as u128
     }
 
-    #[inline(always)]
-    fn measure(geom: &M) -> Result<usize, Fault> {
-        let count = geom.num_line_strings() as u128;
-        let body = measure_items::<M, Self>(geom, count, MEMBER_HEADER as u8).result();
-        behind_header(geom.dim(), body)
+    fn measure_item(geom: &M, i: usize) -> Measured {
+        measure_coordinates(&geom.line_string(i).unwrap())
     }
 
     fn put_item<S: Sink>(
         out: &mut Buffered<'_, S>,
         geom: &M,
         i: usize,
-        order: Endianness,
-        form: Form,
+        options: &WriteOptions,
     ) -> Put {
-        let line_string = geom.line_string(i).unwrap();
-        LineStringKind::put(out, &line_string, order, form)
-    }
-}
-
-#[tactic(auto, using(crate::proofs::Steps::item_laws))]
-impl<M: MultiLineStringTrait> MeasuredItems<M> for MultiLineStringKind {
-    ghost measures = { λ m. map (ring_measure (M.dimensions m)) (M.line_strings m) };
-
-    fn measure_item(geom: &M, i: usize) -> Result<usize, Fault> {
-        measure_coordinates(&geom.line_string(i).unwrap())
+        LineStringKind::put(out, &geom.line_string(i).unwrap(), options)
     }
 }
 

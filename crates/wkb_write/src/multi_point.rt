@@ -1,16 +1,13 @@
 //! A multi point.
 
-ghost use Rattle.std.specs.Prelude.{◌≡◌, None, false, map, length, ◌+◌, ◌*◌};
-ghost use Rattle.wkb_write.specs.Words.{Iso, multi_point, point, count_fault, fault, encoding};
-ghost use Rattle.wkb_write.specs.Words.{IsSizeOf, WritesTo};
-ghost use Rattle.wkb_write.specs.Words.{point_measure, coordinate_words, Measures};
+ghost use Rattle.std.specs.Prelude.{◌≡◌, None, false, map, refl};
+ghost use Rattle.wkb_write.specs.Words.{Iso, multi_point, point, fault, encoding_of, IsSizeOf};
+ghost use Rattle.wkb_write.specs.Words.{WritesTo, point_measure};
 
 use crate::common::*;
 use crate::items::{Counted, Items};
-use crate::measure::{behind_header, check_count, words_size};
 use crate::point::PointKind;
 use wkb_geom::MultiPointTrait;
-use wkb_geom::header::MEMBER_HEADER;
 
 /// A multi point.
 pub struct MultiPointKind;
@@ -19,10 +16,18 @@ pub struct MultiPointKind;
 impl<M: MultiPointTrait> Items<M> for MultiPointKind {
     ghost geometry = { λ m. multi_point (M.dimensions m) (M.points m) };
 
-    ghost encodings = { λ order form m.
-        map (λ c. encoding order form (point (M.dimensions m) c)) (M.points m) };
+    ghost encodings = { λ options m.
+        map (λ c. encoding_of options (point (M.dimensions m) c)) (M.points m) };
 
-    ghost lawful = { λ g. M.lawful g };
+    ghost measures = { λ m. map (point_measure (M.dimensions m)) (M.points m) };
+
+    ghost ITEM_HEADER = { 5 };
+
+    const ITEM_HEADER: u8 = MEMBER_HEADER as u8;
+
+    ghost parts = { λ m. record { dimensions = refl; fault = refl; size = refl } };
+
+    ghost lawful = { λ m. M.lawful m };
 
     fn kind(geom: &M) -> WkbType {
         WkbType::MultiPoint(dimension_to_write(geom.dim()))
@@ -32,31 +37,20 @@ impl<M: MultiPointTrait> Items<M> for MultiPointKind {
         geom.num_points() as u128
     }
 
+    // All points are of one size, so that the compiler multiplies it in place of the loop.
     #[inline(always)]
-    fn measure(geom: &M) -> Result<usize, Fault> {
-        behind_header(geom.dim(), measure_points(geom))
+    fn measure_item(geom: &M, _i: usize) -> Measured {
+        Measured::Bytes(words_size(geom.dim(), 1))
     }
 
     fn put_item<S: Sink>(
         out: &mut Buffered<'_, S>,
         geom: &M,
         i: usize,
-        order: Endianness,
-        form: Form,
+        options: &WriteOptions,
     ) -> Put {
-        let point = geom.point(i).unwrap();
-        PointKind::put(out, &point, order, form)
+        PointKind::put(out, &geom.point(i).unwrap(), options)
     }
-}
-
-// A count and points: by their number, since all are of one size.
-fn measure_points<M: MultiPointTrait>(geom: &M) -> Result<usize, Fault>
-    ensures { Measures (count_fault (length (M.points geom.now)))
-        (4 + length (M.points geom.now) * (5 + 8 * coordinate_words (M.dimensions geom.now)))
-        result }
-{
-    let count = check_count(geom.num_points() as u128)?;
-    Ok(4 + MEMBER_HEADER * count as usize + words_size(geom.dim(), count))
 }
 
 /// The size of a MultiPoint in ISO codes.

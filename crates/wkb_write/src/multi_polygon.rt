@@ -1,16 +1,13 @@
 //! A multi polygon.
 
-ghost use Rattle.std.specs.Prelude.{◌≡◌, None, false, map};
-ghost use Rattle.wkb_write.specs.Words.{Iso, multi_polygon, polygon, fault, encoding, IsSizeOf};
-ghost use Rattle.wkb_write.specs.Words.{WritesTo, polygon_measure};
+ghost use Rattle.std.specs.Prelude.{◌≡◌, None, false, map, refl};
+ghost use Rattle.wkb_write.specs.Words.{Iso, multi_polygon, polygon, fault, encoding_of};
+ghost use Rattle.wkb_write.specs.Words.{IsSizeOf, WritesTo, polygon_measure};
 
 use crate::common::*;
-use crate::items::{Counted, Items, MeasuredItems, measure_items};
-use crate::measure::behind_header;
+use crate::items::{Counted, Items, measure_items};
 use crate::polygon::PolygonKind;
 use wkb_geom::MultiPolygonTrait;
-use wkb_geom::header::MEMBER_HEADER;
-use wkb_geom::rings::ring_count;
 
 /// A multi polygon.
 pub struct MultiPolygonKind;
@@ -19,10 +16,18 @@ pub struct MultiPolygonKind;
 impl<M: MultiPolygonTrait> Items<M> for MultiPolygonKind {
     ghost geometry = { λ m. multi_polygon (M.dimensions m) (M.polygons m) };
 
-    ghost encodings = { λ order form m.
-        map (λ c. encoding order form (polygon (M.dimensions m) c)) (M.polygons m) };
+    ghost encodings = { λ options m.
+        map (λ c. encoding_of options (polygon (M.dimensions m) c)) (M.polygons m) };
 
-    ghost lawful = { λ g. M.lawful g };
+    ghost measures = { λ m. map (polygon_measure (M.dimensions m)) (M.polygons m) };
+
+    ghost ITEM_HEADER = { 5 };
+
+    const ITEM_HEADER: u8 = MEMBER_HEADER as u8;
+
+    ghost parts = { λ m. record { dimensions = refl; fault = refl; size = refl } };
+
+    ghost lawful = { λ m. M.lawful m };
 
     fn kind(geom: &M) -> WkbType {
         WkbType::MultiPolygon(dimension_to_write(geom.dim()))
@@ -32,32 +37,17 @@ impl<M: MultiPolygonTrait> Items<M> for MultiPolygonKind {
         geom.num_polygons() as u128
     }
 
-    #[inline(always)]
-    fn measure(geom: &M) -> Result<usize, Fault> {
-        let count = geom.num_polygons() as u128;
-        let body = measure_items::<M, Self>(geom, count, MEMBER_HEADER as u8).result();
-        behind_header(geom.dim(), body)
+    fn measure_item(geom: &M, i: usize) -> Measured {
+        measure_items::<M::InnerPolygonType, PolygonKind>(geom.polygon(i).unwrap())
     }
 
     fn put_item<S: Sink>(
         out: &mut Buffered<'_, S>,
         geom: &M,
         i: usize,
-        order: Endianness,
-        form: Form,
+        options: &WriteOptions,
     ) -> Put {
-        let polygon = geom.polygon(i).unwrap();
-        Counted::<PolygonKind>::put(out, polygon, order, form)
-    }
-}
-
-#[tactic(auto, using(crate::proofs::Steps::item_laws))]
-impl<M: MultiPolygonTrait> MeasuredItems<M> for MultiPolygonKind {
-    ghost measures = { λ m. map (polygon_measure (M.dimensions m)) (M.polygons m) };
-
-    fn measure_item(geom: &M, i: usize) -> Result<usize, Fault> {
-        let polygon = geom.polygon(i).unwrap();
-        measure_items::<M::InnerPolygonType, PolygonKind>(polygon, ring_count(polygon), 0).result()
+        Counted::<PolygonKind>::put(out, geom.polygon(i).unwrap(), options)
     }
 }
 

@@ -3,14 +3,13 @@
 //! A *leaf* is a geometry of any kind but a collection. The recursion ends there.
 
 ghost use Rattle.std.specs.Prelude.{◌≡◌, None, false, map, MatchOption};
-ghost use Rattle.wkb_write.specs.Words.{Geometry, IsGeometry, collection, geometries, fault, inner};
-ghost use Rattle.wkb_write.specs.Words.{encoding, form_with_flags, Lays, IsAdded, IsLeaf};
+ghost use Rattle.wkb_write.specs.Words.{Geometry, IsGeometry, collection, geometries, fault};
+ghost use Rattle.wkb_write.specs.Words.{encoding_of, inner_options, Lays, IsAdded, IsLeaf};
 ghost use Rattle.wkb_write.specs.Words.{IsMeasured, result_of};
 
 use crate::common::*;
-use crate::measure::{Measured, check_count, check_dimensions};
+use crate::measure::{short_count, unsupported};
 use wkb_geom::Dimensions;
-use wkb_geom::header::MEMBER_HEADER;
 
 /// A kind whose geometries may be collections of more of them. The recursion knows no more of a geometry than this, so
 /// that it is proved over few types.
@@ -25,16 +24,16 @@ pub trait Nested<G: Dimensioned> {
             ≡ geometry geom.now) };
 
     /// The bytes of a leaf after its header, or its first fault.
-    fn measure_leaf(geom: &G) -> Result<usize, Fault>
+    fn measure_leaf(geom: &G) -> Measured
         requires { IsLeaf (geometry geom.now) }
-        ensures { IsMeasured (geometry geom.now) result };
+        ensures { IsMeasured (geometry geom.now) (result_of result) };
 
     /// Puts a leaf that has no fault.
-    fn put_leaf<S: Sink>(out: &mut Buffered<'_, S>, geom: &G, order: Endianness, form: Form) -> Put
+    fn put_leaf<S: Sink>(out: &mut Buffered<'_, S>, geom: &G, options: &WriteOptions) -> Put
         requires leaf { IsLeaf (geometry geom.now) }
         requires fault { fault (geometry geom.now) ≡ None }
         requires working { S.has_failed out.old.sink.now ≡ false }
-        ensures { Lays S.Sink out.old out.new (encoding order form (geometry geom.now)) result };
+        ensures { Lays S.Sink out.old out.new (encoding_of options.now (geometry geom.now)) result };
 
     // Every coordinate fits the dimension.
     ghost lawful: { (g : G) → IsGeometry (geometry g) };
@@ -49,14 +48,15 @@ impl<G: Dimensioned, K: Nested<G>> Writable<G> for Node<K> {
     ghost lawful = { λ g. K.lawful g };
 
     #[inline(always)]
-    fn measure(geom: &G) -> Result<usize, Fault> {
+    fn measure(geom: &G) -> Measured {
         measure_geometry::<G, K>(geom)
     }
 
-    fn put<S: Sink>(out: &mut Buffered<'_, S>, geom: &G, order: Endianness, form: Form) -> Put {
+    fn put<S: Sink>(out: &mut Buffered<'_, S>, geom: &G, options: &WriteOptions) -> Put {
+        let inner = options.inner();
         match K::members_of(geom) {
-            Some(members) => put_members::<S, G, K>(out, geom.dim(), members, order, form),
-            None => K::put_leaf(out, geom, order, form),
+            Some(members) => put_members::<S, G, K>(out, geom.dim(), members, options, &inner),
+            None => K::put_leaf(out, geom, options),
         }
     }
 }
@@ -72,14 +72,13 @@ pub fn add_members<G: Dimensioned, K: Nested<G>>(
     ensures { IsAdded before (collection dim (geometries (map K.geometry members.now)))
         (result_of result) }
 {
-    match check_dimensions(dim) {
-        Ok(()) => {}
-        Err(fault) => return Measured::from(fault),
+    if let Some(n) = unsupported(dim) {
+        return Measured::UnsupportedDimensions(n);
     }
-    let count = match check_count(members.len() as u128) {
-        Ok(count) => count as usize,
-        Err(fault) => return Measured::from(fault),
+    let Some(count) = short_count(members.len() as u128) else {
+        return Measured::Count;
     };
+    let count = count as usize;
     let mut total = before.saturating_add(4 + MEMBER_HEADER * count);
     for (i, member) in members.iter().enumerate() {
         if i + 1 == count {
@@ -87,10 +86,11 @@ pub fn add_members<G: Dimensioned, K: Nested<G>>(
                 return add_members::<G, K>(total, member.dim(), inner);
             }
         }
-        match measure_geometry::<G, K>(member) {
-            Ok(size) => total = total.saturating_add(size),
-            Err(fault) => return Measured::from(fault),
-        }
+        let size = match measure_geometry::<G, K>(member) {
+            Measured::Bytes(size) => size,
+            fault => return fault,
+        };
+        total = total.saturating_add(size);
     }
     Measured::Bytes(total)
 }
@@ -99,61 +99,38 @@ pub fn add_members<G: Dimensioned, K: Nested<G>>(
 // header none of them fits.
 #[cycle(measure)]
 #[inline(always)]
-pub fn measure_geometry<G: Dimensioned, K: Nested<G>>(geom: &G) -> Result<usize, Fault>
-    ensures measured { IsMeasured (K.geometry geom.now) result }
+pub fn measure_geometry<G: Dimensioned, K: Nested<G>>(geom: &G) -> Measured
+    ensures measured { IsMeasured (K.geometry geom.now) (result_of result) }
 {
     match K::members_of(geom) {
-        Some(members) => add_members::<G, K>(0, geom.dim(), members).result(),
+        Some(members) => add_members::<G, K>(0, geom.dim(), members),
         None => K::measure_leaf(geom),
     }
 }
 
-// Whether the codes are EWKB's: all that a member keeps of the form, and it goes in a register.
-#[inline(always)]
-fn has_flags(form: Form) -> bool
-    ensures { inner form ≡ form_with_flags result }
-{
-    match form {
-        Form::Iso => false,
-        Form::Ewkb { srid: _ } => true,
-    }
-}
-
-// The form of a member.
-#[inline(always)]
-fn member_form(has_flags: bool) -> Form
-    ensures { result ≡ form_with_flags has_flags }
-{
-    if has_flags {
-        Form::Ewkb { srid: None }
-    } else {
-        Form::Iso
-    }
-}
-
-// Puts a member: a geometry without an SRID. Not inlined, so that each level hands on the form in a register.
+// Puts a member, under the options of members, which are those of its own members too. Its header is put under a copy
+// of them, which the compiler knows to have no SRID.
 #[cycle(put)]
 #[inline(never)]
 fn put_member<S: Sink, G: Dimensioned, K: Nested<G>>(
     out: &mut Buffered<'_, S>,
     geom: &G,
-    order: Endianness,
-    has_flags: bool,
+    inner: &WriteOptions,
 ) -> Put
+    requires inner { inner.now ≡ inner_options inner.now }
     requires fault { fault (K.geometry geom.now) ≡ None }
     requires working { S.has_failed out.old.sink.now ≡ false }
-    ensures { Lays S.Sink out.old out.new
-        (encoding order (form_with_flags has_flags) (K.geometry geom.now)) result }
+    ensures { Lays S.Sink out.old out.new (encoding_of inner.now (K.geometry geom.now)) result }
 {
-    let form = member_form(has_flags);
+    let own = inner.inner();
     match K::members_of(geom) {
-        Some(members) => put_members::<S, G, K>(out, geom.dim(), members, order, form),
-        None => K::put_leaf(out, geom, order, form),
+        Some(members) => put_members::<S, G, K>(out, geom.dim(), members, &own, inner),
+        None => K::put_leaf(out, geom, inner),
     }
 }
 
-// Puts a collection's header, and its members after their count. The last one is put by the last call, which the
-// compiler makes a jump.
+// Puts a collection's header, and its members after their count, under the options of members. The last one is put by
+// the last call, which the compiler makes a jump.
 #[cycle(put)]
 #[inline(always)]
 #[tactic(auto, using(crate::proofs::Steps::node_laws))]
@@ -161,23 +138,24 @@ pub fn put_members<S: Sink, G: Dimensioned, K: Nested<G>>(
     out: &mut Buffered<'_, S>,
     dim: Dimensions,
     members: &[G],
-    order: Endianness,
-    form: Form,
+    options: &WriteOptions,
+    inner: &WriteOptions,
 ) -> Put
+    requires inner { inner.now ≡ inner_options options.now }
     requires fault { fault (collection dim (geometries (map K.geometry members.now))) ≡ None }
     requires working { S.has_failed out.old.sink.now ≡ false }
     ensures { Lays S.Sink out.old out.new
-        (encoding order form (collection dim (geometries (map K.geometry members.now)))) result }
+        (encoding_of options.now (collection dim (geometries (map K.geometry members.now)))) result }
 {
     let count = members.len();
     let kind = WkbType::GeometryCollection(dimension_to_write(dim));
-    out.put_head(order, form, kind, count as u32)?;
+    out.put_head(options, kind, count as u32)?;
     if count == 0 {
         return Ok(());
     }
     let last = count - 1;
     for i in 0..last {
-        put_member::<S, G, K>(out, &members[i], order, has_flags(form))?;
+        put_member::<S, G, K>(out, &members[i], inner)?;
     }
-    put_member::<S, G, K>(out, &members[last], order, has_flags(form))
+    put_member::<S, G, K>(out, &members[last], inner)
 }

@@ -2,40 +2,41 @@
 
 ghost use Rattle.std.specs.Prelude.{◌≡◌, false, ℕ, List, Option};
 ghost use Rattle.wkb_write.specs.Words.{Iso, point, IsPoint, IsMeasured, IsSizeOf, WritesTo};
+ghost use Rattle.wkb_write.specs.Words.{result_of};
 
 use crate::common::*;
-use crate::measure::{behind_header, size_of, words_size};
-use wkb_geom::header::LONGEST_HEADER;
+use crate::measure::size_of;
 use wkb_geom::{Dimensions, PointTrait};
-use wkb_sink::block::{COORDINATE, lay_empty, lay_header};
+use wkb_sink::block::lay_empty;
 
 /// A point, empty or not.
 pub struct PointKind;
 
 /// What is measured of a point of these dimensions, whatever its words.
 #[inline(always)]
-fn measure_point(dim: Dimensions) -> Result<usize, Fault>
-    ensures { (c : Option (List ℕ)) → IsMeasured (point dim c) result }
+fn measure_point(dim: Dimensions) -> Measured
+    ensures { (c : Option (List ℕ)) → IsMeasured (point dim c) (result_of result) }
 {
-    behind_header(dim, Ok(words_size(dim, 1)))
+    behind_header(dim, Measured::Bytes(words_size(dim, 1)))
 }
 
 #[tactic(auto, using(crate::proofs::Steps::step_laws))]
 impl<P: PointTrait> Writable<P> for PointKind {
     ghost geometry = { λ p. point (P.dimensions p) (P.coordinate p) };
 
-    ghost lawful = { λ g. P.lawful g };
+    ghost lawful = { λ p. P.lawful p };
 
     #[inline(always)]
-    fn measure(geom: &P) -> Result<usize, Fault> {
+    fn measure(geom: &P) -> Measured {
         measure_point(geom.dim())
     }
 
     #[inline(always)]
-    fn put<S: Sink>(out: &mut Buffered<'_, S>, geom: &P, order: Endianness, form: Form) -> Put {
+    fn put<S: Sink>(out: &mut Buffered<'_, S>, geom: &P, options: &WriteOptions) -> Put {
+        let order = options.endianness;
         let dim = dimension_to_write(geom.dim());
         out.make_room(LONGEST_HEADER + COORDINATE)?;
-        lay_header(&mut out.block, order, form, WkbType::Point(dim));
+        lay_header(&mut out.block, options, WkbType::Point(dim));
         match geom.coord() {
             Some(coord) => out.block.lay_coordinate(&coord, order),
             None => lay_empty(&mut out.block, order, dim),

@@ -1,13 +1,12 @@
 //! A polygon: its rings, the exterior first.
 
-ghost use Rattle.std.specs.Prelude.{◌≡◌, None, false, map};
+ghost use Rattle.std.specs.Prelude.{◌≡◌, None, false, map, refl};
 ghost use Rattle.wkb_write.specs.Words.{Iso, polygon, coordinates_encoding, fault, IsSizeOf};
 ghost use Rattle.wkb_write.specs.Words.{WritesTo, ring_measure};
 
 use crate::common::*;
-use crate::items::{Counted, Items, MeasuredItems, measure_items};
+use crate::items::{Counted, Items};
 use crate::line_string::{measure_coordinates, put_coordinates};
-use crate::measure::behind_header;
 use wkb_geom::rings::{nth_ring, ring_count};
 use wkb_geom::{LineStringTrait, PolygonTrait};
 
@@ -18,9 +17,17 @@ pub struct PolygonKind;
 impl<P: PolygonTrait> Items<P> for PolygonKind {
     ghost geometry = { λ p. polygon (P.dimensions p) (P.rings p) };
 
-    ghost encodings = { λ order form p. map (coordinates_encoding order) (P.rings p) };
+    ghost encodings = { λ options p. map (coordinates_encoding options.endianness) (P.rings p) };
 
-    ghost lawful = { λ g. P.lawful g };
+    ghost measures = { λ p. map (ring_measure (P.dimensions p)) (P.rings p) };
+
+    ghost ITEM_HEADER = { 0 };
+
+    const ITEM_HEADER: u8 = 0;
+
+    ghost parts = { λ p. record { dimensions = refl; fault = refl; size = refl } };
+
+    ghost lawful = { λ p. P.lawful p };
 
     fn kind(geom: &P) -> WkbType {
         WkbType::Polygon(dimension_to_write(geom.dim()))
@@ -30,31 +37,19 @@ impl<P: PolygonTrait> Items<P> for PolygonKind {
         ring_count(geom)
     }
 
-    #[inline(always)]
-    fn measure(geom: &P) -> Result<usize, Fault> {
-        let body = measure_items::<P, Self>(geom, ring_count(geom), 0).result();
-        behind_header(geom.dim(), body)
+    fn measure_item(geom: &P, i: usize) -> Measured {
+        measure_coordinates(&nth_ring(geom, i))
     }
 
     fn put_item<S: Sink>(
         out: &mut Buffered<'_, S>,
         geom: &P,
         i: usize,
-        order: Endianness,
-        _form: Form,
+        options: &WriteOptions,
     ) -> Put {
         let ring = nth_ring(geom, i);
-        out.put_count(order, ring.num_coords() as u32)?;
-        put_coordinates(out, &ring, order)
-    }
-}
-
-#[tactic(auto, using(crate::proofs::Steps::item_laws))]
-impl<P: PolygonTrait> MeasuredItems<P> for PolygonKind {
-    ghost measures = { λ p. map (ring_measure (P.dimensions p)) (P.rings p) };
-
-    fn measure_item(geom: &P, i: usize) -> Result<usize, Fault> {
-        measure_coordinates(&nth_ring(geom, i))
+        out.put_count(options.endianness, ring.num_coords() as u32)?;
+        put_coordinates(out, &ring, options.endianness)
     }
 }
 

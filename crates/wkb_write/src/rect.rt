@@ -4,11 +4,8 @@ ghost use Rattle.std.specs.Prelude.{◌≡◌, false};
 ghost use Rattle.wkb_write.specs.Words.{Iso, rectangle, IsSizeOf, WritesTo};
 
 use crate::common::*;
-use crate::measure::behind_header;
-use wkb_geom::header::LONGEST_HEADER;
-use wkb_geom::words::COUNT;
 use wkb_geom::{CoordTrait, Dimension, RectTrait};
-use wkb_sink::block::{CORNER, lay_corner, lay_count, lay_header};
+use wkb_sink::block::{CORNER, lay_corner};
 
 /// A rectangle, which is put as a polygon of one ring of x and y alone.
 pub struct RectKind;
@@ -17,18 +14,19 @@ pub struct RectKind;
 impl<R: RectTrait> Writable<R> for RectKind {
     ghost geometry = { λ r. rectangle (R.dimensions r) (R.min_words r) (R.max_words r) };
 
-    ghost lawful = { λ g. R.lawful g };
+    ghost lawful = { λ r. R.lawful r };
 
     #[inline(always)]
-    fn measure(geom: &R) -> Result<usize, Fault> {
-        behind_header(geom.dim(), Ok(88))
+    fn measure(geom: &R) -> Measured {
+        behind_header(geom.dim(), Measured::Bytes(88))
     }
 
-    fn put<S: Sink>(out: &mut Buffered<'_, S>, geom: &R, order: Endianness, form: Form) -> Put {
+    fn put<S: Sink>(out: &mut Buffered<'_, S>, geom: &R, options: &WriteOptions) -> Put {
+        let order = options.endianness;
         let (x0, y0) = geom.min().x_y();
         let (x1, y1) = geom.max().x_y();
         out.make_room(LONGEST_HEADER + 2 * COUNT + 5 * CORNER)?;
-        lay_header(&mut out.block, order, form, WkbType::Polygon(Dimension::Xy));
+        lay_header(&mut out.block, options, WkbType::Polygon(Dimension::Xy));
         lay_count(&mut out.block, order, 1);
         lay_count(&mut out.block, order, 5);
         lay_corner(&mut out.block, order, x0, y0);

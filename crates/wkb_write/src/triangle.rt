@@ -4,11 +4,7 @@ ghost use Rattle.std.specs.Prelude.{◌≡◌, false};
 ghost use Rattle.wkb_write.specs.Words.{Iso, triangle, IsSizeOf, WritesTo};
 
 use crate::common::*;
-use crate::measure::{behind_header, words_size};
 use wkb_geom::TriangleTrait;
-use wkb_geom::header::LONGEST_HEADER;
-use wkb_geom::words::COUNT;
-use wkb_sink::block::{COORDINATE, lay_count, lay_header};
 
 /// A triangle, which is put as a polygon of one ring, which ends as it begins.
 pub struct TriangleKind;
@@ -18,18 +14,19 @@ impl<T: TriangleTrait> Writable<T> for TriangleKind {
     ghost geometry = { λ t. triangle (T.dimensions t) (T.first_words t)
         (T.second_words t) (T.third_words t) };
 
-    ghost lawful = { λ g. T.lawful g };
+    ghost lawful = { λ t. T.lawful t };
 
     #[inline(always)]
-    fn measure(geom: &T) -> Result<usize, Fault> {
-        behind_header(geom.dim(), Ok(8 + words_size(geom.dim(), 4)))
+    fn measure(geom: &T) -> Measured {
+        behind_header(geom.dim(), Measured::Bytes(8 + words_size(geom.dim(), 4)))
     }
 
-    fn put<S: Sink>(out: &mut Buffered<'_, S>, geom: &T, order: Endianness, form: Form) -> Put {
+    fn put<S: Sink>(out: &mut Buffered<'_, S>, geom: &T, options: &WriteOptions) -> Put {
+        let order = options.endianness;
         let kind = WkbType::Polygon(dimension_to_write(geom.dim()));
         let first = geom.first();
         out.make_room(LONGEST_HEADER + 2 * COUNT + 4 * COORDINATE)?;
-        lay_header(&mut out.block, order, form, kind);
+        lay_header(&mut out.block, options, kind);
         lay_count(&mut out.block, order, 1);
         lay_count(&mut out.block, order, 4);
         out.block.lay_coordinate(&first, order);

@@ -1,38 +1,20 @@
 //! What each kind says of itself, and what comes of it: a size, a writer, and an encoding in a vector.
 
-ghost use Rattle.std.specs.Prelude.{◌≡◌, ◌⊎◌, ◌≤◌, false, length};
+ghost use Rattle.std.specs.Prelude.{◌≡◌, ◌⊎◌, ◌≤◌, ◌<◌, ◌^◌, false, length};
 ghost use Rattle.std.specs.Prelude.{None, Ok, IfOk, IfErr, IsErrAnd, MatchResult};
-ghost use Rattle.wkb_write.specs.Words.{LittleEndian, Iso, Geometry, IsGeometry, fault, encoding};
-ghost use Rattle.wkb_write.specs.Words.{encoding_of, refusal_of, IsMeasured, IsSizeOf, IsMemory};
-ghost use Rattle.wkb_write.specs.Words.{Lays, PutsTo, failure_of, TellsFailure, LEAST, WritesTo};
-ghost use Rattle.wkb_write.specs.Words.{Reports};
+ghost use Rattle.wkb_write.specs.Words.{Geometry, IsGeometry, fault, encoding_of, refusal_of};
+ghost use Rattle.wkb_write.specs.Words.{IsMeasured, IsSizeOf, IsMemory, Reports, WritesTo};
+ghost use Rattle.wkb_write.specs.Words.{Lays, PutsTo, failure_of, TellsFailure, LEAST, result_of};
 
-use crate::measure::{refuse, size_of, whole_size};
-use crate::{Sink, VecSink};
+use crate::measure::{Measured, length_of_header, refuse, size_of, whole_size};
+use crate::{Sink, VecSink, WriteOptions};
 use std::alloc::{AllocError, Global};
 use std::io;
 use std::io::ErrorKind;
-use wkb_geom::{Endianness, Fault, Form, WkbError, WkbResult};
+use wkb_geom::{Form, WkbError, WkbResult};
 use wkb_sink::block::{Block, LEAST};
+use wkb_sink::buffered::put_all;
 use wkb_sink::{Buffered, Stopped};
-
-/// The byte order and the form of what is written: by default little endian, in ISO codes.
-#[derive(Debug, Clone, Copy)]
-pub struct WriteOptions {
-    pub endianness: Endianness,
-    pub form: Form,
-}
-
-impl Default for WriteOptions {
-    ghost is_default = { λ o. (o.endianness ≡ LittleEndian) × (o.form ≡ Iso) };
-
-    fn default() -> WriteOptions {
-        WriteOptions {
-            endianness: Endianness::default(),
-            form: Form::default(),
-        }
-    }
-}
 
 /// What comes of putting: nothing, or the sink stopped.
 pub type Put = Result<(), Stopped>;
@@ -43,14 +25,14 @@ pub trait Writable<G> {
     ghost geometry: { G → Geometry };
 
     /// The bytes after the header, or the first fault.
-    fn measure(geom: &G) -> Result<usize, Fault>
-        ensures { IsMeasured (geometry geom.now) result };
+    fn measure(geom: &G) -> Measured
+        ensures { IsMeasured (geometry geom.now) (result_of result) };
 
     /// Puts a geometry that has no fault.
-    fn put<S: Sink>(out: &mut Buffered<'_, S>, geom: &G, order: Endianness, form: Form) -> Put
+    fn put<S: Sink>(out: &mut Buffered<'_, S>, geom: &G, options: &WriteOptions) -> Put
         requires fault { fault (geometry geom.now) ≡ None }
         requires working { S.has_failed out.old.sink.now ≡ false }
-        ensures { Lays S.Sink out.old out.new (encoding order form (geometry geom.now)) result };
+        ensures { Lays S.Sink out.old out.new (encoding_of options.now (geometry geom.now)) result };
 
     // Every coordinate fits the dimension.
     ghost lawful: { (g : G) → IsGeometry (geometry g) };
@@ -84,7 +66,7 @@ fn put_through<S: Sink, G, K: Writable<G>>(
         block,
         error,
     };
-    let put = match K::put(&mut out, geom, options.endianness, options.form) {
+    let put = match K::put(&mut out, geom, options) {
         Ok(()) => out.flush(),
         Err(Stopped) => Err(Stopped),
     };
@@ -187,4 +169,35 @@ pub fn vec_as<G, K: Writable<G>>(
         // This sink fails only for want of memory.
         Err(_) => Err(WkbError::from(AllocError)),
     }
+}
+
+// The length of what stands in memory fits `usize`: so it is never refused for its size.
+#[inline(always)]
+fn length(bytes: &[u8]) -> usize
+    ensures { result ≡ length bytes.now }
+{
+    bytes.len()
+}
+
+/// Writes an encoding that stands in memory.
+#[inline(always)]
+pub fn write_lent<S: Sink>(writer: &mut S, bytes: &[u8], options: &WriteOptions) -> WkbResult<()>
+    requires working { S.has_failed writer.old ≡ false }
+    ensures { (g : Geometry) → IsGeometry g → fault g ≡ None → bytes.now ≡ encoding_of options.now g
+        → WritesTo S.Sink writer.old writer.new options.now g result }
+{
+    length_of_header(options.form);
+    length(bytes);
+    wkb_result(put_all(writer, bytes))
+}
+
+/// An encoding that stands in memory, in a vector.
+#[inline(always)]
+pub fn vec_lent(alloc: Global, bytes: &[u8]) -> WkbResult<Vec<u8>>
+    ensures ok { IfOk result (λ out. out.items ≡ bytes.now) }
+    ensures err { IfErr result IsMemory }
+    ensures fits { length bytes.now < 2 ^ 64 }
+{
+    length(bytes);
+    Ok(Vec::from_slice(alloc, bytes)?)
 }

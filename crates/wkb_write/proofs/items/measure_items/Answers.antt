@@ -1,33 +1,41 @@
-use Rattle.std.proofs.Common.{◌∙◌, ◌+◌, ◌*◌, sym, subst, arith}
-use Rattle.wkb_write.proofs.Sums.{SoFar, parts_start, parts_step, count_reports, part_reports, parts_all}
+use Rattle.std.proofs.Common.{◌∙◌, ◌+◌, ◌*◌, ◌≡◌, ◌<◌, length, Err, refl, subst, arith}
+use Rattle.wkb_write.specs.Measures.{capped}
+use Rattle.wkb_write.proofs.Sums.{SoFar, parts_begin, parts_step, part_fits, headers_fit, count_reports}
+use Rattle.wkb_write.proofs.Sums.{part_refused, parts_all}
 use Rattle.wkb_write.proofs.items.measure_items.Goals as goal
 
-pub returns-in-Err : goal.returns-in-Err
-returns-in-Err g c = count_reports _ _ _ _ _ c.requires c.from.ensures c.in-Err.ensures
+pub returns-in_default : goal.returns-in_default
+returns-in_default g c = count_reports _ 0 _ _ (Err _) c.count.ensures.measured refl c.in_default.ensures
 
 pub loop-i-init : goal.loop-i-init
-loop-i-init g c =
-    parts_start (g.I.MeasuredItems.measures c.args.geom.now) c.args.header c.in-Ok.count c.ranges.header.fits
-    (rw c.in-Ok.ensures.1 c.in-Ok.ensures.0)
+loop-i-init g c = record {
+  so_far = rw c.ITEM_HEADER.ensures (parts_begin _ _);
+  fits = headers_fit _ _ c.ITEM_HEADER.type_inv (rw c.in-Some.ensures.1 c.in-Some.ensures.0);
+}
 
-pub returns-in-Err-measure_item : goal.returns-in-Err-measure_item
-returns-in-Err-measure_item g c =
-    let is = c.in-Ok.ensures.1 ∙ c.requires in
-    part_reports _ _ _ _ _ _ _ _ c.requires c.in-Ok.ensures.0
-    (omega (arith, is, c.loop-i-test.true)) c.in-Err-measure_item.ensures c.loop-i.invariant
-    c.from-in-Err-measure_item.ensures
+pub returns-in_default-measure_item : goal.returns-in_default-measure_item
+returns-in_default-measure_item g c =
+    let is = c.in-Some.ensures.1 ∙ c.count.ensures.measured in
+    part_refused _ _ _ _ _ _ _ is (rw c.in-Some.ensures.1 c.in-Some.ensures.0) (omega (arith, is, c.loop-i-test.true))
+    c.measure_item.ensures c.loop-i.invariant.so_far c.in_default-measure_item.not-Bytes
 
 pub loop-i-preserved : goal.loop-i-preserved
 loop-i-preserved g c =
-    let is = c.in-Ok.ensures.1 ∙ c.requires in
-    let parts = g.I.MeasuredItems.measures c.args.geom.now in
-    let first = 4 + c.args.header * c.in-Ok.count in
-    subst (SoFar parts first (c.loop-i.i + 1)) (sym c.saturating_add-total.ensures)
-    (parts_step parts first c.loop-i.i c.loop-i.total _
-    (omega (arith, is, c.loop-i-test.true)) c.in-Ok-measure_item.ensures c.loop-i.invariant)
+    let is = c.in-Some.ensures.1 ∙ c.count.ensures.measured in
+    let items = g.I.Items.measures c.args.geom.now in
+    let first = 4 + g.I.Items.ITEM_HEADER * c.in-Some.count in
+    let within : c.loop-i.i < length items = omega (arith, is, c.loop-i-test.true) in
+    let sum : capped (capped c.loop-i.total + c.in-Bytes.size) ≡ capped (c.loop-i.total + c.in-Bytes.size) =
+    omega arith in
+    record {
+      so_far = subst (SoFar items first (c.loop-i.i + 1)) sum
+          (parts_step items first c.loop-i.i _ _ within c.in-Bytes.ensures c.loop-i.invariant.so_far);
+      fits = omega (arith, c.loop-i.invariant.fits, part_fits items c.loop-i.i _ within c.in-Bytes.ensures);
+    }
 
 pub returns : goal.returns
 returns g c =
-    let is = c.in-Ok.ensures.1 ∙ c.requires in
-    parts_all _ _ _ _ _ is (rw c.in-Ok.ensures.1 c.in-Ok.ensures.0)
-    (omega (arith, is, c.loop-i-test.false)) c.loop-i.invariant
+    let is = c.in-Some.ensures.1 ∙ c.count.ensures.measured in
+    let all = parts_all _ _ _ _ _ is (rw c.in-Some.ensures.1 c.in-Some.ensures.0)
+    (omega (arith, is, c.loop-i-test.false)) c.loop-i.invariant.so_far in
+    (all.0, omega (arith, c.min.ensures, all.1))

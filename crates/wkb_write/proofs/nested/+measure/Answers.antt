@@ -1,7 +1,6 @@
 use Rattle.std.proofs.Common.{refl, map, arith}
 use Rattle.wkb_geom.specs.Geometries.{collection, geometries}
 use Rattle.wkb_write.specs.Measures.{result_of, IsAdded}
-use Rattle.wkb_write.proofs.Faults.{measured_err}
 use Rattle.wkb_write.proofs.Members.{added_as, member_step, member_refused, member_last, members_whole}
 use Rattle.wkb_write.proofs.Sums.{parts_begin, count_reports}
 use Rattle.wkb_write.proofs.Whole.{added_alone, collected, whole_unsupported, members_length}
@@ -13,22 +12,19 @@ measure_geometry-add_members-requires g t c κs within = (members_fall _ _ _ t c
 
 pub measure_geometry-returns-in-Some : goal.measure_geometry-returns-in-Some
 measure_geometry-returns-in-Some g t c =
-    record {
-      measured = added_alone _ _ _ _ (rw c.dim.ensures at c.add_members.ensures) c.result.ensures
-          c.in-Some.ensures;
-    }
+    record { measured = added_alone _ _ _ _ (rw c.dim.ensures at c.add_members.ensures) refl c.in-Some.ensures }
 
-pub add_members-returns-in-Err : goal.add_members-returns-in-Err
+pub add_members-returns-in-Some : goal.add_members-returns-in-Some
 unfolding IsAdded
-add_members-returns-in-Err g t c =
+add_members-returns-in-Some g t c =
     let whole = collection c.args.dim (geometries (map g.K.Nested.geometry c.args.members.now)) in
-    measured_err _ _ _ _ c.from.ensures (whole_unsupported whole _ _ refl c.in-Err.ensures)
+    whole_unsupported whole _ _ refl c.in-Some.ensures
 
-pub add_members-returns-in-Err-check_count : goal.add_members-returns-in-Err-check_count
-add_members-returns-in-Err-check_count g t c =
-    collected _ _ _ _ c.in-Ok.ensures
-    (count_reports _ _ _ _ _ (members_length g.K.Nested.geometry c.args.members.now)
-    c.from-in-Err-check_count.ensures c.in-Err-check_count.ensures)
+pub add_members-returns-in_default-short_count : goal.add_members-returns-in_default-short_count
+add_members-returns-in_default-short_count g t c =
+    collected _ _ _ _ c.in_default.ensures
+    (count_reports _ 0 _ _ _ (members_length g.K.Nested.geometry c.args.members.now) refl
+    c.in_default-short_count.ensures)
 
 pub add_members-loop-i-init : goal.add_members-loop-i-init
 add_members-loop-i-init g t c = rw c.saturating_add-total.ensures (parts_begin _ _)
@@ -40,31 +36,31 @@ add_members-measure_geometry-requires g t c κs within = (
   within,
 )
 
-pub add_members-returns-in-Err-measure_geometry : goal.add_members-returns-in-Err-measure_geometry
-add_members-returns-in-Err-measure_geometry g t c =
-    member_refused g.K.Nested.geometry _ _ _ c.in-Ok.ensures c.in-Ok-check_count.ensures c.loop-i.invariant
-    _ _ c.loop-i-test.true c.index-members-i.is c.in-Err-measure_geometry.ensures.measured
-    c.from-in-Err-measure_geometry.ensures
+pub add_members-returns-in_default-measure_geometry : goal.add_members-returns-in_default-measure_geometry
+add_members-returns-in_default-measure_geometry g t c =
+    member_refused g.K.Nested.geometry _ _ _ c.in_default.ensures c.in-Some-short_count.ensures c.loop-i.invariant
+    _ c.loop-i-test.true c.index-members-i.is c.measure_geometry.ensures.measured
+    c.in_default-measure_geometry.not-Bytes
 
 pub add_members-loop-i-preserved : goal.add_members-loop-i-preserved
 add_members-loop-i-preserved g t c =
-    member_step g.K.Nested.geometry _ _ c.loop-i-test.true c.index-members-i.is
-    c.in-Ok-measure_geometry.ensures.measured c.saturating_add-total-in-Ok-measure_geometry.ensures c.loop-i.invariant
+    member_step g.K.Nested.geometry _ _ c.loop-i-test.true c.index-members-i.is c.in-Bytes.ensures.measured
+    c.saturating_add-total-in-loop-i.ensures c.loop-i.invariant
 
 pub add_members-add_members-requires : goal.add_members-add_members-requires
 add_members-add_members-requires g t c κs within =
     let falls = member_falls g.K.Nested.geometry c.args.members.now c.loop-i.i _ t c.loop-i-test.true
     c.index-members-i.is c.decreases in
-    (omega (arith, members_fall _ _ _ _ c.in-Some.ensures refl, falls), within)
+    (omega (arith, members_fall _ _ _ _ c.in-Some-members_of.ensures refl, falls), within)
 
 -- the last member is a collection
-pub add_members-returns-in-Some : goal.add_members-returns-in-Some
-add_members-returns-in-Some g t c =
-    member_last g.K.Nested.geometry _ _ _ c.in-Ok.ensures c.in-Ok-check_count.ensures c.loop-i.invariant
+pub add_members-returns-in-Some-members_of : goal.add_members-returns-in-Some-members_of
+add_members-returns-in-Some-members_of g t c =
+    member_last g.K.Nested.geometry _ _ _ c.in_default.ensures c.in-Some-short_count.ensures c.loop-i.invariant
     (result_of c.add_members.result) c.loop-i-test.true c.if-i-count.true c.index-members-i.is
-    (added_as _ _ c.dim.ensures c.in-Some.ensures c.add_members.ensures)
+    (added_as _ _ c.dim.ensures c.in-Some-members_of.ensures c.add_members.ensures)
 
 pub add_members-returns : goal.add_members-returns
 add_members-returns g t c =
-    members_whole g.K.Nested.geometry _ _ _ c.in-Ok.ensures c.in-Ok-check_count.ensures c.loop-i.invariant
+    members_whole g.K.Nested.geometry _ _ _ c.in_default.ensures c.in-Some-short_count.ensures c.loop-i.invariant
     c.loop-i-test.false

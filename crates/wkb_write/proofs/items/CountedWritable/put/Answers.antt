@@ -1,32 +1,34 @@
-use Rattle.wkb_write.proofs.Prelude.{arith, slice_get-get_or, inner}
+use Rattle.wkb_write.proofs.Prelude.{arith, slice_get-get_or}
+use Rattle.wkb_sink.specs.Options.{inner_options}
 use Rattle.wkb_sink.proofs.Laid.{exits}
 use Rattle.wkb_write.proofs.Loops.{head_cut, none_laid, next_laid, all_laid, next_cut}
 use Rattle.wkb_write.proofs.items.CountedWritable.put.Goals as goal
 
 pub returns-in_err-put_head : goal.returns-in_err-put_head
 returns-in_err-put_head g c =
+    let inner = inner_options c.args.options.now in
     exits _ _ c.from_residual.ensures.1
-    (head_cut _ _ _ _ (c.kind-kind.ensures c.args.order c.args.form)
-    (c.count-count.ensures.counted c.args.order (inner c.args.form)) c.in_err-put_head.ensures)
+    (head_cut _ _ _ _ (c.kind.ensures c.args.options.now) (c.count-count.ensures.counted inner)
+    c.in_err-put_head.ensures)
 
 pub loop-i-init : goal.loop-i-init
 loop-i-init g c =
-    none_laid _ _ (c.kind-kind.ensures c.args.order c.args.form)
-    (c.count-count.ensures.counted c.args.order (inner c.args.form)) c.in_ok-put_head.ensures
+    let inner = inner_options c.args.options.now in
+    none_laid _ _ (c.kind.ensures c.args.options.now) (c.count-count.ensures.counted inner) c.in_ok-put_head.ensures
 
 pub loop-i-preserved : goal.loop-i-preserved
 loop-i-preserved g c =
-    let item = slice_get-get_or _ c.loop-i.i _
-    (omega (arith, c.count-count.ensures.counted c.args.order (inner c.args.form))) in
-    next_laid c.loop-i.invariant item (rw c.inner.ensures at c.in_ok-put_item.ensures)
+    let inner = inner_options c.args.options.now in
+    let item = slice_get-get_or _ c.loop-i.i _ (omega (arith, c.count-count.ensures.counted inner)) in
+    next_laid c.loop-i.invariant item (rw c.inner-inner.ensures at c.in_ok-put_item.ensures)
 
 pub returns-in_err-put_item : goal.returns-in_err-put_item
 returns-in_err-put_item g c =
-    let item = slice_get-get_or _ c.loop-i.i _
-    (omega (arith, c.count-count.ensures.counted c.args.order (inner c.args.form))) in
+    let inner = inner_options c.args.options.now in
+    let item = slice_get-get_or _ c.loop-i.i _ (omega (arith, c.count-count.ensures.counted inner)) in
     exits _ _ c.from_residual-in_err-put_item.ensures.1
-    (next_cut c.loop-i.invariant item (rw c.inner.ensures at c.in_err-put_item.ensures))
+    (next_cut c.loop-i.invariant item (rw c.inner-inner.ensures at c.in_err-put_item.ensures))
 
 pub returns : goal.returns
 returns g c =
-    all_laid c.loop-i.invariant (omega (arith, c.count-count.ensures.counted c.args.order (inner c.args.form)))
+    all_laid c.loop-i.invariant (omega (arith, c.count-count.ensures.counted (inner_options c.args.options.now)))

@@ -1,7 +1,7 @@
 use Rattle.wkb_write.proofs.Prelude.{arith, line_string_encoding, coordinates_encoding}
 use Rattle.wkb_sink.proofs.Laid.{exits, cut_early, laid_here}
 use Rattle.wkb_sink.proofs.Behind.{behind, last}
-use Rattle.wkb_write.proofs.Supported.{supported_at_least, supported_at_most}
+use Rattle.wkb_write.proofs.Supported.{has_room}
 use Rattle.wkb_write.proofs.line.LineKindWritable.put.Goals as goal
 
 pub returns : goal.returns
@@ -11,23 +11,13 @@ returns g c =
     (laid_here c.in_ok-make_room.ensures.laid (behind c.lay_header.ensures.bytes
     (behind c.lay_count.ensures.bytes (behind c.lay_coordinate.ensures.bytes (last c.lay_coordinate-2.ensures.bytes)))))
 
-pub lay_coordinate-requires-clause-least : goal.lay_coordinate-requires-clause-least
-lay_coordinate-requires-clause-least g c = rw c.start.ensures.dimensions (supported_at_least _ c.requires.fault)
+pub lay_coordinate-requires : goal.lay_coordinate-requires
+lay_coordinate-requires g c =
+    has_room c.start.ensures.dimensions c.requires.fault (omega (arith, c.in_ok-make_room.ensures.room))
 
-pub lay_coordinate-requires-clause-most : goal.lay_coordinate-requires-clause-most
-lay_coordinate-requires-clause-most g c = rw c.start.ensures.dimensions (supported_at_most _ c.requires.fault)
-
-pub lay_coordinate-requires-clause-room : goal.lay_coordinate-requires-clause-room
-lay_coordinate-requires-clause-room g c = omega (arith, c.in_ok-make_room.ensures.room)
-
-pub lay_coordinate-requires-2-clause-least : goal.lay_coordinate-requires-2-clause-least
-lay_coordinate-requires-2-clause-least g c = rw c.end.ensures.dimensions (supported_at_least _ c.requires.fault)
-
-pub lay_coordinate-requires-2-clause-most : goal.lay_coordinate-requires-2-clause-most
-lay_coordinate-requires-2-clause-most g c = rw c.end.ensures.dimensions (supported_at_most _ c.requires.fault)
-
-pub lay_coordinate-requires-2-clause-room : goal.lay_coordinate-requires-2-clause-room
-lay_coordinate-requires-2-clause-room g c = omega (arith, c.in_ok-make_room.ensures.room)
+pub lay_coordinate-requires-2 : goal.lay_coordinate-requires-2
+lay_coordinate-requires-2 g c =
+    has_room c.end.ensures.dimensions c.requires.fault (omega (arith, c.in_ok-make_room.ensures.room))
 
 pub returns-in_err-make_room : goal.returns-in_err-make_room
 returns-in_err-make_room g c = exits _ _ c.from_residual.ensures.1 (cut_early _ c.in_err-make_room.ensures.laid)

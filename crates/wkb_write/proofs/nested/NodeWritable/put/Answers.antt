@@ -5,4 +5,4 @@ pub put_members-requires-clause-fault : goal.put_members-requires-clause-fault
 put_members-requires-clause-fault g c = collection_ready _ _ c.dim.ensures c.in-Some.ensures c.requires.fault
 
 pub returns-in-Some : goal.returns-in-Some
-returns-in-Some g c = lays_collection _ _ c.dim.ensures c.in-Some.ensures _ _ _ _ _ c.put_members.ensures
+returns-in-Some g c = lays_collection _ _ c.dim.ensures c.in-Some.ensures _ _ _ _ c.put_members.ensures

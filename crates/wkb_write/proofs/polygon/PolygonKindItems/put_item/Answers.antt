@@ -6,11 +6,11 @@ use Rattle.wkb_write.proofs.polygon.PolygonKindItems.put_item.Goals as goal
 pub returns-in_err-put_count : goal.returns-in_err-put_count
 unfolding coordinates_encoding
 returns-in_err-put_count g c =
-    lays_item _ _ _ (coordinates_encoding c.args.order) _ c.args.i _ c.nth_ring-ring.ensures.value
+    lays_item _ _ _ (coordinates_encoding c.args.options.now.endianness) _ c.args.i _ c.nth_ring-ring.ensures.value
     (rw (← c.num_coords.ensures) (exits _ _ c.from_residual.ensures.1 (cut_first _ c.in_err-put_count.ensures)))
 
 pub returns : goal.returns
 unfolding coordinates_encoding
 returns g c =
-    lays_item _ _ _ (coordinates_encoding c.args.order) _ c.args.i _ c.nth_ring-ring.ensures.value
+    lays_item _ _ _ (coordinates_encoding c.args.options.now.endianness) _ c.args.i _ c.nth_ring-ring.ensures.value
     (rw (← c.num_coords.ensures) (lays_then _ _ _ c.in_ok-put_count.ensures c.put_coordinates.ensures))

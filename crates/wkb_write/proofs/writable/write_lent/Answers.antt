@@ -1,6 +1,6 @@
 use Rattle.std.proofs.Common.{arith}
 use Rattle.wkb_write.proofs.Writing.{lent_fits, put_writes, told}
-use Rattle.wkb_write.proofs.lent.write_lent.Goals as goal
+use Rattle.wkb_write.proofs.writable.write_lent.Goals as goal
 
 pub returns : goal.returns
 returns g c = λ geo lawful none is.

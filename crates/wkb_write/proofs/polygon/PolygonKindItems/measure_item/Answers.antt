@@ -1,6 +1,6 @@
 use Rattle.wkb_write.specs.Bodies.{ring_measure}
 use Rattle.wkb_write.proofs.MeasuredItems.{item_measured, item_within}
-use Rattle.wkb_write.proofs.polygon.PolygonKindMeasuredItems.measure_item.Goals as goal
+use Rattle.wkb_write.proofs.polygon.PolygonKindItems.measure_item.Goals as goal
 
 pub returns : goal.returns
 returns g c =

@@ -1,7 +1,7 @@
 use Rattle.wkb_write.proofs.Prelude.{refl}
 use Rattle.wkb_write.specs.Bodies.{ring_measure}
 use Rattle.wkb_write.proofs.MeasuredItems.{member_measured, member_there}
-use Rattle.wkb_write.proofs.multi_line_string.MultiLineStringKindMeasuredItems.measure_item.Goals as goal
+use Rattle.wkb_write.proofs.multi_line_string.MultiLineStringKindItems.measure_item.Goals as goal
 
 pub returns : goal.returns
 returns g c =

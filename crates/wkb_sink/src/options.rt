@@ -1,0 +1,39 @@
+//! What is written of a geometry, which its bytes alone don't settle.
+
+ghost use Rattle.std.specs.Prelude.{◌≡◌};
+ghost use Rattle.wkb_geom.specs.declared.common.Endianness.TheVariants.{LittleEndian};
+ghost use Rattle.wkb_geom.specs.declared.common.Form.TheVariants.{Iso};
+ghost use Rattle.wkb_sink.specs.Options.{inner_options};
+
+use wkb_geom::{Endianness, Form};
+
+/// The byte order and the form of what is written: by default little endian, in ISO codes.
+#[derive(Debug, Clone, Copy)]
+pub struct WriteOptions {
+    pub endianness: Endianness,
+    pub form: Form,
+}
+
+impl Default for WriteOptions {
+    ghost is_default = { λ o. (o.endianness ≡ LittleEndian) × (o.form ≡ Iso) };
+
+    fn default() -> WriteOptions {
+        WriteOptions {
+            endianness: Endianness::default(),
+            form: Form::default(),
+        }
+    }
+}
+
+impl WriteOptions {
+    /// The options of a geometry inside another one, which is written without an SRID.
+    #[inline]
+    pub fn inner(&self) -> WriteOptions
+        ensures { result ≡ inner_options self.now }
+    {
+        WriteOptions {
+            endianness: self.endianness,
+            form: self.form.inner(),
+        }
+    }
+}
