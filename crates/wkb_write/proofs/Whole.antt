@@ -1,5 +1,5 @@
 -- A geometry's fault and size, by its header and its body.
-use Rattle.std.proofs.Common.{◌≡◌, ℕ, zero, suc, ◌+◌, ◌*◌, ◌<◌, ◌≤◌, List, [], ◌∷◌, length, map, get_or, slice_get}
+use Rattle.std.proofs.Common.{◌≡◌, ℕ, zero, suc, ◌+◌, ◌*◌, ◌^◌, ◌<◌, ◌≤◌, List, [], ◌∷◌, length, map, get_or, slice_get}
 use Rattle.std.proofs.Common.{Option, Some, None, Result, Ok, Err, refl, sym, ap, subst, ◌∙◌, arith}
 use Rattle.std.specs.List.{sum_by}
 use Rattle.std.specs.Prelude.{IfSome}
@@ -16,12 +16,12 @@ use Rattle.wkb_geom.specs.Sizes.{node_count, node_counts, dimensions_of, byte_si
 use Rattle.wkb_geom.specs.Sizes.{line_string_size, polygon_size}
 use Rattle.wkb_geom.specs.Encodings.{or_else, first_fault, count_fault, count_geometries, dimensions_fault}
 use Rattle.wkb_geom.specs.Encodings.{coordinates_fault, rings_fault, fault, fault_each}
-use Rattle.wkb_geom.proofs.Faults.{none_both}
+use Rattle.wkb_geom.proofs.Faults.{count_below, none_both, none_first, none_rest}
 use Rattle.wkb_geom.proofs.Nodes.{node_count-member}
 use Rattle.wkb_write.specs.Measures.{Finds, IsAdded, IsMeasured, Measures, capped}
 use Rattle.wkb_write.specs.Bodies.{Measure, parts_fault, parts_size, coordinate_words, ring_bytes, ring_measure}
 use Rattle.wkb_write.specs.Bodies.{point_measure, polygon_measure, member_measure, member_measures, body_fault, bytes_behind_header}
-use Rattle.wkb_write.specs.Bodies.{size_by_parts}
+use Rattle.wkb_write.specs.Bodies.{HasMeasures, size_by_parts}
 use Rattle.wkb_write.proofs.Faults.{reports_first, reports_rest, supported_words}
 
 -- the faults and the sizes of a list's items, each as a part
@@ -135,6 +135,14 @@ fault_by_body (collection d gs) = ap (or_else (dimensions_fault d)) (sym (member
 fault_by_body (line d start end) = alone (dimensions_fault d)
 fault_by_body (rectangle d least greatest) = alone (dimensions_fault d)
 fault_by_body (triangle d first second third) = alone (dimensions_fault d)
+
+-- a geometry without a fault has no more parts than four bytes count
+pub few_parts : {d : Dimensions} {header : ℕ} (g : Geometry) (parts : List Measure) → HasMeasures g d header parts
+    → fault g ≡ None → length parts < 2 ^ 32
+unfolding parts_fault
+few_parts g parts h none =
+    let body = none_rest (dimensions_fault (dimensions_of g)) (body_fault g) (sym (fault_by_body g) ∙ none) in
+    count_below (length parts) (none_first _ _ (sym h.fault ∙ body))
 
 pub size_by_body : (g : Geometry) → coordinate_words (dimensions_of g) ≡ size (dimensions_of g)
     → byte_size g ≡ 5 + size_by_parts g

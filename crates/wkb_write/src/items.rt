@@ -1,6 +1,6 @@
 //! Items behind a count: the rings of a polygon, the members of a multi geometry.
 
-ghost use Rattle.std.specs.Prelude.{◌≡◌, ◌<◌, ◌^◌, ◌++◌, ℕ, List, [], None, false, length};
+ghost use Rattle.std.specs.Prelude.{◌≡◌, ◌<◌, ◌++◌, ℕ, List, [], None, false, length};
 ghost use Rattle.std.specs.Prelude.{get_or, IfSome, slice_get};
 ghost use Rattle.wkb_write.specs.Words.{Geometry, IsGeometry, WriteOptions, encoding_of, fault};
 ghost use Rattle.wkb_write.specs.Words.{header_of, inner_options, counted, parts_fault, parts_size};
@@ -34,8 +34,7 @@ pub trait Items<G: Dimensioned> {
     /// How many items stand behind the count.
     fn count(geom: &G) -> u128
         ensures counted { (options : WriteOptions) → result ≡ length (encodings options geom.now) }
-        ensures measured { result ≡ length (measures geom.now) }
-        ensures few { fault (geometry geom.now) ≡ None → result < 2 ^ 32 };
+        ensures measured { result ≡ length (measures geom.now) };
 
     /// The fault of the item at an index, or its bytes without its header.
     fn measure_item(geom: &G, i: usize) -> Measured

@@ -2,6 +2,7 @@ use Rattle.wkb_write.proofs.Prelude.{arith, slice_get-get_or}
 use Rattle.wkb_sink.specs.Options.{inner_options}
 use Rattle.wkb_sink.proofs.Laid.{exits}
 use Rattle.wkb_write.proofs.Loops.{head_cut, none_laid, next_laid, all_laid, next_cut}
+use Rattle.wkb_write.proofs.Whole.{few_parts}
 use Rattle.wkb_write.proofs.items.CountedWritable.put.Goals as goal
 
 pub returns-in_err-put_head : goal.returns-in_err-put_head
@@ -32,3 +33,13 @@ returns-in_err-put_item g c =
 pub returns : goal.returns
 returns g c =
     all_laid c.loop-i.invariant (omega (arith, c.count-count.ensures.counted (inner_options c.args.options.now)))
+
+pub overflow_cast-count : goal.overflow_cast-count
+overflow_cast-count g c =
+    let few = few_parts _ _ (g.met.I.Items.parts c.args.geom.now) c.requires.fault in
+    record { fits = omega (arith, c.count-count.ensures.measured, few) }
+
+pub overflow_cast-i-end : goal.overflow_cast-i-end
+overflow_cast-i-end g c =
+    let few = few_parts _ _ (g.met.I.Items.parts c.args.geom.now) c.requires.fault in
+    record { fits = omega (arith, c.count-count.ensures.measured, few) }
