@@ -21,7 +21,7 @@ use Rattle.wkb_laws.proofs.Lengths.{front_is_writable_lem}
 use Rattle.wkb_read.specs.Public.{IfRefused}
 use Rattle.wkb_write.specs.Measures.{Reports}
 use Rattle.wkb_write.specs.Answers.{encoding_of}
-use Rattle.wkb_sink.specs.declared.options.WriteOptions.{WriteOptions}
+use Rattle.wkb.specs.Writes.{WriteOptions}
 use Rattle.wkb.specs.Canonical.{IsAccepted}
 use Rattle.wkb_c.specs.Requests.{IsRequested, options_for}
 use Rattle.wkb_c.specs.declared.options.Request.{Request}

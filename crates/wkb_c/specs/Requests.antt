@@ -4,7 +4,7 @@ use Rattle.wkb_geom.specs.declared.common.Endianness.{Endianness}
 use Rattle.wkb_geom.specs.declared.common.Endianness.TheVariants.{BigEndian, LittleEndian}
 use Rattle.wkb_geom.specs.declared.common.Form.TheVariants.{Iso, Ewkb}
 use Rattle.wkb_geom.specs.Encodings.{IsRewriting, IsRewritingWithSrid}
-use Rattle.wkb_sink.specs.declared.options.WriteOptions.{WriteOptions}
+use Rattle.wkb.specs.Writes.{WriteOptions}
 use Rattle.wkb_c.specs.declared.options.TheConstants.{BIG_ENDIAN, LITTLE_ENDIAN, ISO, EWKB_OWN_SRID, EWKB_WITH_SRID}
 use Rattle.wkb_c.specs.declared.options.TheConstants.{EWKB_WITHOUT_SRID}
 use Rattle.wkb_c.specs.declared.options.Options.{Options}
