@@ -7,7 +7,6 @@ use Rattle.wkb_write.proofs.Prelude.{or_else, count_geometries, members_encoding
 use Rattle.wkb_write.proofs.Prelude.{dimensions_fault, Progress, Advances, counted, none_first, none_rest, count_below}
 use Rattle.wkb_write.proofs.Prelude.{slice_get_read}
 use Rattle.wkb_geom.proofs.Nodes.{node_count-member}
-use Rattle.wkb_geom.specs.declared.common.Form.TheVariants.{Iso, Ewkb}
 use Rattle.wkb_sink.specs.Options.{inner_options}
 use Rattle.wkb_sink.specs.declared.options.WriteOptions.{WriteOptions}
 use Rattle.wkb_write.specs.Answers.{encoding_of}
@@ -32,34 +31,16 @@ faults-geometries f [] = refl
 faults-geometries f (x ∷ xs) = ap (or_else (fault (f x))) (faults-geometries f xs)
 
 -- the encoding of a collection of these members, by the dimension that its header tells
-pub collection_told : {X : Type 0} {named : Dimension} {inner : WriteOptions} (options : WriteOptions) (d : Dimensions)
-    (f : X → Geometry) (xs : List X) → inner ≡ inner_options options → named ≡ written_dimension d
+pub collection_told : {X : Type 0} {named : Dimension} (options : WriteOptions) (d : Dimensions) (f : X → Geometry)
+    (xs : List X) → named ≡ written_dimension d
     → encoding_of options (collection d (geometries (map f xs)))
     ≡ header_encoding options.endianness options.form 7 named
-    ++ counted options.endianness (map (λ x. encoding_of inner (f x)) xs)
+    ++ counted options.endianness (map (λ x. encoding_of (inner_options options) (f x)) xs)
 unfolding members_encoding
-collection_told options d f xs same name =
+collection_told options d f xs name =
     let own = inner_options options in
-    rw (same, name, count-geometries f xs, encodings-geometries own.endianness own.form f xs)
+    rw (name, count-geometries f xs, encodings-geometries own.endianness own.form f xs)
     (counted_of options.endianness _ (λ x. encoding_of own (f x)) xs)
-
--- the options of members are those of their own members too
-pub inner_again : {inner : WriteOptions} (options : WriteOptions) → inner ≡ inner_options options
-    → inner ≡ inner_options inner
-inner_again options same = rw same (ap (λ f. record { endianness = options.endianness; form = f }) (twice options.form))
-  where
-    twice : (form : Form) → inner form ≡ inner (inner form)
-    twice Iso = refl
-    twice (Ewkb srid) = refl
-
--- the options of members, made of themselves again: those of their own members, and what was put under them
-module _ {own inner : WriteOptions} (made : own ≡ inner_options inner) (same : inner ≡ inner_options inner) where
-  pub inner_twice : inner ≡ inner_options own
-  inner_twice = same ∙ ap inner_options (same ∙ sym made)
-
-  pub lays_twice : (geo : Geometry) (a b : Progress) (r : Result (Unit {0}) Stopped)
-      → Advances a b (encoding_of own geo) r → Advances a b (encoding_of inner geo) r
-  lays_twice geo a b r p = let as_they_are = made ∙ sym same in rw as_they_are at p
 
 -- a geometry that is a collection of these members: where it has no fault, and where it was put
 module _ {X : Type 0} {d read : Dimensions} {geo : Geometry} (f : X → Geometry) (xs : List X) (same : read ≡ d)

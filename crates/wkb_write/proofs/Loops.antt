@@ -116,31 +116,36 @@ encoding_there f xs i x within is =
     slice_get_read (map f xs) (length xs) i (f x) (sym (length-map xs f))
     within (ap f is ∙ sym (get_or-map f xs i x (f x) within))
 
--- members that are put one after another; the last one's answer is that of all
+-- members that are put one after another in their form, which is told otherwise; the last one's answer is that of all
 pub no_member : {X : Type 0} {a b : Progress} {whole : List ℕ} (order : Endianness) (header : List ℕ)
     (f : X → List ℕ) (xs : List X) → whole ≡ header ++ counted order (map f xs) → length xs ≡ 0
     → IsLaid a b (header ++ number_bytes order 4 (length xs)) → IsLaid a b whole
 no_member order header f xs is none p =
     all_laid (none_laid _ _ is (sym (length-map xs f)) p) (omega (arith, length-map xs f, none))
 
-module _ {X : Type 0} {a b : Progress} {order : Endianness} {whole : List ℕ} (f : X → List ℕ) (xs : List X)
-    {i : ℕ} {x : X} where
-  pub next_member : {c : Progress} → HasLaid a b order whole (map f xs) i → i < length xs - 1 → x ≡ get_or xs i x
-      → IsLaid b c (f x) → HasLaid a c order whole (map f xs) (i + 1)
-  next_member p within is q = next_laid p (encoding_there f xs i x (omega (arith, within)) is) q
+module _ {X : Type 0} {a b : Progress} {order : Endianness} {whole : List ℕ} (f : Form → X → List ℕ) (xs : List X)
+    {own told : Form} {i : ℕ} {x : X} where
+  pub next_member : {c : Progress} → own ≡ told → HasLaid a b order whole (map (f own) xs) i → i < length xs - 1
+      → x ≡ get_or xs i x → IsLaid b c (f told x) → HasLaid a c order whole (map (f own) xs) (i + 1)
+  next_member {c = c} same p within is q =
+      next_laid p (encoding_there (f own) xs i x (omega (arith, within)) is)
+      (subst (λ k. IsLaid b c (f k x)) (sym same) q)
 
-  pub member_cut : {c : Progress} → HasLaid a b order whole (map f xs) i → i < length xs - 1 → x ≡ get_or xs i x
-      → IsCut b c (f x) → IsCut a c whole
-  member_cut p within is q = next_cut p (encoding_there f xs i x (omega (arith, within)) is) q
+  pub member_cut : {c : Progress} → own ≡ told → HasLaid a b order whole (map (f own) xs) i → i < length xs - 1
+      → x ≡ get_or xs i x → IsCut b c (f told x) → IsCut a c whole
+  member_cut {c = c} same p within is q =
+      next_cut p (encoding_there (f own) xs i x (omega (arith, within)) is)
+      (subst (λ k. IsCut b c (f k x)) (sym same) q)
 
-  pub last_member : (c : Progress) (r : Result (Unit {0}) Stopped) → HasLaid a b order whole (map f xs) i
-      → (length xs ≡ 0 → ⊥) → i ≤ length xs - 1 → length xs - 1 ≤ i → x ≡ get_or xs (length xs - 1) x
-      → Advances b c (f x) r → Advances a c whole r
-  last_member c r p some up past is q =
+  pub last_member : (c : Progress) (r : Result (Unit {0}) Stopped) → own ≡ told
+      → HasLaid a b order whole (map (f own) xs) i → (length xs ≡ 0 → ⊥) → i ≤ length xs - 1 → length xs - 1 ≤ i
+      → x ≡ get_or xs (length xs - 1) x → Advances b c (f told x) r → Advances a c whole r
+  last_member c r same p some up past is q =
       let at_end : length xs - 1 ≡ i = omega (arith, up, past) in
       let item = subst (λ k. x ≡ get_or xs k x) at_end is in
-      let there = encoding_there f xs i x (omega (arith, some, up, past)) item in
-      lays_last_encoding c r p there (omega (arith, length-map xs f, past)) q
+      let there = encoding_there (f own) xs i x (omega (arith, some, up, past)) item in
+      lays_last_encoding c r p there (omega (arith, length-map xs (f own), past))
+      (subst (λ k. Advances b c (f k x) r) (sym same) q)
 
 -- the encoding of the item at a place was laid
 pub lays_item : {X : Type 0} (a b : Progress) (r : Result (Unit {0}) Stopped) (f : X → List ℕ) (xs : List X) (i : ℕ)

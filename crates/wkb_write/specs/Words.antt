@@ -6,7 +6,7 @@ pub use Rattle.wkb_geom.specs.Geometries.{triangle}
 pub use Rattle.wkb_geom.specs.Refusals.{srid_size}
 pub use Rattle.wkb_geom.specs.Sizes.{dimensions_of}
 pub use Rattle.wkb_geom.specs.Encodings.{coordinates_fault, coordinates_encoding, count_fault, dimensions_fault, fault}
-pub use Rattle.wkb_geom.specs.Encodings.{words_encoding, form_srid, IsForm}
+pub use Rattle.wkb_geom.specs.Encodings.{encoding, inner, words_encoding, form_srid, IsForm}
 pub use Rattle.wkb_geom.specs.declared.common.Endianness.{Endianness}
 pub use Rattle.wkb_geom.specs.declared.common.Form.TheVariants.{Iso}
 pub use Rattle.wkb_sink.specs.Options.{header_of, inner_options}
@@ -17,5 +17,5 @@ pub use Rattle.wkb_sink.specs.declared.options.WriteOptions.{WriteOptions}
 pub use Rattle.wkb_write.specs.Answers.{encoding_of, refusal_of, IsSized, IsSizeOf, WritesTo}
 pub use Rattle.wkb_write.specs.Bodies.{Measure, parts_fault, parts_size, point_measure, polygon_measure, ring_bytes}
 pub use Rattle.wkb_write.specs.Bodies.{ring_measure, coordinate_words, body_fault, size_by_parts, IsLeaf, HasMeasures}
-pub use Rattle.wkb_write.specs.Counted.{counted}
+pub use Rattle.wkb_write.specs.Counted.{counted, form_with_flags}
 pub use Rattle.wkb_write.specs.Measures.{Finds, IsAdded, IsMeasured, Measures, Reports, result_of}

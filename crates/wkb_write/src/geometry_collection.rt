@@ -24,8 +24,7 @@ impl<C: GeometryCollectionTrait> Writable<C> for GeometryCollectionKind {
 
     fn put<S: Sink>(out: &mut Buffered<'_, S>, geom: &C, options: &WriteOptions) -> Put {
         let members = geom.geometries();
-        let inner = options.inner();
-        put_members::<S, C::GeometryType, GeometryKind>(out, geom.dim(), members, options, &inner)
+        put_members::<S, C::GeometryType, GeometryKind>(out, geom.dim(), members, options)
     }
 }
 

@@ -4,12 +4,12 @@
 
 ghost use Rattle.std.specs.Prelude.{◌≡◌, None, false, map, MatchOption};
 ghost use Rattle.wkb_write.specs.Words.{Geometry, IsGeometry, collection, geometries, fault};
-ghost use Rattle.wkb_write.specs.Words.{encoding_of, inner_options, Lays, IsAdded, IsLeaf};
-ghost use Rattle.wkb_write.specs.Words.{IsMeasured, result_of};
+ghost use Rattle.wkb_write.specs.Words.{encoding, encoding_of, form_with_flags, inner, Lays, IsAdded};
+ghost use Rattle.wkb_write.specs.Words.{IsLeaf, IsMeasured, result_of};
 
 use crate::common::*;
 use crate::measure::{short_count, unsupported};
-use wkb_geom::Dimensions;
+use wkb_geom::{Dimensions, Endianness};
 
 /// A kind whose geometries may be collections of more of them. The recursion knows no more of a geometry than this, so
 /// that it is proved over few types.
@@ -53,9 +53,8 @@ impl<G: Dimensioned, K: Nested<G>> Writable<G> for Node<K> {
     }
 
     fn put<S: Sink>(out: &mut Buffered<'_, S>, geom: &G, options: &WriteOptions) -> Put {
-        let inner = options.inner();
         match K::members_of(geom) {
-            Some(members) => put_members::<S, G, K>(out, geom.dim(), members, options, &inner),
+            Some(members) => put_members::<S, G, K>(out, geom.dim(), members, options),
             None => K::put_leaf(out, geom, options),
         }
     }
@@ -108,29 +107,56 @@ pub fn measure_geometry<G: Dimensioned, K: Nested<G>>(geom: &G) -> Measured
     }
 }
 
-// Puts a member, under the options of members, which are those of its own members too. Its header is put under a copy
-// of them, which the compiler knows to have no SRID.
+// Whether the codes are EWKB's: all that a member keeps of the form, and it goes in a register.
+#[inline(always)]
+fn has_flags(form: Form) -> bool
+    ensures { inner form ≡ form_with_flags result }
+{
+    match form {
+        Form::Iso => false,
+        Form::Ewkb { srid: _ } => true,
+    }
+}
+
+// The form of a member.
+#[inline(always)]
+fn member_form(has_flags: bool) -> Form
+    ensures { result ≡ form_with_flags has_flags }
+{
+    if has_flags {
+        Form::Ewkb { srid: None }
+    } else {
+        Form::Iso
+    }
+}
+
+// Puts a member: a geometry without an SRID. Not inlined, and handed its options as two scalars: in registers they go down
+// a chain of collections without a load at each level.
 #[cycle(put)]
 #[inline(never)]
 fn put_member<S: Sink, G: Dimensioned, K: Nested<G>>(
     out: &mut Buffered<'_, S>,
     geom: &G,
-    inner: &WriteOptions,
+    order: Endianness,
+    has_flags: bool,
 ) -> Put
-    requires inner { inner.now ≡ inner_options inner.now }
     requires fault { fault (K.geometry geom.now) ≡ None }
     requires working { S.has_failed out.old.sink.now ≡ false }
-    ensures { Lays S.Sink out.old out.new (encoding_of inner.now (K.geometry geom.now)) result }
+    ensures { Lays S.Sink out.old out.new
+        (encoding order (form_with_flags has_flags) (K.geometry geom.now)) result }
 {
-    let own = inner.inner();
+    let options = WriteOptions {
+        endianness: order,
+        form: member_form(has_flags),
+    };
     match K::members_of(geom) {
-        Some(members) => put_members::<S, G, K>(out, geom.dim(), members, &own, inner),
-        None => K::put_leaf(out, geom, inner),
+        Some(members) => put_members::<S, G, K>(out, geom.dim(), members, &options),
+        None => K::put_leaf(out, geom, &options),
     }
 }
 
-// Puts a collection's header, and its members after their count, under the options of members. The last one is put by
-// the last call, which the compiler makes a jump.
+// Puts a collection's header, and its members after their count. The last one is put by the last call, which the
+// compiler makes a jump.
 #[cycle(put)]
 #[inline(always)]
 #[tactic(auto, using(crate::proofs::Steps::node_laws))]
@@ -139,15 +165,15 @@ pub fn put_members<S: Sink, G: Dimensioned, K: Nested<G>>(
     dim: Dimensions,
     members: &[G],
     options: &WriteOptions,
-    inner: &WriteOptions,
 ) -> Put
-    requires inner { inner.now ≡ inner_options options.now }
     requires fault { fault (collection dim (geometries (map K.geometry members.now))) ≡ None }
     requires working { S.has_failed out.old.sink.now ≡ false }
     ensures { Lays S.Sink out.old out.new
         (encoding_of options.now (collection dim (geometries (map K.geometry members.now)))) result }
 {
     let count = members.len();
+    let order = options.endianness;
+    let has_flags = has_flags(options.form);
     let kind = WkbType::GeometryCollection(dimension_to_write(dim));
     out.put_head(options, kind, count as u32)?;
     if count == 0 {
@@ -155,7 +181,7 @@ pub fn put_members<S: Sink, G: Dimensioned, K: Nested<G>>(
     }
     let last = count - 1;
     for i in 0..last {
-        put_member::<S, G, K>(out, &members[i], inner)?;
+        put_member::<S, G, K>(out, &members[i], order, has_flags)?;
     }
-    put_member::<S, G, K>(out, &members[last], inner)
+    put_member::<S, G, K>(out, &members[last], order, has_flags)
 }
