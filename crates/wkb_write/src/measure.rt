@@ -3,7 +3,7 @@
 //! A fault is met in preorder: a geometry's dimensions, its count, then its items. Only the bytes after the header are
 //! measured, and the greatest `usize` stands for all sizes from there on: with a header none of them fits.
 
-ghost use Rattle.std.specs.Prelude.{◌≡◌, ◌+◌, ◌*◌, ◌^◌, ◌<◌, None, is_some, IsErrAnd, MatchOption};
+ghost use Rattle.std.specs.Prelude.{◌≡◌, ◌+◌, ◌*◌, ◌^◌, ◌<◌, None, Err, is_some, IsErrAnd, MatchOption};
 ghost use Rattle.wkb_write.specs.Words.{Geometry, IsGeometry, IsForm, dimensions_of, form_srid};
 ghost use Rattle.wkb_write.specs.Words.{dimensions_fault, count_fault, body_fault, Finds};
 ghost use Rattle.wkb_write.specs.Words.{coordinate_words, size_by_parts, srid_size, result_of};
@@ -21,6 +21,21 @@ pub enum Measured {
     UnsupportedDimensions(usize),
     Count,
     Size,
+}
+
+/// A fault that was found. A walk whose last call is to become a jump answers its faults by this call, since the compiler
+/// joins answers of calls as they are, and others word by word, with a step behind each call.
+impl From<Fault> for Measured {
+    ghost from_gives = { λ fault measured. result_of measured ≡ Err fault };
+
+    #[inline(always)]
+    fn from(fault: Fault) -> Measured {
+        match fault {
+            Fault::UnsupportedDimensions(n) => Measured::UnsupportedDimensions(n),
+            Fault::Count => Measured::Count,
+            Fault::Size => Measured::Size,
+        }
+    }
 }
 
 /// What was measured, as a `Result`.

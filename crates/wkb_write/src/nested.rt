@@ -9,7 +9,7 @@ ghost use Rattle.wkb_write.specs.Words.{IsLeaf, IsMeasured, result_of};
 
 use crate::common::*;
 use crate::measure::{short_count, unsupported};
-use wkb_geom::{Dimensions, Endianness};
+use wkb_geom::{Dimensions, Endianness, Fault};
 
 /// A kind whose geometries may be collections of more of them. The recursion knows no more of a geometry than this, so
 /// that it is proved over few types.
@@ -72,10 +72,10 @@ pub fn add_members<G: Dimensioned, K: Nested<G>>(
         (result_of result) }
 {
     if let Some(n) = unsupported(dim) {
-        return Measured::UnsupportedDimensions(n);
+        return Measured::from(Fault::UnsupportedDimensions(n));
     }
     let Some(count) = short_count(members.len() as u128) else {
-        return Measured::Count;
+        return Measured::from(Fault::Count);
     };
     let count = count as usize;
     let mut total = before.saturating_add(4 + MEMBER_HEADER * count);

@@ -1,6 +1,7 @@
 use Rattle.std.proofs.Common.{refl, map, arith}
 use Rattle.wkb_geom.specs.Geometries.{collection, geometries}
 use Rattle.wkb_write.specs.Measures.{result_of, IsAdded}
+use Rattle.wkb_write.proofs.Faults.{measured_err}
 use Rattle.wkb_write.proofs.Members.{added_as, member_step, member_refused, member_last, members_whole}
 use Rattle.wkb_write.proofs.Sums.{parts_begin, count_reports}
 use Rattle.wkb_write.proofs.Whole.{added_alone, collected, whole_unsupported, members_length}
@@ -18,13 +19,13 @@ pub add_members-returns-in-Some : goal.add_members-returns-in-Some
 unfolding IsAdded
 add_members-returns-in-Some g t c =
     let whole = collection c.args.dim (geometries (map g.K.Nested.geometry c.args.members.now)) in
-    whole_unsupported whole _ _ refl c.in-Some.ensures
+    measured_err _ _ _ _ c.from.ensures (whole_unsupported whole _ _ refl c.in-Some.ensures)
 
 pub add_members-returns-in_default-short_count : goal.add_members-returns-in_default-short_count
 add_members-returns-in_default-short_count g t c =
     collected _ _ _ _ c.in_default.ensures
-    (count_reports _ 0 _ _ _ (members_length g.K.Nested.geometry c.args.members.now) refl
-    c.in_default-short_count.ensures)
+    (count_reports _ _ _ _ _ (members_length g.K.Nested.geometry c.args.members.now)
+    c.from-in_default-short_count.ensures c.in_default-short_count.ensures)
 
 pub add_members-loop-i-init : goal.add_members-loop-i-init
 add_members-loop-i-init g t c = rw c.saturating_add-total.ensures (parts_begin _ _)
