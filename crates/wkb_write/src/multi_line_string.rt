@@ -1,7 +1,7 @@
 //! A multi line string.
 
-ghost use Rattle.std.specs.Prelude.{◌≡◌, None, false, map, refl};
-ghost use Rattle.wkb_write.specs.Words.{Iso, multi_line_string, line_string, fault, encoding_of};
+ghost use Rattle.std.specs.Prelude.{◌≡◌, false, map, refl};
+ghost use Rattle.wkb_write.specs.Words.{Iso, multi_line_string, line_string, encoding_of};
 ghost use Rattle.wkb_write.specs.Words.{IsSizeOf, WritesTo, ring_measure};
 
 use crate::common::*;

@@ -1,7 +1,7 @@
 //! A multi point.
 
-ghost use Rattle.std.specs.Prelude.{◌≡◌, None, false, map, refl};
-ghost use Rattle.wkb_write.specs.Words.{Iso, multi_point, point, fault, encoding_of, IsSizeOf};
+ghost use Rattle.std.specs.Prelude.{◌≡◌, false, map, refl};
+ghost use Rattle.wkb_write.specs.Words.{Iso, multi_point, point, encoding_of, IsSizeOf};
 ghost use Rattle.wkb_write.specs.Words.{WritesTo, point_measure};
 
 use crate::common::*;

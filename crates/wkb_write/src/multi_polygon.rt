@@ -1,7 +1,7 @@
 //! A multi polygon.
 
-ghost use Rattle.std.specs.Prelude.{◌≡◌, None, false, map, refl};
-ghost use Rattle.wkb_write.specs.Words.{Iso, multi_polygon, polygon, fault, encoding_of};
+ghost use Rattle.std.specs.Prelude.{◌≡◌, false, map, refl};
+ghost use Rattle.wkb_write.specs.Words.{Iso, multi_polygon, polygon, encoding_of};
 ghost use Rattle.wkb_write.specs.Words.{IsSizeOf, WritesTo, polygon_measure};
 
 use crate::common::*;

@@ -1,7 +1,7 @@
 //! A polygon: its rings, the exterior first.
 
-ghost use Rattle.std.specs.Prelude.{◌≡◌, None, false, map, refl};
-ghost use Rattle.wkb_write.specs.Words.{Iso, polygon, coordinates_encoding, fault, IsSizeOf};
+ghost use Rattle.std.specs.Prelude.{◌≡◌, false, map, refl};
+ghost use Rattle.wkb_write.specs.Words.{Iso, polygon, coordinates_encoding, IsSizeOf};
 ghost use Rattle.wkb_write.specs.Words.{WritesTo, ring_measure};
 
 use crate::common::*;
