@@ -172,26 +172,24 @@ says_iso_refused order text line inputs e gives (inl first) told =
     says_refused (Rewrite order) (text ∷ []) line (λ is. cc) inputs e gives first told
 says_iso_refused order text line inputs e gives (inr h) told = absurd (iso_fits order h.bytes h.long)
 
-counts_line : (verdict : List ℕ) (turns slots : ℕ)
+pub counts_line : (verdict : List ℕ) (turns slots : ℕ)
     → verdict ++ (codes " turns " ++ (decimal turns ++ (codes " slots " ++ decimal slots))) ≡ counts verdict turns slots
 counts_line verdict turns slots = simp append_assoc
 
-pub says_accepted : (text line : List ℕ) (is_accepted : Bool) (turns slots : ℕ) → is_accepted ≡ true
-    → line ≡ codes "accepted" ++ (codes " turns " ++ (decimal turns ++ (codes " slots " ++ decimal slots)))
+pub says_accepted : (text : List ℕ) (is_accepted : Bool) (turns slots : ℕ) → is_accepted ≡ true
     → (bytes : List ℕ) × IsHexOf text bytes
     × MatchBool is_accepted (Accepts bytes turns slots) ((cause : Cause) × IsRefused bytes cause turns slots)
-    → Says (text ∷ []) Cost line 0
-says_accepted text line is_accepted turns slots is whole h =
-    rw (whole, counts_line (codes "accepted") turns slots) (accepted (one_input Cost text h.0 refl h.1) (rw is at h.2))
+    → Says (text ∷ []) Cost (counts (codes "accepted") turns slots) 0
+says_accepted text is_accepted turns slots is h =
+    accepted (one_input Cost text h.0 refl h.1) (rw is at h.2)
 
-pub says_counted : (text line : List ℕ) (is_accepted : Bool) (turns slots : ℕ) → is_accepted ≡ false
-    → line ≡ codes "refused" ++ (codes " turns " ++ (decimal turns ++ (codes " slots " ++ decimal slots)))
+pub says_counted : (text : List ℕ) (is_accepted : Bool) (turns slots : ℕ) → is_accepted ≡ false
     → (bytes : List ℕ) × IsHexOf text bytes
     × MatchBool is_accepted (Accepts bytes turns slots) ((cause : Cause) × IsRefused bytes cause turns slots)
-    → Says (text ∷ []) Cost line 1
-says_counted text line is_accepted turns slots is whole h =
+    → Says (text ∷ []) Cost (counts (codes "refused") turns slots) 1
+says_counted text is_accepted turns slots is h =
     let refusal = rw is at h.2 in
-    rw (whole, counts_line (codes "refused") turns slots) (counted_refusal (one_input Cost text h.0 refl h.1) refusal.1)
+    counted_refusal (one_input Cost text h.0 refl h.1) refusal.1
 
 pub says_srid : (text line : List ℕ) (number : ℕ) (found : Option ℕ) → found ≡ Some number
     → line ≡ codes "srid " ++ decimal number → (bytes : List ℕ) × IsHexOf text bytes × HasSrid bytes found

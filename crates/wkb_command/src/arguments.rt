@@ -7,7 +7,7 @@ use std::env::{Env, FillError};
 const FIRST_SIZE: usize = 256;
 
 /// Why an argument isn't a text in memory.
-#[derive(Debug, Clone, Copy)]
+#[derive(Clone, Copy)]
 pub enum ArgumentFault {
     /// It isn't UTF-8.
     NoText,

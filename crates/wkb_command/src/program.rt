@@ -5,7 +5,7 @@ ghost use Rattle.std.specs.Prelude.{IfOk, IfSome, MatchOption, string_bytes};
 ghost use Rattle.std.specs.Io.KnownBytes.{Appends};
 ghost use Rattle.wkb_command.specs.Program.{command_name, AreNoCommand, without_last_feed, lines};
 ghost use Rattle.wkb_command.specs.Program.{IsOneLine, status_misused, status_refused, TellsError};
-ghost use Rattle.wkb_command.specs.Program.{TellsHexFault, Says, Answers, Ends, line_feed};
+ghost use Rattle.wkb_command.specs.Program.{TellsHexFault, Says, Answers, Ends, line_feed, counts};
 ghost use Rattle.wkb_command.specs.Reports.{said, told};
 ghost use Rattle.wkb_command.specs.Transfer.{WroteBeginning};
 
@@ -16,6 +16,7 @@ use std::io::{Read, Write};
 use std::str;
 use wkb::Endianness;
 use wkb::error::WkbError;
+use wkb::reader::Counts;
 use wkb::writer::{Form, WriteOptions};
 
 /// The status of a run that answered its question.
@@ -210,19 +211,28 @@ fn cost_report(alloc: Global, text: &str) -> Result<Report, AllocError>
         Ok(cost) => cost,
         Err(fault) => return fault_report(alloc, fault),
     };
-    let turns = cost.counts.turns;
-    let slots = cost.counts.slots;
     if cost.accepted {
-        Ok(Report {
-            output: Output::Text(format!(in alloc; "accepted turns {turns} slots {slots}")?),
-            status: ANSWERED,
-        })
+        counts_report(alloc, "accepted", cost.counts, ANSWERED)
     } else {
-        Ok(Report {
-            output: Output::Text(format!(in alloc; "refused turns {turns} slots {slots}")?),
-            status: REFUSED,
-        })
+        counts_report(alloc, "refused", cost.counts, REFUSED)
     }
+}
+
+fn counts_report(
+    alloc: Global,
+    verdict: &str,
+    spent: Counts,
+    status: u8,
+) -> Result<Report, AllocError>
+    ensures { IfOk result (λ report. (said report.output ≡ counts verdict.now spent.turns spent.slots)
+        × (report.status ≡ status)) }
+{
+    let turns = spent.turns;
+    let slots = spent.slots;
+    Ok(Report {
+        output: Output::Text(format!(in alloc; "{verdict} turns {turns} slots {slots}")?),
+        status,
+    })
 }
 
 fn srid_report(alloc: Global, text: &str) -> Result<Report, AllocError>

@@ -20,7 +20,7 @@ const PIECE_SIZE: usize = 32_768;
 const DIGITS_SIZE: usize = 65_537;
 
 /// Why an input isn't in memory.
-#[derive(Debug, Drop)]
+#[derive(Drop)]
 pub enum ReadFault {
     /// A read failed, or the end wasn't met in so many reads.
     Unreadable,
@@ -28,7 +28,7 @@ pub enum ReadFault {
 }
 
 /// The writer failed, or took nothing.
-#[derive(Debug, Clone, Copy)]
+#[derive(Clone, Copy)]
 pub struct WriteFault;
 
 /// All bytes up to the input's end. No read is tried again.

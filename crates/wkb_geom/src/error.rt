@@ -37,7 +37,7 @@ pub enum General {
 }
 
 /// Why bytes are refused: the first fault from left to right.
-#[derive(Debug, Clone, Copy)]
+#[derive(Clone, Copy)]
 pub enum Cause {
     /// The input ends inside a header or before a count.
     EndOfInput,

@@ -32,10 +32,18 @@ pub enum Geometry<'w> {
 /// Geometries of any kinds and dimensions. It holds the list of its members, and so is neither
 /// `Copy` nor `Clone`.
 #[cycle(geometry)]
-#[derive(Drop)]
 pub struct GeometryCollection<'w> {
     dim: Dimensions,
     members: Vec<Geometry<'w>>,
+}
+
+// By a function of its own: a derived one would be written out, and proved, wherever a geometry is let go.
+impl Drop for GeometryCollection<'_> {
+    #[cycle(geometry)]
+    #[inline]
+    fn drop(self) {
+        let GeometryCollection { dim: _, members: _ } = self;
+    }
 }
 
 impl<'w> GeometryCollection<'w> {

@@ -15,7 +15,7 @@ use wkb_geom::words::COUNT;
 
 /// The sink failed. Its error is kept in one place, where it had one: an `io::Error` is too large to be handed on by
 /// each step.
-#[derive(Debug, Clone, Copy)]
+#[derive(Clone, Copy)]
 pub struct Stopped;
 
 /// A sink behind a block, and the error by which it failed.

@@ -109,17 +109,6 @@ impl<'a> MultiLineString<'a> {
         Some(LineString::of_encoding(layout, buf))
     }
 
-    /// A copy with a list of its own.
-    pub fn clone(&self) -> Result<MultiLineString<'a>, AllocError>
-        ensures { IfOk result (λ p. p ≡ self.now) }
-    {
-        Ok(MultiLineString {
-            buf: self.buf,
-            layout: self.layout,
-            ends: self.ends.clone()?,
-        })
-    }
-
     /// The multi line string behind this header, and the bytes after it.
     #[tactic(auto, unfolding(wkb_geom::specs::Reading::multi_line_string_at))]
     #[inline(always)]
@@ -144,6 +133,21 @@ impl<'a> MultiLineString<'a> {
             ends: ends.into_vec(),
         };
         Ok((multi_line_string, rest))
+    }
+}
+
+/// A copy with a list of its own.
+impl<'a> Clone for MultiLineString<'a> {
+    ghost use Rattle.std.specs.Prelude.{◌≡◌};
+
+    ghost is_clone = { λ multi copy. copy ≡ multi };
+
+    fn clone(&self) -> Result<MultiLineString<'a>, AllocError> {
+        Ok(MultiLineString {
+            buf: self.buf,
+            layout: self.layout,
+            ends: self.ends.clone()?,
+        })
     }
 }
 

@@ -86,21 +86,6 @@ impl<'a> MultiPolygon<'a> {
         self.buf
     }
 
-    /// A copy with lists of its own.
-    pub fn clone(&self) -> Result<MultiPolygon<'a>, AllocError>
-        ensures { IfOk result (λ p. p ≡ self.now) }
-    {
-        let mut members = Vec::with_capacity(*self.members.allocator(), self.members.len())?;
-        for member in &self.members {
-            members.push(member.clone()?)?;
-        }
-        Ok(MultiPolygon {
-            buf: self.buf,
-            layout: self.layout,
-            members,
-        })
-    }
-
     /// The multi polygon behind this header, and the bytes after it.
     #[tactic(auto, unfolding(wkb_geom::specs::Reading::multi_polygon_at))]
     #[inline(always)]
@@ -125,6 +110,21 @@ impl<'a> MultiPolygon<'a> {
             members: members.into_vec(),
         };
         Ok((multi_polygon, rest))
+    }
+}
+
+/// A copy with lists of its own.
+impl<'a> Clone for MultiPolygon<'a> {
+    ghost use Rattle.std.specs.Prelude.{◌≡◌};
+
+    ghost is_clone = { λ multi copy. copy ≡ multi };
+
+    fn clone(&self) -> Result<MultiPolygon<'a>, AllocError> {
+        Ok(MultiPolygon {
+            buf: self.buf,
+            layout: self.layout,
+            members: self.members.clone()?,
+        })
     }
 }
 

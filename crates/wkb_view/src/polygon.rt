@@ -108,17 +108,6 @@ impl<'a> Polygon<'a> {
         })
     }
 
-    /// A copy with a list of its own.
-    pub fn clone(&self) -> Result<Polygon<'a>, AllocError>
-        ensures { IfOk result (λ p. p ≡ self.now) }
-    {
-        Ok(Polygon {
-            buf: self.buf,
-            layout: self.layout,
-            ends: self.ends.clone()?,
-        })
-    }
-
     /// The polygon behind this header, and the bytes after it.
     #[tactic(auto, unfolding(wkb_geom::specs::Reading::polygon_at))]
     #[inline(always)]
@@ -144,6 +133,21 @@ impl<'a> Polygon<'a> {
             ends: ends.into_vec(),
         };
         Ok((polygon, rest))
+    }
+}
+
+/// A copy with a list of its own.
+impl<'a> Clone for Polygon<'a> {
+    ghost use Rattle.std.specs.Prelude.{◌≡◌};
+
+    ghost is_clone = { λ polygon copy. copy ≡ polygon };
+
+    fn clone(&self) -> Result<Polygon<'a>, AllocError> {
+        Ok(Polygon {
+            buf: self.buf,
+            layout: self.layout,
+            ends: self.ends.clone()?,
+        })
     }
 }
 

@@ -13,7 +13,7 @@ use Rattle.wkb_geom.proofs.Faults.{none_first, none_both}
 use Rattle.wkb_write.proofs.Sizes.{size_without_fault}
 use Rattle.wkb_geom.specs.declared.error.Fault.{Fault}
 use Rattle.std.specs.declared.io.Error.{Error}
-use Rattle.std.specs.Prelude.{IfErr, IfOk, MatchResult}
+use Rattle.std.specs.Prelude.{IfErr, MatchResult}
 use Rattle.wkb_sink.specs.Sinks.{IsBegun, IsIOError, IsOwnError, Puts, PutsOrStops, TellsFailure}
 use Rattle.wkb_geom.specs.declared.error.WkbError.TheVariants as errors
 use Rattle.std.specs.Prelude.{Some}
@@ -63,11 +63,6 @@ pub lent_fits : (o : WriteOptions) (g : Geometry) (bytes : List ℕ) → bytes �
     → length bytes < 2 ^ 64 → refusal_of o g ≡ None
 lent_fits o g bytes is none fits =
     none_both (fault g) _ none (size_without_fault (length (encoding_of o g)) (subst (λ t. length t < 2 ^ 64) is fits))
-
--- what is so is so of any answer
-pub if_ok : {T E A : Type 0} (r : Result T E) → A → IfOk r (λ x. A)
-if_ok (Ok x) so = so
-if_ok (Err e) so = tt
 
 is_io : (e : WkbError) (failure : Option Error) → TellsFailure e failure → IsIOError e
 is_io e (Some own) is = rw is tt

@@ -139,6 +139,7 @@ pub fn write_geometry<S: Sink, G: GeometryTrait>(
 ///
 /// Refused as `geometry_wkb_size_with` refuses it under the same options, or `Memory`.
 #[inline(always)]
+#[tactic(auto, using(crate::proofs::Writing::lent_fits))]
 pub fn to_vec<G: GeometryTrait>(
     alloc: Global,
     geom: &G,
