@@ -15,7 +15,7 @@ use wkb_geom::code::WkbType;
 use wkb_geom::{Cause, Header};
 
 /// What stands at the front of the bytes.
-#[derive(Clone, Copy, Debug)]
+#[derive(Clone, Copy)]
 pub struct Summary {
     /// Its length.
     pub bytes: usize,
@@ -30,7 +30,7 @@ pub struct Summary {
 }
 
 /// Why the bytes are refused, and where.
-#[derive(Clone, Copy, Debug)]
+#[derive(Clone, Copy)]
 pub struct Refused {
     /// The first fault from left to right.
     pub cause: Cause,

@@ -28,7 +28,7 @@ fn collection_is_cloned(wkb: &Wkb<'_>, case: &Case) -> Result<bool, Fail> {
 }
 
 fn polygon_is_cloned(wkb: &Wkb<'_>, case: &Case) -> Result<bool, Fail> {
-    let copy = as_polygon(wkb)?.clone();
+    let copy: Result<_, _> = as_polygon(wkb)?.clone();
     if !is_case(wkb, case) {
         return Ok(false);
     }
@@ -36,7 +36,7 @@ fn polygon_is_cloned(wkb: &Wkb<'_>, case: &Case) -> Result<bool, Fail> {
 }
 
 fn line_strings_are_cloned(wkb: &Wkb<'_>, case: &Case) -> Result<bool, Fail> {
-    let copy = as_multi_line_string(wkb)?.clone();
+    let copy: Result<_, _> = as_multi_line_string(wkb)?.clone();
     if !is_case(wkb, case) {
         return Ok(false);
     }
@@ -44,7 +44,7 @@ fn line_strings_are_cloned(wkb: &Wkb<'_>, case: &Case) -> Result<bool, Fail> {
 }
 
 fn polygons_are_cloned(wkb: &Wkb<'_>, case: &Case) -> Result<bool, Fail> {
-    let copy = as_multi_polygon(wkb)?.clone();
+    let copy: Result<_, _> = as_multi_polygon(wkb)?.clone();
     if !is_case(wkb, case) {
         return Ok(false);
     }
