@@ -111,7 +111,27 @@ encoding_alone {options = options} {g = g} empty w is =
 of_ok : {A E : Type 0} (r : Result A E) (x : A) (P : A → Type 0) → r ≡ Ok x → IfOk r P → P x
 of_ok r x P is h = subst (λ q. IfOk q P) is h
 
--- Read again, it is the value that the geometry stands for, in the options' order and with their SRID.
+-- Read again before any rest, it is the value that the geometry stands for, in the options' order and with their SRID.
+pub read_before : (rest : List ℕ) {options : WriteOptions} {g : Geometry} {r : Result
+    (Unit {0}) WkbError} {x : Unit {0}} {untouched : Type 0} {old new : List ℕ} {failed : Bool}
+    {fails_by : Option Error → Type 0} → old ≡ [] → Writes options g r untouched (Some old) (Some new) failed fails_by
+    → r ≡ Ok x
+    → nest (normal g) ≤ max_nesting
+    → (s : Spelling) × Front (new ++ rest) s (normal g) rest × HasOptions options.endianness options.form s
+read_before rest {options = options} {g = g} {r = r} {x = x} {old = old} {new = new} empty w is shallow =
+    let h : IsSpelled options (normal g) (Some old) (Some new) =
+    of_ok r x (λ _. IsSpelled options (normal g) (Some old) (Some new)) is w.spelled in (
+      h.spelling,
+      record {
+        front = h.encoding;
+        whole = ap (λ l. l ++ rest) (h.appended ∙ ap (λ l. l ++ h.encoding) empty);
+        spelled = h.spelled;
+        shallow = shallow;
+      },
+      h.options_kept,
+    )
+
+-- So it is with nothing after it.
 pub read_again : {options : WriteOptions} {g : Geometry} {r : Result
     (Unit {0}) WkbError} {x : Unit {0}} {untouched : Type 0} {old new : List ℕ} {failed : Bool}
     {fails_by : Option Error → Type 0} → old ≡ [] → Writes options g r untouched (Some old) (Some new) failed fails_by
@@ -119,17 +139,8 @@ pub read_again : {options : WriteOptions} {g : Geometry} {r : Result
     → nest (normal g) ≤ max_nesting
     → (s : Spelling) × Front new s (normal g) [] × HasOptions options.endianness options.form s
 read_again {options = options} {g = g} {r = r} {x = x} {old = old} {new = new} empty w is shallow =
-    let h : IsSpelled options (normal g) (Some old) (Some new) =
-    of_ok r x (λ _. IsSpelled options (normal g) (Some old) (Some new)) is w.spelled in (
-      h.spelling,
-      record {
-        front = h.encoding;
-        whole = h.appended ∙ ap (λ l. l ++ h.encoding) empty ∙ sym (append-nil h.encoding);
-        spelled = h.spelled;
-        shallow = shallow;
-      },
-      h.options_kept,
-    )
+    let read = read_before [] empty w is shallow in
+    (read.0, subst (λ input. Front input read.0 (normal g) []) (append-nil new) read.1, read.2)
 
 -- ---- where bytes stand
 

@@ -6,3 +6,5 @@ pub use Rattle.wkb_geom.specs.Geometries.{IsCoordinate, IsPoint, AreCoordinates}
 pub use Rattle.wkb_geom.specs.Geometries.{IsGeometry, AreGeometries, rectangle_ring, triangle_ring, normal_point}
 pub use Rattle.wkb_geom.specs.Geometries.{normal, normal_each, geometry_of}
 pub use Rattle.wkb_geom.specs.Geometries.{geometries_of}
+pub use Rattle.wkb_geom.specs.Sizes.{dimensions_of, byte_size, byte_sizes}
+pub use Rattle.wkb_geom.specs.Parts.{part_geometry}

@@ -1,6 +1,6 @@
 -- The laws of `wkb::laws`, and the records that they speak of.
 pub use Rattle.wkb_laws.specs.Laws.{HasOneFront, RestIsFree, BytesAreRead, HasFront, HasRefusal, ReadOrRefused}
-pub use Rattle.wkb_laws.specs.Laws.{NeverBoth, OneRefusal, listed_inside}
+pub use Rattle.wkb_laws.specs.Laws.{NeverBoth, OneRefusal, WritableIsRead, listed_inside}
 pub use Rattle.wkb_laws.specs.Laws.{RefusedOutward, EndsTooEarly, CutIsRefused, Agrees, GeometryAgrees, FrontIsRead}
 pub use Rattle.wkb_laws.specs.Laws.{RefusalIsRead, FrontIsBounded}
 pub use Rattle.wkb_laws.specs.Laws.{RefusalIsBounded, ReadingIsBounded, EncodingSpells, WrittenIsRead, EncodingHasSize}
@@ -16,5 +16,5 @@ pub use Rattle.wkb_laws.specs.Places.{HasOneEncoding, HaveOneEncoding, Coordinat
 pub use Rattle.wkb_laws.specs.Places.{IsMember}
 pub use Rattle.wkb_laws.specs.Places.{first_spellings, first_values}
 pub use Rattle.wkb_laws.specs.Places.{SpellsFirst, first_size, member_start, ring_start, StandsAt, HoldsMember}
-pub use Rattle.wkb_laws.specs.Places.{MembersStand, HoldsRing, RingsStand}
+pub use Rattle.wkb_laws.specs.Places.{NextStart, MembersStand, HoldsRing, RingsStand}
 pub use Rattle.wkb_laws.specs.Places.{MembersInPlace, RingsInPlace, IsWordOf, WordsStand, LineStringWordsStand}

@@ -4,6 +4,7 @@ pub mod Values
 pub mod Spellings
 pub mod Refusals
 pub mod Geometries
+pub mod Plain
 pub mod Encodings
 pub mod Reads
 pub mod Writes

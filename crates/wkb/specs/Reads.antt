@@ -12,20 +12,22 @@ pub use Rattle.wkb_read.specs.Seen.{geometry_seen, members_seen, geometry_lawful
 pub use Rattle.wkb_read.specs.Seen.{seen_as_it_is}
 pub use Rattle.wkb_read.specs.Seen.{members_as_they_are}
 pub use Rattle.wkb_read.specs.Views.{IsCollectionOf, IsViewOf}
-pub use Rattle.wkb_read.specs.Placed.{encodings, HoldsMembers, IsCollectionIn, AreMembers, IsMemberAt}
+pub use Rattle.wkb_read.specs.Placed.{joined_encodings, HoldsMembers, IsCollectionIn, AreMembers, IsMemberAt}
 pub use Rattle.wkb_view.specs.Coords.{words_seen, ring_seen, coordinate_encoding, coord_order, coord_dimension}
 pub use Rattle.wkb_view.specs.Coords.{coord_encoding}
 pub use Rattle.wkb_view.specs.Coords.{ring_order, ring_dimension}
 pub use Rattle.wkb_view.specs.Coords.{ring_encoding, ring_offset}
 pub use Rattle.wkb_view.specs.Views.{point_seen, line_string_seen, multi_point_seen, point_layout, line_string_layout}
-pub use Rattle.wkb_view.specs.Views.{multi_point_layout}
+pub use Rattle.wkb_view.specs.Views.{multi_point_layout, point_order, point_spelling, line_string_order}
+pub use Rattle.wkb_view.specs.Views.{line_string_spelling, line_string_coordinates}
 pub use Rattle.wkb_view.specs.Views.{coordinate_in, line_string_offset, multi_point_offset, point_value}
 pub use Rattle.wkb_view.specs.Parts.{list_of_values, srid_of, order_of, IsCollection, points_of, members_spelled}
-pub use Rattle.wkb_view.specs.Parts.{list_of_spellings, IsSpelled}
+pub use Rattle.wkb_view.specs.Parts.{list_of_spellings, BytesSpell}
 pub use Rattle.wkb_view.specs.Parts.{spelling_at}
-pub use Rattle.wkb_view.specs.Members.{stride}
+pub use Rattle.wkb_view.specs.Members.{stride, ArePoints, multi_point_item}
+pub use Rattle.wkb_geom.specs.Reading.{body_start, parts_start, point_item, line_string_item}
 pub use Rattle.wkb_view.specs.Fitted.{fitted_line_string, fitted_line_strings, fitted_polygons, fitted_point}
-pub use Rattle.wkb_view.specs.Fitted.{fitted_geometry, fitted_geometries}
+pub use Rattle.wkb_view.specs.Fitted.{fitted_geometry, fitted_geometries, fitted_parts}
 pub use Rattle.wkb_view.specs.Fitted.{fitted_geometry-same}
 pub use Rattle.wkb_read.specs.declared.geometry.Wkb.{Wkb}
 pub use Rattle.wkb_view.specs.declared.coord.Coord.{Coord}
@@ -36,3 +38,9 @@ pub use Rattle.wkb_view.specs.declared.multi_point.MultiPoint.{MultiPoint}
 pub use Rattle.wkb_view.specs.declared.point.Point.{Point}
 pub use Rattle.wkb_geom.specs.declared.geom.GeometryType.{GeometryType}
 pub use Rattle.wkb_geom.specs.declared.geom.GeometryType.TheVariants as handed
+pub use Rattle.wkb_geom.specs.declared.header.Layout.{Layout}
+pub use Rattle.wkb_geom.specs.Reading.{Reading, Cost}
+pub use Rattle.wkb_read.specs.Memory.{IsNotMemory}
+pub use Rattle.wkb_read.specs.Types.{geometry_type_of}
+pub use Rattle.wkb_read.specs.declared.geometry_type.GeometryType.{GeometryType as GeometryKind}
+pub use Rattle.wkb_read.specs.declared.geometry_type.GeometryType.TheVariants as kinds

@@ -7,3 +7,4 @@ pub use Rattle.wkb_geom.specs.Spellings.{part, member_part, IsPart}
 pub use Rattle.wkb_geom.specs.Spellings.{Spells, SpellsEach}
 pub use Rattle.wkb_geom.specs.Fronts.{max_nesting, FrontWithin, Front}
 pub use Rattle.wkb_laws.specs.Written.{HasOptions, AllHaveOptions}
+pub use Rattle.wkb_geom.specs.Codes.{Code, iso_code, ewkb_code}

@@ -17,3 +17,9 @@ pub use Rattle.wkb_geom.specs.Dimensions.{width, has_z, has_m, size, dimension_o
 pub use Rattle.wkb_geom.specs.Dimensions.{dimensions}
 pub use Rattle.wkb_geom.specs.Errors.{TellsFault, IsMemory}
 pub use Rattle.wkb_geom.specs.Told.{Tells}
+pub use Rattle.wkb_geom.specs.declared.error.General.{General}
+pub use Rattle.wkb_geom.specs.declared.error.General.TheVariants as generals
+pub use Rattle.wkb_geom.specs.declared.error.Overflow.{Overflow}
+pub use Rattle.wkb_geom.specs.declared.error.Overflow.TheVariants as overflows
+pub use Rattle.wkb_geom.specs.Meanings.{HasOrder, IsNamed}
+pub use Rattle.wkb_geom.specs.Reading.{order_of_byte}

@@ -4,3 +4,6 @@ pub use Rattle.wkb_write.specs.Answers.{Writes, WritesTo}
 pub use Rattle.wkb_write.specs.Measures.{Reports}
 pub use Rattle.wkb_sink.specs.Sinks.{FailsBy, TellsFailure, IsIOError, IsOwnError, IsWritten, IsBegun, Puts}
 pub use Rattle.wkb_sink.specs.declared.options.WriteOptions.{WriteOptions}
+pub use Rattle.wkb_sink.specs.Sinks.{put_fails}
+pub use Rattle.wkb_sink.specs.declared.sink.Sink.{Ghosts}
+pub use Rattle.wkb_sink.specs.Held.{Outward, Growing, Lent}

@@ -1,22 +1,34 @@
 //! Laws over the definitions: what they say of any two inputs, and of any encoding.
 
 ghost use Rattle.wkb.specs.Words.{AreBytes};
+ghost use Rattle.wkb.specs.Encodings.{IsForm};
 
+use wkb_geom::Form;
 pub use wkb_laws::encodings::{
     equal_spelled, size_of_spelled, spelled_in_full, spelled_is_writable,
 };
 pub use wkb_laws::places::{
-    members_in_place, members_stand, one_encoding, one_encoding_of_coordinates, rings_in_place,
-    rings_stand, words_stand,
+    members_in_place, members_stand, next_start, one_encoding, one_encoding_of_coordinates,
+    rings_in_place, rings_stand, words_stand,
 };
 pub use wkb_laws::{
     cut_is_refused, encoding_length, encoding_spells, equal_encodings,
     equal_encodings_with_own_srid, equal_encodings_with_srid, front_is_writable, geometry_agrees,
     named_dimension, one_front, read_or_refused, refused_outward, rest_is_free, rewriting_is_fixed,
-    rewriting_is_read, work_is_bounded, written_is_read,
+    rewriting_is_read, work_is_bounded, writable_is_read, written_is_read,
 };
 
 /// A slice of bytes holds bytes, each below 256, as laws ask it of what they are said of.
 pub fn are_bytes(_bytes: &[u8])
     ensures { AreBytes _bytes.now }
 {}
+
+/// The SRID of a form fits its four bytes, as laws ask it of the form that is written.
+pub fn srid_fits(form: Form)
+    ensures { IsForm form }
+{
+    match form {
+        Form::Ewkb { srid: Some(_) } => {}
+        Form::Iso | Form::Ewkb { srid: None } => {}
+    }
+}

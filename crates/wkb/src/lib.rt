@@ -1,6 +1,6 @@
 //! Well-Known Binary: the reader, the writer, and the canonical form of what was read.
 //!
-//! All names but `canon` and `laws::are_bytes` are re-exports of the crates below.
+//! All names but `canon`, `laws::are_bytes` and `laws::srid_fits` are re-exports of the crates below.
 #![tactic(auto)]
 
 pub mod canon;

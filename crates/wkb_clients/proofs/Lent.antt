@@ -1,23 +1,40 @@
 -- The bytes that views lend, at their places.
-use Rattle.std.proofs.Common.{◌≡◌, ℕ, ◌+◌, ◌*◌, ◌≤◌, List, length, drop, Some, refl, sym, ap, subst, ◌∙◌, slice_get}
-use Rattle.std.proofs.Common.{drop-drop, length-append, arith}
+use Rattle.std.proofs.Common.{◌≡◌, ℕ, suc, ◌+◌, ◌*◌, ◌≤◌, List, length, drop, Some, refl, sym, ap, subst, ◌∙◌}
+use Rattle.std.proofs.Common.{slice_get, drop-drop, length-append, arith}
 use Rattle.wkb_clients.specs.Common.{width, dimensions, AreBytes, number, Coordinate, Value, polygon, multi_polygon}
 use Rattle.wkb_clients.specs.Common.{each, members, SpellsCoordinates, Listed, Item}
-use Rattle.wkb_clients.specs.Common.{whole_of, IsSpelled, spelling_at, order_of, LinearRing, ring_seen, ring_encoding}
+use Rattle.wkb_clients.specs.Common.{whole_of, BytesSpell, spelling_at, order_of, LinearRing, ring_seen, ring_encoding}
 use Rattle.wkb_clients.specs.Common.{ring_order, ring_dimension, IsMember}
 use Rattle.wkb_clients.specs.Common.{SpelledInFull, MembersInPlace, RingsInPlace, WordsStand, IsWordOf, StandsAt}
 use Rattle.wkb_clients.specs.Common.{member_start, ring_start}
 use Rattle.wkb.specs.Bridges.{one_name, part_is_member, rest_stands, stands_within, begins_there}
-use Rattle.wkb_clients.specs.Members.{LendsMember, LendsRing, IsCornerWord}
+use Rattle.wkb.specs.Laws.{NextStart, SizeOfSpelled}
+use Rattle.wkb_clients.specs.Members.{LendsMember, AreNeighbours, LendsRing, IsCornerWord}
 
 -- a member that a view shows
 pub lends_member : SpelledInFull → MembersInPlace → (whole : Item) (k : ℕ) (part : Item)
     → IsMember k whole.spelled whole.value part.spelled part.value
-    → AreBytes whole.encoding → AreBytes part.encoding → IsSpelled whole → IsSpelled part
+    → AreBytes whole.encoding → AreBytes part.encoding → BytesSpell whole → BytesSpell part
     → LendsMember whole k part.encoding
 lends_member full place whole k part member bytes bytes' spells spells' =
     place whole k part bytes bytes' (full whole.spelled whole.value whole.encoding spells)
     (full part.spelled part.value part.encoding spells') member
+
+-- a member and the next one
+pub are_neighbours : SpelledInFull → MembersInPlace → NextStart → SizeOfSpelled → (whole : Item) (k n : ℕ) (part : Item)
+    (next : List ℕ) → n ≡ suc k
+    → IsMember k whole.spelled whole.value part.spelled part.value
+    → AreBytes whole.encoding → AreBytes part.encoding → BytesSpell whole → BytesSpell part → LendsMember whole n next
+    → AreNeighbours whole k part.encoding next
+are_neighbours full place next_start size whole k n part next is member bytes bytes' spells spells' lent =
+    let start = member_start k whole.spelled whole.value in
+    let long = size part.spelled part.value part.encoding (full part.spelled part.value part.encoding spells') in
+    let ends = next_start k whole.spelled whole.value part.spelled part.value member ∙ ap (λ l. start + l) (sym long) in
+    record {
+      first = lends_member full place whole k part member bytes bytes' spells spells';
+      second = subst (λ m. StandsAt m next whole.encoding)
+          (ap (λ m. member_start m whole.spelled whole.value) is ∙ ends) lent;
+    }
 
 -- a member of a multi geometry
 pub member_of_list : {A : Type 0} (f : A → Value) (whole : Item) (l : List A) (k : ℕ) (part : Item) (a : A)
@@ -36,7 +53,7 @@ pub record IsRingAt (p : Listed (List (List Coordinate))) (j : ℕ) (r : LinearR
 
 pub ring_at : SpelledInFull → RingsInPlace → (p : Listed (List (List Coordinate))) (j : ℕ) (r : LinearRing)
     → AreBytes p.encoding
-    → IsSpelled (whole_of polygon p)
+    → BytesSpell (whole_of polygon p)
     → SpellsCoordinates (ring_order r) (ring_dimension r) (ring_seen r) (ring_encoding r)
     → AreBytes (ring_encoding r)
     → ring_order r ≡ order_of p.spelled → dimensions (ring_dimension r) ≡ dimensions p.dimension

@@ -4,5 +4,6 @@ pub mod KeysFound
 pub mod KindsHanded
 pub mod Lent
 pub mod PointRead
+pub mod ReadBefore
 pub mod Rings
 pub mod Words

@@ -8,8 +8,8 @@ pub use Rattle.wkb.specs.Spellings.{Front, max_nesting, Spelling, Spells, Spells
 pub use Rattle.wkb.specs.Spellings.{no_spellings, spelling}
 pub use Rattle.wkb.specs.Reads.{Item, geometry_at, spellings, values, point_of, line_string_of, whole_of, Listed}
 pub use Rattle.wkb.specs.Reads.{HasNoFront, IsFront, IsOnlyFront, IfRefused}
-pub use Rattle.wkb.specs.Reads.{members_spelled, list_of_spellings, IsSpelled, points_of, point_value, line_string_seen}
-pub use Rattle.wkb.specs.Reads.{point_seen, multi_point_seen}
+pub use Rattle.wkb.specs.Reads.{members_spelled, list_of_spellings, BytesSpell, points_of, point_value}
+pub use Rattle.wkb.specs.Reads.{line_string_seen, point_seen, multi_point_seen}
 pub use Rattle.wkb.specs.Reads.{order_of, spelling_at, IsCollectionOf, LinearRing, words_seen, ring_seen, ring_encoding}
 pub use Rattle.wkb.specs.Reads.{ring_order, ring_dimension}
 pub use Rattle.wkb.specs.Laws.{IsWordOf, IsMember, HoldsMember, behind_count, IsOneOf, MembersStand, HasOneEncoding}

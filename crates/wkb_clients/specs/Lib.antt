@@ -1,4 +1,5 @@
 pub mod Common
+pub mod Framed
 pub mod Keys
 pub mod Members
 pub mod Rings

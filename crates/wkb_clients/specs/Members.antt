@@ -1,5 +1,5 @@
 -- The bytes of a member, of a ring, and a word of a member's ring.
-use Rattle.std.proofs.Common.{◌≡◌, ℕ, ◌+◌, ◌*◌, List, drop, Some, slice_get}
+use Rattle.std.proofs.Common.{◌≡◌, ℕ, ◌+◌, ◌*◌, List, length, drop, Some, slice_get}
 use Rattle.wkb_clients.specs.Common.{Dimension, width, number, Coordinate, polygon, header, Listed, Item, IsMember}
 use Rattle.wkb_clients.specs.Common.{IsWordOf, IsFront, StandsAt, member_start}
 use Rattle.wkb_clients.specs.Common.{ring_start}
@@ -7,6 +7,11 @@ use Rattle.wkb_clients.specs.Common.{ring_start}
 -- the bytes are the geometry's at the place of its member of this number
 abbrev pub LendsMember : Item → ℕ → List ℕ → Type 0
 LendsMember whole k bytes = StandsAt (member_start k whole.spelled whole.value) bytes whole.encoding
+
+-- these are the bytes of the geometry's member of this number and of the next one, which begins where the first ends
+pub record AreNeighbours (whole : Item) (k : ℕ) (one next : List ℕ) : Type 0 where
+  pub first : LendsMember whole k one
+  pub second : StandsAt (member_start k whole.spelled whole.value + length one) next whole.encoding
 
 -- the bytes are the polygon's at the place of the coordinates of its ring of this number, behind the ring's count
 abbrev pub LendsRing : Listed (List (List Coordinate)) → ℕ → List ℕ → Type 0

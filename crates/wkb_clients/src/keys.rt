@@ -6,11 +6,11 @@ ghost use Rattle.wkb.specs.Reads.{IsRefusal};
 ghost use Rattle.wkb.specs.Encodings.{IsRewritingWithSrid};
 ghost use Rattle.wkb_clients.specs.Keys.{IsKey, HasOneKey, HasOneEwkbKey, Inserts};
 
-use std::alloc::{AllocError, Global};
+use std::alloc::Global;
 use std::marker::Model;
 use wkb::Endianness;
 use wkb::canon::{canonical, canonical_with_srid};
-use wkb::error::{WkbError, WkbResult};
+use wkb::error::WkbResult;
 use wkb::laws::{
     are_bytes, equal_encodings, equal_encodings_with_own_srid, geometry_agrees, rewriting_is_read,
 };
@@ -107,9 +107,7 @@ impl Store {
         if self.keys.contains(&key) {
             return Ok(true);
         }
-        if let Err(_) = self.keys.push(key) {
-            return Err(WkbError::Memory(AllocError));
-        }
+        self.keys.push(key)?;
         Ok(false)
     }
 }

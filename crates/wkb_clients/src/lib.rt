@@ -3,8 +3,11 @@
 
 pub mod clones;
 pub mod collections;
+pub mod framed;
 pub mod keys;
 pub mod members;
+pub mod orders;
 pub mod package;
+pub mod plain;
 pub mod stops;
 pub mod written;

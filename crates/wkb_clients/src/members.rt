@@ -3,13 +3,16 @@
 ghost use Rattle.std.specs.Prelude.{◌+◌, IfSome};
 ghost use Rattle.wkb.specs.Reads.{whole_of, multi_point_seen};
 ghost use Rattle.wkb.specs.Values.{multi_line_string, multi_polygon};
-ghost use Rattle.wkb_clients.specs.Members.{LendsMember, LendsRing, IsCornerWord};
+ghost use Rattle.wkb_clients.specs.Members.{LendsMember, AreNeighbours, LendsRing, IsCornerWord};
 
 use wkb::geom::{
     CoordTrait, LineStringTrait, MultiLineStringTrait, MultiPointTrait, MultiPolygonTrait,
     PolygonTrait,
 };
-use wkb::laws::{are_bytes, members_in_place, rings_in_place, spelled_in_full, words_stand};
+use wkb::laws::{
+    are_bytes, members_in_place, next_start, rings_in_place, size_of_spelled, spelled_in_full,
+    words_stand,
+};
 use wkb::reader::{MultiLineString, MultiPoint, MultiPolygon, Polygon};
 
 /// The bytes of a point of a multi point, if there is one of this index: they stand in those of the multi point, behind
@@ -63,6 +66,29 @@ pub fn polygon_bytes<'a>(multi: &MultiPolygon<'a>, i: usize) -> Option<&'a [u8]>
             are_bytes(bytes);
             Some(bytes)
         }
+        None => None,
+    }
+}
+
+/// The bytes of a polygon of a multi polygon and those of the next one, if both are there: the next begins where the
+/// first ends.
+pub fn neighbour_bytes<'a>(multi: &MultiPolygon<'a>, i: u32) -> Option<(&'a [u8], &'a [u8])>
+    ensures { IfSome result
+        (λ both. AreNeighbours (whole_of multi_polygon multi.now) i both.0.now both.1.now) }
+{
+    members_in_place();
+    next_start();
+    size_of_spelled();
+    spelled_in_full();
+    are_bytes(multi.buf());
+    let i = i as usize;
+    let Some(polygon) = multi.polygon(i) else {
+        return None;
+    };
+    let bytes = polygon.buf();
+    are_bytes(bytes);
+    match polygon_bytes(multi, i + 1) {
+        Some(next) => Some((bytes, next)),
         None => None,
     }
 }

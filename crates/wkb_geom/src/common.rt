@@ -31,6 +31,16 @@ impl Endianness {
             _ => None,
         }
     }
+
+    /// The first byte of a geometry in this order: `u8::from(order)`, which a crate that names `wkb` alone can't call.
+    pub fn byte(self) -> u8
+        ensures { result ≡ order_byte self }
+    {
+        match self {
+            Endianness::BigEndian => 0,
+            Endianness::LittleEndian => 1,
+        }
+    }
 }
 
 /// The dimension of a geometry that was read.
@@ -150,10 +160,7 @@ impl From<Endianness> for u8 {
     ghost from_gives = { λ order n. n ≡ order_byte order };
 
     fn from(order: Endianness) -> u8 {
-        match order {
-            Endianness::BigEndian => 0,
-            Endianness::LittleEndian => 1,
-        }
+        order.byte()
     }
 }
 

@@ -3,10 +3,10 @@
 ghost use Rattle.std.specs.Prelude.{◌≡◌};
 ghost use Rattle.wkb_geom.specs.declared.error.WkbError.TheVariants.{IOError, Memory};
 ghost use Rattle.wkb_geom.specs.declared.error.Refusal.TheVariants as refusals;
-ghost use Rattle.wkb_geom.specs.Errors.{TellsFault};
+ghost use Rattle.wkb_geom.specs.Errors.{IsMemory, TellsFault};
 ghost use Rattle.wkb_geom.specs.Told.{Tells, TellsRefusal};
 
-use std::alloc::AllocError;
+use std::alloc::{AllocError, AllocFailed};
 use std::io;
 use thiserror::Error;
 
@@ -121,6 +121,15 @@ impl From<AllocError> for WkbError {
 
     fn from(e: AllocError) -> WkbError {
         WkbError::Memory(e)
+    }
+}
+
+/// A value that a list had no memory for: `?` drops it.
+impl<T: Drop> From<AllocFailed<T>> for WkbError {
+    ghost from_gives = { λ _ e. IsMemory e };
+
+    fn from(_refused: AllocFailed<T>) -> WkbError {
+        WkbError::Memory(AllocError)
     }
 }
 

@@ -8,8 +8,9 @@ use Rattle.wkb_laws.specs.Words.{kind, dimension, members, count, Header, Spelli
 use Rattle.wkb_laws.specs.Words.{spelling, header, IsHeader}
 use Rattle.wkb_laws.specs.Words.{SpellsCoordinates, SpellsBody, Wanted, any, member_part, Spells, SpellsEach, srid_size}
 use Rattle.wkb_laws.specs.Words.{ring_end, coordinate, AreBytes}
+use Rattle.wkb_laws.specs.Encodings.{spelled_size}
 use Rattle.wkb_laws.specs.Places.{behind_count, IsOneOf, IsMember, first_spellings, first_values, ring_start, StandsAt}
-use Rattle.wkb_laws.specs.Places.{HoldsMember, MembersStand, HoldsRing}
+use Rattle.wkb_laws.specs.Places.{first_size, NextStart, HoldsMember, MembersStand, HoldsRing}
 use Rattle.wkb_laws.specs.Places.{RingsStand, MembersInPlace, RingsInPlace, WordsStand, LineStringWordsStand}
 use Rattle.wkb_laws.proofs.Parts.{then_append, take_front, drop_front, item_at, header_length}
 use Rattle.wkb_laws.proofs.Values.{AreBytes-front, AreBytes-rest}
@@ -138,6 +139,18 @@ rings_lem whole d rings j ring h value_is is =
         }
 
 -- ---- members
+
+next_size : (k : ℕ) (ss : Spellings) (ts : Values) (s : Spelling) (t : Value) → IsOneOf k ss ts s t
+    → first_size (suc k) ss ts ≡ first_size k ss ts + spelled_size s t
+next_size zero (spelling a ss) (member b ts) s t is = rw (is.0, is.1) (omega arith)
+next_size (suc k) (spelling a ss) (member b ts) s t is = omega (arith, next_size k ss ts s t is)
+next_size zero no_spellings ts s t is = absurd is
+next_size (suc k) no_spellings ts s t is = absurd is
+next_size zero (spelling a ss) no_members s t is = absurd is
+next_size (suc k) (spelling a ss) no_members s t is = absurd is
+
+pub next_start_lem : NextStart
+next_start_lem k (node h words ss) value s t is = omega (arith, next_size k ss (members value) s t is)
 
 -- one member's encoding among those of the others
 member_at : (w : Wanted) (k : ℕ) (ss : Spellings) (ts : Values) (s : Spelling) (t : Value) (bytes : List ℕ)

@@ -4,14 +4,15 @@ use Rattle.wkb_laws.specs.Words.{Endianness, Form, Ewkb, AreBytes, Value, Spelli
 use Rattle.wkb_laws.specs.Words.{geometry_of, form_srid, encoding, IsForm}
 use Rattle.wkb_laws.specs.Written.{written, HasOptions}
 use Rattle.wkb_laws.specs.Encodings.{EqualSpelled, EqualSpelledWithSrid}
-use Rattle.wkb_laws.specs.Laws.{EncodingSpells, WrittenIsRead, EqualEncodings, EqualEncodingsWithSrid}
+use Rattle.wkb_laws.specs.Laws.{EncodingSpells, WrittenIsRead, WritableIsRead, EqualEncodings}
+use Rattle.wkb_laws.specs.Laws.{EqualEncodingsWithSrid}
 use Rattle.wkb_laws.specs.Laws.{EqualEncodingsWithOwnSrid}
 use Rattle.wkb_laws.specs.Laws.{RestIsFree, BytesAreRead, RewritingIsRead}
 use Rattle.wkb_laws.specs.Laws.{RewritingIsFixed, RewritingWithSridIsFixed}
 use Rattle.wkb_laws.proofs.OneFront.{one_spelling, one_front_lem}
 use Rattle.wkb_laws.proofs.EncodingSpells.{encoding_spells, written_has_options}
 use Rattle.wkb_laws.proofs.Values.{Good, spelled_good, front_good, front_bytes, front_srid, normal-geometry_of}
-use Rattle.wkb_laws.proofs.Values.{lawful-geometry_of}
+use Rattle.wkb_laws.proofs.Values.{lawful-geometry_of, or_else_parts}
 
 outer_srid : (order : Endianness) (form : Form) (s : Spelling) → HasOptions order form s
     → (header s).srid ≡ form_srid form
@@ -49,6 +50,10 @@ written_is_read_lem order form g rest h lawful fine shallow =
       record { front = encoding order form g; whole = refl; spelled = spelled; shallow = shallow },
       written_has_options order form g,
     )
+
+pub writable_is_read_lem : WritableIsRead
+writable_is_read_lem order form g rest h lawful fine shallow =
+    written_is_read_lem order form g rest h lawful (or_else_parts _ _ fine).0 shallow
 
 pub equal_spelled_lem : EqualSpelled
 equal_spelled_lem order form s u t v x y h b b' a a' = (

@@ -145,6 +145,13 @@ WrittenIsRead =
     → nest (normal g) ≤ max_nesting
     → (s : Spelling) × Front (encoding order form g ++ rest) s (normal g) rest × HasOptions order form s
 
+-- So is whatever a writer doesn't refuse.
+abbrev pub WritableIsRead : Type 0
+WritableIsRead =
+    (order : Endianness) (form : Form) (g : Geometry) (rest : List ℕ) → IsForm form → IsGeometry g
+    → IsWritable order form g → nest (normal g) ≤ max_nesting
+    → (s : Spelling) × Front (encoding order form g ++ rest) s (normal g) rest × HasOptions order form s
+
 -- An encoding is as long as its geometry's size says, and four bytes longer where an SRID is written.
 abbrev pub EncodingHasSize : Type 0
 EncodingHasSize = (order : Endianness) (form : Form) (g : Geometry) → IsForm form → IsGeometry g → fault g ≡ None

@@ -62,6 +62,11 @@ first_size (suc k) ss ts = 0
 abbrev pub member_start : ℕ → Spelling → Value → ℕ
 member_start k (node h words ss) t = behind_count (node h words ss) + first_size k ss (members t)
 
+-- A member begins where the one before it ends.
+abbrev pub NextStart : Type 0
+NextStart = (k : ℕ) (whole : Spelling) (value : Value) (s : Spelling) (t : Value) → IsMember k whole value s t
+    → member_start (suc k) whole value ≡ member_start k whole value + spelled_size s t
+
 -- where the ring of this number begins: behind the count and the rings before it
 abbrev pub ring_start : ℕ → Spelling → Dimension → List (List Coordinate) → ℕ
 ring_start j s d rings = behind_count s + sum_by (λ cs. ring_end d (length cs)) (take j rings)

@@ -5,7 +5,8 @@ ghost use Rattle.wkb_laws.specs.Laws.{HasOneFront, RestIsFree, BytesAreRead, Rea
 ghost use Rattle.wkb_laws.specs.Laws.{NeverBoth, OneRefusal, RefusedOutward, CutIsRefused};
 ghost use Rattle.wkb_laws.specs.Laws.{GeometryAgrees, FrontIsRead, RefusalIsRead, FrontIsBounded};
 ghost use Rattle.wkb_laws.specs.Laws.{RefusalIsBounded, ReadingIsBounded, EncodingSpells};
-ghost use Rattle.wkb_laws.specs.Laws.{WrittenIsRead, EncodingHasSize, LengthOfEncoding};
+ghost use Rattle.wkb_laws.specs.Laws.{WrittenIsRead, WritableIsRead, EncodingHasSize};
+ghost use Rattle.wkb_laws.specs.Laws.{LengthOfEncoding};
 ghost use Rattle.wkb_laws.specs.Laws.{LengthOfFront, FrontIsWritable, EwkbIsWritable};
 ghost use Rattle.wkb_laws.specs.Laws.{SizeIsRefused, OwnSridIsWritable, RewritingIsRead};
 ghost use Rattle.wkb_laws.specs.Laws.{RewritingIsFixed, RewritingWithSridIsFixed, EqualEncodings};
@@ -68,6 +69,12 @@ pub fn encoding_spells()
 #[tactic(auto, using(crate::proofs::Rewritings::written_is_read_lem))]
 pub fn written_is_read()
     ensures { WrittenIsRead }
+{}
+
+/// What a writer doesn't refuse is read again, whatever follows it.
+#[tactic(auto, using(crate::proofs::Rewritings::writable_is_read_lem))]
+pub fn writable_is_read()
+    ensures { WritableIsRead }
 {}
 
 /// An encoding's length is its geometry's size, in either order, and a geometry that was read is written in its own

@@ -2,7 +2,7 @@
 
 ghost use Rattle.wkb_laws.specs.Places.{HasOneEncoding, HaveOneEncoding, CoordinateHasOneEncoding};
 ghost use Rattle.wkb_laws.specs.Places.{MembersStand, RingsStand, MembersInPlace, RingsInPlace};
-ghost use Rattle.wkb_laws.specs.Places.{WordsStand, LineStringWordsStand};
+ghost use Rattle.wkb_laws.specs.Places.{NextStart, WordsStand, LineStringWordsStand};
 
 /// A spelling and a value have one encoding: whatever bytes spell both are the same bytes.
 #[tactic(auto, using(crate::proofs::OneEncoding::one_encoding_lem))]
@@ -32,6 +32,12 @@ pub fn rings_stand()
 /// The bytes that spell a member are those of the whole at its place: behind the count and the members before it.
 pub fn members_in_place()
     ensures { MembersInPlace }
+{}
+
+/// A member begins where the one before it ends, and the first of them at the end of the count.
+#[tactic(auto, using(crate::proofs::PartsInPlace::next_start_lem))]
+pub fn next_start()
+    ensures { NextStart }
 {}
 
 /// The bytes that spell a ring are those of its polygon at its place: behind the count and the rings before it.

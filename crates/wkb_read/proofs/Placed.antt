@@ -5,7 +5,8 @@ use Rattle.wkb_read.proofs.Words.{take, drop, Ok, Err, refl, sym, ap, subst, ◌
 use Rattle.wkb_read.proofs.Words.{Option, length-append, length-drop, slice_get}
 use Rattle.wkb_read.proofs.Words.{AllByRecursion, ∥∥₁_elim, props, arith, Bor, Layout, any, number, Listed, Values}
 use Rattle.wkb_read.proofs.Words.{Item, Reading, body_start, parts_start}
-use Rattle.wkb_read.proofs.Words.{consumed, spellings, values, Counts, HasHead, IsSpelled, Wkb, Whole, encodings}
+use Rattle.wkb_read.proofs.Words.{consumed, spellings, values, Counts, HasHead, BytesSpell, Wkb, Whole}
+use Rattle.wkb_read.proofs.Words.{joined_encodings}
 use Rattle.wkb_read.proofs.Words.{parts_in}
 use Rattle.wkb_read.proofs.Words.{HoldsMembers, IsCollectionIn, AreMembers}
 use Rattle.wkb_read.proofs.Words.{IsMemberAt, geometry_inside, IsFinished, BeginsAs, max_nesting}
@@ -20,19 +21,19 @@ use Rattle.wkb_laws.proofs.Parts.{drop_front}
 use Rattle.wkb_laws.proofs.Sound.{geometry_says}
 use Rattle.wkb_read.proofs.Bodies.{head_opens}
 
-encodings-append : (xs ys : List Item) → encodings (xs ++ ys) ≡ encodings xs ++ encodings ys
-encodings-append [] ys = refl
-encodings-append (x ∷ xs) ys =
-    ap (λ (b : List ℕ). x.encoding ++ b) (encodings-append xs ys)
-    ∙ sym (append_assoc x.encoding (encodings xs) (encodings ys))
+joined_encodings-append : (xs ys : List Item) → joined_encodings (xs ++ ys) ≡ joined_encodings xs ++ joined_encodings ys
+joined_encodings-append [] ys = refl
+joined_encodings-append (x ∷ xs) ys =
+    ap (λ (b : List ℕ). x.encoding ++ b) (joined_encodings-append xs ys)
+    ∙ sym (append_assoc x.encoding (joined_encodings xs) (joined_encodings ys))
 
 -- with one member more, that many bytes more are the members'
 pub one_more : (xs : List Item) (x : Item) (rest : List ℕ)
-    → encodings (xs ++ x ∷ []) ++ rest ≡ encodings xs ++ (x.encoding ++ rest)
+    → joined_encodings (xs ++ x ∷ []) ++ rest ≡ joined_encodings xs ++ (x.encoding ++ rest)
 one_more xs x rest =
     ap (λ (b : List ℕ). b ++ rest)
-    (encodings-append xs (x ∷ []) ∙ ap (λ (b : List ℕ). encodings xs ++ b) (append-nil x.encoding))
-    ∙ append_assoc (encodings xs) x.encoding rest
+    (joined_encodings-append xs (x ∷ []) ∙ ap (λ (b : List ℕ). joined_encodings xs ++ b) (append-nil x.encoding))
+    ∙ append_assoc (joined_encodings xs) x.encoding rest
 
 -- what is read of bytes are their first ones, and spell it
 pub record PartRead (bytes : List ℕ) (w : Item) (rest : List ℕ) : Type 0 where
@@ -73,11 +74,11 @@ front_taken n bytes encoding rest long encoding-is rest-is =
 
 -- ---- a collection that has all its members
 
-each_together : (ms : List Item) → AllByRecursion IsSpelled ms
-    → ∥ SpellsEach any (spellings ms) (values ms) (encodings ms) ∥₁
+each_together : (ms : List Item) → AllByRecursion BytesSpell ms
+    → ∥ SpellsEach any (spellings ms) (values ms) (joined_encodings ms) ∥₁
 each_together [] h = ∣ refl ∣₁
 each_together (m ∷ ms) h = ∥∥₁_elim h.0 (hlevel props) (λ s. ∥∥₁_elim (each_together ms h.1) (hlevel props) (λ r.
-    ∣ record { front = m.encoding; rest = encodings ms; whole = refl; first = (s, tt); second = r } ∣₁))
+    ∣ record { front = m.encoding; rest = joined_encodings ms; whole = refl; first = (s, tt); second = r } ∣₁))
 
 count_values : (ms : List Item) → count (values ms) ≡ length ms
 count_values [] = refl
@@ -91,18 +92,18 @@ pub record Closed (l : Layout) (bytes : List ℕ) (members : List Item) (rest : 
 pub closed : (l : Layout) (bytes : List ℕ) (members : List Item) (rest : List ℕ)
     → HasHead (λ d. kinds.GeometryCollection d) l bytes
     → number l.order 4 (drop (body_start l.has_srid) bytes) ≡ length members → body_start l.has_srid + 4 ≤ length bytes
-    → parts_start l.has_srid bytes ≡ encodings members ++ rest → AllByRecursion IsSpelled members
+    → parts_start l.has_srid bytes ≡ joined_encodings members ++ rest → AllByRecursion BytesSpell members
     → Closed l bytes members rest
 closed l bytes members rest head counted long behind each =
     let start = body_start l.has_srid in
     let encoding = consumed bytes rest in
     let field = take 4 (drop start bytes) in
-    let p = parts_encoding l bytes (encodings members) rest long behind in
+    let p = parts_encoding l bytes (joined_encodings members) rest long behind in
     let t = collection l.dimension (values members) in
     let h : Head = record { order = l.order; wkb_type = kinds.GeometryCollection l.dimension; has_srid = l.has_srid } in
-    let spelled : IsSpelled (list_item l collection_with members encoding) =
+    let spelled : BytesSpell (list_item l collection_with members encoding) =
     ∥∥₁_elim (each_together members each) (hlevel props) (λ all.
-    ∣ (item_is (nest t) any bytes encoding rest l [] (spellings members) t field (encodings members)
+    ∣ (item_is (nest t) any bytes encoding rest l [] (spellings members) t field (joined_encodings members)
     (record { turns = member_count t; slots = listed_count t })
     (head_opens bytes h head) tt p.whole p.long p.body
     (refl, subst (λ k. IsNumber l.order 4 k field) (counted ∙ sym (count_values members)) p.number)
@@ -113,10 +114,10 @@ closed l bytes members rest head counted long behind each =
             arith,
             ap length p.body,
             length-drop start encoding,
-            length-append field (encodings members),
+            length-append field (joined_encodings members),
             p.number.len,
           );
-      behind = ap (λ (b : List ℕ). drop 4 b) p.body ∙ drop_front 4 field (encodings members) p.number.len;
+      behind = ap (λ (b : List ℕ). drop 4 b) p.body ∙ drop_front 4 field (joined_encodings members) p.number.len;
       each = each;
     } in
     record { collection = (holds, spelled); whole = p.whole }
@@ -132,19 +133,20 @@ are_members l members encoding h = record {
 }
 
 -- members that stand in the same bytes, with the same spellings, are the same
-same_members : (xs ys : List Item) → AllByRecursion IsSpelled xs → AllByRecursion IsSpelled ys
+same_members : (xs ys : List Item) → AllByRecursion BytesSpell xs → AllByRecursion BytesSpell ys
     → spellings xs ≡ spellings ys → values xs ≡ values ys
-    → encodings xs ≡ encodings ys → xs ≡ ys
+    → joined_encodings xs ≡ joined_encodings ys → xs ≡ ys
 same_members [] [] a b s v t = refl
 same_members [] (y ∷ ys) a b s v t = absurd cc
 same_members (x ∷ xs) [] a b s v t = absurd cc
 same_members (x ∷ xs) (y ∷ ys) a b s v t =
     let spelled : x.spelled ≡ y.spelled = cc in
     let value : x.value ≡ y.value = cc in
-    let both : (x.encoding ≡ y.encoding) × (encodings xs ≡ encodings ys) =
+    let both : (x.encoding ≡ y.encoding) × (joined_encodings xs ≡ joined_encodings ys) =
     ∥∥₁_elim a.0 (hlevel props) (λ p. ∥∥₁_elim b.0 (hlevel props) (λ q.
     let one =
-    one_spelling x.spelled y.spelled x.value y.value x.encoding y.encoding (encodings xs) (encodings ys) p q t in
+    one_spelling x.spelled y.spelled x.value y.value x.encoding y.encoding (joined_encodings xs)
+    (joined_encodings ys) p q t in
     (one.encoding, one.rest))) in
     let more : xs ≡ ys = same_members xs ys a.1 b.1 (cc) (cc) both.1 in
     let item : x ≡ y = rw (both.0, spelled, value) refl in

@@ -2,7 +2,7 @@
 use Rattle.wkb_read.proofs.Words.{◌≡◌, ℕ, suc, ◌+◌, ◌≤◌, List, [], ◌∷◌, ◌++◌, length, Ok, Err, refl, sym, ap, subst}
 use Rattle.wkb_read.proofs.Words.{◌∙◌, append_assoc}
 use Rattle.wkb_read.proofs.Words.{length-append, arith, Bor, Item, Cost, ◌⊕◌, one_turn, Reading, costs, done, and_then}
-use Rattle.wkb_read.proofs.Words.{repeated, consumed, Layout, IsSpelled}
+use Rattle.wkb_read.proofs.Words.{repeated, consumed, Layout, BytesSpell}
 use Rattle.wkb_read.proofs.Words.{Refusal, Fault, Memory, Counts, Spent, AtMost, CanCount, Stops, Wkb, Open, Whole}
 use Rattle.wkb_read.proofs.Words.{Opened, IsCollectionIn, closing, list_item}
 use Rattle.wkb_read.proofs.Words.{collection_with, geometry_inside, behind_member, in_collection, outward, first_member}
@@ -189,7 +189,7 @@ more_open o next m rest n h part =
       head = rw (n.layout, n.bytes) h.head;
       count = rw (n.layout, n.bytes) (h.count ∙ omega (arith, longer, n.left));
       behind = rw (n.layout, n.bytes, n.items) (h.behind ∙ sym (one_more (entries o.members) m rest));
-      each = rw n.items (all_more IsSpelled (entries o.members) m h.each part.spelled);
+      each = rw n.items (all_more BytesSpell (entries o.members) m h.each part.spelled);
       within = rw (n.layout, n.bytes) (omega (arith, longer, h.within, part.long, length-append m.encoding rest));
       room = rw (n.layout, n.bytes) (omega (arith, longer, n.left, n.capacity_kept, h.room));
     }
@@ -226,7 +226,7 @@ completes o os m members rest spent whole none is f =
     let c : Closed o.layout o.bytes.now members rest = rw is (closed o.layout o.bytes.now (front ++ m ∷ []) rest h.head
     (h.count ∙ omega (arith, none, length-append front (m ∷ []))) (omega (arith, h.within))
     (h.behind ∙ sym (one_more front m rest))
-    (all_more IsSpelled front m h.each f.part.spelled)) in
+    (all_more BytesSpell front m h.each f.part.spelled)) in
     let encoding = consumed o.bytes.now rest in
     let last : in_collection (length os) o m rest ≡ closing o.layout o.bytes.now members rest =
     rw (none, is) (repeated_none member rest (λ xs after. closing o.layout o.bytes.now (front ++ m ∷ xs) after)) in

@@ -24,7 +24,7 @@ pub use Rattle.wkb_read.specs.Words.{parts_start, type_kind, type_dimension}
 pub use Rattle.wkb_read.specs.Words.{too_deep, body_at, values, spellings, Refuses, srid_size, any, Listed, Tells}
 pub use Rattle.wkb_read.specs.Words.{TellsRefusal, Coordinate, Value, Values}
 pub use Rattle.wkb_read.specs.Words.{collection, member_count, listed_count, Counts, HasHead, IsAtFault, Spent, AtMost}
-pub use Rattle.wkb_read.specs.Words.{CanCount, Stops, IsSpelled}
+pub use Rattle.wkb_read.specs.Words.{CanCount, Stops, BytesSpell}
 unfoldable pub use Rattle.wkb_read.specs.Words.{repeated, by_type, geometry_at, collection_at, head_at}
 pub use Rattle.wkb_laws.specs.Laws.{Agrees}
 pub use Rattle.wkb_laws.proofs.GeometryAt.{geometry_agrees_lem}
@@ -32,7 +32,7 @@ pub use Rattle.wkb_read.specs.declared.geometry.Wkb.{Wkb}
 pub use Rattle.wkb_read.specs.declared.read.unfinished.Begun.TheVariants.{Whole, Opened}
 pub use Rattle.wkb_read.specs.declared.read.unfinished.Open.{Open}
 pub use Rattle.wkb_read.specs.Memory.{IsNotMemoryError, TypeTakesNone, ReadsWithoutMemory}
-pub use Rattle.wkb_read.specs.Placed.{encodings, parts_in, closing, HoldsMembers, IsCollectionIn, AreMembers}
+pub use Rattle.wkb_read.specs.Placed.{joined_encodings, parts_in, closing, HoldsMembers, IsCollectionIn, AreMembers}
 pub use Rattle.wkb_read.specs.Placed.{IsMemberAt}
 pub use Rattle.wkb_geom.specs.Fronts.{HasNoFront}
 pub use Rattle.wkb_read.specs.Public.{IsFront, IsOnlyFront, IsRefusal, TellsEach, IfRefused, IfMemory}

@@ -5,7 +5,7 @@ use Rattle.wkb_read.specs.Words.{Layout, Values, Listed, Item, Reading, done}
 use Rattle.std.specs.List.{AllByRecursion}
 use Rattle.wkb_read.specs.Words.{list_item, collection_with, spelled_in, consumed, body_start, parts_start, spellings}
 use Rattle.wkb_read.specs.Words.{values, srid_of}
-use Rattle.wkb_read.specs.Words.{members_spelled, IsSpelled}
+use Rattle.wkb_read.specs.Words.{members_spelled, BytesSpell}
 
 -- the collection that an encoding is, by its layout and its members, as a view of it holds it
 abbrev pub parts_in : Layout → List Item → List ℕ → Listed Values
@@ -21,20 +21,20 @@ abbrev pub closing : Layout → List ℕ → List Item → List ℕ → Reading 
 closing l bytes members after = done (list_item l collection_with members (consumed bytes after)) after
 
 -- the bytes of these geometries, one behind the other
-abbrev pub encodings : List Item → List ℕ
-encodings [] = []
-encodings (m ∷ ms) = m.encoding ++ encodings ms
+abbrev pub joined_encodings : List Item → List ℕ
+joined_encodings [] = []
+joined_encodings (m ∷ ms) = m.encoding ++ joined_encodings ms
 
 -- behind a collection's count stand its members, one behind the other, each spelled by its bytes, and nothing else
 pub record HoldsMembers (has_srid : Bool) (encoding : List ℕ) (members : List Item) : Type 0 where
   pub long : body_start has_srid + 4 ≤ length encoding
-  pub behind : parts_start has_srid encoding ≡ encodings members
-  pub each : AllByRecursion IsSpelled members
+  pub behind : parts_start has_srid encoding ≡ joined_encodings members
+  pub each : AllByRecursion BytesSpell members
 
 -- so it is with this encoding, which spells the collection
 abbrev pub IsCollectionIn : Layout → List Item → List ℕ → Type 0
 IsCollectionIn l members encoding =
-    HoldsMembers l.has_srid encoding members × IsSpelled (list_item l collection_with members encoding)
+    HoldsMembers l.has_srid encoding members × BytesSpell (list_item l collection_with members encoding)
 
 -- the members of a collection, by their bytes, their spellings and their values
 pub record AreMembers (whole : Listed Values) (members : List Item) : Type 0 where

@@ -7,14 +7,14 @@ use Rattle.wkb_read.specs.Words.{Refusal, Head, Layout, max_nesting, number, Ite
 use Rattle.wkb_read.specs.Words.{and_then}
 use Rattle.wkb_read.specs.Words.{repeated, collection_within, layout_of, body_at, body_start, parts_start, geometry_at}
 use Rattle.wkb_read.specs.Words.{Counts, HasHead, Spent, Stops}
-use Rattle.wkb_read.specs.Words.{IsSpelled}
+use Rattle.wkb_read.specs.Words.{BytesSpell}
 use Rattle.wkb_view.specs.Entries.{entries, capacity}
 use Rattle.wkb_geom.specs.declared.code.WkbType.TheVariants as kinds
 use Rattle.wkb_read.specs.declared.geometry.Wkb.{Wkb}
 use Rattle.wkb_read.specs.declared.read.unfinished.Open.{Open}
 use Rattle.wkb_read.specs.declared.read.unfinished.Begun.{Begun}
 use Rattle.wkb_read.specs.declared.read.unfinished.Begun.TheVariants.{Whole, Opened}
-use Rattle.wkb_read.specs.Placed.{encodings, closing}
+use Rattle.wkb_read.specs.Placed.{joined_encodings, closing}
 
 -- a geometry inside so many open collections
 abbrev pub geometry_inside : ℕ → List ℕ → Reading Item
@@ -59,8 +59,8 @@ members_count o = length (entries o.members) + 1 + o.left
 pub record IsOpen (o : Open) (here : List ℕ) : Type 0 where
   pub head : HasHead (λ d. kinds.GeometryCollection d) o.layout o.bytes.now
   pub count : number o.layout.order 4 (drop (body_start o.layout.has_srid) o.bytes.now) ≡ members_count o
-  pub behind : parts_start o.layout.has_srid o.bytes.now ≡ encodings (entries o.members) ++ here
-  pub each : AllByRecursion IsSpelled (entries o.members)
+  pub behind : parts_start o.layout.has_srid o.bytes.now ≡ joined_encodings (entries o.members) ++ here
+  pub each : AllByRecursion BytesSpell (entries o.members)
   pub within : 9 * length (entries o.members) + length here + members_start o ≤ length o.bytes.now
   pub room : min (members_count o) ((length o.bytes.now - members_start o) / 9) ≤ capacity o.members
 
@@ -71,7 +71,7 @@ AreOpen (o ∷ os) here = IsOpen o here × AreOpen os o.bytes.now
 
 -- a part that was read: spelled by its bytes, and no shorter than a header and a count
 pub record IsFinished (part : Item) : Type 0 where
-  pub spelled : IsSpelled part
+  pub spelled : BytesSpell part
   pub long : 9 ≤ length part.encoding
 
 -- what comes of a collection that is laid out so, inside so many others

@@ -32,5 +32,5 @@ pub use Rattle.wkb_view.specs.declared.counts.Counts.{Counts}
 pub use Rattle.wkb_view.specs.Headers.{HasHead}
 pub use Rattle.wkb_view.specs.Memory.{IsAtFault, IsNoWant}
 pub use Rattle.wkb_view.specs.Outcome.{Answers, Gives, Spent, AtMost, CanCount, Stops}
-pub use Rattle.wkb_view.specs.Parts.{srid_of, list_of_values, members_spelled, IsCollection, IsSpelled}
+pub use Rattle.wkb_view.specs.Parts.{srid_of, list_of_values, members_spelled, IsCollection, BytesSpell}
 pub use Rattle.wkb_view.specs.Views.{point_seen, line_string_seen, multi_point_seen}

@@ -101,7 +101,7 @@ impl<'a> Model for Wkb<'a> {
 
 impl<'a> GeometryCollection<'a> {
     ghost use Rattle.std.specs.Prelude.{◌≡◌, IfOk, length};
-    ghost use Rattle.wkb_read.specs.Words.{whole_of, collection, srid_of, IsSpelled};
+    ghost use Rattle.wkb_read.specs.Words.{whole_of, collection, srid_of, BytesSpell};
 
     /// The number of its bytes.
     #[inline]
@@ -123,7 +123,7 @@ impl<'a> GeometryCollection<'a> {
     #[inline]
     pub fn buf(&self) -> &'a [u8]
         ensures encoding { result.now ≡ self.now.encoding }
-        ensures spells { IsSpelled (whole_of collection self.now) }
+        ensures spells { BytesSpell (whole_of collection self.now) }
     {
         self.buf
     }
@@ -202,7 +202,7 @@ impl<'a> GeometryCollectionTrait for GeometryCollection<'a> {
 impl<'a> Wkb<'a> {
     ghost use Rattle.std.specs.Prelude.{◌≡◌, IfOk, MatchOption, None, Some};
     ghost use Rattle.wkb_read.specs.Words.{srid_of, whole_of, collection, dimension, IsCollection};
-    ghost use Rattle.wkb_read.specs.Words.{IsSpelled};
+    ghost use Rattle.wkb_read.specs.Words.{BytesSpell};
     ghost use Rattle.wkb_read.specs.Types.{geometry_type_of};
     ghost use Rattle.wkb_read.specs.Public.{Reads};
 
@@ -246,7 +246,7 @@ impl<'a> Wkb<'a> {
     /// The bytes of this geometry, from its order byte to its end.
     pub fn buf(&self) -> &'a [u8]
         ensures encoding { result.now ≡ self.now.encoding }
-        ensures spells { IsSpelled self.now }
+        ensures spells { BytesSpell self.now }
     {
         match &self.kind {
             View::Point(point) => point.buf(),

@@ -9,14 +9,14 @@ use Rattle.wkb_laws.proofs.Heads.{IsRight}
 use Rattle.wkb_laws.proofs.Sound.{geometry_says}
 use Rattle.wkb_view.specs.Words.{Cause, Head, Layout, number, point_end, line_string_end, Item, Reading, head_at}
 use Rattle.wkb_view.specs.Words.{then_body, body_start}
-use Rattle.wkb_view.specs.Words.{point_at, line_string_at, point_item, line_string_item, IsSpelled}
+use Rattle.wkb_view.specs.Words.{point_at, line_string_at, point_item, line_string_item, BytesSpell}
 use Rattle.wkb_view.specs.Headers.{HasHead}
 use Rattle.wkb_view.specs.Members.{IsEncoding}
 use Rattle.wkb_view.proofs.Leaves.{number_within}
 
 says_spelled : (w : Wanted) (bytes : List ℕ) (r : Reading Item) → IsRight 0 w bytes r → (i : Item) (rest : List ℕ)
-    → r.1 ≡ Ok (i, rest) → IsSpelled i
-says_spelled w bytes (c, Ok x) h i rest e = let same : x.0 ≡ i = cc in subst IsSpelled same ∣ h.spelled ∣₁
+    → r.1 ≡ Ok (i, rest) → BytesSpell i
+says_spelled w bytes (c, Ok x) h i rest e = let same : x.0 ≡ i = cc in subst BytesSpell same ∣ h.spelled ∣₁
 says_spelled w bytes (c, Err f) h i rest e = absurd cc
 
 says_body : (bytes : List ℕ) (h : Head) → head_at bytes ≡ Ok h
@@ -28,7 +28,7 @@ says_body bytes h e =
 
 -- what is read behind a header is spelled by the bytes that were taken
 pub body_spelled : (bytes : List ℕ) (h : Head) (i : Item) (rest : List ℕ) → head_at bytes ≡ Ok h
-    → (body_at too_deep h.wkb_type (layout_of h) bytes).1 ≡ Ok (i, rest) → IsSpelled i
+    → (body_at too_deep h.wkb_type (layout_of h) bytes).1 ≡ Ok (i, rest) → BytesSpell i
 body_spelled bytes h i rest e is =
     says_spelled any bytes (body_at too_deep h.wkb_type (layout_of h) bytes) (says_body bytes h e) i rest is
 

@@ -11,7 +11,7 @@ use Rattle.wkb_laws.proofs.Spelled.{in_full_lem}
 use Rattle.wkb_laws.proofs.EncodingBytes.{as_written}
 use Rattle.wkb_laws.proofs.Values.{same_dimension, spelled_good, lawful-geometry_of}
 use Rattle.wkb_view.specs.Words.{Endianness, Dimension, Xy, Xyz, Xym, Xyzm, Coordinate, AreBytes, number, Layout, Item}
-use Rattle.wkb_view.specs.Words.{no_spellings, spelled_in, all_nan, dimensions, IsSpelled}
+use Rattle.wkb_view.specs.Words.{no_spellings, spelled_in, all_nan, dimensions, BytesSpell}
 use Rattle.wkb_view.specs.Words.{point_item, point_item_of, point_of, line_string_item, ring_in, body_start}
 use Rattle.wkb_view.specs.Fitted.{fitted_line_strings, line_strings_fit}
 
@@ -37,7 +37,7 @@ pub record IsWhole (bytes : List ℕ) (order : Endianness) (form : Form) (g : Ge
   pub encoding : bytes ≡ encoding order form g
   pub writable : fault g ≡ None
 
-is_whole : (i : Item) (order : Endianness) (form : Form) → form_srid form ≡ None → AreBytes i.encoding → IsSpelled i
+is_whole : (i : Item) (order : Endianness) (form : Form) → form_srid form ≡ None → AreBytes i.encoding → BytesSpell i
     → i.spelled ≡ written order form (geometry_of i.value) → IsWhole i.encoding order form (geometry_of i.value)
 is_whole i order form plain range spells same =
     let full = in_full_lem i.spelled i.value i.encoding spells in
@@ -48,19 +48,19 @@ is_whole i order form plain range spells same =
 
 module _ (l : Layout) (bytes : List ℕ) (order : Endianness) (form : Form) (range : AreBytes bytes) where
   -- a point that isn't empty
-  pub point_whole : IsSpelled (point_item l bytes) → HasWrittenHeader 1 l bytes order form
+  pub point_whole : BytesSpell (point_item l bytes) → HasWrittenHeader 1 l bytes order form
       → all_nan (point_words_in l bytes) ≡ false
       → IsWhole bytes order form (point (dimensions l.dimension) (point_of (point_item l bytes).value))
   point_whole spells h known =
       let words = point_words_in l bytes in
       let item = point_item_of l bytes words false in
-      let there = subst (λ (b : Bool). IsSpelled (point_item_of l bytes words b)) known spells in
+      let there = subst (λ (b : Bool). BytesSpell (point_item_of l bytes words b)) known spells in
       subst (λ (b : Bool). IsWhole bytes order form
       (point (dimensions l.dimension) (point_of (point_item_of l bytes words b).value))) (sym known)
       (is_whole item order form h.form_is range there
       (rw (same_dimension l.dimension, known) (plain_spelled 1 l bytes order form h)))
 
-  pub line_string_whole : IsSpelled (line_string_item l bytes) → HasWrittenHeader 2 l bytes order form
+  pub line_string_whole : BytesSpell (line_string_item l bytes) → HasWrittenHeader 2 l bytes order form
       → IsWhole bytes order form
       (line_string (dimensions l.dimension) (ring_in l.order l.dimension (drop (body_start l.has_srid) bytes)))
   line_string_whole spells h =
@@ -69,7 +69,7 @@ module _ (l : Layout) (bytes : List ℕ) (order : Endianness) (form : Form) (ran
 
   -- a polygon, whose rings are fitted
   pub polygon_whole : (rings : List (List Coordinate))
-      → IsSpelled
+      → BytesSpell
       (record {
         encoding = bytes;
         spelled = spelled_in l bytes [] no_spellings;

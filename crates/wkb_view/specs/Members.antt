@@ -9,7 +9,7 @@ use Rattle.wkb_view.specs.Words.{whole_of, Reading, repeated, Item, spellings, l
 use Rattle.wkb_view.specs.Words.{spelled_in, point_item, line_string_item}
 use Rattle.wkb_view.specs.Words.{ring_in, list_item, line_string_of, polygon_of, multi_point_with, member_layout}
 use Rattle.wkb_view.specs.Words.{member_at}
-use Rattle.wkb_view.specs.Words.{IsSpelled}
+use Rattle.wkb_view.specs.Words.{BytesSpell}
 use Rattle.wkb_view.specs.Pieces.{pieces, ArePieces, IsRing}
 
 -- the point (k = 1) or the line string (k = 2) of an encoding that is laid out so
@@ -25,7 +25,7 @@ item_end k l encoding =
 -- the encoding is that of such a geometry
 pub record IsEncoding (k : ℕ) (l : Layout) (encoding : List ℕ) : Type 0 where
   pub whole : length encoding ≡ item_end k l encoding
-  pub spells : IsSpelled (item_of k l encoding)
+  pub spells : BytesSpell (item_of k l encoding)
 
 -- the encoding is that of a member of this kind and dimension
 pub record IsMemberOfKind (k : ℕ) (d : Dimension) (encoding : List ℕ) : Type 0 where

@@ -32,8 +32,8 @@ list_of_spellings no_spellings = []
 list_of_spellings (spelling s ss) = s ∷ list_of_spellings ss
 
 -- the bytes of a geometry spell its value
-abbrev pub IsSpelled : Item → Type 0
-IsSpelled i = ∥ Spells i.spelled i.value i.encoding ∥₁
+abbrev pub BytesSpell : Item → Type 0
+BytesSpell i = ∥ Spells i.spelled i.value i.encoding ∥₁
 
 -- the spelling of the member at an index
 abbrev pub spelling_at : Spelling → ℕ → Option Spelling

@@ -31,4 +31,4 @@ pub use Rattle.wkb_geom.specs.Reading.{layout_wanted, member_layout, member_body
 unfoldable pub use Rattle.wkb_geom.specs.Reading.{repeated, head_at, point_at, line_string_at, ring_at, polygon_at}
 unfoldable pub use Rattle.wkb_geom.specs.Reading.{multi_point_at, multi_line_string_at, multi_polygon_at}
 pub use Rattle.wkb_view.specs.Parts.{list_of_values, srid_of, order_of, IsCollection, points_of, members_spelled}
-pub use Rattle.wkb_view.specs.Parts.{list_of_spellings, IsSpelled, spelling_at}
+pub use Rattle.wkb_view.specs.Parts.{list_of_spellings, BytesSpell, spelling_at}

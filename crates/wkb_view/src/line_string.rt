@@ -2,7 +2,7 @@
 
 ghost use Rattle.std.specs.Prelude.{◌≡◌, ◌+◌, ◌*◌, length, drop};
 ghost use Rattle.wkb_view.specs.Words.{width, AreBytes, number, body_start, line_string_item};
-ghost use Rattle.wkb_view.specs.Words.{IsSpelled};
+ghost use Rattle.wkb_view.specs.Words.{BytesSpell};
 
 use crate::any::{
     AnyView, Line, MultiLineString, MultiPoint, MultiPolygon, Point, Polygon, Rect, Triangle,
@@ -27,7 +27,7 @@ pub struct LineString<'a> {
     ghost whole: { length buf.now
         ≡ body_start layout.has_srid + 4 + 8 * width layout.dimension * count },
     ghost in_range: { AreBytes buf.now },
-    ghost spells: { IsSpelled (line_string_item layout buf.now) },
+    ghost spells: { BytesSpell (line_string_item layout buf.now) },
 }
 
 impl<'a> LineString<'a> {
@@ -35,7 +35,7 @@ impl<'a> LineString<'a> {
     ghost use Rattle.wkb_geom.specs.Values as value;
     ghost use Rattle.wkb_geom.specs.declared.code.WkbType.TheVariants as kinds;
     ghost use Rattle.wkb_view.specs.Words.{body_start, line_string_at, line_string_item, consumed};
-    ghost use Rattle.wkb_view.specs.Parts.{IsSpelled};
+    ghost use Rattle.wkb_view.specs.Parts.{BytesSpell};
     ghost use Rattle.wkb_view.specs.Coords.{ring_encoding, ring_order, ring_dimension};
     ghost use Rattle.wkb_view.specs.Views.{line_string_seen, line_string_layout};
     ghost use Rattle.wkb_view.specs.Views.{line_string_offset, line_string_coordinates};
@@ -91,7 +91,7 @@ impl<'a> LineString<'a> {
     #[inline]
     pub fn buf(&self) -> &'a [u8]
         ensures encoding { result.now ≡ (line_string_seen self.now).encoding }
-        ensures spells { IsSpelled (line_string_seen self.now) }
+        ensures spells { BytesSpell (line_string_seen self.now) }
     {
         self.buf
     }

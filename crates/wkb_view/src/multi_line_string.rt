@@ -38,7 +38,7 @@ impl<'a> Model for MultiLineString<'a> {
     ghost use Rattle.std.specs.Prelude.{◌+◌, ◌≤◌, length, List};
     ghost use Rattle.wkb_geom.specs.Stored.{listed_code, rings_code};
     ghost use Rattle.wkb_geom.specs.Values.{multi_line_string};
-    ghost use Rattle.wkb_view.specs.Words.{body_start, whole_of, Listed, Coordinate, IsSpelled};
+    ghost use Rattle.wkb_view.specs.Words.{body_start, whole_of, Listed, Coordinate, BytesSpell};
     ghost use Rattle.wkb_view.specs.Members.{AreMembersOfKind, line_strings_laid};
 
     ghost Value = { Listed (List (List Coordinate)) };
@@ -49,7 +49,7 @@ impl<'a> Model for MultiLineString<'a> {
 
     ghost invariant = { λ a. (body_start a.layout.has_srid + 4 ≤ length a.buf.now)
         × AreMembersOfKind 2 a.layout a.ends.items a.buf.now
-        × IsSpelled (whole_of multi_line_string
+        × BytesSpell (whole_of multi_line_string
         (line_strings_laid a.layout a.ends.items a.buf.now)) };
 }
 
@@ -57,7 +57,7 @@ impl<'a> MultiLineString<'a> {
     ghost use Rattle.std.specs.Prelude.{◌≡◌, length, option_map, IfSome, IfOk, slice_get, ◌+◌, ◌≤◌};
     ghost use Rattle.wkb_geom.specs.Values.{multi_line_string};
     ghost use Rattle.wkb_geom.specs.declared.code.WkbType.TheVariants as kinds;
-    ghost use Rattle.wkb_view.specs.Words.{whole_of, multi_line_string_at, IsSpelled, spelling_at};
+    ghost use Rattle.wkb_view.specs.Words.{whole_of, multi_line_string_at, BytesSpell, spelling_at};
     ghost use Rattle.wkb_view.specs.Views.{line_string_spelling, line_string_layout};
     ghost use Rattle.wkb_view.specs.Views.{line_string_coordinates};
     ghost use Rattle.wkb_view.specs.Headers.{HasHead};
@@ -84,7 +84,7 @@ impl<'a> MultiLineString<'a> {
     #[inline]
     pub fn buf(&self) -> &'a [u8]
         ensures encoding { result.now ≡ self.now.encoding }
-        ensures spells { IsSpelled (whole_of multi_line_string self.now) }
+        ensures spells { BytesSpell (whole_of multi_line_string self.now) }
     {
         self.buf
     }

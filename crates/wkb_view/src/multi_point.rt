@@ -2,7 +2,7 @@
 
 ghost use Rattle.std.specs.Prelude.{◌≡◌, ◌+◌, length, ◌≤◌, IfOk};
 ghost use Rattle.wkb_view.specs.Words.{AreBytes, body_start, member_at, consumed, multi_point_end};
-ghost use Rattle.wkb_view.specs.Words.{IsSpelled};
+ghost use Rattle.wkb_view.specs.Words.{BytesSpell};
 ghost use Rattle.wkb_view.specs.Members.{members_behind, IsMemberOfKind, ArePoints};
 ghost use Rattle.wkb_view.specs.Members.{member_item, points_in, multi_point_item};
 ghost use Rattle.wkb_view.specs.Outcome.{Freely, Surely, CanCount};
@@ -30,7 +30,7 @@ pub struct MultiPoint<'a> {
     count: u32,
     ghost whole: { length buf.now ≡ multi_point_end layout.dimension layout.has_srid count },
     ghost in_range: { AreBytes buf.now },
-    ghost spells: { IsSpelled (multi_point_item layout count buf.now) },
+    ghost spells: { BytesSpell (multi_point_item layout count buf.now) },
     ghost each: { ∥ ArePoints layout count buf.now ∥₁ },
 }
 
@@ -38,7 +38,7 @@ impl<'a> MultiPoint<'a> {
     ghost use Rattle.std.specs.Prelude.{◌≡◌, length, ◌≤◌, ◌+◌, IfOk};
     ghost use Rattle.wkb_geom.specs.Values as value;
     ghost use Rattle.wkb_geom.specs.declared.code.WkbType.TheVariants as kinds;
-    ghost use Rattle.wkb_view.specs.Words.{multi_point_at, IsSpelled, points_of};
+    ghost use Rattle.wkb_view.specs.Words.{multi_point_at, BytesSpell, points_of};
     ghost use Rattle.wkb_view.specs.Views.{multi_point_seen, multi_point_offset};
     ghost use Rattle.wkb_view.specs.Headers.{HasHead};
     ghost use Rattle.wkb_view.specs.Outcome.{Surely, CanCount};
@@ -75,7 +75,7 @@ impl<'a> MultiPoint<'a> {
     #[inline]
     pub fn buf(&self) -> &'a [u8]
         ensures encoding { result.now ≡ (multi_point_seen self.now).encoding }
-        ensures spells { IsSpelled (multi_point_seen self.now) }
+        ensures spells { BytesSpell (multi_point_seen self.now) }
     {
         self.buf
     }

@@ -38,7 +38,7 @@ impl<'a> Model for MultiPolygon<'a> {
     ghost use Rattle.std.specs.List.{AllByRecursion};
     ghost use Rattle.wkb_geom.specs.Stored.{listed_code, polygons_code};
     ghost use Rattle.wkb_geom.specs.Values.{multi_polygon};
-    ghost use Rattle.wkb_view.specs.Words.{body_start, whole_of, Listed, Coordinate, IsSpelled};
+    ghost use Rattle.wkb_view.specs.Words.{body_start, whole_of, Listed, Coordinate, BytesSpell};
     ghost use Rattle.wkb_view.specs.Members.{polygons_laid};
 
     ghost Value = { Listed (List (List (List Coordinate))) };
@@ -47,7 +47,7 @@ impl<'a> Model for MultiPolygon<'a> {
 
     ghost invariant = { λ a. (body_start a.layout.has_srid + 4 ≤ length a.buf.now)
         × AllByRecursion (λ p. p.dimension ≡ a.layout.dimension) a.members.items
-        × IsSpelled (whole_of multi_polygon (polygons_laid a.layout a.members.items a.buf.now)) };
+        × BytesSpell (whole_of multi_polygon (polygons_laid a.layout a.members.items a.buf.now)) };
 
     ghost view = { λ a. polygons_laid a.layout a.members.items a.buf.now };
 }
@@ -56,7 +56,7 @@ impl<'a> MultiPolygon<'a> {
     ghost use Rattle.std.specs.Prelude.{◌≡◌, length, IfOk, ◌+◌, ◌≤◌};
     ghost use Rattle.wkb_geom.specs.Values.{multi_polygon};
     ghost use Rattle.wkb_geom.specs.declared.code.WkbType.TheVariants as kinds;
-    ghost use Rattle.wkb_view.specs.Words.{whole_of, multi_polygon_at, IsSpelled};
+    ghost use Rattle.wkb_view.specs.Words.{whole_of, multi_polygon_at, BytesSpell};
     ghost use Rattle.wkb_view.specs.Headers.{HasHead};
     ghost use Rattle.wkb_view.specs.Memory.{IsNoWant};
     ghost use Rattle.wkb_view.specs.Outcome.{Gives, CanCount};
@@ -81,7 +81,7 @@ impl<'a> MultiPolygon<'a> {
     #[inline]
     pub fn buf(&self) -> &'a [u8]
         ensures encoding { result.now ≡ self.now.encoding }
-        ensures spells { IsSpelled (whole_of multi_polygon self.now) }
+        ensures spells { BytesSpell (whole_of multi_polygon self.now) }
     {
         self.buf
     }

@@ -1,7 +1,7 @@
 //! A point.
 
 ghost use Rattle.std.specs.Prelude.{◌≡◌, ◌+◌, ◌*◌, length};
-ghost use Rattle.wkb_view.specs.Words.{width, AreBytes, body_start, point_item, IsSpelled};
+ghost use Rattle.wkb_view.specs.Words.{width, AreBytes, body_start, point_item, BytesSpell};
 
 use crate::any::{
     AnyView, Line, LineString, MultiLineString, MultiPoint, MultiPolygon, Polygon, Rect, Triangle,
@@ -22,7 +22,7 @@ pub struct Point<'a> {
     layout: Layout,
     ghost whole: { length buf.now ≡ body_start layout.has_srid + 8 * width layout.dimension },
     ghost in_range: { AreBytes buf.now },
-    ghost spells: { IsSpelled (point_item layout buf.now) },
+    ghost spells: { BytesSpell (point_item layout buf.now) },
 }
 
 impl<'a> Point<'a> {
@@ -30,7 +30,7 @@ impl<'a> Point<'a> {
     ghost use Rattle.wkb_geom.specs.Values as value;
     ghost use Rattle.wkb_geom.specs.declared.code.WkbType.TheVariants as kinds;
     ghost use Rattle.wkb_view.specs.Words.{body_start, point_of, point_at, point_item, consumed};
-    ghost use Rattle.wkb_view.specs.Words.{IsSpelled};
+    ghost use Rattle.wkb_view.specs.Words.{BytesSpell};
     ghost use Rattle.wkb_view.specs.Coords.{words_seen, coordinate_encoding};
     ghost use Rattle.wkb_view.specs.Coords.{coord_order, coord_dimension, coord_encoding};
     ghost use Rattle.wkb_view.specs.Views.{coordinate_in, point_seen, point_layout, point_order};
@@ -85,7 +85,7 @@ impl<'a> Point<'a> {
     #[inline]
     pub fn buf(&self) -> &'a [u8]
         ensures encoding { result.now ≡ (point_seen self.now).encoding }
-        ensures spells { IsSpelled (point_seen self.now) }
+        ensures spells { BytesSpell (point_seen self.now) }
     {
         self.buf
     }

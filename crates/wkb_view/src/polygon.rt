@@ -36,7 +36,7 @@ impl<'a> Model for Polygon<'a> {
     ghost use Rattle.std.specs.Prelude.{◌+◌, ◌≤◌, length, List};
     ghost use Rattle.wkb_geom.specs.Stored.{listed_code, rings_code};
     ghost use Rattle.wkb_geom.specs.Values.{polygon};
-    ghost use Rattle.wkb_view.specs.Words.{body_start, whole_of, Listed, Coordinate, IsSpelled};
+    ghost use Rattle.wkb_view.specs.Words.{body_start, whole_of, Listed, Coordinate, BytesSpell};
     ghost use Rattle.wkb_view.specs.Members.{AreRings, polygon_laid};
 
     ghost Value = { Listed (List (List Coordinate)) };
@@ -47,14 +47,14 @@ impl<'a> Model for Polygon<'a> {
 
     ghost invariant = { λ a. (body_start a.layout.has_srid + 4 ≤ length a.buf.now)
         × AreRings a.layout a.ends.items a.buf.now
-        × IsSpelled (whole_of polygon (polygon_laid a.layout a.ends.items a.buf.now)) };
+        × BytesSpell (whole_of polygon (polygon_laid a.layout a.ends.items a.buf.now)) };
 }
 
 impl<'a> Polygon<'a> {
     ghost use Rattle.std.specs.Prelude.{◌≡◌, length, option_map, IfSome, IfOk, slice_get, ◌+◌, ◌≤◌};
     ghost use Rattle.wkb_geom.specs.Values.{polygon};
     ghost use Rattle.wkb_geom.specs.declared.code.WkbType.TheVariants as kinds;
-    ghost use Rattle.wkb_view.specs.Words.{whole_of, polygon_at, IsSpelled, order_of};
+    ghost use Rattle.wkb_view.specs.Words.{whole_of, polygon_at, BytesSpell, order_of};
     ghost use Rattle.wkb_view.specs.Coords.{ring_order, ring_dimension, ring_seen};
     ghost use Rattle.wkb_view.specs.Headers.{HasHead};
     ghost use Rattle.wkb_view.specs.Memory.{IsNoWant};
@@ -80,7 +80,7 @@ impl<'a> Polygon<'a> {
     #[inline]
     pub fn buf(&self) -> &'a [u8]
         ensures encoding { result.now ≡ self.now.encoding }
-        ensures spells { IsSpelled (whole_of polygon self.now) }
+        ensures spells { BytesSpell (whole_of polygon self.now) }
     {
         self.buf
     }

@@ -22,7 +22,7 @@ returns-then-contains c =
 
 pub invariant_of-self-2 : goal.invariant_of-self-2
 invariant_of-self-2 c =
-    subst (λ l. AllByRecursion (λ y. bytes_of y ≡ key_of (value_in (bytes_of y))) l) (sym c.in_default.ensures.items)
+    subst (λ l. AllByRecursion (λ y. bytes_of y ≡ key_of (value_in (bytes_of y))) l) (sym c.in_ok-push.ensures.items)
     (all_with bytes_of c.self.inside.keys.items c.in-Ok.key c.self.invariant
     (is_its_own c.geometry_agrees.ensures.front c.rewriting_is_read.ensures c.args.bytes.now c.in-Ok.key.items
     c.are_bytes.ensures c.in-Ok.ensures.ok))
@@ -40,5 +40,5 @@ returns c =
     subst (λ s. Inserts s (map (λ y. value_in (bytes_of y)) c.push.new.self.items) c.args.bytes.now false)
     c.self.view_is
     (subst (λ l. Inserts (map (λ y. value_in (bytes_of y)) keys)
-    (map (λ y. value_in (bytes_of y)) l) c.args.bytes.now false) (sym c.in_default.ensures.items)
+    (map (λ y. value_in (bytes_of y)) l) c.args.bytes.now false) (sym c.in_ok-push.ensures.items)
     stored)

@@ -1,0 +1,23 @@
+-- What plain geometries mean: the geometries over a caller's own words.
+pub use Rattle.wkb_plain.specs.declared.coord.Coord.{Coord}
+pub use Rattle.wkb_plain.specs.declared.point.Point.{Point}
+pub use Rattle.wkb_plain.specs.declared.line_string.LineString.{LineString}
+pub use Rattle.wkb_plain.specs.declared.polygon.Polygon.{Polygon}
+pub use Rattle.wkb_plain.specs.declared.multi_point.MultiPoint.{MultiPoint}
+pub use Rattle.wkb_plain.specs.declared.multi_line_string.MultiLineString.{MultiLineString}
+pub use Rattle.wkb_plain.specs.declared.multi_polygon.MultiPolygon.{MultiPolygon}
+pub use Rattle.wkb_plain.specs.declared.geometry.GeometryCollection.{GeometryCollection}
+pub use Rattle.wkb_plain.specs.declared.geometry.Geometry.{Geometry}
+pub use Rattle.wkb_plain.specs.declared.rect.Rect.{Rect}
+pub use Rattle.wkb_plain.specs.declared.triangle.Triangle.{Triangle}
+pub use Rattle.wkb_plain.specs.declared.line.Line.{Line}
+pub use Rattle.wkb_plain.specs.Runs.{runs, coordinates_in}
+pub use Rattle.wkb_plain.specs.Kinds.{coord_dimensions, coord_words, point_dimensions, point_coordinate}
+pub use Rattle.wkb_plain.specs.Kinds.{line_string_dimensions, line_string_coordinates}
+pub use Rattle.wkb_plain.specs.Kinds.{polygon_dimensions, polygon_rings, multi_point_dimensions, multi_point_points}
+pub use Rattle.wkb_plain.specs.Kinds.{multi_line_string_dimensions, multi_line_string_line_strings}
+pub use Rattle.wkb_plain.specs.Kinds.{multi_polygon_dimensions, multi_polygon_polygons}
+pub use Rattle.wkb_plain.specs.Kinds.{line_dimensions, line_start, line_end, rect_dimensions, rect_min, rect_max}
+pub use Rattle.wkb_plain.specs.Kinds.{triangle_dimensions, triangle_first, triangle_second, triangle_third}
+pub use Rattle.wkb_plain.specs.PlainGeometry.{plain_geometry, plain_dimensions}
+pub use Rattle.wkb_plain.specs.PlainGeometry.{collection_dimensions, collection_members}

@@ -1,0 +1,28 @@
+//! Plain geometries over words of the user's own.
+
+ghost use Rattle.std.specs.Prelude.{◌≡◌, ◌%◌, ◌↔◌, length, is_none, IfSome, IsSome};
+ghost use Rattle.wkb.specs.Words.traits.{Xy};
+ghost use Rattle.wkb.specs.Plain.{point_coordinate, coordinates_in};
+ghost use Rattle.wkb.specs.Plain.{line_string_dimensions, line_string_coordinates};
+
+use wkb::geom::{Dimensions, LineString, Point, PointTrait};
+
+/// Whether a point is the empty one.
+pub fn is_empty_point(point: &Point) -> bool
+    ensures { result ≡ is_none (point_coordinate point.now) }
+{
+    match point.coord() {
+        Some(_) => false,
+        None => true,
+    }
+}
+
+/// The line string of these pairs of words. None where the last has no pair.
+pub fn line_of_pairs<'w>(words: &'w [u64]) -> Option<LineString<'w>>
+    ensures some { IsSome result ↔ (length words.now % 2 ≡ 0) }
+    ensures dimensions { IfSome result (λ line. line_string_dimensions line ≡ Xy) }
+    ensures coordinates { IfSome result
+        (λ line. line_string_coordinates line ≡ coordinates_in Xy words.now) }
+{
+    LineString::new(Dimensions::Xy, words)
+}

@@ -1,0 +1,110 @@
+"""The files of specs/: what each passes on from another, and what it defines."""
+
+import pathlib
+import re
+
+ROOT = pathlib.Path(__file__).resolve().parent.parent
+CRATES = ROOT / "crates"
+
+USE = re.compile(r"^(?:unfoldable )?(?:pub )?(?:unfoldable )?(?:ghost )?use\s+(.*)$", re.S)
+
+
+def split_items(text):
+    """The items between the braces of a `use`."""
+    return [item.strip() for item in text.split(",") if item.strip()]
+
+
+def use_targets(text):
+    """(module, name, local name) of each name of a `use`; the name is None where the module itself is meant."""
+    text = " ".join(text.split()).rstrip(";").strip()
+    braces = re.match(r"(\S+?)\.\s*\{(.*)\}$", text)
+    if not braces:
+        path, _, alias = text.partition(" as ")
+        module, _, name = path.strip().rpartition(".")
+        return [(path.strip(), None, alias.strip())] if alias else [(module, name, name)]
+    found = []
+    for item in split_items(braces[2]):
+        path, _, alias = item.partition(" as ")
+        below, _, name = path.strip().rpartition(".")
+        module = braces[1] + ("." + below if below else "")
+        found.append((module, name, alias.strip() or name))
+    return found
+
+
+class Specs:
+    """What each file of specs/ passes on."""
+
+    def __init__(self):
+        self.passed = {}
+        for path in CRATES.glob("*/specs/**/*.antt"):
+            parts = path.relative_to(CRATES).with_suffix("").parts
+            self.passed["Rattle." + ".".join(parts)] = list(self.uses(path.read_text()))
+
+    @staticmethod
+    def uses(text):
+        """What the lines `pub use` of a file pass on."""
+        lines = re.sub(r"\n[ \t]+(?=\S)", " ", re.sub(r"\n\s*\}", " }", text)).splitlines()
+        for line in lines:
+            match = USE.match(line)
+            if match and "pub use" in line:
+                yield from use_targets(match[1])
+
+    def origin(self, module, name):
+        """Where a name stands that a module may only pass on."""
+        for source, passed, local in self.passed.get(module, []):
+            if local == name and passed is not None:
+                return self.origin(source, passed)
+        return module, name
+
+    def face(self, crate):
+        """(module, local name, origin) of each name that a crate's specs pass on."""
+        for module, passed in self.passed.items():
+            if module.startswith(f"Rattle.{crate}.specs."):
+                for source, name, local in passed:
+                    yield module, local, self.origin(source, name) if name else (source, None)
+
+
+WORDS = re.compile(r"(?:(?:unfoldable|abbrev|pub|private|record|data)\s+)*")
+NAME = re.compile(r"[^\W\d][\w'-]*")
+
+
+def after_groups(text):
+    """What is left of a text behind its groups in brackets."""
+    text = text.lstrip()
+    while text[:1] in ("(", "{"):
+        depth, end = 0, len(text)
+        for i, letter in enumerate(text):
+            depth += {"(": 1, "{": 1, ")": -1, "}": -1}.get(letter, 0)
+            if depth == 0:
+                end = i + 1
+                break
+        text = text[end:].lstrip()
+    return text
+
+
+def defined(text):
+    """The names that a file of definitions defines, also inside `mutual` and `module _`; no fields or constructors."""
+    lines = text.splitlines()
+    base, inside = 0, None
+    for i, line in enumerate(lines):
+        indent = len(line) - len(line.lstrip())
+        if not line.strip() or line.lstrip().startswith("--"):
+            continue
+        if indent < base:
+            base = 0
+        if inside is not None and indent > inside:
+            continue
+        inside = None
+        if indent != base or re.match(r"(?:unfoldable |pub )*use\b", line.lstrip()):
+            continue
+        if re.match(r"(?:abbrev |unfoldable )?(?:mutual|module\b.*)", line.lstrip()):
+            base += 2
+            continue
+        head = WORDS.match(line.lstrip())
+        if re.search(r"\b(?:record|data)\b", head[0]):
+            inside = indent
+        name = NAME.match(line.lstrip(), head.end())
+        if name:
+            behind = line.lstrip()[name.end() :] + " " + " ".join(lines[i + 1 : i + 6])
+            if after_groups(behind).startswith(":"):
+                yield name[0]
