@@ -2,7 +2,7 @@
 use Rattle.wkb_sink.proofs.Prelude.{◌≡◌, ℕ, List, [], ◌++◌, Option, refl, sym, ap, ◌∙◌, subst, append_assoc, append-nil}
 use Rattle.wkb_sink.proofs.Prelude.{arith, length-append, Bool, true, false}
 use Rattle.wkb_sink.proofs.Prelude.{Result, Ok, Err, Appends, Stopped, IsExtended, Progress, IsLaid, IsCut, Advances}
-use Rattle.wkb_sink.proofs.Prelude.{progress, failure_of, IsBegun, IsWritten, PutsOrStops}
+use Rattle.wkb_sink.proofs.Prelude.{progress, IsBegun, IsWritten}
 use Rattle.std.specs.Prelude.{IsErrAnd, IfOk}
 use Rattle.std.proofs.lemmas.Result.{err_from_is_err_and}
 use Rattle.wkb_sink.specs.declared.buffered.Buffered.{Buffered}
@@ -60,10 +60,9 @@ pub exits : {a b : Progress} {all : List ℕ} (e : Stopped) (r : Result (Unit {0
 exits e r is cut = rw (err_from_is_err_and r is).1 cut
 
 -- the answer of what was stopped
-pub stopped_at : {a b : Progress} {t : List ℕ} {e : Stopped} (P : Unit {0} → Type 0) (r : Result (Unit {0}) Stopped)
-    → r ≡ Err e → IsCut a b t
-    → Advances a b t r × IfOk r P
-stopped_at P r is cut = rw is (cut, tt)
+pub stopped_at : {a b : Progress} {t : List ℕ} {e : Stopped} (r : Result (Unit {0}) Stopped) → r ≡ Err e → IsCut a b t
+    → Advances a b t r
+stopped_at r is cut = rw is cut
 
 -- the last part's answer is the whole's
 pub lays_then : {a b : Progress} (c : Progress) {s : List ℕ} (t : List ℕ) (r : Result (Unit {0}) Stopped) → IsLaid a b s
@@ -150,18 +149,26 @@ pub lays_last : {a b : Progress} (c : Progress) (t : List ℕ) (r : Result (Unit
 lays_last {a = a} c t r p q = subst (λ s. Advances a c s r) (append-nil t) (lays_then c [] r p q)
 
 -- an encoding for which nothing waited at first, nor at the end; x is what the lent sink ends as
-pub ends : {S : Type 0} (sink : Ghosts S) (t : List ℕ) (a : Progress) (b : Buffered S) (x : S)
-    (r : Result (Unit {0}) Stopped)
+pub ends_laid : {S : Type 0} (sink : Ghosts S) (t : List ℕ) (a : Progress) (b : Buffered S) (x : S) (u : Unit {0})
+    (r : Result (Unit {0}) Stopped) → r ≡ Ok u
     → Advances a (progress sink b) t r → a.waiting ≡ [] → IfOk r (λ _. b.block.waiting ≡ [])
     → (a.sink ≡ b.sink.ghost_name → x ≡ b.sink.now)
-    → PutsOrStops a.appended (sink.appended x) (sink.has_failed x) (sink.fails_by x) t (failure_of r b.error)
-ends sink t a b x (Ok u) p none empty known =
-    let is : x ≡ b.sink.now = known (sym p.same) in
+    → IsWritten a.appended (sink.appended x) t × (sink.has_failed x ≡ false)
+ends_laid sink t a b x u (Ok v) is p none empty known =
     let whole : t ≡ p.moved =
     ap (λ l. l ++ t) (sym none) ∙ p.whole ∙ ap (λ l. p.moved ++ l) empty ∙ append-nil p.moved in
-    rw is (record { appended = subst (Appends a.appended (sink.appended b.sink.now)) (sym whole) p.appended }, p.works)
-ends sink t a b x (Err e) p none empty known =
-    let is : x ≡ b.sink.now = known (sym p.same) in
+    rw (known (sym p.same))
+    (record { appended = subst (Appends a.appended (sink.appended b.sink.now)) (sym whole) p.appended }, p.works)
+ends_laid sink t a b x u (Err e) is p none empty known = absurd cc
+
+-- or one that was cut
+pub ends_cut : {S : Type 0} (sink : Ghosts S) (t : List ℕ) (a : Progress) (b : Buffered S) (x : S) (e : Stopped)
+    (r : Result (Unit {0}) Stopped) → r ≡ Err e
+    → Advances a (progress sink b) t r → a.waiting ≡ []
+    → (a.sink ≡ b.sink.ghost_name → x ≡ b.sink.now)
+    → IsBegun a.appended (sink.appended x) t × (sink.has_failed x ≡ true) × sink.fails_by x b.error
+ends_cut sink t a b x e (Ok u) is p none known = absurd cc
+ends_cut sink t a b x e (Err f) is p none known =
     let whole = ap (λ l. l ++ t) (sym none) ∙ p.whole in
-    rw is
+    rw (known (sym p.same))
     (record { front = p.front; rest = p.rest; whole = whole; left = p.left; appended = p.appended }, p.stopped, p.cause)

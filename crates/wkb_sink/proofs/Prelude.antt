@@ -14,6 +14,6 @@ pub use Rattle.wkb_geom.specs.Numbers.{number_bytes, empty_word}
 unfoldable pub use Rattle.wkb_geom.specs.Encodings.{words_encoding, header_encoding}
 unfoldable pub use Rattle.wkb_geom.specs.Encodings.{srid_encoding}
 pub use Rattle.wkb_sink.specs.Blocks.{IsExtended, Waiting}
-pub use Rattle.wkb_sink.specs.Progress.{Progress, Advances, IsLaid, IsCut, progress, failure_of}
-pub use Rattle.wkb_sink.specs.Sinks.{IsWritten, IsBegun, PutsOrStops}
+pub use Rattle.wkb_sink.specs.Progress.{Progress, Advances, IsLaid, IsCut, progress}
+pub use Rattle.wkb_sink.specs.Sinks.{IsWritten, IsBegun}
 pub use Rattle.wkb_sink.specs.declared.buffered.Stopped.{Stopped}

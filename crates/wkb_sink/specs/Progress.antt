@@ -1,5 +1,5 @@
 -- How far an encoding has come on its way through a block to a sink.
-use Rattle.std.specs.Prelude.{◌≡◌, ℕ, ◌<◌, Bool, true, false, List, ◌++◌, length, Option, Result, Ok, Err, MatchResult}
+use Rattle.std.specs.Prelude.{◌≡◌, ℕ, ◌<◌, Bool, true, false, List, ◌++◌, length, Option, Result, MatchResult}
 use Rattle.std.specs.Io.KnownBytes.{Appends}
 use Rattle.std.specs.declared.io.Error.{Error}
 use Rattle.wkb_sink.specs.Sinks.{PutsOrStops}
@@ -49,11 +49,6 @@ progress sink out = record {
   fails_by = sink.fails_by out.sink.now out.error;
   waiting = out.block.waiting;
 }
-
--- how the sink failed, by the last step's answer and the error that is kept
-abbrev pub failure_of : Result (Unit {0}) Stopped → Option Error → Result (Unit {0}) (Option Error)
-failure_of (Ok u) kept = Ok u
-failure_of (Err e) kept = Err kept
 
 -- the sink took the encoding, or failed as is answered
 abbrev pub PutsTo : {S : Type 0} → Ghosts S → S → S → List ℕ → Result (Unit {0}) (Option Error) → Type 0

@@ -189,6 +189,7 @@ pub fn lay_header(block: &mut Block<'_>, options: &WriteOptions, kind: WkbType)
 }
 
 /// Lays the words of a point without a coordinate.
+#[inline(always)]
 pub fn lay_empty(block: &mut Block<'_>, order: Endianness, dim: Dimension)
     requires { COORDINATE ≤ block.old.room }
     ensures { IsExtended block.old.waiting block.new.waiting

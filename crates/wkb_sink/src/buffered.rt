@@ -44,8 +44,8 @@ pub fn put_all<S: Sink>(sink: &mut S, bytes: &[u8]) -> Result<(), Option<io::Err
 }
 
 impl<'a, S: Sink> Buffered<'a, S> {
-    /// Puts what waits.
-    #[inline(never)]
+    /// Puts what waits. Inlined, so that a block and an error that no other call borrows need no memory.
+    #[inline(always)]
     #[tactic(auto, using(crate::proofs::Steps::flush_laws))]
     pub fn flush(&mut self) -> Result<(), Stopped>
         requires { S.has_failed self.old.sink.now ≡ false }
@@ -65,6 +65,16 @@ impl<'a, S: Sink> Buffered<'a, S> {
         }
     }
 
+    // The same by a call, for the steps between, which mostly have room.
+    #[inline(never)]
+    fn flush_apart(&mut self) -> Result<(), Stopped>
+        requires { S.has_failed self.old.sink.now ≡ false }
+        ensures laid { Lays S.Sink self.old self.new [] result }
+        ensures room { IfOk result (λ _. LEAST ≤ self.new.block.room) }
+    {
+        self.flush()
+    }
+
     /// Sees that the block has room for so many bytes.
     #[inline]
     pub fn make_room(&mut self, n: usize) -> Result<(), Stopped>
@@ -74,7 +84,7 @@ impl<'a, S: Sink> Buffered<'a, S> {
         ensures room { IfOk result (λ _. n ≤ self.new.block.room) }
     {
         if self.block.room() < n {
-            self.flush()
+            self.flush_apart()
         } else {
             Ok(())
         }

@@ -170,6 +170,7 @@ impl Sink for VecSink {
 
     ghost fails_by = { λ _ failure. IsSomeAnd failure (λ e. error_kind e ≡ OutOfMemory) };
 
+    #[inline(always)]
     fn put(&mut self, bytes: &[u8]) -> io::Result<usize>
         ensures bound { WritesAtMost result bytes.now }
         ensures bytes { WriteAppends (Some self.old.bytes) (Some self.new.bytes) result bytes.now }

@@ -10,7 +10,7 @@ pub use Rattle.wkb_geom.specs.Encodings.{encoding, inner, words_encoding, form_s
 pub use Rattle.wkb_geom.specs.declared.common.Endianness.{Endianness}
 pub use Rattle.wkb_geom.specs.declared.common.Form.TheVariants.{Iso}
 pub use Rattle.wkb_sink.specs.Options.{header_of, inner_options}
-pub use Rattle.wkb_sink.specs.Progress.{Lays, PutsTo, failure_of}
+pub use Rattle.wkb_sink.specs.Progress.{Lays, PutsTo}
 pub use Rattle.wkb_sink.specs.Sinks.{TellsFailure}
 pub use Rattle.wkb_sink.specs.declared.block.TheConstants.{LEAST}
 pub use Rattle.wkb_sink.specs.declared.options.WriteOptions.{WriteOptions}

@@ -133,9 +133,8 @@ pub fn size_of(measured: Measured, form: Form) -> WkbResult<usize>
     }
 }
 
-/// The error that tells the fault. Not inlined: an error takes more room than all else in its callers.
-#[cold]
-#[inline(never)]
+/// The error that tells the fault.
+#[inline(always)]
 pub fn refuse<T>(fault: Fault) -> WkbResult<T>
     ensures { IsErrAnd result (λ e. TellsFault e fault) }
 {

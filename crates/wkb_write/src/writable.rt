@@ -4,7 +4,7 @@ ghost use Rattle.std.specs.Prelude.{◌≡◌, ◌⊎◌, ◌≤◌, ◌<◌, �
 ghost use Rattle.std.specs.Prelude.{None, Ok, IfOk, IfErr, IsErrAnd, MatchResult};
 ghost use Rattle.wkb_write.specs.Words.{Geometry, IsGeometry, fault, encoding_of, refusal_of};
 ghost use Rattle.wkb_write.specs.Words.{IsMeasured, IsSizeOf, IsMemory, Reports, WritesTo};
-ghost use Rattle.wkb_write.specs.Words.{Lays, PutsTo, failure_of, TellsFailure, LEAST, result_of};
+ghost use Rattle.wkb_write.specs.Words.{Lays, PutsTo, TellsFailure, LEAST, result_of};
 
 use crate::measure::{Measured, length_of_header, refuse, size_of, whole_size};
 use crate::{Sink, VecSink, WriteOptions};
@@ -70,23 +70,25 @@ fn put_through<S: Sink, G, K: Writable<G>>(
         Ok(()) => out.flush(),
         Err(Stopped) => Err(Stopped),
     };
-    let error = out.error;
-    let Buffered {
-        sink: _sink,
-        block: _,
-        error: _,
-    } = out;
-    failure(put, error)
-}
-
-// How the sink failed, where it stopped.
-#[inline(always)]
-fn failure(put: Put, error: Option<io::Error>) -> Result<(), Option<io::Error>>
-    ensures { result ≡ failure_of put error }
-{
+    // Only where the sink failed is its error moved: it is large.
     match put {
-        Ok(()) => Ok(()),
-        Err(Stopped) => Err(error),
+        Ok(()) => {
+            let Buffered {
+                sink: _sink,
+                block: _,
+                error: _,
+            } = out;
+            Ok(())
+        }
+        Err(Stopped) => {
+            let error = out.error;
+            let Buffered {
+                sink: _sink,
+                block: _,
+                error: _,
+            } = out;
+            Err(error)
+        }
     }
 }
 
@@ -130,9 +132,8 @@ pub fn wkb_result(put: Result<(), Option<io::Error>>) -> WkbResult<()>
     }
 }
 
-// The sink's own error, or that it took no byte. Not inlined: an error takes more room than all else in its callers.
-#[cold]
-#[inline(never)]
+// The sink's own error, or that it took no byte.
+#[inline(always)]
 fn sink_error(failure: Option<io::Error>) -> WkbResult<()>
     ensures { IsErrAnd result (λ e. TellsFailure e failure) }
 {
