@@ -3,8 +3,11 @@ pub mod Closing
 pub mod Walking
 pub mod Reading
 pub mod Each
-pub mod Bounds
+pub mod Sizes
 pub mod Opening
 pub mod Marks
 pub mod Heads
 pub mod Public
+pub mod Widening
+pub mod BodyBounds
+pub mod Scanning

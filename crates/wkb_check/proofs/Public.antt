@@ -3,7 +3,7 @@ use Rattle.std.proofs.Common.{◌≡◌, ℕ, ◌+◌, ◌-◌, ◌*◌, ◌≤�
 use Rattle.std.proofs.Common.{Result, Ok, Err, refl, sym, ap}
 use Rattle.std.proofs.Common.{◌∙◌, subst, arith, length-append, append_assoc}
 use Rattle.wkb_laws.specs.Words.{Cause, Value, kind, dimension, member_count, Endianness, Head, Spelling, node, header}
-use Rattle.wkb_laws.specs.Words.{Header, IsSrid, any, Front, max_nesting, Refuses, Opens}
+use Rattle.wkb_laws.specs.Words.{Header, IsSrid, any, Begins, Spells, Front, max_nesting, Refuses, Opens}
 use Rattle.wkb_laws.specs.Words.{number, srid_in, body_start, Reading, Item}
 unfoldable use Rattle.wkb_laws.specs.Words.{head_at, geometry_at}
 use Rattle.wkb_laws.specs.Laws.{Agrees}
@@ -16,7 +16,7 @@ use Rattle.wkb_check.specs.declared.answer.Refused.{Refused}
 use Rattle.wkb_check.specs.Public.{DescribesOnlyFront, IsRefusedOnlyFor, Checks, IsBounded}
 use Rattle.wkb_check.specs.Skims.{Tally, Left, Skim, after, stop, skim_body_inside}
 unfoldable use Rattle.wkb_check.specs.Skims.{skim_geometry}
-use Rattle.wkb_check.proofs.Bounds.{Held, geometry_held, coordinates_held}
+use Rattle.wkb_check.proofs.Sizes.{Held, geometry_held, coordinates_held}
 use Rattle.wkb_check.proofs.Marks.{refusal_marked}
 use Rattle.wkb_laws.proofs.Complete.{head_of, head_opened}
 use Rattle.wkb_check.proofs.Reading.{IsSkim, counted, geometry_skim}
@@ -37,7 +37,7 @@ one_rest e = cc
 one_fault : {c d : Cause × ℕ} → ◌≡◌ {A = Left} (Err c) (Err d) → c ≡ d
 one_fault e = cc
 
-one_head : {a b : Head} → ◌≡◌ {A = Result Head Cause} (Ok a) (Ok b) → a ≡ b
+pub one_head : {a b : Head} → ◌≡◌ {A = Result Head Cause} (Ok a) (Ok b) → a ≡ b
 one_head e = cc
 
 -- ---- what is counted fits
@@ -88,12 +88,13 @@ srid_read : (order : Endianness) (srid : Option ℕ) (field x y : List ℕ) → 
 srid_read order None field x y is e = refl
 srid_read order (Some v) field x y is e = ap Some (ap (number order 4) e ∙ number-front order 4 v field y is)
 
-front_opens : (input : List ℕ) (s : Spelling) (t : Value) (rest : List ℕ) → Front input s t rest → HeaderSays input s t
-front_opens input (node h words ss) t rest f =
-    let x = f.spelled in
+pub geometry_opens : (input : List ℕ) (s : Spelling) (t : Value) (rest : List ℕ) → Begins (Spells s t) input rest
+    → HeaderSays input s t
+geometry_opens input (node h words ss) t rest b =
+    let x = b.first in
     let i = x.first in
     let behind = i.srid_field ++ (x.rest ++ rest) in
-    let shape : input ≡ x.front ++ (x.rest ++ rest) = f.whole ∙ ap (λ z. z ++ rest) x.whole
+    let shape : input ≡ x.front ++ (x.rest ++ rest) = b.whole ∙ ap (λ z. z ++ rest) x.whole
     ∙ append_assoc x.front x.rest rest in
     let opens : Opens input h.order (kind t) (dimension t) (is_some h.srid) behind = record {
       code = h.code;
@@ -117,6 +118,10 @@ front_opens input (node h words ss) t rest f =
             (dimension t) x.front i,
       );
     }
+
+front_opens : (input : List ℕ) (s : Spelling) (t : Value) (rest : List ℕ) → Front input s t rest → HeaderSays input s t
+front_opens input s t rest f =
+    geometry_opens input s t rest (record { front = f.front; whole = f.whole; first = f.spelled })
 
 -- ---- a geometry that is found
 
@@ -159,7 +164,7 @@ module _ (input : List ℕ) (turns many : ℕ) (rest : List ℕ) (is : skim_of i
 
   module _ (f : Summary) (h : Head) (head : head_at input ≡ Ok h) (bytes : f.bytes ≡ length input - length rest)
       (parts : f.parts ≡ turns + 1)
-      (coordinates : f.coordinates ≡ many) (type : f.wkb_type ≡ h.wkb_type)
+      (coordinates : f.coordinates ≡ many) (order : f.order ≡ h.order) (type : f.wkb_type ≡ h.wkb_type)
       (srid : f.srid ≡ srid_in h.order h.has_srid input) where
     described : DescribesOnlyFront input f
     described s t more x =
@@ -171,6 +176,7 @@ module _ (input : List ℕ) (turns many : ℕ) (rest : List ℕ) (is : skim_of i
           bytes_are = omega (arith, bytes, ap length x.whole, length-append x.front more, ap length c.rest_is);
           parts = omega (arith, parts, c.turns_are);
           coordinates = coordinates ∙ c.many_are;
+          order = order ∙ ap (λ (g : Head). g.order) same;
           wkb_type = type ∙ ap (λ (g : Head). g.wkb_type) same;
           srid = srid ∙ ap (λ (g : Head). srid_in g.order g.has_srid input) same ∙ o.srid;
         }

@@ -1,18 +1,18 @@
 -- Skimming, step by step.
 use Rattle.std.proofs.Common.{◌≡◌, ℕ, suc, ◌+◌, ◌-◌, ◌*◌, ◌<◌, ◌≤◌, List, length, Ok, Err, refl, sym, ap, ◌∙◌}
 use Rattle.std.proofs.Common.{add_assoc, zero-add, arith}
-use Rattle.std.proofs.Common.{true, false, ltb, lt-ltb, le-ltb}
+use Rattle.std.proofs.Common.{true, false, ltb, lt-ltb, le-ltb, Result, Bor, IsErrAnd}
+use Rattle.std.proofs.lemmas.Result.{err_from_is_err_and}
 use Rattle.wkb_geom.specs.declared.error.Cause.{Cause}
 use Rattle.wkb_geom.specs.declared.error.Cause.TheVariants.{EndOfInput as end_of_input, General as general}
 use Rattle.wkb_geom.specs.declared.error.General.TheVariants.{ShortMultiPoint}
 use Rattle.wkb_geom.specs.declared.header.Layout.{Layout}
 use Rattle.wkb_geom.specs.Dimensions.{width}
 use Rattle.wkb_geom.specs.Refusals.{multi_point_end}
-use Rattle.wkb_geom.specs.Reading.{Outcome, body_start, parts_start}
-use Rattle.wkb_check.specs.Skims.{Tally, ◌⊕◌, Skim, after, onward, leaf, stop, skim_list, skim_multi_point, skim_member}
+use Rattle.wkb_geom.specs.Reading.{body_start, parts_start}
+use Rattle.wkb_check.specs.Skims.{Tally, ◌⊕◌, Skim, after, onward, stop, skim_list, skim_multi_point, skim_member}
 use Rattle.wkb_check.specs.Skims.{count_at}
 unfoldable use Rattle.wkb_check.specs.Skims.{skims}
-use Rattle.wkb_check.specs.Passes.{left_of}
 
 -- ---- tallies
 
@@ -37,30 +37,14 @@ tally_is s t e = ap (λ (z : Skim). z.0) e
 pub left_is : (s t : Skim) → s ≡ t → s.1 ≡ t.1
 left_is s t e = ap (λ (z : Skim). z.1) e
 
--- ---- what holds no part
-
-pub leaf_read : {A : Type 0} (t : Tally) (n : ℕ) (bytes rest : List ℕ) (p : Outcome A) → left_of p ≡ Ok rest
-    → after t (leaf n bytes p) ≡ ((t.0, t.1 + n), Ok rest)
-leaf_read t n bytes rest (Ok x) e =
-    let none : t.0 + 0 ≡ t.0 = omega arith in
-    let same : x.1 ≡ rest = cc in
-    λ i. ((none i, t.1 + n), Ok (same i))
-leaf_read t n bytes rest (Err c) e = absurd cc
-
-pub leaf_stops : {A : Type 0} (t : Tally) (n : ℕ) (bytes : List ℕ) (c : Cause) (p : Outcome A) → left_of p ≡ Err c
-    → after t (leaf n bytes p) ≡ (t, Err (c, length bytes))
-leaf_stops t n bytes c (Ok x) e = absurd cc
-leaf_stops t n bytes c (Err d) e = let same : d ≡ c = cc in λ i. (tally_none t i, Err (same i, length bytes))
-
-pub leaf_many : {A : Type 0} (n : ℕ) (bytes rest : List ℕ) (p : Outcome A) → left_of p ≡ Ok rest
-    → (leaf n bytes p).0.1 ≡ n
-leaf_many n bytes rest (Ok x) e = refl
-leaf_many n bytes rest (Err c) e = absurd cc
-
 -- what is refused itself
 pub stops : (t : Tally) (bytes : List ℕ) (c : Cause) (s : Skim) → s ≡ stop bytes c
     → after t s ≡ (t, Err (c, length bytes))
 stops t bytes c s e = ap (after t) e ∙ (λ i. (tally_none t i, Err (c, length bytes)))
+
+-- what the exit of a `?` returns
+pub exits : (e : Cause) (r : Result (Bor (List ℕ)) Cause) → IsErrAnd r (λ y. y ≡ e) → r ≡ Err e
+exits e r is = let stopped = err_from_is_err_and r is in stopped.1 ∙ ap Err stopped.2
 
 -- ---- one step
 

@@ -1,7 +1,7 @@
 -- What the check's functions answer, in the words of a skim.
 use Rattle.std.specs.Prelude.{◌≡◌, ℕ, ◌+◌, ◌<◌, ◌^◌, List, length, take, reverse, Bool, true, false, Result, Ok, Err}
+use Rattle.std.specs.Borrow.{Bor}
 use Rattle.wkb_geom.specs.declared.error.Cause.{Cause}
-use Rattle.wkb_geom.specs.Reading.{Outcome}
 use Rattle.wkb_check.specs.declared.walk.Walk.{Walk}
 use Rattle.wkb_check.specs.Skims.{Tally, Skim, after, onward, skim_inside, skim_outward}
 
@@ -14,27 +14,17 @@ pub record FitsCounters (p : Walk) (s : Skim) : Type 0 where
   pub turns : p.turns + s.0.0 < 2 ^ 64
   pub coordinates : p.coordinates + s.0.1 < 2 ^ 64
 
--- the bytes behind a part that is read, or its fault
-abbrev pub left_of : {A : Type 0} → Outcome A → Result (List ℕ) Cause
-left_of (Ok x) = Ok x.1
-left_of (Err c) = Err c
-
--- the answer is what is left of a part that is read
-abbrev pub Leaves : {A X : Type 0} → (X → List ℕ) → Result X Cause → Outcome A → Type 0
-Leaves view (Ok x) p = left_of p ≡ Ok (view x)
-Leaves view (Err c) p = left_of p ≡ Err c
-
 -- the answer is what skimming gives, and what it passed was counted
-abbrev pub Passes : {X : Type 0} → (X → List ℕ) → Result X Cause → Skim → Walk → Walk → Type 0
-Passes view (Ok x) s old new = after (tally old) s ≡ (tally new, Ok (view x))
-Passes view (Err c) s old new = after (tally old) s ≡ (tally new, Err (c, new.left))
+abbrev pub Passes : Result (Bor (List ℕ)) Cause → Skim → Walk → Walk → Type 0
+Passes (Ok rest) s old new = after (tally old) s ≡ (tally new, Ok rest.now)
+Passes (Err c) s old new = after (tally old) s ≡ (tally new, Err (c, new.left))
 
 -- So it is of a part that may be a collection, inside those that have so many members to come: a part is passed over,
 -- of a collection its count, and then it is open too.
-abbrev pub PassesOrOpens : {X : Type 0} → (X → List ℕ) → Result X Cause → Skim → List ℕ → List ℕ → Walk → Walk → Type 0
-PassesOrOpens view (Ok x) s before now old new =
-    after (tally old) (onward s (skim_outward before)) ≡ after (tally new) (skim_outward now (view x))
-PassesOrOpens view (Err c) s before now old new = after (tally old) s ≡ (tally new, Err (c, new.left))
+abbrev pub PassesOrOpens : Result (Bor (List ℕ)) Cause → Skim → List ℕ → List ℕ → Walk → Walk → Type 0
+PassesOrOpens (Ok rest) s before now old new =
+    after (tally old) (onward s (skim_outward before)) ≡ after (tally new) (skim_outward now rest.now)
+PassesOrOpens (Err c) s before now old new = after (tally old) s ≡ (tally new, Err (c, new.left))
 
 -- the counts of the open collections, the innermost first
 abbrev pub open_counts : List ℕ → ℕ → List ℕ

@@ -18,6 +18,7 @@ pub record Describes (f : Summary) (bytes : List ℕ) (s : Spelling) (t : Value)
   pub bytes_are : f.bytes ≡ length bytes
   pub parts : f.parts ≡ 1 + member_count t
   pub coordinates : f.coordinates ≡ coordinate_count t
+  pub order : f.order ≡ (header s).order
   pub wkb_type : f.wkb_type ≡ type_of (kind t) (dimension t)
   pub srid : f.srid ≡ (header s).srid
 

@@ -11,6 +11,8 @@ use Rattle.wkb_geom.specs.declared.error.Cause.TheVariants.{NestingDepthExceeded
 use Rattle.wkb_geom.specs.declared.error.General.TheVariants.{ShortMultiPoint}
 use Rattle.wkb_geom.specs.declared.header.Header.{Header as Head}
 use Rattle.wkb_geom.specs.declared.header.Layout.{Layout}
+use Rattle.wkb_check.specs.declared.skip.MemberKind.{MemberKind}
+use Rattle.wkb_check.specs.declared.skip.MemberKind.TheVariants as members
 use Rattle.wkb_geom.specs.Fronts.{max_nesting}
 use Rattle.wkb_geom.specs.Numbers.{number}
 use Rattle.wkb_geom.specs.Refusals.{multi_point_end}
@@ -83,6 +85,12 @@ skim_ring l bytes = leaf (number l.order 4 bytes) bytes (ring_at l.order l.dimen
 
 abbrev pub skim_polygon : Layout → List ℕ → Skim
 skim_polygon l bytes = skim_list l (skim_ring l) bytes
+
+-- the number of a member's kind in a code
+abbrev pub number_of_member : MemberKind → ℕ
+number_of_member members.Point = 1
+number_of_member members.LineString = 2
+number_of_member members.Polygon = 3
 
 -- what stands behind the header of a member, by its kind
 abbrev pub skim_member_body : ℕ → Layout → List ℕ → Skim

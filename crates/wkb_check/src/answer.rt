@@ -12,7 +12,7 @@ use crate::nested::skip_geometry;
 use crate::skip::skip_plain;
 use crate::walk::Walk;
 use wkb_geom::code::WkbType;
-use wkb_geom::{Cause, Header};
+use wkb_geom::{Cause, Endianness, Header};
 
 /// What stands at the front of the bytes.
 #[derive(Clone, Copy)]
@@ -23,6 +23,8 @@ pub struct Summary {
     pub parts: usize,
     /// How many coordinates those have. A point has one, though it be empty.
     pub coordinates: usize,
+    /// Its byte order; parts inside it may have another.
+    pub order: Endianness,
     /// Its kind and dimension.
     pub wkb_type: WkbType,
     /// Its own SRID.
@@ -52,6 +54,7 @@ fn summary_of(header: Header, buf: &[u8], walk: Walk, rest: &[u8]) -> Summary
         bytes: buf.len() - rest.len(),
         parts: walk.turns + 1,
         coordinates: walk.coordinates,
+        order: header.order,
         wkb_type: header.wkb_type,
         srid: header.layout().srid(buf),
     }

@@ -5,7 +5,11 @@
 mod answer;
 mod head;
 mod nested;
+mod range;
+mod scan;
 mod skip;
 mod walk;
 
 pub use answer::{Refused, Summary, check, check_plain};
+pub use range::{Bounds, Range};
+pub use scan::bounds;

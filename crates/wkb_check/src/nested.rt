@@ -16,7 +16,7 @@ const MAX_OPEN: usize = 128;
 /// How many members each open collection still has behind the one that is looked at, the outermost first.
 #[derive(Drop)]
 struct OpenCounts {
-    left: [u32; 128],
+    left: [u32; MAX_OPEN],
     depth: usize,
 }
 
@@ -30,17 +30,16 @@ impl OpenCounts {
         bytes: &'a [u8],
         walk: &mut Walk,
     ) -> Result<&'a [u8], Cause>
-        requires depth { self.old.depth ≤ 128 }
-        requires len { length self.old.left ≡ 128 }
+        requires depth { self.old.depth ≤ MAX_OPEN }
+        requires len { length self.old.left ≡ MAX_OPEN }
         requires here { walk.old.left ≡ length bytes.now }
         requires fits { FitsCounters walk.old (skim_body_inside self.old.depth header bytes.now) }
-        ensures begins { PassesOrOpens (λ rest. rest.now) result
-            (skim_body_inside self.old.depth header bytes.now)
+        ensures begins { PassesOrOpens result (skim_body_inside self.old.depth header bytes.now)
             (open_counts self.old.left self.old.depth) (open_counts self.new.left self.new.depth)
             walk.old walk.new }
         ensures grows { walk.old.turns ≤ walk.new.turns }
-        ensures depth { self.new.depth ≤ 128 }
-        ensures len { length self.new.left ≡ 128 }
+        ensures depth { self.new.depth ≤ MAX_OPEN }
+        ensures len { length self.new.left ≡ MAX_OPEN }
     {
         let layout = header.layout();
         match header.wkb_type {
@@ -48,14 +47,10 @@ impl OpenCounts {
                 if self.depth >= MAX_OPEN {
                     return Err(Cause::NestingDepthExceeded(MAX_OPEN));
                 }
-                match layout.count(bytes) {
-                    Ok(count) => {
-                        self.left[self.depth] = count;
-                        self.depth += 1;
-                        Ok(layout.after_count(bytes))
-                    }
-                    Err(cause) => Err(cause),
-                }
+                let count = layout.count(bytes)?;
+                self.left[self.depth] = count;
+                self.depth += 1;
+                Ok(layout.after_count(bytes))
             }
             wkb_type => skip_plain(wkb_type, layout, bytes, walk),
         }
@@ -64,12 +59,12 @@ impl OpenCounts {
     /// Closes each collection that has all its members. Whether one is left, whose next member begins.
     #[inline]
     fn next_member(&mut self) -> bool
-        requires depth { self.old.depth ≤ 128 }
-        requires len { length self.old.left ≡ 128 }
+        requires depth { self.old.depth ≤ MAX_OPEN }
+        requires len { length self.old.left ≡ MAX_OPEN }
         ensures settled { IsSettled (open_counts self.old.left self.old.depth)
             (open_counts self.new.left self.new.depth) result }
-        ensures depth { self.new.depth ≤ 128 }
-        ensures len { length self.new.left ≡ 128 }
+        ensures depth { self.new.depth ≤ MAX_OPEN }
+        ensures len { length self.new.left ≡ MAX_OPEN }
     {
         while self.depth > 0 {
             let left = self.left[self.depth - 1];
@@ -87,29 +82,22 @@ impl OpenCounts {
 fn skip_collection<'a>(outermost: Header, buf: &'a [u8], walk: &mut Walk) -> Result<&'a [u8], Cause>
     requires here { walk.old.left ≡ length buf.now }
     requires fits { FitsCounters walk.old (skim_body_inside 0 outermost buf.now) }
-    ensures { Passes (λ rest. rest.now) result (skim_body_inside 0 outermost buf.now)
-        walk.old walk.new }
+    ensures { Passes result (skim_body_inside 0 outermost buf.now) walk.old walk.new }
 {
     let mut open = OpenCounts {
-        left: [0; 128],
+        left: [0; MAX_OPEN],
         depth: 0,
     };
     let mut header = outermost;
     let mut bytes = buf;
     loop {
-        match open.skip_or_open(header, bytes, walk) {
-            Ok(rest) => bytes = rest,
-            Err(cause) => return Err(cause),
-        }
+        bytes = open.skip_or_open(header, bytes, walk)?;
         if !open.next_member() {
             return Ok(bytes);
         }
         walk.turns += 1;
         walk.left = bytes.len();
-        header = match read(bytes) {
-            Ok(header) => header,
-            Err(cause) => return Err(cause),
-        };
+        header = read(bytes)?;
     }
 }
 
@@ -123,8 +111,7 @@ pub(crate) fn skip_geometry<'a>(
 ) -> Result<&'a [u8], Cause>
     requires here { walk.old.left ≡ length buf.now }
     requires fits { FitsCounters walk.old (skim_body_inside 0 header buf.now) }
-    ensures { Passes (λ rest. rest.now) result (skim_body_inside 0 header buf.now)
-        walk.old walk.new }
+    ensures { Passes result (skim_body_inside 0 header buf.now) walk.old walk.new }
 {
     match header.wkb_type {
         WkbType::GeometryCollection(_) => skip_collection(header, buf, walk),
