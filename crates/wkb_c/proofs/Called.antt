@@ -1,9 +1,9 @@
 -- What the call for one row of a column does.
-use Rattle.wkb_c.proofs.Common.{◌≡◌, ◌≢◌, ℕ, ◌<◌, ◌⊎◌, inl, inr, List, ◌++◌, length, drop, ap, arith, refl}
+use Rattle.wkb_c.proofs.Common.{◌≡◌, ◌≢◌, ℕ, ◌<◌, ◌⊎◌, inl, inr, List, ◌++◌, length, drop, ap, arith, refl, sym, ◌∙◌}
 use Rattle.wkb_c.proofs.Common.{Spelling, Value, point, line_string, polygon, multi_point, multi_line_string}
 use Rattle.wkb_c.proofs.Common.{multi_polygon}
 use Rattle.wkb_c.proofs.Common.{collection, header}
-use Rattle.std.specs.Prelude.{take, min, false, Some}
+use Rattle.std.specs.Prelude.{take, min, Some, None}
 use Rattle.wkb_geom.specs.declared.common.Endianness.{Endianness}
 use Rattle.wkb_geom.specs.declared.common.Form.{Form}
 use Rattle.wkb_geom.specs.declared.common.Form.TheVariants.{Ewkb}
@@ -11,7 +11,8 @@ use Rattle.wkb_geom.specs.Encodings.{encoding, header_encoding, point_encoding, 
 use Rattle.wkb_geom.specs.Encodings.{members_encoding}
 use Rattle.wkb_geom.specs.Fronts.{Front}
 use Rattle.wkb_geom.specs.Geometries.{geometry_of}
-use Rattle.wkb_c.specs.Columns.{is_null_row, IsRow}
+use Rattle.wkb.specs.Canonical.{IsAccepted}
+use Rattle.wkb_c.specs.Columns.{Column, IsRow}
 use Rattle.wkb_c.specs.Requests.{IsRequested, request_of}
 use Rattle.wkb_c.specs.RowItems.{IsRowStep}
 use Rattle.wkb_c.specs.Statuses.{FailsToList, no_memory as no_memory_to_list}
@@ -25,7 +26,7 @@ use Rattle.wkb_c.specs.declared.status.TheConstants.{OK, NO_ROOM, NO_MEMORY}
 use Rattle.wkb_c.proofs.RowItems.{put_step, lacks_step, fails_step}
 use Rattle.wkb_c.proofs.Words.{holds, entries_many}
 
-has_table : (input : List ℕ) (s : Spelling) (t : Value) (rest : List ℕ) → Front input s t rest
+pub has_table : (input : List ℕ) (s : Spelling) (t : Value) (rest : List ℕ) → Front input s t rest
     → HasTable input (entries 0 0 s t)
 has_table input s t rest f = record {
   s = s;
@@ -52,22 +53,25 @@ some_requested (Encoding o) input out h = omega (arith, ap length h.written, som
 some_requested (OwnSrid order) input out h =
     omega (arith, ap length h.written, some_encoding order (Ewkb (header h.s).srid) h.t)
 
-module _ {bytes offsets validity : List ℕ} {i start : ℕ} (row : List ℕ) (null : is_null_row validity i ≡ false)
-    (is : IsRow bytes offsets i row) where
+-- what is asked for is not nothing
+pub is_asked : (o : Options) (request : Request) → request_of o ≡ Some request → request_of o ≢ None
+is_asked o request asked none = let never : Some request ≡ None = sym asked ∙ none in absurd (cc)
+
+module _ {c : Column} {i start : ℕ} (row : List ℕ) (is : IsRow c i row) (good : IsAccepted row) where
   pub list_step : (at status count : ℕ) (before lent sub after : List Part) → at ≡ min start (length before)
       → lent ≡ drop at before
       → after ≡ take at before ++ sub → length sub ≡ length lent → (status ≡ OK → IsTable row lent sub count)
       → (status ≡ NO_ROOM → LacksEntries row lent count) → (status ≢ OK → sub ≡ lent)
       → (status ≢ OK → status ≢ NO_ROOM → count ≡ 0) → (status ≡ OK) ⊎ ((status ≡ NO_ROOM) ⊎ (status ≡ NO_MEMORY))
-      → IsRowStep HasTable FailsToList bytes offsets validity i status count start before after
+      → IsRowStep HasTable FailsToList c i status count start before after
   list_step at status count before lent sub after at_is lent_is after_is long listed short kept none (inl ok) =
       let h = listed ok in
-      put_step row null is at before lent sub after at_is lent_is after_is (entries 0 0 h.s h.t)
+      put_step row is at before lent sub after at_is lent_is after_is (entries 0 0 h.s h.t)
       (has_table row h.s h.t h.rest h.front) ok
       (omega (arith, entries_many h.s h.t h.front.front h.front.spelled)) h.held long
   list_step at status count before lent sub after at_is lent_is after_is long listed short kept none (inr (inl told)) =
       let h = short told in
-      lacks_step row null is at before lent sub after at_is lent_is after_is (entries 0 0 h.s h.t)
+      lacks_step row is at before lent sub after at_is lent_is after_is (entries 0 0 h.s h.t)
       (has_table row h.s h.t h.rest h.front) told
       (record {
         count_is = omega (arith, h.many, entries_many h.s h.t h.front.front h.front.spelled);
@@ -75,7 +79,7 @@ module _ {bytes offsets validity : List ℕ} {i start : ℕ} (row : List ℕ) (n
       })
       (kept (λ ok. omega (arith, ok, told)))
   list_step at status count before lent sub after at_is lent_is after_is long listed short kept none (inr (inr told)) =
-      fails_step row null is at before lent sub after at_is lent_is after_is (no_memory_to_list told)
+      fails_step row is at before lent sub after at_is lent_is after_is (no_memory_to_list told good)
       (none (λ ok. omega (arith, ok, told)) (λ room. omega (arith, room, told)))
       (kept (λ ok. omega (arith, ok, told)))
 
@@ -86,21 +90,21 @@ module _ {bytes offsets validity : List ℕ} {i start : ℕ} (row : List ℕ) (n
       → (status ≡ OK → IsHandedOut request row lent sub count)
       → (status ≡ NO_ROOM → FindsNoRoom request row lent count) → (status ≢ OK → sub ≡ lent)
       → (status ≢ OK → status ≢ NO_ROOM → count ≡ 0) → (status ≡ OK) ⊎ ((status ≡ NO_ROOM) ⊎ (status ≡ NO_MEMORY))
-      → IsRowStep (HasEncoding o) (FailsToWrite o) bytes offsets validity i status count start before after
+      → IsRowStep (HasEncoding o) (FailsToWrite o) c i status count start before after
   write_step o request asked at status count before lent sub after at_is lent_is after_is long written short kept none
       (inl ok) =
       let h = written ok in
-      put_step row null is at before lent sub after at_is lent_is after_is h.encoding
+      put_step row is at before lent sub after at_is lent_is after_is h.encoding
       (record { request = request; asked = asked; is_requested = h.is_requested }) ok
       (some_requested request row h.encoding h.is_requested) h.held long
   write_step o request asked at status count before lent sub after at_is lent_is after_is long written short kept none
       (inr (inl told)) =
       let h = short told in
-      lacks_step row null is at before lent sub after at_is lent_is after_is h.encoding
+      lacks_step row is at before lent sub after at_is lent_is after_is h.encoding
       (record { request = request; asked = asked; is_requested = h.is_requested }) told
       h.lacks (kept (λ ok. omega (arith, ok, told)))
   write_step o request asked at status count before lent sub after at_is lent_is after_is long written short kept none
       (inr (inr told)) =
-      fails_step row null is at before lent sub after at_is lent_is after_is (no_memory told)
+      fails_step row is at before lent sub after at_is lent_is after_is (no_memory (is_asked o request asked) told good)
       (none (λ ok. omega (arith, ok, told)) (λ room. omega (arith, room, told)))
       (kept (λ ok. omega (arith, ok, told)))

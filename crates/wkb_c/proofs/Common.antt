@@ -3,7 +3,8 @@ pub use Rattle.std.proofs.Common.{arith, sym, ◌+◌, length, ap, ◌∙◌, �
 pub use Rattle.std.proofs.Common.{◌∷◌, ◌++◌, drop, Option, Some, None}
 pub use Rattle.std.proofs.Common.{subst, append_assoc, append-nil, ◌*◌, ◌≢◌, ◌⊎◌, inl, inr, length-append}
 pub use Rattle.std.proofs.lemmas.List.{length-map, drop-drop}
-pub use Rattle.std.specs.Prelude.{is_some, slice_get, Bool, unwrap_or, Result, Ok, Err, IfOk, slice_index, sum_by}
+pub use Rattle.std.specs.Prelude.{is_some, option_map, slice_get, Bool, unwrap_or, Result, Ok, Err, IfOk}
+pub use Rattle.std.specs.Prelude.{slice_index}
 pub use Rattle.wkb_geom.specs.Dimensions.{dimensions, width}
 pub use Rattle.wkb_geom.specs.Numbers.{order_byte, IsNumber, number}
 pub use Rattle.wkb_geom.specs.Reading.{Item, spellings, values, point_of, line_string_of}
@@ -20,6 +21,6 @@ pub use Rattle.wkb_geom.specs.declared.common.Dimension.{Dimension}
 pub use Rattle.wkb_read.specs.Nodes.{nodes, nodes_all}
 pub use Rattle.wkb_read.specs.Public.{IsFront, IsRefusal, TakesNoMemory}
 pub use Rattle.wkb_view.specs.Fitted.{fitted_line_string, fitted_line_strings}
-pub use Rattle.wkb_view.specs.Parts.{members_spelled, srid_of, IsSpelled, order_of, list_of_values, list_of_spellings}
+pub use Rattle.wkb_view.specs.Parts.{members_spelled, srid_of, BytesSpell, order_of, list_of_values, list_of_spellings}
 pub use Rattle.wkb_view.specs.Parts.{points_of}
 pub use Rattle.wkb_view.specs.Views.{multi_point_seen, point_seen, point_value as value_seen, line_string_seen}

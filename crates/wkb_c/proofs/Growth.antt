@@ -1,19 +1,17 @@
 -- How a table grows by the members of a geometry, and by the rings of a polygon.
 use Rattle.wkb_c.proofs.Common.{◌≡◌, ℕ, zero, suc, ◌+◌, ◌≤◌, ◌<◌, ◌^◌, List, [], ◌∷◌, ◌++◌, length, drop, Option, Some}
 use Rattle.wkb_c.proofs.Common.{None, refl, sym, ap, subst, ◌∙◌}
-use Rattle.wkb_c.proofs.Common.{append_assoc, append-nil, arith, Result, Ok, Err, IfOk, slice_get, slice_index}
+use Rattle.wkb_c.proofs.Common.{append_assoc, append-nil, arith, Result, Ok, Err, IfOk, slice_get}
 use Rattle.wkb_c.proofs.Common.{Dimension, dimensions, order_byte, Item}
 use Rattle.std.proofs.Common.{set}
-use Rattle.std.specs.Prelude.{slice_index_or}
-use Rattle.wkb_c.proofs.Common.{spellings, values, ring_end, Header, Spelling, node, Spellings, no_spellings, spelling}
-use Rattle.wkb_c.proofs.Common.{Spells, Coordinate, Value, Values}
+use Rattle.std.specs.Prelude.{slice_index_or, IfSome, option_map}
+use Rattle.wkb_c.proofs.Common.{spellings, values, ring_end, Spelling, node, Spellings, no_spellings, spelling}
+use Rattle.wkb_c.proofs.Common.{Coordinate, Value, Values}
 use Rattle.wkb_c.proofs.Common.{point, line_string, polygon, multi_point, multi_line_string, multi_polygon, collection}
 use Rattle.wkb_c.proofs.Common.{no_members, member, members, count}
-use Rattle.wkb_c.proofs.Common.{length-append, ◌*◌, width, header, each, kind, dimension, nodes, nodes_all, point_of}
-use Rattle.wkb_c.proofs.Common.{point_seen, value_seen, IsSpelled, order_of, srid_of, list_of_values}
+use Rattle.wkb_c.proofs.Common.{length-append, ◌*◌, width, header, each, dimension, nodes, nodes_all, point_of}
+use Rattle.wkb_c.proofs.Common.{point_seen, value_seen, order_of, list_of_values}
 use Rattle.wkb_c.proofs.Common.{list_of_spellings, members_spelled}
-use Rattle.std.proofs.Math.Logic.{∥∥₁_elim}
-use Rattle.std.proofs.Props.{props}
 use Rattle.wkb_geom.specs.declared.common.Dimension.TheVariants.{Xy, Xyz, Xym, Xyzm}
 use Rattle.wkb_read.specs.Views.{IsCollectionOf}
 use Rattle.wkb_view.specs.declared.point.Point as views
@@ -24,7 +22,7 @@ use Rattle.wkb_c.specs.Tables.{leading}
 use Rattle.wkb_c.specs.Tables.{count_of, size, sizes}
 use Rattle.wkb_c.specs.Tables.{entry_count, entry_counts}
 use Rattle.wkb_c.specs.declared.parts.PartHead.{PartHead}
-use Rattle.wkb_c.specs.Growing.{Grows, Lists, ListsMembers, HasMembers, header_bytes, spellings_from, values_from}
+use Rattle.wkb_c.specs.Growing.{Grows, Lists, ListsMembers, HasMembers, spellings_from, values_from}
 use Rattle.wkb_c.specs.Growing.{Added}
 use Rattle.wkb_c.specs.Growing.{RingsAdded}
 use Rattle.wkb_c.specs.Growing.{IsHead, OpensPart, Closes, closed, added_entry}
@@ -207,33 +205,11 @@ no_body (multi_line_string d lines) h = refl
 no_body (multi_polygon d polygons) h = refl
 no_body (collection d ts) h = refl
 
-leads : (h : Header) (t : Value) → HasMembers t → leading h t ≡ header_bytes h.srid + 4
-leads h (point d c) m = absurd (omega arith)
-leads h (line_string d cs) m = omega arith
-leads h (polygon d rings) m = omega arith
-leads h (multi_point d points) m = omega arith
-leads h (multi_line_string d lines) m = omega arith
-leads h (multi_polygon d polygons) m = omega arith
-leads h (collection d ts) m = omega arith
-
 -- the bytes of a geometry that has members
 pub members_fit : (s : Spelling) (t : Value) (at : ℕ) → HasMembers t → at + size s t < 2 ^ 63
     → (at + leading (header s) t + 0 < 2 ^ 63)
     × (at + leading (header s) t + sizes (members_spelled s) (members t) < 2 ^ 63)
 members_fit (node h words ss) t at m fits = (omega (arith, fits), omega (arith, fits, no_body t m))
-
--- the head of such a geometry
-pub whole_head : (s : Spelling) (t : Value) (head : PartHead) → HasMembers t → head.kind ≡ kind t
-    → head.dimension ≡ dimension t
-    → head.srid ≡ srid_of s → head.order ≡ order_byte (order_of s) → head.leading ≡ header_bytes (srid_of s) + 4
-    → IsHead s t head
-whole_head (node h words ss) t head m kind_is dimension_is srid_is order_is lead = record {
-  kind_is = kind_is;
-  dimension_is = dimension_is;
-  srid_is = srid_is;
-  order_is = order_is;
-  leading_is = lead ∙ sym (leads h t m);
-}
 
 pub opens_fits : (s : Spelling) (t : Value) (head : PartHead) (at : ℕ) → HasMembers t → IsHead s t head
     → at + size s t < 2 ^ 63
@@ -267,6 +243,15 @@ listed_leaf (node h words ss) t old new head n body is counted no_ring no_member
           ∷ (ring_entries (dimension t) (order_byte h.order) (index + 1) at (sym no_ring i) ++ sym no_entry i)));
       at = omega (arith, g.at, bytes);
     }
+
+pub leaf_added : {X E : Type 0} (r : Result X E) (s : Spelling) (t : Value) (old new : Table) (head : PartHead)
+    (n body : ℕ) → IsHead s t head → n ≡ count_of t → rings_of t ≡ [] → members t ≡ no_members → body ≡ content_size t
+    → IfOk r
+    (λ done. Grows old new (added_entry (length old.parts.items) old.at head body n ∷ []) (head.leading + body))
+    → IfOk r (λ done. Lists old new s t)
+leaf_added (Ok done) s t old new head n body is counted no_ring no_member sized g =
+    listed_leaf s t old new head n body is counted no_ring no_member sized g
+leaf_added (Err e) s t old new head n body is counted no_ring no_member sized g = tt
 
 -- a part that has rings or members, once these were added and it was closed
 listed_open : (s : Spelling) (t : Value) (old mid late new : Table) (n index bytes : ℕ) (inner : List Part)
@@ -331,7 +316,7 @@ listed_view w v old mid late new n index is m counted at_index o g shut =
 
 -- ---- rings
 
-drop_ring : (rings : List (List Coordinate)) (i : ℕ) (ring : List Coordinate) → Some ring ≡ slice_get rings i
+drop_ring : (rings : List (List Coordinate)) (i : ℕ) (ring : List Coordinate) → slice_get rings i ≡ Some ring
     → drop i rings ≡ ring ∷ drop (suc i) rings
 drop_ring [] i ring is = absurd (cc)
 drop_ring (x ∷ rings) zero ring is = let same : x ≡ ring = cc in ap (λ y. y ∷ rings) same
@@ -350,7 +335,7 @@ rings_none d order rings t = record { parts = refl; at = refl }
 pub rings_fit : (d e : Dimension) (order : ℕ) (rings : List (List Coordinate)) (start : Table) (i : ℕ) (now : Table)
     (ring : List Coordinate)
     → dimensions e ≡ dimensions d
-    → RingsAdded d order rings start i now → Some ring ≡ slice_get rings i → start.at + size_of_rings d rings < 2 ^ 63
+    → RingsAdded d order rings start i now → slice_get rings i ≡ Some ring → start.at + size_of_rings d rings < 2 ^ 63
     → now.at + ring_end e (length ring) < 2 ^ 63
 rings_fit d e order rings start i now ring same a is fits =
     omega (
@@ -380,17 +365,18 @@ listed_ring d order n ring old new head body kind_is dimension_is srid_is order_
       at = omega (arith, g.at, bytes);
     }
 
-pub rings_more : (d e : Dimension) (order : ℕ) (rings : List (List Coordinate)) (start : Table) (i : ℕ)
+pub rings_more : (d e : Dimension) (order own : ℕ) (rings : List (List Coordinate)) (start : Table) (i : ℕ)
     (now then : Table) (ring : List Coordinate)
-    → dimensions e ≡ dimensions d
-    → RingsAdded d order rings start i now → Some ring ≡ slice_get rings i
-    → Grows now then (ring_entries e order (length now.parts.items) now.at (ring ∷ [])) (ring_end e (length ring))
+    → dimensions e ≡ dimensions d → own ≡ order
+    → RingsAdded d order rings start i now → slice_get rings i ≡ Some ring
+    → Grows now then (ring_entries e own (length now.parts.items) now.at (ring ∷ [])) (ring_end e (length ring))
     → RingsAdded d order rings start (i + 1) then
-rings_more d e order rings start i now then ring same a is grows =
+rings_more d e order own rings start i now then ring same ordered a is grows =
     let many = length now.parts.items in
+    let d_is = one_name e d same in
     let g : Grows now then (ring_entries d order many now.at (ring ∷ [])) (ring_end d (length ring)) =
-    subst (λ (x : Dimension). Grows now then (ring_entries x order many now.at (ring ∷ [])) (ring_end x (length ring)))
-    (one_name e d same) grows in
+    subst (λ T. T) (λ j. Grows now then (ring_entries (d_is j) (ordered j) many now.at (ring ∷ []))
+    (ring_end (d_is j) (length ring))) grows in
     let rest = drop (suc i) rings in
     let one = ring_entries d order many now.at (ring ∷ []) in
     let longer : length then.parts.items ≡ many + 1 = grown _ _ _ _ g in
@@ -417,18 +403,6 @@ rings_all d order rings start i now past a =
       at = omega (arith, a.at, ap (size_of_rings d) none);
     }
 
--- ---- the first byte
-
-first_of : (s : Spelling) (t : Value) (encoding : List ℕ) → Spells s t encoding
-    → (0 < length encoding) × (slice_index encoding 0 ≡ order_byte (order_of s))
-first_of (node h words ss) t encoding spelled =
-    let whole = spelled.whole ∙ ap (λ (x : List ℕ). x ++ spelled.rest) spelled.first.whole in
-    (omega (arith, ap length whole), ap (λ (x : List ℕ). slice_index x 0) whole)
-
-pub first_is_order : (w : Item) → IsSpelled w
-    → (0 < length w.encoding) × (slice_index w.encoding 0 ≡ order_byte (order_of w.spelled))
-first_is_order w is = ∥∥₁_elim is (hlevel props) (λ spelled. first_of w.spelled w.value w.encoding spelled)
-
 -- ---- how many rings there are
 
 pub no_first : {A : Type 0} (l : List A) → None ≡ slice_get l 0 → 0 ≡ length l
@@ -441,42 +415,39 @@ rings_are_few d (cs ∷ rings) = omega (arith, rings_are_few d rings)
 
 -- ---- a polygon
 
-pub polygon_head : (s : Spelling) (d : Dimension) (rings : List (List Coordinate)) (head : PartHead) → head.kind ≡ 3
-    → head.dimension ≡ d
-    → head.srid ≡ srid_of s → head.order ≡ order_byte (order_of s) → head.leading ≡ header_bytes (srid_of s) + 4
-    → IsHead s (polygon d rings) head
-polygon_head (node h words ss) d rings head kind_is dimension_is srid_is order_is lead = record {
-  kind_is = kind_is;
-  dimension_is = dimension_is;
-  srid_is = srid_is;
-  order_is = order_is;
-  leading_is = omega (arith, lead);
-}
-
 pub listed_polygon : (s : Spelling) (d : Dimension) (rings : List (List Coordinate)) (old mid late new : Table)
-    (n order index : ℕ) → n ≡ length rings
-    → index ≡ length old.parts.items → order ≡ order_byte (order_of s) → OpensPart old mid s (polygon d rings) n
-    → Grows mid late (ring_entries d order (length mid.parts.items) mid.at rings) (size_of_rings d rings)
+    (n index : ℕ) → n ≡ length rings
+    → index ≡ length old.parts.items → OpensPart old mid s (polygon d rings) n
+    → Grows mid late (ring_entries d (order_byte (order_of s)) (length mid.parts.items) mid.at rings)
+    (size_of_rings d rings)
     → Closes late new index
     → Lists old new s (polygon d rings)
-listed_polygon (node h words ss) d rings old mid late new n order index counted at_index ordered o g shut =
+listed_polygon (node h words ss) d rings old mid late new n index counted at_index o g shut =
     let many = length mid.parts.items in
     listed_open (node h words ss) (polygon d rings) old mid late new n index _ _ counted at_index o g shut
-    (sym (append-nil (ring_entries d order many mid.at rings))
-    ∙ (λ i. ring_entries d (ordered i) many mid.at rings ++ sym (none_listed many mid.at ss) i))
+    (sym (append-nil (ring_entries d (order_byte h.order) many mid.at rings))
+    ∙ ap (λ x. ring_entries d (order_byte h.order) many mid.at rings ++ x) (sym (none_listed many mid.at ss)))
     (omega (arith, none_sized ss))
 
 pub polygon_fits : (s : Spelling) (d : Dimension) (rings : List (List Coordinate)) (at : ℕ)
     → at + size s (polygon d rings) < 2 ^ 63 → length rings < 2 ^ 63
 polygon_fits (node h words ss) d rings at fits = omega (arith, fits, rings_are_few d rings)
 
+-- the bytes of a polygon's head and of its rings
+pub rings_have_room : (s : Spelling) (d : Dimension) (rings : List (List Coordinate)) (at : ℕ)
+    → at + size s (polygon d rings) < 2 ^ 63
+    → at + leading (header s) (polygon d rings) + size_of_rings d rings < 2 ^ 63
+rings_have_room (node h words ss) d rings at fits = omega (arith, fits)
+
 -- ---- members by the views that hand them out
 
--- a number below the length has an item
-pub below_is_some : {A : Type 0} (l : List A) (i : ℕ) → i < length l → None ≡ slice_get l i → ⊥
-below_is_some [] i below is = omega (arith, below)
-below_is_some (a ∷ l) zero below is = cc
-below_is_some (a ∷ l) (suc i) below is = below_is_some l i (omega (arith, below)) is
+-- what is there is so
+pub there_is : {A : Type 0} (P : A → Type 0) (found : Option A) (a : A) → found ≡ Some a → IfSome found P → P a
+there_is P found a is h = subst (λ o. IfSome o P) is h
+
+pub there_seen : {A B : Type 0} (f : A → B) (found : Option A) (a : A) (x : Option B) → found ≡ Some a
+    → option_map f found ≡ x → Some (f a) ≡ x
+there_seen f found a x is h = sym (ap (option_map f) is) ∙ h
 
 -- so many items of one dimension
 pub part_value : {A : Type 0} (f : Dimension → A → Value) (l : List A) (d e : Dimension) (i : ℕ) (a : A)
@@ -535,12 +506,6 @@ pub point_value : (l : List (Option Coordinate)) (d : Dimension) (i : ℕ) (p : 
 point_value l d i p is same =
     part_value point l d p.layout.dimension i (point_of (point_seen p).value) is same
     ∙ ap (λ (v : Value). Some v) (sym (value_seen p))
-
--- ---- answers
-
-pub if_ok : {X E : Type 0} (r : Result X E) (P Q : X → Type 0) → ((x : X) → P x → Q x) → IfOk r P → IfOk r Q
-if_ok (Ok x) P Q f h = f x h
-if_ok (Err e) P Q f h = tt
 
 -- ---- closing a part
 

@@ -1,8 +1,13 @@
 mod Common
 mod Telling
+mod Heads
 mod Fitting
 mod Growth
 mod Words
 mod Rows
+mod Boxes
 mod RowItems
 mod Called
+mod Levels
+mod Sound
+mod InTurn

@@ -3,7 +3,7 @@ use Rattle.wkb_c.proofs.Common.{◌≡◌, ℕ, zero, suc, ◌+◌, ◌≤◌, �
 use Rattle.wkb_c.proofs.Common.{slice_index}
 use Rattle.wkb_c.proofs.Common.{refl, ap, sym, subst, ◌∙◌, arith, append_assoc, append-nil, length-append, drop-drop}
 use Rattle.wkb_c.proofs.Common.{[], ◌∷◌}
-use Rattle.std.specs.Prelude.{take, ◌-◌, min, slice_range, false}
+use Rattle.std.specs.Prelude.{take, ◌-◌, min, slice_range}
 use Rattle.std.proofs.Common.{set, length-drop}
 use Rattle.std.proofs.Math.Nat.{min-eq_left, min-le_right, le-min}
 use Rattle.std.proofs.Math.Seq.{drop-append_seam, take-append_seam}
@@ -11,10 +11,10 @@ use Rattle.std.proofs.lemmas.List.{take-append-drop, take-append-le, drop-append
 use Rattle.std.proofs.lemmas.Slice.{drop-append-drop, between_to_end}
 use lib.Seq.{get_or-set_same, get_or-set_other}
 use Rattle.wkb_c.specs.declared.status.TheConstants.{OK, NO_ROOM}
-use Rattle.wkb_c.specs.Columns.{is_null_row, IsRow}
+use Rattle.wkb_c.specs.Columns.{Column, IsRow}
 use Rattle.wkb_c.specs.Room.{IsHeld, LacksRoom}
-use Rattle.wkb_c.specs.RowItems.{start_of, end_of, IsRowAnswer, handed, no_room, failed, null_row, bad_offsets}
-use Rattle.wkb_c.specs.RowItems.{AreRowAnswers, KeepsBehind, IsRowStep, put, lacks, fails, is_no_row, lies_outside}
+use Rattle.wkb_c.specs.RowItems.{start_of, end_of, IsRowAnswer, handed, no_room, failed, no_row}
+use Rattle.wkb_c.specs.RowItems.{AreRowAnswers, KeepsBehind, IsRowStep, put, lacks, fails, has_no_row}
 
 -- ---- lists
 
@@ -76,92 +76,86 @@ end_grows start n small = below_both start (start + n) (2 ^ 64 - 1) (omega arith
 
 -- ---- a step of one row
 
-module _ {A : Type 0} {Has : List ℕ → List A → Type 0} {Fails : List ℕ → ℕ → Type 0} {bytes offsets validity : List ℕ}
+module _ {A : Type 0} {Has : List ℕ → List A → Type 0} {Fails : List ℕ → ℕ → Type 0} {c : Column}
   where
     step_length : {i status count start : ℕ} {before after : List A}
-        → IsRowStep Has Fails bytes offsets validity i status count start before after
+        → IsRowStep Has Fails c i status count start before after
         → length after ≡ length before
-    step_length {start = start} {before = before} (put row items null is has ok many there put_is) =
+    step_length {start = start} {before = before} (put row items is has ok many there put_is) =
         ap length put_is ∙ ap (λ n. length (take start before ++ (items ++ drop (start + n) before))) many
         ∙ put_length before items start (rw many at there)
-    step_length (lacks row items null is has ok many short same) = ap length same
-    step_length (fails row null is why none same) = ap length same
-    step_length (is_no_row null is none same) = ap length same
-    step_length (lies_outside null is why none same) = ap length same
+    step_length (lacks row items is has ok many short same) = ap length same
+    step_length (fails row is why none same) = ap length same
+    step_length (has_no_row why none same) = ap length same
 
     step_before : {i status count start : ℕ} {before after : List A}
-        → IsRowStep Has Fails bytes offsets validity i status count start before after
+        → IsRowStep Has Fails c i status count start before after
         → (a b : ℕ) → a ≤ b → b ≤ start → slice_range after a b ≡ slice_range before a b
-    step_before {start = start} {before = before} (put row items null is has ok many there put_is) a b rise below =
+    step_before {start = start} {before = before} (put row items is has ok many there put_is) a b rise below =
         ap (λ z. slice_range z a b) put_is ∙ range_before before _ start a b rise below (omega (arith, there))
-    step_before (lacks row items null is has ok many short same) a b rise below = ap (λ z. slice_range z a b) same
-    step_before (fails row null is why none same) a b rise below = ap (λ z. slice_range z a b) same
-    step_before (is_no_row null is none same) a b rise below = ap (λ z. slice_range z a b) same
-    step_before (lies_outside null is why none same) a b rise below = ap (λ z. slice_range z a b) same
+    step_before (lacks row items is has ok many short same) a b rise below = ap (λ z. slice_range z a b) same
+    step_before (fails row is why none same) a b rise below = ap (λ z. slice_range z a b) same
+    step_before (has_no_row why none same) a b rise below = ap (λ z. slice_range z a b) same
 
     step_behind : {i status count start : ℕ} {before after : List A}
-        → IsRowStep Has Fails bytes offsets validity i status count start before after
+        → IsRowStep Has Fails c i status count start before after
         → length before < 2 ^ 64 → (k : ℕ) → (status ≡ OK → end_of start count ≤ k) → drop k after ≡ drop k before
     step_behind {count = count} {start = start} {before = before}
-        (put row items null is has ok many there put_is) small k far =
+        (put row items is has ok many there put_is) small k far =
         let end : end_of start count ≤ k = far ok in
         let put_there : start + length items ≤ length before = rw many at there in
         ap (drop k) (put_is ∙ ap (λ n. take start before ++ (items ++ drop (start + n) before)) many)
         ∙ drop_behind before items start k put_there
         (omega (arith, end, fits_end start count (omega (arith, there, small)), many))
-    step_behind (lacks row items null is has ok many short same) small k far = ap (drop k) same
-    step_behind (fails row null is why none same) small k far = ap (drop k) same
-    step_behind (is_no_row null is none same) small k far = ap (drop k) same
-    step_behind (lies_outside null is why none same) small k far = ap (drop k) same
+    step_behind (lacks row items is has ok many short same) small k far = ap (drop k) same
+    step_behind (fails row is why none same) small k far = ap (drop k) same
+    step_behind (has_no_row why none same) small k far = ap (drop k) same
 
     -- what is known of a row once it is done
     step_answer : {i status count start : ℕ} {before after : List A}
-        → IsRowStep Has Fails bytes offsets validity i status count start before after
+        → IsRowStep Has Fails c i status count start before after
         → length before < 2 ^ 64 → start < 2 ^ 64
-        → IsRowAnswer Has Fails bytes offsets validity i status start (end_of start count) after
+        → IsRowAnswer Has Fails c i status start (end_of start count) after
     step_answer {count = count} {start = start} {before = before} {after = after}
-        (put row items null is has ok many there put_is) small fits =
+        (put row items is has ok many there put_is) small fits =
         let put_there : start + length items ≤ length before = rw many at there in
         let end : end_of start count ≡ start + length items =
         fits_end start count (omega (arith, there, small)) ∙ ap (λ n. start + n) many in
-        let same = step_length (put row items null is has ok many there put_is) in
-        handed row items null is has ok end (omega (arith, end, same, put_there))
+        let same = step_length (put row items is has ok many there put_is) in
+        handed row items is has ok end (omega (arith, end, same, put_there))
         (ap (λ e. slice_range after start e) end ∙ ap (λ z. slice_range z start (start + length items)) put_is
         ∙ range_put before items (drop (start + count) before) start (omega (arith, there)))
-    step_answer {count = count} {start = start} (lacks row items null is has ok many short same) small fits =
-        no_room row items null is has ok (ap (end_of start) many) (omega (arith, ap length same, many, short))
-    step_answer {count = count} {start = start} (fails row null is why none same) small fits =
-        failed row null is why (ap (end_of start) none ∙ fits_end start 0 (omega (arith, fits)) ∙ omega arith)
-    step_answer {count = count} {start = start} (is_no_row null is none same) small fits =
-        null_row null is (ap (end_of start) none ∙ fits_end start 0 (omega (arith, fits)) ∙ omega arith)
-    step_answer {count = count} {start = start} (lies_outside null is why none same) small fits =
-        bad_offsets null is why (ap (end_of start) none ∙ fits_end start 0 (omega (arith, fits)) ∙ omega arith)
+    step_answer {count = count} {start = start} (lacks row items is has ok many short same) small fits =
+        no_room row items is has ok (ap (end_of start) many) (omega (arith, ap length same, many, short))
+    step_answer {count = count} {start = start} (fails row is why none same) small fits =
+        failed row is why (ap (end_of start) none ∙ fits_end start 0 (omega (arith, fits)) ∙ omega arith)
+    step_answer {count = count} {start = start} (has_no_row why none same) small fits =
+        no_row why (ap (end_of start) none ∙ fits_end start 0 (omega (arith, fits)) ∙ omega arith)
 
     -- the answer of a row above is the same after what is put behind it
     kept_answer : {i status start end : ℕ} {out new : List A} (at : ℕ)
-        → IsRowAnswer Has Fails bytes offsets validity i status start end out
+        → IsRowAnswer Has Fails c i status start end out
         → (status ≡ OK → end ≤ at) → length new ≡ length out
         → ((a b : ℕ) → a ≤ b → b ≤ at → slice_range new a b ≡ slice_range out a b)
-        → IsRowAnswer Has Fails bytes offsets validity i status start end new
-    kept_answer {start = start} {end = end} at (handed row items null is has ok end_is inside range) below same before =
-        handed row items null is has ok end_is (omega (arith, inside, same))
+        → IsRowAnswer Has Fails c i status start end new
+    kept_answer {start = start} {end = end} at (handed row items is has ok end_is inside range) below same before =
+        handed row items is has ok end_is (omega (arith, inside, same))
         (before start end (omega (arith, end_is)) (below ok) ∙ range)
-    kept_answer at (no_room row items null is has ok end_is short) below same before =
-        no_room row items null is has ok end_is (omega (arith, short, same))
-    kept_answer at (failed row null is why end_is) below same before = failed row null is why end_is
-    kept_answer at (null_row null is end_is) below same before = null_row null is end_is
-    kept_answer at (bad_offsets null is why end_is) below same before = bad_offsets null is why end_is
+    kept_answer at (no_room row items is has ok end_is short) below same before =
+        no_room row items is has ok end_is (omega (arith, short, same))
+    kept_answer at (failed row is why end_is) below same before = failed row is why end_is
+    kept_answer at (no_row why end_is) below same before = no_row why end_is
 
 -- ---- all rows
 
 -- the rows below this number are done, and their items end here
 pub record RowsDone {A : Type 0} (Has : List ℕ → List A → Type 0) (Fails : List ℕ → ℕ → Type 0)
-    (bytes offsets validity : List ℕ) (i at : ℕ)
+    (c : Column) (i at : ℕ)
     (statuses ends : List ℕ) (before out : List A) : Type 0 where
   pub at_is : at ≡ start_of ends i
   pub fits : at < 2 ^ 64
   pub long : length out ≡ length before
-  pub each : AreRowAnswers Has Fails bytes offsets validity i statuses ends out
+  pub each : AreRowAnswers Has Fails c i statuses ends out
   pub below : (j : ℕ) → j < i → slice_index statuses j ≡ OK → slice_index ends j ≤ at
   pub kept : KeepsBehind i statuses ends before out
 
@@ -180,10 +174,10 @@ at_or_below (suc j) (suc i) h = up (at_or_below j i (omega (arith, h))) where
   up (inr below) = inr (omega (arith, below))
 
 module _ {A : Type 0} {Has : List ℕ → List A → Type 0} {Fails : List ℕ → ℕ
-    → Type 0} {bytes offsets validity : List ℕ} {i at : ℕ} {statuses ends : List ℕ}
+    → Type 0} {c : Column} {i at : ℕ} {statuses ends : List ℕ}
     {before out new : List A} (status count : ℕ)
-    (done : RowsDone Has Fails bytes offsets validity i at statuses ends before out)
-    (step : IsRowStep Has Fails bytes offsets validity i status count at out new) (small : length before < 2 ^ 64)
+    (done : RowsDone Has Fails c i at statuses ends before out)
+    (step : IsRowStep Has Fails c i status count at out new) (small : length before < 2 ^ 64)
     (there : i < length statuses) (there' : i < length ends) where
   end : ℕ
   end = end_of at count
@@ -210,10 +204,10 @@ module _ {A : Type 0} {Has : List ℕ → List A → Type 0} {Fails : List ℕ �
   end_above j above = get_or-set_other ends i j (end_of at count) 0 (λ same. omega (arith, same, above))
 
   row_answer : (j : ℕ) → (j ≡ i) ⊎ (j < i)
-      → IsRowAnswer Has Fails bytes offsets validity j (slice_index (set statuses i status) j)
+      → IsRowAnswer Has Fails c j (slice_index (set statuses i status) j)
       (start_of (set ends i (end_of at count)) j) (slice_index (set ends i (end_of at count)) j) new
   row_answer j (inl same) =
-      subst (λ k. IsRowAnswer Has Fails bytes offsets validity k (slice_index (set statuses i status) k)
+      subst (λ k. IsRowAnswer Has Fails c k (slice_index (set statuses i status) k)
       (start_of (set ends i (end_of at count)) k) (slice_index (set ends i (end_of at count)) k) new) (sym same)
       (rw (status_here, end_here, start_kept ends i (end_of at count) i (omega arith), sym done.at_is)
       (step_answer step small_out done.fits))
@@ -238,7 +232,7 @@ module _ {A : Type 0} {Has : List ℕ → List A → Type 0} {Fails : List ℕ �
       ∙ done.kept k
       (λ j above ok. omega (arith, far j (omega (arith, above)) (status_above j above ∙ ok), end_above j above))
 
-  pub row_done : RowsDone Has Fails bytes offsets validity (i + 1) (end_of at count) (set statuses i status)
+  pub row_done : RowsDone Has Fails c (i + 1) (end_of at count) (set statuses i status)
       (set ends i (end_of at count)) before new
   row_done = record {
     at_is = sym (end_at_next i);
@@ -254,9 +248,9 @@ module _ {A : Type 0} {Has : List ℕ → List A → Type 0} {Fails : List ℕ �
 
 -- before any row
 pub none_done : {A : Type 0} (Has : List ℕ → List A → Type 0) (Fails : List ℕ → ℕ → Type 0)
-    (bytes offsets validity statuses ends : List ℕ) (out : List A)
-    → RowsDone Has Fails bytes offsets validity 0 0 statuses ends out out
-none_done Has Fails bytes offsets validity statuses ends out = record {
+    (c : Column) (statuses ends : List ℕ) (out : List A)
+    → RowsDone Has Fails c 0 0 statuses ends out out
+none_done Has Fails c statuses ends out = record {
   at_is = refl;
   fits = omega arith;
   long = refl;
@@ -293,15 +287,15 @@ lent_length : {A : Type 0} (at : ℕ) (before lent : List A) → lent ≡ drop a
 lent_length at before lent lent_is = ap length lent_is ∙ length-drop at before
 
 module _ {A : Type 0} {Has : List ℕ → List A → Type 0} {Fails : List ℕ → ℕ
-    → Type 0} {bytes offsets validity : List ℕ} {i status count start : ℕ}
-    (row : List ℕ) (null : is_null_row validity i ≡ false) (is : IsRow bytes offsets i row) (at : ℕ)
+    → Type 0} {c : Column} {i status count start : ℕ}
+    (row : List ℕ) (is : IsRow c i row) (at : ℕ)
     (before lent sub after : List A)
     (at_is : at ≡ min start (length before)) (lent_is : lent ≡ drop at before)
     (after_is : after ≡ take at before ++ sub) where
   -- its items were put
   pub put_step : (items : List A) → Has row items → status ≡ OK → 0 < length items → IsHeld items lent sub count
       → length sub ≡ length lent
-      → IsRowStep Has Fails bytes offsets validity i status count start before after
+      → IsRowStep Has Fails c i status count start before after
   put_step items has ok some held long =
       let n = length items in
       let many = lent_length at before lent lent_is in
@@ -310,19 +304,19 @@ module _ {A : Type 0} {Has : List ℕ → List A → Type 0} {Fails : List ℕ �
       let same : at ≡ start = omega (arith, at_is, some, there, many) in
       let rest : drop n lent ≡ drop (start + count) before =
       ap (drop n) lent_is ∙ drop-drop n at before ∙ ap (λ k. drop k before) (omega (arith, same, held.count_is)) in
-      put row items null is has ok held.count_is (omega (arith, same, there, many, held.count_is))
+      put row items is has ok held.count_is (omega (arith, same, there, many, held.count_is))
       (after_is ∙ ap (λ z. take at before ++ z) (held.whole ∙ ap (λ z. items ++ z) rest)
       ∙ ap (λ k. take k before ++ (items ++ drop (start + count) before)) same)
 
   -- they have no room
   pub lacks_step : (items : List A) → Has row items → status ≡ NO_ROOM → LacksRoom items lent count → sub ≡ lent
-      → IsRowStep Has Fails bytes offsets validity i status count start before after
+      → IsRowStep Has Fails c i status count start before after
   lacks_step items has is_none short same =
-      lacks row items null is has is_none short.count_is
+      lacks row items is has is_none short.count_is
       (omega (arith, short.count_is, short.short, at_is, lent_length at before lent lent_is))
       (unchanged at before lent sub after lent_is after_is same)
 
   -- it has none
   pub fails_step : Fails row status → count ≡ 0 → sub ≡ lent
-      → IsRowStep Has Fails bytes offsets validity i status count start before after
-  fails_step why none same = fails row null is why none (unchanged at before lent sub after lent_is after_is same)
+      → IsRowStep Has Fails c i status count start before after
+  fails_step why none same = fails row is why none (unchanged at before lent sub after lent_is after_is same)

@@ -1,19 +1,20 @@
 -- The words of a geometry's parts stand where its table says.
 use Rattle.wkb_c.proofs.Common.{◌≡◌, ℕ, zero, suc, ◌+◌, ◌*◌, List, [], ◌∷◌, ◌++◌, length, drop, Option, Some, None}
 use Rattle.wkb_c.proofs.Common.{refl, sym, ap, ◌∙◌, append_assoc}
-use Rattle.wkb_c.proofs.Common.{append-nil, length-append, ◌<◌, ◌^◌, arith, drop-drop, slice_get, is_some, sum_by}
+use Rattle.wkb_c.proofs.Common.{append-nil, length-append, ◌<◌, ◌^◌, arith, drop-drop, slice_get, is_some}
 use Rattle.wkb_c.proofs.Common.{Dimension, width, IsNumber, number}
 use Rattle.wkb_c.proofs.Common.{order_byte, srid_size, ring_end, Header, Spelling, node, Spellings, no_spellings}
-use Rattle.wkb_c.proofs.Common.{spelling, IsHeader, IsSrid, SpellsCoordinate}
+use Rattle.wkb_c.proofs.Common.{spelling, SpellsCoordinate}
 use Rattle.wkb_c.proofs.Common.{SpellsCoordinates, SpellsBody, Wanted, Spells, SpellsEach, Coordinate, Value, Values}
 use Rattle.wkb_c.proofs.Common.{point, line_string, polygon, multi_point}
 use Rattle.wkb_c.proofs.Common.{multi_line_string, multi_polygon, collection, no_members, member, members, each, kind}
 use Rattle.wkb_c.proofs.Common.{dimension, member_count}
 use Rattle.wkb_c.proofs.Common.{member_count_each, Item, IsFront}
-use Rattle.std.proofs.lemmas.List.Sums.{sum_by-cons}
 use Rattle.wkb_geom.specs.declared.common.Endianness.{Endianness}
 use Rattle.wkb_geom.specs.Grammar.{IsEach}
-use Rattle.wkb_laws.proofs.Parts.{drop_front, number-front}
+use Rattle.wkb_laws.proofs.Bounds.{ring_count, member_count-members}
+use Rattle.wkb_laws.proofs.Lengths.{coordinate_length, coordinates_length}
+use Rattle.wkb_laws.proofs.Parts.{drop_front, number-front, header_length, then_length}
 use Rattle.wkb_c.specs.declared.parts.Part.{Part}
 use Rattle.wkb_c.proofs.Growth.{entries_are}
 use Rattle.wkb_c.specs.Tables.{Extent, Piece, entry, place, ring_place, entry_count, entry_counts, entries}
@@ -23,35 +24,6 @@ use Rattle.wkb_c.specs.Tables.{coordinates_of, ring_pieces, pieces, member_piece
 
 -- ---- lengths
 
-words_length : (order : Endianness) (c : Coordinate) (bytes : List ℕ) → IsEach (IsNumber order 8) c bytes
-    → length bytes ≡ 8 * length c
-words_length order [] bytes h = omega (arith, ap length h)
-words_length order (x ∷ c) bytes h =
-    omega (arith, ap length h.whole, length-append h.front h.rest, h.first.len, words_length order c h.rest h.second)
-
-coordinate_length : (order : Endianness) (d : Dimension) (c : Coordinate) (bytes : List ℕ)
-    → SpellsCoordinate order d c bytes → length bytes ≡ 8 * width d
-coordinate_length order d c bytes h = words_length order c bytes h.words ∙ ap (λ (k : ℕ). 8 * k) h.len
-
-items_length : (order : Endianness) (d : Dimension) (cs : List Coordinate) (bytes : List ℕ)
-    → IsEach (SpellsCoordinate order d) cs bytes
-    → length bytes ≡ 8 * width d * length cs
-items_length order d [] bytes h = omega (arith, ap length h)
-items_length order d (c ∷ cs) bytes h =
-    omega (
-      arith,
-      ap length h.whole,
-      length-append h.front h.rest,
-      coordinate_length order d c h.front h.first,
-      items_length order d cs h.rest h.second,
-    )
-
-ring_length : (order : Endianness) (d : Dimension) (cs : List Coordinate) (bytes : List ℕ)
-    → SpellsCoordinates order d cs bytes
-    → length bytes ≡ ring_end d (length cs)
-ring_length order d cs bytes h =
-    omega (arith, ap length h.whole, length-append h.front h.rest, h.first.len, items_length order d cs h.rest h.second)
-
 rings_length : (order : Endianness) (d : Dimension) (rings : List (List Coordinate)) (bytes : List ℕ)
     → IsEach (SpellsCoordinates order d) rings bytes
     → length bytes ≡ size_of_rings d rings
@@ -59,56 +31,33 @@ rings_length order d [] bytes h = omega (arith, ap length h)
 rings_length order d (cs ∷ rings) bytes h =
     omega (
       arith,
-      ap length h.whole,
-      length-append h.front h.rest,
-      ring_length order d cs h.front h.first,
+      then_length h,
+      coordinates_length order d cs h.front h.first,
       rings_length order d rings h.rest h.second,
-    )
-
-srid_length : (order : Endianness) (srid : Option ℕ) (bytes : List ℕ) → IsSrid order srid bytes
-    → length bytes ≡ srid_size (is_some srid)
-srid_length order None bytes h = ap length h
-srid_length order (Some v) bytes h = h.len
-
-header_length : (h : Header) (k : ℕ) (d : Dimension) (bytes : List ℕ) → IsHeader h k d bytes
-    → length bytes ≡ 5 + srid_size (is_some h.srid)
-header_length h k d bytes is =
-    omega (
-      arith,
-      ap length is.whole,
-      length-append is.code_field is.srid_field,
-      is.code.len,
-      srid_length h.order h.srid is.srid_field is.srid,
     )
 
 body_length : (h : Header) (words : List ℕ) (t : Value) (bytes : List ℕ) → SpellsBody h.order words t bytes
     → 5 + srid_size (is_some h.srid) + length bytes ≡ leading h t + content_size t
 body_length h words (point d None) bytes b = omega (arith, coordinate_length h.order d words bytes b.1)
 body_length h words (point d (Some c)) bytes b = omega (arith, coordinate_length h.order d c bytes b.2)
-body_length h words (line_string d cs) bytes b = omega (arith, ring_length h.order d cs bytes b.1)
+body_length h words (line_string d cs) bytes b = omega (arith, coordinates_length h.order d cs bytes b.1)
 body_length h words (polygon d rings) bytes b =
     omega (
       arith,
-      ap length b.1.whole,
-      length-append b.1.front b.1.rest,
+      then_length b.1,
       b.1.first.len,
       rings_length h.order d rings b.1.rest b.1.second,
     )
-body_length h words (multi_point d points) bytes b = omega (arith, b.1.len)
-body_length h words (multi_line_string d lines) bytes b = omega (arith, b.1.len)
-body_length h words (multi_polygon d polygons) bytes b = omega (arith, b.1.len)
-body_length h words (collection d ts) bytes b = omega (arith, b.1.len)
+body_length h words _ bytes b = omega (arith, b.1.len)
 
 mutual
   pub spelled_size : (s : Spelling) (t : Value) (bytes : List ℕ) → Spells s t bytes → length bytes ≡ size s t
   spelled_size (node h words ss) t bytes sp =
       omega (
         arith,
-        ap length sp.whole,
-        length-append sp.front sp.rest,
+        then_length sp,
         header_length h (kind t) (dimension t) sp.front sp.first,
-        ap length sp.second.whole,
-        length-append sp.second.front sp.second.rest,
+        then_length sp.second,
         body_length h words t sp.second.front sp.second.first,
         spelled_sizes _ ss (members t) sp.second.rest sp.second.second,
       )
@@ -116,16 +65,14 @@ mutual
   spelled_sizes : (w : Wanted) (ss : Spellings) (ts : Values) (bytes : List ℕ) → SpellsEach w ss ts bytes
       → length bytes ≡ sizes ss ts
   spelled_sizes w no_spellings no_members bytes sp = ap length sp
-  spelled_sizes w no_spellings (member t ts) bytes sp = absurd sp
-  spelled_sizes w (spelling s ss) no_members bytes sp = absurd sp
   spelled_sizes w (spelling s ss) (member t ts) bytes sp =
       omega (
         arith,
-        ap length sp.whole,
-        length-append sp.front sp.rest,
+        then_length sp,
         spelled_size s t sp.front sp.first.0,
         spelled_sizes w ss ts sp.rest sp.second,
       )
+  spelled_sizes w _ _ bytes sp = absurd sp
 
 -- ---- places
 
@@ -224,7 +171,7 @@ rings_hold input order d (cs ∷ rings) index at bytes rest stands h =
     let here = before input at bytes h.front h.rest rest stands h.whole in
     let inside =
     behind input at 4 h.front h.first.front h.first.rest (h.rest ++ rest) here h.first.whole h.first.first.len in
-    let long = ring_length order d cs h.front h.first in (
+    let long = coordinates_length order d cs h.front h.first in (
       record {
         bytes = h.front;
         rest = h.rest ++ rest;
@@ -255,11 +202,7 @@ own_holds input h words s (line_string d cs) index at bytes rest stands b =
     holds_words input 2 d h.srid h.order (place index at h s (line_string d cs)) (length cs) cs b.1.rest rest
     (moved input (b.1.rest ++ rest) (start + 4) (at + (9 + srid_size (is_some h.srid))) (omega arith)
     (behind input start 4 bytes b.1.front b.1.rest rest stands b.1.whole b.1.first.len)) b.1.second
-own_holds input h words s (polygon d rings) index at bytes rest stands b = λ i n w c this that. absurd (cc)
-own_holds input h words s (multi_point d points) index at bytes rest stands b = λ i n w c this that. absurd (cc)
-own_holds input h words s (multi_line_string d lines) index at bytes rest stands b = λ i n w c this that. absurd (cc)
-own_holds input h words s (multi_polygon d polygons) index at bytes rest stands b = λ i n w c this that. absurd (cc)
-own_holds input h words s (collection d ts) index at bytes rest stands b = λ i n w c this that. absurd (cc)
+own_holds input h words s _ index at bytes rest stands b = λ i n w c this that. absurd (cc)
 
 own_rings_hold : (input : List ℕ) (h : Header) (words : List ℕ) (t : Value) (index at : ℕ) (bytes rest : List ℕ)
     → drop (at + (5 + srid_size (is_some h.srid))) input ≡ bytes ++ rest → SpellsBody h.order words t bytes
@@ -372,35 +315,19 @@ front_fits buf w f short =
 
 -- ---- how many parts there are
 
-point_count : (d : Dimension) (points : List (Option Coordinate))
-    → member_count_each (each (point d) points) ≡ length points
-point_count d [] = refl
-point_count d (p ∷ points) = omega (arith, point_count d points)
-
-line_string_count : (d : Dimension) (lines : List (List Coordinate))
-    → member_count_each (each (line_string d) lines) ≡ length lines
-line_string_count d [] = refl
-line_string_count d (l ∷ lines) = omega (arith, line_string_count d lines)
-
-polygon_count : (d : Dimension) (polygons : List (List (List Coordinate)))
-    → member_count_each (each (polygon d) polygons) ≡ sum_by (λ rings. 1 + length rings) polygons
-polygon_count d [] = refl
-polygon_count d (p ∷ polygons) =
-    omega (arith, polygon_count d polygons, sum_by-cons (λ rings. 1 + length rings) p polygons)
-
-own_count : (t : Value) → member_count t ≡ length (rings_of t) + member_count_each (members t)
-own_count (point d c) = refl
-own_count (line_string d cs) = refl
-own_count (polygon d rings) = omega arith
-own_count (multi_point d points) = omega (arith, point_count d points)
-own_count (multi_line_string d lines) = omega (arith, line_string_count d lines)
-own_count (multi_polygon d polygons) = omega (arith, polygon_count d polygons)
-own_count (collection d ts) = omega arith
+rings_counted : (t : Value) → ring_count t ≡ length (rings_of t)
+rings_counted (polygon d rings) = refl
+rings_counted _ = refl
 
 mutual
   counted : (s : Spelling) (t : Value) (bytes : List ℕ) → Spells s t bytes → entry_count s t ≡ suc (member_count t)
   counted (node h words ss) t bytes sp =
-      omega (arith, members_counted _ ss (members t) sp.second.rest sp.second.second, own_count t)
+      omega (
+        arith,
+        members_counted _ ss (members t) sp.second.rest sp.second.second,
+        member_count-members t,
+        rings_counted t,
+      )
 
   members_counted : (w : Wanted) (ss : Spellings) (ts : Values) (bytes : List ℕ) → SpellsEach w ss ts bytes
       → entry_counts ss ts ≡ member_count_each ts

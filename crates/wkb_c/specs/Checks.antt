@@ -1,7 +1,9 @@
 -- What is told of the geometry at the front of an input.
 use Rattle.std.specs.Prelude.{◌≡◌, ℕ, suc, List, length, is_some, unwrap_or}
+use mir.Val.{bool_byte as from_bool}
 use Rattle.wkb_geom.specs.Codes.{thousands}
 use Rattle.wkb_geom.specs.Dimensions.{width}
+use Rattle.wkb_geom.specs.Numbers.{order_byte}
 use Rattle.wkb_geom.specs.Values.{Value, kind, dimension, member_count}
 use Rattle.wkb_geom.specs.Spellings.{Spelling, header}
 use Rattle.wkb_geom.specs.Fronts.{Front}
@@ -20,5 +22,6 @@ pub record IsFound (input : List ℕ) (found : Found) : Type 0 where
   pub kind_is : found.kind ≡ kind t
   pub dimension_is : found.dimension ≡ thousands (dimension t)
   pub width_is : found.width ≡ width (dimension t)
-  pub has_srid_is : found.has_srid ≡ is_some (header s).srid
+  pub has_srid_is : found.has_srid ≡ from_bool (is_some (header s).srid)
   pub srid_is : found.srid ≡ unwrap_or (header s).srid 0
+  pub order_is : found.order ≡ order_byte (header s).order

@@ -1,48 +1,94 @@
--- The rows of a column, and what each is answered.
-use Rattle.std.specs.Prelude.{◌≡◌, ℕ, ◌+◌, ◌/◌, ◌%◌, ◌^◌, ◌<◌, ◌≤◌, Bool, true, false, List, length}
-use Rattle.std.specs.Prelude.{Option, Some, None, slice_get, slice_range, slice_index, nat_eq}
+-- The rows of a column (Apache Arrow columnar format: variable-size binary layout, validity bitmaps), and their
+-- statuses.
+use Rattle.std.specs.Prelude.{◌≡◌, ◌⊎◌, ℕ, ◌+◌, ◌-◌, ◌*◌, ◌/◌, ◌%◌, ◌^◌, ◌<◌, ◌≤◌, Bool, true, false, List, length}
+use Rattle.std.specs.Prelude.{Option, Some, None, drop, slice_get, slice_range, slice_index, nat_eq}
 use Rattle.wkb.specs.Canonical.{IsAccepted}
+use Rattle.wkb_geom.specs.Numbers.{number}
+use Rattle.wkb_geom.specs.declared.common.Endianness.TheVariants.{LittleEndian}
 use Rattle.wkb_c.specs.declared.fault.WkbFault.{WkbFault}
 use Rattle.wkb_c.specs.declared.status.TheConstants.{OK, NULL_ROW, BAD_OFFSETS}
 use Rattle.wkb_c.specs.Statuses.{IsFault}
 
--- whether this bit of a byte is 0; where there is no byte, no bit is
+-- a column: the bytes of its rows, its offsets, the bytes of an offset, its validity bitmap, and the bit of row 0
+pub record Column : Type 0 where
+  pub bytes : List ℕ
+  pub offsets : List ℕ
+  pub offset_size : ℕ
+  pub validity : List ℕ
+  pub validity_offset : ℕ
+
+abbrev pub column : List ℕ → List ℕ → ℕ → List ℕ → ℕ → Column
+column bytes offsets offset_size validity validity_offset = record {
+  bytes = bytes;
+  offsets = offsets;
+  offset_size = offset_size;
+  validity = validity;
+  validity_offset = validity_offset;
+}
+
+-- whether this bit of a byte is 0, counted from the lowest; where there is no byte, no bit is
 abbrev pub is_zero_bit : Option ℕ → ℕ → Bool
 is_zero_bit None k = false
 is_zero_bit (Some byte) k = nat_eq (byte / 2 ^ k % 2) 0
 
--- whether a row is null: its bit is 0, from the lowest bit of the first byte on
-abbrev pub is_null_row : List ℕ → ℕ → Bool
-is_null_row validity i = is_zero_bit (slice_get validity (i / 8)) (i % 8)
+-- whether this bit of a bitmap is 0
+abbrev pub is_unset_bit : List ℕ → ℕ → Bool
+is_unset_bit bitmap bit = is_zero_bit (slice_get bitmap (bit / 8)) (bit % 8)
 
--- the bytes of a row: those from its offset up to the next one, where these don't fall or pass the end of the data
-pub record IsRow (bytes offsets : List ℕ) (i : ℕ) (row : List ℕ) : Type 0 where
+-- whether a row is null
+abbrev pub is_null_row : Column → ℕ → Bool
+is_null_row c i = is_unset_bit c.validity (c.validity_offset + i)
+
+-- offset i is this number: it has 4 or 8 bytes, is little endian and signed, and isn't negative
+pub record IsOffset (offsets : List ℕ) (size i n : ℕ) : Type 0 where
+  pub size_is : (size ≡ 4) ⊎ (size ≡ 8)
+  pub inside : size * (i + 1) ≤ length offsets
+  pub number_is : n ≡ number LittleEndian size (drop (size * i) offsets)
+  pub not_negative : n < 2 ^ (8 * size - 1)
+
+-- no number is offset i
+abbrev pub HasNoOffset : List ℕ → ℕ → ℕ → Type 0
+HasNoOffset offsets size i = (n : ℕ) → IsOffset offsets size i n → ⊥
+
+-- the bytes from offset i up to the next one, where these don't decrease or pass the end
+pub record IsRowSlice (bytes offsets : List ℕ) (size i : ℕ) (row : List ℕ) : Type 0 where
   pub start : ℕ
   pub end : ℕ
-  pub start_is : slice_get offsets i ≡ Some start
-  pub end_is : slice_get offsets (i + 1) ≡ Some end
+  pub start_is : IsOffset offsets size i start
+  pub end_is : IsOffset offsets size (i + 1) end
   pub rise : start ≤ end
   pub inside : end ≤ length bytes
   pub row_is : row ≡ slice_range bytes start end
 
--- no bytes are those of the row
-abbrev pub HasNoRow : List ℕ → List ℕ → ℕ → Type 0
-HasNoRow bytes offsets i = (row : List ℕ) → IsRow bytes offsets i row → ⊥
+-- there are no such bytes
+abbrev pub HasNoSlice : List ℕ → List ℕ → ℕ → ℕ → Type 0
+HasNoSlice bytes offsets size i = (row : List ℕ) → IsRowSlice bytes offsets size i row → ⊥
 
--- what `wkb_check` answers of these bytes
-pub data IsStatusOf : List ℕ → ℕ → Type 0 where
-  accepted : (row : List ℕ) (status : ℕ) → status ≡ OK → IsAccepted row → IsStatusOf row status
-  refused : (row : List ℕ) (status : ℕ) (fault : WkbFault) → IsFault row status fault → IsStatusOf row status
+-- row i isn't null, and has these bytes
+pub record IsRow (c : Column) (i : ℕ) (row : List ℕ) : Type 0 where
+  pub present : is_null_row c i ≡ false
+  pub slice : IsRowSlice c.bytes c.offsets c.offset_size i row
 
--- what a row of a column is answered
-pub data IsStatusOfRow (bytes offsets validity : List ℕ) (i : ℕ) (status : ℕ) : Type 0 where
-  null_row : is_null_row validity i ≡ true → status ≡ NULL_ROW → IsStatusOfRow bytes offsets validity i status
-  bad_offsets : is_null_row validity i ≡ false → HasNoRow bytes offsets i → status ≡ BAD_OFFSETS
-      → IsStatusOfRow bytes offsets validity i status
-  checked_row : (row : List ℕ) → is_null_row validity i ≡ false → IsRow bytes offsets i row → IsStatusOf row status
-      → IsStatusOfRow bytes offsets validity i status
+-- row i has no bytes, and this status tells why
+pub data LacksRow (c : Column) (i status : ℕ) : Type 0 where
+  null_row : is_null_row c i ≡ true → status ≡ NULL_ROW → LacksRow c i status
+  bad_offsets : is_null_row c i ≡ false → HasNoSlice c.bytes c.offsets c.offset_size i → status ≡ BAD_OFFSETS
+      → LacksRow c i status
+
+-- the bytes are refused, and this status tells why
+abbrev pub IsRefusedWith : List ℕ → ℕ → Type 0
+IsRefusedWith row status = (fault : WkbFault) × IsFault row status fault
+
+-- `wkb_check` returns this status for these bytes
+pub data IsStatusOf (row : List ℕ) (status : ℕ) : Type 0 where
+  accepted : status ≡ OK → IsAccepted row → IsStatusOf row status
+  refused : IsRefusedWith row status → IsStatusOf row status
+
+-- the status of row i
+pub data IsStatusOfRow (c : Column) (i status : ℕ) : Type 0 where
+  checked_row : (row : List ℕ) → IsRow c i row → IsStatusOf row status → IsStatusOfRow c i status
+  no_row : LacksRow c i status → IsStatusOfRow c i status
 
 -- so it is of the rows below this number
-abbrev pub AreStatuses : List ℕ → List ℕ → List ℕ → ℕ → List ℕ → Type 0
-AreStatuses bytes offsets validity rows statuses =
-    (i : ℕ) → i < rows → IsStatusOfRow bytes offsets validity i (slice_index statuses i)
+abbrev pub AreStatuses : Column → ℕ → List ℕ → Type 0
+AreStatuses c rows statuses = (i : ℕ) → i < rows → IsStatusOfRow c i (slice_index statuses i)

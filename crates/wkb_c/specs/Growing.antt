@@ -1,12 +1,11 @@
 -- How a table grows.
-use Rattle.std.specs.Prelude.{◌≡◌, ℕ, ◌+◌, ◌^◌, ◌<◌, zero, suc, List, [], ◌∷◌, ◌++◌, length, drop, Option, is_some}
+use Rattle.std.specs.Prelude.{◌≡◌, ℕ, ◌+◌, ◌^◌, ◌<◌, zero, suc, List, [], ◌∷◌, ◌++◌, length, drop}
 use Rattle.wkb_geom.specs.declared.common.Dimension.{Dimension}
 use Rattle.wkb_geom.specs.Numbers.{order_byte}
 use Rattle.wkb_geom.specs.Reading.{Item}
-use Rattle.wkb_geom.specs.Refusals.{srid_size}
 use Rattle.wkb_geom.specs.Values.{Coordinate, Value, Values, no_members, member, kind, dimension, members}
 use Rattle.wkb_geom.specs.Spellings.{Spelling, Spellings, no_spellings, spelling, header}
-use Rattle.wkb_view.specs.Parts.{members_spelled}
+use Rattle.wkb_view.specs.Parts.{members_spelled, BytesSpell}
 use Rattle.wkb_c.specs.declared.parts.Part.{Part}
 use Rattle.wkb_c.specs.declared.parts.PartHead.{PartHead}
 use Rattle.wkb_c.specs.declared.parts.Table.{Table}
@@ -82,15 +81,21 @@ pub record IsHead (s : Spelling) (t : Value) (head : PartHead) : Type 0 where
   pub order_is : head.order ≡ order_byte (header s).order
   pub leading_is : head.leading ≡ leading (header s) t
 
+-- these bytes spell some geometry
+pub record SpellSome (bytes : List ℕ) : Type 0 where
+  pub item : Item
+  pub spelled : BytesSpell item
+  pub are : bytes ≡ item.encoding
+
+-- so it is of the geometry that these bytes spell
+abbrev pub IsHeadOf : List ℕ → PartHead → Type 0
+IsHeadOf bytes head = (w : Item) → BytesSpell w → bytes ≡ w.encoding → IsHead w.spelled w.value head
+
 -- the entry of this geometry was added, with so many rings or members, but not those
 pub record OpensPart (old new : Table) (s : Spelling) (t : Value) (n : ℕ) : Type 0 where
   pub head : PartHead
   pub head_is : IsHead s t head
   pub grows : Grows old new (added_entry (length old.parts.items) old.at head 0 n ∷ []) (head.leading + 0)
-
--- the bytes of a header
-abbrev pub header_bytes : Option ℕ → ℕ
-header_bytes srid = 5 + srid_size (is_some srid)
 
 -- spellings and values from a number on
 abbrev pub spellings_from : ℕ → Spellings → Spellings

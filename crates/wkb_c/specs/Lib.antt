@@ -1,6 +1,7 @@
+pub mod Boxes
 pub mod Checks
 pub mod Columns
-pub mod Kinds
+pub mod Coordinates
 pub mod Requests
 pub mod Room
 pub mod RowItems

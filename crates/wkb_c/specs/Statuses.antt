@@ -11,13 +11,13 @@ use Rattle.wkb_geom.specs.declared.error.Cause.TheVariants.{EndOfInput as end_of
 use Rattle.wkb_geom.specs.declared.error.Cause.TheVariants.{IncorrectType as incorrect_type}
 use Rattle.wkb_geom.specs.declared.error.Cause.TheVariants.{NestingDepthExceeded as nesting_depth_exceeded}
 use Rattle.wkb_geom.specs.Refusals.{Refuses}
-use Rattle.wkb.specs.Canonical.{IsAccepted}
+use Rattle.wkb.specs.Canonical.{IsAccepted, HaveOneValue, HaveTwoValues}
 use Rattle.wkb_check.specs.Counted.{left_in}
 use Rattle.wkb_c.specs.declared.status.TheConstants.{NO_MEMORY, IO_ERROR, INVALID_BYTE_ORDER, CODE_OUT_OF_RANGE}
 use Rattle.wkb_c.specs.declared.status.TheConstants.{INCORRECT_TYPE}
 use Rattle.wkb_c.specs.declared.status.TheConstants.{NESTING_DEPTH_EXCEEDED, SHORT_POINT}
-use Rattle.wkb_c.specs.declared.status.TheConstants.{SHORT_LINE_STRING, SHORT_MULTI_POINT, SHORT_LINEAR_RING, FIRST}
-use Rattle.wkb_c.specs.declared.status.TheConstants.{SECOND}
+use Rattle.wkb_c.specs.declared.status.TheConstants.{SHORT_LINE_STRING, SHORT_MULTI_POINT, SHORT_LINEAR_RING}
+use Rattle.wkb_c.specs.declared.inputs.TheConstants.{FIRST, SECOND, DIFFERENT, EQUAL}
 use Rattle.wkb_c.specs.declared.fault.WkbFault.{WkbFault}
 
 -- the status of a fault of the bytes (no reading refuses an unsupported dimension)
@@ -38,28 +38,30 @@ cause_status incorrect_type = INCORRECT_TYPE
 cause_status (nesting_depth_exceeded n) = NESTING_DEPTH_EXCEEDED
 
 -- the part of this number is refused, which begins at this offset, and no more is told
-abbrev pub plain_fault : ℕ → ℕ → WkbFault
-plain_fault part offset = record { part = part; offset = offset; end = 0; len = 0; code = 0 }
+abbrev pub plain_fault : ℕ → ℕ → ℕ → WkbFault
+plain_fault status part offset =
+    record { part = part; offset = offset; end = 0; len = 0; code = 0; status = status }
 
 -- a part is refused that would end there, where the input ends here
-abbrev pub short_fault : ℕ → ℕ → ℕ → ℕ → WkbFault
-short_fault part offset end len = record { part = part; offset = offset; end = end; len = len; code = 0 }
+abbrev pub short_fault : ℕ → ℕ → ℕ → ℕ → ℕ → WkbFault
+short_fault status part offset end len =
+    record { part = part; offset = offset; end = end; len = len; code = 0; status = status }
 
 -- the numbers of a fault of the bytes
-abbrev pub general_fault : ℕ → ℕ → General → WkbFault
-general_fault part offset InvalidByteOrder = plain_fault part offset
-general_fault part offset (CodeOutOfRange code) =
-    record { part = part; offset = offset; end = 0; len = 0; code = code }
-general_fault part offset (UnsupportedDimensions n) = plain_fault part offset
-general_fault part offset (ShortPoint end len) = short_fault part offset end len
-general_fault part offset (ShortLineString end len) = short_fault part offset end len
-general_fault part offset (ShortMultiPoint end len) = short_fault part offset end len
-general_fault part offset (ShortLinearRing end len) = short_fault part offset end len
+abbrev pub general_fault : ℕ → ℕ → ℕ → General → WkbFault
+general_fault status part offset InvalidByteOrder = plain_fault status part offset
+general_fault status part offset (CodeOutOfRange code) =
+    record { part = part; offset = offset; end = 0; len = 0; code = code; status = status }
+general_fault status part offset (UnsupportedDimensions n) = plain_fault status part offset
+general_fault status part offset (ShortPoint end len) = short_fault status part offset end len
+general_fault status part offset (ShortLineString end len) = short_fault status part offset end len
+general_fault status part offset (ShortMultiPoint end len) = short_fault status part offset end len
+general_fault status part offset (ShortLinearRing end len) = short_fault status part offset end len
 
 -- the numbers of a cause that refuses the part of this number and this offset
 abbrev pub cause_fault : ℕ → ℕ → Cause → WkbFault
-cause_fault part offset (general g) = general_fault part offset g
-cause_fault part offset _ = plain_fault part offset
+cause_fault part offset (general g) = general_fault (general_status g) part offset g
+cause_fault part offset cause = plain_fault (cause_status cause) part offset
 
 -- The input is refused, the status tells why, and the fault tells which part, its numbers, and where it begins: from
 -- there on the input has as many bytes as from the refused part on.
@@ -79,7 +81,12 @@ abbrev pub IsRefusedInTurn : List ℕ → List ℕ → ℕ → WkbFault → ℕ 
 IsRefusedInTurn a b status fault which =
     (IsFault a status fault × (which ≡ FIRST)) ⊎ (IsAccepted a × IsFault b status fault × (which ≡ SECOND))
 
+-- whether both inputs begin with geometries of one value, as a number
+pub data IsComparison (a b : List ℕ) (equal : ℕ) : Type 0 where
+  one_value : equal ≡ EQUAL → HaveOneValue a b → IsComparison a b equal
+  two_values : equal ≡ DIFFERENT → HaveTwoValues a b → IsComparison a b equal
+
 -- the input has no parts, and this status tells why
 pub data FailsToList (input : List ℕ) (status : ℕ) : Type 0 where
   refused : (fault : WkbFault) → IsFault input status fault → FailsToList input status
-  no_memory : status ≡ NO_MEMORY → FailsToList input status
+  no_memory : status ≡ NO_MEMORY → IsAccepted input → FailsToList input status

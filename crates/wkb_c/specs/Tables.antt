@@ -1,6 +1,7 @@
 -- The parts of a geometry in preorder, and where they stand in its bytes.
 use Rattle.std.specs.Prelude.{◌≡◌, ℕ, suc, ◌+◌, ◌*◌, List, [], ◌∷◌, ◌++◌, length, drop}
 use Rattle.std.specs.Prelude.{◌<◌, Option, slice_get, Some, None, is_some, unwrap_or}
+use mir.Val.{bool_byte as from_bool}
 use Rattle.wkb_geom.specs.declared.common.Endianness.{Endianness}
 use Rattle.wkb_geom.specs.declared.common.Dimension.{Dimension}
 use Rattle.wkb_geom.specs.Codes.{thousands}
@@ -24,11 +25,6 @@ pub record Extent : Type 0 where
   pub end : ℕ
   pub next : ℕ
 
--- whether there is an SRID, as a number
-abbrev pub has_srid_number : Option ℕ → ℕ
-has_srid_number None = 0
-has_srid_number (Some srid) = 1
-
 -- the entry of a part of this kind, which has so many coordinates, rings or members, at this place
 abbrev pub entry : ℕ → Dimension → Option ℕ → ℕ → Extent → ℕ → Part
 entry k d srid order p n = record {
@@ -38,7 +34,7 @@ entry k d srid order p n = record {
   count = n;
   next = p.next;
   srid = unwrap_or srid 0;
-  has_srid = has_srid_number srid;
+  has_srid = from_bool (is_some srid);
   kind = k;
   dimension = thousands d;
   width = width d;

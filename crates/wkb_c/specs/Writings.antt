@@ -1,5 +1,6 @@
 -- What becomes of the bytes that an encoding is written into.
-use Rattle.std.specs.Prelude.{◌≡◌, ℕ, List, Some, None}
+use Rattle.std.specs.Prelude.{◌≡◌, ◌≢◌, ℕ, List, Some, None}
+use Rattle.wkb.specs.Canonical.{IsAccepted}
 use Rattle.wkb_c.specs.Room.{IsHeld, LacksRoom}
 use Rattle.wkb_c.specs.declared.options.Options.{Options}
 use Rattle.wkb_c.specs.declared.options.Request.{Request}
@@ -41,5 +42,5 @@ pub record HasEncoding (o : Options) (input encoding : List ℕ) : Type 0 where
 -- there is none, and this status tells why
 pub data FailsToWrite (o : Options) (input : List ℕ) (status : ℕ) : Type 0 where
   unknown : request_of o ≡ None → status ≡ UNKNOWN_OPTION → FailsToWrite o input status
-  refused : (fault : WkbFault) → IsFault input status fault → FailsToWrite o input status
-  no_memory : status ≡ NO_MEMORY → FailsToWrite o input status
+  refused : request_of o ≢ None → (fault : WkbFault) → IsFault input status fault → FailsToWrite o input status
+  no_memory : request_of o ≢ None → status ≡ NO_MEMORY → IsAccepted input → FailsToWrite o input status

@@ -1,80 +1,169 @@
-//! The rows of a column, as Arrow has it: bytes one row after another, and where each begins.
+//! A column as Arrow has it: the bytes of its rows, where each of them begins, and which rows are null.
 
-ghost use Rattle.std.specs.Prelude.{◌≡◌, ◌<◌, ◌^◌, length, IfSome, IfNone};
-ghost use Rattle.wkb_c.specs.Columns.{is_null_row, IsRow, HasNoRow};
-ghost use Rattle.wkb_c.specs.Columns.{IsStatusOf, IsStatusOfRow, AreStatuses};
+ghost use Rattle.std.specs.Prelude.{◌≡◌, ◌+◌, ◌<◌, ◌≤◌, ◌^◌, length, IfSome, IfNone, IfOk, IfErr};
+ghost use Rattle.wkb_check.specs.Public.{DescribesFront};
+ghost use Rattle.wkb_c.specs.Columns.{is_unset_bit, is_null_row, IsOffset, HasNoOffset};
+ghost use Rattle.wkb_c.specs.Columns.{IsRowSlice, HasNoSlice, IsRow, LacksRow};
+ghost use Rattle.wkb_c.specs.Columns.{IsRefusedWith, IsStatusOf, IsStatusOfRow, AreStatuses};
 
-use crate::fault::{WkbFault, check_input};
+use crate::fault::{NO_FAULT, check_input};
 use crate::status::{BAD_OFFSETS, NULL_ROW, OK};
-use wkb_check::check_plain;
+use std::marker::Model;
+use wkb::Endianness;
+use wkb_check::{Summary, check_plain};
+use wkb_geom::words::{u32_at, u64_at};
 
-/// Whether the row of this number is null. Without validity bits none is.
-pub fn is_null(validity: &[u8], i: usize) -> bool
-    ensures { result ≡ is_null_row validity.now i }
+/// A column of bytes as Arrow has it: binary, large binary, or a slice of one.
+#[derive(Drop)]
+pub struct Column<'a> {
+    /// The bytes of the rows.
+    pub bytes: &'a [u8],
+    /// Where each row begins, and where the last one ends: signed little endian numbers.
+    pub offsets: &'a [u8],
+    /// The bytes of an offset, which are 4 or 8.
+    pub offset_size: usize,
+    /// A bit a row, from the lowest of the first byte on, 0 for a null row. A row without a bit isn't null.
+    pub validity: &'a [u8],
+    /// The bit of the first row.
+    pub validity_offset: usize,
+}
+
+impl<'a> Model for Column<'a> {
+    ghost use Rattle.wkb_c.specs.Columns.{Column as Buffers, column};
+
+    ghost Value = { Buffers };
+
+    ghost view = { λ c. column c.bytes.now c.offsets.now c.offset_size c.validity.now c.validity_offset };
+}
+
+impl<'a> Column<'a> {
+    /// The bytes of the row of this number, or the status of a row without bytes.
+    pub fn row(&self, i: usize) -> Result<&'a [u8], u32>
+        requires { i < 2 ^ 63 }
+        ensures row { IfOk result (λ row. IsRow self.now i row.now) }
+        ensures none { IfErr result (λ status. LacksRow self.now i status) }
+        ensures known { IfErr result (λ status. status ≤ BAD_OFFSETS) }
+    {
+        if is_unset(self.validity, self.validity_offset, i) {
+            return Err(NULL_ROW);
+        }
+        match slice_of_row(self.bytes, self.offsets, self.offset_size, i) {
+            Some(row) => Ok(row),
+            None => Err(BAD_OFFSETS),
+        }
+    }
+}
+
+/// Whether bit `first + i` of a bitmap is 0. A bit past its end isn't.
+fn is_unset(bitmap: &[u8], first: usize, i: usize) -> bool
+    ensures { result ≡ is_unset_bit bitmap.now (first + i) }
 {
-    match validity.get(i / 8) {
-        Some(byte) => (byte >> (i % 8)) % 2 == 0,
+    // The sum itself may not fit.
+    let low = first % 8 + i % 8;
+    match bitmap.get(first / 8 + i / 8 + low / 8) {
+        Some(byte) => (byte >> (low % 8)) % 2 == 0,
         None => false,
     }
 }
 
-/// The bytes of the row of this number.
-pub fn row<'a>(bytes: &'a [u8], offsets: &[u64], i: usize) -> Option<&'a [u8]>
-    requires { i < 2 ^ 63 }
-    ensures some { IfSome result (λ row. IsRow bytes.now offsets.now i row.now) }
-    ensures none { IfNone result (HasNoRow bytes.now offsets.now i) }
+/// Offset i of four bytes, where there is one that isn't negative.
+fn offset_of_four(offsets: &[u8], i: usize) -> Option<u64>
+    ensures some { IfSome result (λ n. IsOffset offsets.now 4 i n) }
+    ensures none { IfNone result (HasNoOffset offsets.now 4 i) }
 {
-    let start = *offsets.get(i)?;
-    let end = *offsets.get(i + 1)?;
+    if offsets.len() / 4 <= i {
+        return None;
+    }
+    let n = u32_at(offsets, 4 * i, Endianness::LittleEndian);
+    if n >= 1 << 31 {
+        return None;
+    }
+    Some(n as u64)
+}
+
+/// Offset i of eight bytes, where there is one that isn't negative.
+fn offset_of_eight(offsets: &[u8], i: usize) -> Option<u64>
+    ensures some { IfSome result (λ n. IsOffset offsets.now 8 i n) }
+    ensures none { IfNone result (HasNoOffset offsets.now 8 i) }
+{
+    if offsets.len() / 8 <= i {
+        return None;
+    }
+    let n = u64_at(offsets, 8 * i, Endianness::LittleEndian);
+    if n >= 1 << 63 {
+        return None;
+    }
+    Some(n)
+}
+
+/// Offset i of this many bytes, where there is one that isn't negative.
+fn offset(offsets: &[u8], size: usize, i: usize) -> Option<u64>
+    ensures some { IfSome result (λ n. IsOffset offsets.now size i n) }
+    ensures none { IfNone result (HasNoOffset offsets.now size i) }
+{
+    match size {
+        4 => offset_of_four(offsets, i),
+        8 => offset_of_eight(offsets, i),
+        _ => None,
+    }
+}
+
+/// The bytes from offset i up to the next one.
+fn slice_of_row<'a>(bytes: &'a [u8], offsets: &[u8], size: usize, i: usize) -> Option<&'a [u8]>
+    requires { i < 2 ^ 63 }
+    ensures some { IfSome result (λ row. IsRowSlice bytes.now offsets.now size i row.now) }
+    ensures none { IfNone result (HasNoSlice bytes.now offsets.now size i) }
+{
+    let start = offset(offsets, size, i)?;
+    let end = offset(offsets, size, i + 1)?;
     if end < start || (bytes.len() as u64) < end {
         return None;
     }
     Some(&bytes[start as usize..end as usize])
 }
 
-/// What the row of this number is answered.
-fn status_of_row(bytes: &[u8], offsets: &[u64], validity: &[u8], i: usize) -> u32
-    requires { i < 2 ^ 63 }
-    ensures status { IsStatusOfRow bytes.now offsets.now validity.now i result }
-    ensures small { result < 16 }
+/// What stands at the front of a row, or the status of its refusal.
+pub fn check_row(row: &[u8]) -> Result<Summary, u32>
+    ensures accepted { IfOk result (λ found. DescribesFront row.now found) }
+    ensures refused { IfErr result (λ status. IsRefusedWith row.now status) }
+    ensures known { IfErr result (λ status. status < NULL_ROW) }
 {
-    if is_null(validity, i) {
-        return NULL_ROW;
-    }
-    match row(bytes, offsets, i) {
-        Some(row) => status_of_bytes(row),
-        None => BAD_OFFSETS,
-    }
+    let mut fault = NO_FAULT;
+    check_input(row, &mut fault)
 }
 
-/// What some bytes are answered.
-fn status_of_bytes(buf: &[u8]) -> u32
-    ensures status { IsStatusOf buf.now result }
-    ensures small { result < 14 }
+/// The status of some bytes.
+fn status_of_bytes(row: &[u8]) -> u32
+    ensures status { IsStatusOf row.now result }
+    ensures known { result < NULL_ROW }
 {
-    if let Some(_plain) = check_plain(buf) {
+    if let Some(_plain) = check_plain(row) {
         return OK;
     }
-    let mut fault = WkbFault {
-        part: 0,
-        offset: 0,
-        end: 0,
-        len: 0,
-        code: 0,
-    };
-    match check_input(buf, &mut fault) {
+    match check_row(row) {
         Ok(_found) => OK,
         Err(status) => status,
     }
 }
 
-/// Writes what each row is answered.
-pub fn check_rows(bytes: &[u8], offsets: &[u64], validity: &[u8], statuses: &mut [u8])
-    ensures each { AreStatuses bytes.now offsets.now validity.now (length statuses.old)
-        statuses.new }
+/// The status of the row of this number.
+fn status_of_row(column: &Column, i: usize) -> u32
+    requires { i < 2 ^ 63 }
+    ensures status { IsStatusOfRow column.now i result }
+    ensures known { result ≤ BAD_OFFSETS }
+{
+    match column.row(i) {
+        Ok(row) => status_of_bytes(row),
+        Err(status) => status,
+    }
+}
+
+/// Writes the status of each row.
+pub fn check_rows(column: &Column, statuses: &mut [u8])
+    ensures each { AreStatuses column.now (length statuses.old) statuses.new }
     ensures as_many { length statuses.new ≡ length statuses.old }
 {
     for i in 0..statuses.len() {
-        statuses[i] = status_of_row(bytes, offsets, validity, i) as u8;
+        statuses[i] = status_of_row(column, i) as u8;
     }
 }

@@ -6,7 +6,7 @@ ghost use Rattle.wkb_c.specs.Statuses.{cause_status, general_status, cause_fault
 
 use crate::status::{
     CODE_OUT_OF_RANGE, INCORRECT_TYPE, INVALID_BYTE_ORDER, IO_ERROR, NESTING_DEPTH_EXCEEDED,
-    SHORT_LINE_STRING, SHORT_LINEAR_RING, SHORT_MULTI_POINT, SHORT_POINT,
+    NULL_ROW, OK, SHORT_LINE_STRING, SHORT_LINEAR_RING, SHORT_MULTI_POINT, SHORT_POINT,
 };
 use wkb_check::{Refused, Summary, check};
 use wkb_geom::{Cause, General};
@@ -15,7 +15,7 @@ use wkb_geom::{Cause, General};
 #[repr(C)]
 #[derive(Clone, Copy)]
 pub struct WkbFault {
-    /// How many parts stand before the one that is refused.
+    /// How many parts come before the one that is refused.
     pub part: u64,
     /// Where that part begins, counted from the front of the input.
     pub offset: u64,
@@ -25,7 +25,19 @@ pub struct WkbFault {
     pub len: u64,
     /// The code that is out of range, with all its bits.
     pub code: u32,
+    /// The status that the call returns.
+    pub status: u32,
 }
+
+/// The numbers of no refusal.
+pub const NO_FAULT: WkbFault = WkbFault {
+    part: 0,
+    offset: 0,
+    end: 0,
+    len: 0,
+    code: 0,
+    status: OK,
+};
 
 /// The status of a fault of the bytes.
 fn status_of_general(fault: General) -> u32
@@ -55,7 +67,7 @@ fn status_of_cause(cause: Cause) -> u32
 }
 
 /// The numbers of a refusal by the check.
-fn fault_of_refused(refused: &Refused) -> WkbFault
+pub fn fault_of_refused(refused: &Refused) -> WkbFault
     ensures { result ≡ cause_fault refused.now.part refused.now.offset refused.now.cause }
 {
     let (end, len, code) = match refused.cause {
@@ -72,22 +84,23 @@ fn fault_of_refused(refused: &Refused) -> WkbFault
         end,
         len,
         code,
+        status: status_of_cause(refused.cause),
     }
 }
 
-/// What stands at the front of the bytes; or the status of the one refusal, and its numbers. It takes no memory.
+/// What is at the front of the bytes; or the status of the one refusal, and its numbers. It allocates nothing.
 pub fn check_input(buf: &[u8], fault: &mut WkbFault) -> Result<Summary, u32>
     ensures accepted { IfOk result (λ found. DescribesFront buf.now found) }
     ensures refused { IfErr result (λ status. IsFault buf.now status fault.new) }
     ensures late { IfErr result (λ status. IO_ERROR ≤ status) }
-    ensures small { IfErr result (λ status. status < 14) }
+    ensures small { IfErr result (λ status. status < NULL_ROW) }
     ensures kept { IfOk result (λ _. fault.new ≡ fault.old) }
 {
     match check(buf) {
         Ok(found) => Ok(found),
         Err(refused) => {
             *fault = fault_of_refused(&refused);
-            Err(status_of_cause(refused.cause))
+            Err(fault.status)
         }
     }
 }

@@ -1,53 +1,40 @@
 //! What is told of the geometry at the front of some bytes.
 
-ghost use Rattle.std.specs.Prelude.{◌≡◌, unwrap_or, is_some};
+ghost use Rattle.std.specs.Prelude.{◌≡◌, ℕ, List};
 ghost use Rattle.wkb_geom.specs.Codes.{thousands};
-ghost use Rattle.wkb_geom.specs.Dimensions.{width as words};
-ghost use Rattle.wkb_geom.specs.Reading.{type_kind, type_dimension};
-ghost use Rattle.wkb_c.specs.Kinds.{number_of};
+ghost use Rattle.wkb_geom.specs.Dimensions.{width};
+ghost use Rattle.wkb_check.specs.Public.{DescribesFront};
+ghost use Rattle.wkb_c.specs.Checks.{IsFound};
 
-use wkb::reader::{Dimension, GeometryType};
+use wkb::reader::Dimension;
 use wkb_check::Summary;
 
 /// The geometry at the front of some bytes.
 #[repr(C)]
 #[derive(Clone, Copy)]
 pub struct Found {
-    /// Its bytes; what stands behind them was not looked at.
+    /// Its bytes; the bytes after them were not looked at.
     pub size: u64,
     /// Itself, and its rings and members at every level.
     pub parts: u64,
-    /// How many coordinates those have; a point has one, though it be empty.
+    /// How many coordinates these have; a point has one, an empty one of not-a-numbers.
     pub coordinates: u64,
     /// Its own SRID, or 0.
     pub srid: u32,
-    /// Whether it has an SRID.
-    pub has_srid: bool,
+    /// 1 if it has an SRID, else 0.
+    pub has_srid: u32,
     /// The number of its kind, as in the codes.
-    pub kind: u8,
+    pub kind: u32,
     /// The number of its dimension, as the thousands of a code.
-    pub dimension: u8,
+    pub dimension: u32,
     /// The words of a coordinate.
-    pub width: u8,
-}
-
-/// The number of a kind, as in the codes.
-pub fn kind_number(kind: GeometryType) -> u8
-    ensures { result ≡ number_of kind }
-{
-    match kind {
-        GeometryType::Point => 1,
-        GeometryType::LineString => 2,
-        GeometryType::Polygon => 3,
-        GeometryType::MultiPoint => 4,
-        GeometryType::MultiLineString => 5,
-        GeometryType::MultiPolygon => 6,
-        GeometryType::GeometryCollection => 7,
-    }
+    pub width: u32,
+    /// The byte that tells its order.
+    pub order: u32,
 }
 
 /// The number of a dimension, as the thousands of a code.
-pub fn dimension_number(dimension: Dimension) -> u8
+pub fn dimension_number(dimension: Dimension) -> u32
     ensures { result ≡ thousands dimension }
 {
     match dimension {
@@ -59,27 +46,16 @@ pub fn dimension_number(dimension: Dimension) -> u8
 }
 
 /// How many words a coordinate has.
-pub fn words_each(dimension: Dimension) -> u8
-    ensures { result ≡ words dimension }
+#[tactic(auto, using(crate::proofs::Telling::width_is_small))]
+pub fn width_number(dimension: Dimension) -> u32
+    ensures { result ≡ width dimension }
 {
-    match dimension {
-        Dimension::Xy => 2,
-        Dimension::Xyz => 3,
-        Dimension::Xym => 3,
-        Dimension::Xyzm => 4,
-    }
+    dimension.width() as u32
 }
 
 /// What is told of what the check found.
 pub fn found_of(summary: &Summary) -> Found
-    ensures size { result.size ≡ summary.now.bytes }
-    ensures parts { result.parts ≡ summary.now.parts }
-    ensures coordinates { result.coordinates ≡ summary.now.coordinates }
-    ensures kind { result.kind ≡ type_kind summary.now.wkb_type }
-    ensures dimension { result.dimension ≡ thousands (type_dimension summary.now.wkb_type) }
-    ensures width { result.width ≡ words (type_dimension summary.now.wkb_type) }
-    ensures has_srid { result.has_srid ≡ is_some summary.now.srid }
-    ensures srid { result.srid ≡ unwrap_or summary.now.srid 0 }
+    ensures { (input : List ℕ) → DescribesFront input summary.now → IsFound input result }
 {
     let dimension = summary.wkb_type.dimension();
     Found {
@@ -87,9 +63,10 @@ pub fn found_of(summary: &Summary) -> Found
         parts: summary.parts as u64,
         coordinates: summary.coordinates as u64,
         srid: summary.srid.unwrap_or(0),
-        has_srid: summary.srid.is_some(),
-        kind: summary.wkb_type.kind() as u8,
+        has_srid: u32::from(summary.srid.is_some()),
+        kind: summary.wkb_type.kind(),
         dimension: dimension_number(dimension),
-        width: words_each(dimension),
+        width: width_number(dimension),
+        order: u32::from(u8::from(summary.order)),
     }
 }

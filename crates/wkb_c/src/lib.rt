@@ -3,40 +3,51 @@
 //! In C a slice is a pointer and a length, and the allocator takes no argument.
 #![tactic(auto)]
 
+mod bounds;
 mod column;
+mod column_bounds;
 mod column_items;
+mod coordinates;
 mod encoding;
 mod fault;
 mod found;
+mod inputs;
 mod options;
 mod parts;
 mod room;
 mod status;
 
-ghost use Rattle.std.specs.Prelude.{◌≡◌, ◌≢◌, ◌≤◌, ◌<◌, ◌+◌, ◌⊎◌, ◌↔◌, MatchBool, None, length};
+ghost use Rattle.std.specs.Prelude.{◌≡◌, ◌≢◌, ◌≤◌, ◌<◌, ◌+◌, ◌⊎◌, ◌↔◌, None, length};
 ghost use Rattle.std.specs.Prelude.{min};
-ghost use Rattle.wkb.specs.Canonical.{HaveOneValue, HaveTwoValues};
+ghost use Rattle.wkb.specs.Canonical.{IsAccepted};
+ghost use Rattle.wkb_check.specs.Bounded.{BoundsFront};
+ghost use Rattle.wkb_c.specs.Boxes.{AreRowBoxes};
 ghost use Rattle.wkb_c.specs.Checks.{IsFound};
-ghost use Rattle.wkb_c.specs.Columns.{AreStatuses};
+ghost use Rattle.wkb_c.specs.Columns.{column as column_of, AreStatuses};
+ghost use Rattle.wkb_c.specs.Coordinates.{AreColumnCoordinates, levels};
 ghost use Rattle.wkb_c.specs.Requests.{request_of};
-ghost use Rattle.wkb_c.specs.RowItems.{AreRowAnswers, KeepsBehind};
-ghost use Rattle.wkb_c.specs.Statuses.{IsFault, IsRefusedInTurn, FailsToList};
+ghost use Rattle.wkb_c.specs.RowItems.{AreRowAnswers, KeepsBehind, KeepsFrom, rows_of};
+ghost use Rattle.wkb_c.specs.Statuses.{IsFault, IsRefusedInTurn, IsComparison, FailsToList};
 ghost use Rattle.wkb_c.specs.Tables.{IsTable, LacksEntries, HasTable};
 ghost use Rattle.wkb_c.specs.Writings.{IsWritten, WantsRoom, HasEncoding, FailsToWrite};
 
-use column::check_rows;
+use bounds::bounds_input;
+use column::{Column, check_rows};
+use column_bounds::bound_rows;
 use column_items::{list_rows, write_rows};
+use coordinates::{Totals, put_row, row_parts};
 use encoding::write_requested;
 use fault::{WkbFault, check_input};
 use found::{Found, found_of};
+use inputs::{FIRST, SECOND};
 use options::{Options, requested};
 use parts::{Part, list_parts};
-use status::{FIRST, IO_ERROR, NO_MEMORY, NO_ROOM, OK, SECOND, SIZE_OVERFLOW, UNKNOWN_OPTION};
+use status::{IO_ERROR, NO_MEMORY, NO_ROOM, OK, UNKNOWN_OPTION};
 use std::alloc::Global;
 use wkb::canon::same;
-use wkb_check::check_plain;
+use wkb_check::{Bounds, check_plain};
 
-/// Whether a geometry stands at the front of the bytes. It takes no memory.
+/// Whether a geometry is at the front of the bytes. It allocates nothing.
 ///
 /// `OK`, and what was found; or the status of the one refusal, and its numbers.
 #[unsafe(no_mangle)]
@@ -58,7 +69,7 @@ pub extern "C" fn wkb_raw_check(buf: &[u8], found: &mut Found, fault: &mut WkbFa
 
 /// Checks any bytes by the long way, which collections and refused bytes need.
 ///
-/// It stands apart so that its frame is laid out for no other bytes.
+/// It is never inlined, so that no other bytes pay for its frame.
 #[inline(never)]
 fn check_any(buf: &[u8], found: &mut Found, fault: &mut WkbFault) -> u32
     ensures accepted { result ≡ OK → IsFound buf.now found.new }
@@ -76,10 +87,30 @@ fn check_any(buf: &[u8], found: &mut Found, fault: &mut WkbFault) -> u32
     }
 }
 
-/// Writes the encoding that the options ask for, and tells its length.
+/// The bounds of the geometry at the front of the bytes. It allocates nothing.
 ///
-/// `NO_ROOM` tells the length too, and nothing is composed. The options are looked at before the bytes. A refusal
-/// leaves `out` as it was.
+/// `OK`, and the bounds; or what `wkb_raw_check` returns.
+#[unsafe(no_mangle)]
+pub extern "C" fn wkb_raw_bounds(buf: &[u8], bounds: &mut Bounds, fault: &mut WkbFault) -> u32
+    ensures accepted { result ≡ OK → BoundsFront buf.now bounds.new }
+    ensures refused { result ≢ OK → IsFault buf.now result fault.new }
+    ensures no_memory { result ≢ NO_MEMORY }
+    ensures bounds_kept { result ≢ OK → bounds.new ≡ bounds.old }
+    ensures fault_kept { result ≡ OK → fault.new ≡ fault.old }
+{
+    match bounds_input(buf, fault) {
+        Ok(found) => {
+            *bounds = found;
+            OK
+        }
+        Err(status) => status,
+    }
+}
+
+/// Writes the encoding that the options ask for, and its length.
+///
+/// `NO_ROOM` writes the length too, and nothing is composed. The options are looked at before the bytes. A refusal
+/// leaves `out` unchanged.
 #[unsafe(no_mangle)]
 pub extern "C" fn wkb_raw_write(
     alloc: Global,
@@ -93,8 +124,8 @@ pub extern "C" fn wkb_raw_write(
     ensures no_room { result ≡ NO_ROOM → WantsRoom options.now buf.now out.old size.new }
     ensures unknown { (result ≡ UNKNOWN_OPTION) ↔ (request_of options.now ≡ None) }
     ensures bound { (result ≡ OK) ⊎ (result ≡ NO_ROOM) → size.new ≤ length buf.now + 4 }
-    ensures never_too_long { result ≢ SIZE_OVERFLOW }
     ensures refused { IO_ERROR ≤ result → IsFault buf.now result fault.new }
+    ensures memory { result ≡ NO_MEMORY → IsAccepted buf.now }
     ensures out_kept { result ≢ OK → out.new ≡ out.old }
     ensures size_kept { result ≢ OK → result ≢ NO_ROOM → size.new ≡ size.old }
     ensures fault_kept { result < IO_ERROR → fault.new ≡ fault.old }
@@ -110,20 +141,20 @@ pub extern "C" fn wkb_raw_write(
 
 /// Whether two inputs begin with geometries of one value, SRIDs and byte orders aside.
 ///
-/// Refused as the first is, or else as the second; `which` tells the one that is refused.
+/// Refused as the first is, or else as the second; `which` is the one that is refused.
 #[unsafe(no_mangle)]
 pub extern "C" fn wkb_raw_same(
     alloc: Global,
     a: &[u8],
     b: &[u8],
-    equal: &mut bool,
+    equal: &mut u32,
     fault: &mut WkbFault,
     which: &mut u32,
 ) -> u32
-    ensures compared { result ≡ OK
-        → MatchBool equal.new (HaveOneValue a.now b.now) (HaveTwoValues a.now b.now) }
+    ensures compared { result ≡ OK → IsComparison a.now b.now equal.new }
     ensures refused { result ≢ OK → result ≢ NO_MEMORY
         → IsRefusedInTurn a.now b.now result fault.new which.new }
+    ensures memory { result ≡ NO_MEMORY → IsAccepted a.now × IsAccepted b.now }
     ensures equal_kept { result ≢ OK → equal.new ≡ equal.old }
     ensures fault_kept { (result ≡ OK) ⊎ (result ≡ NO_MEMORY) → fault.new ≡ fault.old }
     ensures which_kept { (result ≡ OK) ⊎ (result ≡ NO_MEMORY) → which.new ≡ which.old }
@@ -138,7 +169,7 @@ pub extern "C" fn wkb_raw_same(
     }
     match same(alloc, a, b) {
         Ok(answer) => {
-            *equal = answer;
+            *equal = u32::from(answer);
             OK
         }
         // Neither is refused, so memory was.
@@ -146,9 +177,9 @@ pub extern "C" fn wkb_raw_same(
     }
 }
 
-/// Lists the parts of the geometry at the front of the bytes in preorder, and tells their number.
+/// Lists the parts of the geometry at the front of the bytes in preorder, and writes their number.
 ///
-/// `NO_ROOM` tells their number too. A refusal leaves `parts` as it was.
+/// `NO_ROOM` writes their number too. A refusal leaves `parts` unchanged.
 #[unsafe(no_mangle)]
 pub extern "C" fn wkb_raw_parts(
     alloc: Global,
@@ -160,84 +191,205 @@ pub extern "C" fn wkb_raw_parts(
     ensures listed { result ≡ OK → IsTable buf.now parts.old parts.new count.new }
     ensures no_room { result ≡ NO_ROOM → LacksEntries buf.now parts.old count.new }
     ensures refused { IO_ERROR ≤ result → IsFault buf.now result fault.new }
+    ensures memory { result ≡ NO_MEMORY → IsAccepted buf.now }
+    ensures known { result ≢ UNKNOWN_OPTION }
     ensures parts_kept { result ≢ OK → parts.new ≡ parts.old }
     ensures count_kept { result ≢ OK → result ≢ NO_ROOM → count.new ≡ count.old }
     ensures fault_kept { result < IO_ERROR → fault.new ≡ fault.old }
 {
-    match check_input(buf, fault) {
-        Ok(found) => list_parts(alloc, buf, found.parts, parts, count),
-        Err(status) => status,
-    }
+    let found = match check_input(buf, fault) {
+        Ok(found) => found,
+        Err(status) => return status,
+    };
+    list_parts(alloc, buf, found.parts, parts, count)
 }
 
-/// Whether a geometry stands at the front of each row of a column: a status a row.
+/// Whether a geometry is at the front of each row of a column: a status a row.
 ///
-/// Row i has the bytes from offset i up to offset i + 1; a row is null where its validity bit is 0.
-/// No row stops the others.
+/// Row i has the bytes from offset i up to offset i + 1. An offset is a signed little endian number of `offset_size`
+/// bytes, 4 or 8. A row is null where bit `validity_offset + i` of `validity` is 0. No row stops the others.
 #[unsafe(no_mangle)]
 pub extern "C" fn wkb_raw_column_check(
     bytes: &[u8],
-    offsets: &[u64],
+    offsets: &[u8],
+    offset_size: usize,
     validity: &[u8],
+    validity_offset: usize,
     statuses: &mut [u8],
 )
-    ensures each { AreStatuses bytes.now offsets.now validity.now (length statuses.old)
-        statuses.new }
+    ensures each { AreStatuses
+        (column_of bytes.now offsets.now offset_size validity.now validity_offset)
+        (length statuses.old) statuses.new }
     ensures as_many { length statuses.new ≡ length statuses.old }
 {
-    check_rows(bytes, offsets, validity, statuses);
+    let column = Column {
+        bytes,
+        offsets,
+        offset_size,
+        validity,
+        validity_offset,
+    };
+    check_rows(&column, statuses);
 }
 
-/// Lists the parts of each row of a column behind those of the rows before it, as far as there is room: a status a row,
+/// The bounds of each row of a column: a status and a box a row, that of no coordinate for a row without bounds. It
+/// allocates nothing.
+///
+/// The rows are those of `wkb_raw_column_check`. No row stops the others.
+#[unsafe(no_mangle)]
+pub extern "C" fn wkb_raw_column_bounds(
+    bytes: &[u8],
+    offsets: &[u8],
+    offset_size: usize,
+    validity: &[u8],
+    validity_offset: usize,
+    boxes: &mut [Bounds],
+    statuses: &mut [u8],
+)
+    ensures each { AreRowBoxes
+        (column_of bytes.now offsets.now offset_size validity.now validity_offset)
+        (min (length statuses.old) (length boxes.old)) statuses.new boxes.new }
+    ensures statuses_kept { KeepsFrom (min (length statuses.old) (length boxes.old))
+        statuses.old statuses.new }
+    ensures boxes_kept { KeepsFrom (min (length statuses.old) (length boxes.old))
+        boxes.old boxes.new }
+    ensures as_many { length statuses.new ≡ length statuses.old }
+    ensures as_many_boxes { length boxes.new ≡ length boxes.old }
+{
+    let column = Column {
+        bytes,
+        offsets,
+        offset_size,
+        validity,
+        validity_offset,
+    };
+    bound_rows(&column, boxes, statuses);
+}
+
+/// Lists the parts of each row of a column after those of the rows before it, as far as there is room: a status a row,
 /// and where its parts end.
 ///
-/// A row has the bytes that `wkb_raw_column_check` takes. A row without parts ends where it begins. No row stops the
-/// others.
+/// The rows are those of `wkb_raw_column_check`. A row without parts ends where it begins. No row stops the others.
 #[unsafe(no_mangle)]
 pub extern "C" fn wkb_raw_column_parts(
     alloc: Global,
     bytes: &[u8],
-    offsets: &[u64],
+    offsets: &[u8],
+    offset_size: usize,
     validity: &[u8],
+    validity_offset: usize,
     parts: &mut [Part],
     ends: &mut [u64],
     statuses: &mut [u8],
 )
-    ensures each { AreRowAnswers HasTable FailsToList bytes.now offsets.now validity.now
-        (min (length statuses.old) (length ends.old)) statuses.new ends.new parts.new }
-    ensures parts_kept { KeepsBehind (min (length statuses.old) (length ends.old))
-        statuses.new ends.new parts.old parts.new }
+    ensures each { AreRowAnswers HasTable FailsToList
+        (column_of bytes.now offsets.now offset_size validity.now validity_offset)
+        (rows_of statuses.old ends.old) statuses.new ends.new parts.new }
+    ensures parts_kept { KeepsBehind (rows_of statuses.old ends.old) statuses.new ends.new
+        parts.old parts.new }
+    ensures statuses_kept { KeepsFrom (rows_of statuses.old ends.old) statuses.old statuses.new }
+    ensures ends_kept { KeepsFrom (rows_of statuses.old ends.old) ends.old ends.new }
     ensures as_many { length statuses.new ≡ length statuses.old }
     ensures as_many_ends { length ends.new ≡ length ends.old }
 {
-    list_rows(alloc, bytes, offsets, validity, parts, ends, statuses);
+    let column = Column {
+        bytes,
+        offsets,
+        offset_size,
+        validity,
+        validity_offset,
+    };
+    list_rows(alloc, &column, parts, ends, statuses);
 }
 
-/// Writes the encoding of each row of a column behind those of the rows before it, as far as there is room: a status a
+/// Writes the encoding of each row of a column after those of the rows before it, as far as there is room: a status a
 /// row, and where its encoding ends.
 ///
-/// A row has the bytes that `wkb_raw_column_check` takes. A row without an encoding ends where it begins. No row stops
-/// the others.
+/// The rows are those of `wkb_raw_column_check`. A row without an encoding ends where it begins. No row stops the
+/// others.
 #[unsafe(no_mangle)]
 pub extern "C" fn wkb_raw_column_write(
     alloc: Global,
     bytes: &[u8],
-    offsets: &[u64],
+    offsets: &[u8],
+    offset_size: usize,
     validity: &[u8],
+    validity_offset: usize,
     options: &Options,
     out: &mut [u8],
     ends: &mut [u64],
     statuses: &mut [u8],
 )
-    ensures each { AreRowAnswers (HasEncoding options.now) (FailsToWrite options.now) bytes.now
-        offsets.now validity.now (min (length statuses.old) (length ends.old)) statuses.new
-        ends.new out.new }
-    ensures out_kept { KeepsBehind (min (length statuses.old) (length ends.old))
-        statuses.new ends.new out.old out.new }
+    ensures each { AreRowAnswers (HasEncoding options.now) (FailsToWrite options.now)
+        (column_of bytes.now offsets.now offset_size validity.now validity_offset)
+        (rows_of statuses.old ends.old) statuses.new ends.new out.new }
+    ensures out_kept { KeepsBehind (rows_of statuses.old ends.old) statuses.new ends.new
+        out.old out.new }
+    ensures statuses_kept { KeepsFrom (rows_of statuses.old ends.old) statuses.old statuses.new }
+    ensures ends_kept { KeepsFrom (rows_of statuses.old ends.old) ends.old ends.new }
     ensures as_many { length statuses.new ≡ length statuses.old }
     ensures as_many_ends { length ends.new ≡ length ends.old }
 {
-    write_rows(
-        alloc, bytes, offsets, validity, options, out, ends, statuses,
-    );
+    let column = Column {
+        bytes,
+        offsets,
+        offset_size,
+        validity,
+        validity_offset,
+    };
+    write_rows(alloc, &column, options, out, ends, statuses);
+}
+
+/// Writes the coordinates of each row of a column after those of the rows before it, as far as there is room, in
+/// levels: a row has singles, a single has rings, a ring has coordinates. `totals` tells how many of each all rows
+/// have.
+///
+/// The rows are those of `wkb_raw_column_check`. The words are those that `dimension` names. No row stops the others.
+#[unsafe(no_mangle)]
+pub extern "C" fn wkb_raw_column_coordinates(
+    alloc: Global,
+    bytes: &[u8],
+    offsets: &[u8],
+    offset_size: usize,
+    validity: &[u8],
+    validity_offset: usize,
+    dimension: u32,
+    words: &mut [u64],
+    ring_ends: &mut [u64],
+    single_ends: &mut [u64],
+    row_ends: &mut [u64],
+    totals: &mut Totals,
+    statuses: &mut [u8],
+)
+    ensures each { AreColumnCoordinates
+        (column_of bytes.now offsets.now offset_size validity.now validity_offset) dimension
+        statuses.new row_ends.new (levels words.old ring_ends.old single_ends.old)
+        (rows_of statuses.old row_ends.old) totals.new
+        (levels words.new ring_ends.new single_ends.new) }
+    ensures statuses_kept { KeepsFrom (rows_of statuses.old row_ends.old) statuses.old statuses.new }
+    ensures row_ends_kept { KeepsFrom (rows_of statuses.old row_ends.old) row_ends.old row_ends.new }
+    ensures as_many { length statuses.new ≡ length statuses.old }
+    ensures as_many_ends { length row_ends.new ≡ length row_ends.old }
+{
+    let column = Column {
+        bytes,
+        offsets,
+        offset_size,
+        validity,
+        validity_offset,
+    };
+    let mut at = Totals {
+        coordinates: 0,
+        rings: 0,
+        singles: 0,
+    };
+    for i in 0..statuses.len().min(row_ends.len()) {
+        let status = match row_parts(alloc, &column, i, dimension) {
+            Ok(row) => put_row(&row, &mut at, words, ring_ends, single_ends),
+            Err(status) => status,
+        };
+        statuses[i] = status as u8;
+        row_ends[i] = at.singles;
+    }
+    *totals = at;
 }

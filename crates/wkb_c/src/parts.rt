@@ -1,7 +1,7 @@
 //! The table of a geometry's parts, by the headers, counts and sizes of its views.
 
 ghost use Rattle.std.specs.Prelude.{◌≡◌, ◌≢◌, ◌⊎◌, ◌+◌, ◌*◌, ◌<◌, ◌^◌, [], ◌∷◌, length, slice_get};
-ghost use Rattle.std.specs.Prelude.{slice_index, option_map, IfOk, IfSome};
+ghost use Rattle.std.specs.Prelude.{Some, IfOk};
 ghost use Rattle.wkb_geom.specs.Dimensions.{width as words, dimensions as trait_dimensions};
 ghost use Rattle.wkb_geom.specs.Reading.{spellings, values};
 ghost use Rattle.wkb_geom.specs.Refusals.{ring_end};
@@ -9,16 +9,18 @@ ghost use Rattle.wkb_geom.specs.Values.{polygon as polygon_of};
 ghost use Rattle.wkb_geom.specs.Values.{multi_line_string as line_strings_of};
 ghost use Rattle.wkb_geom.specs.Values.{multi_polygon as polygons_of};
 ghost use Rattle.wkb_geom.specs.Stored.{whole_of};
-ghost use Rattle.wkb_view.specs.Coords.{ring_seen, ring_dimension};
+ghost use Rattle.wkb_geom.specs.Numbers.{order_byte};
+ghost use Rattle.wkb_view.specs.Coords.{ring_seen, ring_dimension, ring_order};
+ghost use Rattle.wkb_view.specs.Parts.{order_of};
 ghost use Rattle.wkb_view.specs.Views.{point_seen, line_string_seen, multi_point_seen};
 ghost use Rattle.wkb_c.specs.Tables.{entries, ring_entries, size_of_rings, size, sizes, IsTable};
 ghost use Rattle.wkb_c.specs.Tables.{LacksEntries, HasParts};
 ghost use Rattle.wkb_c.specs.Growing.{Grows, ListsItem, ListsMembers, ListsMembersOf, HasMembers};
-ghost use Rattle.wkb_c.specs.Growing.{FitsTable, MembersFitTable, IsHead, OpensPart};
-ghost use Rattle.wkb_c.specs.Growing.{Closes, added_entry, header_bytes};
+ghost use Rattle.wkb_c.specs.Growing.{FitsTable, MembersFitTable, SpellSome, IsHeadOf, OpensPart};
+ghost use Rattle.wkb_c.specs.Growing.{Closes, added_entry};
 
 use crate::encoding::read_checked;
-use crate::found::{dimension_number, kind_number, words_each};
+use crate::found::{dimension_number, width_number};
 use crate::room::hand_out;
 use crate::status::{NO_MEMORY, NO_ROOM, OK};
 use std::alloc::{AllocError, Global};
@@ -30,7 +32,9 @@ use wkb::reader::{
     Dimension, LineString, LinearRing, MultiLineString, MultiPoint, MultiPolygon, Point, Polygon,
     Wkb,
 };
-use wkb_view::own_srid::OwnSrid;
+use wkb_geom::Header;
+use wkb_geom::code::POINT;
+use wkb_geom::words::COUNT;
 
 /// A geometry, or a ring of a polygon. It has no padding.
 #[repr(C)]
@@ -51,13 +55,13 @@ pub struct Part {
     /// 1 where it has an SRID, else 0.
     pub has_srid: u32,
     /// The number of its kind, as in the codes; 0 is a ring.
-    pub kind: u16,
+    pub kind: u32,
     /// The number of its dimension, as the thousands of a code.
-    pub dimension: u16,
+    pub dimension: u32,
     /// The words of a coordinate.
-    pub width: u16,
+    pub width: u32,
     /// The byte that tells its order.
-    pub order: u16,
+    pub order: u32,
 }
 
 /// The parts that are listed, and the byte at which the next one begins.
@@ -67,10 +71,10 @@ pub struct Table {
     pub at: u64,
 }
 
-/// What stands before a part's coordinates, rings or members.
+/// What is before a part's coordinates, rings or members.
 #[derive(Clone, Copy)]
 pub struct PartHead {
-    pub kind: u8,
+    pub kind: u32,
     pub dimension: Dimension,
     pub srid: Option<u32>,
     pub order: u8,
@@ -78,11 +82,32 @@ pub struct PartHead {
     pub leading: u64,
 }
 
-/// The bytes of a header.
-fn bytes_of_header(srid: Option<u32>) -> u64
-    ensures { result ≡ header_bytes srid }
+/// The number of a ring among the kinds.
+pub const RING: u32 = 0;
+
+/// The bytes of the count of a geometry of this kind: a point has none.
+fn count_size(kind: u32) -> usize
+    ensures point { kind ≡ POINT → result ≡ 0 }
+    ensures other { kind ≢ POINT → result ≡ COUNT }
 {
-    if srid.is_some() { 9 } else { 5 }
+    if kind == POINT { 0 } else { COUNT }
+}
+
+/// What is before the coordinates, rings or members of the geometry that these bytes spell.
+fn head_of(buf: &[u8]) -> PartHead
+    requires { SpellSome buf.now }
+    ensures { IsHeadOf buf.now result }
+{
+    let header = Header::read(buf).unwrap();
+    let layout = header.layout();
+    let kind = header.wkb_type.kind();
+    PartHead {
+        kind,
+        dimension: layout.dimension,
+        srid: layout.srid(buf),
+        order: layout.order.into(),
+        leading: (layout.header_length() + count_size(kind)) as u64,
+    }
 }
 
 /// Adds a part of so many coordinates, rings or members, and passes over its head and coordinates.
@@ -105,11 +130,11 @@ fn add(table: &mut Table, head: PartHead, count: u64, coordinates: u64) -> Resul
         count,
         next,
         srid: head.srid.unwrap_or(0),
-        has_srid: if head.srid.is_some() { 1 } else { 0 },
-        kind: head.kind as u16,
-        dimension: dimension_number(head.dimension) as u16,
-        width: words_each(head.dimension) as u16,
-        order: head.order as u16,
+        has_srid: u32::from(head.srid.is_some()),
+        kind: head.kind,
+        dimension: dimension_number(head.dimension),
+        width: width_number(head.dimension),
+        order: u32::from(head.order),
     })?;
     table.at = end;
     Ok(())
@@ -130,57 +155,45 @@ fn add_point(table: &mut Table, point: &Point<'_>) -> Result<(), AllocError>
     requires fits { FitsTable table.old (point_seen point.now) }
     ensures { IfOk result (λ done. ListsItem table.old table.new (point_seen point.now)) }
 {
-    let head = PartHead {
-        kind: 1,
-        dimension: point.dimension(),
-        srid: point.srid(),
-        order: point.byte_order().into(),
-        leading: bytes_of_header(point.srid()),
-    };
-    add(table, head, 1, 8 * words_each(point.dimension()) as u64)
+    let head = head_of(point.buf());
+    add(table, head, 1, 8 * head.dimension.width() as u64)
 }
 
 fn add_line_string(table: &mut Table, line: &LineString<'_>) -> Result<(), AllocError>
     requires fits { FitsTable table.old (line_string_seen line.now) }
     ensures { IfOk result (λ done. ListsItem table.old table.new (line_string_seen line.now)) }
 {
-    let head = PartHead {
-        kind: 2,
-        dimension: line.dimension(),
-        srid: line.srid(),
-        order: line.byte_order().into(),
-        leading: bytes_of_header(line.srid()) + 4,
-    };
+    let head = head_of(line.buf());
     let count = line.num_coords() as u64;
     add(
         table,
         head,
         count,
-        8 * words_each(line.dimension()) as u64 * count,
+        8 * head.dimension.width() as u64 * count,
     )
 }
 
-fn add_ring(table: &mut Table, ring: &LinearRing<'_>, order: u8) -> Result<(), AllocError>
+fn add_ring(table: &mut Table, ring: &LinearRing<'_>) -> Result<(), AllocError>
     requires fits { table.old.at + ring_end (ring_dimension ring.now) (length (ring_seen ring.now))
         < 2 ^ 63 }
     ensures { IfOk result (λ done. Grows table.old table.new
-        (ring_entries (ring_dimension ring.now) order (length table.old.parts.items) table.old.at
-        (ring_seen ring.now ∷ []))
+        (ring_entries (ring_dimension ring.now) (order_byte (ring_order ring.now))
+        (length table.old.parts.items) table.old.at (ring_seen ring.now ∷ []))
         (ring_end (ring_dimension ring.now) (length (ring_seen ring.now)))) }
 {
     let head = PartHead {
-        kind: 0,
+        kind: RING,
         dimension: ring.dimension(),
         srid: None,
-        order,
-        leading: 4,
+        order: ring.byte_order().into(),
+        leading: COUNT as u64,
     };
     let count = ring.num_coords() as u64;
     add(
         table,
         head,
         count,
-        8 * words_each(ring.dimension()) as u64 * count,
+        8 * head.dimension.width() as u64 * count,
     )
 }
 
@@ -196,57 +209,42 @@ fn count_rings(polygon: &Polygon<'_>) -> usize
 }
 
 /// The ring of this number, of which the exterior is the first.
-fn polygon_ring<'a>(polygon: &Polygon<'a>, i: usize) -> Option<LinearRing<'a>>
-    ensures part { option_map ring_seen result ≡ slice_get polygon.now.parts i }
-    ensures dimension { IfSome result (λ r. trait_dimensions (ring_dimension r)
-        ≡ trait_dimensions polygon.now.dimension) }
+fn polygon_ring<'a>(polygon: &Polygon<'a>, i: usize) -> LinearRing<'a>
+    requires { i < length polygon.now.parts }
+    ensures part { slice_get polygon.now.parts i ≡ Some (ring_seen result) }
+    ensures dimension { trait_dimensions (ring_dimension result)
+        ≡ trait_dimensions polygon.now.dimension }
+    ensures order { ring_order result ≡ order_of polygon.now.spelled }
 {
     if i == 0 {
-        polygon.exterior()
+        polygon.exterior().unwrap()
     } else {
-        polygon.interior(i - 1)
+        polygon.interior(i - 1).unwrap()
     }
 }
 
 /// Adds the rings of a polygon.
-fn add_rings(table: &mut Table, polygon: &Polygon<'_>, order: u8) -> Result<(), AllocError>
+fn add_rings(table: &mut Table, polygon: &Polygon<'_>) -> Result<(), AllocError>
     requires fits { table.old.at + size_of_rings polygon.now.dimension polygon.now.parts < 2 ^ 63 }
     ensures { IfOk result (λ done. Grows table.old table.new
-        (ring_entries polygon.now.dimension order (length table.old.parts.items) table.old.at
-        polygon.now.parts)
+        (ring_entries polygon.now.dimension (order_byte (order_of polygon.now.spelled))
+        (length table.old.parts.items) table.old.at polygon.now.parts)
         (size_of_rings polygon.now.dimension polygon.now.parts)) }
 {
     for i in 0..count_rings(polygon) {
-        match polygon_ring(polygon, i) {
-            Some(ring) => add_ring(table, &ring, order)?,
-            None => unreachable!(),
-        }
+        add_ring(table, &polygon_ring(polygon, i))?;
     }
     Ok(())
-}
-
-/// The order byte of a geometry, which is its first.
-fn first_byte(buf: &[u8]) -> u8
-    requires { 0 < length buf.now }
-    ensures { result ≡ slice_index buf.now 0 }
-{
-    buf[0]
 }
 
 fn add_polygon(table: &mut Table, polygon: &Polygon<'_>) -> Result<(), AllocError>
     requires fits { FitsTable table.old (whole_of polygon_of polygon.now) }
     ensures { IfOk result (λ done. ListsItem table.old table.new (whole_of polygon_of polygon.now)) }
 {
-    let head = PartHead {
-        kind: 3,
-        dimension: polygon.dimension(),
-        srid: polygon.srid(),
-        order: first_byte(polygon.buf()),
-        leading: bytes_of_header(polygon.srid()) + 4,
-    };
     let index = table.parts.len();
-    add(table, head, count_rings(polygon) as u64, 0)?;
-    add_rings(table, polygon, head.order)?;
+    let count = count_rings(polygon) as u64;
+    add(table, head_of(polygon.buf()), count, 0)?;
+    add_rings(table, polygon)?;
     close(table, index);
     Ok(())
 }
@@ -258,10 +256,7 @@ fn add_points(table: &mut Table, multi: &MultiPoint<'_>) -> Result<(), AllocErro
         (λ done. ListsMembersOf table.old table.new (multi_point_seen multi.now)) }
 {
     for i in 0..multi.num_points() {
-        match multi.point(i) {
-            Some(point) => add_point(table, &point)?,
-            None => unreachable!(),
-        }
+        add_point(table, &multi.point(i).unwrap())?;
     }
     Ok(())
 }
@@ -273,10 +268,7 @@ fn add_line_strings(table: &mut Table, multi: &MultiLineString<'_>) -> Result<()
         (λ done. ListsMembersOf table.old table.new (whole_of line_strings_of multi.now)) }
 {
     for i in 0..multi.num_line_strings() {
-        match multi.line_string(i) {
-            Some(line) => add_line_string(table, &line)?,
-            None => unreachable!(),
-        }
+        add_line_string(table, &multi.line_string(i).unwrap())?;
     }
     Ok(())
 }
@@ -288,10 +280,7 @@ fn add_polygons(table: &mut Table, multi: &MultiPolygon<'_>) -> Result<(), Alloc
         (λ done. ListsMembersOf table.old table.new (whole_of polygons_of multi.now)) }
 {
     for i in 0..multi.num_polygons() {
-        match multi.polygon(i) {
-            Some(polygon) => add_polygon(table, &polygon)?,
-            None => unreachable!(),
-        }
+        add_polygon(table, multi.polygon(i).unwrap())?;
     }
     Ok(())
 }
@@ -309,21 +298,6 @@ fn add_each_member(table: &mut Table, members: &[Wkb<'_>]) -> Result<(), AllocEr
     Ok(())
 }
 
-/// What stands before the members of a geometry that has some.
-fn head_of(wkb: &Wkb<'_>) -> PartHead
-    requires { HasMembers wkb.now.value }
-    ensures { IsHead wkb.now.spelled wkb.now.value result }
-{
-    let srid = wkb.srid();
-    PartHead {
-        kind: kind_number(wkb.geometry_type()),
-        dimension: wkb.dimension(),
-        srid,
-        order: first_byte(wkb.buf()),
-        leading: bytes_of_header(srid) + 4,
-    }
-}
-
 /// Adds a geometry that has members, of which there are so many, but not these.
 fn add_whole(table: &mut Table, wkb: &Wkb<'_>, count: usize) -> Result<(), AllocError>
     requires fits { FitsTable table.old wkb.now }
@@ -331,7 +305,7 @@ fn add_whole(table: &mut Table, wkb: &Wkb<'_>, count: usize) -> Result<(), Alloc
     ensures { IfOk result
         (λ done. OpensPart table.old table.new wkb.now.spelled wkb.now.value count) }
 {
-    add(table, head_of(wkb), count as u64, 0)
+    add(table, head_of(wkb.buf()), count as u64, 0)
 }
 
 /// Adds a geometry of any kind.
@@ -369,9 +343,7 @@ fn add_geometry(table: &mut Table, wkb: &Wkb<'_>) -> Result<(), AllocError>
             close(table, index);
             Ok(())
         }
-        GeometryType::Line(_) => unreachable!(),
-        GeometryType::Rect(_) => unreachable!(),
-        GeometryType::Triangle(_) => unreachable!(),
+        GeometryType::Line(_) | GeometryType::Rect(_) | GeometryType::Triangle(_) => unreachable!(),
     }
 }
 

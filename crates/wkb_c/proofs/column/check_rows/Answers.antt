@@ -8,7 +8,7 @@ loop-i-preserved c =
     let now = c.loop-i.statuses in
     let s = c.status_of_row.result in (
       length-set now c.loop-i.i s ∙ c.loop-i.invariant.0,
-      rows_more c.args.bytes.now c.args.offsets.now c.args.validity.now now c.loop-i.i s
+      rows_more c.args.column.now now c.loop-i.i s
           (omega (arith, c.loop-i-test.true, c.loop-i.invariant.0))
           c.loop-i.invariant.1 c.status_of_row.ensures.status,
     )

@@ -4,4 +4,4 @@ use Rattle.wkb_c.proofs.column.check_rows.Given as goal
 
 abbrev pub invariant-loop-i : goal.invariant-loop-i
 invariant-loop-i l =
-    (length l.statuses ≡ length l.initial.statuses) × AreStatuses l.bytes l.offsets l.validity l.i l.statuses
+    (length l.statuses ≡ length l.initial.statuses) × AreStatuses l.column l.i l.statuses

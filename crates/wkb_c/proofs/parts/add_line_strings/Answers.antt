@@ -1,37 +1,35 @@
-use Rattle.wkb_c.proofs.Common.{sym, arith, length-map, dimensions, line_string, line_string_of, line_string_seen}
+use Rattle.wkb_c.proofs.Common.{◌≡◌, ◌∙◌, ap, sym, arith, length-map, dimensions, option_map, line_string}
 use Rattle.wkb_c.proofs.Common.{fitted_line_string}
-use Rattle.wkb_c.proofs.Growth.{added_fits, added_more, added_all, part_value, below_is_some, each_count}
+use Rattle.wkb_view.specs.Views.{line_string_spelling, line_string_coordinates}
+use Rattle.wkb_view.specs.declared.line_string.LineString.{LineString}
+use Rattle.wkb_c.proofs.Growth.{added_fits, added_more, added_all, part_value, there_is, each_count}
 use Rattle.wkb_c.proofs.parts.add_line_strings.Goals as goal
 
 pub add_line_string-requires : goal.add_line_string-requires
 add_line_string-requires c =
-    let o = c.in-Some.ensures in
+    let o = c.line_string.ensures in
+    let is = c.unwrap.ensures in
+    let line = c.unwrap.result in
+    let m = c.args.multi.now in
     record {
-      fits = added_fits _ _ _ _ _ _ _ c.loop-i.invariant (sym o.spelled)
-          (part_value line_string c.args.multi.now.parts c.args.multi.now.dimension c.in-Some.line.layout.dimension
-          c.loop-i.i
-          (line_string_of (line_string_seen c.in-Some.line).value) o.part o.dimensions) c.requires.fits;
+      fits = added_fits _ _ _ _ _ _ _ c.loop-i.invariant (sym o.spelled ∙ ap (option_map line_string_spelling) is)
+          (part_value line_string m.parts m.dimension line.layout.dimension c.loop-i.i
+          (line_string_coordinates line) (sym (ap (option_map line_string_coordinates) is) ∙ o.part)
+          (there_is (λ (l : LineString). dimensions l.layout.dimension ≡ dimensions m.dimension) _ _ is o.dimensions))
+          c.requires.fits;
     }
-
-pub unreachable-requires : goal.unreachable-requires
-unreachable-requires c =
-    below_is_some _ c.loop-i.i
-    (omega (
-      arith,
-      c.loop-i-test.true,
-      c.num_line_strings-i-end.ensures,
-      length-map c.args.multi.now.parts
-          (fitted_line_string (dimensions c.args.multi.now.dimension)),
-    ))
-    c.in-None.ensures.part
 
 pub loop-i-preserved : goal.loop-i-preserved
 loop-i-preserved c =
-    let o = c.in-Some.ensures in
-    added_more _ _ _ _ _ _ _ _ c.loop-i.invariant (sym o.spelled)
-    (part_value line_string c.args.multi.now.parts c.args.multi.now.dimension c.in-Some.line.layout.dimension c.loop-i.i
-    (line_string_of (line_string_seen c.in-Some.line).value) o.part o.dimensions)
-    c.in_ok-add_line_string-in-Some.ensures
+    let o = c.line_string.ensures in
+    let is = c.unwrap.ensures in
+    let line = c.unwrap.result in
+    let m = c.args.multi.now in
+    added_more _ _ _ _ _ _ _ _ c.loop-i.invariant (sym o.spelled ∙ ap (option_map line_string_spelling) is)
+    (part_value line_string m.parts m.dimension line.layout.dimension c.loop-i.i
+    (line_string_coordinates line) (sym (ap (option_map line_string_coordinates) is) ∙ o.part)
+    (there_is (λ (l : LineString). dimensions l.layout.dimension ≡ dimensions m.dimension) _ _ is o.dimensions))
+    c.in_ok-add_line_string.ensures
 
 pub returns : goal.returns
 returns c =

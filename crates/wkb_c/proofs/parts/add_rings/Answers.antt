@@ -1,5 +1,5 @@
-use Rattle.wkb_c.proofs.Common.{arith}
-use Rattle.wkb_c.proofs.Growth.{rings_are_few, rings_fit, rings_more, below_is_some}
+use Rattle.wkb_c.proofs.Common.{arith, ap, order_byte}
+use Rattle.wkb_c.proofs.Growth.{rings_are_few, rings_fit, rings_more}
 use Rattle.wkb_c.proofs.parts.add_rings.Goals as goal
 
 pub count_rings-i-end-requires : goal.count_rings-i-end-requires
@@ -8,14 +8,11 @@ count_rings-i-end-requires c =
 
 pub add_ring-requires : goal.add_ring-requires
 add_ring-requires c =
-    let o = c.in-Some.ensures in
+    let o = c.polygon_ring.ensures in
     record { fits = rings_fit _ _ _ _ _ _ _ _ o.dimension c.loop-i.invariant o.part c.requires.fits }
-
-pub unreachable-requires : goal.unreachable-requires
-unreachable-requires c =
-    below_is_some _ c.loop-i.i (omega (arith, c.loop-i-test.true, c.count_rings-i-end.ensures)) c.in-None.ensures.part
 
 pub loop-i-preserved : goal.loop-i-preserved
 loop-i-preserved c =
-    let o = c.in-Some.ensures in
-    rings_more _ _ _ _ _ _ _ _ _ o.dimension c.loop-i.invariant o.part c.in_ok-add_ring-in-Some.ensures
+    let o = c.polygon_ring.ensures in
+    rings_more _ _ _ _ _ _ _ _ _ _ o.dimension (ap order_byte o.order) c.loop-i.invariant o.part
+    c.in_ok-add_ring.ensures

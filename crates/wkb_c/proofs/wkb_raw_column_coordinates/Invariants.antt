@@ -1,0 +1,15 @@
+use Rattle.wkb_c.proofs.Common.{◌≡◌, length}
+use Rattle.wkb_c.specs.Coordinates.{AreColumnCoordinates, levels}
+use Rattle.wkb_c.specs.RowItems.{KeepsFrom}
+use Rattle.wkb_c.proofs.wkb_raw_column_coordinates.Given as goal
+
+abbrev pub invariant-loop-i : goal.invariant-loop-i
+invariant-loop-i l = record {
+  as_many : length l.statuses ≡ length l.initial.statuses;
+  as_many_ends : length l.row_ends ≡ length l.initial.row_ends;
+  statuses_kept : KeepsFrom l.i-end l.initial.statuses l.statuses;
+  ends_kept : KeepsFrom l.i-end l.initial.row_ends l.row_ends;
+  done : AreColumnCoordinates l.column l.dimension l.statuses l.row_ends
+      (levels l.initial.words l.initial.ring_ends l.initial.single_ends) l.i l.at
+      (levels l.words l.ring_ends l.single_ends);
+}
