@@ -1,4 +1,4 @@
-/* Checks a geometry, walks its coordinates where they stand, and writes it anew. */
+/* Checks a geometry, finds its bounds, reads its coordinates in place, and writes it in another form. */
 #include "wkb.h"
 #include <stdio.h>
 
@@ -9,21 +9,26 @@ int main(void) {
   wkb_found found;
   wkb_fault fault;
   wkb_status status = wkb_check(line, sizeof line, &found, &fault);
-  if (status != WKB_OK) return 1;
-  printf("kind %d, %d coordinates in %d bytes, SRID %u\n", found.kind, (int)found.coordinates, (int)found.size,
+  if (status != WKB_STATUS_OK) return 1;
+  printf("kind %u, %d coordinates in %d bytes, SRID %u\n", found.kind, (int)found.coordinates, (int)found.size,
          found.srid);
 
+  wkb_box box;
+  status = wkb_bounds(line, sizeof line, &box, &fault);
+  if (status != WKB_STATUS_OK) return 1;
+  printf("x from %g to %g, y from %g to %g\n", box.x.least, box.x.greatest, box.y.least, box.y.greatest);
+
   wkb_part parts[1];
-  status = wkb_parts(line, sizeof line, parts, 1, NULL, NULL);
-  if (status != WKB_OK) return 1;
+  status = wkb_parts(line, sizeof line, parts, 1, NULL, &fault);
+  if (status != WKB_STATUS_OK) return 1;
   for (uint64_t i = 0; i < parts[0].count; i++)
     printf("(%g, %g)\n", wkb_word(line, &parts[0], i, 0), wkb_word(line, &parts[0], i, 1));
 
   uint8_t out[sizeof line + 4];
-  wkb_options options = {WKB_LITTLE_ENDIAN, WKB_ISO, 0};
+  wkb_options options = {WKB_ORDER_LITTLE, WKB_FORM_ISO, 0};
   uint64_t size;
-  status = wkb_write(line, sizeof line, &options, out, sizeof out, &size, NULL);
-  if (status != WKB_OK) return 1;
+  status = wkb_write(line, sizeof line, &options, out, sizeof out, &size, &fault);
+  if (status != WKB_STATUS_OK) return 1;
   for (uint64_t i = 0; i < size; i++) printf("%02x", out[i]);
   printf("\n");
 

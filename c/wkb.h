@@ -1,20 +1,24 @@
-/* Well-Known Binary for C and C++: a reader and writer that is proved to do what stands here.
+/* Well-Known Binary for C and C++: a reader and a writer that are proved to do what this header says. Only tested are
+ * what it marks so, wkb_words and wkb_word, the texts, and what it says of null.
  *
- * BUF may hold any bytes. A call reads the bytes that it is lent and no others, writes only through its other
- * pointers, keeps nothing, and returns. What is written may not overlap what is read or written else.
+ * BUF may hold any bytes. A call reads the bytes that it is given and no others, writes only through its other
+ * pointers, keeps nothing, and returns. Output buffers must not overlap each other or any input.
  *
- * A pointer may be null where its length or room is 0, and so may a pointer to a result that the caller doesn't want.
- * What a call doesn't write stays as it was.
+ * A pointer may be null where its length, room or number of rows is 0. FOUND, FAULT, BOX, SIZE, COUNT, EQUAL and WHICH
+ * may be null where the caller doesn't want that result. No other pointer may be null. What a call doesn't write is
+ * unchanged.
  *
- * Calls may run side by side: there is no static data. No call may be made from a signal handler, or in the forked
- * child of a process with threads. wkb_check and wkb_column_check take no memory. The other calls check first, so that
- * a refused input takes none either, whatever its counts claim. Then they ask malloc, and give back before they return:
- * at most 32 bytes for each byte of BUF, and the bytes of the table or the encoding. Numbers in BUF may stand in either
- * byte order and at any address, those of the structs are the machine's. */
+ * Calls may run at the same time: there is no static data. Don't call from a signal handler, or in the forked child of
+ * a process with threads. wkb_check, wkb_bounds and their column calls never allocate. The other calls check first: for
+ * a refused input they allocate nothing, whatever its counts claim, and never return WKB_STATUS_NO_MEMORY. What they
+ * allocate with malloc they free before they return: at most 32 bytes for each byte of BUF (only tested), and the bytes
+ * of the encoding or of the table, which the coordinates of a row need as well. Numbers in BUF may have either byte
+ * order and any alignment; numbers in the structs have the machine's.
+ *
+ * Structs, numbers and names don't change within version 1. Later versions add calls and statuses. */
 #ifndef WKB_H
 #define WKB_H
 
-#include <stdbool.h>
 #include <stddef.h>
 #include <stdint.h>
 #include <string.h>
@@ -23,86 +27,90 @@
 extern "C" {
 #endif
 
-#define WKB_VERSION 1
+/* The version that a program is compiled against; wkb_version() tells the one that it runs with. */
+#define WKB_VERSION_MAJOR 1
+#define WKB_VERSION_MINOR 0
+#define WKB_VERSION (WKB_VERSION_MAJOR * 1000 + WKB_VERSION_MINOR)
 
-/* What a call answers. From WKB_IO_ERROR to WKB_SHORT_LINEAR_RING: why the input is refused, the first fault from its
- * front on. The last two are of rows of columns alone. */
+/* What a call returns. From WKB_STATUS_IO_ERROR to WKB_STATUS_SHORT_LINEAR_RING: why the input is refused, the first
+ * fault from its front on. The last two are for rows of columns only. */
 typedef enum wkb_status {
-  WKB_OK = 0,
-  WKB_NO_MEMORY = 1,                /* malloc answered null */
-  WKB_NO_ROOM = 2,                  /* ROOM is less than *SIZE or *COUNT tells */
-  WKB_UNKNOWN_OPTION = 3,           /* the options name no order or no form */
-  WKB_SIZE_OVERFLOW = 4,            /* the encoding would be longer than SIZE_MAX: no call answers it, since none is */
-  WKB_IO_ERROR = 5,                 /* the input ends inside a header or before a count */
-  WKB_INVALID_BYTE_ORDER = 6,       /* an order byte is neither 0 nor 1 */
-  WKB_CODE_OUT_OF_RANGE = 7,        /* a code is not in the table: code */
-  WKB_INCORRECT_TYPE = 8,           /* a member of another kind or dimension than its multi geometry takes, or a
-                                       point of a multi point with an SRID */
-  WKB_NESTING_DEPTH_EXCEEDED = 9,   /* a collection inside 128 others */
-  WKB_SHORT_POINT = 10,             /* coordinates go on past the input: end, len */
-  WKB_SHORT_LINE_STRING = 11,
-  WKB_SHORT_MULTI_POINT = 12,
-  WKB_SHORT_LINEAR_RING = 13,
-  WKB_NULL_ROW = 14,                /* the row's validity bit is 0 */
-  WKB_BAD_OFFSETS = 15              /* the row's offsets fall, or pass the end of the data */
+  WKB_STATUS_OK = 0,
+  WKB_STATUS_NO_MEMORY = 1,               /* malloc returned null */
+  WKB_STATUS_NO_ROOM = 2,                 /* a room is too small; *SIZE, *COUNT or the ends tell what is needed */
+  WKB_STATUS_UNKNOWN_OPTION = 3,          /* the options name no order, form or dimension */
+  WKB_STATUS_IO_ERROR = 4,                /* the input ends inside a header or before a count */
+  WKB_STATUS_INVALID_BYTE_ORDER = 5,      /* an order byte is neither 0 nor 1 */
+  WKB_STATUS_CODE_OUT_OF_RANGE = 6,       /* unknown geometry type code: code */
+  WKB_STATUS_INCORRECT_TYPE = 7,          /* a member has another kind or dimension than its multi geometry takes, or a
+                                             point of a multi point has an SRID */
+  WKB_STATUS_NESTING_DEPTH_EXCEEDED = 8,  /* a collection inside 128 others */
+  WKB_STATUS_SHORT_POINT = 9,             /* the input ends before its coordinates do: end, len */
+  WKB_STATUS_SHORT_LINE_STRING = 10,
+  WKB_STATUS_SHORT_MULTI_POINT = 11,
+  WKB_STATUS_SHORT_LINEAR_RING = 12,
+  WKB_STATUS_NULL_ROW = 13,               /* the row's validity bit is 0 */
+  WKB_STATUS_BAD_OFFSETS = 14             /* the row's offsets decrease, or pass the end of the data */
 } wkb_status;
 
-/* The kinds, by their numbers in the codes; a ring is a part of a polygon. */
+/* The kinds, by their numbers in the codes. A ring is a part of a polygon. */
 typedef enum wkb_kind {
-  WKB_RING = 0,
-  WKB_POINT = 1,
-  WKB_LINE_STRING = 2,
-  WKB_POLYGON = 3,
-  WKB_MULTI_POINT = 4,
-  WKB_MULTI_LINE_STRING = 5,
-  WKB_MULTI_POLYGON = 6,
-  WKB_GEOMETRY_COLLECTION = 7
+  WKB_KIND_RING = 0,
+  WKB_KIND_POINT = 1,
+  WKB_KIND_LINE_STRING = 2,
+  WKB_KIND_POLYGON = 3,
+  WKB_KIND_MULTI_POINT = 4,
+  WKB_KIND_MULTI_LINE_STRING = 5,
+  WKB_KIND_MULTI_POLYGON = 6,
+  WKB_KIND_GEOMETRY_COLLECTION = 7
 } wkb_kind;
 
 /* The dimensions, by the thousands of ISO codes. */
-typedef enum wkb_dimension { WKB_XY = 0, WKB_XYZ = 1, WKB_XYM = 2, WKB_XYZM = 3 } wkb_dimension;
+typedef enum wkb_dim { WKB_DIM_XY = 0, WKB_DIM_XYZ = 1, WKB_DIM_XYM = 2, WKB_DIM_XYZM = 3 } wkb_dim;
 
 /* The byte orders, by the byte that tells them. */
-typedef enum wkb_order { WKB_BIG_ENDIAN = 0, WKB_LITTLE_ENDIAN = 1 } wkb_order;
+typedef enum wkb_order { WKB_ORDER_BIG = 0, WKB_ORDER_LITTLE = 1 } wkb_order;
 
-/* What is written beside the geometry itself. No SRID but the outermost geometry's is ever written. */
+/* What is written besides the geometry itself. Only the outermost geometry's SRID is ever written. */
 typedef enum wkb_form {
-  WKB_ISO = 0,                 /* ISO codes, no SRID */
-  WKB_EWKB_OWN_SRID = 1,       /* EWKB, with the SRID of the input's geometry if it has one */
-  WKB_EWKB_WITH_SRID = 2,      /* EWKB, with the SRID of the options */
-  WKB_EWKB_WITHOUT_SRID = 3    /* EWKB, without an SRID */
+  WKB_FORM_ISO = 0,               /* ISO codes, no SRID */
+  WKB_FORM_EWKB_OWN_SRID = 1,     /* EWKB, with the SRID of the input's geometry if it has one */
+  WKB_FORM_EWKB_WITH_SRID = 2,    /* EWKB, with the SRID of the options */
+  WKB_FORM_EWKB_WITHOUT_SRID = 3  /* EWKB, without an SRID */
 } wkb_form;
 
 /* The geometry at the front of the input. */
 typedef struct wkb_found {
-  uint64_t size;         /* its bytes; what stands after them was not looked at */
+  uint64_t size;         /* its bytes; the bytes after them were not looked at */
   uint64_t parts;        /* itself, and its rings and members at every level */
   uint64_t coordinates;  /* how many these have; a point has one, an empty one of not-a-numbers */
   uint32_t srid;         /* its own SRID, or 0 */
-  bool     has_srid;
-  uint8_t  kind;         /* a wkb_kind */
-  uint8_t  dimension;    /* a wkb_dimension */
-  uint8_t  width;        /* the words (doubles) of a coordinate: 2, 3 or 4 */
+  uint32_t has_srid;     /* 1 if it has an SRID, else 0 */
+  uint32_t kind;         /* a wkb_kind */
+  uint32_t dimension;    /* a wkb_dim */
+  uint32_t width;        /* the words (doubles) of a coordinate: 2, 3 or 4 */
+  uint32_t order;        /* a wkb_order */
 } wkb_found;
 
 /* The part that is refused. */
 typedef struct wkb_fault {
-  uint64_t part;    /* how many parts stand before it, in preorder: 0 is the whole geometry */
+  uint64_t part;    /* how many parts come before it, in preorder: 0 is the whole geometry */
   uint64_t offset;  /* where it begins, counted from the front of the input, whatever the status */
-  uint64_t end;     /* of WKB_SHORT_..: where it would end, counted from its own first byte; else 0 */
-  uint64_t len;     /* of WKB_SHORT_..: where the input ends, counted likewise; else 0 */
-  uint32_t code;    /* of WKB_CODE_OUT_OF_RANGE: all bits of the code; else 0 */
+  uint64_t end;     /* of WKB_STATUS_SHORT_..: where it would end, counted from its own first byte; else 0 */
+  uint64_t len;     /* of WKB_STATUS_SHORT_..: where the input ends, counted likewise; else 0 */
+  uint32_t code;    /* of WKB_STATUS_CODE_OUT_OF_RANGE: all bits of the code; else 0 */
+  uint32_t status;  /* the wkb_status that the call returns */
 } wkb_fault;
 
 typedef struct wkb_options {
   uint32_t order;  /* a wkb_order */
   uint32_t form;   /* a wkb_form */
-  uint32_t srid;   /* of WKB_EWKB_WITH_SRID */
+  uint32_t srid;   /* of WKB_FORM_EWKB_WITH_SRID */
 } wkb_options;
 
 /* A geometry, or a ring of a polygon. Its rings or members follow it in the table, each before its own. Offsets are
- * counted from the front of BUF: the bytes from BEGIN up to END are the part's own, and of a geometry they are a valid
- * input by themselves. There is no padding. */
+ * counted from the front of BUF. The bytes from BEGIN up to END are the part's own; those of a geometry are a
+ * well-formed input by themselves. */
 typedef struct wkb_part {
   uint64_t begin;      /* its first byte */
   uint64_t end;        /* one past its last byte */
@@ -110,159 +118,145 @@ typedef struct wkb_part {
   uint64_t count;      /* how many it has; a point has one coordinate, an empty one of not-a-numbers */
   uint64_t next;       /* the index of the entry after those of its own rings and members */
   uint32_t srid;       /* its own SRID, or 0 */
-  uint32_t has_srid;   /* 1 where it has an SRID, else 0 */
-  uint16_t kind;       /* a wkb_kind */
-  uint16_t dimension;  /* a wkb_dimension */
-  uint16_t width;      /* the words (doubles) of a coordinate: 2, 3 or 4 */
-  uint16_t order;      /* a wkb_order */
+  uint32_t has_srid;   /* 1 if it has an SRID, else 0 */
+  uint32_t kind;       /* a wkb_kind */
+  uint32_t dimension;  /* a wkb_dim */
+  uint32_t width;      /* the words (doubles) of a coordinate: 2, 3 or 4 */
+  uint32_t order;      /* a wkb_order */
 } wkb_part;
 
-/* What the library exports. None of these pointers may be null: call the functions below, which see to that. */
-wkb_status wkb_raw_check(const uint8_t *buf, size_t len, wkb_found *found, wkb_fault *fault);
-wkb_status wkb_raw_write(const uint8_t *buf, size_t len, const wkb_options *options, uint8_t *out, size_t room,
-                         uint64_t *size, wkb_fault *fault);
-wkb_status wkb_raw_same(const uint8_t *a, size_t a_len, const uint8_t *b, size_t b_len, bool *equal,
-                        wkb_fault *fault, uint32_t *which);
-wkb_status wkb_raw_parts(const uint8_t *buf, size_t len, wkb_part *parts, size_t room, uint64_t *count,
-                         wkb_fault *fault);
+/* The range of an ordinate over all coordinates that have one. Not-a-numbers are left out. -0 is below +0. */
+typedef struct wkb_range {
+  double   least;     /* +infinity where COUNT is 0 */
+  double   greatest;  /* -infinity where COUNT is 0 */
+  uint64_t count;     /* how many numbers there are */
+} wkb_range;
 
-void wkb_raw_column_check(const uint8_t *data, size_t size, const uint64_t *offsets, size_t offset_count,
-                          const uint8_t *validity, size_t validity_size, uint8_t *statuses, size_t rows);
-void wkb_raw_column_parts(const uint8_t *data, size_t size, const uint64_t *offsets, size_t offset_count,
-                          const uint8_t *validity, size_t validity_size, wkb_part *parts, size_t room, uint64_t *ends,
-                          size_t end_count, uint8_t *statuses, size_t rows);
-void wkb_raw_column_write(const uint8_t *data, size_t size, const uint64_t *offsets, size_t offset_count,
-                          const uint8_t *validity, size_t validity_size, const wkb_options *options, uint8_t *out,
-                          size_t room, uint64_t *ends, size_t end_count, uint8_t *statuses, size_t rows);
+/* The bounds of a geometry: z of coordinates that have a z, m of those that have an m. */
+typedef struct wkb_box {
+  wkb_range x, y, z, m;
+} wkb_box;
 
-/* The bytes that are lent, or one byte in place of none. */
-static inline const uint8_t *wkb_lent(const void *buf, size_t len) {
-  static const uint8_t none = 0;
-  return len == 0 ? &none : (const uint8_t *)buf;
+/* A column as Arrow has it (binary, large binary, or a slice of one). Row i has the bytes of DATA from offset i up to
+ * offset i + 1. */
+typedef struct wkb_column {
+  const void *data;        /* the bytes of the rows */
+  size_t size;             /* how many there are */
+  const void *offsets;     /* rows + 1 of them, int32_t or int64_t; may be null where ROWS is 0 */
+  size_t offset_size;      /* 4 or 8: the bytes of an offset */
+  const void *validity;    /* a bit a row, from the lowest of a byte on, 0 for a null row; null where no row is null */
+  size_t validity_offset;  /* the bit of the first row */
+  size_t rows;
+} wkb_column;
+
+/* The version of the library: its WKB_VERSION. */
+unsigned wkb_version(void);
+
+/* What a status tells, in one line: a static string, for any number. */
+const char *wkb_status_text(unsigned status);
+
+/* Whether a geometry of the grammar is at the front of the input, with at most 128 collections inside one another.
+ * WKB_STATUS_OK writes FOUND, a refusal writes FAULT. It never allocates, and never returns WKB_STATUS_NO_MEMORY. */
+wkb_status wkb_check(const void *buf, size_t len, wkb_found *found, wkb_fault *fault);
+
+/* The bounds of the input's geometry. WKB_STATUS_OK writes BOX, a refusal writes FAULT, as wkb_check would. It never
+ * allocates, and never returns WKB_STATUS_NO_MEMORY. */
+wkb_status wkb_bounds(const void *buf, size_t len, wkb_box *box, wkb_fault *fault);
+
+/* The one encoding of the input's geometry under the options. WKB_STATUS_OK: it is at the front of OUT, and *SIZE is
+ * its length. WKB_STATUS_NO_ROOM: *SIZE is its length, which is more than ROOM, and nothing was composed; it is never
+ * more than LEN + 4. WKB_STATUS_UNKNOWN_OPTION wherever the options have no meaning, whatever the input. A refusal
+ * writes FAULT. Any other status leaves *SIZE and FAULT unchanged, and any but WKB_STATUS_OK leaves OUT unchanged. */
+wkb_status wkb_write(const void *buf, size_t len, const wkb_options *options, void *out, size_t room, uint64_t *size,
+                     wkb_fault *fault);
+
+/* Whether both inputs begin with geometries of one value: kinds, dimensions, and coordinates by their bits, except for
+ * empty points, whose words may be any not-a-numbers; SRIDs and byte orders aside. WKB_STATUS_OK writes *EQUAL, 1 or 0.
+ * A refusal is that of A, or else that of B: it writes FAULT, and *WHICH, 1 for A and 2 for B. */
+wkb_status wkb_same(const void *a, size_t a_len, const void *b, size_t b_len, uint32_t *equal, wkb_fault *fault,
+                    uint32_t *which);
+
+/* The table of the parts of the input's geometry in preorder. WKB_STATUS_OK: it is at the front of PARTS, and *COUNT is
+ * its length, which is wkb_found.parts. WKB_STATUS_NO_ROOM: *COUNT is its length, which is more than ROOM. A refusal
+ * writes FAULT. Any other status leaves *COUNT and FAULT unchanged, and any but WKB_STATUS_OK leaves PARTS
+ * unchanged. */
+wkb_status wkb_parts(const void *buf, size_t len, wkb_part *parts, size_t room, uint64_t *count, wkb_fault *fault);
+
+/* What wkb_check returns for each row, a byte a row in STATUSES. A null row is WKB_STATUS_NULL_ROW. A row whose offsets
+ * decrease or pass the end of the data is WKB_STATUS_BAD_OFFSETS, and so is each row that is not null where OFFSET_SIZE
+ * is neither 4 nor 8: none of these is read. No row stops the others. */
+void wkb_column_check(const wkb_column *column, uint8_t *statuses);
+
+/* What wkb_bounds returns for each row, and its bounds: BOXES has one a row. The box of a row without bounds is that of
+ * a geometry without coordinates. */
+void wkb_column_bounds(const wkb_column *column, wkb_box *boxes, uint8_t *statuses);
+
+/* What wkb_parts returns for each row, the tables one after another in PARTS: that of row i ends at ends[i], and begins
+ * at ends[i - 1], or at 0 where i is 0. Offsets in it are counted from the row's own front. STATUSES has a byte a row,
+ * ENDS a number a row. A row without a table ends where it begins. WKB_STATUS_NO_ROOM: the table would end at ends[i],
+ * which is more than ROOM. Returns the last end, 0 without rows: with so much room each row has its table. PARTS is
+ * unchanged after the last table that was written. */
+uint64_t wkb_column_parts(const wkb_column *column, wkb_part *parts, size_t room, uint64_t *ends, uint8_t *statuses);
+
+/* What wkb_write returns for each row under the options, the encodings one after another in OUT, with ends, statuses
+ * and the result as wkb_column_parts has them. Where the options have no meaning, each row that is not null and whose
+ * offsets are good is WKB_STATUS_UNKNOWN_OPTION. */
+uint64_t wkb_column_write(const wkb_column *column, const wkb_options *options, void *out, size_t room, uint64_t *ends,
+                          uint8_t *statuses);
+
+/* The coordinates of a column, in levels as GeoArrow has them: a row has singles, a single has rings, a ring has
+ * coordinates, a coordinate has as many words as the dimension that is asked for. A single is a point, a line string or
+ * a polygon, by itself or inside a multi geometry or a collection. A point or a line string is one ring. Each end
+ * counts from the front of the column, and level i begins where level i - 1 ends. */
+typedef struct wkb_coordinates {
+  double   *words;        /* one coordinate after another, in the machine's byte order */
+  size_t    words_room;
+  uint64_t *ring_ends;    /* for each ring, its end in coordinates */
+  size_t    ring_room;
+  uint64_t *single_ends;  /* for each single, its end in rings */
+  size_t    single_room;
+  uint64_t *row_ends;     /* for each row, its end in singles */
+  uint64_t  coordinates;  /* results: how many coordinates, rings and singles all rows have */
+  uint64_t  rings;
+  uint64_t  singles;
+} wkb_coordinates;
+
+/* The coordinates of all rows. DIMENSION is a wkb_dim: words that it doesn't name are left out, and a word that a
+ * geometry doesn't have is a not-a-number (7ff8000000000000). The words of an empty point are written as they are. A
+ * row that wkb_check refuses has no singles, and its status says why. WKB_STATUS_NO_ROOM: one of the three rooms is too
+ * small for the row, which would end at row_ends[i]; nothing of it is written. WKB_STATUS_UNKNOWN_OPTION as in
+ * wkb_column_write, where DIMENSION is none. COORDINATES, RINGS and SINGLES tell what all rows need: with so much room
+ * (in words: COORDINATES times the width of DIMENSION) each row has its coordinates. No row stops the others. */
+void wkb_column_coordinates(const wkb_column *column, wkb_dim dimension, wkb_coordinates *out, uint8_t *statuses);
+
+/* Copies the words of COUNT coordinates of a ring, a point or a line string from coordinate FIRST on, in the machine's
+ * byte order. FIRST + COUNT is at most the part's count, and OUT has room for COUNT * width words. */
+void wkb_words(const void *buf, const wkb_part *part, uint64_t first, uint64_t count, double *out);
+
+/* The little endian and the big endian number in eight bytes; compilers make one load of each. */
+static inline uint64_t wkb_little_word(const uint8_t *b) {
+  uint64_t b0 = b[0], b1 = b[1], b2 = b[2], b3 = b[3], b4 = b[4], b5 = b[5], b6 = b[6], b7 = b[7];
+  return b0 | b1 << 8 | b2 << 16 | b3 << 24 | b4 << 32 | b5 << 40 | b6 << 48 | b7 << 56;
 }
 
-/* Whether a geometry of the grammar stands at the front of the input, with at most 128 collections inside one
- * another. WKB_OK writes FOUND, a refusal writes FAULT. It takes no memory, so it never answers WKB_NO_MEMORY. */
-static inline wkb_status wkb_check(const void *buf, size_t len, wkb_found *found, wkb_fault *fault) {
-  wkb_found found_here;
-  wkb_fault fault_here;
-  return wkb_raw_check(wkb_lent(buf, len), len, found ? found : &found_here, fault ? fault : &fault_here);
-}
-
-/* The one encoding of the input's geometry under the options. WKB_OK: it stands at the front of OUT, and *SIZE is its
- * length. WKB_NO_ROOM: *SIZE is its length, which is more than ROOM, and nothing was composed; it is never more than
- * LEN + 4. WKB_UNKNOWN_OPTION wherever the options have no meaning, whatever the input. A refusal writes FAULT. Any
- * other status leaves *SIZE and FAULT as they were, and any but WKB_OK leaves OUT as it was. */
-static inline wkb_status wkb_write(const void *buf, size_t len, const wkb_options *options, void *out, size_t room,
-                                   uint64_t *size, wkb_fault *fault) {
-  uint8_t out_here = 0;
-  uint64_t size_here = 0;
-  wkb_fault fault_here;
-  return wkb_raw_write(wkb_lent(buf, len), len, options, room == 0 ? &out_here : (uint8_t *)out, room,
-                       size ? size : &size_here, fault ? fault : &fault_here);
-}
-
-/* Whether both inputs begin with geometries of one value: kinds, dimensions, and coordinates by their bits, but for
- * empty points, whose words may be any not-a-numbers; SRIDs and byte orders aside. WKB_OK writes *EQUAL. A refusal is
- * that of A, or else that of B: it writes FAULT, and *WHICH, 1 for A and 2 for B. */
-static inline wkb_status wkb_same(const void *a, size_t a_len, const void *b, size_t b_len, bool *equal,
-                                  wkb_fault *fault, uint32_t *which) {
-  bool equal_here = false;
-  wkb_fault fault_here;
-  uint32_t which_here = 0;
-  return wkb_raw_same(wkb_lent(a, a_len), a_len, wkb_lent(b, b_len), b_len, equal ? equal : &equal_here,
-                      fault ? fault : &fault_here, which ? which : &which_here);
-}
-
-/* The table of the parts of the input's geometry in preorder. WKB_OK: it stands at the front of PARTS, and *COUNT is
- * its length, which is wkb_found.parts. WKB_NO_ROOM: *COUNT is its length, which is more than ROOM. A refusal writes
- * FAULT. Any other status leaves *COUNT and FAULT as they were, and any but WKB_OK leaves PARTS as it was. */
-static inline wkb_status wkb_parts(const void *buf, size_t len, wkb_part *parts, size_t room, uint64_t *count,
-                                   wkb_fault *fault) {
-  wkb_part part_here;
-  uint64_t count_here = 0;
-  wkb_fault fault_here;
-  return wkb_raw_parts(wkb_lent(buf, len), len, room == 0 ? &part_here : parts, room, count ? count : &count_here,
-                       fault ? fault : &fault_here);
-}
-
-/* What wkb_check answers of each row of a column as Arrow has it, a byte a row in STATUSES. Row i has the bytes of DATA
- * (of which there are SIZE) from offsets[i] up to offsets[i + 1], so there is one offset more than there are rows.
- * VALIDITY has a bit for each row, from the lowest of the first byte on, and is null where no row is null. A null row
- * is WKB_NULL_ROW, and one whose offsets fall or pass the end of DATA is WKB_BAD_OFFSETS: neither is read. No row stops
- * the others. */
-static inline void wkb_column_check(const void *data, size_t size, const int64_t *offsets, size_t rows,
-                                    const void *validity, uint8_t *statuses) {
-  if (rows == 0) return;
-  size_t validity_size = validity ? (rows + 7) / 8 : 0;
-  wkb_raw_column_check(wkb_lent(data, size), size, (const uint64_t *)offsets, rows + 1,
-                       wkb_lent(validity, validity_size), validity_size, statuses, rows);
-}
-
-/* What wkb_parts answers of each row of such a column, the tables one behind another in PARTS: that of row i ends at
- * ends[i], and begins at ends[i - 1], or at 0 where i is 0. Offsets in it are counted from the row's own front.
- * STATUSES has a byte a row, ENDS a number a row. A row without a table ends where it begins. WKB_NO_ROOM: the table
- * would end at ends[i], which is more than ROOM. Answers the last end, 0 without rows: with so much room each row has
- * its table. No row stops the others, and behind the last table that was put PARTS stays as it was. */
-static inline uint64_t wkb_column_parts(const void *data, size_t size, const int64_t *offsets, size_t rows,
-                                        const void *validity, wkb_part *parts, size_t room, uint64_t *ends,
-                                        uint8_t *statuses) {
-  wkb_part parts_here;
-  if (rows == 0) return 0;
-  size_t validity_size = validity ? (rows + 7) / 8 : 0;
-  wkb_raw_column_parts(wkb_lent(data, size), size, (const uint64_t *)offsets, rows + 1,
-                       wkb_lent(validity, validity_size), validity_size, room == 0 ? &parts_here : parts, room, ends,
-                       rows, statuses, rows);
-  return ends[rows - 1];
-}
-
-/* What wkb_write answers of each row of such a column under the options, the encodings one behind another in OUT, with
- * ends, statuses and the answer as wkb_column_parts has them. Where the options have no meaning each row that is not
- * null and lies in DATA is WKB_UNKNOWN_OPTION. */
-static inline uint64_t wkb_column_write(const void *data, size_t size, const int64_t *offsets, size_t rows,
-                                        const void *validity, const wkb_options *options, void *out, size_t room,
-                                        uint64_t *ends, uint8_t *statuses) {
-  uint8_t out_here = 0;
-  if (rows == 0) return 0;
-  size_t validity_size = validity ? (rows + 7) / 8 : 0;
-  wkb_raw_column_write(wkb_lent(data, size), size, (const uint64_t *)offsets, rows + 1,
-                       wkb_lent(validity, validity_size), validity_size, options,
-                       room == 0 ? &out_here : (uint8_t *)out, room, ends, rows, statuses, rows);
-  return ends[rows - 1];
+static inline uint64_t wkb_big_word(const uint8_t *b) {
+  uint64_t b0 = b[0], b1 = b[1], b2 = b[2], b3 = b[3], b4 = b[4], b5 = b[5], b6 = b[6], b7 = b[7];
+  return b7 | b6 << 8 | b5 << 16 | b4 << 24 | b3 << 32 | b2 << 40 | b1 << 48 | b0 << 56;
 }
 
 /* Word N of coordinate I of a ring, a point or a line string, where I is below its count and N below its width. It is
- * read where it stands, at BUF + offset + 8 * (width * I + N), by a copy of its eight bytes. */
+ * at BUF + offset + 8 * (width * I + N). */
 static inline double wkb_word(const void *buf, const wkb_part *part, uint64_t i, unsigned n) {
-  const uint8_t *bytes = (const uint8_t *)buf + part->offset + 8 * (part->width * i + n);
-  uint64_t word = 0;
+#ifdef __cplusplus
+  const uint8_t *front = static_cast<const uint8_t *>(buf);
+#else
+  const uint8_t *front = (const uint8_t *)buf;
+#endif
+  const uint8_t *bytes = front + part->offset + 8 * (part->width * i + n);
+  uint64_t word = part->order == WKB_ORDER_BIG ? wkb_big_word(bytes) : wkb_little_word(bytes);
   double value;
-  for (int k = 0; k < 8; k++) word = word << 8 | bytes[part->order == WKB_BIG_ENDIAN ? k : 7 - k];
   memcpy(&value, &word, sizeof value);
   return value;
-}
-
-/* What a status tells, in one line. */
-static inline const char *wkb_status_text(wkb_status status) {
-  switch (status) {
-    case WKB_OK: return "done";
-    case WKB_NO_MEMORY: return "out of memory";
-    case WKB_NO_ROOM: return "no room for what would be written";
-    case WKB_UNKNOWN_OPTION: return "the options name no byte order or no form";
-    case WKB_SIZE_OVERFLOW: return "the encoding would be longer than memory";
-    case WKB_IO_ERROR: return "the input ends inside a header or before a count";
-    case WKB_INVALID_BYTE_ORDER: return "a byte order is neither 0 nor 1";
-    case WKB_CODE_OUT_OF_RANGE: return "a code names no geometry";
-    case WKB_INCORRECT_TYPE: return "a member does not belong into its multi geometry";
-    case WKB_NESTING_DEPTH_EXCEEDED: return "a collection stands inside 128 others";
-    case WKB_SHORT_POINT: return "the input ends inside a point";
-    case WKB_SHORT_LINE_STRING: return "the input ends inside a line string";
-    case WKB_SHORT_MULTI_POINT: return "the input ends inside a multi point";
-    case WKB_SHORT_LINEAR_RING: return "the input ends inside a ring";
-    case WKB_NULL_ROW: return "the row is null";
-    case WKB_BAD_OFFSETS: return "the row's offsets fall, or pass the end of the data";
-  }
-  return "no status of this library";
 }
 
 #ifdef __cplusplus

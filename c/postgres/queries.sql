@@ -1,23 +1,82 @@
+\set VERBOSITY terse
+create extension wkb;
 create table rows (id int primary key, wkb bytea);
+-- A point in either byte order, and with an SRID; a polygon; an empty point; a cut point; a point with a byte after it;
+-- no bytes; null; the code of a curve; a line string with z, whose first x and second y are not numbers.
 insert into rows values
   (1, '\x0101000000000000000000f03f0000000000000040'),
   (2, '\x00000000013ff00000000000004000000000000000'),
   (3, '\x0101000020e6100000000000000000f03f0000000000000040'),
-  (4, '\x0101000000000000000000f87f000000000000f87f'),
-  (5, '\x0101000000000000000000f03f'),
-  (6, '\x');
-select id, wkb_valid(wkb), wkb_fault(wkb) from rows order by id;
-select id, wkb_srid(wkb), wkb_box(wkb), wkb_canonical(wkb), wkb_ewkb(wkb) from rows where wkb_valid(wkb) order by id;
-select wkb_same(a.wkb, b.wkb) from rows a, rows b where a.id = 1 and b.id = 2;
+  (4, '\x01030000000100000003000000000000000000f03f0000000000000040'
+      '00000000000008400000000000001040'
+      '000000000000f0bf0000000000000000'),
+  (5, '\x0101000000000000000000f87f000000000000f87f'),
+  (6, '\x0101000000000000000000f03f'),
+  (7, '\x0101000000000000000000f03f000000000000004001'),
+  (8, '\x'),
+  (9, null),
+  (11, '\x0108000000'),
+  (12, '\x01ea03000002000000000000000000f87f0000000000000040000000000000f0bf'
+       '000000000000f03f000000000000f87f0000000000001040');
+select id, wkb_well_formed(wkb), wkb_fault(wkb) from rows order by id;
+-- The functions that read a geometry are asked of rows that have one at their front.
+create view geometries as
+  select * from rows where wkb_well_formed(wkb) or wkb_fault(wkb) like 'bytes after%' order by id;
+select id, wkb_kind(wkb), wkb_srid(wkb) from geometries;
+select id, wkb_xmin(wkb), wkb_ymin(wkb), wkb_xmax(wkb), wkb_ymax(wkb), wkb_zmin(wkb), wkb_mmax(wkb) from geometries;
+-- A point with x alone, one with y alone, one whose x is infinite, and the point (1, 2, 3, 4).
+create table points (id int primary key, wkb bytea);
+insert into points values
+  (1, '\x0101000000000000000000f03f000000000000f87f'),
+  (2, '\x0101000000000000000000f87f000000000000f03f'),
+  (3, '\x0101000000000000000000f07f0000000000000040'),
+  (4, '\x01b90b0000000000000000f03f000000000000004000000000000008400000000000001040');
+select id, wkb_xmin(wkb), wkb_ymin(wkb), wkb_xmax(wkb), wkb_ymax(wkb) from points order by id;
+select id, wkb_zmin(wkb), wkb_zmax(wkb), wkb_mmin(wkb), wkb_mmax(wkb) from points order by id;
+-- The key, and as EWKB with its own SRID and with another.
+select id, wkb_canonical(wkb), wkb_ewkb(wkb), wkb_ewkb(wkb, 3857) from rows where id in (2, 3, 7) order by id;
+select wkb_ewkb(wkb, 4294967295), wkb_ewkb(wkb, null) from rows where id = 1;
+select a.id, b.id from geometries a, geometries b where a.id < b.id and wkb_same(a.wkb, b.wkb) order by 1, 2;
+-- What is refused is an error, which tells the argument where there are two.
+select wkb_canonical(wkb) from rows where id = 6;
+\echo :SQLSTATE
+select wkb_kind(wkb) from rows where id = 11;
+select wkb_srid(wkb) from rows where id = 8;
+select wkb_xmin(wkb) from rows where id = 6;
+select wkb_same('\x02', wkb) from rows where id = 1;
 select wkb_same(wkb, '\x02') from rows where id = 1;
-create unique index one on rows (sha256(wkb_canonical(wkb))) where wkb_valid(wkb) and id <> 2 and id <> 3;
-insert into rows values (7, '\x00000000013ff00000000000004000000000000000');
--- A column that takes valid geometries alone, and one of each value, whatever the byte orders and SRIDs are.
-create table places (wkb bytea check (wkb_valid(wkb)));
+select wkb_ewkb(wkb, -1) from rows where id = 1;
+select wkb_ewkb(wkb, 4294967296) from rows where id = 1;
+select wkb_ewkb(wkb, 4326.9) from rows where id = 1;
+-- A column that takes well-formed geometries alone, and one of each value, whatever the byte orders and SRIDs are.
+create table places (wkb bytea check (wkb_well_formed(wkb)));
 create unique index places_once on places (sha256(wkb_canonical(wkb)));
-insert into places select wkb from rows where wkb_valid(wkb) on conflict do nothing;
+insert into places select wkb from rows where wkb_well_formed(wkb) on conflict do nothing;
 select count(*) from places;
 insert into places values ('\x02');
+insert into places values ('\x00000000013ff00000000000004000000000000000');
+-- The boxes of places, of which three meet this one; the empty point has none.
+create function bounds(wkb bytea) returns box language sql immutable strict parallel safe
+  as 'select box(point(wkb_xmin(wkb), wkb_ymin(wkb)), point(wkb_xmax(wkb), wkb_ymax(wkb)))';
+create index places_bounds on places using gist (bounds(wkb));
+select count(*) from places where bounds(wkb) && box '((0, 0), (1, 2))';
+
+-- The same through the index, which a planner leaves aside for so few rows.
+set enable_seqscan to off;
+select bounds(wkb), wkb_kind(wkb) from places where bounds(wkb) && box '((2, 3), (9, 9))';
+reset enable_seqscan;
 create table many as select n, case n % 2 when 0 then '\x010100000000000000000000000000000000000040'::bytea
   else '\x000000000100000000000000004000000000000000'::bytea end as wkb from generate_series(0, 99999) n;
-select count(*), bool_and(wkb_valid(wkb)), sum((wkb_box(wkb))[2]), count(distinct wkb_canonical(wkb)) from many;
+select count(*), bool_and(wkb_well_formed(wkb)), sum(wkb_xmin(wkb)), sum(wkb_ymax(wkb)),
+  count(distinct wkb_canonical(wkb)) from many;
+-- A collection of a million empty line strings.
+select wkb_well_formed(wkb), wkb_kind(wkb), wkb_xmin(wkb), length(wkb_canonical(wkb)) from
+  (select '\x010700000040420f00'::bytea || decode(repeat('010200000000000000', 1000000), 'hex') as wkb) as huge;
+-- The sixteen functions are the extension's, and go with it.
+select extversion, count(*) from pg_extension e join pg_depend d on d.refobjid = e.oid and d.deptype = 'e'
+  where extname = 'wkb' group by 1;
+drop extension wkb;
+drop table places;
+drop view geometries;
+drop extension wkb;
+select count(*) from pg_proc where proname like 'wkb%';

@@ -1,109 +1,170 @@
 /* Well-Known Binary in PostgreSQL, over bytea, and so over a geometry of PostGIS that is cast to bytea. wkb--1.0.sql
- * says what each function answers. A refusal is an error with its text and the refused part's number. */
+ * says what each function returns. The library keeps nothing between calls and has freed its memory when it returns, so
+ * that an error can be raised after any call. */
 #include "postgres.h"
 
-#include "catalog/pg_type.h"
 #include "fmgr.h"
-#include "utils/array.h"
 #include "utils/builtins.h"
+#include "utils/memutils.h"
 #include "wkb.h"
-#include <math.h>
 
 PG_MODULE_MAGIC;
 
-#define LENT(v) VARDATA_ANY(v), VARSIZE_ANY_EXHDR(v)
+#define BYTES(v) VARDATA_ANY(v), VARSIZE_ANY_EXHDR(v)
 
-/* Raises what refuses the bytes, or want of memory. The library holds nothing between calls, so that nothing is lost by
- * the jump. */
-static void accept(wkb_status status, const wkb_fault *fault) {
-  if (status == WKB_NO_MEMORY) ereport(ERROR, (errcode(ERRCODE_OUT_OF_MEMORY), errmsg("out of memory")));
-  if (status != WKB_OK)
-    ereport(ERROR, (errcode(ERRCODE_INVALID_BINARY_REPRESENTATION), errmsg("invalid WKB: %s", wkb_status_text(status)),
-                    errdetail("Part %llu is refused, at byte %llu.", (unsigned long long)fault->part,
-                              (unsigned long long)fault->offset)));
+static const char *const KINDS[] = {"ring",       "point",           "linestring",   "polygon",
+                                    "multipoint", "multilinestring", "multipolygon", "geometrycollection"};
+
+/* What is refused, as a text: why, in which part, and where. */
+static const char *text_of(const wkb_fault *fault) {
+  const char *text = wkb_status_text(fault->status);
+  unsigned long long part = fault->part, offset = fault->offset;
+  if (fault->status == WKB_STATUS_CODE_OUT_OF_RANGE)
+    return psprintf("%s %u, in part %llu at byte %llu", text, (unsigned)fault->code, part, offset);
+  return psprintf("%s, in part %llu at byte %llu", text, part, offset);
 }
 
-PG_FUNCTION_INFO_V1(wkb_valid_sql);
-Datum wkb_valid_sql(PG_FUNCTION_ARGS) {
+/* Raises an error unless a call succeeded: PLACE is an input among several, or empty. */
+static void accept(wkb_status status, const char *place, const wkb_fault *fault) {
+  if (status == WKB_STATUS_OK) return;
+  if (status == WKB_STATUS_NO_MEMORY) ereport(ERROR, (errcode(ERRCODE_OUT_OF_MEMORY), errmsg("out of memory")));
+  if (status == WKB_STATUS_NO_ROOM)
+    ereport(ERROR, (errcode(ERRCODE_PROGRAM_LIMIT_EXCEEDED), errmsg("the encoding is longer than a bytea can be")));
+  ereport(ERROR, (errcode(ERRCODE_INVALID_BINARY_REPRESENTATION), errmsg("invalid WKB%s: %s", place, text_of(fault))));
+}
+
+/* The geometry at the front of the argument; an error where there is none. The copy that a large value is read into is
+ * freed at once, here and below. */
+static wkb_found found_in(FunctionCallInfo fcinfo) {
   bytea *v = PG_GETARG_BYTEA_PP(0);
   wkb_found found;
-  wkb_status status = wkb_check(LENT(v), &found, NULL);
-  PG_RETURN_BOOL(status == WKB_OK && found.size == VARSIZE_ANY_EXHDR(v));
+  wkb_fault fault;
+  accept(wkb_check(BYTES(v), &found, &fault), "", &fault);
+  PG_FREE_IF_COPY(v, 0);
+  return found;
+}
+
+PG_FUNCTION_INFO_V1(wkb_well_formed_sql);
+Datum wkb_well_formed_sql(PG_FUNCTION_ARGS) {
+  bytea *v = PG_GETARG_BYTEA_PP(0);
+  wkb_found found;
+  bool is_whole = wkb_check(BYTES(v), &found, NULL) == WKB_STATUS_OK && found.size == VARSIZE_ANY_EXHDR(v);
+  PG_FREE_IF_COPY(v, 0);
+  PG_RETURN_BOOL(is_whole);
 }
 
 PG_FUNCTION_INFO_V1(wkb_fault_sql);
 Datum wkb_fault_sql(PG_FUNCTION_ARGS) {
   bytea *v = PG_GETARG_BYTEA_PP(0);
+  wkb_found found;
   wkb_fault fault;
-  wkb_status status = wkb_check(LENT(v), NULL, &fault);
-  if (status == WKB_OK) PG_RETURN_NULL();
+  wkb_status status = wkb_check(BYTES(v), &found, &fault);
+  size_t size = VARSIZE_ANY_EXHDR(v);
+  PG_FREE_IF_COPY(v, 0);
+  if (status != WKB_STATUS_OK) PG_RETURN_TEXT_P(cstring_to_text(text_of(&fault)));
+  if (found.size == size) PG_RETURN_NULL();
   PG_RETURN_TEXT_P(
-      cstring_to_text(psprintf("part %llu: %s", (unsigned long long)fault.part, wkb_status_text(status))));
+      cstring_to_text(psprintf("bytes after the geometry, from %llu on", (unsigned long long)found.size)));
 }
+
+PG_FUNCTION_INFO_V1(wkb_kind_sql);
+Datum wkb_kind_sql(PG_FUNCTION_ARGS) { PG_RETURN_TEXT_P(cstring_to_text(KINDS[found_in(fcinfo).kind])); }
 
 PG_FUNCTION_INFO_V1(wkb_srid_sql);
 Datum wkb_srid_sql(PG_FUNCTION_ARGS) {
-  bytea *v = PG_GETARG_BYTEA_PP(0);
-  wkb_found found;
-  wkb_fault fault;
-  accept(wkb_check(LENT(v), &found, &fault), &fault);
+  wkb_found found = found_in(fcinfo);
   if (!found.has_srid) PG_RETURN_NULL();
   PG_RETURN_INT64(found.srid);
 }
 
-static Datum rewritten(bytea *v, const wkb_options *options) {
-  size_t room = VARSIZE_ANY_EXHDR(v) + 4;
+/* The encoding of the first argument, in so much room as it can need, or as a bytea can have. */
+static Datum rewritten(FunctionCallInfo fcinfo, const wkb_options *options) {
+  bytea *v = PG_GETARG_BYTEA_PP(0);
+  size_t room = Min(VARSIZE_ANY_EXHDR(v) + 4, MaxAllocSize - VARHDRSZ);
   bytea *out = palloc(VARHDRSZ + room);
   uint64_t size = 0;
   wkb_fault fault;
-  accept(wkb_write(LENT(v), options, VARDATA(out), room, &size, &fault), &fault);
+  accept(wkb_write(BYTES(v), options, VARDATA(out), room, &size, &fault), "", &fault);
+  PG_FREE_IF_COPY(v, 0);
   SET_VARSIZE(out, VARHDRSZ + size);
   PG_RETURN_BYTEA_P(out);
 }
 
 PG_FUNCTION_INFO_V1(wkb_canonical_sql);
 Datum wkb_canonical_sql(PG_FUNCTION_ARGS) {
-  static const wkb_options options = {WKB_LITTLE_ENDIAN, WKB_ISO, 0};
-  return rewritten(PG_GETARG_BYTEA_PP(0), &options);
+  static const wkb_options options = {WKB_ORDER_LITTLE, WKB_FORM_ISO, 0};
+  return rewritten(fcinfo, &options);
 }
 
 PG_FUNCTION_INFO_V1(wkb_ewkb_sql);
 Datum wkb_ewkb_sql(PG_FUNCTION_ARGS) {
-  static const wkb_options options = {WKB_LITTLE_ENDIAN, WKB_EWKB_OWN_SRID, 0};
-  return rewritten(PG_GETARG_BYTEA_PP(0), &options);
+  static const wkb_options options = {WKB_ORDER_LITTLE, WKB_FORM_EWKB_OWN_SRID, 0};
+  return rewritten(fcinfo, &options);
+}
+
+PG_FUNCTION_INFO_V1(wkb_ewkb_with_srid_sql);
+Datum wkb_ewkb_with_srid_sql(PG_FUNCTION_ARGS) {
+  int64 srid = PG_GETARG_INT64(1);
+  wkb_options options = {WKB_ORDER_LITTLE, WKB_FORM_EWKB_WITH_SRID, (uint32_t)srid};
+  if (srid < 0 || srid > UINT32_MAX)
+    ereport(ERROR, (errcode(ERRCODE_NUMERIC_VALUE_OUT_OF_RANGE),
+                    errmsg("an SRID is an integer from 0 to 4294967295")));
+  return rewritten(fcinfo, &options);
 }
 
 PG_FUNCTION_INFO_V1(wkb_same_sql);
 Datum wkb_same_sql(PG_FUNCTION_ARGS) {
   bytea *a = PG_GETARG_BYTEA_PP(0), *b = PG_GETARG_BYTEA_PP(1);
-  bool equal = false;
+  uint32_t equal = 0, which = 1;
   wkb_fault fault;
-  accept(wkb_same(LENT(a), LENT(b), &equal, &fault, NULL), &fault);
-  PG_RETURN_BOOL(equal);
+  wkb_status status = wkb_same(BYTES(a), BYTES(b), &equal, &fault, &which);
+  accept(status, which == 2 ? " in the second argument" : " in the first argument", &fault);
+  PG_FREE_IF_COPY(a, 0);
+  PG_FREE_IF_COPY(b, 1);
+  PG_RETURN_BOOL(equal != 0);
 }
 
-PG_FUNCTION_INFO_V1(wkb_box_sql);
-Datum wkb_box_sql(PG_FUNCTION_ARGS) {
+/* The value whose bounds were found last, if it is small: a query often asks for several sides of one value. */
+static struct {
+  char bytes[4096];
+  size_t size; /* 0 where there is none yet */
+  wkb_box box;
+} last;
+
+/* The bounds of the argument; an error where there is no geometry. */
+static wkb_box box_of(FunctionCallInfo fcinfo) {
   bytea *v = PG_GETARG_BYTEA_PP(0);
-  wkb_part few[32], *parts = few;
-  uint64_t count = 0;
-  double box[4] = {INFINITY, INFINITY, -INFINITY, -INFINITY};
-  Datum sides[4];
+  size_t size = VARSIZE_ANY_EXHDR(v);
+  wkb_box box;
   wkb_fault fault;
-  wkb_status status = wkb_parts(LENT(v), parts, 32, &count, &fault);
-  if (status == WKB_NO_ROOM) {
-    parts = palloc(count * sizeof *parts);
-    status = wkb_parts(LENT(v), parts, count, &count, &fault);
+  if (size > 0 && size == last.size && memcmp(VARDATA_ANY(v), last.bytes, size) == 0) {
+    box = last.box;
+  } else {
+    accept(wkb_bounds(BYTES(v), &box, &fault), "", &fault);
+    if (size <= sizeof last.bytes) {
+      memcpy(last.bytes, VARDATA_ANY(v), size);
+      last.size = size;
+      last.box = box;
+    }
   }
-  accept(status, &fault);
-  for (uint64_t p = 0; p < count; p++)
-    for (uint64_t i = 0; parts[p].kind <= WKB_LINE_STRING && i < parts[p].count; i++)
-      for (int n = 0; n < 2; n++) {
-        double x = wkb_word(VARDATA_ANY(v), &parts[p], i, n);
-        if (x < box[n]) box[n] = x;
-        if (x > box[2 + n]) box[2 + n] = x;
-      }
-  if (box[0] > box[2]) PG_RETURN_NULL();
-  for (int k = 0; k < 4; k++) sides[k] = Float8GetDatum(box[k]);
-  PG_RETURN_ARRAYTYPE_P(construct_array(sides, 4, FLOAT8OID, 8, FLOAT8PASSBYVAL, TYPALIGN_DOUBLE));
+  PG_FREE_IF_COPY(v, 0);
+  return box;
 }
+
+/* The function of a side of the box: null where no coordinate has such a number. */
+#define SIDE(name, ordinate, end)                        \
+  PG_FUNCTION_INFO_V1(name);                             \
+  Datum name(PG_FUNCTION_ARGS) {                         \
+    wkb_box box = box_of(fcinfo);                        \
+    if (box.ordinate.count == 0) PG_RETURN_NULL();       \
+    PG_RETURN_FLOAT8(box.ordinate.end);                  \
+  }
+
+SIDE(wkb_xmin_sql, x, least)
+SIDE(wkb_ymin_sql, y, least)
+SIDE(wkb_zmin_sql, z, least)
+SIDE(wkb_mmin_sql, m, least)
+SIDE(wkb_xmax_sql, x, greatest)
+SIDE(wkb_ymax_sql, y, greatest)
+SIDE(wkb_zmax_sql, z, greatest)
+SIDE(wkb_mmax_sql, m, greatest)

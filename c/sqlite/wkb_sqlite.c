@@ -1,125 +1,260 @@
-/* Well-Known Binary in SQLite:
+/* Well-Known Binary in SQLite. The functions have the names and the meanings of those of the PostgreSQL extension:
  *
- *   wkb_valid(blob)                     1 or 0: whether the blob is one geometry, with nothing after it
- *   wkb_fault(blob)                     what refuses it, as a text; NULL where nothing does
- *   wkb_canonical(blob)                 its key: one blob for each value, whatever the byte orders and SRIDs were
- *   wkb_ewkb(blob, srid)                the key with an SRID
- *   wkb_same(a, b)                      whether the values are equal
- *   wkb_srid(blob), wkb_kind(blob)      NULL where there is none
- *   wkb_xmin, wkb_ymin, wkb_xmax, wkb_ymax (blob)    the box; NULL where there is no coordinate
+ *   wkb_well_formed(b)     1 or 0: whether the blob is one geometry of the grammar, and nothing after it
+ *   wkb_fault(b)           why it is not, as a text; NULL where it is
+ *   wkb_kind(b)            point, linestring, polygon, multipoint, multilinestring, multipolygon, geometrycollection
+ *   wkb_srid(b)            its SRID; NULL where it has none
+ *   wkb_canonical(b)       its key: one blob for each value, whatever the byte orders and SRIDs are
+ *   wkb_ewkb(b)            the key as EWKB, with the SRID that it has
+ *   wkb_ewkb(b, srid)      the key as EWKB, with this SRID
+ *   wkb_same(a, b)         1 or 0: whether the values are equal, SRIDs aside
+ *   wkb_xmin(b), wkb_xmax(b), and likewise for y, z and m
+ *                          the bounds; NULL where no coordinate has such a number
  *
- * All are deterministic and innocuous, so that indexes, CHECK constraints and generated columns take them. NULL, and what
- * is refused, is answered by NULL. A blob that begins with "GP" is taken as one of a GeoPackage. */
+ * All are deterministic and innocuous, so that indexes, CHECK constraints and generated columns take them. Of NULL all
+ * return NULL. All but the first two read the geometry at the front of the blob, whatever comes after it. They return
+ * NULL where there is none: wkb_fault tells why, also of each argument of wkb_same. An SRID that is not an integer from
+ * 0 to 4294967295 is an error.
+ *
+ * A blob that begins with "GP" is one of a GeoPackage. Its SRID is the srs_id of its header: wkb_srid returns it also
+ * where it is 0 or -1, for "undefined", and wkb_ewkb writes it where it is above 0. */
 #include "wkb.h"
-#include <math.h>
+#include <stdbool.h>
 #include <sqlite3ext.h>
 SQLITE_EXTENSION_INIT1
 
 static const char *const KINDS[] = {"ring",       "point",           "linestring",   "polygon",
                                     "multipoint", "multilinestring", "multipolygon", "geometrycollection"};
 
-typedef struct span {
+/* The geometry of a blob. */
+typedef struct input {
   const uint8_t *data;
   size_t size;
-} span;
+  size_t header;      /* the bytes in front of it, of the header that a GeoPackage has there */
+  bool has_srs_id;
+  int32_t srs_id;     /* of that header */
+  const char *fault;  /* what is wrong with the blob before any WKB, or NULL */
+} input;
 
-/* The WKB of a value, after the header that a GeoPackage puts before it. */
-static span wkb_of(sqlite3_value *value) {
-  static const size_t ENVELOPES[] = {0, 32, 48, 48, 64, SIZE_MAX, SIZE_MAX, SIZE_MAX};
-  span s = {sqlite3_value_blob(value), (size_t)sqlite3_value_bytes(value)};
-  if (s.size >= 8 && s.data[0] == 'G' && s.data[1] == 'P') {
-    size_t envelope = ENVELOPES[s.data[3] >> 1 & 7];
-    if (envelope <= s.size - 8) s.data += 8 + envelope, s.size -= 8 + envelope;
-  }
-  return s;
+/* The bits of a GeoPackage header's flags. */
+enum { LITTLE_ENDIAN_HEADER = 1, ENVELOPE_SHIFT = 1, ENVELOPE_MASK = 7, EXTENDED = 32 };
+
+static int32_t srs_id_of(const uint8_t *header) {
+  bool little = header[3] & LITTLE_ENDIAN_HEADER;
+  uint32_t bits = 0;
+  for (int i = 0; i < 4; i++) bits = bits << 8 | header[4 + (little ? 3 - i : i)];
+  return (int32_t)bits;
 }
 
-static bool is_null(sqlite3_value **values, int n) {
+/* Goes past the header of a GeoPackage: "GP", a version, flags, the srs_id and an envelope. */
+static void skip_header(input *in) {
+  static const size_t ENVELOPES[] = {0, 32, 48, 48, 64};
+  const char *cut = "the blob ends inside its GeoPackage header";
+  if (in->size < 2 || memcmp(in->data, "GP", 2) != 0) return;
+  if (in->size < 8) {
+    in->fault = cut;
+    return;
+  }
+  unsigned envelope = in->data[3] >> ENVELOPE_SHIFT & ENVELOPE_MASK;
+  in->has_srs_id = true;
+  in->srs_id = srs_id_of(in->data);
+  if (in->data[2] != 0)
+    in->fault = "unknown version of a GeoPackage header";
+  else if (in->data[3] & EXTENDED)
+    in->fault = "an extended GeoPackage geometry, which is not WKB";
+  else if (envelope >= sizeof ENVELOPES / sizeof ENVELOPES[0])
+    in->fault = "unknown envelope in a GeoPackage header";
+  else if (ENVELOPES[envelope] > in->size - 8)
+    in->fault = cut;
+  else
+    in->header = 8 + ENVELOPES[envelope];
+  in->data += in->header, in->size -= in->header;
+}
+
+static bool has_null(int n, sqlite3_value **values) {
   for (int i = 0; i < n; i++)
     if (sqlite3_value_type(values[i]) == SQLITE_NULL) return true;
   return false;
 }
 
-/* Whether a call did what it promises; else its answer is NULL, or want of memory. */
-static bool is_done(sqlite3_context *context, wkb_status status) {
-  if (status == WKB_NO_MEMORY) sqlite3_result_error_nomem(context);
-  return status == WKB_OK;
+/* The bytes of a blob without a GeoPackage's header. Where SQLite lacks the memory for them it has none and says so
+ * itself. */
+static input input_of(sqlite3_value *value) {
+  input in = {0};
+  if (sqlite3_value_type(value) != SQLITE_BLOB) {
+    in.fault = "not a blob";
+    return in;
+  }
+  in.data = sqlite3_value_blob(value);
+  if (in.data != NULL) in.size = (size_t)sqlite3_value_bytes(value);
+  skip_header(&in);
+  return in;
 }
 
-enum { VALID, FAULT, SRID, KIND };
+/* Whether a call succeeded; else the result is NULL, or the error that memory is lacking. */
+static bool succeeded(sqlite3_context *context, wkb_status status) {
+  if (status == WKB_STATUS_NO_MEMORY) sqlite3_result_error_nomem(context);
+  return status == WKB_STATUS_OK;
+}
 
-static void check(sqlite3_context *context, int n, sqlite3_value **values) {
+/* Whether a geometry is at the front of the input. */
+static bool has_geometry(const input *in, wkb_found *found) {
+  return in->fault == NULL && wkb_check(in->data, in->size, found, NULL) == WKB_STATUS_OK;
+}
+
+static void well_formed(sqlite3_context *context, int n, sqlite3_value **values) {
   wkb_found found;
-  if (is_null(values, n)) return;
-  span s = wkb_of(values[0]);
-  wkb_status status = wkb_check(s.data, s.size, &found, NULL);
-  switch ((intptr_t)sqlite3_user_data(context)) {
-    case VALID: sqlite3_result_int(context, status == WKB_OK && found.size == s.size); break;
-    case FAULT: if (status != WKB_OK) sqlite3_result_text(context, wkb_status_text(status), -1, SQLITE_STATIC); break;
-    case SRID: if (status == WKB_OK && found.has_srid) sqlite3_result_int64(context, found.srid); break;
-    case KIND: if (status == WKB_OK) sqlite3_result_text(context, KINDS[found.kind], -1, SQLITE_STATIC); break;
-  }
+  if (has_null(n, values)) return;
+  input in = input_of(values[0]);
+  sqlite3_result_int(context, has_geometry(&in, &found) && found.size == in.size);
 }
 
-static void rewritten(sqlite3_context *context, int n, sqlite3_value **values) {
-  wkb_options options = {WKB_LITTLE_ENDIAN, WKB_ISO, 0};
-  uint64_t size = 0;
-  if (is_null(values, n)) return;
-  if (n == 2) {
-    sqlite3_int64 srid = sqlite3_value_int64(values[1]);
-    if (srid < 0 || srid > UINT32_MAX) {
-      sqlite3_result_error(context, "an SRID is a number of 32 bits", -1);
-      return;
-    }
-    options.form = WKB_EWKB_WITH_SRID, options.srid = (uint32_t)srid;
+/* What is wrong with the input, as a text to be freed. Its offsets are counted from the front of the blob. */
+static char *fault_of(const input *in, wkb_status status, const wkb_found *found, const wkb_fault *fault) {
+  if (in->fault != NULL) return sqlite3_mprintf("%s", in->fault);
+  if (status == WKB_STATUS_OK) {
+    unsigned long long end = in->header + found->size;
+    return sqlite3_mprintf("bytes after the geometry, from %llu on", end);
   }
-  span s = wkb_of(values[0]);
-  uint8_t *out = sqlite3_malloc64(s.size + 4);
+  unsigned long long part = fault->part, offset = in->header + fault->offset;
+  const char *text = wkb_status_text(status);
+  if (status == WKB_STATUS_CODE_OUT_OF_RANGE)
+    return sqlite3_mprintf("%s %u, in part %llu at byte %llu", text, (unsigned)fault->code, part, offset);
+  return sqlite3_mprintf("%s, in part %llu at byte %llu", text, part, offset);
+}
+
+static void fault(sqlite3_context *context, int n, sqlite3_value **values) {
+  wkb_found found;
+  wkb_fault refusal;
+  if (has_null(n, values)) return;
+  input in = input_of(values[0]);
+  wkb_status status = wkb_check(in.data, in.size, &found, &refusal);
+  if (in.fault == NULL && status == WKB_STATUS_OK && found.size == in.size) return;
+  char *text = fault_of(&in, status, &found, &refusal);
+  if (text != NULL)
+    sqlite3_result_text(context, text, -1, sqlite3_free);
+  else
+    sqlite3_result_error_nomem(context);
+}
+
+static void kind(sqlite3_context *context, int n, sqlite3_value **values) {
+  wkb_found found;
+  if (has_null(n, values)) return;
+  input in = input_of(values[0]);
+  if (has_geometry(&in, &found)) sqlite3_result_text(context, KINDS[found.kind], -1, SQLITE_STATIC);
+}
+
+static void srid(sqlite3_context *context, int n, sqlite3_value **values) {
+  wkb_found found;
+  if (has_null(n, values)) return;
+  input in = input_of(values[0]);
+  if (!has_geometry(&in, &found)) return;
+  if (in.has_srs_id)
+    sqlite3_result_int(context, in.srs_id);
+  else if (found.has_srid)
+    sqlite3_result_int64(context, found.srid);
+}
+
+static void rewritten(sqlite3_context *context, const input *in, const wkb_options *options) {
+  uint64_t size = 0;
+  if (in->fault != NULL) return;
+  uint8_t *out = sqlite3_malloc64(in->size + 4);
   if (out == NULL) {
     sqlite3_result_error_nomem(context);
     return;
   }
-  if (is_done(context, wkb_write(s.data, s.size, &options, out, s.size + 4, &size, NULL)))
+  if (succeeded(context, wkb_write(in->data, in->size, options, out, in->size + 4, &size, NULL)))
     sqlite3_result_blob64(context, out, size, sqlite3_free);
   else
     sqlite3_free(out);
 }
 
+static void canonical(sqlite3_context *context, int n, sqlite3_value **values) {
+  wkb_options options = {WKB_ORDER_LITTLE, WKB_FORM_ISO, 0};
+  if (has_null(n, values)) return;
+  input in = input_of(values[0]);
+  rewritten(context, &in, &options);
+}
+
+static void ewkb(sqlite3_context *context, int n, sqlite3_value **values) {
+  wkb_options options = {WKB_ORDER_LITTLE, WKB_FORM_EWKB_OWN_SRID, 0};
+  if (has_null(n, values)) return;
+  input in = input_of(values[0]);
+  if (in.has_srs_id) {
+    options.form = in.srs_id > 0 ? WKB_FORM_EWKB_WITH_SRID : WKB_FORM_EWKB_WITHOUT_SRID;
+    options.srid = in.srs_id > 0 ? (uint32_t)in.srs_id : 0;
+  }
+  rewritten(context, &in, &options);
+}
+
+static void ewkb_with_srid(sqlite3_context *context, int n, sqlite3_value **values) {
+  wkb_options options = {WKB_ORDER_LITTLE, WKB_FORM_EWKB_WITH_SRID, 0};
+  if (has_null(n, values)) return;
+  sqlite3_int64 number = sqlite3_value_int64(values[1]);
+  if (sqlite3_value_type(values[1]) != SQLITE_INTEGER || number < 0 || number > UINT32_MAX) {
+    sqlite3_result_error(context, "an SRID is an integer from 0 to 4294967295", -1);
+    return;
+  }
+  options.srid = (uint32_t)number;
+  input in = input_of(values[0]);
+  rewritten(context, &in, &options);
+}
+
 static void same(sqlite3_context *context, int n, sqlite3_value **values) {
-  bool equal = false;
-  if (is_null(values, n)) return;
-  span a = wkb_of(values[0]), b = wkb_of(values[1]);
-  if (is_done(context, wkb_same(a.data, a.size, b.data, b.size, &equal, NULL, NULL)))
-    sqlite3_result_int(context, equal);
+  uint32_t equal = 0;
+  if (has_null(n, values)) return;
+  input a = input_of(values[0]), b = input_of(values[1]);
+  if (a.fault != NULL || b.fault != NULL) return;
+  if (succeeded(context, wkb_same(a.data, a.size, b.data, b.size, &equal, NULL, NULL)))
+    sqlite3_result_int(context, (int)equal);
 }
 
-/* The least (0, 1) or the greatest (2, 3) first or second word of these parts; not-a-number where there is none. */
-static double side_of(const uint8_t *data, const wkb_part *parts, uint64_t count, int side) {
-  double best = NAN;
-  for (uint64_t p = 0; p < count; p++)
-    for (uint64_t i = 0; parts[p].kind <= WKB_LINE_STRING && i < parts[p].count; i++) {
-      double x = wkb_word(data, &parts[p], i, side & 1);
-      if (isnan(best) || (side < 2 ? x < best : x > best)) best = x;
-    }
-  return best;
+/* The geometry whose bounds a connection found last, if it is small: a query often asks for several sides of one blob.
+ * SQLite calls the functions of a connection one after another. */
+typedef struct last_bounds {
+  int users;   /* the functions that have it */
+  size_t size; /* 0 where there is none yet */
+  wkb_box box;
+  uint8_t bytes[4096];
+} last_bounds;
+
+static void release(void *data) {
+  last_bounds *last = data;
+  if (--last->users == 0) sqlite3_free(last);
 }
 
-static void side(sqlite3_context *context, int n, sqlite3_value **values) {
-  wkb_part few[32], *parts = few;
-  uint64_t count = 0;
-  if (is_null(values, n)) return;
-  span s = wkb_of(values[0]);
-  wkb_status status = wkb_parts(s.data, s.size, parts, 32, &count, NULL);
-  if (status == WKB_NO_ROOM) {
-    parts = sqlite3_malloc64(count * sizeof *parts);
-    status = parts == NULL ? WKB_NO_MEMORY : wkb_parts(s.data, s.size, parts, count, &count, NULL);
+/* The bounds of a value, or NULL. */
+static const wkb_box *box_of(sqlite3_context *context, int n, sqlite3_value **values, wkb_box *box) {
+  last_bounds *last = sqlite3_user_data(context);
+  if (has_null(n, values)) return NULL;
+  input in = input_of(values[0]);
+  if (in.fault != NULL) return NULL;
+  if (in.size > 0 && in.size == last->size && memcmp(in.data, last->bytes, in.size) == 0) return &last->box;
+  if (wkb_bounds(in.data, in.size, box, NULL) != WKB_STATUS_OK) return NULL;
+  if (in.size <= sizeof last->bytes) {
+    memcpy(last->bytes, in.data, in.size);
+    last->size = in.size;
+    last->box = *box;
   }
-  if (is_done(context, status)) {
-    double found = side_of(s.data, parts, count, (int)(intptr_t)sqlite3_user_data(context));
-    if (!isnan(found)) sqlite3_result_double(context, found);
-  }
-  if (parts != few) sqlite3_free(parts);
+  return box;
 }
+
+/* The function of a side of the box. */
+#define SIDE(name, ordinate, end)                                                              \
+  static void name(sqlite3_context *context, int n, sqlite3_value **values) {                  \
+    wkb_box found;                                                                             \
+    const wkb_box *box = box_of(context, n, values, &found);                                   \
+    if (box && box->ordinate.count > 0) sqlite3_result_double(context, box->ordinate.end);     \
+  }
+
+SIDE(xmin, x, least)
+SIDE(ymin, y, least)
+SIDE(zmin, z, least)
+SIDE(mmin, m, least)
+SIDE(xmax, x, greatest)
+SIDE(ymax, y, greatest)
+SIDE(zmax, z, greatest)
+SIDE(mmax, m, greatest)
 
 #ifdef _WIN32
 __declspec(dllexport)
@@ -128,19 +263,33 @@ int sqlite3_wkb_init(sqlite3 *db, char **error, const sqlite3_api_routines *api)
   static const struct {
     const char *name;
     int n;
-    intptr_t data;
     void (*call)(sqlite3_context *, int, sqlite3_value **);
-  } CALLS[] = {{"wkb_valid", 1, VALID, check},    {"wkb_fault", 1, FAULT, check}, {"wkb_srid", 1, SRID, check},
-               {"wkb_kind", 1, KIND, check},      {"wkb_same", 2, 0, same},       {"wkb_canonical", 1, 0, rewritten},
-               {"wkb_ewkb", 2, 0, rewritten},     {"wkb_xmin", 1, 0, side},       {"wkb_ymin", 1, 1, side},
-               {"wkb_xmax", 1, 2, side},          {"wkb_ymax", 1, 3, side}};
+  } CALLS[] = {{"wkb_well_formed", 1, well_formed},
+               {"wkb_fault", 1, fault},
+               {"wkb_kind", 1, kind},
+               {"wkb_srid", 1, srid},
+               {"wkb_canonical", 1, canonical},
+               {"wkb_ewkb", 1, ewkb},
+               {"wkb_ewkb", 2, ewkb_with_srid},
+               {"wkb_same", 2, same},
+               {"wkb_xmin", 1, xmin},
+               {"wkb_ymin", 1, ymin},
+               {"wkb_zmin", 1, zmin},
+               {"wkb_mmin", 1, mmin},
+               {"wkb_xmax", 1, xmax},
+               {"wkb_ymax", 1, ymax},
+               {"wkb_zmax", 1, zmax},
+               {"wkb_mmax", 1, mmax}};
   SQLITE_EXTENSION_INIT2(api);
   (void)error;
-  for (size_t i = 0; i < sizeof CALLS / sizeof CALLS[0]; i++) {
-    int flags = SQLITE_UTF8 | SQLITE_DETERMINISTIC | SQLITE_INNOCUOUS;
-    int status = sqlite3_create_function_v2(db, CALLS[i].name, CALLS[i].n, flags, (void *)CALLS[i].data, CALLS[i].call,
-                                            NULL, NULL, NULL);
-    if (status != SQLITE_OK) return status;
+  last_bounds *last = sqlite3_malloc(sizeof *last);
+  if (last == NULL) return SQLITE_NOMEM;
+  last->users = 1, last->size = 0;
+  int flags = SQLITE_UTF8 | SQLITE_DETERMINISTIC | SQLITE_INNOCUOUS, status = SQLITE_OK;
+  for (size_t i = 0; i < sizeof CALLS / sizeof CALLS[0] && status == SQLITE_OK; i++) {
+    last->users++;
+    status = sqlite3_create_function_v2(db, CALLS[i].name, CALLS[i].n, flags, last, CALLS[i].call, NULL, NULL, release);
   }
-  return SQLITE_OK;
+  release(last);
+  return status;
 }

@@ -1,0 +1,116 @@
+"""The extensions of SQLite and PostgreSQL beside wkb.py, over geometries with each byte changed, and cut at each byte.
+
+    python3 hostile.py sqlite LIBRARY EXTENSION    # tries all functions, also over the blobs of GeoPackages
+    python3 hostile.py rows LIBRARY                # prints what the functions have to return, for c/postgres/run
+
+The results have to be those of the library in Python for the same bytes.
+"""
+import os
+import sqlite3
+import struct
+import sys
+
+from wkb import Form, Kind, Library, Refused, Status
+
+SEEDS = [bytes.fromhex(it) for it in (
+    "0101000000000000000000f03f0000000000000040",
+    "00000000013ff00000000000004000000000000000",
+    "0101000020e6100000000000000000f03f0000000000000040",
+    "01ea03000002000000000000000000f87f0000000000000040000000000000f0bf"
+    "000000000000f03f000000000000f87f0000000000001040",
+    "0020000003000010e600000001000000013ff00000000000004000000000000000",
+    "01040000000200000001010000000000000000000840000000000000f0bf00000000013ff00000000000004000000000000000",
+    "0107000000020000000102000000000000000107000000010000000101000000000000000000f87f000000000000f87f",
+    "01b90b0000000000000000f03f000000000000004000000000000008400000000000001040",
+)]
+ENVELOPES = [0, 32, 48, 48, 64]
+SIDES = [(axis, end) for axis in "xyzm" for end in ("min", "max")]
+QUERY = "select wkb_well_formed(?1), wkb_fault(?1), wkb_kind(?1), wkb_srid(?1), wkb_canonical(?1), wkb_ewkb(?1), " + (
+    "wkb_ewkb(?1, 3857), wkb_same(?1, ?2), wkb_same(?2, ?1), wkb_same(?1, ?1), "
+) + ", ".join(f"wkb_{axis}{end}(?1)" for axis, end in SIDES)
+
+
+def inputs():
+    """The seeds, those with a changed byte, cut ones, and those with a byte after them."""
+    for seed in SEEDS:
+        yield from (seed, seed + b"\1")
+        yield from (seed[:i] for i in range(len(seed)))
+        for i, byte in enumerate(seed):
+            for other in {0, 1, 2, 7, 8, 0x20, 0x80, 0xff, byte ^ 1, byte ^ 0x40}:
+                yield seed[:i] + bytes([other]) + seed[i + 1 :]
+
+
+def place(text, part, offset):
+    return f"{text}, in part {part} at byte {offset}"
+
+
+def results(library, data, header=b"", srs_id=None):
+    """What the functions return of a geometry with this header before it."""
+    try:
+        found = library.check(data)
+    except Refused as refused:
+        text = library.status_text(refused.status)
+        if refused.status == Status.CODE_OUT_OF_RANGE:
+            text += f" {refused.fault.code}"
+        return (0, place(text, refused.fault.part, len(header) + refused.fault.offset)) + (None,) * (8 + len(SIDES))
+    is_whole = found.size == len(data)
+    fault = None if is_whole else f"bytes after the geometry, from {len(header) + found.size} on"
+    srid = srs_id if srs_id is not None else found.srid if found.has_srid else None
+    form = Form.EWKB_WITH_SRID if srid is not None and (srid > 0 or srs_id is None) else Form.EWKB_WITHOUT_SRID
+    ewkb = library.write(data, form=form, srid=srid if form == Form.EWKB_WITH_SRID else 0)
+    box = library.bounds(data)
+    sides = [getattr(getattr(box, axis), {"min": "least", "max": "greatest"}[end]) for axis, end in SIDES]
+    sides = [side if getattr(box, axis).count else None for side, (axis, end) in zip(sides, SIDES)]
+    same = int(library.same(data, SEEDS[0]))
+    return (
+        int(is_whole), fault, Kind(found.kind).name.replace("_", "").lower(), srid, library.write(data), ewkb,
+        library.write(data, form=Form.EWKB_WITH_SRID, srid=3857), same, same, 1, *sides,
+    )
+
+
+def headers():
+    """Headers of GeoPackages, in either byte order, with each envelope, and their SRIDs."""
+    for envelope, size in enumerate(ENVELOPES):
+        for order, flag in (("<", 1), (">", 0)):
+            for srs_id in (4326, 0, -1):
+                flags = envelope << 1 | flag | 0x10 * (srs_id == 0)
+                yield b"GP\0" + bytes([flags]) + struct.pack(order + "i", srs_id) + bytes(size), srs_id
+
+
+def try_sqlite(library, extension):
+    """Compares the results of the extension at a path, which is all that a user gives."""
+    count, database = 0, sqlite3.connect(":memory:")
+    database.enable_load_extension(True)
+    database.load_extension(os.fspath(extension))
+    for data in inputs():
+        for header, srs_id in [(b"", None), *headers()]:
+            returned = database.execute(QUERY, (header + data, SEEDS[0])).fetchone()
+            expected = results(library, data, header, srs_id)
+            count += 1
+            if returned != expected:
+                sys.exit(f"{(header + data).hex()}:\n  expected {expected}\n  returned {returned}")
+    print(f"c/sqlite: {count} blobs, whole, changed and cut, give what Python gives")
+
+
+def copied(value):
+    """A value as COPY reads it."""
+    if value is None:
+        return "\\N"
+    return "\\\\x" + value.hex() if isinstance(value, bytes) else str(value)
+
+
+def print_rows(library):
+    """A line for each input and what the functions return of it, for the database's COPY."""
+    for data in inputs():
+        print("\t".join(map(copied, (data, *results(library, data)))))
+
+
+def main():
+    library = Library(sys.argv[2])
+    if sys.argv[1] == "sqlite":
+        try_sqlite(library, sys.argv[3])
+    else:
+        print_rows(library)
+
+
+main()

@@ -1,0 +1,252 @@
+// speed ROUNDS: nanoseconds of a call over random geometries of one shape after another, beside the readers of GEOS and
+// OGR where they are. All calls of a shape are timed in each round, and the shortest of the rounds counts.
+#include "wkb.hpp"
+
+#include <algorithm>
+#include <cstdio>
+#include <cstdlib>
+#include <cstring>
+#include <ctime>
+#include <functional>
+#include <limits>
+#include <random>
+#ifdef WITH_GEOS
+#include <geos_c.h>
+#endif
+#ifdef WITH_OGR
+#include <ogr_geometry.h>
+#endif
+
+namespace {
+
+constexpr std::size_t ROWS = 1000;
+constexpr int PASSES = 20;
+using row = std::vector<std::byte>;
+
+std::mt19937_64 random_numbers(7);
+// What all calls compute goes here, so that none is left out by the compiler.
+double sum = 0;
+
+void put(row &out, std::uint32_t number) {
+  for (int k = 0; k < 4; k++) out.push_back(static_cast<std::byte>(number >> 8 * k));
+}
+
+void put_coordinates(row &out, std::uint32_t count) {
+  for (std::uint32_t i = 0; i < 2 * count; i++) {
+    const double number = static_cast<double>(random_numbers() % 360000000) / 1e6 - 180;
+    std::byte bytes[8];
+    std::memcpy(bytes, &number, sizeof bytes);
+    out.insert(out.end(), bytes, bytes + 8);
+  }
+}
+
+void put_header(row &out, wkb_kind kind) {
+  out.push_back(std::byte{WKB_ORDER_LITTLE});
+  put(out, kind);
+}
+
+// A ring, or the body of a line string. A ring ends as it begins, as GEOS asks.
+void put_line(row &out, std::uint32_t count, bool is_ring) {
+  put(out, count);
+  put_coordinates(out, count);
+  if (is_ring) std::copy_n(out.end() - 16 * static_cast<std::ptrdiff_t>(count), 16, out.end() - 16);
+}
+
+void put_polygon(row &out, std::uint32_t rings, std::uint32_t count) {
+  put_header(out, WKB_KIND_POLYGON);
+  put(out, rings);
+  for (std::uint32_t i = 0; i < rings; i++) put_line(out, count, true);
+}
+
+row point() {
+  row out;
+  put_header(out, WKB_KIND_POINT);
+  put_coordinates(out, 1);
+  return out;
+}
+
+row line(std::uint32_t count) {
+  row out;
+  put_header(out, WKB_KIND_LINE_STRING);
+  put_line(out, count, false);
+  return out;
+}
+
+row polygon() {
+  row out;
+  put_polygon(out, 2, 12);
+  return out;
+}
+
+row multi_polygon() {
+  row out;
+  put_header(out, WKB_KIND_MULTI_POLYGON);
+  put(out, 5);
+  for (int i = 0; i < 5; i++) put_polygon(out, 1, 12);
+  return out;
+}
+
+// A call, and the nanoseconds of its shortest round, divided by the rows and by what a row has of what is timed.
+struct timed {
+  const char *name;
+  std::function<void(const row &)> call;
+  double shortest = std::numeric_limits<double>::infinity();
+  double per_row = 1;
+};
+
+// The columns that a time takes in the table.
+int width_of(const timed &it) { return static_cast<int>(std::max<std::size_t>(std::strlen(it.name), 8)); }
+
+double now() {
+  timespec time;
+  clock_gettime(CLOCK_PROCESS_CPUTIME_ID, &time);
+  return 1e9 * static_cast<double>(time.tv_sec) + static_cast<double>(time.tv_nsec);
+}
+
+void time_round(std::vector<timed> &calls, const std::vector<row> &rows) {
+  for (timed &it : calls) {
+    const double start = now();
+    for (int pass = 0; pass < PASSES; pass++)
+      for (const row &input : rows) it.call(input);
+    it.shortest = std::min(it.shortest, (now() - start) / (PASSES * static_cast<double>(rows.size()) * it.per_row));
+  }
+}
+
+std::vector<wkb_part> table(1024);
+std::vector<double> words(4096);
+std::vector<std::byte> encoding(65536);
+
+std::uint64_t parts_of(const row &input) {
+  std::uint64_t count = 0;
+  wkb_parts(input.data(), input.size(), table.data(), table.size(), &count, nullptr);
+  return count;
+}
+
+void call_check(const row &input) {
+  wkb_found found;
+  wkb_check(input.data(), input.size(), &found, nullptr);
+  sum += static_cast<double>(found.coordinates);
+}
+
+void call_bounds(const row &input) {
+  wkb_box box;
+  wkb_bounds(input.data(), input.size(), &box, nullptr);
+  sum += box.x.least;
+}
+
+void call_parts(const row &input) { sum += static_cast<double>(parts_of(input)); }
+
+void call_parts_and_words(const row &input) {
+  const std::uint64_t count = parts_of(input);
+  for (std::uint64_t i = 0; i < count; i++) {
+    if (table[i].kind > WKB_KIND_LINE_STRING) continue;
+    wkb_words(input.data(), &table[i], 0, table[i].count, words.data());
+    sum += words[0];
+  }
+}
+
+void call_parts_and_each_word(const row &input) {
+  const std::uint64_t count = parts_of(input);
+  for (std::uint64_t i = 0; i < count; i++) {
+    if (table[i].kind > WKB_KIND_LINE_STRING) continue;
+    for (std::uint64_t k = 0; k < table[i].count; k++)
+      sum += wkb_word(input.data(), &table[i], k, 0) + wkb_word(input.data(), &table[i], k, 1);
+  }
+}
+
+void call_write(const row &input) {
+  static const wkb_options BIG = {WKB_ORDER_BIG, WKB_FORM_ISO, 0};
+  std::uint64_t size = 0;
+  wkb_write(input.data(), input.size(), &BIG, encoding.data(), encoding.size(), &size, nullptr);
+  sum += static_cast<double>(size);
+}
+
+#ifdef WITH_GEOS
+GEOSContextHandle_t geos = GEOS_init_r();
+GEOSWKBReader *geos_reader = GEOSWKBReader_create_r(geos);
+
+void geos_read(const row &input) {
+  const auto *front = reinterpret_cast<const unsigned char *>(input.data());
+  GEOSGeometry *geometry = GEOSWKBReader_read_r(geos, geos_reader, front, input.size());
+  if (geometry == nullptr) std::exit(1);
+  double least = 0;
+  GEOSGeom_getXMin_r(geos, geometry, &least);
+  sum += least;
+  GEOSGeom_destroy_r(geos, geometry);
+}
+#endif
+
+#ifdef WITH_OGR
+void ogr_read(const row &input) {
+  OGRGeometry *geometry = nullptr;
+  OGREnvelope envelope;
+  if (OGRGeometryFactory::createFromWkb(input.data(), nullptr, &geometry, input.size()) != OGRERR_NONE) std::exit(1);
+  geometry->getEnvelope(&envelope);
+  sum += envelope.MinX;
+  delete geometry;
+}
+#endif
+
+// The calls are copied, so that each shape has rounds of its own.
+void time_shape(const char *shape, const std::function<row()> &make, std::vector<timed> calls, int rounds) {
+  std::vector<row> rows(ROWS);
+  std::generate(rows.begin(), rows.end(), make);
+  for (const row &input : rows)
+    if (!wkb::check(input)) std::exit(1);
+  for (int round = 0; round < rounds; round++) time_round(calls, rows);
+  std::printf("%-14s %6zu", shape, rows[0].size());
+  for (const timed &it : calls) std::printf(" %*.1f", width_of(it), it.shortest);
+  std::printf("\n");
+}
+
+// One long line string in each order, so that the words alone are timed.
+void time_words(int rounds) {
+  constexpr std::uint32_t COUNT = 2000;
+  const row little = line(COUNT);
+  row big = wkb::write(little, {WKB_ORDER_BIG, WKB_FORM_ISO, 0});
+  for (const row *input : {&static_cast<const row &>(little), &static_cast<const row &>(big)}) {
+    parts_of(*input);
+    std::vector<timed> calls{
+        {"wkb_word", [](const row &it) {
+           for (std::uint64_t i = 0; i < COUNT; i++)
+             sum += wkb_word(it.data(), table.data(), i, 0) + wkb_word(it.data(), table.data(), i, 1);
+         }},
+        {"wkb_words", [](const row &it) {
+           wkb_words(it.data(), table.data(), 0, COUNT, words.data());
+           sum += words[1];
+         }}};
+    for (timed &it : calls) it.per_row = 2 * COUNT;
+    const std::vector<row> rows(100, *input);
+    for (int round = 0; round < rounds; round++) time_round(calls, rows);
+    std::printf("a word, %s endian: wkb_word %.2f, wkb_words %.2f\n", input == &little ? "little" : "big",
+                calls[0].shortest, calls[1].shortest);
+  }
+}
+
+}  // namespace
+
+int main(int argc, char **argv) {
+  const int rounds = argc == 2 ? std::atoi(argv[1]) : 5;
+  std::vector<timed> calls{{"check", call_check},
+                           {"bounds", call_bounds},
+                           {"parts", call_parts},
+                           {"parts, words", call_parts_and_words},
+                           {"parts, each word", call_parts_and_each_word},
+                           {"write", call_write}};
+#ifdef WITH_OGR
+  calls.push_back({"OGR", ogr_read});
+#endif
+#ifdef WITH_GEOS
+  calls.push_back({"GEOS", geos_read});
+#endif
+  std::printf("%-14s %6s", "ns a call", "bytes");
+  for (const timed &it : calls) std::printf(" %*s", width_of(it), it.name);
+  std::printf("\n");
+  time_shape("point", point, calls, rounds);
+  time_shape("line of 10", [] { return line(10); }, calls, rounds);
+  time_shape("line of 100", [] { return line(100); }, calls, rounds);
+  time_shape("polygon", polygon, calls, rounds);
+  time_shape("multi polygon", multi_polygon, calls, rounds);
+  time_words(rounds);
+  return sum == 0.5 ? 1 : 0;
+}

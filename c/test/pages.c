@@ -1,0 +1,91 @@
+/* Inputs at the end of a page that nothing may be read after, and calls from several threads. */
+#define _GNU_SOURCE
+#include "shared.h"
+#include <pthread.h>
+#include <sys/mman.h>
+#include <unistd.h>
+
+/* An input that is cut off, so that it ends where the page does, is refused by all calls alike. */
+static void cut_is_refused(const answer *a, const uint8_t *bytes, size_t len, uint8_t *page_end, size_t cut) {
+  uint8_t *start = page_end - cut, out[128];
+  wkb_fault fault, again[4];
+  wkb_part parts[8];
+  wkb_box box;
+  uint64_t size, count;
+  uint32_t equal, which = 0;
+  memcpy(start, bytes, cut);
+  wkb_status status = wkb_check(start, cut, NULL, &fault);
+  expect(status >= WKB_STATUS_IO_ERROR && status <= WKB_STATUS_SHORT_LINEAR_RING, "a cut is refused", a->input);
+  expect(wkb_bounds(start, cut, &box, &again[0]) == status, "bounds of a cut", a->input);
+  expect(wkb_write(start, cut, &LITTLE_ISO, out, sizeof out, &size, &again[1]) == status, "a cut written", a->input);
+  expect(wkb_same(bytes, len, start, cut, &equal, &again[2], &which) == status && which == 2, "a cut second", a->input);
+  expect(wkb_parts(start, cut, parts, 8, &count, &again[3]) == status, "the parts of a cut", a->input);
+  for (int i = 0; i < 4; i++) expect(is_same_fault(&again[i], &fault), "the fault of a cut", a->input);
+}
+
+/* A column of one row, whose offsets and validity are at the end of a page as well. */
+static void column_ends_at_page(const answer *a, uint8_t *page_end, uint8_t *other_end, size_t len) {
+  for (size_t offset_size = 4; offset_size <= 8; offset_size += 4) {
+    uint8_t status = 0x5a;
+    uint64_t end;
+    wkb_box box;
+    memset(other_end - 2 * offset_size - 1, 0, 2 * offset_size + 1);
+    memcpy(other_end - offset_size, &(uint64_t){len}, offset_size);
+    wkb_column column = {page_end - len, len, other_end - 2 * offset_size, offset_size, NULL, 0, 1};
+    wkb_column_check(&column, &status);
+    expect(status == a->status, "a column at the end of a page", a->input);
+    wkb_column_bounds(&column, &box, &status);
+    expect(status == a->status, "bounds at the end of a page", a->input);
+    wkb_column_parts(&column, NULL, 0, &end, &status);
+    expect(status == (a->status == WKB_STATUS_OK ? WKB_STATUS_NO_ROOM : a->status), "parts at the end", a->input);
+  }
+  uint8_t status = 0x5a;
+  int64_t offsets[2] = {0, (int64_t)len};
+  other_end[-1] = 0x80;
+  wkb_column column = {page_end - len, len, offsets, 8, other_end - 1, 7, 1};
+  wkb_column_check(&column, &status);
+  expect(status == a->status, "validity at the end of a page", a->input);
+}
+
+/* Two pages, of which the second may not be read. */
+static uint8_t *end_of_a_page(void) {
+  size_t page = (size_t)sysconf(_SC_PAGESIZE);
+  uint8_t *pages = mmap(NULL, 2 * page, PROT_READ | PROT_WRITE, MAP_PRIVATE | MAP_ANONYMOUS, -1, 0);
+  expect(pages != MAP_FAILED && mprotect(pages + page, page, PROT_NONE) == 0, "two pages", "");
+  return pages + page;
+}
+
+void nothing_is_read_after_the_input(void) {
+  uint8_t *end = end_of_a_page(), *other_end = end_of_a_page();
+  for (int i = 0; i < ANSWER_COUNT; i++) {
+    uint8_t bytes[128];
+    size_t len = spelled(ANSWERS[i].input, bytes);
+    memcpy(end - len, bytes, len);
+    check_is_as_told(&ANSWERS[i], end - len, len);
+    refusal_leaves_outputs(&ANSWERS[i], end - len, len);
+    parts_are_as_told(&ANSWERS[i], end - len, len);
+    column_ends_at_page(&ANSWERS[i], end, other_end, len);
+    if (ANSWERS[i].status != WKB_STATUS_OK) continue;
+    for (size_t cut = 0; cut < ANSWERS[i].found.size; cut++) cut_is_refused(&ANSWERS[i], bytes, len, end, cut);
+  }
+}
+
+/* All inputs many times over, as each of several threads does. */
+static void *many_times(void *unused) {
+  for (int n = 0; n < 2000; n++) {
+    for (int i = 0; i < ANSWER_COUNT; i++) {
+      uint8_t bytes[128];
+      size_t len = spelled(ANSWERS[i].input, bytes);
+      check_is_as_told(&ANSWERS[i], bytes, len);
+      refusal_leaves_outputs(&ANSWERS[i], bytes, len);
+      parts_are_as_told(&ANSWERS[i], bytes, len);
+    }
+  }
+  return unused;
+}
+
+void calls_run_at_the_same_time(void) {
+  pthread_t threads[4];
+  for (int i = 0; i < 4; i++) expect(pthread_create(&threads[i], NULL, many_times, NULL) == 0, "a thread", "");
+  for (int i = 0; i < 4; i++) expect(pthread_join(threads[i], NULL) == 0, "a thread's end", "");
+}

@@ -1,0 +1,64 @@
+/* What the tests of the C library share. */
+#ifndef SHARED_H
+#define SHARED_H
+
+#include "wkb.h"
+#include <stdbool.h>
+#include <stdio.h>
+#include <stdlib.h>
+
+/* How many more blocks malloc and realloc give a thread; how many blocks it holds; the bytes that it asked for. */
+extern __thread size_t allowed;
+extern __thread long held;
+extern __thread size_t asked;
+
+/* Prints what is wrong, and ends. */
+void expect(bool holds, const char *what, const char *where);
+
+/* The bytes that a text spells in hex, and how many there are. A capital letter stands for a word in little endian:
+ * W, X, Y and Z for 1, 2, 3 and 4, N for a not-a-number, I and J for the infinities, O and M for 0 and -0. P is WX. */
+size_t spelled(const char *text, uint8_t *bytes);
+
+/* An input, and what wkb_check returns: of an accepted one what is found, of a refused one its fault. */
+typedef struct answer {
+  const char *input;
+  wkb_status status;
+  wkb_found found;
+  wkb_fault fault;
+} answer;
+
+enum { ANSWER_COUNT = 30 };
+extern const answer ANSWERS[ANSWER_COUNT];
+
+bool is_same_fault(const wkb_fault *a, const wkb_fault *b);
+
+extern const wkb_options LITTLE_ISO;
+
+/* The column of all inputs, and after it a null row and one with bad offsets. */
+enum { COLUMN_ROWS = ANSWER_COUNT + 2 };
+typedef struct filled {
+  uint8_t data[2048], validity[(COLUMN_ROWS + 7) / 8];
+  int64_t offsets[COLUMN_ROWS + 1];
+  wkb_column column;
+} filled;
+
+void fill(filled *f);
+
+/* The status of a row of this column where its items fit the room, or don't. */
+wkb_status status_of(size_t row, bool has_room);
+
+/* The tests, by their files. Each group ends the program where something is wrong. */
+void calls_are_right(void);
+void bounds_are_right(void);
+void words_are_right(void);
+void columns_are_right(void);
+void coordinates_are_right(void);
+void check_is_as_told(const answer *a, const uint8_t *bytes, size_t len);
+void parts_are_as_told(const answer *a, const uint8_t *bytes, size_t len);
+void refusal_leaves_outputs(const answer *a, const uint8_t *bytes, size_t len);
+void nothing_is_read_after_the_input(void);
+void memory_is_refused(void);
+void memory_is_bounded(void);
+void calls_run_at_the_same_time(void);
+
+#endif

@@ -1,0 +1,151 @@
+/* The lines of the library that aren't proved: each call of wkb.h replaces null pointers, unpacks the structs of
+ * columns and calls its proved wkb_raw_ call. The texts, the version and wkb_words are whole here. */
+#include "wkb_raw.h"
+
+/* What an empty slice points to, for any type of its items. */
+static const uint64_t NOTHING[1] = {0};
+
+static const uint8_t *bytes_of(const void *bytes, size_t len) {
+  return len == 0 ? (const uint8_t *)NOTHING : (const uint8_t *)bytes;
+}
+
+unsigned wkb_version(void) { return WKB_VERSION; }
+
+const char *wkb_status_text(unsigned status) {
+  switch (status) {
+    case WKB_STATUS_OK: return "ok";
+    case WKB_STATUS_NO_MEMORY: return "out of memory";
+    case WKB_STATUS_NO_ROOM: return "the output doesn't fit its room";
+    case WKB_STATUS_UNKNOWN_OPTION: return "unknown byte order, form or dimension";
+    case WKB_STATUS_IO_ERROR: return "the input ends inside a header or before a count";
+    case WKB_STATUS_INVALID_BYTE_ORDER: return "a byte order is neither 0 nor 1";
+    case WKB_STATUS_CODE_OUT_OF_RANGE: return "unknown geometry type code";
+    case WKB_STATUS_INCORRECT_TYPE: return "a member does not belong in its multi geometry";
+    case WKB_STATUS_NESTING_DEPTH_EXCEEDED: return "a collection is inside 128 others";
+    case WKB_STATUS_SHORT_POINT: return "the input ends inside a point";
+    case WKB_STATUS_SHORT_LINE_STRING: return "the input ends inside a line string";
+    case WKB_STATUS_SHORT_MULTI_POINT: return "the input ends inside a multi point";
+    case WKB_STATUS_SHORT_LINEAR_RING: return "the input ends inside a ring";
+    case WKB_STATUS_NULL_ROW: return "the row is null";
+    case WKB_STATUS_BAD_OFFSETS: return "the row's offsets decrease, or pass the end of the data";
+  }
+  return "unknown status";
+}
+
+wkb_status wkb_check(const void *buf, size_t len, wkb_found *found, wkb_fault *fault) {
+  wkb_found found_here;
+  wkb_fault fault_here;
+  return wkb_raw_check(bytes_of(buf, len), len, found ? found : &found_here, fault ? fault : &fault_here);
+}
+
+wkb_status wkb_bounds(const void *buf, size_t len, wkb_box *box, wkb_fault *fault) {
+  wkb_box box_here;
+  wkb_fault fault_here;
+  return wkb_raw_bounds(bytes_of(buf, len), len, box ? box : &box_here, fault ? fault : &fault_here);
+}
+
+wkb_status wkb_write(const void *buf, size_t len, const wkb_options *options, void *out, size_t room, uint64_t *size,
+                     wkb_fault *fault) {
+  uint8_t out_here;
+  uint64_t size_here;
+  wkb_fault fault_here;
+  return wkb_raw_write(bytes_of(buf, len), len, options, room == 0 ? &out_here : (uint8_t *)out, room,
+                       size ? size : &size_here, fault ? fault : &fault_here);
+}
+
+wkb_status wkb_same(const void *a, size_t a_len, const void *b, size_t b_len, uint32_t *equal, wkb_fault *fault,
+                    uint32_t *which) {
+  uint32_t equal_here;
+  uint32_t which_here;
+  wkb_fault fault_here;
+  return wkb_raw_same(bytes_of(a, a_len), a_len, bytes_of(b, b_len), b_len, equal ? equal : &equal_here,
+                      fault ? fault : &fault_here, which ? which : &which_here);
+}
+
+wkb_status wkb_parts(const void *buf, size_t len, wkb_part *parts, size_t room, uint64_t *count, wkb_fault *fault) {
+  wkb_part part_here;
+  uint64_t count_here;
+  wkb_fault fault_here;
+  return wkb_raw_parts(bytes_of(buf, len), len, room == 0 ? &part_here : parts, room, count ? count : &count_here,
+                       fault ? fault : &fault_here);
+}
+
+/* The bytes of all offsets of a column that has rows; none where no row has an offset. */
+static size_t offsets_len(const wkb_column *column) {
+  size_t size = column->offset_size;
+  if (size != sizeof(int32_t) && size != sizeof(int64_t)) return 0;
+  return column->rows < SIZE_MAX / size ? size * (column->rows + 1) : 0;
+}
+
+/* The bytes up to the one with the validity bit of the last row, for a column that has rows; none without validity. */
+static size_t validity_len(const wkb_column *column) {
+  size_t first = column->validity_offset, more = column->rows - 1;
+  if (column->validity == NULL) return 0;
+  return first / 8 + more / 8 + (first % 8 + more % 8) / 8 + 1;
+}
+
+/* The arguments that all calls of columns begin with. */
+#define UNPACKED(column)                                                                          \
+  bytes_of((column)->data, (column)->size), (column)->size,                                       \
+      bytes_of((column)->offsets, offsets_len(column)), offsets_len(column), (column)->offset_size, \
+      bytes_of((column)->validity, validity_len(column)), validity_len(column), (column)->validity_offset
+
+void wkb_column_check(const wkb_column *column, uint8_t *statuses) {
+  if (column->rows == 0) return;
+  wkb_raw_column_check(UNPACKED(column), statuses, column->rows);
+}
+
+void wkb_column_bounds(const wkb_column *column, wkb_box *boxes, uint8_t *statuses) {
+  if (column->rows == 0) return;
+  wkb_raw_column_bounds(UNPACKED(column), boxes, column->rows, statuses, column->rows);
+}
+
+uint64_t wkb_column_parts(const wkb_column *column, wkb_part *parts, size_t room, uint64_t *ends, uint8_t *statuses) {
+  wkb_part part_here;
+  size_t rows = column->rows;
+  if (rows == 0) return 0;
+  wkb_raw_column_parts(UNPACKED(column), room == 0 ? &part_here : parts, room, ends, rows, statuses, rows);
+  return ends[rows - 1];
+}
+
+uint64_t wkb_column_write(const wkb_column *column, const wkb_options *options, void *out, size_t room, uint64_t *ends,
+                          uint8_t *statuses) {
+  uint8_t out_here;
+  size_t rows = column->rows;
+  if (rows == 0) return 0;
+  wkb_raw_column_write(UNPACKED(column), options, room == 0 ? &out_here : (uint8_t *)out, room, ends, rows, statuses,
+                       rows);
+  return ends[rows - 1];
+}
+
+void wkb_column_coordinates(const wkb_column *column, wkb_dim dimension, wkb_coordinates *out, uint8_t *statuses) {
+  double word_here;
+  uint64_t ring_end_here, single_end_here;
+  wkb_raw_totals totals = {0, 0, 0};
+  size_t rows = column->rows;
+  if (rows > 0)
+    wkb_raw_column_coordinates(UNPACKED(column), (uint32_t)dimension, out->words_room == 0 ? &word_here : out->words,
+                               out->words_room, out->ring_room == 0 ? &ring_end_here : out->ring_ends, out->ring_room,
+                               out->single_room == 0 ? &single_end_here : out->single_ends, out->single_room,
+                               out->row_ends, rows, &totals, statuses, rows);
+  out->coordinates = totals.coordinates;
+  out->rings = totals.rings;
+  out->singles = totals.singles;
+}
+
+void wkb_words(const void *buf, const wkb_part *part, uint64_t first, uint64_t count, double *out) {
+  uint64_t words = part->width * count;
+  if (words == 0) return;
+  const uint8_t *bytes = (const uint8_t *)buf + part->offset + 8 * part->width * first;
+  if (part->order == WKB_ORDER_BIG) {
+    for (uint64_t k = 0; k < words; k++) {
+      uint64_t word = wkb_big_word(bytes + 8 * k);
+      memcpy(out + k, &word, sizeof word);
+    }
+    return;
+  }
+  for (uint64_t k = 0; k < words; k++) {
+    uint64_t word = wkb_little_word(bytes + 8 * k);
+    memcpy(out + k, &word, sizeof word);
+  }
+}
