@@ -1,12 +1,15 @@
 #!/usr/bin/env python3
-"""The crates as the Rattle kit's command `rt` knows them, for scripts that call the prover over the libraries that are built.
+"""The crates as the Rattle kit's command `rt` knows them, for scripts that call the prover over the libraries built.
 
     tools/kit.py archive NAME FILE     proves crates/NAME, a static library, alone, and builds it into FILE
-    tools/kit.py program NAME FILE     proves crates/NAME, a program, and all crates below it from nothing, and builds it
-                                       into FILE
+    tools/kit.py program NAME FILE     proves crates/NAME, a program, and all crates below it from nothing, and builds
+                                       it into FILE
 
 `archive` ends with 2 where a library below the crate is not built, or is older than its sources. `program` builds those
 libraries anew, and proves as many crates side by side as RT_JOBS says.
+
+The command is a program and no library, so another kit may have other names inside. BORROWED lists each name that is
+used here, and a name that is missing ends the script with 2 before anything is tried.
 """
 import functools
 import importlib.machinery
@@ -19,12 +22,26 @@ import sys
 
 ROOT = pathlib.Path(__file__).resolve().parent.parent
 ADVICE = "`rt ci` builds all libraries; `rt lib` in crates/wkb builds those of wkb"
+# What is used of the command: of itself, of the module `rtlib` that it loads, and of a crate.
+BORROWED = {
+    "rt": "KIT Crate edited handles_of in_lanes need processors rtlib unread",
+    "rtlib": "Crate PARTS RATTLE files_of guarded",
+    "Crate": "allowed below count folder is_program link name rlib words",
+}
 
 
 def stop(why):
     """Ends the script, which has judged nothing."""
     print(why, file=sys.stderr)
     sys.exit(2)
+
+
+def look(owner, label):
+    """Ends the script where the command has not what is borrowed of it."""
+    missing = [name for name in BORROWED[label].split() if not hasattr(owner, name)]
+    if missing:
+        what = " ".join(f"{label}.{name}" for name in missing)
+        stop(f"tools/kit.py was written for another kit: the command rt on the PATH has no {what}")
 
 
 def load():
@@ -36,10 +53,24 @@ def load():
     loader = importlib.machinery.SourceFileLoader("rt", os.path.realpath(command))
     module = importlib.util.module_from_spec(importlib.util.spec_from_loader("rt", loader))
     loader.exec_module(module)
+    look(module, "rt")
+    look(module.rtlib, "rtlib")
+    # As the command itself does it for `rt ci`: crates below a crate are of the same class.
+    module.rtlib.Crate, module.Crate.allowed = module.Crate, module.handles_of(str(ROOT))
     return module
 
 
 rt = load()
+
+
+def begin():
+    """Starts what ends the prover with this script. No other thread may run then, since a signal's handler is set."""
+    rt.rtlib.guarded()
+
+
+def processors():
+    """How many processors there are to use."""
+    return rt.processors()
 
 
 def crate(name):
@@ -47,7 +78,9 @@ def crate(name):
     folder = ROOT / "crates" / name
     if not (folder / "src").is_dir():
         stop(f"there is no crate {name}")
-    return rt.rtlib.Crate(str(folder), str(ROOT), {})
+    found = rt.Crate(str(folder), str(ROOT), {})
+    look(found, "Crate")
+    return found
 
 
 def is_built(library):
@@ -66,6 +99,23 @@ def unbuilt(crates):
     return sorted({library.name for it in crates for library in it.below() if not is_built(library)})
 
 
+def copy_sources(crate, folder):
+    """Copies the code, the definitions and the proofs of a crate into a folder."""
+    for part in rt.rtlib.PARTS:
+        if pathlib.Path(crate.folder, part).is_dir():
+            shutil.copytree(f"{crate.folder}/{part}", folder / part)
+
+
+def edited(text, folder):
+    """The texts of the files that an edit changes, by their paths in the folder; or None, and why it doesn't apply."""
+    return rt.edited(text, str(folder))
+
+
+def is_unread(line, changed):
+    """Whether the prover says by this line that it can't read one of the changed files, so that it judges nothing."""
+    return rt.unread(line, changed)
+
+
 def prove(verb, crate, flags, folder):
     """Runs the prover, as `check` or `build`, over the sources in a folder, which are the crate's or a copy of them."""
     words = crate.words(flags, keeps=False)
@@ -75,12 +125,12 @@ def prove(verb, crate, flags, folder):
 
 
 def archive(name, file):
-    """Proves a static library alone, and builds it into the file. Answers the status."""
+    """Proves a static library alone, and builds it into the file. Returns the status."""
     library = crate(name)
     missing = unbuilt([library])
     if missing:
         stop(f"not built, or older than the sources: {' '.join(missing)}. {ADVICE}")
-    flags = ["--jobs", str(min(4, rt.processors())), "--toolchain", f"{rt.KIT}/toolchain"]
+    flags = ["--jobs", str(min(4, processors())), "--toolchain", f"{rt.KIT}/toolchain"]
     ran = prove("build", library, [*flags, "--backend", "llvm", "-o", os.path.abspath(file)], library.folder)
     print(ran.stdout, end="")
     return ran.returncode
@@ -100,10 +150,8 @@ def prove_anew(crate, given, _jobs):
 
 
 def program(name, file):
-    """Proves a program and the crates below it from nothing, and builds it into the file. Answers the status."""
-    rt.rtlib.Crate, rt.Crate.allowed = rt.Crate, rt.handles_of(str(ROOT))
-    # Its first call sets a signal's handler, which no other thread may.
-    rt.rtlib.guarded()
+    """Proves a program and the crates below it from nothing, and builds it into the file. Returns the status."""
+    begin()
     whole = crate(name)
     tasks = {}
     for it in [*whole.below(), whole]:

@@ -75,3 +75,28 @@ fn point_srid(rt: HostRuntime) -> Result<(), Fail> {
     assert!(rt; has_srid(rt.alloc(), &expected)?);
     Ok(())
 }
+
+/// A point of 1.0 and 2.0.
+const BARE_POINT: &str = "0101000000000000000000f03f0000000000000040";
+
+/// A polygon of one ring, and the same big endian with an SRID.
+const POLYGON: &str = "01030000000100000001000000000000000000f03f0000000000000040";
+
+const POLYGON_WITH_SRID: &str =
+    "0020000003000010e600000001000000013ff00000000000004000000000000000";
+
+/// A point of two zeros, and one of a zero and a negative zero.
+const ZEROS: &str = "010100000000000000000000000000000000000000";
+
+const NEGATIVE_ZERO: &str = "010100000000000000000000000000000000000080";
+
+// The cases same-polygons, zero-signs and srid-word.
+#[test]
+fn values_and_srids(rt: HostRuntime) -> Result<(), Fail> {
+    assert!(rt; same_hex(rt.alloc(), POLYGON, POLYGON_WITH_SRID)?);
+    assert!(rt; !same_hex(rt.alloc(), ZEROS, NEGATIVE_ZERO)?);
+    assert!(rt; srid_hex(rt.alloc(), POLYGON)?.is_none());
+    assert!(rt; srid_hex(rt.alloc(), POLYGON_WITH_SRID)? == Some(4326));
+    assert!(rt; srid_hex(rt.alloc(), BARE_POINT)?.is_none());
+    Ok(())
+}

@@ -8,7 +8,8 @@ ghost use Rattle.wkb_geom.specs.declared.error.WkbError.TheVariants.{IOError};
 
 use std::hash::{DefaultHasher, Hash, Hasher};
 use std::io;
-use wkb::reader::GeometryType;
+use wkb::reader::{Counts, GeometryType};
+use wkb_command::calls::Cost;
 use wkb_geom::code::WkbType;
 use wkb_geom::words::is_nan;
 use wkb_geom::{Dimension, Dimensions, EMPTY_WORD, Endianness, Form, General, Overflow, WkbResult};
@@ -94,6 +95,20 @@ fn is_overflow(a: Overflow, b: Overflow) -> bool
 }
 
 fn is_kind(a: GeometryType, b: GeometryType) -> bool
+    ensures { IsTrue result ↔ (a ≡ b) }
+{
+    a == b
+}
+
+// Two counts are compared as their values are.
+fn are_counts(a: Counts, b: Counts) -> bool
+    ensures { IsTrue result ↔ (a ≡ b) }
+{
+    a == b
+}
+
+// Two costs are compared as their values are.
+fn is_cost(a: Cost, b: Cost) -> bool
     ensures { IsTrue result ↔ (a ≡ b) }
 {
     a == b

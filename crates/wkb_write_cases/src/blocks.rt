@@ -12,8 +12,8 @@ use wkb::writer::Sink;
 use wkb_cases::spelled::Spelled;
 use wkb_cases::support::{ONE, iso, line_string_of, multi_line_string_of, point_of};
 
-/// The words of sixty-four coordinates: a line string of so many is longer than any block.
-const WORDS: [u64; 128] = [ONE; 128];
+/// How many words sixty-four coordinates have: a line string of so many is longer than any block.
+const WORDS: usize = 128;
 
 /// With fewer empty line strings before it than that, another begins at each place modulo sixteen.
 const MOST_EMPTY: usize = 16;
@@ -57,6 +57,15 @@ fn encoding_of(empty: usize, words: &[u64]) -> Result<Spelled, Fail> {
     let mut encoding = Spelled::new();
     push_multi(&mut encoding, empty, words)?;
     Ok(encoding)
+}
+
+// No two words are equal, so that a coordinate in another's place shows.
+fn words() -> [u64; WORDS] {
+    let mut words = [0; WORDS];
+    for i in 0..WORDS {
+        words[i] = i as u64;
+    }
+    words
 }
 
 // Whether a sink with so much room holds a beginning of the encoding, and the writer answers its error where that isn't
@@ -108,9 +117,10 @@ fn fills_rooms(empty: usize, words: &[u64], rooms: &[usize]) -> Result<bool, Fai
 
 #[test]
 fn each_length(rt: HostRuntime) -> Result<(), Fail> {
+    let all = words();
     for empty in 0..MOST_EMPTY {
-        let mut words = WORDS.as_slice();
-        for _coordinate in 0..=WORDS.len() / 2 {
+        let mut words = all.as_slice();
+        for _coordinate in 0..=WORDS / 2 {
             let len = words.len();
             assert!(rt; fills_rooms(empty, words, &ROOMS)?, "{empty} {len}");
             words = words.get(2..).unwrap_or(&[]);
@@ -121,8 +131,9 @@ fn each_length(rt: HostRuntime) -> Result<(), Fail> {
 
 #[test]
 fn each_room(rt: HostRuntime) -> Result<(), Fail> {
+    let words = words();
     for room in 0..1100usize {
-        assert!(rt; fills_rooms(3, &WORDS, &[room])?, "{room}");
+        assert!(rt; fills_rooms(3, &words, &[room])?, "{room}");
     }
     Ok(())
 }

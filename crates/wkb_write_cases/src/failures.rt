@@ -126,9 +126,9 @@ fn fills_all(alloc: Global, kind: Kind, encoding: &Spelled) -> Result<bool, Fail
     fills(alloc, kind, encoding, ROOM)
 }
 
-// The case's rectangle, and each other kind.
+// The case rect-cut, and so each other kind.
 #[test]
-fn rect_cut(rt: HostRuntime) -> Result<(), Fail> {
+fn slices_of_each_length(rt: HostRuntime) -> Result<(), Fail> {
     for (kind, text) in ENCODINGS {
         assert!(rt; fills_all(rt.alloc(), kind, &bytes(text)?)?, "{text}");
     }

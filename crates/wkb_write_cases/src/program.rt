@@ -1,18 +1,16 @@
 //! The program over readers and writers that fail or take little, with an input cut short, and under any name.
 
-ghost use Rattle.std.specs.Prelude.{◌≡◌, ◌↔◌, IsTrue};
-
 use crate::sinks::LimitedWriter;
 use std::alloc::{AllocError, Global};
 use std::env::{Env, FillError};
 use std::io;
 use std::io::{Read, Write};
 use std::test::Fail;
-use wkb::reader::Counts;
-use wkb_cases::spelled::{Spelled, digits_of};
-use wkb_cases::texts::nested_in;
+use wkb_cases::spelled::{Spelled, bytes, digits_of};
+use wkb_cases::texts::{
+    MEMBER_WITH_SRID, MIXED_DIMENSIONS, MULTI_LINE_TWO, POLYGON_HOLE, nested_in,
+};
 use wkb_command::arguments::{ArgumentFault, read_arguments};
-use wkb_command::calls::Cost;
 use wkb_command::program::run;
 
 /// The most digits of an input that gives one a read: the last of 16777216 reads finds the end.
@@ -56,11 +54,11 @@ const ANSWERS: [(&str, &str, &str); 7] = [
 const SHORT_POINT: &str =
     "refused: General error: Invalid buffer length for Point: geometry would end at byte";
 
-/// Gives one digit a read, so many in all. Then it ends, or fails where it does.
+/// Gives one digit a read, so many in all. Then it ends; or it fails once, and goes on with so many more.
 #[derive(Drop)]
 struct Digits {
     left: u32,
-    fails: bool,
+    after_failure: Option<u32>,
 }
 
 impl Read for Digits {
@@ -69,11 +67,12 @@ impl Read for Digits {
             return Ok(0);
         }
         if self.left == 0 {
-            return if self.fails {
-                Err(io::Error::from(io::ErrorKind::Interrupted))
-            } else {
-                Ok(0)
+            let Some(more) = self.after_failure else {
+                return Ok(0);
             };
+            self.left = more;
+            self.after_failure = None;
+            return Err(io::Error::from(io::ErrorKind::Interrupted));
         }
         self.left -= 1;
         buf[0] = b'0';
@@ -122,34 +121,32 @@ fn ends<R: Read>(
 
 // So of digits that end.
 fn ends_behind(alloc: Global, left: u32, status: u8, line: &str) -> Result<bool, Fail> {
-    ends(
-        alloc,
-        "le",
-        &mut Digits { left, fails: false },
-        status,
-        line,
-    )
+    let mut digits = Digits {
+        left,
+        after_failure: None,
+    };
+    ends(alloc, "le", &mut digits, status, line)
 }
 
-// Whether a run fails whose reader does so at its second call.
-fn fails_with_its_reader(alloc: Global, word: &str) -> Result<bool, Fail> {
-    ends(
-        alloc,
-        word,
-        &mut Digits {
-            left: 1,
-            fails: true,
-        },
-        3,
-        "",
-    )
+// Whether a run fails whose reader does so at its second call, and then has so many digits more.
+fn fails_with_its_reader(alloc: Global, word: &str, more: u32) -> Result<bool, Fail> {
+    let mut digits = Digits {
+        left: 1,
+        after_failure: Some(more),
+    };
+    ends(alloc, word, &mut digits, 3, "")
+}
+
+// So also where the reader would go on: no read is tried again.
+fn fails_at_once(alloc: Global, word: &str) -> Result<bool, Fail> {
+    Ok(fails_with_its_reader(alloc, word, 0)? && fails_with_its_reader(alloc, word, 1)?)
 }
 
 // A reader that fails at its second call; digits for ever, as many as are read and the end, and one more.
 #[test]
 fn program_io_of_readers(rt: HostRuntime) -> Result<(), Fail> {
     for (word, _input, _line) in ANSWERS {
-        assert!(rt; fails_with_its_reader(rt.alloc(), word)?, "{word}");
+        assert!(rt; fails_at_once(rt.alloc(), word)?, "{word}");
     }
     assert!(rt; ends_behind(rt.alloc(), u32::MAX, 3, "")?);
     assert!(rt; ends_behind(rt.alloc(), MOST_DIGITS, 2, "not hex\n")?);
@@ -157,8 +154,8 @@ fn program_io_of_readers(rt: HostRuntime) -> Result<(), Fail> {
     Ok(())
 }
 
-// Whether a run writes the beginning of its line into a writer that takes a byte a call and fails after so many. It is
-// offered no byte twice.
+// Whether a run writes the beginning of its line into a writer that takes a byte a call, fails once after so many, and
+// would then go on. It is offered no byte twice.
 fn is_told(alloc: Global, answer: (&str, &str, &str), room: usize) -> Result<bool, Fail> {
     let (word, input, line) = answer;
     let line = line.as_bytes();
@@ -219,6 +216,46 @@ fn cut_nested(rt: HostRuntime) -> Result<(), Fail> {
     Ok(())
 }
 
+/// What else is said of an input that is cut short, up to the kind.
+const TOO_SHORT: &str = "refused: General error: Invalid buffer length for ";
+
+// Whether a run ends with 1 on so many bytes of these digits, and says that they are too few.
+fn is_short(alloc: Global, digits: &[u8], len: usize) -> Result<bool, Fail> {
+    let mut reader = digits.get(..len.saturating_mul(2)).ok_or("too few digits")?;
+    let (status, out) = outcome(alloc, "le", &mut reader)?;
+    let line = out.as_slice();
+    Ok(
+        status == 1
+            && (line == b"refused: end of input\n".as_slice()
+                || line.starts_with(TOO_SHORT.as_bytes())),
+    )
+}
+
+// So of each proper beginning.
+fn are_short(alloc: Global, text: &str) -> Result<bool, Fail> {
+    let input = bytes(text)?;
+    let digits = digits_of(input.as_slice())?;
+    for len in 0..input.len() {
+        if !is_short(alloc, digits.as_slice(), len)? {
+            return Ok(false);
+        }
+    }
+    Ok(true)
+}
+
+#[test]
+fn cut_others(rt: HostRuntime) -> Result<(), Fail> {
+    for text in [
+        POLYGON_HOLE,
+        MULTI_LINE_TWO,
+        MEMBER_WITH_SRID,
+        MIXED_DIMENSIONS,
+    ] {
+        assert!(rt; are_short(rt.alloc(), text)?, "{text}");
+    }
+    Ok(())
+}
+
 /// Arguments, and whether those behind the name are texts.
 const ARGUMENTS: [([&[u8]; 3], bool); 3] = [
     ([b"\xff/", b"le", b"be"], true),
@@ -262,9 +299,9 @@ fn are_arguments(words: &[String], arguments: [&[u8]; 3]) -> bool {
     }
 }
 
-// The name need not be a text, the words behind it have to be, and they may be longer than the bytes lent at first.
+// The case program-name: the name need not be a text; the words after it have to be, and may be of any length.
 #[test]
-fn program_name(rt: HostRuntime) -> Result<(), Fail> {
+fn arguments(rt: HostRuntime) -> Result<(), Fail> {
     for (arguments, are_texts) in ARGUMENTS {
         match read_arguments(rt.alloc(), &Process { arguments }) {
             Ok(words) => assert!(rt; are_texts && are_arguments(words.as_slice(), arguments)),
@@ -273,47 +310,4 @@ fn program_name(rt: HostRuntime) -> Result<(), Fail> {
         }
     }
     Ok(())
-}
-
-// The derived comparisons are those of the values.
-fn are_counts(a: Counts, b: Counts) -> bool
-    ensures { IsTrue result ↔ (a ≡ b) }
-{
-    a == b
-}
-
-fn is_cost(a: Cost, b: Cost) -> bool
-    ensures { IsTrue result ↔ (a ≡ b) }
-{
-    a == b
-}
-
-#[test]
-fn costs_compared(rt: HostRuntime) {
-    let counts = Counts { turns: 2, slots: 1 };
-    let other = Counts { turns: 1, slots: 2 };
-    assert!(rt; are_counts(counts, counts) && !are_counts(counts, other));
-    let cost = Cost {
-        accepted: true,
-        counts,
-    };
-    assert!(rt; is_cost(cost, cost));
-    assert!(rt;
-        !is_cost(
-            cost,
-            Cost {
-                accepted: false,
-                counts
-            }
-        )
-    );
-    assert!(rt;
-        !is_cost(
-            cost,
-            Cost {
-                accepted: true,
-                counts: other
-            }
-        )
-    );
 }

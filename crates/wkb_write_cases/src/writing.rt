@@ -94,9 +94,9 @@ fn is_written(
     Ok(sink.into_vec().as_slice() == expected.as_slice())
 }
 
-// Also the cases written-nans and ewkb-empty, and of unknown-dimensions the dimensions with a name.
+// The cases empty-point, written-nans and ewkb-empty, and of unknown-dimensions the dimensions with a name.
 #[test]
-fn empty_point(rt: HostRuntime) -> Result<(), Fail> {
+fn points_written(rt: HostRuntime) -> Result<(), Fail> {
     for (dim, words, form, text) in POINTS {
         assert!(rt; is_written(rt.alloc(), dim, words, form, text)?, "{text}");
     }
@@ -163,8 +163,9 @@ fn line_and_rect_written(alloc: Global) -> Result<(usize, Vec<u8>), Fail> {
     size_and_encoding(alloc, collection_of_two(alloc, Dimensions::Xy, line, rect)?)
 }
 
+// Of the case line-triangle the collection.
 #[test]
-fn line_triangle(rt: HostRuntime) -> Result<(), Fail> {
+fn line_and_rect_in_a_collection(rt: HostRuntime) -> Result<(), Fail> {
     let mut expected = bytes("01 07000000 02000000 01 02000000 02000000 P P")?;
     expected.spell(RECT)?;
     let (size, encoding) = line_and_rect_written(rt.alloc())?;
