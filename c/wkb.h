@@ -1,5 +1,6 @@
 /* Well-Known Binary for C and C++: a reader and a writer that are proved to do what this header says. Only tested are
- * what it marks so, wkb_words and wkb_word, the texts, and what it says of null.
+ * what it marks so, wkb_words and wkb_word, the texts, what it says of null, and that the members of wkb_column and
+ * wkb_coordinates reach the proved calls.
  *
  * BUF may hold any bytes. A call reads the bytes that it is given and no others, writes only through its other
  * pointers, keeps nothing, and returns. Output buffers must not overlap each other or any input.
