@@ -1,7 +1,6 @@
 -- The layout of a member that is known to stand at the front of the bytes, by its first byte and the flag of its code.
 use Rattle.std.proofs.Common.{◌≡◌, ℕ, ◌≤◌, List, [], ◌∷◌, length, drop, Option, Some, None, Bool, true, false, refl}
-use Rattle.std.proofs.Common.{sym, ap, ◌∙◌, arith, length-drop, subst}
-use Rattle.std.proofs.Common.{Result, Ok, Err}
+use Rattle.std.proofs.Common.{sym, ap, ◌∙◌, arith, length-drop, subst, Result, Ok, Err}
 use Rattle.std.specs.Prelude.{IsOk, nat_lt, ◌==◌, ◌&&◌, if◌then◌else◌, slice_index_or, not}
 use Rattle.std.proofs.lemmas.Bool.{ltb-false, ne_eqb}
 use Rattle.wkb_geom.specs.declared.common.Dimension.{Dimension}
@@ -13,8 +12,7 @@ use Rattle.wkb_geom.specs.declared.error.Cause.{Cause}
 use Rattle.wkb_geom.specs.Meanings.{has_srid_flag}
 use Rattle.wkb_geom.specs.Numbers.{number}
 use Rattle.wkb_geom.specs.Reading.{Meaning, meaning_of, type_kind, type_dimension, same_dimension, head_by_code}
-use Rattle.wkb_geom.specs.Reading.{head_by_order, head_at}
-use Rattle.wkb_geom.specs.Reading.{order_of_byte, laid, layout_wanted, member_layout}
+use Rattle.wkb_geom.specs.Reading.{head_by_order, head_at, order_of_byte, laid, layout_wanted, member_layout}
 
 -- the layout of a member of this order and code
 abbrev layout_by : ℕ → Dimension → Endianness → ℕ → Layout

@@ -18,10 +18,8 @@ use Rattle.wkb_geom.specs.Geometries.{multi_polygon, collection, line}
 use Rattle.wkb_geom.specs.Geometries.{rectangle, triangle, no_geometries, geometry, normal}
 use Rattle.wkb_geom.specs.Sizes.{byte_size}
 use Rattle.wkb_geom.specs.Encodings.{encoding, fault, refusal, unsupported_dimensions, count_overflow, code_of}
-use Rattle.wkb_geom.specs.Encodings.{srid_encoding}
-use Rattle.wkb_geom.specs.Encodings.{header_encoding, words_encoding, coordinates_encoding}
-use Rattle.wkb_geom.specs.Encodings.{point_words, point_encoding, line_string_encoding, polygon_encoding}
-use Rattle.wkb_geom.specs.Encodings.{members_encoding, or_else}
+use Rattle.wkb_geom.specs.Encodings.{srid_encoding, header_encoding, words_encoding, coordinates_encoding, point_words}
+use Rattle.wkb_geom.specs.Encodings.{point_encoding, line_string_encoding, polygon_encoding, members_encoding, or_else}
 use Rattle.wkb_geom.specs.Encodings.{dimensions_fault, count_fault}
 use Rattle.wkb_geom.specs.Reading.{Meaning, meaning_of}
 use Rattle.wkb_geom.proofs.Hex.{hex, copies}

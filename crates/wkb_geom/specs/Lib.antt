@@ -8,7 +8,6 @@ pub mod Fronts
 pub mod Refusals
 pub mod Geometries
 pub mod Encodings
-pub mod Told
 pub mod Errors
 pub mod Reading
 pub mod Parts

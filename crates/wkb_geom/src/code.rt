@@ -80,7 +80,7 @@ fn of_thousands(thousands: u32) -> Dimension
     }
 }
 
-/// The dimension that has z and m where it is said by a flag or by the thousands.
+/// The dimension that has a z or an m where a flag or the thousands say so.
 fn joined(z: bool, m: bool, iso: Dimension) -> Dimension
     ensures { result ≡ dimension_with (z || has_z iso) (m || has_m iso) }
 {
@@ -142,8 +142,8 @@ impl WkbGeometryCode {
         SRID_FLAG <= cleared(cleared(self.code, Z_FLAG), M_FLAG)
     }
 
-    /// The kind and the dimension, by ISO codes and the flags of EWKB: `CodeOutOfRange` with the whole code where it
-    /// has none.
+    /// The kind and the dimension, by ISO codes and the flags of EWKB. `CodeOutOfRange` with the whole code if it is not
+    /// in the table.
     pub fn get_type(&self) -> WkbResult<WkbType>
         ensures meant { HasType self.now result }
     {

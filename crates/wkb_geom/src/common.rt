@@ -1,7 +1,7 @@
 //! Byte orders, dimensions and the two written forms.
 
 ghost use Rattle.std.specs.Prelude.{◌≡◌};
-ghost use Rattle.wkb_geom.specs.Dimensions.{size, width, has_z, has_m, dimensions};
+ghost use Rattle.wkb_geom.specs.Dimensions.{size, width, has_z, has_m, as_dimensions};
 ghost use Rattle.wkb_geom.specs.Meanings.{HasOrder, IsNamed};
 ghost use Rattle.wkb_geom.specs.Numbers.{order_byte};
 ghost use Rattle.wkb_geom.specs.Reading.{order_of_byte};
@@ -20,7 +20,7 @@ pub enum Endianness {
 }
 
 impl Endianness {
-    /// The order that a geometry's first byte says, if it says one.
+    /// The order that a geometry's first byte means, if it means one.
     #[inline]
     pub fn of_byte(byte: u8) -> Option<Endianness>
         ensures { result ≡ order_of_byte byte }
@@ -32,7 +32,7 @@ impl Endianness {
         }
     }
 
-    /// The first byte of a geometry in this order: `u8::from(order)`, which a crate that names `wkb` alone can't call.
+    /// The first byte of a geometry in this order. It is `u8::from(order)`, which a crate that names only `wkb` can't call.
     pub fn byte(self) -> u8
         ensures { result ≡ order_byte self }
     {
@@ -53,7 +53,7 @@ pub enum Dimension {
 }
 
 impl Dimension {
-    /// How many words a coordinate has.
+    /// The number of words in a coordinate.
     pub fn width(self) -> usize
         ensures { result ≡ width self }
     {
@@ -85,19 +85,19 @@ impl Dimension {
     }
 }
 
-/// The dimension that a geometry trait answers.
+/// The dimension of a geometry, as the geometry traits name it.
 #[derive(Clone, Copy, Debug, PartialEq)]
 pub enum Dimensions {
     Xy,
     Xyz,
     Xym,
     Xyzm,
-    /// This many numbers in each coordinate.
+    /// This many words in each coordinate.
     Unknown(usize),
 }
 
 impl Dimensions {
-    /// How many words a coordinate has.
+    /// The number of words in a coordinate.
     pub fn size(&self) -> usize
         ensures { result ≡ size self.now }
     {
@@ -142,7 +142,7 @@ impl Form {
     }
 }
 
-/// The order that a geometry's first byte says.
+/// The order that a geometry's first byte means.
 impl TryFrom<u8> for Endianness {
     type Error = WkbError;
 
@@ -164,7 +164,7 @@ impl From<Endianness> for u8 {
     }
 }
 
-/// The dimension that is written where a geometry answers these.
+/// The dimension that is written of a geometry of these.
 impl TryFrom<Dimensions> for Dimension {
     type Error = WkbError;
 
@@ -181,9 +181,9 @@ impl TryFrom<Dimensions> for Dimension {
     }
 }
 
-/// The name that geometry traits have for a dimension.
+/// A dimension that was read, as the geometry traits name it.
 impl From<Dimension> for Dimensions {
-    ghost from_gives = { λ d result. result ≡ dimensions d };
+    ghost from_gives = { λ d result. result ≡ as_dimensions d };
 
     fn from(dimension: Dimension) -> Dimensions {
         match dimension {

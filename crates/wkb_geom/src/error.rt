@@ -3,8 +3,7 @@
 ghost use Rattle.std.specs.Prelude.{◌≡◌};
 ghost use Rattle.wkb_geom.specs.declared.error.WkbError.TheVariants.{IOError, Memory};
 ghost use Rattle.wkb_geom.specs.declared.error.Refusal.TheVariants as refusals;
-ghost use Rattle.wkb_geom.specs.Errors.{IsMemory, TellsFault};
-ghost use Rattle.wkb_geom.specs.Told.{Tells, TellsRefusal};
+ghost use Rattle.wkb_geom.specs.Errors.{IsMemory, Tells, TellsFault, TellsRefusal};
 
 use std::alloc::{AllocError, AllocFailed};
 use std::io;
@@ -13,7 +12,7 @@ use thiserror::Error;
 /// A fault of the bytes, or of a geometry's dimension.
 #[derive(Debug, Clone, Copy, PartialEq, Error)]
 pub enum General {
-    /// A geometry to be written has this many numbers in a coordinate, and no name for its dimension.
+    /// A geometry to be written has this many numbers in a coordinate, and its dimension has no name.
     #[error("Unsupported number of dimensions: {0}")]
     UnsupportedDimensions(usize),
     /// The whole code as read, flags included, which isn't in the table.
@@ -49,17 +48,17 @@ pub enum Cause {
     NestingDepthExceeded(usize),
 }
 
-/// Why a reader stops: a fault of the bytes, or memory that was asked for and refused.
+/// Why a reader stops: the bytes are refused, or an allocation failed.
 #[derive(Clone, Copy)]
 pub enum Refusal {
-    Fault(Cause),
+    Cause(Cause),
     Memory,
 }
 
-/// Why a geometry is not written: the first fault in preorder, else its size.
+/// Why a geometry is not written: the first fault in preorder, or its size.
 #[derive(Clone, Copy)]
 pub enum Fault {
-    /// A geometry has this many numbers in a coordinate, and no name for its dimension.
+    /// A geometry has this many numbers in a coordinate, and its dimension has no name.
     UnsupportedDimensions(usize),
     /// A count past 4294967295.
     Count,
@@ -84,7 +83,7 @@ pub enum WkbError {
     /// A member of a multi geometry of another kind or dimension, or a point among them with an SRID.
     #[error("Incorrect type passed to operation: {0}")]
     IncorrectType(&'static str),
-    /// Kept for its name: nothing answers it.
+    /// Kept for its name: nothing returns it.
     #[error("Not yet implemented: {0}")]
     NotYetImplemented(&'static str),
     /// A fault with its numbers.
@@ -99,12 +98,12 @@ pub enum WkbError {
     /// A geometry too large to be written.
     #[error("{0}")]
     OverflowError(Overflow),
-    /// Memory was asked for and refused.
+    /// An allocation failed.
     #[error("out of memory")]
     Memory(AllocError),
 }
 
-/// An answer, or why there is none.
+/// A result, or why there is none.
 pub type WkbResult<T> = Result<T, WkbError>;
 
 impl From<io::Error> for WkbError {
@@ -115,7 +114,7 @@ impl From<io::Error> for WkbError {
     }
 }
 
-/// Want of memory, as an allocation of a caller's own meets it.
+/// An allocation of the caller's own failed.
 impl From<AllocError> for WkbError {
     ghost from_gives = { λ e result. result ≡ Memory e };
 
@@ -124,7 +123,7 @@ impl From<AllocError> for WkbError {
     }
 }
 
-/// A value that a list had no memory for: `?` drops it.
+/// A list could not allocate room for a value, which `?` drops.
 impl<T: Drop> From<AllocFailed<T>> for WkbError {
     ghost from_gives = { λ _ e. IsMemory e };
 
@@ -133,16 +132,16 @@ impl<T: Drop> From<AllocFailed<T>> for WkbError {
     }
 }
 
-/// A fault of the bytes stops the reader.
+/// Bytes that are refused stop the reader.
 impl From<Cause> for Refusal {
-    ghost from_gives = { λ cause refusal. refusal ≡ refusals.Fault cause };
+    ghost from_gives = { λ cause refusal. refusal ≡ refusals.Cause cause };
 
     fn from(cause: Cause) -> Refusal {
-        Refusal::Fault(cause)
+        Refusal::Cause(cause)
     }
 }
 
-/// Memory that was refused stops the reader.
+/// An allocation failure stops the reader.
 impl From<AllocError> for Refusal {
     ghost from_gives = { λ e refusal. refusal ≡ refusals.Memory };
 
@@ -151,7 +150,7 @@ impl From<AllocError> for Refusal {
     }
 }
 
-/// The error that tells why bytes are refused.
+/// The error that reports why bytes are refused.
 impl From<Cause> for WkbError {
     ghost from_gives = { λ cause e. Tells e cause };
 
@@ -165,7 +164,7 @@ impl From<Cause> for WkbError {
     }
 }
 
-/// The error that tells why a geometry is not written.
+/// The error that reports why a geometry is not written.
 impl From<Fault> for WkbError {
     ghost from_gives = { λ fault e. TellsFault e fault };
 
@@ -180,13 +179,13 @@ impl From<Fault> for WkbError {
     }
 }
 
-/// The error that tells why a reader stopped.
+/// The error that reports why a reader stopped.
 impl From<Refusal> for WkbError {
     ghost from_gives = { λ refusal e. TellsRefusal e refusal };
 
     fn from(refusal: Refusal) -> WkbError {
         match refusal {
-            Refusal::Fault(cause) => cause.into(),
+            Refusal::Cause(cause) => cause.into(),
             Refusal::Memory => WkbError::Memory(AllocError),
         }
     }

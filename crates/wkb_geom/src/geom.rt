@@ -1,6 +1,6 @@
-//! The traits of geometries, after `geo-traits`. All calls of an implementation answer from one value,
-//! which its ghost members name, and whose parts have the dimension of the whole: that is proved at each
-//! `impl`. Ordinates are the 64 bits of a binary64, never a float.
+//! The traits of geometries, modelled on `geo-traits`. The ghost members of an implementation name the value that its
+//! calls return the parts of. At each `impl` it is proved that they do, and that the parts have the dimension of the
+//! whole. An ordinate is the 64 bits of a binary64, never a float.
 
 ghost use Rattle.std.specs.Prelude.{◌≡◌, ℕ, ◌+◌, ◌-◌, ◌<◌, ◌≤◌, List, length, map, All, slice_get};
 ghost use Rattle.std.specs.Prelude.{Option, None, IfSome, slice_index};
@@ -8,12 +8,11 @@ ghost use Rattle.std.specs.Option.{option_map};
 ghost use Rattle.std.specs.List.{AllByRecursion, flat_map};
 ghost use Rattle.wkb_geom.specs.declared.common.Dimensions.{Dimensions};
 ghost use Rattle.wkb_geom.specs.Dimensions.{size};
-ghost use Rattle.wkb_geom.specs.Geometries.{Geometry, point, line_string, polygon, multi_point};
-ghost use Rattle.wkb_geom.specs.Geometries.{multi_line_string, multi_polygon, collection};
-ghost use Rattle.wkb_geom.specs.Geometries.{rectangle, triangle, line, geometries, IsCoordinate};
+ghost use Rattle.wkb_geom.specs.Geometries.{Geometry, dimensions_of, geometries, IsCoordinate};
 ghost use Rattle.wkb_geom.specs.Geometries.{IsPoint, AreCoordinates, IsGeometry, AreGeometries};
-ghost use Rattle.wkb_geom.specs.Parts.{part_geometry};
-ghost use Rattle.wkb_geom.specs.Sizes.{dimensions_of};
+ghost use Rattle.wkb_geom.specs.Parts.{PointMeans, LineStringMeans, PolygonMeans, MultiPointMeans};
+ghost use Rattle.wkb_geom.specs.Parts.{MultiLineStringMeans, MultiPolygonMeans, CollectionMeans};
+ghost use Rattle.wkb_geom.specs.Parts.{RectMeans, TriangleMeans, LineMeans};
 ghost use Rattle.wkb_geom.specs.Encodings.{words_encoding, encoding, fault};
 
 use crate::{Dimensions, Endianness, Form};
@@ -27,7 +26,7 @@ pub trait Dimensioned: Drop {
         ensures { result ≡ dimensions self.now };
 }
 
-/// A coordinate: as many words as its dimension says.
+/// A coordinate: as many words as its dimension has.
 pub trait CoordTrait: Dimensioned {
     // The words of the coordinate, in order.
     ghost words: { Self → List ℕ };
@@ -57,11 +56,28 @@ pub trait CoordTrait: Dimensioned {
         ensures x { result.0 ≡ slice_index (words self.now) 0 }
         ensures y { result.1 ≡ slice_index (words self.now) 1 };
 
-    // As many words as the dimension says, each of 64 bits.
+    // As many words as the dimension has, each of 64 bits.
     ghost lawful: { (c : Self) → IsCoordinate (Self.dimensions c) (words c) };
 }
 
 /// A point, which may be empty.
+///
+/// `Place` in `crates/wkb_cases/src/places.rt`, a longitude and a latitude, is a point by this implementation, and a
+/// coordinate by another:
+///
+/// ```rust
+/// impl PointTrait for Place {
+///     type CoordType = Place;
+///
+///     ghost coordinate = { λ place. Some (place_words place) };
+///
+///     ghost lawful = { place_lawful };
+///
+///     fn coord(&self) -> Option<Place> {
+///         Some(*self)
+///     }
+/// }
+/// ```
 pub trait PointTrait: Dimensioned {
     type CoordType: CoordTrait;
 
@@ -101,14 +117,13 @@ pub trait LineStringTrait: Dimensioned {
         ensures value { slice_get (coordinates self.now) i ≡ Some (Self.CoordType.words result) }
         ensures dimensions { Self.CoordType.dimensions result ≡ Self.dimensions self.now };
 
-    /// The coordinates as they are written in this order, without a count, where memory holds them so.
+    /// The coordinates as they are written in this order, without a count, if memory holds them so.
     ///
-    /// What is lent can be written in one copy. No implementation has to write this method: without it each
-    /// coordinate is asked for.
+    /// Bytes that are borrowed here are written in one copy. An implementation may leave this method out: the writer
+    /// then asks for each coordinate.
     #[inline]
-    fn standing(&self, _order: Endianness) -> Option<&[u8]>
-        ensures { IfSome result
-            (λ bytes. bytes.now ≡ flat_map (words_encoding _order) (coordinates self.now)) }
+    fn standing(&self, order: Endianness) -> Option<&[u8]>
+        ensures { IfSome result (λ b. b.now ≡ flat_map (words_encoding order) (coordinates self.now)) }
     {
         None
     }
@@ -343,7 +358,7 @@ pub trait GeometryTrait: Dimensioned + Sized {
     // What the geometry means, with all its parts.
     ghost geometry: { Self → Geometry };
 
-    /// The part that says what kind this is, and what it holds.
+    /// The part that shows the kind, and what it holds.
     fn as_type(
         &self,
     ) -> GeometryType<
@@ -359,40 +374,32 @@ pub trait GeometryTrait: Dimensioned + Sized {
         Self::TriangleType,
         Self::LineType,
     >
-        ensures part { part_geometry
-            (λ p. point (Self.PointType.dimensions p) (Self.PointType.coordinate p))
-            (λ l. line_string (Self.LineStringType.dimensions l)
-            (Self.LineStringType.coordinates l))
-            (λ p. polygon (Self.PolygonType.dimensions p) (Self.PolygonType.rings p))
-            (λ m. multi_point (Self.MultiPointType.dimensions m) (Self.MultiPointType.points m))
-            (λ m. multi_line_string (Self.MultiLineStringType.dimensions m)
-            (Self.MultiLineStringType.line_strings m))
-            (λ m. multi_polygon (Self.MultiPolygonType.dimensions m)
-            (Self.MultiPolygonType.polygons m))
-            (λ gs. collection (Self.dimensions self.now) (geometries (map geometry gs)))
-            (λ r. rectangle (Self.RectType.dimensions r) (Self.RectType.min_words r)
-            (Self.RectType.max_words r))
-            (λ t. triangle (Self.TriangleType.dimensions t)
-            (Self.TriangleType.first_words t) (Self.TriangleType.second_words t)
-            (Self.TriangleType.third_words t))
-            (λ l. line (Self.LineType.dimensions l) (Self.LineType.start_words l)
-            (Self.LineType.end_words l))
-            result ≡ geometry self.now };
+        ensures point { PointMeans Self.PointType.PointTrait result (geometry self.now) }
+        ensures line_string { LineStringMeans Self.LineStringType.LineStringTrait result (geometry self.now) }
+        ensures polygon { PolygonMeans Self.PolygonType.PolygonTrait result (geometry self.now) }
+        ensures multi_point { MultiPointMeans Self.MultiPointType.MultiPointTrait result (geometry self.now) }
+        ensures multi_line_string { MultiLineStringMeans Self.MultiLineStringType.MultiLineStringTrait
+            result (geometry self.now) }
+        ensures multi_polygon { MultiPolygonMeans Self.MultiPolygonType.MultiPolygonTrait
+            result (geometry self.now) }
+        ensures collection { CollectionMeans (Self.dimensions self.now) geometry result (geometry self.now) }
+        ensures rect { RectMeans Self.RectType.RectTrait result (geometry self.now) }
+        ensures triangle { TriangleMeans Self.TriangleType.TriangleTrait result (geometry self.now) }
+        ensures line { LineMeans Self.LineType.LineTrait result (geometry self.now) };
 
-    /// The whole encoding in this order and form, where memory holds it so.
+    /// The whole encoding in this order and form, if memory holds it so.
     ///
-    /// What is lent can be written in one copy. No implementation has to write this method: without it the geometry is
-    /// written by its parts.
+    /// Bytes that are borrowed here are written in one copy. An implementation may leave this method out: the geometry
+    /// is then written by its parts.
     #[inline]
-    fn whole(&self, _order: Endianness, _form: Form) -> Option<&[u8]>
-        ensures encoding { IfSome result
-            (λ bytes. bytes.now ≡ encoding _order _form (geometry self.now)) }
-        ensures writable { IfSome result (λ bytes. fault (geometry self.now) ≡ None) }
+    fn whole(&self, order: Endianness, form: Form) -> Option<&[u8]>
+        ensures encoding { IfSome result (λ b. b.now ≡ encoding order form (geometry self.now)) }
+        ensures writable { IfSome result (λ _. fault (geometry self.now) ≡ None) }
     {
         None
     }
 
-    // What it means has the dimension that it answers.
+    // What it means has the dimension that `dim` returns.
     ghost one_dimension: { (g : Self) → dimensions_of (geometry g) ≡ Self.dimensions g };
 
     // Every coordinate fits the dimension.

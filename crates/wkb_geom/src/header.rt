@@ -1,29 +1,29 @@
-//! What stands in front of a body: order, code and SRID; and the count behind them.
+//! What comes before a body: order, code and SRID; and the count after them.
 
 use crate::code::{POINT, WkbGeometryCode, WkbType};
 use crate::common::{Dimension, Endianness, Form};
 use crate::error::{Cause, General};
-use crate::words::{COUNT, u32_at};
+use crate::words::{COUNT_SIZE, u32_at};
 
-/// The bytes of an order.
-const ORDER: usize = 1;
+/// The size of an order byte.
+const ORDER_SIZE: usize = 1;
 
-/// The bytes of a code.
-const CODE: usize = 4;
+/// The size of a code.
+const CODE_SIZE: usize = 4;
 
-/// The bytes of an SRID.
-const SRID: usize = 4;
+/// The size of an SRID.
+const SRID_SIZE: usize = 4;
 
-/// The bytes of a header without an SRID, as it is written of each member.
-pub const MEMBER_HEADER: usize = ORDER + CODE;
+/// The size of a header without an SRID, as each member's is written.
+pub const MEMBER_HEADER_SIZE: usize = ORDER_SIZE + CODE_SIZE;
 
-/// The bytes of a header with an SRID.
-pub const LONGEST_HEADER: usize = MEMBER_HEADER + SRID;
+/// The size of a header with an SRID.
+pub const MAX_HEADER_SIZE: usize = MEMBER_HEADER_SIZE + SRID_SIZE;
 
-/// The fewest bytes of a member: a header, and a count.
-pub const LEAST_MEMBER: usize = MEMBER_HEADER + COUNT;
+/// The size of the shortest member: a header, and a count.
+pub const MIN_MEMBER_SIZE: usize = MEMBER_HEADER_SIZE + COUNT_SIZE;
 
-/// What stands in front of a body.
+/// What comes before a body.
 #[derive(Clone, Copy)]
 pub struct Header {
     pub order: Endianness,
@@ -31,7 +31,7 @@ pub struct Header {
     pub has_srid: bool,
 }
 
-/// How the body behind a header is laid out.
+/// How the body after a header is laid out.
 #[derive(Clone, Copy, Debug)]
 pub struct Layout {
     pub order: Endianness,
@@ -43,7 +43,7 @@ impl Header {
     ghost use Rattle.std.specs.Prelude.{◌≡◌};
     ghost use Rattle.wkb_geom.specs.Reading.{head_at, layout_of};
 
-    /// The header at the front of the bytes, which may go on behind it.
+    /// The header at the front of the bytes.
     #[tactic(auto, unfolding(crate::specs::Reading::head_at))]
     #[inline]
     pub fn read(bytes: &[u8]) -> Result<Header, Cause>
@@ -55,10 +55,10 @@ impl Header {
         let Some(order) = Endianness::of_byte(*first) else {
             return Err(Cause::General(General::InvalidByteOrder));
         };
-        if bytes.len() < MEMBER_HEADER {
+        if bytes.len() < MEMBER_HEADER_SIZE {
             return Err(Cause::EndOfInput);
         }
-        let number = u32_at(bytes, ORDER, order);
+        let number = u32_at(bytes, ORDER_SIZE, order);
         let code = WkbGeometryCode::new(number);
         match code.known_type() {
             Some(wkb_type) => Ok(Header {
@@ -70,7 +70,7 @@ impl Header {
         }
     }
 
-    /// How the body behind it is laid out.
+    /// How the body after it is laid out.
     #[inline]
     pub fn layout(self) -> Layout
         ensures { result ≡ layout_of self }
@@ -84,17 +84,16 @@ impl Header {
 }
 
 impl Layout {
-    ghost use Rattle.std.specs.Prelude.{◌≡◌, ◌+◌, ◌<◌, ◌≤◌, Ok, IsOk, IfOk, IfErr, length, drop};
-    ghost use Rattle.std.specs.Prelude.{true, false, None};
-    ghost use Rattle.wkb_geom.specs.Numbers.{number, AreBytes};
-    ghost use Rattle.wkb_geom.specs.declared.error.Cause.TheVariants.{EndOfInput as end_of_input};
-    ghost use Rattle.wkb_geom.specs.Reading.{body_start, member_layout, parts_start, srid_in};
-    ghost use Rattle.wkb_geom.specs.Reading.{type_kind, type_dimension};
-    ghost use Rattle.wkb_geom.specs.Encodings.{code_of, form_srid};
+    ghost use Rattle.std.specs.Prelude.{◌≡◌, ◌+◌, ◌≤◌, Ok, IsOk, IfOk, IfErr, length, true, false};
+    ghost use Rattle.std.specs.Prelude.{None};
+    ghost use Rattle.wkb_geom.specs.Numbers.{AreBytes};
+    ghost use Rattle.wkb_geom.specs.Reading.{body_start, member_layout, parts_start, srid_in, code_in};
+    ghost use Rattle.wkb_geom.specs.Reading.{count_in, HasNoCount};
+    ghost use Rattle.wkb_geom.specs.Encodings.{type_code, form_srid};
 
     /// The layout of the member of this kind and dimension at the front of the bytes, whose order and flag are its own.
     ///
-    /// A member that is a point has no SRID. `IncorrectType` where another stands there.
+    /// A member that is a point has no SRID. `IncorrectType` if another is there.
     #[inline]
     pub fn of_member(kind: u32, dimension: Dimension, bytes: &[u8]) -> Result<Layout, Cause>
         ensures { member_layout kind dimension bytes.now ≡ result }
@@ -114,7 +113,7 @@ impl Layout {
         })
     }
 
-    /// The layout of a member that is known to stand there: its order and its flag are read, and nothing is tested.
+    /// The layout of a member that is known to be there: its order and its flag are read, and nothing is tested.
     #[inline]
     pub fn of_known_member(kind: u32, dimension: Dimension, bytes: &[u8]) -> Layout
         requires { IsOk (member_layout kind dimension bytes.now) }
@@ -123,7 +122,7 @@ impl Layout {
         let Some(order) = Endianness::of_byte(bytes[0]) else {
             unreachable!()
         };
-        let code = WkbGeometryCode::new(u32_at(bytes, ORDER, order));
+        let code = WkbGeometryCode::new(u32_at(bytes, ORDER_SIZE, order));
         Layout {
             order,
             dimension,
@@ -131,17 +130,16 @@ impl Layout {
         }
     }
 
-    /// Whether a geometry of this type, which is laid out so, begins with the header that is written of it in this
-    /// order and form. False of one that has an SRID or is to have one.
+    /// Whether a geometry of this type and layout begins with the header that is written of it in this order and form.
+    /// False if it has an SRID, or is to be written with one.
     #[tactic(auto, unfolding(crate::specs::Encodings::code_of))]
     #[inline]
     pub fn begins_as(self, wkb_type: WkbType, buf: &[u8], order: Endianness, form: Form) -> bool
-        requires { 5 ≤ length buf.now }
+        requires { MEMBER_HEADER_SIZE ≤ length buf.now }
         ensures order { result ≡ true → self.order ≡ order }
         ensures plain { result ≡ true → self.has_srid ≡ false }
         ensures form { result ≡ true → form_srid form ≡ None }
-        ensures code { result ≡ true → number order 4 (drop 1 buf.now)
-            ≡ code_of form (type_kind wkb_type) (type_dimension wkb_type) }
+        ensures code { result ≡ true → code_in order buf.now ≡ type_code form wkb_type }
         ensures bytes { AreBytes buf.now }
     {
         if self.order != order || self.has_srid {
@@ -152,29 +150,29 @@ impl Layout {
             Form::Ewkb { srid: None } => wkb_type.ewkb_code(false),
             Form::Ewkb { srid: Some(_) } => return false,
         };
-        u32_at(buf, ORDER, order) == code
+        u32_at(buf, ORDER_SIZE, order) == code
     }
 
-    /// How many bytes stand before the body: order, code, and the SRID where there is one.
+    /// The number of bytes before the body: order, code, and the SRID if there is one.
     #[inline]
     pub fn header_length(self) -> usize
         ensures { result ≡ body_start self.has_srid }
     {
         if self.has_srid {
-            LONGEST_HEADER
+            MAX_HEADER_SIZE
         } else {
-            MEMBER_HEADER
+            MEMBER_HEADER_SIZE
         }
     }
 
-    /// The SRID in the bytes of a geometry that is laid out so, where it has one.
+    /// The SRID in the bytes of a geometry of this layout, if it has one.
     #[inline]
     pub fn srid(self, buf: &[u8]) -> Option<u32>
         requires { body_start self.has_srid ≤ length buf.now }
         ensures { result ≡ srid_in self.order self.has_srid buf.now }
     {
         if self.has_srid {
-            Some(u32_at(buf, MEMBER_HEADER, self.order))
+            Some(u32_at(buf, MEMBER_HEADER_SIZE, self.order))
         } else {
             None
         }
@@ -183,25 +181,23 @@ impl Layout {
     /// The count at the beginning of the body, of coordinates, rings or members.
     #[inline]
     pub fn count(self, bytes: &[u8]) -> Result<u32, Cause>
-        ensures counted { IfOk result
-            (λ n. n ≡ number self.order 4 (drop (body_start self.has_srid) bytes.now)) }
-        ensures whole { IfOk result (λ n. body_start self.has_srid + 4 ≤ length bytes.now) }
-        ensures short { IfErr result
-            (λ e. (e ≡ end_of_input) × (length bytes.now < body_start self.has_srid + 4)) }
+        ensures counted { IfOk result (λ n. n ≡ count_in self bytes.now) }
+        ensures whole { IfOk result (λ _. body_start self.has_srid + COUNT_SIZE ≤ length bytes.now) }
+        ensures short { IfErr result (HasNoCount self bytes.now) }
     {
         let at = self.header_length();
-        if bytes.len() < at + COUNT {
+        if bytes.len() < at + COUNT_SIZE {
             return Err(Cause::EndOfInput);
         }
         Ok(u32_at(bytes, at, self.order))
     }
 
-    /// The bytes behind the count.
+    /// The bytes after the count.
     #[inline]
     pub fn after_count(self, bytes: &[u8]) -> &[u8]
-        requires { body_start self.has_srid + 4 ≤ length bytes.now }
+        requires { body_start self.has_srid + COUNT_SIZE ≤ length bytes.now }
         ensures { result.now ≡ parts_start self.has_srid bytes.now }
     {
-        &bytes[self.header_length()..][COUNT..]
+        &bytes[self.header_length()..][COUNT_SIZE..]
     }
 }

@@ -1,5 +1,5 @@
 -- What each plain kind but the collection shows: its dimensions and its words.
-use Rattle.std.specs.Prelude.{◌≡◌, ℕ, List, map, Option}
+use Rattle.std.specs.Prelude.{◌≡◌, ℕ, ◌<◌, List, All, map, Option}
 use Rattle.std.specs.List.{AllByRecursion}
 use Rattle.std.specs.Option.{option_map}
 use Rattle.wkb_plain.specs.declared.coord.Coord.{Coord}
@@ -13,9 +13,14 @@ use Rattle.wkb_plain.specs.declared.polygon.Polygon.{Polygon}
 use Rattle.wkb_plain.specs.declared.rect.Rect.{Rect}
 use Rattle.wkb_plain.specs.declared.triangle.Triangle.{Triangle}
 use Rattle.wkb_geom.specs.declared.common.Dimensions.{Dimensions}
+use Rattle.wkb_geom.specs.Dimensions.{size}
 use Rattle.wkb_geom.specs.Geometries.{IsCoordinate, IsPoint, AreCoordinates}
 use Rattle.wkb_geom.specs.Lawful.{lawful_coordinate, lawful_point, each_part, at_dimension}
 use Rattle.wkb_plain.specs.Runs.{coordinates_in, coordinates_in-lawful}
+
+-- all parts have these dimensions, which have words
+abbrev pub HaveDimensions : {A : Type 0} → (A → Dimensions) → Dimensions → List A → Type 0
+HaveDimensions dimensions dims parts = (0 < size dims) × All (λ a. dimensions a ≡ dims) parts
 
 -- a coordinate
 abbrev pub coord_dimensions : Coord → Dimensions
@@ -26,6 +31,11 @@ coord_words c = c.words.now
 
 pub coord_lawful : (c : Coord) → IsCoordinate (coord_dimensions c) (coord_words c)
 coord_lawful c = lawful_coordinate c.dim c.words.now c.as_many_words c.in_range
+
+-- three corners have the dimensions of the first
+abbrev pub HaveOneDimension : Coord → Coord → Coord → Type 0
+HaveOneDimension first second third =
+    (coord_dimensions second ≡ coord_dimensions first) × (coord_dimensions third ≡ coord_dimensions first)
 
 -- a coordinate beside another of these dimensions
 coord_lawful_beside : (d : Dimensions) (c : Coord) → coord_dimensions c ≡ d → IsCoordinate d (coord_words c)

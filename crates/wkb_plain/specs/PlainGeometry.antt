@@ -3,31 +3,26 @@ use Rattle.std.specs.Prelude.{◌≡◌, List, [], ◌∷◌, map, refl}
 use Rattle.std.proofs.Common.{ap, ◌∙◌, sym, subst}
 use Rattle.wkb_geom.specs.declared.common.Dimensions.{Dimensions}
 use Rattle.wkb_geom.specs.Geometries.{Geometry, point, line_string, polygon, multi_point, multi_line_string}
-use Rattle.wkb_geom.specs.Geometries.{multi_polygon}
-use Rattle.wkb_geom.specs.Geometries.{collection, rectangle, triangle, line, geometries, IsGeometry, AreGeometries}
-use Rattle.wkb_geom.specs.Sizes.{dimensions_of}
+use Rattle.wkb_geom.specs.Geometries.{multi_polygon, collection, rectangle, triangle, line, dimensions_of, geometries}
+use Rattle.wkb_geom.specs.Geometries.{IsGeometry, AreGeometries}
 use Rattle.wkb_plain.specs.declared.geometry.Geometry.{Geometry as PlainGeometry}
-use Rattle.wkb_plain.specs.declared.geometry.Geometry.TheOpen.{Geometry-F, GeometryCollection-F}
-use Rattle.wkb_plain.specs.declared.geometry.Geometry.TheOpen.{Point, LineString, Polygon, MultiPoint, MultiLineString}
-use Rattle.wkb_plain.specs.declared.geometry.Geometry.TheOpen.{MultiPolygon}
+use Rattle.wkb_plain.specs.declared.geometry.Geometry.TheOpen.{Geometry-F, GeometryCollection-F, Point, LineString}
+use Rattle.wkb_plain.specs.declared.geometry.Geometry.TheOpen.{Polygon, MultiPoint, MultiLineString, MultiPolygon}
 use Rattle.wkb_plain.specs.declared.geometry.Geometry.TheOpen.{GeometryCollection, Rect, Triangle, Line}
 use Rattle.wkb_plain.specs.declared.geometry.Geometry.TheViews.{out-Geometry}
 use Rattle.wkb_plain.specs.declared.geometry.Geometry.TheFolds.{fold-Geometry, fold_out-Geometry, map-Geometry}
 use Rattle.wkb_plain.specs.declared.geometry.Geometry.TheFolds.{ind-Geometry, fold-roll-Geometry}
 use Rattle.wkb_plain.specs.declared.geometry.Geometry.TheFolds.{fold-GeometryCollection, fold_out-GeometryCollection}
-use Rattle.wkb_plain.specs.declared.geometry.Geometry.TheFolds.{map-GeometryCollection}
-use Rattle.wkb_plain.specs.declared.geometry.Geometry.TheFolds.{fold-roll-GeometryCollection}
+use Rattle.wkb_plain.specs.declared.geometry.Geometry.TheFolds.{map-GeometryCollection, fold-roll-GeometryCollection}
 use Rattle.wkb_plain.specs.declared.geometry.GeometryCollection.{GeometryCollection as PlainCollection}
-use Rattle.wkb_plain.specs.Kinds.{point_dimensions, point_coordinate, point_lawful}
-use Rattle.wkb_plain.specs.Kinds.{line_string_dimensions, line_string_coordinates, line_string_lawful}
-use Rattle.wkb_plain.specs.Kinds.{polygon_dimensions, polygon_rings, polygon_lawful}
-use Rattle.wkb_plain.specs.Kinds.{multi_point_dimensions, multi_point_points, multi_point_lawful}
+use Rattle.wkb_plain.specs.Kinds.{point_dimensions, point_coordinate, point_lawful, line_string_dimensions}
+use Rattle.wkb_plain.specs.Kinds.{line_string_coordinates, line_string_lawful, polygon_dimensions, polygon_rings}
+use Rattle.wkb_plain.specs.Kinds.{polygon_lawful, multi_point_dimensions, multi_point_points, multi_point_lawful}
 use Rattle.wkb_plain.specs.Kinds.{multi_line_string_dimensions, multi_line_string_line_strings}
-use Rattle.wkb_plain.specs.Kinds.{multi_line_string_lawful}
-use Rattle.wkb_plain.specs.Kinds.{multi_polygon_dimensions, multi_polygon_polygons, multi_polygon_lawful}
-use Rattle.wkb_plain.specs.Kinds.{line_dimensions, line_start, line_end, line_lawful}
-use Rattle.wkb_plain.specs.Kinds.{rect_dimensions, rect_min, rect_max, rect_lawful}
-use Rattle.wkb_plain.specs.Kinds.{triangle_dimensions, triangle_first, triangle_second, triangle_third, triangle_lawful}
+use Rattle.wkb_plain.specs.Kinds.{multi_line_string_lawful, multi_polygon_dimensions, multi_polygon_polygons}
+use Rattle.wkb_plain.specs.Kinds.{multi_polygon_lawful, line_dimensions, line_start, line_end, line_lawful}
+use Rattle.wkb_plain.specs.Kinds.{rect_dimensions, rect_min, rect_max, rect_lawful, triangle_dimensions, triangle_first}
+use Rattle.wkb_plain.specs.Kinds.{triangle_second, triangle_third, triangle_lawful}
 
 -- one layer, with each collection's geometry in its place
 abbrev pub geometry_layer : Geometry-F Geometry Geometry → Geometry
@@ -63,7 +58,7 @@ layer_dimensions (Rect r) = rect_dimensions r
 layer_dimensions (Triangle t) = triangle_dimensions t
 layer_dimensions (Line l) = line_dimensions l
 
--- the dimensions that a plain geometry answers
+-- the dimensions of a plain geometry
 abbrev pub plain_dimensions : PlainGeometry → Dimensions
 plain_dimensions g = layer_dimensions (out-Geometry g)
 
@@ -94,7 +89,7 @@ dimensions_of-plain_geometry g =
     ap dimensions_of (fold_out-Geometry Geometry Geometry geometry_layer collection_layer g)
     ∙ layer-dimensions_of (out-Geometry g)
 
--- the same of a collection
+-- one layer of a collection, with the geometry that each member means in its place
 abbrev meant_collection : GeometryCollection-F PlainGeometry PlainCollection → Geometry
 meant_collection x =
     collection_layer

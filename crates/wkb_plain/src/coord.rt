@@ -1,4 +1,4 @@
-//! Coordinates over words that the caller lends.
+//! Coordinates, which borrow their words.
 
 ghost use Rattle.std.specs.Prelude.{◌≡◌, ◌<◌, ◌↔◌, length, IfSome, IsSome, All};
 ghost use Rattle.wkb_geom.specs.Dimensions.{size};

@@ -159,7 +159,7 @@ impl<'w> GeometryTrait for Geometry<'w> {
         }
     }
 
-    // Its words stand in the caller's slices, and no header beside them.
+    // The trait's default says the same, but the check would prove it again here, in some ten seconds.
     #[inline]
     fn whole(&self, _order: Endianness, _form: Form) -> Option<&[u8]> {
         None

@@ -1,7 +1,6 @@
 //! Line strings of one dimension.
 
-ghost use Rattle.std.specs.Prelude.{◌≡◌, ◌<◌, ◌↔◌, map, IfSome, IsSome, All};
-ghost use Rattle.wkb_geom.specs.Dimensions.{size};
+ghost use Rattle.std.specs.Prelude.{◌≡◌, ◌↔◌, map, IfSome, IsSome, All};
 
 use crate::line_string::LineString;
 use crate::parts::all_have;
@@ -16,15 +15,14 @@ pub struct MultiLineString<'w> {
 }
 
 impl<'w> MultiLineString<'w> {
-    ghost use Rattle.wkb_plain.specs.Kinds.{line_string_dimensions, line_string_coordinates};
-    ghost use Rattle.wkb_plain.specs.Kinds.{multi_line_string_dimensions};
+    ghost use Rattle.wkb_plain.specs.Kinds.{HaveDimensions, line_string_dimensions};
+    ghost use Rattle.wkb_plain.specs.Kinds.{line_string_coordinates, multi_line_string_dimensions};
     ghost use Rattle.wkb_plain.specs.Kinds.{multi_line_string_line_strings};
 
     /// These line strings, in order. None where the dimension has no words, or a line string has
     /// another dimension.
     pub fn new(dim: Dimensions, line_strings: &'w [LineString<'w>]) -> Option<MultiLineString<'w>>
-        ensures some { IsSome result ↔ ((0 < size dim)
-            × All (λ l. line_string_dimensions l ≡ dim) line_strings.now) }
+        ensures some { IsSome result ↔ HaveDimensions line_string_dimensions dim line_strings.now }
         ensures dimensions { IfSome result (λ m. multi_line_string_dimensions m ≡ dim) }
         ensures line_strings { IfSome result (λ m. multi_line_string_line_strings m
             ≡ map line_string_coordinates line_strings.now) }

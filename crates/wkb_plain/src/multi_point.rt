@@ -1,7 +1,6 @@
 //! Points of one dimension.
 
-ghost use Rattle.std.specs.Prelude.{◌≡◌, ◌<◌, ◌↔◌, map, IfSome, IsSome, All};
-ghost use Rattle.wkb_geom.specs.Dimensions.{size};
+ghost use Rattle.std.specs.Prelude.{◌≡◌, ◌↔◌, map, IfSome, IsSome, All};
 
 use crate::parts::all_have;
 use crate::point::Point;
@@ -16,14 +15,13 @@ pub struct MultiPoint<'w> {
 }
 
 impl<'w> MultiPoint<'w> {
-    ghost use Rattle.wkb_plain.specs.Kinds.{point_dimensions, point_coordinate};
+    ghost use Rattle.wkb_plain.specs.Kinds.{HaveDimensions, point_dimensions, point_coordinate};
     ghost use Rattle.wkb_plain.specs.Kinds.{multi_point_dimensions, multi_point_points};
 
     /// These points, in order. None where the dimension has no words, or a point has another
     /// dimension.
     pub fn new(dim: Dimensions, points: &'w [Point<'w>]) -> Option<MultiPoint<'w>>
-        ensures some { IsSome result
-            ↔ ((0 < size dim) × All (λ p. point_dimensions p ≡ dim) points.now) }
+        ensures some { IsSome result ↔ HaveDimensions point_dimensions dim points.now }
         ensures dimensions { IfSome result (λ m. multi_point_dimensions m ≡ dim) }
         ensures points { IfSome result
             (λ m. multi_point_points m ≡ map point_coordinate points.now) }

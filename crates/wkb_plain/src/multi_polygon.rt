@@ -1,7 +1,6 @@
 //! Polygons of one dimension.
 
-ghost use Rattle.std.specs.Prelude.{◌≡◌, ◌<◌, ◌↔◌, map, IfSome, IsSome, All};
-ghost use Rattle.wkb_geom.specs.Dimensions.{size};
+ghost use Rattle.std.specs.Prelude.{◌≡◌, ◌↔◌, map, IfSome, IsSome, All};
 
 use crate::parts::all_have;
 use crate::polygon::Polygon;
@@ -16,14 +15,13 @@ pub struct MultiPolygon<'w> {
 }
 
 impl<'w> MultiPolygon<'w> {
-    ghost use Rattle.wkb_plain.specs.Kinds.{polygon_dimensions, polygon_rings};
+    ghost use Rattle.wkb_plain.specs.Kinds.{HaveDimensions, polygon_dimensions, polygon_rings};
     ghost use Rattle.wkb_plain.specs.Kinds.{multi_polygon_dimensions, multi_polygon_polygons};
 
     /// These polygons, in order. None where the dimension has no words, or a polygon has another
     /// dimension.
     pub fn new(dim: Dimensions, polygons: &'w [Polygon<'w>]) -> Option<MultiPolygon<'w>>
-        ensures some { IsSome result
-            ↔ ((0 < size dim) × All (λ p. polygon_dimensions p ≡ dim) polygons.now) }
+        ensures some { IsSome result ↔ HaveDimensions polygon_dimensions dim polygons.now }
         ensures dimensions { IfSome result (λ m. multi_polygon_dimensions m ≡ dim) }
         ensures polygons { IfSome result
             (λ m. multi_polygon_polygons m ≡ map polygon_rings polygons.now) }

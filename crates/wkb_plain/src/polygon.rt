@@ -1,7 +1,6 @@
-//! Polygons over rings that the caller lends.
+//! Polygons, which borrow their rings.
 
-ghost use Rattle.std.specs.Prelude.{◌≡◌, ◌<◌, ◌↔◌, map, IfSome, IsSome, All};
-ghost use Rattle.wkb_geom.specs.Dimensions.{size};
+ghost use Rattle.std.specs.Prelude.{◌≡◌, ◌↔◌, map, IfSome, IsSome, All};
 
 use crate::line_string::LineString;
 use crate::parts::all_have;
@@ -16,14 +15,14 @@ pub struct Polygon<'w> {
 }
 
 impl<'w> Polygon<'w> {
+    ghost use Rattle.wkb_plain.specs.Kinds.{HaveDimensions};
     ghost use Rattle.wkb_plain.specs.Kinds.{line_string_dimensions, line_string_coordinates};
     ghost use Rattle.wkb_plain.specs.Kinds.{polygon_dimensions, polygon_rings};
 
     /// The polygon of these rings, the exterior first. None where the dimension has no words, or a
     /// ring has another dimension.
     pub fn new(dim: Dimensions, rings: &'w [LineString<'w>]) -> Option<Polygon<'w>>
-        ensures some { IsSome result
-            ↔ ((0 < size dim) × All (λ r. line_string_dimensions r ≡ dim) rings.now) }
+        ensures some { IsSome result ↔ HaveDimensions line_string_dimensions dim rings.now }
         ensures dimensions { IfSome result (λ p. polygon_dimensions p ≡ dim) }
         ensures rings { IfSome result
             (λ p. polygon_rings p ≡ map line_string_coordinates rings.now) }

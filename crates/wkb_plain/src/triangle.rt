@@ -16,14 +16,13 @@ pub struct Triangle<'w> {
 }
 
 impl<'w> Triangle<'w> {
-    ghost use Rattle.wkb_plain.specs.Kinds.{coord_dimensions, coord_words, triangle_dimensions};
+    ghost use Rattle.wkb_plain.specs.Kinds.{HaveOneDimension, coord_dimensions, coord_words};
+    ghost use Rattle.wkb_plain.specs.Kinds.{triangle_dimensions};
     ghost use Rattle.wkb_plain.specs.Kinds.{triangle_first, triangle_second, triangle_third};
 
     /// The triangle of three corners. None where they differ in dimension.
     pub fn new(first: Coord<'w>, second: Coord<'w>, third: Coord<'w>) -> Option<Triangle<'w>>
-        ensures some { IsSome result
-            ↔ ((coord_dimensions second.entry ≡ coord_dimensions first.entry)
-            × (coord_dimensions third.entry ≡ coord_dimensions first.entry)) }
+        ensures some { IsSome result ↔ HaveOneDimension first.entry second.entry third.entry }
         ensures dimensions { IfSome result
             (λ t. triangle_dimensions t ≡ coord_dimensions first.entry) }
         ensures first { IfSome result (λ t. triangle_first t ≡ coord_words first.entry) }

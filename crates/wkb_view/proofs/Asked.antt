@@ -1,4 +1,4 @@
--- What is asked for behind a count, and what is answered where the count, or what it counts, is missing.
+-- What is asked for after a count, and what is returned where the count, or what it counts, is missing.
 use Rattle.std.proofs.Common.{◌≡◌, ℕ, ◌+◌, ◌/◌, ◌≤◌, ◌<◌, min, List, [], ◌∷◌, length, take, drop, ltb, true, false, Ok}
 use Rattle.std.proofs.Common.{◌++◌, Err, refl, sym, ap}
 use Rattle.std.proofs.lemmas.Bool.{le-ltb, lt-ltb}
@@ -7,9 +7,7 @@ use Rattle.wkb_geom.specs.declared.error.General.TheVariants.{ShortLineString}
 use Rattle.wkb_geom.specs.Reading.{line_string_item}
 use Rattle.wkb_geom.proofs.Hex.{hex}
 use Rattle.wkb_view.specs.Pieces.{pieces}
-use Rattle.wkb_view.specs.Words.{Cause, Layout, number, body_start}
-use Rattle.wkb_view.specs.Words.{end_of_input, line_string_end}
-use Rattle.wkb_view.specs.Words.{line_string_at}
+use Rattle.wkb_view.specs.Prelude.{Cause, Layout, number, body_start, end_of_input, line_string_end, line_string_at}
 
 -- ---- lists, whose entries are asked for at once
 

@@ -1,17 +1,16 @@
 -- Words and coordinates at their offsets.
 use Rattle.std.proofs.Common.{◌≡◌, ℕ, zero, suc, ◌+◌, ◌-◌, ◌*◌, ◌≤◌, ◌<◌, List, length, take, drop, Some, refl, sym, ap}
-use Rattle.std.proofs.Common.{◌∙◌}
-use Rattle.std.proofs.Common.{get_or, arith, Bool, true, false}
+use Rattle.std.proofs.Common.{◌∙◌, get_or, arith, Bool, true, false}
 use Rattle.std.specs.Prelude.{slice_get, is_none}
 use Rattle.std.proofs.lemmas.List.{drop-drop, drop-take}
 use Rattle.std.proofs.lemmas.Option.{get_or_from_slice_get}
 use Rattle.std.proofs.Math.Nat.{mul-le-mul_left, mul-le-mul_right, mul-add}
 use Rattle.wkb_geom.specs.Spellings.{header}
 use Rattle.wkb_geom.specs.Reading.{point_words_in}
-use Rattle.wkb_view.specs.Words.{Endianness, Dimension, Xy, Xyz, Xym, Xyzm, number, width, number-take, length-items}
-use Rattle.wkb_view.specs.Words.{items, coordinate, coordinates, body_start}
+use Rattle.wkb_view.specs.Prelude.{Endianness, Dimension, Xy, Xyz, Xym, Xyzm, number, width, number-take, length-items}
+use Rattle.wkb_view.specs.Prelude.{items, coordinate, coordinates, body_start}
 use Rattle.wkb_view.specs.Coords.{coordinate_encoding}
-use Rattle.wkb_view.specs.Words.{ring_in, Layout, is_nan, all_nan, point_of, point_item, point_item_of, srid_in}
+use Rattle.wkb_view.specs.Prelude.{ring_in, Layout, is_nan, all_nan, point_of, point_item, point_item_of, srid_in}
 
 pub items_at : {A : Type 0} (size : ℕ) (item : List ℕ → A) (n i : ℕ) (xs : List ℕ) → i < n
     → slice_get (items size item n xs) i ≡ Some (item (drop (size * i) xs))
@@ -53,7 +52,7 @@ coordinate_between e d n i start encoding h =
     ∙ ap (λ (t : List ℕ). coordinate e d t) (sym (drop-drop (8 * width d * i) start encoding)))
     ∙ sym (items_at (8 * width d) (coordinate e d) n i (drop start encoding) h)
 
--- a coordinate behind a header and a count
+-- a coordinate after a header and a count
 pub coordinate_behind : (d : Dimension) (start i : ℕ) (encoding : List ℕ)
     → coordinate_encoding d (4 + 8 * width d * i) (drop start encoding)
     ≡ coordinate_encoding d (start + 4 + 8 * width d * i) encoding

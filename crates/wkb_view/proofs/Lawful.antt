@@ -1,7 +1,9 @@
--- What the views of a point, a line string and a multi point hold is lawful.
+-- What the views of a point, a line string and a multi point hold is lawful, and what they say of dimensions.
+use Rattle.std.proofs.Common.{◌≡◌, Option, Some, None, ap}
+use Rattle.std.specs.Option.{IfSome}
 use Rattle.std.specs.List.{AllByRecursion}
 use Rattle.wkb_geom.specs.Geometries.{IsPoint, AreCoordinates}
-use Rattle.wkb_view.specs.Words.{dimensions, point_of, line_string_of, points_of}
+use Rattle.wkb_view.specs.Prelude.{Dimension, as_dimensions, point_of, line_string_of, points_of}
 use Rattle.wkb_view.specs.declared.point.Point.{Point}
 use Rattle.wkb_view.specs.declared.line_string.LineString.{LineString}
 use Rattle.wkb_view.specs.declared.multi_point.MultiPoint.{MultiPoint}
@@ -9,13 +11,19 @@ use Rattle.wkb_view.specs.Ranges.{point_lawful, line_string_lawful, multi_point_
 use Rattle.wkb_view.specs.Views.{point_seen, point_layout, line_string_seen, line_string_layout, multi_point_seen}
 use Rattle.wkb_view.specs.Views.{multi_point_layout}
 
-pub point_is_lawful : (p : Point) → IsPoint (dimensions (point_layout p).dimension) (point_of (point_seen p).value)
+pub point_is_lawful : (p : Point) → IsPoint (as_dimensions (point_layout p).dimension) (point_of (point_seen p).value)
 point_is_lawful p = point_lawful p.layout p.buf.now p.in_range
 
 pub line_string_is_lawful : (l : LineString)
-    → AreCoordinates (dimensions (line_string_layout l).dimension) (line_string_of (line_string_seen l).value)
+    → AreCoordinates (as_dimensions (line_string_layout l).dimension) (line_string_of (line_string_seen l).value)
 line_string_is_lawful l = line_string_lawful l.layout l.buf.now l.in_range
 
 pub multi_point_is_lawful : (m : MultiPoint)
-    → AllByRecursion (IsPoint (dimensions (multi_point_layout m).dimension)) (points_of (multi_point_seen m).value)
+    → AllByRecursion (IsPoint (as_dimensions (multi_point_layout m).dimension)) (points_of (multi_point_seen m).value)
 multi_point_is_lawful m = multi_point_lawful m.layout m.count m.buf.now m.in_range
+
+-- a part that has the whole's dimension has it by the traits' name, too
+pub dimensions_told : {A : Type 0} (dimension : A → Dimension) (o : Option A) (d : Dimension)
+    → IfSome o (λ a. dimension a ≡ d) → IfSome o (λ a. as_dimensions (dimension a) ≡ as_dimensions d)
+dimensions_told dimension None d h = tt
+dimensions_told dimension (Some a) d h = ap as_dimensions h

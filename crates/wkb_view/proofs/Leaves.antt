@@ -1,13 +1,11 @@
--- Points, line strings and rings: what an encoding that was cut behind them says, and what they cost.
+-- Points, line strings and rings: what an encoding that was cut after them says, and what they cost.
 use Rattle.std.proofs.Common.{◌≡◌, ℕ, zero, suc, ◌-◌, ◌+◌, ◌≤◌, Bool, true, false, cond, ltb, List, [], ◌∷◌, length}
-use Rattle.std.proofs.Common.{take, drop, Option, Some, None}
-use Rattle.std.proofs.Common.{Ok, refl, sym, ap, ◌∙◌, length-take, length-drop, arith}
+use Rattle.std.proofs.Common.{take, drop, Option, Some, None, Ok, refl, sym, ap, ◌∙◌, length-take, length-drop, arith}
 use Rattle.std.proofs.lemmas.Bool.{le-ltb}
 use Rattle.wkb_geom.specs.Reading.{order_of_byte, head_by_order}
-use Rattle.wkb_view.specs.Words.{Endianness, Dimension, Layout, number, number-take, ring_end, Item, Outcome, Reading}
-use Rattle.wkb_view.specs.Words.{free}
-use Rattle.wkb_view.specs.Words.{at_no_cost, head_at, consumed, line_string_at, layout_wanted}
-use Rattle.wkb_view.specs.Words.{member_layout, member_body, member_at, then_body}
+use Rattle.wkb_view.specs.Prelude.{Endianness, Dimension, Layout, number, number-take, ring_end, Item, Outcome, Reading}
+use Rattle.wkb_view.specs.Prelude.{free, at_no_cost, head_at, consumed, line_string_at, layout_wanted, member_layout}
+use Rattle.wkb_view.specs.Prelude.{member_body, member_at, then_body}
 use Rattle.wkb_view.specs.Members.{item_of, IsEncoding, IsMemberOfKind, layout_said, member_item}
 use Rattle.wkb_view.specs.Pieces.{Passed, IsRing}
 use Rattle.wkb_view.proofs.Pieces.{drop-of-take}
@@ -72,7 +70,7 @@ ring_passed order d bytes rest n end n-is end-is le rest-is =
 
 -- ---- members
 
--- what stands behind the header of a member is the member
+-- the member is what follows its header
 pub member_gives : (k : ℕ) (d : Dimension) (bytes : List ℕ) (l : Layout) (r : Reading Item)
     → member_layout k d bytes ≡ Ok l → member_body k l bytes ≡ r
     → member_at k d bytes ≡ r

@@ -1,21 +1,19 @@
--- Parts read one after the other, as a loop does, and lists of them behind a count.
+-- Parts read one after the other, as a loop does, and lists of them after a count.
 use Rattle.std.proofs.Common.{◌≡◌, ℕ, suc, ◌+◌, ◌-◌, ◌*◌, ◌≤◌, ◌<◌, List, [], ◌∷◌, ◌++◌, Ok, Err, refl, sym, ap, ◌∙◌}
-use Rattle.std.proofs.Common.{append_assoc, arith, Bool, true, false, cond}
-use Rattle.std.proofs.Common.{length, drop, ltb, ltb-true, length-drop}
+use Rattle.std.proofs.Common.{append_assoc, arith, Bool, true, false, cond, length, drop, ltb, ltb-true, length-drop}
 use Rattle.std.proofs.lemmas.List.{append-nil}
 use Rattle.std.proofs.lemmas.Bool.{le-ltb, lt-ltb}
-use Rattle.wkb_view.specs.Words.{Cause, refused, end_of_input, Refusal, Fault, Memory, Cost, free, one_turn, Outcome}
-use Rattle.wkb_view.specs.Words.{Reading, costs, done}
-use Rattle.wkb_view.specs.Words.{and_then, repeated, Layout, Item, number}
-use Rattle.wkb_view.specs.Words.{multi_point_end, slots_asked, slots_of, consumed, body_start, parts_start, list_at}
-use Rattle.wkb_view.specs.Words.{list_item, ring_part, member_at}
-use Rattle.wkb_view.specs.Words.{width, parts_body, polygon_item, multi_point_with, multi_line_string_with}
-use Rattle.wkb_view.specs.Words.{multi_polygon_with}
-use Rattle.wkb_view.specs.Words.{polygon_at, multi_point_at, multi_line_string_at, multi_polygon_at}
+use Rattle.wkb_view.specs.Prelude.{Cause, refused, end_of_input, Refusal, Cost, free, one_turn, Outcome}
+use Rattle.wkb_view.specs.Prelude.refusals
+use Rattle.wkb_view.specs.Prelude.{Reading, costs, done, count_in, and_then, repeated, Layout, Item, number}
+use Rattle.wkb_view.specs.Prelude.{multi_point_end, slots_asked, slots_of, consumed, body_start, parts_start, list_at}
+use Rattle.wkb_view.specs.Prelude.{list_item, ring_part, member_at, width, parts_body, polygon_item, multi_point_with}
+use Rattle.wkb_view.specs.Prelude.{multi_line_string_with, multi_polygon_with, polygon_at, multi_point_at}
+use Rattle.wkb_view.specs.Prelude.{multi_line_string_at, multi_polygon_at}
 use Rattle.wkb_view.specs.declared.counts.Counts.{Counts}
 use Rattle.wkb_view.specs.Outcome.{Spent, CanCount, Stops}
 use Rattle.wkb_view.specs.Members.{parts_behind}
-use Rattle.wkb_view.specs.Entries.{count_in, entries_asked, HasNoList}
+use Rattle.wkb_view.specs.Entries.{entries_asked, HasNoList}
 
 -- what was spent since the start and what is still to be read make up the whole
 pub record Leads {A : Type 0} (start now : Counts) (left whole : Reading A) : Type 0 where
@@ -27,7 +25,7 @@ pub record Leads {A : Type 0} (start now : Counts) (left whole : Reading A) : Ty
 abbrev goes_on : {A : Type 0} → List A → Reading (List A) → Reading (List A)
 goes_on front r = and_then r (λ xs after. done (front ++ xs) after)
 
--- after i of so many parts
+-- after i of the parts
 pub record Loop {A : Type 0} (part : List ℕ → Reading A) (count i : ℕ) (front : List A) (rest : List ℕ)
     (start now : Counts)
     (whole : Reading (List A)) : Type 0 where
@@ -126,10 +124,10 @@ module _ {A : Type 0} {start : Counts} {whole : Reading (List A)} where
         → Stops e (part rest) (begun old) new
         → Stops e whole start new
     unfolding repeated
-    part_stops (Fault f) new lt loop stops =
+    part_stops (refusals.Cause f) new lt loop stops =
         let k : count - i ≡ suc (count - (i + 1)) = omega arith in
         stops_by front old new f (part rest) (repeated (count - (i + 1)) part) stops.0 stops.1 (rw k at loop.leads)
-    part_stops Memory new lt loop most =
+    part_stops refusals.Memory new lt loop most =
         let p = part_costs lt loop in
         record { turns = omega (arith, p.0, most.turns); slots = omega (arith, p.1, most.slots) }
 
@@ -144,14 +142,14 @@ module _ {A : Type 0} {start : Counts} {whole : Reading (List A)} where
           record { turns = omega (arith, leads.turns_are); slots = omega (arith, leads.slots_are) },
         )
 
--- ---- a list of so many parts behind a count, and what its entries cost
+-- ---- a list of parts after a count, and what its entries cost
 
 pub parts_length : (srid : Bool) (bytes : List ℕ)
     → length (parts_start srid bytes) ≡ length bytes - (body_start srid + 4)
 parts_length srid bytes =
     omega (arith, length-drop 4 (drop (body_start srid) bytes), length-drop (body_start srid) bytes)
 
--- a list of so many parts, for whose entries was asked between the two
+-- a list of parts, whose entries were asked for between the two
 pub record IsList {A : Type 0} (k : ℕ) (l : Layout) (part : List ℕ → Reading A) (end : List A → List ℕ → Item)
     (bytes : List ℕ) (n : ℕ) (old mid : Counts)
     (whole : Reading Item) : Type 0 where
@@ -210,10 +208,10 @@ module _ (least : ℕ) (l : Layout) (bytes : List ℕ) where
 
     pub list_refused : (refusal : Refusal) (old new : Counts) → HasNoList l bytes refusal → new.turns ≡ old.turns
         → new.slots ≡ old.slots + entries_asked least l bytes → Stops refusal list_or_cut old new
-    list_refused (Fault cause) old new none turns slots =
+    list_refused (refusals.Cause cause) old new none turns slots =
         let short : has_no_count ≡ true = lt-ltb _ _ none.1 in
         rw (short, none.0) (refl, record { turns = omega (arith, turns); slots = omega (arith, slots, none.1) })
-    list_refused Memory old new none turns slots =
+    list_refused refusals.Memory old new none turns slots =
         record { turns = omega (arith, turns); slots = omega (arith, slots, entries_within) }
 
 module _ (l : Layout) (bytes : List ℕ) where
@@ -286,12 +284,12 @@ module _ {A : Type 0} (end : List A → List ℕ → Item) (bytes : List ℕ) (o
   ends_by : (e : Refusal) (capacity : ℕ) (new : Counts) (r : Reading (List A)) → mid.turns ≡ old.turns
       → mid.slots ≡ old.slots + capacity → Stops e r mid new
       → Stops e (made capacity r) old new
-  ends_by Memory capacity new (c, Ok x) turns slots most =
+  ends_by refusals.Memory capacity new (c, Ok x) turns slots most =
       record { turns = omega (arith, most.turns); slots = omega (arith, most.slots) }
-  ends_by Memory capacity new (c, Err f) turns slots most =
+  ends_by refusals.Memory capacity new (c, Err f) turns slots most =
       record { turns = omega (arith, most.turns); slots = omega (arith, most.slots) }
-  ends_by (Fault f) capacity new (c, Ok x) turns slots h = let e = h.0 in absurd cc
-  ends_by (Fault f) capacity new (c, Err g) turns slots h =
+  ends_by (refusals.Cause f) capacity new (c, Ok x) turns slots h = let e = h.0 in absurd cc
+  ends_by (refusals.Cause f) capacity new (c, Err g) turns slots h =
       let e = h.0 in
       let spent = h.1 in
       let same : g ≡ f = cc in (

@@ -1,6 +1,6 @@
 -- Members in lists.
 use Rattle.std.proofs.Common.{◌≡◌, ℕ, zero, suc, List, [], ◌∷◌, ◌++◌, map, Option, Some, None, refl, sym, ap, ◌∙◌}
-use Rattle.std.proofs.Common.{subst, ◌+◌, ◌-◌, ◌*◌, ◌≤◌, ◌<◌, length}
+use Rattle.std.proofs.Common.{subst, ◌+◌, ◌-◌, ◌*◌, ◌≤◌, ◌<◌, length, Bor, is_some, IfSome, nat_lt, slice_index_or}
 use Rattle.std.proofs.Common.{take, drop, Bool, true, false, ◌&&◌, Result, Ok, Err, length-drop, length-take, arith}
 use Rattle.std.specs.Prelude.{slice_get, option_map, if◌then◌else◌, ◌==◌, IsOk}
 use Rattle.std.specs.List.{AllByRecursion}
@@ -9,14 +9,13 @@ use Rattle.std.proofs.lemmas.List.{length-map}
 use Rattle.wkb_geom.specs.Values.{polygon}
 use Rattle.wkb_geom.specs.declared.error.Cause.TheVariants.{IncorrectType as incorrect_type}
 use Rattle.wkb_geom.specs.Reading.{type_kind, type_dimension, same_dimension}
-use Rattle.wkb_view.specs.Words.{Dimension, dimensions, Spelling, Coordinate, Listed, whole_of, Item, spellings}
-use Rattle.wkb_view.specs.Words.{polygon_of, Endianness, Layout, Head, Cause}
-use Rattle.wkb_view.specs.Words.{multi_point_end, body_start, point_of, consumed, laid, head_at, layout_wanted}
-use Rattle.wkb_view.specs.Words.{member_layout, list_of_spellings}
-use Rattle.wkb_view.specs.Fitted.{fitted_line_strings, fitted_polygons}
+use Rattle.wkb_view.specs.Prelude.{Dimension, as_dimensions, Spelling, Coordinate, Listed, whole_of, Item, spellings}
+use Rattle.wkb_view.specs.Prelude.{polygon_of, Endianness, Layout, Head, Cause, multi_point_end, body_start, point_of}
+use Rattle.wkb_view.specs.Prelude.{consumed, laid, head_at, layout_wanted, member_layout, list_of_spellings}
+use Rattle.wkb_plain.proofs.Lookups.{copied_is}
+use Rattle.wkb_view.specs.Fitted.{fitted_parts, fitted_line_strings, fitted_polygons}
 use Rattle.wkb_view.specs.Members.{polygon_items, IsEncoding, IsMemberOfKind, AreMembersOfKind, member_item, members_in}
-use Rattle.wkb_view.specs.Members.{pieces_behind}
-use Rattle.wkb_view.specs.Members.{every, stride, point_ends, points_in}
+use Rattle.wkb_view.specs.Members.{pieces_behind, every, stride, point_ends, points_in}
 use Rattle.wkb_view.specs.Pieces.{pieces, Passed}
 use Rattle.wkb_view.specs.Ranges.{member_dimension}
 use Rattle.wkb_view.proofs.Pieces.{parts_counted, pieces_past, piece_form, piece_seen, last_end}
@@ -91,39 +90,46 @@ items_at f ps i o e =
     ∙ ap (option_map f)
     (slice_get-map (λ p. whole_of polygon p) ps i ∙ ap (option_map (λ p. whole_of polygon p)) e))
 
+-- what `get` of a list returns for an index
+abbrev IsGot : {A : Type 0} → List A → ℕ → Option (Bor A) → Type 0
+IsGot xs i o = (is_some o ≡ nat_lt i (length xs)) × IfSome o (λ x. x.now ≡ slice_index_or xs i x.now)
+
+seen_at : {B : Type 0} (f : Item → B) (ps : List (Listed (List (List Coordinate)))) (i : ℕ)
+    (o : Option (Bor (Listed (List (List Coordinate))))) → IsGot ps i o
+    → option_map (λ p. f (whole_of polygon p.now)) o ≡ slice_get (map f (polygon_items ps)) i
+seen_at f ps i None got = items_at f ps i None (sym (copied_is ps i None got))
+seen_at f ps i (Some p) got = items_at f ps i (Some p.now) (sym (copied_is ps i (Some p) got))
+
 fitted_at : (d : Dimension) (ps : List (Listed (List (List Coordinate)))) (i : ℕ)
-    (o : Option (Listed (List (List Coordinate)))) → slice_get ps i ≡ o
+    (o : Option (Bor (Listed (List (List Coordinate))))) → IsGot ps i o
     → AllByRecursion (λ p. p.dimension ≡ d) ps
-    → option_map (λ p. fitted_line_strings (dimensions p.dimension) p.parts) o
-    ≡ option_map (fitted_line_strings (dimensions d))
-    (option_map (λ m. polygon_of m.value) (option_map (λ p. whole_of polygon p) o))
-fitted_at d ps i None e all = refl
-fitted_at d ps i (Some p) e all =
-    ap (λ (f : Dimension). Some (fitted_line_strings (dimensions f) p.parts))
-    (each_at (λ q. q.dimension ≡ d) ps i p all e)
+    → option_map (λ p. fitted_parts p.now) o
+    ≡ option_map (fitted_line_strings (as_dimensions d)) (option_map (λ p. p.now.parts) o)
+fitted_at d ps i None got all = refl
+fitted_at d ps i (Some p) got all =
+    ap (λ (f : Dimension). Some (fitted_line_strings (as_dimensions f) p.now.parts))
+    (each_at (λ q. q.dimension ≡ d) ps i p.now all (sym (copied_is ps i (Some p) got)))
 
 -- the member of a multi polygon at an index, if there is one
 pub record PolygonAt (d : Dimension) (ps : List (Listed (List (List Coordinate)))) (i : ℕ)
-    (o : Option (Listed (List (List Coordinate)))) : Type 0 where
-  pub part : option_map (λ m. polygon_of m.value) (option_map (λ p. whole_of polygon p) o)
-      ≡ slice_get (map (λ m. polygon_of m.value) (polygon_items ps)) i
-  pub value : option_map (λ p. fitted_line_strings (dimensions p.dimension) p.parts) o
-      ≡ slice_get (fitted_polygons (dimensions d) (map (λ m. polygon_of m.value) (polygon_items ps))) i
-  pub spelled : option_map (λ m. m.spelled) (option_map (λ p. whole_of polygon p) o)
-      ≡ slice_get (list_of_spellings (spellings (polygon_items ps))) i
+    (o : Option (Bor (Listed (List (List Coordinate))))) : Type 0 where
+  pub part : option_map (λ p. p.now.parts) o ≡ slice_get (map (λ m. polygon_of m.value) (polygon_items ps)) i
+  pub value : option_map (λ p. fitted_parts p.now) o
+      ≡ slice_get (fitted_polygons (as_dimensions d) (map (λ m. polygon_of m.value) (polygon_items ps))) i
+  pub spelled : option_map (λ p. p.now.spelled) o ≡ slice_get (list_of_spellings (spellings (polygon_items ps))) i
 
 pub polygon_there : (d : Dimension) (ps : List (Listed (List (List Coordinate)))) (i : ℕ)
-    (o : Option (Listed (List (List Coordinate)))) → slice_get ps i ≡ o
+    (o : Option (Bor (Listed (List (List Coordinate))))) → IsGot ps i o
     → AllByRecursion (λ p. p.dimension ≡ d) ps → PolygonAt d ps i o
-polygon_there d ps i o e all =
-    let part = items_at (λ m. polygon_of m.value) ps i o e in
+polygon_there d ps i o got all =
+    let part = seen_at (λ m. polygon_of m.value) ps i o got in
     let fitted =
-    slice_get-map (fitted_line_strings (dimensions d)) (map (λ m. polygon_of m.value) (polygon_items ps)) i in
+    slice_get-map (fitted_line_strings (as_dimensions d)) (map (λ m. polygon_of m.value) (polygon_items ps)) i in
     record {
       part = part;
-      value = fitted_at d ps i o e all ∙ ap (option_map (fitted_line_strings (dimensions d))) part ∙ sym fitted;
+      value = fitted_at d ps i o got all ∙ ap (option_map (fitted_line_strings (as_dimensions d))) part ∙ sym fitted;
       spelled =
-          items_at (λ m. m.spelled) ps i o e
+          seen_at (λ m. m.spelled) ps i o got
           ∙ sym (ap (λ (ss : List Spelling). slice_get ss i) (spelled_each (polygon_items ps)));
     }
 

@@ -5,7 +5,7 @@ use Rattle.std.proofs.Common.{get_or, arith, Bool, ◌*◌, ◌++◌, Ok, length
 use Rattle.std.specs.Prelude.{slice_get, option_map}
 use Rattle.std.proofs.lemmas.List.{length-map, drop-drop, drop-take, take-take}
 use Rattle.std.proofs.lemmas.Option.{slice_get_past, slice_get-map}
-use Rattle.wkb_view.specs.Words.{Reading, consumed, body_start, parts_start, repeated}
+use Rattle.wkb_view.specs.Prelude.{Reading, consumed, body_start, parts_start, repeated}
 use Rattle.wkb_view.specs.Pieces.{pieces, ArePieces, AreInOrder, IsPiece, Passed}
 use Rattle.wkb_view.specs.declared.counts.Counts.{Counts}
 use Rattle.wkb_view.specs.Outcome.{Spent}
@@ -13,7 +13,7 @@ use Rattle.wkb_view.proofs.Lists.{begun, Loop, parts_begin, next_part, parts_end
 
 -- ---- the part at an index
 
--- it stands from s to t
+-- it goes from s to t
 pub record Between (start : ℕ) (ends encoding : List ℕ) (i s t : ℕ) : Type 0 where
   pub ordered : s ≤ t
   pub within : s + (t - s) ≤ length encoding
@@ -56,7 +56,7 @@ pieces_within P start (x ∷ ends) encoding h = omega (arith, h.0.ordered, h.0.w
 
 -- ---- by the part that is handed out
 
--- parts of one form stand in order
+-- parts of one form follow one another
 pub in_order : (P : List ℕ → Type 0) (start : ℕ) (ends encoding : List ℕ) → ArePieces P start ends encoding
     → AreInOrder start ends encoding
 in_order P start [] encoding h = h
@@ -138,7 +138,7 @@ pieces-take P start (x ∷ ends) n encoding h le =
       ),
     )
 
--- after i of so many parts, each seen by its encoding
+-- after i of the parts, each seen by its encoding
 pub record SoFar {A : Type 0} (least : ℕ) (P : List ℕ → Type 0) (seen : List ℕ → A) (part : List ℕ → Reading A)
     (start count i : ℕ) (bytes ends rest : List ℕ)
     (began now : Counts) (whole : Reading (List A)) : Type 0 where

@@ -7,9 +7,9 @@ use Rattle.wkb_geom.specs.Spellings.{Wanted, any}
 use Rattle.wkb_geom.specs.Reading.{body_at, too_deep, geometry_at, by_type, layout_of}
 use Rattle.wkb_laws.proofs.Heads.{IsRight}
 use Rattle.wkb_laws.proofs.Sound.{geometry_says}
-use Rattle.wkb_view.specs.Words.{Cause, Head, Layout, number, point_end, line_string_end, Item, Reading, head_at}
-use Rattle.wkb_view.specs.Words.{then_body, body_start}
-use Rattle.wkb_view.specs.Words.{point_at, line_string_at, point_item, line_string_item, BytesSpell}
+use Rattle.wkb_view.specs.Prelude.{Cause, Head, Layout, number, point_end, line_string_end, Item, Reading, head_at}
+use Rattle.wkb_view.specs.Prelude.{then_body, body_start}
+use Rattle.wkb_view.specs.Prelude.{point_at, line_string_at, point_item, line_string_item, BytesSpell}
 use Rattle.wkb_view.specs.Headers.{HasHead}
 use Rattle.wkb_view.specs.Members.{IsEncoding}
 use Rattle.wkb_view.proofs.Leaves.{number_within}
@@ -26,7 +26,7 @@ says_body bytes h e =
     subst (λ (r : Result Head Cause). IsRight 0 any bytes
     (then_body r (λ g. body_at too_deep g.wkb_type (layout_of g) bytes))) e (geometry_says 0 bytes)
 
--- what is read behind a header is spelled by the bytes that were taken
+-- what is read after a header is spelled by the bytes that were taken
 pub body_spelled : (bytes : List ℕ) (h : Head) (i : Item) (rest : List ℕ) → head_at bytes ≡ Ok h
     → (body_at too_deep h.wkb_type (layout_of h) bytes).1 ≡ Ok (i, rest) → BytesSpell i
 body_spelled bytes h i rest e is =

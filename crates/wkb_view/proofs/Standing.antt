@@ -1,38 +1,17 @@
 -- Bytes that are read as coordinates in an order are what is written of these coordinates in that order.
-use Rattle.std.proofs.Common.{◌≡◌, ℕ, zero, suc, ◌+◌, ◌*◌, ◌≤◌, ◌<◌, ◌/◌, ◌^◌, List, length, take, drop, lit<, refl}
-use Rattle.std.proofs.Common.{sym, ◌∙◌, arith}
+use Rattle.std.proofs.Common.{◌≡◌, ℕ, zero, suc, ◌+◌, ◌*◌, ◌≤◌, List, length, take, drop, refl, sym, ◌∙◌, arith}
 use Rattle.std.proofs.Common.{length-drop, take_all, take-add}
-use Rattle.std.proofs.Math.Nat.{mod-lt}
-use Rattle.std.specs.Int.{byte_at, bytes_high_first, bytes_low_first}
 use Rattle.std.specs.List.{flat_map}
 use Rattle.wkb_geom.specs.Numbers.{number_bytes}
 use Rattle.wkb_geom.specs.Encodings.{words_encoding}
-use Rattle.wkb_view.specs.Words.{Endianness, BigEndian, LittleEndian, Dimension, AreBytes, number, width, items}
-use Rattle.wkb_view.specs.Words.{coordinate, coordinates, ring_in}
+use Rattle.wkb_view.specs.Prelude.{Endianness, Dimension, AreBytes, number, width, items}
+use Rattle.wkb_view.specs.Prelude.{coordinate, coordinates, ring_in}
 use Rattle.wkb_view.specs.Ranges.{AreBytes-take, AreBytes-drop}
+use Rattle.wkb_laws.proofs.EncodingBytes.{number_is_bytes}
 use Rattle.wkb_laws.proofs.OneEncoding.{number_fixed}
-use Rattle.wkb_laws.proofs.Parts.{number-take as number_taken}
+use Rattle.wkb_laws.proofs.Parts.{field_taken as number_taken}
 use Rattle.wkb_laws.proofs.EncodingSpells.{IsNumber-number_bytes}
 use Rattle.wkb_laws.proofs.Values.{number-lt}
-
-byte_small : (k x : ℕ) → byte_at k x < 256
-byte_small zero x = mod-lt x (lit< tt)
-byte_small (suc k) x = mod-lt (x / 256 ^ suc k) (lit< tt)
-
-high_are_bytes : (n x : ℕ) → AreBytes (bytes_high_first n x)
-high_are_bytes zero x i = lit< tt
-high_are_bytes (suc n) x zero = byte_small n x
-high_are_bytes (suc n) x (suc i) = high_are_bytes n x i
-
-low_are_bytes : (j n x : ℕ) → AreBytes (bytes_low_first j n x)
-low_are_bytes j zero x i = lit< tt
-low_are_bytes j (suc n) x zero = byte_small j x
-low_are_bytes j (suc n) x (suc i) = low_are_bytes (suc j) n x i
-
-number_is_bytes : (order : Endianness) (n x : ℕ) → AreBytes (number_bytes order n x)
-unfolding number_bytes
-number_is_bytes BigEndian n x = high_are_bytes n x
-number_is_bytes LittleEndian n x = low_are_bytes 0 n x
 
 -- the bytes of the number that is read off the first bytes are these
 pub number_stands : (order : Endianness) (n : ℕ) (y : List ℕ) → AreBytes y → n ≤ length y
@@ -68,7 +47,7 @@ pub coordinates_stand : (order : Endianness) (d : Dimension) (n : ℕ) (y : List
 coordinates_stand order d n y h long =
     items_stand (8 * width d) (coordinate order d) (words_encoding order) (words_stand order d) n y h long
 
--- a ring's coordinates are all that stands behind its count
+-- a ring's coordinates are all that follows its count
 pub ring_stands : (order : Endianness) (d : Dimension) (encoding : List ℕ) → AreBytes encoding
     → length encoding ≡ 4 + 8 * width d * number order 4 encoding
     → drop 4 encoding ≡ flat_map (words_encoding order) (ring_in order d encoding)

@@ -10,9 +10,9 @@ use Rattle.wkb_laws.specs.Written.{written, written_plain}
 use Rattle.wkb_laws.proofs.Spelled.{in_full_lem}
 use Rattle.wkb_laws.proofs.EncodingBytes.{as_written}
 use Rattle.wkb_laws.proofs.Values.{same_dimension, spelled_good, lawful-geometry_of}
-use Rattle.wkb_view.specs.Words.{Endianness, Dimension, Xy, Xyz, Xym, Xyzm, Coordinate, AreBytes, number, Layout, Item}
-use Rattle.wkb_view.specs.Words.{no_spellings, spelled_in, all_nan, dimensions, BytesSpell}
-use Rattle.wkb_view.specs.Words.{point_item, point_item_of, point_of, line_string_item, ring_in, body_start}
+use Rattle.wkb_view.specs.Prelude.{Endianness, Dimension, Xy, Xyz, Xym, Xyzm, Coordinate, AreBytes, number, Layout, Item}
+use Rattle.wkb_view.specs.Prelude.{no_spellings, spelled_in, all_nan, as_dimensions, BytesSpell}
+use Rattle.wkb_view.specs.Prelude.{point_item, point_item_of, point_of, line_string_item, ring_in, body_start}
 use Rattle.wkb_view.specs.Fitted.{fitted_line_strings, line_strings_fit}
 
 -- the header is the one that is written of this kind
@@ -50,19 +50,19 @@ module _ (l : Layout) (bytes : List ℕ) (order : Endianness) (form : Form) (ran
   -- a point that isn't empty
   pub point_whole : BytesSpell (point_item l bytes) → HasWrittenHeader 1 l bytes order form
       → all_nan (point_words_in l bytes) ≡ false
-      → IsWhole bytes order form (point (dimensions l.dimension) (point_of (point_item l bytes).value))
+      → IsWhole bytes order form (point (as_dimensions l.dimension) (point_of (point_item l bytes).value))
   point_whole spells h known =
       let words = point_words_in l bytes in
       let item = point_item_of l bytes words false in
       let there = subst (λ (b : Bool). BytesSpell (point_item_of l bytes words b)) known spells in
       subst (λ (b : Bool). IsWhole bytes order form
-      (point (dimensions l.dimension) (point_of (point_item_of l bytes words b).value))) (sym known)
+      (point (as_dimensions l.dimension) (point_of (point_item_of l bytes words b).value))) (sym known)
       (is_whole item order form h.form_is range there
       (rw (same_dimension l.dimension, known) (plain_spelled 1 l bytes order form h)))
 
   pub line_string_whole : BytesSpell (line_string_item l bytes) → HasWrittenHeader 2 l bytes order form
       → IsWhole bytes order form
-      (line_string (dimensions l.dimension) (ring_in l.order l.dimension (drop (body_start l.has_srid) bytes)))
+      (line_string (as_dimensions l.dimension) (ring_in l.order l.dimension (drop (body_start l.has_srid) bytes)))
   line_string_whole spells h =
       is_whole (line_string_item l bytes) order form h.form_is range spells
       (rw (same_dimension l.dimension) (plain_spelled 2 l bytes order form h))
@@ -76,18 +76,18 @@ module _ (l : Layout) (bytes : List ℕ) (order : Endianness) (form : Form) (ran
         value = value.polygon l.dimension rings;
       })
       → HasWrittenHeader 3 l bytes order form
-      → IsWhole bytes order form (polygon (dimensions l.dimension) (fitted_line_strings (dimensions l.dimension) rings))
+      → IsWhole bytes order form (polygon (as_dimensions l.dimension) (fitted_line_strings (as_dimensions l.dimension) rings))
   polygon_whole rings spells h =
       let d = l.dimension in
       let t = value.polygon d rings in
       let spelled = spelled_in l bytes [] no_spellings in
       let good = spelled_good spelled t bytes range (in_full_lem spelled t bytes spells) in
-      let same = (line_strings_fit (dimensions d) rings).same (lawful-geometry_of t good.0) in
-      subst (λ (parts : List (List Coordinate)). IsWhole bytes order form (polygon (dimensions d) parts)) (sym same)
+      let same = (line_strings_fit (as_dimensions d) rings).same (lawful-geometry_of t good.0) in
+      subst (λ (parts : List (List Coordinate)). IsWhole bytes order form (polygon (as_dimensions d) parts)) (sym same)
       (is_whole (record { encoding = bytes; spelled = spelled; value = t }) order form h.form_is range spells
       (rw (same_dimension d) (plain_spelled 3 l bytes order form h)))
 
-pub named_dimension : (d : Dimension) → dimensions_fault (dimensions d) ≡ None
+pub named_dimension : (d : Dimension) → dimensions_fault (as_dimensions d) ≡ None
 unfolding dimensions_fault
 named_dimension Xy = refl
 named_dimension Xyz = refl

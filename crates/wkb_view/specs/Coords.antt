@@ -1,9 +1,10 @@
--- What coordinates and rings stand for.
+-- What the views of coordinates and rings mean.
 use Rattle.std.specs.Prelude.{ℕ, ◌+◌, ◌*◌, List, take, drop}
-use Rattle.wkb_view.specs.Words.{Dimension, Endianness, Coordinate, width, coordinate, ring_in}
+use Rattle.wkb_view.specs.Prelude.{Dimension, Endianness, Coordinate, width, coordinate, ring_in}
 use Rattle.wkb_view.specs.declared.coord.Coord.{Coord}
 use Rattle.wkb_view.specs.declared.linear_ring.LinearRing.{LinearRing}
 
+-- what is seen in a view
 abbrev pub words_seen : Coord → Coordinate
 words_seen c = coordinate c.order c.dimension c.bytes.now
 
@@ -24,7 +25,7 @@ coord_dimension c = c.dimension
 abbrev pub coord_encoding : Coord → List ℕ
 coord_encoding c = c.bytes.now
 
--- the same of a ring: a count and its coordinates
+-- the order, the dimension and the bytes of a ring: its count and its coordinates
 abbrev pub ring_order : LinearRing → Endianness
 ring_order r = r.order
 
@@ -37,3 +38,7 @@ ring_encoding r = r.bytes.now
 -- where the coordinate at an index begins in a ring's bytes
 abbrev pub ring_offset : LinearRing → ℕ → ℕ
 ring_offset r i = 4 + 8 * width r.dimension * i
+
+-- the bytes of the coordinate at an index
+abbrev pub ring_coord_bytes : LinearRing → ℕ → List ℕ
+ring_coord_bytes r i = coordinate_encoding r.dimension (ring_offset r i) r.bytes.now

@@ -1,25 +1,26 @@
--- Lists that are given all their room at once, and what is asked for behind a count.
-use Rattle.std.specs.Prelude.{◌≡◌, ℕ, ◌+◌, ◌-◌, ◌/◌, ◌<◌, min, List, length, drop, vec_capacity}
-use Rattle.wkb_view.specs.Words.{Refusal, Fault, Memory, Layout, number, body_start, end_of_input}
+-- Lists that are allocated once, and the entries that are asked for after a count.
+use Rattle.std.specs.Prelude.{ℕ, ◌+◌, ◌-◌, ◌/◌, ◌≤◌, min, List, length, vec_capacity}
+use Rattle.wkb_view.specs.Prelude.{Refusal, Layout, body_start, parts_start, count_in, HasNoCount}
+use Rattle.wkb_view.specs.Prelude.refusals
 use Rattle.wkb_view.specs.declared.reserved.Reserved.{Reserved}
 
 -- the entries of a list
 abbrev pub entries : {T : Type 0} → Reserved T → List T
 entries list = list.items.items
 
--- how many it has room for
+-- the number of entries that it has room for
 abbrev pub capacity : {T : Type 0} → Reserved T → ℕ
 capacity list = vec_capacity list.items
 
--- the count at the beginning of a body
-abbrev pub count_in : Layout → List ℕ → ℕ
-count_in l bytes = number l.order 4 (drop (body_start l.has_srid) bytes)
-
--- how many entries are asked for behind the count, where each part has so many bytes at least
+-- the number of entries that are asked for after the count, where each part has at least `least` bytes
 abbrev pub entries_asked : ℕ → Layout → List ℕ → ℕ
 entries_asked least l bytes = min (count_in l bytes) ((length bytes - (body_start l.has_srid + 4)) / least)
 
--- why there is no list: the count is cut short, or memory was refused
+-- there is room for n parts after the count, or for as many as the bytes can hold
+abbrev pub HasSlots : ℕ → Layout → ℕ → List ℕ → ℕ → Type 0
+HasSlots least l n bytes room = min n (length (parts_start l.has_srid bytes) / least) ≤ room
+
+-- why there is no list: the input ends before the count does, or the allocation failed
 abbrev pub HasNoList : Layout → List ℕ → Refusal → Type 0
-HasNoList l bytes (Fault cause) = (cause ≡ end_of_input) × (length bytes < body_start l.has_srid + 4)
-HasNoList l bytes Memory = Unit {0}
+HasNoList l bytes (refusals.Cause cause) = HasNoCount l bytes cause
+HasNoList l bytes refusals.Memory = Unit {0}

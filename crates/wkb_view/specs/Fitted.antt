@@ -11,10 +11,9 @@ use Rattle.std.proofs.Math.ListN.{replicate}
 use Rattle.std.proofs.lemmas.Bool.{and_parts, eqb-true, eq-eqb, ltb-true, lt-ltb}
 use Rattle.wkb_geom.specs.declared.common.Dimensions.{Dimensions}
 use Rattle.wkb_geom.specs.Geometries.{Geometry, point, line_string, polygon, multi_point, multi_line_string}
-use Rattle.wkb_geom.specs.Geometries.{multi_polygon, collection, line, rectangle}
-use Rattle.wkb_geom.specs.Geometries.{triangle, Geometries, no_geometries, geometry, IsCoordinate, IsPoint}
-use Rattle.wkb_geom.specs.Geometries.{AreCoordinates, IsGeometry, AreGeometries}
-use Rattle.wkb_view.specs.Words.{Dimension, Coordinate, size, dimensions, IsWord, Listed}
+use Rattle.wkb_geom.specs.Geometries.{multi_polygon, collection, line, rectangle, triangle, Geometries, no_geometries}
+use Rattle.wkb_geom.specs.Geometries.{geometry, IsCoordinate, IsPoint, AreCoordinates, IsGeometry, AreGeometries}
+use Rattle.wkb_view.specs.Prelude.{Dimension, Coordinate, size, as_dimensions, IsWord, Listed}
 
 -- whether there are as many words as the dimensions say, each in range
 abbrev pub fits : Dimensions → Coordinate → Bool
@@ -32,10 +31,14 @@ fitted_line_strings dims = map (fitted_line_string dims)
 
 -- the rings of a polygon, or the line strings of a multi line string, that fit its dimension
 abbrev pub fitted_parts : Listed (List (List Coordinate)) → List (List Coordinate)
-fitted_parts g = fitted_line_strings (dimensions g.dimension) g.parts
+fitted_parts g = fitted_line_strings (as_dimensions g.dimension) g.parts
 
 abbrev pub fitted_polygons : Dimensions → List (List (List Coordinate)) → List (List (List Coordinate))
 fitted_polygons dims = map (fitted_line_strings dims)
+
+-- the polygons of a multi polygon that fit its dimension
+abbrev pub fitted_members : Listed (List (List (List Coordinate))) → List (List (List Coordinate))
+fitted_members g = fitted_polygons (as_dimensions g.dimension) g.parts
 
 abbrev pub fitted_point : Dimensions → Option Coordinate → Option Coordinate
 fitted_point dims o = option_map (fitted dims) o
@@ -59,14 +62,14 @@ abbrev mutual
   fitted_geometries no_geometries = no_geometries
   fitted_geometries (geometry g gs) = geometry (fitted_geometry g) (fitted_geometries gs)
 
--- ---- what is fitted is lawful, and what is lawful stays as it is
+-- ---- the laws of fitting
 
--- so it is of this value and what it becomes
+-- y is lawful, and is a where a is lawful
 pub record IsFitted {A : Type 0} (P : A → Type 0) (a y : A) : Type 0 where
   pub lawful : P y
   pub same : P a → y ≡ a
 
--- and of every value
+-- f fits every value to P
 abbrev pub Fits : {A : Type 0} → (A → A) → (A → Type 0) → Type 0
 Fits {A = A} f P = (a : A) → IsFitted P a (f a)
 
@@ -169,24 +172,24 @@ mutual
       let fs = geometries_fit gs in
       record { lawful = (f.lawful, fs.lawful); same = λ h. rw (f.same h.0, fs.same h.1) refl }
 
--- the two halves of this
+-- what is fitted is lawful, and what is lawful stays as it is
 pub IsGeometry-fitted : (g : Geometry) → IsGeometry (fitted_geometry g)
 IsGeometry-fitted g = (geometry_fits g).lawful
 
 pub fitted_geometry-same : (g : Geometry) → IsGeometry g → fitted_geometry g ≡ g
 fitted_geometry-same g h = (geometry_fits g).same h
 
--- a line string of the whole's dimension, lawful by its law, stands in the fitted list as in the list itself
+-- a line string of the whole's dimension, lawful by its law, is in the fitted list as in the list itself
 pub lawful_at : {C : Type 0} (read : C → List Coordinate) (dim : C → Dimension) (d : Dimension) (o : Option C)
     (parts : List (List Coordinate)) (i : ℕ)
-    → ((c : C) → AreCoordinates (dimensions (dim c)) (read c)) → IfSome o (λ c. dim c ≡ d)
+    → ((c : C) → AreCoordinates (as_dimensions (dim c)) (read c)) → IfSome o (λ c. dim c ≡ d)
     → option_map read o ≡ slice_get parts i
-    → option_map read o ≡ slice_get (fitted_line_strings (dimensions d) parts) i
-lawful_at read dim d None parts i law same is = ap (option_map (fitted_line_string (dimensions d))) is
-    ∙ sym (slice_get-map (fitted_line_string (dimensions d)) parts i)
+    → option_map read o ≡ slice_get (fitted_line_strings (as_dimensions d) parts) i
+lawful_at read dim d None parts i law same is = ap (option_map (fitted_line_string (as_dimensions d))) is
+    ∙ sym (slice_get-map (fitted_line_string (as_dimensions d)) parts i)
 lawful_at read dim d (Some c) parts i law same is =
     let fits =
-    (line_string_fits (dimensions d) (read c)).same
-    (subst (λ e. AreCoordinates (dimensions e) (read c)) same (law c)) in
-    ap (λ (x : List Coordinate). Some x) (sym fits) ∙ ap (option_map (fitted_line_string (dimensions d))) is
-    ∙ sym (slice_get-map (fitted_line_string (dimensions d)) parts i)
+    (line_string_fits (as_dimensions d) (read c)).same
+    (subst (λ e. AreCoordinates (as_dimensions e) (read c)) same (law c)) in
+    ap (λ (x : List Coordinate). Some x) (sym fits) ∙ ap (option_map (fitted_line_string (as_dimensions d))) is
+    ∙ sym (slice_get-map (fitted_line_string (as_dimensions d)) parts i)

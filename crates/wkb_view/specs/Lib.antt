@@ -3,10 +3,10 @@ pub mod Entries
 pub mod Fitted
 pub mod Headers
 pub mod Members
-pub mod Memory
 pub mod Outcome
 pub mod Parts
+pub mod Passing
 pub mod Pieces
 pub mod Ranges
 pub mod Views
-pub mod Words
+pub mod Prelude

@@ -1,23 +1,16 @@
--- How an answer of the reader agrees with reading.
+-- How the result of a read agrees with reading.
 use Rattle.std.specs.Prelude.{◌≡◌, ℕ, ◌+◌, ◌≤◌, ◌<◌, ◌^◌, List, Result, Ok, Err}
-use Rattle.wkb_view.specs.Words.{Cause, Refusal, Fault, Memory, Cost, free, Reading}
+use Rattle.std.specs.Borrow.{Bor}
+use Rattle.wkb_view.specs.Prelude.{Cause, Refusal, Cost, Outcome, Reading}
+use Rattle.wkb_view.specs.Prelude.refusals
 use Rattle.wkb_view.specs.declared.counts.Counts.{Counts}
-
--- an answer that takes no memory
-abbrev pub Answers : {X Y : Type 0} → (X → Y) → Result X Cause → Result Y Cause → Type 0
-Answers view (Ok x) r = r ≡ Ok (view x)
-Answers view (Err cause) r = r ≡ Err cause
-
--- the same of an answer that costs nothing
-abbrev pub Freely : {X Y : Type 0} → (X → Y × List ℕ) → Result X Cause → Reading Y → Type 0
-Freely view (Ok x) r = r ≡ (free, Ok (view x))
-Freely view (Err cause) r = r ≡ (free, Err cause)
 
 -- what was counted between the two
 pub record Spent (old new : Counts) (cost : Cost) : Type 0 where
   pub turns : new.turns ≡ old.turns + cost.turns
   pub slots : new.slots ≡ old.slots + cost.slots
 
+-- no more than this was counted between the two
 pub record AtMost (old new : Counts) (cost : Cost) : Type 0 where
   pub turns : new.turns ≤ old.turns + cost.turns
   pub slots : new.slots ≤ old.slots + cost.slots
@@ -27,16 +20,40 @@ pub record CanCount (old : Counts) (cost : Cost) : Type 0 where
   pub turns : old.turns + cost.turns < 2 ^ 128
   pub slots : old.slots + cost.slots < 2 ^ 128
 
--- an answer that takes no more memory, and what it cost
-abbrev pub Surely : {X Y : Type 0} → (X → Y × List ℕ) → Result X Cause → Reading Y → Counts → Counts → Type 0
-Surely view r read old new = Answers view r read.1 × Spent old new read.0
+-- the result is the outcome, by what it shows
+abbrev pub IsOutcome : {X Y : Type 0} → (X → Y × List ℕ) → Result X Cause → Outcome Y → Type 0
+IsOutcome shown (Ok x) outcome = outcome ≡ Ok (shown x)
+IsOutcome shown (Err cause) outcome = outcome ≡ Err cause
 
--- the reading's fault, and what it cost; where memory ran out, at most that
+-- the result is the outcome of a reading, and its cost was counted
+abbrev pub CountsOutcome : {X Y : Type 0} → (X → Y × List ℕ) → Result X Cause → Reading Y → Counts → Counts → Type 0
+CountsOutcome shown result reading old new = IsOutcome shown result reading.1 × Spent old new reading.0
+
+-- what is seen in a view, and the bytes after it
+abbrev pub seen_with_rest : {X Y : Type 0} → (X → Y) → X × Bor (List ℕ) → Y × List ℕ
+seen_with_rest seen x = (seen x.0, x.1.now)
+
+-- the view and the bytes after it are the outcome, or the bytes are refused as it says
+abbrev pub IsRead : {X Y : Type 0} → (X → Y) → Result (X × Bor (List ℕ)) Cause → Outcome Y → Type 0
+IsRead seen result outcome = IsOutcome (seen_with_rest seen) result outcome
+
+-- the view and the bytes after it are those of a reading, whose cost was counted
+abbrev pub IsReadCounted : {X Y : Type 0} → (X → Y) → Result (X × Bor (List ℕ)) Cause → Reading Y → Counts → Counts
+    → Type 0
+IsReadCounted seen result reading old new = CountsOutcome (seen_with_rest seen) result reading old new
+
+-- a reading's cause, whose cost was counted; where an allocation failed, no more than that cost
 abbrev pub Stops : {A : Type 0} → Refusal → Reading A → Counts → Counts → Type 0
-Stops (Fault cause) read old new = (read.1 ≡ Err cause) × Spent old new read.0
-Stops Memory read old new = AtMost old new read.0
+Stops (refusals.Cause cause) reading old new = (reading.1 ≡ Err cause) × Spent old new reading.0
+Stops refusals.Memory reading old new = AtMost old new reading.0
 
--- an answer, and what it cost
-abbrev pub Gives : {X Y : Type 0} → (X → Y × List ℕ) → Result X Refusal → Reading Y → Counts → Counts → Type 0
-Gives view (Ok x) read old new = (read.1 ≡ Ok (view x)) × Spent old new read.0
-Gives view (Err refusal) read old new = Stops refusal read old new
+-- the view and the bytes after it are those of a reading, whose cost was counted, or the reader stopped
+abbrev pub IsReadOrStops : {X Y : Type 0} → (X → Y) → Result (X × Bor (List ℕ)) Refusal → Reading Y → Counts → Counts
+    → Type 0
+IsReadOrStops seen (Ok x) reading old new = (reading.1 ≡ Ok (seen_with_rest seen x)) × Spent old new reading.0
+IsReadOrStops seen (Err refusal) reading old new = Stops refusal reading old new
+
+-- the bytes are refused: no allocation failed
+abbrev pub IsCause : Refusal → Type 0
+IsCause (refusals.Cause cause) = Unit {0}
+IsCause refusals.Memory = ⊥

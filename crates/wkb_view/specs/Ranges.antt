@@ -1,17 +1,15 @@
 -- What is read of bytes is lawful: each word is below 2^64, and a coordinate has as many as its dimension says.
 use Rattle.std.proofs.Common.{◌≡◌, ℕ, zero, suc, ◌+◌, ◌-◌, ◌*◌, ◌<◌, ◌^◌, List, [], ◌∷◌, take, drop, map, lit<, Result}
-use Rattle.std.proofs.Common.{Ok, Err, Bool, true, false}
-use Rattle.std.proofs.Common.{if◌then◌else◌, refl, sym, ap, ◌∙◌, subst, arith}
+use Rattle.std.proofs.Common.{Ok, Err, Bool, true, false, if◌then◌else◌, refl, sym, ap, ◌∙◌, subst, arith}
 use Rattle.std.proofs.lemmas.List.{get_or-drop}
 use Rattle.std.specs.List.{AllByRecursion}
 use Rattle.wkb_geom.specs.Geometries.{IsCoordinate, IsPoint, AreCoordinates}
 use Rattle.wkb_geom.specs.declared.error.Cause.TheVariants.{IncorrectType as incorrect_type}
-use Rattle.wkb_view.specs.Words.{Endianness, BigEndian, LittleEndian, Dimension, Xy, Xyz, Xym, Xyzm, Layout, width}
-use Rattle.wkb_view.specs.Words.{size, dimensions, number, all_nan, Head}
-use Rattle.wkb_view.specs.Words.{Cause, AreBytes, IsWord, length-items, items, coordinate, coordinates, head_at, laid}
-use Rattle.wkb_view.specs.Words.{body_start, point_of, point_item}
-use Rattle.wkb_view.specs.Words.{point_item_of, line_string_of, line_string_item, ring_in, layout_wanted, member_layout}
-use Rattle.wkb_view.specs.Words.{points_of}
+use Rattle.wkb_view.specs.Prelude.{Endianness, BigEndian, LittleEndian, Dimension, Xy, Xyz, Xym, Xyzm, Layout, width}
+use Rattle.wkb_view.specs.Prelude.{size, as_dimensions, number, all_nan, Head, Cause, AreBytes, IsWord, length-items}
+use Rattle.wkb_view.specs.Prelude.{items, coordinate, coordinates, head_at, laid, body_start, point_of, point_item}
+use Rattle.wkb_view.specs.Prelude.{point_item_of, line_string_of, line_string_item, ring_in, layout_wanted, member_layout}
+use Rattle.wkb_view.specs.Prelude.{points_of}
 use Rattle.wkb_view.specs.Members.{layout_said, member_item, point_ends, multi_point_item}
 use Rattle.wkb_view.specs.Pieces.{pieces}
 use Rattle.byteorder.specs.Numbers.{big_from-lt, little_from-lt}
@@ -36,14 +34,14 @@ words_fit e zero bytes h = tt
 words_fit e (suc n) bytes h =
     (omega (arith, number-lt e 8 bytes h), words_fit e n (drop 8 bytes) (AreBytes-drop 8 bytes h))
 
-pub named_size : (d : Dimension) → size (dimensions d) ≡ width d
+pub named_size : (d : Dimension) → size (as_dimensions d) ≡ width d
 named_size Xy = refl
 named_size Xyz = refl
 named_size Xym = refl
 named_size Xyzm = refl
 
 pub coordinate_lawful : (e : Endianness) (d : Dimension) (bytes : List ℕ) → AreBytes bytes
-    → IsCoordinate (dimensions d) (coordinate e d bytes)
+    → IsCoordinate (as_dimensions d) (coordinate e d bytes)
 coordinate_lawful e d bytes h =
     record {
       len = length-items 8 (number e 8) (width d) bytes ∙ sym (named_size d);
@@ -51,7 +49,7 @@ coordinate_lawful e d bytes h =
     }
 
 coordinates_lawful : (e : Endianness) (d : Dimension) (n : ℕ) (bytes : List ℕ) → AreBytes bytes
-    → AreCoordinates (dimensions d) (coordinates e d n bytes)
+    → AreCoordinates (as_dimensions d) (coordinates e d n bytes)
 coordinates_lawful e d zero bytes h = tt
 coordinates_lawful e d (suc n) bytes h = (
   coordinate_lawful e d bytes h,
@@ -59,22 +57,22 @@ coordinates_lawful e d (suc n) bytes h = (
 )
 
 pub ring_lawful : (e : Endianness) (d : Dimension) (encoding : List ℕ) → AreBytes encoding
-    → AreCoordinates (dimensions d) (ring_in e d encoding)
+    → AreCoordinates (as_dimensions d) (ring_in e d encoding)
 ring_lawful e d encoding h = coordinates_lawful e d (number e 4 encoding) (drop 4 encoding) (AreBytes-drop 4 encoding h)
 
 pub line_string_lawful : (l : Layout) (encoding : List ℕ) → AreBytes encoding
-    → AreCoordinates (dimensions l.dimension) (line_string_of (line_string_item l encoding).value)
+    → AreCoordinates (as_dimensions l.dimension) (line_string_of (line_string_item l encoding).value)
 line_string_lawful l encoding h =
     ring_lawful l.order l.dimension (drop (body_start l.has_srid) encoding)
     (AreBytes-drop (body_start l.has_srid) encoding h)
 
-point_by : (l : Layout) (encoding ws : List ℕ) (b : Bool) → IsCoordinate (dimensions l.dimension) ws
-    → IsPoint (dimensions l.dimension) (point_of (point_item_of l encoding ws b).value)
+point_by : (l : Layout) (encoding ws : List ℕ) (b : Bool) → IsCoordinate (as_dimensions l.dimension) ws
+    → IsPoint (as_dimensions l.dimension) (point_of (point_item_of l encoding ws b).value)
 point_by l encoding ws true h = tt
 point_by l encoding ws false h = h
 
 pub point_lawful : (l : Layout) (encoding : List ℕ) → AreBytes encoding
-    → IsPoint (dimensions l.dimension) (point_of (point_item l encoding).value)
+    → IsPoint (as_dimensions l.dimension) (point_of (point_item l encoding).value)
 point_lawful l encoding h =
     let words = drop (body_start l.has_srid) encoding in
     point_by l encoding _ (all_nan (coordinate l.order l.dimension words))
@@ -98,14 +96,14 @@ member_dimension k d encoding l e = wanted_by k d (head_at encoding) l e
 
 member_by : (d : Dimension) (encoding : List ℕ) (r : Result Layout Cause) → ((l : Layout) → r ≡ Ok l → l.dimension ≡ d)
     → AreBytes encoding
-    → IsPoint (dimensions d) (point_of (point_item (layout_said d r) encoding).value)
+    → IsPoint (as_dimensions d) (point_of (point_item (layout_said d r) encoding).value)
 member_by d encoding (Ok l) same h =
-    subst (λ e. IsPoint (dimensions e) (point_of (point_item l encoding).value)) (same l refl)
+    subst (λ e. IsPoint (as_dimensions e) (point_of (point_item l encoding).value)) (same l refl)
     (point_lawful l encoding h)
 member_by d encoding (Err c) same h = point_lawful (laid BigEndian d false) encoding h
 
 points_lawful : (d : Dimension) (start : ℕ) (ends encoding : List ℕ) → AreBytes encoding
-    → AllByRecursion (IsPoint (dimensions d))
+    → AllByRecursion (IsPoint (as_dimensions d))
     (map (λ i. point_of i.value) (map (member_item 1 d) (pieces start ends encoding)))
 points_lawful d start [] encoding h = tt
 points_lawful d start (end ∷ ends) encoding h = (
@@ -115,5 +113,5 @@ points_lawful d start (end ∷ ends) encoding h = (
 )
 
 pub multi_point_lawful : (l : Layout) (n : ℕ) (encoding : List ℕ) → AreBytes encoding
-    → AllByRecursion (IsPoint (dimensions l.dimension)) (points_of (multi_point_item l n encoding).value)
+    → AllByRecursion (IsPoint (as_dimensions l.dimension)) (points_of (multi_point_item l n encoding).value)
 multi_point_lawful l n encoding h = points_lawful l.dimension (body_start l.has_srid + 4) (point_ends l n) encoding h

@@ -1,14 +1,16 @@
--- What the views stand for.
-use Rattle.std.proofs.Common.{◌≡◌, ℕ, ◌+◌, ◌*◌, List, drop, Bool, true, false, refl}
-use Rattle.wkb_view.specs.Words.{Layout, Coordinate, width, all_nan, Item, coordinate, point_item, point_item_of}
-use Rattle.wkb_view.specs.Words.{point_of, line_string_of, line_string_item, body_start, order_of, Spelling, Endianness}
+-- What the views of points, line strings and multi points mean.
+use Rattle.std.proofs.Common.{◌≡◌, ℕ, ◌+◌, ◌*◌, List, take, drop, Option, Bool, true, false, refl}
+use Rattle.wkb_view.specs.Prelude.{Layout, Coordinate, width, all_nan, Item, coordinate, point_item, point_item_of}
+use Rattle.wkb_view.specs.Prelude.{point_of, points_of, line_string_of, line_string_item, body_start, order_of, Spelling}
+use Rattle.wkb_view.specs.Prelude.{Endianness}
 use Rattle.wkb_geom.specs.Values.{point}
 use Rattle.wkb_view.specs.declared.point.Point.{Point}
 use Rattle.wkb_view.specs.declared.line_string.LineString.{LineString}
 use Rattle.wkb_view.specs.declared.multi_point.MultiPoint.{MultiPoint}
+use Rattle.wkb_view.specs.Coords.{coordinate_encoding}
 use Rattle.wkb_view.specs.Members.{stride, multi_point_item}
 
--- the geometry that a view shows
+-- what is seen in a view
 abbrev pub point_seen : Point → Item
 point_seen p = point_item p.layout p.buf.now
 
@@ -45,6 +47,13 @@ line_string_layout l = l.layout
 abbrev pub multi_point_layout : MultiPoint → Layout
 multi_point_layout m = m.layout
 
+-- the coordinate of a point, and the points of a multi point
+abbrev pub seen_coordinate : Point → Option Coordinate
+seen_coordinate p = point_of (point_seen p).value
+
+abbrev pub seen_points : MultiPoint → List (Option Coordinate)
+seen_points m = points_of (multi_point_seen m).value
+
 -- the words of a point, also where all are not-a-numbers
 abbrev pub coordinate_in : Point → Coordinate
 coordinate_in p = coordinate p.layout.order p.layout.dimension (drop (body_start p.layout.has_srid) p.buf.now)
@@ -55,6 +64,28 @@ line_string_offset l i = body_start l.layout.has_srid + 4 + 8 * width l.layout.d
 
 abbrev pub multi_point_offset : MultiPoint → ℕ → ℕ
 multi_point_offset m i = body_start m.layout.has_srid + 4 + stride m.layout.dimension * i
+
+-- the bytes of a point's words, of a line string's coordinate and of a multi point's member
+abbrev pub point_coord_bytes : Point → List ℕ
+point_coord_bytes p = coordinate_encoding p.layout.dimension (body_start p.layout.has_srid) (point_seen p).encoding
+
+abbrev pub line_string_coord_bytes : LineString → ℕ → List ℕ
+line_string_coord_bytes l i = coordinate_encoding l.layout.dimension (line_string_offset l i) l.buf.now
+
+abbrev pub multi_point_member_bytes : MultiPoint → ℕ → List ℕ
+multi_point_member_bytes m i = take (stride m.layout.dimension) (drop (multi_point_offset m i) m.buf.now)
+
+-- the bytes of a point after its header: its words
+abbrev pub point_words_bytes : Point → List ℕ
+point_words_bytes p = drop (body_start p.layout.has_srid) (point_seen p).encoding
+
+-- the bytes of a line string after its header: its count and its coordinates
+abbrev pub line_string_ring_bytes : LineString → List ℕ
+line_string_ring_bytes l = drop (body_start l.layout.has_srid) l.buf.now
+
+-- the bytes of a line string after its count: its coordinates
+abbrev pub line_string_coords_bytes : LineString → List ℕ
+line_string_coords_bytes l = drop (body_start l.layout.has_srid + 4) l.buf.now
 
 value_by : (l : Layout) (encoding words : List ℕ) (empty : Bool)
     → (point_item_of l encoding words empty).value

@@ -1,9 +1,10 @@
 //! A coordinate.
 
 ghost use Rattle.std.specs.Prelude.{◌≡◌, ◌*◌, length};
-ghost use Rattle.wkb_view.specs.Words.{width, AreBytes};
+ghost use Rattle.wkb_geom.specs.declared.words.TheConstants.{WORD_SIZE};
+ghost use Rattle.wkb_view.specs.Prelude.{width, AreBytes};
 
-use wkb_geom::words::{is_nan, u64_at};
+use wkb_geom::words::{WORD_SIZE, is_nan, u64_at};
 use wkb_geom::{CoordTrait, Dimension, Dimensioned, Dimensions, Endianness};
 
 /// A coordinate: eight bytes for each of its words, in one byte order.
@@ -12,13 +13,13 @@ pub struct Coord<'a> {
     pub(crate) bytes: &'a [u8],
     pub(crate) order: Endianness,
     pub(crate) dimension: Dimension,
-    ghost whole: { length bytes.now ≡ 8 * width dimension },
+    ghost whole: { length bytes.now ≡ WORD_SIZE * width dimension },
     ghost in_range: { AreBytes bytes.now },
 }
 
 impl<'a> Coord<'a> {
     ghost use Rattle.std.specs.Prelude.{◌≡◌, ◌*◌, length};
-    ghost use Rattle.wkb_view.specs.Words.{width, all_nan};
+    ghost use Rattle.wkb_view.specs.Prelude.{width, all_nan};
     ghost use Rattle.wkb_view.specs.Coords.{words_seen, coord_order, coord_dimension};
     ghost use Rattle.wkb_view.specs.Coords.{coord_encoding};
     ghost use Rattle.wkb_geom.specs.Spellings.{SpellsCoordinate};
@@ -54,7 +55,7 @@ impl<'a> Coord<'a> {
     #[inline]
     pub fn size(&self) -> u64
         ensures bytes { result ≡ length (coord_encoding self.now) }
-        ensures words { result ≡ 8 * width (coord_dimension self.now) }
+        ensures words { result ≡ WORD_SIZE * width (coord_dimension self.now) }
     {
         self.bytes.len() as u64
     }
@@ -64,7 +65,7 @@ impl<'a> Coord<'a> {
         ensures { result ≡ all_nan (words_seen self.now) }
     {
         for n in 0..self.dimension.width() {
-            if !is_nan(u64_at(self.bytes, 8 * n, self.order)) {
+            if !is_nan(u64_at(self.bytes, WORD_SIZE * n, self.order)) {
                 return false;
             }
         }
@@ -73,10 +74,10 @@ impl<'a> Coord<'a> {
 }
 
 impl Dimensioned for Coord<'_> {
-    ghost use Rattle.wkb_view.specs.Words.{dimensions as trait_dimensions};
+    ghost use Rattle.wkb_view.specs.Prelude.{as_dimensions};
     ghost use Rattle.wkb_view.specs.Coords.{coord_dimension};
 
-    ghost dimensions = { λ c. trait_dimensions (coord_dimension c) };
+    ghost dimensions = { λ c. as_dimensions (coord_dimension c) };
 
     #[inline]
     fn dim(&self) -> Dimensions {
@@ -95,7 +96,7 @@ impl CoordTrait for Coord<'_> {
     #[inline]
     fn nth(&self, n: usize) -> Option<u64> {
         if n < self.dimension.width() {
-            Some(u64_at(self.bytes, 8 * n, self.order))
+            Some(u64_at(self.bytes, WORD_SIZE * n, self.order))
         } else {
             None
         }
@@ -104,7 +105,7 @@ impl CoordTrait for Coord<'_> {
     #[tactic(auto, using(crate::proofs::Items::word_at, crate::specs::Ranges::named_size))]
     #[inline]
     fn at(&self, n: usize) -> u64 {
-        u64_at(self.bytes, 8 * n, self.order)
+        u64_at(self.bytes, WORD_SIZE * n, self.order)
     }
 
     #[inline]
@@ -114,7 +115,7 @@ impl CoordTrait for Coord<'_> {
 
     #[inline]
     fn y(&self) -> u64 {
-        u64_at(self.bytes, 8, self.order)
+        u64_at(self.bytes, WORD_SIZE, self.order)
     }
 
     #[inline]

@@ -1,5 +1,5 @@
-//! Views of the kinds of geometry in Well-Known Binary: each borrows the bytes that it stands for. A kind is one file:
-//! its view, what the view answers, and (`read`) how it is read.
+//! Views of the kinds of geometry in Well-Known Binary: each borrows its bytes. A kind is one file: its view, what the
+//! view's calls return, and how it is read (`read`).
 #![tactic(auto)]
 
 pub mod any;

@@ -1,8 +1,8 @@
 //! A line string.
 
-ghost use Rattle.std.specs.Prelude.{◌≡◌, ◌+◌, ◌*◌, length, drop};
-ghost use Rattle.wkb_view.specs.Words.{width, AreBytes, number, body_start, line_string_item};
-ghost use Rattle.wkb_view.specs.Words.{BytesSpell};
+ghost use Rattle.std.specs.Prelude.{◌≡◌, length};
+ghost use Rattle.wkb_view.specs.Prelude.{line_string_end, AreBytes, count_in, line_string_item};
+ghost use Rattle.wkb_view.specs.Prelude.{BytesSpell};
 
 use crate::any::{
     AnyView, Line, MultiLineString, MultiPoint, MultiPolygon, Point, Polygon, Rect, Triangle,
@@ -10,8 +10,9 @@ use crate::any::{
 use crate::coord::Coord;
 use crate::linear_ring::LinearRing;
 use crate::own_srid::OwnSrid;
-use wkb_geom::code::WkbType;
-use wkb_geom::words::{COUNT, u32_at};
+use wkb_geom::code::{LINE_STRING, WkbType};
+use wkb_geom::header::MIN_MEMBER_SIZE;
+use wkb_geom::words::{COUNT_SIZE, WORD_SIZE, u32_at};
 use wkb_geom::{
     Cause, Dimension, Dimensioned, Dimensions, Endianness, Form, General, GeometryTrait,
     GeometryType, Layout, LineStringTrait,
@@ -23,27 +24,25 @@ pub struct LineString<'a> {
     buf: &'a [u8],
     layout: Layout,
     count: u32,
-    ghost counted: { count ≡ number layout.order 4 (drop (body_start layout.has_srid) buf.now) },
-    ghost whole: { length buf.now
-        ≡ body_start layout.has_srid + 4 + 8 * width layout.dimension * count },
+    ghost counted: { count ≡ count_in layout buf.now },
+    ghost whole: { length buf.now ≡ line_string_end layout.dimension layout.has_srid count },
     ghost in_range: { AreBytes buf.now },
     ghost spells: { BytesSpell (line_string_item layout buf.now) },
 }
 
 impl<'a> LineString<'a> {
-    ghost use Rattle.std.specs.Prelude.{◌≡◌, ◌+◌, length, ◌≤◌, drop, IfOk};
+    ghost use Rattle.std.specs.Prelude.{◌≡◌, ◌+◌, length, ◌≤◌, IfOk};
     ghost use Rattle.wkb_geom.specs.Values as value;
     ghost use Rattle.wkb_geom.specs.declared.code.WkbType.TheVariants as kinds;
-    ghost use Rattle.wkb_view.specs.Words.{body_start, line_string_at, line_string_item, consumed};
-    ghost use Rattle.wkb_view.specs.Parts.{BytesSpell};
+    ghost use Rattle.wkb_view.specs.Prelude.{line_string_at, line_string_item, consumed, BytesSpell};
     ghost use Rattle.wkb_view.specs.Coords.{ring_encoding, ring_order, ring_dimension};
     ghost use Rattle.wkb_view.specs.Views.{line_string_seen, line_string_layout};
     ghost use Rattle.wkb_view.specs.Views.{line_string_offset, line_string_coordinates};
-    ghost use Rattle.wkb_view.specs.Views.{line_string_order};
+    ghost use Rattle.wkb_view.specs.Views.{line_string_order, line_string_ring_bytes};
+    ghost use Rattle.wkb_view.specs.Views.{line_string_coords_bytes};
     ghost use Rattle.wkb_view.specs.Headers.{HasHead};
-    ghost use Rattle.wkb_view.specs.Outcome.{Answers};
-    ghost use Rattle.wkb_view.specs.Members.{IsEncoding};
-    ghost use Rattle.wkb_view.specs.Pieces.{Passed};
+    ghost use Rattle.wkb_view.specs.Outcome.{IsRead};
+    ghost use Rattle.wkb_view.specs.Members.{IsEncoding, PassedEncoding};
 
     /// The number of its bytes.
     #[inline]
@@ -53,7 +52,7 @@ impl<'a> LineString<'a> {
         self.buf.len() as u64
     }
 
-    /// Where a coordinate begins in its bytes.
+    /// The offset at which a coordinate begins in its bytes.
     #[inline]
     pub fn coord_offset(&self, i: u64) -> u64
         requires { i ≤ length (line_string_coordinates self.now) }
@@ -70,13 +69,12 @@ impl<'a> LineString<'a> {
         self.layout.dimension
     }
 
-    /// The bytes of its coordinates, behind the count.
+    /// The bytes of its coordinates, after the count.
     #[inline]
     pub fn coords_slice(&self) -> &'a [u8]
-        ensures { result.now ≡ drop (body_start (line_string_layout self.now).has_srid + 4)
-            (line_string_seen self.now).encoding }
+        ensures { result.now ≡ line_string_coords_bytes self.now }
     {
-        &self.buf[self.layout.header_length() + COUNT..]
+        &self.buf[self.layout.header_length() + COUNT_SIZE..]
     }
 
     /// The order of its numbers.
@@ -99,9 +97,7 @@ impl<'a> LineString<'a> {
     /// Its count and its coordinates, as a ring has them.
     #[inline]
     fn as_ring(&self) -> LinearRing<'a>
-        ensures encoding { ring_encoding result
-            ≡ drop (body_start (line_string_layout self.now).has_srid)
-            (line_string_seen self.now).encoding }
+        ensures encoding { ring_encoding result ≡ line_string_ring_bytes self.now }
         ensures order { ring_order result ≡ (line_string_layout self.now).order }
         ensures dimension { ring_dimension result ≡ (line_string_layout self.now).dimension }
     {
@@ -113,21 +109,20 @@ impl<'a> LineString<'a> {
         }
     }
 
-    /// The line string behind this header, and the bytes after it.
+    /// The line string after this header, and the bytes after it.
     #[tactic(auto, unfolding(wkb_geom::specs::Reading::line_string_at))]
     #[inline]
     pub fn read(layout: Layout, bytes: &'a [u8]) -> Result<(LineString<'a>, &'a [u8]), Cause>
         requires head { HasHead (λ d. kinds.LineString d) layout bytes.now }
-        ensures answer { Answers
-            (λ x. (line_string_seen x.0, x.1.now)) result (line_string_at layout bytes.now).1 }
+        ensures answer { IsRead line_string_seen result (line_string_at layout bytes.now).1 }
         ensures item { IfOk result
             (λ x. line_string_seen x.0 ≡ line_string_item layout (consumed bytes.now x.1.now)) }
-        ensures passed { IfOk result (λ x. Passed 9 (IsEncoding 2 layout) bytes.now x.1.now) }
-        ensures shorter { IfOk result (λ x. length x.1.now + 9 ≤ length bytes.now) }
+        ensures passed { IfOk result (λ x. PassedEncoding LINE_STRING layout bytes.now x.1.now) }
+        ensures shorter { IfOk result (λ x. length x.1.now + MIN_MEMBER_SIZE ≤ length bytes.now) }
     {
         let count = layout.count(bytes)?;
-        let start = layout.header_length() + COUNT;
-        let end = start as u64 + 8 * layout.dimension.width() as u64 * count as u64;
+        let start = layout.header_length() + COUNT_SIZE;
+        let end = start as u64 + (WORD_SIZE * layout.dimension.width()) as u64 * count as u64;
         if (bytes.len() as u64) < end {
             return Err(Cause::General(General::ShortLineString {
                 end,
@@ -139,10 +134,10 @@ impl<'a> LineString<'a> {
         Ok((line_string, rest))
     }
 
-    /// The line string that stands in these bytes, a member of a multi line string.
+    /// The line string of these bytes, a member of a multi line string.
     #[inline]
     pub(crate) fn of_encoding(layout: Layout, buf: &'a [u8]) -> LineString<'a>
-        requires { IsEncoding 2 layout buf.now }
+        requires { IsEncoding LINE_STRING layout buf.now }
         ensures item { line_string_seen result ≡ line_string_item layout buf.now }
         ensures layout { line_string_layout result ≡ layout }
     {
@@ -166,10 +161,10 @@ impl OwnSrid for LineString<'_> {
 }
 
 impl Dimensioned for LineString<'_> {
-    ghost use Rattle.wkb_view.specs.Words.{dimensions as trait_dimensions};
+    ghost use Rattle.wkb_view.specs.Prelude.{as_dimensions};
     ghost use Rattle.wkb_view.specs.Views.{line_string_layout};
 
-    ghost dimensions = { λ g. trait_dimensions (line_string_layout g).dimension };
+    ghost dimensions = { λ g. as_dimensions (line_string_layout g).dimension };
 
     #[inline]
     fn dim(&self) -> Dimensions {
@@ -179,13 +174,11 @@ impl Dimensioned for LineString<'_> {
 
 impl<'a> LineStringTrait for LineString<'a> {
     ghost use Rattle.std.specs.Prelude.{◌≡◌, length, option_map, IfSome, ◌<◌, Some, slice_get};
-    ghost use Rattle.wkb_view.specs.Words.{dimensions as trait_dimensions};
-    ghost use Rattle.wkb_view.specs.Coords.{words_seen, coordinate_encoding};
-    ghost use Rattle.wkb_view.specs.Coords.{coord_order, coord_dimension, coord_encoding};
+    ghost use Rattle.wkb_view.specs.Coords.{words_seen, coord_order, coord_dimension};
+    ghost use Rattle.wkb_view.specs.Coords.{coord_encoding};
     ghost use Rattle.wkb_view.specs.Ranges.{line_string_lawful};
-    ghost use Rattle.wkb_view.specs.Views.{line_string_seen, line_string_layout};
-    ghost use Rattle.wkb_view.specs.Views.{line_string_offset, line_string_coordinates};
-    ghost use Rattle.wkb_view.specs.Views.{line_string_order};
+    ghost use Rattle.wkb_view.specs.Views.{line_string_layout, line_string_coordinates};
+    ghost use Rattle.wkb_view.specs.Views.{line_string_order, line_string_coord_bytes};
 
     type CoordType = Coord<'a>;
 
@@ -212,12 +205,9 @@ impl<'a> LineStringTrait for LineString<'a> {
     fn coord(&self, i: usize) -> Option<Coord<'a>>
         ensures value { option_map words_seen result
             ≡ slice_get (line_string_coordinates self.now) i }
-        ensures dimensions { IfSome result (λ c. trait_dimensions (coord_dimension c)
-            ≡ trait_dimensions (line_string_layout self.now).dimension) }
+        ensures dimension { IfSome result (λ c. coord_dimension c ≡ (line_string_layout self.now).dimension) }
         ensures order { IfSome result (λ c. coord_order c ≡ line_string_order self.now) }
-        ensures bytes { IfSome result (λ c. coord_encoding c
-            ≡ coordinate_encoding (line_string_layout self.now).dimension
-            (line_string_offset self.now i) (line_string_seen self.now).encoding) }
+        ensures bytes { IfSome result (λ c. coord_encoding c ≡ line_string_coord_bytes self.now i) }
     {
         self.as_ring().coord(i)
     }
@@ -226,12 +216,9 @@ impl<'a> LineStringTrait for LineString<'a> {
     fn coord_at(&self, i: usize) -> Coord<'a>
         requires { i < length (line_string_coordinates self.now) }
         ensures value { slice_get (line_string_coordinates self.now) i ≡ Some (words_seen result) }
-        ensures dimensions { trait_dimensions (coord_dimension result)
-            ≡ trait_dimensions (line_string_layout self.now).dimension }
+        ensures dimension { coord_dimension result ≡ (line_string_layout self.now).dimension }
         ensures order { coord_order result ≡ line_string_order self.now }
-        ensures bytes { coord_encoding result
-            ≡ coordinate_encoding (line_string_layout self.now).dimension
-            (line_string_offset self.now i) (line_string_seen self.now).encoding }
+        ensures bytes { coord_encoding result ≡ line_string_coord_bytes self.now i }
     {
         self.as_ring().coord_at(i)
     }
@@ -241,7 +228,7 @@ impl<'a> GeometryTrait for LineString<'a> {
     ghost use Rattle.std.specs.Prelude.{◌≡◌, refl};
     ghost use Rattle.wkb_geom.specs.declared.geom.GeometryType.TheVariants.{LineString as Handed};
     ghost use Rattle.wkb_geom.specs.Geometries.{line_string};
-    ghost use Rattle.wkb_view.specs.Words.{dimensions as trait_dimensions};
+    ghost use Rattle.wkb_view.specs.Prelude.{as_dimensions};
     ghost use Rattle.wkb_view.specs.Ranges.{line_string_lawful};
     ghost use Rattle.wkb_view.specs.Views.{line_string_layout, line_string_coordinates};
 
@@ -263,7 +250,7 @@ impl<'a> GeometryTrait for LineString<'a> {
 
     type LineType = Line<'a>;
 
-    ghost geometry = { λ l. line_string (trait_dimensions (line_string_layout l).dimension)
+    ghost geometry = { λ l. line_string (as_dimensions (line_string_layout l).dimension)
         (line_string_coordinates l) };
 
     ghost one_dimension = { λ g. refl };

@@ -1,13 +1,12 @@
 //! A multi line string.
 
-ghost use Rattle.std.specs.Prelude.{◌≡◌, ◌+◌, length, ◌≤◌, IfOk, ◌/◌, [], min};
-ghost use Rattle.wkb_view.specs.Words.{dimensions as trait_dimensions, body_start, member_at};
-ghost use Rattle.wkb_view.specs.Words.{parts_start, consumed};
-ghost use Rattle.wkb_view.specs.Members.{members_behind, IsMemberOfKind, member_item};
-ghost use Rattle.wkb_view.specs.Members.{AreMembersOfKind, members_in};
-ghost use Rattle.wkb_view.specs.Outcome.{Freely, Surely, CanCount};
-ghost use Rattle.wkb_view.specs.Entries.{entries, capacity};
-ghost use Rattle.wkb_view.specs.Pieces.{Passed};
+ghost use Rattle.std.specs.Prelude.{◌≡◌, ◌+◌, length, ◌≤◌, IfOk, []};
+ghost use Rattle.wkb_view.specs.Prelude.{as_dimensions, body_start, consumed};
+ghost use Rattle.wkb_view.specs.Members.{members_behind, AreMembersOfKind, PassedMember};
+ghost use Rattle.wkb_view.specs.Outcome.{CanCount};
+ghost use Rattle.wkb_view.specs.Passing.{PassesMember, PassesLineStrings};
+ghost use Rattle.wkb_view.specs.Entries.{entries, capacity, HasSlots};
+ghost use Rattle.wkb_view.specs.Pieces.{IsAfterCount};
 
 use crate::any::{
     AnyView, Line, LineString, MultiPoint, MultiPolygon, Point, Polygon, Rect, Triangle,
@@ -19,8 +18,8 @@ use crate::reserved::{Reserved, counted_list};
 use std::alloc::{AllocError, Global};
 use std::marker::Model;
 use wkb_geom::code::LINE_STRING;
-use wkb_geom::header::LEAST_MEMBER;
-use wkb_geom::words::COUNT;
+use wkb_geom::header::MIN_MEMBER_SIZE;
+use wkb_geom::words::COUNT_SIZE;
 use wkb_geom::{
     Cause, Dimension, Dimensioned, Dimensions, Endianness, Form, GeometryTrait, GeometryType,
     Layout, MultiLineStringTrait, Refusal,
@@ -37,9 +36,9 @@ pub struct MultiLineString<'a> {
 impl<'a> Model for MultiLineString<'a> {
     ghost use Rattle.std.specs.Prelude.{◌+◌, ◌≤◌, length, List};
     ghost use Rattle.wkb_geom.specs.Stored.{listed_code, rings_code};
-    ghost use Rattle.wkb_geom.specs.Values.{multi_line_string};
-    ghost use Rattle.wkb_view.specs.Words.{body_start, whole_of, Listed, Coordinate, BytesSpell};
+    ghost use Rattle.wkb_view.specs.Prelude.{body_start, Listed, Coordinate, BytesSpell};
     ghost use Rattle.wkb_view.specs.Members.{AreMembersOfKind, line_strings_laid};
+    ghost use Rattle.wkb_view.specs.Members.{multi_line_string_seen};
 
     ghost Value = { Listed (List (List Coordinate)) };
 
@@ -49,20 +48,19 @@ impl<'a> Model for MultiLineString<'a> {
 
     ghost invariant = { λ a. (body_start a.layout.has_srid + 4 ≤ length a.buf.now)
         × AreMembersOfKind 2 a.layout a.ends.items a.buf.now
-        × BytesSpell (whole_of multi_line_string
-        (line_strings_laid a.layout a.ends.items a.buf.now)) };
+        × BytesSpell (multi_line_string_seen (line_strings_laid a.layout a.ends.items a.buf.now)) };
 }
 
 impl<'a> MultiLineString<'a> {
-    ghost use Rattle.std.specs.Prelude.{◌≡◌, length, option_map, IfSome, IfOk, slice_get, ◌+◌, ◌≤◌};
-    ghost use Rattle.wkb_geom.specs.Values.{multi_line_string};
+    ghost use Rattle.std.specs.Prelude.{◌≡◌, length, option_map, IfSome, IfOk, IfErr, slice_get};
+    ghost use Rattle.std.specs.Prelude.{◌+◌, ◌≤◌};
     ghost use Rattle.wkb_geom.specs.declared.code.WkbType.TheVariants as kinds;
-    ghost use Rattle.wkb_view.specs.Words.{whole_of, multi_line_string_at, BytesSpell, spelling_at};
+    ghost use Rattle.wkb_view.specs.Prelude.{multi_line_string_at, BytesSpell, spelling_at};
     ghost use Rattle.wkb_view.specs.Views.{line_string_spelling, line_string_layout};
     ghost use Rattle.wkb_view.specs.Views.{line_string_coordinates};
     ghost use Rattle.wkb_view.specs.Headers.{HasHead};
-    ghost use Rattle.wkb_view.specs.Memory.{IsNoWant};
-    ghost use Rattle.wkb_view.specs.Outcome.{Gives, CanCount};
+    ghost use Rattle.wkb_view.specs.Members.{multi_line_string_seen};
+    ghost use Rattle.wkb_view.specs.Outcome.{IsReadOrStops, CanCount, IsCause};
 
     /// The number of its bytes.
     #[inline]
@@ -84,7 +82,7 @@ impl<'a> MultiLineString<'a> {
     #[inline]
     pub fn buf(&self) -> &'a [u8]
         ensures encoding { result.now ≡ self.now.encoding }
-        ensures spells { BytesSpell (whole_of multi_line_string self.now) }
+        ensures spells { BytesSpell (multi_line_string_seen self.now) }
     {
         self.buf
     }
@@ -97,19 +95,24 @@ impl<'a> MultiLineString<'a> {
         self.ends.len()
     }
 
-    /// The line string at an index, made again from the bytes between two ends, in its own order.
+    /// The line string at an index, read again from the bytes between two ends, in its own order.
     pub(crate) fn member(&self, i: usize) -> Option<LineString<'a>>
         ensures value { option_map line_string_coordinates result ≡ slice_get self.now.parts i }
         ensures dimension { IfSome result
             (λ l. (line_string_layout l).dimension ≡ self.now.dimension) }
         ensures spelled { option_map line_string_spelling result ≡ spelling_at self.now.spelled i }
     {
-        let buf = part_at(self.buf, self.layout.header_length() + COUNT, &self.ends, i)?;
+        let buf = part_at(
+            self.buf,
+            self.layout.header_length() + COUNT_SIZE,
+            &self.ends,
+            i,
+        )?;
         let layout = Layout::of_known_member(LINE_STRING, self.layout.dimension, buf);
         Some(LineString::of_encoding(layout, buf))
     }
 
-    /// The multi line string behind this header, and the bytes after it.
+    /// The multi line string after this header, and the bytes after it.
     #[tactic(auto, unfolding(wkb_geom::specs::Reading::multi_line_string_at))]
     #[inline(always)]
     pub fn read(
@@ -120,12 +123,13 @@ impl<'a> MultiLineString<'a> {
     ) -> Result<(MultiLineString<'a>, &'a [u8]), Refusal>
         requires fits { CanCount counts.old (multi_line_string_at layout bytes.now).0 }
         requires head { HasHead (λ d. kinds.MultiLineString d) layout bytes.now }
-        ensures answer { Gives (λ x. (whole_of multi_line_string x.0, x.1.now))
+        ensures answer { IsReadOrStops multi_line_string_seen
             result (multi_line_string_at layout bytes.now) counts.old counts.new }
-        ensures shorter { IfOk result (λ x. length x.1.now + 9 ≤ length bytes.now) }
-        ensures no_memory { (multi_line_string_at layout bytes.now).0.slots ≡ 0 → IsNoWant result }
+        ensures shorter { IfOk result (λ x. length x.1.now + MIN_MEMBER_SIZE ≤ length bytes.now) }
+        ensures no_memory { (multi_line_string_at layout bytes.now).0.slots ≡ 0
+            → IfErr result IsCause }
     {
-        let (count, ends) = counted_list(alloc, layout, bytes, LEAST_MEMBER, counts)?;
+        let (count, ends) = counted_list(alloc, layout, bytes, MIN_MEMBER_SIZE, counts)?;
         let (ends, rest) = pass_line_strings(layout, bytes, ends, count, counts)?;
         let multi_line_string = MultiLineString {
             buf: &bytes[..bytes.len() - rest.len()],
@@ -134,6 +138,50 @@ impl<'a> MultiLineString<'a> {
         };
         Ok((multi_line_string, rest))
     }
+}
+
+/// Passes the line string of this dimension at the front of the bytes.
+fn pass_line_string<'a>(dimension: Dimension, bytes: &'a [u8]) -> Result<&'a [u8], Cause>
+    ensures answer { PassesMember LINE_STRING dimension bytes.now result }
+    ensures passed { IfOk result
+        (λ rest. PassedMember LINE_STRING dimension bytes.now rest.now) }
+{
+    let member = Layout::of_member(LINE_STRING, dimension, bytes)?;
+    // Built from its fields, so that it doesn't go through memory.
+    let layout = Layout {
+        order: member.order,
+        dimension,
+        has_srid: member.has_srid,
+    };
+    let (_, rest) = LineString::read(layout, bytes)?;
+    Ok(rest)
+}
+
+/// Passes `count` line strings, and keeps the offsets at which they end.
+#[tactic(auto, using(crate::proofs::Lists::parts_length))]
+fn pass_line_strings<'a>(
+    layout: Layout,
+    bytes: &'a [u8],
+    mut ends: Reserved<usize>,
+    count: u32,
+    counts: &mut Counts,
+) -> Result<(Reserved<usize>, &'a [u8]), Cause>
+    requires whole { body_start layout.has_srid + COUNT_SIZE ≤ length bytes.now }
+    requires empty { entries ends ≡ [] }
+    requires room { HasSlots MIN_MEMBER_SIZE layout count bytes.now (capacity ends) }
+    requires fits { CanCount counts.old (members_behind LINE_STRING layout count bytes.now).0 }
+    ensures line_strings { PassesLineStrings layout count bytes.now result counts.old counts.new }
+    ensures ends { IfOk result
+        (λ x. AreMembersOfKind LINE_STRING layout (entries x.0) (consumed bytes.now x.1.now)) }
+    ensures shorter { IfOk result (λ x. IsAfterCount layout bytes.now x.1.now) }
+{
+    let mut rest = layout.after_count(bytes);
+    for _ in 0..count {
+        counts.turns += 1;
+        rest = pass_line_string(layout.dimension, rest)?;
+        ends.push(bytes.len() - rest.len());
+    }
+    Ok((ends, rest))
 }
 
 /// A copy with a list of its own.
@@ -161,7 +209,7 @@ impl OwnSrid for MultiLineString<'_> {
 }
 
 impl Dimensioned for MultiLineString<'_> {
-    ghost dimensions = { λ g. trait_dimensions g.dimension };
+    ghost dimensions = { λ g. as_dimensions g.dimension };
 
     #[inline]
     fn dim(&self) -> Dimensions {
@@ -171,7 +219,7 @@ impl Dimensioned for MultiLineString<'_> {
 
 impl<'a> MultiLineStringTrait for MultiLineString<'a> {
     ghost use Rattle.std.specs.Prelude.{◌≡◌, option_map, IfSome, slice_get};
-    ghost use Rattle.wkb_view.specs.Words.{dimensions as trait_dimensions, spelling_at};
+    ghost use Rattle.wkb_view.specs.Prelude.{as_dimensions, spelling_at};
     ghost use Rattle.wkb_view.specs.Views.{line_string_spelling, line_string_layout};
     ghost use Rattle.wkb_view.specs.Views.{line_string_coordinates};
     ghost use Rattle.wkb_view.specs.Fitted.{fitted_parts, line_strings_fit};
@@ -180,7 +228,7 @@ impl<'a> MultiLineStringTrait for MultiLineString<'a> {
 
     ghost line_strings = { fitted_parts };
 
-    ghost lawful = { λ m. (line_strings_fit (trait_dimensions m.dimension) m.parts).lawful };
+    ghost lawful = { λ m. (line_strings_fit (as_dimensions m.dimension) m.parts).lawful };
 
     #[inline]
     fn num_line_strings(&self) -> usize {
@@ -192,8 +240,7 @@ impl<'a> MultiLineStringTrait for MultiLineString<'a> {
         ensures value { option_map line_string_coordinates result
             ≡ slice_get (fitted_parts self.now) i }
         ensures part { option_map line_string_coordinates result ≡ slice_get self.now.parts i }
-        ensures dimensions { IfSome result (λ l. trait_dimensions (line_string_layout l).dimension
-            ≡ trait_dimensions self.now.dimension) }
+        ensures dimension { IfSome result (λ l. (line_string_layout l).dimension ≡ self.now.dimension) }
         ensures spelled { option_map line_string_spelling result ≡ spelling_at self.now.spelled i }
     {
         self.member(i)
@@ -204,7 +251,7 @@ impl<'a> GeometryTrait for MultiLineString<'a> {
     ghost use Rattle.std.specs.Prelude.{◌≡◌, refl};
     ghost use Rattle.wkb_geom.specs.declared.geom.GeometryType.TheVariants.{MultiLineString as Handed};
     ghost use Rattle.wkb_geom.specs.Geometries.{multi_line_string};
-    ghost use Rattle.wkb_view.specs.Words.{dimensions as trait_dimensions};
+    ghost use Rattle.wkb_view.specs.Prelude.{as_dimensions};
     ghost use Rattle.wkb_view.specs.Fitted.{fitted_parts, line_strings_fit};
 
     type PointType = Point<'a>;
@@ -225,11 +272,11 @@ impl<'a> GeometryTrait for MultiLineString<'a> {
 
     type LineType = Line<'a>;
 
-    ghost geometry = { λ m. multi_line_string (trait_dimensions m.dimension) (fitted_parts m) };
+    ghost geometry = { λ m. multi_line_string (as_dimensions m.dimension) (fitted_parts m) };
 
     ghost one_dimension = { λ g. refl };
 
-    ghost lawful = { λ m. (line_strings_fit (trait_dimensions m.dimension) m.parts).lawful };
+    ghost lawful = { λ m. (line_strings_fit (as_dimensions m.dimension) m.parts).lawful };
 
     #[inline]
     fn as_type(&self) -> AnyView<'_, 'a, MultiLineString<'a>>
@@ -238,58 +285,9 @@ impl<'a> GeometryTrait for MultiLineString<'a> {
         GeometryType::MultiLineString(self)
     }
 
-    // Each member has a header of its own, so none is lent whole.
+    // The trait's default says the same, but the check would prove it again here, in some ten seconds.
     #[inline]
     fn whole(&self, _order: Endianness, _form: Form) -> Option<&[u8]> {
         None
     }
-}
-
-/// Passes the line string of this dimension at the front of the bytes.
-fn pass_line_string<'a>(dimension: Dimension, bytes: &'a [u8]) -> Result<&'a [u8], Cause>
-    ensures answer { Freely
-        (λ rest. (member_item 2 dimension (consumed bytes.now rest.now), rest.now))
-        result (member_at 2 dimension bytes.now) }
-    ensures passed { IfOk result
-        (λ rest. Passed 9 (IsMemberOfKind 2 dimension) bytes.now rest.now) }
-{
-    let member = Layout::of_member(LINE_STRING, dimension, bytes)?;
-    // Made anew, so that it doesn't go through memory.
-    let layout = Layout {
-        order: member.order,
-        dimension,
-        has_srid: member.has_srid,
-    };
-    let (_, rest) = LineString::read(layout, bytes)?;
-    Ok(rest)
-}
-
-/// Passes so many line strings, and keeps the offsets at which they end.
-#[tactic(auto, using(crate::proofs::Lists::parts_length))]
-fn pass_line_strings<'a>(
-    layout: Layout,
-    bytes: &'a [u8],
-    mut ends: Reserved<usize>,
-    count: u32,
-    counts: &mut Counts,
-) -> Result<(Reserved<usize>, &'a [u8]), Cause>
-    requires whole { body_start layout.has_srid + 4 ≤ length bytes.now }
-    requires empty { entries ends ≡ [] }
-    requires room { min count (length (parts_start layout.has_srid bytes.now) / 9) ≤ capacity ends }
-    requires fits { CanCount counts.old (members_behind 2 layout count bytes.now).0 }
-    ensures line_strings { Surely
-        (λ x. (members_in 2 layout (entries x.0) (consumed bytes.now x.1.now), x.1.now))
-        result (members_behind 2 layout count bytes.now) counts.old counts.new }
-    ensures ends { IfOk result
-        (λ x. AreMembersOfKind 2 layout (entries x.0) (consumed bytes.now x.1.now)) }
-    ensures shorter { IfOk result
-        (λ x. length x.1.now + body_start layout.has_srid + 4 ≤ length bytes.now) }
-{
-    let mut rest = layout.after_count(bytes);
-    for _ in 0..count {
-        counts.turns += 1;
-        rest = pass_line_string(layout.dimension, rest)?;
-        ends.push(bytes.len() - rest.len());
-    }
-    Ok((ends, rest))
 }

@@ -1,12 +1,10 @@
 //! A multi point.
 
 ghost use Rattle.std.specs.Prelude.{◌≡◌, ◌+◌, length, ◌≤◌, IfOk};
-ghost use Rattle.wkb_view.specs.Words.{AreBytes, body_start, member_at, consumed, multi_point_end};
-ghost use Rattle.wkb_view.specs.Words.{BytesSpell};
-ghost use Rattle.wkb_view.specs.Members.{members_behind, IsMemberOfKind, ArePoints};
-ghost use Rattle.wkb_view.specs.Members.{member_item, points_in, multi_point_item};
-ghost use Rattle.wkb_view.specs.Outcome.{Freely, Surely, CanCount};
-ghost use Rattle.wkb_view.specs.Pieces.{Passed};
+ghost use Rattle.wkb_view.specs.Prelude.{AreBytes, body_start, consumed, multi_point_end, BytesSpell};
+ghost use Rattle.wkb_view.specs.Members.{members_behind, ArePoints, PassedMember, multi_point_item};
+ghost use Rattle.wkb_view.specs.Outcome.{CanCount};
+ghost use Rattle.wkb_view.specs.Passing.{PassesMember, PassesPoints};
 
 use crate::any::{
     AnyView, Line, LineString, MultiLineString, MultiPolygon, Point, Polygon, Rect, Triangle,
@@ -15,14 +13,14 @@ use crate::counts::Counts;
 use crate::own_srid::OwnSrid;
 use crate::part::subslice;
 use wkb_geom::code::POINT;
-use wkb_geom::header::MEMBER_HEADER;
-use wkb_geom::words::COUNT;
+use wkb_geom::header::{MEMBER_HEADER_SIZE, MIN_MEMBER_SIZE};
+use wkb_geom::words::{COUNT_SIZE, WORD_SIZE};
 use wkb_geom::{
     Cause, Dimension, Dimensioned, Dimensions, Endianness, Form, General, GeometryTrait,
     GeometryType, Layout, MultiPointTrait,
 };
 
-/// A multi point: its members have one length, and are made again from their bytes.
+/// A multi point: its members have one length, and are read again from their bytes.
 #[derive(Clone, Copy, Debug)]
 pub struct MultiPoint<'a> {
     buf: &'a [u8],
@@ -38,10 +36,10 @@ impl<'a> MultiPoint<'a> {
     ghost use Rattle.std.specs.Prelude.{◌≡◌, length, ◌≤◌, ◌+◌, IfOk};
     ghost use Rattle.wkb_geom.specs.Values as value;
     ghost use Rattle.wkb_geom.specs.declared.code.WkbType.TheVariants as kinds;
-    ghost use Rattle.wkb_view.specs.Words.{multi_point_at, BytesSpell, points_of};
-    ghost use Rattle.wkb_view.specs.Views.{multi_point_seen, multi_point_offset};
+    ghost use Rattle.wkb_view.specs.Prelude.{multi_point_at, BytesSpell};
+    ghost use Rattle.wkb_view.specs.Views.{multi_point_seen, seen_points, multi_point_offset};
     ghost use Rattle.wkb_view.specs.Headers.{HasHead};
-    ghost use Rattle.wkb_view.specs.Outcome.{Surely, CanCount};
+    ghost use Rattle.wkb_view.specs.Outcome.{IsReadCounted, CanCount};
 
     /// The number of its bytes.
     #[inline]
@@ -51,15 +49,15 @@ impl<'a> MultiPoint<'a> {
         self.buf.len() as u64
     }
 
-    /// Where a point begins in its bytes.
+    /// The offset at which a point begins in its bytes.
     #[tactic(auto, using(crate::proofs::Members::points_counted, crate::proofs::Items::few_bytes))]
     #[inline]
     pub fn point_offset(&self, i: u64) -> u64
-        requires { i ≤ length (points_of (multi_point_seen self.now).value) }
+        requires { i ≤ length (seen_points self.now) }
         ensures { result ≡ multi_point_offset self.now i }
     {
-        let start = self.layout.header_length() + COUNT;
-        let member = MEMBER_HEADER + 8 * self.layout.dimension.width();
+        let start = self.layout.header_length() + COUNT_SIZE;
+        let member = MEMBER_HEADER_SIZE + WORD_SIZE * self.layout.dimension.width();
         start as u64 + member as u64 * i
     }
 
@@ -80,7 +78,7 @@ impl<'a> MultiPoint<'a> {
         self.buf
     }
 
-    /// The multi point behind this header, and the bytes after it.
+    /// The multi point after this header, and the bytes after it.
     #[tactic(auto, unfolding(wkb_geom::specs::Reading::multi_point_at))]
     #[inline(always)]
     pub fn read(
@@ -90,13 +88,12 @@ impl<'a> MultiPoint<'a> {
     ) -> Result<(MultiPoint<'a>, &'a [u8]), Cause>
         requires fits { CanCount counts.old (multi_point_at layout bytes.now).0 }
         requires head { HasHead (λ d. kinds.MultiPoint d) layout bytes.now }
-        ensures answer { Surely (λ x. (multi_point_seen x.0, x.1.now))
-            result (multi_point_at layout bytes.now) counts.old counts.new }
-        ensures shorter { IfOk result (λ x. length x.1.now + 9 ≤ length bytes.now) }
+        ensures answer { IsReadCounted multi_point_seen result (multi_point_at layout bytes.now) counts.old counts.new }
+        ensures shorter { IfOk result (λ x. length x.1.now + MIN_MEMBER_SIZE ≤ length bytes.now) }
     {
         let count = layout.count(bytes)?;
-        let start = layout.header_length() + COUNT;
-        let member = MEMBER_HEADER + 8 * layout.dimension.width();
+        let start = layout.header_length() + COUNT_SIZE;
+        let member = MEMBER_HEADER_SIZE + WORD_SIZE * layout.dimension.width();
         let end = start as u64 + member as u64 * count as u64;
         if (bytes.len() as u64) < end {
             return Err(Cause::General(General::ShortMultiPoint {
@@ -108,6 +105,47 @@ impl<'a> MultiPoint<'a> {
         let buf = &bytes[..bytes.len() - rest.len()];
         Ok((MultiPoint { buf, layout, count }, rest))
     }
+}
+
+/// Passes the point of this dimension, without an SRID, at the front of the bytes.
+#[inline]
+fn pass_point<'a>(dimension: Dimension, bytes: &'a [u8]) -> Result<&'a [u8], Cause>
+    ensures answer { PassesMember POINT dimension bytes.now result }
+    ensures passed { IfOk result
+        (λ rest. PassedMember POINT dimension bytes.now rest.now) }
+{
+    let member = Layout::of_member(POINT, dimension, bytes)?;
+    // Built from what is known, so that it doesn't go through memory.
+    let layout = Layout {
+        order: member.order,
+        dimension,
+        has_srid: false,
+    };
+    let (_, rest) = Point::read(layout, bytes)?;
+    Ok(rest)
+}
+
+/// Passes `count` points.
+fn pass_points<'a>(
+    layout: Layout,
+    bytes: &'a [u8],
+    count: u32,
+    counts: &mut Counts,
+) -> Result<&'a [u8], Cause>
+    requires whole { body_start layout.has_srid + COUNT_SIZE ≤ length bytes.now }
+    requires fits { CanCount counts.old (members_behind POINT layout count bytes.now).0 }
+    ensures points { PassesPoints layout count bytes.now result counts.old counts.new }
+    ensures each { IfOk result (λ rest. ArePoints layout count (consumed bytes.now rest.now)) }
+    ensures end { IfOk result
+        (λ rest. multi_point_end layout.dimension layout.has_srid count + length rest.now
+        ≡ length bytes.now) }
+{
+    let mut rest = layout.after_count(bytes);
+    for _ in 0..count {
+        counts.turns += 1;
+        rest = pass_point(layout.dimension, rest)?;
+    }
+    Ok(rest)
 }
 
 impl OwnSrid for MultiPoint<'_> {
@@ -122,10 +160,10 @@ impl OwnSrid for MultiPoint<'_> {
 }
 
 impl Dimensioned for MultiPoint<'_> {
-    ghost use Rattle.wkb_view.specs.Words.{dimensions as trait_dimensions};
+    ghost use Rattle.wkb_view.specs.Prelude.{as_dimensions};
     ghost use Rattle.wkb_view.specs.Views.{multi_point_layout};
 
-    ghost dimensions = { λ g. trait_dimensions (multi_point_layout g).dimension };
+    ghost dimensions = { λ g. as_dimensions (multi_point_layout g).dimension };
 
     #[inline]
     fn dim(&self) -> Dimensions {
@@ -134,17 +172,16 @@ impl Dimensioned for MultiPoint<'_> {
 }
 
 impl<'a> MultiPointTrait for MultiPoint<'a> {
-    ghost use Rattle.std.specs.Prelude.{◌≡◌, option_map, IfSome, slice_get, take, drop};
-    ghost use Rattle.wkb_view.specs.Words.{dimensions as trait_dimensions, point_of, points_of};
-    ghost use Rattle.wkb_view.specs.Words.{spelling_at};
-    ghost use Rattle.wkb_view.specs.Members.{stride};
-    ghost use Rattle.wkb_view.specs.Views.{point_seen, point_layout, multi_point_seen};
-    ghost use Rattle.wkb_view.specs.Views.{multi_point_layout, point_spelling, multi_point_offset};
+    ghost use Rattle.std.specs.Prelude.{◌≡◌, option_map, IfSome, slice_get};
+    ghost use Rattle.wkb_view.specs.Prelude.{spelling_at};
+    ghost use Rattle.wkb_view.specs.Views.{point_seen, seen_coordinate, point_layout};
+    ghost use Rattle.wkb_view.specs.Views.{multi_point_seen, seen_points, multi_point_layout};
+    ghost use Rattle.wkb_view.specs.Views.{point_spelling, multi_point_member_bytes};
     ghost use Rattle.wkb_view.specs.Ranges.{multi_point_lawful};
 
     type InnerPointType = Point<'a>;
 
-    ghost points = { λ m. points_of (multi_point_seen m).value };
+    ghost points = { seen_points };
 
     ghost lawful = { λ m. multi_point_lawful m.layout m.count m.buf.now m.in_range };
 
@@ -154,25 +191,23 @@ impl<'a> MultiPointTrait for MultiPoint<'a> {
         self.count as usize
     }
 
-    /// The point at an index, made again from its bytes, in its own order.
+    /// The point at an index, read again from its bytes, in its own order.
     #[tactic(auto, using(crate::proofs::Members::points_counted, crate::proofs::Items::next_within))]
     #[inline]
     fn point(&self, i: usize) -> Option<Point<'a>>
-        ensures value { option_map (λ p. point_of (point_seen p).value) result
-            ≡ slice_get (points_of (multi_point_seen self.now).value) i }
-        ensures dimensions { IfSome result (λ p. trait_dimensions (point_layout p).dimension
-            ≡ trait_dimensions (multi_point_layout self.now).dimension) }
+        ensures value { option_map seen_coordinate result ≡ slice_get (seen_points self.now) i }
+        ensures dimension { IfSome result
+            (λ p. (point_layout p).dimension ≡ (multi_point_layout self.now).dimension) }
         ensures spelled { option_map point_spelling result
             ≡ spelling_at (multi_point_seen self.now).spelled i }
-        ensures bytes { IfSome result (λ p. (point_seen p).encoding
-            ≡ take (stride (multi_point_layout self.now).dimension)
-            (drop (multi_point_offset self.now i) (multi_point_seen self.now).encoding)) }
+        ensures bytes { IfSome result
+            (λ p. (point_seen p).encoding ≡ multi_point_member_bytes self.now i) }
     {
         if i >= self.count as usize {
             return None;
         }
         let start = self.point_offset(i as u64) as usize;
-        let member = MEMBER_HEADER + 8 * self.layout.dimension.width();
+        let member = MEMBER_HEADER_SIZE + WORD_SIZE * self.layout.dimension.width();
         let buf = subslice(self.buf, start, member);
         let layout = Layout::of_known_member(POINT, self.layout.dimension, buf);
         Some(Point::of_encoding(layout, buf))
@@ -183,9 +218,9 @@ impl<'a> GeometryTrait for MultiPoint<'a> {
     ghost use Rattle.std.specs.Prelude.{◌≡◌, refl};
     ghost use Rattle.wkb_geom.specs.declared.geom.GeometryType.TheVariants.{MultiPoint as Handed};
     ghost use Rattle.wkb_geom.specs.Geometries.{multi_point};
-    ghost use Rattle.wkb_view.specs.Words.{dimensions as trait_dimensions, points_of};
+    ghost use Rattle.wkb_view.specs.Prelude.{as_dimensions};
     ghost use Rattle.wkb_view.specs.Ranges.{multi_point_lawful};
-    ghost use Rattle.wkb_view.specs.Views.{multi_point_seen, multi_point_layout};
+    ghost use Rattle.wkb_view.specs.Views.{seen_points, multi_point_layout};
 
     type PointType = Point<'a>;
 
@@ -205,8 +240,8 @@ impl<'a> GeometryTrait for MultiPoint<'a> {
 
     type LineType = Line<'a>;
 
-    ghost geometry = { λ m. multi_point (trait_dimensions (multi_point_layout m).dimension)
-        (points_of (multi_point_seen m).value) };
+    ghost geometry = { λ m. multi_point (as_dimensions (multi_point_layout m).dimension)
+        (seen_points m) };
 
     ghost one_dimension = { λ g. refl };
 
@@ -219,54 +254,9 @@ impl<'a> GeometryTrait for MultiPoint<'a> {
         GeometryType::MultiPoint(self)
     }
 
-    // Each member has a header of its own, so none is lent whole.
+    // The trait's default says the same, but the check would prove it again here, in some ten seconds.
     #[inline]
     fn whole(&self, _order: Endianness, _form: Form) -> Option<&[u8]> {
         None
     }
-}
-
-/// Passes the point of this dimension, without an SRID, at the front of the bytes.
-#[inline]
-fn pass_point<'a>(dimension: Dimension, bytes: &'a [u8]) -> Result<&'a [u8], Cause>
-    ensures answer { Freely
-        (λ rest. (member_item 1 dimension (consumed bytes.now rest.now), rest.now))
-        result (member_at 1 dimension bytes.now) }
-    ensures passed { IfOk result
-        (λ rest. Passed 9 (IsMemberOfKind 1 dimension) bytes.now rest.now) }
-{
-    let member = Layout::of_member(POINT, dimension, bytes)?;
-    // Made anew from what is known, so that it doesn't go through memory.
-    let layout = Layout {
-        order: member.order,
-        dimension,
-        has_srid: false,
-    };
-    let (_, rest) = Point::read(layout, bytes)?;
-    Ok(rest)
-}
-
-/// Passes so many points.
-fn pass_points<'a>(
-    layout: Layout,
-    bytes: &'a [u8],
-    count: u32,
-    counts: &mut Counts,
-) -> Result<&'a [u8], Cause>
-    requires whole { body_start layout.has_srid + 4 ≤ length bytes.now }
-    requires fits { CanCount counts.old (members_behind 1 layout count bytes.now).0 }
-    ensures points { Surely
-        (λ rest. (points_in layout count (consumed bytes.now rest.now), rest.now))
-        result (members_behind 1 layout count bytes.now) counts.old counts.new }
-    ensures each { IfOk result (λ rest. ArePoints layout count (consumed bytes.now rest.now)) }
-    ensures end { IfOk result
-        (λ rest. multi_point_end layout.dimension layout.has_srid count + length rest.now
-        ≡ length bytes.now) }
-{
-    let mut rest = layout.after_count(bytes);
-    for _ in 0..count {
-        counts.turns += 1;
-        rest = pass_point(layout.dimension, rest)?;
-    }
-    Ok(rest)
 }

@@ -1,14 +1,12 @@
 //! A multi polygon.
 
-ghost use Rattle.std.specs.Prelude.{◌≡◌, ◌+◌, length, ◌≤◌, IfOk, ◌/◌, [], min};
+ghost use Rattle.std.specs.Prelude.{◌≡◌, ◌+◌, length, ◌≤◌, IfOk, IfErr, []};
 ghost use Rattle.std.specs.List.{AllByRecursion};
-ghost use Rattle.wkb_geom.specs.Values as value;
-ghost use Rattle.wkb_view.specs.Words.{dimensions as trait_dimensions, body_start, member_at};
-ghost use Rattle.wkb_view.specs.Words.{parts_start, whole_of};
-ghost use Rattle.wkb_view.specs.Memory.{IsNoWant};
-ghost use Rattle.wkb_view.specs.Outcome.{Gives, CanCount};
-ghost use Rattle.wkb_view.specs.Members.{members_behind, polygon_items};
-ghost use Rattle.wkb_view.specs.Entries.{entries, capacity};
+ghost use Rattle.wkb_view.specs.Prelude.{as_dimensions, body_start, member_at, parts_start};
+ghost use Rattle.wkb_view.specs.Outcome.{IsReadOrStops, CanCount, IsCause};
+ghost use Rattle.wkb_view.specs.Members.{members_behind, polygon_seen};
+ghost use Rattle.wkb_view.specs.Passing.{polygons_seen};
+ghost use Rattle.wkb_view.specs.Entries.{entries, capacity, HasSlots};
 
 use crate::any::{
     AnyView, Line, LineString, MultiLineString, MultiPoint, Point, Polygon, Rect, Triangle,
@@ -19,7 +17,8 @@ use crate::reserved::{Reserved, counted_list};
 use std::alloc::{AllocError, Global};
 use std::marker::Model;
 use wkb_geom::code::POLYGON;
-use wkb_geom::header::LEAST_MEMBER;
+use wkb_geom::header::MIN_MEMBER_SIZE;
+use wkb_geom::words::COUNT_SIZE;
 use wkb_geom::{
     Dimension, Dimensioned, Dimensions, Endianness, Form, GeometryTrait, GeometryType, Layout,
     MultiPolygonTrait, Refusal,
@@ -37,9 +36,8 @@ impl<'a> Model for MultiPolygon<'a> {
     ghost use Rattle.std.specs.Prelude.{◌≡◌, ◌+◌, length, ◌≤◌, List};
     ghost use Rattle.std.specs.List.{AllByRecursion};
     ghost use Rattle.wkb_geom.specs.Stored.{listed_code, polygons_code};
-    ghost use Rattle.wkb_geom.specs.Values.{multi_polygon};
-    ghost use Rattle.wkb_view.specs.Words.{body_start, whole_of, Listed, Coordinate, BytesSpell};
-    ghost use Rattle.wkb_view.specs.Members.{polygons_laid};
+    ghost use Rattle.wkb_view.specs.Prelude.{body_start, Listed, Coordinate, BytesSpell};
+    ghost use Rattle.wkb_view.specs.Members.{polygons_laid, multi_polygon_seen};
 
     ghost Value = { Listed (List (List (List Coordinate))) };
 
@@ -47,19 +45,18 @@ impl<'a> Model for MultiPolygon<'a> {
 
     ghost invariant = { λ a. (body_start a.layout.has_srid + 4 ≤ length a.buf.now)
         × AllByRecursion (λ p. p.dimension ≡ a.layout.dimension) a.members.items
-        × BytesSpell (whole_of multi_polygon (polygons_laid a.layout a.members.items a.buf.now)) };
+        × BytesSpell (multi_polygon_seen (polygons_laid a.layout a.members.items a.buf.now)) };
 
     ghost view = { λ a. polygons_laid a.layout a.members.items a.buf.now };
 }
 
 impl<'a> MultiPolygon<'a> {
-    ghost use Rattle.std.specs.Prelude.{◌≡◌, length, IfOk, ◌+◌, ◌≤◌};
-    ghost use Rattle.wkb_geom.specs.Values.{multi_polygon};
+    ghost use Rattle.std.specs.Prelude.{◌≡◌, length, IfOk, IfErr, ◌+◌, ◌≤◌};
     ghost use Rattle.wkb_geom.specs.declared.code.WkbType.TheVariants as kinds;
-    ghost use Rattle.wkb_view.specs.Words.{whole_of, multi_polygon_at, BytesSpell};
+    ghost use Rattle.wkb_view.specs.Prelude.{multi_polygon_at, BytesSpell};
     ghost use Rattle.wkb_view.specs.Headers.{HasHead};
-    ghost use Rattle.wkb_view.specs.Memory.{IsNoWant};
-    ghost use Rattle.wkb_view.specs.Outcome.{Gives, CanCount};
+    ghost use Rattle.wkb_view.specs.Members.{multi_polygon_seen};
+    ghost use Rattle.wkb_view.specs.Outcome.{IsReadOrStops, CanCount, IsCause};
 
     /// The number of its bytes.
     #[inline]
@@ -81,12 +78,12 @@ impl<'a> MultiPolygon<'a> {
     #[inline]
     pub fn buf(&self) -> &'a [u8]
         ensures encoding { result.now ≡ self.now.encoding }
-        ensures spells { BytesSpell (whole_of multi_polygon self.now) }
+        ensures spells { BytesSpell (multi_polygon_seen self.now) }
     {
         self.buf
     }
 
-    /// The multi polygon behind this header, and the bytes after it.
+    /// The multi polygon after this header, and the bytes after it.
     #[tactic(auto, unfolding(wkb_geom::specs::Reading::multi_polygon_at))]
     #[inline(always)]
     pub fn read(
@@ -97,12 +94,13 @@ impl<'a> MultiPolygon<'a> {
     ) -> Result<(MultiPolygon<'a>, &'a [u8]), Refusal>
         requires fits { CanCount counts.old (multi_polygon_at layout bytes.now).0 }
         requires head { HasHead (λ d. kinds.MultiPolygon d) layout bytes.now }
-        ensures answer { Gives (λ x. (whole_of multi_polygon x.0, x.1.now))
+        ensures answer { IsReadOrStops multi_polygon_seen
             result (multi_polygon_at layout bytes.now) counts.old counts.new }
-        ensures shorter { IfOk result (λ x. length x.1.now + 9 ≤ length bytes.now) }
-        ensures no_memory { (multi_polygon_at layout bytes.now).0.slots ≡ 0 → IsNoWant result }
+        ensures shorter { IfOk result (λ x. length x.1.now + MIN_MEMBER_SIZE ≤ length bytes.now) }
+        ensures no_memory { (multi_polygon_at layout bytes.now).0.slots ≡ 0
+            → IfErr result IsCause }
     {
-        let (count, members) = counted_list(alloc, layout, bytes, LEAST_MEMBER, counts)?;
+        let (count, members) = counted_list(alloc, layout, bytes, MIN_MEMBER_SIZE, counts)?;
         let (members, rest) = read_members(alloc, layout, bytes, members, count, counts)?;
         let multi_polygon = MultiPolygon {
             buf: &bytes[..bytes.len() - rest.len()],
@@ -111,6 +109,55 @@ impl<'a> MultiPolygon<'a> {
         };
         Ok((multi_polygon, rest))
     }
+}
+
+/// The polygon of this dimension at the front of the bytes, and the bytes after it.
+fn read_member<'a>(
+    alloc: Global,
+    dimension: Dimension,
+    bytes: &'a [u8],
+    counts: &mut Counts,
+) -> Result<(Polygon<'a>, &'a [u8]), Refusal>
+    requires fits { CanCount counts.old (member_at POLYGON dimension bytes.now).0 }
+    ensures dimension { IfOk result (λ x. x.0.dimension ≡ dimension) }
+    ensures answer { IsReadOrStops polygon_seen result (member_at POLYGON dimension bytes.now) counts.old counts.new }
+    ensures shorter { IfOk result (λ x. length x.1.now + MIN_MEMBER_SIZE ≤ length bytes.now) }
+    ensures no_memory { (member_at POLYGON dimension bytes.now).0.slots ≡ 0 → IfErr result IsCause }
+{
+    let layout = Layout::of_member(POLYGON, dimension, bytes)?;
+    Polygon::read(alloc, layout, bytes, counts)
+}
+
+/// `count` polygons, and the bytes after them.
+fn read_members<'a>(
+    alloc: Global,
+    layout: Layout,
+    bytes: &'a [u8],
+    mut members: Reserved<Polygon<'a>>,
+    count: u32,
+    counts: &mut Counts,
+) -> Result<(Reserved<Polygon<'a>>, &'a [u8]), Refusal>
+    requires whole { body_start layout.has_srid + COUNT_SIZE ≤ length bytes.now }
+    requires empty { entries members ≡ [] }
+    requires room { HasSlots MIN_MEMBER_SIZE layout count bytes.now (capacity members) }
+    requires fits { CanCount counts.old (members_behind POLYGON layout count bytes.now).0 }
+    ensures dimension { IfOk result
+        (λ x. AllByRecursion (λ p. p.dimension ≡ layout.dimension) (entries x.0)) }
+    ensures polygons { IsReadOrStops polygons_seen
+        result (members_behind POLYGON layout count bytes.now) counts.old counts.new }
+    ensures shorter { IfOk result
+        (λ x. length x.1.now ≤ length (parts_start layout.has_srid bytes.now)) }
+    ensures no_memory { (members_behind POLYGON layout count bytes.now).0.slots ≡ 0
+        → IfErr result IsCause }
+{
+    let mut rest = layout.after_count(bytes);
+    for _ in 0..count {
+        counts.turns += 1;
+        let (polygon, after) = read_member(alloc, layout.dimension, rest, counts)?;
+        members.push(polygon);
+        rest = after;
+    }
+    Ok((members, rest))
 }
 
 /// A copy with lists of its own.
@@ -138,7 +185,7 @@ impl OwnSrid for MultiPolygon<'_> {
 }
 
 impl Dimensioned for MultiPolygon<'_> {
-    ghost dimensions = { λ g. trait_dimensions g.dimension };
+    ghost dimensions = { λ g. as_dimensions g.dimension };
 
     #[inline]
     fn dim(&self) -> Dimensions {
@@ -148,14 +195,14 @@ impl Dimensioned for MultiPolygon<'_> {
 
 impl<'a> MultiPolygonTrait for MultiPolygon<'a> {
     ghost use Rattle.std.specs.Prelude.{◌≡◌, option_map, IfSome, slice_get};
-    ghost use Rattle.wkb_view.specs.Words.{dimensions as trait_dimensions, spelling_at};
-    ghost use Rattle.wkb_view.specs.Fitted.{fitted_parts, fitted_polygons, polygons_fit};
+    ghost use Rattle.wkb_view.specs.Prelude.{as_dimensions, spelling_at};
+    ghost use Rattle.wkb_view.specs.Fitted.{fitted_parts, fitted_members, polygons_fit};
 
     type InnerPolygonType = Polygon<'a>;
 
-    ghost polygons = { λ m. fitted_polygons (trait_dimensions m.dimension) m.parts };
+    ghost polygons = { fitted_members };
 
-    ghost lawful = { λ m. (polygons_fit (trait_dimensions m.dimension) m.parts).lawful };
+    ghost lawful = { λ m. (polygons_fit (as_dimensions m.dimension) m.parts).lawful };
 
     #[inline]
     fn num_polygons(&self) -> usize {
@@ -165,17 +212,12 @@ impl<'a> MultiPolygonTrait for MultiPolygon<'a> {
     #[inline]
     fn polygon(&self, i: usize) -> Option<&Polygon<'a>>
         ensures value { option_map (λ p. fitted_parts p.now) result
-            ≡ slice_get (fitted_polygons (trait_dimensions self.now.dimension) self.now.parts) i }
+            ≡ slice_get (fitted_members self.now) i }
         ensures part { option_map (λ p. p.now.parts) result ≡ slice_get self.now.parts i }
-        ensures dimensions { IfSome result (λ p. trait_dimensions p.now.dimension
-            ≡ trait_dimensions self.now.dimension) }
+        ensures dimension { IfSome result (λ p. p.now.dimension ≡ self.now.dimension) }
         ensures spelled { option_map (λ p. p.now.spelled) result ≡ spelling_at self.now.spelled i }
     {
-        if i < self.members.len() {
-            Some(&self.members[i])
-        } else {
-            None
-        }
+        self.members.get(i)
     }
 }
 
@@ -183,8 +225,8 @@ impl<'a> GeometryTrait for MultiPolygon<'a> {
     ghost use Rattle.std.specs.Prelude.{◌≡◌, refl};
     ghost use Rattle.wkb_geom.specs.declared.geom.GeometryType.TheVariants.{MultiPolygon as Handed};
     ghost use Rattle.wkb_geom.specs.Geometries.{multi_polygon};
-    ghost use Rattle.wkb_view.specs.Words.{dimensions as trait_dimensions};
-    ghost use Rattle.wkb_view.specs.Fitted.{fitted_polygons, polygons_fit};
+    ghost use Rattle.wkb_view.specs.Prelude.{as_dimensions};
+    ghost use Rattle.wkb_view.specs.Fitted.{fitted_members, polygons_fit};
 
     type PointType = Point<'a>;
 
@@ -204,12 +246,11 @@ impl<'a> GeometryTrait for MultiPolygon<'a> {
 
     type LineType = Line<'a>;
 
-    ghost geometry = { λ m. multi_polygon (trait_dimensions m.dimension)
-        (fitted_polygons (trait_dimensions m.dimension) m.parts) };
+    ghost geometry = { λ m. multi_polygon (as_dimensions m.dimension) (fitted_members m) };
 
     ghost one_dimension = { λ g. refl };
 
-    ghost lawful = { λ m. (polygons_fit (trait_dimensions m.dimension) m.parts).lawful };
+    ghost lawful = { λ m. (polygons_fit (as_dimensions m.dimension) m.parts).lawful };
 
     #[inline]
     fn as_type(&self) -> AnyView<'_, 'a, MultiPolygon<'a>>
@@ -218,60 +259,9 @@ impl<'a> GeometryTrait for MultiPolygon<'a> {
         GeometryType::MultiPolygon(self)
     }
 
-    // Each member has a header of its own, so none is lent whole.
+    // The trait's default says the same, but the check would prove it again here, in some ten seconds.
     #[inline]
     fn whole(&self, _order: Endianness, _form: Form) -> Option<&[u8]> {
         None
     }
-}
-
-/// The polygon of this dimension at the front of the bytes, and the bytes after it.
-fn read_member<'a>(
-    alloc: Global,
-    dimension: Dimension,
-    bytes: &'a [u8],
-    counts: &mut Counts,
-) -> Result<(Polygon<'a>, &'a [u8]), Refusal>
-    requires fits { CanCount counts.old (member_at 3 dimension bytes.now).0 }
-    ensures dimension { IfOk result (λ x. x.0.dimension ≡ dimension) }
-    ensures answer { Gives (λ x. (whole_of value.polygon x.0, x.1.now))
-        result (member_at 3 dimension bytes.now) counts.old counts.new }
-    ensures shorter { IfOk result (λ x. length x.1.now + 9 ≤ length bytes.now) }
-    ensures no_memory { (member_at 3 dimension bytes.now).0.slots ≡ 0 → IsNoWant result }
-{
-    let layout = Layout::of_member(POLYGON, dimension, bytes)?;
-    Polygon::read(alloc, layout, bytes, counts)
-}
-
-/// So many polygons, and the bytes after them.
-fn read_members<'a>(
-    alloc: Global,
-    layout: Layout,
-    bytes: &'a [u8],
-    mut members: Reserved<Polygon<'a>>,
-    count: u32,
-    counts: &mut Counts,
-) -> Result<(Reserved<Polygon<'a>>, &'a [u8]), Refusal>
-    requires whole { body_start layout.has_srid + 4 ≤ length bytes.now }
-    requires empty { entries members ≡ [] }
-    requires room { min count (length (parts_start layout.has_srid bytes.now) / 9)
-        ≤ capacity members }
-    requires fits { CanCount counts.old (members_behind 3 layout count bytes.now).0 }
-    ensures dimension { IfOk result
-        (λ x. AllByRecursion (λ p. p.dimension ≡ layout.dimension) (entries x.0)) }
-    ensures polygons { Gives (λ x. (polygon_items (entries x.0), x.1.now))
-        result (members_behind 3 layout count bytes.now) counts.old counts.new }
-    ensures shorter { IfOk result
-        (λ x. length x.1.now ≤ length (parts_start layout.has_srid bytes.now)) }
-    ensures no_memory { (members_behind 3 layout count bytes.now).0.slots ≡ 0
-        → IsNoWant result }
-{
-    let mut rest = layout.after_count(bytes);
-    for _ in 0..count {
-        counts.turns += 1;
-        let (polygon, after) = read_member(alloc, layout.dimension, rest, counts)?;
-        members.push(polygon);
-        rest = after;
-    }
-    Ok((members, rest))
 }

@@ -1,8 +1,8 @@
-//! The SRID behind a view's own code, for the geometry of any kind that holds the view.
+//! The SRID after a view's own code, for the geometry of any kind that holds the view.
 
 ghost use Rattle.std.specs.Prelude.{◌≡◌};
 ghost use Rattle.wkb_geom.specs.Spellings.{Spelling};
-ghost use Rattle.wkb_view.specs.Words.{srid_of};
+ghost use Rattle.wkb_view.specs.Prelude.{srid_of};
 
 /// What has a code of its own, perhaps with an SRID. Users ask `Wkb::srid`.
 pub trait OwnSrid {

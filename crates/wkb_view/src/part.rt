@@ -5,7 +5,7 @@ ghost use Rattle.std.specs.Prelude.{option_map, slice_get};
 ghost use Rattle.wkb_geom.specs.Numbers.{AreBytes};
 ghost use Rattle.wkb_view.specs.Pieces.{pieces, AreInOrder};
 
-/// So many bytes from an offset on.
+/// `len` bytes from an offset on.
 #[inline]
 pub(crate) fn subslice<'a>(bytes: &'a [u8], start: usize, len: usize) -> &'a [u8]
     requires { start + len ≤ length bytes.now }
@@ -16,7 +16,7 @@ pub(crate) fn subslice<'a>(bytes: &'a [u8], start: usize, len: usize) -> &'a [u8
     front
 }
 
-/// Where the part at an index begins, of parts that end at these offsets.
+/// The offset at which the part at an index begins, of parts that end at these offsets.
 #[inline]
 fn start_of_part(first: usize, ends: &[usize], i: usize) -> usize
     requires { i < length ends.now }

@@ -1,7 +1,7 @@
 //! A point.
 
-ghost use Rattle.std.specs.Prelude.{◌≡◌, ◌+◌, ◌*◌, length};
-ghost use Rattle.wkb_view.specs.Words.{width, AreBytes, body_start, point_item, BytesSpell};
+ghost use Rattle.std.specs.Prelude.{◌≡◌, length};
+ghost use Rattle.wkb_view.specs.Prelude.{point_end, AreBytes, point_item, BytesSpell};
 
 use crate::any::{
     AnyView, Line, LineString, MultiLineString, MultiPoint, MultiPolygon, Polygon, Rect, Triangle,
@@ -9,7 +9,9 @@ use crate::any::{
 use crate::coord::Coord;
 use crate::own_srid::OwnSrid;
 use crate::part::subslice;
-use wkb_geom::code::WkbType;
+use wkb_geom::code::{POINT, WkbType};
+use wkb_geom::header::MIN_MEMBER_SIZE;
+use wkb_geom::words::WORD_SIZE;
 use wkb_geom::{
     Cause, Dimension, Dimensioned, Dimensions, Endianness, Form, General, GeometryTrait,
     GeometryType, Layout, PointTrait,
@@ -20,24 +22,23 @@ use wkb_geom::{
 pub struct Point<'a> {
     buf: &'a [u8],
     layout: Layout,
-    ghost whole: { length buf.now ≡ body_start layout.has_srid + 8 * width layout.dimension },
+    ghost whole: { length buf.now ≡ point_end layout.dimension layout.has_srid },
     ghost in_range: { AreBytes buf.now },
     ghost spells: { BytesSpell (point_item layout buf.now) },
 }
 
 impl<'a> Point<'a> {
-    ghost use Rattle.std.specs.Prelude.{◌≡◌, length, drop, is_none, ◌+◌, ◌≤◌, IfOk};
+    ghost use Rattle.std.specs.Prelude.{◌≡◌, length, is_none, ◌+◌, ◌≤◌, IfOk};
     ghost use Rattle.wkb_geom.specs.Values as value;
     ghost use Rattle.wkb_geom.specs.declared.code.WkbType.TheVariants as kinds;
-    ghost use Rattle.wkb_view.specs.Words.{body_start, point_of, point_at, point_item, consumed};
-    ghost use Rattle.wkb_view.specs.Words.{BytesSpell};
-    ghost use Rattle.wkb_view.specs.Coords.{words_seen, coordinate_encoding};
-    ghost use Rattle.wkb_view.specs.Coords.{coord_order, coord_dimension, coord_encoding};
-    ghost use Rattle.wkb_view.specs.Views.{coordinate_in, point_seen, point_layout, point_order};
+    ghost use Rattle.wkb_view.specs.Prelude.{point_at, point_item, consumed, BytesSpell};
+    ghost use Rattle.wkb_view.specs.Coords.{words_seen, coord_order, coord_dimension};
+    ghost use Rattle.wkb_view.specs.Coords.{coord_encoding};
+    ghost use Rattle.wkb_view.specs.Views.{coordinate_in, point_seen, seen_coordinate, point_layout};
+    ghost use Rattle.wkb_view.specs.Views.{point_order, point_coord_bytes, point_words_bytes};
     ghost use Rattle.wkb_view.specs.Headers.{HasHead};
-    ghost use Rattle.wkb_view.specs.Members.{IsEncoding};
-    ghost use Rattle.wkb_view.specs.Pieces.{Passed};
-    ghost use Rattle.wkb_view.specs.Outcome.{Answers};
+    ghost use Rattle.wkb_view.specs.Members.{IsEncoding, PassedEncoding};
+    ghost use Rattle.wkb_view.specs.Outcome.{IsRead};
 
     /// The number of its bytes.
     #[inline]
@@ -59,7 +60,7 @@ impl<'a> Point<'a> {
     #[tactic(auto, using(crate::proofs::Items::empty_is))]
     #[inline]
     pub fn is_empty(&self) -> bool
-        ensures { result ≡ is_none (point_of (point_seen self.now).value) }
+        ensures { result ≡ is_none (seen_coordinate self.now) }
     {
         self.words().is_all_nan()
     }
@@ -75,8 +76,7 @@ impl<'a> Point<'a> {
     /// The bytes of its words, also where all are not-a-numbers.
     #[inline]
     pub fn coord_slice(&self) -> &'a [u8]
-        ensures { result.now
-            ≡ drop (body_start (point_layout self.now).has_srid) (point_seen self.now).encoding }
+        ensures { result.now ≡ point_words_bytes self.now }
     {
         &self.buf[self.layout.header_length()..]
     }
@@ -96,34 +96,31 @@ impl<'a> Point<'a> {
         ensures words { words_seen result ≡ coordinate_in self.now }
         ensures order { coord_order result ≡ (point_layout self.now).order }
         ensures dimension { coord_dimension result ≡ (point_layout self.now).dimension }
-        ensures bytes { coord_encoding result
-            ≡ coordinate_encoding (point_layout self.now).dimension
-            (body_start (point_layout self.now).has_srid) (point_seen self.now).encoding }
+        ensures bytes { coord_encoding result ≡ point_coord_bytes self.now }
     {
         Coord {
             bytes: subslice(
                 self.buf,
                 self.layout.header_length(),
-                8 * self.layout.dimension.width(),
+                WORD_SIZE * self.layout.dimension.width(),
             ),
             order: self.layout.order,
             dimension: self.layout.dimension,
         }
     }
 
-    /// The point behind this header, and the bytes after it.
+    /// The point after this header, and the bytes after it.
     #[tactic(auto, unfolding(wkb_geom::specs::Reading::point_at))]
     #[inline]
     pub fn read(layout: Layout, bytes: &'a [u8]) -> Result<(Point<'a>, &'a [u8]), Cause>
         requires head { HasHead (λ d. kinds.Point d) layout bytes.now }
-        ensures answer { Answers
-            (λ x. (point_seen x.0, x.1.now)) result (point_at layout bytes.now) }
+        ensures answer { IsRead point_seen result (point_at layout bytes.now) }
         ensures item { IfOk result
             (λ x. point_seen x.0 ≡ point_item layout (consumed bytes.now x.1.now)) }
-        ensures passed { IfOk result (λ x. Passed 9 (IsEncoding 1 layout) bytes.now x.1.now) }
-        ensures shorter { IfOk result (λ x. length x.1.now + 9 ≤ length bytes.now) }
+        ensures passed { IfOk result (λ x. PassedEncoding POINT layout bytes.now x.1.now) }
+        ensures shorter { IfOk result (λ x. length x.1.now + MIN_MEMBER_SIZE ≤ length bytes.now) }
     {
-        let end = layout.header_length() + 8 * layout.dimension.width();
+        let end = layout.header_length() + WORD_SIZE * layout.dimension.width();
         if bytes.len() < end {
             return Err(Cause::General(General::ShortPoint {
                 end: end as u64,
@@ -135,10 +132,10 @@ impl<'a> Point<'a> {
         Ok((point, rest))
     }
 
-    /// The point that stands in these bytes, a member of a multi point.
+    /// The point of these bytes, a member of a multi point.
     #[inline]
     pub(crate) fn of_encoding(layout: Layout, buf: &'a [u8]) -> Point<'a>
-        requires { IsEncoding 1 layout buf.now }
+        requires { IsEncoding POINT layout buf.now }
         ensures item { point_seen result ≡ point_item layout buf.now }
         ensures layout { point_layout result ≡ layout }
     {
@@ -159,10 +156,10 @@ impl OwnSrid for Point<'_> {
 }
 
 impl Dimensioned for Point<'_> {
-    ghost use Rattle.wkb_view.specs.Words.{dimensions as trait_dimensions};
+    ghost use Rattle.wkb_view.specs.Prelude.{as_dimensions};
     ghost use Rattle.wkb_view.specs.Views.{point_layout};
 
-    ghost dimensions = { λ g. trait_dimensions (point_layout g).dimension };
+    ghost dimensions = { λ g. as_dimensions (point_layout g).dimension };
 
     #[inline]
     fn dim(&self) -> Dimensions {
@@ -172,27 +169,24 @@ impl Dimensioned for Point<'_> {
 
 impl<'a> PointTrait for Point<'a> {
     ghost use Rattle.std.specs.Prelude.{◌≡◌, option_map, IfSome};
-    ghost use Rattle.wkb_view.specs.Words.{dimensions as trait_dimensions, body_start, point_of};
     ghost use Rattle.wkb_view.specs.Ranges.{point_lawful};
-    ghost use Rattle.wkb_view.specs.Coords.{words_seen, coordinate_encoding};
-    ghost use Rattle.wkb_view.specs.Coords.{coord_order, coord_dimension, coord_encoding};
-    ghost use Rattle.wkb_view.specs.Views.{point_seen, point_layout, point_order};
+    ghost use Rattle.wkb_view.specs.Coords.{words_seen, coord_order, coord_dimension};
+    ghost use Rattle.wkb_view.specs.Coords.{coord_encoding};
+    ghost use Rattle.wkb_view.specs.Views.{seen_coordinate, point_layout, point_order};
+    ghost use Rattle.wkb_view.specs.Views.{point_coord_bytes};
 
     type CoordType = Coord<'a>;
 
-    ghost coordinate = { λ p. point_of (point_seen p).value };
+    ghost coordinate = { seen_coordinate };
 
     ghost lawful = { λ p. point_lawful p.layout p.buf.now p.in_range };
 
     #[inline(always)]
     fn coord(&self) -> Option<Coord<'a>>
-        ensures value { option_map words_seen result ≡ point_of (point_seen self.now).value }
-        ensures dimensions { IfSome result (λ c. trait_dimensions (coord_dimension c)
-            ≡ trait_dimensions (point_layout self.now).dimension) }
+        ensures value { option_map words_seen result ≡ seen_coordinate self.now }
+        ensures dimension { IfSome result (λ c. coord_dimension c ≡ (point_layout self.now).dimension) }
         ensures order { IfSome result (λ c. coord_order c ≡ point_order self.now) }
-        ensures bytes { IfSome result
-            (λ c. coord_encoding c ≡ coordinate_encoding (point_layout self.now).dimension
-            (body_start (point_layout self.now).has_srid) (point_seen self.now).encoding) }
+        ensures bytes { IfSome result (λ c. coord_encoding c ≡ point_coord_bytes self.now) }
     {
         let words = self.words();
         if words.is_all_nan() {
@@ -207,9 +201,9 @@ impl<'a> GeometryTrait for Point<'a> {
     ghost use Rattle.std.specs.Prelude.{◌≡◌, refl};
     ghost use Rattle.wkb_geom.specs.declared.geom.GeometryType.TheVariants.{Point as Handed};
     ghost use Rattle.wkb_geom.specs.Geometries.{point};
-    ghost use Rattle.wkb_view.specs.Words.{dimensions as trait_dimensions, point_of};
+    ghost use Rattle.wkb_view.specs.Prelude.{as_dimensions};
     ghost use Rattle.wkb_view.specs.Ranges.{point_lawful};
-    ghost use Rattle.wkb_view.specs.Views.{point_seen, point_layout};
+    ghost use Rattle.wkb_view.specs.Views.{seen_coordinate, point_layout};
 
     type PointType = Point<'a>;
 
@@ -229,8 +223,7 @@ impl<'a> GeometryTrait for Point<'a> {
 
     type LineType = Line<'a>;
 
-    ghost geometry = { λ p. point (trait_dimensions (point_layout p).dimension)
-        (point_of (point_seen p).value) };
+    ghost geometry = { λ p. point (as_dimensions (point_layout p).dimension) (seen_coordinate p) };
 
     ghost one_dimension = { λ g. refl };
 

@@ -1,11 +1,12 @@
 //! A polygon.
 
-ghost use Rattle.std.specs.Prelude.{◌≡◌, ◌+◌, length, ◌≤◌, IfOk, ◌/◌, [], min};
-ghost use Rattle.wkb_view.specs.Words.{dimensions as trait_dimensions, body_start, parts_start};
-ghost use Rattle.wkb_view.specs.Words.{ring_part, consumed};
-ghost use Rattle.wkb_view.specs.Members.{parts_behind, pieces_behind, AreRings};
-ghost use Rattle.wkb_view.specs.Outcome.{Surely, CanCount};
-ghost use Rattle.wkb_view.specs.Entries.{entries, capacity};
+ghost use Rattle.std.specs.Prelude.{◌≡◌, ◌+◌, length, ◌≤◌, IfOk, []};
+ghost use Rattle.wkb_view.specs.Prelude.{as_dimensions, body_start, ring_part, consumed};
+ghost use Rattle.wkb_view.specs.Members.{parts_behind, AreRings};
+ghost use Rattle.wkb_view.specs.Outcome.{CanCount};
+ghost use Rattle.wkb_view.specs.Passing.{PassesRings};
+ghost use Rattle.wkb_view.specs.Pieces.{IsAfterCount};
+ghost use Rattle.wkb_view.specs.Entries.{entries, capacity, HasSlots};
 
 use crate::any::{
     AnyView, Line, LineString, MultiLineString, MultiPoint, MultiPolygon, Point, Rect, Triangle,
@@ -18,7 +19,8 @@ use crate::reserved::{Reserved, counted_list};
 use std::alloc::{AllocError, Global};
 use std::marker::Model;
 use wkb_geom::code::WkbType;
-use wkb_geom::words::{COUNT, u32_at};
+use wkb_geom::header::MIN_MEMBER_SIZE;
+use wkb_geom::words::{COUNT_SIZE, u32_at};
 use wkb_geom::{
     Cause, Dimension, Dimensioned, Dimensions, Endianness, Form, GeometryTrait, GeometryType,
     Layout, PolygonTrait, Refusal,
@@ -35,9 +37,8 @@ pub struct Polygon<'a> {
 impl<'a> Model for Polygon<'a> {
     ghost use Rattle.std.specs.Prelude.{◌+◌, ◌≤◌, length, List};
     ghost use Rattle.wkb_geom.specs.Stored.{listed_code, rings_code};
-    ghost use Rattle.wkb_geom.specs.Values.{polygon};
-    ghost use Rattle.wkb_view.specs.Words.{body_start, whole_of, Listed, Coordinate, BytesSpell};
-    ghost use Rattle.wkb_view.specs.Members.{AreRings, polygon_laid};
+    ghost use Rattle.wkb_view.specs.Prelude.{body_start, Listed, Coordinate, BytesSpell};
+    ghost use Rattle.wkb_view.specs.Members.{AreRings, polygon_laid, polygon_seen};
 
     ghost Value = { Listed (List (List Coordinate)) };
 
@@ -47,18 +48,18 @@ impl<'a> Model for Polygon<'a> {
 
     ghost invariant = { λ a. (body_start a.layout.has_srid + 4 ≤ length a.buf.now)
         × AreRings a.layout a.ends.items a.buf.now
-        × BytesSpell (whole_of polygon (polygon_laid a.layout a.ends.items a.buf.now)) };
+        × BytesSpell (polygon_seen (polygon_laid a.layout a.ends.items a.buf.now)) };
 }
 
 impl<'a> Polygon<'a> {
-    ghost use Rattle.std.specs.Prelude.{◌≡◌, length, option_map, IfSome, IfOk, slice_get, ◌+◌, ◌≤◌};
-    ghost use Rattle.wkb_geom.specs.Values.{polygon};
+    ghost use Rattle.std.specs.Prelude.{◌≡◌, length, option_map, IfSome, IfOk, IfErr, slice_get};
+    ghost use Rattle.std.specs.Prelude.{◌+◌, ◌≤◌};
     ghost use Rattle.wkb_geom.specs.declared.code.WkbType.TheVariants as kinds;
-    ghost use Rattle.wkb_view.specs.Words.{whole_of, polygon_at, BytesSpell, order_of};
+    ghost use Rattle.wkb_view.specs.Prelude.{polygon_at, BytesSpell, order_of};
     ghost use Rattle.wkb_view.specs.Coords.{ring_order, ring_dimension, ring_seen};
     ghost use Rattle.wkb_view.specs.Headers.{HasHead};
-    ghost use Rattle.wkb_view.specs.Memory.{IsNoWant};
-    ghost use Rattle.wkb_view.specs.Outcome.{Gives, CanCount};
+    ghost use Rattle.wkb_view.specs.Members.{polygon_seen};
+    ghost use Rattle.wkb_view.specs.Outcome.{IsReadOrStops, CanCount, IsCause};
 
     /// The number of its bytes.
     #[inline]
@@ -80,7 +81,7 @@ impl<'a> Polygon<'a> {
     #[inline]
     pub fn buf(&self) -> &'a [u8]
         ensures encoding { result.now ≡ self.now.encoding }
-        ensures spells { BytesSpell (whole_of polygon self.now) }
+        ensures spells { BytesSpell (polygon_seen self.now) }
     {
         self.buf
     }
@@ -93,13 +94,18 @@ impl<'a> Polygon<'a> {
         self.ends.len()
     }
 
-    /// The ring at an index, made again from the bytes between two ends.
+    /// The ring at an index, read again from the bytes between two ends.
     pub(crate) fn ring(&self, i: usize) -> Option<LinearRing<'a>>
         ensures value { option_map ring_seen result ≡ slice_get (self.now.parts) i }
         ensures dimension { IfSome result (λ r. ring_dimension r ≡ self.now.dimension) }
         ensures order { IfSome result (λ r. ring_order r ≡ order_of self.now.spelled) }
     {
-        let bytes = part_at(self.buf, self.layout.header_length() + COUNT, &self.ends, i)?;
+        let bytes = part_at(
+            self.buf,
+            self.layout.header_length() + COUNT_SIZE,
+            &self.ends,
+            i,
+        )?;
         Some(LinearRing {
             bytes,
             order: self.layout.order,
@@ -108,7 +114,7 @@ impl<'a> Polygon<'a> {
         })
     }
 
-    /// The polygon behind this header, and the bytes after it.
+    /// The polygon after this header, and the bytes after it.
     #[tactic(auto, unfolding(wkb_geom::specs::Reading::polygon_at))]
     #[inline(always)]
     pub fn read(
@@ -120,12 +126,11 @@ impl<'a> Polygon<'a> {
         requires fits { CanCount counts.old (polygon_at layout bytes.now).0 }
         requires head { HasHead (λ d. kinds.Polygon d) layout bytes.now }
         ensures dimension { IfOk result (λ x. x.0.dimension ≡ layout.dimension) }
-        ensures answer { Gives (λ x. (whole_of polygon x.0, x.1.now))
-            result (polygon_at layout bytes.now) counts.old counts.new }
-        ensures shorter { IfOk result (λ x. length x.1.now + 9 ≤ length bytes.now) }
-        ensures no_memory { (polygon_at layout bytes.now).0.slots ≡ 0 → IsNoWant result }
+        ensures answer { IsReadOrStops polygon_seen result (polygon_at layout bytes.now) counts.old counts.new }
+        ensures shorter { IfOk result (λ x. length x.1.now + MIN_MEMBER_SIZE ≤ length bytes.now) }
+        ensures no_memory { (polygon_at layout bytes.now).0.slots ≡ 0 → IfErr result IsCause }
     {
-        let (count, ends) = counted_list(alloc, layout, bytes, COUNT, counts)?;
+        let (count, ends) = counted_list(alloc, layout, bytes, COUNT_SIZE, counts)?;
         let (ends, rest) = pass_rings(layout, bytes, ends, count, counts)?;
         let polygon = Polygon {
             buf: &bytes[..bytes.len() - rest.len()],
@@ -134,6 +139,31 @@ impl<'a> Polygon<'a> {
         };
         Ok((polygon, rest))
     }
+}
+
+/// Passes `count` rings, and keeps the offsets at which they end.
+fn pass_rings<'a>(
+    layout: Layout,
+    bytes: &'a [u8],
+    mut ends: Reserved<usize>,
+    count: u32,
+    counts: &mut Counts,
+) -> Result<(Reserved<usize>, &'a [u8]), Cause>
+    requires whole { body_start layout.has_srid + COUNT_SIZE ≤ length bytes.now }
+    requires empty { entries ends ≡ [] }
+    requires room { HasSlots COUNT_SIZE layout count bytes.now (capacity ends) }
+    requires fits { CanCount counts.old (parts_behind (ring_part layout) layout count bytes.now).0 }
+    ensures rings { PassesRings layout count bytes.now result counts.old counts.new }
+    ensures ends { IfOk result (λ x. AreRings layout (entries x.0) (consumed bytes.now x.1.now)) }
+    ensures shorter { IfOk result (λ x. IsAfterCount layout bytes.now x.1.now) }
+{
+    let mut rest = layout.after_count(bytes);
+    for _ in 0..count {
+        counts.turns += 1;
+        rest = pass_ring(layout.order, layout.dimension, rest)?;
+        ends.push(bytes.len() - rest.len());
+    }
+    Ok((ends, rest))
 }
 
 /// A copy with a list of its own.
@@ -161,7 +191,7 @@ impl OwnSrid for Polygon<'_> {
 }
 
 impl Dimensioned for Polygon<'_> {
-    ghost dimensions = { λ g. trait_dimensions g.dimension };
+    ghost dimensions = { λ g. as_dimensions g.dimension };
 
     #[inline]
     fn dim(&self) -> Dimensions {
@@ -171,7 +201,7 @@ impl Dimensioned for Polygon<'_> {
 
 impl<'a> PolygonTrait for Polygon<'a> {
     ghost use Rattle.std.specs.Prelude.{◌≡◌, ◌+◌, option_map, IfSome, slice_get};
-    ghost use Rattle.wkb_view.specs.Words.{dimensions as trait_dimensions, order_of};
+    ghost use Rattle.wkb_view.specs.Prelude.{as_dimensions, order_of};
     ghost use Rattle.wkb_view.specs.Coords.{ring_order, ring_dimension, ring_seen};
     ghost use Rattle.wkb_view.specs.Fitted.{fitted_parts, line_strings_fit};
 
@@ -179,7 +209,7 @@ impl<'a> PolygonTrait for Polygon<'a> {
 
     ghost rings = { fitted_parts };
 
-    ghost lawful = { λ p. (line_strings_fit (trait_dimensions p.dimension) p.parts).lawful };
+    ghost lawful = { λ p. (line_strings_fit (as_dimensions p.dimension) p.parts).lawful };
 
     #[inline]
     fn num_interiors(&self) -> usize {
@@ -190,8 +220,7 @@ impl<'a> PolygonTrait for Polygon<'a> {
     fn exterior(&self) -> Option<LinearRing<'a>>
         ensures value { option_map ring_seen result ≡ slice_get (fitted_parts self.now) 0 }
         ensures part { option_map ring_seen result ≡ slice_get self.now.parts 0 }
-        ensures dimensions { IfSome result (λ r. trait_dimensions (ring_dimension r)
-            ≡ trait_dimensions self.now.dimension) }
+        ensures dimension { IfSome result (λ r. ring_dimension r ≡ self.now.dimension) }
         ensures order { IfSome result (λ r. ring_order r ≡ order_of self.now.spelled) }
     {
         self.ring(0)
@@ -202,8 +231,7 @@ impl<'a> PolygonTrait for Polygon<'a> {
     fn interior(&self, i: usize) -> Option<LinearRing<'a>>
         ensures value { option_map ring_seen result ≡ slice_get (fitted_parts self.now) (i + 1) }
         ensures part { option_map ring_seen result ≡ slice_get self.now.parts (i + 1) }
-        ensures dimensions { IfSome result (λ r. trait_dimensions (ring_dimension r)
-            ≡ trait_dimensions self.now.dimension) }
+        ensures dimension { IfSome result (λ r. ring_dimension r ≡ self.now.dimension) }
         ensures order { IfSome result (λ r. ring_order r ≡ order_of self.now.spelled) }
     {
         if i < self.num_interiors() {
@@ -218,7 +246,7 @@ impl<'a> GeometryTrait for Polygon<'a> {
     ghost use Rattle.std.specs.Prelude.{◌≡◌, refl};
     ghost use Rattle.wkb_geom.specs.declared.geom.GeometryType.TheVariants.{Polygon as Handed};
     ghost use Rattle.wkb_geom.specs.Geometries.{polygon};
-    ghost use Rattle.wkb_view.specs.Words.{dimensions as trait_dimensions};
+    ghost use Rattle.wkb_view.specs.Prelude.{as_dimensions};
     ghost use Rattle.wkb_view.specs.Fitted.{fitted_parts, line_strings_fit};
 
     type PointType = Point<'a>;
@@ -239,11 +267,11 @@ impl<'a> GeometryTrait for Polygon<'a> {
 
     type LineType = Line<'a>;
 
-    ghost geometry = { λ p. polygon (trait_dimensions p.dimension) (fitted_parts p) };
+    ghost geometry = { λ p. polygon (as_dimensions p.dimension) (fitted_parts p) };
 
     ghost one_dimension = { λ g. refl };
 
-    ghost lawful = { λ p. (line_strings_fit (trait_dimensions p.dimension) p.parts).lawful };
+    ghost lawful = { λ p. (line_strings_fit (as_dimensions p.dimension) p.parts).lawful };
 
     #[inline]
     fn whole(&self, order: Endianness, form: Form) -> Option<&[u8]> {
@@ -261,32 +289,4 @@ impl<'a> GeometryTrait for Polygon<'a> {
     {
         GeometryType::Polygon(self)
     }
-}
-
-/// Passes so many rings, and keeps the offsets at which they end.
-fn pass_rings<'a>(
-    layout: Layout,
-    bytes: &'a [u8],
-    mut ends: Reserved<usize>,
-    count: u32,
-    counts: &mut Counts,
-) -> Result<(Reserved<usize>, &'a [u8]), Cause>
-    requires whole { body_start layout.has_srid + 4 ≤ length bytes.now }
-    requires empty { entries ends ≡ [] }
-    requires room { min count (length (parts_start layout.has_srid bytes.now) / 4) ≤ capacity ends }
-    requires fits { CanCount counts.old (parts_behind (ring_part layout) layout count bytes.now).0 }
-    ensures rings { Surely
-        (λ x. (pieces_behind layout (entries x.0) (consumed bytes.now x.1.now), x.1.now))
-        result (parts_behind (ring_part layout) layout count bytes.now) counts.old counts.new }
-    ensures ends { IfOk result (λ x. AreRings layout (entries x.0) (consumed bytes.now x.1.now)) }
-    ensures shorter { IfOk result
-        (λ x. length x.1.now + body_start layout.has_srid + 4 ≤ length bytes.now) }
-{
-    let mut rest = layout.after_count(bytes);
-    for _ in 0..count {
-        counts.turns += 1;
-        rest = pass_ring(layout.order, layout.dimension, rest)?;
-        ends.push(bytes.len() - rest.len());
-    }
-    Ok((ends, rest))
 }

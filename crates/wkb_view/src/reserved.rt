@@ -1,17 +1,17 @@
-//! Lists whose entries are asked for once, behind a count.
+//! Lists that are allocated once, after a count.
 
 ghost use Rattle.std.specs.Prelude.{◌≡◌, ◌+◌, ◌-◌, ◌<◌, ◌≤◌, ◌/◌, ◌^◌, [], min, length, IfOk};
 ghost use Rattle.std.specs.Prelude.{IfErr};
-ghost use Rattle.wkb_view.specs.Words.{body_start};
-ghost use Rattle.wkb_view.specs.Entries.{entries, capacity, count_in, entries_asked, HasNoList};
-ghost use Rattle.wkb_view.specs.Memory.{IsNoWant};
+ghost use Rattle.wkb_view.specs.Prelude.{body_start, count_in};
+ghost use Rattle.wkb_view.specs.Entries.{entries, capacity, entries_asked, HasNoList};
+ghost use Rattle.wkb_view.specs.Outcome.{IsCause};
 
 use crate::counts::Counts;
 use std::alloc::Global;
-use wkb_geom::words::COUNT;
+use wkb_geom::words::COUNT_SIZE;
 use wkb_geom::{Layout, Refusal};
 
-/// A list that was given all its room when it was made, so that a push asks for none.
+/// A list that was given all its room when it was made, so that a push allocates nothing.
 #[derive(Drop)]
 pub struct Reserved<T> {
     items: Vec<T>,
@@ -40,8 +40,8 @@ impl<T> Reserved<T> {
     }
 }
 
-/// How many entries a list asks for: as many as the count claims, but no more than the remaining bytes can hold where
-/// each part has `least` bytes at least.
+/// The number of entries that a list asks for: as many as the count claims, but no more than the remaining bytes can
+/// hold if each part has at least `least` bytes.
 #[inline]
 fn bounded_capacity(count: u32, remaining: usize, least: usize) -> usize
     requires { 0 < least }
@@ -50,8 +50,8 @@ fn bounded_capacity(count: u32, remaining: usize, least: usize) -> usize
     (count as usize).min(remaining / least)
 }
 
-/// The count at the beginning of a body, and a list for so many parts, of which each has `least` bytes at least: the
-/// entries that the list asks for are counted as slots before it asks.
+/// The count at the beginning of a body, and a list for its parts, each of at least `least` bytes. The entries that the
+/// list asks for are counted as slots before it asks.
 #[inline]
 pub fn counted_list<T>(
     alloc: Global,
@@ -65,14 +65,14 @@ pub fn counted_list<T>(
     ensures slots { counts.new.slots ≡ counts.old.slots + entries_asked least layout bytes.now }
     ensures turns { counts.new.turns ≡ counts.old.turns }
     ensures count { IfOk result (λ x. x.0 ≡ count_in layout bytes.now) }
-    ensures whole { IfOk result (λ x. body_start layout.has_srid + 4 ≤ length bytes.now) }
+    ensures whole { IfOk result (λ x. body_start layout.has_srid + COUNT_SIZE ≤ length bytes.now) }
     ensures empty { IfOk result (λ x. entries x.1 ≡ []) }
     ensures room { IfOk result (λ x. capacity x.1 ≡ entries_asked least layout bytes.now) }
-    ensures no_list { IfErr result (λ refusal. HasNoList layout bytes.now refusal) }
-    ensures no_memory { entries_asked least layout bytes.now ≡ 0 → IsNoWant result }
+    ensures no_list { IfErr result (HasNoList layout bytes.now) }
+    ensures no_memory { entries_asked least layout bytes.now ≡ 0 → IfErr result IsCause }
 {
     let count = layout.count(bytes)?;
-    let remaining = bytes.len() - (layout.header_length() + COUNT);
+    let remaining = bytes.len() - (layout.header_length() + COUNT_SIZE);
     let capacity = bounded_capacity(count, remaining, least);
     counts.slots += capacity as u128;
     let items = Vec::with_capacity(alloc, capacity)?;

@@ -1,6 +1,6 @@
 use Rattle.std.proofs.Common.{◌∙◌, ap}
 use Rattle.std.proofs.lemmas.Result.{err_from_is_err_and}
-use Rattle.wkb_view.specs.Words.{Outcome, Item, at_no_cost}
+use Rattle.wkb_view.specs.Prelude.{Outcome, Item, at_no_cost}
 use Rattle.wkb_view.proofs.Members.{member_laid}
 use Rattle.wkb_view.proofs.Leaves.{found, line_string_free, member_gives, member_passed}
 use Rattle.wkb_view.proofs.multi_line_string.pass_line_string.Goals as goal

@@ -1,6 +1,6 @@
 use Rattle.std.proofs.Common.{arith}
 use Rattle.std.proofs.lemmas.Result.{err_from_is_err_and}
-use Rattle.wkb_view.specs.Words.{Fault}
+use Rattle.wkb_view.specs.Prelude.refusals
 use Rattle.wkb_view.proofs.Lists.{parts_length, freely, part_costs, part_stops}
 use Rattle.wkb_view.proofs.Pieces.{pieces_begin, pieces_next, pieces_read}
 use Rattle.wkb_view.proofs.multi_line_string.pass_line_strings.Goals as goal
@@ -13,7 +13,7 @@ pub returns-in_err-rest-clause-line_strings : goal.returns-in_err-rest-clause-li
 returns-in_err-rest-clause-line_strings c =
     let p = err_from_is_err_and c.from_residual.result c.from_residual.ensures.1 in
     rw (p.1, p.2)
-    (part_stops (Fault c.in_err-rest.field-0.0) _ c.loop-test.true c.loop.invariant.so_far.left
+    (part_stops (refusals.Cause c.in_err-rest.field-0.0) _ c.loop-test.true c.loop.invariant.so_far.left
     (freely _ _ _ c.in_err-rest.ensures.answer))
 
 pub loop-preserved : goal.loop-preserved

@@ -1,5 +1,5 @@
 use Rattle.std.proofs.Common.{◌+◌, ◌/◌, ◌≤◌, min, length}
-use Rattle.wkb_view.specs.Words.{body_start, parts_start, member_at}
+use Rattle.wkb_view.specs.Prelude.{body_start, parts_start, member_at}
 use Rattle.wkb_view.specs.Entries.{entries, capacity}
 use Rattle.wkb_view.specs.Members.{members_behind, IsMemberOfKind, member_item}
 use Rattle.wkb_view.proofs.Pieces.{SoFar}

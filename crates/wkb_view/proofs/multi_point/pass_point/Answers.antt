@@ -1,5 +1,5 @@
 use Rattle.std.proofs.Common.{◌∙◌, ap}
-use Rattle.wkb_view.specs.Words.{Outcome, Item, at_no_cost}
+use Rattle.wkb_view.specs.Prelude.{Outcome, Item, at_no_cost}
 use Rattle.wkb_view.proofs.Members.{point_laid}
 use Rattle.wkb_view.proofs.Leaves.{found, member_gives, member_passed}
 use Rattle.wkb_view.proofs.multi_point.pass_point.Goals as goal

@@ -1,5 +1,5 @@
 use Rattle.std.proofs.Common.{◌+◌}
-use Rattle.wkb_view.specs.Words.{body_start, member_at}
+use Rattle.wkb_view.specs.Prelude.{body_start, member_at}
 use Rattle.wkb_view.specs.Members.{members_behind, IsMemberOfKind, member_item, point_ends}
 use Rattle.wkb_view.proofs.Pieces.{SoFar}
 use Rattle.wkb_view.proofs.multi_point.pass_points.Given as goal

@@ -1,6 +1,6 @@
 use Rattle.std.proofs.Common.{◌≡◌, ◌+◌, ◌*◌, ◌/◌, ◌≤◌, min, length}
 use Rattle.std.specs.List.{AllByRecursion}
-use Rattle.wkb_view.specs.Words.{parts_start, member_at}
+use Rattle.wkb_view.specs.Prelude.{parts_start, member_at}
 use Rattle.wkb_view.specs.Entries.{entries, capacity}
 use Rattle.wkb_view.specs.Members.{members_behind, polygon_items}
 use Rattle.wkb_view.proofs.Lists.{Loop}

@@ -1,6 +1,7 @@
 use Rattle.std.proofs.Common.{List, ℕ, ap, map-id, arith}
 use Rattle.std.proofs.lemmas.Result.{err_from_is_err_and}
-use Rattle.wkb_view.specs.Words.{Fault, Outcome, at_no_cost}
+use Rattle.wkb_view.specs.Prelude.{Outcome, at_no_cost}
+use Rattle.wkb_view.specs.Prelude.refusals
 use Rattle.wkb_view.proofs.Lists.{parts_length, freely, part_costs, part_stops}
 use Rattle.wkb_view.proofs.Pieces.{pieces_begin, pieces_next, pieces_read}
 use Rattle.wkb_view.proofs.polygon.pass_rings.Goals as goal
@@ -12,7 +13,7 @@ overflow_add-counts c =
 pub returns-in_err-rest-clause-rings : goal.returns-in_err-rest-clause-rings
 returns-in_err-rest-clause-rings c =
     let p = err_from_is_err_and c.from_residual.result c.from_residual.ensures.1 in
-    rw (p.1, p.2) (part_stops (Fault c.in_err-rest.field-0.0) _ c.loop-test.true c.loop.invariant.so_far.left
+    rw (p.1, p.2) (part_stops (refusals.Cause c.in_err-rest.field-0.0) _ c.loop-test.true c.loop.invariant.so_far.left
     (freely _ _ _ (ap (λ (r : Outcome (List ℕ)). at_no_cost r) c.in_err-rest.ensures.answer)))
 
 pub loop-preserved : goal.loop-preserved

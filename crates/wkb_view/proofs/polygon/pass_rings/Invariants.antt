@@ -1,5 +1,5 @@
 use Rattle.std.proofs.Common.{◌+◌, ◌/◌, ◌≤◌, min, length}
-use Rattle.wkb_view.specs.Words.{body_start, parts_start, ring_part}
+use Rattle.wkb_view.specs.Prelude.{body_start, parts_start, ring_part}
 use Rattle.wkb_view.specs.Entries.{entries, capacity}
 use Rattle.wkb_view.specs.Members.{parts_behind}
 use Rattle.wkb_view.specs.Pieces.{IsRing}

@@ -1,7 +1,7 @@
 use Rattle.std.proofs.Common.{◌<◌, ◌∙◌, List, ℕ, refl, ap, sym, true, false, arith}
 use Rattle.std.proofs.lemmas.List.{take_all}
 use Rattle.std.proofs.lemmas.List.Folds.{list_all_at, list_all_more}
-use Rattle.wkb_view.specs.Words.{all_nan, is_nan, number, width, length-items, coordinate}
+use Rattle.wkb_view.specs.Prelude.{all_nan, is_nan, number, width, length-items, coordinate}
 use Rattle.wkb_view.proofs.Items.{word_is}
 use Rattle.wkb_view.proofs.coord.Coord.is_all_nan.Goals as goal
 

@@ -1,5 +1,5 @@
 use Rattle.std.proofs.Common.{◌≡◌, true, take}
-use Rattle.wkb_view.specs.Words.{all_nan, coordinate}
+use Rattle.wkb_view.specs.Prelude.{all_nan, coordinate}
 use Rattle.wkb_view.proofs.coord.Coord.is_all_nan.Given as goal
 
 abbrev pub invariant-loop-n : goal.invariant-loop-n

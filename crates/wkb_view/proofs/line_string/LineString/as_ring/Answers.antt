@@ -1,6 +1,6 @@
 use Rattle.std.proofs.Common.{◌-◌, length, drop, length-drop, arith}
 use Rattle.std.proofs.lemmas.List.{take_all}
-use Rattle.wkb_view.specs.Words.{body_start}
+use Rattle.wkb_view.specs.Prelude.{body_start}
 use Rattle.wkb_view.specs.Ranges.{AreBytes-drop}
 use Rattle.wkb_view.proofs.line_string.LineString.as_ring.Goals as goal
 

@@ -1,4 +1,4 @@
-use Rattle.wkb_view.specs.Words.{body_start}
+use Rattle.wkb_view.specs.Prelude.{body_start}
 use Rattle.wkb_view.proofs.Items.{coordinate_behind}
 use Rattle.wkb_view.proofs.line_string.LineStringLineStringTrait.coord.Goals as goal
 

@@ -1,5 +1,5 @@
 use Rattle.std.proofs.Common.{◌∙◌}
-use Rattle.wkb_view.specs.Words.{body_start}
+use Rattle.wkb_view.specs.Prelude.{body_start}
 use Rattle.wkb_view.proofs.Items.{coordinate_behind}
 use Rattle.wkb_view.proofs.line_string.LineStringLineStringTrait.coord_at.Goals as goal
 

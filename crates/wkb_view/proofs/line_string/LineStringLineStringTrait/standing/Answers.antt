@@ -1,7 +1,7 @@
 use Rattle.std.proofs.Common.{rules, arith, ◌≡◌, ◌+◌, ◌*◌, ℕ, length, drop, sym, ap, ◌∙◌, length-drop, drop-drop}
 use Rattle.std.specs.List.{flat_map}
 use Rattle.wkb_geom.specs.Encodings.{words_encoding}
-use Rattle.wkb_view.specs.Words.{width, body_start, ring_in}
+use Rattle.wkb_view.specs.Prelude.{width, body_start, ring_in}
 use Rattle.wkb_view.specs.Ranges.{AreBytes-drop}
 use Rattle.wkb_view.proofs.Standing.{ring_stands}
 use Rattle.wkb_view.proofs.line_string.LineStringLineStringTrait.standing.Goals as goal

@@ -1,6 +1,6 @@
 use Rattle.std.proofs.Common.{◌+◌, ◌*◌, ap, ◌∙◌}
 use Rattle.wkb_laws.proofs.Bodies.{coordinates_are}
-use Rattle.wkb_view.specs.Words.{width}
+use Rattle.wkb_view.specs.Prelude.{width}
 use Rattle.wkb_view.proofs.linear_ring.LinearRing.coords_slice.Goals as goal
 
 pub returns-clause-spells : goal.returns-clause-spells

@@ -1,7 +1,7 @@
 use Rattle.std.proofs.Common.{rules, ◌≡◌, ◌+◌, ◌*◌, ap, ◌∙◌}
 use Rattle.std.specs.List.{flat_map}
 use Rattle.wkb_geom.specs.Encodings.{words_encoding}
-use Rattle.wkb_view.specs.Words.{width}
+use Rattle.wkb_view.specs.Prelude.{width}
 use Rattle.wkb_view.specs.Coords.{ring_seen}
 use Rattle.wkb_view.proofs.Standing.{ring_stands}
 use Rattle.wkb_view.proofs.linear_ring.LinearRingLineStringTrait.standing.Goals as goal

@@ -1,5 +1,5 @@
 use Rattle.std.proofs.Common.{◌∙◌, Some, ap}
-use Rattle.wkb_view.specs.Words.{Item, Layout, line_string_of}
+use Rattle.wkb_view.specs.Prelude.{Item, Layout, line_string_of}
 use Rattle.wkb_view.specs.Members.{IsMemberOfKind}
 use Rattle.wkb_view.specs.Ranges.{member_dimension}
 use Rattle.wkb_view.proofs.Leaves.{member_seen}

@@ -1,6 +1,6 @@
 use Rattle.std.proofs.Common.{◌-◌, length, length-take, arith}
 use Rattle.std.proofs.lemmas.Result.{err_from_is_err_and}
-use Rattle.wkb_view.specs.Words.{Fault}
+use Rattle.wkb_view.specs.Prelude.refusals
 use Rattle.wkb_view.proofs.Lists.{parts_length, line_strings_here, list_fits, list_reads, list_stops}
 use Rattle.wkb_view.proofs.Lists.{line_strings_within, line_strings_refused}
 use Rattle.wkb_view.proofs.SpelledRead.{body_spelled}
@@ -61,7 +61,7 @@ returns-in_err-count-clause-no_memory c = λ none.
 pub returns-in_err-ends-clause-answer : goal.returns-in_err-ends-clause-answer
 returns-in_err-ends-clause-answer c =
     let p = err_from_is_err_and c.from_residual-in_err-ends.result c.from_residual-in_err-ends.ensures.1 in
-    rw (p.1, p.2) (list_stops (Fault c.in_err-ends.field-0.0) _
+    rw (p.1, p.2) (list_stops (refusals.Cause c.in_err-ends.field-0.0) _
     (line_strings_here c.args.layout c.args.bytes.now _ c.args.counts.now c.counted_list.new.counts
     c.in_ok-count.ensures.whole c.in_ok-count.ensures.count
     c.counted_list.ensures.turns c.counted_list.ensures.slots) c.in_err-ends.ensures.line_strings)

@@ -1,6 +1,6 @@
 use Rattle.std.proofs.Common.{rules, ◌-◌, length, length-take, arith}
 use Rattle.std.proofs.lemmas.Result.{err_from_is_err_and}
-use Rattle.wkb_view.specs.Words.{Fault}
+use Rattle.wkb_view.specs.Prelude.refusals
 use Rattle.wkb_view.specs.Ranges.{AreBytes-take}
 use Rattle.wkb_view.proofs.Lists.{points_here, list_fits, list_reads, list_stops}
 use Rattle.wkb_view.proofs.SpelledRead.{body_spelled}
@@ -39,7 +39,7 @@ returns-clause-answer c =
 pub returns-in_err-rest-clause-answer : goal.returns-in_err-rest-clause-answer
 returns-in_err-rest-clause-answer c =
     let p = err_from_is_err_and c.from_residual-in_err-rest.result c.from_residual-in_err-rest.ensures.1 in
-    rw (p.1, p.2) (list_stops (Fault c.in_err-rest.field-0.0) _
+    rw (p.1, p.2) (list_stops (refusals.Cause c.in_err-rest.field-0.0) _
     (points_here c.args.layout c.args.bytes.now c.in_ok-count.count _ _ c.args.counts.now c.in_ok-count.ensures.whole
     c.in_ok-count.ensures.counted
     c.header_length-start.ensures c.width.ensures c.if-bytes-end.false) c.in_err-rest.ensures.points)

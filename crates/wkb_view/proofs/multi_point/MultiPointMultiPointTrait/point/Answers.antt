@@ -1,7 +1,7 @@
 use Rattle.std.proofs.Common.{◌∙◌, Some, None, ap, take, drop, arith}
 use Rattle.std.proofs.Math.Logic.{∥∥₁_elim}
 use Rattle.std.proofs.Props.{props}
-use Rattle.wkb_view.specs.Words.{Item, Layout, dimensions, point_of}
+use Rattle.wkb_view.specs.Prelude.{Item, Layout, point_of}
 use Rattle.wkb_view.specs.Members.{point_ends, stride}
 use Rattle.wkb_view.specs.Ranges.{member_dimension}
 use Rattle.wkb_view.proofs.Items.{next_within, point_encoding_is}
@@ -61,12 +61,11 @@ returns-clause-spelled c =
     ap (λ (p : Item). Some p.spelled) (c.of_encoding.ensures.item ∙ member_seen 1 m.layout.dimension _ _ known)
     ∙ spelling_seen 1 m.layout (point_ends m.layout m.count) m.buf.now c.args.i _ encoding
 
-pub returns-clause-dimensions : goal.returns-clause-dimensions
-returns-clause-dimensions c =
+pub returns-clause-dimension : goal.returns-clause-dimension
+returns-clause-dimension c =
     let m = c.args.self.now in
     let known = c.of_known_member-layout.ensures in
-    ap (λ (l : Layout). dimensions l.dimension) c.of_encoding.ensures.layout
-    ∙ ap dimensions (member_dimension 1 m.layout.dimension _ _ known)
+    ap (λ (l : Layout). l.dimension) c.of_encoding.ensures.layout ∙ member_dimension 1 m.layout.dimension _ _ known
 
 pub returns-clause-bytes : goal.returns-clause-bytes
 returns-clause-bytes c =

@@ -1,5 +1,5 @@
 use Rattle.std.proofs.Common.{rules, subst, sym, refl, ◌+◌, ◌*◌, arith}
-use Rattle.wkb_view.specs.Words.{AreBytes}
+use Rattle.wkb_view.specs.Prelude.{AreBytes}
 use Rattle.wkb_view.specs.Ranges.{AreBytes-take}
 use Rattle.wkb_view.proofs.Items.{width-within}
 use Rattle.wkb_view.proofs.Leaves.{passed_by}

@@ -1,6 +1,6 @@
 use Rattle.std.proofs.Common.{◌≡◌, false, refl, sym, ap, ◌∙◌}
 use Rattle.wkb_geom.specs.Reading.{point_words_in}
-use Rattle.wkb_view.specs.Words.{all_nan}
+use Rattle.wkb_view.specs.Prelude.{all_nan}
 use Rattle.wkb_view.proofs.Whole.{HasWrittenHeader, named_dimension, point_whole}
 use Rattle.wkb_view.proofs.point.PointGeometryTrait.whole.Goals as goal
 

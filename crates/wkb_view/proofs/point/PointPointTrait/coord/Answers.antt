@@ -1,5 +1,5 @@
 use Rattle.std.proofs.Common.{◌∙◌, ap, List, ℕ, Some, true, false}
-use Rattle.wkb_view.specs.Words.{all_nan}
+use Rattle.wkb_view.specs.Prelude.{all_nan}
 use Rattle.wkb_view.proofs.Items.{coordinate_is}
 use Rattle.wkb_view.proofs.point.PointPointTrait.coord.Goals as goal
 

@@ -1,5 +1,5 @@
 use Rattle.std.proofs.Common.{refl}
-use Rattle.wkb_view.specs.Words.{ring_in}
+use Rattle.wkb_view.specs.Prelude.{ring_in}
 use Rattle.wkb_view.specs.Pieces.{IsRing}
 use Rattle.wkb_view.proofs.Pieces.{in_order, piece_form, piece_seen}
 use Rattle.wkb_view.proofs.polygon.Polygon.ring.Goals as goal

@@ -1,5 +1,5 @@
 use Rattle.std.proofs.Common.{refl, map}
-use Rattle.wkb_view.specs.Words.{ring_in}
+use Rattle.wkb_view.specs.Prelude.{ring_in}
 use Rattle.wkb_view.specs.Members.{pieces_behind}
 use Rattle.wkb_view.proofs.Whole.{HasWrittenHeader, polygon_whole}
 use Rattle.wkb_view.proofs.polygon.PolygonGeometryTrait.whole.Goals as goal

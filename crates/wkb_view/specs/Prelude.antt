@@ -1,4 +1,4 @@
--- The words of geometries that most files here need, passed on from one place. Declares nothing.
+-- The names that most files of this crate need, passed on from one place.
 pub use Rattle.wkb_geom.specs.declared.common.Endianness.{Endianness}
 pub use Rattle.wkb_geom.specs.declared.common.Endianness.TheVariants.{BigEndian, LittleEndian}
 pub use Rattle.wkb_geom.specs.declared.common.Dimension.{Dimension}
@@ -9,25 +9,22 @@ pub use Rattle.wkb_geom.specs.declared.header.Layout.{Layout}
 pub use Rattle.wkb_geom.specs.declared.error.Cause.{Cause}
 pub use Rattle.wkb_geom.specs.declared.error.Cause.TheVariants.{EndOfInput as end_of_input}
 pub use Rattle.wkb_geom.specs.declared.error.Refusal.{Refusal}
-pub use Rattle.wkb_geom.specs.declared.error.Refusal.TheVariants.{Fault, Memory}
+pub use Rattle.wkb_geom.specs.declared.error.Refusal.TheVariants as refusals
 unfoldable pub use Rattle.wkb_geom.specs.Numbers.{number}
 pub use Rattle.wkb_geom.specs.Numbers.{is_nan, all_nan, AreBytes, IsWord}
-pub use Rattle.wkb_geom.specs.Dimensions.{width, size, dimensions}
+pub use Rattle.wkb_geom.specs.Dimensions.{width, size, as_dimensions}
 pub use Rattle.wkb_geom.specs.Items.{number-take, length-items}
 pub use Rattle.wkb_geom.specs.Refusals.{point_end, line_string_end, multi_point_end, ring_end, slots_asked}
 pub use Rattle.wkb_geom.specs.Values.{Coordinate}
 pub use Rattle.wkb_geom.specs.Spellings.{Spelling, Spellings, no_spellings}
 pub use Rattle.wkb_geom.specs.Stored.{Listed, whole_of}
 pub use Rattle.wkb_geom.specs.Reading.{Cost, free, one_turn, slots_of, Outcome, Reading, at_no_cost, done, refused}
-pub use Rattle.wkb_geom.specs.Reading.{costs}
-pub use Rattle.wkb_geom.specs.Reading.{and_then, then_body, items}
-pub use Rattle.wkb_geom.specs.Reading.{coordinate, coordinates, ring_in, Item, spellings, laid, body_start, parts_start}
-pub use Rattle.wkb_geom.specs.Reading.{srid_in, spelled_in, consumed}
+pub use Rattle.wkb_geom.specs.Reading.{costs, and_then, then_body, items, coordinate, coordinates, ring_in, Item}
+pub use Rattle.wkb_geom.specs.Reading.{spellings, laid, body_start, count_in, parts_start, srid_in, spelled_in, consumed}
 pub use Rattle.wkb_geom.specs.Reading.{point_item, point_item_of, line_string_item, polygon_item, list_item, point_of}
-pub use Rattle.wkb_geom.specs.Reading.{line_string_of, polygon_of}
-pub use Rattle.wkb_geom.specs.Reading.{multi_point_with, multi_line_string_with, multi_polygon_with, ring_part}
-pub use Rattle.wkb_geom.specs.Reading.{parts_body, list_at}
-pub use Rattle.wkb_geom.specs.Reading.{layout_wanted, member_layout, member_body, member_at}
+pub use Rattle.wkb_geom.specs.Reading.{line_string_of, polygon_of, multi_point_with, multi_line_string_with}
+pub use Rattle.wkb_geom.specs.Reading.{multi_polygon_with, ring_part, parts_body, list_at, HasNoCount, layout_wanted}
+pub use Rattle.wkb_geom.specs.Reading.{member_layout, member_body, member_at}
 unfoldable pub use Rattle.wkb_geom.specs.Reading.{repeated, head_at, point_at, line_string_at, ring_at, polygon_at}
 unfoldable pub use Rattle.wkb_geom.specs.Reading.{multi_point_at, multi_line_string_at, multi_polygon_at}
 pub use Rattle.wkb_view.specs.Parts.{list_of_values, srid_of, order_of, IsCollection, points_of, members_spelled}
