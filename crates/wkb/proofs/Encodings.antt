@@ -1,9 +1,9 @@
 -- What is written of a geometry that was read.
 use Rattle.std.proofs.Common.{◌≡◌, ◌≢◌, ℕ, ◌<◌, ◌≤◌, ◌^◌, List, length, Option, Some, None, Err, ◌⊎◌, inl, inr, refl}
-use Rattle.std.proofs.Common.{sym, ap, ◌∙◌, subst, arith}
+use Rattle.std.proofs.Common.{Result, Ok, Vec, Global, sym, ap, ◌∙◌, subst, arith}
 use Rattle.std.proofs.lemmas.Bool.Decides.{nat_tests}
 use Rattle.std.specs.Bool.{Decides}
-use Rattle.std.specs.Prelude.{nat_lt, true, false, if◌then◌else◌, Bool, MatchBool, bytes_eq, Result, Ok, IfErr}
+use Rattle.std.specs.Prelude.{nat_lt, true, false, if◌then◌else◌, Bool, MatchBool, bytes_eq, IfOk, IfErr}
 use Rattle.std.proofs.lemmas.Slice.Eq.{bytes_eq-Decides}
 use Rattle.wkb_geom.specs.declared.common.Endianness.{Endianness}
 use Rattle.wkb_geom.specs.declared.common.Form.{Form}
@@ -17,15 +17,20 @@ use Rattle.wkb_geom.specs.Numbers.{AreBytes}
 use Rattle.wkb_geom.specs.Reading.{Item}
 use Rattle.wkb_geom.specs.Spellings.{header}
 use Rattle.wkb_geom.specs.Values.{Value}
-use Rattle.wkb_geom.specs.Encodings.{encoding, fault, refusal, or_else, size_fault, IsWritable}
-use Rattle.wkb_geom.specs.Encodings.{IsRewriting, IsRewritingWithSrid}
+use Rattle.wkb_geom.specs.Encodings.{encoding, fault, refusal, or_else, size_fault, IsWritable, IsRewriting}
+use Rattle.wkb_geom.specs.Encodings.{IsRewritingWithSrid}
+use Rattle.wkb_geom.proofs.Faults.{none_first, none_rest}
 use Rattle.wkb_laws.proofs.Rewritings.{equal_encodings_lem}
 use Rattle.wkb_geom.specs.declared.error.Fault.{Fault}
 use Rattle.wkb_geom.specs.declared.error.Fault.TheVariants.{UnsupportedDimensions as unsupported_dimensions}
 use Rattle.wkb_geom.specs.declared.error.Fault.TheVariants.{Count as count_overflow, Size as size_overflow}
 use Rattle.wkb_write.specs.Measures.{Reports}
-use Rattle.wkb_read.specs.Public.{IsFront, IsRefusal, CanBeWritten}
-use Rattle.wkb.specs.Canonical.{IsSize, IsAccepted, IsTooLong, HaveOneValue, HaveTwoValues}
+use Rattle.wkb_read.specs.Reads.{IsFront, IsRefusal, CanBeWritten}
+use Rattle.wkb_read.specs.Seen.{geometry_seen}
+use Rattle.wkb_write.specs.Answers.{encoding_of, IsVecError}
+use Rattle.wkb_sink.specs.declared.options.WriteOptions.{WriteOptions}
+use Rattle.wkb.specs.Canonical.{IsSize, IsAccepted, OverflowsWithSrid, IsRewritingUnder, IsRefusedUnder, HaveOneValue}
+use Rattle.wkb.specs.Canonical.{HaveTwoValues}
 
 -- a length that is a fault
 too_large_by : (n : ℕ) (f : Fault) (b : Bool) → nat_lt n (2 ^ 64) ≡ b
@@ -47,15 +52,11 @@ fits : (n : ℕ) → size_fault n ≡ None → n < 2 ^ 64
 unfolding size_fault
 fits n is = fits_by n (nat_lt n (2 ^ 64)) refl is
 
-first_none : (a b : Option Fault) → or_else a b ≡ None → (a ≡ None) × (b ≡ None)
+-- where the first of two faults isn't there, what is found is the second
+second_fault : (a b : Option Fault) (f : Fault) → a ≡ None → or_else a b ≡ Some f → b ≡ Some f
 unfolding or_else
-first_none None b is = (refl, is)
-first_none (Some x) b is = absurd (cc)
-
-none_first : (a b : Option Fault) (f : Fault) → a ≡ None → or_else a b ≡ Some f → b ≡ Some f
-unfolding or_else
-none_first None b f none is = is
-none_first (Some x) b f none is = absurd (cc)
+second_fault None b f none is = is
+second_fault (Some x) b f none is = absurd (cc)
 
 size_error : (e : WkbError) (f : Fault) → f ≡ size_overflow → TellsFault e f → IsSize e
 size_error (errors.OverflowError o) size_overflow is told = told
@@ -68,43 +69,68 @@ refused_size : (order : Endianness) (form : Form) (g : Geometry) (e : WkbError) 
     → Reports e (refusal order form g)
     → (length (encoding order Iso g) < 2 ^ 64) × (2 ^ 64 ≤ length (encoding order form g)) × IsSize e
 refused_size order form g e writable h =
-    let iso = first_none (fault g) (size_fault (length (encoding order Iso g))) writable in
-    let size = none_first (fault g) (size_fault (length (encoding order form g))) h.fault iso.0 h.is in
+    let iso = size_fault (length (encoding order Iso g)) in
+    let size = second_fault (fault g) (size_fault (length (encoding order form g))) h.fault
+    (none_first (fault g) iso writable) h.is in
     let large = too_large (length (encoding order form g)) h.fault size in
-    (fits (length (encoding order Iso g)) iso.1, large.0, size_error e h.fault large.1 h.told)
+    (fits (length (encoding order Iso g)) (none_rest (fault g) iso writable), large.0, size_error e h.fault large.1 h.told)
 
--- the encoding of a geometry that was read
-pub rewriting : (order : Endianness) (form : Form) (buf out : List ℕ) (w : Item) → IsFront buf w
-    → out ≡ encoding order form (geometry_of w.value)
-    → IsRewriting order form buf out
-rewriting order form buf out w front written =
-    record { s = w.spelled; t = w.value; rest = front.rest; front = front.front; written = written }
+-- what is written of a geometry that was read, and means its value, is a rewriting of the input
+pub rewritten : (options : WriteOptions) (buf : List ℕ) (w : Item) (r : Result (Vec ℕ Global) WkbError) → IsFront buf w
+    → geometry_seen w ≡ geometry_of w.value
+    → IfOk r (λ out. out.items ≡ encoding_of options (geometry_seen w))
+    → IfOk r (λ out. IsRewritingUnder options buf out.items)
+rewritten options buf w (Ok out) front seen is = record {
+  s = w.spelled;
+  t = w.value;
+  rest = front.rest;
+  front = front.front;
+  written = is ∙ ap (encoding_of options) seen;
+}
+rewritten options buf w (Err e) front seen is = tt
 
-pub rewriting_with_srid : (order : Endianness) (buf out : List ℕ) (w : Item) (srid : Option ℕ) → IsFront buf w
+-- the same under EWKB with its own SRID
+pub rewritten_with_srid : (order : Endianness) (srid : Option ℕ) (buf : List ℕ) (w : Item)
+    (r : Result (Vec ℕ Global) WkbError) → IsFront buf w → geometry_seen w ≡ geometry_of w.value
     → srid ≡ (header w.spelled).srid
-    → out ≡ encoding order (Ewkb srid) (geometry_of w.value) → IsRewritingWithSrid order buf out
-rewriting_with_srid order buf out w srid front is written =
-    record { s = w.spelled; t = w.value; rest = front.rest; front = front.front; written = rw is at written }
+    → IfOk r (λ out. out.items ≡ encoding order (Ewkb srid) (geometry_seen w))
+    → IfOk r (λ out. IsRewritingWithSrid order buf out.items)
+rewritten_with_srid order srid buf w (Ok out) front seen own is = record {
+  s = w.spelled;
+  t = w.value;
+  rest = front.rest;
+  front = front.front;
+  written = rw (seen, own) at is;
+}
+rewritten_with_srid order srid buf w (Err e) front seen own is = tt
 
 -- what a writer refuses of a geometry that was read
-pub too_long : (order : Endianness) (form : Form) (buf : List ℕ) (w : Item) (e : WkbError) → IsFront buf w
+too_long : (order : Endianness) (form : Form) (buf : List ℕ) (w : Item) (e : WkbError) → IsFront buf w
     → CanBeWritten w.value
-    → Reports e (refusal order form (geometry_of w.value)) → IsTooLong order form buf × IsSize e
+    → Reports e (refusal order form (geometry_of w.value)) → OverflowsWithSrid order form buf × IsSize e
 too_long order form buf w e front writable h =
     let size = refused_size order form (geometry_of w.value) e (writable order) h in (
       record { s = w.spelled; t = w.value; rest = front.rest; front = front.front; plain = size.0; with_srid = size.1 },
       size.2,
     )
 
--- want of memory, or what a writer refuses
-pub refused_or_long : (order : Endianness) (form : Form) (buf : List ℕ) (w : Item) (e : WkbError) → IsFront buf w
+-- an allocation failure, or what a writer refuses
+refused_or_long : (options : WriteOptions) (buf : List ℕ) (w : Item) (e : WkbError) → IsFront buf w
     → CanBeWritten w.value
-    → IsMemory e ⊎ Reports e (refusal order form (geometry_of w.value))
-    → IsMemory e ⊎ (IsRefusal buf e ⊎ (IsTooLong order form buf × IsSize e))
-refused_or_long order form buf w e front writable (inl memory) = inl memory
-refused_or_long order form buf w e front writable (inr h) = inr (inr (too_long order form buf w e front writable h))
+    → IsVecError options (geometry_of w.value) e → IsMemory e ⊎ IsRefusedUnder options buf e
+refused_or_long options buf w e front writable (inl memory) = inl memory
+refused_or_long options buf w e front writable (inr h) =
+    inr (inr (too_long options.endianness options.form buf w e front writable h))
 
--- what can be written with its own SRID is refused for want of memory alone
+pub not_rewritten : (options : WriteOptions) (buf : List ℕ) (w : Item) (r : Result (Vec ℕ Global) WkbError)
+    → IsFront buf w → CanBeWritten w.value → geometry_seen w ≡ geometry_of w.value
+    → IfErr r (λ e. IsVecError options (geometry_seen w) e)
+    → IfErr r (λ e. IsMemory e ⊎ IsRefusedUnder options buf e)
+not_rewritten options buf w (Ok out) front writable seen h = tt
+not_rewritten options buf w (Err e) front writable seen h =
+    refused_or_long options buf w e front writable (rw seen at h)
+
+-- what can be written with its own SRID fails only for memory
 pub refused_alone : (order : Endianness) (srid own : Option ℕ) (buf : List ℕ) (t : Value) (e : WkbError) → srid ≡ own
     → IsWritable order (Ewkb own) (geometry_of t)
     → IsMemory e ⊎ Reports e (refusal order (Ewkb srid) (geometry_of t)) → IsMemory e ⊎ IsRefusal buf e
@@ -114,12 +140,12 @@ refused_alone order srid own buf t e is writable (inr h) =
     absurd (cc)
 
 -- under ISO no SRID is written that could make the encoding too long
-pub iso_fits : (order : Endianness) (buf : List ℕ) → IsTooLong order Iso buf → ⊥
+pub iso_fits : (order : Endianness) (buf : List ℕ) → OverflowsWithSrid order Iso buf → ⊥
 iso_fits order buf h = let low = h.plain in let high = h.with_srid in omega (arith, low, high)
 
 -- what is refused under ISO is what the reader refuses
 pub iso_refused : (order : Endianness) (buf : List ℕ) (e : WkbError)
-    → IsMemory e ⊎ (IsRefusal buf e ⊎ (IsTooLong order Iso buf × IsSize e))
+    → IsMemory e ⊎ (IsRefusal buf e ⊎ (OverflowsWithSrid order Iso buf × IsSize e))
     → IsMemory e ⊎ IsRefusal buf e
 iso_refused order buf e (inl memory) = inl memory
 iso_refused order buf e (inr (inl refused)) = inr refused
@@ -163,7 +189,7 @@ have_two_values order a b x y bytes bytes' h k differ =
       different = λ one. differ (h.written ∙ law.1 one ∙ sym k.written);
     }
 
--- the comparison of two rewritings answers for the values
+-- the comparison of two rewritings is that of the values
 compared_by : (order : Endianness) (a b x y : List ℕ) (equal : Bool) → AreBytes a → AreBytes b
     → IsRewriting order Iso a x → IsRewriting order Iso b y
     → Decides equal (x ≡ y) → MatchBool equal (HaveOneValue a b) (HaveTwoValues a b)
@@ -177,7 +203,3 @@ pub compared : (order : Endianness) (a b x y v w : List ℕ) (equal : Bool) → 
 compared order a b x y v w equal bytes bytes' h k is is' tested =
     let decides = subst (λ r. Decides r (v ≡ w)) (sym tested) (bytes_eq-Decides v w) in
     compared_by order a b v w equal bytes bytes' (rw is h) (rw is' k) decides
-
-pub IfErr-from : {T E : Type 0} (r : Result T E) (P Q : E → Type 0) → IfErr r P → ((e : E) → P e → Q e) → IfErr r Q
-IfErr-from (Ok x) P Q h f = tt
-IfErr-from (Err e) P Q h f = f e h

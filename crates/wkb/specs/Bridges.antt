@@ -1,13 +1,13 @@
 -- What joins the clauses of calls to each other, so that no client proves it anew.
 use Rattle.std.proofs.Common.{◌≡◌, ℕ, zero, suc, ◌+◌, ◌-◌, ◌≤◌, List, [], ◌∷◌, Option, Some, None, Result, Ok, Err}
-use Rattle.std.proofs.Common.{Bool, ◌⊎◌, inl, inr, refl, sym, ap, subst}
-use Rattle.std.proofs.Common.{slice_get, ◌++◌, ◌∙◌, length, take, drop, append-nil, drop-drop, take-append-drop}
-use Rattle.std.proofs.Common.{length-append, length-drop, take_all, take-take, arith}
+use Rattle.std.proofs.Common.{Bool, ◌⊎◌, inl, inr, refl, sym, ap, subst, slice_get, ◌++◌, ◌∙◌, length, take, drop}
+use Rattle.std.proofs.Common.{append-nil, drop-drop, take-append-drop, length-append, length-drop, take_all, take-take}
+use Rattle.std.proofs.Common.{arith}
 use Rattle.std.proofs.Math.Seq.{take-append_seam}
 use Rattle.std.proofs.lemmas.List.{drop-take}
-use Rattle.std.specs.Prelude.{IfOk}
+use Rattle.std.proofs.lemmas.Result.{IfOk-at_ok}
 use Rattle.std.specs.Io.KnownBytes.{Appends}
-use Rattle.wkb.specs.Words.{Dimension, Xy, Xyz, Xym, Xyzm, dimensions, WkbError, IsMemory}
+use Rattle.wkb.specs.Prelude.{Dimension, WkbError, IsMemory}
 use Rattle.wkb_geom.specs.declared.error.WkbError.TheVariants as errors
 use Rattle.wkb.specs.Values.{Value, Values, each, members, collection, nest}
 use Rattle.wkb.specs.Spellings.{Spelling, node, Spellings, no_spellings, spelling, Front, max_nesting, HasOptions}
@@ -19,7 +19,7 @@ use Rattle.std.specs.declared.io.Error.{Error}
 use Rattle.wkb.specs.Writes.{Writes, WriteOptions, IsSpelled}
 use Rattle.wkb.specs.Laws.{IsOneOf, IsMember, StandsAt}
 
--- A refusal as one fact: an error of the reader is want of memory, or this holds of it.
+-- A refusal as one fact: an error of the reader is an allocation failure, or this holds of it.
 pub memory_or : (P : WkbError → Type 0) (e : WkbError) → IfRefused (Err e) P → IsMemory e ⊎ P e
 memory_or P (errors.Memory x) h = inl tt
 memory_or P (errors.IncorrectType x) h = inr h
@@ -28,14 +28,6 @@ memory_or P (errors.General x) h = inr h
 memory_or P (errors.NestingDepthExceeded x) h = inr h
 memory_or P (errors.OverflowError x) h = inr h
 memory_or P (errors.IOError x) h = inr h
-
--- A dimension has one name among the dimensions of the traits.
-pub one_name : (d e : Dimension) → dimensions d ≡ dimensions e → d ≡ e
-one_name Xy Xy h = refl
-one_name Xyz Xyz h = refl
-one_name Xym Xym h = refl
-one_name Xyzm Xyzm h = refl
-one_name _ _ h = absurd cc
 
 one_of_each : {A : Type 0} (f : A → Value) (ss : Spellings) (l : List A) (k : ℕ) (s : Spelling) (a : A)
     → Some s ≡ slice_get (list_of_spellings ss) k
@@ -50,7 +42,7 @@ one_of_each f (spelling u ss) (b ∷ l) zero s a is of =
     (same, ap f value)
 one_of_each f (spelling u ss) (b ∷ l) (suc k) s a is of = one_of_each f ss l k s a is of
 
--- The part that the call of a multi geometry answers for an index is the member of this number.
+-- The part that a call of a multi geometry returns for an index is the member of this number.
 pub part_is_member : {A : Type 0} (f : A → Value) (u : Spelling) (v : Value) (l : List A) (k : ℕ) (s : Spelling) (a : A)
     → members v ≡ each f l
     → Some s ≡ spelling_at u k → Some a ≡ slice_get l k → IsMember k u v s (f a)
@@ -70,7 +62,7 @@ unlisted : (u : Spelling) (d : Dimension) (vs : Values) (k : ℕ) (s : Spelling)
     → IsMember k u (collection d vs) s t
 unlisted (node g ws ss) d vs k s t h = h
 
--- So it is in a collection.
+-- A member of a collection, as its view lists them, is the member of its number.
 pub member_of : (w : Item) (ms : List Item) (k : ℕ) (m : Item) → IsCollectionOf w ms → slice_get ms k ≡ Some m
     → IsMember k w.spelled w.value m.spelled m.value
 member_of w ms k m c is =
@@ -79,7 +71,7 @@ member_of w ms k m c is =
     (unlisted c.whole.spelled c.whole.dimension c.whole.parts k m.spelled m.value
     (subst (λ ss. IsOneOf k ss c.whole.parts m.spelled m.value) c.all.spelled inside))
 
--- what a writer that answers Ok was not refused
+-- a writer that returns Ok has appended the encoding, since nothing was refused
 appended_by : (options : WriteOptions) (g : Geometry) (x : Unit {0}) (untouched : Type 0) (old new : Option (List ℕ))
     (failed : Bool)
     (fails_by : Option Error → Type 0) (o : Option Fault) → refusal options.endianness options.form g ≡ o
@@ -89,9 +81,9 @@ appended_by options g x untouched old new failed fails_by None is w = (w.written
 appended_by options g x untouched old new failed fails_by (Some f) is w = absurd ((w.refused f is).0)
 
 -- At Ok the encoding was appended.
-pub appended : {options : WriteOptions} {g : Geometry} {r : Result
-    (Unit {0}) WkbError} {x : Unit {0}} {untouched : Type 0} {old new : Option (List ℕ)} {failed : Bool}
-    {fails_by : Option Error → Type 0} → Writes options g r untouched old new failed fails_by → r ≡ Ok x
+pub appended : {options : WriteOptions} {g : Geometry} {r : Result (Unit {0}) WkbError} {x : Unit {0}}
+    {untouched : Type 0} {old new : Option (List ℕ)} {failed : Bool} {fails_by : Option Error → Type 0}
+    → Writes options g r untouched old new failed fails_by → r ≡ Ok x
     → Appends old new (encoding options.endianness options.form g)
 appended {options = options} {g = g} {x = x} {untouched = untouched} {old = old} {new = new} {failed = failed}
     {fails_by = fails_by} w is =
@@ -99,28 +91,24 @@ appended {options = options} {g = g} {x = x} {untouched = untouched} {old = old}
     (subst (λ q. Writes options g q untouched old new failed fails_by) is w)
 
 -- So a sink that held nothing holds the encoding.
-pub encoding_alone : {options : WriteOptions} {g : Geometry} {r : Result
-    (Unit {0}) WkbError} {x : Unit {0}} {untouched : Type 0} {old new : List ℕ} {failed : Bool}
-    {fails_by : Option Error → Type 0} → old ≡ [] → Writes options g r untouched (Some old) (Some new) failed fails_by
+pub encoding_alone : {options : WriteOptions} {g : Geometry} {r : Result (Unit {0}) WkbError} {x : Unit {0}}
+    {untouched : Type 0} {old new : List ℕ} {failed : Bool} {fails_by : Option Error → Type 0}
+    → old ≡ [] → Writes options g r untouched (Some old) (Some new) failed fails_by
     → r ≡ Ok x
     → new ≡ encoding options.endianness options.form g
 encoding_alone {options = options} {g = g} empty w is =
     appended w is ∙ ap (λ l. l ++ encoding options.endianness options.form g) empty
 
--- what is said of an Ok holds of an answer that is one
-of_ok : {A E : Type 0} (r : Result A E) (x : A) (P : A → Type 0) → r ≡ Ok x → IfOk r P → P x
-of_ok r x P is h = subst (λ q. IfOk q P) is h
-
 -- Read again before any rest, it is the value that the geometry stands for, in the options' order and with their SRID.
-pub read_before : (rest : List ℕ) {options : WriteOptions} {g : Geometry} {r : Result
-    (Unit {0}) WkbError} {x : Unit {0}} {untouched : Type 0} {old new : List ℕ} {failed : Bool}
-    {fails_by : Option Error → Type 0} → old ≡ [] → Writes options g r untouched (Some old) (Some new) failed fails_by
+pub read_before : (rest : List ℕ) {options : WriteOptions} {g : Geometry} {r : Result (Unit {0}) WkbError}
+    {x : Unit {0}} {untouched : Type 0} {old new : List ℕ} {failed : Bool} {fails_by : Option Error → Type 0}
+    → old ≡ [] → Writes options g r untouched (Some old) (Some new) failed fails_by
     → r ≡ Ok x
     → nest (normal g) ≤ max_nesting
     → (s : Spelling) × Front (new ++ rest) s (normal g) rest × HasOptions options.endianness options.form s
 read_before rest {options = options} {g = g} {r = r} {x = x} {old = old} {new = new} empty w is shallow =
     let h : IsSpelled options (normal g) (Some old) (Some new) =
-    of_ok r x (λ _. IsSpelled options (normal g) (Some old) (Some new)) is w.spelled in (
+    IfOk-at_ok (λ _. IsSpelled options (normal g) (Some old) (Some new)) is w.spelled in (
       h.spelling,
       record {
         front = h.encoding;
@@ -131,10 +119,10 @@ read_before rest {options = options} {g = g} {r = r} {x = x} {old = old} {new = 
       h.options_kept,
     )
 
--- So it is with nothing after it.
-pub read_again : {options : WriteOptions} {g : Geometry} {r : Result
-    (Unit {0}) WkbError} {x : Unit {0}} {untouched : Type 0} {old new : List ℕ} {failed : Bool}
-    {fails_by : Option Error → Type 0} → old ≡ [] → Writes options g r untouched (Some old) (Some new) failed fails_by
+-- The same with nothing after it.
+pub read_again : {options : WriteOptions} {g : Geometry} {r : Result (Unit {0}) WkbError} {x : Unit {0}}
+    {untouched : Type 0} {old new : List ℕ} {failed : Bool} {fails_by : Option Error → Type 0}
+    → old ≡ [] → Writes options g r untouched (Some old) (Some new) failed fails_by
     → r ≡ Ok x
     → nest (normal g) ≤ max_nesting
     → (s : Spelling) × Front new s (normal g) [] × HasOptions options.endianness options.form s
@@ -142,9 +130,9 @@ read_again {options = options} {g = g} {r = r} {x = x} {old = old} {new = new} e
     let read = read_before [] empty w is shallow in
     (read.0, subst (λ input. Front input read.0 (normal g) []) (append-nil new) read.1, read.2)
 
--- ---- where bytes stand
+-- ---- where bytes are
 
--- What an input begins with stands at its beginning.
+-- What an input begins with is at its beginning.
 pub front_stands : {buf : List ℕ} {w : Item} → IsFront buf w → StandsAt 0 w.encoding buf
 front_stands {buf = buf} {w = w} f =
     let whole : buf ≡ w.encoding ++ f.rest = f.front.whole ∙ ap (λ t. t ++ f.rest) f.encoding_is in
@@ -153,7 +141,7 @@ front_stands {buf = buf} {w = w} f =
       is = ap (take (length w.encoding)) whole ∙ take-append_seam w.encoding f.rest;
     }
 
--- The bytes behind an offset stand there.
+-- The bytes from an offset on are there.
 pub rest_stands : (n : ℕ) (whole : List ℕ) → n ≤ length whole → StandsAt n (drop n whole) whole
 rest_stands n whole long =
     record {
@@ -175,7 +163,7 @@ stands_within {a = a} {b = b} {x = x} {y = y} {z = z} p q =
           ∙ ap (take (length x)) (sym inside) ∙ p.is;
     }
 
--- What follows an offset begins with the part that stands there.
+-- What follows an offset begins with the part that is there.
 pub begins_there : {start : ℕ} {part whole : List ℕ} → StandsAt start part whole
     → drop start whole ≡ part ++ drop (length part) (drop start whole)
 begins_there {start = start} {part = part} {whole = whole} h =

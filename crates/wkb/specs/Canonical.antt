@@ -1,19 +1,20 @@
 -- What the canonical form says of its inputs.
-use Rattle.std.specs.Prelude.{◌≡◌, ◌≢◌, ℕ, ◌^◌, ◌<◌, ◌≤◌, List, length, Option}
+use Rattle.std.specs.Prelude.{◌≡◌, ◌≢◌, ◌⊎◌, ℕ, ◌^◌, ◌<◌, ◌≤◌, List, length}
 use Rattle.wkb_geom.specs.declared.common.Endianness.{Endianness}
 use Rattle.wkb_geom.specs.declared.common.Form.{Form}
 use Rattle.wkb_geom.specs.declared.common.Form.TheVariants.{Iso}
 use Rattle.wkb_geom.specs.declared.error.Overflow.TheVariants.{Size}
 use Rattle.wkb_geom.specs.declared.error.WkbError.{WkbError}
 use Rattle.wkb_geom.specs.declared.error.WkbError.TheVariants as errors
-use Rattle.wkb_geom.specs.Values.{Value, member_count, listed_count}
-use Rattle.wkb_geom.specs.Spellings.{Spelling, header, any}
-use Rattle.wkb_geom.specs.Fronts.{Front, max_nesting}
-use Rattle.wkb_geom.specs.declared.error.Cause.{Cause}
-use Rattle.wkb_geom.specs.Refusals.{Refuses}
+use Rattle.wkb_geom.specs.Values.{Value}
+use Rattle.wkb_geom.specs.Spellings.{Spelling}
+use Rattle.wkb_geom.specs.Fronts.{Front}
 use Rattle.wkb_geom.specs.Geometries.{geometry_of}
-use Rattle.wkb_geom.specs.Encodings.{encoding}
+use Rattle.wkb_geom.specs.Encodings.{encoding, IsRewriting}
+use Rattle.wkb_sink.specs.declared.options.WriteOptions.{WriteOptions}
+use Rattle.wkb_read.specs.Reads.{IsRefusal}
 
+-- the error says that the encoding is too long
 abbrev pub IsSize : WkbError → Type 0
 IsSize (errors.OverflowError o) = o ≡ Size
 IsSize _ = ⊥
@@ -25,35 +26,27 @@ pub record IsAccepted (input : List ℕ) : Type 0 where
   pub rest : List ℕ
   pub front : Front input s t rest
 
--- the input begins with a geometry that costs so many turns and slots
-pub record Accepts (input : List ℕ) (turns slots : ℕ) : Type 0 where
-  pub s : Spelling
-  pub t : Value
-  pub rest : List ℕ
-  pub front : Front input s t rest
-  pub turns_are : turns ≡ member_count t
-  pub slots_are : slots ≡ listed_count t
-
--- the input begins with no geometry, for this cause, after so many turns and slots
-pub record IsRefused (input : List ℕ) (cause : Cause) (turns slots : ℕ) : Type 0 where
-  pub refuses : Refuses max_nesting any input cause turns slots
-
--- the input begins with a geometry whose own SRID is this
-pub record HasSrid (input : List ℕ) (srid : Option ℕ) : Type 0 where
-  pub s : Spelling
-  pub t : Value
-  pub rest : List ℕ
-  pub front : Front input s t rest
-  pub is : srid ≡ (header s).srid
-
 -- the rewriting has a length that `usize` holds, and with the SRID of the form it has not
-pub record IsTooLong (order : Endianness) (form : Form) (input : List ℕ) : Type 0 where
+pub record OverflowsWithSrid (order : Endianness) (form : Form) (input : List ℕ) : Type 0 where
   pub s : Spelling
   pub t : Value
   pub rest : List ℕ
   pub front : Front input s t rest
   pub plain : length (encoding order Iso (geometry_of t)) < 2 ^ 64
   pub with_srid : 2 ^ 64 ≤ length (encoding order form (geometry_of t))
+
+-- the encoding under these options of the geometry that the input begins with
+abbrev pub IsRewritingUnder : WriteOptions → List ℕ → List ℕ → Type 0
+IsRewritingUnder options input out = IsRewriting options.endianness options.form input out
+
+-- the input is refused, or its encoding under these options is too long, and the error says which
+abbrev pub IsRefusedUnder : WriteOptions → List ℕ → WkbError → Type 0
+IsRefusedUnder options input e =
+    IsRefusal input e ⊎ (OverflowsWithSrid options.endianness options.form input × IsSize e)
+
+-- the first input is refused, or it begins with a geometry and the second is refused, and the error says why
+abbrev pub IsPairRefusal : List ℕ → List ℕ → WkbError → Type 0
+IsPairRefusal a b e = IsRefusal a e ⊎ (IsAccepted a × IsRefusal b e)
 
 -- both inputs begin with geometries, and their values are equal
 pub record HaveOneValue (a b : List ℕ) : Type 0 where

@@ -16,6 +16,5 @@ unfoldable pub use
       or_else,
       dimensions_fault,
     }
-unfoldable pub use Rattle.wkb_geom.specs.Encodings.{count_fault, first_fault}
-unfoldable pub use Rattle.wkb_geom.specs.Encodings.{size_fault}
+unfoldable pub use Rattle.wkb_geom.specs.Encodings.{count_fault, first_fault, size_fault}
 pub use Rattle.wkb_write.specs.Answers.{encoding_of, refusal_of}

@@ -1,5 +1,5 @@
 pub mod Canonical
-pub mod Words
+pub mod Prelude
 pub mod Values
 pub mod Spellings
 pub mod Refusals

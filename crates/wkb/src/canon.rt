@@ -1,45 +1,36 @@
 //! The canonical form: the one encoding of the value that was read.
 
-ghost use Rattle.std.specs.Prelude.{◌≡◌, ◌⊎◌, IfOk, IfErr, MatchBool};
+ghost use Rattle.std.specs.Prelude.{◌⊎◌, IfOk, IfErr, MatchBool};
 ghost use Rattle.wkb_geom.specs.Errors.{IsMemory};
-ghost use Rattle.wkb_geom.specs.Geometries.{geometry_of, IsGeometry};
-ghost use Rattle.wkb_geom.specs.Encodings.{IsRewriting, IsRewritingWithSrid};
-ghost use Rattle.wkb_write.specs.Measures.{Reports};
-ghost use Rattle.wkb_read.specs.Public.{IsRefusal};
-ghost use Rattle.wkb_write.specs.Answers.{encoding_of, refusal_of};
-ghost use Rattle.wkb.specs.Canonical.{IsAccepted, IsSize, IsTooLong, HaveOneValue, HaveTwoValues};
+ghost use Rattle.wkb_geom.specs.Encodings.{IsRewritingWithSrid};
+ghost use Rattle.wkb_read.specs.Reads.{IsRefusal};
+ghost use Rattle.wkb.specs.Canonical.{IsRewritingUnder, IsRefusedUnder, IsPairRefusal};
+ghost use Rattle.wkb.specs.Canonical.{HaveOneValue, HaveTwoValues};
 
 use crate::laws::are_bytes;
 use std::alloc::Global;
 use wkb_geom::error::WkbResult;
 use wkb_geom::{Endianness, Form};
-use wkb_read::geometry::Wkb;
-use wkb_read::read::stack::read_wkb;
+use wkb_read::read::read_wkb;
 use wkb_write::{WriteOptions, to_vec};
-
-/// The encoding of a geometry that was read.
-fn rewriting(alloc: Global, wkb: &Wkb<'_>, options: &WriteOptions) -> WkbResult<Vec<u8>>
-    requires lawful { IsGeometry (geometry_of wkb.now.value) }
-    ensures ok { IfOk result
-        (λ out. out.items ≡ encoding_of options.now (geometry_of wkb.now.value)) }
-    ensures err { IfErr result
-        (λ e. IsMemory e ⊎ Reports e (refusal_of options.now (geometry_of wkb.now.value))) }
-{
-    to_vec(alloc, wkb, options)
-}
 
 /// The encoding under the options of the geometry at the front of the bytes.
 ///
 /// Refused as `read_wkb` refuses the bytes. `OverflowError(Size)` where the SRID's four bytes make
 /// the encoding pass `usize`.
+///
+/// ```
+/// // A key of the value: the same bytes whatever the order, the codes and the SRIDs it was read in.
+/// let key = canonical(alloc, bytes, &WriteOptions::default())?;
+/// ```
+#[tactic(auto, using(crate::proofs::Encodings::rewritten))]
 pub fn canonical(alloc: Global, buf: &[u8], options: &WriteOptions) -> WkbResult<Vec<u8>>
     ensures ok { IfOk result
-        (λ encoding. IsRewriting options.now.endianness options.now.form buf.now encoding.items) }
-    ensures err { IfErr result (λ e. IsMemory e ⊎ (IsRefusal buf.now e
-        ⊎ (IsTooLong options.now.endianness options.now.form buf.now × IsSize e))) }
+        (λ encoding. IsRewritingUnder options.now buf.now encoding.items) }
+    ensures err { IfErr result (λ e. IsMemory e ⊎ IsRefusedUnder options.now buf.now e) }
 {
     match read_wkb(alloc, buf) {
-        Ok(wkb) => rewriting(alloc, &wkb, options),
+        Ok(wkb) => to_vec(alloc, &wkb, options),
         Err(e) => Err(e),
     }
 }
@@ -47,6 +38,7 @@ pub fn canonical(alloc: Global, buf: &[u8], options: &WriteOptions) -> WkbResult
 /// The encoding under EWKB with the geometry's own SRID, where it has one.
 ///
 /// Refused as `read_wkb` refuses the bytes: what is written is no longer than what was read.
+#[tactic(auto, using(crate::proofs::Encodings::rewritten_with_srid))]
 pub fn canonical_with_srid(alloc: Global, buf: &[u8], order: Endianness) -> WkbResult<Vec<u8>>
     ensures ok { IfOk result (λ encoding. IsRewritingWithSrid order buf.now encoding.items) }
     ensures err { IfErr result (λ e. IsMemory e ⊎ IsRefusal buf.now e) }
@@ -57,7 +49,7 @@ pub fn canonical_with_srid(alloc: Global, buf: &[u8], order: Endianness) -> WkbR
                 endianness: order,
                 form: Form::Ewkb { srid: wkb.srid() },
             };
-            rewriting(alloc, &wkb, &options)
+            to_vec(alloc, &wkb, &options)
         }
         Err(e) => Err(e),
     }
@@ -67,11 +59,15 @@ pub fn canonical_with_srid(alloc: Global, buf: &[u8], order: Endianness) -> WkbR
 ///
 /// Refused as `read_wkb` refuses the first, which is read before the second is looked at, or else
 /// the second.
+///
+/// ```
+/// // Whether a geometry is stored already, in whatever byte order.
+/// let is_stored = same(alloc, stored, bytes)?;
+/// ```
 pub fn same(alloc: Global, a: &[u8], b: &[u8]) -> WkbResult<bool>
     ensures ok { IfOk result
         (λ equal. MatchBool equal (HaveOneValue a.now b.now) (HaveTwoValues a.now b.now)) }
-    ensures err { IfErr result
-        (λ e. IsMemory e ⊎ (IsRefusal a.now e ⊎ (IsAccepted a.now × IsRefusal b.now e))) }
+    ensures err { IfErr result (λ e. IsMemory e ⊎ IsPairRefusal a.now b.now e) }
 {
     are_bytes(a);
     are_bytes(b);

@@ -1,5 +1,9 @@
-//! The traits that a caller's own geometries implement, in the place of `geo-traits`, and plain
-//! geometries that borrow a caller's words.
+//! The traits that a caller's own geometries implement, in place of `geo-traits`; plain geometries
+//! that borrow a caller's words; and the number that a word stands for.
+
+ghost use Rattle.std.specs.Prelude.{◌≡◌, IfSome, is_some, not, to_bits};
+ghost use Rattle.std.specs.Float.{binary64};
+ghost use Rattle.wkb.specs.Prelude.{is_nan as nan};
 
 pub use wkb_geom::Dimensions;
 pub use wkb_geom::geom::{
@@ -7,7 +11,26 @@ pub use wkb_geom::geom::{
     LineTrait, MultiLineStringTrait, MultiPointTrait, MultiPolygonTrait, PointTrait, PolygonTrait,
     RectTrait, TriangleTrait,
 };
+use wkb_geom::words::is_nan;
 pub use wkb_plain::{
     Coord, Geometry, GeometryCollection, Line, LineString, MultiLineString, MultiPoint,
     MultiPolygon, Point, Polygon, Rect, Triangle,
 };
+
+/// The number that a coordinate's word stands for; `None` for a not-a-number.
+///
+/// ```
+/// // The x of a point, as a number.
+/// let x = ordinate(coord.x());
+/// ```
+#[tactic(auto, using(crate::proofs::Ordinates::is_number, crate::proofs::Ordinates::has_bits))]
+pub fn ordinate(word: u64) -> Option<f64>
+    ensures some { is_some result ≡ not (nan word) }
+    ensures bits { IfSome result (λ number. to_bits binary64 number ≡ word) }
+{
+    if is_nan(word) {
+        None
+    } else {
+        Some(f64::from_bits(word))
+    }
+}

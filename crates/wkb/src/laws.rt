@@ -1,6 +1,6 @@
 //! Laws over the definitions: what they say of any two inputs, and of any encoding.
 
-ghost use Rattle.wkb.specs.Words.{AreBytes};
+ghost use Rattle.wkb.specs.Prelude.{AreBytes};
 ghost use Rattle.wkb.specs.Encodings.{IsForm};
 
 use wkb_geom::Form;

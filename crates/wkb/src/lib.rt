@@ -1,6 +1,17 @@
 //! Well-Known Binary: the reader, the writer, and the canonical form of what was read.
 //!
-//! All names but `canon`, `laws::are_bytes` and `laws::srid_fits` are re-exports of the crates below.
+//! ```
+//! // The encoding of the same geometry with its numbers in big endian, in ISO codes.
+//! let wkb = read_wkb(alloc, bytes)?;
+//! let options = WriteOptions {
+//!     endianness: Endianness::BigEndian,
+//!     form: Form::Iso,
+//! };
+//! let encoding = to_vec(alloc, &wkb, &options)?;
+//! ```
+//!
+//! All names but those of `canon`, `geom::ordinate`, `laws::are_bytes` and `laws::srid_fits` are re-exports of the crates
+//! below.
 #![tactic(auto)]
 
 pub mod canon;

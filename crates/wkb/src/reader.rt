@@ -3,7 +3,7 @@
 pub use wkb_geom::Dimension;
 pub use wkb_read::geometry::{GeometryCollection, Wkb};
 pub use wkb_read::geometry_type::GeometryType;
-pub use wkb_read::read::stack::{MAX_WKB_NESTING_DEPTH, read_wkb, read_wkb_counted};
+pub use wkb_read::read::{MAX_WKB_NESTING_DEPTH, read_wkb, read_wkb_counted};
 pub use wkb_view::coord::Coord;
 pub use wkb_view::counts::Counts;
 pub use wkb_view::line_string::LineString;

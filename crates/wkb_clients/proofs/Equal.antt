@@ -1,9 +1,7 @@
 -- Views of one spelling and one value are equal.
 use Rattle.std.proofs.Common.{◌≡◌, ℕ, List, Some, sym, ap, subst, ◌∙◌, slice_get}
-use Rattle.wkb_clients.specs.Common.{Dimension, dimensions, AreBytes, Coordinate}
-use Rattle.wkb_clients.specs.Common.{line_string, polygon, Spelling, Spells, Listed, whole_of, Item, HasOneEncoding}
-use Rattle.wkb_clients.specs.Common.{members_spelled, list_of_spellings}
-use Rattle.wkb.specs.Bridges.{one_name}
+use Rattle.wkb_clients.specs.Common.{Dimension, AreBytes, Coordinate, line_string, polygon, Spelling, Spells, Listed}
+use Rattle.wkb_clients.specs.Common.{whole_of, Item, HasOneEncoding, members_spelled, list_of_spellings}
 
 same_encoding : HasOneEncoding → (a b : Item) → AreBytes a.encoding → AreBytes b.encoding
     → Spells a.spelled a.value a.encoding → Spells b.spelled b.value b.encoding
@@ -15,7 +13,7 @@ same_encoding one a b bytes bytes' spells spells' s t =
 some_one : {A : Type 0} (a b : A) → Some a ≡ Some b → a ≡ b
 some_one a b h = cc
 
--- what stands at one index of two equal multi geometries
+-- what is at one index of two equal multi geometries
 at_one : {A B : Type 0} (m n : Listed A) (list : A → List B) (i : ℕ) (a b : B) → n ≡ m
     → Some a ≡ slice_get (list m.parts) i
     → Some b ≡ slice_get (list n.parts) i → b ≡ a
@@ -27,14 +25,13 @@ spelled_one : {A : Type 0} (m n : Listed A) (i : ℕ) (s u : Spelling) → n ≡
 spelled_one m n i s u same h k =
     some_one u s (k ∙ ap (λ l. slice_get (list_of_spellings (members_spelled l.spelled)) i) same ∙ sym h)
 
-dimension_one : {A : Type 0} (m n : Listed A) (d e : Dimension) → n ≡ m → dimensions d ≡ dimensions m.dimension
-    → dimensions e ≡ dimensions n.dimension → e ≡ d
-dimension_one m n d e same h k = one_name e d (k ∙ ap (λ l. dimensions l.dimension) same ∙ sym h)
+dimension_one : {A : Type 0} (m n : Listed A) (d e : Dimension) → n ≡ m → d ≡ m.dimension → e ≡ n.dimension → e ≡ d
+dimension_one m n d e same h k = k ∙ ap (λ l. l.dimension) same ∙ sym h
 
 pub same_polygon : HasOneEncoding
     → (m n : Listed (List (List (List Coordinate)))) (i : ℕ) (p q : Listed (List (List Coordinate))) → n ≡ m
     → Some p.parts ≡ slice_get m.parts i → Some q.parts ≡ slice_get n.parts i
-    → dimensions p.dimension ≡ dimensions m.dimension → dimensions q.dimension ≡ dimensions n.dimension
+    → p.dimension ≡ m.dimension → q.dimension ≡ n.dimension
     → Some p.spelled ≡ slice_get (list_of_spellings (members_spelled m.spelled)) i
     → Some q.spelled ≡ slice_get (list_of_spellings (members_spelled n.spelled)) i
     → AreBytes p.encoding → AreBytes q.encoding → Spells p.spelled (polygon p.dimension p.parts) p.encoding
@@ -52,7 +49,7 @@ pub same_line_string : HasOneEncoding
     → (m n : Listed (List (List Coordinate))) (i : ℕ) (a b : Item) (d e : Dimension) (cs ds : List Coordinate) → n ≡ m
     → a.value ≡ line_string d cs → b.value ≡ line_string e ds
     → Some cs ≡ slice_get m.parts i → Some ds ≡ slice_get n.parts i
-    → dimensions d ≡ dimensions m.dimension → dimensions e ≡ dimensions n.dimension
+    → d ≡ m.dimension → e ≡ n.dimension
     → Some a.spelled ≡ slice_get (list_of_spellings (members_spelled m.spelled)) i
     → Some b.spelled ≡ slice_get (list_of_spellings (members_spelled n.spelled)) i
     → AreBytes a.encoding → AreBytes b.encoding → Spells a.spelled a.value a.encoding

@@ -1,15 +1,15 @@
--- What the reader's clauses say of the bytes behind an offset.
+-- What the reader's clauses say of the bytes after an offset.
 use Rattle.std.proofs.Common.{◌≡◌, ℕ, List, drop, ◌⊎◌, Some, None, Err, ap, subst, ◌∙◌, slice_get}
-use Rattle.wkb_clients.specs.Common.{WkbError, IsMemory, Coordinate, Item}
-use Rattle.wkb_clients.specs.Common.{IsWordOf, IsFront, IsOnlyFront, HasNoFront, IfRefused}
+use Rattle.wkb_clients.specs.Common.{WkbError, IsMemory, Coordinate, Item, IsWordOf, IsFront, IsOnlyFront, HasNoFront}
+use Rattle.wkb_clients.specs.Common.{IfRefused}
 use Rattle.wkb.specs.Bridges as bridges
 
--- the geometry that stands in a blob behind an offset: its bytes spell it, and no other stands there
+-- the geometry at an offset in a blob: its bytes spell it, and no other is there
 pub record Stands (blob : List ℕ) (offset : ℕ) (w : Item) : Type 0 where
   pub front : IsFront (drop offset blob) w
   pub only : IsOnlyFront (drop offset blob) w
 
--- so it does where the reader accepts the bytes behind the offset
+-- there is one where the reader accepts the bytes after the offset
 pub stands : (blob : List ℕ) (offset : ℕ) (behind : List ℕ) (w : Item) → behind ≡ drop offset blob → IsFront behind w
     → IsOnlyFront behind w
     → Stands blob offset w
@@ -23,7 +23,7 @@ pub refused : (blob : List ℕ) (offset : ℕ) (behind : List ℕ) (e : WkbError
 refused blob offset behind e same h =
     subst (λ b. IsMemory e ⊎ HasNoFront b) same (bridges.memory_or (λ _. HasNoFront behind) e h)
 
--- what is said to stand there has its spelling and its value
+-- what is said to be there has its spelling and its value
 pub one_value : (blob : List ℕ) (offset : ℕ) (w v : Item) → Stands blob offset w → IsFront (drop offset blob) v
     → v.value ≡ w.value
 one_value blob offset w v there f = (there.only v.spelled v.value f.rest f.front).2

@@ -1,7 +1,6 @@
 -- Keys, found among others or missing, and the values that they are read as.
-use Rattle.std.proofs.Common.{◌≡◌, ℕ, zero, suc, List, [], ◌∷◌, ◌++◌, map, Bool, true, false, Result, Ok, Err, refl}
+use Rattle.std.proofs.Common.{◌≡◌, ℕ, zero, suc, List, [], ◌∷◌, ◌++◌, map, Bool, true, false, refl}
 use Rattle.std.proofs.Common.{sym, ap, subst, ◌∙◌, arith}
-use Rattle.std.specs.Prelude.{IfOk}
 use Rattle.std.specs.Prelude.{bytes_eq, Contains, ◌||◌}
 use Rattle.std.specs.List.{AllByRecursion, list_any}
 use Rattle.std.proofs.lemmas.List.{append-nil, map-append}
@@ -15,10 +14,6 @@ use Rattle.wkb_clients.specs.Keys.{key_of, IsKey, HasOneKey, Inserts, value_in, 
 pub is_key : (input key : List ℕ) → IsRewriting LittleEndian Iso input key → IsKey input key
 unfolding key_of
 is_key input key h = record { spelled = h.s; value = h.t; rest = h.rest; front = h.front; is = h.written }
-
-pub IfOk-map : {T E : Type 0} (r : Result T E) (P Q : T → Type 0) → ((x : T) → P x → Q x) → IfOk r P → IfOk r Q
-IfOk-map (Ok x) P Q f h = f x h
-IfOk-map (Err e) P Q f h = tt
 
 pub one_key_lem : EqualEncodings → HasOneKey
 unfolding key_of

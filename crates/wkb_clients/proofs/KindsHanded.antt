@@ -4,8 +4,7 @@ use Rattle.wkb_clients.specs.Common.{Coordinate, kind, Listed, Item, point_value
 use Rattle.std.specs.Borrow.{Bor}
 use Rattle.wkb.specs.Reads.{GeometryType}
 use Rattle.wkb.specs.Reads.handed.{Point, LineString, Polygon, MultiPoint, MultiLineString, MultiPolygon}
-use Rattle.wkb.specs.Reads.handed.{GeometryCollection}
-use Rattle.wkb.specs.Reads.handed.{Rect, Triangle, Line}
+use Rattle.wkb.specs.Reads.handed.{GeometryCollection, Rect, Triangle, Line}
 use Rattle.wkb.specs.Reads as views
 use Rattle.wkb.specs.Reads.{IsViewOf}
 

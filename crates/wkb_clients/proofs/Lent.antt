@@ -1,13 +1,12 @@
--- The bytes that views lend, at their places.
+-- The bytes of views, at their places.
 use Rattle.std.proofs.Common.{◌≡◌, ℕ, suc, ◌+◌, ◌*◌, ◌≤◌, List, length, drop, Some, refl, sym, ap, subst, ◌∙◌}
 use Rattle.std.proofs.Common.{slice_get, drop-drop, length-append, arith}
-use Rattle.wkb_clients.specs.Common.{width, dimensions, AreBytes, number, Coordinate, Value, polygon, multi_polygon}
-use Rattle.wkb_clients.specs.Common.{each, members, SpellsCoordinates, Listed, Item}
-use Rattle.wkb_clients.specs.Common.{whole_of, BytesSpell, spelling_at, order_of, LinearRing, ring_seen, ring_encoding}
-use Rattle.wkb_clients.specs.Common.{ring_order, ring_dimension, IsMember}
+use Rattle.wkb_clients.specs.Common.{width, AreBytes, number, Coordinate, Value, polygon, multi_polygon, each, members}
+use Rattle.wkb_clients.specs.Common.{SpellsCoordinates, Listed, Item, whole_of, BytesSpell, spelling_at, order_of}
+use Rattle.wkb_clients.specs.Common.{LinearRing, ring_seen, ring_encoding, ring_order, ring_dimension, IsMember}
 use Rattle.wkb_clients.specs.Common.{SpelledInFull, MembersInPlace, RingsInPlace, WordsStand, IsWordOf, StandsAt}
 use Rattle.wkb_clients.specs.Common.{member_start, ring_start}
-use Rattle.wkb.specs.Bridges.{one_name, part_is_member, rest_stands, stands_within, begins_there}
+use Rattle.wkb.specs.Bridges.{part_is_member, rest_stands, stands_within, begins_there}
 use Rattle.wkb.specs.Laws.{NextStart, SizeOfSpelled}
 use Rattle.wkb_clients.specs.Members.{LendsMember, AreNeighbours, LendsRing, IsCornerWord}
 
@@ -56,10 +55,9 @@ pub ring_at : SpelledInFull → RingsInPlace → (p : Listed (List (List Coordin
     → BytesSpell (whole_of polygon p)
     → SpellsCoordinates (ring_order r) (ring_dimension r) (ring_seen r) (ring_encoding r)
     → AreBytes (ring_encoding r)
-    → ring_order r ≡ order_of p.spelled → dimensions (ring_dimension r) ≡ dimensions p.dimension
+    → ring_order r ≡ order_of p.spelled → ring_dimension r ≡ p.dimension
     → Some (ring_seen r) ≡ slice_get p.parts j → IsRingAt p j r
-ring_at full place p j r bytes spells coordinates bytes' order dims at =
-    let same = one_name (ring_dimension r) p.dimension dims in
+ring_at full place p j r bytes spells coordinates bytes' order same at =
     let here = subst (λ e. SpellsCoordinates e p.dimension (ring_seen r) (ring_encoding r)) order
     (subst (λ d. SpellsCoordinates (ring_order r) d (ring_seen r) (ring_encoding r)) same coordinates) in
     let whole = full p.spelled (polygon p.dimension p.parts) p.encoding spells in
@@ -82,12 +80,12 @@ lends_ring p j r bytes h is =
 
 -- a polygon of a multi polygon is its member
 pub polygon_member : (m : Listed (List (List (List Coordinate)))) (k : ℕ) (p : Listed (List (List Coordinate)))
-    → dimensions p.dimension ≡ dimensions m.dimension
+    → p.dimension ≡ m.dimension
     → Some p.spelled ≡ spelling_at m.spelled k → Some p.parts ≡ slice_get m.parts k
     → IsMember k m.spelled (multi_polygon m.dimension m.parts) p.spelled (polygon p.dimension p.parts)
 polygon_member m k p same spelled of =
     subst (λ d. IsMember k m.spelled (multi_polygon m.dimension m.parts) p.spelled (polygon d p.parts))
-    (sym (one_name p.dimension m.dimension same))
+    (sym same)
     (part_is_member (polygon m.dimension) m.spelled
     (multi_polygon m.dimension m.parts) m.parts k p.spelled p.parts refl spelled of)
 

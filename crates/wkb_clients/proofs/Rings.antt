@@ -1,19 +1,15 @@
 -- Rings of polygons in a collection, and their words.
 use Rattle.std.proofs.Common.{◌≡◌, ℕ, zero, suc, ◌+◌, ◌*◌, List, [], ◌∷◌, ◌++◌, length, drop, Option, Some, None, ◌⊎◌}
-use Rattle.std.proofs.Common.{inl, inr, refl, sym, ap, subst}
-use Rattle.std.proofs.Common.{◌∙◌, append_assoc, length-append, arith, slice_get}
+use Rattle.std.proofs.Common.{inl, inr, refl, sym, ap, subst, ◌∙◌, append_assoc, length-append, arith, slice_get}
 use Rattle.std.specs.Prelude.{option_map, MatchOption}
 use Rattle.std.proofs.lemmas.List.{drop-drop}
-use Rattle.wkb_clients.specs.Common.{Dimension, WkbError, number, width}
-use Rattle.wkb_clients.specs.Common.{IsMemory, Coordinate, Value, Values, polygon, collection, no_members, member}
-use Rattle.wkb_clients.specs.Common.{members, kind, Spelling, node, Spellings}
+use Rattle.wkb_clients.specs.Common.{Dimension, WkbError, number, width, IsMemory, Coordinate, Value, Values, polygon}
+use Rattle.wkb_clients.specs.Common.{collection, no_members, member, members, kind, Spelling, node, Spellings}
 use Rattle.wkb_clients.specs.Common.{no_spellings, spelling, header, Spells, Listed, whole_of, Item, spellings, values}
-use Rattle.wkb_clients.specs.Common.{IsOneOf, IsMember, IsWordOf}
-use Rattle.wkb_clients.specs.Common.{MembersStand, RingsStand, WordsStand, members_spelled, HasNoFront}
+use Rattle.wkb_clients.specs.Common.{IsOneOf, IsMember, IsWordOf, MembersStand, RingsStand, WordsStand, members_spelled}
+use Rattle.wkb_clients.specs.Common.{HasNoFront}
 use Rattle.std.proofs.Math.Seq.{drop-append_seam}
-use Rattle.wkb.specs.Reads.{ring_seen}
-use Rattle.wkb.specs.Reads.{LinearRing}
-use Rattle.wkb.specs.Reads.{IsCollectionOf}
+use Rattle.wkb.specs.Reads.{ring_seen, LinearRing, IsCollectionOf}
 use Rattle.wkb.specs.Bridges.{member_of}
 use Rattle.wkb_clients.specs.Rings.{IsRingOf, HasNoRing}
 use Rattle.wkb_clients.specs.Words.{IsRingWordAt, HasNoRingWordAt}
@@ -119,7 +115,7 @@ ring_or_none w ms k j m p None c is view found =
 
 -- ---- words
 
--- what stands behind a part of an encoding
+-- what comes after a part of an encoding
 behind_part : (encoding rest head before part after : List ℕ) (start : ℕ)
     → encoding ≡ head ++ (before ++ (part ++ after)) → start ≡ length head + length before
     → drop start (encoding ++ rest) ≡ part ++ (after ++ rest)
@@ -173,7 +169,7 @@ ring_word_at members rings words blob offset k j i n x w ring there of word =
           (r.after ++ (p.after ++ f.rest)) i n x r.spells word;
     }
 
--- what is said to be such a word is one of a ring of the collection that stands there
+-- what is said to be such a word is one of a ring of the collection that is there
 ring_of : (blob : List ℕ) (offset k j i n x : ℕ) (w : Item) → Stands blob offset w
     → (h : IsRingWordAt blob offset k j i n x) → IsRingOf w k j h.ring
 ring_of blob offset k j i n x w there h =

@@ -4,8 +4,7 @@ use Rattle.std.proofs.Common.{arith, slice_get}
 use Rattle.std.specs.Prelude.{MatchOption}
 use Rattle.std.proofs.lemmas.List.{drop-drop}
 use Rattle.wkb_clients.specs.Common.{Dimension, number, width, Coordinate, Value, line_string, kind, WkbError, IsMemory}
-use Rattle.wkb_clients.specs.Common.{header, Spells, HasNoFront}
-use Rattle.wkb_clients.specs.Common.{Item, behind_count, IsWordOf, LineStringWordsStand}
+use Rattle.wkb_clients.specs.Common.{header, Spells, HasNoFront, Item, behind_count, IsWordOf, LineStringWordsStand}
 use Rattle.wkb_clients.specs.Words.{IsWordAt, HasNoWordAt}
 use Rattle.wkb_clients.proofs.Fronts.{Stands, one_value, no_word, no_word_there}
 
@@ -14,7 +13,7 @@ abbrev line_string_coordinates : Value → List Coordinate
 line_string_coordinates (line_string d cs) = cs
 line_string_coordinates _ = []
 
--- a word of the line string that stands there
+-- a word of the line string that is there
 word_at : LineStringWordsStand → (blob : List ℕ) (offset i n x : ℕ) (w : Item) (d : Dimension) (cs : List Coordinate)
     → Stands blob offset w → w.value ≡ line_string d cs → IsWordOf cs i n x → IsWordAt blob offset i n x
 word_at law blob offset i n x w d cs there is word =
@@ -35,7 +34,7 @@ word_at law blob offset i n x w d cs there is word =
           (subst (λ v. Spells w.spelled v f.front.front) is f.front.spelled) word;
     }
 
--- what is said to be a word there is one of the line string that stands there
+-- what is said to be a word there is one of the line string that is there
 word_of : (blob : List ℕ) (offset i n x : ℕ) (w : Item) (d : Dimension) (cs : List Coordinate) → Stands blob offset w
     → w.value ≡ line_string d cs
     → IsWordAt blob offset i n x → IsWordOf cs i n x
@@ -61,7 +60,7 @@ pub no_coordinate : (blob : List ℕ) (offset i n : ℕ) (w : Item) (d : Dimensi
 no_coordinate blob offset i n w d cs there is none =
     λ x h. no_word_there cs i n x none (word_of blob offset i n x w d cs there is h)
 
--- another geometry stands there, or none
+-- another geometry is there, or none
 pub no_line_string : (blob : List ℕ) (offset i n : ℕ) (w : Item) → Stands blob offset w → (kind w.value ≡ 2 → ⊥)
     → HasNoWordAt blob offset i n
 no_line_string blob offset i n w there other =

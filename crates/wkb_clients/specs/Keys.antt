@@ -1,10 +1,10 @@
 -- Keys of geometries, and a store of them.
 use Rattle.std.proofs.Common.{◌≡◌, ℕ, List, [], ◌∷◌, ◌++◌, Bool, Result, Ok, Err, None}
 use Rattle.std.specs.Prelude.{◌↔◌, MatchBool, Contains}
-use Rattle.wkb_clients.specs.Common.{LittleEndian, Xy, Iso, AreBytes, Value}
-use Rattle.wkb_clients.specs.Common.{point, Spelling, header, Front, max_nesting, Item, geometry_at}
+use Rattle.wkb_clients.specs.Common.{LittleEndian, Xy, Iso, AreBytes, Value, point, Spelling, header, Front}
+use Rattle.wkb_clients.specs.Common.{max_nesting, Item, geometry_at}
 use Rattle.wkb.specs.Geometries.{geometry_of}
-use Rattle.wkb.specs.Words.{Endianness, Cause}
+use Rattle.wkb.specs.Prelude.{Endianness, Cause}
 use Rattle.wkb.specs.Encodings.{encoding, IsRewritingWithSrid}
 
 -- the bytes that are written of a value, under one order and one form

@@ -4,4 +4,4 @@ pub mod Keys
 pub mod Members
 pub mod Rings
 pub mod Words
-pub mod Stops
+pub mod Paths

@@ -1,8 +1,11 @@
 -- The bytes of a member, of a ring, and a word of a member's ring.
 use Rattle.std.proofs.Common.{◌≡◌, ℕ, ◌+◌, ◌*◌, List, length, drop, Some, slice_get}
 use Rattle.wkb_clients.specs.Common.{Dimension, width, number, Coordinate, polygon, header, Listed, Item, IsMember}
-use Rattle.wkb_clients.specs.Common.{IsWordOf, IsFront, StandsAt, member_start}
-use Rattle.wkb_clients.specs.Common.{ring_start}
+use Rattle.wkb_clients.specs.Common.{IsWordOf, IsFront, StandsAt, member_start, ring_start, Spells}
+
+-- the bytes spell the value, by the fields of its spelling
+abbrev pub SpellsInFull : Item → Type 0
+SpellsInFull w = Spells w.spelled w.value w.encoding
 
 -- the bytes are the geometry's at the place of its member of this number
 abbrev pub LendsMember : Item → ℕ → List ℕ → Type 0
@@ -13,7 +16,7 @@ pub record AreNeighbours (whole : Item) (k : ℕ) (one next : List ℕ) : Type 0
   pub first : LendsMember whole k one
   pub second : StandsAt (member_start k whole.spelled whole.value + length one) next whole.encoding
 
--- the bytes are the polygon's at the place of the coordinates of its ring of this number, behind the ring's count
+-- the bytes are the polygon's at the place of the coordinates of its ring of this number, after the ring's count
 abbrev pub LendsRing : Listed (List (List Coordinate)) → ℕ → List ℕ → Type 0
 LendsRing p j bytes = StandsAt (ring_start j p.spelled p.dimension p.parts + 4) bytes p.encoding
 
@@ -23,8 +26,8 @@ pub record IsMemberOf (input : List ℕ) (k : ℕ) (bytes : List ℕ) : Type 0 w
   pub front : IsFront input whole
   pub stands : StandsAt (member_start k whole.spelled whole.value) bytes input
 
--- Member k of the geometry is a polygon, and this is word n of coordinate i of its exterior: the number that stands, in
--- the polygon's order, so many words behind the exterior's count.
+-- Member k of the geometry is a polygon, and this is word n of coordinate i of its exterior: the number, in the
+-- polygon's order, as many words after the exterior's count.
 pub record IsCornerWord (whole : Item) (k i n w : ℕ) : Type 0 where
   pub part : Item
   pub dimension : Dimension

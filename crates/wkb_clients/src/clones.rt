@@ -1,10 +1,9 @@
-//! Equal views answer alike. A clone is equal to its source, so it lends the same members.
+//! Equal views return the same. A clone is equal to its source, so it has the same members.
 
 ghost use Rattle.std.specs.Prelude.{◌≡◌, option_map};
-ghost use Rattle.wkb.specs.Words.{AreBytes};
-ghost use Rattle.wkb.specs.Values.{polygon as of_rings};
-ghost use Rattle.wkb.specs.Spellings.{Spells};
-ghost use Rattle.wkb.specs.Reads.{line_string_seen};
+ghost use Rattle.wkb.specs.Prelude.{AreBytes};
+ghost use Rattle.wkb.specs.Reads.{line_string_seen, polygon_seen};
+ghost use Rattle.wkb_clients.specs.Members.{SpellsInFull};
 
 use wkb::geom::{GeometryCollectionTrait, MultiLineStringTrait, MultiPolygonTrait};
 use wkb::laws::{are_bytes, one_encoding, spelled_in_full};
@@ -26,8 +25,7 @@ pub fn both_geometries<'m, 'a>(
 // The bytes of a polygon spell it.
 fn polygon_spelled(polygon: &Polygon)
     ensures bytes { AreBytes polygon.now.encoding }
-    ensures spells { Spells polygon.now.spelled (of_rings polygon.now.dimension polygon.now.parts)
-        polygon.now.encoding }
+    ensures spells { SpellsInFull (polygon_seen polygon.now) }
 {
     spelled_in_full();
     are_bytes(polygon.buf());
@@ -36,9 +34,7 @@ fn polygon_spelled(polygon: &Polygon)
 // The bytes of a line string spell it.
 fn line_string_spelled(line_string: &LineString)
     ensures bytes { AreBytes (line_string_seen line_string.now).encoding }
-    ensures spells { Spells (line_string_seen line_string.now).spelled
-        (line_string_seen line_string.now).value
-        (line_string_seen line_string.now).encoding }
+    ensures spells { SpellsInFull (line_string_seen line_string.now) }
 {
     spelled_in_full();
     are_bytes(line_string.buf());

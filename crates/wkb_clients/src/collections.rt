@@ -1,13 +1,11 @@
 //! A polygon's ring inside a collection that a blob holds.
 
-ghost use Rattle.std.specs.Prelude.{◌⊎◌, IfOk, IfSome, MatchOption, MatchResult};
-ghost use Rattle.wkb.specs.Words.{IsMemory};
-ghost use Rattle.wkb.specs.Reads.{ring_seen};
+ghost use Rattle.std.specs.Prelude.{IfOk, IfSome};
 ghost use Rattle.wkb_clients.specs.Members.{IsMemberOf};
-ghost use Rattle.wkb_clients.specs.Rings.{IsRingOf, HasNoRing};
-ghost use Rattle.wkb_clients.specs.Words.{IsRingWordAt, HasNoRingWordAt};
+ghost use Rattle.wkb_clients.specs.Rings.{FindsRing};
+ghost use Rattle.wkb_clients.specs.Paths.{FindsRingWord};
 
-use crate::package::behind;
+use crate::package::from_offset;
 use std::alloc::Global;
 use wkb::error::WkbResult;
 use wkb::geom::{CoordTrait, GeometryTrait, GeometryType, LineStringTrait, PolygonTrait};
@@ -19,7 +17,7 @@ use wkb::reader::{LinearRing, Wkb, read_wkb};
 /// Which word of a collection is meant, each index from 0: the member, its ring (0 is the exterior), the ring's
 /// coordinate, and the word of that (0 is x).
 #[derive(Clone, Copy, Debug)]
-pub struct Place {
+pub struct WordPath {
     pub member: usize,
     pub ring: usize,
     pub coordinate: usize,
@@ -28,7 +26,7 @@ pub struct Place {
 
 /// The bytes of a member of the collection that the input begins with: a slice of the input, at the member's place.
 ///
-/// None where another geometry stands there, or the collection has no such member.
+/// None where another geometry is there, or the collection has no such member.
 pub fn member_bytes<'a>(alloc: Global, input: &'a [u8], index: usize) -> WkbResult<Option<&'a [u8]>>
     ensures { IfOk result (λ found. IfSome found (λ bytes. IsMemberOf input.now index bytes.now)) }
 {
@@ -54,8 +52,7 @@ pub fn member_bytes<'a>(alloc: Global, input: &'a [u8], index: usize) -> WkbResu
 ///
 /// None where this is no collection, the member no polygon, or one of the indices too large.
 pub fn ring_of_member<'a>(geometry: &Wkb<'a>, member: usize, ring: usize) -> Option<LinearRing<'a>>
-    ensures { MatchOption result (HasNoRing geometry.now member ring)
-        (λ r. IsRingOf geometry.now member ring (ring_seen r)) }
+    ensures { FindsRing geometry.now member ring result }
 {
     let GeometryType::GeometryCollection(members) = geometry.as_type() else {
         return None;
@@ -73,22 +70,17 @@ pub fn ring_of_member<'a>(geometry: &Wkb<'a>, member: usize, ring: usize) -> Opt
     }
 }
 
-/// The word at this place of the collection that stands in the blob behind the offset.
+/// The word on this path in the collection at the offset in the blob.
 ///
-/// None where another geometry stands there, or the collection has no such word. Refused as `read_wkb` refuses the
-/// bytes behind the offset.
-pub fn ring_word(alloc: Global, blob: &[u8], offset: usize, at: Place) -> WkbResult<Option<u64>>
-    ensures { MatchResult result
-        (λ found. MatchOption found
-        (HasNoRingWordAt blob.now offset at.member at.ring at.coordinate at.word)
-        (λ w. IsRingWordAt blob.now offset at.member at.ring at.coordinate at.word w))
-        (λ e. IsMemory e
-        ⊎ HasNoRingWordAt blob.now offset at.member at.ring at.coordinate at.word) }
+/// None where another geometry is there, or the collection has no such word. Refused as `read_wkb` refuses the bytes
+/// from the offset on.
+pub fn ring_word(alloc: Global, blob: &[u8], offset: usize, at: WordPath) -> WkbResult<Option<u64>>
+    ensures { FindsRingWord blob.now offset at result }
 {
     members_stand();
     rings_stand();
     words_stand();
-    let geometry = match read_wkb(alloc, behind(blob, offset)) {
+    let geometry = match read_wkb(alloc, from_offset(blob, offset)) {
         Ok(geometry) => geometry,
         Err(e) => return Err(e),
     };

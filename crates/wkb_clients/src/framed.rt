@@ -1,9 +1,7 @@
 //! Encodings before bytes of the user's own, as a format has them that frames WKB.
 
-ghost use Rattle.std.specs.Prelude.{◌∷◌, [], IfOk, IfErr, ◌⊎◌};
-ghost use Rattle.wkb.specs.Words.{IsMemory};
-ghost use Rattle.wkb.specs.Encodings.{refusal_of};
-ghost use Rattle.wkb.specs.Writes.{Reports};
+ghost use Rattle.std.specs.Prelude.{◌∷◌, [], IfOk, IfErr};
+ghost use Rattle.wkb.specs.Writes.{IsVecError};
 ghost use Rattle.wkb_clients.specs.Framed.{IsReadBefore};
 
 use std::alloc::Global;
@@ -23,8 +21,7 @@ pub fn marked<G: GeometryTrait>(
 ) -> WkbResult<Vec<u8>>
     ensures read { IfOk result
         (λ bytes. IsReadBefore (mark ∷ []) options.now (G.geometry geom.now) bytes.items) }
-    ensures err { IfErr result
-        (λ e. IsMemory e ⊎ Reports e (refusal_of options.now (G.geometry geom.now))) }
+    ensures err { IfErr result (λ e. IsVecError options.now (G.geometry geom.now) e) }
 {
     writable_is_read();
     srid_fits(options.form);

@@ -1,7 +1,7 @@
 //! Keys of geometries, and a store that holds each value once.
 
-ghost use Rattle.std.specs.Prelude.{◌≡◌, ◌⊎◌, [], IfOk, IfErr, MatchResult};
-ghost use Rattle.wkb.specs.Words.{IsMemory};
+ghost use Rattle.std.specs.Prelude.{◌≡◌, ◌⊎◌, [], IfOk, IfErr};
+ghost use Rattle.wkb.specs.Prelude.{IsMemory};
 ghost use Rattle.wkb.specs.Reads.{IsRefusal};
 ghost use Rattle.wkb.specs.Encodings.{IsRewritingWithSrid};
 ghost use Rattle.wkb_clients.specs.Keys.{IsKey, HasOneKey, HasOneEwkbKey, Inserts};
@@ -89,13 +89,13 @@ impl Store {
         }
     }
 
-    /// Stores the value of the geometry at the front of the bytes, and answers whether it was there before.
+    /// Stores the value of the geometry at the front of the bytes, and returns whether it was there before.
     ///
     /// Refused as `read_wkb` refuses the bytes; then nothing changes.
     pub fn insert(&mut self, bytes: &[u8]) -> WkbResult<bool>
-        ensures { MatchResult result
-            (λ was. Inserts self.old self.new bytes.now was)
-            (λ e. (self.new ≡ self.old) × (IsMemory e ⊎ IsRefusal bytes.now e)) }
+        ensures ok { IfOk result (λ was. Inserts self.old self.new bytes.now was) }
+        ensures err { IfErr result (λ e. IsMemory e ⊎ IsRefusal bytes.now e) }
+        ensures kept { IfErr result (λ e. self.new ≡ self.old) }
     {
         geometry_agrees();
         rewriting_is_read();

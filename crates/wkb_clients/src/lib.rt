@@ -1,4 +1,4 @@
-//! Clients: what a user of the library proves of code of their own, by its public clauses and laws alone.
+//! Clients: what a user of the library proves of their own code, from its public clauses and laws only.
 #![tactic(auto)]
 
 pub mod clones;
@@ -8,6 +8,6 @@ pub mod keys;
 pub mod members;
 pub mod orders;
 pub mod package;
+pub mod places;
 pub mod plain;
-pub mod stops;
 pub mod written;

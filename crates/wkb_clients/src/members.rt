@@ -1,8 +1,7 @@
 //! The bytes of the members of multi geometries, of a polygon's rings, and a word of them in place.
 
 ghost use Rattle.std.specs.Prelude.{◌+◌, IfSome};
-ghost use Rattle.wkb.specs.Reads.{whole_of, multi_point_seen};
-ghost use Rattle.wkb.specs.Values.{multi_line_string, multi_polygon};
+ghost use Rattle.wkb.specs.Reads.{multi_point_seen, multi_line_string_seen, multi_polygon_seen};
 ghost use Rattle.wkb_clients.specs.Members.{LendsMember, AreNeighbours, LendsRing, IsCornerWord};
 
 use wkb::geom::{
@@ -15,8 +14,8 @@ use wkb::laws::{
 };
 use wkb::reader::{MultiLineString, MultiPoint, MultiPolygon, Polygon};
 
-/// The bytes of a point of a multi point, if there is one of this index: they stand in those of the multi point, behind
-/// its count and the points before.
+/// The bytes of a point of a multi point, if there is one of this index: they are in those of the multi point, after its
+/// count and the points before.
 pub fn point_bytes<'a>(multi: &MultiPoint<'a>, i: usize) -> Option<&'a [u8]>
     ensures { IfSome result (λ bytes. LendsMember (multi_point_seen multi.now) i bytes.now) }
 {
@@ -37,7 +36,7 @@ pub fn point_bytes<'a>(multi: &MultiPoint<'a>, i: usize) -> Option<&'a [u8]>
 /// line string.
 pub fn line_string_bytes<'a>(multi: &MultiLineString<'a>, i: usize) -> Option<&'a [u8]>
     ensures { IfSome result
-        (λ bytes. LendsMember (whole_of multi_line_string multi.now) i bytes.now) }
+        (λ bytes. LendsMember (multi_line_string_seen multi.now) i bytes.now) }
 {
     members_in_place();
     spelled_in_full();
@@ -55,7 +54,7 @@ pub fn line_string_bytes<'a>(multi: &MultiLineString<'a>, i: usize) -> Option<&'
 /// The bytes of a polygon of a multi polygon, if there is one of this index: at its place in those of the multi
 /// polygon.
 pub fn polygon_bytes<'a>(multi: &MultiPolygon<'a>, i: usize) -> Option<&'a [u8]>
-    ensures { IfSome result (λ bytes. LendsMember (whole_of multi_polygon multi.now) i bytes.now) }
+    ensures { IfSome result (λ bytes. LendsMember (multi_polygon_seen multi.now) i bytes.now) }
 {
     members_in_place();
     spelled_in_full();
@@ -74,7 +73,7 @@ pub fn polygon_bytes<'a>(multi: &MultiPolygon<'a>, i: usize) -> Option<&'a [u8]>
 /// first ends.
 pub fn neighbour_bytes<'a>(multi: &MultiPolygon<'a>, i: u32) -> Option<(&'a [u8], &'a [u8])>
     ensures { IfSome result
-        (λ both. AreNeighbours (whole_of multi_polygon multi.now) i both.0.now both.1.now) }
+        (λ both. AreNeighbours (multi_polygon_seen multi.now) i both.0.now both.1.now) }
 {
     members_in_place();
     next_start();
@@ -93,8 +92,8 @@ pub fn neighbour_bytes<'a>(multi: &MultiPolygon<'a>, i: u32) -> Option<(&'a [u8]
     }
 }
 
-/// The bytes of the coordinates of a polygon's interior, if there is one of this index: they stand in those of the
-/// polygon, behind the rings before and the interior's own count.
+/// The bytes of the coordinates of a polygon's interior, if there is one of this index: they are in those of the
+/// polygon, after the rings before and the interior's own count.
 pub fn interior_bytes<'a>(polygon: &Polygon<'a>, i: usize) -> Option<&'a [u8]>
     ensures { IfSome result (λ bytes. LendsRing polygon.now (i + 1) bytes.now) }
 {
@@ -107,7 +106,7 @@ pub fn interior_bytes<'a>(polygon: &Polygon<'a>, i: usize) -> Option<&'a [u8]>
     }
 }
 
-/// A word of a coordinate of the exterior of a polygon of a multi polygon, if there is one: it stands in the bytes of
+/// A word of a coordinate of the exterior of a polygon of a multi polygon, if there is one: it is in the bytes of
 /// the multi polygon, at an offset that the sizes of what is before it tell.
 pub fn corner_word(
     multi: &MultiPolygon,
@@ -116,7 +115,7 @@ pub fn corner_word(
     word: usize,
 ) -> Option<u64>
     ensures { IfSome result
-        (λ w. IsCornerWord (whole_of multi_polygon multi.now) member coordinate word w) }
+        (λ w. IsCornerWord (multi_polygon_seen multi.now) member coordinate word w) }
 {
     members_in_place();
     rings_in_place();

@@ -1,7 +1,7 @@
 //! Byte orders as the bytes that say them.
 
 ghost use Rattle.std.specs.Prelude.{◌≡◌, ◌-◌};
-ghost use Rattle.wkb.specs.Words.{order_byte, HasOrder};
+ghost use Rattle.wkb.specs.Prelude.{order_byte, HasOrder};
 
 use wkb::Endianness;
 use wkb::error::WkbError;

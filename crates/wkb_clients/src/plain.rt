@@ -1,7 +1,7 @@
 //! Plain geometries over words of the user's own.
 
 ghost use Rattle.std.specs.Prelude.{◌≡◌, ◌%◌, ◌↔◌, length, is_none, IfSome, IsSome};
-ghost use Rattle.wkb.specs.Words.traits.{Xy};
+ghost use Rattle.wkb.specs.Prelude.traits.{Xy};
 ghost use Rattle.wkb.specs.Plain.{point_coordinate, coordinates_in};
 ghost use Rattle.wkb.specs.Plain.{line_string_dimensions, line_string_coordinates};
 

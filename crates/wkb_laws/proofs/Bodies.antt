@@ -1,4 +1,4 @@
--- Reading from left to right, behind a header: points, line strings, polygons, and lists of members.
+-- Reading from left to right, after a header: points, line strings, polygons, and lists of members.
 use Rattle.std.proofs.Common.{◌≡◌, ℕ, zero, suc, ◌+◌, ◌-◌, ◌*◌, ◌≤◌, List, [], ◌∷◌, ◌++◌, length, take, drop, map, Some}
 use Rattle.std.proofs.Common.{None, Ok, Err, Bool, true, false}
 use Rattle.std.proofs.Common.{nat_lt, if◌then◌else◌, refl, sym, ap, ◌∙◌, subst, append_assoc, append-nil, arith}
@@ -6,32 +6,32 @@ use Rattle.std.proofs.Common.{length-append, length-drop, take-append-drop}
 use Rattle.std.proofs.Common.{length-take-le, take_all, ltb-true, ltb-false, ◌<◌, ◌==◌, ◌&&◌, eqb-true, eq-eqb}
 use Rattle.std.proofs.lemmas.Bool.{cond_both, and_parts, and_from, false_from_ne_true, both_ways}
 use Rattle.std.proofs.lemmas.List.{length-map}
-use Rattle.wkb_laws.specs.Words.{Endianness, Dimension, Layout, end_of_input, general, ShortLinearRing, IsNumber}
-use Rattle.wkb_laws.specs.Words.{number, all_nan, width, IsEach, point}
-use Rattle.wkb_laws.specs.Words.{line_string, polygon, no_spellings, SpellsCoordinate, SpellsCoordinates, Wanted}
-use Rattle.wkb_laws.specs.Words.{IsPart}
-use Rattle.wkb_laws.specs.Words.{point_end, line_string_end, ring_end}
-use Rattle.wkb_laws.specs.Words.{slots_asked, IsAllowed, RefusesRings, no_ring_count, short_ring, later_ring}
-use Rattle.wkb_laws.specs.Words.{short_point, short_line_string, bad_ring, Cost}
-use Rattle.wkb_laws.specs.Words.{free, Reading, body_start, parts_start, coordinate, coordinates, ring_in, ring_part}
-use Rattle.wkb_laws.specs.Words.{and_then, at_no_cost, costs, done}
-use Rattle.wkb_laws.specs.Words.{line_string_at, line_string_body, one_turn, parts_body, point_at, point_item_of}
-use Rattle.wkb_laws.specs.Words.{polygon_at, polygon_item, repeated, ring_at}
-use Rattle.wkb_laws.specs.Words.{slots_of, consumed, Cause, Value, multi_point, multi_line_string, multi_polygon}
-use Rattle.wkb_laws.specs.Words.{collection, Values, no_members, member, kind}
-use Rattle.wkb_laws.specs.Words.{dimension, members, each, count, nest, nest_each, member_count, member_count_each}
-use Rattle.wkb_laws.specs.Words.{listed_count, listed_count_each, Spellings}
-use Rattle.wkb_laws.specs.Words.{spelling, SpellsBody, part, member_part, SpellsEach, multi_point_end, room_inside}
-use Rattle.wkb_laws.specs.Words.{Opens, OpensCounted, bad_member}
-use Rattle.wkb_laws.specs.Words.{short_multi_point, RefusesEach, this_member, later_member, Item, spellings, values}
-use Rattle.wkb_laws.specs.Words.{line_string_of, list_item, point_of}
-use Rattle.wkb_laws.specs.Words.{polygon_of}
-use Rattle.wkb_laws.specs.Words.{spelled_in, with_count, length-items}
+use Rattle.wkb_laws.specs.Prelude.{count_in, Endianness, Dimension, Layout, end_of_input, general, ShortLinearRing, IsNumber}
+use Rattle.wkb_laws.specs.Prelude.{number, all_nan, width, IsEach, point}
+use Rattle.wkb_laws.specs.Prelude.{line_string, polygon, no_spellings, SpellsCoordinate, SpellsCoordinates, Wanted}
+use Rattle.wkb_laws.specs.Prelude.{IsPart}
+use Rattle.wkb_laws.specs.Prelude.{point_end, line_string_end, ring_end}
+use Rattle.wkb_laws.specs.Prelude.{slots_asked, IsAllowed, RefusesRings, no_ring_count, short_ring, later_ring}
+use Rattle.wkb_laws.specs.Prelude.{short_point, short_line_string, bad_ring, Cost}
+use Rattle.wkb_laws.specs.Prelude.{free, Reading, body_start, parts_start, coordinate, coordinates, ring_in, ring_part}
+use Rattle.wkb_laws.specs.Prelude.{and_then, at_no_cost, costs, done}
+use Rattle.wkb_laws.specs.Prelude.{line_string_at, line_string_body, one_turn, parts_body, point_at, point_item_of}
+use Rattle.wkb_laws.specs.Prelude.{polygon_at, polygon_item, repeated, ring_at}
+use Rattle.wkb_laws.specs.Prelude.{slots_of, consumed, Cause, Value, multi_point, multi_line_string, multi_polygon}
+use Rattle.wkb_laws.specs.Prelude.{collection, Values, no_members, member, kind}
+use Rattle.wkb_laws.specs.Prelude.{dimension, members, each, count, nest, nest_each, member_count, member_count_each}
+use Rattle.wkb_laws.specs.Prelude.{listed_count, listed_count_each, Spellings}
+use Rattle.wkb_laws.specs.Prelude.{spelling, SpellsBody, part, member_part, SpellsEach, multi_point_end, room_inside}
+use Rattle.wkb_laws.specs.Prelude.{Opens, OpensCounted, bad_member}
+use Rattle.wkb_laws.specs.Prelude.{short_multi_point, RefusesEach, this_member, later_member, Item, spellings, values}
+use Rattle.wkb_laws.specs.Prelude.{line_string_of, list_item, point_of}
+use Rattle.wkb_laws.specs.Prelude.{polygon_of}
+use Rattle.wkb_laws.specs.Prelude.{spelled_in, with_count, length-items}
 use Rattle.wkb_geom.specs.Reading as reading
 use Rattle.wkb_laws.specs.Laws.{listed_inside}
-use Rattle.wkb_laws.proofs.Parts.{then_length, items_are, number-take, number_begins, take_front, drop_front}
+use Rattle.wkb_laws.proofs.Parts.{then_length, items_are, field_taken, number_begins, take_front, drop_front}
 use Rattle.wkb_laws.proofs.Bounds.{each_long, coordinates_long, member_count-members}
-use Rattle.wkb_laws.proofs.Heads.{refused_as, ItemIs, IsRight, Opened, count_in, counts_here, count_says, number_in}
+use Rattle.wkb_laws.proofs.Heads.{refused_as, ItemIs, IsRight, Opened, counts_here, count_says, number_in}
 use Rattle.wkb_laws.proofs.Heads.{item_is}
 use Rattle.wkb_laws.proofs.Lists.{count-each, each_sum, each_same, by_list_kind, whole_by, list_behind}
 use Rattle.wkb_laws.proofs.Lengths.{value_size-least, spelled_length}
@@ -41,7 +41,7 @@ pub coordinate_is : (order : Endianness) (d : Dimension) (y : List ℕ) → 8 * 
     → SpellsCoordinate order d (coordinate order d y) (take (8 * width d) y)
 coordinate_is order d y h = record {
   len = length-items 8 (number order 8) (width d) y;
-  words = items_are (IsNumber order 8) 8 (number order 8) (number-take order 8) (width d) y h;
+  words = items_are (IsNumber order 8) 8 (number order 8) (field_taken order 8) (width d) y h;
 }
 
 -- a count and that many coordinates are all of an encoding that ends with them
@@ -57,7 +57,7 @@ coordinates_are order d c h =
       front = take 4 c;
       rest = drop 4 c;
       whole = sym (take-append-drop 4 c);
-      first = subst (λ k. IsNumber order 4 k (take 4 c)) (sym many) (number-take order 4 c (omega arith));
+      first = subst (λ k. IsNumber order 4 k (take 4 c)) (sym many) (field_taken order 4 c (omega arith));
       second = subst (IsEach (SpellsCoordinate order d) (coordinates order d n (drop 4 c))) all
           (items_are (SpellsCoordinate order d) (8 * width d) (coordinate order d) (coordinate_is order d) n (drop 4 c)
           (omega arith));
@@ -71,7 +71,7 @@ record Cut (n : ℕ) (input : List ℕ) : Type 0 where
 cut : (n : ℕ) (input : List ℕ) → n ≤ length input → Cut n input
 cut n input h = record { whole = sym (take-append-drop n input); len = length-take-le n input h }
 
--- so many rings
+-- n rings
 pub record RingsAre (order : Endianness) (d : Dimension) (n : ℕ) (input : List ℕ) (encodings : List (List ℕ))
     (rest : List ℕ) (cost : Cost) : Type 0 where
   pub many : length encodings ≡ n
@@ -126,7 +126,7 @@ module _ (l : Layout) where
       ∙ ap (ring_end l.dimension) same))
       (rings_say n (drop end input))))
 
--- the encoding of a geometry whose parts stand in front of the rest
+-- the encoding of a geometry whose parts come before the rest
 pub record PartsEncoding (l : Layout) (input front after : List ℕ) : Type 0 where
   pub whole : input ≡ consumed input after ++ after
   pub body : drop (body_start l.has_srid) (consumed input after) ≡ take 4 (drop (body_start l.has_srid) input) ++ front
@@ -154,7 +154,7 @@ parts_encoding l input front after enough e =
       whole = shape ∙ ap (λ z. z ++ after) (sym same);
       body = ap (drop start) same ∙ drop_front start (take start input) (take 4 c ++ front) first;
       long = omega (arith, ap length same, length-append (take start input) (take 4 c ++ front));
-      number = number-take l.order 4 c (omega (arith, length-drop start input));
+      number = field_taken l.order 4 c (omega (arith, length-drop start input));
       len = ap length e ∙ length-append front after;
     }
 
@@ -262,7 +262,7 @@ each_nine w (spelling s ss) (member t ts) x a =
     )
 each_nine w _ _ x a = absurd a
 
--- so many members
+-- n members
 pub record ItemsAre (room : ℕ) (w : Wanted) (n : ℕ) (input : List ℕ) (items : List Item) (rest : List ℕ)
     (cost : Cost) : Type 0 where
   pub many : count (values items) ≡ n

@@ -1,21 +1,21 @@
 -- Members and list entries are bounded by the bytes.
 use Rattle.std.proofs.Common.{◌≡◌, ℕ, ◌+◌, ◌*◌, ◌<◌, ◌≤◌, List, [], ◌∷◌, ◌++◌, length, Bool, refl, sym, ap, ◌∙◌, arith}
 use Rattle.std.proofs.Common.{length-append, lit≤, mul-le-mul_left}
-use Rattle.wkb_laws.specs.Words.{Endianness, Dimension, IsEach, Coordinate, Value, point, line_string, polygon}
-use Rattle.wkb_laws.specs.Words.{multi_point, multi_line_string, multi_polygon}
-use Rattle.wkb_laws.specs.Words.{collection, Values, no_members, member, kind, dimension, members, member_count}
-use Rattle.wkb_laws.specs.Words.{member_count_each, listed_count}
-use Rattle.wkb_laws.specs.Words.{listed_count_each, Spelling, node, Spellings, no_spellings, spelling}
-use Rattle.wkb_laws.specs.Words.{SpellsCoordinates, SpellsBody, Wanted, any, part}
-use Rattle.wkb_laws.specs.Words.{member_part, Spells, SpellsEach, FrontWithin, Cause, slots_asked, room_inside}
-use Rattle.wkb_laws.specs.Words.{IsAllowed, OpensCounted, RefusesRings, no_ring_count}
-use Rattle.wkb_laws.specs.Words.{short_ring, later_ring, Refuses, bad_ring, bad_member, RefusesEach, this_member}
-use Rattle.wkb_laws.specs.Words.{later_member}
+use Rattle.wkb_laws.specs.Prelude.{Endianness, Dimension, IsEach, Coordinate, Value, point, line_string, polygon}
+use Rattle.wkb_laws.specs.Prelude.{multi_point, multi_line_string, multi_polygon}
+use Rattle.wkb_laws.specs.Prelude.{collection, Values, no_members, member, kind, dimension, members, member_count}
+use Rattle.wkb_laws.specs.Prelude.{member_count_each, listed_count}
+use Rattle.wkb_laws.specs.Prelude.{listed_count_each, Spelling, node, Spellings, no_spellings, spelling}
+use Rattle.wkb_laws.specs.Prelude.{SpellsCoordinates, SpellsBody, Wanted, any, part}
+use Rattle.wkb_laws.specs.Prelude.{member_part, Spells, SpellsEach, FrontWithin, Cause, slots_asked, room_inside}
+use Rattle.wkb_laws.specs.Prelude.{IsAllowed, OpensCounted, RefusesRings, no_ring_count}
+use Rattle.wkb_laws.specs.Prelude.{short_ring, later_ring, Refuses, bad_ring, bad_member, RefusesEach, this_member}
+use Rattle.wkb_laws.specs.Prelude.{later_member}
 use Rattle.wkb_laws.specs.Laws.{FrontIsBounded, RefusalIsBounded}
 use Rattle.wkb_laws.proofs.Parts.{then_length, length-opens, header_length}
 use Rattle.wkb_laws.proofs.Lists.{each_sum, each_same, by_list_kind, IsWanted}
 
--- each item of a list has at least so many bytes
+-- each item of a list has at least this number of bytes
 pub each_long : {A : Type 0} (P : A → List ℕ → Type 0) (size : ℕ) → ((a : A) (x : List ℕ) → P a x → size ≤ length x)
     → (l : List A) (x : List ℕ) → IsEach P l x
     → size * length l ≤ length x
@@ -88,8 +88,8 @@ front_is_bounded_lem input s t rest f =
     let whole : length input ≡ length f.front + length rest = ap length f.whole ∙ length-append f.front rest in
     (omega arith, omega arith)
 
-length-counts : {room : ℕ} {w : Wanted} {input rest : List
-    ℕ} {order : Endianness} {k : ℕ} {d : Dimension} {srid : Bool} {n : ℕ}
+length-counts : {room : ℕ} {w : Wanted} {input rest : List ℕ} {order : Endianness} {k : ℕ} {d : Dimension}
+    {srid : Bool} {n : ℕ}
     → OpensCounted room w input order k d srid n rest → 9 + length rest ≤ length input
 length-counts {rest = rest} c =
     omega (
@@ -133,7 +133,7 @@ mutual
   each_refused_turns (this_member r) = let inside = refused_turns r in omega arith
   each_refused_turns (later_member f p r) = let inside = each_refused_turns r in let long = front_long f in omega arith
 
--- a list of members asks for a ninth of the bytes behind its count
+-- a list of members asks for a ninth of the bytes after its count
 slots_asked-members : (k n remaining : ℕ) → 3 < k → k ≤ 7 → 9 * slots_asked k n remaining ≤ remaining
 slots_asked-members k n remaining =
     by_list_kind
@@ -161,7 +161,7 @@ list_share : (inner outer asked slots rest len : ℕ) → inner + 1 ≤ outer �
 list_share inner outer asked slots rest len more ask fits inside =
     omega (arith, mul-le-mul_left len more, mul-le-mul_left (inner + 1) fits)
 
--- the members that are wanted behind a count
+-- the members that are wanted after a count
 pub wanted_inside : (w : Wanted) (room k : ℕ) (d : Dimension) (srid : Bool) → IsWanted w → IsAllowed room w k d srid
     → 3 < k → k ≤ 7 → IsWanted (member_part k d)
 wanted_inside (part wanted e) room k d srid good allowed low high =

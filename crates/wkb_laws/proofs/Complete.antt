@@ -1,41 +1,41 @@
--- Every front and every refusal is what reading from left to right answers.
+-- Every front and every refusal is what reading from left to right gives.
 use Rattle.std.proofs.Common.{◌≡◌, ℕ, zero, suc, ◌<◌, ◌≤◌, List, [], ◌∷◌, length, Some, None, Ok, Err, Result, Bool}
 use Rattle.std.proofs.Common.{nat_lt, refl, sym, ap, ◌∙◌, arith, lt-ltb}
 use Rattle.std.proofs.Common.{le-ltb, ◌≢◌, ◌+◌, ◌-◌, ◌*◌, ◌++◌, take, drop, map, Option, true, false, is_some, ◌==◌}
 use Rattle.std.proofs.Common.{if◌then◌else◌, subst, append_assoc}
 use Rattle.std.proofs.Common.{append-nil, length-append, drop-drop, lit<, lit≤}
 use Rattle.std.proofs.lemmas.Bool.{cond-true, cond-false, false_from_ne_true}
-use Rattle.wkb_laws.specs.Words.{Endianness, BigEndian, LittleEndian, Dimension, Head, Layout, WkbType, Cause}
-use Rattle.wkb_laws.specs.Words.{end_of_input, general, incorrect_type}
-use Rattle.wkb_laws.specs.Words.{InvalidByteOrder, IsNumber, order_byte, Code, Begins, Wanted, any, part, IsPart, Opens}
-use Rattle.wkb_laws.specs.Words.{Reading, Item, type_kind, type_dimension}
-use Rattle.wkb_laws.specs.Words.{type_of, layout_of, laid, head_at, head_by_order, head_by_code, meaning, meaning_of}
-use Rattle.wkb_laws.specs.Words.{then_body, member_body, layout_wanted}
-use Rattle.wkb_laws.specs.Words.{body_at, collection_within, by_type, geometry_at, is_member, member_at, refused}
-use Rattle.wkb_laws.specs.Words.{ShortLinearRing, number, all_nan, width}
-use Rattle.wkb_laws.specs.Words.{IsEach, Coordinate, Value, point, line_string, polygon, multi_point, multi_line_string}
-use Rattle.wkb_laws.specs.Words.{multi_polygon, collection, Values}
-use Rattle.wkb_laws.specs.Words.{no_members, member, each, count, nest, nest_each, members, kind, dimension}
-use Rattle.wkb_laws.specs.Words.{member_count, member_count_each, listed_count}
-use Rattle.wkb_laws.specs.Words.{Header, Spelling, node, Spellings, no_spellings, spelling, IsSrid, SpellsCoordinate}
-use Rattle.wkb_laws.specs.Words.{SpellsCoordinates, Spells, SpellsEach}
-use Rattle.wkb_laws.specs.Words.{member_part, has_srid, FrontWithin, srid_size, point_end, line_string_end}
-use Rattle.wkb_laws.specs.Words.{multi_point_end, ring_end, slots_asked, room_inside}
-use Rattle.wkb_laws.specs.Words.{IsAllowed, OpensCounted, Cost, free, body_start, parts_start, ◌⊕◌, with_count}
-use Rattle.wkb_laws.specs.Words.{ring_part}
-use Rattle.wkb_laws.specs.Words.{parts_body, coordinate, coordinates}
-use Rattle.wkb_laws.specs.Words.{ring_in, items, spellings, values, and_then, at_no_cost, collection_at, costs, done}
-use Rattle.wkb_laws.specs.Words.{line_string_of, line_string_at}
-use Rattle.wkb_laws.specs.Words.{line_string_body}
-use Rattle.wkb_laws.specs.Words.{line_string_item, list_item, multi_line_string_at, multi_point_at, multi_polygon_at}
-use Rattle.wkb_laws.specs.Words.{one_turn, point_at, point_item}
-use Rattle.wkb_laws.specs.Words.{point_item_of, point_of, polygon_at, polygon_item, polygon_of, repeated, ring_at}
-use Rattle.wkb_laws.specs.Words.{slots_of, spelled_in, srid_in, consumed}
-use Rattle.wkb_laws.specs.Words.{RefusesRings, no_ring_count, short_ring, later_ring, Refuses, no_order_byte}
-use Rattle.wkb_laws.specs.Words.{bad_order_byte, no_code, bad_code, wrong_part}
-use Rattle.wkb_laws.specs.Words.{too_deep, short_point, no_count, short_line_string, short_multi_point, bad_ring}
-use Rattle.wkb_laws.specs.Words.{bad_member, RefusesEach, this_member}
-use Rattle.wkb_laws.specs.Words.{later_member}
+use Rattle.wkb_laws.specs.Prelude.{count_in, Endianness, BigEndian, LittleEndian, Dimension, Head, Layout, WkbType, Cause}
+use Rattle.wkb_laws.specs.Prelude.{end_of_input, general, incorrect_type}
+use Rattle.wkb_laws.specs.Prelude.{InvalidByteOrder, IsNumber, order_byte, Code, Begins, Wanted, any, part, IsPart, Opens}
+use Rattle.wkb_laws.specs.Prelude.{Reading, Item, type_kind, type_dimension}
+use Rattle.wkb_laws.specs.Prelude.{type_of, layout_of, laid, head_at, head_by_order, head_by_code, meaning, meaning_of}
+use Rattle.wkb_laws.specs.Prelude.{then_body, member_body, layout_wanted}
+use Rattle.wkb_laws.specs.Prelude.{body_at, collection_within, by_type, geometry_at, is_member, member_at, refused}
+use Rattle.wkb_laws.specs.Prelude.{ShortLinearRing, number, all_nan, width}
+use Rattle.wkb_laws.specs.Prelude.{IsEach, Coordinate, Value, point, line_string, polygon, multi_point, multi_line_string}
+use Rattle.wkb_laws.specs.Prelude.{multi_polygon, collection, Values}
+use Rattle.wkb_laws.specs.Prelude.{no_members, member, each, count, nest, nest_each, members, kind, dimension}
+use Rattle.wkb_laws.specs.Prelude.{member_count, member_count_each, listed_count}
+use Rattle.wkb_laws.specs.Prelude.{Header, Spelling, node, Spellings, no_spellings, spelling, IsSrid, SpellsCoordinate}
+use Rattle.wkb_laws.specs.Prelude.{SpellsCoordinates, Spells, SpellsEach}
+use Rattle.wkb_laws.specs.Prelude.{member_part, has_srid, FrontWithin, srid_size, point_end, line_string_end}
+use Rattle.wkb_laws.specs.Prelude.{multi_point_end, ring_end, slots_asked, room_inside}
+use Rattle.wkb_laws.specs.Prelude.{IsAllowed, OpensCounted, Cost, free, body_start, parts_start, ◌⊕◌, with_count}
+use Rattle.wkb_laws.specs.Prelude.{ring_part}
+use Rattle.wkb_laws.specs.Prelude.{parts_body, coordinate, coordinates}
+use Rattle.wkb_laws.specs.Prelude.{ring_in, items, spellings, values, and_then, at_no_cost, collection_at, costs, done}
+use Rattle.wkb_laws.specs.Prelude.{line_string_of, line_string_at}
+use Rattle.wkb_laws.specs.Prelude.{line_string_body}
+use Rattle.wkb_laws.specs.Prelude.{line_string_item, list_item, multi_line_string_at, multi_point_at, multi_polygon_at}
+use Rattle.wkb_laws.specs.Prelude.{one_turn, point_at, point_item}
+use Rattle.wkb_laws.specs.Prelude.{point_item_of, point_of, polygon_at, polygon_item, polygon_of, repeated, ring_at}
+use Rattle.wkb_laws.specs.Prelude.{slots_of, spelled_in, srid_in, consumed}
+use Rattle.wkb_laws.specs.Prelude.{RefusesRings, no_ring_count, short_ring, later_ring, Refuses, no_order_byte}
+use Rattle.wkb_laws.specs.Prelude.{bad_order_byte, no_code, bad_code, wrong_part}
+use Rattle.wkb_laws.specs.Prelude.{too_deep, short_point, no_count, short_line_string, short_multi_point, bad_ring}
+use Rattle.wkb_laws.specs.Prelude.{bad_member, RefusesEach, this_member}
+use Rattle.wkb_laws.specs.Prelude.{later_member}
 use Rattle.wkb_geom.specs.declared.code.WkbType.TheVariants as kinds
 use Rattle.wkb_geom.specs.Reading as reading
 use Rattle.wkb_geom.proofs.Codes.{one_meaning}
@@ -48,7 +48,6 @@ use Rattle.wkb_laws.proofs.Lists.{IsWanted, by_list_kind, whole_by, list_behind,
 use Rattle.wkb_laws.proofs.Sound.{passes, is_passed}
 use Rattle.wkb_laws.proofs.Lengths.{coordinate_length, coordinates_length, each_size, each_spelled_length}
 use Rattle.wkb_laws.proofs.Bounds.{wanted_inside, each_long, coordinates_long}
-use Rattle.wkb_laws.proofs.Heads.{count_in}
 use Rattle.wkb_laws.proofs.Bodies.{asked_all, list_body, each_nine, list_turns, list_slots}
 
 pub type_of-type : (t : WkbType) → type_of (type_kind t) (type_dimension t) ≡ t
@@ -101,12 +100,12 @@ head_cut zero rest h short = cond-true (nat_lt (length rest) 4) _ _ (lt-ltb (len
 head_cut (suc zero) rest h short = cond-true (nat_lt (length rest) 4) _ _ (lt-ltb (length rest) 4 short)
 head_cut (suc (suc n)) rest h short = absurd (omega arith)
 
--- the reader of a part, where so many collections more may be opened
-abbrev reader : ℕ → Wanted → List ℕ → Reading Item
+-- the reader of a part, where this number of collections more may be opened
+abbrev pub reader : ℕ → Wanted → List ℕ → Reading Item
 reader room any = geometry_at room
 reader room (part k d) = member_at k d
 
--- what it answers by a head
+-- what it gives by a head
 abbrev read_by : ℕ → Wanted → List ℕ → Result Head Cause → Reading Item
 read_by room any input r = then_body r (λ h. body_at (collection_within room) h.wkb_type (layout_of h) input)
 read_by room (part k d) input r = then_body (layout_wanted k d r) (λ l. member_body k l input)
@@ -159,7 +158,7 @@ module _ {input rest : List ℕ} {order : Endianness} {k : ℕ} {d : Dimension} 
       ap (read_by room (part l e) input) (head_opened o)
       ∙ ap (λ z. then_body z (λ m. member_body l m input)) (cond-false (is_member l e (head_of order k d srid)) _ _ not)
 
--- what stands behind the count of a body, by the kind
+-- what comes after the count of a body, by the kind
 abbrev behind_of : ℕ → ℕ → Layout → List ℕ → ℕ → Reading Item
 behind_of room k l input =
     if k == 2 then
@@ -214,7 +213,7 @@ module _ {room n : ℕ} {w : Wanted} {input rest : List ℕ} {order : Endianness
         behind = ap (drop 4) start ∙ drop_front 4 c.count_field rest four;
       }
 
-  -- what a reader of such parts answers is what stands behind the count
+  -- what a reader of such parts gives is what comes after the count
   counted : IsWanted w → k ≢ 1 → reader room w input ≡ behind_of room k (laid order d srid) input n
   counted good not1 =
       opened c.opens room w good c.allowed.wanted
@@ -235,7 +234,7 @@ list_counted room k l input n low high long =
     (λ fits. cond-false (nat_lt (length input) (multi_point_end l.dimension l.has_srid n)) _ _ (le-ltb _ _ (fits refl)))
     (λ fits. refl) (λ fits. refl) (λ fits. refl) k low high long
 
--- what is answered of so many parts, by what the parts are read as
+-- what is read of n parts, by what each of them is read as
 parts_read : {A : Type 0} (k : ℕ) (l : Layout) (part_at : List ℕ → Reading A) (whole : List A → List ℕ → Item)
     (input rest : List ℕ) (n : ℕ)
     (r : Reading (List A)) → parts_start l.has_srid input ≡ rest → repeated n part_at rest ≡ r
@@ -253,7 +252,7 @@ taken_front x rest =
     let n : length (x ++ rest) - length rest ≡ length x = omega (arith, length-append x rest) in
     ap (λ z. take z (x ++ rest)) n ∙ take_front (length x) x rest refl
 
--- ---- words, coordinates and rings, as they are read at the front of what they stand in
+-- ---- words, coordinates and rings, as they are read at the front of the bytes
 
 coordinate_read : (order : Endianness) (d : Dimension) (c : Coordinate) (x y : List ℕ) → SpellsCoordinate order d c x
     → coordinate order d (x ++ y) ≡ c
@@ -277,7 +276,7 @@ ring_read order d cs x y h =
     (λ c x y is. (coordinate_length order d c x is, coordinate_read order d c x y is)) cs h.rest y h.second in
     record { many = many; is = (λ i. coordinates order d (many i) (behind i)) ∙ read }
 
--- a ring that stands in front is read as its encoding
+-- a ring at the front is read as its encoding
 ring_found : (order : Endianness) (d : Dimension) (ring : List Coordinate) (x rest : List ℕ)
     → SpellsCoordinates order d ring x
     → ring_at order d (x ++ rest) ≡ Ok (x, rest)
@@ -302,7 +301,7 @@ record RingsFound (l : Layout) (rings : List (List Coordinate)) (input rest : Li
       ≡ (record { turns = length rings; slots = 0 }, Ok (encodings, rest))
   pub are : map (ring_in l.order l.dimension) encodings ≡ rings
 
--- so many parts, where the first is refused, and where it is read
+-- n parts, where the first is refused, and where it is read
 module _ {A : Type 0} (part_at : List ℕ → Reading A) (n : ℕ) (input : List ℕ) where
   next_part : Reading A → Reading (List A)
   next_part r =
@@ -320,7 +319,7 @@ module _ {A : Type 0} (part_at : List ℕ → Reading A) (n : ℕ) (input : List
   then_parts rest x c r first others =
       ap next_part first ∙ ap (λ z. costs one_turn (costs c (and_then z (λ xs after. done (x ∷ xs) after)))) others
 
--- the same answer at equal costs
+-- the same outcome at equal costs
 at_cost : {A : Type 0} {r : reading.Outcome A} {a b c d : ℕ} → a ≡ c → b ≡ d
     → ◌≡◌ {A = Reading A} (record { turns = a; slots = b }, r) (record { turns = c; slots = d }, r)
 at_cost {r = r} e f = λ i. (record { turns = e i; slots = f i }, r)
@@ -348,7 +347,8 @@ rings_found l (ring ∷ rings) x rest h =
 
 -- ---- the encoding of a geometry, as its parts are read
 
-srid_read : (order : Endianness) (srid : Option ℕ) (field x y : List ℕ) → IsSrid order srid field
+-- the SRID that is read is that of the field
+pub srid_read : (order : Endianness) (srid : Option ℕ) (field x y : List ℕ) → IsSrid order srid field
     → drop 5 x ≡ field ++ y
     → srid_in order (is_some srid) x ≡ srid
 srid_read order None field x y is e = refl
@@ -397,7 +397,7 @@ whole_is (multi_polygon d l) found low e = ap (multi_polygon d) (held (polygon d
 whole_is (collection d ts) found low e = ap (collection d) e
 whole_is _ found low e = absurd (omega arith)
 
--- a geometry as it is answered
+-- a geometry as it is read
 abbrev pub found : Spelling → Value → List ℕ → List ℕ → Reading Item
 found s t x rest = (
   record { turns = member_count t; slots = listed_count t },
@@ -578,7 +578,7 @@ module _ (room : ℕ) (w : Wanted) (good : IsWanted w) (h : Header) (own : List 
       ∙ (λ i. (cost, Ok (polygon_item l f.encodings (taken_front x rest i), rest)))
       ∙ (λ i. (cost, Ok (record { encoding = x; spelled = spelled i; value = polygon d (f.are i) }, rest)))
 
--- A front is what a reader of such parts answers.
+-- A front is what a reader of such parts gives.
 mutual
   unfolding repeated
 
@@ -664,7 +664,7 @@ rings_refused {order} {d} {input = input} srid
     (rings_refused srid r)
     ∙ at_cost (omega arith) refl
 
--- Each refusal is what a reader of such parts answers, with its turns and its slots.
+-- Each refusal is what a reader of such parts gives, with its turns and its slots.
 mutual
   unfolding point_at head_at
 

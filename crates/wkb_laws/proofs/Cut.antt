@@ -1,18 +1,18 @@
--- A proper beginning of a geometry is refused as an input that ends too early.
+-- A strict prefix of a geometry is refused as an input that ends too early.
 use Rattle.std.proofs.Common.{◌⊎◌, ℕ, ◌+◌, List, [], ◌++◌, length, sym, ap, ◌∙◌, subst, append_assoc, arith, inl, inr}
 use Rattle.std.proofs.Common.{length-append, Bool, append-nil}
-use Rattle.wkb_laws.specs.Words.{Endianness, Dimension, ShortPoint, ShortLineString, ShortLinearRing, ShortMultiPoint}
-use Rattle.wkb_laws.specs.Words.{Begins, Value, listed_count, Spelling}
-use Rattle.wkb_laws.specs.Words.{Wanted, any, Front, FrontWithin, max_nesting, Cause, end_of_input, general}
-use Rattle.wkb_laws.specs.Words.{slots_asked}
-use Rattle.wkb_laws.specs.Words.{Opens, OpensCounted, RefusesRings, later_ring}
-use Rattle.wkb_laws.specs.Words.{Refuses, bad_order_byte, bad_code, wrong_part, too_deep, bad_ring, bad_member}
-use Rattle.wkb_laws.specs.Words.{RefusesEach, this_member, later_member}
+use Rattle.wkb_laws.specs.Prelude.{Endianness, Dimension, ShortPoint, ShortLineString, ShortLinearRing, ShortMultiPoint}
+use Rattle.wkb_laws.specs.Prelude.{Begins, Value, listed_count, Spelling}
+use Rattle.wkb_laws.specs.Prelude.{Wanted, any, Front, FrontWithin, max_nesting, Cause, end_of_input, general}
+use Rattle.wkb_laws.specs.Prelude.{slots_asked}
+use Rattle.wkb_laws.specs.Prelude.{Opens, OpensCounted, RefusesRings, later_ring}
+use Rattle.wkb_laws.specs.Prelude.{Refuses, bad_order_byte, bad_code, wrong_part, too_deep, bad_ring, bad_member}
+use Rattle.wkb_laws.specs.Prelude.{RefusesEach, this_member, later_member}
 use Rattle.wkb_laws.specs.Laws.{HasFront, HasRefusal, EndsTooEarly, CutIsRefused}
 use Rattle.wkb_laws.proofs.OneFront.{one_front_lem}
 use Rattle.wkb_laws.proofs.Outcomes.{read_or_refused_lem, never_both_lem}
 
--- what stands at the front stands there with more bytes behind
+-- what is at the front is there with more bytes after it
 begins_more : {P : List ℕ → Type 0} {input rest : List ℕ} (y : List ℕ) → Begins P input rest
     → Begins P (input ++ y) (rest ++ y)
 begins_more {rest = rest} y b =
@@ -30,8 +30,8 @@ opens_more y o =
       meaning = o.meaning;
     }
 
-counts_more : {room : ℕ} {w : Wanted} {input rest : List
-    ℕ} {order : Endianness} {k : ℕ} {d : Dimension} {n : ℕ} {srid : Bool} (y : List ℕ)
+counts_more : {room : ℕ} {w : Wanted} {input rest : List ℕ} {order : Endianness} {k : ℕ} {d : Dimension} {n : ℕ}
+    {srid : Bool} (y : List ℕ)
     → OpensCounted room w input order k d srid n rest → OpensCounted room w (input ++ y) order k d srid n (rest ++ y)
 counts_more {input = input} {rest = rest} {order = order} {k = k} {d = d} {srid = srid} y c = record {
   srid_field = c.srid_field;
@@ -60,7 +60,7 @@ rings_cut : {order : Endianness} {d : Dimension} {n : ℕ} {input : List ℕ} {c
 rings_cut (later_ring ring b h) = rings_cut h
 rings_cut _ = tt
 
--- A refusal for another reason than an early end stays, with its turns, whatever comes behind.
+-- A refusal for another reason than an early end stays, with its turns, whatever follows.
 mutual
   lasts : {room : ℕ} {w : Wanted} {input : List ℕ} {cause : Cause} {begun slots : ℕ}
       → Refuses room w input cause begun slots → (y : List ℕ) → (EndsTooEarly cause → ⊥)

@@ -4,16 +4,16 @@ use Rattle.std.proofs.Common.{sym, subst}
 use Rattle.std.proofs.Math.Nat.{mod-lt}
 use Rattle.std.specs.Int.{byte_at, bytes_high_first, bytes_low_first}
 use Rattle.std.specs.List.{flat_map}
-use Rattle.wkb_laws.specs.Words.{Endianness, BigEndian, LittleEndian, Dimension, Xy, Form, AreBytes, order_byte}
-use Rattle.wkb_laws.specs.Words.{number_bytes, Coordinate, Value, Spelling}
-use Rattle.wkb_laws.specs.Words.{Spells, Geometry, Geometries, no_geometries, geometry, geometry_of, encoding}
-use Rattle.wkb_laws.specs.Words.{encodings}
-use Rattle.wkb_laws.specs.Words.{form_srid, inner, IsForm, srid_encoding}
-use Rattle.wkb_laws.specs.Words.{header_encoding, words_encoding, coordinates_encoding, point_words, point_encoding}
-use Rattle.wkb_laws.specs.Words.{line_string_encoding}
-use Rattle.wkb_laws.specs.Words.{polygon_encoding}
-use Rattle.wkb_laws.specs.Words.{members_encoding, written_dimension, rectangle_ring, triangle_ring, line, rectangle}
-use Rattle.wkb_laws.specs.Words.{triangle}
+use Rattle.wkb_laws.specs.Prelude.{Endianness, BigEndian, LittleEndian, Dimension, Xy, Form, AreBytes, order_byte}
+use Rattle.wkb_laws.specs.Prelude.{number_bytes, Coordinate, Value, Spelling}
+use Rattle.wkb_laws.specs.Prelude.{Spells, Geometry, Geometries, no_geometries, geometry, geometry_of, encoding}
+use Rattle.wkb_laws.specs.Prelude.{encodings}
+use Rattle.wkb_laws.specs.Prelude.{form_srid, inner, IsForm, srid_encoding}
+use Rattle.wkb_laws.specs.Prelude.{header_encoding, words_encoding, coordinates_encoding, point_words, point_encoding}
+use Rattle.wkb_laws.specs.Prelude.{line_string_encoding}
+use Rattle.wkb_laws.specs.Prelude.{polygon_encoding}
+use Rattle.wkb_laws.specs.Prelude.{members_encoding, written_dimension, rectangle_ring, triangle_ring, line, rectangle}
+use Rattle.wkb_laws.specs.Prelude.{triangle}
 use Rattle.wkb_geom.specs.Geometries.{point, line_string, polygon, multi_point, multi_line_string, multi_polygon}
 use Rattle.wkb_geom.specs.Geometries.{collection}
 use Rattle.wkb_laws.specs.Written.{written}

@@ -10,24 +10,24 @@ use Rattle.std.proofs.Math.Bool.{or-false}
 use Rattle.byteorder.specs.Numbers.{big_number-reads_back, little_number-reads_back, length-bytes_high_first}
 use Rattle.byteorder.specs.Numbers.{length-bytes_low_first}
 use Rattle.byteorder.specs.Endian.{big_number, little_number}
-use Rattle.wkb_laws.specs.Words.{Endianness, BigEndian, LittleEndian, Dimension, Xy, Form, Iso, Ewkb, number, IsNumber}
-use Rattle.wkb_laws.specs.Words.{number_bytes, has_z, has_m, Code}
-use Rattle.wkb_laws.specs.Words.{form_srid, code_of, Xyzm, Dimensions, IsWord, all_nan, empty_word, width}
-use Rattle.wkb_laws.specs.Words.{written_dimension, IsEach, IsCounted, Coordinate}
-use Rattle.wkb_laws.specs.Words.{Value, each, kind, dimension, members, count, Spelling, node, Spellings, no_spellings}
-use Rattle.wkb_laws.specs.Words.{IsHeader, IsSrid, SpellsCoordinate}
-use Rattle.wkb_laws.specs.Words.{SpellsCoordinates, SpellsBody, Wanted, any, part, member_part, IsPart, has_srid}
-use Rattle.wkb_laws.specs.Words.{Spells}
-use Rattle.wkb_laws.specs.Words.{SpellsEach, Geometry, line, rectangle}
-use Rattle.wkb_laws.specs.Words.{triangle, Geometries, no_geometries, geometry, IsGeometry, AreGeometries}
-use Rattle.wkb_laws.specs.Words.{rectangle_ring, triangle_ring, normal_point, normal}
-use Rattle.wkb_laws.specs.Words.{normal_each, point_words, inner, srid_encoding, header_encoding, words_encoding}
-use Rattle.wkb_laws.specs.Words.{coordinates_encoding}
-use Rattle.wkb_laws.specs.Words.{point_encoding, line_string_encoding}
-use Rattle.wkb_laws.specs.Words.{polygon_encoding, members_encoding, count_geometries, encoding, encodings, or_else}
-use Rattle.wkb_laws.specs.Words.{dimensions_fault}
-use Rattle.wkb_laws.specs.Words.{count_fault, first_fault}
-use Rattle.wkb_laws.specs.Words.{coordinates_fault, rings_fault, fault, fault_each, IsForm, Fault, count_overflow}
+use Rattle.wkb_laws.specs.Prelude.{Endianness, BigEndian, LittleEndian, Dimension, Xy, Form, Iso, Ewkb, number, IsNumber}
+use Rattle.wkb_laws.specs.Prelude.{number_bytes, has_z, has_m, Code}
+use Rattle.wkb_laws.specs.Prelude.{form_srid, code_of, Xyzm, Dimensions, IsWord, all_nan, empty_word, width}
+use Rattle.wkb_laws.specs.Prelude.{written_dimension, IsEach, IsCounted, Coordinate}
+use Rattle.wkb_laws.specs.Prelude.{Value, each, kind, dimension, members, count, Spelling, node, Spellings, no_spellings}
+use Rattle.wkb_laws.specs.Prelude.{IsHeader, IsSrid, SpellsCoordinate}
+use Rattle.wkb_laws.specs.Prelude.{SpellsCoordinates, SpellsBody, Wanted, any, part, member_part, IsPart, has_srid}
+use Rattle.wkb_laws.specs.Prelude.{Spells}
+use Rattle.wkb_laws.specs.Prelude.{SpellsEach, Geometry, line, rectangle}
+use Rattle.wkb_laws.specs.Prelude.{triangle, Geometries, no_geometries, geometry, IsGeometry, AreGeometries}
+use Rattle.wkb_laws.specs.Prelude.{rectangle_ring, triangle_ring, normal_point, normal}
+use Rattle.wkb_laws.specs.Prelude.{normal_each, point_words, inner, srid_encoding, header_encoding, words_encoding}
+use Rattle.wkb_laws.specs.Prelude.{coordinates_encoding}
+use Rattle.wkb_laws.specs.Prelude.{point_encoding, line_string_encoding}
+use Rattle.wkb_laws.specs.Prelude.{polygon_encoding, members_encoding, count_geometries, encoding, encodings, or_else}
+use Rattle.wkb_laws.specs.Prelude.{dimensions_fault}
+use Rattle.wkb_laws.specs.Prelude.{count_fault, first_fault}
+use Rattle.wkb_laws.specs.Prelude.{coordinates_fault, rings_fault, fault, fault_each, IsForm, Fault, count_overflow}
 use Rattle.wkb_geom.specs.Values as value
 use Rattle.wkb_geom.proofs.Codes.{flag-bit, bit-most, thousands-most}
 use Rattle.wkb_geom.specs.Geometries.{point, line_string, polygon, multi_point, multi_line_string, multi_polygon}
@@ -287,7 +287,7 @@ rectangle_fits l g h k = (
   (corner_fits l g 0 1 h k, (corner_fits g g 0 1 k k, (corner_fits g l 0 1 k h, (corner_fits l l 0 1 h h, tt)))),
 )
 
--- the members behind a map
+-- the members after a map
 each-map : {A B : Type 0} (f : B → Value) (g : A → B) (l : List A) → each f (map g l) ≡ each (λ a. f (g a)) l
 each-map f g [] = refl
 each-map f g (a ∷ l) = ap (value.member (f (g a))) (each-map f g l)

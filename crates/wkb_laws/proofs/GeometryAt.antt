@@ -1,6 +1,6 @@
--- Reading from left to right answers exactly the fronts and the refusals, at bounded costs.
+-- Reading from left to right gives exactly the fronts and the refusals, at bounded costs.
 use Rattle.std.proofs.Common.{ℕ, ◌+◌, ◌*◌, ◌≤◌, List, length, refl, arith, Ok, Err}
-use Rattle.wkb_laws.specs.Words.{any, max_nesting, Reading, Item}
+use Rattle.wkb_laws.specs.Prelude.{any, max_nesting, Reading, Item}
 use Rattle.wkb_laws.specs.Laws.{Agrees, GeometryAgrees, FrontIsRead, RefusalIsRead, ReadingIsBounded}
 use Rattle.wkb_laws.proofs.Bounds.{front_is_bounded_lem, refusal_is_bounded_lem}
 use Rattle.wkb_laws.proofs.Heads.{IsRight}

@@ -6,17 +6,17 @@ use Rattle.std.proofs.Common.{length-take-le, drop-drop, ltb-true}
 use Rattle.std.proofs.Common.{ltb-false}
 use Rattle.std.proofs.lemmas.Bool.{cond_both}
 use Rattle.std.proofs.lemmas.List.{drop-append-le}
-use Rattle.wkb_laws.specs.Words.{Endianness, BigEndian, LittleEndian, Dimension, Head, Layout, Cause, number}
-use Rattle.wkb_laws.specs.Words.{order_byte, Code, Begins, Value, kind, dimension}
-use Rattle.wkb_laws.specs.Words.{members, nest, member_count, listed_count, Header, IsHeader, IsSrid, Spellings}
-use Rattle.wkb_laws.specs.Words.{SpellsBody, Spells, SpellsEach, Wanted}
-use Rattle.wkb_laws.specs.Words.{member_part, IsPart, has_srid, srid_size, Opens, IsAllowed, OpensCounted, Refuses}
-use Rattle.wkb_laws.specs.Words.{no_order_byte, bad_order_byte, no_code, bad_code}
-use Rattle.wkb_laws.specs.Words.{no_count, Cost, Reading, Item, type_kind, layout_of, body_start, parts_start, head_at}
-use Rattle.wkb_laws.specs.Words.{head_by_order, head_by_code, with_count}
-use Rattle.wkb_laws.specs.Words.{srid_in, spelled_in}
+use Rattle.wkb_laws.specs.Prelude.{Endianness, BigEndian, LittleEndian, Dimension, Head, Layout, Cause, number}
+use Rattle.wkb_laws.specs.Prelude.{order_byte, Code, Begins, Value, kind, dimension}
+use Rattle.wkb_laws.specs.Prelude.{members, nest, member_count, listed_count, Header, IsHeader, IsSrid, Spellings}
+use Rattle.wkb_laws.specs.Prelude.{SpellsBody, Spells, SpellsEach, Wanted}
+use Rattle.wkb_laws.specs.Prelude.{member_part, IsPart, has_srid, srid_size, Opens, IsAllowed, OpensCounted, Refuses}
+use Rattle.wkb_laws.specs.Prelude.{no_order_byte, bad_order_byte, no_code, bad_code}
+use Rattle.wkb_laws.specs.Prelude.{no_count, Cost, Reading, Item, type_kind, layout_of, body_start, parts_start, head_at}
+use Rattle.wkb_laws.specs.Prelude.{head_by_order, head_by_code, with_count}
+use Rattle.wkb_laws.specs.Prelude.{srid_in, spelled_in, count_in}
 use Rattle.wkb_geom.proofs.Meanings.{meaning_holds}
-use Rattle.wkb_laws.proofs.Parts.{number-more, number_begins, begins_number, number-take, length-opens}
+use Rattle.wkb_laws.proofs.Parts.{number-more, number_begins, begins_number, field_taken, length-opens}
 
 -- what a reading says of the input: a front with its counts, or the refusal with its counts
 pub record ItemIs (room : ℕ) (w : Wanted) (input : List ℕ) (i : Item) (rest : List ℕ) (cost : Cost) : Type 0 where
@@ -37,11 +37,11 @@ pub refused_as : {room : ℕ} {w : Wanted} {input : List ℕ} {cause : Cause} {a
     → Refuses room w input cause c d
 refused_as {room} {w} {input} {cause} e f r = subst (λ T. T) (λ i. Refuses room w input cause (e i) (f i)) r
 
--- the input opens with a geometry of this kind, laid out so
+-- the input opens with a geometry of this kind and this layout
 abbrev pub Opened : List ℕ → ℕ → Layout → Type 0
 Opened input k l = Opens input l.order k l.dimension l.has_srid (drop 5 input)
 
--- the opening that a head tells
+-- the opening that a head gives
 abbrev pub OpensAs : List ℕ → Head → Type 0
 OpensAs input h = Opened input (type_kind h.wkb_type) (layout_of h)
 
@@ -70,10 +70,6 @@ module _ (room : ℕ) (w : Wanted) where
   head_says (suc zero ∷ behind) Q bad good = head_by LittleEndian 1 behind Q refl (omega arith) bad good
   head_says (suc (suc n) ∷ behind) Q bad good = bad _ (bad_order_byte (omega arith))
 
--- the count of an input that is laid out so
-abbrev pub count_in : Layout → List ℕ → ℕ
-count_in l input = number l.order 4 (drop (body_start l.has_srid) input)
-
 module _ (room : ℕ) (w : Wanted) (input : List ℕ) (k : ℕ) (l : Layout) (o : Opened input k l)
     (allowed : IsAllowed room w k l.dimension l.has_srid) where
   -- the bytes with an allowed opening, an SRID and a count
@@ -92,7 +88,7 @@ module _ (room : ℕ) (w : Wanted) (input : List ℕ) (k : ℕ) (l : Layout) (o 
         opens = subst (λ z. Opens input l.order k l.dimension l.has_srid z) cut o;
         allowed = allowed;
         srid_len = length-take-le size (drop 5 input) (omega (arith, length-drop 5 input));
-        number = number-take l.order 4 c (omega (arith, length-drop (body_start l.has_srid) input));
+        number = field_taken l.order 4 c (omega (arith, length-drop (body_start l.has_srid) input));
       }
 
   -- with a count that is whole, or not
@@ -122,7 +118,7 @@ has_srid_in order false x = refl
 
 srid_is : (order : Endianness) (srid : Bool) (x : List ℕ) → srid_size srid ≤ length (drop 5 x)
     → IsSrid order (srid_in order srid x) (take (srid_size srid) (drop 5 x))
-srid_is order true x h = number-take order 4 (drop 5 x) h
+srid_is order true x h = field_taken order 4 (drop 5 x) h
 srid_is order false x h = refl
 
 encoding_head : (input x rest : List ℕ) (k : ℕ) (d : Dimension) (l : Layout)
@@ -159,7 +155,7 @@ encoding_head input (a ∷ y) rest k d l o e long =
       };
     }
 
--- Where an encoding stands behind the opening, in front of the rest, and its body spells a value, the encoding is that
+-- Where an encoding follows the opening, before the rest, and its body spells a value, the encoding is that
 -- value's.
 pub item_is : (room : ℕ) (w : Wanted) (input x rest : List ℕ) (l : Layout) (own : List ℕ) (ss : Spellings) (t : Value)
     (b m : List ℕ) (cost : Cost)

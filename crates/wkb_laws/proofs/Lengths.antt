@@ -4,15 +4,15 @@ use Rattle.std.proofs.Common.{refl, sym, ap, ◌∙◌, arith, length-append}
 use Rattle.std.proofs.Common.{sum_by, is_some, if◌then◌else◌, nat_lt, lt-ltb}
 use Rattle.std.proofs.lemmas.List.Sums.{sum_by-cons}
 use Rattle.std.proofs.lemmas.Bool.{cond-true}
-use Rattle.wkb_laws.specs.Words.{Endianness, Dimension, Xy, Form, Iso, Ewkb, AreBytes, IsNumber, width, IsEach}
-use Rattle.wkb_laws.specs.Words.{Coordinate, Value, point, line_string, polygon}
-use Rattle.wkb_laws.specs.Words.{multi_point, multi_line_string, multi_polygon, collection, Values, no_members, member}
-use Rattle.wkb_laws.specs.Words.{kind, dimension, members, header}
-use Rattle.wkb_laws.specs.Words.{Spelling, node, Spellings, no_spellings, spelling, SpellsCoordinate, SpellsCoordinates}
-use Rattle.wkb_laws.specs.Words.{SpellsBody, Wanted, member_part, Spells}
-use Rattle.wkb_laws.specs.Words.{SpellsEach, srid_count, srid_count_each, Front, srid_size, Geometry, IsGeometry}
-use Rattle.wkb_laws.specs.Words.{normal, geometry_of, or_else, size_fault}
-use Rattle.wkb_laws.specs.Words.{form_srid, inner, encoding, fault, refusal, IsForm, IsWritable}
+use Rattle.wkb_laws.specs.Prelude.{Endianness, Dimension, Xy, Form, Iso, Ewkb, AreBytes, IsNumber, width, IsEach}
+use Rattle.wkb_laws.specs.Prelude.{Coordinate, Value, point, line_string, polygon}
+use Rattle.wkb_laws.specs.Prelude.{multi_point, multi_line_string, multi_polygon, collection, Values, no_members, member}
+use Rattle.wkb_laws.specs.Prelude.{kind, dimension, members, header}
+use Rattle.wkb_laws.specs.Prelude.{Spelling, node, Spellings, no_spellings, spelling, SpellsCoordinate, SpellsCoordinates}
+use Rattle.wkb_laws.specs.Prelude.{SpellsBody, Wanted, member_part, Spells}
+use Rattle.wkb_laws.specs.Prelude.{SpellsEach, srid_count, srid_count_each, Front, srid_size, Geometry, IsGeometry}
+use Rattle.wkb_laws.specs.Prelude.{normal, geometry_of, or_else, size_fault}
+use Rattle.wkb_laws.specs.Prelude.{form_srid, inner, encoding, fault, refusal, IsForm, IsWritable}
 use Rattle.wkb_laws.specs.Written.{written, HasOptions, AllHaveOptions}
 use Rattle.wkb_laws.specs.Encodings.{IsRewritable, SpelledIsWritable}
 use Rattle.wkb_laws.specs.Laws.{LengthOfEncoding, LengthOfFront, FrontIsWritable, EwkbIsWritable, SizeIsRefused}
@@ -23,7 +23,7 @@ use Rattle.wkb_laws.proofs.EncodingSpells.{inner_fits, encoding_spells, written_
 use Rattle.wkb_laws.proofs.Values.{Good, spelled_good, front_good, front_bytes, outer_fits, normal-geometry_of}
 use Rattle.wkb_laws.proofs.Values.{lawful-geometry_of}
 
--- the bytes of a ring behind its four bytes of count
+-- the bytes of a ring after its four bytes of count
 abbrev coordinates_size : Dimension → List Coordinate → ℕ
 coordinates_size d cs = 4 + 8 * width d * length cs
 
@@ -169,7 +169,7 @@ pub length_of_front_lem : LengthOfFront
 length_of_front_lem order input s t rest b f =
     spelled_written order s t f.front (front_bytes input s t rest b f) f.spelled
 
--- what is refused of a good value is its length alone
+-- a good value is refused for its length only
 size_refused : (order : Endianness) (form : Form) (t : Value) → Good t
     → refusal order form (geometry_of t) ≡ size_fault (length (encoding order form (geometry_of t)))
 unfolding or_else

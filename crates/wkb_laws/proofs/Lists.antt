@@ -4,10 +4,10 @@ use Rattle.std.proofs.Common.{◌<◌, ◌≤◌, ◌==◌, ◌&&◌, nat_lt}
 use Rattle.std.proofs.Common.{if◌then◌else◌}
 use Rattle.std.proofs.lemmas.List.Sums.{sum_by-cons}
 use Rattle.std.specs.List.{AllByRecursion}
-use Rattle.wkb_laws.specs.Words.{Values, no_members, member, Value, each, count, Dimension, Layout, general}
-use Rattle.wkb_laws.specs.Words.{ShortMultiPoint, Wanted, any, part, multi_point_end}
-use Rattle.wkb_laws.specs.Words.{Reading, Item, collection_with, list_item, multi_line_string_with, multi_point_with}
-use Rattle.wkb_laws.specs.Words.{multi_polygon_with, parts_body, refused}
+use Rattle.wkb_laws.specs.Prelude.{Values, no_members, member, Value, each, count, Dimension, Layout, general}
+use Rattle.wkb_laws.specs.Prelude.{ShortMultiPoint, Wanted, any, part, multi_point_end}
+use Rattle.wkb_laws.specs.Prelude.{Reading, Item, collection_with, list_item, multi_line_string_with, multi_point_with}
+use Rattle.wkb_laws.specs.Prelude.{multi_polygon_with, parts_body, refused}
 
 -- what follows for one follows for all
 pub all_imply : {A : Type 0} (P Q : A → Type 0) → ((a : A) → P a → Q a) → (l : List A) → AllByRecursion P l
@@ -49,7 +49,7 @@ whole_by k =
     if k == 4 then multi_point_with else if k == 5 then multi_line_string_with else if k == 6 then multi_polygon_with
     else collection_with
 
--- what stands behind the count of a list of members
+-- what comes after the count of a list of members
 abbrev pub list_behind : ℕ → Layout → (List ℕ → Reading Item) → List ℕ → ℕ → Reading Item
 list_behind k l part_at input n =
     let end = multi_point_end l.dimension l.has_srid n in

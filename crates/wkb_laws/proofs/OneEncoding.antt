@@ -4,13 +4,13 @@ use Rattle.std.proofs.Common.{refl, sym, ap, subst, ◌∙◌, arith, ◌/◌}
 use Rattle.std.proofs.lemmas.Nat.{div-mul-add}
 use Rattle.byteorder.specs.Endian.{big_from, little_from}
 use Rattle.byteorder.specs.Numbers.{big_from-cons, little_from-cons, big_from-lt}
-use Rattle.wkb_laws.specs.Words.{Endianness, BigEndian, LittleEndian, Dimension, AreBytes, IsNumber, number, order_byte}
-use Rattle.wkb_laws.specs.Words.{Then, IsEach, IsCounted, Coordinate}
-use Rattle.wkb_laws.specs.Words.{Value, Values, point, line_string, polygon, no_members, member, kind, dimension}
-use Rattle.wkb_laws.specs.Words.{members, Header, Spelling, node, Spellings}
-use Rattle.wkb_laws.specs.Words.{no_spellings, spelling, IsHeader, IsSrid, SpellsCoordinate, SpellsCoordinates}
-use Rattle.wkb_laws.specs.Words.{SpellsBody, Wanted, member_part, Spells}
-use Rattle.wkb_laws.specs.Words.{SpellsEach}
+use Rattle.wkb_laws.specs.Prelude.{Endianness, BigEndian, LittleEndian, Dimension, AreBytes, IsNumber, number, order_byte}
+use Rattle.wkb_laws.specs.Prelude.{Then, IsEach, IsCounted, Coordinate}
+use Rattle.wkb_laws.specs.Prelude.{Value, Values, point, line_string, polygon, no_members, member, kind, dimension}
+use Rattle.wkb_laws.specs.Prelude.{members, Header, Spelling, node, Spellings}
+use Rattle.wkb_laws.specs.Prelude.{no_spellings, spelling, IsHeader, IsSrid, SpellsCoordinate, SpellsCoordinates}
+use Rattle.wkb_laws.specs.Prelude.{SpellsBody, Wanted, member_part, Spells}
+use Rattle.wkb_laws.specs.Prelude.{SpellsEach}
 use Rattle.wkb_laws.specs.Places.{HasOneEncoding, HaveOneEncoding, CoordinateHasOneEncoding}
 use Rattle.wkb_laws.proofs.Values.{AreBytes-front, AreBytes-rest}
 
@@ -101,7 +101,7 @@ header_fixed g n d = record {
       a.whole ∙ ap (λ (t : List ℕ). order_byte g.order ∷ t) fields ∙ sym b.whole;
 }
 
--- what stands behind another fact, where that says nothing of the bytes
+-- what follows another fact, where that says nothing of the bytes
 beside : {F : Type 0} {P : List ℕ → Type 0} → Fixed P → Fixed (λ x. F × P x)
 beside one = record { same = λ x y a b h k. one.same x y a.1 b.1 h k }
 

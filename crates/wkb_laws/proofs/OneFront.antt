@@ -1,6 +1,6 @@
 -- At most one front.
 use Rattle.std.proofs.Common.{◌≡◌, ℕ, max, List, ◌++◌, sym, ap, ◌∙◌, arith}
-use Rattle.wkb_laws.specs.Words.{Value, nest, Spelling, Spells, any, Item, geometry_at}
+use Rattle.wkb_laws.specs.Prelude.{Value, nest, Spelling, Spells, any, Item, geometry_at}
 use Rattle.wkb_geom.specs.Reading as reading
 use Rattle.wkb_laws.specs.Laws.{HasOneFront}
 use Rattle.wkb_laws.proofs.Complete.{found, front_at}

@@ -1,10 +1,10 @@
 -- Every input has a front or exactly one refusal, and never both.
 use Rattle.std.proofs.Common.{◌≡◌, ◌⊎◌, ℕ, suc, ◌+◌, ◌≤◌, List, ◌++◌, refl, sym, ap, ◌∙◌, subst, arith, inl, inr, Ok}
 use Rattle.std.proofs.Common.{Err}
-use Rattle.wkb_laws.specs.Words.{Values, no_members, member, count, nest_each, member_count_each, Spellings}
-use Rattle.wkb_laws.specs.Words.{no_spellings, spelling, Wanted, any, SpellsEach}
-use Rattle.wkb_laws.specs.Words.{Cause, room_inside, Refuses, bad_member, RefusesEach, this_member, later_member}
-use Rattle.wkb_laws.specs.Words.{Reading, Item}
+use Rattle.wkb_laws.specs.Prelude.{Values, no_members, member, count, nest_each, member_count_each, Spellings}
+use Rattle.wkb_laws.specs.Prelude.{no_spellings, spelling, Wanted, any, SpellsEach}
+use Rattle.wkb_laws.specs.Prelude.{Cause, room_inside, Refuses, bad_member, RefusesEach, this_member, later_member}
+use Rattle.wkb_laws.specs.Prelude.{Reading, Item}
 use Rattle.wkb_geom.specs.Reading as reading
 use Rattle.wkb_laws.specs.Laws.{Agrees, HasFront, HasRefusal, ReadOrRefused, NeverBoth, OneRefusal, listed_inside}
 use Rattle.wkb_laws.specs.Laws.{RefusedOutward}
@@ -32,7 +32,7 @@ one_refusal_lem input cause other turns turns' slots slots' r q =
     let answers : ◌≡◌ {A = reading.Outcome Item} (Err cause) (Err other) = ap (λ z. z.1) same in
     (cc, ap (λ z. z.0.turns) same, ap (λ z. z.0.slots) same)
 
--- a refused member behind some that are spelled
+-- a refused member after some that are spelled
 refused_behind : (room : ℕ) (w : Wanted) (more : ℕ) (ss : Spellings) (ts : Values) (input x rest : List ℕ) (c : Cause)
     (b z : ℕ)
     → input ≡ x ++ rest → SpellsEach w ss ts x → nest_each ts ≤ room → Refuses room w rest c b z

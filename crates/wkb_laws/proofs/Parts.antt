@@ -1,14 +1,14 @@
--- The front of a list, what is read there, and what stands in front of a body.
+-- The front of a list, what is read there, and what comes before a body.
 use Rattle.std.proofs.Common.{slice_get, Some, drop-drop, ◌≡◌, ℕ, zero, suc, ◌+◌, ◌*◌, ◌≤◌, List, [], ◌∷◌, ◌++◌}
 use Rattle.std.proofs.Common.{append_assoc, length, take, drop, refl, sym}
 use Rattle.std.proofs.Common.{ap, ◌∙◌, subst, arith, length-drop, length-append, take-append-drop, length-take-le}
 use Rattle.std.proofs.Common.{take-add, Option, None, Bool, is_some}
 use Rattle.std.proofs.Math.Seq.{take-append_seam, drop-append_seam}
 use Rattle.byteorder.specs.Numbers.{big_from-append, little_from-append}
-use Rattle.wkb_laws.specs.Words.{Then, Endianness, BigEndian, LittleEndian, IsNumber, number, IsEach, Begins, Dimension}
-use Rattle.wkb_laws.specs.Words.{Header, IsHeader, IsSrid, srid_size}
-use Rattle.wkb_laws.specs.Words.{Opens}
-use Rattle.wkb_geom.specs.Items.{number-take as number_taken}
+use Rattle.wkb_laws.specs.Prelude.{Then, Endianness, BigEndian, LittleEndian, IsNumber, number, IsEach, Begins, Dimension}
+use Rattle.wkb_laws.specs.Prelude.{Header, IsHeader, IsSrid, srid_size}
+use Rattle.wkb_laws.specs.Prelude.{Opens}
+use Rattle.wkb_geom.specs.Items.{number-take}
 pub use Rattle.wkb_geom.specs.Reading.{items}
 
 -- how long an encoding of two parts is, and what it is in front of others
@@ -34,9 +34,10 @@ number-more LittleEndian n x y h = little_from-append n x y h
 pub number-front : (order : Endianness) (n v : ℕ) (x y : List ℕ) → IsNumber order n v x → number order n (x ++ y) ≡ v
 number-front order n v x y h = number-more order n x y (omega (arith, h.len)) ∙ h.value
 
-pub number-take : (order : Endianness) (n : ℕ) (y : List ℕ) → n ≤ length y
+-- the first n bytes are the field of the number that is read off them
+pub field_taken : (order : Endianness) (n : ℕ) (y : List ℕ) → n ≤ length y
     → IsNumber order n (number order n y) (take n y)
-number-take order n y h = record { len = length-take-le n y h; value = number_taken order n n y (omega arith) }
+field_taken order n y h = record { len = length-take-le n y h; value = number-take order n n y (omega arith) }
 
 -- where an input begins with a field, the number and the rest
 pub begins_number : (order : Endianness) (n v : ℕ) (input rest : List ℕ) → Begins (IsNumber order n v) input rest
@@ -51,7 +52,7 @@ begins_number order n v input rest b =
 pub number_begins : (order : Endianness) (n : ℕ) (input : List ℕ) → n ≤ length input
     → Begins (IsNumber order n (number order n input)) input (drop n input)
 number_begins order n input h =
-    record { front = take n input; whole = sym (take-append-drop n input); first = number-take order n input h }
+    record { front = take n input; whole = sym (take-append-drop n input); first = field_taken order n input h }
 
 -- Where each item is read off its bytes, so are n of them.
 pub items_are : {A : Type 0} (P : A → List ℕ → Type 0) (size : ℕ) (item : List ℕ → A)

@@ -1,13 +1,13 @@
--- The parts of a geometry in its bytes, where they stand.
+-- The parts of a geometry at their places in its bytes.
 use Rattle.std.proofs.Common.{◌≡◌, ℕ, zero, suc, ◌+◌, ◌*◌, List, [], ◌∷◌, ◌++◌, length, take, drop, Some, refl, sym, ap}
 use Rattle.std.proofs.Common.{subst, ◌∙◌, append_assoc}
 use Rattle.std.proofs.Common.{length-append, arith, slice_get, is_some, drop-drop}
-use Rattle.wkb_laws.specs.Words.{Then, Endianness, Dimension, number, width, IsEach, Coordinate, Value, Values, point}
-use Rattle.wkb_laws.specs.Words.{line_string, polygon, no_members, member}
-use Rattle.wkb_laws.specs.Words.{kind, dimension, members, count, Header, Spelling, node, Spellings, no_spellings}
-use Rattle.wkb_laws.specs.Words.{spelling, header, IsHeader}
-use Rattle.wkb_laws.specs.Words.{SpellsCoordinates, SpellsBody, Wanted, any, member_part, Spells, SpellsEach, srid_size}
-use Rattle.wkb_laws.specs.Words.{ring_end, coordinate, AreBytes}
+use Rattle.wkb_laws.specs.Prelude.{Then, Endianness, Dimension, number, width, IsEach, Coordinate, Value, Values, point}
+use Rattle.wkb_laws.specs.Prelude.{line_string, polygon, no_members, member}
+use Rattle.wkb_laws.specs.Prelude.{kind, dimension, members, count, Header, Spelling, node, Spellings, no_spellings}
+use Rattle.wkb_laws.specs.Prelude.{spelling, header, IsHeader}
+use Rattle.wkb_laws.specs.Prelude.{SpellsCoordinates, SpellsBody, Wanted, any, member_part, Spells, SpellsEach, srid_size}
+use Rattle.wkb_laws.specs.Prelude.{ring_end, coordinate, AreBytes}
 use Rattle.wkb_laws.specs.Encodings.{spelled_size}
 use Rattle.wkb_laws.specs.Places.{behind_count, IsOneOf, IsMember, first_spellings, first_values, ring_start, StandsAt}
 use Rattle.wkb_laws.specs.Places.{first_size, NextStart, HoldsMember, MembersStand, HoldsRing}
@@ -24,7 +24,7 @@ head_len : (g : Header) (k : ℕ) (d : Dimension) (header count : List ℕ) → 
     → length (header ++ count) ≡ 9 + srid_size (is_some g.srid)
 head_len g k d header count h four = omega (arith, length-append header count, header_length g k d header h, four)
 
--- ---- items one behind another
+-- ---- items one after another
 
 -- the encoding of one item among those of others
 record Among (Others P : List ℕ → Type 0) (bytes : List ℕ) : Type 0 where
@@ -36,7 +36,7 @@ record Among (Others P : List ℕ → Type 0) (bytes : List ℕ) : Type 0 where
   pub is : P item
 
 module _ {P Q Others : List ℕ → Type 0} {bytes : List ℕ} (h : Then P Q bytes) where
-  -- the first item, and one behind it
+  -- the first item, and one after it
   first_is : {R : List ℕ → Type 0} → R h.front → Others [] → Among Others R bytes
   first_is is others = record { before = []; item = h.front; after = h.rest; whole = h.whole; others = others; is = is }
 

@@ -1,7 +1,7 @@
 -- Values and outermost SRIDs are equal exactly where their encodings are.
 use Rattle.std.proofs.Common.{◌≡◌, ℕ, List, [], ◌++◌, refl, sym, ap, ◌∙◌, subst, append-nil}
-use Rattle.wkb_laws.specs.Words.{Endianness, Form, Ewkb, AreBytes, Value, Spelling, node, header, Spells, Front}
-use Rattle.wkb_laws.specs.Words.{geometry_of, form_srid, encoding, IsForm}
+use Rattle.wkb_laws.specs.Prelude.{Endianness, Form, Ewkb, AreBytes, Value, Spelling, node, header, Spells, Front}
+use Rattle.wkb_laws.specs.Prelude.{geometry_of, form_srid, encoding, IsForm}
 use Rattle.wkb_laws.specs.Written.{written, HasOptions}
 use Rattle.wkb_laws.specs.Encodings.{EqualSpelled, EqualSpelledWithSrid}
 use Rattle.wkb_laws.specs.Laws.{EncodingSpells, WrittenIsRead, WritableIsRead, EqualEncodings}

@@ -4,22 +4,22 @@ use Rattle.std.proofs.Common.{◌≡◌, ℕ, zero, suc, ◌+◌, ◌*◌, List,
 use Rattle.std.proofs.Common.{Some, None, Bool, true, false, refl, sym}
 use Rattle.std.proofs.Common.{ap, subst, Ok, Err, ◌&&◌}
 use Rattle.std.specs.List.{AllByRecursion}
-use Rattle.wkb_laws.specs.Words.{Coordinate, Dimension, Xy, Xyz, Xyzm, Endianness, BigEndian, LittleEndian, Form, Iso}
-use Rattle.wkb_laws.specs.Words.{Ewkb, CodeOutOfRange, InvalidByteOrder}
-use Rattle.wkb_laws.specs.Words.{ShortPoint, ShortLineString, ShortLinearRing, ShortMultiPoint, number, number_bytes}
-use Rattle.wkb_laws.specs.Words.{Value, kind, dimension, member_count}
-use Rattle.wkb_laws.specs.Words.{listed_count, point, line_string, polygon, multi_point, multi_line_string}
-use Rattle.wkb_laws.specs.Words.{multi_polygon, collection, member, no_members, any}
-use Rattle.wkb_laws.specs.Words.{header, Spelling, node, Spellings, no_spellings, spelling, max_nesting, Front, Cause}
-use Rattle.wkb_laws.specs.Words.{end_of_input, general, incorrect_type}
-use Rattle.wkb_laws.specs.Words.{nesting_depth_exceeded, Refuses, geometry_of, encoding, code_of, srid_encoding}
-use Rattle.wkb_laws.specs.Words.{header_encoding}
-use Rattle.wkb_laws.specs.Words.{words_encoding, coordinates_encoding, point_words}
-use Rattle.wkb_laws.specs.Words.{point_encoding, line_string_encoding, polygon_encoding, members_encoding, Reading}
-use Rattle.wkb_laws.specs.Words.{Item, geometry_at}
-use Rattle.wkb_laws.specs.Words.{by_type, head_at, meaning_of, point_at}
-use Rattle.wkb_laws.specs.Words.{line_string_at, ring_at, polygon_at, multi_point_at, multi_line_string_at}
-use Rattle.wkb_laws.specs.Words.{multi_polygon_at, collection_at, repeated}
+use Rattle.wkb_laws.specs.Prelude.{Coordinate, Dimension, Xy, Xyz, Xyzm, Endianness, BigEndian, LittleEndian, Form, Iso}
+use Rattle.wkb_laws.specs.Prelude.{Ewkb, CodeOutOfRange, InvalidByteOrder}
+use Rattle.wkb_laws.specs.Prelude.{ShortPoint, ShortLineString, ShortLinearRing, ShortMultiPoint, number, number_bytes}
+use Rattle.wkb_laws.specs.Prelude.{Value, kind, dimension, member_count}
+use Rattle.wkb_laws.specs.Prelude.{listed_count, point, line_string, polygon, multi_point, multi_line_string}
+use Rattle.wkb_laws.specs.Prelude.{multi_polygon, collection, member, no_members, any}
+use Rattle.wkb_laws.specs.Prelude.{header, Spelling, node, Spellings, no_spellings, spelling, max_nesting, Front, Cause}
+use Rattle.wkb_laws.specs.Prelude.{end_of_input, general, incorrect_type}
+use Rattle.wkb_laws.specs.Prelude.{nesting_depth_exceeded, Refuses, geometry_of, encoding, code_of, srid_encoding}
+use Rattle.wkb_laws.specs.Prelude.{header_encoding}
+use Rattle.wkb_laws.specs.Prelude.{words_encoding, coordinates_encoding, point_words}
+use Rattle.wkb_laws.specs.Prelude.{point_encoding, line_string_encoding, polygon_encoding, members_encoding, Reading}
+use Rattle.wkb_laws.specs.Prelude.{Item, geometry_at}
+use Rattle.wkb_laws.specs.Prelude.{by_type, head_at, meaning_of, point_at}
+use Rattle.wkb_laws.specs.Prelude.{line_string_at, ring_at, polygon_at, multi_point_at, multi_line_string_at}
+use Rattle.wkb_laws.specs.Prelude.{multi_polygon_at, collection_at, repeated}
 use Rattle.wkb_geom.proofs.Hex.{hex, copies}
 use Rattle.wkb_laws.specs.Laws.{Agrees}
 use Rattle.wkb_laws.proofs.GeometryAt.{geometry_agrees_lem}
@@ -44,11 +44,11 @@ answer : List ℕ → Answer
 unfolding read
 answer input = answer_of (read input)
 
--- inputs and their answers
+-- inputs and their results
 abbrev AreAnswered : List (List ℕ × Answer) → Type 0
 AreAnswered rows = map (λ row. answer row.0) rows ≡ map (λ row. row.1) rows
 
--- codes that stand for nothing, by their bytes and their numbers, in front of these bytes
+-- codes that stand for nothing, by their bytes and their numbers, before these bytes
 abbrev unknown : List ℕ → List (List ℕ × ℕ) → List (List ℕ × Answer)
 unknown behind codes = map (λ c. (1 ∷ c.0 ++ behind, refused (general (CodeOutOfRange c.1)) 0 0)) codes
 
@@ -63,8 +63,7 @@ abbrev zeros : ℕ → List ℕ
 zeros n = copies n (0 ∷ [])
 
 -- inputs that several tables have: a point and a line string with a z, a polygon with an SRID, a multi line string
--- whose
--- members have an order each, and a collection of two kinds
+-- whose members have an order each, and a collection of two kinds
 abbrev a_high_point : List ℕ
 a_high_point = hex "01 e9030020 e6100000" ++ P ++ hex "0000000000000840"
 
@@ -116,7 +115,7 @@ unfolding answer
 unknown_codes = refl
 
 geometries : AreAnswered (
-    -- Points, also with an SRID, without their bytes, and with others behind them.
+    -- Points, also with an SRID, without their bytes, and with others after them.
     (hex "01 01000000" ++ P, accepted 1 Xy 21 0 0)
     ∷ (hex "01 01000000" ++ P ++ hex "ffffffff", accepted 1 Xy 21 0 0)
     ∷ (hex "01 01000000 010000000000f8ff 010000000000f8ff", accepted 1 Xy 21 0 0)
@@ -134,7 +133,7 @@ geometries : AreAnswered (
     ∷ (hex "01 02000020 e6100000 0a000000" ++ P, refused (general (ShortLineString 173 29)) 0 0)
     ∷ (hex "01 020000c0 01000000" ++ zeros 24, refused (general (ShortLineString 41 33)) 0 0)
     ∷ (a_high_line, accepted 2 Xyz 33 0 0)
-    -- Polygons: no rings, a ring missing, a ring cut, and one behind another.
+    -- Polygons: no rings, a ring missing, a ring cut, and one after another.
     ∷ (hex "01 03000000 00000000", accepted 3 Xy 9 0 0)
     ∷ (hex "01 03000000 01000000", refused end_of_input 1 0)
     ∷ (hex "01 03000020 e6100000", refused end_of_input 0 0)
@@ -184,7 +183,7 @@ counts : AreAnswered (
 unfolding answer
 counts = refl
 
--- so many collections of one member each, one in another
+-- n collections of one member each, one in another
 abbrev levels : ℕ → List ℕ → List ℕ
 levels n inside = copies n (hex "01 07000000 01000000") ++ inside
 
@@ -225,14 +224,14 @@ value_of input = of_item (λ i. i.value) (read input)
 abbrev Values : List (List ℕ × Value) → Type 0
 Values rows = map (λ row. value_of row.0) rows ≡ map (λ row. Some row.1) rows
 
--- the words 1.0 and 2.0, and 3.0 behind them
+-- the words 1.0 and 2.0, and 3.0 after them
 abbrev one_two : Coordinate
 one_two = 0x3ff0000000000000 ∷ 0x4000000000000000 ∷ []
 
 abbrev one_two_three : Coordinate
 one_two_three = one_two ++ 0x4008000000000000 ∷ []
 
--- A value has its words as they are, whatever its order and its SRID; a point of not-a-numbers alone has none, and
+-- A value has its words as they are, whatever its order and its SRID; a point of not-a-numbers only has none, and
 -- zero has a sign.
 values : Values (
     (hex "01 01000000" ++ P, point Xy (Some one_two))
@@ -331,7 +330,7 @@ rewritings : Gives (
     (hex "01 01000000" ++ P, hex "00 00000001" ++ big_P)
     ∷ (a_high_point, hex "00 000003e9" ++ big_P ++ hex "4008000000000000")
     ∷ [])
-    -- Under EWKB without an SRID, and with one, which stands on the outermost geometry alone.
+    -- Under EWKB without an SRID, and with one, which only the outermost geometry has.
     ++ by (rewritten LittleEndian (Ewkb None)) (
     (two_kinds, hex "01 07000000 02000000 01 01000080" ++ P ++ hex "0000000000000840 01 03000000 00000000") ∷ [])
     ++ by (rewritten LittleEndian (Ewkb (Some 4326))) ((

@@ -1,14 +1,14 @@
--- Reading from left to right answers what is so: a value is a front with its counts, and a fault is the refusal.
+-- Reading from left to right is sound: a value is a front with its counts, and a fault is the refusal.
 use Rattle.std.proofs.Common.{◌≡◌, ℕ, zero, suc, ◌-◌, ◌≤◌, List, drop, Bool, true, false, ◌==◌, ◌&&◌, if◌then◌else◌}
 use Rattle.std.proofs.Common.{refl, ap, subst, arith, lit<, lit≤}
 use Rattle.std.proofs.Common.{eqb-true, eq-eqb}
 use Rattle.std.proofs.lemmas.Bool.{and_parts, and_from, both_ways, cond_both}
-use Rattle.wkb_laws.specs.Words.{Dimension, Head, Layout, WkbType, thousands, Wanted, any, part, IsPart, Opens}
-use Rattle.wkb_laws.specs.Words.{IsAllowed}
-use Rattle.wkb_laws.specs.Words.{too_deep, wrong_part, Reading, Item}
-use Rattle.wkb_laws.specs.Words.{type_kind, type_dimension, laid, layout_of, body_at, by_type, collection_at}
-use Rattle.wkb_laws.specs.Words.{geometry_at, is_member, layout_wanted, member_at}
-use Rattle.wkb_laws.specs.Words.{member_body, multi_line_string_at, multi_point_at, multi_polygon_at, then_body}
+use Rattle.wkb_laws.specs.Prelude.{Dimension, Head, Layout, WkbType, thousands, Wanted, any, part, IsPart, Opens}
+use Rattle.wkb_laws.specs.Prelude.{IsAllowed}
+use Rattle.wkb_laws.specs.Prelude.{too_deep, wrong_part, Reading, Item}
+use Rattle.wkb_laws.specs.Prelude.{type_kind, type_dimension, laid, layout_of, body_at, by_type, collection_at}
+use Rattle.wkb_laws.specs.Prelude.{geometry_at, is_member, layout_wanted, member_at}
+use Rattle.wkb_laws.specs.Prelude.{member_body, multi_line_string_at, multi_point_at, multi_polygon_at, then_body}
 use Rattle.wkb_geom.specs.declared.code.WkbType.TheVariants as kinds
 use Rattle.wkb_geom.specs.Reading as reading
 use Rattle.wkb_geom.proofs.Codes.{thousands_inj}

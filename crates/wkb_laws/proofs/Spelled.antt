@@ -6,11 +6,11 @@ use Rattle.std.proofs.Props.{props}
 use Rattle.std.specs.Coded.{Coded-set}
 use Rattle.wkb_geom.specs.Stored.{item_code}
 use Rattle.wkb_geom.specs.Reading as reading
-use Rattle.wkb_laws.specs.Words.{Dimension, Xy, width, size, dimensions, Value, Values, point, line_string, polygon}
-use Rattle.wkb_laws.specs.Words.{multi_point, multi_line_string, multi_polygon}
-use Rattle.wkb_laws.specs.Words.{collection, no_members, member, nest, Spelling, Spellings, no_spellings, spelling}
-use Rattle.wkb_laws.specs.Words.{Spells, SpellsEach, any, srid_count}
-use Rattle.wkb_laws.specs.Words.{geometry_of, geometries_of, byte_size, byte_sizes, Reading, Item, geometry_at}
+use Rattle.wkb_laws.specs.Prelude.{Dimension, Xy, width, size, as_dimensions, Value, Values, point, line_string, polygon}
+use Rattle.wkb_laws.specs.Prelude.{multi_point, multi_line_string, multi_polygon}
+use Rattle.wkb_laws.specs.Prelude.{collection, no_members, member, nest, Spelling, Spellings, no_spellings, spelling}
+use Rattle.wkb_laws.specs.Prelude.{Spells, SpellsEach, any, srid_count}
+use Rattle.wkb_laws.specs.Prelude.{geometry_of, geometries_of, byte_size, byte_sizes, Reading, Item, geometry_at}
 use Rattle.wkb_laws.specs.Encodings.{SpelledInFull, SizeOfSpelled}
 use Rattle.wkb_laws.specs.Places.{first_spellings, first_values, first_size}
 use Rattle.wkb_laws.proofs.Parts.{then_length}
@@ -42,7 +42,7 @@ in_full_lem s t bytes spelled =
 
 -- ---- by how many bytes
 
-named_width : (d : Dimension) → width d ≡ size (dimensions d)
+named_width : (d : Dimension) → width d ≡ size (as_dimensions d)
 named_width Xy = refl
 named_width _ = refl
 
@@ -64,7 +64,7 @@ mutual
 pub size_of_spelled_lem : SizeOfSpelled
 size_of_spelled_lem s t bytes h = spelled_length s t bytes h ∙ ap (λ n. n + 4 * srid_count s) (size_of_value t)
 
--- the bytes of the first so many members
+-- the bytes of the first k members
 pub first_length : (k : ℕ) (ss : Spellings) (ts : Values) (x : List ℕ)
     → SpellsEach any (first_spellings k ss) (first_values k ts) x
     → length x ≡ first_size k ss ts

@@ -6,20 +6,20 @@ use Rattle.std.proofs.Common.{◌++◌, length, map, true, false, ap, ◌∙◌,
 use Rattle.std.proofs.lemmas.Bool.{cond_both}
 use Rattle.std.specs.List.{AllByRecursion}
 use Rattle.byteorder.specs.Numbers.{big_from-lt, little_from-lt}
-use Rattle.wkb_laws.specs.Words.{Then, Dimension, Xy, Xyz, Xyzm, Dimensions, width, size, written_dimension, Fault}
-use Rattle.wkb_laws.specs.Words.{unsupported_dimensions, or_else}
-use Rattle.wkb_laws.specs.Words.{dimensions_fault, Endianness, BigEndian, LittleEndian, Xym, number, AreBytes, IsNumber}
-use Rattle.wkb_laws.specs.Words.{IsWord, all_nan, dimensions, IsEach}
-use Rattle.wkb_laws.specs.Words.{IsCounted, Coordinate, Value, point, line_string, polygon, multi_point}
-use Rattle.wkb_laws.specs.Words.{multi_line_string, multi_polygon, collection, Values}
-use Rattle.wkb_laws.specs.Words.{no_members, member, kind, dimension, members, each, count, IsValueCoordinate}
-use Rattle.wkb_laws.specs.Words.{IsValuePoint}
-use Rattle.wkb_laws.specs.Words.{AreValueCoordinates, IsValue, AreValues, header}
-use Rattle.wkb_laws.specs.Words.{IsSrid, Spelling, node, Spellings, no_spellings, spelling, SpellsCoordinate}
-use Rattle.wkb_laws.specs.Words.{SpellsCoordinates, SpellsBody, Wanted, member_part}
-use Rattle.wkb_laws.specs.Words.{Spells, SpellsEach, normal, normal_each, normal_point, geometry_of, geometries_of}
-use Rattle.wkb_laws.specs.Words.{Ewkb, Front, IsForm, count_fault}
-use Rattle.wkb_laws.specs.Words.{first_fault, coordinates_fault, rings_fault, fault, fault_each, count_geometries}
+use Rattle.wkb_laws.specs.Prelude.{Then, Dimension, Xy, Xyz, Xyzm, Dimensions, width, size, written_dimension, Fault}
+use Rattle.wkb_laws.specs.Prelude.{unsupported_dimensions, or_else}
+use Rattle.wkb_laws.specs.Prelude.{dimensions_fault, Endianness, BigEndian, LittleEndian, Xym, number, AreBytes, IsNumber}
+use Rattle.wkb_laws.specs.Prelude.{IsWord, all_nan, as_dimensions, IsEach}
+use Rattle.wkb_laws.specs.Prelude.{IsCounted, Coordinate, Value, point, line_string, polygon, multi_point}
+use Rattle.wkb_laws.specs.Prelude.{multi_line_string, multi_polygon, collection, Values}
+use Rattle.wkb_laws.specs.Prelude.{no_members, member, kind, dimension, members, each, count, IsValueCoordinate}
+use Rattle.wkb_laws.specs.Prelude.{IsValuePoint}
+use Rattle.wkb_laws.specs.Prelude.{AreValueCoordinates, IsValue, AreValues, header}
+use Rattle.wkb_laws.specs.Prelude.{IsSrid, Spelling, node, Spellings, no_spellings, spelling, SpellsCoordinate}
+use Rattle.wkb_laws.specs.Prelude.{SpellsCoordinates, SpellsBody, Wanted, member_part}
+use Rattle.wkb_laws.specs.Prelude.{Spells, SpellsEach, normal, normal_each, normal_point, geometry_of, geometries_of}
+use Rattle.wkb_laws.specs.Prelude.{Ewkb, Front, IsForm, count_fault}
+use Rattle.wkb_laws.specs.Prelude.{first_fault, coordinates_fault, rings_fault, fault, fault_each, count_geometries}
 use Rattle.wkb_geom.specs.declared.common.Dimensions.TheVariants as asked
 use Rattle.wkb_geom.specs.Geometries as geometry
 use Rattle.wkb_laws.specs.Laws.{NamedDimension}
@@ -134,7 +134,8 @@ named_dimension_lem Xyz = refl
 named_dimension_lem Xym = refl
 named_dimension_lem Xyzm = refl
 
-named_dimension : (d : Dimension) → dimensions_fault (dimensions d) ≡ None
+-- a dimension that was read can be written
+pub named_dimension : (d : Dimension) → dimensions_fault (as_dimensions d) ≡ None
 unfolding dimensions_fault
 named_dimension d = let same = named_dimension_lem d in rw same refl
 
@@ -225,7 +226,7 @@ pub front_srid : (input : List ℕ) (s : Spelling) (t : Value) (rest : List ℕ)
     → IsForm (Ewkb (header s).srid)
 front_srid input s t rest b f = outer_fits s t f.front (front_bytes input s t rest b f) f.spelled
 
-pub same_dimension : (d : Dimension) → written_dimension (dimensions d) ≡ d
+pub same_dimension : (d : Dimension) → written_dimension (as_dimensions d) ≡ d
 same_dimension d = ap (λ z. unwrap_or z Xy) (named_dimension_lem d)
 
 pub same_point : (d : Dimension) (c : Option Coordinate) → IsValuePoint d c → normal_point c ≡ c
@@ -253,20 +254,20 @@ mutual
   normal-geometries_of (member t ts) h = λ i. member (normal-geometry_of t h.0 i) (normal-geometries_of ts h.1 i)
 
 -- a value is a lawful geometry of a caller's
-coordinate_lawful : (d : Dimension) (c : Coordinate) → IsValueCoordinate d c → geometry.IsCoordinate (dimensions d) c
+coordinate_lawful : (d : Dimension) (c : Coordinate) → IsValueCoordinate d c → geometry.IsCoordinate (as_dimensions d) c
 coordinate_lawful Xy c h = record { len = h.len; words = h.words }
 coordinate_lawful _ c h = record { len = h.len; words = h.words }
 
-point_lawful : (d : Dimension) (c : Option Coordinate) → IsValuePoint d c → geometry.IsPoint (dimensions d) c
+point_lawful : (d : Dimension) (c : Option Coordinate) → IsValuePoint d c → geometry.IsPoint (as_dimensions d) c
 point_lawful d None h = tt
 point_lawful d (Some c) h = coordinate_lawful d c h.0
 
 coordinates_lawful : (d : Dimension) (cs : List Coordinate) → AreValueCoordinates d cs
-    → geometry.AreCoordinates (dimensions d) cs
+    → geometry.AreCoordinates (as_dimensions d) cs
 coordinates_lawful d cs h = all_imply _ _ (coordinate_lawful d) cs h
 
 rings_lawful : (d : Dimension) (rings : List (List Coordinate)) → AllByRecursion (AreValueCoordinates d) rings
-    → AllByRecursion (geometry.AreCoordinates (dimensions d)) rings
+    → AllByRecursion (geometry.AreCoordinates (as_dimensions d)) rings
 rings_lawful d rings h = all_imply _ _ (coordinates_lawful d) rings h
 
 mutual

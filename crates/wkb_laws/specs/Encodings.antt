@@ -1,8 +1,8 @@
 -- Laws of bytes that spell a value, however deep its collections nest: they serve every view in hand.
 use Rattle.std.proofs.Common.{◌≡◌, ◌↔◌, ℕ, ◌+◌, ◌*◌, ◌<◌, ◌^◌, List, length, Option, None}
-use Rattle.wkb_laws.specs.Words.{Endianness, Form, Iso, Ewkb, AreBytes, Value, Spelling, header, srid_count, Spells}
-use Rattle.wkb_laws.specs.Words.{IsGeometry, normal, geometry_of, byte_size}
-use Rattle.wkb_laws.specs.Words.{encoding, IsForm, IsWritable}
+use Rattle.wkb_laws.specs.Prelude.{Endianness, Form, Iso, Ewkb, AreBytes, Value, Spelling, header, srid_count, Spells}
+use Rattle.wkb_laws.specs.Prelude.{IsGeometry, normal, geometry_of, byte_size}
+use Rattle.wkb_laws.specs.Prelude.{encoding, IsForm, IsWritable}
 
 -- the bytes of a value by its spelling: its size in ISO codes, and four for each SRID
 abbrev pub spelled_size : Spelling → Value → ℕ
@@ -12,13 +12,12 @@ spelled_size s t = byte_size (geometry_of t) + 4 * srid_count s
 abbrev pub SpelledInFull : Type 0
 SpelledInFull = (s : Spelling) (t : Value) (bytes : List ℕ) → ∥ Spells s t bytes ∥₁ → Spells s t bytes
 
--- A value is spelled by so many bytes.
+-- A value is spelled by the number of bytes that its spelling and itself give.
 abbrev pub SizeOfSpelled : Type 0
 SizeOfSpelled = (s : Spelling) (t : Value) (bytes : List ℕ) → Spells s t bytes → length bytes ≡ spelled_size s t
 
 -- The value is a lawful geometry and its own normal value. It can be written in ISO codes, in as many bytes less four
--- for
--- each SRID, and under EWKB with its own SRID or without one.
+-- for each SRID, and under EWKB with its own SRID or without one.
 pub record IsRewritable (s : Spelling) (t : Value) (bytes : List ℕ) : Type 0 where
   pub lawful : IsGeometry (geometry_of t)
   pub normal_is : normal (geometry_of t) ≡ t
@@ -28,7 +27,7 @@ pub record IsRewritable (s : Spelling) (t : Value) (bytes : List ℕ) : Type 0 w
   pub own_form : IsForm (Ewkb (header s).srid)
   pub own_srid : (order : Endianness) → IsWritable order (Ewkb (header s).srid) (geometry_of t)
 
--- So is every value that bytes in memory spell.
+-- Every value that bytes in memory spell can be written in these ways.
 abbrev pub SpelledIsWritable : Type 0
 SpelledIsWritable =
     (s : Spelling) (t : Value) (bytes : List ℕ) → AreBytes bytes → length bytes < 2 ^ 64 → Spells s t bytes

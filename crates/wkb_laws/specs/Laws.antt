@@ -2,16 +2,16 @@
 use Rattle.std.proofs.Common.{Some, Ok, Err, ◌≡◌, ◌↔◌, ◌⊎◌, ℕ, suc, ◌+◌, ◌*◌, ◌-◌, ◌≤◌, ◌<◌, List, [], ◌++◌, length}
 use Rattle.std.proofs.Common.{None, Bool, ◌^◌, is_some, if◌then◌else◌}
 use Rattle.std.proofs.Common.{Option}
-use Rattle.wkb_laws.specs.Words.{Endianness, Dimension, Form, Iso, Ewkb, AreBytes, Value, Values, no_members, member}
-use Rattle.wkb_laws.specs.Words.{count, nest, nest_each, member_count}
-use Rattle.wkb_laws.specs.Words.{member_count_each, listed_count, Spelling, Spellings, Spells, SpellsEach, Wanted, any}
-use Rattle.wkb_laws.specs.Words.{srid_count, header, Front, max_nesting}
-use Rattle.wkb_laws.specs.Words.{ShortPoint, ShortLineString, ShortLinearRing, ShortMultiPoint, Cause, end_of_input}
-use Rattle.wkb_laws.specs.Words.{general, slots_asked, OpensCounted, Refuses}
-use Rattle.wkb_laws.specs.Words.{named, dimensions, Geometry, IsGeometry, normal, geometry_of, byte_size, encoding}
-use Rattle.wkb_laws.specs.Words.{fault}
-use Rattle.wkb_laws.specs.Words.{size_fault, refusal, form_srid, IsForm}
-use Rattle.wkb_laws.specs.Words.{IsWritable, IsRewriting, IsRewritingWithSrid, Reading, Item, geometry_at}
+use Rattle.wkb_laws.specs.Prelude.{Endianness, Dimension, Form, Iso, Ewkb, AreBytes, Value, Values, no_members, member}
+use Rattle.wkb_laws.specs.Prelude.{count, nest, nest_each, member_count}
+use Rattle.wkb_laws.specs.Prelude.{member_count_each, listed_count, Spelling, Spellings, Spells, SpellsEach, Wanted, any}
+use Rattle.wkb_laws.specs.Prelude.{srid_count, header, Front, max_nesting}
+use Rattle.wkb_laws.specs.Prelude.{ShortPoint, ShortLineString, ShortLinearRing, ShortMultiPoint, Cause, end_of_input}
+use Rattle.wkb_laws.specs.Prelude.{general, slots_asked, OpensCounted, Refuses}
+use Rattle.wkb_laws.specs.Prelude.{named, as_dimensions, Geometry, IsGeometry, normal, geometry_of, byte_size, encoding}
+use Rattle.wkb_laws.specs.Prelude.{fault}
+use Rattle.wkb_laws.specs.Prelude.{size_fault, refusal, form_srid, IsForm}
+use Rattle.wkb_laws.specs.Prelude.{IsWritable, IsRewriting, IsRewritingWithSrid, Reading, Item, geometry_at}
 use Rattle.wkb_laws.specs.Written.{HasOptions}
 
 -- The bytes, the spelling, the value and the rest of a front are settled by the input.
@@ -26,7 +26,7 @@ RestIsFree =
     (input : List ℕ) (s : Spelling) (t : Value) (rest more : List ℕ) → (f : Front input s t rest)
     → Front (f.front ++ more) s t more
 
--- The bytes of a geometry alone are that geometry.
+-- The bytes of a geometry, with nothing after them, are read as that geometry.
 abbrev pub BytesAreRead : Type 0
 BytesAreRead =
     (input : List ℕ) (s : Spelling) (t : Value) (rest : List ℕ) → (f : Front input s t rest) → Front f.front s t []
@@ -82,26 +82,25 @@ EndsTooEarly (general (ShortLinearRing end len)) = Unit {0}
 EndsTooEarly (general (ShortMultiPoint end len)) = Unit {0}
 EndsTooEarly _ = ⊥
 
--- A proper beginning of a geometry is refused as an input that ends too early.
+-- A strict prefix of a geometry is refused as an input that ends too early.
 abbrev pub CutIsRefused : Type 0
 CutIsRefused =
     (input : List ℕ) (s : Spelling) (t : Value) (rest x y : List ℕ) → (f : Front input s t rest) → f.front ≡ x ++ y
     → 0 < length y
     → (cause : Cause) × (turns : ℕ) × (slots : ℕ) × Refuses max_nesting any x cause turns slots × EndsTooEarly cause
 
--- what reading from left to right answers is a front with its turns, its entries and its bytes, or the refusal with its
--- own
+-- what a reading gives is a front with its turns, its entries and its bytes, or the refusal with its turns and entries
 abbrev pub Agrees : List ℕ → Reading Item → Type 0
 Agrees input (cost, Ok x) =
     (f : Front input x.0.spelled x.0.value x.1) × (cost.turns ≡ member_count x.0.value)
     × (cost.slots ≡ listed_count x.0.value) × (f.front ≡ x.0.encoding)
 Agrees input (cost, Err cause) = Refuses max_nesting any input cause cost.turns cost.slots
 
--- So is what it answers for every input.
+-- What reading from left to right gives is so for every input.
 abbrev pub GeometryAgrees : Type 0
 GeometryAgrees = (input : List ℕ) → Agrees input (geometry_at max_nesting input)
 
--- A front is what reading answers, with its bytes, its turns and its entries.
+-- A front is what reading gives, with its bytes, its turns and its entries.
 abbrev pub FrontIsRead : Type 0
 FrontIsRead = (input : List ℕ) (s : Spelling) (t : Value) (rest : List ℕ) → (f : Front input s t rest)
     → geometry_at max_nesting input
@@ -110,7 +109,7 @@ FrontIsRead = (input : List ℕ) (s : Spelling) (t : Value) (rest : List ℕ) �
       Ok (record { encoding = f.front; spelled = s; value = t }, rest),
     )
 
--- A refusal is what reading answers.
+-- A refusal is what reading gives.
 abbrev pub RefusalIsRead : Type 0
 RefusalIsRead = (input : List ℕ) (cause : Cause) (turns slots : ℕ) → Refuses max_nesting any input cause turns slots
     → geometry_at max_nesting input ≡ (record { turns = turns; slots = slots }, Err cause)
@@ -125,7 +124,7 @@ abbrev pub RefusalIsBounded : Type 0
 RefusalIsBounded = (input : List ℕ) (cause : Cause) (turns slots : ℕ) → Refuses max_nesting any input cause turns slots
     → (4 * turns ≤ length input + 4) × (slots ≤ 15 * length input)
 
--- So are the turns and the entries of reading, whatever it answers.
+-- The turns and the entries of reading are bounded so, whatever it gives.
 abbrev pub ReadingIsBounded : Type 0
 ReadingIsBounded = (input : List ℕ)
     → (4 * (geometry_at max_nesting input).0.turns ≤ length input + 4)
@@ -137,7 +136,7 @@ abbrev pub EncodingSpells : Type 0
 EncodingSpells = (order : Endianness) (form : Form) (g : Geometry) → IsForm form → IsGeometry g → fault g ≡ None
     → (s : Spelling) × Spells s (normal g) (encoding order form g) × HasOptions order form s
 
--- So it is read again as that value, in the order and with the SRID of the options, whatever follows it, unless its
+-- It is read again as that value, in the order and with the SRID of the options, whatever follows it, unless its
 -- collections are nested too deep.
 abbrev pub WrittenIsRead : Type 0
 WrittenIsRead =
@@ -183,7 +182,7 @@ EwkbIsWritable =
     → length input < 2 ^ 64 → Front input s t rest
     → IsWritable order (Ewkb None) (geometry_of t)
 
--- With any SRID it is refused for its size alone: where usize doesn't measure its encoding.
+-- With any SRID it is refused only for its size: where usize doesn't measure its encoding.
 abbrev pub SizeIsRefused : Type 0
 SizeIsRefused =
     (order : Endianness) (form : Form) (input : List ℕ) (s : Spelling) (t : Value) (rest : List ℕ) → AreBytes input
@@ -240,4 +239,4 @@ EqualEncodingsWithOwnSrid =
 
 -- A dimension's name is its own.
 abbrev pub NamedDimension : Type 0
-NamedDimension = (d : Dimension) → named (dimensions d) ≡ Some d
+NamedDimension = (d : Dimension) → named (as_dimensions d) ≡ Some d

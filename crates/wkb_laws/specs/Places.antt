@@ -1,10 +1,10 @@
--- Where the parts of a geometry stand in its bytes.
+-- Where the parts of a geometry are in its bytes.
 use Rattle.std.proofs.Common.{◌≡◌, ℕ, zero, suc, ◌+◌, ◌*◌, ◌≤◌, List, ◌++◌, length, drop, take, Some, slice_get, sum_by}
-use Rattle.wkb_laws.specs.Words.{Endianness, Dimension, AreBytes, number, width, IsEach, Coordinate, Value, Values}
-use Rattle.wkb_laws.specs.Words.{line_string, polygon, no_members, member}
-use Rattle.wkb_laws.specs.Words.{members, Spelling, node, Spellings, no_spellings, spelling, header, has_srid, any}
-use Rattle.wkb_laws.specs.Words.{SpellsCoordinate, SpellsCoordinates, Spells}
-use Rattle.wkb_laws.specs.Words.{SpellsEach, srid_size, ring_end, Item}
+use Rattle.wkb_laws.specs.Prelude.{Endianness, Dimension, AreBytes, number, width, IsEach, Coordinate, Value, Values}
+use Rattle.wkb_laws.specs.Prelude.{line_string, polygon, no_members, member}
+use Rattle.wkb_laws.specs.Prelude.{members, Spelling, node, Spellings, no_spellings, spelling, header, has_srid, any}
+use Rattle.wkb_laws.specs.Prelude.{SpellsCoordinate, SpellsCoordinates, Spells}
+use Rattle.wkb_laws.specs.Prelude.{SpellsEach, srid_size, ring_end, Item}
 use Rattle.wkb_laws.specs.Encodings.{spelled_size}
 
 -- A spelling and a value leave no byte open.
@@ -12,18 +12,18 @@ abbrev pub HasOneEncoding : Type 0
 HasOneEncoding =
     (s : Spelling) (t : Value) (x y : List ℕ) → AreBytes x → AreBytes y → Spells s t x → Spells s t y → x ≡ y
 
--- A count and coordinates leave no byte open either, as a line string or a ring has them,
+-- A count and coordinates, as a line string or a ring has them, leave no byte open either.
 abbrev pub HaveOneEncoding : Type 0
 HaveOneEncoding = (order : Endianness) (d : Dimension) (cs : List Coordinate) (x y : List ℕ) → AreBytes x → AreBytes y
     → SpellsCoordinates order d cs x → SpellsCoordinates order d cs y → x ≡ y
 
--- nor does a coordinate by itself.
+-- One coordinate leaves no byte open.
 abbrev pub CoordinateHasOneEncoding : Type 0
 CoordinateHasOneEncoding =
     (order : Endianness) (d : Dimension) (c : Coordinate) (x y : List ℕ) → AreBytes x → AreBytes y
     → SpellsCoordinate order d c x → SpellsCoordinate order d c y → x ≡ y
 
--- how many bytes stand before the parts of a geometry with a count: the order byte, the code, the SRID and the count
+-- how many bytes come before the parts of a geometry with a count: the order byte, the code, the SRID and the count
 abbrev pub behind_count : Spelling → ℕ
 behind_count s = 9 + srid_size (has_srid s)
 
@@ -37,7 +37,7 @@ IsOneOf _ _ _ s' t' = ⊥
 abbrev pub IsMember : ℕ → Spelling → Value → Spelling → Value → Type 0
 IsMember k (node h words ss) t s' t' = IsOneOf k ss (members t) s' t'
 
--- the first so many spellings, and the first so many values
+-- the first k spellings, and the first k values
 abbrev pub first_spellings : ℕ → Spellings → Spellings
 first_spellings zero ss = no_spellings
 first_spellings (suc k) no_spellings = no_spellings
@@ -48,7 +48,7 @@ first_values zero ts = no_members
 first_values (suc k) no_members = no_members
 first_values (suc k) (member t ts) = member t (first_values k ts)
 
--- the bytes are those of the first k members, one behind the other
+-- the bytes are those of the first k members, one after another
 abbrev pub SpellsFirst : ℕ → Spelling → Value → List ℕ → Type 0
 SpellsFirst k (node h words ss) t bytes = SpellsEach any (first_spellings k ss) (first_values k (members t)) bytes
 
@@ -58,7 +58,7 @@ first_size zero ss ts = 0
 first_size (suc k) (spelling s ss) (member t ts) = spelled_size s t + first_size k ss ts
 first_size (suc k) ss ts = 0
 
--- where the member of this number begins: behind the count and the members before it
+-- where the member of this number begins: after the count and the members before it
 abbrev pub member_start : ℕ → Spelling → Value → ℕ
 member_start k (node h words ss) t = behind_count (node h words ss) + first_size k ss (members t)
 
@@ -67,11 +67,11 @@ abbrev pub NextStart : Type 0
 NextStart = (k : ℕ) (whole : Spelling) (value : Value) (s : Spelling) (t : Value) → IsMember k whole value s t
     → member_start (suc k) whole value ≡ member_start k whole value + spelled_size s t
 
--- where the ring of this number begins: behind the count and the rings before it
+-- where the ring of this number begins: after the count and the rings before it
 abbrev pub ring_start : ℕ → Spelling → Dimension → List (List Coordinate) → ℕ
 ring_start j s d rings = behind_count s + sum_by (λ cs. ring_end d (length cs)) (take j rings)
 
--- the bytes of a part stand in those of the whole, from an offset on
+-- the bytes of a part are those of the whole from an offset on
 pub record StandsAt (start : ℕ) (part whole : List ℕ) : Type 0 where
   pub within : start + length part ≤ length whole
   pub is : take (length part) (drop start whole) ≡ part
@@ -129,7 +129,7 @@ MembersInPlace = (whole : Item) (k : ℕ) (part : Item) → AreBytes whole.encod
     → IsMember k whole.spelled whole.value part.spelled part.value
     → StandsAt (member_start k whole.spelled whole.value) part.encoding whole.encoding
 
--- So it is with the bytes that spell a ring, in the order of its polygon.
+-- The bytes that spell a ring are those of its polygon at the ring's place, in the polygon's order.
 abbrev pub RingsInPlace : Type 0
 RingsInPlace =
     (whole : Item) (d : Dimension) (rings : List (List Coordinate)) (j : ℕ) (ring : List Coordinate) (bytes : List ℕ)
@@ -144,13 +144,13 @@ pub record IsWordOf (coordinates : List Coordinate) (i n w : ℕ) : Type 0 where
   pub coordinate_is : slice_get coordinates i ≡ Some coordinate
   pub word_is : slice_get coordinate n ≡ Some w
 
--- Behind the four bytes of a count, word n of coordinate i is the number eight bytes a word further on.
+-- After the four bytes of a count, word n of coordinate i is the number eight bytes a word further on.
 abbrev pub WordsStand : Type 0
 WordsStand = (order : Endianness) (d : Dimension) (cs : List Coordinate) (bytes rest : List ℕ) (i n w : ℕ)
     → SpellsCoordinates order d cs bytes → IsWordOf cs i n w
     → number order 8 (drop (4 + 8 * (width d * i + n)) (bytes ++ rest)) ≡ w
 
--- So it is in a line string, behind its count, in its order.
+-- The same in a line string, after its count, in its order.
 abbrev pub LineStringWordsStand : Type 0
 LineStringWordsStand = (s : Spelling) (d : Dimension) (cs : List Coordinate) (bytes rest : List ℕ) (i n w : ℕ)
     → Spells s (line_string d cs) bytes → IsWordOf cs i n w

@@ -21,7 +21,7 @@ pub fn one_front()
     ensures { HasOneFront }
 {}
 
-/// What follows a geometry changes nothing of it, and its bytes alone are read as it.
+/// What follows a geometry changes nothing of it, and its bytes without a rest are read as it.
 #[tactic(auto, using(crate::proofs::Rewritings::rest_is_free_lem, crate::proofs::Rewritings::bytes_are_read_lem))]
 pub fn rest_is_free()
     ensures rest { RestIsFree }
@@ -40,12 +40,12 @@ pub fn refused_outward()
     ensures { RefusedOutward }
 {}
 
-/// A proper beginning of a geometry is refused as an input that ends too early.
+/// A strict prefix of a geometry is refused as an input that ends too early.
 pub fn cut_is_refused()
     ensures { CutIsRefused }
 {}
 
-/// Reading from left to right answers exactly the fronts and the refusals, with their turns and entries.
+/// Reading from left to right gives exactly the fronts and the refusals, with their turns and entries.
 pub fn geometry_agrees()
     ensures sound { GeometryAgrees }
     ensures front { FrontIsRead }

@@ -1,4 +1,4 @@
-//! Laws of places: where the bytes of members, rings and words stand in those of a geometry.
+//! Laws of places: where the bytes of members, rings and words are in those of a geometry.
 
 ghost use Rattle.wkb_laws.specs.Places.{HasOneEncoding, HaveOneEncoding, CoordinateHasOneEncoding};
 ghost use Rattle.wkb_laws.specs.Places.{MembersStand, RingsStand, MembersInPlace, RingsInPlace};
@@ -16,20 +16,20 @@ pub fn one_encoding_of_coordinates()
     ensures one { CoordinateHasOneEncoding }
 {}
 
-/// Members stand behind the count of their geometry, one behind the other, in their order.
+/// Members come after the count of their geometry, one after another, in their order.
 #[tactic(auto, using(crate::proofs::PartsInPlace::members_lem))]
 pub fn members_stand()
     ensures { MembersStand }
 {}
 
-/// Rings stand behind the count of their polygon, one behind the other, in their order. Each is a count and its
+/// Rings come after the count of their polygon, one after another, in their order. Each is a count and its
 /// coordinates in the polygon's order.
 #[tactic(auto, using(crate::proofs::PartsInPlace::rings_lem))]
 pub fn rings_stand()
     ensures { RingsStand }
 {}
 
-/// The bytes that spell a member are those of the whole at its place: behind the count and the members before it.
+/// The bytes that spell a member are those of the whole at its place: after the count and the members before it.
 pub fn members_in_place()
     ensures { MembersInPlace }
 {}
@@ -40,12 +40,12 @@ pub fn next_start()
     ensures { NextStart }
 {}
 
-/// The bytes that spell a ring are those of its polygon at its place: behind the count and the rings before it.
+/// The bytes that spell a ring are those of its polygon at its place: after the count and the rings before it.
 pub fn rings_in_place()
     ensures { RingsInPlace }
 {}
 
-/// The words of coordinates stand behind their count, eight bytes each.
+/// The words of coordinates come after their count, eight bytes each.
 pub fn words_stand()
     ensures ring { WordsStand }
     ensures line_string { LineStringWordsStand }

@@ -1,10 +1,12 @@
 -- Geometries by their headers and kinds.
-use Rattle.wkb_read.proofs.Words.{any, max_nesting, ◌≡◌, ◌<◌, ◌-◌, ℕ, zero, suc, List, Result, Ok, Err, refl, sym, ap}
-use Rattle.wkb_read.proofs.Words.{◌∙◌, subst, arith, WkbType, Layout}
-use Rattle.wkb_read.proofs.Words.{layout_of, collection_within, then_body, Cause, Fault, Head, Item, Outcome, Reading}
-use Rattle.wkb_read.proofs.Words.{free, costs, done, at_no_cost, type_kind}
-use Rattle.wkb_read.proofs.Words.{head_at, body_at, too_deep, by_type, geometry_at, Counts, Spent, Stops}
-use Rattle.wkb_read.proofs.Words.{geometry_inside, body_inside, cost_of}
+use Rattle.wkb_read.specs.Prelude.refusals
+use Rattle.wkb_read.proofs.Prelude.{any, max_nesting, ◌≡◌, ◌<◌, ◌-◌, ℕ, zero, suc, List, Result, Ok, Err, refl, sym, ap}
+use Rattle.wkb_read.proofs.Prelude.{◌∙◌, subst, arith, WkbType, Layout, layout_of, collection_within, then_body, Cause}
+use Rattle.wkb_read.proofs.Prelude.{Head, Item, Outcome, Reading, free, costs, done, at_no_cost, type_kind}
+use Rattle.wkb_read.proofs.Prelude.{head_at, body_at, too_deep, by_type, geometry_at, Counts, Spent, Stops}
+use Rattle.wkb_read.proofs.Prelude.{geometry_inside, cost_of, Refusal, BeginsAs}
+use Rattle.std.specs.Prelude.{IsErrAnd}
+use Rattle.wkb_read.specs.declared.read.stack.Begun.{Begun}
 use Rattle.wkb_geom.specs.declared.code.WkbType.TheVariants as kinds
 use Rattle.wkb_laws.proofs.Heads.{OpensAs, head_says}
 use Rattle.wkb_view.proofs.Leaves.{line_string_free}
@@ -16,12 +18,24 @@ unfolding geometry_at by_type
 geometry_is zero bytes = refl
 geometry_is (suc levels) bytes = refl
 
--- behind a header stands its body
+-- the reading of what follows a header, inside this number of open collections
+abbrev pub body_inside : ℕ → Head → List ℕ → Reading Item
+body_inside depth h bytes = body_at (collection_within (max_nesting - depth)) h.wkb_type (layout_of h) bytes
+
+-- after a header comes its body
 pub behind_header : (depth : ℕ) (bytes : List ℕ) (h : Head) → head_at bytes ≡ Ok h
     → geometry_inside depth bytes ≡ body_inside depth h bytes
 behind_header depth bytes h e =
     geometry_is (max_nesting - depth) bytes
     ∙ ap (λ (r : Result Head Cause). then_body r (λ g. body_inside depth g bytes)) e
+
+-- the reading of the bytes, by the type in their header
+pub by_header : (depth : ℕ) (bytes : List ℕ) (h : Head) (t : WkbType) (l : Layout) → head_at bytes ≡ Ok h
+    → h.wkb_type ≡ t → l ≡ layout_of h
+    → geometry_inside depth bytes ≡ body_at (collection_within (max_nesting - depth)) t l bytes
+by_header depth bytes h t l e is laid =
+    behind_header depth bytes h e
+    ∙ (λ i. body_at (collection_within (max_nesting - depth)) (is i) (sym laid i) bytes)
 
 -- a point or a line string costs nothing, whatever reads a collection
 pub leaf_free : (depth : ℕ) (t : WkbType) (l : Layout) (bytes : List ℕ)
@@ -36,16 +50,23 @@ nothing_spent : (c : Counts) → Spent c c free
 nothing_spent c = record { turns = omega arith; slots = omega arith }
 
 pub stops_at_no_cost : {A : Type 0} (cause : Cause) (r : Outcome A) (c : Counts) → r ≡ Err cause
-    → Stops (Fault cause) (at_no_cost r) c c
+    → Stops (refusals.Cause cause) (at_no_cost r) c c
 stops_at_no_cost cause r c h = (h, nothing_spent c)
 
 pub stops_without_header : (cause : Cause) (depth : ℕ) (bytes : List ℕ) (c : Counts) → head_at bytes ≡ Err cause
-    → Stops (Fault cause) (geometry_inside depth bytes) c c
+    → Stops (refusals.Cause cause) (geometry_inside depth bytes) c c
 stops_without_header cause depth bytes c h =
     let none =
     geometry_is (max_nesting - depth) bytes
     ∙ ap (λ (r : Result Head Cause). then_body r (λ g. body_inside depth g bytes)) h in
-    subst (λ (r : Reading Item). Stops (Fault cause) r c c) (sym none) (refl, nothing_spent c)
+    subst (λ (r : Reading Item). Stops (refusals.Cause cause) r c c) (sym none) (refl, nothing_spent c)
+
+-- an error that `?` hands on, by the reading that stops
+pub hands_on : (depth : ℕ) (bytes : List ℕ) (r : Result Begun Refusal) (refusal : Refusal) (read : Reading Item)
+    (old new : Counts) → IsErrAnd r (λ e. e ≡ refusal) → geometry_inside depth bytes ≡ read
+    → Stops refusal read old new → BeginsAs geometry_inside depth bytes r old new
+hands_on depth bytes (Ok x) refusal read old new is same stops = absurd is
+hands_on depth bytes (Err e) refusal read old new is same stops = rw (is, same) stops
 
 -- a whole part that costs nothing
 pub whole_at_no_cost : {A : Type 0} (r : Outcome A) (x : A) (rest : List ℕ) (c : Counts) → r ≡ Ok (x, rest)

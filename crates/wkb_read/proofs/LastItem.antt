@@ -1,7 +1,7 @@
 -- A list by its last item: the top of a stack.
-use Rattle.wkb_read.proofs.Words.{◌≡◌, ℕ, suc, List, [], ◌∷◌, ◌++◌, length, take, slice_index_or, slice_set, reverse}
-use Rattle.wkb_read.proofs.Words.{sym, ap, ◌∙◌, arith, length-append}
-use Rattle.wkb_read.proofs.Words.{length-set, take_all, take-suc, take-suc-set, reverse-append, length-reverse}
+use Rattle.wkb_read.proofs.Prelude.{◌≡◌, ℕ, suc, List, [], ◌∷◌, ◌++◌, length, take, slice_index_or, slice_set, reverse}
+use Rattle.wkb_read.proofs.Prelude.{sym, ap, ◌∙◌, arith, length-append, length-set, take_all, take-suc, take-suc-set}
+use Rattle.wkb_read.proofs.Prelude.{reverse-append, length-reverse}
 
 backwards : {A : Type 0} (xs front : List A) (o : A) → xs ≡ front ++ o ∷ [] → reverse xs ≡ o ∷ reverse front
 backwards xs front o is = ap reverse is ∙ reverse-append front (o ∷ [])

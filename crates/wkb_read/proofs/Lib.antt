@@ -1,4 +1,4 @@
-pub mod Words
+pub mod Prelude
 pub mod Algebra
 pub mod Bodies
 pub mod LastItem
@@ -6,5 +6,5 @@ pub mod NoMemory
 pub mod Opens
 pub mod Parts
 pub mod Placed
-pub mod Public
+pub mod Results
 pub mod Stacks

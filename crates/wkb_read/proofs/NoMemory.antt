@@ -1,9 +1,8 @@
 -- Inputs that take no memory, by their headers.
-use Rattle.wkb_read.proofs.Words.{◌≡◌, ℕ, ◌+◌, ◌<◌, Bool, List, length, drop, Ok, Err, refl, subst, arith, WkbType}
-use Rattle.wkb_read.proofs.Words.{Endianness, max_nesting, Item, Reading}
-use Rattle.wkb_read.proofs.Words.{head_at, type_kind, type_dimension, laid, geometry_at, srid_size, Agrees}
-use Rattle.wkb_read.proofs.Words.{geometry_agrees_lem, TypeTakesNone}
-use Rattle.wkb_read.proofs.Words.{ReadsWithoutMemory, AsksForNone, KindTakesNone, TakesNoMemory}
+use Rattle.wkb_read.proofs.Prelude.{◌≡◌, ℕ, ◌+◌, ◌<◌, Bool, List, length, drop, Ok, Err, refl, subst, arith, WkbType}
+use Rattle.wkb_read.proofs.Prelude.{Endianness, max_nesting, Item, Reading, head_at, type_kind, type_dimension, laid}
+use Rattle.wkb_read.proofs.Prelude.{geometry_at, srid_size, Agrees, geometry_agrees_lem, TypeTakesNone}
+use Rattle.wkb_read.proofs.Prelude.{ReadsWithoutMemory, AsksForNone, KindTakesNone, TakesNoMemory}
 use Rattle.wkb_geom.specs.declared.code.WkbType.TheVariants as kinds
 use Rattle.wkb_read.proofs.Bodies.{behind_header, head_opens}
 

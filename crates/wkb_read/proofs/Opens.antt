@@ -1,18 +1,17 @@
 -- How a collection begins.
-use Rattle.wkb_read.proofs.Words.{◌≡◌, ℕ, suc, ◌+◌, ◌-◌, ◌≤◌, ◌<◌, List, [], length, drop, false, ltb, refl, sym, ap}
-use Rattle.wkb_read.proofs.Words.{◌∙◌, arith, drop-drop, number}
-use Rattle.wkb_read.proofs.Words.{Item, Cost, ◌⊕◌, one_turn, Reading, costs, done, and_then, repeated, slots_of}
-use Rattle.wkb_read.proofs.Words.{collection_at, body_start, consumed, Layout}
-use Rattle.wkb_read.proofs.Words.{closing, list_item, collection_with, max_nesting, geometry_inside, behind_member}
-use Rattle.wkb_read.proofs.Words.{collection_inside}
-use Rattle.wkb_read.proofs.Words.{Fault, Counts, Stops}
+use Rattle.wkb_read.specs.Prelude.refusals
+use Rattle.wkb_read.proofs.Prelude.{◌≡◌, ℕ, suc, ◌+◌, ◌-◌, ◌≤◌, ◌<◌, List, [], length, drop, false, ltb, refl, sym, ap}
+use Rattle.wkb_read.proofs.Prelude.{◌∙◌, arith, drop-drop, number, Item, Cost, ◌⊕◌, one_turn, Reading, costs, done}
+use Rattle.wkb_read.proofs.Prelude.{and_then, repeated, slots_of, collection_at, body_start, consumed, Layout, closing}
+use Rattle.wkb_read.proofs.Prelude.{list_item, collection_with, max_nesting, geometry_inside, after_member}
+use Rattle.wkb_read.proofs.Prelude.{collection_inside, Counts, Stops}
 use Rattle.wkb_geom.specs.declared.error.Cause.TheVariants.{NestingDepthExceeded as nesting_depth_exceeded}
 use Rattle.std.proofs.lemmas.Bool.{le-ltb}
 use Rattle.wkb_view.specs.Entries.{entries_asked}
 use Rattle.wkb_view.proofs.Lists.{parts_length}
 use Rattle.wkb_read.proofs.Algebra.{cost_is, costs-costs, repeated_more, repeated_none}
 
--- so many entries more are asked for
+-- more entries are asked for
 abbrev pub more_slots : Cost → ℕ → Cost
 more_slots c entries = record { turns = c.turns; slots = c.slots + entries }
 
@@ -24,7 +23,7 @@ pub opens : (l : Layout) (bytes : List ℕ) (depth n : ℕ) (spent : Cost) (rest
     → body_start l.has_srid + 4 ≤ length bytes
     → n ≡ number l.order 4 (drop (body_start l.has_srid) bytes) → rest ≡ drop (body_start l.has_srid + 4) bytes
     → r ≡ and_then (repeated n (geometry_inside (suc depth)) rest) (closing l bytes)
-    → costs (more_slots spent (entries_asked 9 l bytes)) r ≡ costs spent (collection_inside depth l bytes)
+    → costs (more_slots spent (entries_asked 9 l bytes)) r ≡ costs spent (collection_inside l depth bytes)
 unfolding collection_at
 opens l bytes depth n spent rest r shallow whole n-is rest-is r-is =
     let long : ltb (length bytes) (body_start l.has_srid + 4) ≡ false = le-ltb _ _ whole in
@@ -52,7 +51,7 @@ without_members l bytes encoding rest n member members none encoding-is empty =
 -- one with members goes on with the first
 pub first_begins : (l : Layout) (bytes rest : List ℕ) (n : ℕ) (member : List ℕ → Reading Item) (members : List Item)
     → 0 < n → members ≡ []
-    → costs one_turn (and_then (member rest) (behind_member member l bytes (n - 1) members))
+    → costs one_turn (and_then (member rest) (after_member member l bytes (n - 1) members))
     ≡ and_then (repeated n member rest) (closing l bytes)
 first_begins l bytes rest n member members some empty =
     let k : n ≡ suc (n - 1) = omega arith in
@@ -60,10 +59,10 @@ first_begins l bytes rest n member members some empty =
     (ap (λ (i : ℕ). and_then (repeated i member rest) (closing l bytes)) k
     ∙ repeated_more (n - 1) member rest (closing l bytes)))
 
--- ---- what is answered before the list is there
+-- ---- the refusal before any list
 
 pub too_many_around : (l : Layout) (bytes : List ℕ) (depth : ℕ) (c : Counts) → 128 ≤ depth
-    → Stops (Fault (nesting_depth_exceeded 128)) (collection_inside depth l bytes) c c
+    → Stops (refusals.Cause (nesting_depth_exceeded 128)) (collection_inside l depth bytes) c c
 too_many_around l bytes depth c deep =
     let level : max_nesting - depth ≡ 0 = omega arith in
     rw level (refl, record { turns = omega arith; slots = omega arith })

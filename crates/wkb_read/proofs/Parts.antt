@@ -1,22 +1,25 @@
 -- The members of collections, as a caller of the geometry traits sees them.
-use Rattle.wkb_read.proofs.Words.{◌≡◌, ℕ, List, [], ◌∷◌, map, refl, sym, ap, ◌∙◌, slice_get, Option, option_map, Value}
-use Rattle.wkb_read.proofs.Words.{Values, Coordinate, Listed, Geometry}
-use Rattle.wkb_read.proofs.Words.{Geometries, geometries, geometry_of, geometries_of, IsGeometry, Item, values}
-use Rattle.wkb_read.proofs.Words.{geometry_seen, members_seen}
-use Rattle.std.proofs.lemmas.Option.{slice_get-map}
-use Rattle.wkb_geom.specs.Dimensions.{dimensions}
+use Rattle.wkb_read.proofs.Prelude.{◌≡◌, ℕ, List, [], ◌∷◌, map, refl, sym, ap, ◌∙◌, slice_get, Option, Some, None}
+use Rattle.wkb_read.proofs.Prelude.{option_map, Bor, length, Value, Values, Coordinate, Listed, Geometry, Geometries}
+use Rattle.wkb_read.proofs.Prelude.{geometries, geometry_of, geometries_of, IsGeometry, Item, values, geometry_seen}
+use Rattle.wkb_read.proofs.Prelude.{members_seen}
+use Rattle.std.proofs.lemmas.Bool.{ltb-true, ltb-false}
+use Rattle.std.proofs.lemmas.Option.{slice_get-map, slice_get_past, slice_get_read}
+use Rattle.std.specs.Slice.{IsItemAt}
+use Rattle.wkb_geom.specs.Dimensions.{as_dimensions}
 use Rattle.wkb_geom.specs.declared.geom.GeometryType.{GeometryType}
 use Rattle.wkb_geom.specs.declared.geom.GeometryType.TheVariants as handed
 use Rattle.wkb_geom.specs.Values as value
-use Rattle.wkb_geom.specs.Geometries.{geometry, point, line_string, polygon, multi_point, multi_line_string}
-use Rattle.wkb_geom.specs.Geometries.{multi_polygon, collection}
-use Rattle.wkb_geom.specs.Parts.{part_geometry}
-use Rattle.wkb_geom.specs.Reading.{point_of, line_string_of}
-use Rattle.wkb_view.specs.Fitted.{fitted_line_strings, fitted_polygons, fitted_geometry, fitted_geometries}
+use Rattle.wkb_geom.specs.Geometries.{geometry, point, line_string, multi_point}
+use Rattle.wkb_geom.specs.Geometries.{collection}
+use Rattle.wkb_geom.specs.Parts.{PointMeans, LineStringMeans, PolygonMeans, MultiPointMeans, MultiLineStringMeans}
+use Rattle.wkb_geom.specs.Parts.{MultiPolygonMeans, CollectionMeans, RectMeans, TriangleMeans, LineMeans, RectMembers}
+use Rattle.wkb_geom.specs.Parts.{TriangleMembers, LineMembers}
+use Rattle.wkb_view.specs.Fitted.{fitted_parts, fitted_members, fitted_geometry, fitted_geometries}
 use Rattle.wkb_view.specs.Fitted.{fitted_geometry-same}
-use Rattle.wkb_view.specs.Views.{point_seen, point_layout, point_value, line_string_seen, line_string_layout}
-use Rattle.wkb_view.specs.Views.{multi_point_seen, multi_point_layout}
-use Rattle.wkb_view.specs.Parts.{points_of}
+use Rattle.wkb_view.specs.Views.{point_seen, point_layout, point_value, seen_coordinate, line_string_seen}
+use Rattle.wkb_view.specs.Views.{line_string_layout, line_string_coordinates, multi_point_seen, multi_point_layout}
+use Rattle.wkb_view.specs.Views.{seen_points}
 use Rattle.wkb_view.proofs.Lawful.{point_is_lawful, line_string_is_lawful, multi_point_is_lawful}
 use Rattle.wkb_view.specs.declared.point.Point.{Point}
 use Rattle.wkb_view.specs.declared.line_string.LineString.{LineString}
@@ -34,6 +37,18 @@ member_seen ms i found e =
     ap (λ (o : Option Item). option_map geometry_seen o) e ∙ sym (slice_get-map geometry_seen ms i)
     ∙ ap (λ (gs : List Geometry). slice_get gs i) (members_are ms)
 
+-- what `get` finds is the item at this index
+pub found_at : {A : Type 0} (xs : List A) (i : ℕ) (found : Option (Bor A)) → IsItemAt xs i found
+    → option_map (λ b. b.now) found ≡ slice_get xs i
+found_at xs i None h = sym (slice_get_past xs i (ltb-false i (length xs) (sym h.0)))
+found_at xs i (Some b) h = sym (slice_get_read xs (length xs) i b.now refl (ltb-true i (length xs) (sym h.0)) h.1)
+
+-- a member that was found means what the member at this index means
+pub found_means : (found : Option (Bor Item))
+    → option_map (λ g. geometry_seen g.now) found ≡ option_map geometry_seen (option_map (λ g. g.now) found)
+found_means None = refl
+found_means (Some g) = refl
+
 -- the members in one geometry
 pub members_together : (vs : Values) → geometries (members_seen vs) ≡ fitted_geometries (geometries_of vs)
 members_together value.no_members = refl
@@ -45,40 +60,97 @@ pub part_seen : (g : Geometry) (v : Value) → geometry_of v ≡ g → IsGeometr
 part_seen g v e h = sym (fitted_geometry-same g h) ∙ ap fitted_geometry (sym e)
 
 pub point_means : (p : Point)
-    → point (dimensions (point_layout p).dimension) (point_of (point_seen p).value) ≡ geometry_seen (point_seen p)
+    → point (as_dimensions (point_layout p).dimension) (seen_coordinate p) ≡ geometry_seen (point_seen p)
 point_means p = part_seen _ (point_seen p).value (ap geometry_of (point_value p)) (point_is_lawful p)
 
 pub line_string_means : (l : LineString)
-    → line_string (dimensions (line_string_layout l).dimension) (line_string_of (line_string_seen l).value)
+    → line_string (as_dimensions (line_string_layout l).dimension) (line_string_coordinates l)
     ≡ geometry_seen (line_string_seen l)
 line_string_means l = part_seen _ (line_string_seen l).value refl (line_string_is_lawful l)
 
--- what a view that is the geometry's means is what the geometry means
-pub part_means : {R T N : Type 0} (r : R → Geometry) (t : T → Geometry) (n : N → Geometry) (w : Item)
-    → (part : GeometryType Point LineString (Listed (List (List Coordinate))) MultiPoint
-    (Listed (List (List Coordinate)))
-    (Listed (List (List (List Coordinate)))) Item R T N) → IsViewOf w part
-    → part_geometry
-    (λ p. point (dimensions (point_layout p).dimension) (point_of (point_seen p).value))
-    (λ l. line_string (dimensions (line_string_layout l).dimension) (line_string_of (line_string_seen l).value))
-    (λ p. polygon (dimensions p.dimension) (fitted_line_strings (dimensions p.dimension) p.parts))
-    (λ m. multi_point (dimensions (multi_point_layout m).dimension) (points_of (multi_point_seen m).value))
-    (λ m. multi_line_string (dimensions m.dimension) (fitted_line_strings (dimensions m.dimension) m.parts))
-    (λ m. multi_polygon (dimensions m.dimension) (fitted_polygons (dimensions m.dimension) m.parts))
-    (λ gs. collection (dimensions (value.dimension w.value)) (geometries (map geometry_seen gs)))
-    r t n part ≡ geometry_seen w
-part_means r t n w (handed.Point x) e = point_means x.now ∙ ap geometry_seen e
-part_means r t n w (handed.LineString x) e = line_string_means x.now ∙ ap geometry_seen e
-part_means r t n w (handed.MultiPoint x) e =
-    part_seen _ (multi_point_seen x.now).value refl (multi_point_is_lawful x.now) ∙ ap geometry_seen e
-part_means r t n w (handed.Polygon p) e = ap geometry_seen e
-part_means r t n w (handed.MultiLineString m) e = ap geometry_seen e
-part_means r t n w (handed.MultiPolygon m) e = ap geometry_seen e
-part_means r t n w (handed.GeometryCollection gs) e =
-    let c = e.whole in
-    let seen = members_are gs.now ∙ ap members_seen e.all.value in
-    rw (← e.is)
-    (ap (λ (l : Geometries). collection (dimensions c.dimension) l) (ap geometries seen ∙ members_together c.parts))
-part_means r t n w (handed.Rect x) e = absurd e
-part_means r t n w (handed.Triangle x) e = absurd e
-part_means r t n w (handed.Line x) e = absurd e
+pub multi_point_means : (m : MultiPoint)
+    → multi_point (as_dimensions (multi_point_layout m).dimension) (seen_points m) ≡ geometry_seen (multi_point_seen m)
+multi_point_means m = part_seen _ (multi_point_seen m).value refl (multi_point_is_lawful m)
+
+-- ---- what a view that is the geometry's means is what the geometry means
+
+-- what `as_type` returns
+abbrev Part : Type 0 → Type 0 → Type 0 → Type 0
+Part R T N =
+    GeometryType Point LineString (Listed (List (List Coordinate))) MultiPoint (Listed (List (List Coordinate)))
+    (Listed (List (List (List Coordinate)))) Item R T N
+
+module _ {R T N : Type 0} where
+  pub point_told : (w : Item) (part : Part R T N) → IsViewOf w part
+      → PointMeans (record { dimensions = λ p. as_dimensions (point_layout p).dimension; coordinate = seen_coordinate })
+      part (geometry_seen w)
+  point_told w (handed.Point p) e = point_means p.now ∙ ap geometry_seen e
+  point_told w _ e = tt
+
+  pub line_string_told : (w : Item) (part : Part R T N) → IsViewOf w part
+      → LineStringMeans
+      (record {
+        dimensions = λ l. as_dimensions (line_string_layout l).dimension;
+        coordinates = line_string_coordinates;
+      }) part (geometry_seen w)
+  line_string_told w (handed.LineString l) e = line_string_means l.now ∙ ap geometry_seen e
+  line_string_told w _ e = tt
+
+  pub polygon_told : (w : Item) (part : Part R T N) → IsViewOf w part
+      → PolygonMeans
+      (record {
+        dimensions = λ p. as_dimensions p.dimension;
+        rings = fitted_parts;
+      }) part (geometry_seen w)
+  polygon_told w (handed.Polygon p) e = ap geometry_seen e
+  polygon_told w _ e = tt
+
+  pub multi_point_told : (w : Item) (part : Part R T N) → IsViewOf w part
+      → MultiPointMeans
+      (record { dimensions = λ m. as_dimensions (multi_point_layout m).dimension; points = seen_points })
+      part (geometry_seen w)
+  multi_point_told w (handed.MultiPoint m) e = multi_point_means m.now ∙ ap geometry_seen e
+  multi_point_told w _ e = tt
+
+  pub multi_line_string_told : (w : Item) (part : Part R T N) → IsViewOf w part
+      → MultiLineStringMeans
+      (record {
+        dimensions = λ m. as_dimensions m.dimension;
+        line_strings = fitted_parts;
+      }) part (geometry_seen w)
+  multi_line_string_told w (handed.MultiLineString m) e = ap geometry_seen e
+  multi_line_string_told w _ e = tt
+
+  pub multi_polygon_told : (w : Item) (part : Part R T N) → IsViewOf w part
+      → MultiPolygonMeans
+      (record {
+        dimensions = λ m. as_dimensions m.dimension;
+        polygons = fitted_members;
+      }) part (geometry_seen w)
+  multi_polygon_told w (handed.MultiPolygon m) e = ap geometry_seen e
+  multi_polygon_told w _ e = tt
+
+  pub collection_told : (w : Item) (part : Part R T N) → IsViewOf w part
+      → CollectionMeans (as_dimensions (value.dimension w.value)) geometry_seen part (geometry_seen w)
+  collection_told w (handed.GeometryCollection gs) e =
+      let c = e.whole in
+      let seen = members_are gs.now ∙ ap members_seen e.all.value in
+      rw (← e.is)
+      (ap (λ (l : Geometries). collection (as_dimensions c.dimension) l)
+      (ap geometries seen ∙ members_together c.parts))
+  collection_told w _ e = tt
+
+  pub rect_told : (kind : RectMembers R) (w : Item) (part : Part R T N) → IsViewOf w part
+      → RectMeans kind part (geometry_seen w)
+  rect_told kind w (handed.Rect x) e = absurd e
+  rect_told kind w _ e = tt
+
+  pub triangle_told : (kind : TriangleMembers T) (w : Item) (part : Part R T N) → IsViewOf w part
+      → TriangleMeans kind part (geometry_seen w)
+  triangle_told kind w (handed.Triangle x) e = absurd e
+  triangle_told kind w _ e = tt
+
+  pub line_told : (kind : LineMembers N) (w : Item) (part : Part R T N) → IsViewOf w part
+      → LineMeans kind part (geometry_seen w)
+  line_told kind w (handed.Line x) e = absurd e
+  line_told kind w _ e = tt

@@ -1,15 +1,11 @@
 -- The bytes of the members of open collections.
-use Rattle.wkb_read.proofs.Words.{collection, member_count, listed_count, list_item, collection_with, Head, ◌≡◌, ℕ, ◌+◌}
-use Rattle.wkb_read.proofs.Words.{◌-◌, ◌≤◌, List, [], ◌∷◌, ◌++◌, length}
-use Rattle.wkb_read.proofs.Words.{take, drop, Ok, Err, refl, sym, ap, subst, ◌∙◌, append_assoc, append-nil, Bool}
-use Rattle.wkb_read.proofs.Words.{Option, length-append, length-drop, slice_get}
-use Rattle.wkb_read.proofs.Words.{AllByRecursion, ∥∥₁_elim, props, arith, Bor, Layout, any, number, Listed, Values}
-use Rattle.wkb_read.proofs.Words.{Item, Reading, body_start, parts_start}
-use Rattle.wkb_read.proofs.Words.{consumed, spellings, values, Counts, HasHead, BytesSpell, Wkb, Whole}
-use Rattle.wkb_read.proofs.Words.{joined_encodings}
-use Rattle.wkb_read.proofs.Words.{parts_in}
-use Rattle.wkb_read.proofs.Words.{HoldsMembers, IsCollectionIn, AreMembers}
-use Rattle.wkb_read.proofs.Words.{IsMemberAt, geometry_inside, IsFinished, BeginsAs, max_nesting}
+use Rattle.wkb_read.proofs.Prelude.{collection, member_count, listed_count, list_item, collection_with, Head, ◌≡◌, ℕ, ◌+◌}
+use Rattle.wkb_read.proofs.Prelude.{◌-◌, ◌≤◌, List, [], ◌∷◌, ◌++◌, length, take, drop, Ok, Err, refl, sym, ap, subst, ◌∙◌}
+use Rattle.wkb_read.proofs.Prelude.{append_assoc, append-nil, Bool, Option, length-append, length-drop, slice_get}
+use Rattle.wkb_read.proofs.Prelude.{AllByRecursion, ∥∥₁_elim, props, arith, Bor, Layout, any, number, Listed, Values}
+use Rattle.wkb_read.proofs.Prelude.{Item, Reading, body_start, parts_start, consumed, spellings, values, Counts, HasHead}
+use Rattle.wkb_read.proofs.Prelude.{BytesSpell, Wkb, Whole, joined_encodings, parts_in, HoldsMembers, IsCollectionIn}
+use Rattle.wkb_read.proofs.Prelude.{AreMembers, IsMemberAt, geometry_inside, IsFinished, BeginsAs, max_nesting}
 use Rattle.wkb_geom.specs.declared.code.WkbType.TheVariants as kinds
 use Rattle.wkb_geom.specs.Numbers.{IsNumber}
 use Rattle.wkb_geom.specs.Spellings.{SpellsEach}
@@ -27,7 +23,7 @@ joined_encodings-append (x ∷ xs) ys =
     ap (λ (b : List ℕ). x.encoding ++ b) (joined_encodings-append xs ys)
     ∙ sym (append_assoc x.encoding (joined_encodings xs) (joined_encodings ys))
 
--- with one member more, that many bytes more are the members'
+-- with one member more, its bytes come after the others
 pub one_more : (xs : List Item) (x : Item) (rest : List ℕ)
     → joined_encodings (xs ++ x ∷ []) ++ rest ≡ joined_encodings xs ++ (x.encoding ++ rest)
 one_more xs x rest =
@@ -59,13 +55,13 @@ read_by levels bytes (c, Ok x) h w rest e long =
 read_by levels bytes (c, Err f) h w rest e long = absurd cc
 
 pub part_read : (w : Wkb) (rest : Bor (List ℕ)) (bytes : List ℕ) (depth : ℕ) (old new : Counts)
-    → BeginsAs (geometry_inside depth bytes) depth bytes (Ok (Whole w rest)) old new → PartRead bytes w rest.now
+    → BeginsAs geometry_inside depth bytes (Ok (Whole w rest)) old new → PartRead bytes w rest.now
 part_read w rest bytes depth old new b =
     let levels = max_nesting - depth in
     read_by levels bytes (geometry_inside depth bytes) (geometry_says levels bytes) w rest.now
     (sym (ap (λ (x : Reading Item). x.1) b.0)) b.1
 
--- what stands in front of the rest is what was taken
+-- what comes before the rest is what was taken
 pub front_taken : (n : ℕ) (bytes encoding rest : List ℕ) → n ≤ length bytes → encoding ≡ take n bytes
     → rest ≡ drop n bytes → encoding ≡ consumed bytes rest
 front_taken n bytes encoding rest long encoding-is rest-is =
@@ -84,7 +80,7 @@ count_values : (ms : List Item) → count (values ms) ≡ length ms
 count_values [] = refl
 count_values (m ∷ ms) = omega (arith, count_values ms)
 
--- what it is, and what stands behind it
+-- what it is, and what comes after it
 pub record Closed (l : Layout) (bytes : List ℕ) (members : List Item) (rest : List ℕ) : Type 0 where
   pub collection : IsCollectionIn l members (consumed bytes rest)
   pub whole : bytes ≡ consumed bytes rest ++ rest
@@ -132,7 +128,7 @@ are_members l members encoding h = record {
   value = refl;
 }
 
--- members that stand in the same bytes, with the same spellings, are the same
+-- members with the same bytes, spellings and values are the same
 same_members : (xs ys : List Item) → AllByRecursion BytesSpell xs → AllByRecursion BytesSpell ys
     → spellings xs ≡ spellings ys → values xs ≡ values ys
     → joined_encodings xs ≡ joined_encodings ys → xs ≡ ys

@@ -1,16 +1,14 @@
 -- Open collections, as a part of one is finished.
-use Rattle.wkb_read.proofs.Words.{◌≡◌, ℕ, suc, ◌+◌, ◌≤◌, List, [], ◌∷◌, ◌++◌, length, Ok, Err, refl, sym, ap, subst}
-use Rattle.wkb_read.proofs.Words.{◌∙◌, append_assoc}
-use Rattle.wkb_read.proofs.Words.{length-append, arith, Bor, Item, Cost, ◌⊕◌, one_turn, Reading, costs, done, and_then}
-use Rattle.wkb_read.proofs.Words.{repeated, consumed, Layout, BytesSpell}
-use Rattle.wkb_read.proofs.Words.{Refusal, Fault, Memory, Counts, Spent, AtMost, CanCount, Stops, Wkb, Open, Whole}
-use Rattle.wkb_read.proofs.Words.{Opened, IsCollectionIn, closing, list_item}
-use Rattle.wkb_read.proofs.Words.{collection_with, geometry_inside, behind_member, in_collection, outward, first_member}
-use Rattle.wkb_read.proofs.Words.{cost_of, next_turn, IsOpen, AreOpen}
-use Rattle.wkb_read.proofs.Words.{IsFinished, BeginsAs, ReadsAs, Result}
+use Rattle.wkb_read.specs.Prelude.refusals
+use Rattle.wkb_read.proofs.Prelude.{◌≡◌, ℕ, suc, ◌+◌, ◌≤◌, List, [], ◌∷◌, ◌++◌, length, Ok, Err, refl, sym, ap, subst}
+use Rattle.wkb_read.proofs.Prelude.{◌∙◌, append_assoc, length-append, arith, Bor, Item, Cost, ◌⊕◌, one_turn, Reading}
+use Rattle.wkb_read.proofs.Prelude.{costs, done, and_then, repeated, consumed, Layout, BytesSpell, Refusal}
+use Rattle.wkb_read.proofs.Prelude.{Counts, Spent, AtMost, CanCount, Stops, Wkb, Open, Whole, Opened, IsCollectionIn}
+use Rattle.wkb_read.proofs.Prelude.{closing, list_item, collection_with, geometry_inside, after_member, in_collection}
+use Rattle.wkb_read.proofs.Prelude.{outward, first_member, cost_of, next_turn, IsOpen, AreOpen, IsFinished, BeginsAs}
+use Rattle.wkb_read.proofs.Prelude.{ReadsAs, Result}
 use Rattle.wkb_read.proofs.Algebra.{cost_is, costs-costs, and_then-costs, and_then-assoc, and_then-same, and_then-least}
-use Rattle.wkb_read.proofs.Algebra.{done_then, repeated_more}
-use Rattle.wkb_read.proofs.Algebra.{repeated_none}
+use Rattle.wkb_read.proofs.Algebra.{done_then, repeated_more, repeated_none}
 use Rattle.wkb_read.proofs.Placed.{Closed, closed, one_more, part_read}
 use Rattle.wkb_view.specs.Entries.{entries, capacity}
 use Rattle.wkb_view.proofs.Members.{all_more}
@@ -41,7 +39,7 @@ moved os old new before after whole e so_far =
 -- a collection is opened, and its first member begins
 pub enters : (o : Open) (os : List Open) (rest : Bor (List ℕ)) (bytes : List ℕ) (mid new after : Counts)
     (whole : Reading Item) → Reaches os bytes mid whole
-    → BeginsAs (geometry_inside (length os) bytes) (length os) bytes (Ok (Opened o rest)) mid new
+    → BeginsAs geometry_inside (length os) bytes (Ok (Opened o rest)) mid new
     → cost_of after ≡ next_turn (cost_of new)
     → Reaches (o ∷ os) rest.now after whole
 enters o os rest bytes mid new after whole r b turn =
@@ -62,7 +60,7 @@ enters o os rest bytes mid new after whole r b turn =
 -- a whole part was read
 pub finishes : (w : Wkb) (os : List Open) (rest : Bor (List ℕ)) (bytes : List ℕ) (mid new : Counts)
     (whole : Reading Item) → Reaches os bytes mid whole
-    → BeginsAs (geometry_inside (length os) bytes) (length os) bytes (Ok (Whole w rest)) mid new
+    → BeginsAs geometry_inside (length os) bytes (Ok (Whole w rest)) mid new
     → Finishes os w rest.now new whole
 finishes w os rest bytes mid new whole r b =
     let p = part_read w rest bytes (length os) mid new b in
@@ -99,15 +97,15 @@ pub stops_outward : (refusal : Refusal) (r : Reading Item) (f : Item → List �
     (old mid new : Counts)
     → costs (cost_of mid) (and_then r f) ≡ costs (cost_of old) whole → Stops refusal r mid new
     → Stops refusal whole old new
-stops_outward (Fault cause) (c, Ok x) f whole old mid new so_far h = absurd cc
-stops_outward (Fault cause) (c, Err e) f whole old mid new so_far h = (
+stops_outward (refusals.Cause cause) (c, Ok x) f whole old mid new so_far h = absurd cc
+stops_outward (refusals.Cause cause) (c, Err e) f whole old mid new so_far h = (
   sym (ap (λ (s : Reading Item). s.1) so_far) ∙ h.0,
   record {
     turns = omega (arith, h.1.turns, ap (λ (s : Reading Item). s.0.turns) so_far);
     slots = omega (arith, h.1.slots, ap (λ (s : Reading Item). s.0.slots) so_far);
   },
 )
-stops_outward Memory r f whole old mid new so_far most =
+stops_outward refusals.Memory r f whole old mid new so_far most =
     let part = and_then-least r f in
     record {
       turns = omega (arith, most.turns, part.0, ap (λ (s : Reading Item). s.0.turns) so_far);
@@ -136,14 +134,14 @@ reads_on (Ok w) r whole old mid new e h = (
     slots = omega (arith, h.1.slots, ap (λ (s : Reading Item). s.0.slots) e);
   },
 )
-reads_on (Err (Fault cause)) r whole old mid new e h = (
+reads_on (Err (refusals.Cause cause)) r whole old mid new e h = (
   sym (ap (λ (s : Reading Item). s.1) e) ∙ h.0,
   record {
     turns = omega (arith, h.1.turns, ap (λ (s : Reading Item). s.0.turns) e);
     slots = omega (arith, h.1.slots, ap (λ (s : Reading Item). s.0.slots) e);
   },
 )
-reads_on (Err Memory) r whole old mid new e h = record {
+reads_on (Err refusals.Memory) r whole old mid new e h = record {
   turns = omega (arith, h.turns, ap (λ (s : Reading Item). s.0.turns) e);
   slots = omega (arith, h.slots, ap (λ (s : Reading Item). s.0.slots) e);
 }
@@ -160,8 +158,8 @@ pub record IsNext (o next : Open) (m : Item) : Type 0 where
 
 member_more : (member : List ℕ → Reading Item) (l : Layout) (bytes : List ℕ) (n : ℕ) (front : List Item) (m : Item)
     (rest : List ℕ)
-    → behind_member member l bytes (suc n) front m rest
-    ≡ costs one_turn (and_then (member rest) (behind_member member l bytes n (front ++ m ∷ [])))
+    → after_member member l bytes (suc n) front m rest
+    ≡ costs one_turn (and_then (member rest) (after_member member l bytes n (front ++ m ∷ [])))
 member_more member l bytes n front m rest =
     repeated_more n member rest (λ xs after. closing l bytes (front ++ m ∷ xs) after)
     ∙ ap (λ (r : Reading Item). costs one_turn r)

@@ -1,11 +1,11 @@
-pub mod Words
-pub mod Geometries
-pub mod GeometriesFall
+pub mod Prelude
+pub mod Items
+pub mod ItemsFall
 pub mod Memory
 pub mod Nodes
 pub mod Placed
 pub mod Views
-pub mod Public
+pub mod Reads
 pub mod Stack
 pub mod Types
 pub mod Seen

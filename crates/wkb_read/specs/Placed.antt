@@ -1,11 +1,14 @@
--- Where the members of a collection stand in its bytes.
+-- Where the members of a collection are in its bytes.
 use Rattle.std.specs.Prelude.{◌≡◌, ℕ, ◌+◌, ◌≤◌, List, [], ◌∷◌, ◌++◌, length, Bool, Option, slice_get}
 use Rattle.std.specs.Option.{is_some}
-use Rattle.wkb_read.specs.Words.{Layout, Values, Listed, Item, Reading, done}
 use Rattle.std.specs.List.{AllByRecursion}
-use Rattle.wkb_read.specs.Words.{list_item, collection_with, spelled_in, consumed, body_start, parts_start, spellings}
-use Rattle.wkb_read.specs.Words.{values, srid_of}
-use Rattle.wkb_read.specs.Words.{members_spelled, BytesSpell}
+use Rattle.wkb_read.specs.Prelude.{Layout, Values, Listed, whole_of, collection, Item, Reading, done, list_item}
+use Rattle.wkb_read.specs.Prelude.{collection_with, spelled_in, consumed, body_start, parts_start, spellings, values}
+use Rattle.wkb_read.specs.Prelude.{srid_of, members_spelled, BytesSpell}
+
+-- the item that a collection is
+abbrev pub collection_seen : Listed Values → Item
+collection_seen = whole_of collection
 
 -- the collection that an encoding is, by its layout and its members, as a view of it holds it
 abbrev pub parts_in : Layout → List Item → List ℕ → Listed Values
@@ -20,18 +23,18 @@ parts_in l members encoding = record {
 abbrev pub closing : Layout → List ℕ → List Item → List ℕ → Reading Item
 closing l bytes members after = done (list_item l collection_with members (consumed bytes after)) after
 
--- the bytes of these geometries, one behind the other
+-- the bytes of these geometries, one after another
 abbrev pub joined_encodings : List Item → List ℕ
 joined_encodings [] = []
 joined_encodings (m ∷ ms) = m.encoding ++ joined_encodings ms
 
--- behind a collection's count stand its members, one behind the other, each spelled by its bytes, and nothing else
+-- after a collection's count come its members, one after another, each spelled by its bytes, and nothing else
 pub record HoldsMembers (has_srid : Bool) (encoding : List ℕ) (members : List Item) : Type 0 where
   pub long : body_start has_srid + 4 ≤ length encoding
   pub behind : parts_start has_srid encoding ≡ joined_encodings members
   pub each : AllByRecursion BytesSpell members
 
--- so it is with this encoding, which spells the collection
+-- this encoding holds these members, and spells their collection
 abbrev pub IsCollectionIn : Layout → List Item → List ℕ → Type 0
 IsCollectionIn l members encoding =
     HoldsMembers l.has_srid encoding members × BytesSpell (list_item l collection_with members encoding)

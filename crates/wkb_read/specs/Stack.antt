@@ -1,40 +1,41 @@
 -- The collections that are open around what is read, and how reading goes on once it is read.
 use Rattle.std.specs.Prelude.{◌≡◌, ℕ, suc, ◌<◌, ◌+◌, ◌-◌, ◌*◌, ◌/◌, ◌≤◌, min, List, [], ◌∷◌, ◌++◌, length, drop, Result}
-use Rattle.std.specs.Prelude.{Ok, Err, Option, Some}
-use Rattle.std.specs.Prelude.{None}
+use Rattle.std.specs.Prelude.{Ok, Err, Option, Some, None}
 use Rattle.std.specs.List.{AllByRecursion}
-use Rattle.wkb_read.specs.Words.{Refusal, Head, Layout, max_nesting, number, Item, Cost, Reading, costs, one_turn, done}
-use Rattle.wkb_read.specs.Words.{and_then}
-use Rattle.wkb_read.specs.Words.{repeated, collection_within, layout_of, body_at, body_start, parts_start, geometry_at}
-use Rattle.wkb_read.specs.Words.{Counts, HasHead, Spent, Stops}
-use Rattle.wkb_read.specs.Words.{BytesSpell}
+use Rattle.wkb_read.specs.Prelude.{Refusal, Layout, max_nesting, number, Item, Cost, Reading, costs, one_turn, done}
+use Rattle.wkb_read.specs.Prelude.{and_then, repeated, collection_within, body_start, parts_start, geometry_at, Counts}
+use Rattle.wkb_read.specs.Prelude.{HasHead, Spent, Stops, BytesSpell}
 use Rattle.wkb_view.specs.Entries.{entries, capacity}
 use Rattle.wkb_geom.specs.declared.code.WkbType.TheVariants as kinds
 use Rattle.wkb_read.specs.declared.geometry.Wkb.{Wkb}
-use Rattle.wkb_read.specs.declared.read.unfinished.Open.{Open}
-use Rattle.wkb_read.specs.declared.read.unfinished.Begun.{Begun}
-use Rattle.wkb_read.specs.declared.read.unfinished.Begun.TheVariants.{Whole, Opened}
+use Rattle.wkb_read.specs.declared.read.stack.Open.{Open}
+use Rattle.wkb_read.specs.declared.read.stack.Begun.{Begun}
+use Rattle.wkb_read.specs.declared.read.stack.Begun.TheVariants.{Whole, Opened}
 use Rattle.wkb_read.specs.Placed.{joined_encodings, closing}
 
--- a geometry inside so many open collections
+-- the reading of a geometry inside this number of open collections
 abbrev pub geometry_inside : ℕ → List ℕ → Reading Item
 geometry_inside depth = geometry_at (max_nesting - depth)
 
--- what comes of a collection once a member is finished, by what reads those behind it
-abbrev pub behind_member : (List ℕ → Reading Item) → Layout → List ℕ → ℕ → List Item → Item → List ℕ → Reading Item
-behind_member member l bytes left front x rest =
+-- the reading of a collection's count and members, inside this number of open collections
+abbrev pub collection_inside : Layout → ℕ → List ℕ → Reading Item
+collection_inside l depth = collection_within (max_nesting - depth) l
+
+-- how a collection is read on once a member is finished, by the reading of the members after it
+abbrev pub after_member : (List ℕ → Reading Item) → Layout → List ℕ → ℕ → List Item → Item → List ℕ → Reading Item
+after_member member l bytes left front x rest =
     and_then (repeated left member rest) (λ xs after. closing l bytes (front ++ x ∷ xs) after)
 
--- the same of an open collection inside so many others
+-- the same of an open collection inside this number of others
 abbrev pub in_collection : ℕ → Open → Item → List ℕ → Reading Item
-in_collection depth o = behind_member (geometry_inside (suc depth)) o.layout o.bytes.now o.left (entries o.members)
+in_collection depth o = after_member (geometry_inside (suc depth)) o.layout o.bytes.now o.left (entries o.members)
 
--- what comes of a finished part inside these collections, the innermost first
+-- how reading goes on once a part is finished inside these collections, the innermost first
 abbrev pub outward : List Open → Item → List ℕ → Reading Item
 outward [] x rest = done x rest
 outward (o ∷ os) x rest = and_then (in_collection (length os) o x rest) (outward os)
 
--- what comes of the first member of a collection that was opened inside so many others
+-- the reading of a collection from its first member on, inside this number of open collections
 abbrev pub first_member : ℕ → Open → List ℕ → Reading Item
 first_member depth o bytes = costs one_turn (and_then (geometry_inside (suc depth) bytes) (in_collection depth o))
 
@@ -46,16 +47,16 @@ cost_of c = record { turns = c.turns; slots = c.slots }
 abbrev pub next_turn : Cost → Cost
 next_turn c = record { turns = c.turns + 1; slots = c.slots }
 
--- where the members of an open collection begin, and how many there are in all
+-- where the members of an open collection begin
 abbrev pub members_start : Open → ℕ
 members_start o = body_start o.layout.has_srid + 4
 
+-- how many members an open collection has: those that were read, the current one, and those after it
 abbrev pub members_count : Open → ℕ
 members_count o = length (entries o.members) + 1 + o.left
 
--- Behind an open collection's count stand its members so far, each spelled by its bytes, and then these bytes, with
--- which
--- the current one begins; and its list has room for the others.
+-- After an open collection's count come its members so far, each spelled by its bytes, and then these bytes, with which
+-- the current member begins. The collection's list has room for the members left.
 pub record IsOpen (o : Open) (here : List ℕ) : Type 0 where
   pub head : HasHead (λ d. kinds.GeometryCollection d) o.layout o.bytes.now
   pub count : number o.layout.order 4 (drop (body_start o.layout.has_srid) o.bytes.now) ≡ members_count o
@@ -64,7 +65,8 @@ pub record IsOpen (o : Open) (here : List ℕ) : Type 0 where
   pub within : 9 * length (entries o.members) + length here + members_start o ≤ length o.bytes.now
   pub room : min (members_count o) ((length o.bytes.now - members_start o) / 9) ≤ capacity o.members
 
--- so it is of each of them: its current member began where the next inner one did
+-- Each of these collections is open, the innermost first: its current member begins where the next inner one does, and
+-- that of the innermost with these bytes.
 abbrev pub AreOpen : List Open → List ℕ → Type 0
 AreOpen [] here = Unit {0}
 AreOpen (o ∷ os) here = IsOpen o here × AreOpen os o.bytes.now
@@ -74,24 +76,18 @@ pub record IsFinished (part : Item) : Type 0 where
   pub spelled : BytesSpell part
   pub long : 9 ≤ length part.encoding
 
--- what comes of a collection that is laid out so, inside so many others
-abbrev pub collection_inside : ℕ → Layout → List ℕ → Reading Item
-collection_inside depth l bytes = collection_within (max_nesting - depth) l bytes
+-- This result begins what a reading gives of these bytes inside this number of open collections: a whole geometry is
+-- what it gives; of a collection it gives what comes of the first member; a refusal is its own.
+abbrev pub BeginsAs : (ℕ → List ℕ → Reading Item) → ℕ → List ℕ → Result Begun Refusal → Counts → Counts → Type 0
+BeginsAs read depth bytes (Ok (Whole w rest)) old new =
+    (costs (cost_of new) (done w rest.now) ≡ costs (cost_of old) (read depth bytes))
+    × (length rest.now + 9 ≤ length bytes)
+BeginsAs read depth bytes (Ok (Opened o rest)) old new =
+    (costs (cost_of new) (first_member depth o rest.now) ≡ costs (cost_of old) (read depth bytes))
+    × (o.bytes.now ≡ bytes) × (depth < max_nesting) × IsOpen o rest.now
+BeginsAs read depth bytes (Err refusal) old new = Stops refusal (read depth bytes) old new
 
--- what comes of what stands behind a header
-abbrev pub body_inside : ℕ → Head → List ℕ → Reading Item
-body_inside depth h bytes = body_at (collection_within (max_nesting - depth)) h.wkb_type (layout_of h) bytes
-
--- what the beginning of a geometry leads to, where it is to lead to this reading
-abbrev pub BeginsAs : Reading Item → ℕ → List ℕ → Result Begun Refusal → Counts → Counts → Type 0
-BeginsAs whole depth bytes (Ok (Whole w rest)) old new =
-    (costs (cost_of new) (done w rest.now) ≡ costs (cost_of old) whole) × (length rest.now + 9 ≤ length bytes)
-BeginsAs whole depth bytes (Ok (Opened o rest)) old new =
-    (costs (cost_of new) (first_member depth o rest.now) ≡ costs (cost_of old) whole) × (o.bytes.now ≡ bytes)
-    × (depth < max_nesting) × IsOpen o rest.now
-BeginsAs whole depth bytes (Err refusal) old new = Stops refusal whole old new
-
--- what is known once a part is finished: all is, or the next part begins
+-- what is known of the open collections once a part in them is finished: all is read, or the next part begins
 abbrev pub Settles : List Open → List Open → Item → List ℕ → Option Item → Counts → Counts → Type 0
 Settles before after finished rest (Some w) old new =
     (after ≡ []) × (costs (cost_of new) (done w rest) ≡ costs (cost_of old) (outward before finished rest))
@@ -100,7 +96,7 @@ Settles before after finished rest None old new =
     ≡ costs (cost_of old) (outward before finished rest))
     × AreOpen after rest × (length after ≤ length before)
 
--- the answer is what this reading gives, and what it cost was counted
+-- the result is what this reading gives, and what it cost was counted
 abbrev pub ReadsAs : Reading Item → Result Wkb Refusal → Counts → Counts → Type 0
 ReadsAs whole (Ok w) old new = ((rest : List ℕ) × (whole.1 ≡ Ok (w, rest))) × Spent old new whole.0
 ReadsAs whole (Err refusal) old new = Stops refusal whole old new

@@ -1,11 +1,12 @@
 -- The kind of a value.
-use Rattle.wkb_read.specs.Words.{Value, polygon, multi_line_string, multi_polygon, collection}
+use Rattle.wkb_read.specs.Prelude.{Value, polygon, multi_line_string, multi_polygon, collection}
 use Rattle.wkb_geom.specs.Values.{point, line_string, multi_point}
 use Rattle.wkb_read.specs.declared.geometry_type.GeometryType.{GeometryType}
 use Rattle.wkb_read.specs.declared.geometry_type.GeometryType.TheVariants.{Point, LineString, Polygon, MultiPoint}
 use Rattle.wkb_read.specs.declared.geometry_type.GeometryType.TheVariants.{MultiLineString, MultiPolygon}
 use Rattle.wkb_read.specs.declared.geometry_type.GeometryType.TheVariants.{GeometryCollection}
 
+-- the kind that a value has, as the reader names it
 abbrev pub geometry_type_of : Value → GeometryType
 geometry_type_of (point d c) = Point
 geometry_type_of (line_string d cs) = LineString

@@ -1,20 +1,19 @@
--- What `as_type` of a geometry of any kind hands out: the view of its kind, or the members of a collection.
+-- What `as_type` of a geometry of any kind returns: the view of its kind, or the members of a collection.
 use Rattle.std.specs.Prelude.{◌≡◌, List}
-use Rattle.wkb_read.specs.Words.{Coordinate, Values, polygon, multi_line_string, multi_polygon, collection, Listed}
-use Rattle.wkb_read.specs.Words.{whole_of, Item, point_seen}
-use Rattle.wkb_read.specs.Words.{line_string_seen, multi_point_seen}
+use Rattle.wkb_read.specs.Prelude.{Coordinate, Values, Listed, Item, point_seen, line_string_seen, polygon_seen}
+use Rattle.wkb_read.specs.Prelude.{multi_point_seen, multi_line_string_seen, multi_polygon_seen}
 use Rattle.wkb_geom.specs.declared.geom.GeometryType.{GeometryType}
 use Rattle.wkb_geom.specs.declared.geom.GeometryType.TheVariants.{Point, LineString, Polygon, MultiPoint}
 use Rattle.wkb_geom.specs.declared.geom.GeometryType.TheVariants.{MultiLineString, MultiPolygon, GeometryCollection}
 use Rattle.wkb_view.specs.declared.point.Point as views
 use Rattle.wkb_view.specs.declared.line_string.LineString as lines
 use Rattle.wkb_view.specs.declared.multi_point.MultiPoint as points
-use Rattle.wkb_read.specs.Placed.{AreMembers}
+use Rattle.wkb_read.specs.Placed.{collection_seen, AreMembers}
 
 -- a collection with these members, which is this geometry
 pub record IsCollectionOf (w : Item) (members : List Item) : Type 0 where
   pub whole : Listed Values
-  pub is : whole_of collection whole ≡ w
+  pub is : collection_seen whole ≡ w
   pub all : AreMembers whole members
 
 -- the view is the geometry's: it has its bytes, its spelling and its value
@@ -24,9 +23,9 @@ abbrev pub IsViewOf : {R T N : Type 0} → Item
     → Type 0
 IsViewOf w (Point p) = point_seen p.now ≡ w
 IsViewOf w (LineString l) = line_string_seen l.now ≡ w
-IsViewOf w (Polygon p) = whole_of polygon p.now ≡ w
+IsViewOf w (Polygon p) = polygon_seen p.now ≡ w
 IsViewOf w (MultiPoint m) = multi_point_seen m.now ≡ w
-IsViewOf w (MultiLineString m) = whole_of multi_line_string m.now ≡ w
-IsViewOf w (MultiPolygon m) = whole_of multi_polygon m.now ≡ w
+IsViewOf w (MultiLineString m) = multi_line_string_seen m.now ≡ w
+IsViewOf w (MultiPolygon m) = multi_polygon_seen m.now ≡ w
 IsViewOf w (GeometryCollection gs) = IsCollectionOf w gs.now
 IsViewOf w _ = ⊥

@@ -1,11 +1,11 @@
 //! Collections, and geometries of any kind.
 
-ghost use Rattle.wkb_read.specs.Words.{dimensions as trait_dimensions};
+ghost use Rattle.wkb_read.specs.Prelude.{as_dimensions};
 ghost use Rattle.wkb_read.specs.Seen.{members_seen, geometry_seen, members_lawful, geometry_lawful};
 ghost use Rattle.wkb_read.specs.Seen.{one_dimension_seen};
 
 use crate::geometry_type::GeometryType as TypeName;
-use crate::read::stack::read_wkb;
+use crate::read::read_wkb;
 use std::alloc::{AllocError, Global};
 use std::marker::Model;
 use wkb_geom::error::WkbResult;
@@ -52,8 +52,8 @@ pub struct Wkb<'a> {
     pub(crate) kind: View<'a>,
 }
 
-// By a function of its own: a derived one would be written out, and proved, wherever a geometry is let go. The compiler
-// inlines it all the same, since for a point there is nothing to do.
+// Not derived: a derived `drop` would be written out, and proved, wherever a geometry is dropped. It is inlined all the
+// same, since for a point there is nothing to do.
 impl Drop for Wkb<'_> {
     #[cycle(geometry)]
     #[inline(always)]
@@ -63,7 +63,7 @@ impl Drop for Wkb<'_> {
 }
 
 impl<'a> Model for GeometryCollection<'a> {
-    ghost use Rattle.wkb_read.specs.Words.{Values, Listed, listed_code, values_code};
+    ghost use Rattle.wkb_read.specs.Prelude.{Values, Listed, listed_code, values_code};
     ghost use Rattle.wkb_read.specs.Nodes.{size_inside, members_fall};
     ghost use Rattle.wkb_read.specs.Placed.{IsCollectionIn, parts_in};
 
@@ -81,27 +81,28 @@ impl<'a> Model for GeometryCollection<'a> {
 }
 
 impl<'a> Model for Wkb<'a> {
-    ghost use Rattle.wkb_read.specs.Words.{Item, item_code};
+    ghost use Rattle.wkb_read.specs.Prelude.{Item, item_code};
     ghost use Rattle.wkb_read.specs.Nodes.{size_outside};
 
     ghost Value = { Item };
 
     ghost coded = { item_code };
 
-    ghost use Rattle.wkb_read.specs.Geometries.{kind_seen};
+    ghost use Rattle.wkb_read.specs.Items.{kind_seen};
 
     ghost view = { λ a. kind_seen a.kind };
 
     ghost size = { size_outside };
 
-    ghost use Rattle.wkb_read.specs.GeometriesFall.{kind_falls};
+    ghost use Rattle.wkb_read.specs.ItemsFall.{kind_falls};
 
     ghost size_decreases = { λ a h. kind_falls a.kind };
 }
 
 impl<'a> GeometryCollection<'a> {
     ghost use Rattle.std.specs.Prelude.{◌≡◌, IfOk, length};
-    ghost use Rattle.wkb_read.specs.Words.{whole_of, collection, srid_of, BytesSpell};
+    ghost use Rattle.wkb_read.specs.Prelude.{srid_of, BytesSpell};
+    ghost use Rattle.wkb_read.specs.Placed.{collection_seen};
 
     /// The number of its bytes.
     #[inline]
@@ -123,7 +124,7 @@ impl<'a> GeometryCollection<'a> {
     #[inline]
     pub fn buf(&self) -> &'a [u8]
         ensures encoding { result.now ≡ self.now.encoding }
-        ensures spells { BytesSpell (whole_of collection self.now) }
+        ensures spells { BytesSpell (collection_seen self.now) }
     {
         self.buf
     }
@@ -154,7 +155,7 @@ impl<'a> GeometryCollection<'a> {
 }
 
 impl Dimensioned for GeometryCollection<'_> {
-    ghost dimensions = { λ c. trait_dimensions c.dimension };
+    ghost dimensions = { λ c. as_dimensions c.dimension };
 
     #[inline]
     fn dim(&self) -> Dimensions {
@@ -191,22 +192,18 @@ impl<'a> GeometryCollectionTrait for GeometryCollection<'a> {
             ≡ slice_get (members_seen self.now.parts) i }
         ensures one { IsMemberAt self.now i (option_map (λ g. g.now) result) }
     {
-        if i < self.members.len() {
-            Some(&self.members[i])
-        } else {
-            None
-        }
+        self.members.get(i)
     }
 }
 
 impl<'a> Wkb<'a> {
-    ghost use Rattle.std.specs.Prelude.{◌≡◌, IfOk, MatchOption, None, Some};
-    ghost use Rattle.wkb_read.specs.Words.{srid_of, whole_of, collection, dimension, IsCollection};
-    ghost use Rattle.wkb_read.specs.Words.{BytesSpell};
+    ghost use Rattle.std.specs.Prelude.{◌≡◌, IfOk, IfSome, IsSome};
+    ghost use Rattle.wkb_read.specs.Prelude.{srid_of, dimension, IsCollection, BytesSpell};
+    ghost use Rattle.wkb_read.specs.Placed.{collection_seen};
     ghost use Rattle.wkb_read.specs.Types.{geometry_type_of};
-    ghost use Rattle.wkb_read.specs.Public.{Reads};
+    ghost use Rattle.wkb_read.specs.Reads.{Reads};
 
-    /// The geometry at the front of the bytes, as `read_wkb` answers it.
+    /// The geometry at the front of the bytes, as `read_wkb` returns it.
     pub fn try_new(alloc: Global, buf: &'a [u8]) -> WkbResult<Wkb<'a>>
         ensures { Reads buf.now result }
     {
@@ -276,8 +273,8 @@ impl<'a> Wkb<'a> {
 
     /// The collection that this is, if it is one.
     pub fn as_geometry_collection(&self) -> Option<&GeometryCollection<'a>>
-        ensures { MatchOption result (IsCollection self.now.value → ⊥)
-            (λ c. whole_of collection c.now ≡ self.now) }
+        ensures some { IsCollection self.now.value → IsSome result }
+        ensures collection { IfSome result (λ c. collection_seen c.now ≡ self.now) }
     {
         match &self.kind {
             View::GeometryCollection(collection) => Some(collection),
@@ -304,9 +301,9 @@ impl<'a> Wkb<'a> {
 }
 
 impl Dimensioned for Wkb<'_> {
-    ghost use Rattle.wkb_read.specs.Words.{dimension};
+    ghost use Rattle.wkb_read.specs.Prelude.{dimension};
 
-    ghost dimensions = { λ w. trait_dimensions (dimension w.value) };
+    ghost dimensions = { λ w. as_dimensions (dimension w.value) };
 
     #[inline]
     fn dim(&self) -> Dimensions {
@@ -341,7 +338,7 @@ impl<'a> GeometryTrait for Wkb<'a> {
 
     ghost lawful = { geometry_lawful };
 
-    /// The whole encoding, where memory holds it so: of what has no members, since these have headers of their own.
+    /// The bytes, where they are the encoding in this order and form: of a point, a line string or a polygon.
     #[inline(always)]
     fn whole(&self, order: Endianness, form: Form) -> Option<&[u8]> {
         match &self.kind {
@@ -381,9 +378,9 @@ impl<'a> GeometryTrait for Wkb<'a> {
 /// This collection, as a geometry of any kind.
 impl<'a> From<GeometryCollection<'a>> for Wkb<'a> {
     ghost use Rattle.std.specs.Prelude.{◌≡◌};
-    ghost use Rattle.wkb_read.specs.Words.{whole_of, collection as collected};
+    ghost use Rattle.wkb_read.specs.Placed.{collection_seen};
 
-    ghost from_gives = { λ c w. w ≡ whole_of collected c };
+    ghost from_gives = { λ c w. w ≡ collection_seen c };
 
     fn from(collection: GeometryCollection<'a>) -> Wkb<'a> {
         Wkb {

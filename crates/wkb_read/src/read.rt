@@ -1,4 +1,125 @@
-//! The reader.
+//! The reader: a geometry at the front of some bytes, as a view that borrows them.
 
-pub mod stack;
-pub(crate) mod unfinished;
+ghost use Rattle.std.specs.Prelude.{IfErr};
+ghost use Rattle.wkb_read.specs.Prelude.{max_nesting, geometry_at, CanCount, IsCause};
+ghost use Rattle.wkb_read.specs.Memory.{NeedsNone, ReadsWithoutMemory};
+ghost use Rattle.wkb_read.specs.Reads.{Reads, Costs};
+ghost use Rattle.wkb_read.specs.Stack.{geometry_inside, BeginsAs, ReadsAs};
+
+use crate::geometry::{View, Wkb};
+use crate::read::stack::{Begun, begin_collection, read_collection};
+use std::alloc::Global;
+use wkb_geom::code::WkbType;
+use wkb_geom::{Header, Refusal, WkbResult};
+use wkb_view::counts::Counts;
+use wkb_view::line_string::LineString;
+use wkb_view::multi_line_string::MultiLineString;
+use wkb_view::multi_point::MultiPoint;
+use wkb_view::multi_polygon::MultiPolygon;
+use wkb_view::point::Point;
+use wkb_view::polygon::Polygon;
+
+pub(crate) mod stack;
+
+/// The most collections that may be nested in one another; the 129th is refused.
+pub const MAX_WKB_NESTING_DEPTH: usize = 128;
+
+/// Reads the geometry at the front of the bytes; the bytes after it are not looked at.
+///
+/// A refusal is the first fault from left to right: `IOError` where a header or a count is cut short, `General` for a
+/// byte order, a code or a length, `IncorrectType` for a member of another kind or dimension than its multi geometry
+/// takes, `NestingDepthExceeded` for the 129th collection inside one another, `Memory` where an allocation fails.
+///
+/// ```
+/// // The SRID of the geometry at the front of the bytes.
+/// let wkb = read_wkb(alloc, bytes)?;
+/// let srid = wkb.srid();
+/// ```
+pub fn read_wkb<'a>(alloc: Global, buf: &'a [u8]) -> WkbResult<Wkb<'a>>
+    ensures { Reads buf.now result }
+{
+    read_and_count(alloc, buf, &mut Counts { turns: 0, slots: 0 })
+}
+
+/// Reads as `read_wkb` does, and counts what it cost, whatever the result.
+pub fn read_wkb_counted<'a>(alloc: Global, buf: &'a [u8]) -> (WkbResult<Wkb<'a>>, Counts)
+    ensures reads { Reads buf.now result.0 }
+    ensures costs { Costs buf.now result.0 result.1 }
+{
+    let mut counts = Counts { turns: 0, slots: 0 };
+    let result = read_and_count(alloc, buf, &mut counts);
+    (result, counts)
+}
+
+/// Reads as `read_wkb` does, and counts from zero what it costs.
+#[inline(always)]
+fn read_and_count<'a>(alloc: Global, buf: &'a [u8], counts: &mut Counts) -> WkbResult<Wkb<'a>>
+    ensures reads { Reads buf.now result }
+    ensures costs { Costs buf.now result counts.new }
+{
+    *counts = Counts { turns: 0, slots: 0 };
+    match read_geometry(alloc, buf, counts) {
+        Ok(whole) => Ok(whole),
+        Err(refusal) => Err(refusal.into()),
+    }
+}
+
+/// Reads the geometry at the front of the bytes. Only a collection that has members needs the loop over a stack.
+fn read_geometry<'a>(alloc: Global, buf: &'a [u8], counts: &mut Counts) -> Result<Wkb<'a>, Refusal>
+    requires fits { CanCount counts.old (geometry_at max_nesting buf.now).0 }
+    ensures reads { ReadsAs (geometry_at max_nesting buf.now) result counts.old counts.new }
+    ensures no_memory { ReadsWithoutMemory buf.now → IfErr result IsCause }
+{
+    match read_front(alloc, 0, buf, counts) {
+        Ok(Begun::Whole(whole, _)) => Ok(whole),
+        Ok(Begun::Opened(outermost, members)) => read_collection(alloc, outermost, members, counts),
+        Err(refusal) => Err(refusal),
+    }
+}
+
+/// Reads a header and what follows it, inside `depth` open collections: a whole geometry, or the count of a
+/// collection that has members.
+#[inline(always)]
+pub(crate) fn read_front<'a>(
+    alloc: Global,
+    depth: usize,
+    bytes: &'a [u8],
+    counts: &mut Counts,
+) -> Result<Begun<'a>, Refusal>
+    requires fits { CanCount counts.old (geometry_inside depth bytes.now).0 }
+    ensures begins { BeginsAs geometry_inside depth bytes.now result counts.old counts.new }
+    ensures no_memory { ReadsWithoutMemory bytes.now → NeedsNone result }
+{
+    let header = Header::read(bytes)?;
+    let layout = header.layout();
+    let (kind, rest) = match header.wkb_type {
+        WkbType::Point(_) => {
+            let (point, rest) = Point::read(layout, bytes)?;
+            (View::Point(point), rest)
+        }
+        WkbType::LineString(_) => {
+            let (line_string, rest) = LineString::read(layout, bytes)?;
+            (View::LineString(line_string), rest)
+        }
+        WkbType::Polygon(_) => {
+            let (polygon, rest) = Polygon::read(alloc, layout, bytes, counts)?;
+            (View::Polygon(polygon), rest)
+        }
+        WkbType::MultiPoint(_) => {
+            let (multi, rest) = MultiPoint::read(layout, bytes, counts)?;
+            (View::MultiPoint(multi), rest)
+        }
+        WkbType::MultiLineString(_) => {
+            let (multi, rest) = MultiLineString::read(alloc, layout, bytes, counts)?;
+            (View::MultiLineString(multi), rest)
+        }
+        WkbType::MultiPolygon(_) => {
+            let (multi, rest) = MultiPolygon::read(alloc, layout, bytes, counts)?;
+            (View::MultiPolygon(multi), rest)
+        }
+        WkbType::GeometryCollection(_) => return begin_collection(
+            alloc, depth, layout, bytes, counts,
+        ),
+    };
+    Ok(Begun::Whole(Wkb { kind }, rest))
+}

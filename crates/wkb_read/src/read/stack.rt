@@ -1,36 +1,40 @@
-//! Reading with an explicit stack of open collections.
+//! Reading the members of collections, with an explicit stack of open ones.
 
 ghost use Rattle.wkb_geom.specs.declared.code.WkbType.TheVariants as kinds;
-ghost use Rattle.std.specs.Prelude.{Ok, ◌≡◌, ◌++◌, ◌∷◌, [], ◌+◌, ◌*◌, ◌<◌, ◌^◌, length, reverse};
+ghost use Rattle.std.specs.Prelude.{◌≡◌, ◌++◌, ◌∷◌, [], ◌+◌, ◌<◌, ◌^◌, length, reverse};
 ghost use Rattle.std.specs.Prelude.{IfOk, IfErr};
-ghost use Rattle.wkb_read.specs.Words.{max_nesting, body_start, head_at, geometry_at, HasHead};
-ghost use Rattle.wkb_read.specs.Words.{IsNoWant, CanCount};
-ghost use Rattle.wkb_read.specs.Memory.{NeedsNone, BodyTakesNone, ReadsWithoutMemory};
-ghost use Rattle.wkb_read.specs.Public.{Reads, Costs};
-ghost use Rattle.wkb_read.specs.Stack.{geometry_inside, collection_inside, body_inside, outward};
-ghost use Rattle.wkb_read.specs.Stack.{first_member, cost_of, next_turn, IsOpen, AreOpen};
-ghost use Rattle.wkb_read.specs.Stack.{IsFinished, BeginsAs, Settles, ReadsAs};
+ghost use Rattle.wkb_read.specs.Prelude.{body_start, HasHead, CanCount};
+ghost use Rattle.wkb_read.specs.Memory.{NeedsNone};
+ghost use Rattle.wkb_read.specs.Stack.{collection_inside, outward, first_member, cost_of, next_turn};
+ghost use Rattle.wkb_read.specs.Stack.{IsOpen, AreOpen, IsFinished, BeginsAs, Settles, ReadsAs};
 
 use crate::geometry::{GeometryCollection, View, Wkb};
-use crate::read::unfinished::{Begun, Open};
+use crate::read::{MAX_WKB_NESTING_DEPTH, read_front};
 use std::alloc::{AllocError, Global};
-use wkb_geom::code::WkbType;
-use wkb_geom::header::LEAST_MEMBER;
-use wkb_geom::words::COUNT;
-use wkb_geom::{Cause, Header, Layout, Refusal, WkbResult};
+use wkb_geom::header::MIN_MEMBER_SIZE;
+use wkb_geom::words::COUNT_SIZE;
+use wkb_geom::{Cause, Layout, Refusal};
 use wkb_view::counts::Counts;
-use wkb_view::line_string::LineString;
-use wkb_view::multi_line_string::MultiLineString;
-use wkb_view::multi_point::MultiPoint;
-use wkb_view::multi_polygon::MultiPolygon;
-use wkb_view::point::Point;
-use wkb_view::polygon::Polygon;
-use wkb_view::reserved::counted_list;
+use wkb_view::reserved::{Reserved, counted_list};
 
-/// The most collections that may be nested in one another; the 129th is refused.
-pub const MAX_WKB_NESTING_DEPTH: usize = 128;
+/// An open collection: its bytes, from its order byte to the end of the input; how many members follow the one that is
+/// being read; and the members so far.
+#[derive(Drop)]
+pub(crate) struct Open<'a> {
+    pub(crate) layout: Layout,
+    pub(crate) bytes: &'a [u8],
+    pub(crate) left: u32,
+    pub(crate) members: Reserved<Wkb<'a>>,
+}
 
-/// Begins the collection that is laid out so, inside so many others.
+/// What the bytes begin with, and the bytes after it: a whole geometry, or a collection up to its first member.
+#[derive(Drop)]
+pub(crate) enum Begun<'a> {
+    Whole(Wkb<'a>, &'a [u8]),
+    Opened(Open<'a>, &'a [u8]),
+}
+
+/// Reads the count of the collection with this layout, inside `depth` open collections.
 #[tactic(auto, unfolding(wkb_geom::specs::Reading::collection_at))]
 pub(crate) fn begin_collection<'a>(
     alloc: Global,
@@ -40,16 +44,15 @@ pub(crate) fn begin_collection<'a>(
     counts: &mut Counts,
 ) -> Result<Begun<'a>, Refusal>
     requires head { HasHead (λ d. kinds.GeometryCollection d) layout bytes.now }
-    requires fits { CanCount counts.old (collection_inside depth layout bytes.now).0 }
-    ensures begins { BeginsAs (collection_inside depth layout bytes.now) depth bytes.now
-        result counts.old counts.new }
+    requires fits { CanCount counts.old (collection_inside layout depth bytes.now).0 }
+    ensures begins { BeginsAs (collection_inside layout) depth bytes.now result counts.old counts.new }
     ensures no_memory { length bytes.now < body_start layout.has_srid + 4 → NeedsNone result }
 {
     if depth >= MAX_WKB_NESTING_DEPTH {
-        return Err(Refusal::Fault(Cause::NestingDepthExceeded(MAX_WKB_NESTING_DEPTH)));
+        return Err(Refusal::Cause(Cause::NestingDepthExceeded(MAX_WKB_NESTING_DEPTH)));
     }
-    let (count, members) = counted_list(alloc, layout, bytes, LEAST_MEMBER, counts)?;
-    let (buf, rest) = bytes.split_at(layout.header_length() + COUNT);
+    let (count, members) = counted_list(alloc, layout, bytes, MIN_MEMBER_SIZE, counts)?;
+    let (buf, rest) = bytes.split_at(layout.header_length() + COUNT_SIZE);
     if count == 0 {
         let whole = Wkb {
             kind: View::GeometryCollection(GeometryCollection {
@@ -69,74 +72,7 @@ pub(crate) fn begin_collection<'a>(
     Ok(Begun::Opened(collection, rest))
 }
 
-/// Reads what stands behind a header, inside so many open collections: a whole geometry, or the
-/// beginning of a collection.
-#[inline(always)]
-pub(crate) fn body<'a>(
-    alloc: Global,
-    depth: usize,
-    header: Header,
-    bytes: &'a [u8],
-    counts: &mut Counts,
-) -> Result<Begun<'a>, Refusal>
-    requires head { head_at bytes.now ≡ Ok header }
-    requires fits { CanCount counts.old (body_inside depth header bytes.now).0 }
-    ensures begins { BeginsAs (body_inside depth header bytes.now) depth bytes.now result
-        counts.old counts.new }
-    ensures no_memory { BodyTakesNone header bytes.now → NeedsNone result }
-{
-    let layout = header.layout();
-    let (kind, rest) = match header.wkb_type {
-        WkbType::Point(_) => match Point::read(layout, bytes) {
-            Ok((point, rest)) => (View::Point(point), rest),
-            Err(cause) => return Err(Refusal::Fault(cause)),
-        },
-        WkbType::LineString(_) => match LineString::read(layout, bytes) {
-            Ok((line_string, rest)) => (View::LineString(line_string), rest),
-            Err(cause) => return Err(Refusal::Fault(cause)),
-        },
-        WkbType::Polygon(_) => match Polygon::read(alloc, layout, bytes, counts) {
-            Ok((polygon, rest)) => (View::Polygon(polygon), rest),
-            Err(refusal) => return Err(refusal),
-        },
-        WkbType::MultiPoint(_) => match MultiPoint::read(layout, bytes, counts) {
-            Ok((multi, rest)) => (View::MultiPoint(multi), rest),
-            Err(cause) => return Err(Refusal::Fault(cause)),
-        },
-        WkbType::MultiLineString(_) => match MultiLineString::read(alloc, layout, bytes, counts) {
-            Ok((multi, rest)) => (View::MultiLineString(multi), rest),
-            Err(refusal) => return Err(refusal),
-        },
-        WkbType::MultiPolygon(_) => match MultiPolygon::read(alloc, layout, bytes, counts) {
-            Ok((multi, rest)) => (View::MultiPolygon(multi), rest),
-            Err(refusal) => return Err(refusal),
-        },
-        WkbType::GeometryCollection(_) => return begin_collection(
-            alloc, depth, layout, bytes, counts,
-        ),
-    };
-    Ok(Begun::Whole(Wkb { kind }, rest))
-}
-
-/// Reads what stands at the front of the bytes, inside so many open collections: a whole geometry, or
-/// the beginning of a collection.
-#[inline(always)]
-pub(crate) fn begin<'a>(
-    alloc: Global,
-    depth: usize,
-    bytes: &'a [u8],
-    counts: &mut Counts,
-) -> Result<Begun<'a>, Refusal>
-    requires fits { CanCount counts.old (geometry_inside depth bytes.now).0 }
-    ensures begins { BeginsAs (geometry_inside depth bytes.now) depth bytes.now result counts.old
-        counts.new }
-    ensures no_memory { ReadsWithoutMemory bytes.now → NeedsNone result }
-{
-    let header = Header::read(bytes)?;
-    body(alloc, depth, header, bytes, counts)
-}
-
-/// Puts a collection that was opened on the stack: its first member begins.
+/// Pushes a collection whose first member is to be read.
 pub(crate) fn push_collection<'a>(
     stack: &mut Vec<Open<'a>>,
     collection: Open<'a>,
@@ -153,8 +89,8 @@ pub(crate) fn push_collection<'a>(
     Ok(())
 }
 
-/// Puts a finished part into the collection around it, and closes each collection that has all its
-/// members. Answers the outermost one where all are closed.
+/// Puts a finished part into the collection around it, and closes each collection that has all its members. Returns
+/// the outermost one once it is closed.
 pub(crate) fn close_finished<'a>(
     stack: &mut Vec<Open<'a>>,
     part: Wkb<'a>,
@@ -198,8 +134,8 @@ pub(crate) fn close_finished<'a>(
     }
 }
 
-/// The outermost collection, whose members stand in these bytes, by a loop over a stack of open collections.
-pub(crate) fn nested<'a>(
+/// Reads the members of the outermost collection, and those of the collections in it, by a loop over a stack.
+pub(crate) fn read_collection<'a>(
     alloc: Global,
     outermost: Open<'a>,
     members: &'a [u8],
@@ -213,7 +149,7 @@ pub(crate) fn nested<'a>(
     push_collection(&mut stack, outermost, counts)?;
     let mut bytes = members;
     loop {
-        match begin(alloc, stack.len(), bytes, counts) {
+        match read_front(alloc, stack.len(), bytes, counts) {
             Ok(Begun::Opened(collection, rest)) => {
                 push_collection(&mut stack, collection, counts)?;
                 bytes = rest;
@@ -227,61 +163,4 @@ pub(crate) fn nested<'a>(
             Err(refusal) => return Err(refusal),
         }
     }
-}
-
-/// The geometry at the front of the bytes; only a collection that has members goes through the loop.
-pub(crate) fn geometry<'a>(
-    alloc: Global,
-    buf: &'a [u8],
-    counts: &mut Counts,
-) -> Result<Wkb<'a>, Refusal>
-    requires fits { CanCount counts.old (geometry_at max_nesting buf.now).0 }
-    ensures reads { ReadsAs (geometry_at max_nesting buf.now) result counts.old counts.new }
-    ensures no_memory { ReadsWithoutMemory buf.now → IsNoWant result }
-{
-    match begin(alloc, 0, buf, counts) {
-        Ok(Begun::Whole(whole, _)) => Ok(whole),
-        Ok(Begun::Opened(outermost, members)) => nested(alloc, outermost, members, counts),
-        Err(refusal) => Err(refusal),
-    }
-}
-
-/// Reads as `read_wkb` says, and counts anew what it costs.
-#[inline(always)]
-fn read_and_count<'a>(alloc: Global, buf: &'a [u8], counts: &mut Counts) -> WkbResult<Wkb<'a>>
-    ensures reads { Reads buf.now result }
-    ensures costs { Costs buf.now result counts.new }
-{
-    *counts = Counts { turns: 0, slots: 0 };
-    match geometry(alloc, buf, counts) {
-        Ok(whole) => Ok(whole),
-        Err(refusal) => Err(refusal.into()),
-    }
-}
-
-/// Reads the geometry at the front of the bytes; what stands behind it is not looked at.
-///
-/// A refusal is the first fault from left to right: `IOError` where a header or a count is cut short, `General` for a
-/// byte order, a code or a length, `IncorrectType` for a member of another kind or dimension than its multi geometry
-/// takes, `NestingDepthExceeded` for the 129th collection inside one another, `Memory` where a list is refused.
-///
-/// ```
-/// // The SRID of the geometry at the front of the bytes.
-/// let wkb = read_wkb(alloc, bytes)?;
-/// let srid = wkb.srid();
-/// ```
-pub fn read_wkb<'a>(alloc: Global, buf: &'a [u8]) -> WkbResult<Wkb<'a>>
-    ensures { Reads buf.now result }
-{
-    read_and_count(alloc, buf, &mut Counts { turns: 0, slots: 0 })
-}
-
-/// Reads as `read_wkb` does, and counts what it cost, whatever the answer is.
-pub fn read_wkb_counted<'a>(alloc: Global, buf: &'a [u8]) -> (WkbResult<Wkb<'a>>, Counts)
-    ensures reads { Reads buf.now result.0 }
-    ensures costs { Costs buf.now result.0 result.1 }
-{
-    let mut counts = Counts { turns: 0, slots: 0 };
-    let answer = read_and_count(alloc, buf, &mut counts);
-    (answer, counts)
 }

@@ -1,6 +1,7 @@
 use Rattle.std.proofs.Common.{arith}
+use Rattle.std.proofs.lemmas.Result.{IfErr-weaker}
 use Rattle.wkb_laws.proofs.Lengths.{own_srid_is_writable_lem}
-use Rattle.wkb.proofs.Encodings.{IfErr-from, refused_alone}
+use Rattle.wkb.proofs.Encodings.{refused_alone}
 use Rattle.wkb.proofs.canon.canonical_with_srid.Goals as goal
 
 pub returns-in-Ok-clause-err : goal.returns-in-Ok-clause-err
@@ -11,5 +12,5 @@ returns-in-Ok-clause-err c =
     let fits =
     own_srid_is_writable_lem c.args.order buf w.spelled w.value f.rest
     (λ i. (c.type_inv.buf i).fits) (omega arith) f.front in
-    IfErr-from c.rewriting.result _ _ c.rewriting.ensures.err
-    (λ e. refused_alone c.args.order _ _ buf w.value e c.srid.ensures fits.1)
+    IfErr-weaker c.to_vec.result _ _ (λ e. refused_alone c.args.order _ _ buf w.value e c.srid.ensures fits.1)
+    (rw c.in-Ok.ensures.seen at c.to_vec.ensures.err)

@@ -11,7 +11,7 @@ returns-in-Some-Some c =
     (same_line_string c.one_encoding.ensures c.args.source.now c.args.clone.now c.args.i
     (line_string_seen c.in-Some-Some.one)
     (line_string_seen c.in-Some-Some.other) _ _ _ _ c.requires refl refl
-    o.part p.part o.dimensions p.dimensions o.spelled p.spelled
+    o.part p.part o.dimension p.dimension o.spelled p.spelled
     c.line_string_spelled.ensures.bytes c.line_string_spelled-in-Some-Some.ensures.bytes
     c.line_string_spelled.ensures.spells
     c.line_string_spelled-in-Some-Some.ensures.spells)

@@ -9,6 +9,6 @@ returns-in-Some-Some c =
     ap Some
     (same_polygon c.one_encoding.ensures c.args.source.now c.args.clone.now c.args.i c.in-Some-Some.one.now
     c.in-Some-Some.other.now c.requires o.part p.part
-    o.dimensions p.dimensions o.spelled p.spelled
+    o.dimension p.dimension o.spelled p.spelled
     c.polygon_spelled.ensures.bytes c.polygon_spelled-in-Some-Some.ensures.bytes c.polygon_spelled.ensures.spells
     c.polygon_spelled-in-Some-Some.ensures.spells)

@@ -1,6 +1,7 @@
-use Rattle.wkb_clients.proofs.KeysFound.{is_key, IfOk-map}
+use Rattle.std.proofs.lemmas.Result.{IfOk-weaker}
+use Rattle.wkb_clients.proofs.KeysFound.{is_key}
 use Rattle.wkb_clients.proofs.keys.key.Goals as goal
 
 pub returns-clause-ok : goal.returns-clause-ok
 returns-clause-ok c =
-    IfOk-map c.canonical.result _ _ (λ out h. is_key c.args.bytes.now out.items h) c.canonical.ensures.ok
+    IfOk-weaker c.canonical.result _ _ (λ out h. is_key c.args.bytes.now out.items h) c.canonical.ensures.ok

@@ -12,4 +12,4 @@ returns-in-Some c =
     lends_ring p _ r _
     (ring_at c.spelled_in_full.ensures c.rings_in_place.ensures p _ r
     (subst AreBytes c.buf.ensures.encoding c.are_bytes.ensures)
-    c.buf.ensures.spells lent.spells lent.bytes o.order o.dimensions o.part) lent.encoding
+    c.buf.ensures.spells lent.spells lent.bytes o.order o.dimension o.part) lent.encoding

@@ -13,7 +13,7 @@ returns-in-Some-polygon_bytes c =
     (sym c.buf-bytes.ensures.encoding)
     (are_neighbours c.spelled_in_full.ensures c.members_in_place.ensures c.next_start.ensures c.size_of_spelled.ensures
     (whole_of multi_polygon m) c.args.i _ (whole_of polygon p) c.in-Some-polygon_bytes.next.now (omega arith)
-    (polygon_member m c.args.i p o.dimensions o.spelled o.part)
+    (polygon_member m c.args.i p o.dimension o.spelled o.part)
     (subst AreBytes c.buf.ensures.encoding c.are_bytes.ensures)
     (subst AreBytes c.buf-bytes.ensures.encoding c.are_bytes-2.ensures)
     c.buf.ensures.spells c.buf-bytes.ensures.spells c.in-Some-polygon_bytes.ensures)

@@ -12,7 +12,7 @@ returns-in-Some c =
     subst (LendsMember (whole_of multi_polygon m) c.args.i) (sym c.buf-bytes.ensures.encoding)
     (lends_member c.spelled_in_full.ensures c.members_in_place.ensures (whole_of multi_polygon m) c.args.i
     (whole_of polygon p)
-    (polygon_member m c.args.i p o.dimensions o.spelled o.part)
+    (polygon_member m c.args.i p o.dimension o.spelled o.part)
     (subst AreBytes c.buf.ensures.encoding c.are_bytes.ensures)
     (subst AreBytes c.buf-bytes.ensures.encoding c.are_bytes-in-Some.ensures)
     c.buf.ensures.spells c.buf-bytes.ensures.spells)

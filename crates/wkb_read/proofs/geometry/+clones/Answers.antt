@@ -1,4 +1,4 @@
-use Rattle.wkb_read.proofs.Words.{◌∙◌, arith, take_all}
+use Rattle.wkb_read.proofs.Prelude.{◌∙◌, arith, take_all}
 use Rattle.wkb_read.proofs.geometry.+clones.Goals as goal
 
 pub GeometryCollection::clone-invariant_of-result : goal.GeometryCollection::clone-invariant_of-result

@@ -1,4 +1,4 @@
-use Rattle.wkb_read.proofs.Words.{◌≡◌, take}
+use Rattle.wkb_read.proofs.Prelude.{◌≡◌, take}
 use Rattle.wkb_read.proofs.geometry.+clones.Given as goal
 
 abbrev pub invariant-GeometryCollection::clone-loop-member : goal.invariant-GeometryCollection::clone-loop-member

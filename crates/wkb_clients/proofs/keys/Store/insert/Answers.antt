@@ -9,8 +9,8 @@ use Rattle.wkb_clients.proofs.keys.Store.insert.Goals as goal
 abbrev bytes_of : Vec ℕ Global → List ℕ
 bytes_of v = v.items
 
-pub returns-then-contains : goal.returns-then-contains
-returns-then-contains c =
+pub returns-then-contains-clause-ok : goal.returns-then-contains-clause-ok
+returns-then-contains-clause-ok c =
     let keys = c.self.inside.keys.items in
     let found : list_any (λ y. bytes_eq (bytes_of y) c.in-Ok.key.items) keys ≡ true =
     ap (λ l. list_any (λ y. bytes_eq (bytes_of y) c.in-Ok.key.items) l) (sym c.deref.ensures.value)
@@ -27,8 +27,8 @@ invariant_of-self-2 c =
     (is_its_own c.geometry_agrees.ensures.front c.rewriting_is_read.ensures c.args.bytes.now c.in-Ok.key.items
     c.are_bytes.ensures c.in-Ok.ensures.ok))
 
-pub returns : goal.returns
-returns c =
+pub returns-clause-ok : goal.returns-clause-ok
+returns-clause-ok c =
     let keys = c.self.inside.keys.items in
     let none : list_any (λ y. bytes_eq (bytes_of y) c.in-Ok.key.items) keys ≡ false =
     ap (λ l. list_any (λ y. bytes_eq (bytes_of y) c.in-Ok.key.items) l) (sym c.deref.ensures.value)

@@ -1,4 +1,4 @@
-use Rattle.wkb_read.proofs.Words.{◌∙◌, ap, sym, subst, List, map, Item, AreMembers, parts_in, geometry_seen}
+use Rattle.wkb_read.proofs.Prelude.{◌∙◌, ap, sym, subst, List, map, Item, AreMembers, parts_in, geometry_seen}
 use Rattle.wkb_read.proofs.Parts.{members_are}
 use Rattle.wkb_read.proofs.Placed.{are_members}
 use Rattle.wkb_read.proofs.geometry.GeometryCollectionGeometryCollectionTrait.geometries.Goals as goal

@@ -1,4 +1,4 @@
-use Rattle.wkb_read.proofs.Words.{arith, ap, length, geometry_seen}
+use Rattle.wkb_read.proofs.Prelude.{arith, ap, length, geometry_seen}
 use Rattle.std.proofs.lemmas.List.{length-map}
 use Rattle.wkb_read.proofs.Parts.{members_are}
 use Rattle.wkb_read.proofs.geometry.GeometryCollectionGeometryCollectionTrait.num_geometries.Goals as goal

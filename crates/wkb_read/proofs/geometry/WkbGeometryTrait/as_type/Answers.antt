@@ -1,5 +1,5 @@
-use Rattle.wkb_read.proofs.Words.{◌∙◌, sym, ap}
-use Rattle.wkb_read.specs.Geometries.{kind_seen}
+use Rattle.wkb_read.proofs.Prelude.{◌∙◌, sym, ap}
+use Rattle.wkb_read.specs.Items.{kind_seen}
 use Rattle.wkb_read.proofs.geometry.WkbGeometryTrait.as_type.Goals as goal
 
 pub returns-in-GeometryCollection : goal.returns-in-GeometryCollection

@@ -1,7 +1,7 @@
-use Rattle.wkb_read.proofs.Words.{◌≡◌, sym, ap, ◌∙◌, subst, Geometry, geometry_seen, None}
+use Rattle.wkb_read.proofs.Prelude.{◌≡◌, sym, ap, ◌∙◌, subst, Geometry, geometry_seen, None}
 use Rattle.std.specs.Option.{IfSome}
 use Rattle.wkb_geom.specs.Encodings.{encoding, fault}
-use Rattle.wkb_read.specs.Geometries.{kind_seen}
+use Rattle.wkb_read.specs.Items.{kind_seen}
 use Rattle.wkb_read.proofs.Parts.{point_means, line_string_means}
 use Rattle.wkb_read.proofs.geometry.WkbGeometryTrait.whole.Goals as goal
 

@@ -1,7 +1,6 @@
-use Rattle.wkb_read.proofs.Words.{◌≡◌, ◌+◌, ◌-◌, ◌<◌, ◌≤◌, ℕ, suc, List, [], length, false, refl, sym, arith}
-use Rattle.wkb_read.proofs.Words.{ap, ◌∙◌, drop-drop, Item, Reading, Layout, Counts, Stops, max_nesting}
-use Rattle.wkb_read.proofs.Words.{body_start, collection_at, collection_inside, cost_of}
-use Rattle.std.proofs.Common.{true}
+use Rattle.wkb_read.proofs.Prelude.{◌≡◌, ◌+◌, ◌-◌, ◌<◌, ◌≤◌, ℕ, suc, List, [], length, refl, sym, arith, ap, ◌∙◌}
+use Rattle.wkb_read.proofs.Prelude.{drop-drop, Item, Reading, Layout, Counts, Stops, max_nesting, body_start}
+use Rattle.wkb_read.proofs.Prelude.{collection_at, collection_inside, cost_of}
 use Rattle.wkb_geom.specs.declared.error.Refusal.{Refusal}
 use Rattle.std.proofs.lemmas.Result.{err_from_is_err_and}
 use Rattle.wkb_view.proofs.Lists.{parts_length, entries_within, list_refused}
@@ -88,11 +87,11 @@ module _ (l : Layout) (bytes : List ℕ) where
     level : max_nesting - depth ≡ suc (max_nesting - suc depth)
     level = omega (arith, shallow)
 
-    members_within : entries_asked 9 l bytes ≤ (collection_inside depth l bytes).0.slots
+    members_within : entries_asked 9 l bytes ≤ (collection_inside l depth bytes).0.slots
     members_within = rw level (within _)
 
     members_refused : (refusal : Refusal) (old new : Counts) → HasNoList l bytes refusal → new.turns ≡ old.turns
-        → new.slots ≡ old.slots + entries_asked 9 l bytes → Stops refusal (collection_inside depth l bytes) old new
+        → new.slots ≡ old.slots + entries_asked 9 l bytes → Stops refusal (collection_inside l depth bytes) old new
     members_refused refusal old new none turns slots = rw level (refused _ refusal old new none turns slots)
 
 pub counted_list-requires-clause-fits : goal.counted_list-requires-clause-fits

@@ -1,6 +1,6 @@
-use Rattle.wkb_read.proofs.Words.{◌≡◌, ◌<◌, ◌+◌, ◌-◌, ℕ, ◌∷◌, [], ◌++◌, length, reverse, length-append, length-reverse}
-use Rattle.wkb_read.proofs.Words.{refl, sym, ap, ◌∙◌, arith, vec_len}
-use Rattle.wkb_read.proofs.Words.{List, slice_set, Item, Reading, costs, Open, cost_of, outward}
+use Rattle.wkb_read.proofs.Prelude.{◌≡◌, ◌<◌, ◌+◌, ◌-◌, ℕ, ◌∷◌, [], ◌++◌, length, reverse, length-append, length-reverse}
+use Rattle.wkb_read.proofs.Prelude.{refl, sym, ap, ◌∙◌, arith, vec_len, List, slice_set, Item, Reading, costs, Open}
+use Rattle.wkb_read.proofs.Prelude.{cost_of, outward}
 use Rattle.std.proofs.Common.{length-take, true, false}
 use Rattle.std.proofs.lemmas.Bool.{false≢true}
 use Rattle.wkb_view.specs.Entries.{entries}
@@ -15,7 +15,7 @@ on_top c =
     (omega (arith, c.in-Some.ensures.variant.0 refl, c.loop-top.stack.ok))
     c.in-Some.ensures.value
 
--- the top with the finished part, and so many members that come behind
+-- the top with the finished part, and this number of members after it
 abbrev filled : After-push → ℕ → Open
 filled c left =
     record {

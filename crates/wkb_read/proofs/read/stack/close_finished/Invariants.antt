@@ -1,4 +1,4 @@
-use Rattle.wkb_read.proofs.Words.{◌≤◌, length, reverse, vec_len, costs, cost_of, outward}
+use Rattle.wkb_read.proofs.Prelude.{◌≤◌, length, reverse, vec_len, costs, cost_of, outward}
 use Rattle.wkb_read.proofs.Stacks.{Finishes}
 use Rattle.wkb_read.proofs.read.stack.close_finished.Given as goal
 

@@ -1,4 +1,4 @@
--- The words of the field, passed on from one place. Declares nothing.
+-- The names of the field, passed on from one place. Declares nothing.
 pub use Rattle.wkb_geom.specs.declared.common.{Endianness.Endianness, Endianness.TheVariants.BigEndian}
 pub use Rattle.wkb_geom.specs.declared.common.{Endianness.TheVariants.LittleEndian}
 pub use Rattle.wkb_geom.specs.declared.common.{Dimension.Dimension, Dimensions.Dimensions, Form.Form}
@@ -14,7 +14,7 @@ pub use Rattle.wkb_geom.specs.declared.error.General.TheVariants.{ShortLineStrin
 pub use Rattle.wkb_geom.specs.declared.error.General.TheVariants.{ShortLinearRing, ShortMultiPoint}
 pub use Rattle.wkb_geom.specs.Numbers.{AreBytes, IsNumber, IsWord, order_byte, all_nan, empty_word}
 unfoldable pub use Rattle.wkb_geom.specs.Numbers.{number, number_bytes}
-pub use Rattle.wkb_geom.specs.Dimensions.{width, size, named, dimensions, written_dimension, has_z, has_m}
+pub use Rattle.wkb_geom.specs.Dimensions.{width, size, named, as_dimensions, written_dimension, has_z, has_m}
 pub use Rattle.wkb_geom.specs.Codes.{Code, thousands}
 pub use Rattle.wkb_geom.specs.Grammar.{Then, Begins, IsEach, IsCounted}
 pub use Rattle.wkb_geom.specs.Values.{Coordinate, Value, point, line_string, polygon, multi_point, multi_line_string}
@@ -49,7 +49,7 @@ unfoldable pub use
     Rattle.wkb_geom.specs.Encodings.{words_encoding, coordinates_encoding, point_encoding, line_string_encoding}
 unfoldable pub use Rattle.wkb_geom.specs.Encodings.{polygon_encoding, members_encoding}
 pub use Rattle.wkb_geom.specs.Reading.{Cost, Reading, Item, type_kind, type_dimension, type_of, layout_of, laid, free}
-pub use Rattle.wkb_geom.specs.Reading.{body_start, parts_start, head_by_code}
+pub use Rattle.wkb_geom.specs.Reading.{body_start, parts_start, count_in, head_by_code}
 pub use Rattle.wkb_geom.specs.Reading.{ring_part, at_no_cost, list_item, polygon_item, spellings, values, and_then}
 pub use Rattle.wkb_geom.specs.Reading.{costs, done, line_string_of, one_turn}
 pub use Rattle.wkb_geom.specs.Reading.{point_of}

@@ -1,12 +1,12 @@
-use Rattle.wkb_read.proofs.Words.{Ok, arith, Endianness, LittleEndian, seen_as_it_is}
+use Rattle.wkb_read.proofs.Prelude.{Ok, arith, Endianness, LittleEndian, seen_as_it_is}
 use Rattle.wkb_laws.proofs.GeometryAt.{reading_is_bounded_lem}
 use Rattle.wkb_laws.proofs.Lengths.{front_is_writable_lem}
 use Rattle.wkb_read.proofs.NoMemory.{without_memory}
-use Rattle.wkb_read.proofs.Public.{count_bounded, is_read, refused_as, refused_at}
-use Rattle.wkb_read.proofs.read.stack.read_and_count.Goals as goal
+use Rattle.wkb_read.proofs.Results.{count_bounded, is_read, refused_as, refused_at}
+use Rattle.wkb_read.proofs.read.read_and_count.Goals as goal
 
-pub geometry-requires : goal.geometry-requires
-geometry-requires c =
+pub read_geometry-requires : goal.read_geometry-requires
+read_geometry-requires c =
     let b = reading_is_bounded_lem c.args.buf.now in
     record { fits = record { turns = omega (arith, b.0); slots = omega (arith, b.1) } }
 
@@ -14,7 +14,7 @@ pub returns-in-Ok-clause-reads : goal.returns-in-Ok-clause-reads
 returns-in-Ok-clause-reads c =
     let buf = c.args.buf.now in
     let w = c.in-Ok.whole in
-    let r = is_read buf w c.geometry.new.counts c.in-Ok.ensures.reads in
+    let r = is_read buf w c.read_geometry.new.counts c.in-Ok.ensures.reads in
     let lawful =
     λ (order : Endianness). front_is_writable_lem order buf w.spelled w.value r.front.rest
     (λ i. (c.type_inv.buf i).fits) (omega arith)
@@ -34,7 +34,7 @@ returns-in-Ok-clause-reads c =
 
 pub returns-in-Ok-clause-costs : goal.returns-in-Ok-clause-costs
 returns-in-Ok-clause-costs c =
-    let new = c.geometry.new.counts in
+    let new = c.read_geometry.new.counts in
     let r = is_read c.args.buf.now c.in-Ok.whole new c.in-Ok.ensures.reads in
     let bound = count_bounded c.args.buf.now (Ok c.in-Ok.whole) new c.in-Ok.ensures.reads in
     record {
@@ -47,9 +47,9 @@ returns-in-Ok-clause-costs c =
 
 pub returns-in-Err-clause-reads : goal.returns-in-Err-clause-reads
 returns-in-Err-clause-reads c =
-    refused_as c.args.buf.now c.into.result c.in-Err.refusal c.geometry.new.counts c.in-Err.ensures.reads c.into.ensures
+    refused_as c.args.buf.now c.into.result c.in-Err.refusal c.read_geometry.new.counts c.in-Err.ensures.reads c.into.ensures
     (λ none. c.in-Err.ensures.no_memory (without_memory c.args.buf.now none))
 
 pub returns-in-Err-clause-costs : goal.returns-in-Err-clause-costs
 returns-in-Err-clause-costs c =
-    refused_at c.args.buf.now c.into.result c.in-Err.refusal c.geometry.new.counts c.in-Err.ensures.reads c.into.ensures
+    refused_at c.args.buf.now c.into.result c.in-Err.refusal c.read_geometry.new.counts c.in-Err.ensures.reads c.into.ensures

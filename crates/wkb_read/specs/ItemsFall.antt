@@ -1,8 +1,8 @@
--- A geometry is larger than the collection that it is.
+-- The item that a view shows is larger than the collection in it. By itself, since `Wkb` has `Items` in its view.
 use Rattle.std.specs.Prelude.{max, ◌≤◌}
 use Rattle.std.proofs.Common.{arith}
 use Rattle.wkb_read.specs.Nodes.{size_outside}
-use Rattle.wkb_read.specs.Geometries.{kind_seen}
+use Rattle.wkb_read.specs.Items.{kind_seen}
 use Rattle.wkb_read.specs.declared.geometry.View.{View}
 use Rattle.wkb_read.specs.declared.geometry.View.TheVariants.{GeometryCollection}
 use Rattle.wkb_read.specs.declared.geometry.GeometryCollection.TheDeep.{deep-View}

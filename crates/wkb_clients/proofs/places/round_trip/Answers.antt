@@ -1,10 +1,10 @@
 use Rattle.std.proofs.Common.{◌≡◌, slice_index, sym, ap, ◌∙◌, arith}
 use Rattle.wkb.specs.Bridges.{read_again}
 use Rattle.wkb_clients.specs.Common.{kind, words_seen, point_seen}
-use Rattle.wkb_clients.specs.Stops.{stop_words}
+use Rattle.wkb_cases.specs.Places.{place_words}
 use Rattle.wkb_clients.proofs.KindsHanded.{not_point}
 use Rattle.wkb_clients.proofs.PointRead.{value_read, empty_is, words_are}
-use Rattle.wkb_clients.proofs.stops.Stop.round_trip.Goals as goal
+use Rattle.wkb_clients.proofs.places.round_trip.Goals as goal
 
 pub returns-in_default : goal.returns-in_default
 returns-in_default c =
@@ -12,7 +12,7 @@ returns-in_default c =
     let input = c.as_slice.ensures.value ∙ c.into_vec-bytes.ensures in
     let value =
     value_read
-    (stop_words c.args.self.now) again.0 _ _ c.in-Ok-read_wkb.geometry again.1 input
+    (place_words c.args.place.now) again.0 _ _ c.in-Ok-read_wkb.geometry again.1 input
     c.in-Ok-read_wkb.ensures.one_front in
     absurd (not_point c.in-Ok-read_wkb.geometry c.as_type.result c.as_type.ensures.view c.in_default.not-Point
     (ap kind (sym value)))
@@ -23,13 +23,13 @@ returns-in-Some c =
     let input = c.as_slice.ensures.value ∙ c.into_vec-bytes.ensures in
     let value =
     value_read
-    (stop_words c.args.self.now) again.0 _ _ c.in-Ok-read_wkb.geometry again.1 input
+    (place_words c.args.place.now) again.0 _ _ c.in-Ok-read_wkb.geometry again.1 input
     c.in-Ok-read_wkb.ensures.one_front in
     let words =
-    words_are (stop_words c.args.self.now) (words_seen c.in-Some.coord) (point_seen c.in-Point.point.now).value
+    words_are (place_words c.args.place.now) (words_seen c.in-Some.coord) (point_seen c.in-Point.point.now).value
     (value ∙ ap (λ v. v.value) (sym c.in-Point.ensures.view)) c.in-Some.ensures.value in
-    let x : c.x_y.result.0 ≡ c.args.self.now.x = c.x_y.ensures.x ∙ ap (λ l. slice_index l 0) words in
-    let y : c.x_y.result.1 ≡ c.args.self.now.y = c.x_y.ensures.y ∙ ap (λ l. slice_index l 1) words in
+    let x : c.x_y.result.0 ≡ c.args.place.now.longitude = c.x_y.ensures.x ∙ ap (λ l. slice_index l 0) words in
+    let y : c.x_y.result.1 ≡ c.args.place.now.latitude = c.x_y.ensures.y ∙ ap (λ l. slice_index l 1) words in
     λ i. (x i, y i)
 
 pub returns : goal.returns
@@ -38,7 +38,7 @@ returns c =
     let input = c.as_slice.ensures.value ∙ c.into_vec-bytes.ensures in
     let value =
     value_read
-    (stop_words c.args.self.now) again.0 _ _ c.in-Ok-read_wkb.geometry again.1 input
+    (place_words c.args.place.now) again.0 _ _ c.in-Ok-read_wkb.geometry again.1 input
     c.in-Ok-read_wkb.ensures.one_front in
-    empty_is (stop_words c.args.self.now) (point_seen c.in-Point.point.now).value
+    empty_is (place_words c.args.place.now) (point_seen c.in-Point.point.now).value
     (value ∙ ap (λ v. v.value) (sym c.in-Point.ensures.view)) c.in-None.ensures.value

@@ -1,10 +1,8 @@
--- What a reader's answer says of its input.
-use Rattle.std.specs.Prelude.{◌≡◌, ℕ, ◌+◌, ◌*◌, ◌<◌, ◌≤◌, List, length, Bool, Result, Ok, Err, IfOk}
-use Rattle.wkb_read.specs.Words.{Endianness, Dimension, Iso, WkbError, Value, member_count}
-use Rattle.wkb_read.specs.Words.{listed_count, Spelling, any, Front, HasNoFront, max_nesting, Cause, Refuses, Opens}
-use Rattle.wkb_read.specs.Words.{srid_size}
-use Rattle.wkb_read.specs.Words.{Tells, geometry_of, IsWritable, Item}
-use Rattle.wkb_read.specs.Words.{Counts, IsGeometry, normal}
+-- What the result of reading says of the input.
+use Rattle.std.specs.Prelude.{◌≡◌, ℕ, ◌+◌, ◌*◌, ◌<◌, ◌≤◌, List, length, Bool, Result, Ok, Err, IfOk, IfErr}
+use Rattle.wkb_read.specs.Prelude.{Endianness, Dimension, Iso, WkbError, Value, member_count, listed_count, Spelling, any}
+use Rattle.wkb_read.specs.Prelude.{Front, HasNoFront, max_nesting, Cause, Refuses, Opens, srid_size, Tells, geometry_of}
+use Rattle.wkb_read.specs.Prelude.{IsWritable, Item, Counts, IsGeometry, normal}
 use Rattle.wkb_read.specs.Memory.{IsNotMemory}
 use Rattle.wkb_read.specs.Seen.{geometry_seen}
 use Rattle.wkb_geom.specs.declared.error.WkbError.TheVariants as errors
@@ -21,7 +19,7 @@ abbrev pub IsOnlyFront : List ℕ → Item → Type 0
 IsOnlyFront buf w = (s : Spelling) (t : Value) (rest : List ℕ) → (f : Front buf s t rest)
     → (f.front ≡ w.encoding) × (s ≡ w.spelled) × (t ≡ w.value)
 
--- the input is refused, and the error tells why
+-- the input is refused, and the error says why
 pub record IsRefusal (buf : List ℕ) (e : WkbError) : Type 0 where
   pub cause : Cause
   pub turns : ℕ
@@ -29,17 +27,17 @@ pub record IsRefusal (buf : List ℕ) (e : WkbError) : Type 0 where
   pub refuses : Refuses max_nesting any buf cause turns slots
   pub tells : Tells e cause
 
--- whatever cause the input is refused for is the one that the error tells
+-- whatever cause the input is refused for is the one that the error gives
 abbrev pub TellsEach : List ℕ → WkbError → Type 0
 TellsEach buf e = (cause : Cause) (turns slots : ℕ) → Refuses max_nesting any buf cause turns slots → Tells e cause
 
--- where the answer is an error other than want of memory, this holds of it
+-- where the result is an error other than an allocation failure, this holds of it
 abbrev pub IfRefused : Result Wkb WkbError → (WkbError → Type 0) → Type 0
 IfRefused (Ok w) P = Unit {0}
 IfRefused (Err (errors.Memory e)) P = Unit {0}
 IfRefused (Err e) P = P e
 
--- where the answer is want of memory, this holds
+-- where the result is an allocation failure, this holds
 abbrev pub IfMemory : Result Wkb WkbError → Type 0 → Type 0
 IfMemory (Err (errors.Memory e)) P = P
 IfMemory _ P = Unit {0}
@@ -69,22 +67,21 @@ pub record AsksForNone (buf : List ℕ) : Type 0 where
   pub front : (s : Spelling) (t : Value) (rest : List ℕ) → Front buf s t rest → listed_count t ≡ 0
   pub refusal : (cause : Cause) (turns slots : ℕ) → Refuses max_nesting any buf cause turns slots → slots ≡ 0
 
--- A point, a line string and a multi point take no memory; a list of rings, line strings or polygons takes none where
--- it asks for no entry; a collection takes none where its count is missing.
+-- A geometry of this kind takes no memory: a point, a line string or a multi point; a list of rings, line strings or
+-- polygons that asks for no entry; a collection whose count is missing.
 pub record KindTakesNone (k : ℕ) (srid : Bool) (buf : List ℕ) : Type 0 where
   pub polygon : k ≡ 3 → AsksForNone buf
   pub multi_line_string : k ≡ 5 → AsksForNone buf
   pub multi_polygon : k ≡ 6 → AsksForNone buf
   pub collection : k ≡ 7 → length buf < 9 + srid_size srid
 
--- so it is, if the input begins with a header
+-- if the input begins with a header, the geometry after it takes no memory
 abbrev pub TakesNoMemory : List ℕ → Type 0
 TakesNoMemory buf = (order : Endianness) (k : ℕ) (d : Dimension) (srid : Bool) (behind : List ℕ)
     → Opens buf order k d srid behind → KindTakesNone k srid buf
 
--- What an answer says of the bytes: a geometry is the one at the front, and means what its value means; an error tells
--- the
--- one refusal; and want of memory is told only where memory is taken.
+-- What a result says of the bytes: a geometry is the one at the front, and means what its value means; an error gives
+-- the one refusal; and an allocation failure is reported only where memory is taken.
 pub record Reads (buf : List ℕ) (r : Result Wkb WkbError) : Type 0 where
   pub front : IfOk r (λ w. IsFront buf w)
   pub one_front : IfOk r (λ w. IsOnlyFront buf w)
@@ -95,7 +92,7 @@ pub record Reads (buf : List ℕ) (r : Result Wkb WkbError) : Type 0 where
   pub refusal : IfRefused r (λ e. IsRefusal buf e)
   pub one_cause : IfRefused r (λ e. TellsEach buf e)
   pub no_front : IfRefused r (λ e. HasNoFront buf)
-  pub no_memory : TakesNoMemory buf → IsNotMemory r
+  pub no_memory : TakesNoMemory buf → IfErr r IsNotMemory
 
 -- what it cost: the members and the list entries of the value, or of the refusal; and it is bounded by the bytes
 pub record Costs (buf : List ℕ) (r : Result Wkb WkbError) (c : Counts) : Type 0 where

@@ -1,12 +1,12 @@
--- What reading from left to right says of fronts and refusals.
-use Rattle.wkb_read.proofs.Words.{◌≡◌, ℕ, ◌+◌, ◌*◌, ◌≤◌, List, length, Result, Ok, Err, ap, ◌∙◌, subst, arith, Cause}
-use Rattle.wkb_read.proofs.Words.{Refusal, Fault, Memory, WkbError}
-use Rattle.wkb_read.proofs.Words.{max_nesting, Item, Cost, Reading, geometry_at, Refuses, any, Tells, TellsRefusal}
-use Rattle.wkb_read.proofs.Words.{Agrees, geometry_agrees_lem, Counts}
-use Rattle.wkb_read.proofs.Words.{IsAtFault, Spent, AtMost, Stops, Wkb, IsNotMemoryError, IsFront, IsOnlyFront}
-use Rattle.wkb_read.proofs.Words.{HasNoFront, IsRefusal, TellsEach, IfRefused}
-use Rattle.wkb_read.proofs.Words.{IfMemory, CountsValue, CountsRefusal, CountsAtMost, ReadsAs}
-use Rattle.wkb_read.specs.Public.{TakesNoMemory, Reads, Costs}
+-- The result of reading, from what is read from left to right.
+use Rattle.wkb_read.specs.Prelude.refusals
+use Rattle.wkb_read.proofs.Prelude.{◌≡◌, ℕ, ◌+◌, ◌*◌, ◌≤◌, List, length, Result, Ok, Err, ap, ◌∙◌, subst, arith, Cause}
+use Rattle.wkb_read.proofs.Prelude.{Refusal, WkbError, max_nesting, Item, Cost, Reading, geometry_at}
+use Rattle.wkb_read.proofs.Prelude.{Refuses, any, Tells, TellsRefusal, Agrees, geometry_agrees_lem, Counts, IsCause}
+use Rattle.wkb_read.proofs.Prelude.{Spent, AtMost, Stops, Wkb, IsNotMemory, IsFront, IsOnlyFront, HasNoFront}
+use Rattle.wkb_read.proofs.Prelude.{IsRefusal, TellsEach, IfRefused, IfMemory, CountsValue, CountsRefusal, CountsAtMost}
+use Rattle.wkb_read.proofs.Prelude.{ReadsAs}
+use Rattle.wkb_read.specs.Reads.{TakesNoMemory, Reads, Costs}
 use Rattle.wkb_geom.specs.declared.error.WkbError.TheVariants as errors
 use Rattle.wkb_laws.proofs.GeometryAt.{front_is_read_lem, refusal_is_read_lem, reading_is_bounded_lem}
 use Rattle.wkb_laws.proofs.OneFront.{one_front_lem}
@@ -18,14 +18,14 @@ reading_of buf = geometry_at max_nesting buf
 abbrev zero_counts : Counts
 zero_counts = record { turns = 0; slots = 0 }
 
--- ---- what is counted is bounded by the bytes, whatever the answer
+-- ---- what is counted is bounded by the bytes, whatever the result
 
 counted_of : (whole : Reading Item) (r : Result Wkb Refusal) (old new : Counts) → ReadsAs whole r old new
     → AtMost old new whole.0
 counted_of whole (Ok w) old new h = record { turns = omega (arith, h.1.turns); slots = omega (arith, h.1.slots) }
-counted_of whole (Err (Fault cause)) old new h =
+counted_of whole (Err (refusals.Cause cause)) old new h =
     record { turns = omega (arith, h.1.turns); slots = omega (arith, h.1.slots) }
-counted_of whole (Err Memory) old new h = h
+counted_of whole (Err refusals.Memory) old new h = h
 
 pub count_bounded : (buf : List ℕ) (r : Result Wkb Refusal) (new : Counts) → ReadsAs (reading_of buf) r zero_counts new
     → (4 * new.turns ≤ length buf + 4) × (new.slots ≤ 15 * length buf)
@@ -64,7 +64,7 @@ pub is_read : (buf : List ℕ) (w : Wkb) (new : Counts) → ReadsAs (reading_of 
     → IsRead buf w new
 is_read buf w new h = read_by buf (reading_of buf) (geometry_agrees_lem buf) w h.0.0 new h.0.1 h.1
 
--- ---- a refusal, and the error that tells it
+-- ---- a refusal, and its error
 
 pub record IsTold (buf : List ℕ) (e : WkbError) (new : Counts) : Type 0 where
   pub refusal : IsRefusal buf e
@@ -95,16 +95,16 @@ refused_by buf (c, Err f) h cause new is spent =
     let slots : c.slots ≡ new.slots = omega (arith, spent.slots) in
     rw (← same, ← turns, ← slots) h
 
--- what holds of each error that tells the refusal holds of the answer
+-- what holds of each error of the refusal holds of the result
 if_told : (P : WkbError → Type 0) (buf : List ℕ) (e : WkbError) (refusal : Refusal) (new : Counts)
     → Stops refusal (reading_of buf) zero_counts new → TellsRefusal e refusal → (IsTold buf e new → P e)
     → IfRefused (Err e) P
 if_told P buf (errors.Memory x) refusal new h tells step = tt
-if_told P buf e (Fault cause) new h tells step =
+if_told P buf e (refusals.Cause cause) new h tells step =
     step (told buf e cause new (refused_by buf (reading_of buf) (geometry_agrees_lem buf) cause new h.0 h.1) tells)
-if_told P buf e Memory new h tells step = absurd tells
+if_told P buf e refusals.Memory new h tells step = absurd tells
 
--- ---- want of memory
+-- ---- an allocation failure
 
 at_most : (buf : List ℕ) (new : Counts) → AtMost zero_counts new (reading_of buf).0 → CountsAtMost buf new
 at_most buf new h = record {
@@ -125,17 +125,17 @@ memory_counted : (buf : List ℕ) (e : WkbError) (refusal : Refusal) (new : Coun
 memory_counted buf e refusal new h =
     if_memory e (CountsAtMost buf new) (at_most buf new (counted_of (reading_of buf) (Err refusal) zero_counts new h))
 
--- an error that tells a fault is no want of memory
-is_not_memory : (e : WkbError) (refusal : Refusal) → TellsRefusal e refusal → IsAtFault refusal → IsNotMemoryError e
-is_not_memory (errors.Memory x) (Fault cause) tells fault = absurd tells
-is_not_memory (errors.Memory x) Memory tells fault = absurd fault
+-- the error of a fault is no allocation failure
+is_not_memory : (e : WkbError) (refusal : Refusal) → TellsRefusal e refusal → IsCause refusal → IsNotMemory e
+is_not_memory (errors.Memory x) (refusals.Cause cause) tells fault = absurd tells
+is_not_memory (errors.Memory x) refusals.Memory tells fault = absurd fault
 is_not_memory _ refusal tells fault = tt
 
--- an answer that is an error which tells the refusal
+-- a result that is the error of a refusal
 module _ (buf : List ℕ) (e : WkbError) (refusal : Refusal) (new : Counts)
     (stops : Stops refusal (reading_of buf) zero_counts new)
     (tells : TellsRefusal e refusal) where
-  pub refused_as : (TakesNoMemory buf → IsAtFault refusal) → Reads buf (Err e)
+  pub refused_as : (TakesNoMemory buf → IsCause refusal) → Reads buf (Err e)
   refused_as none = record {
     front = tt;
     one_front = tt;

@@ -1,13 +1,13 @@
-use Rattle.wkb_read.proofs.Words.{ap, arith, Item, Reading, max_nesting, geometry_at}
+use Rattle.wkb_read.proofs.Prelude.{ap, arith, Item, Reading, max_nesting, geometry_at}
 use Rattle.wkb_read.proofs.Stacks.{reads_on}
-use Rattle.wkb_read.proofs.read.stack.geometry.Goals as goal
+use Rattle.wkb_read.proofs.read.read_geometry.Goals as goal
 
-pub nested-requires-clause-stands : goal.nested-requires-clause-stands
-nested-requires-clause-stands c =
+pub read_collection-requires-clause-stands : goal.read_collection-requires-clause-stands
+read_collection-requires-clause-stands c =
     (rw c.in-Ok-Opened.field-0-is at c.in-Ok-Opened.ensures.begins).3
 
-pub nested-requires-clause-fits : goal.nested-requires-clause-fits
-nested-requires-clause-fits c =
+pub read_collection-requires-clause-fits : goal.read_collection-requires-clause-fits
+read_collection-requires-clause-fits c =
     let begun = (rw c.in-Ok-Opened.field-0-is at c.in-Ok-Opened.ensures.begins).0 in
     record {
       turns = omega (arith, ap (λ (s : Reading Item). s.0.turns) begun, c.requires.fits.turns);
@@ -16,8 +16,8 @@ nested-requires-clause-fits c =
 
 pub returns-in-Ok-Opened-clause-reads : goal.returns-in-Ok-Opened-clause-reads
 returns-in-Ok-Opened-clause-reads c =
-    reads_on c.nested.result _ (geometry_at max_nesting c.args.buf.now) c.args.counts.now c.begin.new.counts
-    c.nested.new.counts (rw c.in-Ok-Opened.field-0-is at c.in-Ok-Opened.ensures.begins).0 c.nested.ensures
+    reads_on c.read_collection.result _ (geometry_at max_nesting c.args.buf.now) c.args.counts.now c.read_front.new.counts
+    c.read_collection.new.counts (rw c.in-Ok-Opened.field-0-is at c.in-Ok-Opened.ensures.begins).0 c.read_collection.ensures
 
 pub returns-in-Ok-Opened-clause-no_memory : goal.returns-in-Ok-Opened-clause-no_memory
 returns-in-Ok-Opened-clause-no_memory c = λ none.

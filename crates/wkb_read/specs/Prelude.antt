@@ -1,22 +1,22 @@
--- The words of the field, passed on from one place. Declares nothing.
+-- The names of the field, passed on from one place. Declares nothing.
 pub use Rattle.wkb_geom.specs.declared.code.WkbType.{WkbType}
 pub use Rattle.wkb_geom.specs.declared.common.Dimension.{Dimension}
 pub use Rattle.wkb_geom.specs.declared.common.Endianness.{Endianness}
 pub use Rattle.wkb_geom.specs.declared.common.Form.TheVariants.{Iso}
 pub use Rattle.wkb_geom.specs.declared.error.Cause.{Cause}
 pub use Rattle.wkb_geom.specs.declared.error.Refusal.{Refusal}
+pub use Rattle.wkb_geom.specs.declared.error.Refusal.TheVariants as refusals
 pub use Rattle.wkb_geom.specs.declared.error.WkbError.{WkbError}
 pub use Rattle.wkb_geom.specs.declared.header.Header.{Header as Head}
 pub use Rattle.wkb_geom.specs.declared.header.Layout.{Layout}
-pub use Rattle.wkb_geom.specs.Dimensions.{dimensions}
+pub use Rattle.wkb_geom.specs.Dimensions.{as_dimensions}
 pub use Rattle.wkb_geom.specs.Fronts.{Front, HasNoFront, max_nesting}
 pub use Rattle.wkb_geom.specs.Geometries.{Geometry, Geometries, geometries, geometry_of, geometries_of, normal}
 pub use Rattle.wkb_geom.specs.Geometries.{IsGeometry, AreGeometries}
 pub use Rattle.wkb_geom.specs.Numbers.{number}
 pub use Rattle.wkb_geom.specs.Reading.{Item, Cost, Outcome, Reading, free, one_turn, costs, done, at_no_cost, and_then}
-pub use Rattle.wkb_geom.specs.Reading.{consumed, body_start, parts_start}
-pub use Rattle.wkb_geom.specs.Reading.{type_kind, type_dimension, layout_of, laid, list_item, collection_with}
-pub use Rattle.wkb_geom.specs.Reading.{collection_within, spelled_in, spellings, values}
+pub use Rattle.wkb_geom.specs.Reading.{consumed, body_start, parts_start, type_kind, type_dimension, layout_of, laid}
+pub use Rattle.wkb_geom.specs.Reading.{list_item, collection_with, collection_within, spelled_in, spellings, values}
 pub use Rattle.wkb_geom.specs.Reading.{too_deep, body_at}
 unfoldable pub use Rattle.wkb_geom.specs.Reading.{head_at, repeated, polygon_at, multi_line_string_at, multi_polygon_at}
 unfoldable pub use Rattle.wkb_geom.specs.Reading.{collection_at, by_type, geometry_at}
@@ -24,13 +24,12 @@ pub use Rattle.wkb_geom.specs.Refusals.{Refuses, Opens, srid_size}
 pub use Rattle.wkb_geom.specs.Spellings.{Spelling, any}
 pub use Rattle.wkb_geom.specs.Stored.{Listed, whole_of, listed_code, values_code, item_code}
 pub use Rattle.wkb_geom.specs.Encodings.{IsWritable}
-pub use Rattle.wkb_geom.specs.Told.{Tells, TellsRefusal}
+pub use Rattle.wkb_geom.specs.Errors.{Tells, TellsRefusal}
 pub use Rattle.wkb_geom.specs.Values.{Coordinate, Value, Values, polygon, multi_line_string, multi_polygon, collection}
-pub use Rattle.wkb_geom.specs.Values.{dimension, no_members, member}
-pub use Rattle.wkb_geom.specs.Values.{member_count, listed_count}
+pub use Rattle.wkb_geom.specs.Values.{dimension, no_members, member, member_count, listed_count}
 pub use Rattle.wkb_view.specs.declared.counts.Counts.{Counts}
 pub use Rattle.wkb_view.specs.Headers.{HasHead}
-pub use Rattle.wkb_view.specs.Memory.{IsAtFault, IsNoWant}
-pub use Rattle.wkb_view.specs.Outcome.{Answers, Gives, Spent, AtMost, CanCount, Stops}
+pub use Rattle.wkb_view.specs.Outcome.{Spent, AtMost, CanCount, Stops, IsCause}
 pub use Rattle.wkb_view.specs.Parts.{srid_of, list_of_values, members_spelled, IsCollection, BytesSpell}
+pub use Rattle.wkb_view.specs.Members.{polygon_seen, multi_line_string_seen, multi_polygon_seen}
 pub use Rattle.wkb_view.specs.Views.{point_seen, line_string_seen, multi_point_seen}

@@ -1,47 +1,47 @@
-use Rattle.wkb_read.proofs.Words.{◌≡◌, ◌+◌, length, reverse, [], ◌∷◌, refl, ap, ◌∙◌, length-append, reverse-append}
-use Rattle.wkb_read.proofs.Words.{length-reverse, arith, Item, Reading, costs}
-use Rattle.wkb_read.proofs.Words.{Counts, cost_of, next_turn, first_member, outward}
+use Rattle.wkb_read.proofs.Prelude.{◌≡◌, ◌+◌, length, reverse, [], ◌∷◌, refl, ap, ◌∙◌, length-append, reverse-append}
+use Rattle.wkb_read.proofs.Prelude.{length-reverse, arith, Item, Reading, costs, Counts, cost_of, next_turn, first_member}
+use Rattle.wkb_read.proofs.Prelude.{outward}
 use Rattle.wkb_read.proofs.Stacks.{Reaches, Finishes, can_begin, at_most_turn, enters, finishes, stops_outward}
 use Rattle.wkb_read.proofs.Stacks.{all_read}
 use Rattle.std.proofs.lemmas.Result.{err_from_is_err_and}
-use Rattle.wkb_read.proofs.read.stack.nested.Goals as goal
-use Rattle.wkb_read.proofs.read.stack.nested.Goals.{After-len, In-Ok-Opened, In-Ok-Whole}
+use Rattle.wkb_read.proofs.read.stack.read_collection.Goals as goal
+use Rattle.wkb_read.proofs.read.stack.read_collection.Goals.{After-len, In-Ok-Opened, In-Ok-Whole}
 
 as_many : (c : After-len) → length (reverse c.loop-collection.stack.items) ≡ c.len.result
 as_many c = omega (arith, length-reverse c.loop-collection.stack.items, c.loop-collection.stack.ok.0, c.len.ensures)
 
 -- the first member of a collection that was opened begins, and a turn is counted
 opened : (c : In-Ok-Opened) (after : Counts) → length (reverse c.loop-collection.stack.items) ≡ c.len.result
-    → cost_of after ≡ next_turn (cost_of c.begin.new.counts)
+    → cost_of after ≡ next_turn (cost_of c.read_front.new.counts)
     → Reaches (c.in-Ok-Opened.collection ∷ reverse c.loop-collection.stack.items) c.in-Ok-Opened.rest.now after
     (costs (cost_of c.args.counts.now) (first_member 0 c.args.outermost c.args.members.now))
 opened c after around turn =
     enters c.in-Ok-Opened.collection
     (reverse c.loop-collection.stack.items) c.in-Ok-Opened.rest c.loop-collection.bytes.now c.loop-collection.counts
-    c.begin.new.counts after _ c.loop-collection.invariant.reaches
+    c.read_front.new.counts after _ c.loop-collection.invariant.reaches
     (rw (c.in-Ok-Opened.field-0-is, ← around) at c.in-Ok-Opened.ensures.begins) turn
 
 -- a whole part was read
 part : (c : In-Ok-Whole) → length (reverse c.loop-collection.stack.items) ≡ c.len.result
-    → Finishes (reverse c.loop-collection.stack.items) c.in-Ok-Whole.part c.in-Ok-Whole.rest.now c.begin.new.counts
+    → Finishes (reverse c.loop-collection.stack.items) c.in-Ok-Whole.part c.in-Ok-Whole.rest.now c.read_front.new.counts
     (costs (cost_of c.args.counts.now) (first_member 0 c.args.outermost c.args.members.now))
 part c around =
     finishes c.in-Ok-Whole.part
     (reverse c.loop-collection.stack.items) c.in-Ok-Whole.rest c.loop-collection.bytes.now c.loop-collection.counts
-    c.begin.new.counts _ c.loop-collection.invariant.reaches
+    c.read_front.new.counts _ c.loop-collection.invariant.reaches
     (rw (c.in-Ok-Whole.field-0-is, ← around) at c.in-Ok-Whole.ensures.begins)
 
-pub begin-requires : goal.begin-requires
-begin-requires c =
+pub read_front-requires : goal.read_front-requires
+read_front-requires c =
     let fits =
     can_begin _ _ c.args.counts.now c.loop-collection.counts _ c.loop-collection.invariant.reaches c.requires.fits
     in
-    record { fits = rw (← as_many (goal.at.begin-requires c).After-len) fits }
+    record { fits = rw (← as_many (goal.at.read_front-requires c).After-len) fits }
 
 pub push_collection-requires-in-Ok-Opened : goal.push_collection-requires-in-Ok-Opened
 push_collection-requires-in-Ok-Opened c =
     let p = goal.at.push_collection-requires-in-Ok-Opened c in
-    let after : Counts = record { turns = c.begin.new.counts.turns + 1; slots = c.begin.new.counts.slots } in
+    let after : Counts = record { turns = c.read_front.new.counts.turns + 1; slots = c.read_front.new.counts.slots } in
     record {
       fits = omega (
         arith,
@@ -53,12 +53,12 @@ push_collection-requires-in-Ok-Opened c =
 pub returns-in_err-push_collection-in-Ok-Opened : goal.returns-in_err-push_collection-in-Ok-Opened
 returns-in_err-push_collection-in-Ok-Opened c =
     let p = goal.at.returns-in_err-push_collection-in-Ok-Opened c in
-    let after : Counts = record { turns = c.begin.new.counts.turns + 1; slots = c.begin.new.counts.slots } in
+    let after : Counts = record { turns = c.read_front.new.counts.turns + 1; slots = c.read_front.new.counts.slots } in
     let stopped =
     err_from_is_err_and c.from_residual-in_err-push_collection-in-Ok-Opened.result
     c.from_residual-in_err-push_collection-in-Ok-Opened.ensures.1 in
     rw (stopped.1, stopped.2, c.in_err-push_collection-in-Ok-Opened.ensures.stays)
-    (at_most_turn _ _ c.args.counts.now c.begin.new.counts after _
+    (at_most_turn _ _ c.args.counts.now c.read_front.new.counts after _
     (opened p.In-Ok-Opened after (as_many p.After-len) refl)
     refl)
 
@@ -114,6 +114,6 @@ pub returns-in-Err : goal.returns-in-Err
 returns-in-Err c =
     stops_outward c.in-Err.refusal _
     (outward (reverse c.loop-collection.stack.items)) _ c.args.counts.now c.loop-collection.counts
-    c.begin.new.counts
+    c.read_front.new.counts
     c.loop-collection.invariant.reaches.so_far
     (rw (as_many (goal.at.returns-in-Err c).After-len) c.in-Err.ensures.begins)
