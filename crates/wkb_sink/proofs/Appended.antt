@@ -1,8 +1,7 @@
 -- Encodings that are appended to a sink one after another.
 use Rattle.wkb_sink.proofs.Prelude.{◌≡◌, ℕ, ◌≤◌, List, ◌++◌, length, take, drop, Option, sym, ap, ◌∙◌, append_assoc}
-use Rattle.wkb_sink.proofs.Prelude.{arith}
+use Rattle.wkb_sink.proofs.Prelude.{arith, length-drop, take_all, take-append-drop, ◌-◌, Appends, IsWritten}
 use Rattle.std.proofs.KnownBytes.{Appends-trans}
-use Rattle.wkb_sink.proofs.Prelude.{length-drop, take_all, take-append-drop, ◌-◌, Appends, IsWritten}
 
 pub written_more : {a b c : Option (List ℕ)} {s : List ℕ} (t : List ℕ) → IsWritten a b s → Appends b c t
     → IsWritten a c (s ++ t)

@@ -1,7 +1,7 @@
--- Encodings that stand one behind another in a block.
+-- Encodings that follow one another in a block.
 use Rattle.wkb_sink.proofs.Prelude.{ℕ, List, [], ◌++◌, sym, ap, ◌∙◌, append_assoc, append-nil, ◌≡◌, ◌+◌, refl}
-use Rattle.wkb_sink.proofs.Prelude.{replicate, replicate_more, flat_map-append}
-use Rattle.wkb_sink.proofs.Prelude.{Endianness, number_bytes, words_encoding, IsExtended}
+use Rattle.wkb_sink.proofs.Prelude.{replicate, replicate_more, flat_map-append, Endianness, number_bytes}
+use Rattle.wkb_sink.proofs.Prelude.{words_encoding, IsExtended}
 
 pub behind : {a b c s t : List ℕ} → IsExtended a b s → IsExtended b c t → IsExtended a c (s ++ t)
 behind {a = a} {s = s} {t = t} p q = record { is = q.is ∙ ap (λ l. l ++ t) p.is ∙ append_assoc a s t }

@@ -1,8 +1,7 @@
 -- Encodings that are laid one after another.
 use Rattle.wkb_sink.proofs.Prelude.{◌≡◌, ℕ, List, [], ◌++◌, Option, refl, sym, ap, ◌∙◌, subst, append_assoc, append-nil}
-use Rattle.wkb_sink.proofs.Prelude.{arith, length-append, Bool, true, false}
-use Rattle.wkb_sink.proofs.Prelude.{Result, Ok, Err, Appends, Stopped, IsExtended, Progress, IsLaid, IsCut, Advances}
-use Rattle.wkb_sink.proofs.Prelude.{progress, IsBegun, IsWritten}
+use Rattle.wkb_sink.proofs.Prelude.{arith, length-append, Bool, true, false, Result, Ok, Err, Appends, Stopped}
+use Rattle.wkb_sink.proofs.Prelude.{IsExtended, Progress, IsLaid, IsCut, Advances, progress, IsBegun, IsWritten}
 use Rattle.std.specs.Prelude.{IsErrAnd, IfOk}
 use Rattle.std.proofs.lemmas.Result.{err_from_is_err_and}
 use Rattle.wkb_sink.specs.declared.buffered.Buffered.{Buffered}
@@ -54,17 +53,17 @@ cut_then {a = a} {b = b} {s = s} {t = t} p q = record {
 pub cut_early : {a b : Progress} (t : List ℕ) → IsCut a b [] → IsCut a b t
 cut_early t p = cut_first t p
 
--- what the exit of a `?` answers
+-- what the exit of a `?` returns
 pub exits : {a b : Progress} {all : List ℕ} (e : Stopped) (r : Result (Unit {0}) Stopped) → IsErrAnd r (λ y. y ≡ e)
     → IsCut a b all → Advances a b all r
 exits e r is cut = rw (err_from_is_err_and r is).1 cut
 
--- the answer of what was stopped
+-- the result of what was stopped
 pub stopped_at : {a b : Progress} {t : List ℕ} {e : Stopped} (r : Result (Unit {0}) Stopped) → r ≡ Err e → IsCut a b t
     → Advances a b t r
 stopped_at r is cut = rw is cut
 
--- the last part's answer is the whole's
+-- the last part's result is that of the whole
 pub lays_then : {a b : Progress} (c : Progress) {s : List ℕ} (t : List ℕ) (r : Result (Unit {0}) Stopped) → IsLaid a b s
     → Advances b c t r
     → Advances a c (s ++ t) r
@@ -148,7 +147,7 @@ pub lays_last : {a b : Progress} (c : Progress) (t : List ℕ) (r : Result (Unit
     → Advances b c [] r → Advances a c t r
 lays_last {a = a} c t r p q = subst (λ s. Advances a c s r) (append-nil t) (lays_then c [] r p q)
 
--- an encoding for which nothing waited at first, nor at the end; x is what the lent sink ends as
+-- an encoding for which nothing waited at first, nor at the end; x is what the borrowed sink ends as
 pub ends_laid : {S : Type 0} (sink : Ghosts S) (t : List ℕ) (a : Progress) (b : Buffered S) (x : S) (u : Unit {0})
     (r : Result (Unit {0}) Stopped) → r ≡ Ok u
     → Advances a (progress sink b) t r → a.waiting ≡ [] → IfOk r (λ _. b.block.waiting ≡ [])

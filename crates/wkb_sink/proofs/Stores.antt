@@ -1,15 +1,14 @@
 -- Parts of an encoding that are stored one after another.
 use Rattle.wkb_sink.proofs.Prelude.{◌≡◌, ℕ, zero, suc, ◌+◌, ◌-◌, ◌*◌, ◌/◌, ◌<◌, ◌≤◌, List, [], ◌∷◌, ◌++◌, length, take}
-use Rattle.wkb_sink.proofs.Prelude.{drop, Some, refl, sym, ap, ◌∙◌}
-use Rattle.wkb_sink.proofs.Prelude.{append_assoc, append-nil, arith, length-drop, slice_get, slice_index, add-one}
-use Rattle.wkb_sink.proofs.Prelude.{flat_map, length-take-le, take-append-le}
-use Rattle.wkb_sink.proofs.Prelude.{take_at, Endianness, number_bytes, words_encoding, Waiting, IsExtended}
+use Rattle.wkb_sink.proofs.Prelude.{drop, Some, refl, sym, ap, ◌∙◌, append_assoc, append-nil, arith, length-drop}
+use Rattle.wkb_sink.proofs.Prelude.{slice_get, slice_index, add-one, flat_map, length-take-le, take-append-le, take_at}
+use Rattle.wkb_sink.proofs.Prelude.{Endianness, number_bytes, words_encoding, Waiting, IsExtended}
 use Rattle.std.proofs.Math.Nat.{mul-add, mul-le-mul_left}
 use Rattle.std.proofs.lemmas.Nat.{le-div}
 use Rattle.std.proofs.Math.Seq.{take-append-add}
 use borrow.Rule.Slice.PartMut.{put_mid, mid_of, post_of}
 
--- an encoding that was stored behind another
+-- an encoding that was stored after another
 pub stored_next : (all part t s : List ℕ) (at n k : ℕ) → take at all ≡ t → at ≤ length all → take n part ≡ s
     → n ≤ length part
     → take (at + n) (put_mid at k all part) ≡ t ++ s
@@ -61,7 +60,7 @@ run_step f (y ∷ ys) (suc start) zero x item h = absurd (omega arith)
 run_step f (y ∷ ys) (suc start) (suc i) x item h =
     rw add-one (rw add-one at (run_step f ys start i x item (omega arith)))
 
--- an encoding that was stored behind the bytes that wait in a block
+-- an encoding that was stored after the bytes that wait in a block
 pub block_next : (old : Waiting) (bytes part s : List ℕ) (len n : ℕ)
     → record { waiting = take len bytes; room = length bytes - len } ≡ old
     → len ≤ length bytes → length part ≡ length (mid_of len (length bytes - len) bytes) → n ≤ old.room → take n part ≡ s

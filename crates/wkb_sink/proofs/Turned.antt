@@ -1,12 +1,11 @@
--- Words that are read where they stand in one order, and stored in another.
+-- Words that are read in one order, and stored in another.
 use Rattle.wkb_sink.proofs.Prelude.{◌≡◌, ℕ, zero, suc, ◌+◌, ◌-◌, ◌*◌, ◌<◌, ◌≤◌, List, [], ◌∷◌, ◌++◌, length, take, drop}
 use Rattle.wkb_sink.proofs.Prelude.{Some, refl, sym, ap, ◌∙◌, arith, slice_get, length-append, flat_map}
-use Rattle.wkb_sink.proofs.Prelude.{flat_map-append}
-use Rattle.wkb_sink.proofs.Prelude.{Endianness, words_encoding}
+use Rattle.wkb_sink.proofs.Prelude.{flat_map-append, Endianness, words_encoding}
 use Rattle.std.specs.List.{AllByRecursion, concat}
 use Rattle.std.proofs.Math.Seq.{drop-append-add, take-append-add}
-use Rattle.byteorder.specs.Numbers.{big_number-reads_back, little_number-reads_back}
-use Rattle.byteorder.specs.Numbers.{length-bytes_high_first, length-bytes_low_first}
+use Rattle.byteorder.specs.Numbers.{big_number-reads_back, little_number-reads_back, length-bytes_high_first}
+use Rattle.byteorder.specs.Numbers.{length-bytes_low_first}
 use Rattle.wkb_geom.specs.declared.common.Endianness.TheVariants.{BigEndian, LittleEndian}
 use Rattle.wkb_geom.specs.declared.common.Dimensions.{Dimensions}
 use Rattle.wkb_geom.specs.Dimensions.{size}
@@ -111,7 +110,7 @@ coordinates_length order dims [] h = tt
 coordinates_length order dims (c ∷ cs) h =
     (words_length order c ∙ ap (λ n. 8 * n) h.0.len, coordinates_length order dims cs h.1)
 
--- the bytes of a run are among all that are lent
+-- the bytes of a run are among all that are borrowed
 pub run_within : (order : Endianness) (dims : Dimensions) (cs : List (List ℕ)) (to : ℕ) → AreCoordinates dims cs
     → to ≤ length cs
     → 8 * size dims * to ≤ length (flat_map (words_encoding order) cs)

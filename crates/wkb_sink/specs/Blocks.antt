@@ -6,6 +6,10 @@ pub record Waiting : Type 0 where
   pub waiting : List ℕ
   pub room : ℕ
 
--- what waited, and the encoding behind it
+-- what waited, and the encoding after it
 pub record IsExtended (old new encoding : List ℕ) : Type 0 where
   pub is : new ≡ old ++ encoding
+
+-- the encoding was laid in a block
+abbrev pub LaysIn : Waiting → Waiting → List ℕ → Type 0
+LaysIn old new encoding = IsExtended old.waiting new.waiting encoding

@@ -6,13 +6,13 @@ pub record Outward (W : Type 0) : Type 0 where
   pub writer : W
   pub failed : Bool
 
--- the bytes that stand in memory, for how many there is room without more memory, and whether the sink has failed
+-- the bytes in memory, for how many there is room without another allocation, and whether the sink has failed
 pub record Growing : Type 0 where
   pub bytes : List ℕ
   pub capacity : ℕ
   pub failed : Bool
 
--- the bytes that stand in a slice, how many more it takes, and whether the sink has failed
+-- the bytes that were put into a slice, how many more it takes, and whether the sink has failed
 pub record Lent : Type 0 where
   pub bytes : List ℕ
   pub room : ℕ

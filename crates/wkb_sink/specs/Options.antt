@@ -1,11 +1,12 @@
 -- What is written under some options.
-use Rattle.std.specs.Prelude.{ℕ, List}
+use Rattle.std.specs.Prelude.{ℕ, List, ◌++◌}
 use Rattle.wkb_geom.specs.Encodings.{header_encoding, inner}
+use Rattle.wkb_geom.specs.Numbers.{number_bytes}
 use Rattle.wkb_geom.specs.Reading.{type_dimension, type_kind}
 use Rattle.wkb_geom.specs.declared.code.WkbType.{WkbType}
 use Rattle.wkb_sink.specs.declared.options.WriteOptions.{WriteOptions}
 
--- the options of what is not outermost
+-- the options of a geometry inside another one
 abbrev pub inner_options : WriteOptions → WriteOptions
 inner_options options = record { endianness = options.endianness; form = inner options.form }
 
@@ -13,3 +14,7 @@ inner_options options = record { endianness = options.endianness; form = inner o
 abbrev pub header_of : WriteOptions → WkbType → List ℕ
 header_of options kind =
     header_encoding options.endianness options.form (type_kind kind) (type_dimension kind)
+
+-- such a header, and then a count
+abbrev pub counted_header : WriteOptions → WkbType → ℕ → List ℕ
+counted_header options kind n = header_of options kind ++ number_bytes options.endianness 4 n

@@ -7,7 +7,7 @@ use Rattle.wkb_sink.specs.declared.buffered.Buffered.{Buffered}
 use Rattle.wkb_sink.specs.declared.buffered.Stopped.{Stopped}
 use Rattle.wkb_sink.specs.declared.sink.Sink.{Ghosts}
 
--- which sink it is, what stands appended to it, where it tells its bytes, whether it has failed and whether by the
+-- which sink it is, the bytes that were appended, where it tells them, whether it has failed, what is known of the
 -- error that is kept, and what waits in the block
 pub record Progress : Type 1 where
   pub sink : ℕ
@@ -16,7 +16,7 @@ pub record Progress : Type 1 where
   pub fails_by : Type 0
   pub waiting : List ℕ
 
--- the encoding was laid behind what waited, the first of these bytes were appended, and the sink works
+-- the encoding was laid after what waited, the first of these bytes were appended, and the sink works
 pub record IsLaid (old new : Progress) (encoding : List ℕ) : Type 0 where
   pub same : new.sink ≡ old.sink
   pub works : new.failed ≡ false
@@ -24,8 +24,7 @@ pub record IsLaid (old new : Progress) (encoding : List ℕ) : Type 0 where
   pub whole : old.waiting ++ encoding ≡ moved ++ new.waiting
   pub appended : Appends old.appended new.appended moved
 
--- the sink failed by the error that is kept, and a beginning of what waited and the encoding, shorter than both, was
--- appended
+-- the sink failed by the error that is kept, after a strict prefix of what waited and the encoding was appended
 pub record IsCut (old new : Progress) (encoding : List ℕ) : Type 0 where
   pub same : new.sink ≡ old.sink
   pub stopped : new.failed ≡ true
@@ -50,11 +49,11 @@ progress sink out = record {
   waiting = out.block.waiting;
 }
 
--- the sink took the encoding, or failed as is answered
+-- the sink took the encoding, or failed as the result says
 abbrev pub PutsTo : {S : Type 0} → Ghosts S → S → S → List ℕ → Result (Unit {0}) (Option Error) → Type 0
 PutsTo sink old new encoding r =
     PutsOrStops (sink.appended old) (sink.appended new) (sink.has_failed new) (sink.fails_by new) encoding r
 
--- the same of a sink and a block before a step and after it
+-- a step laid the encoding by this sink and block, or the sink failed
 abbrev pub Lays : {S : Type 0} → Ghosts S → Buffered S → Buffered S → List ℕ → Result (Unit {0}) Stopped → Type 0
 Lays sink old new encoding r = Advances (progress sink old) (progress sink new) encoding r

@@ -1,27 +1,33 @@
--- Coordinates, and runs of them: those between two places of a line.
-use Rattle.std.specs.Prelude.{ℕ, ◌≤◌, ◌-◌, ◌*◌, List, length, take, drop}
-use Rattle.std.specs.List.{flat_map}
+-- Coordinates, and runs of them: those of a line from an index up to another one.
+use Rattle.std.specs.Prelude.{◌≡◌, ℕ, ◌≤◌, ◌-◌, ◌*◌, List, length, take, drop}
+use Rattle.std.specs.List.{AllByRecursion, flat_map}
 use Rattle.wkb_geom.specs.declared.common.Dimensions.{Dimensions}
 use Rattle.wkb_geom.specs.declared.common.Endianness.{Endianness}
 use Rattle.wkb_geom.specs.Dimensions.{size}
 use Rattle.wkb_geom.specs.Encodings.{words_encoding}
+use Rattle.wkb_geom.specs.Numbers.{IsWord}
 use Rattle.wkb_geom.specs.Values.{Coordinate}
-use Rattle.wkb_sink.specs.declared.block.TheConstants.{COORDINATE}
+use Rattle.wkb_sink.specs.declared.block.TheConstants.{MAX_COORDINATE_SIZE}
 
 -- there is room for a coordinate of this dimension, which can be written
-pub record HasRoomFor (d : Dimensions) (left : ℕ) : Type 0 where
+pub record FitsCoordinate (d : Dimensions) (left : ℕ) : Type 0 where
   pub least : 2 ≤ size d
   pub most : size d ≤ 4
-  pub room : COORDINATE ≤ left
+  pub room : MAX_COORDINATE_SIZE ≤ left
 
--- the two places are a run's, and the dimension can be written
+-- the two indices are a run's, and the dimension can be written
 pub record IsRun (d : Dimensions) (cs : List Coordinate) (from to : ℕ) : Type 0 where
   pub order : from ≤ to
   pub within : to ≤ length cs
   pub least : 2 ≤ size d
   pub most : size d ≤ 4
 
--- the bytes of a run
+-- words that the first bytes hold in one order are held by the others in another one
+abbrev pub Turns : Endianness → Endianness → List ℕ → List ℕ → Type 0
+Turns held order from to =
+    (words : List ℕ) → AllByRecursion IsWord words → from ≡ words_encoding held words → to ≡ words_encoding order words
+
+-- the size of a run
 abbrev pub run_size : Dimensions → ℕ → ℕ → ℕ
 run_size d from to = 8 * size d * (to - from)
 

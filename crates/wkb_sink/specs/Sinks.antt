@@ -1,4 +1,4 @@
--- What stands appended to a sink, where it tells its bytes, and whether it has failed.
+-- What was appended to a sink, where it tells its bytes, and whether it has failed.
 use Rattle.std.specs.Prelude.{◌≡◌, ◌==◌, ◌&&◌, nat_lt, ℕ, ◌<◌, Bool, true, false, List, ◌++◌, length, Option, Result}
 use Rattle.std.specs.Prelude.{Some, None, Ok, Err, MatchResult}
 use Rattle.std.specs.declared.io.Error.{Error}
@@ -8,17 +8,21 @@ use Rattle.std.specs.Io.KnownBytes.{Appends}
 use Rattle.wkb_geom.specs.declared.error.WkbError.{WkbError}
 use Rattle.wkb_geom.specs.declared.error.WkbError.TheVariants as errors
 
--- whether this answer to a put of n bytes is a failure
+-- whether this result of a put of n bytes is a failure
 abbrev pub put_fails : {E : Type 0} → ℕ → Result ℕ E → Bool
 put_fails n (Ok k) = k == 0 && nat_lt 0 n
 put_fails n (Err e) = true
 
--- a put of n bytes failed by this error, or by none: of some bytes nothing was taken
+-- a put of n bytes failed by this error, or by none, as nothing was taken of some bytes
 abbrev pub FailsBy : ℕ → Result ℕ Error → Option Error → Type 0
 FailsBy n r (Some e) = r ≡ Err e
 FailsBy n r None = (r ≡ Ok 0) × (0 < n)
 
--- the error tells how the sink failed: it is the sink's own, or says that nothing was taken
+-- this is known of each error by which a put of n bytes failed
+abbrev pub KnownOfFailure : ℕ → Result ℕ Error → (Option Error → Type 0) → Type 0
+KnownOfFailure n r known = (failure : Option Error) → FailsBy n r failure → known failure
+
+-- the error reports how the sink failed: it is the sink's own, or says that nothing was taken
 abbrev pub TellsFailure : WkbError → Option Error → Type 0
 TellsFailure e (Some own) = e ≡ errors.IOError own
 TellsFailure (errors.IOError e) None = error_kind e ≡ WriteZero
@@ -32,7 +36,7 @@ IsIOError _ = ⊥
 pub record IsWritten (old new : Option (List ℕ)) (encoding : List ℕ) : Type 0 where
   pub appended : Appends old new encoding
 
--- a beginning of the encoding, shorter than the encoding, was appended
+-- a strict prefix of the encoding was appended
 pub record IsBegun (old new : Option (List ℕ)) (encoding : List ℕ) : Type 0 where
   pub front : List ℕ
   pub rest : List ℕ
@@ -40,17 +44,17 @@ pub record IsBegun (old new : Option (List ℕ)) (encoding : List ℕ) : Type 0 
   pub left : 0 < length rest
   pub appended : Appends old new front
 
--- an error for which a sink failed in such a way
+-- an error that reports a failure of this sink
 abbrev pub IsOwnError : (Option Error → Type 0) → WkbError → Type 0
 IsOwnError fails_by e = (failure : Option Error) × fails_by failure × TellsFailure e failure
 
--- a writer that wrote the encoding, or an error for which the sink failed
+-- the encoding was written, or the error says that the sink failed
 abbrev pub Puts : Option (List ℕ) → Option (List ℕ) → Bool → List ℕ → Result (Unit {0}) WkbError → Type 0
 Puts old new failed encoding r =
     MatchResult r (λ _. IsWritten old new encoding × (failed ≡ false))
     (λ e. IsIOError e × IsBegun old new encoding × (failed ≡ true))
 
--- the same of a step inside, which answers how the sink failed
+-- the encoding was put, or the sink failed as the result of this step says
 abbrev pub PutsOrStops : Option (List ℕ) → Option (List ℕ) → Bool → (Option Error → Type 0) → List ℕ
     → Result (Unit {0}) (Option Error) → Type 0
 PutsOrStops old new failed fails_by encoding r =

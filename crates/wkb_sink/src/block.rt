@@ -5,31 +5,31 @@ ghost use Rattle.wkb_geom.specs.Dimensions.{width, written_dimension};
 ghost use Rattle.wkb_geom.specs.Numbers.{number_bytes, empty_word};
 ghost use Rattle.wkb_geom.specs.Reading.{type_kind, type_dimension};
 ghost use Rattle.wkb_geom.specs.Encodings.{code_of, words_encoding};
-ghost use Rattle.wkb_geom.specs.declared.header.TheConstants.{LONGEST_HEADER};
-ghost use Rattle.wkb_geom.specs.declared.words.TheConstants.{COUNT};
-ghost use Rattle.wkb_sink.specs.Blocks.{Waiting, IsExtended};
+ghost use Rattle.wkb_geom.specs.declared.header.TheConstants.{MAX_HEADER_SIZE};
+ghost use Rattle.wkb_geom.specs.declared.words.TheConstants.{COUNT_SIZE};
+ghost use Rattle.wkb_sink.specs.Blocks.{Waiting, LaysIn};
 ghost use Rattle.wkb_sink.specs.Options.{header_of};
-ghost use Rattle.wkb_sink.specs.Runs.{HasRoomFor, IsRun, run_size, run_encoding};
-ghost use Rattle.wkb_sink.specs.declared.block.TheConstants.{LEAST};
+ghost use Rattle.wkb_sink.specs.Runs.{FitsCoordinate, IsRun, run_size, run_encoding};
+ghost use Rattle.wkb_sink.specs.declared.block.TheConstants.{MIN_BLOCK};
 
 use crate::options::WriteOptions;
 use crate::store::{store_coordinate, store_coordinates, store_word, u32_bytes};
 use std::marker::Model;
 use wkb_geom::code::WkbType;
-use wkb_geom::header::LONGEST_HEADER;
-use wkb_geom::words::COUNT;
+use wkb_geom::header::MAX_HEADER_SIZE;
+use wkb_geom::words::COUNT_SIZE;
 use wkb_geom::{CoordTrait, Dimension, Dimensions, EMPTY_WORD, Endianness, Form, LineStringTrait};
 
-/// The bytes of a corner: x and y.
-pub const CORNER: usize = 16;
+/// The size of a corner: x and y.
+pub const CORNER_SIZE: usize = 16;
 
-/// The bytes of the longest coordinate, which has four words.
-pub const COORDINATE: usize = 32;
+/// The size of the longest coordinate, which has four words.
+pub const MAX_COORDINATE_SIZE: usize = 32;
 
-/// Every block holds at least so many bytes: the most that are laid in one piece, which a triangle is.
-pub const LEAST: usize = LONGEST_HEADER + 2 * COUNT + 4 * COORDINATE;
+/// The least that a block holds: the most that is laid in one piece, which is a triangle.
+pub const MIN_BLOCK: usize = MAX_HEADER_SIZE + 2 * COUNT_SIZE + 4 * MAX_COORDINATE_SIZE;
 
-/// Bytes that are laid in a lent slice and not yet given to a sink.
+/// Bytes that are laid in a borrowed slice and not yet given to a sink.
 #[derive(Drop)]
 pub struct Block<'a> {
     bytes: &'a mut [u8],
@@ -44,24 +44,24 @@ impl<'a> Model for Block<'a> {
       room = length b.bytes.now - b.len;
     } };
 
-    ghost invariant = { λ b. (b.len ≤ length b.bytes.now) × (LEAST ≤ length b.bytes.now) };
+    ghost invariant = { λ b. (b.len ≤ length b.bytes.now) × (MIN_BLOCK ≤ length b.bytes.now) };
 }
 
 impl<'a> Block<'a> {
-    /// An empty block, over as many bytes as it can hold.
+    /// An empty block over a slice, which is as long as what it can hold.
     #[inline]
     pub fn over(bytes: &'a mut [u8]) -> Block<'a>
-        requires { LEAST ≤ length bytes.old }
+        requires { MIN_BLOCK ≤ length bytes.old }
         ensures { result.waiting ≡ [] }
     {
         Block { bytes, len: 0 }
     }
 
-    /// How many bytes more the block holds.
+    /// The number of bytes for which the block has room.
     #[inline]
     pub fn room(&self) -> usize
         ensures room { result ≡ self.now.room }
-        ensures least { LEAST ≤ length self.now.waiting + self.now.room }
+        ensures least { MIN_BLOCK ≤ length self.now.waiting + self.now.room }
     {
         self.bytes.len() - self.len
     }
@@ -78,7 +78,7 @@ impl<'a> Block<'a> {
     #[inline]
     pub fn clear(&mut self)
         ensures empty { self.new.waiting ≡ [] }
-        ensures room { LEAST ≤ self.new.room }
+        ensures room { MIN_BLOCK ≤ self.new.room }
     {
         self.len = 0;
     }
@@ -88,7 +88,7 @@ impl<'a> Block<'a> {
     pub fn lay(&mut self, bytes: &[u8])
         requires { length bytes.now ≤ self.old.room }
         ensures room { self.new.room + length bytes.now ≡ self.old.room }
-        ensures bytes { IsExtended self.old.waiting self.new.waiting bytes.now }
+        ensures bytes { LaysIn self.old self.new bytes.now }
     {
         let end = self.len + bytes.len();
         self.bytes[self.len..end].copy_from_slice(bytes);
@@ -100,7 +100,7 @@ impl<'a> Block<'a> {
     pub fn lay_word(&mut self, order: Endianness, word: u64)
         requires { 8 ≤ self.old.room }
         ensures room { self.new.room + 8 ≡ self.old.room }
-        ensures bytes { IsExtended self.old.waiting self.new.waiting (number_bytes order 8 word) }
+        ensures bytes { LaysIn self.old self.new (number_bytes order 8 word) }
     {
         store_word(&mut self.bytes[self.len..], order, word);
         self.len += 8;
@@ -109,9 +109,9 @@ impl<'a> Block<'a> {
     /// Lays a coordinate of two, three or four words.
     #[inline(always)]
     pub fn lay_coordinate<C: CoordTrait>(&mut self, coord: &C, order: Endianness)
-        requires { HasRoomFor (C.dimensions coord.now) self.old.room }
-        ensures room { self.old.room ≤ self.new.room + COORDINATE }
-        ensures bytes { IsExtended self.old.waiting self.new.waiting
+        requires { FitsCoordinate (C.dimensions coord.now) self.old.room }
+        ensures room { self.old.room ≤ self.new.room + MAX_COORDINATE_SIZE }
+        ensures bytes { LaysIn self.old self.new
             (words_encoding order (C.words coord.now)) }
     {
         let width = coord.dim().size();
@@ -119,7 +119,7 @@ impl<'a> Block<'a> {
         self.len += 8 * width;
     }
 
-    /// Lays the coordinates between two places.
+    /// Lays the coordinates from an index up to another one.
     #[inline]
     pub fn lay_coordinates<L: LineStringTrait>(
         &mut self,
@@ -130,11 +130,11 @@ impl<'a> Block<'a> {
     )
         requires run { IsRun (L.dimensions line.now) (L.coordinates line.now) from to }
         requires room { run_size (L.dimensions line.now) from to ≤ self.old.room }
-        ensures { IsExtended self.old.waiting self.new.waiting
+        ensures { LaysIn self.old self.new
             (run_encoding order (L.coordinates line.now) from to) }
     {
         let rest = &mut self.bytes[self.len..];
-        // In each arm the order is a constant.
+        // In each arm the order is a constant, for which the call is compiled.
         self.len += match order {
             Endianness::BigEndian => store_coordinates(rest, line, from, to, Endianness::BigEndian),
             Endianness::LittleEndian => {
@@ -163,9 +163,9 @@ fn code(form: Form, kind: WkbType) -> u32
 
 /// Lays a count, or an SRID.
 pub fn lay_count(block: &mut Block<'_>, order: Endianness, n: u32)
-    requires { COUNT ≤ block.old.room }
-    ensures room { block.new.room + COUNT ≡ block.old.room }
-    ensures bytes { IsExtended block.old.waiting block.new.waiting (number_bytes order 4 n) }
+    requires { COUNT_SIZE ≤ block.old.room }
+    ensures room { block.new.room + COUNT_SIZE ≡ block.old.room }
+    ensures bytes { LaysIn block.old block.new (number_bytes order 4 n) }
 {
     block.lay(&u32_bytes(order, n));
 }
@@ -173,9 +173,9 @@ pub fn lay_count(block: &mut Block<'_>, order: Endianness, n: u32)
 /// Lays the order's byte, the code, and the SRID where there is one.
 #[inline(always)]
 pub fn lay_header(block: &mut Block<'_>, options: &WriteOptions, kind: WkbType)
-    requires { LONGEST_HEADER ≤ block.old.room }
-    ensures room { block.old.room ≤ block.new.room + LONGEST_HEADER }
-    ensures bytes { IsExtended block.old.waiting block.new.waiting (header_of options.now kind) }
+    requires { MAX_HEADER_SIZE ≤ block.old.room }
+    ensures room { block.old.room ≤ block.new.room + MAX_HEADER_SIZE }
+    ensures bytes { LaysIn block.old block.new (header_of options.now kind) }
 {
     let WriteOptions {
         endianness: order,
@@ -191,8 +191,8 @@ pub fn lay_header(block: &mut Block<'_>, options: &WriteOptions, kind: WkbType)
 /// Lays the words of a point without a coordinate.
 #[inline(always)]
 pub fn lay_empty(block: &mut Block<'_>, order: Endianness, dim: Dimension)
-    requires { COORDINATE ≤ block.old.room }
-    ensures { IsExtended block.old.waiting block.new.waiting
+    requires { MAX_COORDINATE_SIZE ≤ block.old.room }
+    ensures { LaysIn block.old block.new
         (words_encoding order (replicate (width dim) empty_word)) }
 {
     for _i in 0..dim.width() {
@@ -200,12 +200,12 @@ pub fn lay_empty(block: &mut Block<'_>, order: Endianness, dim: Dimension)
     }
 }
 
-/// Lays a corner of a rectangle: x and y alone.
+/// Lays a corner of a rectangle: only x and y.
 #[tactic(auto, using(crate::proofs::Behind::behind_laws), unfolding(wkb_geom::specs::Encodings::words_encoding))]
 pub fn lay_corner(block: &mut Block<'_>, order: Endianness, x: u64, y: u64)
-    requires { CORNER ≤ block.old.room }
-    ensures room { block.new.room + CORNER ≡ block.old.room }
-    ensures bytes { IsExtended block.old.waiting block.new.waiting
+    requires { CORNER_SIZE ≤ block.old.room }
+    ensures room { block.new.room + CORNER_SIZE ≡ block.old.room }
+    ensures bytes { LaysIn block.old block.new
         (words_encoding order (x ∷ y ∷ [])) }
 {
     block.lay_word(order, x);

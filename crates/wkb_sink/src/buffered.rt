@@ -1,24 +1,24 @@
 //! Bytes to a sink, by blocks.
 
-ghost use Rattle.std.specs.Prelude.{◌≡◌, ◌≤◌, ◌++◌, [], false, IfOk};
+ghost use Rattle.std.specs.Prelude.{◌≡◌, ◌≤◌, [], false, IfOk};
 ghost use Rattle.wkb_geom.specs.Numbers.{number_bytes};
-ghost use Rattle.wkb_sink.specs.Options.{header_of};
+ghost use Rattle.wkb_sink.specs.Options.{counted_header};
 ghost use Rattle.wkb_sink.specs.Progress.{Lays, PutsTo};
 
-use crate::block::{Block, LEAST, lay_count, lay_header};
+use crate::block::{Block, MIN_BLOCK, lay_count, lay_header};
 use crate::{Sink, WriteOptions};
 use std::io;
 use wkb_geom::Endianness;
 use wkb_geom::code::WkbType;
-use wkb_geom::header::LONGEST_HEADER;
-use wkb_geom::words::COUNT;
+use wkb_geom::header::MAX_HEADER_SIZE;
+use wkb_geom::words::COUNT_SIZE;
 
-/// The sink failed. Its error is kept in one place, where it had one: an `io::Error` is too large to be handed on by
+/// The sink failed. The error, if it had one, is kept in `Buffered`: an `io::Error` is too large to be passed on by
 /// each step.
 #[derive(Clone, Copy)]
 pub struct Stopped;
 
-/// A sink behind a block, and the error by which it failed.
+/// A sink with a block before it, and the error by which the sink failed.
 #[derive(Drop)]
 pub struct Buffered<'a, S: Sink> {
     pub sink: &'a mut S,
@@ -26,7 +26,7 @@ pub struct Buffered<'a, S: Sink> {
     pub error: Option<io::Error>,
 }
 
-/// Puts all of the bytes, or as many as the sink takes before it fails: by an error, or by taking no byte.
+/// Puts all of the bytes, or as many as the sink takes before it fails. It fails by an error, or by taking no byte.
 #[inline(always)]
 pub fn put_all<S: Sink>(sink: &mut S, bytes: &[u8]) -> Result<(), Option<io::Error>>
     requires { S.has_failed sink.old ≡ false }
@@ -51,7 +51,7 @@ impl<'a, S: Sink> Buffered<'a, S> {
         requires { S.has_failed self.old.sink.now ≡ false }
         ensures laid { Lays S.Sink self.old self.new [] result }
         ensures empty { IfOk result (λ _. self.new.block.waiting ≡ []) }
-        ensures room { IfOk result (λ _. LEAST ≤ self.new.block.room) }
+        ensures room { IfOk result (λ _. MIN_BLOCK ≤ self.new.block.room) }
     {
         match put_all(self.sink, self.block.waiting()) {
             Ok(()) => {
@@ -65,20 +65,20 @@ impl<'a, S: Sink> Buffered<'a, S> {
         }
     }
 
-    // The same by a call, for the steps between, which mostly have room.
+    // `flush` by a call. The steps before the last one mostly have room, so it isn't inlined into each.
     #[inline(never)]
     fn flush_apart(&mut self) -> Result<(), Stopped>
         requires { S.has_failed self.old.sink.now ≡ false }
         ensures laid { Lays S.Sink self.old self.new [] result }
-        ensures room { IfOk result (λ _. LEAST ≤ self.new.block.room) }
+        ensures room { IfOk result (λ _. MIN_BLOCK ≤ self.new.block.room) }
     {
         self.flush()
     }
 
-    /// Sees that the block has room for so many bytes.
+    /// Makes sure that the block has room for `n` bytes.
     #[inline]
     pub fn make_room(&mut self, n: usize) -> Result<(), Stopped>
-        requires fits { n ≤ LEAST }
+        requires fits { n ≤ MIN_BLOCK }
         requires working { S.has_failed self.old.sink.now ≡ false }
         ensures laid { Lays S.Sink self.old self.new [] result }
         ensures room { IfOk result (λ _. n ≤ self.new.block.room) }
@@ -90,7 +90,7 @@ impl<'a, S: Sink> Buffered<'a, S> {
         }
     }
 
-    /// Puts bytes as they are: by the block where they fit, else what waits and then they alone.
+    /// Puts bytes as they are: through the block where they fit, else what waits and then the bytes past the block.
     #[inline]
     #[tactic(auto, using(crate::proofs::Steps::step_laws))]
     pub fn put_bytes(&mut self, bytes: &[u8]) -> Result<(), Stopped>
@@ -105,7 +105,7 @@ impl<'a, S: Sink> Buffered<'a, S> {
         }
     }
 
-    // Puts what waits, and then bytes by themselves where the whole block is too short for them.
+    // Puts what waits. Then the bytes go into the block, or straight to the sink where they are longer than the block.
     #[inline(never)]
     #[tactic(auto, using(crate::proofs::Steps::step_laws))]
     fn put_past(&mut self, bytes: &[u8]) -> Result<(), Stopped>
@@ -132,7 +132,7 @@ impl<'a, S: Sink> Buffered<'a, S> {
         requires working { S.has_failed self.old.sink.now ≡ false }
         ensures { Lays S.Sink self.old self.new (number_bytes order 4 n) result }
     {
-        self.make_room(COUNT)?;
+        self.make_room(COUNT_SIZE)?;
         lay_count(&mut self.block, order, n);
         Ok(())
     }
@@ -141,10 +141,9 @@ impl<'a, S: Sink> Buffered<'a, S> {
     #[tactic(auto, using(crate::proofs::Steps::step_laws, crate::proofs::Behind::behind))]
     pub fn put_head(&mut self, options: &WriteOptions, kind: WkbType, n: u32) -> Result<(), Stopped>
         requires working { S.has_failed self.old.sink.now ≡ false }
-        ensures { Lays S.Sink self.old self.new
-            (header_of options.now kind ++ number_bytes options.now.endianness 4 n) result }
+        ensures { Lays S.Sink self.old self.new (counted_header options.now kind n) result }
     {
-        self.make_room(LONGEST_HEADER + COUNT)?;
+        self.make_room(MAX_HEADER_SIZE + COUNT_SIZE)?;
         lay_header(&mut self.block, options, kind);
         lay_count(&mut self.block, options.endianness, n);
         Ok(())

@@ -1,9 +1,9 @@
 //! Sinks for bytes, and the parts of an encoding that go to one by blocks.
 //!
-//! Three layers, each over the one before. To *store* is to write numbers into bytes that stand ready for them
+//! There are three layers, each over the one before. To *store* is to write numbers into the bytes of a slice
 //! (`store`). To *lay* is to store a part of an encoding in a block that has room for it (`block`); like storing, it
-//! can't fail. To *put* is to see that there is room, by giving the sink what waits in the block where
-//! there isn't, and then to lay (`buffered`). Only the sink can stop that.
+//! can't fail. To *put* is to make room, by giving the sink what waits in the block, and then to lay (`buffered`).
+//! Only a failure of the sink can stop that.
 #![tactic(auto)]
 
 pub mod block;

@@ -1,4 +1,4 @@
-//! What is written of a geometry, which its bytes alone don't settle.
+//! What a caller chooses of an encoding: the byte order, and the form of the codes.
 
 ghost use Rattle.std.specs.Prelude.{◌≡◌};
 ghost use Rattle.wkb_geom.specs.declared.common.Endianness.TheVariants.{LittleEndian};
@@ -7,7 +7,7 @@ ghost use Rattle.wkb_sink.specs.Options.{inner_options};
 
 use wkb_geom::{Endianness, Form};
 
-/// The byte order and the form of what is written: by default little endian, in ISO codes.
+/// The byte order and the form of what is written. By default it is little endian, with ISO codes.
 #[derive(Debug, Clone, Copy)]
 pub struct WriteOptions {
     pub endianness: Endianness,

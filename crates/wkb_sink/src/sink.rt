@@ -1,23 +1,23 @@
 //! Where bytes are written to.
 
-ghost use Rattle.std.specs.Prelude.{◌≡◌, ◌||◌, ◌+◌, ◌≤◌, ◌-◌, min, ℕ, Bool, false};
-ghost use Rattle.std.specs.Prelude.{List, [], length, take};
-ghost use Rattle.std.specs.Prelude.{Option, None, Some, IsOk, IfOk, IsSomeAnd, vec_capacity, ⊤};
+ghost use Rattle.std.specs.Prelude.{◌≡◌, ◌||◌, ◌+◌, ◌≤◌, ◌-◌, min, ℕ, Bool, false, List, []};
+ghost use Rattle.std.specs.Prelude.{length, take, Option, None, Some, IsOk, IfOk, IsSomeAnd};
+ghost use Rattle.std.specs.Prelude.{vec_capacity, ⊤};
 ghost use Rattle.std.specs.declared.io.Error.{Error};
 ghost use Rattle.std.specs.declared.io.ErrorKind.TheVariants.{OutOfMemory};
 ghost use Rattle.std.specs.IoError.{error_kind};
 ghost use Rattle.std.specs.Io.{WritesAtMost};
 ghost use Rattle.std.specs.Io.KnownBytes.{WriteAppends};
 ghost use Rattle.wkb_sink.specs.Held.{Outward, Growing, Lent};
-ghost use Rattle.wkb_sink.specs.Sinks.{put_fails, FailsBy};
+ghost use Rattle.wkb_sink.specs.Sinks.{put_fails, KnownOfFailure};
 
 use std::alloc::{AllocError, Global};
 use std::io;
 use std::io::Write;
 use std::marker::Model;
 
-/// A place for bytes, which may take a part of what it is given. Three are here: `VecSink`, `SliceSink`, and `Out`
-/// over any `Write`.
+/// A place for bytes, which may take a part of what it is given. This crate has three: `VecSink`, `SliceSink`, and
+/// `Out` over any `Write`.
 ///
 /// ```rust
 /// let mut bytes = [0; 21];
@@ -29,31 +29,30 @@ use std::marker::Model;
 /// A type of your own says what `has_failed` is and meets the clauses of `put`. It may leave out `appended`, which then
 /// promises nothing of bytes, and `fails_by`, which then promises nothing of errors.
 pub trait Sink {
-    // The bytes that stand appended, where the sink tells them.
+    // The bytes that were appended, where the sink tells them.
     ghost appended: { Self → Option (List ℕ) } = { λ _. None };
 
     // Whether the sink has failed.
     ghost has_failed: { Self → Bool };
 
-    // What is so where the sink failed by this error, or by none, as it took nothing.
+    // What is known where the sink failed by this error, or, by no error, since it took nothing.
     ghost fails_by: { Self → Option Error → Type 0 } = { λ _ _. ⊤ };
 
-    /// Appends the first bytes, as many as it answers. An error appends nothing. An error, or no
-    /// byte taken of some, is a failure, and lasts.
+    /// Appends the first bytes, and returns how many. With an error it appends nothing. An error, or `Ok(0)` for some
+    /// bytes, is a failure, and lasts.
     fn put(&mut self, bytes: &[u8]) -> io::Result<usize>
         ensures bound { WritesAtMost result bytes.now }
         ensures bytes { WriteAppends (appended self.old) (appended self.new) result bytes.now }
         ensures failure { has_failed self.new
             ≡ (has_failed self.old || put_fails (length bytes.now) result) }
-        ensures cause { (failure : Option Error) → FailsBy (length bytes.now) result failure
-            → fails_by self.new failure };
+        ensures cause { KnownOfFailure (length bytes.now) result (fails_by self.new) };
 
-    /// Whether a put has failed: what stands is then a beginning at most.
+    /// Whether a put has failed. Then at most a beginning was appended.
     fn failed(&self) -> bool
         ensures { result ≡ has_failed self.now };
 }
 
-// Whether this is the answer of a put that failed: an error, or no byte taken of some.
+// Whether a put with this result failed: by an error, or by taking no byte of some.
 #[inline]
 fn is_failure(answer: &io::Result<usize>, bytes: &[u8]) -> bool
     ensures { result ≡ put_fails (length bytes.now) answer.now }
@@ -64,7 +63,7 @@ fn is_failure(answer: &io::Result<usize>, bytes: &[u8]) -> bool
     }
 }
 
-/// A sink over a writer: one write for each put, which isn't tried again where it was interrupted.
+/// A sink over a writer. Each put is one write, which isn't tried again where it was interrupted.
 #[derive(Drop)]
 pub struct Out<W> {
     writer: W,
@@ -142,7 +141,7 @@ impl VecSink {
         }
     }
 
-    /// A sink whose first n bytes ask for no more memory. Fails where there is none for them.
+    /// A sink whose first `n` bytes ask for no more memory. Fails if the allocation does.
     pub fn with_capacity(alloc: Global, n: usize) -> Result<VecSink, AllocError>
         ensures bytes { IfOk result (λ s. s.bytes ≡ []) }
         ensures capacity { IfOk result (λ s. n ≤ s.capacity) }
@@ -155,7 +154,7 @@ impl VecSink {
         })
     }
 
-    /// The bytes that stand.
+    /// The bytes that were put.
     pub fn into_vec(self) -> Vec<u8>
         ensures { result.items ≡ self.bytes }
     {
@@ -176,8 +175,8 @@ impl Sink for VecSink {
         ensures bytes { WriteAppends (Some self.old.bytes) (Some self.new.bytes) result bytes.now }
         ensures failure { self.new.failed
             ≡ (self.old.failed || put_fails (length bytes.now) result) }
-        ensures cause { (failure : Option Error) → FailsBy (length bytes.now) result failure
-            → IsSomeAnd failure (λ e. error_kind e ≡ OutOfMemory) }
+        ensures cause { KnownOfFailure (length bytes.now) result
+            (λ failure. IsSomeAnd failure (λ e. error_kind e ≡ OutOfMemory)) }
         ensures whole { IfOk result (λ n. n ≡ length bytes.now) }
         ensures room { length self.old.bytes + length bytes.now ≤ self.old.capacity → IsOk result }
         ensures capacity { self.old.capacity ≤ self.new.capacity }
@@ -196,7 +195,8 @@ impl Sink for VecSink {
     }
 }
 
-/// A sink over a lent slice, which takes as many bytes as fit.
+/// A sink over a borrowed slice, which takes as many bytes as fit. What the slice holds once the sink is gone isn't
+/// promised: `write_to_slice` promises that.
 #[derive(Drop)]
 pub struct SliceSink<'a> {
     slice: &'a mut [u8],
@@ -230,14 +230,14 @@ impl<'a> SliceSink<'a> {
         }
     }
 
-    /// The number of bytes that stand.
+    /// The number of bytes that were put.
     pub fn len(&self) -> usize
         ensures { result ≡ length self.now.bytes }
     {
         self.len
     }
 
-    /// The bytes that stand.
+    /// The bytes that were put.
     pub fn written(&self) -> &[u8]
         ensures { result.now ≡ self.now.bytes }
     {
@@ -257,8 +257,7 @@ impl Sink for SliceSink<'_> {
         ensures bytes { WriteAppends (Some self.old.bytes) (Some self.new.bytes) result bytes.now }
         ensures failure { self.new.failed
             ≡ (self.old.failed || put_fails (length bytes.now) result) }
-        ensures cause { (failure : Option Error) → FailsBy (length bytes.now) result failure
-            → failure ≡ None }
+        ensures cause { KnownOfFailure (length bytes.now) result (λ failure. failure ≡ None) }
         ensures most { IfOk result (λ n. n ≡ min (length bytes.now) self.old.room) }
         ensures room { IfOk result (λ n. self.new.room ≡ self.old.room - n) }
         ensures ok { IsOk result }

@@ -1,14 +1,13 @@
-//! Numbers and coordinates into bytes that stand ready for them.
+//! Numbers and coordinates into the bytes of a slice.
 
-ghost use Rattle.std.specs.Prelude.{◌≡◌, ◌-◌, ◌*◌, ◌≤◌, ◌++◌, ℕ, List, length, drop, take};
-ghost use Rattle.std.specs.List.{AllByRecursion};
+ghost use Rattle.std.specs.Prelude.{◌≡◌, ◌-◌, ◌*◌, ◌≤◌, ◌++◌, length, drop, take};
 ghost use Rattle.wkb_geom.specs.Dimensions.{size};
-ghost use Rattle.wkb_geom.specs.Numbers.{number_bytes, IsWord};
+ghost use Rattle.wkb_geom.specs.Numbers.{number_bytes};
 ghost use Rattle.wkb_geom.specs.Encodings.{words_encoding};
-ghost use Rattle.wkb_sink.specs.Runs.{IsRun, run_size, run_encoding};
+ghost use Rattle.wkb_sink.specs.Runs.{IsRun, Turns, run_size, run_encoding};
 
 use byteorder::{BigEndian, ByteOrder, LittleEndian};
-use wkb_geom::words::{WORD, u64_at};
+use wkb_geom::words::{WORD_SIZE, u64_at};
 use wkb_geom::{CoordTrait, Endianness, LineStringTrait};
 
 /// The four bytes of a count, a code or an SRID.
@@ -64,8 +63,7 @@ pub fn store_coordinate<C: CoordTrait>(bytes: &mut [u8], coord: &C, width: usize
     }
 }
 
-/// Stores the coordinates between two places one after another, for an order and a width that are known where it is
-/// inlined.
+/// Stores the coordinates from an index up to another one. Where it is inlined the order and the width are constants.
 #[inline(always)]
 fn store_run<L: LineStringTrait>(
     bytes: &mut [u8],
@@ -90,7 +88,7 @@ fn store_run<L: LineStringTrait>(
     at
 }
 
-/// The bytes of the items between two places, of one size each, out of the bytes of all.
+/// The bytes of the items from an index up to another one, all of one size, out of the bytes of all.
 #[inline(always)]
 fn items_between(all: &[u8], size: usize, from: usize, to: usize) -> &[u8]
     requires order { from ≤ to }
@@ -104,16 +102,15 @@ fn items_between(all: &[u8], size: usize, from: usize, to: usize) -> &[u8]
 #[inline(always)]
 fn store_words(bytes: &mut [u8], lent: &[u8], held: Endianness, order: Endianness)
     requires { length lent.now ≤ length bytes.old }
-    ensures { (words : List ℕ) → AllByRecursion IsWord words → lent.now ≡ words_encoding held words
-        → take (length lent.now) bytes.new ≡ words_encoding order words }
+    ensures { Turns held order lent.now (take (length lent.now) bytes.new) }
 {
-    for i in 0..lent.len() / WORD {
-        let word = u64_at(lent, WORD * i, held);
-        store_word(&mut bytes[WORD * i..], order, word);
+    for i in 0..lent.len() / WORD_SIZE {
+        let word = u64_at(lent, WORD_SIZE * i, held);
+        store_word(&mut bytes[WORD_SIZE * i..], order, word);
     }
 }
 
-// The order that isn't this one. Coordinates that are lent in this one are put as they are.
+// The order that isn't this one. Coordinates that the line has as bytes in this one are put as they are.
 #[inline(always)]
 fn other(order: Endianness) -> Endianness {
     match order {
@@ -122,9 +119,9 @@ fn other(order: Endianness) -> Endianness {
     }
 }
 
-/// Stores the coordinates between two places one after another, and answers how many bytes they take: out of the bytes
-/// that hold them in the other order, where the line lends those, and else one by one. The order is known where it is
-/// inlined.
+/// Stores the coordinates from an index up to another one, and returns their size. Where the line has them as bytes in
+/// the other order, it stores the words of those; else it asks for one coordinate after another. Where it is inlined
+/// the order is a constant.
 #[inline(always)]
 pub fn store_coordinates<L: LineStringTrait>(
     bytes: &mut [u8],
@@ -142,7 +139,7 @@ pub fn store_coordinates<L: LineStringTrait>(
     let width = line.dim().size();
     let held = other(order);
     if let Some(all) = line.standing(held) {
-        let lent = items_between(all, WORD * width, from, to);
+        let lent = items_between(all, WORD_SIZE * width, from, to);
         store_words(bytes, lent, held, order);
         lent.len()
     } else if width == 2 {

@@ -35,7 +35,7 @@ pub reports_count : (n : ℕ) → 2 ^ 32 ≤ n → Finds found.Count (count_faul
 unfolding count_fault
 reports_count n h = record { is = grind (arith, nat_tests) }
 
--- what an exit answers
+-- what an exit returns
 pub measured_err : (e : Fault) (fault : Option Fault) (size : ℕ) (r : Result ℕ Fault) → r ≡ Err e → Finds e fault
     → Measures fault size r
 measured_err e fault size r is reports = rw is reports

@@ -1,11 +1,11 @@
 -- The steps of a loop that lays the encodings of a list's items.
 use Rattle.wkb_write.proofs.Prelude.{◌≡◌, ℕ, zero, suc, ◌+◌, ◌<◌, ◌≤◌, List, [], ◌∷◌, ◌++◌, length, take, drop, Some}
 use Rattle.wkb_write.proofs.Prelude.{sym, subst, ap, ◌∙◌, append_assoc, append-nil, take_all, take-append-drop}
-use Rattle.wkb_write.proofs.Prelude.{slice_get, map, get_or, Result, flat_map, length-map, get_or-map}
-use Rattle.wkb_write.proofs.Prelude.{take-take, slice_get_read, Stopped, flat_map-append, Endianness}
-use Rattle.wkb_write.proofs.Prelude.{Form, Dimension, Dimensions, Option, None, number_bytes}
-use Rattle.wkb_write.proofs.Prelude.{words_encoding, header_encoding, members_encoding, counted, Progress, IsLaid}
-use Rattle.wkb_write.proofs.Prelude.{IsCut, Advances, Ok, Err, arith, ◌-◌, refl, polygon_encoding, coordinates_encoding}
+use Rattle.wkb_write.proofs.Prelude.{slice_get, map, get_or, Result, flat_map, length-map, get_or-map, take-take}
+use Rattle.wkb_write.proofs.Prelude.{slice_get_read, Stopped, flat_map-append, Endianness, Form, Dimension, Dimensions}
+use Rattle.wkb_write.proofs.Prelude.{Option, None, number_bytes, words_encoding, header_encoding, members_encoding}
+use Rattle.wkb_write.proofs.Prelude.{counted, Progress, IsLaid, IsCut, Advances, Ok, Err, arith, ◌-◌, refl}
+use Rattle.wkb_write.proofs.Prelude.{polygon_encoding, coordinates_encoding}
 use Rattle.wkb_geom.specs.Values.{Coordinate}
 use Rattle.std.specs.Prelude.{IfSome}
 use Rattle.std.specs.Option.{option_map}
@@ -34,7 +34,7 @@ module _ {a b : Progress} {order : Endianness} {cs : List (List ℕ)} {i : ℕ} 
   pub run_cut : {c : Progress} → HasRun a b order cs i → IsCut b c [] → IsCut a c (flat_map (words_encoding order) cs)
   run_cut p q = rw (flat_map_parts (words_encoding order) cs i) (cut_then p.laid (cut_first _ q))
 
--- a header, a count and the encodings of items, told by the items
+-- a header, a count and the encodings of items, as a definition of the items
 pub counted_of : {X : Type 0} (order : Endianness) (header : List ℕ) (f : X → List ℕ) (xs : List X)
     → header ++ (number_bytes order 4 (length xs) ++ flat_map f xs) ≡ header ++ counted order (map f xs)
 unfolding counted
@@ -94,7 +94,7 @@ module _ {a b : Progress} {order : Endianness} {whole : List ℕ} {encodings : L
       )
       (cut_first _ (cut_then p.laid q))
 
--- the answer of the last encoding is that of all
+-- the result of the last encoding is that of all
 lays_last_encoding : {a b : Progress} (c : Progress) {order : Endianness} {whole : List ℕ}
     {encodings : List (List ℕ)} {i : ℕ} {t : List ℕ} (r : Result (Unit {0}) Stopped)
     → HasLaid a b order whole encodings i → slice_get encodings i ≡ Some t → length encodings ≤ i + 1
@@ -109,14 +109,14 @@ pub head_cut : {a b : Progress} {whole : List ℕ} (order : Endianness) (header 
 unfolding counted
 head_cut order header encodings n is count p = rw (is, ← count, ← append_assoc) (cut_first _ p)
 
--- the encoding of an item stands at the item's place
+-- the encoding of an item is at the item's place
 encoding_there : {X : Type 0} (f : X → List ℕ) (xs : List X) (i : ℕ) (x : X) → i < length xs → x ≡ get_or xs i x
     → slice_get (map f xs) i ≡ Some (f x)
 encoding_there f xs i x within is =
     slice_get_read (map f xs) (length xs) i (f x) (sym (length-map xs f))
     within (ap f is ∙ sym (get_or-map f xs i x (f x) within))
 
--- members that are put one after another in their form, which is told otherwise; the last one's answer is that of all
+-- members that are put one after another in their form, which is given by a flag; the last one's result is that of all
 pub no_member : {X : Type 0} {a b : Progress} {whole : List ℕ} (order : Endianness) (header : List ℕ)
     (f : X → List ℕ) (xs : List X) → whole ≡ header ++ counted order (map f xs) → length xs ≡ 0
     → IsLaid a b (header ++ number_bytes order 4 (length xs)) → IsLaid a b whole
@@ -154,7 +154,7 @@ lays_item a b r f [] i x item laid = absurd (cc)
 lays_item a b r f (y ∷ xs) zero x item laid = let same : x ≡ y = cc in subst (λ z. Advances a b (f z) r) same laid
 lays_item a b r f (y ∷ xs) (suc i) x item laid = lays_item a b r f xs i x item laid
 
--- the same of an item that was handed out, whose dimension is that of the whole
+-- the encoding of an item that was handed out was laid, whose dimension is that of the whole
 pub lays_member : {X V : Type 0} (a b : Progress) (r : Result (Unit {0}) Stopped) (f : Dimensions → V → List ℕ)
     (value : X → V) (dimensions : X → Dimensions) (d : Dimensions) (vs : List V) (i : ℕ) (o : Option X) (x : X)
     → o ≡ Some x → option_map value o ≡ slice_get vs i → IfSome o (λ y. dimensions y ≡ d)

@@ -1,6 +1,6 @@
 -- An item that was measured, at its place among the measures of all.
-use Rattle.std.proofs.Common.{◌≡◌, ℕ, zero, suc, ◌<◌, List, [], ◌∷◌, length, map, Option, Some, None, Result, sym, subst}
-use Rattle.std.proofs.Common.{slice_get}
+use Rattle.std.proofs.Common.{◌≡◌, ℕ, zero, suc, ◌<◌, List, [], ◌∷◌, length, map, Option, Some, None, Result, sym}
+use Rattle.std.proofs.Common.{subst, slice_get}
 use Rattle.std.proofs.lemmas.List.{length-map}
 use Rattle.std.specs.Option.{option_map}
 use Rattle.std.specs.Prelude.{IfSome, IsSome}
@@ -30,7 +30,7 @@ each_measured r f [] i told = tt
 each_measured r f (v ∷ vs) zero told = told v
 each_measured r f (v ∷ vs) (suc i) told = each_measured r f vs i told
 
--- an item stands there
+-- there is an item
 pub member_there : {X V : Type 0} (f : V → Measure) (value : X → V) (vs : List V) {i : ℕ} (o : Option X)
     → option_map value o ≡ slice_get vs i → i < length (map f vs) → IsSome o
 member_there f value vs {i} o there within = some_below value o vs i there (item_within f vs within)

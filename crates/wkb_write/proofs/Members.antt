@@ -1,6 +1,6 @@
 -- The members of a collection, as a loop measures them.
-use Rattle.std.proofs.Common.{◌≡◌, ℕ, ◌+◌, ◌*◌, ◌<◌, ◌≤◌, List, length, map, get_or, None, Result, Ok}
-use Rattle.std.proofs.Common.{◌∙◌, sym, subst, arith}
+use Rattle.std.proofs.Common.{◌≡◌, ℕ, ◌+◌, ◌*◌, ◌<◌, ◌≤◌, List, length, map, get_or, None, Result, Ok, ◌∙◌, sym, subst}
+use Rattle.std.proofs.Common.{arith}
 use Rattle.wkb_geom.specs.declared.common.Dimensions.{Dimensions}
 use Rattle.wkb_geom.specs.declared.error.Fault.{Fault}
 use Rattle.wkb_geom.specs.Geometries.{Geometry, Geometries, collection, geometries}

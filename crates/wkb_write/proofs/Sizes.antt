@@ -74,7 +74,7 @@ size_past measured s form g is srid_fits lawful h past = λ order.
     let whole = measured_length order form g srid_fits lawful m.0 in
     reports_rest _ (fault g) _ m.0 (reports_size _ (omega (arith, m.1, past, whole, header_within g)))
 
--- the error tells the fault that was found
+-- the error reports the fault that was found
 pub size_answered : (form : Form) (g : Geometry) (f : Fault) (r : Result ℕ WkbError) → IsErrAnd r (λ e. TellsFault e f)
     → IsSized form g (Err f) → IsSizeOf form g r
 size_answered form g f (Err e) tells size = λ order. record { fault = f; is = (size order).is; told = tells }

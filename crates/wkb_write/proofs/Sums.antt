@@ -121,7 +121,7 @@ parts_all ps header n i total is counted past s =
       rw (whole, is) at s.sum,
     )
 
--- the same behind other bytes
+-- all of the parts, after other bytes
 pub parts_behind : (ps : List Measure) (before header n i total : ℕ) → n ≡ length ps → count_fault n ≡ None
     → length ps ≤ i → SoFar ps (before + (4 + header * n)) i total
     → (parts_fault ps ≡ None) × (total ≡ capped (before + parts_size header ps))
@@ -130,7 +130,7 @@ parts_behind ps before header n i total is counted past s =
     let alone = parts_all ps header n i _ is counted past (record { none = s.none; sum = refl }) in
     (alone.0, omega (arith, s.sum, ap (λ l. sum_by (λ q. q.size) l) (take_all i ps past), ap (λ k. header * k) is))
 
--- the answer of the last part, added to the parts before it, is that of all
+-- the result of the last part, added to the parts before it, is that of all
 pub last_added : (ps : List Measure) (before header n i total : ℕ) (r : Result ℕ Fault) → n ≡ length ps
     → count_fault n ≡ None → length ps ≡ i + 1 → IfSome (slice_get ps i) (λ p. Measures p.fault (total + p.size) r)
     → SoFar ps (before + (4 + header * n)) i total → Measures (parts_fault ps) (before + parts_size header ps) r

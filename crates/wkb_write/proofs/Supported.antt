@@ -1,8 +1,8 @@
 -- What has no fault: an item of a list, and a dimension, of which a coordinate can be laid.
 use Rattle.wkb_write.proofs.Prelude.{◌≡◌, ℕ, zero, suc, ◌≤◌, List, [], ◌∷◌, Option, Some, None, ap, ◌∙◌, arith}
-use Rattle.wkb_write.proofs.Prelude.{slice_get, Dimensions, none_first}
-use Rattle.wkb_write.proofs.Prelude.{none_rest, size, Fault, first_fault, dimensions_fault}
-use Rattle.wkb_sink.specs.Runs.{HasRoomFor}
+use Rattle.wkb_write.proofs.Prelude.{slice_get, Dimensions, none_first, none_rest, size, Fault, first_fault}
+use Rattle.wkb_write.proofs.Prelude.{dimensions_fault}
+use Rattle.wkb_sink.specs.Runs.{FitsCoordinate}
 use Rattle.std.proofs.lemmas.Bool.Decides.{nat_tests}
 use Rattle.wkb_geom.specs.declared.common.Dimensions.TheVariants.{Unknown}
 
@@ -26,6 +26,6 @@ supported_at_most (Unknown n) h = grind (arith, nat_tests)
 supported_at_most d h = omega arith
 
 -- so there is room for its coordinates where there are 32 bytes
-pub has_room : {d of : Dimensions} {room : ℕ} → of ≡ d → dimensions_fault d ≡ None → 32 ≤ room → HasRoomFor of room
+pub has_room : {d of : Dimensions} {room : ℕ} → of ≡ d → dimensions_fault d ≡ None → 32 ≤ room → FitsCoordinate of room
 has_room {d = d} same none enough =
     record { least = rw same (supported_at_least d none); most = rw same (supported_at_most d none); room = enough }

@@ -1,7 +1,7 @@
--- What a writer answers, from what the size under its options answered.
+-- What a writer returns, from what the size under its options returned.
 use Rattle.std.proofs.Common.{◌≡◌, ℕ, ◌<◌, ◌^◌, Bool, true, List, length, Option, None, Result, Ok, Err, sym, subst}
-use Rattle.std.proofs.Common.{◌∙◌}
-use Rattle.std.specs.Prelude.{IsErrAnd}
+use Rattle.std.proofs.Common.{◌∙◌, ◌⊎◌, inr}
+use Rattle.std.specs.Prelude.{IsErrAnd, IfErr, MatchResult, Some}
 use Rattle.wkb_geom.specs.declared.common.Endianness.TheVariants.{LittleEndian}
 use Rattle.wkb_geom.specs.declared.common.Form.{Form}
 use Rattle.wkb_geom.specs.declared.error.WkbError.{WkbError}
@@ -13,12 +13,11 @@ use Rattle.wkb_geom.proofs.Faults.{none_first, none_both}
 use Rattle.wkb_write.proofs.Sizes.{size_without_fault}
 use Rattle.wkb_geom.specs.declared.error.Fault.{Fault}
 use Rattle.std.specs.declared.io.Error.{Error}
-use Rattle.std.specs.Prelude.{IfErr, MatchResult}
 use Rattle.wkb_sink.specs.Sinks.{IsBegun, IsIOError, IsOwnError, Puts, PutsOrStops, TellsFailure}
 use Rattle.wkb_geom.specs.declared.error.WkbError.TheVariants as errors
-use Rattle.std.specs.Prelude.{Some}
 use Rattle.wkb_sink.specs.declared.options.WriteOptions.{WriteOptions}
-use Rattle.wkb_write.specs.Answers.{encoding_of, refusal_of, IsSized, IsRefusedAs, IsSpelledAs, Writes}
+use Rattle.wkb_write.specs.Answers.{encoding_of, refusal_of, IsSized, IsRefusedAs, IsSpelledAs, OutgrowsSlice, Writes}
+use Rattle.wkb_write.specs.Measures.{Reports}
 
 -- where there is a size there is no fault
 pub no_fault : (form : Form) (g : Geometry) (n : ℕ) → IsSized form g (Ok n) → fault g ≡ None
@@ -58,18 +57,26 @@ put_writes {o} {g} {r} {untouched} {old} {new} {failed} none lawful fits puts = 
   own = λ _. puts.1;
 }
 
--- bytes that stand in memory are not refused for their length
+-- bytes that are in memory are not refused for their length
 pub lent_fits : (o : WriteOptions) (g : Geometry) (bytes : List ℕ) → bytes ≡ encoding_of o g → fault g ≡ None
     → length bytes < 2 ^ 64 → refusal_of o g ≡ None
 lent_fits o g bytes is none fits =
     none_both (fault g) _ none (size_without_fault (length (encoding_of o g)) (subst (λ t. length t < 2 ^ 64) is fits))
+
+-- for bytes that are in memory only room can be lacking
+pub lent_outgrows : (o : WriteOptions) (g : Geometry) (bytes old : List ℕ) (r : Result ℕ WkbError)
+    → bytes ≡ encoding_of o g → refusal_of o g ≡ None → IfErr r (λ _. length old < length bytes)
+    → IfErr r (λ e. TellsFailure e None) → IfErr r (λ e. Reports e (refusal_of o g) ⊎ OutgrowsSlice o g old e)
+lent_outgrows o g bytes old (Ok n) is none short taken = tt
+lent_outgrows o g bytes old (Err e) is none short taken =
+    inr (record { writable = none; short = subst (λ t. length old < length t) is short; taken = taken })
 
 is_io : (e : WkbError) (failure : Option Error) → TellsFailure e failure → IsIOError e
 is_io e (Some own) is = rw is tt
 is_io (errors.IOError e) None told = tt
 is_io _ None told = absurd told
 
--- what a sink answered to bytes that it didn't take
+-- what a writer returns where the sink didn't take all of the bytes
 stops : {old new : Option (List ℕ)} {failed : Bool} {bytes : List ℕ} (fails_by : Option Error → Type 0)
     (failure : Option Error) (r : Result (Unit {0}) WkbError) → IsErrAnd r (λ e. TellsFailure e failure)
     → IsBegun old new bytes → failed ≡ true → fails_by failure
@@ -77,7 +84,7 @@ stops : {old new : Option (List ℕ)} {failed : Bool} {bytes : List ℕ} (fails_
 stops fails_by failure (Ok u) never begun is so = absurd never
 stops fails_by failure (Err e) tells begun is so = ((is_io e failure tells, begun, is), (failure, so, tells))
 
--- what the caller is told of what was put
+-- what a writer returns of what was put
 pub told : (old new : Option (List ℕ)) (failed : Bool) (fails_by : Option Error → Type 0) (bytes : List ℕ)
     (put : Result (Unit {0}) (Option Error)) (r : Result (Unit {0}) WkbError)
     → PutsOrStops old new failed fails_by bytes put
@@ -86,7 +93,7 @@ pub told : (old new : Option (List ℕ)) (failed : Bool) (fails_by : Option Erro
 told old new failed fails_by bytes (Ok u) r puts is = rw is (puts, tt)
 told old new failed fails_by bytes (Err failure) r puts tells = stops fails_by failure r tells puts.0 puts.1 puts.2
 
--- and what was refused did not
+-- what was refused spells nothing
 pub not_spelled : (o : WriteOptions) (g : Geometry) (r : Result (Unit {0}) WkbError) (old new : Option (List ℕ))
     (P : WkbError → Type 0) → IsErrAnd r P → IsSpelledAs o g r old new
 not_spelled o g (Err e) old new P h = tt

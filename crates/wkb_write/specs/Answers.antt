@@ -1,12 +1,13 @@
--- What a size and a writer answer.
-use Rattle.std.specs.Prelude.{◌≡◌, ℕ, length, Bool, List, Option, Some, None, Result, MatchResult, IsErrAnd, IfOk}
-use Rattle.std.specs.Prelude.{IfErr}
+-- What a size and a writer return.
+use Rattle.std.specs.Prelude.{◌≡◌, ◌<◌, ◌++◌, ◌⊎◌, ℕ, drop, length, Bool, List, Option, Some, None, Result, MatchResult}
+use Rattle.std.specs.Prelude.{IsErrAnd, IfOk, IfErr}
 use Rattle.std.specs.declared.io.Error.{Error}
 use Rattle.std.specs.Io.KnownBytes.{Appends}
 use Rattle.wkb_geom.specs.declared.common.Endianness.{Endianness}
 use Rattle.wkb_geom.specs.declared.common.Form.{Form}
+use Rattle.wkb_geom.specs.declared.code.WkbType.{WkbType}
 use Rattle.wkb_geom.specs.declared.error.WkbError.{WkbError}
-use Rattle.wkb_geom.specs.Errors.{TellsFault}
+use Rattle.wkb_geom.specs.Errors.{IsMemory, TellsFault}
 use Rattle.wkb_geom.specs.Geometries.{Geometry, normal}
 use Rattle.wkb_geom.specs.Values.{Value}
 use Rattle.wkb_geom.specs.Spellings.{Spelling, Spells}
@@ -14,7 +15,9 @@ use Rattle.wkb_geom.specs.Encodings.{refusal, encoding}
 use Rattle.wkb_laws.specs.Written.{HasOptions}
 use Rattle.wkb_write.specs.Measures.{Reports, Finds}
 use Rattle.wkb_geom.specs.declared.error.Fault.{Fault}
-use Rattle.wkb_sink.specs.Sinks.{IsOwnError, Puts}
+use Rattle.wkb_sink.specs.Options.{header_of, inner_options}
+use Rattle.wkb_write.specs.Counted.{counted}
+use Rattle.wkb_sink.specs.Sinks.{IsOwnError, Puts, TellsFailure}
 use Rattle.wkb_sink.specs.declared.sink.Sink.{Ghosts}
 use Rattle.wkb_sink.specs.declared.options.WriteOptions.{WriteOptions}
 
@@ -26,34 +29,34 @@ encoding_of options g = encoding options.endianness options.form g
 abbrev pub refusal_of : WriteOptions → Geometry → Option Fault
 refusal_of options g = refusal options.endianness options.form g
 
--- the answer is the length of the encoding, in either order, or the error that tells what is refused
+-- the result is the length of the encoding, in either order, or the error that reports what is refused
 abbrev pub IsSizeOf : Form → Geometry → Result ℕ WkbError → Type 0
 IsSizeOf form g r =
     (order : Endianness)
     → MatchResult r (λ n. (refusal order form g ≡ None) × (n ≡ length (encoding order form g)))
     (λ e. Reports e (refusal order form g))
 
--- the same with the fault itself
+-- the result is the length of the encoding, in either order, or the fault for which there is none
 abbrev pub IsSized : Form → Geometry → Result ℕ Fault → Type 0
 IsSized form g r =
     (order : Endianness)
     → MatchResult r (λ n. (refusal order form g ≡ None) × (n ≡ length (encoding order form g)))
     (λ e. Finds e (refusal order form g))
 
--- what is refused is answered by the error that tells it, and the sink is untouched
+-- what is refused is reported by the error, and the sink is untouched
 abbrev pub IsRefusedAs : WriteOptions → Geometry → Result (Unit {0}) WkbError → Type 0 → Type 0
 IsRefusedAs options g r untouched =
     (f : Fault) → refusal options.endianness options.form g ≡ Some f → IsErrAnd r (λ e. TellsFault e f) × untouched
 
--- what is not refused is put to the sink, whole at Ok
+-- what is not refused is put to the sink, at Ok the whole of it
 abbrev pub IsWrittenAs : WriteOptions → Geometry → Result (Unit {0}) WkbError → Option (List ℕ) → Option (List ℕ) → Bool
     → Type 0
 IsWrittenAs options g r old new failed =
     refusal options.endianness options.form g ≡ None
     → Puts old new failed (encoding options.endianness options.form g) r
 
--- bytes that spell the value were appended, once: each geometry in the options' order, the outermost with their
--- SRID and no other with one
+-- bytes that spell the value were appended, once. Each geometry is in the options' order, and only the outermost has
+-- an SRID: that of the options
 pub record IsSpelled (options : WriteOptions) (t : Value) (old new : Option (List ℕ)) : Type 0 where
   pub encoding : List ℕ
   pub spelling : Spelling
@@ -61,7 +64,7 @@ pub record IsSpelled (options : WriteOptions) (t : Value) (old new : Option (Lis
   pub options_kept : HasOptions options.endianness options.form spelling
   pub appended : Appends old new encoding
 
--- what stands appended at Ok spells the value that the geometry stands for
+-- what was appended at Ok spells the value that the geometry means
 abbrev pub IsSpelledAs : WriteOptions → Geometry → Result (Unit {0}) WkbError → Option (List ℕ) → Option (List ℕ)
     → Type 0
 IsSpelledAs options g r old new = IfOk r (λ _. IsSpelled options (normal g) old new)
@@ -70,8 +73,8 @@ IsSpelledAs options g r old new = IfOk r (λ _. IsSpelled options (normal g) old
 abbrev pub IsFailedAs : WriteOptions → Geometry → Result (Unit {0}) WkbError → (Option Error → Type 0) → Type 0
 IsFailedAs options g r fails_by = refusal options.endianness options.form g ≡ None → IfErr r (IsOwnError fails_by)
 
--- what a writer promises of a geometry under its options: what becomes of a refused one and of one that is not, what
--- stands appended, and whose error is answered
+-- what a writer promises of a geometry under its options: what it does with a refused one and with one that is not,
+-- what the appended bytes spell, and whose error it returns
 pub record Writes (options : WriteOptions) (g : Geometry) (r : Result (Unit {0}) WkbError) (untouched : Type 0)
     (old new : Option (List ℕ)) (failed : Bool) (fails_by : Option Error → Type 0) : Type 0 where
   pub refused : IsRefusedAs options g r untouched
@@ -79,7 +82,32 @@ pub record Writes (options : WriteOptions) (g : Geometry) (r : Result (Unit {0})
   pub spelled : IsSpelledAs options g r old new
   pub own : IsFailedAs options g r fails_by
 
--- the same of a sink, by its ghost members
+-- what a writer promises, by the sink's ghost members
 abbrev pub WritesTo : {S : Type 0} → Ghosts S → S → S → WriteOptions → Geometry → Result (Unit {0}) WkbError → Type 0
 WritesTo sink old new options g r =
     Writes options g r (new ≡ old) (sink.appended old) (sink.appended new) (sink.has_failed new) (sink.fails_by new)
+
+-- the slice begins with the encoding, whose size is n, and the bytes after it are as they were
+pub record IsInFront (old new encoding : List ℕ) (n : ℕ) : Type 0 where
+  pub len : n ≡ length encoding
+  pub whole : new ≡ encoding ++ drop n old
+
+-- what isn't refused is longer than the slice, and the error says that nothing was taken
+pub record OutgrowsSlice (options : WriteOptions) (g : Geometry) (old : List ℕ) (e : WkbError) : Type 0 where
+  pub writable : refusal_of options g ≡ None
+  pub short : length old < length (encoding_of options g)
+  pub taken : TellsFailure e None
+
+-- the error is an allocation failure, or reports what is refused
+abbrev pub IsVecError : WriteOptions → Geometry → WkbError → Type 0
+IsVecError options g e = IsMemory e ⊎ Reports e (refusal_of options g)
+
+-- the error reports what is refused, or that the slice is too short
+abbrev pub IsSliceError : WriteOptions → Geometry → List ℕ → WkbError → Type 0
+IsSliceError options g old e = Reports e (refusal_of options g) ⊎ OutgrowsSlice options g old e
+
+-- a geometry's encoding is a header of this type, and its items after their count
+abbrev pub ListsItems : Geometry → WkbType → (WriteOptions → List (List ℕ)) → Type 0
+ListsItems g kind items =
+    (options : WriteOptions)
+    → encoding_of options g ≡ header_of options kind ++ counted options.endianness (items (inner_options options))

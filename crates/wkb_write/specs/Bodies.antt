@@ -1,4 +1,4 @@
--- A geometry's first fault behind its header, and how many bytes stand there, by its parts.
+-- A geometry's first fault after its header, and the size of the bytes there, by its parts.
 use Rattle.wkb_geom.specs.declared.error.Fault.{Fault}
 use Rattle.std.specs.Prelude.{◌≡◌, ℕ, ◌+◌, ◌-◌, ◌*◌, min, List, [], ◌∷◌, length, map, Option, None}
 use Rattle.std.specs.List.{sum_by}
@@ -7,21 +7,26 @@ use Rattle.wkb_geom.specs.Dimensions.{size}
 use Rattle.wkb_geom.specs.Values.{Coordinate}
 use Rattle.wkb_geom.specs.Geometries.{Geometry, Geometries, point, line_string, polygon, multi_point, multi_line_string}
 use Rattle.wkb_geom.specs.Geometries.{multi_polygon, collection, rectangle, triangle, line, no_geometries, geometry}
-use Rattle.wkb_geom.specs.Sizes.{byte_size, dimensions_of}
+use Rattle.wkb_geom.specs.Geometries.{geometries, dimensions_of}
+use Rattle.wkb_geom.specs.Sizes.{byte_size}
 use Rattle.wkb_geom.specs.Encodings.{or_else, count_fault, first_fault, coordinates_fault, fault}
 
--- the first fault and the bytes of a part
+-- the first fault and the size of a part
 pub record Measure : Type 0 where
   pub fault : Option Fault
   pub size : ℕ
 
--- the first fault of parts behind their count
+-- the first fault of parts after their count
 unfoldable pub parts_fault : List Measure → Option Fault
 parts_fault ps = or_else (count_fault (length ps)) (first_fault (λ p. p.fault) ps)
 
--- the bytes of parts, of a header before each, and of their count
+-- the size of parts, of a header before each, and of their count
 unfoldable pub parts_size : ℕ → List Measure → ℕ
 parts_size header ps = 4 + header * length ps + sum_by (λ p. p.size) ps
+
+-- parts after their count
+abbrev pub parts_measure : ℕ → List Measure → Measure
+parts_measure header ps = record { fault = parts_fault ps; size = parts_size header ps }
 
 -- the words of a coordinate, where its dimension can be written
 abbrev pub coordinate_words : Dimensions → ℕ
@@ -30,7 +35,7 @@ coordinate_words d = min (size d) 4
 abbrev pub ring_bytes : Dimensions → List Coordinate → ℕ
 ring_bytes d cs = 4 + 8 * coordinate_words d * length cs
 
--- a point behind its header
+-- a point after its header
 abbrev pub point_measure : Dimensions → Option (List ℕ) → Measure
 point_measure d c = record { fault = None; size = 8 * coordinate_words d }
 
@@ -39,10 +44,9 @@ ring_measure d cs = record { fault = coordinates_fault cs; size = ring_bytes d c
 
 abbrev pub polygon_measure : Dimensions → List (List Coordinate) → Measure
 polygon_measure d rings =
-    let parts = map (ring_measure d) rings in
-    record { fault = parts_fault parts; size = parts_size 0 parts }
+    parts_measure 0 (map (ring_measure d) rings)
 
--- the bytes behind a geometry's header
+-- the size of a geometry without its header
 abbrev pub bytes_behind_header : Geometry → ℕ
 bytes_behind_header g = byte_size g - 5
 
@@ -54,12 +58,16 @@ abbrev pub member_measures : Geometries → List Measure
 member_measures no_geometries = []
 member_measures (geometry g gs) = member_measure g ∷ member_measures gs
 
+-- a collection of values, by what each means
+abbrev pub collection_of : {X : Type 0} → (X → Geometry) → Dimensions → List X → Geometry
+collection_of meant d xs = collection d (geometries (map meant xs))
+
 -- a geometry that is no collection
 abbrev pub IsLeaf : Geometry → Type 0
 IsLeaf (collection d gs) = ⊥
 IsLeaf g = Unit {0}
 
--- the first fault behind the header
+-- the first fault after the header
 abbrev pub body_fault : Geometry → Option Fault
 body_fault (point d c) = None
 body_fault (line_string d cs) = coordinates_fault cs
@@ -72,7 +80,7 @@ body_fault (line d start end) = None
 body_fault (rectangle d least greatest) = None
 body_fault (triangle d first second third) = None
 
--- the bytes behind the header, by its parts
+-- the size without the header, by the parts
 abbrev pub size_by_parts : Geometry → ℕ
 size_by_parts (point d c) = 8 * coordinate_words d
 size_by_parts (line_string d cs) = ring_bytes d cs
@@ -85,7 +93,7 @@ size_by_parts (line d start end) = 4 + 16 * coordinate_words d
 size_by_parts (rectangle d least greatest) = 88
 size_by_parts (triangle d first second third) = 8 + 32 * coordinate_words d
 
--- behind its header a geometry of this dimension is these parts, each with a header of so many bytes
+-- after its header a geometry of this dimension is these parts, each with a header of this size
 pub record HasMeasures (g : Geometry) (d : Dimensions) (header : ℕ) (parts : List Measure) : Type 0 where
   pub dimensions : d ≡ dimensions_of g
   pub fault : body_fault g ≡ parts_fault parts

@@ -6,10 +6,11 @@ use Rattle.wkb_geom.specs.declared.common.Form.{Form}
 use Rattle.wkb_geom.specs.declared.common.Form.TheVariants.{Iso, Ewkb}
 use Rattle.wkb_geom.specs.Numbers.{number_bytes}
 
--- the form of what is not outermost
+-- the form of a member, by whether its codes are EWKB's
 abbrev pub form_with_flags : Bool → Form
 form_with_flags true = Ewkb None
 form_with_flags false = Iso
 
+-- a count, and the encodings
 unfoldable pub counted : Endianness → List (List ℕ) → List ℕ
 counted order encodings = number_bytes order 4 (length encodings) ++ flat_map (λ t. t) encodings

@@ -2,4 +2,4 @@ pub mod Answers
 pub mod Bodies
 pub mod Counted
 pub mod Measures
-pub mod Words
+pub mod Prelude

@@ -2,13 +2,13 @@
 use Rattle.std.specs.Prelude.{◌≡◌, ℕ, ◌+◌, ◌-◌, ◌^◌, min, Option, Some, None, Result, Ok, Err, MatchResult}
 use Rattle.wkb_geom.specs.declared.error.WkbError.{WkbError}
 use Rattle.wkb_geom.specs.Errors.{TellsFault}
-use Rattle.wkb_geom.specs.Geometries.{Geometry}
+use Rattle.wkb_geom.specs.Geometries.{Geometry, IsGeometry}
 use Rattle.wkb_geom.specs.Encodings.{fault}
 use Rattle.wkb_geom.specs.declared.error.Fault.{Fault}
 use Rattle.wkb_geom.specs.declared.error.Fault.TheVariants as fault
 use Rattle.wkb_write.specs.declared.measure.Measured.{Measured}
 use Rattle.wkb_write.specs.declared.measure.Measured.TheVariants as measured
-use Rattle.wkb_write.specs.Bodies.{bytes_behind_header}
+use Rattle.wkb_write.specs.Bodies.{Measure, bytes_behind_header}
 
 -- what was measured, as a result
 abbrev pub result_of : Measured → Result ℕ Fault
@@ -17,7 +17,7 @@ result_of (measured.UnsupportedDimensions n) = Err (fault.UnsupportedDimensions 
 result_of measured.Count = Err fault.Count
 result_of measured.Size = Err fault.Size
 
--- the error tells the fault
+-- the error reports the fault
 pub record Reports (e : WkbError) (f : Option Fault) : Type 0 where
   pub fault : Fault
   pub is : f ≡ Some fault
@@ -27,18 +27,26 @@ pub record Reports (e : WkbError) (f : Option Fault) : Type 0 where
 pub record Finds (e : Fault) (f : Option Fault) : Type 0 where
   pub is : f ≡ Some e
 
--- a number that `usize` holds, or its greatest
+-- the number, or the greatest `usize` where the number is greater
 abbrev pub capped : ℕ → ℕ
 capped n = min n (2 ^ 64 - 1)
 
--- there is no fault, and the answer is the size, or the greatest `usize` where that is less
+-- there is no fault, and the result is the capped size; or the result is the fault
 abbrev pub Measures : Option Fault → ℕ → Result ℕ Fault → Type 0
 Measures fault size r = MatchResult r (λ n. (fault ≡ None) × (n ≡ capped size)) (λ e. Finds e fault)
 
--- the geometry's own fault, and the size of what stands behind its header
+-- what was measured is the part's first fault, or its size
+abbrev pub IsMeasureOf : Measure → Measured → Type 0
+IsMeasureOf part measured = Measures part.fault part.size (result_of measured)
+
+-- the result is the geometry's first fault, or its size without the header
 unfoldable pub IsMeasured : Geometry → Result ℕ Fault → Type 0
 IsMeasured g r = Measures (fault g) (bytes_behind_header g) r
 
--- the same, where the size is added to the bytes before it
+-- this is so of each geometry of which that was measured
+abbrev pub OfMeasured : Measured → (Geometry → Type 0) → Type 0
+OfMeasured measured P = (g : Geometry) → IsGeometry g → IsMeasured g (result_of measured) → P g
+
+-- the result is the geometry's first fault, or its size without the header added to the size before it
 unfoldable pub IsAdded : ℕ → Geometry → Result ℕ Fault → Type 0
 IsAdded before g r = Measures (fault g) (before + bytes_behind_header g) r

@@ -1,8 +1,8 @@
-//! A geometry of any kind: what it has of the other kinds, its sizes, its writer, and its encoding in a vector.
+//! A geometry of any kind: its sizes, its writer, and its encoding in a vector or in a slice.
 
-ghost use Rattle.std.specs.Prelude.{◌≡◌, ◌⊎◌, None, IfOk, IfErr, false};
-ghost use Rattle.wkb_write.specs.Words.{encoding_of, refusal_of, Iso, IsMemory, IsSizeOf};
-ghost use Rattle.wkb_write.specs.Words.{WritesTo, Reports};
+ghost use Rattle.std.specs.Prelude.{◌≡◌, None, IfOk, IfErr, false};
+ghost use Rattle.wkb_write.specs.Prelude.{encoding_of, refusal_of, Iso, IsInFront, IsSizeOf};
+ghost use Rattle.wkb_write.specs.Prelude.{IsSliceError, IsVecError, WritesTo};
 
 use crate::common::*;
 use crate::items::Counted;
@@ -15,6 +15,7 @@ use crate::nested::{Nested, Node};
 use crate::point::{PointKind, write_point};
 use crate::polygon::{PolygonKind, write_polygon};
 use crate::rect::RectKind;
+use crate::slice::{slice_as, slice_lent};
 use crate::triangle::TriangleKind;
 use crate::writable::{vec_as, vec_lent, write_lent};
 use std::alloc::Global;
@@ -107,8 +108,8 @@ pub fn geometry_wkb_size_with<G: GeometryTrait>(
 /// ```
 ///
 /// Refused as `geometry_wkb_size_with` refuses it under the same options, with the sink untouched.
-/// `IOError` where the sink fails: a beginning of the encoding then stands. It is the sink's own error, or of the kind
-/// `WriteZero` where the sink took nothing.
+/// `IOError` where the sink fails: then a strict prefix of the encoding was put. It is the sink's own error, or of the
+/// kind `WriteZero` where the sink took nothing.
 #[inline(always)]
 pub fn write_geometry<S: Sink, G: GeometryTrait>(
     writer: &mut S,
@@ -122,7 +123,7 @@ pub fn write_geometry<S: Sink, G: GeometryTrait>(
         return write_lent(writer, encoding, options);
     }
     match geom.as_type() {
-        // Most geometries are of these kinds, and go by their own writers at once.
+        // Most geometries are of these kinds, for which their own writers are called at once.
         GeometryType::Point(p) => write_point(writer, p, options),
         GeometryType::LineString(l) => write_line_string(writer, l, options),
         GeometryType::Polygon(p) => write_polygon(writer, p, options),
@@ -147,15 +148,44 @@ pub fn to_vec<G: GeometryTrait>(
 ) -> WkbResult<Vec<u8>>
     ensures ok { IfOk result (λ out. out.items ≡ encoding_of options.now (G.geometry geom.now)) }
     ensures writable { IfOk result (λ _. refusal_of options.now (G.geometry geom.now) ≡ None) }
-    ensures err { IfErr result
-        (λ e. IsMemory e ⊎ Reports e (refusal_of options.now (G.geometry geom.now))) }
+    ensures err { IfErr result (IsVecError options.now (G.geometry geom.now)) }
 {
     if let Some(encoding) = geom.whole(options.endianness, options.form) {
         return vec_lent(alloc, encoding);
     }
     match geom.as_type() {
-        // By itself a point needs no call.
+        // A point by itself needs no call.
         GeometryType::Point(p) => vec_as::<G::PointType, PointKind>(alloc, p, options),
         _ => vec_as::<G, Node<GeometryKind>>(alloc, geom, options),
     }
+}
+
+/// Writes a geometry to the front of a slice, and returns the size of the encoding. The bytes after it stay as they
+/// were.
+///
+/// ```rust
+/// let mut bytes = [0; 100];
+/// let size = write_to_slice(&geometry, &WriteOptions::default(), &mut bytes)?;
+/// let encoding = &bytes[..size];
+/// ```
+///
+/// Refused as `geometry_wkb_size_with` refuses it under the same options. `IOError` of the kind `WriteZero` where the
+/// slice is shorter than the encoding. In both cases the slice is untouched.
+#[inline(always)]
+#[tactic(auto, using(crate::proofs::Writing::lent_fits))]
+pub fn write_to_slice<G: GeometryTrait>(
+    geom: &G,
+    options: &WriteOptions,
+    out: &mut [u8],
+) -> WkbResult<usize>
+    ensures ok { IfOk result
+        (IsInFront out.old out.new (encoding_of options.now (G.geometry geom.now))) }
+    ensures writable { IfOk result (λ _. refusal_of options.now (G.geometry geom.now) ≡ None) }
+    ensures err { IfErr result (IsSliceError options.now (G.geometry geom.now) out.old) }
+    ensures kept { IfErr result (λ _. out.new ≡ out.old) }
+{
+    if let Some(encoding) = geom.whole(options.endianness, options.form) {
+        return slice_lent(encoding, out);
+    }
+    slice_as::<G, Node<GeometryKind>>(geom, options, out)
 }

@@ -1,7 +1,7 @@
 //! A collection, whose members are of another type than the collection.
 
 ghost use Rattle.std.specs.Prelude.{◌≡◌, false};
-ghost use Rattle.wkb_write.specs.Words.{Iso, collection, geometries, IsSizeOf, WritesTo};
+ghost use Rattle.wkb_write.specs.Prelude.{Iso, collection_meant, IsSizeOf, WritesTo};
 
 use crate::common::*;
 use crate::geometry::GeometryKind;
@@ -13,7 +13,7 @@ pub struct GeometryCollectionKind;
 
 #[tactic(auto, using(crate::proofs::Collections::whole_laws))]
 impl<C: GeometryCollectionTrait> Writable<C> for GeometryCollectionKind {
-    ghost geometry = { λ c. collection (C.dimensions c) (geometries (C.members c)) };
+    ghost geometry = { collection_meant C.GeometryCollectionTrait };
 
     ghost lawful = { λ c. C.lawful c };
 
@@ -30,8 +30,7 @@ impl<C: GeometryCollectionTrait> Writable<C> for GeometryCollectionKind {
 
 /// The size of a GeometryCollection in ISO codes.
 pub fn geometry_collection_wkb_size<C: GeometryCollectionTrait>(geom: &C) -> WkbResult<usize>
-    ensures size { IsSizeOf Iso
-        (collection (C.dimensions geom.now) (geometries (C.members geom.now))) result }
+    ensures size { IsSizeOf Iso (collection_meant C.GeometryCollectionTrait geom.now) result }
 {
     size_as::<C, GeometryCollectionKind>(geom, Form::Iso)
 }
@@ -44,7 +43,7 @@ pub fn write_geometry_collection<S: Sink, C: GeometryCollectionTrait>(
 ) -> WkbResult<()>
     requires working { S.has_failed writer.old ≡ false }
     ensures { WritesTo S.Sink writer.old writer.new options.now
-        (collection (C.dimensions geom.now) (geometries (C.members geom.now))) result }
+        (collection_meant C.GeometryCollectionTrait geom.now) result }
 {
     write_as::<S, C, GeometryCollectionKind>(writer, geom, options)
 }

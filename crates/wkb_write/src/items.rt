@@ -1,15 +1,14 @@
-//! Items behind a count: the rings of a polygon, the members of a multi geometry.
+//! Items after a count: the rings of a polygon, the members of a multi geometry.
 
-ghost use Rattle.std.specs.Prelude.{◌≡◌, ◌<◌, ◌++◌, ℕ, List, [], None, false, length};
-ghost use Rattle.std.specs.Prelude.{get_or, IfSome, slice_get};
-ghost use Rattle.wkb_write.specs.Words.{Geometry, IsGeometry, WriteOptions, encoding_of, fault};
-ghost use Rattle.wkb_write.specs.Words.{header_of, inner_options, counted, parts_fault, parts_size};
-ghost use Rattle.wkb_write.specs.Words.{result_of, HasMeasures, Lays, Measure, Measures};
+ghost use Rattle.std.specs.Prelude.{◌≡◌, ◌<◌, ℕ, List, [], None, false, length, get_or, IfSome};
+ghost use Rattle.std.specs.Prelude.{slice_get};
+ghost use Rattle.wkb_write.specs.Prelude.{Geometry, IsGeometry, WriteOptions, fault, ListsItems};
+ghost use Rattle.wkb_write.specs.Prelude.{IsMeasureOf, parts_measure, HasMeasures, Lays, Measure};
 
 use crate::common::*;
 use crate::measure::short_count;
 
-/// A kind whose geometries are items behind a count.
+/// A kind whose geometries are items after a count.
 pub trait Items<G: Dimensioned> {
     // What a geometry means.
     ghost geometry: { G → Geometry };
@@ -20,27 +19,24 @@ pub trait Items<G: Dimensioned> {
     // The fault and the size of each item without its header, in order.
     ghost measures: { G → List Measure };
 
-    // The bytes of an item's header.
+    // The size of an item's header.
     ghost ITEM_HEADER: { ℕ };
 
     const ITEM_HEADER: u8;
 
-    /// The kind and the dimension that the header tells.
+    /// The kind and the dimension that the header has.
     fn kind(geom: &G) -> WkbType
-        ensures { (options : WriteOptions) → encoding_of options (geometry geom.now)
-            ≡ header_of options result
-            ++ counted options.endianness (encodings (inner_options options) geom.now) };
+        ensures { ListsItems (geometry geom.now) result (λ options. encodings options geom.now) };
 
-    /// How many items stand behind the count.
+    /// The number of items after the count.
     fn count(geom: &G) -> u128
         ensures counted { (options : WriteOptions) → result ≡ length (encodings options geom.now) }
         ensures measured { result ≡ length (measures geom.now) };
 
-    /// The fault of the item at an index, or its bytes without its header.
+    /// The fault of the item at an index, or its size without its header.
     fn measure_item(geom: &G, i: usize) -> Measured
         requires { i < length (measures geom.now) }
-        ensures { IfSome (slice_get (measures geom.now) i)
-            (λ m. Measures m.fault m.size (result_of result)) };
+        ensures { IfSome (slice_get (measures geom.now) i) (λ m. IsMeasureOf m result) };
 
     /// Puts the item at an index.
     fn put_item<S: Sink>(
@@ -54,14 +50,14 @@ pub trait Items<G: Dimensioned> {
         requires working { S.has_failed out.old.sink.now ≡ false }
         ensures { Lays S.Sink out.old out.new (get_or (encodings options.now geom.now) i []) result };
 
-    // Behind its header a geometry is its items.
+    // After its header a geometry is its items.
     ghost parts: { (g : G) → HasMeasures (geometry g) (G.dimensions g) ITEM_HEADER (measures g) };
 
     // Every coordinate fits the dimension.
     ghost lawful: { (g : G) → IsGeometry (geometry g) };
 }
 
-/// The geometries of a kind of items, which are all measured and put in one way: the items after their count.
+/// The geometries of a kind of items. All are measured and put in one way: the count, and then the items.
 pub struct Counted<I>(I);
 
 #[tactic(auto, using(crate::proofs::Steps::step_laws))]
@@ -75,7 +71,7 @@ impl<G: Dimensioned, I: Items<G>> Writable<G> for Counted<I> {
         behind_header(geom.dim(), measure_items::<G, I>(geom))
     }
 
-    // Not inlined: the recursion of collections, which calls it for each kind, stays small.
+    // Not inlined, so that the recursion of collections, which calls it for each kind, stays small.
     #[inline(never)]
     fn put<S: Sink>(out: &mut Buffered<'_, S>, geom: &G, options: &WriteOptions) -> Put {
         let count = I::count(geom) as u32;
@@ -90,13 +86,12 @@ impl<G: Dimensioned, I: Items<G>> Writable<G> for Counted<I> {
 
 /// Measures the count and the items in order, each with its header.
 pub fn measure_items<G: Dimensioned, I: Items<G>>(geom: &G) -> Measured
-    ensures { Measures (parts_fault (I.measures geom.now))
-        (parts_size I.ITEM_HEADER (I.measures geom.now)) (result_of result) }
+    ensures { IsMeasureOf (parts_measure I.ITEM_HEADER (I.measures geom.now)) result }
 {
     let Some(count) = short_count(I::count(geom)) else {
         return Measured::Count;
     };
-    let mut total = 4 + I::ITEM_HEADER as u128 * count as u128;
+    let mut total = COUNT_SIZE as u128 + I::ITEM_HEADER as u128 * count as u128;
     for i in 0..count as usize {
         match I::measure_item(geom, i) {
             Measured::Bytes(size) => total += size as u128,

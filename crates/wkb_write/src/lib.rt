@@ -6,9 +6,9 @@
 //! and fails as `write_geometry`, where the docs of one don't say otherwise.
 //!
 //! A file for each kind says what it means, how it is measured and put, and has its size and its writer. What they
-//! share: `writable` (the trait of kinds, and the way from it to a writer), `items` (the kinds of items behind a count,
-//! and their two loops), `nested` (the recursion of collections, and the trait of what it knows of a geometry) and
-//! `measure`.
+//! share: `writable` (the trait of kinds, and the way from it to a writer), `items` (the kinds of items after a count,
+//! and their two loops), `nested` (the recursion of collections, and the trait of what it knows of a geometry),
+//! `measure`, and `slice` (an encoding at the front of a slice).
 #![tactic(auto)]
 
 mod common;
@@ -25,10 +25,13 @@ mod nested;
 mod point;
 mod polygon;
 mod rect;
+mod slice;
 mod triangle;
 mod writable;
 
-pub use geometry::{geometry_wkb_size, geometry_wkb_size_with, to_vec, write_geometry};
+pub use geometry::{
+    geometry_wkb_size, geometry_wkb_size_with, to_vec, write_geometry, write_to_slice,
+};
 pub use geometry_collection::{geometry_collection_wkb_size, write_geometry_collection};
 pub use line::{line_wkb_size, write_line};
 pub use line_string::{line_string_wkb_size, write_line_string};

@@ -1,7 +1,7 @@
 //! A line, which is written as a line string of its two ends.
 
 ghost use Rattle.std.specs.Prelude.{◌≡◌, false};
-ghost use Rattle.wkb_write.specs.Words.{Iso, line, IsSizeOf, WritesTo};
+ghost use Rattle.wkb_write.specs.Prelude.{Iso, line_meant, IsSizeOf, WritesTo};
 
 use crate::common::*;
 use wkb_geom::LineTrait;
@@ -11,19 +11,20 @@ pub struct LineKind;
 
 #[tactic(auto, using(crate::proofs::Steps::step_laws))]
 impl<L: LineTrait> Writable<L> for LineKind {
-    ghost geometry = { λ l. line (L.dimensions l) (L.start_words l) (L.end_words l) };
+    ghost geometry = { line_meant L.LineTrait };
 
     ghost lawful = { λ l. L.lawful l };
 
     #[inline(always)]
     fn measure(geom: &L) -> Measured {
-        behind_header(geom.dim(), Measured::Bytes(4 + words_size(geom.dim(), 2)))
+        let size = COUNT_SIZE + words_size(geom.dim(), 2);
+        behind_header(geom.dim(), Measured::Bytes(size))
     }
 
     fn put<S: Sink>(out: &mut Buffered<'_, S>, geom: &L, options: &WriteOptions) -> Put {
         let order = options.endianness;
         let kind = WkbType::LineString(dimension_to_write(geom.dim()));
-        out.make_room(LONGEST_HEADER + COUNT + 2 * COORDINATE)?;
+        out.make_room(MAX_HEADER_SIZE + COUNT_SIZE + 2 * MAX_COORDINATE_SIZE)?;
         lay_header(&mut out.block, options, kind);
         lay_count(&mut out.block, order, 2);
         out.block.lay_coordinate(&geom.start(), order);
@@ -34,8 +35,7 @@ impl<L: LineTrait> Writable<L> for LineKind {
 
 /// The size of a line, as a line string of two coordinates, in ISO codes.
 pub fn line_wkb_size<L: LineTrait>(geom: &L) -> WkbResult<usize>
-    ensures size { IsSizeOf Iso
-        (line (L.dimensions geom.now) (L.start_words geom.now) (L.end_words geom.now)) result }
+    ensures size { IsSizeOf Iso (line_meant L.LineTrait geom.now) result }
 {
     size_as::<L, LineKind>(geom, Form::Iso)
 }
@@ -48,7 +48,7 @@ pub fn write_line<S: Sink, L: LineTrait>(
 ) -> WkbResult<()>
     requires working { S.has_failed writer.old ≡ false }
     ensures { WritesTo S.Sink writer.old writer.new options.now
-        (line (L.dimensions geom.now) (L.start_words geom.now) (L.end_words geom.now)) result }
+        (line_meant L.LineTrait geom.now) result }
 {
     write_as::<S, L, LineKind>(writer, geom, options)
 }

@@ -1,10 +1,9 @@
-//! A line string: its coordinates, which a ring has too.
+//! A line string. A ring is measured and put as its coordinates are.
 
 ghost use Rattle.std.specs.Prelude.{◌≡◌, ◌<◌, ◌^◌, None, false, length};
 ghost use Rattle.std.specs.List.{flat_map};
-ghost use Rattle.wkb_write.specs.Words.{Iso, line_string, coordinates_fault, words_encoding};
-ghost use Rattle.wkb_write.specs.Words.{dimensions_fault, Lays, IsSizeOf, WritesTo, ring_bytes};
-ghost use Rattle.wkb_write.specs.Words.{Measures, result_of};
+ghost use Rattle.wkb_write.specs.Prelude.{Iso, line_string_meant, words_encoding, dimensions_fault};
+ghost use Rattle.wkb_write.specs.Prelude.{Lays, IsSizeOf, WritesTo, IsMeasureOf, ring_measure};
 
 use crate::common::*;
 use crate::measure::short_count;
@@ -12,11 +11,10 @@ use wkb_geom::{Endianness, LineStringTrait};
 
 /// Measures the coordinates of a line string or a ring, with their count.
 pub fn measure_coordinates<L: LineStringTrait>(line: &L) -> Measured
-    ensures { Measures (coordinates_fault (L.coordinates line.now))
-        (ring_bytes (L.dimensions line.now) (L.coordinates line.now)) (result_of result) }
+    ensures { IsMeasureOf (ring_measure (L.dimensions line.now) (L.coordinates line.now)) result }
 {
     match short_count(line.num_coords() as u128) {
-        Some(count) => Measured::Bytes(4 + words_size(line.dim(), count)),
+        Some(count) => Measured::Bytes(COUNT_SIZE + words_size(line.dim(), count)),
         None => Measured::Count,
     }
 }
@@ -41,7 +39,7 @@ pub fn put_coordinates<S: Sink, L: LineStringTrait>(
     }
     let mut done = 0;
     while done < count {
-        out.make_room(COORDINATE)?;
+        out.make_room(MAX_COORDINATE_SIZE)?;
         let next = count.min(done + out.block.room() / bytes);
         out.block.lay_coordinates(line, done, next, order);
         done = next;
@@ -54,7 +52,7 @@ pub struct LineStringKind;
 
 #[tactic(auto, using(crate::proofs::Steps::node_laws), unfolding(wkb_geom::specs::Encodings::line_string_encoding))]
 impl<L: LineStringTrait> Writable<L> for LineStringKind {
-    ghost geometry = { λ l. line_string (L.dimensions l) (L.coordinates l) };
+    ghost geometry = { line_string_meant L.LineStringTrait };
 
     ghost lawful = { λ l. L.lawful l };
 
@@ -72,8 +70,7 @@ impl<L: LineStringTrait> Writable<L> for LineStringKind {
 
 /// The size of a line string in ISO codes.
 pub fn line_string_wkb_size<L: LineStringTrait>(geom: &L) -> WkbResult<usize>
-    ensures size { IsSizeOf Iso
-        (line_string (L.dimensions geom.now) (L.coordinates geom.now)) result }
+    ensures size { IsSizeOf Iso (line_string_meant L.LineStringTrait geom.now) result }
 {
     size_as::<L, LineStringKind>(geom, Form::Iso)
 }
@@ -86,7 +83,7 @@ pub fn write_line_string<S: Sink, L: LineStringTrait>(
 ) -> WkbResult<()>
     requires working { S.has_failed writer.old ≡ false }
     ensures { WritesTo S.Sink writer.old writer.new options.now
-        (line_string (L.dimensions geom.now) (L.coordinates geom.now)) result }
+        (line_string_meant L.LineStringTrait geom.now) result }
 {
     write_as::<S, L, LineStringKind>(writer, geom, options)
 }

@@ -1,20 +1,22 @@
 //! Measuring: the first fault of a geometry, or the size of its encoding.
 //!
-//! A fault is met in preorder: a geometry's dimensions, its count, then its items. Only the bytes after the header are
-//! measured, and the greatest `usize` stands for all sizes from there on: with a header none of them fits.
+//! Faults are found in preorder: a geometry's dimensions, its count, then its items. Only the bytes after the header
+//! are measured. `usize::MAX` means that size or any greater one: with a header none of them fits.
 
-ghost use Rattle.std.specs.Prelude.{◌≡◌, ◌+◌, ◌*◌, ◌^◌, ◌<◌, None, Err, is_some, IsErrAnd, MatchOption};
-ghost use Rattle.wkb_write.specs.Words.{Geometry, IsGeometry, IsForm, dimensions_of, form_srid};
-ghost use Rattle.wkb_write.specs.Words.{dimensions_fault, count_fault, body_fault, Finds};
-ghost use Rattle.wkb_write.specs.Words.{coordinate_words, size_by_parts, srid_size, result_of};
-ghost use Rattle.wkb_write.specs.Words.{IsMeasured, Measures, IsSized, IsSizeOf, TellsFault};
+ghost use Rattle.std.specs.Prelude.{◌≡◌, ◌+◌, ◌*◌, ◌^◌, ◌<◌, None, Err, is_some, IsErrAnd};
+ghost use Rattle.std.specs.Prelude.{MatchOption};
+ghost use Rattle.wkb_write.specs.Prelude.{Geometry, IsForm, dimensions_of, form_srid};
+ghost use Rattle.wkb_write.specs.Prelude.{dimensions_fault, count_fault, body_fault, Finds};
+ghost use Rattle.wkb_write.specs.Prelude.{coordinate_words, size_by_parts, srid_size, result_of};
+ghost use Rattle.wkb_write.specs.Prelude.{OfMeasured, IsMeasured, Measures, IsSized, IsSizeOf};
+ghost use Rattle.wkb_write.specs.Prelude.{TellsFault};
 ghost use Rattle.wkb_geom.specs.declared.error.Fault.TheVariants.{Count, UnsupportedDimensions};
 
-use wkb_geom::header::{LONGEST_HEADER, MEMBER_HEADER};
+use wkb_geom::header::{MAX_HEADER_SIZE, MEMBER_HEADER_SIZE};
 use wkb_geom::{Dimensions, Fault, Form, WkbError, WkbResult};
 
-/// So many bytes, or the fault, in two words: these come back in registers. A `Result` of the two takes three, and
-/// comes back in memory.
+/// A size, or the fault, in two words: a call returns these in registers. A `Result` of the two takes three words, and
+/// is returned in memory.
 #[derive(Clone, Copy)]
 pub enum Measured {
     Bytes(usize),
@@ -23,8 +25,8 @@ pub enum Measured {
     Size,
 }
 
-/// A fault that was found. A walk whose last call is to become a jump answers its faults by this call, since the compiler
-/// joins answers of calls as they are, and others word by word, with a step behind each call.
+/// Return faults through this call: LLVM then keeps `add_members` a tail call, which it doesn't if a fault is built in
+/// place.
 impl From<Fault> for Measured {
     ghost from_gives = { λ fault measured. result_of measured ≡ Err fault };
 
@@ -51,7 +53,7 @@ fn as_result(measured: Measured) -> Result<usize, Fault>
     }
 }
 
-/// The numbers in a coordinate, where a geometry of these dimensions can't be written.
+/// The number of words of a coordinate, where a geometry of these dimensions can't be written.
 #[inline(always)]
 #[tactic(auto, using(crate::proofs::Faults::fault_laws), unfolding(wkb_geom::specs::Encodings::dimensions_fault))]
 pub fn unsupported(dim: Dimensions) -> Option<usize>
@@ -73,7 +75,7 @@ pub fn short_count(n: u128) -> Option<u32>
     u32::try_from(n).ok()
 }
 
-/// The bytes of the words of so many coordinates. No dimension that can be written has more than four words.
+/// The size of `n` coordinates. No dimension that can be written has more than four words.
 #[inline(always)]
 pub fn words_size(dim: Dimensions, n: u32) -> usize
     ensures sum { result ≡ 8 * coordinate_words dim * n }
@@ -82,7 +84,7 @@ pub fn words_size(dim: Dimensions, n: u32) -> usize
     8 * dim.size().min(4) * n as usize
 }
 
-/// A geometry of these dimensions, by what was measured of it otherwise.
+/// A geometry of these dimensions, by what was measured of its body.
 #[inline(always)]
 pub fn behind_header(dim: Dimensions, body: Measured) -> Measured
     ensures { (g : Geometry) → dim ≡ dimensions_of g
@@ -95,23 +97,30 @@ pub fn behind_header(dim: Dimensions, body: Measured) -> Measured
     }
 }
 
-/// The bytes of the header that is written.
+/// The size of the header that is written.
 #[inline]
 pub fn length_of_header(form: Form) -> usize
     ensures size { result ≡ 5 + srid_size (is_some (form_srid form)) }
     ensures fits { IsForm form }
 {
     match form {
-        Form::Ewkb { srid: Some(_) } => LONGEST_HEADER,
-        Form::Iso | Form::Ewkb { srid: None } => MEMBER_HEADER,
+        Form::Ewkb { srid: Some(_) } => MAX_HEADER_SIZE,
+        Form::Iso | Form::Ewkb { srid: None } => MEMBER_HEADER_SIZE,
     }
 }
 
-/// The size that was measured with the header's bytes, where `usize` holds it.
+/// The form's SRID, if it has one, fits four bytes.
+#[inline(always)]
+pub fn form_fits(form: Form)
+    ensures { IsForm form }
+{
+    length_of_header(form);
+}
+
+/// The size that was measured and that of the header, where `usize` holds their sum.
 #[inline]
 pub fn whole_size(measured: Measured, form: Form) -> Result<usize, Fault>
-    ensures size { (g : Geometry) → IsGeometry g → IsMeasured g (result_of measured)
-        → IsSized form g result }
+    ensures size { OfMeasured measured (λ g. IsSized form g result) }
     ensures fits { IsForm form }
 {
     let header = length_of_header(form);
@@ -121,11 +130,10 @@ pub fn whole_size(measured: Measured, form: Form) -> Result<usize, Fault>
     }
 }
 
-/// The size of an encoding under the form, or the error that tells the fault.
+/// The size of an encoding under the form, or the error that reports the fault.
 #[inline]
 pub fn size_of(measured: Measured, form: Form) -> WkbResult<usize>
-    ensures { (g : Geometry) → IsGeometry g → IsMeasured g (result_of measured)
-        → IsSizeOf form g result }
+    ensures { OfMeasured measured (λ g. IsSizeOf form g result) }
 {
     match whole_size(measured, form) {
         Ok(size) => Ok(size),
@@ -133,7 +141,7 @@ pub fn size_of(measured: Measured, form: Form) -> WkbResult<usize>
     }
 }
 
-/// The error that tells the fault.
+/// The error that reports the fault.
 #[inline(always)]
 pub fn refuse<T>(fault: Fault) -> WkbResult<T>
     ensures { IsErrAnd result (λ e. TellsFault e fault) }

@@ -1,8 +1,8 @@
 //! A multi line string.
 
 ghost use Rattle.std.specs.Prelude.{◌≡◌, false, map, refl};
-ghost use Rattle.wkb_write.specs.Words.{Iso, multi_line_string, line_string, encoding_of};
-ghost use Rattle.wkb_write.specs.Words.{IsSizeOf, WritesTo, ring_measure};
+ghost use Rattle.wkb_write.specs.Prelude.{Iso, multi_line_string_meant, line_string, encoding_of};
+ghost use Rattle.wkb_write.specs.Prelude.{IsSizeOf, WritesTo, ring_measure};
 
 use crate::common::*;
 use crate::items::{Counted, Items};
@@ -14,7 +14,7 @@ pub struct MultiLineStringKind;
 
 #[tactic(auto, using(crate::proofs::Steps::item_laws))]
 impl<M: MultiLineStringTrait> Items<M> for MultiLineStringKind {
-    ghost geometry = { λ m. multi_line_string (M.dimensions m) (M.line_strings m) };
+    ghost geometry = { multi_line_string_meant M.MultiLineStringTrait };
 
     ghost encodings = { λ options m.
         map (λ c. encoding_of options (line_string (M.dimensions m) c)) (M.line_strings m) };
@@ -23,7 +23,7 @@ impl<M: MultiLineStringTrait> Items<M> for MultiLineStringKind {
 
     ghost ITEM_HEADER = { 5 };
 
-    const ITEM_HEADER: u8 = MEMBER_HEADER as u8;
+    const ITEM_HEADER: u8 = MEMBER_HEADER_SIZE as u8;
 
     ghost parts = { λ m. record { dimensions = refl; fault = refl; size = refl } };
 
@@ -53,8 +53,7 @@ impl<M: MultiLineStringTrait> Items<M> for MultiLineStringKind {
 
 /// The size of a MultiLineString in ISO codes.
 pub fn multi_line_string_wkb_size<M: MultiLineStringTrait>(geom: &M) -> WkbResult<usize>
-    ensures size { IsSizeOf Iso
-        (multi_line_string (M.dimensions geom.now) (M.line_strings geom.now)) result }
+    ensures size { IsSizeOf Iso (multi_line_string_meant M.MultiLineStringTrait geom.now) result }
 {
     size_as::<M, Counted<MultiLineStringKind>>(geom, Form::Iso)
 }
@@ -67,7 +66,7 @@ pub fn write_multi_line_string<S: Sink, M: MultiLineStringTrait>(
 ) -> WkbResult<()>
     requires working { S.has_failed writer.old ≡ false }
     ensures { WritesTo S.Sink writer.old writer.new options.now
-        (multi_line_string (M.dimensions geom.now) (M.line_strings geom.now)) result }
+        (multi_line_string_meant M.MultiLineStringTrait geom.now) result }
 {
     write_as::<S, M, Counted<MultiLineStringKind>>(writer, geom, options)
 }

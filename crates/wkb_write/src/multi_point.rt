@@ -1,8 +1,8 @@
 //! A multi point.
 
 ghost use Rattle.std.specs.Prelude.{◌≡◌, false, map, refl};
-ghost use Rattle.wkb_write.specs.Words.{Iso, multi_point, point, encoding_of, IsSizeOf};
-ghost use Rattle.wkb_write.specs.Words.{WritesTo, point_measure};
+ghost use Rattle.wkb_write.specs.Prelude.{Iso, multi_point_meant, point, encoding_of, IsSizeOf};
+ghost use Rattle.wkb_write.specs.Prelude.{WritesTo, point_measure};
 
 use crate::common::*;
 use crate::items::{Counted, Items};
@@ -14,7 +14,7 @@ pub struct MultiPointKind;
 
 #[tactic(auto, using(crate::proofs::Steps::item_laws))]
 impl<M: MultiPointTrait> Items<M> for MultiPointKind {
-    ghost geometry = { λ m. multi_point (M.dimensions m) (M.points m) };
+    ghost geometry = { multi_point_meant M.MultiPointTrait };
 
     ghost encodings = { λ options m.
         map (λ c. encoding_of options (point (M.dimensions m) c)) (M.points m) };
@@ -23,7 +23,7 @@ impl<M: MultiPointTrait> Items<M> for MultiPointKind {
 
     ghost ITEM_HEADER = { 5 };
 
-    const ITEM_HEADER: u8 = MEMBER_HEADER as u8;
+    const ITEM_HEADER: u8 = MEMBER_HEADER_SIZE as u8;
 
     ghost parts = { λ m. record { dimensions = refl; fault = refl; size = refl } };
 
@@ -37,7 +37,7 @@ impl<M: MultiPointTrait> Items<M> for MultiPointKind {
         geom.num_points() as u128
     }
 
-    // All points are of one size, so that the compiler multiplies it in place of the loop.
+    // All points are of one size, so the compiler replaces the loop by a product.
     #[inline(always)]
     fn measure_item(geom: &M, _i: usize) -> Measured {
         Measured::Bytes(words_size(geom.dim(), 1))
@@ -55,7 +55,7 @@ impl<M: MultiPointTrait> Items<M> for MultiPointKind {
 
 /// The size of a MultiPoint in ISO codes.
 pub fn multi_point_wkb_size<M: MultiPointTrait>(geom: &M) -> WkbResult<usize>
-    ensures size { IsSizeOf Iso (multi_point (M.dimensions geom.now) (M.points geom.now)) result }
+    ensures size { IsSizeOf Iso (multi_point_meant M.MultiPointTrait geom.now) result }
 {
     size_as::<M, Counted<MultiPointKind>>(geom, Form::Iso)
 }
@@ -68,7 +68,7 @@ pub fn write_multi_point<S: Sink, M: MultiPointTrait>(
 ) -> WkbResult<()>
     requires working { S.has_failed writer.old ≡ false }
     ensures { WritesTo S.Sink writer.old writer.new options.now
-        (multi_point (M.dimensions geom.now) (M.points geom.now)) result }
+        (multi_point_meant M.MultiPointTrait geom.now) result }
 {
     write_as::<S, M, Counted<MultiPointKind>>(writer, geom, options)
 }

@@ -1,8 +1,8 @@
 //! A multi polygon.
 
 ghost use Rattle.std.specs.Prelude.{◌≡◌, false, map, refl};
-ghost use Rattle.wkb_write.specs.Words.{Iso, multi_polygon, polygon, encoding_of};
-ghost use Rattle.wkb_write.specs.Words.{IsSizeOf, WritesTo, polygon_measure};
+ghost use Rattle.wkb_write.specs.Prelude.{Iso, multi_polygon_meant, polygon, encoding_of, IsSizeOf};
+ghost use Rattle.wkb_write.specs.Prelude.{WritesTo, polygon_measure};
 
 use crate::common::*;
 use crate::items::{Counted, Items, measure_items};
@@ -14,7 +14,7 @@ pub struct MultiPolygonKind;
 
 #[tactic(auto, using(crate::proofs::Steps::item_laws))]
 impl<M: MultiPolygonTrait> Items<M> for MultiPolygonKind {
-    ghost geometry = { λ m. multi_polygon (M.dimensions m) (M.polygons m) };
+    ghost geometry = { multi_polygon_meant M.MultiPolygonTrait };
 
     ghost encodings = { λ options m.
         map (λ c. encoding_of options (polygon (M.dimensions m) c)) (M.polygons m) };
@@ -23,7 +23,7 @@ impl<M: MultiPolygonTrait> Items<M> for MultiPolygonKind {
 
     ghost ITEM_HEADER = { 5 };
 
-    const ITEM_HEADER: u8 = MEMBER_HEADER as u8;
+    const ITEM_HEADER: u8 = MEMBER_HEADER_SIZE as u8;
 
     ghost parts = { λ m. record { dimensions = refl; fault = refl; size = refl } };
 
@@ -53,8 +53,7 @@ impl<M: MultiPolygonTrait> Items<M> for MultiPolygonKind {
 
 /// The size of a MultiPolygon in ISO codes.
 pub fn multi_polygon_wkb_size<M: MultiPolygonTrait>(geom: &M) -> WkbResult<usize>
-    ensures size { IsSizeOf Iso
-        (multi_polygon (M.dimensions geom.now) (M.polygons geom.now)) result }
+    ensures size { IsSizeOf Iso (multi_polygon_meant M.MultiPolygonTrait geom.now) result }
 {
     size_as::<M, Counted<MultiPolygonKind>>(geom, Form::Iso)
 }
@@ -67,7 +66,7 @@ pub fn write_multi_polygon<S: Sink, M: MultiPolygonTrait>(
 ) -> WkbResult<()>
     requires working { S.has_failed writer.old ≡ false }
     ensures { WritesTo S.Sink writer.old writer.new options.now
-        (multi_polygon (M.dimensions geom.now) (M.polygons geom.now)) result }
+        (multi_polygon_meant M.MultiPolygonTrait geom.now) result }
 {
     write_as::<S, M, Counted<MultiPolygonKind>>(writer, geom, options)
 }

@@ -2,16 +2,16 @@
 //!
 //! A *leaf* is a geometry of any kind but a collection. The recursion ends there.
 
-ghost use Rattle.std.specs.Prelude.{◌≡◌, None, false, map, MatchOption};
-ghost use Rattle.wkb_write.specs.Words.{Geometry, IsGeometry, collection, geometries, fault};
-ghost use Rattle.wkb_write.specs.Words.{encoding, encoding_of, form_with_flags, inner, Lays, IsAdded};
-ghost use Rattle.wkb_write.specs.Words.{IsLeaf, IsMeasured, result_of};
+ghost use Rattle.std.specs.Prelude.{◌≡◌, None, false, MatchOption};
+ghost use Rattle.wkb_write.specs.Prelude.{Geometry, IsGeometry, collection_of, fault, encoding};
+ghost use Rattle.wkb_write.specs.Prelude.{encoding_of, form_with_flags, inner, Lays, IsAdded, IsLeaf};
+ghost use Rattle.wkb_write.specs.Prelude.{IsMeasured, result_of};
 
 use crate::common::*;
 use crate::measure::{short_count, unsupported};
 use wkb_geom::{Dimensions, Endianness, Fault};
 
-/// A kind whose geometries may be collections of more of them. The recursion knows no more of a geometry than this, so
+/// A kind whose geometries may be collections of more of them. This is all that the recursion knows of a geometry, so
 /// that it is proved over few types.
 pub trait Nested<G: Dimensioned> {
     // What a geometry means.
@@ -20,10 +20,10 @@ pub trait Nested<G: Dimensioned> {
     /// The members of a collection; none of a leaf.
     fn members_of(geom: &G) -> Option<&[G]>
         ensures { MatchOption result (IsLeaf (geometry geom.now))
-            (λ members. collection (G.dimensions geom.now) (geometries (map geometry members.now))
+            (λ members. collection_of geometry (G.dimensions geom.now) members.now
             ≡ geometry geom.now) };
 
-    /// The bytes of a leaf after its header, or its first fault.
+    /// The size of a leaf without its header, or its first fault.
     fn measure_leaf(geom: &G) -> Measured
         requires { IsLeaf (geometry geom.now) }
         ensures { IsMeasured (geometry geom.now) (result_of result) };
@@ -60,16 +60,15 @@ impl<G: Dimensioned, K: Nested<G>> Writable<G> for Node<K> {
     }
 }
 
-// Adds a collection of these dimensions and members to the bytes before it. Where the last member is a collection, it
-// is added by the last call, which the compiler makes a jump.
+// Adds the size of a collection of these dimensions and members to the size before it. Where the last member is a
+// collection, the last call adds it, which the compiler makes a jump.
 #[cycle(measure)]
 pub fn add_members<G: Dimensioned, K: Nested<G>>(
     before: usize,
     dim: Dimensions,
     members: &[G],
 ) -> Measured
-    ensures { IsAdded before (collection dim (geometries (map K.geometry members.now)))
-        (result_of result) }
+    ensures { IsAdded before (collection_of K.geometry dim members.now) (result_of result) }
 {
     if let Some(n) = unsupported(dim) {
         return Measured::from(Fault::UnsupportedDimensions(n));
@@ -78,7 +77,7 @@ pub fn add_members<G: Dimensioned, K: Nested<G>>(
         return Measured::from(Fault::Count);
     };
     let count = count as usize;
-    let mut total = before.saturating_add(4 + MEMBER_HEADER * count);
+    let mut total = before.saturating_add(COUNT_SIZE + MEMBER_HEADER_SIZE * count);
     for (i, member) in members.iter().enumerate() {
         if i + 1 == count {
             if let Some(inner) = K::members_of(member) {
@@ -94,8 +93,7 @@ pub fn add_members<G: Dimensioned, K: Nested<G>>(
     Measured::Bytes(total)
 }
 
-// The bytes of a geometry after its header, or its first fault. `usize::MAX` stands for all that are more: with a
-// header none of them fits.
+// The size of a geometry without its header, or its first fault. `usize::MAX` means that size or any greater one.
 #[cycle(measure)]
 #[inline(always)]
 pub fn measure_geometry<G: Dimensioned, K: Nested<G>>(geom: &G) -> Measured
@@ -107,7 +105,7 @@ pub fn measure_geometry<G: Dimensioned, K: Nested<G>>(geom: &G) -> Measured
     }
 }
 
-// Whether the codes are EWKB's: all that a member keeps of the form, and it goes in a register.
+// Whether the codes are EWKB's. A member keeps no more of the form, and this is passed in a register.
 #[inline(always)]
 fn has_flags(form: Form) -> bool
     ensures { inner form ≡ form_with_flags result }
@@ -130,8 +128,8 @@ fn member_form(has_flags: bool) -> Form
     }
 }
 
-// Puts a member: a geometry without an SRID. Not inlined, and handed its options as two scalars: in registers they go down
-// a chain of collections without a load at each level.
+// Puts a member: a geometry without an SRID. It isn't inlined, and takes its options as two scalars, which are passed
+// down a chain of collections in registers, without a load at each level.
 #[cycle(put)]
 #[inline(never)]
 fn put_member<S: Sink, G: Dimensioned, K: Nested<G>>(
@@ -155,8 +153,8 @@ fn put_member<S: Sink, G: Dimensioned, K: Nested<G>>(
     }
 }
 
-// Puts a collection's header, and its members after their count. The last one is put by the last call, which the
-// compiler makes a jump.
+// Puts a collection's header, and its members after their count. The last call puts the last member, and the compiler
+// makes it a jump.
 #[cycle(put)]
 #[inline(always)]
 #[tactic(auto, using(crate::proofs::Steps::node_laws))]
@@ -166,10 +164,10 @@ pub fn put_members<S: Sink, G: Dimensioned, K: Nested<G>>(
     members: &[G],
     options: &WriteOptions,
 ) -> Put
-    requires fault { fault (collection dim (geometries (map K.geometry members.now))) ≡ None }
+    requires fault { fault (collection_of K.geometry dim members.now) ≡ None }
     requires working { S.has_failed out.old.sink.now ≡ false }
     ensures { Lays S.Sink out.old out.new
-        (encoding_of options.now (collection dim (geometries (map K.geometry members.now)))) result }
+        (encoding_of options.now (collection_of K.geometry dim members.now)) result }
 {
     let count = members.len();
     let order = options.endianness;

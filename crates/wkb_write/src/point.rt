@@ -1,8 +1,8 @@
-//! A point: what it means, its measure, how it is put, its size and its writer.
+//! A point.
 
 ghost use Rattle.std.specs.Prelude.{◌≡◌, false, ℕ, List, Option};
-ghost use Rattle.wkb_write.specs.Words.{Iso, point, IsPoint, IsMeasured, IsSizeOf, WritesTo};
-ghost use Rattle.wkb_write.specs.Words.{result_of};
+ghost use Rattle.wkb_write.specs.Prelude.{Iso, point_meant, point, IsPoint, IsMeasured, IsSizeOf};
+ghost use Rattle.wkb_write.specs.Prelude.{WritesTo, result_of};
 
 use crate::common::*;
 use crate::measure::size_of;
@@ -12,7 +12,7 @@ use wkb_sink::block::lay_empty;
 /// A point, empty or not.
 pub struct PointKind;
 
-/// What is measured of a point of these dimensions, whatever its words.
+/// Measures a point of these dimensions, whatever its words are.
 #[inline(always)]
 fn measure_point(dim: Dimensions) -> Measured
     ensures { (c : Option (List ℕ)) → IsMeasured (point dim c) (result_of result) }
@@ -22,7 +22,7 @@ fn measure_point(dim: Dimensions) -> Measured
 
 #[tactic(auto, using(crate::proofs::Steps::step_laws))]
 impl<P: PointTrait> Writable<P> for PointKind {
-    ghost geometry = { λ p. point (P.dimensions p) (P.coordinate p) };
+    ghost geometry = { point_meant P.PointTrait };
 
     ghost lawful = { λ p. P.lawful p };
 
@@ -35,7 +35,7 @@ impl<P: PointTrait> Writable<P> for PointKind {
     fn put<S: Sink>(out: &mut Buffered<'_, S>, geom: &P, options: &WriteOptions) -> Put {
         let order = options.endianness;
         let dim = dimension_to_write(geom.dim());
-        out.make_room(LONGEST_HEADER + COORDINATE)?;
+        out.make_room(MAX_HEADER_SIZE + MAX_COORDINATE_SIZE)?;
         lay_header(&mut out.block, options, WkbType::Point(dim));
         match geom.coord() {
             Some(coord) => out.block.lay_coordinate(&coord, order),
@@ -45,7 +45,7 @@ impl<P: PointTrait> Writable<P> for PointKind {
     }
 }
 
-/// The size of a point of these dimensions in ISO codes, whatever its words.
+/// The size of a point of these dimensions in ISO codes, whatever its words are.
 ///
 /// Refused where the dimensions can't be written.
 #[inline]
@@ -55,7 +55,7 @@ pub fn point_wkb_size(dim: Dimensions) -> WkbResult<usize>
     size_of(measure_point(dim), Form::Iso)
 }
 
-/// Writes a point, an empty point as not-a-numbers.
+/// Writes a point. The words of an empty point are not-a-numbers.
 #[inline(always)]
 pub fn write_point<S: Sink, P: PointTrait>(
     writer: &mut S,
@@ -64,7 +64,7 @@ pub fn write_point<S: Sink, P: PointTrait>(
 ) -> WkbResult<()>
     requires working { S.has_failed writer.old ≡ false }
     ensures { WritesTo S.Sink writer.old writer.new options.now
-        (point (P.dimensions geom.now) (P.coordinate geom.now)) result }
+        (point_meant P.PointTrait geom.now) result }
 {
     write_as::<S, P, PointKind>(writer, geom, options)
 }

@@ -1,8 +1,8 @@
 //! A polygon: its rings, the exterior first.
 
 ghost use Rattle.std.specs.Prelude.{◌≡◌, false, map, refl};
-ghost use Rattle.wkb_write.specs.Words.{Iso, polygon, coordinates_encoding, IsSizeOf};
-ghost use Rattle.wkb_write.specs.Words.{WritesTo, ring_measure};
+ghost use Rattle.wkb_write.specs.Prelude.{Iso, polygon_meant, coordinates_encoding, IsSizeOf};
+ghost use Rattle.wkb_write.specs.Prelude.{WritesTo, ring_measure};
 
 use crate::common::*;
 use crate::items::{Counted, Items};
@@ -15,7 +15,7 @@ pub struct PolygonKind;
 
 #[tactic(auto, using(crate::proofs::Steps::item_laws))]
 impl<P: PolygonTrait> Items<P> for PolygonKind {
-    ghost geometry = { λ p. polygon (P.dimensions p) (P.rings p) };
+    ghost geometry = { polygon_meant P.PolygonTrait };
 
     ghost encodings = { λ options p. map (coordinates_encoding options.endianness) (P.rings p) };
 
@@ -55,7 +55,7 @@ impl<P: PolygonTrait> Items<P> for PolygonKind {
 
 /// The size of a polygon, the exterior first, in ISO codes.
 pub fn polygon_wkb_size<P: PolygonTrait>(geom: &P) -> WkbResult<usize>
-    ensures size { IsSizeOf Iso (polygon (P.dimensions geom.now) (P.rings geom.now)) result }
+    ensures size { IsSizeOf Iso (polygon_meant P.PolygonTrait geom.now) result }
 {
     size_as::<P, Counted<PolygonKind>>(geom, Form::Iso)
 }
@@ -68,7 +68,7 @@ pub fn write_polygon<S: Sink, P: PolygonTrait>(
 ) -> WkbResult<()>
     requires working { S.has_failed writer.old ≡ false }
     ensures { WritesTo S.Sink writer.old writer.new options.now
-        (polygon (P.dimensions geom.now) (P.rings geom.now)) result }
+        (polygon_meant P.PolygonTrait geom.now) result }
 {
     write_as::<S, P, Counted<PolygonKind>>(writer, geom, options)
 }

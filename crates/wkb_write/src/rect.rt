@@ -1,31 +1,32 @@
-//! A rectangle, which is written as a polygon of one ring of x and y alone.
+//! A rectangle, which is written as a polygon of one ring, with only x and y.
 
 ghost use Rattle.std.specs.Prelude.{◌≡◌, false};
-ghost use Rattle.wkb_write.specs.Words.{Iso, rectangle, IsSizeOf, WritesTo};
+ghost use Rattle.wkb_write.specs.Prelude.{Iso, rect_meant, IsSizeOf, WritesTo};
 
 use crate::common::*;
 use wkb_geom::{CoordTrait, Dimension, RectTrait};
-use wkb_sink::block::{CORNER, lay_corner};
+use wkb_sink::block::{CORNER_SIZE, lay_corner};
 
-/// A rectangle, which is put as a polygon of one ring of x and y alone.
+/// A rectangle, which is put as a polygon of one ring, with only x and y.
 pub struct RectKind;
 
 #[tactic(auto, using(crate::proofs::Steps::step_laws))]
 impl<R: RectTrait> Writable<R> for RectKind {
-    ghost geometry = { λ r. rectangle (R.dimensions r) (R.min_words r) (R.max_words r) };
+    ghost geometry = { rect_meant R.RectTrait };
 
     ghost lawful = { λ r. R.lawful r };
 
     #[inline(always)]
     fn measure(geom: &R) -> Measured {
-        behind_header(geom.dim(), Measured::Bytes(88))
+        let size = 2 * COUNT_SIZE + 5 * CORNER_SIZE;
+        behind_header(geom.dim(), Measured::Bytes(size))
     }
 
     fn put<S: Sink>(out: &mut Buffered<'_, S>, geom: &R, options: &WriteOptions) -> Put {
         let order = options.endianness;
         let (x0, y0) = geom.min().x_y();
         let (x1, y1) = geom.max().x_y();
-        out.make_room(LONGEST_HEADER + 2 * COUNT + 5 * CORNER)?;
+        out.make_room(MAX_HEADER_SIZE + 2 * COUNT_SIZE + 5 * CORNER_SIZE)?;
         lay_header(&mut out.block, options, WkbType::Polygon(Dimension::Xy));
         lay_count(&mut out.block, order, 1);
         lay_count(&mut out.block, order, 5);
@@ -38,15 +39,14 @@ impl<R: RectTrait> Writable<R> for RectKind {
     }
 }
 
-/// The size of a rectangle, as a polygon of one ring, with x and y alone, in ISO codes.
+/// The size of a rectangle, as a polygon of one ring, with only x and y, in ISO codes.
 pub fn rect_wkb_size<R: RectTrait>(geom: &R) -> WkbResult<usize>
-    ensures size { IsSizeOf Iso
-        (rectangle (R.dimensions geom.now) (R.min_words geom.now) (R.max_words geom.now)) result }
+    ensures size { IsSizeOf Iso (rect_meant R.RectTrait geom.now) result }
 {
     size_as::<R, RectKind>(geom, Form::Iso)
 }
 
-/// Writes a rectangle, as a polygon of one ring, with x and y alone.
+/// Writes a rectangle, as a polygon of one ring, with only x and y.
 pub fn write_rect<S: Sink, R: RectTrait>(
     writer: &mut S,
     geom: &R,
@@ -54,7 +54,7 @@ pub fn write_rect<S: Sink, R: RectTrait>(
 ) -> WkbResult<()>
     requires working { S.has_failed writer.old ≡ false }
     ensures { WritesTo S.Sink writer.old writer.new options.now
-        (rectangle (R.dimensions geom.now) (R.min_words geom.now) (R.max_words geom.now)) result }
+        (rect_meant R.RectTrait geom.now) result }
 {
     write_as::<S, R, RectKind>(writer, geom, options)
 }

@@ -1,18 +1,17 @@
 //! A triangle, which is written as a polygon of one ring that ends as it begins.
 
 ghost use Rattle.std.specs.Prelude.{◌≡◌, false};
-ghost use Rattle.wkb_write.specs.Words.{Iso, triangle, IsSizeOf, WritesTo};
+ghost use Rattle.wkb_write.specs.Prelude.{Iso, triangle_meant, IsSizeOf, WritesTo};
 
 use crate::common::*;
 use wkb_geom::TriangleTrait;
 
-/// A triangle, which is put as a polygon of one ring, which ends as it begins.
+/// A triangle, which is put as a polygon of one ring that ends as it begins.
 pub struct TriangleKind;
 
 #[tactic(auto, using(crate::proofs::Steps::step_laws))]
 impl<T: TriangleTrait> Writable<T> for TriangleKind {
-    ghost geometry = { λ t. triangle (T.dimensions t) (T.first_words t)
-        (T.second_words t) (T.third_words t) };
+    ghost geometry = { triangle_meant T.TriangleTrait };
 
     ghost lawful = { λ t. T.lawful t };
 
@@ -25,7 +24,7 @@ impl<T: TriangleTrait> Writable<T> for TriangleKind {
         let order = options.endianness;
         let kind = WkbType::Polygon(dimension_to_write(geom.dim()));
         let first = geom.first();
-        out.make_room(LONGEST_HEADER + 2 * COUNT + 4 * COORDINATE)?;
+        out.make_room(MAX_HEADER_SIZE + 2 * COUNT_SIZE + 4 * MAX_COORDINATE_SIZE)?;
         lay_header(&mut out.block, options, kind);
         lay_count(&mut out.block, order, 1);
         lay_count(&mut out.block, order, 4);
@@ -39,10 +38,7 @@ impl<T: TriangleTrait> Writable<T> for TriangleKind {
 
 /// The size of a triangle, as a polygon of one ring, in ISO codes.
 pub fn triangle_wkb_size<T: TriangleTrait>(geom: &T) -> WkbResult<usize>
-    ensures size { IsSizeOf Iso
-        (triangle (T.dimensions geom.now) (T.first_words geom.now)
-        (T.second_words geom.now) (T.third_words geom.now))
-        result }
+    ensures size { IsSizeOf Iso (triangle_meant T.TriangleTrait geom.now) result }
 {
     size_as::<T, TriangleKind>(geom, Form::Iso)
 }
@@ -55,8 +51,7 @@ pub fn write_triangle<S: Sink, T: TriangleTrait>(
 ) -> WkbResult<()>
     requires working { S.has_failed writer.old ≡ false }
     ensures { WritesTo S.Sink writer.old writer.new options.now
-        (triangle (T.dimensions geom.now) (T.first_words geom.now)
-        (T.second_words geom.now) (T.third_words geom.now)) result }
+        (triangle_meant T.TriangleTrait geom.now) result }
 {
     write_as::<S, T, TriangleKind>(writer, geom, options)
 }

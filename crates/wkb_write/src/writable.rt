@@ -1,22 +1,23 @@
-//! What each kind says of itself, and what comes of it: a size, a writer, and an encoding in a vector.
+//! What each kind says of itself, and what follows from it: a size, a writer, and an encoding in a vector.
 
-ghost use Rattle.std.specs.Prelude.{◌≡◌, ◌⊎◌, ◌≤◌, ◌<◌, ◌^◌, false, length};
-ghost use Rattle.std.specs.Prelude.{None, Ok, IfOk, IfErr, IsErrAnd, MatchResult};
-ghost use Rattle.wkb_write.specs.Words.{Geometry, IsGeometry, fault, encoding_of, refusal_of};
-ghost use Rattle.wkb_write.specs.Words.{IsMeasured, IsSizeOf, IsMemory, Reports, WritesTo};
-ghost use Rattle.wkb_write.specs.Words.{Lays, PutsTo, TellsFailure, LEAST, result_of};
+ghost use Rattle.std.specs.Prelude.{◌≡◌, ◌≤◌, ◌<◌, ◌^◌, false, length, None, Ok, IfOk, IfErr};
+ghost use Rattle.std.specs.Prelude.{IsErrAnd, MatchResult};
+ghost use Rattle.wkb_write.specs.Prelude.{Geometry, IsGeometry, fault, encoding_of, refusal_of};
+ghost use Rattle.wkb_write.specs.Prelude.{IsMeasured, IsSizeOf, IsMemory, IsVecError, WritesTo, Lays};
+ghost use Rattle.wkb_write.specs.Prelude.{PutsTo, TellsFailure, MIN_BLOCK, result_of};
 
-use crate::measure::{Measured, length_of_header, refuse, size_of, whole_size};
+use crate::measure::{Measured, form_fits, refuse, size_of, whole_size};
 use crate::{Sink, VecSink, WriteOptions};
 use std::alloc::{AllocError, Global};
 use std::io;
 use std::io::ErrorKind;
+use wkb_geom::header::{MAX_HEADER_SIZE, MEMBER_HEADER_SIZE};
 use wkb_geom::{Form, WkbError, WkbResult};
-use wkb_sink::block::{Block, LEAST};
+use wkb_sink::block::{Block, CORNER_SIZE, MAX_COORDINATE_SIZE, MIN_BLOCK};
 use wkb_sink::buffered::put_all;
 use wkb_sink::{Buffered, Stopped};
 
-/// What comes of putting: nothing, or the sink stopped.
+/// The result of putting: nothing, or the sink stopped.
 pub type Put = Result<(), Stopped>;
 
 /// How the geometries of a kind are measured and put.
@@ -24,7 +25,7 @@ pub trait Writable<G> {
     // What a geometry means.
     ghost geometry: { G → Geometry };
 
-    /// The bytes after the header, or the first fault.
+    /// The size without the header, or the first fault.
     fn measure(geom: &G) -> Measured
         ensures { IsMeasured (geometry geom.now) (result_of result) };
 
@@ -38,22 +39,25 @@ pub trait Writable<G> {
     ghost lawful: { (g : G) → IsGeometry (geometry g) };
 }
 
-// To make a block takes time by its size. An encoding of at most so many bytes goes by a small block.
-const SHORT: usize = 172;
+// Zeroing a block takes time in proportion to its size, so short encodings get a small one.
+pub const SMALL_BLOCK: usize = 192;
 
-const SMALL: usize = 192;
+pub const LARGE_BLOCK: usize = 1024;
 
-const LARGE: usize = 1024;
+// The longest encoding that fits a small block, whatever its steps ask for. Its last point may take no more than a
+// member's header, x and y, and yet the step that lays it asks for the room of the longest point.
+pub const SHORT_SIZE: usize = SMALL_BLOCK - (MAX_HEADER_SIZE + MAX_COORDINATE_SIZE)
+    + (MEMBER_HEADER_SIZE + CORNER_SIZE);
 
-// Puts a geometry by a block over these bytes, and then all that waits there.
+// Puts a geometry through a block over these bytes, and then what still waits there.
 #[inline(always)]
-fn put_through<S: Sink, G, K: Writable<G>>(
+pub fn put_through<S: Sink, G, K: Writable<G>>(
     writer: &mut S,
     bytes: &mut [u8],
     geom: &G,
     options: &WriteOptions,
 ) -> Result<(), Option<io::Error>>
-    requires least { LEAST ≤ length bytes.old }
+    requires least { MIN_BLOCK ≤ length bytes.old }
     requires fault { fault (K.geometry geom.now) ≡ None }
     requires working { S.has_failed writer.old ≡ false }
     ensures { PutsTo S.Sink writer.old writer.new
@@ -70,7 +74,7 @@ fn put_through<S: Sink, G, K: Writable<G>>(
         Ok(()) => out.flush(),
         Err(Stopped) => Err(Stopped),
     };
-    // Only where the sink failed is its error moved: it is large.
+    // The error is large, so it is only moved where the sink failed.
     match put {
         Ok(()) => {
             let Buffered {
@@ -112,15 +116,15 @@ pub fn write_as<S: Sink, G, K: Writable<G>>(
 {
     let measured = K::measure(geom);
     match whole_size(measured, options.form) {
-        Ok(size) if size <= SHORT => {
-            wkb_result(put_through::<S, G, K>(writer, &mut [0; SMALL], geom, options))
+        Ok(size) if size <= SHORT_SIZE => {
+            wkb_result(put_through::<S, G, K>(writer, &mut [0; SMALL_BLOCK], geom, options))
         }
-        Ok(_) => wkb_result(put_through::<S, G, K>(writer, &mut [0; LARGE], geom, options)),
+        Ok(_) => wkb_result(put_through::<S, G, K>(writer, &mut [0; LARGE_BLOCK], geom, options)),
         Err(fault) => refuse(fault),
     }
 }
 
-/// The answer to the caller: where the sink failed, its own error, or that it took no byte.
+/// The writer's result: where the sink failed, the sink's own error, or that it took no byte.
 #[inline(always)]
 pub fn wkb_result(put: Result<(), Option<io::Error>>) -> WkbResult<()>
     ensures { MatchResult put (λ u. result ≡ Ok u)
@@ -134,7 +138,7 @@ pub fn wkb_result(put: Result<(), Option<io::Error>>) -> WkbResult<()>
 
 // The sink's own error, or that it took no byte.
 #[inline(always)]
-fn sink_error(failure: Option<io::Error>) -> WkbResult<()>
+pub fn sink_error<T>(failure: Option<io::Error>) -> WkbResult<T>
     ensures { IsErrAnd result (λ e. TellsFailure e failure) }
 {
     match failure {
@@ -143,7 +147,7 @@ fn sink_error(failure: Option<io::Error>) -> WkbResult<()>
     }
 }
 
-/// The encoding of a geometry of a kind, in a vector whose memory is asked for at once.
+/// The encoding of a geometry of a kind, in a vector that is allocated in its full size.
 #[inline(always)]
 pub fn vec_as<G, K: Writable<G>>(
     alloc: Global,
@@ -152,53 +156,60 @@ pub fn vec_as<G, K: Writable<G>>(
 ) -> WkbResult<Vec<u8>>
     ensures ok { IfOk result (λ out. out.items ≡ encoding_of options.now (K.geometry geom.now)) }
     ensures writable { IfOk result (λ _. refusal_of options.now (K.geometry geom.now) ≡ None) }
-    ensures err { IfErr result
-        (λ e. IsMemory e ⊎ Reports e (refusal_of options.now (K.geometry geom.now))) }
+    ensures err { IfErr result (IsVecError options.now (K.geometry geom.now)) }
 {
     let size = match whole_size(K::measure(geom), options.form) {
         Ok(size) => size,
         Err(fault) => return refuse(fault),
     };
     let mut sink = VecSink::with_capacity(alloc, size)?;
-    let put = if size <= SHORT {
-        put_through::<VecSink, G, K>(&mut sink, &mut [0; SMALL], geom, options)
+    let put = if size <= SHORT_SIZE {
+        put_through::<VecSink, G, K>(&mut sink, &mut [0; SMALL_BLOCK], geom, options)
     } else {
-        put_through::<VecSink, G, K>(&mut sink, &mut [0; LARGE], geom, options)
+        put_through::<VecSink, G, K>(&mut sink, &mut [0; LARGE_BLOCK], geom, options)
     };
     match put {
         Ok(()) => Ok(sink.into_vec()),
-        // This sink fails only for want of memory.
+        // This sink fails only if an allocation does.
         Err(_) => Err(WkbError::from(AllocError)),
     }
 }
 
-// The length of what stands in memory fits `usize`: so it is never refused for its size.
+/// The length of bytes. As a call it fits `usize`, also in proofs.
 #[inline(always)]
-fn length(bytes: &[u8]) -> usize
+pub fn length(bytes: &[u8]) -> usize
     ensures { result ≡ length bytes.now }
 {
     bytes.len()
 }
 
-/// Writes an encoding that stands in memory.
+// What is in memory is never refused for its size: its length fits `usize`.
+#[inline(always)]
+fn length_fits(bytes: &[u8])
+    ensures { length bytes.now < 2 ^ 64 }
+{
+    length(bytes);
+}
+
+/// Writes an encoding that is in memory.
 #[inline(always)]
 pub fn write_lent<S: Sink>(writer: &mut S, bytes: &[u8], options: &WriteOptions) -> WkbResult<()>
     requires working { S.has_failed writer.old ≡ false }
     ensures { (g : Geometry) → IsGeometry g → fault g ≡ None → bytes.now ≡ encoding_of options.now g
         → WritesTo S.Sink writer.old writer.new options.now g result }
 {
-    length_of_header(options.form);
-    length(bytes);
+    form_fits(options.form);
+    length_fits(bytes);
     wkb_result(put_all(writer, bytes))
 }
 
-/// An encoding that stands in memory, in a vector.
+/// An encoding that is in memory, in a vector.
 #[inline(always)]
 pub fn vec_lent(alloc: Global, bytes: &[u8]) -> WkbResult<Vec<u8>>
     ensures ok { IfOk result (λ out. out.items ≡ bytes.now) }
     ensures err { IfErr result IsMemory }
     ensures fits { length bytes.now < 2 ^ 64 }
 {
-    length(bytes);
+    length_fits(bytes);
     Ok(Vec::from_slice(alloc, bytes)?)
 }

@@ -1,7 +1,7 @@
 use Rattle.std.proofs.Common.{◌∙◌, ◌+◌, ◌*◌, ◌≡◌, ◌<◌, length, Err, refl, subst, arith}
 use Rattle.wkb_write.specs.Measures.{capped}
-use Rattle.wkb_write.proofs.Sums.{SoFar, parts_begin, parts_step, part_fits, headers_fit, count_reports}
-use Rattle.wkb_write.proofs.Sums.{part_refused, parts_all}
+use Rattle.wkb_write.proofs.Sums.{SoFar, parts_begin, parts_step, part_fits, headers_fit, count_reports, part_refused}
+use Rattle.wkb_write.proofs.Sums.{parts_all}
 use Rattle.wkb_write.proofs.items.measure_items.Goals as goal
 
 pub returns-in_default : goal.returns-in_default

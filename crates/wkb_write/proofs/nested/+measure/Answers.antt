@@ -4,8 +4,8 @@ use Rattle.wkb_write.specs.Measures.{result_of, IsAdded}
 use Rattle.wkb_write.proofs.Faults.{measured_err}
 use Rattle.wkb_write.proofs.Members.{added_as, member_step, member_refused, member_last, members_whole}
 use Rattle.wkb_write.proofs.Sums.{parts_begin, count_reports}
-use Rattle.wkb_write.proofs.Whole.{added_alone, collected, whole_unsupported, members_length}
-use Rattle.wkb_write.proofs.Whole.{members_fall, member_falls}
+use Rattle.wkb_write.proofs.Whole.{added_alone, collected, whole_unsupported, members_length, members_fall}
+use Rattle.wkb_write.proofs.Whole.{member_falls}
 use Rattle.wkb_write.proofs.nested.+measure.Goals as goal
 
 pub measure_geometry-add_members-requires : goal.measure_geometry-add_members-requires

@@ -5,7 +5,7 @@ pub put_through-put-requires-clause-fault : goal.put_through-put-requires-clause
 put_through-put-requires-clause-fault g c =
     no_fault _ _ _ (c.in-Ok.ensures.size _ (g.met.K.Writable.lawful c.args.geom.now) c.measure.ensures)
 
-pub put_through-put-requires-else-size-le-SHORT-clause-fault
-    : goal.put_through-put-requires-else-size-le-SHORT-clause-fault
-put_through-put-requires-else-size-le-SHORT-clause-fault g c =
+pub put_through-put-requires-else-size-le-SHORT_SIZE-clause-fault
+    : goal.put_through-put-requires-else-size-le-SHORT_SIZE-clause-fault
+put_through-put-requires-else-size-le-SHORT_SIZE-clause-fault g c =
     no_fault _ _ _ (c.in-Ok.ensures.size _ (g.met.K.Writable.lawful c.args.geom.now) c.measure.ensures)

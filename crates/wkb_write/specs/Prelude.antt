@@ -1,0 +1,25 @@
+-- The names in the clauses of all kinds, passed on from one place. Declares nothing.
+pub use Rattle.wkb_geom.specs.Errors.{IsMemory, TellsFault}
+pub use Rattle.wkb_geom.specs.Geometries.{Geometry, IsGeometry, IsPoint, collection, geometries, line, line_string}
+pub use Rattle.wkb_geom.specs.Geometries.{multi_line_string, multi_point, multi_polygon, point, polygon, rectangle}
+pub use Rattle.wkb_geom.specs.Geometries.{triangle, dimensions_of}
+pub use Rattle.wkb_geom.specs.Parts.{point_meant, line_string_meant, polygon_meant, multi_point_meant}
+pub use Rattle.wkb_geom.specs.Parts.{multi_line_string_meant, multi_polygon_meant, collection_meant, rect_meant}
+pub use Rattle.wkb_geom.specs.Parts.{triangle_meant, line_meant}
+pub use Rattle.wkb_geom.specs.Refusals.{srid_size}
+pub use Rattle.wkb_geom.specs.Encodings.{coordinates_fault, coordinates_encoding, count_fault, dimensions_fault, fault}
+pub use Rattle.wkb_geom.specs.Encodings.{encoding, inner, words_encoding, form_srid, IsForm}
+pub use Rattle.wkb_geom.specs.declared.common.Endianness.{Endianness}
+pub use Rattle.wkb_geom.specs.declared.common.Form.TheVariants.{Iso}
+pub use Rattle.wkb_sink.specs.Options.{header_of, inner_options}
+pub use Rattle.wkb_sink.specs.Progress.{Lays, PutsTo}
+pub use Rattle.wkb_sink.specs.Sinks.{TellsFailure}
+pub use Rattle.wkb_sink.specs.declared.block.TheConstants.{MIN_BLOCK}
+pub use Rattle.wkb_sink.specs.declared.options.WriteOptions.{WriteOptions}
+pub use Rattle.wkb_write.specs.Answers.{encoding_of, refusal_of, IsInFront, IsSized, IsSizeOf, IsSliceError, IsVecError}
+pub use Rattle.wkb_write.specs.Answers.{OutgrowsSlice, ListsItems, WritesTo}
+pub use Rattle.wkb_write.specs.Bodies.{Measure, parts_measure, point_measure, polygon_measure, ring_measure}
+pub use Rattle.wkb_write.specs.Bodies.{collection_of, coordinate_words, body_fault, size_by_parts, IsLeaf, HasMeasures}
+pub use Rattle.wkb_write.specs.Counted.{form_with_flags}
+pub use Rattle.wkb_write.specs.Measures.{Finds, IsAdded, IsMeasured, IsMeasureOf, Measures, OfMeasured, Reports}
+pub use Rattle.wkb_write.specs.Measures.{result_of}
