@@ -1,4 +1,4 @@
-/* Reads the coordinates of a column in two calls: one without rooms, which tells what is needed, and one with them. */
+/* Reads the coordinates of a column in two calls: one without rooms, which returns what is needed, and one with them. */
 #include "wkb.h"
 #include <stdio.h>
 #include <stdlib.h>

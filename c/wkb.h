@@ -12,9 +12,10 @@
  * Calls may run at the same time: there is no static data. Don't call from a signal handler, or in the forked child of
  * a process with threads. wkb_check, wkb_bounds and their column calls never allocate. The other calls check first: for
  * a refused input they allocate nothing, whatever its counts claim, and never return WKB_STATUS_NO_MEMORY. What they
- * allocate with malloc they free before they return: at most 32 bytes for each byte of BUF (only tested), and the bytes
- * of the encoding or of the table, which the coordinates of a row need as well. Numbers in BUF may have either byte
- * order and any alignment; numbers in the structs have the machine's.
+ * allocate with malloc they free before they return: at most 32 bytes for each byte of BUF (only tested), and beside
+ * these the table of parts, which the coordinates of a row need too, or the two encodings that wkb_same compares.
+ * wkb_write writes into OUT only. Numbers in BUF may have either byte order and any alignment; numbers in the structs
+ * have the machine's.
  *
  * Structs, numbers and names don't change within version 1. Later versions add calls and statuses. */
 #ifndef WKB_H
@@ -28,7 +29,7 @@
 extern "C" {
 #endif
 
-/* The version that a program is compiled against; wkb_version() tells the one that it runs with. */
+/* The version that a program is compiled against; wkb_version() returns the one that it runs with. */
 #define WKB_VERSION_MAJOR 1
 #define WKB_VERSION_MINOR 0
 #define WKB_VERSION (WKB_VERSION_MAJOR * 1000 + WKB_VERSION_MINOR)
@@ -38,7 +39,7 @@ extern "C" {
 typedef enum wkb_status {
   WKB_STATUS_OK = 0,
   WKB_STATUS_NO_MEMORY = 1,               /* malloc returned null */
-  WKB_STATUS_NO_ROOM = 2,                 /* a room is too small; *SIZE, *COUNT or the ends tell what is needed */
+  WKB_STATUS_NO_ROOM = 2,                 /* a room is too small; *SIZE, *COUNT or the ends say what is needed */
   WKB_STATUS_UNKNOWN_OPTION = 3,          /* the options name no order, form or dimension */
   WKB_STATUS_IO_ERROR = 4,                /* the input ends inside a header or before a count */
   WKB_STATUS_INVALID_BYTE_ORDER = 5,      /* an order byte is neither 0 nor 1 */
@@ -69,7 +70,7 @@ typedef enum wkb_kind {
 /* The dimensions, by the thousands of ISO codes. */
 typedef enum wkb_dim { WKB_DIM_XY = 0, WKB_DIM_XYZ = 1, WKB_DIM_XYM = 2, WKB_DIM_XYZM = 3 } wkb_dim;
 
-/* The byte orders, by the byte that tells them. */
+/* The byte orders, by their bytes. */
 typedef enum wkb_order { WKB_ORDER_BIG = 0, WKB_ORDER_LITTLE = 1 } wkb_order;
 
 /* What is written besides the geometry itself. Only the outermost geometry's SRID is ever written. */
@@ -103,6 +104,7 @@ typedef struct wkb_fault {
   uint32_t status;  /* the wkb_status that the call returns */
 } wkb_fault;
 
+/* The byte order and the form that are written. */
 typedef struct wkb_options {
   uint32_t order;  /* a wkb_order */
   uint32_t form;   /* a wkb_form */
@@ -153,7 +155,7 @@ typedef struct wkb_column {
 /* The version of the library: its WKB_VERSION. */
 unsigned wkb_version(void);
 
-/* What a status tells, in one line: a static string, for any number. */
+/* The text of a status, in one line: a static string, for any number. */
 const char *wkb_status_text(unsigned status);
 
 /* Whether a geometry of the grammar is at the front of the input, with at most 128 collections inside one another.
@@ -165,7 +167,7 @@ wkb_status wkb_check(const void *buf, size_t len, wkb_found *found, wkb_fault *f
 wkb_status wkb_bounds(const void *buf, size_t len, wkb_box *box, wkb_fault *fault);
 
 /* The one encoding of the input's geometry under the options. WKB_STATUS_OK: it is at the front of OUT, and *SIZE is
- * its length. WKB_STATUS_NO_ROOM: *SIZE is its length, which is more than ROOM, and nothing was composed; it is never
+ * its length. WKB_STATUS_NO_ROOM: *SIZE is its length, which is more than ROOM, and nothing was written; it is never
  * more than LEN + 4. WKB_STATUS_UNKNOWN_OPTION wherever the options have no meaning, whatever the input. A refusal
  * writes FAULT. Any other status leaves *SIZE and FAULT unchanged, and any but WKB_STATUS_OK leaves OUT unchanged. */
 wkb_status wkb_write(const void *buf, size_t len, const wkb_options *options, void *out, size_t room, uint64_t *size,
@@ -226,7 +228,7 @@ typedef struct wkb_coordinates {
  * geometry doesn't have is a not-a-number (7ff8000000000000). The words of an empty point are written as they are. A
  * row that wkb_check refuses has no singles, and its status says why. WKB_STATUS_NO_ROOM: one of the three rooms is too
  * small for the row, which would end at row_ends[i]; nothing of it is written. WKB_STATUS_UNKNOWN_OPTION as in
- * wkb_column_write, where DIMENSION is none. COORDINATES, RINGS and SINGLES tell what all rows need: with so much room
+ * wkb_column_write, where DIMENSION is none. COORDINATES, RINGS and SINGLES are what all rows need: with so much room
  * (in words: COORDINATES times the width of DIMENSION) each row has its coordinates. No row stops the others. */
 void wkb_column_coordinates(const wkb_column *column, wkb_dim dimension, wkb_coordinates *out, uint8_t *statuses);
 

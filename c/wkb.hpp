@@ -53,7 +53,7 @@ class refused_of_two : public refused {
 
 namespace detail {
 
-// Throws what a status other than WKB_STATUS_OK stands for.
+// Throws the exception for a status other than WKB_STATUS_OK.
 [[noreturn]] inline void fail(wkb_status status, const wkb_fault &fault) {
   if (status == WKB_STATUS_NO_MEMORY) throw std::bad_alloc();
   if (status == WKB_STATUS_UNKNOWN_OPTION) throw std::invalid_argument(wkb_status_text(status));

@@ -1,6 +1,6 @@
 /* The proved calls of crates/wkb_c, which wkb.c calls and the library hides. A slice is a pointer and a length. No
- * pointer may be null, also where its length is 0, and each is aligned. What they promise stands in the contracts of
- * crates/wkb_c/src/lib.rt. */
+ * pointer may be null, not even where its length is 0, and each is aligned. The contracts of crates/wkb_c/src/lib.rt say
+ * what the calls promise. */
 #ifndef WKB_RAW_H
 #define WKB_RAW_H
 

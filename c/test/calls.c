@@ -25,7 +25,7 @@ _Static_assert(sizeof(wkb_box) == 96 && IS_AT(wkb_box, x, 0) && IS_AT(wkb_box, y
 _Static_assert(sizeof(wkb_status) == 4 && sizeof(size_t) == 8, "statuses and sizes");
 
 /* An input returns what it must, and nothing else is written. */
-void check_is_as_told(const answer *a, const uint8_t *bytes, size_t len) {
+void check_is_as_expected(const answer *a, const uint8_t *bytes, size_t len) {
   wkb_found found, found_before;
   wkb_fault fault, fault_before;
   memset(&found, 0x5a, sizeof found), memset(&fault, 0x5a, sizeof fault);
@@ -57,7 +57,7 @@ static void table_is_consistent(const answer *a, const uint8_t *bytes, const wkb
 }
 
 /* The table has as many parts as wkb_check finds; without room or with a refusal nothing is written. */
-void parts_are_as_told(const answer *a, const uint8_t *bytes, size_t len) {
+void parts_are_as_expected(const answer *a, const uint8_t *bytes, size_t len) {
   wkb_part parts[8], before[8];
   wkb_fault fault = {0, 0, 0, 0, 0, 0};
   uint64_t count = 77, wanted = a->found.parts;
@@ -103,7 +103,7 @@ void refusal_leaves_outputs(const answer *a, const uint8_t *bytes, size_t len) {
   expect(memcmp(out, before, sizeof out) == 0, "bytes were written", a->input);
 }
 
-/* Null stands for what is empty and for results that aren't wanted. */
+/* Null may be given for what is empty and for results that aren't wanted. */
 static void null_is_allowed(void) {
   uint8_t point[21];
   size_t len = spelled("01 01000000 P", point);
@@ -275,7 +275,7 @@ static void nesting_is_bounded(void) {
 }
 
 /* Each status has a text of its own, other numbers have one text, and the version is the header's. */
-static void texts_and_version_are_told(void) {
+static void texts_and_version(void) {
   expect(strcmp(wkb_status_text(WKB_STATUS_OK), "ok") == 0, "a text", "ok");
   expect(strcmp(wkb_status_text(15), "unknown status") == 0, "a text", "15");
   expect(strcmp(wkb_status_text(UINT32_MAX), "unknown status") == 0, "a text", "the last");
@@ -289,8 +289,8 @@ void calls_are_right(void) {
   for (int i = 0; i < ANSWER_COUNT; i++) {
     uint8_t bytes[128];
     size_t len = spelled(ANSWERS[i].input, bytes);
-    check_is_as_told(&ANSWERS[i], bytes, len);
-    parts_are_as_told(&ANSWERS[i], bytes, len);
+    check_is_as_expected(&ANSWERS[i], bytes, len);
+    parts_are_as_expected(&ANSWERS[i], bytes, len);
     refusal_leaves_outputs(&ANSWERS[i], bytes, len);
   }
   encodings_are_written();
@@ -299,5 +299,5 @@ void calls_are_right(void) {
   parts_are_listed();
   nesting_is_bounded();
   null_is_allowed();
-  texts_and_version_are_told();
+  texts_and_version();
 }

@@ -99,7 +99,7 @@ static void rooms_are_filled(wkb_dim dimension, size_t words, size_t rings, size
 }
 
 /* A dimension that is none is the status of each row that isn't null and has good offsets. */
-static void no_dimension_is_told(void) {
+static void no_dimension_is_reported(void) {
   wkb_column column = column_of_inputs();
   rooms r;
   memset(&r, 0x5a, sizeof r);
@@ -146,7 +146,7 @@ void coordinates_are_right(void) {
     for (size_t room = 0; room < SINGLES; room++) rooms_are_filled(dimension, words, RINGS, room);
     rooms_are_filled(dimension, 0, 0, 0);
   }
-  no_dimension_is_told();
+  no_dimension_is_reported();
   no_rows_have_none();
   narrow_offsets_are_the_same();
 }

@@ -1,5 +1,5 @@
 /* Tries each call on worked cases, and what no proof of the library sees: that no byte after the input is read, that a
- * refusal leaves its outputs, that null stands for what is empty or unwanted, that refused memory is reported, and that
+ * refusal leaves its outputs, that null may be given for what is empty or unwanted, that refused memory is reported, and that
  * calls may run at the same time. c/run compares what this prints with expected. */
 #include "shared.h"
 

@@ -61,9 +61,9 @@ void nothing_is_read_after_the_input(void) {
     uint8_t bytes[128];
     size_t len = spelled(ANSWERS[i].input, bytes);
     memcpy(end - len, bytes, len);
-    check_is_as_told(&ANSWERS[i], end - len, len);
+    check_is_as_expected(&ANSWERS[i], end - len, len);
     refusal_leaves_outputs(&ANSWERS[i], end - len, len);
-    parts_are_as_told(&ANSWERS[i], end - len, len);
+    parts_are_as_expected(&ANSWERS[i], end - len, len);
     column_ends_at_page(&ANSWERS[i], end, other_end, len);
     if (ANSWERS[i].status != WKB_STATUS_OK) continue;
     for (size_t cut = 0; cut < ANSWERS[i].found.size; cut++) cut_is_refused(&ANSWERS[i], bytes, len, end, cut);
@@ -76,9 +76,9 @@ static void *many_times(void *unused) {
     for (int i = 0; i < ANSWER_COUNT; i++) {
       uint8_t bytes[128];
       size_t len = spelled(ANSWERS[i].input, bytes);
-      check_is_as_told(&ANSWERS[i], bytes, len);
+      check_is_as_expected(&ANSWERS[i], bytes, len);
       refusal_leaves_outputs(&ANSWERS[i], bytes, len);
-      parts_are_as_told(&ANSWERS[i], bytes, len);
+      parts_are_as_expected(&ANSWERS[i], bytes, len);
     }
   }
   return unused;

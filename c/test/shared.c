@@ -43,7 +43,7 @@ void expect(bool holds, const char *what, const char *where) {
   exit(1);
 }
 
-/* What a capital letter stands for. */
+/* The word of a capital letter. */
 static const char *letter(char name) {
   switch (name) {
     case 'P': return "000000000000f03f 0000000000000040";

@@ -16,7 +16,7 @@ use Rattle.wkb_c.specs.Columns.{Column, IsRow}
 use Rattle.wkb_c.specs.Requests.{IsRequested, request_of}
 use Rattle.wkb_c.specs.RowItems.{IsRowStep}
 use Rattle.wkb_c.specs.Statuses.{FailsToList, no_memory as no_memory_to_list}
-use Rattle.wkb_c.specs.Tables.{IsTable, LacksEntries, HasTable, entries}
+use Rattle.wkb_c.specs.Tables.{IsTable, LacksEntries, HasTable, geometry_entries}
 use Rattle.wkb_c.specs.Writings.{IsHandedOut, FindsNoRoom, HasEncoding, FailsToWrite, no_memory}
 use Rattle.wkb_c.specs.declared.options.Options.{Options}
 use Rattle.wkb_c.specs.declared.options.Request.{Request}
@@ -27,7 +27,7 @@ use Rattle.wkb_c.proofs.RowItems.{put_step, lacks_step, fails_step}
 use Rattle.wkb_c.proofs.Words.{holds, entries_many}
 
 pub has_table : (input : List ℕ) (s : Spelling) (t : Value) (rest : List ℕ) → Front input s t rest
-    → HasTable input (entries 0 0 s t)
+    → HasTable input (geometry_entries 0 0 s t)
 has_table input s t rest f = record {
   s = s;
   t = t;
@@ -66,12 +66,12 @@ module _ {c : Column} {i start : ℕ} (row : List ℕ) (is : IsRow c i row) (goo
       → IsRowStep HasTable FailsToList c i status count start before after
   list_step at status count before lent sub after at_is lent_is after_is long listed short kept none (inl ok) =
       let h = listed ok in
-      put_step row is at before lent sub after at_is lent_is after_is (entries 0 0 h.s h.t)
+      put_step row is at before lent sub after at_is lent_is after_is (geometry_entries 0 0 h.s h.t)
       (has_table row h.s h.t h.rest h.front) ok
       (omega (arith, entries_many h.s h.t h.front.front h.front.spelled)) h.held long
   list_step at status count before lent sub after at_is lent_is after_is long listed short kept none (inr (inl told)) =
       let h = short told in
-      lacks_step row is at before lent sub after at_is lent_is after_is (entries 0 0 h.s h.t)
+      lacks_step row is at before lent sub after at_is lent_is after_is (geometry_entries 0 0 h.s h.t)
       (has_table row h.s h.t h.rest h.front) told
       (record {
         count_is = omega (arith, h.many, entries_many h.s h.t h.front.front h.front.spelled);

@@ -5,7 +5,7 @@ pub use Rattle.std.proofs.Common.{subst, append_assoc, append-nil, ◌*◌, ◌�
 pub use Rattle.std.proofs.lemmas.List.{length-map, drop-drop}
 pub use Rattle.std.specs.Prelude.{is_some, option_map, slice_get, Bool, unwrap_or, Result, Ok, Err, IfOk}
 pub use Rattle.std.specs.Prelude.{slice_index}
-pub use Rattle.wkb_geom.specs.Dimensions.{dimensions, width}
+pub use Rattle.wkb_geom.specs.Dimensions.{as_dimensions, width}
 pub use Rattle.wkb_geom.specs.Numbers.{order_byte, IsNumber, number}
 pub use Rattle.wkb_geom.specs.Reading.{Item, spellings, values, point_of, line_string_of}
 pub use Rattle.wkb_geom.specs.Refusals.{ring_end, srid_size}
@@ -19,7 +19,7 @@ pub use Rattle.wkb_geom.specs.Values.{Values, multi_point, collection, no_member
 pub use Rattle.wkb_geom.specs.Values.{member_count_each}
 pub use Rattle.wkb_geom.specs.declared.common.Dimension.{Dimension}
 pub use Rattle.wkb_read.specs.Nodes.{nodes, nodes_all}
-pub use Rattle.wkb_read.specs.Public.{IsFront, IsRefusal, TakesNoMemory}
+pub use Rattle.wkb_read.specs.Reads.{IsFront, IsRefusal, TakesNoMemory}
 pub use Rattle.wkb_view.specs.Fitted.{fitted_line_string, fitted_line_strings}
 pub use Rattle.wkb_view.specs.Parts.{members_spelled, srid_of, BytesSpell, order_of, list_of_values, list_of_spellings}
 pub use Rattle.wkb_view.specs.Parts.{points_of}

@@ -14,13 +14,13 @@ use Rattle.wkb_geom.specs.declared.error.WkbError.TheVariants as errors
 use Rattle.wkb_geom.specs.Encodings.{encoding, fault, or_else, size_fault, form_srid, IsForm, IsWritable}
 use Rattle.wkb_geom.specs.Errors.{IsMemory}
 use Rattle.wkb_geom.specs.Fronts.{Front, HasNoFront}
-use Rattle.wkb_geom.specs.Geometries.{geometry_of}
+use Rattle.wkb_geom.specs.Geometries.{geometry_of, Geometry}
 use Rattle.wkb_geom.specs.Numbers.{AreBytes}
 use Rattle.wkb_laws.proofs.Lengths.{length_of_encoding_lem, length_of_front_lem, size_is_refused_lem}
 use Rattle.wkb_laws.proofs.Lengths.{front_is_writable_lem}
-use Rattle.wkb_read.specs.Public.{IfRefused}
+use Rattle.wkb_read.specs.Reads.{IfRefused}
 use Rattle.wkb_write.specs.Measures.{Reports}
-use Rattle.wkb_write.specs.Answers.{encoding_of}
+use Rattle.wkb_write.specs.Answers.{encoding_of, refusal_of, OutgrowsSlice}
 use Rattle.wkb.specs.Writes.{WriteOptions}
 use Rattle.wkb.specs.Canonical.{IsAccepted}
 use Rattle.wkb_c.specs.Requests.{IsRequested, options_for}
@@ -61,7 +61,7 @@ module _ (order : Endianness) (form : Form) (input : List ℕ) (s : Spelling) (t
       ∙ cond-true (nat_lt (length (encoding order form (geometry_of t))) (2 ^ 64)) _ _
       (lt-ltb _ _ (omega (arith, written_fits, short)))
 
--- an error of a reading of what was accepted is want of memory
+-- reading what was accepted fails by an allocation failure only
 pub read_error : (buf : List ℕ) (e : WkbError) → IsAccepted buf → IfRefused (Err e) (λ e. HasNoFront buf) → IsMemory e
 read_error buf (errors.Memory m) a none = tt
 read_error buf (errors.IncorrectType x) a none = absurd (none a.s a.t a.rest a.front)
@@ -75,10 +75,11 @@ read_error buf (errors.OverflowError x) a none = absurd (none a.s a.t a.rest a.f
 pub nothing_reported : (e : WkbError) (f : Option Fault) → f ≡ None → Reports e f → ⊥
 nothing_reported e f none h = let never : None ≡ Some h.fault = sym none ∙ h.is in absurd (cc)
 
--- so want of memory is
-pub write_error : (e : WkbError) (f : Option Fault) → f ≡ None → IsMemory e ⊎ Reports e f → IsMemory e
-write_error e f none (inl memory) = memory
-write_error e f none (inr h) = absurd (nothing_reported e f none h)
+-- so what can be written lacks room only
+pub no_room : (o : WriteOptions) (g : Geometry) (out : List ℕ) (e : WkbError) → refusal_of o g ≡ None
+    → Reports e (refusal_of o g) ⊎ OutgrowsSlice o g out e → length out < length (encoding_of o g)
+no_room o g out e none (inl h) = absurd (nothing_reported e (refusal_of o g) none h)
+no_room o g out e none (inr h) = h.short
 
 -- the encoding under the options of a request is what is asked for
 pub is_asked : (request : Request) (srid : Option ℕ) (o : WriteOptions) (buf : List ℕ) (w : Item) → IsFront buf w

@@ -2,7 +2,7 @@
 use Rattle.wkb_c.proofs.Common.{◌≡◌, ℕ, zero, suc, ◌+◌, ◌≤◌, ◌<◌, ◌^◌, List, [], ◌∷◌, ◌++◌, length, drop, Option, Some}
 use Rattle.wkb_c.proofs.Common.{None, refl, sym, ap, subst, ◌∙◌}
 use Rattle.wkb_c.proofs.Common.{append_assoc, append-nil, arith, Result, Ok, Err, IfOk, slice_get}
-use Rattle.wkb_c.proofs.Common.{Dimension, dimensions, order_byte, Item}
+use Rattle.wkb_c.proofs.Common.{Dimension, order_byte, Item}
 use Rattle.std.proofs.Common.{set}
 use Rattle.std.specs.Prelude.{slice_index_or, IfSome, option_map}
 use Rattle.wkb_c.proofs.Common.{spellings, values, ring_end, Spelling, node, Spellings, no_spellings, spelling}
@@ -12,46 +12,35 @@ use Rattle.wkb_c.proofs.Common.{no_members, member, members, count}
 use Rattle.wkb_c.proofs.Common.{length-append, ◌*◌, width, header, each, dimension, nodes, nodes_all, point_of}
 use Rattle.wkb_c.proofs.Common.{point_seen, value_seen, order_of, list_of_values}
 use Rattle.wkb_c.proofs.Common.{list_of_spellings, members_spelled}
-use Rattle.wkb_geom.specs.declared.common.Dimension.TheVariants.{Xy, Xyz, Xym, Xyzm}
 use Rattle.wkb_read.specs.Views.{IsCollectionOf}
 use Rattle.wkb_view.specs.declared.point.Point as views
 use Rattle.wkb_c.specs.declared.parts.Part.{Part}
 use Rattle.wkb_c.specs.declared.parts.Table.{Table}
-use Rattle.wkb_c.specs.Tables.{entry, entries, ring_entries, member_entries, size_of_rings, rings_of, content_size}
+use Rattle.wkb_c.specs.Tables.{entry, geometry_entries, ring_entries, member_entries, size_of_rings, rings_of, content_size}
 use Rattle.wkb_c.specs.Tables.{leading}
 use Rattle.wkb_c.specs.Tables.{count_of, size, sizes}
 use Rattle.wkb_c.specs.Tables.{entry_count, entry_counts}
 use Rattle.wkb_c.specs.declared.parts.PartHead.{PartHead}
-use Rattle.wkb_c.specs.Growing.{Grows, Lists, ListsMembers, HasMembers, spellings_from, values_from}
+use Rattle.wkb_c.specs.Growing.{Grows, Lists, ListsMembers, HasMembers, drop_spellings, drop_values}
 use Rattle.wkb_c.specs.Growing.{Added}
 use Rattle.wkb_c.specs.Growing.{RingsAdded}
 use Rattle.wkb_c.specs.Growing.{IsHead, OpensPart, Closes, closed, added_entry}
 
--- ---- dimensions
-
--- a dimension is known by its name
-pub one_name : (d e : Dimension) → dimensions d ≡ dimensions e → d ≡ e
-one_name Xy Xy is = refl
-one_name Xyz Xyz is = refl
-one_name Xym Xym is = refl
-one_name Xyzm Xyzm is = refl
-one_name _ _ is = absurd (cc)
-
 -- ---- members
 
 from_spelling : (ss : Spellings) (i : ℕ) (s : Spelling) → slice_get (list_of_spellings ss) i ≡ Some s
-    → spellings_from i ss ≡ spelling s (spellings_from (suc i) ss)
+    → drop_spellings i ss ≡ spelling s (drop_spellings (suc i) ss)
 from_spelling no_spellings i s is = absurd (cc)
 from_spelling (spelling x ss) zero s is = let same : x ≡ s = cc in ap (λ y. spelling y ss) same
 from_spelling (spelling x ss) (suc i) s is = from_spelling ss i s is
 
 from_value : (ts : Values) (i : ℕ) (t : Value) → slice_get (list_of_values ts) i ≡ Some t
-    → values_from i ts ≡ member t (values_from (suc i) ts)
+    → drop_values i ts ≡ member t (drop_values (suc i) ts)
 from_value no_members i t is = absurd (cc)
 from_value (member x ts) zero t is = let same : x ≡ t = cc in ap (λ y. member y ts) same
 from_value (member x ts) (suc i) t is = from_value ts i t is
 
-past_values : (ts : Values) (i : ℕ) → count ts ≤ i → values_from i ts ≡ no_members
+past_values : (ts : Values) (i : ℕ) → count ts ≤ i → drop_values i ts ≡ no_members
 past_values no_members zero past = refl
 past_values no_members (suc i) past = refl
 past_values (member t ts) zero past = absurd (omega arith)
@@ -81,7 +70,7 @@ rings_many d order index at (cs ∷ rings) =
     omega (arith, rings_many d order (index + 1) (at + ring_end d (length cs)) rings)
 
 mutual
-  pub entries_are : (index at : ℕ) (s : Spelling) (t : Value) → length (entries index at s t) ≡ entry_count s t
+  pub entries_are : (index at : ℕ) (s : Spelling) (t : Value) → length (geometry_entries index at s t) ≡ entry_count s t
   entries_are index at (node h words ss) t =
       omega (
         arith,
@@ -98,12 +87,12 @@ mutual
   members_are index at (spelling s ss) (member t ts) =
       omega (
         arith,
-        length-append (entries index at s t) (member_entries (index + entry_count s t) (at + size s t) ss ts),
+        length-append (geometry_entries index at s t) (member_entries (index + entry_count s t) (at + size s t) ss ts),
         entries_are index at s t,
         members_are (index + entry_count s t) (at + size s t) ss ts,
       )
 
--- so many more entries are there than before
+-- as many entries were added as are listed
 grown : (old new : Table) (added : List Part) (bytes : ℕ) → Grows old new added bytes
     → length new.parts.items ≡ length old.parts.items + length added
 grown old new added bytes g = ap length g.parts ∙ length-append old.parts.items added
@@ -111,15 +100,15 @@ grown old new added bytes g = ap length g.parts ∙ length-append old.parts.item
 sizes_from : (ss : Spellings) (ts : Values) (i : ℕ) (s : Spelling) (t : Value)
     → slice_get (list_of_spellings ss) i ≡ Some s
     → slice_get (list_of_values ts) i ≡ Some t
-    → sizes (spellings_from i ss) (values_from i ts)
-    ≡ size s t + sizes (spellings_from (suc i) ss) (values_from (suc i) ts)
+    → sizes (drop_spellings i ss) (drop_values i ts)
+    ≡ size s t + sizes (drop_spellings (suc i) ss) (drop_values (suc i) ts)
 sizes_from ss ts i s t this that = rw (from_spelling ss i s this, from_value ts i t that) refl
 
 entries_from : (index at : ℕ) (ss : Spellings) (ts : Values) (i : ℕ) (s : Spelling) (t : Value)
     → slice_get (list_of_spellings ss) i ≡ Some s
     → slice_get (list_of_values ts) i ≡ Some t
-    → member_entries index at (spellings_from i ss) (values_from i ts) ≡ entries index at s t
-    ++ member_entries (index + entry_count s t) (at + size s t) (spellings_from (suc i) ss) (values_from (suc i) ts)
+    → member_entries index at (drop_spellings i ss) (drop_values i ts) ≡ geometry_entries index at s t
+    ++ member_entries (index + entry_count s t) (at + size s t) (drop_spellings (suc i) ss) (drop_values (suc i) ts)
 entries_from index at ss ts i s t this that = rw (from_spelling ss i s this, from_value ts i t that) refl
 
 pub added_fits : (ss : Spellings) (ts : Values) (start : Table) (i : ℕ) (now : Table) (s : Spelling) (t : Value)
@@ -133,15 +122,15 @@ pub added_more : (ss : Spellings) (ts : Values) (start : Table) (i : ℕ) (now t
     → slice_get (list_of_spellings ss) i ≡ Some s → slice_get (list_of_values ts) i ≡ Some t → Lists now then s t
     → Added ss ts start (i + 1) then
 added_more ss ts start i now then s t a this that l =
-    let rest = spellings_from (suc i) ss in
-    let others = values_from (suc i) ts in
+    let rest = drop_spellings (suc i) ss in
+    let others = drop_values (suc i) ts in
     let many = length now.parts.items in
     let k : suc i ≡ i + 1 = omega arith in
     let longer : length then.parts.items ≡ many + entry_count s t =
     omega (arith, grown _ _ _ _ l, entries_are many now.at s t) in
     subst (λ (j : ℕ). Added ss ts start j then) k (record {
       parts = (λ x. l.parts x ++ member_entries (longer x) (l.at x) rest others)
-          ∙ append_assoc now.parts.items (entries many now.at s t)
+          ∙ append_assoc now.parts.items (geometry_entries many now.at s t)
           (member_entries (many + entry_count s t) (now.at + size s t) rest others)
           ∙ ap (λ (x : List Part). now.parts.items ++ x) (sym (entries_from many now.at ss ts i s t this that))
           ∙ a.parts;
@@ -155,9 +144,9 @@ added_all ss ts start i now past a =
     let many = length now.parts.items in
     record {
       parts = sym (append-nil now.parts.items) ∙ ap (λ (x : List Part). now.parts.items ++ x)
-          (sym (ap (member_entries many now.at (spellings_from i ss)) none
-          ∙ none_listed many now.at (spellings_from i ss))) ∙ a.parts;
-      at = omega (arith, a.at, ap (sizes (spellings_from i ss)) none, none_sized (spellings_from i ss));
+          (sym (ap (member_entries many now.at (drop_spellings i ss)) none
+          ∙ none_listed many now.at (drop_spellings i ss))) ∙ a.parts;
+      at = omega (arith, a.at, ap (sizes (drop_spellings i ss)) none, none_sized (drop_spellings i ss));
     }
 
 pub each_get : {A : Type 0} (f : A → Value) (l : List A) (i : ℕ) (a : A) → Some a ≡ slice_get l i
@@ -334,7 +323,7 @@ rings_none d order rings t = record { parts = refl; at = refl }
 
 pub rings_fit : (d e : Dimension) (order : ℕ) (rings : List (List Coordinate)) (start : Table) (i : ℕ) (now : Table)
     (ring : List Coordinate)
-    → dimensions e ≡ dimensions d
+    → e ≡ d
     → RingsAdded d order rings start i now → slice_get rings i ≡ Some ring → start.at + size_of_rings d rings < 2 ^ 63
     → now.at + ring_end e (length ring) < 2 ^ 63
 rings_fit d e order rings start i now ring same a is fits =
@@ -343,7 +332,7 @@ rings_fit d e order rings start i now ring same a is fits =
       a.at,
       fits,
       ap (size_of_rings d) (drop_ring rings i ring is),
-      ap (λ (x : Dimension). ring_end x (length ring)) (one_name e d same),
+      ap (λ (x : Dimension). ring_end x (length ring)) same,
     )
 
 pub listed_ring : (d : Dimension) (order n : ℕ) (ring : List Coordinate) (old new : Table) (head : PartHead) (body : ℕ)
@@ -367,16 +356,15 @@ listed_ring d order n ring old new head body kind_is dimension_is srid_is order_
 
 pub rings_more : (d e : Dimension) (order own : ℕ) (rings : List (List Coordinate)) (start : Table) (i : ℕ)
     (now then : Table) (ring : List Coordinate)
-    → dimensions e ≡ dimensions d → own ≡ order
+    → e ≡ d → own ≡ order
     → RingsAdded d order rings start i now → slice_get rings i ≡ Some ring
     → Grows now then (ring_entries e own (length now.parts.items) now.at (ring ∷ [])) (ring_end e (length ring))
     → RingsAdded d order rings start (i + 1) then
 rings_more d e order own rings start i now then ring same ordered a is grows =
     let many = length now.parts.items in
-    let d_is = one_name e d same in
     let g : Grows now then (ring_entries d order many now.at (ring ∷ [])) (ring_end d (length ring)) =
-    subst (λ T. T) (λ j. Grows now then (ring_entries (d_is j) (ordered j) many now.at (ring ∷ []))
-    (ring_end (d_is j) (length ring))) grows in
+    subst (λ T. T) (λ j. Grows now then (ring_entries (same j) (ordered j) many now.at (ring ∷ []))
+    (ring_end (same j) (length ring))) grows in
     let rest = drop (suc i) rings in
     let one = ring_entries d order many now.at (ring ∷ []) in
     let longer : length then.parts.items ≡ many + 1 = grown _ _ _ _ g in
@@ -439,7 +427,7 @@ pub rings_have_room : (s : Spelling) (d : Dimension) (rings : List (List Coordin
     → at + leading (header s) (polygon d rings) + size_of_rings d rings < 2 ^ 63
 rings_have_room (node h words ss) d rings at fits = omega (arith, fits)
 
--- ---- members by the views that hand them out
+-- ---- members by the views that return them
 
 -- what is there is so
 pub there_is : {A : Type 0} (P : A → Type 0) (found : Option A) (a : A) → found ≡ Some a → IfSome found P → P a
@@ -449,12 +437,12 @@ pub there_seen : {A B : Type 0} (f : A → B) (found : Option A) (a : A) (x : Op
     → option_map f found ≡ x → Some (f a) ≡ x
 there_seen f found a x is h = sym (ap (option_map f) is) ∙ h
 
--- so many items of one dimension
+-- the value of item i, where all items have one dimension
 pub part_value : {A : Type 0} (f : Dimension → A → Value) (l : List A) (d e : Dimension) (i : ℕ) (a : A)
-    → Some a ≡ slice_get l i → dimensions e ≡ dimensions d
+    → Some a ≡ slice_get l i → e ≡ d
     → slice_get (list_of_values (each (f d) l)) i ≡ Some (f e a)
 part_value f l d e i a is same =
-    each_get (f d) l i a is ∙ ap (λ (x : Dimension). Some (f x a)) (sym (one_name e d same))
+    each_get (f d) l i a is ∙ ap (λ (x : Dimension). Some (f x a)) (sym same)
 
 -- the members of a collection
 pub collection_counted : (w : Item) (ms : List Item) → IsCollectionOf w ms → length ms ≡ count_of w.value
@@ -501,7 +489,7 @@ member_nodes (x ∷ ms) (suc i) m is = omega (arith, member_nodes ms i m is)
 
 pub point_value : (l : List (Option Coordinate)) (d : Dimension) (i : ℕ) (p : views.Point)
     → Some (point_of (point_seen p).value) ≡ slice_get l i
-    → dimensions p.layout.dimension ≡ dimensions d
+    → p.layout.dimension ≡ d
     → slice_get (list_of_values (each (point d) l)) i ≡ Some (point_seen p).value
 point_value l d i p is same =
     part_value point l d p.layout.dimension i (point_of (point_seen p).value) is same

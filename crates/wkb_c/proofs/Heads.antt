@@ -1,4 +1,4 @@
--- What the header at the front of a geometry's bytes tells of the geometry.
+-- What the header at the front of a geometry's bytes says of the geometry.
 use Rattle.wkb_c.proofs.Common.{[], append-nil, ◌≡◌, ℕ, ◌+◌, ◌≤◌, List, length, is_some}
 use Rattle.wkb_c.proofs.Common.{Result, Ok, Err, refl, sym, ap, ◌∙◌, arith}
 use Rattle.wkb_c.proofs.Common.{order_byte, Item, Spells, Spelling, node, header, Value, kind, dimension}
@@ -20,7 +20,7 @@ use Rattle.wkb_c.proofs.Telling.{kind_kept, dimension_kept}
 tells : (s : Spelling) (t : Value) (bytes : List ℕ) → Spells s t bytes → HeaderSays bytes s t
 tells s t bytes sp = geometry_opens bytes s t [] (record { front = bytes; whole = sym (append-nil bytes); first = sp })
 
--- what a header tells of a geometry, number by number
+-- what a header says of a geometry, number by number
 abbrev pub SaysOf : Head → Item → Type 0
 SaysOf h w = (type_kind h.wkb_type ≡ kind w.value)
     × (thousands (type_dimension h.wkb_type) ≡ thousands (dimension w.value))

@@ -1,4 +1,4 @@
--- Rows that hand out their items one behind another.
+-- Rows that write their items one after another.
 use Rattle.wkb_c.proofs.Common.{◌≡◌, ℕ, zero, suc, ◌+◌, ◌≤◌, ◌<◌, ◌^◌, ◌⊎◌, inl, inr, List, ◌++◌, length, drop}
 use Rattle.wkb_c.proofs.Common.{slice_index}
 use Rattle.wkb_c.proofs.Common.{refl, ap, sym, subst, ◌∙◌, arith, append_assoc, append-nil, length-append, drop-drop}
@@ -12,9 +12,9 @@ use Rattle.std.proofs.lemmas.Slice.{drop-append-drop, between_to_end}
 use lib.Seq.{get_or-set_same, get_or-set_other}
 use Rattle.wkb_c.specs.declared.status.TheConstants.{OK, NO_ROOM}
 use Rattle.wkb_c.specs.Columns.{Column, IsRow}
-use Rattle.wkb_c.specs.Room.{IsHeld, LacksRoom}
+use Rattle.wkb_c.specs.Room.{IsHeld, Exceeds}
 use Rattle.wkb_c.specs.RowItems.{start_of, end_of, IsRowAnswer, handed, no_room, failed, no_row}
-use Rattle.wkb_c.specs.RowItems.{AreRowAnswers, KeepsBehind, IsRowStep, put, lacks, fails, has_no_row}
+use Rattle.wkb_c.specs.RowItems.{AreRowAnswers, KeepsAfter, IsRowStep, put, lacks, fails, has_no_row}
 
 -- ---- lists
 
@@ -132,7 +132,7 @@ module _ {A : Type 0} {Has : List ℕ → List A → Type 0} {Fails : List ℕ �
     step_answer {count = count} {start = start} (has_no_row why none same) small fits =
         no_row why (ap (end_of start) none ∙ fits_end start 0 (omega (arith, fits)) ∙ omega arith)
 
-    -- the answer of a row above is the same after what is put behind it
+    -- what is put after a row doesn't change its answer
     kept_answer : {i status start end : ℕ} {out new : List A} (at : ℕ)
         → IsRowAnswer Has Fails c i status start end out
         → (status ≡ OK → end ≤ at) → length new ≡ length out
@@ -157,7 +157,7 @@ pub record RowsDone {A : Type 0} (Has : List ℕ → List A → Type 0) (Fails :
   pub long : length out ≡ length before
   pub each : AreRowAnswers Has Fails c i statuses ends out
   pub below : (j : ℕ) → j < i → slice_index statuses j ≡ OK → slice_index ends j ≤ at
-  pub kept : KeepsBehind i statuses ends before out
+  pub kept : KeepsAfter i statuses ends before out
 
 start_kept : (ends : List ℕ) (i e j : ℕ) → j ≤ i → start_of (set ends i e) j ≡ start_of ends j
 start_kept ends i e zero h = refl
@@ -226,7 +226,7 @@ module _ {A : Type 0} {Has : List ℕ → List A → Type 0} {Fails : List ℕ �
         end_grows at count done.fits,
       )
 
-  row_kept : KeepsBehind (i + 1) (set statuses i status) (set ends i (end_of at count)) before new
+  row_kept : KeepsAfter (i + 1) (set statuses i status) (set ends i (end_of at count)) before new
   row_kept k far =
       step_behind step small_out k (λ ok. omega (arith, far i (omega arith) (status_here ∙ ok), end_here))
       ∙ done.kept k
@@ -265,7 +265,7 @@ empty : {A : Type 0} (xs : List A) → length xs ≡ 0 → xs ≡ []
 empty [] none = refl
 empty (x ∷ xs) none = absurd (omega (arith, none))
 
--- what is lent from an index on
+-- what is borrowed from an index on
 pub lent_to_end : {A : Type 0} (xs : List A) (at : ℕ) → take (length xs - at) (drop at xs) ≡ drop at xs
 lent_to_end xs at = between_to_end xs at (length xs) (omega arith)
 
@@ -309,7 +309,7 @@ module _ {A : Type 0} {Has : List ℕ → List A → Type 0} {Fails : List ℕ �
       ∙ ap (λ k. take k before ++ (items ++ drop (start + count) before)) same)
 
   -- they have no room
-  pub lacks_step : (items : List A) → Has row items → status ≡ NO_ROOM → LacksRoom items lent count → sub ≡ lent
+  pub lacks_step : (items : List A) → Has row items → status ≡ NO_ROOM → Exceeds items lent count → sub ≡ lent
       → IsRowStep Has Fails c i status count start before after
   lacks_step items has is_none short same =
       lacks row items is has is_none short.count_is

@@ -13,7 +13,7 @@ use Rattle.wkb_c.specs.Coordinates.{dimension_named, level_counts, count_on_leve
 use Rattle.wkb_c.specs.declared.coordinates.Level.{Level}
 use Rattle.wkb_c.specs.declared.coordinates.Level.TheVariants.{Ring, Single}
 use Rattle.wkb_c.specs.declared.parts.Part.{Part}
-use Rattle.wkb_c.specs.Tables.{entry, place, entries, member_entries, ring_entries, entry_count, rings_of}
+use Rattle.wkb_c.specs.Tables.{entry, place, geometry_entries, member_entries, ring_entries, entry_count, rings_of}
 use Rattle.wkb_c.specs.Tables.{size, sizes, size_of_rings, content_size, leading, count_of}
 use Rattle.wkb_c.specs.Tables.{HasTable}
 use Rattle.wkb_c.proofs.Called.{has_table}
@@ -46,7 +46,7 @@ fit_append : (row : List ℕ) (ps qs : List Part) → FitEach row ps → FitEach
 fit_append row [] qs f g = g
 fit_append row (p ∷ ps) qs f g = (f.0, fit_append row ps qs f.1 g)
 
--- so it is of entries of so many bytes
+-- the coordinates of the entries are inside the row, and few enough to be counted
 pub record Sound (row : List ℕ) (bytes : ℕ) (parts : List Part) : Type 0 where
   pub fit : FitEach row parts
   pub few : sum (level_counts Ring parts) ≤ bytes
@@ -132,7 +132,7 @@ none_sound row = record { fit = tt; few = (omega arith); level = refl }
 
 mutual
   pub entries_sound : (row : List ℕ) (index at : ℕ) (s : Spelling) (t : Value) → at + size s t ≤ length row
-      → Sound row (size s t) (entries index at s t)
+      → Sound row (size s t) (geometry_entries index at s t)
   entries_sound row index at (node h words ss) t inside =
       both_sound row (leading h t + content_size t) (sizes ss (members t)) _ _
       (own_sound row h words ss t index at (omega (arith, inside)))
@@ -147,14 +147,14 @@ mutual
       (members_sound row (index + entry_count s t) (at + size s t) ss ts (omega (arith, inside)))
 
 pub front_sound : (row : List ℕ) (s : Spelling) (t : Value) (rest : List ℕ) → Front row s t rest
-    → Sound row (size s t) (entries 0 0 s t)
+    → Sound row (size s t) (geometry_entries 0 0 s t)
 front_sound row s t rest f =
     entries_sound row 0 0 s t
     (omega (arith, ap length f.whole, length-append f.front rest, spelled_size s t f.front f.spelled))
 
 -- what is read of a row is its table
 pub if_table : {E : Type 0} {P : Type 0} (row : List ℕ) (s : Spelling) (t : Value) (rest : List ℕ) → Front row s t rest
-    → (r : Result P E) (items : P → List Part) → IfOk r (λ parts. items parts ≡ entries 0 0 s t)
+    → (r : Result P E) (items : P → List Part) → IfOk r (λ parts. items parts ≡ geometry_entries 0 0 s t)
     → IfOk r (λ parts. HasTable row (items parts))
 if_table row s t rest f (Ok parts) items is = subst (HasTable row) (sym is) (has_table row s t rest f)
 if_table row s t rest f (Err e) items is = tt

@@ -1,5 +1,10 @@
--- What is told of an answer of the check.
-use Rattle.wkb_c.proofs.Common.{◌≡◌, ℕ, ◌≤◌, ◌<◌, ◌^◌, List, refl, arith}
+-- What the C library reports of a result of the check.
+use Rattle.wkb_c.proofs.Common.{◌≡◌, ℕ, ◌≤◌, ◌<◌, ◌^◌, List, refl, arith, ◌∙◌, ap, sym, subst, Option, is_some}
+use Rattle.wkb_c.proofs.Common.{unwrap_or, order_byte}
+use mir.Val.{bool_byte as from_bool}
+use Rattle.wkb_geom.specs.Codes.{thousands}
+use Rattle.wkb_c.specs.Checks.{IsFound, numbers_of}
+use Rattle.wkb_c.specs.declared.found.Found.{Found}
 use Rattle.wkb_c.proofs.Common.{Dimension, width, kind, dimension, Value, point}
 use Rattle.wkb_geom.specs.declared.common.Dimension.TheVariants.{Xy, Xyz, Xym, Xyzm}
 use Rattle.wkb_geom.specs.Reading.{type_of, type_kind, type_dimension}
@@ -45,14 +50,14 @@ general_is_small (ShortLineString end len) = omega arith
 general_is_small (ShortMultiPoint end len) = omega arith
 general_is_small (ShortLinearRing end len) = omega arith
 
--- and stand before those of rows
+-- and are below those of rows
 pub cause_is_small : (cause : Cause) → cause_status cause < NULL_ROW
 cause_is_small (general g) = general_is_small g
 cause_is_small end_of_input = omega arith
 cause_is_small incorrect_type = omega arith
 cause_is_small (nesting_depth_exceeded n) = omega arith
 
--- what is told of a refusal
+-- what is reported of a refusal
 pub fault_told : (buf : List ℕ) (e : Refused) (status : ℕ) (fault : WkbFault) → IsRefusedFor buf e
     → status ≡ cause_status e.cause
     → fault ≡ cause_fault e.part e.offset e.cause → IsFault buf status fault
@@ -91,3 +96,25 @@ kind_kept _ = refl
 pub dimension_kept : (t : Value) → type_dimension (type_of (kind t) (dimension t)) ≡ dimension t
 dimension_kept (point d c) = refl
 dimension_kept _ = refl
+
+-- the numbers of the summary are those of the geometry
+pub numbers_found : (input : List ℕ) (f : Summary) (found : Found) → DescribesFront input f → found ≡ numbers_of f
+    → IsFound input found
+numbers_found input f found d is =
+    let same = d.described.wkb_type in
+    let dimension_same = ap type_dimension same ∙ dimension_kept d.value in
+    subst (λ found. IsFound input found) (sym is) (record {
+      s = d.spelled;
+      t = d.value;
+      rest = d.rest;
+      front = d.front;
+      size_is = d.described.bytes_are;
+      parts_are = omega (arith, d.described.parts);
+      coordinates_are = d.described.coordinates;
+      kind_is = ap type_kind same ∙ kind_kept d.value;
+      dimension_is = ap thousands dimension_same;
+      width_is = ap width dimension_same;
+      has_srid_is = ap (λ (o : Option ℕ). from_bool (is_some o)) d.described.srid;
+      srid_is = ap (λ (o : Option ℕ). unwrap_or o 0) d.described.srid;
+      order_is = ap order_byte d.described.order;
+    })

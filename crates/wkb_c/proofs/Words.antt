@@ -1,4 +1,4 @@
--- The words of a geometry's parts stand where its table says.
+-- The words of a geometry's parts are where its table says.
 use Rattle.wkb_c.proofs.Common.{◌≡◌, ℕ, zero, suc, ◌+◌, ◌*◌, List, [], ◌∷◌, ◌++◌, length, drop, Option, Some, None}
 use Rattle.wkb_c.proofs.Common.{refl, sym, ap, ◌∙◌, append_assoc}
 use Rattle.wkb_c.proofs.Common.{append-nil, length-append, ◌<◌, ◌^◌, arith, drop-drop, slice_get, is_some}
@@ -17,10 +17,10 @@ use Rattle.wkb_laws.proofs.Lengths.{coordinate_length, coordinates_length}
 use Rattle.wkb_laws.proofs.Parts.{drop_front, number-front, header_length, then_length}
 use Rattle.wkb_c.specs.declared.parts.Part.{Part}
 use Rattle.wkb_c.proofs.Growth.{entries_are}
-use Rattle.wkb_c.specs.Tables.{Extent, Piece, entry, place, ring_place, entry_count, entry_counts, entries}
+use Rattle.wkb_c.specs.Tables.{Extent, Piece, entry, place, ring_place, entry_count, entry_counts, geometry_entries}
 use Rattle.wkb_c.specs.Tables.{ring_entries}
 use Rattle.wkb_c.specs.Tables.{member_entries, size_of_rings, rings_of, content_size, leading, count_of, size, sizes}
-use Rattle.wkb_c.specs.Tables.{coordinates_of, ring_pieces, pieces, member_pieces, HoldsWords, HoldEach}
+use Rattle.wkb_c.specs.Tables.{coordinates_of, ring_pieces, geometry_pieces, member_pieces, HoldsWords, HoldEach}
 
 -- ---- lengths
 
@@ -186,7 +186,7 @@ rings_hold input order d (cs ∷ rings) index at bytes rest stands h =
           (behind input at (ring_end d (length cs)) bytes h.front h.rest rest stands h.whole long) h.second,
     )
 
--- a body, behind a header of so many bytes
+-- a body, after its header
 own_holds : (input : List ℕ) (h : Header) (words : List ℕ) (s : Spelling) (t : Value) (index at : ℕ)
     (bytes rest : List ℕ)
     → drop (at + (5 + srid_size (is_some h.srid))) input ≡ bytes ++ rest → SpellsBody h.order words t bytes
@@ -229,7 +229,7 @@ abbrev MembersHold : List ℕ → Header → Spellings → Value → ℕ → ℕ
 MembersHold input h ss t index at =
     HoldEach input (member_entries index (at + leading h t) ss (members t)) (member_pieces ss (members t))
 
--- the members stand behind a count
+-- the members follow a count
 behind_count : (input : List ℕ) (h : Header) (at : ℕ) (count inner rest : List ℕ)
     → drop (at + (5 + srid_size (is_some h.srid))) input ≡ (count ++ inner) ++ rest → length count ≡ 4
     → drop (at + (9 + srid_size (is_some h.srid))) input ≡ inner ++ rest
@@ -260,7 +260,7 @@ own_members_hold input h words ss (collection d ts) index at body inner rest sta
 mutual
   pub holds : (input : List ℕ) (s : Spelling) (t : Value) (index at : ℕ) (bytes rest : List ℕ)
       → drop at input ≡ bytes ++ rest → Spells s t bytes
-      → HoldEach input (entries index at s t) (pieces s t)
+      → HoldEach input (geometry_entries index at s t) (geometry_pieces s t)
   holds input (node h words ss) t index at bytes rest stands sp =
       let inside = behind input at (5 + srid_size (is_some h.srid)) bytes sp.front sp.rest rest stands sp.whole
       (header_length h (kind t) (dimension t) sp.front sp.first) in
@@ -338,5 +338,5 @@ mutual
       omega (arith, counted s t sp.front sp.first.0, members_counted w ss ts sp.rest sp.second)
 
 pub entries_many : (s : Spelling) (t : Value) (bytes : List ℕ) → Spells s t bytes
-    → length (entries 0 0 s t) ≡ suc (member_count t)
+    → length (geometry_entries 0 0 s t) ≡ suc (member_count t)
 entries_many s t bytes sp = entries_are 0 0 s t ∙ counted s t bytes sp

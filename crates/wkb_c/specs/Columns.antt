@@ -26,7 +26,7 @@ column bytes offsets offset_size validity validity_offset = record {
   validity_offset = validity_offset;
 }
 
--- whether this bit of a byte is 0, counted from the lowest; where there is no byte, no bit is
+-- whether this bit of a byte is 0, counted from the lowest; without a byte no bit is
 abbrev pub is_zero_bit : Option ℕ → ℕ → Bool
 is_zero_bit None k = false
 is_zero_bit (Some byte) k = nat_eq (byte / 2 ^ k % 2) 0
@@ -69,13 +69,13 @@ pub record IsRow (c : Column) (i : ℕ) (row : List ℕ) : Type 0 where
   pub present : is_null_row c i ≡ false
   pub slice : IsRowSlice c.bytes c.offsets c.offset_size i row
 
--- row i has no bytes, and this status tells why
+-- row i has no bytes, and this status says why
 pub data LacksRow (c : Column) (i status : ℕ) : Type 0 where
   null_row : is_null_row c i ≡ true → status ≡ NULL_ROW → LacksRow c i status
   bad_offsets : is_null_row c i ≡ false → HasNoSlice c.bytes c.offsets c.offset_size i → status ≡ BAD_OFFSETS
       → LacksRow c i status
 
--- the bytes are refused, and this status tells why
+-- the bytes are refused, and this status says why
 abbrev pub IsRefusedWith : List ℕ → ℕ → Type 0
 IsRefusedWith row status = (fault : WkbFault) × IsFault row status fault
 

@@ -12,7 +12,7 @@ use Rattle.wkb_geom.specs.declared.common.Endianness.TheVariants.{BigEndian, Lit
 use Rattle.wkb_geom.specs.Dimensions.{width}
 use Rattle.wkb_geom.specs.Numbers.{number, empty_word}
 use Rattle.wkb_c.specs.Columns.{Column, IsRow, LacksRow, IsRefusedWith}
-use Rattle.wkb_c.specs.RowItems.{end_of}
+use Rattle.wkb_c.specs.RowItems.{end_of, rows_of}
 use Rattle.wkb_c.specs.Tables.{HasTable}
 use Rattle.wkb_c.specs.declared.coordinates.Level.{Level}
 use Rattle.wkb_c.specs.declared.coordinates.Level.TheVariants.{Ring, Single}
@@ -45,7 +45,7 @@ m_of Xyz word = empty_word
 m_of Xym word = word 2
 m_of Xyzm word = word 3
 
--- the words that the first dimension names of a coordinate of the second one
+-- the words that the first dimension names, of a coordinate of the second dimension
 abbrev pub words_asked : Dimension → Dimension → (ℕ → ℕ) → List ℕ
 words_asked Xy own word = word 0 ∷ word 1 ∷ []
 words_asked Xyz own word = word 0 ∷ word 1 ∷ z_of own word ∷ []
@@ -139,7 +139,7 @@ pub data IsTablePut (asked : Dimension) (row : List ℕ) (parts : List Part) (st
       → (HasRoomUpTo asked (length before.words) (length before.ring_ends) (length before.single_ends) to → ⊥)
       → after ≡ before → IsTablePut asked row parts status from to before after
 
--- row i has no coordinates, and this status tells why
+-- row i has no coordinates, and this status says why
 pub data LacksCoordinates (c : Column) (dimension i status : ℕ) : Type 0 where
   no_row : LacksRow c i status → LacksCoordinates c dimension i status
   unknown : (row : List ℕ) → IsRow c i row → dimension_named dimension ≡ None → status ≡ UNKNOWN_OPTION
@@ -172,6 +172,11 @@ AreColumnCoordinates c dimension statuses row_ends out (suc i) at now =
     (from : Totals) × ((before : Levels) × (AreColumnCoordinates c dimension statuses row_ends out i from before
     × IsCoordinatesRow c dimension i (slice_index statuses i) from at before now
     × (slice_index row_ends i ≡ at.singles)))
+
+-- so it is of all rows
+abbrev pub AreLevels : Column → ℕ → List ℕ → List ℕ → Totals → Levels → Levels → Type 0
+AreLevels c dimension statuses row_ends at before now =
+    AreColumnCoordinates c dimension statuses row_ends before (rows_of statuses row_ends) at now
 
 -- this many coordinates of a part are inside the bytes of its row, and have the width of its dimension
 pub record FitsRow (row : List ℕ) (p : Part) (count : ℕ) : Type 0 where

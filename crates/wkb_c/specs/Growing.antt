@@ -1,24 +1,51 @@
 -- How a table grows.
 use Rattle.std.specs.Prelude.{◌≡◌, ℕ, ◌+◌, ◌^◌, ◌<◌, zero, suc, List, [], ◌∷◌, ◌++◌, length, drop}
 use Rattle.wkb_geom.specs.declared.common.Dimension.{Dimension}
+use Rattle.wkb_geom.specs.declared.common.Endianness.{Endianness}
 use Rattle.wkb_geom.specs.Numbers.{order_byte}
 use Rattle.wkb_geom.specs.Reading.{Item}
 use Rattle.wkb_geom.specs.Values.{Coordinate, Value, Values, no_members, member, kind, dimension, members}
 use Rattle.wkb_geom.specs.Spellings.{Spelling, Spellings, no_spellings, spelling, header}
+use Rattle.wkb_geom.specs.Refusals.{ring_end}
+use Rattle.wkb_view.specs.Coords.{ring_seen, ring_dimension, ring_order}
 use Rattle.wkb_view.specs.Parts.{members_spelled, BytesSpell}
+use Rattle.wkb_view.specs.declared.linear_ring.LinearRing.{LinearRing}
 use Rattle.wkb_c.specs.declared.parts.Part.{Part}
 use Rattle.wkb_c.specs.declared.parts.PartHead.{PartHead}
 use Rattle.wkb_c.specs.declared.parts.Table.{Table}
-use Rattle.wkb_c.specs.Tables.{entry, leading, entries, ring_entries, member_entries, size_of_rings, size, sizes}
+use Rattle.wkb_c.specs.Tables.{entry, leading, geometry_entries, ring_entries, member_entries, size_of_rings, size, sizes}
 
--- these entries were added, and the next part begins so many bytes further on
+-- these entries were added, and the next part begins `bytes` further on
 pub record Grows (old new : Table) (added : List Part) (bytes : ℕ) : Type 0 where
   pub parts : new.parts.items ≡ old.parts.items ++ added
   pub at : new.at ≡ old.at + bytes
 
+-- the entry of a part that has this index and this head, begins at this byte, and has no rings or members yet
+abbrev pub added_entry : ℕ → ℕ → PartHead → ℕ → ℕ → Part
+added_entry index at head coordinates count =
+    entry head.kind head.dimension head.srid head.order
+    (record { begin = at; offset = at + head.leading; end = at + (head.leading + coordinates); next = index + 1 })
+    count
+
+-- the entry of a part with this head was added, without those of its rings or members
+abbrev pub AddsEntry : Table → Table → PartHead → ℕ → ℕ → Type 0
+AddsEntry old new head coordinates count =
+    Grows old new (added_entry (length old.parts.items) old.at head coordinates count ∷ []) (head.leading + coordinates)
+
+-- the entry of this ring was added, and those of these rings
+abbrev pub ListsRing : Table → Table → LinearRing → Type 0
+ListsRing old new ring =
+    Grows old new
+    (ring_entries (ring_dimension ring) (order_byte (ring_order ring)) (length old.parts.items) old.at
+    (ring_seen ring ∷ [])) (ring_end (ring_dimension ring) (length (ring_seen ring)))
+
+abbrev pub ListsRings : Table → Table → Dimension → Endianness → List (List Coordinate) → Type 0
+ListsRings old new d order rings =
+    Grows old new (ring_entries d (order_byte order) (length old.parts.items) old.at rings) (size_of_rings d rings)
+
 -- the entries of this geometry were added
 abbrev pub Lists : Table → Table → Spelling → Value → Type 0
-Lists old new s t = Grows old new (entries (length old.parts.items) old.at s t) (size s t)
+Lists old new s t = Grows old new (geometry_entries (length old.parts.items) old.at s t) (size s t)
 
 -- the entries of these members were added
 abbrev pub ListsMembers : Table → Table → Spellings → Values → Type 0
@@ -36,16 +63,13 @@ ListsMembersOf old new item = ListsMembers old new (members_spelled item.spelled
 abbrev pub FitsTable : Table → Item → Type 0
 FitsTable table item = table.at + size item.spelled item.value < 2 ^ 63
 
+-- a table has room for this ring
+abbrev pub FitsRing : Table → LinearRing → Type 0
+FitsRing table ring = table.at + ring_end (ring_dimension ring) (length (ring_seen ring)) < 2 ^ 63
+
 -- a table has room for its members
 abbrev pub MembersFitTable : Table → Item → Type 0
 MembersFitTable table item = table.at + sizes (members_spelled item.spelled) (members item.value) < 2 ^ 63
-
--- the entry of a part that has this index and this head, begins at this byte, and has no rings or members yet
-abbrev pub added_entry : ℕ → ℕ → PartHead → ℕ → ℕ → Part
-added_entry index at head coordinates count =
-    entry head.kind head.dimension head.srid head.order
-    (record { begin = at; offset = at + head.leading; end = at + (head.leading + coordinates); next = index + 1 })
-    count
 
 -- the same part, which ends at this byte, and its own parts before this index
 abbrev pub closed : ℕ → ℕ → Part → Part
@@ -73,7 +97,7 @@ pub record Closes (old new : Table) (index : ℕ) : Type 0 where
 abbrev pub HasMembers : Value → Type 0
 HasMembers t = 3 < kind t
 
--- what stands before the coordinates, rings or members of this geometry
+-- the head of this geometry
 pub record IsHead (s : Spelling) (t : Value) (head : PartHead) : Type 0 where
   pub kind_is : head.kind ≡ kind t
   pub dimension_is : head.dimension ≡ dimension t
@@ -91,28 +115,28 @@ pub record SpellSome (bytes : List ℕ) : Type 0 where
 abbrev pub IsHeadOf : List ℕ → PartHead → Type 0
 IsHeadOf bytes head = (w : Item) → BytesSpell w → bytes ≡ w.encoding → IsHead w.spelled w.value head
 
--- the entry of this geometry was added, with so many rings or members, but not those
+-- the entry of this geometry was added, with n rings or members, but without their entries
 pub record OpensPart (old new : Table) (s : Spelling) (t : Value) (n : ℕ) : Type 0 where
   pub head : PartHead
   pub head_is : IsHead s t head
-  pub grows : Grows old new (added_entry (length old.parts.items) old.at head 0 n ∷ []) (head.leading + 0)
+  pub grows : AddsEntry old new head 0 n
 
 -- spellings and values from a number on
-abbrev pub spellings_from : ℕ → Spellings → Spellings
-spellings_from zero ss = ss
-spellings_from (suc i) no_spellings = no_spellings
-spellings_from (suc i) (spelling s ss) = spellings_from i ss
+abbrev pub drop_spellings : ℕ → Spellings → Spellings
+drop_spellings zero ss = ss
+drop_spellings (suc i) no_spellings = no_spellings
+drop_spellings (suc i) (spelling s ss) = drop_spellings i ss
 
-abbrev pub values_from : ℕ → Values → Values
-values_from zero ts = ts
-values_from (suc i) no_members = no_members
-values_from (suc i) (member t ts) = values_from i ts
+abbrev pub drop_values : ℕ → Values → Values
+drop_values zero ts = ts
+drop_values (suc i) no_members = no_members
+drop_values (suc i) (member t ts) = drop_values i ts
 
 -- of these members those below a number were added
 pub record Added (ss : Spellings) (ts : Values) (start : Table) (i : ℕ) (now : Table) : Type 0 where
-  pub parts : now.parts.items ++ member_entries (length now.parts.items) now.at (spellings_from i ss) (values_from i ts)
+  pub parts : now.parts.items ++ member_entries (length now.parts.items) now.at (drop_spellings i ss) (drop_values i ts)
       ≡ start.parts.items ++ member_entries (length start.parts.items) start.at ss ts
-  pub at : now.at + sizes (spellings_from i ss) (values_from i ts) ≡ start.at + sizes ss ts
+  pub at : now.at + sizes (drop_spellings i ss) (drop_values i ts) ≡ start.at + sizes ss ts
 
 -- of these rings those below a number were added
 pub record RingsAdded (d : Dimension) (order : ℕ) (rings : List (List Coordinate)) (start : Table) (i : ℕ)

@@ -5,6 +5,7 @@ pub mod Coordinates
 pub mod Requests
 pub mod Room
 pub mod RowItems
+pub mod RowTables
 pub mod Statuses
 pub mod Growing
 pub mod Tables

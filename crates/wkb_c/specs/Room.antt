@@ -1,12 +1,12 @@
--- What becomes of a slice that items are written into.
+-- A slice that items are written into.
 use Rattle.std.specs.Prelude.{◌≡◌, ℕ, ◌<◌, ◌++◌, List, length, drop}
 
--- the items stand at the front, nothing behind them has changed, and their number is told
+-- the items are at the front, nothing after them has changed, and this is their number
 pub record IsHeld {A : Type 0} (items before after : List A) (count : ℕ) : Type 0 where
   pub count_is : count ≡ length items
   pub whole : after ≡ items ++ drop (length items) before
 
--- there are more items than there is room for, and their number is told
-pub record LacksRoom {A : Type 0} (items before : List A) (count : ℕ) : Type 0 where
+-- there are more items than there is room for, and this is their number
+pub record Exceeds {A : Type 0} (items before : List A) (count : ℕ) : Type 0 where
   pub count_is : count ≡ length items
   pub short : length before < length items

@@ -1,12 +1,17 @@
--- What rows hand out one after another: the items of a row begin where those of the row before it end.
+-- What rows write one after another: the items of a row begin where those of the row before it end.
 use Rattle.std.specs.Prelude.{◌≡◌, ℕ, zero, suc, ◌+◌, ◌-◌, ◌^◌, ◌<◌, ◌≤◌, ◌++◌, List, length, drop, take}
 use Rattle.std.specs.Prelude.{min, slice_range, slice_index}
 use Rattle.wkb_c.specs.Columns.{Column, IsRow, LacksRow}
+use Rattle.wkb_c.specs.Statuses.{FailsToList}
+use Rattle.wkb_c.specs.Tables.{HasTable}
+use Rattle.wkb_c.specs.Writings.{HasEncoding, FailsToWrite}
+use Rattle.wkb_c.specs.declared.options.Options.{Options}
+use Rattle.wkb_c.specs.declared.parts.Part.{Part}
 use Rattle.wkb_c.specs.declared.status.TheConstants.{OK, NO_ROOM}
 
 -- as many rows as both of these lists have entries for
-abbrev pub rows_of : List ℕ → List ℕ → ℕ
-rows_of statuses ends = min (length statuses) (length ends)
+abbrev pub rows_of : {A : Type 0} → List ℕ → List A → ℕ
+rows_of statuses items = min (length statuses) (length items)
 
 -- where the items of a row begin
 abbrev pub start_of : List ℕ → ℕ → ℕ
@@ -18,7 +23,7 @@ abbrev pub end_of : ℕ → ℕ → ℕ
 end_of start n = min (start + n) (2 ^ 64 - 1)
 
 -- The status of row i, and where its items begin and end in `out`. `Has row items`: these are the items of those bytes.
--- `Fails row status`: they have none, and this status tells why.
+-- `Fails row status`: they have none, and this status says why.
 pub data IsRowAnswer {A : Type 0} (Has : List ℕ → List A → Type 0) (Fails : List ℕ → ℕ → Type 0)
     (c : Column) (i status start end : ℕ) (out : List A) : Type 0 where
   handed : (row : List ℕ) (items : List A) → IsRow c i row → Has row items → status ≡ OK
@@ -38,9 +43,18 @@ AreRowAnswers Has Fails c rows statuses ends out =
     (i : ℕ) → i < rows
     → IsRowAnswer Has Fails c i (slice_index statuses i) (start_of ends i) (slice_index ends i) out
 
--- after the items of all these rows nothing has changed
-abbrev pub KeepsBehind : {A : Type 0} → ℕ → List ℕ → List ℕ → List A → List A → Type 0
-KeepsBehind rows statuses ends before after =
+-- the tables of the rows of a column
+abbrev pub AreTables : Column → List ℕ → List ℕ → List Part → Type 0
+AreTables c statuses ends parts = AreRowAnswers HasTable FailsToList c (rows_of statuses ends) statuses ends parts
+
+-- the encodings of the rows of a column
+abbrev pub AreEncodings : Options → Column → List ℕ → List ℕ → List ℕ → Type 0
+AreEncodings o c statuses ends out =
+    AreRowAnswers (HasEncoding o) (FailsToWrite o) c (rows_of statuses ends) statuses ends out
+
+-- after the last items of these rows nothing has changed
+abbrev pub KeepsAfter : {A : Type 0} → ℕ → List ℕ → List ℕ → List A → List A → Type 0
+KeepsAfter rows statuses ends before after =
     (k : ℕ) → ((i : ℕ) → i < rows → slice_index statuses i ≡ OK → slice_index ends i ≤ k) → drop k after ≡ drop k before
 
 -- from this index on nothing has changed

@@ -1,4 +1,4 @@
--- The status that tells a refusal, and its numbers.
+-- The status of a refusal, and its numbers.
 use Rattle.std.specs.Prelude.{◌≡◌, ◌⊎◌, ℕ, ◌+◌, List, length}
 use Rattle.wkb_geom.specs.declared.error.General.{General}
 use Rattle.wkb_geom.specs.declared.error.General.TheVariants.{UnsupportedDimensions, CodeOutOfRange, InvalidByteOrder}
@@ -37,7 +37,7 @@ cause_status (general g) = general_status g
 cause_status incorrect_type = INCORRECT_TYPE
 cause_status (nesting_depth_exceeded n) = NESTING_DEPTH_EXCEEDED
 
--- the part of this number is refused, which begins at this offset, and no more is told
+-- the part of this number is refused, which begins at this offset, and has no more numbers
 abbrev pub plain_fault : ℕ → ℕ → ℕ → WkbFault
 plain_fault status part offset =
     record { part = part; offset = offset; end = 0; len = 0; code = 0; status = status }
@@ -63,7 +63,7 @@ abbrev pub cause_fault : ℕ → ℕ → Cause → WkbFault
 cause_fault part offset (general g) = general_fault (general_status g) part offset g
 cause_fault part offset cause = plain_fault (cause_status cause) part offset
 
--- The input is refused, the status tells why, and the fault tells which part, its numbers, and where it begins: from
+-- The input is refused. The status says why, and the fault says which part, its numbers, and where it begins: from
 -- there on the input has as many bytes as from the refused part on.
 pub record IsFault (input : List ℕ) (status : ℕ) (fault : WkbFault) : Type 0 where
   pub cause : Cause
@@ -86,7 +86,7 @@ pub data IsComparison (a b : List ℕ) (equal : ℕ) : Type 0 where
   one_value : equal ≡ EQUAL → HaveOneValue a b → IsComparison a b equal
   two_values : equal ≡ DIFFERENT → HaveTwoValues a b → IsComparison a b equal
 
--- the input has no parts, and this status tells why
+-- the input has no parts, and this status says why
 pub data FailsToList (input : List ℕ) (status : ℕ) : Type 0 where
   refused : (fault : WkbFault) → IsFault input status fault → FailsToList input status
   no_memory : status ≡ NO_MEMORY → IsAccepted input → FailsToList input status

@@ -1,4 +1,4 @@
--- The parts of a geometry in preorder, and where they stand in its bytes.
+-- The parts of a geometry in preorder, and where they are in its bytes.
 use Rattle.std.specs.Prelude.{◌≡◌, ℕ, suc, ◌+◌, ◌*◌, List, [], ◌∷◌, ◌++◌, length, drop}
 use Rattle.std.specs.Prelude.{◌<◌, Option, slice_get, Some, None, is_some, unwrap_or}
 use mir.Val.{bool_byte as from_bool}
@@ -17,7 +17,7 @@ use Rattle.wkb_geom.specs.Refusals.{srid_size, ring_end}
 use Rattle.wkb_c.specs.Room.{IsHeld}
 use Rattle.wkb_c.specs.declared.parts.Part.{Part}
 
--- where a part stands: its first byte, where its coordinates, rings or members begin, one past its last byte;
+-- where a part is: its first byte, where its coordinates, rings or members begin, one past its last byte;
 -- and the index after its own parts
 pub record Extent : Type 0 where
   pub begin : ℕ
@@ -25,7 +25,7 @@ pub record Extent : Type 0 where
   pub end : ℕ
   pub next : ℕ
 
--- the entry of a part of this kind, which has so many coordinates, rings or members, at this place
+-- the entry of a part of this kind with n coordinates, rings or members, at this place
 abbrev pub entry : ℕ → Dimension → Option ℕ → ℕ → Extent → ℕ → Part
 entry k d srid order p n = record {
   begin = p.begin;
@@ -111,8 +111,8 @@ place index at h s t =
 
 -- the entries of a geometry that has this index and begins at this byte, and of members
 abbrev mutual
-  pub entries : ℕ → ℕ → Spelling → Value → List Part
-  entries index at (node h words ss) t =
+  pub geometry_entries : ℕ → ℕ → Spelling → Value → List Part
+  geometry_entries index at (node h words ss) t =
       entry (kind t) (dimension t) h.srid (order_byte h.order) (place index at h (node h words ss) t) (count_of t)
       ∷ (ring_entries (dimension t) (order_byte h.order) (index + 1) (at + leading h t) (rings_of t)
       ++ member_entries (index + 1) (at + leading h t) ss (members t))
@@ -121,9 +121,9 @@ abbrev mutual
   member_entries index at no_spellings ts = []
   member_entries index at (spelling s ss) no_members = []
   member_entries index at (spelling s ss) (member t ts) =
-      entries index at s t ++ member_entries (index + entry_count s t) (at + size s t) ss ts
+      geometry_entries index at s t ++ member_entries (index + entry_count s t) (at + size s t) ss ts
 
--- what an entry tells of: a geometry, or a ring of a polygon
+-- what an entry is about: a geometry, or a ring of a polygon
 pub data Piece : Type 0 where
   whole : Spelling → Value → Piece
   ring : Endianness → Dimension → List Coordinate → Piece
@@ -156,21 +156,21 @@ ring_pieces order d (cs ∷ rest) = ring order d cs ∷ ring_pieces order d rest
 
 -- a geometry, its rings and its members, in preorder
 abbrev mutual
-  pub pieces : Spelling → Value → List Piece
-  pieces (node h words ss) t =
+  pub geometry_pieces : Spelling → Value → List Piece
+  geometry_pieces (node h words ss) t =
       whole (node h words ss) t ∷ (ring_pieces h.order (dimension t) (rings_of t) ++ member_pieces ss (members t))
 
   pub member_pieces : Spellings → Values → List Piece
   member_pieces no_spellings ts = []
   member_pieces (spelling s ss) no_members = []
-  member_pieces (spelling s ss) (member t ts) = pieces s t ++ member_pieces ss ts
+  member_pieces (spelling s ss) (member t ts) = geometry_pieces s t ++ member_pieces ss ts
 
--- word n of coordinate i of the part is the number that stands at its place in the input
+-- word n of coordinate i of the part is the number at its place in the input
 abbrev pub HoldsWords : List ℕ → Part → Endianness → List Coordinate → Type 0
 HoldsWords input p order cs = (i n w : ℕ) (c : Coordinate) → slice_get cs i ≡ Some c → slice_get c n ≡ Some w
     → number order 8 (drop (p.offset + 8 * (p.width * i + n)) input) ≡ w
 
--- the bytes of the part, from its first up to its end, spell it, and its words stand where the entry says
+-- the bytes of the part, from its first up to its end, spell it, and its words are where the entry says
 pub record Holds (input : List ℕ) (p : Part) (x : Piece) : Type 0 where
   pub bytes : List ℕ
   pub rest : List ℕ
@@ -182,18 +182,18 @@ pub record Holds (input : List ℕ) (p : Part) (x : Piece) : Type 0 where
 -- so it is of each part, and there are as many parts on either side
 abbrev pub HoldEach : List ℕ → List Part → List Piece → Type 0
 HoldEach input [] [] = Unit {0}
-HoldEach input (p ∷ parts) (x ∷ pieces) = Holds input p x × HoldEach input parts pieces
-HoldEach input [] (x ∷ pieces) = ⊥
+HoldEach input (p ∷ parts) (x ∷ geometry_pieces) = Holds input p x × HoldEach input parts geometry_pieces
+HoldEach input [] (x ∷ geometry_pieces) = ⊥
 HoldEach input (p ∷ parts) [] = ⊥
 
--- the table of the parts of the geometry at the front of the input was written: where their bytes and words stand
+-- the table of the parts of the geometry at the front of the input was written: where their bytes and words are
 pub record IsTable (input : List ℕ) (before after : List Part) (count : ℕ) : Type 0 where
   pub s : Spelling
   pub t : Value
   pub rest : List ℕ
   pub front : Front input s t rest
-  pub held : IsHeld (entries 0 0 s t) before after count
-  pub parts : HoldEach input (entries 0 0 s t) (pieces s t)
+  pub held : IsHeld (geometry_entries 0 0 s t) before after count
+  pub parts : HoldEach input (geometry_entries 0 0 s t) (geometry_pieces s t)
   pub many : count ≡ suc (member_count t)
 
 -- the table has no room: there are as many parts as members, and one
@@ -205,7 +205,7 @@ pub record LacksEntries (input : List ℕ) (before : List Part) (count : ℕ) : 
   pub many : count ≡ suc (member_count t)
   pub short : length before < count
 
--- the input begins with a geometry that has so many parts
+-- the input begins with a geometry that has this many parts
 pub record HasParts (input : List ℕ) (many : ℕ) : Type 0 where
   pub s : Spelling
   pub t : Value
@@ -213,11 +213,11 @@ pub record HasParts (input : List ℕ) (many : ℕ) : Type 0 where
   pub front : Front input s t rest
   pub many_are : many ≡ suc (member_count t)
 
--- these are the entries of the geometry that the input begins with, and tell where its parts' bytes and words stand
+-- these are the entries of the geometry that the input begins with: where the bytes and words of its parts are
 pub record HasTable (input : List ℕ) (parts : List Part) : Type 0 where
   pub s : Spelling
   pub t : Value
   pub rest : List ℕ
   pub front : Front input s t rest
-  pub parts_are : parts ≡ entries 0 0 s t
-  pub hold : HoldEach input (entries 0 0 s t) (pieces s t)
+  pub parts_are : parts ≡ geometry_entries 0 0 s t
+  pub hold : HoldEach input (geometry_entries 0 0 s t) (geometry_pieces s t)

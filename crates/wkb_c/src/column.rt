@@ -22,7 +22,7 @@ pub struct Column<'a> {
     pub offsets: &'a [u8],
     /// The bytes of an offset, which are 4 or 8.
     pub offset_size: usize,
-    /// A bit a row, from the lowest of the first byte on, 0 for a null row. A row without a bit isn't null.
+    /// A bit a row, from the lowest bit of the first byte on: 0 for a null row. A row without a bit isn't null.
     pub validity: &'a [u8],
     /// The bit of the first row.
     pub validity_offset: usize,
@@ -37,7 +37,7 @@ impl<'a> Model for Column<'a> {
 }
 
 impl<'a> Column<'a> {
-    /// The bytes of the row of this number, or the status of a row without bytes.
+    /// The bytes of row i, or the status of a row without bytes.
     pub fn row(&self, i: usize) -> Result<&'a [u8], u32>
         requires { i < 2 ^ 63 }
         ensures row { IfOk result (λ row. IsRow self.now i row.now) }
@@ -54,7 +54,7 @@ impl<'a> Column<'a> {
     }
 }
 
-/// Whether bit `first + i` of a bitmap is 0. A bit past its end isn't.
+/// Whether bit `first + i` of a bitmap is 0. A bit past the end of the bitmap isn't.
 fn is_unset(bitmap: &[u8], first: usize, i: usize) -> bool
     ensures { result ≡ is_unset_bit bitmap.now (first + i) }
 {
@@ -66,7 +66,7 @@ fn is_unset(bitmap: &[u8], first: usize, i: usize) -> bool
     }
 }
 
-/// Offset i of four bytes, where there is one that isn't negative.
+/// Offset i of four bytes, if there is one that isn't negative.
 fn offset_of_four(offsets: &[u8], i: usize) -> Option<u64>
     ensures some { IfSome result (λ n. IsOffset offsets.now 4 i n) }
     ensures none { IfNone result (HasNoOffset offsets.now 4 i) }
@@ -81,7 +81,7 @@ fn offset_of_four(offsets: &[u8], i: usize) -> Option<u64>
     Some(n as u64)
 }
 
-/// Offset i of eight bytes, where there is one that isn't negative.
+/// Offset i of eight bytes, if there is one that isn't negative.
 fn offset_of_eight(offsets: &[u8], i: usize) -> Option<u64>
     ensures some { IfSome result (λ n. IsOffset offsets.now 8 i n) }
     ensures none { IfNone result (HasNoOffset offsets.now 8 i) }
@@ -96,7 +96,7 @@ fn offset_of_eight(offsets: &[u8], i: usize) -> Option<u64>
     Some(n)
 }
 
-/// Offset i of this many bytes, where there is one that isn't negative.
+/// Offset i of `size` bytes, if there is one that isn't negative.
 fn offset(offsets: &[u8], size: usize, i: usize) -> Option<u64>
     ensures some { IfSome result (λ n. IsOffset offsets.now size i n) }
     ensures none { IfNone result (HasNoOffset offsets.now size i) }
@@ -108,7 +108,7 @@ fn offset(offsets: &[u8], size: usize, i: usize) -> Option<u64>
     }
 }
 
-/// The bytes from offset i up to the next one.
+/// The bytes from offset i up to the next one, if these don't decrease or pass the end of the bytes.
 fn slice_of_row<'a>(bytes: &'a [u8], offsets: &[u8], size: usize, i: usize) -> Option<&'a [u8]>
     requires { i < 2 ^ 63 }
     ensures some { IfSome result (λ row. IsRowSlice bytes.now offsets.now size i row.now) }
@@ -122,7 +122,7 @@ fn slice_of_row<'a>(bytes: &'a [u8], offsets: &[u8], size: usize, i: usize) -> O
     Some(&bytes[start as usize..end as usize])
 }
 
-/// What stands at the front of a row, or the status of its refusal.
+/// The geometry at the front of a row, or the status of its refusal.
 pub fn check_row(row: &[u8]) -> Result<Summary, u32>
     ensures accepted { IfOk result (λ found. DescribesFront row.now found) }
     ensures refused { IfErr result (λ status. IsRefusedWith row.now status) }
@@ -146,7 +146,7 @@ fn status_of_bytes(row: &[u8]) -> u32
     }
 }
 
-/// The status of the row of this number.
+/// The status of row i.
 fn status_of_row(column: &Column, i: usize) -> u32
     requires { i < 2 ^ 63 }
     ensures status { IsStatusOfRow column.now i result }

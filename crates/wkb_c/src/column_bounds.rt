@@ -1,8 +1,8 @@
 //! The bounds of a column's rows.
 
-ghost use Rattle.std.specs.Prelude.{◌≡◌, ◌<◌, ◌≤◌, ◌^◌, length, min};
+ghost use Rattle.std.specs.Prelude.{◌≡◌, ◌<◌, ◌≤◌, ◌^◌, length};
 ghost use Rattle.wkb_c.specs.Boxes.{IsRowBox, AreRowBoxes};
-ghost use Rattle.wkb_c.specs.RowItems.{KeepsFrom};
+ghost use Rattle.wkb_c.specs.RowItems.{KeepsFrom, rows_of};
 
 use crate::bounds::bounds_input;
 use crate::column::Column;
@@ -10,7 +10,7 @@ use crate::fault::NO_FAULT;
 use crate::status::{BAD_OFFSETS, OK};
 use wkb_check::Bounds;
 
-/// The status of the row of this number, and its bounds.
+/// The status of row i, and its bounds.
 fn bounds_of_row(column: &Column, i: usize) -> (u32, Bounds)
     requires { i < 2 ^ 63 }
     ensures row { IsRowBox column.now i result.0 result.1 }
@@ -29,12 +29,9 @@ fn bounds_of_row(column: &Column, i: usize) -> (u32, Bounds)
 
 /// Writes the status and the bounds of each row.
 pub fn bound_rows(column: &Column, boxes: &mut [Bounds], statuses: &mut [u8])
-    ensures each { AreRowBoxes column.now (min (length statuses.old) (length boxes.old))
-        statuses.new boxes.new }
-    ensures statuses_kept { KeepsFrom (min (length statuses.old) (length boxes.old))
-        statuses.old statuses.new }
-    ensures boxes_kept { KeepsFrom (min (length statuses.old) (length boxes.old))
-        boxes.old boxes.new }
+    ensures each { AreRowBoxes column.now (rows_of statuses.old boxes.old) statuses.new boxes.new }
+    ensures statuses_kept { KeepsFrom (rows_of statuses.old boxes.old) statuses.old statuses.new }
+    ensures boxes_kept { KeepsFrom (rows_of statuses.old boxes.old) boxes.old boxes.new }
     ensures as_many { length statuses.new ≡ length statuses.old }
     ensures as_many_boxes { length boxes.new ≡ length boxes.old }
 {

@@ -1,7 +1,8 @@
-//! What the rows of a column hand out one after another: tables of parts, or encodings.
+//! What the rows of a column write one after another: tables of parts, or encodings.
 
 ghost use Rattle.std.specs.Prelude.{◌≡◌, ◌≤◌, ◌<◌, ◌^◌, length};
-ghost use Rattle.wkb_c.specs.RowItems.{AreRowAnswers, IsRowStep, KeepsBehind, KeepsFrom, rows_of};
+ghost use Rattle.wkb_c.specs.RowItems.{AreTables, AreEncodings, IsRowStep, KeepsAfter, KeepsFrom};
+ghost use Rattle.wkb_c.specs.RowItems.{rows_of};
 ghost use Rattle.wkb_c.specs.Statuses.{FailsToList};
 ghost use Rattle.wkb_c.specs.Tables.{HasTable};
 ghost use Rattle.wkb_c.specs.Writings.{HasEncoding, FailsToWrite};
@@ -13,7 +14,7 @@ use crate::parts::{Part, list_parts};
 use crate::status::{BAD_OFFSETS, UNKNOWN_OPTION};
 use std::alloc::Global;
 
-/// Lists the parts of the row of this number from an index on: its status, and how many there are.
+/// Lists the parts of row i from an index on. Returns its status, and how many parts it has.
 fn list_row(alloc: Global, column: &Column, i: usize, parts: &mut [Part], start: u64) -> (u32, u64)
     requires { i < 2 ^ 63 }
     ensures step { IsRowStep HasTable FailsToList column.now i result.0 result.1 start parts.old parts.new }
@@ -33,7 +34,7 @@ fn list_row(alloc: Global, column: &Column, i: usize, parts: &mut [Part], start:
     (status, count)
 }
 
-/// Writes the encoding of the row of this number from an index on: its status, and how long it is.
+/// Writes the encoding of row i from an index on. Returns its status, and how long its encoding is.
 fn write_row(
     alloc: Global,
     column: &Column,
@@ -71,9 +72,8 @@ pub fn list_rows(
     ends: &mut [u64],
     statuses: &mut [u8],
 )
-    ensures each { AreRowAnswers HasTable FailsToList column.now (rows_of statuses.old ends.old)
-        statuses.new ends.new parts.new }
-    ensures parts_kept { KeepsBehind (rows_of statuses.old ends.old) statuses.new ends.new
+    ensures each { AreTables column.now statuses.new ends.new parts.new }
+    ensures parts_kept { KeepsAfter (rows_of statuses.old ends.old) statuses.new ends.new
         parts.old parts.new }
     ensures statuses_kept { KeepsFrom (rows_of statuses.old ends.old) statuses.old statuses.new }
     ensures ends_kept { KeepsFrom (rows_of statuses.old ends.old) ends.old ends.new }
@@ -98,9 +98,8 @@ pub fn write_rows(
     ends: &mut [u64],
     statuses: &mut [u8],
 )
-    ensures each { AreRowAnswers (HasEncoding options.now) (FailsToWrite options.now) column.now
-        (rows_of statuses.old ends.old) statuses.new ends.new out.new }
-    ensures out_kept { KeepsBehind (rows_of statuses.old ends.old) statuses.new ends.new
+    ensures each { AreEncodings options.now column.now statuses.new ends.new out.new }
+    ensures out_kept { KeepsAfter (rows_of statuses.old ends.old) statuses.new ends.new
         out.old out.new }
     ensures statuses_kept { KeepsFrom (rows_of statuses.old ends.old) statuses.old statuses.new }
     ensures ends_kept { KeepsFrom (rows_of statuses.old ends.old) ends.old ends.new }

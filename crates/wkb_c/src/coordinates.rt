@@ -8,7 +8,8 @@ ghost use Rattle.wkb_geom.specs.Numbers.{number};
 ghost use Rattle.wkb.specs.Canonical.{IsAccepted};
 ghost use Rattle.wkb_c.specs.Coordinates.{dimension_named, order_named, z_of, m_of, words_asked};
 ghost use Rattle.wkb_c.specs.Coordinates.{ring_words, count_on_level, level_counts, table_words, ends};
-ghost use Rattle.wkb_c.specs.Coordinates.{HasRoomUpTo, IsTablePut, levels};
+ghost use Rattle.wkb_c.specs.Coordinates.{HasRoomUpTo, levels};
+ghost use Rattle.wkb_c.specs.RowTables.{PutsRow};
 ghost use Rattle.wkb_c.specs.Coordinates.{FitsRow, FitEach, HasCoordinates, LacksCoordinates};
 ghost use Rattle.wkb_c.specs.Tables.{HasTable, HasParts};
 
@@ -20,7 +21,7 @@ use std::alloc::{AllocError, Global};
 use wkb::Endianness;
 use wkb::reader::Dimension;
 use wkb_geom::code::POLYGON;
-use wkb_geom::words::{EMPTY_WORD, WORD, u64_at};
+use wkb_geom::words::{EMPTY_WORD, WORD_SIZE, u64_at};
 
 /// How many coordinates, rings and singles some rows have.
 #[repr(C)]
@@ -99,9 +100,9 @@ fn z_word(row: &[u8], from: usize, order: Endianness, own: Dimension) -> u64
 {
     match own {
         Dimension::Xy => EMPTY_WORD,
-        Dimension::Xyz => u64_at(row, from + 2 * WORD, order),
+        Dimension::Xyz => u64_at(row, from + 2 * WORD_SIZE, order),
         Dimension::Xym => EMPTY_WORD,
-        Dimension::Xyzm => u64_at(row, from + 2 * WORD, order),
+        Dimension::Xyzm => u64_at(row, from + 2 * WORD_SIZE, order),
     }
 }
 
@@ -114,12 +115,12 @@ fn m_word(row: &[u8], from: usize, order: Endianness, own: Dimension) -> u64
     match own {
         Dimension::Xy => EMPTY_WORD,
         Dimension::Xyz => EMPTY_WORD,
-        Dimension::Xym => u64_at(row, from + 2 * WORD, order),
-        Dimension::Xyzm => u64_at(row, from + 3 * WORD, order),
+        Dimension::Xym => u64_at(row, from + 2 * WORD_SIZE, order),
+        Dimension::Xyzm => u64_at(row, from + 3 * WORD_SIZE, order),
     }
 }
 
-/// How many of the parts there are at a level, and how many of the next level these have.
+/// How many of the parts are at a level, and how many items of the next level these have.
 fn measure(parts: &[Part], level: Level) -> (u64, u64)
     requires { sum (level_counts level parts.now) < 2 ^ 64 }
     ensures many { result.0 ≡ length (level_counts level parts.now) }
@@ -136,7 +137,7 @@ fn measure(parts: &[Part], level: Level) -> (u64, u64)
     (many, inside)
 }
 
-/// Writes where each part ends that there is at a level, counted in the next one.
+/// Writes where each part of a level ends, counted in items of the next level.
 fn put_ends(parts: &[Part], level: Level, start: u64, out: &mut [u64], from: usize)
     requires fits { start + sum (level_counts level parts.now) < 2 ^ 63 }
     requires room { from + length (level_counts level parts.now) ≤ length out.old }
@@ -170,7 +171,7 @@ fn put_coordinate(
         (words_asked asked own (λ n. number order 8 (drop (from + 8 * n) row.now))) }
 {
     out[at] = u64_at(row, from, order);
-    out[at + 1] = u64_at(row, from + WORD, order);
+    out[at + 1] = u64_at(row, from + WORD_SIZE, order);
     match asked {
         Dimension::Xy => {}
         Dimension::Xyz => out[at + 2] = z_word(row, from, order, own),
@@ -194,7 +195,7 @@ fn put_ring(row: &[u8], part: &Part, count: u64, asked: Dimension, out: &mut [u6
     let mut at = start;
     for i in 0..count as usize {
         put_coordinate(row, from, order, own, asked, out, at);
-        from += WORD * own.width();
+        from += WORD_SIZE * own.width();
         at += asked.width();
     }
 }
@@ -222,7 +223,7 @@ pub struct RowParts<'a> {
     asked: Dimension,
 }
 
-/// The table of bytes that the check accepts, of which there are so many entries.
+/// The table of bytes that the check accepts, which has `many` entries.
 fn row_table(alloc: Global, row: &[u8], many: usize) -> Result<Vec<Part>, AllocError>
     requires { HasParts row.now many }
     ensures table { IfOk result (λ parts. HasTable row.now parts.items) }
@@ -232,7 +233,7 @@ fn row_table(alloc: Global, row: &[u8], many: usize) -> Result<Vec<Part>, AllocE
     table_of(alloc, &wkb, many)
 }
 
-/// The parts of the row of this number, or the status of a row without coordinates.
+/// The parts of row i, or the status of a row without coordinates.
 pub fn row_parts<'a>(
     alloc: Global,
     column: &Column<'a>,
@@ -263,7 +264,7 @@ pub fn row_parts<'a>(
     }
 }
 
-/// Whether there is room for the words, the rings and the singles up to these totals.
+/// Whether there is room for words, rings and singles up to these totals.
 fn has_room(to: &Totals, asked: Dimension, words: usize, rings: usize, singles: usize) -> bool
     ensures yes { IsTrue result → HasRoomUpTo asked words rings singles to.now }
     ensures no { result ≡ false → HasRoomUpTo asked words rings singles to.now → ⊥ }
@@ -277,7 +278,7 @@ fn has_room(to: &Totals, asked: Dimension, words: usize, rings: usize, singles: 
     to.singles <= singles as u64
 }
 
-/// Writes the levels of a row, which begin at the totals, and moves these to their end. Without room it only moves the
+/// Writes the levels of a row from the totals on, and moves the totals to their end. Without room it only moves the
 /// totals.
 pub fn put_row(
     row: &RowParts<'_>,
@@ -288,7 +289,7 @@ pub fn put_row(
 ) -> u32
     requires table { HasTable row.now.row.now row.now.parts.items }
     requires short { length row.now.row.now < 2 ^ 63 }
-    ensures put { IsTablePut row.now.asked row.now.row.now row.now.parts.items result at.old at.new
+    ensures put { PutsRow row.now result at.old at.new
         (levels words.old ring_ends.old single_ends.old)
         (levels words.new ring_ends.new single_ends.new) }
     ensures known { result ≤ BAD_OFFSETS }

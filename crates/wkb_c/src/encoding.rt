@@ -1,25 +1,25 @@
 //! Reading what was checked, and writing the encoding that is asked for of it.
 
-ghost use Rattle.std.specs.Prelude.{◌≡◌, ◌≢◌, ◌⊎◌, ◌≤◌, ◌+◌, Ok, None, IfOk, length};
+ghost use Rattle.std.specs.Prelude.{◌≡◌, ◌≢◌, ◌⊎◌, ◌≤◌, ◌+◌, Ok, None, IfOk, IfErr, length};
 ghost use Rattle.wkb_geom.specs.Encodings.{IsForm};
 ghost use Rattle.wkb_geom.specs.Errors.{IsMemory};
 ghost use Rattle.wkb_geom.specs.Geometries.{geometry_of, IsGeometry};
-ghost use Rattle.wkb_read.specs.Public.{Reads};
+ghost use Rattle.wkb_read.specs.Reads.{Reads};
 ghost use Rattle.wkb_write.specs.Answers.{encoding_of, refusal_of};
 ghost use Rattle.wkb.specs.Canonical.{IsAccepted};
 ghost use Rattle.wkb_c.specs.Requests.{options_for};
+ghost use Rattle.wkb_c.specs.Room.{IsHeld, Exceeds};
 ghost use Rattle.wkb_c.specs.Writings.{IsHandedOut, FindsNoRoom};
 
 use crate::options::Request;
-use crate::room::hand_out;
 use crate::status::{NO_MEMORY, NO_ROOM, OK};
 use std::alloc::{AllocError, Global};
 use wkb::error::WkbError;
 use wkb::reader::{Wkb, read_wkb};
-use wkb::writer::{Form, WriteOptions, geometry_wkb_size_with, to_vec};
+use wkb::writer::{Form, WriteOptions, geometry_wkb_size_with, write_to_slice};
 
-/// The want of memory that an error tells.
-fn want_of_memory(error: WkbError) -> AllocError
+/// The allocation failure that an error reports.
+fn allocation_failure(error: WkbError) -> AllocError
     requires { IsMemory error }
 {
     match error {
@@ -28,14 +28,14 @@ fn want_of_memory(error: WkbError) -> AllocError
     }
 }
 
-/// Reads the geometry at the front of bytes that the check accepts. Memory alone can be wanting.
+/// Reads the geometry at the front of bytes that the check accepts. Only an allocation can fail.
 pub fn read_checked<'a>(alloc: Global, buf: &'a [u8]) -> Result<Wkb<'a>, AllocError>
     requires { IsAccepted buf.now }
     ensures { IfOk result (λ w. Reads buf.now (Ok w)) }
 {
     match read_wkb(alloc, buf) {
         Ok(wkb) => Ok(wkb),
-        Err(e) => Err(want_of_memory(e)),
+        Err(e) => Err(allocation_failure(e)),
     }
 }
 
@@ -53,7 +53,7 @@ fn options_of(request: Request, srid: Option<u32>) -> WriteOptions
     }
 }
 
-/// How long the encoding of a geometry is that can be written.
+/// The size of the encoding of a geometry that can be written.
 fn encoded_size(wkb: &Wkb<'_>, options: &WriteOptions) -> usize
     requires lawful { IsGeometry (geometry_of wkb.now.value) }
     requires writable { refusal_of options.now (geometry_of wkb.now.value) ≡ None }
@@ -65,20 +65,25 @@ fn encoded_size(wkb: &Wkb<'_>, options: &WriteOptions) -> usize
     }
 }
 
-/// The encoding of a geometry that can be written. Memory alone can be wanting.
-fn encoded(alloc: Global, wkb: &Wkb<'_>, options: &WriteOptions) -> Result<Vec<u8>, AllocError>
+/// Puts the encoding of a geometry that can be written at the front of a slice. Returns its size, which is the error where
+/// the slice is too short.
+fn put_encoding(wkb: &Wkb<'_>, options: &WriteOptions, out: &mut [u8]) -> Result<usize, usize>
     requires lawful { IsGeometry (geometry_of wkb.now.value) }
     requires writable { refusal_of options.now (geometry_of wkb.now.value) ≡ None }
-    ensures { IfOk result (λ out. out.items ≡ encoding_of options.now (geometry_of wkb.now.value)) }
+    ensures held { IfOk result
+        (λ n. IsHeld (encoding_of options.now (geometry_of wkb.now.value)) out.old out.new n) }
+    ensures lacks { IfErr result
+        (λ n. Exceeds (encoding_of options.now (geometry_of wkb.now.value)) out.old n) }
+    ensures kept { IfErr result (λ _. out.new ≡ out.old) }
 {
-    match to_vec(alloc, wkb, options) {
-        Ok(encoding) => Ok(encoding),
-        Err(e) => Err(want_of_memory(e)),
+    match write_to_slice(wkb, options, out) {
+        Ok(size) => Ok(size),
+        Err(_short) => Err(encoded_size(wkb, options)),
     }
 }
 
-/// Writes the encoding that is asked for of the geometry at the front of bytes that the check accepts, and tells its
-/// length. Without room the encoding is not composed.
+/// Writes the encoding that is asked for of the geometry at the front of bytes that the check accepts, and reports its
+/// length. Without room nothing is written.
 pub fn write_requested(
     alloc: Global,
     buf: &[u8],
@@ -100,13 +105,14 @@ pub fn write_requested(
         Err(_) => return NO_MEMORY,
     };
     let options = options_of(request, wkb.srid());
-    let wanted = encoded_size(&wkb, &options);
-    if out.len() < wanted {
-        *size = wanted as u64;
-        return NO_ROOM;
-    }
-    match encoded(alloc, &wkb, &options) {
-        Ok(encoding) => hand_out(encoding.as_slice(), out, size),
-        Err(_) => NO_MEMORY,
+    match put_encoding(&wkb, &options, out) {
+        Ok(written) => {
+            *size = written as u64;
+            OK
+        }
+        Err(wanted) => {
+            *size = wanted as u64;
+            NO_ROOM
+        }
     }
 }

@@ -1,10 +1,9 @@
-//! What is told of the geometry at the front of some bytes.
+//! What `wkb_check` reports of the geometry at the front of some bytes.
 
-ghost use Rattle.std.specs.Prelude.{◌≡◌, ℕ, List};
+ghost use Rattle.std.specs.Prelude.{◌≡◌};
 ghost use Rattle.wkb_geom.specs.Codes.{thousands};
 ghost use Rattle.wkb_geom.specs.Dimensions.{width};
-ghost use Rattle.wkb_check.specs.Public.{DescribesFront};
-ghost use Rattle.wkb_c.specs.Checks.{IsFound};
+ghost use Rattle.wkb_c.specs.Checks.{numbers_of};
 
 use wkb::reader::Dimension;
 use wkb_check::Summary;
@@ -29,7 +28,7 @@ pub struct Found {
     pub dimension: u32,
     /// The words of a coordinate.
     pub width: u32,
-    /// The byte that tells its order.
+    /// The byte of its order.
     pub order: u32,
 }
 
@@ -53,9 +52,9 @@ pub fn width_number(dimension: Dimension) -> u32
     dimension.width() as u32
 }
 
-/// What is told of what the check found.
+/// What the check found, by its numbers.
 pub fn found_of(summary: &Summary) -> Found
-    ensures { (input : List ℕ) → DescribesFront input summary.now → IsFound input result }
+    ensures { result ≡ numbers_of summary.now }
 {
     let dimension = summary.wkb_type.dimension();
     Found {

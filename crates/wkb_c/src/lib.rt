@@ -18,18 +18,17 @@ mod room;
 mod status;
 
 ghost use Rattle.std.specs.Prelude.{◌≡◌, ◌≢◌, ◌≤◌, ◌<◌, ◌+◌, ◌⊎◌, ◌↔◌, None, length};
-ghost use Rattle.std.specs.Prelude.{min};
 ghost use Rattle.wkb.specs.Canonical.{IsAccepted};
 ghost use Rattle.wkb_check.specs.Bounded.{BoundsFront};
 ghost use Rattle.wkb_c.specs.Boxes.{AreRowBoxes};
 ghost use Rattle.wkb_c.specs.Checks.{IsFound};
 ghost use Rattle.wkb_c.specs.Columns.{column as column_of, AreStatuses};
-ghost use Rattle.wkb_c.specs.Coordinates.{AreColumnCoordinates, levels};
+ghost use Rattle.wkb_c.specs.Coordinates.{AreLevels, levels};
 ghost use Rattle.wkb_c.specs.Requests.{request_of};
-ghost use Rattle.wkb_c.specs.RowItems.{AreRowAnswers, KeepsBehind, KeepsFrom, rows_of};
-ghost use Rattle.wkb_c.specs.Statuses.{IsFault, IsRefusedInTurn, IsComparison, FailsToList};
-ghost use Rattle.wkb_c.specs.Tables.{IsTable, LacksEntries, HasTable};
-ghost use Rattle.wkb_c.specs.Writings.{IsWritten, WantsRoom, HasEncoding, FailsToWrite};
+ghost use Rattle.wkb_c.specs.RowItems.{AreTables, AreEncodings, KeepsAfter, KeepsFrom, rows_of};
+ghost use Rattle.wkb_c.specs.Statuses.{IsFault, IsRefusedInTurn, IsComparison};
+ghost use Rattle.wkb_c.specs.Tables.{IsTable, LacksEntries};
+ghost use Rattle.wkb_c.specs.Writings.{WritesEncoding, WantsRoom};
 
 use bounds::bounds_input;
 use column::{Column, check_rows};
@@ -49,7 +48,8 @@ use wkb_check::{Bounds, check_plain};
 
 /// Whether a geometry is at the front of the bytes. It allocates nothing.
 ///
-/// `OK`, and what was found; or the status of the one refusal, and its numbers.
+/// Returns `OK` and what was found, or the status of the one refusal and its numbers.
+#[tactic(auto, using(crate::proofs::Telling::numbers_found))]
 #[unsafe(no_mangle)]
 pub extern "C" fn wkb_raw_check(buf: &[u8], found: &mut Found, fault: &mut WkbFault) -> u32
     ensures accepted { result ≡ OK → IsFound buf.now found.new }
@@ -69,7 +69,8 @@ pub extern "C" fn wkb_raw_check(buf: &[u8], found: &mut Found, fault: &mut WkbFa
 
 /// Checks any bytes by the long way, which collections and refused bytes need.
 ///
-/// It is never inlined, so that no other bytes pay for its frame.
+/// It isn't inlined, so that other bytes don't pay for its frame.
+#[tactic(auto, using(crate::proofs::Telling::numbers_found))]
 #[inline(never)]
 fn check_any(buf: &[u8], found: &mut Found, fault: &mut WkbFault) -> u32
     ensures accepted { result ≡ OK → IsFound buf.now found.new }
@@ -89,7 +90,7 @@ fn check_any(buf: &[u8], found: &mut Found, fault: &mut WkbFault) -> u32
 
 /// The bounds of the geometry at the front of the bytes. It allocates nothing.
 ///
-/// `OK`, and the bounds; or what `wkb_raw_check` returns.
+/// Returns `OK` and the bounds, or what `wkb_raw_check` returns.
 #[unsafe(no_mangle)]
 pub extern "C" fn wkb_raw_bounds(buf: &[u8], bounds: &mut Bounds, fault: &mut WkbFault) -> u32
     ensures accepted { result ≡ OK → BoundsFront buf.now bounds.new }
@@ -109,7 +110,7 @@ pub extern "C" fn wkb_raw_bounds(buf: &[u8], bounds: &mut Bounds, fault: &mut Wk
 
 /// Writes the encoding that the options ask for, and its length.
 ///
-/// `NO_ROOM` writes the length too, and nothing is composed. The options are looked at before the bytes. A refusal
+/// `NO_ROOM` writes the length too, but no encoding. The options are looked at before the bytes. A refusal
 /// leaves `out` unchanged.
 #[unsafe(no_mangle)]
 pub extern "C" fn wkb_raw_write(
@@ -120,7 +121,7 @@ pub extern "C" fn wkb_raw_write(
     size: &mut u64,
     fault: &mut WkbFault,
 ) -> u32
-    ensures written { result ≡ OK → IsWritten options.now buf.now out.old out.new size.new }
+    ensures written { result ≡ OK → WritesEncoding options.now buf.now out.old out.new size.new }
     ensures no_room { result ≡ NO_ROOM → WantsRoom options.now buf.now out.old size.new }
     ensures unknown { (result ≡ UNKNOWN_OPTION) ↔ (request_of options.now ≡ None) }
     ensures bound { (result ≡ OK) ⊎ (result ≡ NO_ROOM) → size.new ≤ length buf.now + 4 }
@@ -172,7 +173,7 @@ pub extern "C" fn wkb_raw_same(
             *equal = u32::from(answer);
             OK
         }
-        // Neither is refused, so memory was.
+        // Both inputs are accepted, so an allocation failed.
         Err(_memory) => NO_MEMORY,
     }
 }
@@ -248,11 +249,9 @@ pub extern "C" fn wkb_raw_column_bounds(
 )
     ensures each { AreRowBoxes
         (column_of bytes.now offsets.now offset_size validity.now validity_offset)
-        (min (length statuses.old) (length boxes.old)) statuses.new boxes.new }
-    ensures statuses_kept { KeepsFrom (min (length statuses.old) (length boxes.old))
-        statuses.old statuses.new }
-    ensures boxes_kept { KeepsFrom (min (length statuses.old) (length boxes.old))
-        boxes.old boxes.new }
+        (rows_of statuses.old boxes.old) statuses.new boxes.new }
+    ensures statuses_kept { KeepsFrom (rows_of statuses.old boxes.old) statuses.old statuses.new }
+    ensures boxes_kept { KeepsFrom (rows_of statuses.old boxes.old) boxes.old boxes.new }
     ensures as_many { length statuses.new ≡ length statuses.old }
     ensures as_many_boxes { length boxes.new ≡ length boxes.old }
 {
@@ -282,10 +281,10 @@ pub extern "C" fn wkb_raw_column_parts(
     ends: &mut [u64],
     statuses: &mut [u8],
 )
-    ensures each { AreRowAnswers HasTable FailsToList
+    ensures each { AreTables
         (column_of bytes.now offsets.now offset_size validity.now validity_offset)
-        (rows_of statuses.old ends.old) statuses.new ends.new parts.new }
-    ensures parts_kept { KeepsBehind (rows_of statuses.old ends.old) statuses.new ends.new
+        statuses.new ends.new parts.new }
+    ensures parts_kept { KeepsAfter (rows_of statuses.old ends.old) statuses.new ends.new
         parts.old parts.new }
     ensures statuses_kept { KeepsFrom (rows_of statuses.old ends.old) statuses.old statuses.new }
     ensures ends_kept { KeepsFrom (rows_of statuses.old ends.old) ends.old ends.new }
@@ -320,10 +319,10 @@ pub extern "C" fn wkb_raw_column_write(
     ends: &mut [u64],
     statuses: &mut [u8],
 )
-    ensures each { AreRowAnswers (HasEncoding options.now) (FailsToWrite options.now)
+    ensures each { AreEncodings options.now
         (column_of bytes.now offsets.now offset_size validity.now validity_offset)
-        (rows_of statuses.old ends.old) statuses.new ends.new out.new }
-    ensures out_kept { KeepsBehind (rows_of statuses.old ends.old) statuses.new ends.new
+        statuses.new ends.new out.new }
+    ensures out_kept { KeepsAfter (rows_of statuses.old ends.old) statuses.new ends.new
         out.old out.new }
     ensures statuses_kept { KeepsFrom (rows_of statuses.old ends.old) statuses.old statuses.new }
     ensures ends_kept { KeepsFrom (rows_of statuses.old ends.old) ends.old ends.new }
@@ -341,8 +340,7 @@ pub extern "C" fn wkb_raw_column_write(
 }
 
 /// Writes the coordinates of each row of a column after those of the rows before it, as far as there is room, in
-/// levels: a row has singles, a single has rings, a ring has coordinates. `totals` tells how many of each all rows
-/// have.
+/// levels: a row has singles, a single has rings, a ring has coordinates. `totals` is how many of each all rows have.
 ///
 /// The rows are those of `wkb_raw_column_check`. The words are those that `dimension` names. No row stops the others.
 #[unsafe(no_mangle)]
@@ -361,10 +359,9 @@ pub extern "C" fn wkb_raw_column_coordinates(
     totals: &mut Totals,
     statuses: &mut [u8],
 )
-    ensures each { AreColumnCoordinates
+    ensures each { AreLevels
         (column_of bytes.now offsets.now offset_size validity.now validity_offset) dimension
-        statuses.new row_ends.new (levels words.old ring_ends.old single_ends.old)
-        (rows_of statuses.old row_ends.old) totals.new
+        statuses.new row_ends.new totals.new (levels words.old ring_ends.old single_ends.old)
         (levels words.new ring_ends.new single_ends.new) }
     ensures statuses_kept { KeepsFrom (rows_of statuses.old row_ends.old) statuses.old statuses.new }
     ensures row_ends_kept { KeepsFrom (rows_of statuses.old row_ends.old) row_ends.old row_ends.new }

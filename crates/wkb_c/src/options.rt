@@ -1,4 +1,4 @@
-//! What encoding is asked for.
+//! Which encoding the options ask for.
 
 ghost use Rattle.std.specs.Prelude.{◌≡◌};
 ghost use Rattle.wkb_c.specs.Requests.{order_asked, request_of};
@@ -54,7 +54,7 @@ fn order(number: u32) -> Option<Endianness>
     }
 }
 
-/// What the options ask for, where their numbers mean something.
+/// What the options ask for, if their numbers mean something.
 pub fn requested(options: &Options) -> Option<Request>
     ensures { result ≡ request_of options.now }
 {

@@ -2,22 +2,19 @@
 
 ghost use Rattle.std.specs.Prelude.{◌≡◌, ◌≢◌, ◌⊎◌, ◌+◌, ◌*◌, ◌<◌, ◌^◌, [], ◌∷◌, length, slice_get};
 ghost use Rattle.std.specs.Prelude.{Some, IfOk};
-ghost use Rattle.wkb_geom.specs.Dimensions.{width as words, dimensions as trait_dimensions};
 ghost use Rattle.wkb_geom.specs.Reading.{spellings, values};
-ghost use Rattle.wkb_geom.specs.Refusals.{ring_end};
 ghost use Rattle.wkb_geom.specs.Values.{polygon as polygon_of};
 ghost use Rattle.wkb_geom.specs.Values.{multi_line_string as line_strings_of};
 ghost use Rattle.wkb_geom.specs.Values.{multi_polygon as polygons_of};
 ghost use Rattle.wkb_geom.specs.Stored.{whole_of};
-ghost use Rattle.wkb_geom.specs.Numbers.{order_byte};
 ghost use Rattle.wkb_view.specs.Coords.{ring_seen, ring_dimension, ring_order};
 ghost use Rattle.wkb_view.specs.Parts.{order_of};
 ghost use Rattle.wkb_view.specs.Views.{point_seen, line_string_seen, multi_point_seen};
-ghost use Rattle.wkb_c.specs.Tables.{entries, ring_entries, size_of_rings, size, sizes, IsTable};
+ghost use Rattle.wkb_c.specs.Tables.{geometry_entries, size_of_rings, size, sizes, IsTable};
 ghost use Rattle.wkb_c.specs.Tables.{LacksEntries, HasParts};
-ghost use Rattle.wkb_c.specs.Growing.{Grows, ListsItem, ListsMembers, ListsMembersOf, HasMembers};
-ghost use Rattle.wkb_c.specs.Growing.{FitsTable, MembersFitTable, SpellSome, IsHeadOf, OpensPart};
-ghost use Rattle.wkb_c.specs.Growing.{Closes, added_entry};
+ghost use Rattle.wkb_c.specs.Growing.{AddsEntry, ListsItem, ListsMembers, ListsMembersOf};
+ghost use Rattle.wkb_c.specs.Growing.{ListsRing, ListsRings, HasMembers, OpensPart, Closes};
+ghost use Rattle.wkb_c.specs.Growing.{FitsTable, FitsRing, MembersFitTable, SpellSome, IsHeadOf};
 
 use crate::encoding::read_checked;
 use crate::found::{dimension_number, width_number};
@@ -34,9 +31,9 @@ use wkb::reader::{
 };
 use wkb_geom::Header;
 use wkb_geom::code::POINT;
-use wkb_geom::words::COUNT;
+use wkb_geom::words::COUNT_SIZE;
 
-/// A geometry, or a ring of a polygon. It has no padding.
+/// A geometry, or a ring of a polygon. The struct has no padding.
 #[repr(C)]
 #[derive(Clone, Copy)]
 pub struct Part {
@@ -60,7 +57,7 @@ pub struct Part {
     pub dimension: u32,
     /// The words of a coordinate.
     pub width: u32,
-    /// The byte that tells its order.
+    /// The byte of its order.
     pub order: u32,
 }
 
@@ -71,7 +68,7 @@ pub struct Table {
     pub at: u64,
 }
 
-/// What is before a part's coordinates, rings or members.
+/// The head of a part: what comes before its coordinates, rings or members.
 #[derive(Clone, Copy)]
 pub struct PartHead {
     pub kind: u32,
@@ -85,15 +82,15 @@ pub struct PartHead {
 /// The number of a ring among the kinds.
 pub const RING: u32 = 0;
 
-/// The bytes of the count of a geometry of this kind: a point has none.
+/// The bytes of the count of a geometry of this kind. A point has none.
 fn count_size(kind: u32) -> usize
     ensures point { kind ≡ POINT → result ≡ 0 }
-    ensures other { kind ≢ POINT → result ≡ COUNT }
+    ensures other { kind ≢ POINT → result ≡ COUNT_SIZE }
 {
-    if kind == POINT { 0 } else { COUNT }
+    if kind == POINT { 0 } else { COUNT_SIZE }
 }
 
-/// What is before the coordinates, rings or members of the geometry that these bytes spell.
+/// The head of the geometry that these bytes spell.
 fn head_of(buf: &[u8]) -> PartHead
     requires { SpellSome buf.now }
     ensures { IsHeadOf buf.now result }
@@ -110,14 +107,12 @@ fn head_of(buf: &[u8]) -> PartHead
     }
 }
 
-/// Adds a part of so many coordinates, rings or members, and passes over its head and coordinates.
+/// Adds a part with `count` coordinates, rings or members, and passes over its head and `coordinates` bytes.
 ///
-/// A part that has rings or members is open until `close`.
+/// A part with rings or members is open until `close`.
 fn add(table: &mut Table, head: PartHead, count: u64, coordinates: u64) -> Result<(), AllocError>
     requires fits { table.old.at + head.leading + coordinates < 2 ^ 63 }
-    ensures { IfOk result (λ done. Grows table.old table.new
-        (added_entry (length table.old.parts.items) table.old.at head coordinates count ∷ [])
-        (head.leading + coordinates)) }
+    ensures { IfOk result (λ done. AddsEntry table.old table.new head coordinates count) }
 {
     let begin = table.at;
     let offset = begin + head.leading;
@@ -174,19 +169,15 @@ fn add_line_string(table: &mut Table, line: &LineString<'_>) -> Result<(), Alloc
 }
 
 fn add_ring(table: &mut Table, ring: &LinearRing<'_>) -> Result<(), AllocError>
-    requires fits { table.old.at + ring_end (ring_dimension ring.now) (length (ring_seen ring.now))
-        < 2 ^ 63 }
-    ensures { IfOk result (λ done. Grows table.old table.new
-        (ring_entries (ring_dimension ring.now) (order_byte (ring_order ring.now))
-        (length table.old.parts.items) table.old.at (ring_seen ring.now ∷ []))
-        (ring_end (ring_dimension ring.now) (length (ring_seen ring.now)))) }
+    requires fits { FitsRing table.old ring.now }
+    ensures { IfOk result (λ done. ListsRing table.old table.new ring.now) }
 {
     let head = PartHead {
         kind: RING,
         dimension: ring.dimension(),
         srid: None,
         order: ring.byte_order().into(),
-        leading: COUNT as u64,
+        leading: COUNT_SIZE as u64,
     };
     let count = ring.num_coords() as u64;
     add(
@@ -208,12 +199,11 @@ fn count_rings(polygon: &Polygon<'_>) -> usize
     }
 }
 
-/// The ring of this number, of which the exterior is the first.
+/// Ring i. The exterior is the first.
 fn polygon_ring<'a>(polygon: &Polygon<'a>, i: usize) -> LinearRing<'a>
     requires { i < length polygon.now.parts }
     ensures part { slice_get polygon.now.parts i ≡ Some (ring_seen result) }
-    ensures dimension { trait_dimensions (ring_dimension result)
-        ≡ trait_dimensions polygon.now.dimension }
+    ensures dimension { ring_dimension result ≡ polygon.now.dimension }
     ensures order { ring_order result ≡ order_of polygon.now.spelled }
 {
     if i == 0 {
@@ -226,10 +216,8 @@ fn polygon_ring<'a>(polygon: &Polygon<'a>, i: usize) -> LinearRing<'a>
 /// Adds the rings of a polygon.
 fn add_rings(table: &mut Table, polygon: &Polygon<'_>) -> Result<(), AllocError>
     requires fits { table.old.at + size_of_rings polygon.now.dimension polygon.now.parts < 2 ^ 63 }
-    ensures { IfOk result (λ done. Grows table.old table.new
-        (ring_entries polygon.now.dimension (order_byte (order_of polygon.now.spelled))
-        (length table.old.parts.items) table.old.at polygon.now.parts)
-        (size_of_rings polygon.now.dimension polygon.now.parts)) }
+    ensures { IfOk result (λ done. ListsRings table.old table.new polygon.now.dimension
+        (order_of polygon.now.spelled) polygon.now.parts) }
 {
     for i in 0..count_rings(polygon) {
         add_ring(table, &polygon_ring(polygon, i))?;
@@ -298,7 +286,7 @@ fn add_each_member(table: &mut Table, members: &[Wkb<'_>]) -> Result<(), AllocEr
     Ok(())
 }
 
-/// Adds a geometry that has members, of which there are so many, but not these.
+/// Adds a geometry that has `count` members, without its members.
 fn add_whole(table: &mut Table, wkb: &Wkb<'_>, count: usize) -> Result<(), AllocError>
     requires fits { FitsTable table.old wkb.now }
     requires holds { HasMembers wkb.now.value }
@@ -347,10 +335,10 @@ fn add_geometry(table: &mut Table, wkb: &Wkb<'_>) -> Result<(), AllocError>
     }
 }
 
-/// The parts of a geometry, of which there are so many.
+/// The parts of a geometry, which has `count` of them.
 pub fn table_of(alloc: Global, wkb: &Wkb<'_>, count: usize) -> Result<Vec<Part>, AllocError>
     requires fits { size wkb.now.spelled wkb.now.value < 2 ^ 63 }
-    ensures { IfOk result (λ parts. parts.items ≡ entries 0 0 wkb.now.spelled wkb.now.value) }
+    ensures { IfOk result (λ parts. parts.items ≡ geometry_entries 0 0 wkb.now.spelled wkb.now.value) }
 {
     let mut table = Table {
         parts: Vec::with_capacity(alloc, count)?,
@@ -360,8 +348,8 @@ pub fn table_of(alloc: Global, wkb: &Wkb<'_>, count: usize) -> Result<Vec<Part>,
     Ok(table.parts)
 }
 
-/// Lists the parts of the geometry at the front of bytes that the check accepts, of which there are so many. Without
-/// room nothing is read.
+/// Lists the parts of the geometry at the front of bytes that the check accepts, which has `many` of them. Without room
+/// nothing is read.
 pub fn list_parts(
     alloc: Global,
     buf: &[u8],

@@ -1,14 +1,14 @@
-//! What is handed out into a caller's slice.
+//! Writing into a caller's slice.
 
 ghost use Rattle.std.specs.Prelude.{◌≡◌, ◌≢◌, length};
-ghost use Rattle.wkb_c.specs.Room.{IsHeld, LacksRoom};
+ghost use Rattle.wkb_c.specs.Room.{IsHeld, Exceeds};
 
 use crate::status::{NO_ROOM, OK};
 
-/// Puts the items at the front of the slice where they have room there, and tells how many they are.
+/// Puts the items at the front of the slice if it has room for them, and reports how many there are.
 pub fn hand_out<T: Copy>(items: &[T], out: &mut [T], count: &mut u64) -> u32
     ensures held { result ≡ OK → IsHeld items.now out.old out.new count.new }
-    ensures no_room { result ≢ OK → (result ≡ NO_ROOM) × LacksRoom items.now out.old count.new }
+    ensures no_room { result ≢ OK → (result ≡ NO_ROOM) × Exceeds items.now out.old count.new }
     ensures told { count.new ≡ length items.now }
     ensures out_kept { result ≢ OK → out.new ≡ out.old }
 {

@@ -3,7 +3,7 @@
 /// The call did what it promises.
 pub const OK: u32 = 0;
 
-/// The allocator refused memory.
+/// An allocation failed.
 pub const NO_MEMORY: u32 = 1;
 
 /// A slice to write to is too short; the size, the count or the ends tell what is needed.

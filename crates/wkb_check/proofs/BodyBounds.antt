@@ -1,4 +1,4 @@
--- What stands behind the header of a geometry, and how the bounds take it up.
+-- What follows the header of a geometry, and how it is added to the bounds.
 use Rattle.std.proofs.Common.{◌≡◌, ℕ, zero, suc, ◌+◌, ◌*◌, ◌≤◌, List, [], ◌∷◌, ◌++◌, length, take, drop}
 use Rattle.std.proofs.Common.{Some, None, Ok, Err, Result, true, false, is_some, refl, sym, ap, ◌∙◌, subst, arith}
 use Rattle.std.proofs.Common.{length-append, append-nil, ◌&&◌}
@@ -7,14 +7,14 @@ use Rattle.std.proofs.lemmas.Bool.{cond-true}
 use Rattle.wkb_geom.specs.declared.code.WkbType.{WkbType}
 use Rattle.wkb_geom.specs.declared.code.WkbType.TheVariants as kinds
 use Rattle.wkb_geom.specs.Numbers.{is_nan}
-use Rattle.wkb_laws.specs.Words.{Cause, Endianness, Dimension, Head, Layout, number, all_nan, width, IsNumber, Begins}
-use Rattle.wkb_laws.specs.Words.{IsEach, Coordinate, Value, Values, point, line_string, polygon, multi_point}
-use Rattle.wkb_laws.specs.Words.{multi_line_string, multi_polygon, collection, no_members, member, each, count, members}
-use Rattle.wkb_laws.specs.Words.{kind, dimension, Spelling, node, Spellings, no_spellings, spelling}
-use Rattle.wkb_laws.specs.Words.{SpellsCoordinate, SpellsCoordinates, SpellsBody, Spells, SpellsEach, Wanted, any}
-use Rattle.wkb_laws.specs.Words.{member_part, ring_end, type_of, type_dimension, layout_of, body_start}
-use Rattle.wkb_laws.specs.Words.{coordinate, coordinates, ring_in, items}
-unfoldable use Rattle.wkb_laws.specs.Words.{head_at}
+use Rattle.wkb_laws.specs.Prelude.{Cause, Endianness, Dimension, Head, Layout, number, all_nan, width, IsNumber, Begins}
+use Rattle.wkb_laws.specs.Prelude.{IsEach, Coordinate, Value, Values, point, line_string, polygon, multi_point}
+use Rattle.wkb_laws.specs.Prelude.{multi_line_string, multi_polygon, collection, no_members, member, each, count, members}
+use Rattle.wkb_laws.specs.Prelude.{kind, dimension, Spelling, node, Spellings, no_spellings, spelling}
+use Rattle.wkb_laws.specs.Prelude.{SpellsCoordinate, SpellsCoordinates, SpellsBody, Spells, SpellsEach, Wanted, any}
+use Rattle.wkb_laws.specs.Prelude.{member_part, ring_end, type_of, type_dimension, layout_of, body_start}
+use Rattle.wkb_laws.specs.Prelude.{coordinate, coordinates, ring_in, items}
+unfoldable use Rattle.wkb_laws.specs.Prelude.{head_at}
 use Rattle.wkb_laws.proofs.Parts.{then_length, then_append, begins_number, number-front, drop_front, items_read}
 use Rattle.wkb_laws.proofs.Parts.{header_length}
 use Rattle.wkb_laws.proofs.Complete.{head_of, ring_read}
@@ -25,11 +25,11 @@ use Rattle.wkb_check.specs.declared.range.Bounds.{Bounds}
 use Rattle.wkb_check.specs.Ranges.{widened}
 use Rattle.wkb_check.specs.Ordinates.{Axis, axis_place, word_at, words_of_each, words_in, words_on, words_on_each}
 use Rattle.wkb_check.specs.Ordinates.{point_words_on}
-use Rattle.wkb_check.specs.Bounded.{on, Widens, HasRoom, AreWhole, rings_in, behind_rings}
+use Rattle.wkb_check.specs.Bounded.{on, Widens, HasRoom, AreWhole, rings_in, after_rings}
 use Rattle.wkb_check.specs.Bounded.{HasGeometry, HasGeometries, Scans}
 use Rattle.wkb_check.proofs.Public.{geometry_opens, one_head}
 
--- ---- behind a header
+-- ---- after a header
 
 wanted_by_any : (w : Wanted) (ss : Spellings) (ts : Values) (x : List ℕ) → SpellsEach w ss ts x → SpellsEach any ss ts x
 wanted_by_any w no_spellings no_members x h = h
@@ -44,7 +44,7 @@ wanted_by_any w (spelling s ss) (member t ts) x h =
 wanted_by_any w no_spellings (member t ts) x h = absurd h
 wanted_by_any w (spelling s ss) no_members x h = absurd h
 
--- what stands behind the header of a geometry, whose members are inside
+-- what follows the header of a geometry, whose members are inside
 pub record Opened (l : Layout) (w : WkbType) (t : Value) (body rest : List ℕ) : Type 0 where
   pub words : List ℕ
   pub front : List ℕ
@@ -167,7 +167,7 @@ point_there order d (Some c) words x rest h =
 
 -- ---- a line string, or a ring
 
--- a count and these coordinates stand in front
+-- a count and these coordinates are at the front
 record RingFirst (order : Endianness) (d : Dimension) (cs : List Coordinate) (body rest : List ℕ) : Type 0 where
   pub counted : 4 ≤ length body
   pub whole : ring_end d (number order 4 body) ≤ length body
@@ -207,11 +207,11 @@ line_there order d cs words x rest h =
 
 -- ---- a polygon
 
--- these rings stand in front
+-- these rings are at the front
 record RingsFirst (order : Endianness) (d : Dimension) (rings : List (List Coordinate)) (n : ℕ)
     (body rest : List ℕ) : Type 0 where
   pub whole : AreWhole order d n body
-  pub rest_is : behind_rings order d n body ≡ rest
+  pub rest_is : after_rings order d n body ≡ rest
   pub are : rings_in order d n body ≡ rings
 
 rings_first : (order : Endianness) (d : Dimension) (rings : List (List Coordinate)) (x rest : List ℕ)
@@ -232,7 +232,7 @@ rings_first order d (ring ∷ rings) x rest h =
 pub record PolygonThere (t : Value) (order : Endianness) (rest : List ℕ) (d : Dimension) (body : List ℕ) : Type 0 where
   pub counted : 4 ≤ length body
   pub whole : AreWhole order d (number order 4 body) (drop 4 body)
-  pub rest_is : behind_rings order d (number order 4 body) (drop 4 body) ≡ rest
+  pub rest_is : after_rings order d (number order 4 body) (drop 4 body) ≡ rest
   pub words : (a : Axis)
       → words_of_each (words_in a d) (rings_in order d (number order 4 body) (drop 4 body)) ≡ words_on a t
 
@@ -402,10 +402,10 @@ module _ {bytes : List ℕ} (g : HasGeometry bytes) {order : Endianness} {d : Di
 
   pub polygon_scanned : PolygonThere g.value order g.rest d body → (n : ℕ) (start : List ℕ) → n ≡ number order 4 body
       → start ≡ drop 4 body
-      → left ≡ behind_rings order d n start
+      → left ≡ after_rings order d n start
       → Widens old new (λ a. words_of_each (words_in a d) (rings_in order d n start)) → Scans g old new 0 left
   polygon_scanned p n start n-is start-is is widens =
-      leaf_scanned g old new left (is ∙ (λ i. behind_rings order d (n-is i) (start-is i)) ∙ p.rest_is)
+      leaf_scanned g old new left (is ∙ (λ i. after_rings order d (n-is i) (start-is i)) ∙ p.rest_is)
       (λ a. widens a ∙ (λ i. widened (on a old) (words_of_each (words_in a d) (rings_in order d (n-is i) (start-is i))))
       ∙ ap (widened (on a old)) (p.words a))
 
@@ -426,7 +426,7 @@ module _ {bytes : List ℕ} (g : HasGeometry bytes) {order : Endianness} {d : Di
         widens = λ a. ap (widened (on a old)) (p.words a);
       }
 
--- what is behind a geometry is shorter
+-- what follows a geometry is shorter
 pub rest_smaller : {bytes : List ℕ} (g : HasGeometry bytes) → length g.rest + 5 ≤ length bytes
 rest_smaller {bytes} g = smaller g.spelled g.value g.rest g.begins
   where
@@ -448,7 +448,7 @@ less_room b bytes left room less a = omega (arith, room a)
 pub polygon_smaller : {bytes : List ℕ} (g : HasGeometry bytes) {order : Endianness} {d : Dimension} {body : List ℕ}
     → PolygonThere g.value order g.rest d body
     → (n : ℕ) (start left : List ℕ) → n ≡ number order 4 body → start ≡ drop 4 body
-    → left ≡ behind_rings order d n start
+    → left ≡ after_rings order d n start
     → length left + 5 ≤ length bytes
 polygon_smaller g {order} {d} p n start left n-is start-is is =
-    omega (arith, rest_smaller g, ap length (is ∙ (λ i. behind_rings order d (n-is i) (start-is i)) ∙ p.rest_is))
+    omega (arith, rest_smaller g, ap length (is ∙ (λ i. after_rings order d (n-is i) (start-is i)) ∙ p.rest_is))

@@ -1,15 +1,15 @@
 -- What skimming says of fronts and refusals.
-use Rattle.std.proofs.Common.{◌≡◌, ℕ, ◌+◌, ◌-◌, ◌*◌, ◌≤◌, List, ◌∷◌, ◌++◌, length, drop, Option, Some, None, is_some}
+use Rattle.std.proofs.Common.{◌≡◌, ℕ, ◌+◌, ◌-◌, ◌*◌, ◌≤◌, List, ◌∷◌, ◌++◌, length, drop, is_some}
 use Rattle.std.proofs.Common.{Result, Ok, Err, refl, sym, ap}
 use Rattle.std.proofs.Common.{◌∙◌, subst, arith, length-append, append_assoc}
-use Rattle.wkb_laws.specs.Words.{Cause, Value, kind, dimension, member_count, Endianness, Head, Spelling, node, header}
-use Rattle.wkb_laws.specs.Words.{Header, IsSrid, any, Begins, Spells, Front, max_nesting, Refuses, Opens}
-use Rattle.wkb_laws.specs.Words.{number, srid_in, body_start, Reading, Item}
-unfoldable use Rattle.wkb_laws.specs.Words.{head_at, geometry_at}
+use Rattle.wkb_laws.specs.Prelude.{Cause, Value, kind, dimension, member_count, Endianness, Head, Spelling, node, header}
+use Rattle.wkb_laws.specs.Prelude.{Header, IsSrid, any, Begins, Spells, Front, max_nesting, Refuses, Opens}
+use Rattle.wkb_laws.specs.Prelude.{number, srid_in, body_start, Reading, Item}
+unfoldable use Rattle.wkb_laws.specs.Prelude.{head_at, geometry_at}
 use Rattle.wkb_laws.specs.Laws.{Agrees}
 use Rattle.wkb_laws.proofs.GeometryAt.{geometry_agrees_lem, front_is_read_lem, reading_is_bounded_lem}
 use Rattle.wkb_laws.proofs.Outcomes.{never_both_lem, one_refusal_lem}
-use Rattle.wkb_laws.proofs.Parts.{begins_number, number-front, header_length}
+use Rattle.wkb_laws.proofs.Parts.{begins_number, header_length}
 use Rattle.wkb_check.specs.Counted.{coordinate_count, left_in}
 use Rattle.wkb_check.specs.declared.answer.Summary.{Summary}
 use Rattle.wkb_check.specs.declared.answer.Refused.{Refused}
@@ -18,7 +18,7 @@ use Rattle.wkb_check.specs.Skims.{Tally, Left, Skim, after, stop, skim_body_insi
 unfoldable use Rattle.wkb_check.specs.Skims.{skim_geometry}
 use Rattle.wkb_check.proofs.Sizes.{Held, geometry_held, coordinates_held}
 use Rattle.wkb_check.proofs.Marks.{refusal_marked}
-use Rattle.wkb_laws.proofs.Complete.{head_of, head_opened}
+use Rattle.wkb_laws.proofs.Complete.{head_of, head_opened, srid_read}
 use Rattle.wkb_check.proofs.Reading.{IsSkim, counted, geometry_skim}
 use Rattle.wkb_check.proofs.Skimming.{after-none, left_is}
 use Rattle.wkb_check.proofs.Walking.{behind_header, no_header}
@@ -26,7 +26,7 @@ use Rattle.wkb_check.proofs.Walking.{behind_header, no_header}
 abbrev skim_of : List ℕ → Skim
 skim_of input = skim_geometry max_nesting input
 
--- ---- answers
+-- ---- results
 
 not_both : {rest : List ℕ} {e : Cause × ℕ} → ◌≡◌ {A = Left} (Ok rest) (Err e) → ⊥
 not_both e = absurd cc
@@ -55,7 +55,7 @@ few_turns input =
           (geometry_skim max_nesting input),
     )
 
--- ---- what the code answers is the skim of the input
+-- ---- what the code returns is the skim of the input
 
 module _ (input : List ℕ) (h : Head) (head : head_at input ≡ Ok h) where
   pub body_is : skim_body_inside 0 h input ≡ skim_of input
@@ -82,12 +82,6 @@ pub record HeaderSays (input : List ℕ) (s : Spelling) (t : Value) : Type 0 whe
   pub srid : srid_in (header s).order (is_some (header s).srid) input ≡ (header s).srid
   pub long : body_start (is_some (header s).srid) ≤ length input
 
-srid_read : (order : Endianness) (srid : Option ℕ) (field x y : List ℕ) → IsSrid order srid field
-    → drop 5 x ≡ field ++ y
-    → srid_in order (is_some srid) x ≡ srid
-srid_read order None field x y is e = refl
-srid_read order (Some v) field x y is e = ap Some (ap (number order 4) e ∙ number-front order 4 v field y is)
-
 pub geometry_opens : (input : List ℕ) (s : Spelling) (t : Value) (rest : List ℕ) → Begins (Spells s t) input rest
     → HeaderSays input s t
 geometry_opens input (node h words ss) t rest b =
@@ -100,7 +94,7 @@ geometry_opens input (node h words ss) t rest b =
       code = h.code;
       behind = i.code_field ++ behind;
       whole = shape ∙ ap (λ z. z ++ (x.rest ++ rest)) i.whole
-          ∙ ap (λ z. Rattle.wkb_laws.specs.Words.order_byte h.order ∷ z)
+          ∙ ap (λ z. Rattle.wkb_laws.specs.Prelude.order_byte h.order ∷ z)
           (append_assoc i.code_field i.srid_field (x.rest ++ rest));
       number = record { front = i.code_field; whole = refl; first = i.code };
       meaning = i.meaning;

@@ -45,7 +45,7 @@ onward_done (t, Err e) = refl
 many : (left : List ℕ) (depth : ℕ) → length left ≡ 128 → depth ≤ 128 → length (open_counts left depth) ≡ depth
 many left depth len shallow = length-reverse (take depth left) ∙ omega (arith, length-take depth left)
 
--- before what stands behind a header is looked at
+-- before what follows a header is looked at
 pub record Reaches (left : List ℕ) (depth : ℕ) (h : Head) (bytes : List ℕ)
     (start now : Tally) (whole : Skim) : Type 0 where
   pub goes : after now (onward (skim_body_inside depth h bytes) (skim_outward (open_counts left depth)))
@@ -134,7 +134,7 @@ module _ (left next : List ℕ) (depth deep : ℕ) (bytes : List ℕ) (start now
       (no_header deep bytes c e)
       ∙ (λ i. (tally_none turned i, Err (c, length bytes)))
 
--- ---- what stands behind the header of a collection
+-- ---- what follows the header of a collection
 
 pub collection_behind : (around : ℕ) (h : Head) (l : Layout) (d : Dimension) (bytes : List ℕ)
     → h.wkb_type ≡ kinds.GeometryCollection d → l ≡ layout_of h
@@ -144,7 +144,7 @@ collection_behind around h l d bytes is l-is shallow =
     rw l-is (ap (λ (t : WkbType). skim_body (skim_collection (max_nesting - around)) t (layout_of h) bytes) is
     ∙ ap (λ (n : ℕ). skim_collection n (layout_of h) bytes) k)
 
--- ---- what stands behind another header
+-- ---- what follows another header
 
 pub plain_behind : (around : ℕ) (h : Head) (l : Layout) (bytes : List ℕ)
     → ((d : Dimension) → h.wkb_type ≢ kinds.GeometryCollection d)

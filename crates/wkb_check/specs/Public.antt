@@ -1,4 +1,4 @@
--- What the check's answer says of its input.
+-- What the check's result says of its input.
 use Rattle.std.specs.Prelude.{◌≡◌, ℕ, ◌+◌, ◌*◌, ◌≤◌, List, length, Result, Ok, Err, IfOk, IfErr}
 use Rattle.wkb_geom.specs.declared.code.WkbType.TheVariants.{GeometryCollection}
 use Rattle.wkb_geom.specs.declared.common.Dimension.{Dimension}
@@ -13,7 +13,7 @@ use Rattle.wkb_check.specs.Counted.{coordinate_count, left_in}
 use Rattle.wkb_check.specs.declared.answer.Summary.{Summary}
 use Rattle.wkb_check.specs.declared.answer.Refused.{Refused}
 
--- what is told of a geometry that these bytes spell
+-- the summary of a geometry that these bytes spell
 pub record Describes (f : Summary) (bytes : List ℕ) (s : Spelling) (t : Value) : Type 0 where
   pub bytes_are : f.bytes ≡ length bytes
   pub parts : f.parts ≡ 1 + member_count t
@@ -22,7 +22,7 @@ pub record Describes (f : Summary) (bytes : List ℕ) (s : Spelling) (t : Value)
   pub wkb_type : f.wkb_type ≡ type_of (kind t) (dimension t)
   pub srid : f.srid ≡ (header s).srid
 
--- the input begins with a geometry of which this is told
+-- the input begins with a geometry that has this summary
 pub record DescribesFront (input : List ℕ) (f : Summary) : Type 0 where
   pub spelled : Spelling
   pub value : Value
@@ -30,7 +30,7 @@ pub record DescribesFront (input : List ℕ) (f : Summary) : Type 0 where
   pub front : Front input spelled value rest
   pub described : Describes f front.front spelled value
 
--- whatever geometry the input begins with, this is told of it
+-- whatever geometry the input begins with, this is its summary
 abbrev pub DescribesOnlyFront : List ℕ → Summary → Type 0
 DescribesOnlyFront input f =
     (s : Spelling) (t : Value) (rest : List ℕ) → (x : Front input s t rest) → Describes f x.front s t
@@ -47,7 +47,7 @@ abbrev pub IsRefusedOnlyFor : List ℕ → Refused → Type 0
 IsRefusedOnlyFor input e = (cause : Cause) (turns slots : ℕ) → (r : Refuses max_nesting any input cause turns slots)
     → (cause ≡ e.cause) × (turns ≡ e.part) × (e.offset + left_in r ≡ length input)
 
--- What an answer says of the bytes: what is found is the geometry at the front, and what is refused is refused so.
+-- What a result says of the bytes: a summary is that of the geometry at the front, a refusal is the one refusal.
 pub record Checks (input : List ℕ) (r : Result Summary Refused) : Type 0 where
   pub front : IfOk r (λ f. DescribesFront input f)
   pub one_front : IfOk r (λ f. DescribesOnlyFront input f)

@@ -1,4 +1,4 @@
--- Passing over parts from left to right: how many are begun, how many coordinates those have that are whole, and the
+-- Passing over parts from left to right: how many parts are begun, how many coordinates the whole ones have, and the
 -- bytes that are left, or the fault and where its part begins. It is the plain reader of wkb_geom without its values.
 use Rattle.std.specs.Prelude.{ℕ, zero, suc, ◌+◌, ◌-◌, List, [], ◌∷◌, length, drop}
 use Rattle.std.specs.Prelude.{Result, Ok, Err, nat_lt, ◌==◌, if◌then◌else◌}
@@ -28,15 +28,15 @@ infixl 20 ◌⊕◌
 abbrev pub ◌⊕◌ : Tally → Tally → Tally
 t ⊕ u = (t.0 + u.0, t.1 + u.1)
 
--- the bytes behind a part, or its fault and how many bytes are left where the refused part begins
+-- the bytes after a part, or its fault and how many bytes are left where the refused part begins
 abbrev pub Left : Type 0
 Left = Result (List ℕ) (Cause × ℕ)
 
--- the same with what is inside the part
+-- the same with what was counted
 abbrev pub Skim : Type 0
 Skim = Tally × Left
 
--- with so much before it
+-- a skim after this tally
 abbrev pub after : Tally → Skim → Skim
 after t s = (t ⊕ s.0, s.1)
 
@@ -44,17 +44,17 @@ after t s = (t ⊕ s.0, s.1)
 abbrev pub stop : List ℕ → Cause → Skim
 stop bytes c = ((0, 0), Err (c, length bytes))
 
--- a part of so many coordinates, as it is read
+-- a part of n coordinates, as the plain reader reads it
 abbrev pub leaf : {A : Type 0} → ℕ → List ℕ → Outcome A → Skim
 leaf n bytes (Ok x) = ((0, n), Ok x.1)
 leaf n bytes (Err c) = stop bytes c
 
--- one part by its answer, then what stands behind it
+-- what one part left, then what follows it
 abbrev pub onward_left : Tally → Left → (List ℕ → Skim) → Skim
 onward_left t (Ok rest) f = after t (f rest)
 onward_left t (Err e) f = (t, Err e)
 
--- one part, then what stands behind it
+-- one part, then what follows it
 abbrev pub onward : Skim → (List ℕ → Skim) → Skim
 onward s f = onward_left s.0 s.1 f
 
@@ -63,11 +63,11 @@ unfoldable pub skims : ℕ → (List ℕ → Skim) → List ℕ → Skim
 skims zero part bytes = ((0, 0), Ok bytes)
 skims (suc n) part bytes = after (1, 0) (onward (part bytes) (skims n part))
 
--- the count behind a header
+-- the count after a header
 abbrev pub count_at : Layout → List ℕ → ℕ
 count_at l bytes = number l.order 4 (drop (body_start l.has_srid) bytes)
 
--- a list of parts behind a count
+-- a list of parts after a count
 abbrev pub skim_list : Layout → (List ℕ → Skim) → List ℕ → Skim
 skim_list l part bytes =
     if nat_lt (length bytes) (body_start l.has_srid + 4) then stop bytes end_of_input else skims (count_at l bytes)
@@ -92,12 +92,12 @@ number_of_member members.Point = 1
 number_of_member members.LineString = 2
 number_of_member members.Polygon = 3
 
--- what stands behind the header of a member, by its kind
+-- a member with a layout, by its kind
 abbrev pub skim_member_body : ℕ → Layout → List ℕ → Skim
 skim_member_body k l bytes =
     if k == 1 then skim_point l bytes else if k == 2 then skim_line_string l bytes else skim_polygon l bytes
 
--- the same where the header's layout was read, or its fault
+-- the same from the layout that was read, or the fault
 abbrev pub skim_laid : ℕ → List ℕ → Result Layout Cause → Skim
 skim_laid k bytes (Ok l) = skim_member_body k l bytes
 skim_laid k bytes (Err c) = stop bytes c
@@ -106,7 +106,11 @@ skim_laid k bytes (Err c) = stop bytes c
 abbrev pub skim_member : ℕ → Dimension → List ℕ → Skim
 skim_member k d bytes = skim_laid k bytes (member_layout k d bytes)
 
--- so many points, where all of them are whole
+-- n of them
+abbrev pub skim_members : MemberKind → Dimension → ℕ → List ℕ → Skim
+skim_members kind d n bytes = skims n (skim_member (number_of_member kind) d) bytes
+
+-- as many points as are counted, if the input has them whole
 abbrev pub skim_points : Layout → List ℕ → Skim
 skim_points l bytes =
     let end = multi_point_end l.dimension l.has_srid (count_at l bytes) in
@@ -122,7 +126,7 @@ skim_multi_point l bytes =
 abbrev pub skim_multi : ℕ → Layout → List ℕ → Skim
 skim_multi k l bytes = skim_list l (skim_member k l.dimension) bytes
 
--- what stands behind a header, by its type
+-- a geometry with a layout, by its type
 abbrev pub skim_body : (Layout → List ℕ → Skim) → WkbType → Layout → List ℕ → Skim
 skim_body collection (kinds.Point d) l bytes = skim_point l bytes
 skim_body collection (kinds.LineString d) l bytes = skim_line_string l bytes
@@ -132,7 +136,7 @@ skim_body collection (kinds.MultiLineString d) l bytes = skim_multi 2 l bytes
 skim_body collection (kinds.MultiPolygon d) l bytes = skim_multi 3 l bytes
 skim_body collection (kinds.GeometryCollection d) l bytes = collection l bytes
 
--- the same where the header was read, or its fault
+-- the same from the header that was read, or the fault
 abbrev pub skim_headed : (Layout → List ℕ → Skim) → List ℕ → Result Head Cause → Skim
 skim_headed collection bytes (Ok h) = skim_body collection h.wkb_type (layout_of h) bytes
 skim_headed collection bytes (Err c) = stop bytes c
@@ -145,24 +149,24 @@ skim_by_type collection bytes = skim_headed collection bytes (head_at bytes)
 abbrev pub skim_too_deep : Layout → List ℕ → Skim
 skim_too_deep l bytes = stop bytes (nesting_depth_exceeded max_nesting)
 
--- the same with room for so many open collections
+-- the same with room for this many open collections
 unfoldable pub skim_geometry : ℕ → List ℕ → Skim
 skim_geometry zero bytes = skim_by_type skim_too_deep bytes
 skim_geometry (suc room) bytes = skim_by_type (λ l b. skim_list l (skim_geometry room) b) bytes
 
--- a collection, with room for so many
+-- a collection, with room for this many
 abbrev pub skim_collection : ℕ → Layout → List ℕ → Skim
 skim_collection zero = skim_too_deep
 skim_collection (suc room) = λ l b. skim_list l (skim_geometry room) b
 
--- a geometry inside so many open collections, and what stands behind its header
+-- a geometry inside this many open collections, and the same with its header
 abbrev pub skim_inside : ℕ → List ℕ → Skim
 skim_inside around bytes = skim_geometry (max_nesting - around) bytes
 
 abbrev pub skim_body_inside : ℕ → Head → List ℕ → Skim
 skim_body_inside around h bytes = skim_body (skim_collection (max_nesting - around)) h.wkb_type (layout_of h) bytes
 
--- what comes behind a finished part: the members that the open collections still have, the innermost first
+-- what follows a finished part: the members that the open collections still have, the innermost first
 abbrev pub skim_outward : List ℕ → List ℕ → Skim
 skim_outward [] rest = ((0, 0), Ok rest)
 skim_outward (n ∷ ns) rest = onward (skims n (skim_inside (suc (length ns))) rest) (skim_outward ns)

@@ -1,4 +1,4 @@
-//! What a check tells.
+//! What a check returns.
 
 ghost use Rattle.std.specs.Prelude.{◌≡◌, IfNone, IfSome, Ok};
 ghost use Rattle.wkb_geom.specs.Fronts.{max_nesting};
@@ -14,14 +14,14 @@ use crate::walk::Walk;
 use wkb_geom::code::WkbType;
 use wkb_geom::{Cause, Endianness, Header};
 
-/// What stands at the front of the bytes.
+/// The geometry at the front of the bytes.
 #[derive(Clone, Copy)]
 pub struct Summary {
     /// Its length.
     pub bytes: usize,
     /// How many parts it has: itself, and its rings and members at every level.
     pub parts: usize,
-    /// How many coordinates those have. A point has one, though it be empty.
+    /// How many coordinates these have. A point has one, an empty point too.
     pub coordinates: usize,
     /// Its byte order; parts inside it may have another.
     pub order: Endianness,
@@ -42,7 +42,7 @@ pub struct Refused {
     pub offset: usize,
 }
 
-/// What is told of the geometry behind this header, where so much of it was counted and these bytes are left.
+/// The summary of the geometry with this header, of what was counted in it and of the bytes after it.
 #[inline(always)]
 fn summary_of(header: Header, buf: &[u8], walk: Walk, rest: &[u8]) -> Summary
     requires head { head_at buf.now ≡ Ok header }
@@ -60,10 +60,9 @@ fn summary_of(header: Header, buf: &[u8], walk: Walk, rest: &[u8]) -> Summary
     }
 }
 
-/// What stands at the front of the bytes, where it is no collection and nothing refuses it. Where nothing is found,
-/// `check` tells what there is.
+/// The geometry at the front of the bytes, if it is well formed and no collection. Else `check` has to look.
 ///
-/// It lends nothing to a call that stays one, so that all it counts is in registers.
+/// Everything that it calls is inlined, so that its counters stay in registers.
 #[inline(always)]
 pub fn check_plain(buf: &[u8]) -> Option<Summary>
     ensures checks { IfSome result (λ found. Checks buf.now (Ok found)) }
@@ -89,9 +88,9 @@ pub fn check_plain(buf: &[u8]) -> Option<Summary>
     }
 }
 
-/// Checks the geometry at the front of the bytes; what stands behind it is not looked at.
+/// Checks the geometry at the front of the bytes. What follows it is not looked at.
 ///
-/// It accepts and refuses what `read_wkb` does, and takes no memory: nothing it answers tells want of memory.
+/// It accepts and refuses what `read_wkb` does. It allocates nothing, so that it never reports an allocation failure.
 pub fn check(buf: &[u8]) -> Result<Summary, Refused>
     ensures checks { Checks buf.now result }
     ensures bounded { IsBounded buf.now result }

@@ -1,15 +1,15 @@
-//! The header of a geometry, by the shortest way for the codes that most have.
+//! Reading a header, by the shortest way for the most frequent codes.
 
 ghost use Rattle.std.specs.Prelude.{◌≡◌, ◌+◌, IfSome, Some, Ok, true, false};
 ghost use Rattle.wkb_geom.specs.Codes.{srid_flag};
 ghost use Rattle.wkb_geom.specs.Reading.{head_at, meaning, meaning_of};
 
 use wkb_geom::code::{SRID_FLAG, WkbType};
-use wkb_geom::header::MEMBER_HEADER;
+use wkb_geom::header::MEMBER_HEADER_SIZE;
 use wkb_geom::words::u32_at;
 use wkb_geom::{Cause, Dimension, Endianness, Header};
 
-/// The type whose code is the number of its kind alone.
+/// The type of a code that is the number of a kind and nothing else.
 #[tactic(auto, unfolding(wkb_geom::specs::Reading::meaning_of))]
 #[inline(always)]
 fn type_of_bare(code: u32) -> Option<WkbType>
@@ -28,12 +28,12 @@ fn type_of_bare(code: u32) -> Option<WkbType>
     }
 }
 
-/// The header at the front of the bytes, where its code is the number of a kind, with the flag of an SRID or without.
+/// The header at the front of the bytes, if its code is the number of a kind, with or without the SRID flag.
 #[inline(always)]
 fn read_bare(bytes: &[u8]) -> Option<Header>
     ensures { IfSome result (λ header. head_at bytes.now ≡ Ok header) }
 {
-    if bytes.len() < MEMBER_HEADER {
+    if bytes.len() < MEMBER_HEADER_SIZE {
         return None;
     }
     let order = Endianness::of_byte(bytes[0])?;
@@ -47,7 +47,7 @@ fn read_bare(bytes: &[u8]) -> Option<Header>
     })
 }
 
-/// The header at the front of the bytes, which may go on behind it.
+/// The header at the front of the bytes, or why there is none. Its geometry may follow.
 #[inline(always)]
 pub(crate) fn read(bytes: &[u8]) -> Result<Header, Cause>
     ensures { head_at bytes.now ≡ result }

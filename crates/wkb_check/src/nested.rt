@@ -2,7 +2,7 @@
 
 ghost use Rattle.std.specs.Prelude.{◌≡◌, ◌≤◌, length};
 ghost use Rattle.wkb_check.specs.Skims.{skim_body_inside};
-ghost use Rattle.wkb_check.specs.Passes.{FitsCounters, Passes, PassesOrOpens, IsSettled, open_counts};
+ghost use Rattle.wkb_check.specs.Passes.{FitsCounters, Passes, PassesOrOpens, IsSettled, counts_of};
 
 use crate::head::read;
 use crate::skip::skip_plain;
@@ -10,10 +10,10 @@ use crate::walk::Walk;
 use wkb_geom::code::WkbType;
 use wkb_geom::{Cause, Header};
 
-/// How many collections may be open around what is looked at.
+/// How many collections may be open at once.
 const MAX_OPEN: usize = 128;
 
-/// How many members each open collection still has behind the one that is looked at, the outermost first.
+/// How many members of each open collection follow the current one, the outermost first.
 #[derive(Drop)]
 struct OpenCounts {
     left: [u32; MAX_OPEN],
@@ -21,8 +21,8 @@ struct OpenCounts {
 }
 
 impl OpenCounts {
-    /// Passes over the geometry behind this header, but of a collection only over its count: it is open then. Answers
-    /// the bytes after it.
+    /// Passes over the geometry with this header, and returns the bytes after it. Of a collection only the header and
+    /// the count are passed: it is open then.
     #[inline(always)]
     fn skip_or_open<'a>(
         &mut self,
@@ -34,9 +34,7 @@ impl OpenCounts {
         requires len { length self.old.left ≡ MAX_OPEN }
         requires here { walk.old.left ≡ length bytes.now }
         requires fits { FitsCounters walk.old (skim_body_inside self.old.depth header bytes.now) }
-        ensures begins { PassesOrOpens result (skim_body_inside self.old.depth header bytes.now)
-            (open_counts self.old.left self.old.depth) (open_counts self.new.left self.new.depth)
-            walk.old walk.new }
+        ensures begins { PassesOrOpens result header bytes.now self.old self.new walk.old walk.new }
         ensures grows { walk.old.turns ≤ walk.new.turns }
         ensures depth { self.new.depth ≤ MAX_OPEN }
         ensures len { length self.new.left ≡ MAX_OPEN }
@@ -56,13 +54,12 @@ impl OpenCounts {
         }
     }
 
-    /// Closes each collection that has all its members. Whether one is left, whose next member begins.
+    /// Closes each collection whose members have all been passed. Returns whether another member begins.
     #[inline]
     fn next_member(&mut self) -> bool
         requires depth { self.old.depth ≤ MAX_OPEN }
         requires len { length self.old.left ≡ MAX_OPEN }
-        ensures settled { IsSettled (open_counts self.old.left self.old.depth)
-            (open_counts self.new.left self.new.depth) result }
+        ensures settled { IsSettled (counts_of self.old) (counts_of self.new) result }
         ensures depth { self.new.depth ≤ MAX_OPEN }
         ensures len { length self.new.left ≡ MAX_OPEN }
     {
@@ -78,7 +75,7 @@ impl OpenCounts {
     }
 }
 
-/// The bytes after the collection behind this header.
+/// Passes over the collection with this header, and returns the bytes after it.
 fn skip_collection<'a>(outermost: Header, buf: &'a [u8], walk: &mut Walk) -> Result<&'a [u8], Cause>
     requires here { walk.old.left ≡ length buf.now }
     requires fits { FitsCounters walk.old (skim_body_inside 0 outermost buf.now) }
@@ -101,8 +98,8 @@ fn skip_collection<'a>(outermost: Header, buf: &'a [u8], walk: &mut Walk) -> Res
     }
 }
 
-/// The bytes after the geometry behind this header. Only a collection goes through the loop, which has its stack to
-/// lay out.
+/// Passes over the geometry with this header, and returns the bytes after it. Only a collection goes through the loop,
+/// since laying out its stack takes time.
 #[inline]
 pub(crate) fn skip_geometry<'a>(
     header: Header,

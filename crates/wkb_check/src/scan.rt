@@ -5,18 +5,18 @@ ghost use Rattle.wkb_geom.specs.Dimensions.{width};
 ghost use Rattle.wkb_geom.specs.Numbers.{number};
 ghost use Rattle.wkb_geom.specs.Reading.{coordinates, ring_in};
 ghost use Rattle.wkb_geom.specs.Refusals.{ring_end};
-ghost use Rattle.wkb_check.specs.Ordinates.{words_in, words_of_each};
-ghost use Rattle.wkb_check.specs.Bounded.{Widens, HasRoom, AreWhole, rings_in, behind_rings};
+ghost use Rattle.wkb_check.specs.Bounded.{Adds, AddsRings, HasRoom, AreWhole, rings_in};
+ghost use Rattle.wkb_check.specs.Bounded.{after_rings};
 ghost use Rattle.wkb_check.specs.Bounded.{HasGeometry, Scans, AreBounds, FindsBounds};
 
 use crate::answer::{Refused, check, check_plain};
 use crate::head::read;
 use crate::range::{Bounds, rest_from};
 use wkb_geom::code::WkbType;
-use wkb_geom::words::{COUNT, WORD, u32_at};
+use wkb_geom::words::{COUNT_SIZE, WORD_SIZE, u32_at};
 use wkb_geom::{Dimension, Endianness};
 
-/// The bytes after so many coordinates.
+/// Adds `count` coordinates to the bounds, and returns the bytes after them.
 #[inline(always)]
 fn scan_coordinates<'a>(
     order: Endianness,
@@ -28,15 +28,14 @@ fn scan_coordinates<'a>(
     requires whole { 8 * width dimension * count ≤ length bytes.now }
     requires room { HasRoom bounds.old bytes.now }
     ensures rest { result.now ≡ drop (8 * width dimension * count) bytes.now }
-    ensures widens { Widens bounds.old bounds.new
-        (λ a. words_in a dimension (coordinates order dimension count bytes.now)) }
+    ensures adds { Adds bounds.old bounds.new dimension (coordinates order dimension count bytes.now) }
     ensures room { HasRoom bounds.new result.now }
 {
     *bounds = bounds.with_coordinates(order, dimension, count, bytes);
-    rest_from(bytes, WORD * dimension.width() * count as usize)
+    rest_from(bytes, WORD_SIZE * dimension.width() * count as usize)
 }
 
-/// The bytes after a ring, or after the body of a line string: a count, and so many coordinates.
+/// Adds a ring, or the body of a line string, to the bounds, and returns the bytes after it.
 #[inline(always)]
 fn scan_ring<'a>(
     order: Endianness,
@@ -48,15 +47,20 @@ fn scan_ring<'a>(
     requires whole { ring_end dimension (number order 4 bytes.now) ≤ length bytes.now }
     requires room { HasRoom bounds.old bytes.now }
     ensures rest { result.now ≡ drop (ring_end dimension (number order 4 bytes.now)) bytes.now }
-    ensures widens { Widens bounds.old bounds.new
-        (λ a. words_in a dimension (ring_in order dimension bytes.now)) }
+    ensures adds { Adds bounds.old bounds.new dimension (ring_in order dimension bytes.now) }
     ensures room { HasRoom bounds.new result.now }
 {
     let count = u32_at(bytes, 0, order);
-    scan_coordinates(order, dimension, count, rest_from(bytes, COUNT), bounds)
+    scan_coordinates(
+        order,
+        dimension,
+        count,
+        rest_from(bytes, COUNT_SIZE),
+        bounds,
+    )
 }
 
-/// The bytes after so many rings.
+/// Adds `count` rings to the bounds, and returns the bytes after them.
 #[inline(always)]
 fn scan_rings<'a>(
     order: Endianness,
@@ -67,9 +71,8 @@ fn scan_rings<'a>(
 ) -> &'a [u8]
     requires whole { AreWhole order dimension count bytes.now }
     requires room { HasRoom bounds.old bytes.now }
-    ensures rest { result.now ≡ behind_rings order dimension count bytes.now }
-    ensures widens { Widens bounds.old bounds.new
-        (λ a. words_of_each (words_in a dimension) (rings_in order dimension count bytes.now)) }
+    ensures rest { result.now ≡ after_rings order dimension count bytes.now }
+    ensures adds { AddsRings bounds.old bounds.new dimension (rings_in order dimension count bytes.now) }
     ensures room { HasRoom bounds.new result.now }
 {
     let mut rest = bytes;
@@ -79,7 +82,8 @@ fn scan_rings<'a>(
     rest
 }
 
-/// How many members of the geometry at the front of the bytes are still to come, and the bytes from there on.
+/// Adds the geometry at the front of the bytes to the bounds, up to its members. Returns how many members follow, and
+/// the bytes from there on.
 #[inline(always)]
 fn scan_geometry<'a>(bytes: &'a [u8], bounds: &mut Bounds) -> (u32, &'a [u8])
     requires here { HasGeometry bytes.now }
@@ -102,18 +106,18 @@ fn scan_geometry<'a>(bytes: &'a [u8], bounds: &mut Bounds) -> (u32, &'a [u8])
         WkbType::LineString(_) => (0, scan_ring(layout.order, layout.dimension, body, bounds)),
         WkbType::Polygon(_) => {
             let count = u32_at(body, 0, layout.order);
-            let rings = rest_from(body, COUNT);
+            let rings = rest_from(body, COUNT_SIZE);
             (
                 0,
                 scan_rings(layout.order, layout.dimension, count, rings, bounds),
             )
         }
-        _ => (u32_at(body, 0, layout.order), rest_from(body, COUNT)),
+        _ => (u32_at(body, 0, layout.order), rest_from(body, COUNT_SIZE)),
     }
 }
 
 /// The bounds of the geometry at the front of the bytes, which is known to be there. Each geometry is followed by its
-/// members, so that the number of those still to come is all that has to be kept.
+/// members, so that the loop only keeps how many geometries are still to come.
 fn bounds_of_front(buf: &[u8]) -> Bounds
     requires here { HasGeometry buf.now }
     ensures { (g : HasGeometry buf.now) → AreBounds result g.value }
@@ -130,6 +134,7 @@ fn bounds_of_front(buf: &[u8]) -> Bounds
 }
 
 /// The bounds of the geometry at the front of any bytes, or why there is none.
+#[tactic(auto, using(crate::proofs::Scanning::bounds_refused))]
 #[inline(never)]
 fn checked_bounds(buf: &[u8]) -> Result<Bounds, Refused>
     ensures { FindsBounds buf.now result }
@@ -140,10 +145,10 @@ fn checked_bounds(buf: &[u8]) -> Result<Bounds, Refused>
     }
 }
 
-/// The bounds of the geometry at the front of the bytes, over its coordinates at every level; what stands behind it is
-/// not looked at. It accepts and refuses what `check` does, and takes no memory.
+/// The bounds of the geometry at the front of the bytes, over its coordinates at every level. What follows it is not
+/// looked at. It accepts and refuses what `check` does, and allocates nothing.
 ///
-/// Each word that is a number counts, whatever the other words of its coordinate are. Words are ordered as numbers are,
+/// Each word that is a number counts, whatever the other words of its coordinate are. The order is that of numbers, with
 /// minus zero below zero.
 pub fn bounds(buf: &[u8]) -> Result<Bounds, Refused>
     ensures { FindsBounds buf.now result }

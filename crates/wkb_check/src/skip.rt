@@ -1,9 +1,9 @@
-//! Passing over what holds no collection.
+//! Passing over geometries that hold no collection. Each function returns the bytes after what it passes over.
 
 ghost use Rattle.std.specs.Prelude.{◌≡◌, ◌<◌, length};
 ghost use Rattle.wkb_geom.specs.Reading.{type_kind};
 ghost use Rattle.wkb_check.specs.Skims.{skims, skim_point, skim_line_string, skim_ring, skim_polygon};
-ghost use Rattle.wkb_check.specs.Skims.{number_of_member, skim_member_body, skim_member};
+ghost use Rattle.wkb_check.specs.Skims.{number_of_member, skim_member_body, skim_member, skim_members};
 ghost use Rattle.wkb_check.specs.Skims.{skim_multi_point, skim_multi, skim_body, skim_too_deep};
 ghost use Rattle.wkb_check.specs.Passes.{FitsCounters, Passes};
 
@@ -34,7 +34,7 @@ impl MemberKind {
     }
 }
 
-/// The bytes after the point behind this header.
+/// Passes over a point, header included.
 #[tactic(auto, unfolding(wkb_geom::specs::Reading::point_at))]
 #[inline(always)]
 fn skip_point<'a>(layout: Layout, bytes: &'a [u8], walk: &mut Walk) -> Result<&'a [u8], Cause>
@@ -53,7 +53,7 @@ fn skip_point<'a>(layout: Layout, bytes: &'a [u8], walk: &mut Walk) -> Result<&'
     Ok(&bytes[end..])
 }
 
-/// The bytes after the line string behind this header.
+/// Passes over a line string, header included.
 #[tactic(auto, unfolding(wkb_geom::specs::Reading::line_string_at))]
 #[inline(always)]
 fn skip_line_string<'a>(layout: Layout, bytes: &'a [u8], walk: &mut Walk) -> Result<&'a [u8], Cause>
@@ -75,7 +75,7 @@ fn skip_line_string<'a>(layout: Layout, bytes: &'a [u8], walk: &mut Walk) -> Res
     Ok(&bytes[end as usize..])
 }
 
-/// The bytes after the ring at the front of the bytes, of a polygon that is laid out so.
+/// Passes over a ring of a polygon with this layout.
 #[tactic(auto, unfolding(wkb_geom::specs::Reading::ring_at))]
 #[inline(always)]
 fn skip_ring<'a>(layout: Layout, bytes: &'a [u8], walk: &mut Walk) -> Result<&'a [u8], Cause>
@@ -98,7 +98,7 @@ fn skip_ring<'a>(layout: Layout, bytes: &'a [u8], walk: &mut Walk) -> Result<&'a
     Ok(&bytes[end as usize..])
 }
 
-/// The bytes after so many rings.
+/// Passes over `count` rings.
 #[inline(always)]
 fn skip_rings<'a>(
     layout: Layout,
@@ -118,7 +118,7 @@ fn skip_rings<'a>(
     Ok(rest)
 }
 
-/// The bytes after the polygon behind this header.
+/// Passes over a polygon, header included.
 #[inline(always)]
 fn skip_polygon<'a>(layout: Layout, bytes: &'a [u8], walk: &mut Walk) -> Result<&'a [u8], Cause>
     requires here { walk.old.left ≡ length bytes.now }
@@ -129,7 +129,7 @@ fn skip_polygon<'a>(layout: Layout, bytes: &'a [u8], walk: &mut Walk) -> Result<
     skip_rings(layout, count, layout.after_count(bytes), walk)
 }
 
-/// The bytes after the member of this kind behind its header: a point, a line string or a polygon.
+/// Passes over a member of this kind, header included.
 #[inline(always)]
 fn skip_member_body<'a>(
     kind: MemberKind,
@@ -150,7 +150,7 @@ fn skip_member_body<'a>(
     }
 }
 
-/// The bytes after the member of this kind and dimension.
+/// Reads the header of a member that has to have this kind and dimension, and passes over the member.
 #[inline(always)]
 fn skip_member<'a>(
     kind: MemberKind,
@@ -167,7 +167,7 @@ fn skip_member<'a>(
     skip_member_body(kind, layout, bytes, walk)
 }
 
-/// The bytes after so many members of this kind and dimension.
+/// Passes over `count` members of this kind and dimension.
 #[inline(always)]
 fn skip_members<'a>(
     kind: MemberKind,
@@ -176,10 +176,8 @@ fn skip_members<'a>(
     bytes: &'a [u8],
     walk: &mut Walk,
 ) -> Result<&'a [u8], Cause>
-    requires fits { FitsCounters walk.old
-        (skims count (skim_member (number_of_member kind) dimension) bytes.now) }
-    ensures { Passes result (skims count (skim_member (number_of_member kind) dimension) bytes.now)
-        walk.old walk.new }
+    requires fits { FitsCounters walk.old (skim_members kind dimension count bytes.now) }
+    ensures { Passes result (skim_members kind dimension count bytes.now) walk.old walk.new }
 {
     let mut rest = bytes;
     for _ in 0..count {
@@ -190,7 +188,7 @@ fn skip_members<'a>(
     Ok(rest)
 }
 
-/// The bytes after the multi point behind this header.
+/// Passes over a multi point, header included.
 #[inline(always)]
 fn skip_multi_point<'a>(layout: Layout, bytes: &'a [u8], walk: &mut Walk) -> Result<&'a [u8], Cause>
     requires here { walk.old.left ≡ length bytes.now }
@@ -215,7 +213,7 @@ fn skip_multi_point<'a>(layout: Layout, bytes: &'a [u8], walk: &mut Walk) -> Res
     )
 }
 
-/// The bytes after the multi line string or multi polygon of members of this kind.
+/// Passes over a multi line string or a multi polygon, header included. Its members have this kind.
 #[inline(always)]
 fn skip_multi<'a>(
     kind: MemberKind,
@@ -237,7 +235,7 @@ fn skip_multi<'a>(
     )
 }
 
-/// The bytes after the geometry behind this header, which is no collection.
+/// Passes over a geometry of this type, which is no collection, header included.
 #[inline(always)]
 pub(crate) fn skip_plain<'a>(
     wkb_type: WkbType,

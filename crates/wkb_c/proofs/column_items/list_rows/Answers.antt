@@ -29,4 +29,11 @@ loop-i-preserved c =
 
 pub returns-clause-each : goal.returns-clause-each
 returns-clause-each c =
-    λ i below. c.loop-i.invariant.done.each i (omega (arith, below, c.loop-i-test.false, c.min-i-end.ensures))
+    λ i below. c.loop-i.invariant.done.each i (omega (
+      arith,
+      below,
+      c.loop-i-test.false,
+      c.min-i-end.ensures,
+      c.loop-i.invariant.as_many,
+      c.loop-i.invariant.as_many_ends,
+    ))

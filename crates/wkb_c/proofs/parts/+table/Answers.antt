@@ -1,4 +1,4 @@
-use Rattle.wkb_c.proofs.Common.{arith, refl, length, ◌∙◌, length-map, dimensions, whole_of, multi_line_string}
+use Rattle.wkb_c.proofs.Common.{arith, refl, length, ◌∙◌, length-map, as_dimensions, whole_of, multi_line_string}
 use Rattle.wkb_c.proofs.Common.{multi_polygon, multi_point_seen}
 use Rattle.wkb_c.proofs.Common.{fitted_line_string, fitted_line_strings}
 use Rattle.std.proofs.lemmas.Option.{slice_get_read}
@@ -49,7 +49,7 @@ add_geometry-returns-in_ok-add_line_strings-in-MultiLineString t c =
     listed_view c.args.wkb.now
     (whole_of multi_line_string m) c.args.table.now _ _ k.new.table _ _ c.in-MultiLineString.ensures.view
     (omega arith)
-    (omega (arith, c.num_line_strings.ensures, length-map m.parts (fitted_line_string (dimensions m.dimension))))
+    (omega (arith, c.num_line_strings.ensures, length-map m.parts (fitted_line_string (as_dimensions m.dimension))))
     (c.len-index.ensures ∙ c.args.table.now.parts.ok.0) c.in_ok-add_whole-in-MultiLineString.ensures
     c.in_ok-add_line_strings-in-MultiLineString.ensures k.ensures
 
@@ -60,7 +60,7 @@ add_geometry-returns-in_ok-add_polygons-in-MultiPolygon t c =
     let k = c.close-in-MultiPolygon in
     listed_view c.args.wkb.now
     (whole_of multi_polygon m) c.args.table.now _ _ k.new.table _ _ c.in-MultiPolygon.ensures.view (omega arith)
-    (omega (arith, c.num_polygons.ensures, length-map m.parts (fitted_line_strings (dimensions m.dimension))))
+    (omega (arith, c.num_polygons.ensures, length-map m.parts (fitted_line_strings (as_dimensions m.dimension))))
     (c.len-index.ensures ∙ c.args.table.now.parts.ok.0) c.in_ok-add_whole-in-MultiPolygon.ensures
     c.in_ok-add_polygons-in-MultiPolygon.ensures k.ensures
 

@@ -1,4 +1,4 @@
-use Rattle.wkb_c.proofs.Common.{◌≡◌, ◌∙◌, ap, sym, arith, length-map, dimensions, option_map, line_string}
+use Rattle.wkb_c.proofs.Common.{◌≡◌, ◌∙◌, ap, sym, arith, length-map, as_dimensions, option_map, line_string}
 use Rattle.wkb_c.proofs.Common.{fitted_line_string}
 use Rattle.wkb_view.specs.Views.{line_string_spelling, line_string_coordinates}
 use Rattle.wkb_view.specs.declared.line_string.LineString.{LineString}
@@ -15,7 +15,7 @@ add_line_string-requires c =
       fits = added_fits _ _ _ _ _ _ _ c.loop-i.invariant (sym o.spelled ∙ ap (option_map line_string_spelling) is)
           (part_value line_string m.parts m.dimension line.layout.dimension c.loop-i.i
           (line_string_coordinates line) (sym (ap (option_map line_string_coordinates) is) ∙ o.part)
-          (there_is (λ (l : LineString). dimensions l.layout.dimension ≡ dimensions m.dimension) _ _ is o.dimensions))
+          (there_is (λ (l : LineString). l.layout.dimension ≡ m.dimension) _ _ is o.dimension))
           c.requires.fits;
     }
 
@@ -28,7 +28,7 @@ loop-i-preserved c =
     added_more _ _ _ _ _ _ _ _ c.loop-i.invariant (sym o.spelled ∙ ap (option_map line_string_spelling) is)
     (part_value line_string m.parts m.dimension line.layout.dimension c.loop-i.i
     (line_string_coordinates line) (sym (ap (option_map line_string_coordinates) is) ∙ o.part)
-    (there_is (λ (l : LineString). dimensions l.layout.dimension ≡ dimensions m.dimension) _ _ is o.dimensions))
+    (there_is (λ (l : LineString). l.layout.dimension ≡ m.dimension) _ _ is o.dimension))
     c.in_ok-add_line_string.ensures
 
 pub returns : goal.returns
@@ -38,7 +38,7 @@ returns c =
       arith,
       c.loop-i-test.false,
       c.num_line_strings-i-end.ensures,
-      length-map c.args.multi.now.parts (fitted_line_string (dimensions c.args.multi.now.dimension)),
+      length-map c.args.multi.now.parts (fitted_line_string (as_dimensions c.args.multi.now.dimension)),
       each_count (line_string c.args.multi.now.dimension) c.args.multi.now.parts,
     ))
     c.loop-i.invariant

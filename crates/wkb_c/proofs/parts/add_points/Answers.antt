@@ -1,4 +1,4 @@
-use Rattle.wkb_c.proofs.Common.{◌≡◌, ◌∙◌, ap, sym, arith, dimensions, option_map, point, point_of, points_of}
+use Rattle.wkb_c.proofs.Common.{◌≡◌, ◌∙◌, ap, sym, arith, option_map, point, point_of, points_of}
 use Rattle.wkb_c.proofs.Common.{point_seen, multi_point_seen}
 use Rattle.wkb_view.specs.Views.{point_spelling}
 use Rattle.wkb_view.specs.declared.point.Point.{Point}
@@ -14,7 +14,7 @@ add_point-requires c =
       fits = added_fits _ _ _ _ _ _ _ c.loop-i.invariant (sym o.spelled ∙ ap (option_map point_spelling) is)
           (point_value (points_of (multi_point_seen m).value) m.layout.dimension c.loop-i.i c.unwrap.result
           (sym (ap (option_map (λ (p : Point). point_of (point_seen p).value)) is) ∙ o.value)
-          (there_is (λ (p : Point). dimensions p.layout.dimension ≡ dimensions m.layout.dimension) _ _ is o.dimensions))
+          (there_is (λ (p : Point). p.layout.dimension ≡ m.layout.dimension) _ _ is o.dimension))
           c.requires.fits;
     }
 
@@ -26,7 +26,7 @@ loop-i-preserved c =
     added_more _ _ _ _ _ _ _ _ c.loop-i.invariant (sym o.spelled ∙ ap (option_map point_spelling) is)
     (point_value (points_of (multi_point_seen m).value) m.layout.dimension c.loop-i.i c.unwrap.result
     (sym (ap (option_map (λ (p : Point). point_of (point_seen p).value)) is) ∙ o.value)
-    (there_is (λ (p : Point). dimensions p.layout.dimension ≡ dimensions m.layout.dimension) _ _ is o.dimensions))
+    (there_is (λ (p : Point). p.layout.dimension ≡ m.layout.dimension) _ _ is o.dimension))
     c.in_ok-add_point.ensures
 
 pub returns : goal.returns

@@ -1,4 +1,4 @@
-use Rattle.wkb_c.proofs.Common.{◌≡◌, sym, arith, length-map, dimensions, polygon, fitted_line_strings}
+use Rattle.wkb_c.proofs.Common.{◌≡◌, sym, arith, length-map, as_dimensions, polygon, fitted_line_strings}
 use Rattle.wkb_c.proofs.Growth.{added_fits, added_more, added_all, part_value, there_is, there_seen, each_count}
 use Rattle.wkb_c.proofs.parts.add_polygons.Goals as goal
 
@@ -13,8 +13,8 @@ add_polygon-requires c =
           (sym (there_seen (λ p. p.now.spelled) c.polygon.result c.unwrap.result _ is o.spelled))
           (part_value polygon m.parts m.dimension p.dimension c.loop-i.i p.parts
           (there_seen (λ p. p.now.parts) c.polygon.result c.unwrap.result _ is o.part)
-          (there_is (λ p. dimensions p.now.dimension ≡ dimensions m.dimension) c.polygon.result c.unwrap.result is
-          o.dimensions))
+          (there_is (λ p. p.now.dimension ≡ m.dimension) c.polygon.result c.unwrap.result is
+          o.dimension))
           c.requires.fits;
     }
 
@@ -28,8 +28,8 @@ loop-i-preserved c =
     (sym (there_seen (λ p. p.now.spelled) c.polygon.result c.unwrap.result _ is o.spelled))
     (part_value polygon m.parts m.dimension p.dimension c.loop-i.i p.parts
     (there_seen (λ p. p.now.parts) c.polygon.result c.unwrap.result _ is o.part)
-    (there_is (λ p. dimensions p.now.dimension ≡ dimensions m.dimension) c.polygon.result c.unwrap.result is
-    o.dimensions))
+    (there_is (λ p. p.now.dimension ≡ m.dimension) c.polygon.result c.unwrap.result is
+    o.dimension))
     c.in_ok-add_polygon.ensures
 
 pub returns : goal.returns
@@ -39,7 +39,7 @@ returns c =
       arith,
       c.loop-i-test.false,
       c.num_polygons-i-end.ensures,
-      length-map c.args.multi.now.parts (fitted_line_strings (dimensions c.args.multi.now.dimension)),
+      length-map c.args.multi.now.parts (fitted_line_strings (as_dimensions c.args.multi.now.dimension)),
       each_count (polygon c.args.multi.now.dimension) c.args.multi.now.parts,
     ))
     c.loop-i.invariant

@@ -1,4 +1,4 @@
-use Rattle.wkb_c.proofs.Common.{arith, length-map, dimensions, fitted_line_string}
+use Rattle.wkb_c.proofs.Common.{arith, length-map, as_dimensions, fitted_line_string}
 use Rattle.wkb_c.proofs.Growth.{no_first}
 use Rattle.wkb_c.proofs.parts.count_rings.Goals as goal
 
@@ -8,7 +8,7 @@ overflow_add-result c =
       arith,
       c.num_interiors.ensures,
       c.requires,
-      length-map c.args.polygon.now.parts (fitted_line_string (dimensions c.args.polygon.now.dimension)),
+      length-map c.args.polygon.now.parts (fitted_line_string (as_dimensions c.args.polygon.now.dimension)),
     )
 
 pub returns-in-None : goal.returns-in-None

@@ -66,7 +66,7 @@ pub returns-in-Point-clause-scans : goal.returns-in-Point-clause-scans
 returns-in-Point-clause-scans c = λ g.
     let b = body_of (goal.at.returns-in-Point-clause-scans c).After-rest_from-body g in
     point_scanned g _ _ _ (is_point b _ c.in-Point.is) c.scan_coordinates.ensures.rest
-    c.scan_coordinates.ensures.widens
+    c.scan_coordinates.ensures.adds
 
 pub returns-in-Point-clause-smaller : goal.returns-in-Point-clause-smaller
 returns-in-Point-clause-smaller c =
@@ -76,7 +76,7 @@ returns-in-Point-clause-smaller c =
 pub returns-in-LineString-clause-scans : goal.returns-in-LineString-clause-scans
 returns-in-LineString-clause-scans c = λ g.
     let b = body_of (goal.at.returns-in-LineString-clause-scans c).After-rest_from-body g in
-    line_scanned g _ _ _ (is_line b _ c.in-LineString.is) c.scan_ring.ensures.rest c.scan_ring.ensures.widens
+    line_scanned g _ _ _ (is_line b _ c.in-LineString.is) c.scan_ring.ensures.rest c.scan_ring.ensures.adds
 
 pub returns-in-LineString-clause-smaller : goal.returns-in-LineString-clause-smaller
 returns-in-LineString-clause-smaller c =
@@ -87,7 +87,7 @@ pub returns-in-Polygon-clause-scans : goal.returns-in-Polygon-clause-scans
 returns-in-Polygon-clause-scans c = λ g.
     let b = body_of (goal.at.returns-in-Polygon-clause-scans c).After-rest_from-body g in
     polygon_scanned g _ _ _ (is_polygon b _ c.in-Polygon.is) _ _ c.u32_at-count.ensures c.rest_from-rings.ensures
-    c.scan_rings.ensures.rest c.scan_rings.ensures.widens
+    c.scan_rings.ensures.rest c.scan_rings.ensures.adds
 
 pub returns-in-Polygon-clause-smaller : goal.returns-in-Polygon-clause-smaller
 returns-in-Polygon-clause-smaller c =

@@ -37,7 +37,7 @@ loop-preserved c =
       widens =
           rw c.scan_ring-rest.ensures.rest
           (rings_next order d count i rest c.args.bounds.now c.loop.bounds count c.args.bytes.now
-          c.loop.invariant.widens c.scan_ring-rest.new.bounds c.loop-test.true c.scan_ring-rest.ensures.widens);
+          c.loop.invariant.widens c.scan_ring-rest.new.bounds c.loop-test.true c.scan_ring-rest.ensures.adds);
       room = c.scan_ring-rest.ensures.room;
     }
 
@@ -46,7 +46,7 @@ returns-clause-rest c =
     behind_end c.args.order c.args.dimension c.args.count c.loop.counter c.loop.rest.now _ c.loop-test.false
     c.loop.invariant.behind
 
-pub returns-clause-widens : goal.returns-clause-widens
-returns-clause-widens c =
+pub returns-clause-adds : goal.returns-clause-adds
+returns-clause-adds c =
     rings_end c.args.order c.args.dimension c.args.count c.loop.counter c.loop.rest.now c.args.bounds.now c.loop.bounds
     c.args.count c.args.bytes.now c.loop.invariant.widens c.loop-test.false
