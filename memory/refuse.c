@@ -1,7 +1,7 @@
-// Preloaded into a test or a program of one thread. At each growth of memory, which the kit's allocator asks of malloc
-// or realloc, the process splits: a child goes on as if the growth were refused, and the process itself, once the
-// child has ended, with the memory. What the child writes from then on goes to the file whose descriptor stands in
-// REPORT, and behind it, between two zero bytes, its status, or its signal as a negative number.
+// Preloaded into a test or a program of one thread. At each allocation, which the kit's allocator asks of malloc or
+// realloc, the process splits: a child goes on as if the allocation had failed, and after its end the process itself
+// goes on with the memory. What the child writes from then on goes to the file whose descriptor is in REPORT, and
+// after it, between two zero bytes, its status, or its signal as a negative number.
 #include <stdio.h>
 #include <stdlib.h>
 #include <sys/wait.h>
@@ -11,7 +11,7 @@ extern void *__libc_malloc(size_t), *__libc_realloc(void *, size_t);
 
 enum { SECONDS = 60 };
 
-// Below zero nothing is refused: before the program begins, and in a child.
+// Below zero no allocation fails: before the program begins, and in a child.
 static int report = -1;
 
 __attribute__((constructor)) static void begin(void) {

@@ -34,7 +34,7 @@ fn show_outcome(line: &mut Line, alloc: Global, words: &[String], input: &Line) 
     }
 }
 
-/// Shows what a run with these words answers to an input.
+/// Shows how a run with these words ends on an input.
 pub fn show_run(line: &mut Line, alloc: Global, words: &str, input: &str) {
     match (arguments(alloc, words), input_of_run(alloc, input)) {
         (Ok(words), Ok(input)) => show_outcome(line, alloc, words.as_slice(), &input),

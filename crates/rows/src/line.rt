@@ -5,7 +5,7 @@ use std::fmt::Debug;
 use std::io::Write;
 use std::str;
 
-/// A line that is being written, or the input of a run. Its calls hand on no error: where memory was refused,
+/// A line that is being written, or the input of a run. Its calls return no error: if an allocation failed,
 /// `as_slice` says so in place of what was written.
 #[derive(Drop)]
 pub struct Line {
@@ -34,14 +34,14 @@ impl Line {
         self.append(words.as_bytes());
     }
 
-    /// Appends a value behind its label.
+    /// Appends a value after its label.
     pub fn show<D: Debug + Drop>(&mut self, label: &str, value: D) {
         if write!(self.bytes, "{label}{value:?}").is_err() {
             self.is_whole = false;
         }
     }
 
-    /// Appends the hex digits of bytes behind their label.
+    /// Appends the hex digits of bytes after their label.
     pub fn show_bytes(&mut self, label: &str, bytes: &[u8]) {
         self.say(label);
         for byte in bytes {
@@ -59,7 +59,7 @@ impl Line {
         }
     }
 
-    /// What was written, if no memory was refused.
+    /// What was written, if no allocation failed.
     pub fn whole(&self) -> Option<&[u8]> {
         if self.is_whole {
             Some(self.bytes.as_slice())
@@ -76,7 +76,7 @@ impl Line {
         }
     }
 
-    /// What was written, without spaces round it.
+    /// What was written, without spaces around it.
     pub fn as_str(&self) -> &str {
         str::from_utf8(self.as_slice()).unwrap_or("no text").trim()
     }

@@ -1,4 +1,4 @@
-//! The bytes that the members of a geometry lend.
+//! The bytes that the members of a geometry borrow.
 
 use crate::line::Line;
 use wkb::geom::{
@@ -6,8 +6,8 @@ use wkb::geom::{
 };
 use wkb::reader::Wkb;
 
-/// The bytes of a collection's member, which for a point are those of its view.
-fn lent<'a>(member: &Wkb<'a>) -> &'a [u8] {
+/// The bytes that a collection's member borrows; for a point those of its view.
+fn borrowed<'a>(member: &Wkb<'a>) -> &'a [u8] {
     match member.as_type() {
         GeometryType::Point(point) => point.buf(),
         _ => member.buf(),
@@ -20,7 +20,7 @@ fn member_bytes<'a>(wkb: &Wkb<'a>, i: usize) -> Option<&'a [u8]> {
         GeometryType::MultiPoint(multi) => Some(multi.point(i)?.buf()),
         GeometryType::MultiLineString(multi) => Some(multi.line_string(i)?.buf()),
         GeometryType::MultiPolygon(multi) => Some(multi.polygon(i)?.buf()),
-        GeometryType::GeometryCollection(members) => Some(lent(members.get(i)?)),
+        GeometryType::GeometryCollection(members) => Some(borrowed(members.get(i)?)),
         _ => None,
     }
 }

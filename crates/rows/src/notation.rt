@@ -22,7 +22,7 @@ fn spell_repeated(line: &mut Line, piece: &str) {
     }
 }
 
-/// Appends the digits of bytes whose pieces stand between commas.
+/// Appends the digits of bytes, the pieces of which are separated by commas.
 fn spell(line: &mut Line, text: &str) {
     for piece in text.split(',') {
         spell_repeated(line, piece);
@@ -45,13 +45,29 @@ pub fn write_out(line: &mut Line, text: &str) {
     }
 }
 
-/// The input of a run: a text that is written out, and in which each `{..}` becomes the bytes in it.
-pub fn input_of_run(alloc: Global, text: &str) -> Result<Line, FromHexError> {
-    let mut input = Line::new(alloc);
+/// Appends a text in which each `{..}` becomes the bytes in it.
+fn write_text(line: &mut Line, alloc: Global, text: &str) -> Result<(), FromHexError> {
     for piece in text.split('}') {
         let (words, raw) = piece.split_once('{').unwrap_or((piece, ""));
-        write_out(&mut input, words);
-        input.append(bytes(alloc, raw)?.as_slice());
+        line.say(words);
+        line.append(bytes(alloc, raw)?.as_slice());
     }
-    Ok(input)
+    Ok(())
+}
+
+/// What the program is given of an input: the hex digits of bytes, a line of hex for each of two inputs, and a text in
+/// quotes as it is.
+pub fn input_of_run(alloc: Global, input: &str) -> Result<Line, FromHexError> {
+    let mut given = Line::new(alloc);
+    if let Some(text) = input.strip_prefix('"') {
+        write_text(&mut given, alloc, text.strip_suffix('"').unwrap_or(text))?;
+    } else if let Some((first, second)) = input.split_once('/') {
+        spell(&mut given, first);
+        given.say("\n");
+        spell(&mut given, second);
+        given.say("\n");
+    } else {
+        spell(&mut given, input);
+    }
+    Ok(given)
 }

@@ -1,6 +1,5 @@
 //! What a row can ask, by its words.
 
-use crate::check::show_check;
 use crate::command::show_run;
 use crate::line::Line;
 use crate::members::show_members;
@@ -54,8 +53,7 @@ fn show_of_bytes(line: &mut Line, alloc: Global, question: &str, input: &[u8]) {
         return show_encoding(line, rewritten_as(alloc, input, &options));
     }
     match question {
-        "reading" => show_reading(line, alloc, input),
-        "check" => show_check(line, alloc, input),
+        "read" => show_reading(line, alloc, input),
         "be then le" => show_there_and_back(line, alloc, input),
         "own srid le" => {
             show_encoding(line, with_own_srid(alloc, input, Endianness::LittleEndian))

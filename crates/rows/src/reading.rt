@@ -6,6 +6,8 @@ use wkb::error::WkbError;
 use wkb::reader::Wkb;
 use wkb::writer::geometry_wkb_size;
 use wkb_cases::reading::{Outcome, answer_to, are_same, counts, tried, view_size};
+use wkb_check::{Refused, Summary, check};
+use wkb_geom::Cause;
 
 /// Shows an error; a general one by its fault alone.
 pub fn show_error(line: &mut Line, error: &WkbError) {
@@ -16,7 +18,7 @@ pub fn show_error(line: &mut Line, error: &WkbError) {
 }
 
 /// Shows how a reading ended.
-pub fn show_outcome(line: &mut Line, outcome: Outcome) {
+fn show_outcome(line: &mut Line, outcome: Outcome) {
     match outcome {
         Outcome::Accepted(size) => line.show("accepted, size ", size),
         Outcome::EndOfInput => line.say("IOError"),
@@ -31,7 +33,7 @@ pub fn show_outcome(line: &mut Line, outcome: Outcome) {
     }
 }
 
-/// Shows how another call ended if it isn't as the first one did.
+/// Shows how another call ended, if it ended otherwise than the first one.
 fn show_other(line: &mut Line, label: &str, first: Outcome, other: Outcome) {
     if other != first {
         line.say(label);
@@ -39,18 +41,51 @@ fn show_other(line: &mut Line, label: &str, first: Outcome, other: Outcome) {
     }
 }
 
-/// Shows how `read_wkb_counted` ends and what it counts, and how `read_wkb` and `Wkb::try_new` end where they end
-/// otherwise.
+/// How a check ended, in the terms of a reading.
+fn outcome_of(answer: &Result<Summary, Refused>) -> Outcome {
+    match answer {
+        Ok(found) => Outcome::Accepted(found.bytes as u64),
+        Err(refused) => match refused.cause {
+            Cause::EndOfInput => Outcome::EndOfInput,
+            Cause::General(fault) => Outcome::Refused(fault),
+            Cause::IncorrectType => Outcome::WrongMember,
+            Cause::NestingDepthExceeded(limit) => Outcome::TooDeep(limit),
+        },
+    }
+}
+
+/// Shows what a check returns, aside from how it ended.
+fn show_check(line: &mut Line, answer: &Result<Summary, Refused>) {
+    match answer {
+        Ok(found) => {
+            line.show("parts ", found.parts);
+            line.show(", coordinates ", found.coordinates);
+            line.show(", ", found.wkb_type);
+            line.show(", srid ", found.srid);
+        }
+        Err(refused) => {
+            line.show("part ", refused.part);
+            line.show(", offset ", refused.offset);
+        }
+    }
+}
+
+/// Shows how `read_wkb_counted` ends, what it counts, and what the check without memory returns. `read_wkb`,
+/// `Wkb::try_new` and the check are shown besides where they end otherwise.
 pub fn show_reading(line: &mut Line, alloc: Global, input: &[u8]) {
     let (outcome, turns, slots) = counts(alloc, input);
+    let checked = check(input);
     show_outcome(line, outcome);
     line.show(", turns ", turns);
     line.show(", slots ", slots);
+    line.say("; ");
+    show_check(line, &checked);
     show_other(line, ", but by read_wkb ", outcome, answer_to(alloc, input));
     show_other(line, ", but by Wkb::try_new ", outcome, tried(alloc, input));
+    show_other(line, ", but by the check ", outcome, outcome_of(&checked));
 }
 
-/// Shows kind, dimension and SRID of a geometry, and how many bytes it lends and its view has.
+/// Shows kind, dimension and SRID of a geometry, and how many bytes it borrows and its view has.
 pub fn show_geometry(line: &mut Line, wkb: &Wkb<'_>) {
     line.show("", wkb.geometry_type());
     line.show(" ", wkb.dimension());

@@ -1,4 +1,4 @@
-//! Inputs that are written anew, and inputs that are compared.
+//! Inputs that are rewritten, and inputs that are compared.
 
 use crate::line::Line;
 use crate::notation::bytes;
@@ -25,7 +25,7 @@ pub fn show_there_and_back(line: &mut Line, alloc: Global, input: &[u8]) {
     }
 }
 
-/// Shows whether the two inputs round a `/` have equal values.
+/// Shows whether the two inputs around a `/` have equal values.
 pub fn show_comparison(line: &mut Line, alloc: Global, inputs: &str) {
     let (first, second) = inputs.split_once('/').unwrap_or((inputs, ""));
     match (bytes(alloc, first), bytes(alloc, second)) {

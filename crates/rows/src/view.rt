@@ -1,4 +1,4 @@
-//! What the calls of a view answer. Of each list of parts all are shown, and the None past the last.
+//! What the calls of a view return. Of each list of parts all are shown, and the `None` past the last.
 
 use crate::line::Line;
 use crate::members::show_members;
@@ -186,7 +186,7 @@ fn show_collection(line: &mut Line, collection: &GeometryCollection<'_>) {
     line.say("]");
 }
 
-/// Shows what the view of a geometry answers.
+/// Shows what the calls of the view of a geometry return.
 pub fn show_view(line: &mut Line, wkb: &Wkb<'_>) {
     match wkb.as_geometry_collection() {
         Some(collection) => show_collection(line, collection),

@@ -1,7 +1,7 @@
 -- What a place means as a coordinate.
 use Rattle.std.specs.Prelude.{ℕ, List, [], ◌∷◌, refl}
 use Rattle.wkb_cases.specs.declared.places.Place.{Place}
-use Rattle.wkb.specs.Words.traits.{Xy}
+use Rattle.wkb.specs.Prelude.traits.{Xy}
 use Rattle.wkb.specs.Geometries.{IsCoordinate}
 
 abbrev pub place_words : Place → List ℕ

@@ -1,5 +1,5 @@
 //! What the tests of the worked cases share: bytes from the text of a case, and what the public calls of
-//! `wkb` answer for them.
+//! `wkb` return for them.
 #![tactic(auto)]
 
 pub mod example;

@@ -2,23 +2,8 @@
 
 use std::alloc::Global;
 use wkb::error::WkbResult;
-use wkb::geom::{CoordTrait, GeometryTrait, GeometryType, LineStringTrait};
+use wkb::geom::{CoordTrait, GeometryTrait, GeometryType, LineStringTrait, ordinate};
 use wkb::reader::read_wkb;
-
-/// The bit of a word that tells the number's sign.
-const SIGN: u64 = 0x8000_0000_0000_0000;
-/// The word of the greatest number that is one, which is infinite.
-const INFINITY: u64 = 0x7ff0_0000_0000_0000;
-
-/// The number that an ordinate's word stands for; none if it is not a number.
-#[tactic(auto, using(std::proofs::lemmas::Float::not_nan_f64_bits))]
-pub fn ordinate(word: u64) -> Option<f64> {
-    if word % SIGN <= INFINITY {
-        Some(f64::from_bits(word))
-    } else {
-        None
-    }
-}
 
 /// The greatest x of a line string; none if no x is a number, or the bytes hold something else.
 pub fn greatest_x(alloc: Global, bytes: &[u8]) -> WkbResult<Option<f64>> {

@@ -1,9 +1,9 @@
 //! A type of one's own that is written, as the README shows it.
 
 ghost use Rattle.std.specs.Prelude.{◌≡◌, ◌<◌, ◌^◌, ◌∷◌, [], Some, IfOk};
-ghost use Rattle.wkb.specs.Words.traits.{Xy};
+ghost use Rattle.wkb.specs.Prelude.traits.{Xy};
 ghost use Rattle.wkb.specs.Geometries.{point};
-ghost use Rattle.wkb.specs.Encodings.{encoding};
+ghost use Rattle.wkb.specs.Encodings.{encoding_of};
 
 use std::alloc::Global;
 use wkb::error::WkbResult;
@@ -79,7 +79,7 @@ impl PointTrait for Place {
 
 /// A place as a point, under the options.
 pub fn written(alloc: Global, place: &Place, options: &WriteOptions) -> WkbResult<Vec<u8>>
-    ensures { IfOk result (λ bytes. bytes.items ≡ encoding options.now.endianness options.now.form
+    ensures { IfOk result (λ bytes. bytes.items ≡ encoding_of options.now
         (point Xy (Some (place.now.longitude ∷ place.now.latitude ∷ [])))) }
 {
     let mut sink = VecSink::new(alloc);

@@ -1,4 +1,4 @@
-//! What reading the bytes of a case answers.
+//! What reading the bytes of a case returns.
 
 use crate::support::iso;
 use std::alloc::Global;
@@ -14,10 +14,10 @@ use wkb::reader::{
 };
 use wkb::writer::WriteOptions;
 
-/// What a reading answered.
+/// How a reading ended.
 #[derive(Debug, Clone, Copy, PartialEq)]
 pub enum Outcome {
-    /// Accepted, with the size that the view of the whole geometry answers.
+    /// Accepted, with the size that the view of the whole geometry returns.
     Accepted(u64),
     /// An `IOError` of the kind `UnexpectedEof`.
     EndOfInput,
@@ -25,13 +25,13 @@ pub enum Outcome {
     WrongMember,
     Refused(General),
     TooDeep(usize),
-    /// Memory was refused.
+    /// An allocation failed.
     Memory,
     /// Any other error.
     Other,
 }
 
-/// The view that `as_type` answers.
+/// The view that `as_type` returns.
 #[derive(Clone, Copy)]
 enum View<'v, 'a> {
     Point(&'v Point<'a>),
@@ -56,7 +56,7 @@ fn view_of<'v, 'a>(wkb: &'v Wkb<'a>) -> View<'v, 'a> {
     }
 }
 
-/// The size that the view of the whole geometry answers.
+/// The size that the view of the whole geometry returns.
 pub fn view_size(wkb: &Wkb<'_>) -> u64 {
     match view_of(wkb) {
         View::Point(point) => point.size(),
@@ -98,17 +98,17 @@ pub fn read<'a>(alloc: Global, input: &'a [u8]) -> WkbResult<Wkb<'a>> {
     read_wkb(alloc, input)
 }
 
-/// What `read_wkb` answers to these bytes.
+/// How `read_wkb` ends for these bytes.
 pub fn answer_to(alloc: Global, input: &[u8]) -> Outcome {
     outcome_of(read(alloc, input))
 }
 
-/// What `Wkb::try_new` answers to these bytes.
+/// How `Wkb::try_new` ends for these bytes.
 pub fn tried(alloc: Global, input: &[u8]) -> Outcome {
     outcome_of(Wkb::try_new(alloc, input))
 }
 
-/// What `read_wkb_counted` answers, with its turns and slots.
+/// How `read_wkb_counted` ends, with its turns and slots.
 pub fn counts(alloc: Global, input: &[u8]) -> (Outcome, u128, u128) {
     let (answer, counts) = read_wkb_counted(alloc, input);
     (outcome_of(answer), counts.turns, counts.slots)

@@ -10,8 +10,8 @@ const CAPACITY: usize = 9021;
 /// What `P` stands for: 1.0 and 2.0, little endian.
 const ONE_AND_TWO: [u8; 16] = [0, 0, 0, 0, 0, 0, 0xf0, 0x3f, 0, 0, 0, 0, 0, 0, 0, 0x40];
 
-/// The bytes of a case, or of what a call wrote. They take no memory, so that a test can have each growth of the call
-/// that it makes refused.
+/// The bytes of a case, or of what a call wrote. They allocate nothing, so that a test can have each allocation of the
+/// call that it makes fail.
 #[derive(Drop)]
 pub struct Spelled {
     bytes: [u8; CAPACITY],
@@ -49,7 +49,7 @@ impl Spelled {
         }
     }
 
-    /// Appends bytes, and answers whether there was room for all of them.
+    /// Appends bytes, and returns whether there was room for all of them.
     pub fn append(&mut self, bytes: &[u8]) -> bool {
         for byte in bytes {
             if self.len >= CAPACITY {

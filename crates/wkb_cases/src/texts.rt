@@ -23,7 +23,7 @@ const ONE_MEMBER: &str = "01 07000000 01000000";
 /// A point of two zeros.
 const ZEROS: &str = "01 01000000 0000000000000000 0000000000000000";
 
-/// So many collections, one in the other, round a point.
+/// This many collections, one inside the other, around a point.
 pub fn nested_in(levels: usize) -> Result<Spelled, Fail> {
     repeated(levels, ONE_MEMBER, ZEROS)
 }

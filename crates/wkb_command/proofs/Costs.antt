@@ -4,7 +4,7 @@ use Rattle.std.specs.Result.{result_err}
 use Rattle.wkb_geom.specs.declared.error.Cause.{Cause}
 use Rattle.wkb_geom.specs.declared.error.WkbError.{WkbError}
 use Rattle.wkb_geom.specs.declared.error.WkbError.TheVariants as errors
-use Rattle.wkb.specs.Canonical.{Accepts, IsRefused}
+use Rattle.wkb_command.specs.Readings.{Accepts, IsRefused}
 use Rattle.wkb.specs.Reads.{Wkb, Counts, Costs, Reads}
 use Rattle.wkb_command.specs.Calls.{IsHexOf}
 

@@ -4,7 +4,7 @@ use Rattle.std.specs.Prelude.{IfErr, IsErrAnd}
 use Rattle.hex.specs.Hex.{decode_of}
 use Rattle.hex.specs.declared.error.FromHexError.{FromHexError}
 use Rattle.hex.specs.declared.error.FromHexError.TheVariants as hex_errors
-use Rattle.wkb_geom.specs.Told.{Tells}
+use Rattle.wkb_geom.specs.Errors.{Tells}
 use Rattle.wkb_geom.specs.Errors.{IsMemory}
 use Rattle.wkb_geom.specs.Fronts.{max_nesting}
 use Rattle.wkb_geom.specs.declared.error.Cause.{Cause}
@@ -80,7 +80,7 @@ refused_pair first second a b read other e hex hex' is is' (inl h) =
 refused_pair first second a b read other e hex hex' is is' (inr (accepted, h)) =
     (read ∷ other ∷ [], ((rw is hex), ((rw is' hex'), tt)), refused_behind read other e accepted h)
 
--- want of memory, or what a call on the only input's bytes refuses
+-- a failed allocation, or what a call on the only input's bytes refuses
 pub refused_or_long : (text bytes read : List ℕ) (e : WkbError) (IsLong : List ℕ → Type 0) → IsHexOf text bytes
     → read ≡ bytes
     → IsMemory e ⊎ (RefusedFirst (read ∷ []) e ⊎ (IsLong read × IsSize e))

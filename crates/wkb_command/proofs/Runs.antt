@@ -1,11 +1,12 @@
 -- How a run ends.
-use Rattle.std.proofs.Common.{◌≡◌, ℕ, List, [], ◌∷◌, ◌++◌, Option, Some, None, IfSome, IfOk, Result, sym}
+use Rattle.std.proofs.Common.{◌≡◌, ℕ, List, [], ◌∷◌, Option, Some, None, IfSome, IfOk, Result, Ok, Err, refl, sym}
 use Rattle.std.specs.declared.alloc.AllocError.{AllocError}
+use Rattle.std.specs.Io.{StartsWith}
 use Rattle.wkb_command.specs.declared.program.Command.{Command}
 use Rattle.wkb_command.specs.declared.program.Report.{Report}
-use Rattle.wkb_command.specs.Reports.{said}
-use Rattle.wkb_command.proofs.Told.{IfOk-from}
-use Rattle.wkb_command.specs.Program.{line_feed, Answers, Ends, answered, asked, command_name, Says, lines}
+use Rattle.wkb_command.specs.Reports.{line_of, IsReport, IsReportOn, IsLineOf}
+use Rattle.wkb_command.specs.Program.{Answers, asked, Ends, answered, cut_short, out_of_memory, RunEnds, status_failed}
+use Rattle.wkb_command.specs.Program.{command_name, lines}
 
 pub IfSome-any : (o : Option (List ℕ)) (P : List ℕ → Type 0) → ((x : List ℕ) → P x) → IfSome o P
 IfSome-any None P f = tt
@@ -17,18 +18,38 @@ pub IfSome-read : (o : Option (List ℕ)) (P : List ℕ → Type 0) (read : List
 IfSome-read None P read is h = tt
 IfSome-read (Some x) P read is h = rw (sym is) h
 
-pub ends_answered : (arguments : List (List ℕ)) (input line written : List ℕ) (status : ℕ) → written ≡ line
-    → Answers arguments input line status → Ends arguments input status written
-ends_answered arguments input line written status is h = rw is (answered h)
+-- the whole line of a report was written
+pub ends_whole : (r : Result Report AllocError) (report : Report) (written : List ℕ) → r ≡ Ok report
+    → written ≡ line_of report.output → Ends (IsLineOf r) report.status written
+ends_whole r report written is whole = rw whole (answered {line = line_of report.output} {status = report.status} (rw is (refl, refl)))
 
-pub fixed_answer : (arguments : List (List ℕ)) (input line : List ℕ) (status : ℕ) (r : Result Report AllocError)
-    → IfOk r (λ report. (said report.output ≡ line) × (report.status ≡ status))
-    → Answers arguments input (line ++ line_feed ∷ []) status
-    → IfOk r (λ report. Answers arguments input (said report.output ++ line_feed ∷ []) report.status)
-fixed_answer arguments input line status r h answers = IfOk-from r _ _ h (λ report is. rw (is.0, is.1) answers)
+-- a prefix of it was written
+pub ends_cut : (r : Result Report AllocError) (report : Report) (written : List ℕ) → r ≡ Ok report
+    → StartsWith (line_of report.output) written → Ends (IsLineOf r) status_failed written
+ends_cut r report written is begins = cut_short {status = report.status} (rw is (refl, refl)) begins
 
+Ends-from : (P Q : List ℕ → ℕ → Type 0) (status : ℕ) (written : List ℕ)
+    → ((line : List ℕ) (s : ℕ) → P line s → Q line s) → Ends P status written → Ends Q status written
+Ends-from P Q status written f (answered h) = answered (f _ _ h)
+Ends-from P Q status written f (cut_short h begins) = cut_short (f _ _ h) begins
+Ends-from P Q status written f (out_of_memory begins) = out_of_memory begins
+
+pub RunEnds-from : (old new : Option (List ℕ)) (P Q : List ℕ → ℕ → Type 0) (status : ℕ) → RunEnds old new P status
+    → ((line : List ℕ) (s : ℕ) → P line s → Q line s) → RunEnds old new Q status
+RunEnds-from old new P Q status h f =
+    record { written = h.written; appended = h.appended; ends = Ends-from P Q status h.written f h.ends }
+
+-- the line of a report with a fixed line
+pub fixed_answer : (arguments : List (List ℕ)) (input fixed : List ℕ) (code : ℕ) (r : Result Report AllocError)
+    → IfOk r (IsReport fixed code) → Answers arguments input fixed code
+    → (line : List ℕ) (status : ℕ) → IsLineOf r line status → Answers arguments input line status
+fixed_answer arguments input fixed code (Ok report) h answers line status is =
+    rw (is.0, is.1) (rw (h.0, h.1) answers)
+fixed_answer arguments input fixed code (Err e) h answers line status is = absurd is
+
+-- the line of a report on the input
 pub said_answer : (arguments : List (List ℕ)) (input : List ℕ) (command : Command) (r : Result Report AllocError)
-    → arguments ≡ command_name command ∷ []
-    → IfOk r (λ report. Says (lines input) command (said report.output) report.status)
-    → IfOk r (λ report. Answers arguments input (said report.output ++ line_feed ∷ []) report.status)
-said_answer arguments input command r is h = IfOk-from r _ _ h (λ report says. asked is says)
+    → arguments ≡ command_name command ∷ [] → IfOk r (IsReportOn (lines input) command)
+    → (line : List ℕ) (status : ℕ) → IsLineOf r line status → Answers arguments input line status
+said_answer arguments input command (Ok report) named says line status is = rw (is.0, is.1) (asked named says)
+said_answer arguments input command (Err e) named says line status is = absurd is

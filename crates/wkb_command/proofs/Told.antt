@@ -1,13 +1,12 @@
--- What is said of a refusal.
-use Rattle.std.proofs.Common.{◌≡◌, ◌≢◌, ℕ, List, [], ◌∷◌, ◌++◌, length, append_assoc, refl, sym, ap, ◌∙◌, arith}
+-- What reports say.
+use Rattle.std.proofs.Common.{◌≡◌, ◌≢◌, ℕ, List, [], ◌∷◌, ◌++◌, length, append_assoc, refl, sym, ◌∙◌, arith}
 use Rattle.std.proofs.Common.{Bool, true, false, Option, Some, Result, Ok, Err, ◌⊎◌, inl, inr, IfOk}
 use Rattle.std.specs.Prelude.{codes}
 use Rattle.std.specs.Bool.{MatchBool}
 use Rattle.std.specs.Fmt.{decimal}
 use Rattle.std.specs.declared.alloc.AllocError.{AllocError}
 use Rattle.wkb_command.specs.declared.program.Report.{Report}
-use Rattle.wkb_command.specs.Reports.{said}
-use Rattle.hex.specs.Hex.{encode_lower}
+use Rattle.wkb_command.specs.Reports.{line_of, IsReport, IsReportOn}
 use Rattle.wkb_geom.specs.declared.common.Endianness.{Endianness}
 use Rattle.wkb_geom.specs.declared.common.Form.TheVariants.{Iso}
 use Rattle.wkb_geom.specs.declared.error.Cause.{Cause}
@@ -15,17 +14,19 @@ use Rattle.wkb_geom.specs.declared.error.Cause.TheVariants.{EndOfInput as end_of
 use Rattle.wkb_geom.specs.declared.error.Cause.TheVariants.{IncorrectType as incorrect_type}
 use Rattle.wkb_geom.specs.declared.error.Cause.TheVariants.{NestingDepthExceeded as nesting_depth_exceeded}
 use Rattle.wkb_geom.specs.Encodings.{IsRewriting, IsRewritingWithSrid}
-use Rattle.wkb_geom.specs.Told.{Tells}
-use Rattle.wkb.specs.Canonical.{IsTooLong, HasSrid, Accepts, IsRefused}
+use Rattle.wkb_geom.specs.Errors.{Tells}
+use Rattle.wkb.specs.Canonical.{OverflowsWithSrid}
+use Rattle.wkb_command.specs.Readings.{HasSrid}
 use Rattle.wkb_geom.specs.declared.error.WkbError.{WkbError}
 use Rattle.wkb_geom.specs.declared.error.WkbError.TheVariants as errors
 use Rattle.wkb_command.specs.declared.calls.HexFault.{HexFault}
 use Rattle.wkb_command.specs.declared.calls.HexFault.TheVariants.{NotHex, Wkb, Memory}
 use Rattle.wkb_command.specs.declared.program.Command.{Command}
 use Rattle.wkb_command.specs.declared.program.Command.TheVariants.{Rewrite, RewriteWithSrid, Same, Cost, Srid}
-use Rattle.wkb_command.specs.Calls.{AreHex, AreHexOf, IsHexOf, IsFaultOf, RefusedFirst, IsOversized}
+use Rattle.wkb_command.specs.declared.calls.Cost.{Cost as Spent}
+use Rattle.wkb_command.specs.Calls.{AreHex, AreHexOf, IsHexOf, OfHex, IsCost, IsFaultOf, RefusedFirst, IsOversized}
 use Rattle.wkb_command.specs.Program.{Says, rewritten, rewritten_with_srid, accepted, counted_refusal, srid, refused}
-use Rattle.wkb_command.specs.Program.{not_hex, IsOneLine}
+use Rattle.wkb_command.specs.Program.{not_hex, IsOneLine, IsNotSingle, IsNotPair, hex_line}
 use Rattle.wkb_command.specs.Program.{wanted_lines, Gives, counts, TellsCause, TellsError, TellsHexFault}
 use Rattle.wkb.proofs.Encodings.{iso_fits}
 use Rattle.wkb_command.proofs.Hexes.{AreHex-from, AreHexOf-length}
@@ -38,12 +39,11 @@ TellsCause-from (errors.IncorrectType s) incorrect_type line told h = h
 TellsCause-from (errors.NestingDepthExceeded n) (nesting_depth_exceeded m) line told h = h
 TellsCause-from _ _ line told h = absurd told
 
--- what is said of an error other than the end of the input
-pub tells_text : (e : WkbError) (text front line : List ℕ) → ((x : _) → e ≡ errors.IOError x → ⊥) → IsOneLine text
-    → front ≡ codes "refused: " → line ≡ front ++ text → TellsError e line
-tells_text (errors.IOError x) text front line other one begins whole = absurd (other x refl)
-tells_text _ text front line other one begins whole =
-    record { text = text; one_line = one; whole = whole ∙ ap (λ l. l ++ text) begins }
+-- the line for an error other than the end of the input
+pub tells_text : (e : WkbError) (text line : List ℕ) → ((x : _) → e ≡ errors.IOError x → ⊥) → IsOneLine text
+    → line ≡ codes "refused: " ++ (text ++ codes "\n") → TellsError e line
+tells_text (errors.IOError x) text line other one whole = absurd (other x refl)
+tells_text _ text line other one whole = record { text = text; one_line = one; whole = whole }
 
 -- as many texts as the command wants, all hex
 pub Gives-from : (command : Command) (texts inputs : List (List ℕ)) → length texts ≡ wanted_lines command
@@ -51,13 +51,13 @@ pub Gives-from : (command : Command) (texts inputs : List (List ℕ)) → length
     → Gives command texts inputs
 Gives-from command texts inputs wanted hex = record { wanted = AreHexOf-length texts inputs hex ∙ wanted; hex = hex }
 
--- what is said of texts that aren't all hex
+-- the line for texts that aren't all hex
 pub says_not_hex : (command : Command) (texts : List (List ℕ)) (line : List ℕ) (status : ℕ) → ¬ AreHex texts
-    → line ≡ codes "not hex" → status ≡ 2 → Says texts command line status
+    → line ≡ codes "not hex\n" → status ≡ 2 → Says texts command line status
 says_not_hex command texts line status h is two =
     rw (is, two) (not_hex (λ inputs gives. h (AreHex-from texts inputs gives.hex)))
 
--- what is said of a fault, where it is known what is said of an error
+-- the line for a fault, where the line for an error is known
 pub says_fault : (command : Command) (texts : List (List ℕ)) (IsRefused : List (List ℕ) → WkbError → Type 0)
     (fault : HexFault) (line : List ℕ) (status : ℕ)
     → length texts ≡ wanted_lines command
@@ -70,7 +70,7 @@ says_fault command texts IsRefused (Wkb e) line status wanted f h told =
     rw told.1 (f h.0 e (Gives-from command texts h.0 wanted h.1) h.2 told.0)
 says_fault command texts IsRefused Memory line status wanted f h told = absurd told
 
--- the first refusal, told by its error
+-- the first refusal, as its error says
 pub says_refused : (command : Command) (texts : List (List ℕ)) (line : List ℕ) → command ≢ Cost
     → (inputs : List (List ℕ)) (e : WkbError) → Gives command texts inputs → RefusedFirst inputs e → TellsError e line
     → Says texts command line 1
@@ -83,15 +83,10 @@ pub IfOk-from : {T E : Type 0} (r : Result T E) (P Q : T → Type 0) → IfOk r 
 IfOk-from (Ok x) P Q h f = f x h
 IfOk-from (Err e) P Q h f = tt
 
--- the report says what the table says
-abbrev pub Reports : List (List ℕ) → Command → Result Report AllocError → Type 0
-Reports texts command r = IfOk r (λ report. Says texts command (said report.output) report.status)
-
 -- a fixed line
 pub reports_line : (texts : List (List ℕ)) (command : Command) (line : List ℕ) (status : ℕ)
     (r : Result Report AllocError)
-    → IfOk r (λ report. (said report.output ≡ line) × (report.status ≡ status)) → Says texts command line status
-    → Reports texts command r
+    → IfOk r (IsReport line status) → Says texts command line status → IfOk r (IsReportOn texts command)
 reports_line texts command line status r h says =
     IfOk-from r _ _ h (λ report is. rw (is.0, is.1) says)
 
@@ -103,16 +98,16 @@ pub reports_fault : (texts : List (List ℕ)) (command : Command) (IsRefused : L
     → TellsError e line
     → Says texts command line 1)
     → IsFaultOf texts IsRefused fault
-    → IfOk r (λ report. TellsHexFault fault (said report.output) report.status) → Reports texts command r
+    → IfOk r (λ report. TellsHexFault fault (line_of report.output) report.status) → IfOk r (IsReportOn texts command)
 reports_fault texts command IsRefused fault r wanted f h told =
     IfOk-from r _ _ told
-    (λ report is. says_fault command texts IsRefused fault (said report.output) report.status wanted
-    (f (said report.output)) h is)
+    (λ report is. says_fault command texts IsRefused fault (line_of report.output) report.status wanted
+    (f (line_of report.output)) h is)
 
 pub reports_refusal : (texts : List (List ℕ)) (command : Command) (fault : HexFault) (r : Result Report AllocError)
     → length texts ≡ wanted_lines command → command ≢ Cost
     → IsFaultOf texts RefusedFirst fault
-    → IfOk r (λ report. TellsHexFault fault (said report.output) report.status) → Reports texts command r
+    → IfOk r (λ report. TellsHexFault fault (line_of report.output) report.status) → IfOk r (IsReportOn texts command)
 reports_refusal texts command fault r wanted ne h told =
     reports_fault texts command RefusedFirst fault r wanted (λ line. says_refused command texts line ne) h told
 
@@ -126,7 +121,7 @@ two_inputs first second a b hex hex' = record { wanted = refl; hex = (hex, (hex'
 
 -- ---- how many lines are wanted
 
-pub gives_two : (texts inputs : List (List ℕ)) → ((a b : List ℕ) → texts ≢ a ∷ b ∷ []) → ¬ Gives Same texts inputs
+pub gives_two : (texts inputs : List (List ℕ)) → IsNotPair texts → ¬ Gives Same texts inputs
 gives_two [] inputs h gives =
     let e = AreHexOf-length [] inputs gives.hex in let w = gives.wanted in absurd (omega (arith, e, w))
 gives_two (a ∷ []) inputs h gives =
@@ -135,8 +130,7 @@ gives_two (a ∷ b ∷ []) inputs h gives = h a b refl
 gives_two (a ∷ b ∷ c ∷ rest) inputs h gives =
     let e = AreHexOf-length (a ∷ b ∷ c ∷ rest) inputs gives.hex in let w = gives.wanted in absurd (omega (arith, e, w))
 
-gives_length_one : (texts inputs : List (List ℕ)) → length inputs ≡ 1 → AreHexOf texts inputs
-    → ((a : List ℕ) → texts ≢ a ∷ []) → ⊥
+gives_length_one : (texts inputs : List (List ℕ)) → length inputs ≡ 1 → AreHexOf texts inputs → IsNotSingle texts → ⊥
 gives_length_one [] inputs w hex h = let e = AreHexOf-length [] inputs hex in omega (arith, e, w)
 gives_length_one (a ∷ []) inputs w hex h = h a refl
 gives_length_one (a ∷ b ∷ rest) inputs w hex h =
@@ -146,59 +140,55 @@ wants_one : (command : Command) → command ≢ Same → wanted_lines command �
 wants_one Same ne = absurd (ne refl)
 wants_one _ ne = refl
 
-pub gives_one : (command : Command) (texts inputs : List (List ℕ)) → command ≢ Same → ((a : List ℕ) → texts ≢ a ∷ [])
+pub gives_one : (command : Command) (texts inputs : List (List ℕ)) → command ≢ Same → IsNotSingle texts
     → ¬ Gives command texts inputs
 gives_one command texts inputs ne h gives =
     gives_length_one texts inputs (gives.wanted ∙ wants_one command ne) gives.hex h
 
--- ---- what each call's answer says
-
-pub says_rewritten : (order : Endianness) (text line items : List ℕ) → line ≡ encode_lower items
-    → (bytes : List ℕ) × IsHexOf text bytes × IsRewriting order Iso bytes items
-    → Says (text ∷ []) (Rewrite order) line 0
-says_rewritten order text line items is h = rw is (rewritten (one_input (Rewrite order) text h.0 refl h.1) h.2)
-
-pub says_rewritten_with_srid : (order : Endianness) (text line items : List ℕ) → line ≡ encode_lower items
-    → (bytes : List ℕ) × IsHexOf text bytes × IsRewritingWithSrid order bytes items
-    → Says (text ∷ []) (RewriteWithSrid order) line 0
-says_rewritten_with_srid order text line items is h =
-    rw is (rewritten_with_srid (one_input (RewriteWithSrid order) text h.0 refl h.1) h.2)
-
-pub says_iso_refused : (order : Endianness) (text line : List ℕ) (inputs : List (List ℕ)) (e : WkbError)
-    → Gives (Rewrite order) (text ∷ []) inputs
-    → RefusedFirst inputs e ⊎ IsOversized (IsTooLong order Iso) inputs e
-    → TellsError e line → Says (text ∷ []) (Rewrite order) line 1
-says_iso_refused order text line inputs e gives (inl first) told =
-    says_refused (Rewrite order) (text ∷ []) line (λ is. cc) inputs e gives first told
-says_iso_refused order text line inputs e gives (inr h) told = absurd (iso_fits order h.bytes h.long)
-
-pub counts_line : (verdict : List ℕ) (turns slots : ℕ)
-    → verdict ++ (codes " turns " ++ (decimal turns ++ (codes " slots " ++ decimal slots))) ≡ counts verdict turns slots
-counts_line verdict turns slots = simp append_assoc
-
-pub says_accepted : (text : List ℕ) (is_accepted : Bool) (turns slots : ℕ) → is_accepted ≡ true
-    → (bytes : List ℕ) × IsHexOf text bytes
-    × MatchBool is_accepted (Accepts bytes turns slots) ((cause : Cause) × IsRefused bytes cause turns slots)
-    → Says (text ∷ []) Cost (counts (codes "accepted") turns slots) 0
-says_accepted text is_accepted turns slots is h =
-    accepted (one_input Cost text h.0 refl h.1) (rw is at h.2)
-
-pub says_counted : (text : List ℕ) (is_accepted : Bool) (turns slots : ℕ) → is_accepted ≡ false
-    → (bytes : List ℕ) × IsHexOf text bytes
-    × MatchBool is_accepted (Accepts bytes turns slots) ((cause : Cause) × IsRefused bytes cause turns slots)
-    → Says (text ∷ []) Cost (counts (codes "refused") turns slots) 1
-says_counted text is_accepted turns slots is h =
-    let refusal = rw is at h.2 in
-    counted_refusal (one_input Cost text h.0 refl h.1) refusal.1
-
-pub says_srid : (text line : List ℕ) (number : ℕ) (found : Option ℕ) → found ≡ Some number
-    → line ≡ codes "srid " ++ decimal number → (bytes : List ℕ) × IsHexOf text bytes × HasSrid bytes found
-    → Says (text ∷ []) Srid line 0
-says_srid text line number found is whole h =
-    rw whole (srid (one_input Srid text h.0 refl h.1) (rw is at h.2))
+-- ---- what each call's result says
 
 pub when_true : (b : Bool) (P Q : Type 0) → b ≡ true → MatchBool b P Q → P
 when_true b P Q is h = rw is at h
 
 pub when_false : (b : Bool) (P Q : Type 0) → b ≡ false → MatchBool b P Q → Q
 when_false b P Q is h = rw is at h
+
+pub says_rewritten : (order : Endianness) (text line items : List ℕ) → line ≡ hex_line items
+    → OfHex text (λ bytes. IsRewriting order Iso bytes items)
+    → Says (text ∷ []) (Rewrite order) line 0
+says_rewritten order text line items is h = rw is (rewritten (one_input (Rewrite order) text h.0 refl h.1) h.2)
+
+pub says_rewritten_with_srid : (order : Endianness) (text line items : List ℕ) → line ≡ hex_line items
+    → OfHex text (λ bytes. IsRewritingWithSrid order bytes items)
+    → Says (text ∷ []) (RewriteWithSrid order) line 0
+says_rewritten_with_srid order text line items is h =
+    rw is (rewritten_with_srid (one_input (RewriteWithSrid order) text h.0 refl h.1) h.2)
+
+pub says_iso_refused : (order : Endianness) (text line : List ℕ) (inputs : List (List ℕ)) (e : WkbError)
+    → Gives (Rewrite order) (text ∷ []) inputs
+    → RefusedFirst inputs e ⊎ IsOversized (OverflowsWithSrid order Iso) inputs e
+    → TellsError e line → Says (text ∷ []) (Rewrite order) line 1
+says_iso_refused order text line inputs e gives (inl first) told =
+    says_refused (Rewrite order) (text ∷ []) line (λ is. cc) inputs e gives first told
+says_iso_refused order text line inputs e gives (inr h) told = absurd (iso_fits order h.bytes h.long)
+
+pub counts_line : (verdict : List ℕ) (turns slots : ℕ)
+    → verdict ++ (codes " turns " ++ (decimal turns ++ (codes " slots " ++ (decimal slots ++ codes "\n"))))
+    ≡ counts verdict turns slots
+counts_line verdict turns slots = simp append_assoc
+
+pub says_accepted : (text : List ℕ) (cost : Spent) → cost.accepted ≡ true → OfHex text (IsCost cost)
+    → Says (text ∷ []) Cost (counts (codes "accepted") cost.counts.turns cost.counts.slots) 0
+says_accepted text cost is h = accepted (one_input Cost text h.0 refl h.1) (when_true _ _ _ is h.2)
+
+pub says_counted : (text : List ℕ) (cost : Spent) → cost.accepted ≡ false → OfHex text (IsCost cost)
+    → Says (text ∷ []) Cost (counts (codes "refused") cost.counts.turns cost.counts.slots) 1
+says_counted text cost is h =
+    let refusal = when_false _ _ _ is h.2 in
+    counted_refusal (one_input Cost text h.0 refl h.1) refusal.1
+
+pub says_srid : (text line : List ℕ) (number : ℕ) (found : Option ℕ) → found ≡ Some number
+    → line ≡ codes "srid " ++ (decimal number ++ codes "\n") → OfHex text (λ bytes. HasSrid bytes found)
+    → Says (text ∷ []) Srid line 0
+says_srid text line number found is whole h =
+    rw whole (srid (one_input Srid text h.0 refl h.1) (rw is at h.2))

@@ -1,4 +1,4 @@
--- What stands where a line is written in parts, and its hex in pieces.
+-- What is written of a line in parts, and of its hex in pieces.
 use Rattle.std.proofs.Common.{◌≡◌, ℕ, ◌<◌, ◌≤◌, ◌*◌, ◌+◌, ◌-◌, List, [], ◌∷◌, ◌++◌, length, take, drop}
 use Rattle.std.proofs.Common.{slice_set, append_assoc, ◌/◌, ◌%◌, slice_index, Option, Result, Ok, Err, refl, sym, ap}
 use Rattle.std.proofs.Common.{◌∙◌, arith}
@@ -17,7 +17,7 @@ use Rattle.wkb_command.specs.Transfer.{WroteBeginning}
 
 -- ---- hex
 
--- the hex of two texts, one behind the other
+-- the hex of two texts, one after the other
 encode_with-append : (table front rest : List ℕ)
     → encode_with table (front ++ rest) ≡ encode_with table front ++ encode_with table rest
 unfolding encode_with
@@ -126,7 +126,7 @@ attempted {rest = rest} {text = text} new r count h is p = record {
   parts = regroup h.written rest text count h.parts;
 }
 
--- where the writer failed, what was written so far stands
+-- if the writer failed, what was written so far is there
 pub wrote_so_far : {T E : Type 0} {old new : Option (List ℕ)} {rest text : List ℕ} (e : E)
     → Stands old new rest text → WroteBeginning {T = T} old new text (Err e)
 wrote_so_far {rest = rest} e h = record {
@@ -136,7 +136,7 @@ wrote_so_far {rest = rest} e h = record {
   whole = tt;
 }
 
--- the last part, or a beginning of it, is written behind the others
+-- the last part, or a prefix of it, is written after the others
 pub wrote_last : {T E : Type 0} (old mid new : Option (List ℕ)) (front part line : List ℕ) (r : Result T E)
     → Appends old mid front → front ++ part ≡ line → WroteBeginning mid new part r → WroteBeginning old new line r
 wrote_last old mid new front part line r before is wrote = record {

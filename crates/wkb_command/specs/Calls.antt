@@ -1,12 +1,15 @@
 -- Calls on hex texts.
-use Rattle.std.specs.Prelude.{◌≡◌, ℕ, ◌%◌, List, [], ◌∷◌, length, Ok}
+use Rattle.std.specs.Prelude.{◌≡◌, ℕ, ◌%◌, Bool, List, [], ◌∷◌, length, Ok, ◌⊎◌, MatchBool}
 use Rattle.std.specs.List.{AllPass}
 use Rattle.hex.specs.Hex.{decode_of, is_hex_digit}
 use Rattle.hex.specs.declared.error.FromHexError.{FromHexError}
 use Rattle.hex.specs.declared.error.FromHexError.TheVariants.{OutOfMemory}
 use Rattle.wkb_geom.specs.declared.error.Cause.{Cause}
-use Rattle.wkb_geom.specs.Told.{Tells}
-use Rattle.wkb.specs.Canonical.{IsAccepted, IsRefused, IsSize}
+use Rattle.wkb_geom.specs.Errors.{Tells}
+use Rattle.wkb.specs.Writes.{WriteOptions}
+use Rattle.wkb.specs.Canonical.{IsAccepted, IsSize, OverflowsWithSrid, HaveOneValue, HaveTwoValues}
+use Rattle.wkb_command.specs.Readings.{Accepts, IsRefused}
+use Rattle.wkb_command.specs.declared.calls.Cost.{Cost}
 use Rattle.wkb_geom.specs.declared.error.WkbError.{WkbError}
 use Rattle.wkb_geom.specs.declared.error.WkbError.TheVariants as errors
 use Rattle.wkb_command.specs.declared.calls.HexFault.{HexFault}
@@ -20,6 +23,24 @@ pub record IsHex (text : List ℕ) : Type 0 where
 -- the text is the hex of these bytes
 pub record IsHexOf (text bytes : List ℕ) : Type 0 where
   pub decoded : decode_of text ≡ Ok bytes
+
+-- what is said of the bytes that a text spells
+abbrev pub OfHex : List ℕ → (List ℕ → Type 0) → Type 0
+OfHex text P = (bytes : List ℕ) × IsHexOf text bytes × P bytes
+
+-- the same of two texts
+abbrev pub OfTwoHexes : List ℕ → List ℕ → (List ℕ → List ℕ → Type 0) → Type 0
+OfTwoHexes first second P = OfHex first (λ a. OfHex second (λ b. P a b))
+
+-- whether two inputs begin with geometries of one value
+abbrev pub AreCompared : Bool → List ℕ → List ℕ → Type 0
+AreCompared equal a b = MatchBool equal (HaveOneValue a b) (HaveTwoValues a b)
+
+-- whether an input is accepted, after so many turns and slots
+abbrev pub IsCost : Cost → List ℕ → Type 0
+IsCost cost bytes =
+    MatchBool cost.accepted (Accepts bytes cost.counts.turns cost.counts.slots)
+    ((cause : Cause) × IsRefused bytes cause cost.counts.turns cost.counts.slots)
 
 -- each text is hex
 abbrev pub AreHex : List (List ℕ) → Type 0
@@ -52,14 +73,23 @@ pub record IsOversized (IsLong : List ℕ → Type 0) (inputs : List (List ℕ))
   pub long : IsLong bytes
   pub size : IsSize e
 
--- A fault of a call on these texts, other than want of memory: one of them isn't hex, or all of them are and what they
--- spell is refused.
+-- the first refusal, or a rewriting that is too long under these options
+abbrev pub RefusedOrOversized : WriteOptions → List (List ℕ) → WkbError → Type 0
+RefusedOrOversized options inputs e =
+    RefusedFirst inputs e ⊎ IsOversized (OverflowsWithSrid options.endianness options.form) inputs e
+
+-- an allocation failed, or the text isn't hex
+abbrev pub IsDecodingFault : List ℕ → HexFault → Type 0
+IsDecodingFault text fault = (fault ≡ Memory) ⊎ ((fault ≡ NotHex) × ¬ IsHex text)
+
+-- A fault of a call on these texts, other than a failed allocation: one of them isn't hex, or all of them are and what
+-- they spell is refused.
 abbrev pub IsFaultOf : List (List ℕ) → (List (List ℕ) → WkbError → Type 0) → HexFault → Type 0
 IsFaultOf texts IsRefused NotHex = ¬ AreHex texts
 IsFaultOf texts IsRefused (Wkb e) = (inputs : List (List ℕ)) × AreHexOf texts inputs × IsRefused inputs e
 IsFaultOf texts IsRefused Memory = Unit {0}
 
--- want of memory is always `Memory`
+-- a failed allocation is always `Memory`
 abbrev pub FaultOfError : WkbError → HexFault → Type 0
 FaultOfError (errors.Memory e) fault = fault ≡ Memory
 FaultOfError e fault = fault ≡ Wkb e

@@ -1,8 +1,9 @@
 -- The program: the line that it writes and the status that it ends with, for its arguments and its input.
-use Rattle.std.specs.Prelude.{◌≡◌, ◌≢◌, ℕ, ◌==◌, if◌then◌else◌, codes, Some, None}
+use Rattle.std.specs.Prelude.{◌≡◌, ◌≢◌, ℕ, ◌==◌, if◌then◌else◌, codes, Option, Some, None, MatchOption}
 use Rattle.std.specs.Prelude.{List, [], ◌∷◌, ◌++◌, length, EachIndex, slice_index}
 use Rattle.std.specs.Fmt.{decimal}
 use Rattle.std.specs.Io.{StartsWith}
+use Rattle.std.specs.Io.KnownBytes.{Appends}
 use Rattle.hex.specs.Hex.{encode_lower}
 use Rattle.wkb_geom.specs.declared.common.Endianness.{Endianness}
 use Rattle.wkb_geom.specs.declared.common.Endianness.TheVariants.{BigEndian, LittleEndian}
@@ -10,7 +11,8 @@ use Rattle.wkb_geom.specs.declared.common.Form.TheVariants.{Iso}
 use Rattle.wkb_geom.specs.declared.error.Cause.{Cause}
 use Rattle.wkb_geom.specs.declared.error.Cause.TheVariants.{EndOfInput as end_of_input}
 use Rattle.wkb_geom.specs.Encodings.{IsRewriting, IsRewritingWithSrid}
-use Rattle.wkb.specs.Canonical.{IsRefused, Accepts, HaveOneValue, HaveTwoValues, HasSrid}
+use Rattle.wkb.specs.Canonical.{HaveOneValue, HaveTwoValues}
+use Rattle.wkb_command.specs.Readings.{Accepts, IsRefused, HasSrid}
 use Rattle.wkb_command.specs.Calls.{AreHexOf, FirstRefusal}
 use Rattle.wkb_geom.specs.declared.error.WkbError.{WkbError}
 use Rattle.wkb_geom.specs.declared.error.WkbError.TheVariants as errors
@@ -29,8 +31,23 @@ command_name Same = codes "same"
 command_name Cost = codes "cost"
 command_name Srid = codes "srid"
 
+-- the command of this name, or None if it is no command's
+abbrev pub IsCommandNamed : List ℕ → Option Command → Type 0
+IsCommandNamed name result =
+    MatchOption result ((command : Command) → name ≢ command_name command) (λ command. name ≡ command_name command)
+
+-- the arguments are no command's
+abbrev pub AreNoCommand : List (List ℕ) → Type 0
+AreNoCommand arguments = (command : Command) → arguments ≢ command_name command ∷ []
+
+-- the command that the arguments ask for, or None
+abbrev pub IsCommandOf : List (List ℕ) → Option Command → Type 0
+IsCommandOf arguments result =
+    MatchOption result (AreNoCommand arguments) (λ command. arguments ≡ command_name command ∷ [])
+
+-- what is printed for other arguments
 abbrev pub usage : List ℕ
-usage = codes "usage: wkb_hex le|be|same|cost|srid|ewkb-le|ewkb-be"
+usage = codes "usage: wkb_hex le|be|same|cost|srid|ewkb-le|ewkb-be\n"
 
 -- ---- the lines of the input
 
@@ -55,6 +72,14 @@ split_at_feeds (b ∷ rest) = if b == line_feed then [] ∷ split_at_feeds rest 
 abbrev pub lines : List ℕ → List (List ℕ)
 lines input = split_at_feeds (without_last_feed input)
 
+-- there is another number of lines than one
+abbrev pub IsNotSingle : List (List ℕ) → Type 0
+IsNotSingle lines = (line : List ℕ) → lines ≢ line ∷ []
+
+-- there is another number of lines than two
+abbrev pub IsNotPair : List (List ℕ) → Type 0
+IsNotPair lines = (first second : List ℕ) → lines ≢ first ∷ second ∷ []
+
 -- how many lines a command wants
 abbrev pub wanted_lines : Command → ℕ
 wanted_lines Same = 2
@@ -67,7 +92,7 @@ pub record Gives (command : Command) (lines : List (List ℕ)) (inputs : List (L
 
 -- ---- the statuses
 
--- of an answer
+-- of an accepted input
 abbrev pub status_answered : ℕ
 status_answered = 0
 
@@ -79,54 +104,61 @@ status_refused = 1
 abbrev pub status_misused : ℕ
 status_misused = 2
 
--- of a run without memory, input or output
+-- of a run that failed to allocate, to read or to write
 abbrev pub status_failed : ℕ
 status_failed = 3
 
--- ---- the table of the answers
+-- ---- the table of the lines
 
+-- without a line feed
 abbrev pub IsOneLine : List ℕ → Type 0
 IsOneLine text = EachIndex text (λ i. slice_index text i ≢ line_feed)
+
+-- the hex of bytes as a line
+abbrev pub hex_line : List ℕ → List ℕ
+hex_line bytes = encode_lower bytes ++ line_feed ∷ []
 
 -- `refused: ` and the text of an error, on one line
 pub record IsRefusalLine (line : List ℕ) : Type 0 where
   pub text : List ℕ
   pub one_line : IsOneLine text
-  pub whole : line ≡ codes "refused: " ++ text
+  pub whole : line ≡ codes "refused: " ++ text ++ codes "\n"
 
--- what is said of a cause: the end of the input in this text, the others in the text of the error
+-- the line for a cause: a text of its own for the end of the input, the text of the error for the others
 abbrev pub TellsCause : Cause → List ℕ → Type 0
-TellsCause end_of_input line = line ≡ codes "refused: end of input"
+TellsCause end_of_input line = line ≡ codes "refused: end of input\n"
 TellsCause _ line = IsRefusalLine line
 
--- the same of an error
+-- the line for an error, likewise
 abbrev pub TellsError : WkbError → List ℕ → Type 0
-TellsError (errors.IOError e) line = line ≡ codes "refused: end of input"
+TellsError (errors.IOError e) line = line ≡ codes "refused: end of input\n"
 TellsError _ line = IsRefusalLine line
 
--- what is said of a fault, with the status
+-- the line and the status for a fault
 abbrev pub TellsHexFault : HexFault → List ℕ → ℕ → Type 0
-TellsHexFault NotHex line status = (line ≡ codes "not hex") × (status ≡ status_misused)
+TellsHexFault NotHex line status = (line ≡ codes "not hex\n") × (status ≡ status_misused)
 TellsHexFault (Wkb e) line status = TellsError e line × (status ≡ status_refused)
 TellsHexFault Memory line status = ⊥
 
+-- the line of `cost`
 abbrev pub counts : List ℕ → ℕ → ℕ → List ℕ
-counts verdict turns slots = verdict ++ codes " turns " ++ decimal turns ++ codes " slots " ++ decimal slots
+counts verdict turns slots =
+    verdict ++ codes " turns " ++ decimal turns ++ codes " slots " ++ decimal slots ++ codes "\n"
 
--- What is said, without its line feed, and the status, for a command and the lines of its input.
+-- The line that is written, and the status, for a command and the lines of its input.
 pub data Says (lines : List (List ℕ)) : Command → List ℕ → ℕ → Type 0 where
   rewritten : {order : Endianness} {bytes answer : List ℕ}
       → Gives (Rewrite order) lines (bytes ∷ []) → IsRewriting order Iso bytes answer
-      → Says lines (Rewrite order) (encode_lower answer) status_answered
+      → Says lines (Rewrite order) (hex_line answer) status_answered
   rewritten_with_srid : {order : Endianness} {bytes answer : List ℕ}
       → Gives (RewriteWithSrid order) lines (bytes ∷ []) → IsRewritingWithSrid order bytes answer
-      → Says lines (RewriteWithSrid order) (encode_lower answer) status_answered
+      → Says lines (RewriteWithSrid order) (hex_line answer) status_answered
   same : {first second : List ℕ}
       → Gives Same lines (first ∷ second ∷ []) → HaveOneValue first second
-      → Says lines Same (codes "same") status_answered
+      → Says lines Same (codes "same\n") status_answered
   different : {first second : List ℕ}
       → Gives Same lines (first ∷ second ∷ []) → HaveTwoValues first second
-      → Says lines Same (codes "different") status_answered
+      → Says lines Same (codes "different\n") status_answered
   accepted : {bytes : List ℕ} {turns slots : ℕ}
       → Gives Cost lines (bytes ∷ []) → Accepts bytes turns slots
       → Says lines Cost (counts (codes "accepted") turns slots) status_answered
@@ -135,33 +167,40 @@ pub data Says (lines : List (List ℕ)) : Command → List ℕ → ℕ → Type 
       → Says lines Cost (counts (codes "refused") turns slots) status_refused
   srid : {bytes : List ℕ} {number : ℕ}
       → Gives Srid lines (bytes ∷ []) → HasSrid bytes (Some number)
-      → Says lines Srid (codes "srid " ++ decimal number) status_answered
+      → Says lines Srid (codes "srid " ++ decimal number ++ codes "\n") status_answered
   no_srid : {bytes : List ℕ}
       → Gives Srid lines (bytes ∷ []) → HasSrid bytes None
-      → Says lines Srid (codes "no srid") status_answered
+      → Says lines Srid (codes "no srid\n") status_answered
   refused : {command : Command} {inputs : List (List ℕ)} {cause : Cause} {line : List ℕ}
       → command ≢ Cost → Gives command lines inputs → FirstRefusal inputs cause → TellsCause cause line
       → Says lines command line status_refused
   not_hex : {command : Command}
       → ((inputs : List (List ℕ)) → ¬ Gives command lines inputs)
-      → Says lines command (codes "not hex") status_misused
+      → Says lines command (codes "not hex\n") status_misused
 
--- the arguments are no command's
-abbrev pub AreNoCommand : List (List ℕ) → Type 0
-AreNoCommand arguments = (command : Command) → arguments ≢ command_name command ∷ []
-
--- The line, with its line feed, and the status, for the arguments and the input.
+-- The line and the status for the arguments and the input.
 pub data Answers (arguments : List (List ℕ)) (input : List ℕ) : List ℕ → ℕ → Type 0 where
-  misused : AreNoCommand arguments → Answers arguments input (usage ++ line_feed ∷ []) status_misused
-  asked : {command : Command} {said : List ℕ} {status : ℕ}
-      → arguments ≡ command_name command ∷ [] → Says (lines input) command said status
-      → Answers arguments input (said ++ line_feed ∷ []) status
+  misused : AreNoCommand arguments → Answers arguments input usage status_misused
+  asked : {command : Command} {line : List ℕ} {status : ℕ}
+      → arguments ≡ command_name command ∷ [] → Says (lines input) command line status
+      → Answers arguments input line status
 
--- The run wrote its whole line and ended with the line's status, or it failed and wrote a beginning of the line or
--- of `out of memory`, perhaps empty or whole.
-pub data Ends (arguments : List (List ℕ)) (input : List ℕ) : ℕ → List ℕ → Type 0 where
-  answered : {line : List ℕ} {status : ℕ} → Answers arguments input line status → Ends arguments input status line
-  cut_short : {line written : List ℕ} {status : ℕ} → Answers arguments input line status → StartsWith line written
-      → Ends arguments input status_failed written
-  out_of_memory : {written : List ℕ} → StartsWith (codes "out of memory" ++ line_feed ∷ []) written
-      → Ends arguments input status_failed written
+-- ---- how a run ends
+
+-- `IsDue` says which line and status are due. The whole line was written and its status returned, or the run failed
+-- after a prefix of the line or of `out of memory`, perhaps empty or whole.
+pub data Ends (IsDue : List ℕ → ℕ → Type 0) : ℕ → List ℕ → Type 0 where
+  answered : {line : List ℕ} {status : ℕ} → IsDue line status → Ends IsDue status line
+  cut_short : {line written : List ℕ} {status : ℕ} → IsDue line status → StartsWith line written
+      → Ends IsDue status_failed written
+  out_of_memory : {written : List ℕ} → StartsWith (codes "out of memory\n") written → Ends IsDue status_failed written
+
+-- what the run wrote was appended to the output, and the run ended as above
+pub record RunEnds (old new : Option (List ℕ)) (IsDue : List ℕ → ℕ → Type 0) (status : ℕ) : Type 0 where
+  pub written : List ℕ
+  pub appended : Appends old new written
+  pub ends : Ends IsDue status written
+
+-- the run of the program with these arguments on this input
+abbrev pub IsRunOf : List (List ℕ) → Option (List ℕ) → Option (List ℕ) → ℕ → List ℕ → Type 0
+IsRunOf arguments old new status input = RunEnds old new (Answers arguments input) status

@@ -1,16 +1,26 @@
--- What a report says, and the line that it is written as.
-use Rattle.std.specs.Prelude.{ℕ, List, [], ◌∷◌, ◌++◌, string_bytes}
-use Rattle.hex.specs.Hex.{encode_lower}
-use Rattle.wkb_command.specs.Program.{line_feed}
+-- What a report says: the line that it is written as, and its status.
+use Rattle.std.specs.Prelude.{◌≡◌, ℕ, List, Result, Ok, Err, string_bytes}
+use Rattle.std.specs.declared.alloc.AllocError.{AllocError}
+use Rattle.wkb_command.specs.Program.{hex_line, Says}
+use Rattle.wkb_command.specs.declared.program.Command.{Command}
+use Rattle.wkb_command.specs.declared.program.Report.{Report}
 use Rattle.wkb_command.specs.declared.program.Output.{Output}
 use Rattle.wkb_command.specs.declared.program.Output.TheVariants.{Text, Hex}
 
--- what is said, without a line feed
-abbrev pub said : Output → List ℕ
-said (Text text) = string_bytes text
-said (Hex bytes) = encode_lower bytes.items
+-- a text is written as it is, with its line feed, and bytes as a line of hex
+abbrev pub line_of : Output → List ℕ
+line_of (Text text) = string_bytes text
+line_of (Hex bytes) = hex_line bytes.items
 
--- what is written: a text as it is, which by now ends with its line feed, and hex with one
-abbrev pub told : Output → List ℕ
-told (Text text) = string_bytes text
-told (Hex bytes) = encode_lower bytes.items ++ line_feed ∷ []
+-- the report has this line and this status
+abbrev pub IsReport : List ℕ → ℕ → Report → Type 0
+IsReport line status report = (line_of report.output ≡ line) × (report.status ≡ status)
+
+-- the report has what the table says of a command and the lines of its input
+abbrev pub IsReportOn : List (List ℕ) → Command → Report → Type 0
+IsReportOn lines command report = Says lines command (line_of report.output) report.status
+
+-- the line and the status of a report, if there was memory for one
+abbrev pub IsLineOf : Result Report AllocError → List ℕ → ℕ → Type 0
+IsLineOf (Ok report) line status = (line ≡ line_of report.output) × (status ≡ report.status)
+IsLineOf (Err e) line status = ⊥

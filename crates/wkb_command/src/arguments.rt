@@ -3,7 +3,7 @@
 use std::alloc::{AllocError, Global};
 use std::env::{Env, FillError};
 
-/// The bytes that are lent for an argument at first.
+/// How many bytes an argument may have at first.
 const FIRST_SIZE: usize = 256;
 
 /// Why an argument isn't a text in memory.
@@ -20,7 +20,7 @@ impl From<AllocError> for ArgumentFault {
     }
 }
 
-/// The arguments behind the program's name. The name itself is not looked at, so it need not be a text.
+/// The arguments after the program's name. The name itself is not looked at, so it need not be a text.
 pub fn read_arguments<E: Env>(alloc: Global, env: &E) -> Result<Vec<String>, ArgumentFault> {
     let mut arguments = Vec::new(alloc);
     for i in 1..usize::MAX {
@@ -34,7 +34,7 @@ pub fn read_arguments<E: Env>(alloc: Global, env: &E) -> Result<Vec<String>, Arg
     Ok(arguments)
 }
 
-/// An argument by its place, and None past the last. It is asked for with twice the room until it fits.
+/// An argument by its place, and `None` past the last. The room for it is doubled until it fits.
 fn argument_at<E: Env>(alloc: Global, env: &E, i: usize) -> Result<Option<String>, ArgumentFault> {
     let mut size = FIRST_SIZE;
     for _ in 0..usize::BITS {

@@ -1,14 +1,14 @@
 //! The calls on hex texts: each decodes its texts and asks for what they spell.
 //!
-//! A text is hex digits in either case, two for each byte. Want of memory is always `HexFault::Memory`.
+//! A text is hex digits in either case, two for each byte. A failed allocation is always `HexFault::Memory`.
 
-ghost use Rattle.std.specs.Prelude.{◌≡◌, ◌∷◌, [], ℕ, List, ◌⊎◌, IfOk, IfErr, MatchBool};
-ghost use Rattle.wkb_geom.specs.declared.error.Cause.{Cause};
-ghost use Rattle.wkb_geom.specs.Encodings.{IsRewriting, IsRewritingWithSrid};
-ghost use Rattle.wkb.specs.Canonical.{IsTooLong, HaveOneValue, HaveTwoValues};
-ghost use Rattle.wkb.specs.Canonical.{HasSrid, Accepts, IsRefused};
-ghost use Rattle.wkb_command.specs.Calls.{IsHex, IsHexOf, IsFaultOf, RefusedFirst, IsOversized};
-ghost use Rattle.wkb_command.specs.Calls.{FaultOfError, FaultOfHexError};
+ghost use Rattle.std.specs.Prelude.{◌∷◌, [], IfOk, IfErr};
+ghost use Rattle.wkb_geom.specs.Encodings.{IsRewritingWithSrid};
+ghost use Rattle.wkb.specs.Canonical.{IsRewritingUnder};
+ghost use Rattle.wkb_command.specs.Readings.{HasSrid};
+ghost use Rattle.wkb_command.specs.Calls.{IsHexOf, OfHex, OfTwoHexes, IsFaultOf, IsDecodingFault};
+ghost use Rattle.wkb_command.specs.Calls.{AreCompared, IsCost, RefusedFirst};
+ghost use Rattle.wkb_command.specs.Calls.{RefusedOrOversized, FaultOfError, FaultOfHexError};
 
 use hex::FromHexError;
 use std::alloc::Global;
@@ -18,21 +18,21 @@ use wkb::error::WkbError;
 use wkb::reader::{Counts, read_wkb, read_wkb_counted};
 use wkb::writer::WriteOptions;
 
-/// Why a call on hex texts has no answer.
+/// Why a call on hex texts fails.
 #[derive(Debug, Drop)]
 pub enum HexFault {
     /// A character is no hex digit, or the digits are odd in number.
     NotHex,
     /// The bytes that the text spells are refused.
     Wkb(WkbError),
-    /// Memory was refused.
+    /// An allocation failed.
     Memory,
 }
 
 /// Whether an input is accepted, and what reading it cost.
 #[derive(Debug, Clone, Copy, PartialEq)]
 pub struct Cost {
-    /// Whether the reader answered a geometry.
+    /// Whether the reader returned a geometry.
     pub accepted: bool,
     /// Parts begun and list entries asked for, up to the end or to the refusal.
     pub counts: Counts,
@@ -63,21 +63,19 @@ impl From<FromHexError> for HexFault {
 /// The bytes that a text spells.
 fn decoded(alloc: Global, text: &str) -> Result<Vec<u8>, HexFault>
     ensures ok { IfOk result (λ bytes. IsHexOf text.now bytes.items) }
-    ensures err { IfErr result (λ fault. (fault ≡ HexFault.Memory)
-        ⊎ ((fault ≡ HexFault.NotHex) × ¬ IsHex text.now)) }
+    ensures err { IfErr result (IsDecodingFault text.now) }
 {
     Ok(hex::decode(alloc, text)?)
 }
 
 /// The rewriting under the options of the geometry that a hex text spells.
 ///
-/// `Wkb` tells what the reader refuses, or `OverflowError(Size)` where the SRID of the options makes
-/// the rewriting longer than `usize`.
+/// `Wkb` is the reader's error, or `OverflowError(Size)` where the SRID of the options makes the
+/// rewriting longer than `usize`.
 pub fn rewrite_hex(alloc: Global, text: &str, options: &WriteOptions) -> Result<Vec<u8>, HexFault>
-    ensures ok { IfOk result (λ answer. (bytes : List ℕ) × IsHexOf text.now bytes
-        × IsRewriting options.now.endianness options.now.form bytes answer.items) }
-    ensures err { IfErr result (IsFaultOf (text.now ∷ []) (λ inputs e. RefusedFirst inputs e
-        ⊎ IsOversized (IsTooLong options.now.endianness options.now.form) inputs e)) }
+    ensures ok { IfOk result
+        (λ it. OfHex text.now (λ b. IsRewritingUnder options.now b it.items)) }
+    ensures err { IfErr result (IsFaultOf (text.now ∷ []) (RefusedOrOversized options.now)) }
 {
     let bytes = decoded(alloc, text)?;
     Ok(canonical(alloc, bytes.as_slice(), options)?)
@@ -85,14 +83,14 @@ pub fn rewrite_hex(alloc: Global, text: &str, options: &WriteOptions) -> Result<
 
 /// The rewriting under EWKB, with the geometry's own SRID where it has one.
 ///
-/// `Wkb` tells what the reader refuses.
+/// `Wkb` is the reader's error.
 pub fn rewrite_hex_with_srid(
     alloc: Global,
     text: &str,
     order: Endianness,
 ) -> Result<Vec<u8>, HexFault>
-    ensures ok { IfOk result (λ answer. (bytes : List ℕ) × IsHexOf text.now bytes
-        × IsRewritingWithSrid order bytes answer.items) }
+    ensures ok { IfOk result
+        (λ it. OfHex text.now (λ b. IsRewritingWithSrid order b it.items)) }
     ensures err { IfErr result (IsFaultOf (text.now ∷ []) RefusedFirst) }
 {
     let bytes = decoded(alloc, text)?;
@@ -101,12 +99,10 @@ pub fn rewrite_hex_with_srid(
 
 /// Whether two hex texts spell geometries of the same value, SRIDs aside.
 ///
-/// Both texts are decoded before a byte is read, the first text's fault first. `Wkb` tells what the
-/// reader refuses of the first, or else of the second.
+/// Both texts are decoded before a byte is read, the first text's fault first. `Wkb` is the reader's
+/// error for the first, or else for the second.
 pub fn same_hex(alloc: Global, first: &str, second: &str) -> Result<bool, HexFault>
-    ensures ok { IfOk result
-        (λ equal. (a : List ℕ) × (b : List ℕ) × IsHexOf first.now a × IsHexOf second.now b
-        × MatchBool equal (HaveOneValue a b) (HaveTwoValues a b)) }
+    ensures ok { IfOk result (λ equal. OfTwoHexes first.now second.now (AreCompared equal)) }
     ensures err { IfErr result (IsFaultOf (first.now ∷ second.now ∷ []) RefusedFirst) }
 {
     let first = decoded(alloc, first)?;
@@ -116,11 +112,9 @@ pub fn same_hex(alloc: Global, first: &str, second: &str) -> Result<bool, HexFau
 
 /// Whether the bytes that a hex text spells are accepted, and what it cost to read them.
 ///
-/// A refusal other than for want of memory is an answer here, and no fault.
+/// A refusal is a result here, and no fault.
 pub fn cost_hex(alloc: Global, text: &str) -> Result<Cost, HexFault>
-    ensures ok { IfOk result (λ cost. (bytes : List ℕ) × IsHexOf text.now bytes
-        × MatchBool cost.accepted (Accepts bytes cost.counts.turns cost.counts.slots)
-        ((cause : Cause) × IsRefused bytes cause cost.counts.turns cost.counts.slots)) }
+    ensures ok { IfOk result (λ cost. OfHex text.now (IsCost cost)) }
     ensures err { IfErr result (IsFaultOf (text.now ∷ []) (λ inputs e. ⊥)) }
 {
     let bytes = decoded(alloc, text)?;
@@ -140,8 +134,7 @@ pub fn cost_hex(alloc: Global, text: &str) -> Result<Cost, HexFault>
 
 /// The SRID of the outermost geometry that a hex text spells, where it has one.
 pub fn srid_hex(alloc: Global, text: &str) -> Result<Option<u32>, HexFault>
-    ensures ok { IfOk result
-        (λ srid. (bytes : List ℕ) × IsHexOf text.now bytes × HasSrid bytes srid) }
+    ensures ok { IfOk result (λ srid. OfHex text.now (λ bytes. HasSrid bytes srid)) }
     ensures err { IfErr result (IsFaultOf (text.now ∷ []) RefusedFirst) }
 {
     let bytes = decoded(alloc, text)?;

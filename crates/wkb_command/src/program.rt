@@ -1,12 +1,12 @@
 //! The program: one command over the hex lines of its input.
 
-ghost use Rattle.std.specs.Prelude.{◌≡◌, ◌≢◌, ◌∷◌, ◌++◌, [], ℕ, List, map, codes};
-ghost use Rattle.std.specs.Prelude.{IfOk, IfSome, MatchOption, string_bytes};
-ghost use Rattle.std.specs.Io.KnownBytes.{Appends};
-ghost use Rattle.wkb_command.specs.Program.{command_name, AreNoCommand, without_last_feed, lines};
+ghost use Rattle.std.specs.Prelude.{◌≡◌, ◌∷◌, [], map, codes, string_bytes};
+ghost use Rattle.std.specs.Prelude.{IfOk, IfSome, MatchOption};
+ghost use Rattle.wkb_command.specs.Program.{IsCommandNamed, IsCommandOf, AreNoCommand};
+ghost use Rattle.wkb_command.specs.Program.{without_last_feed, lines, IsNotSingle, IsNotPair};
 ghost use Rattle.wkb_command.specs.Program.{IsOneLine, status_misused, status_refused, TellsError};
-ghost use Rattle.wkb_command.specs.Program.{TellsHexFault, Says, Answers, Ends, line_feed, counts};
-ghost use Rattle.wkb_command.specs.Reports.{said, told};
+ghost use Rattle.wkb_command.specs.Program.{TellsHexFault, counts, RunEnds, IsRunOf};
+ghost use Rattle.wkb_command.specs.Reports.{line_of, IsReport, IsReportOn, IsLineOf};
 ghost use Rattle.wkb_command.specs.Transfer.{WroteBeginning};
 
 use crate::calls::{HexFault, cost_hex, rewrite_hex, rewrite_hex_with_srid, same_hex, srid_hex};
@@ -19,16 +19,16 @@ use wkb::error::WkbError;
 use wkb::reader::Counts;
 use wkb::writer::{Form, WriteOptions};
 
-/// The status of a run that answered its question.
+/// The status of a run whose input was accepted.
 const ANSWERED: u8 = 0;
 /// The status of a run whose input was refused.
 const REFUSED: u8 = 1;
 /// The status of a run with other arguments, or an input that isn't hex.
 const MISUSED: u8 = 2;
-/// The status of a run without memory, input or output.
+/// The status of a run that failed to allocate, to read or to write.
 pub const FAILED: u8 = 3;
 
-const USAGE: &str = "usage: wkb_hex le|be|same|cost|srid|ewkb-le|ewkb-be";
+const USAGE: &str = "usage: wkb_hex le|be|same|cost|srid|ewkb-le|ewkb-be\n";
 
 /// What the program is asked.
 #[derive(Clone, Copy)]
@@ -42,8 +42,7 @@ pub enum Command {
 
 impl Command {
     fn from_arguments(arguments: &[String]) -> Option<Command>
-        ensures { MatchOption result (AreNoCommand (map string_bytes arguments.now))
-            (λ command. map string_bytes arguments.now ≡ command_name command ∷ []) }
+        ensures { IsCommandOf (map string_bytes arguments.now) result }
     {
         let [name] = arguments else {
             return None;
@@ -52,8 +51,7 @@ impl Command {
     }
 
     fn from_name(name: &str) -> Option<Command>
-        ensures { MatchOption result ((command : Command) → name.now ≢ command_name command)
-            (λ command. name.now ≡ command_name command) }
+        ensures { IsCommandNamed name.now result }
     {
         match name {
             "le" => Some(Command::Rewrite(Endianness::LittleEndian)),
@@ -68,19 +66,19 @@ impl Command {
     }
 }
 
-/// What is put out.
+/// The line that is written.
 #[derive(Drop)]
 enum Output {
-    /// A printed text.
+    /// A text that ends with its line feed.
     Text(String),
-    /// An encoding. Its hex is written piece by piece, and never in memory as a whole.
+    /// An encoding. Its hex and a line feed are written piece by piece, and are never in memory as a whole.
     Hex(Vec<u8>),
 }
 
 impl Output {
-    /// Writes a text as it is, and hex with a line feed.
+    /// Writes the line.
     fn write_to<W: Write>(&self, out: &mut W) -> Result<(), WriteFault>
-        ensures { WroteBeginning (W.contents out.old) (W.contents out.new) (told self.now) result }
+        ensures { WroteBeginning (W.contents out.old) (W.contents out.new) (line_of self.now) result }
     {
         match self {
             Output::Text(text) => write_whole(out, text.as_bytes()),
@@ -89,7 +87,7 @@ impl Output {
     }
 }
 
-/// A line, without its line feed, and the status that goes with it.
+/// A line and the status that goes with it.
 #[derive(Drop)]
 struct Report {
     output: Output,
@@ -98,8 +96,7 @@ struct Report {
 
 impl Report {
     fn new(alloc: Global, line: &str, status: u8) -> Result<Report, AllocError>
-        ensures { IfOk result
-            (λ report. (said report.output ≡ line.now) × (report.status ≡ status)) }
+        ensures { IfOk result (IsReport line.now status) }
     {
         Ok(Report {
             output: Output::Text(String::from_str(alloc, line)?),
@@ -108,10 +105,9 @@ impl Report {
     }
 
     fn not_hex(alloc: Global) -> Result<Report, AllocError>
-        ensures { IfOk result (λ report. (said report.output ≡ codes "not hex")
-            × (report.status ≡ status_misused)) }
+        ensures { IfOk result (IsReport (codes "not hex\n") status_misused) }
     {
-        Report::new(alloc, "not hex", MISUSED)
+        Report::new(alloc, "not hex\n", MISUSED)
     }
 }
 
@@ -128,24 +124,23 @@ fn first_line(text: &str) -> &str
 
 /// `refused: ` and the error's text.
 fn error_report(alloc: Global, error: &WkbError) -> Result<Report, AllocError>
-    ensures { IfOk result (λ report. TellsError error.now (said report.output)
-        × (report.status ≡ status_refused)) }
+    ensures { IfOk result
+        (λ r. TellsError error.now (line_of r.output) × (r.status ≡ status_refused)) }
 {
     if let WkbError::IOError(_) = error {
-        return Report::new(alloc, "refused: end of input", REFUSED);
+        return Report::new(alloc, "refused: end of input\n", REFUSED);
     }
     let text = error.to_string(alloc)?;
-    let mut line = String::from_str(alloc, "refused: ")?;
-    line.push_str(first_line(text.as_str()))?;
+    let line = first_line(text.as_str());
     Ok(Report {
-        output: Output::Text(line),
+        output: Output::Text(format!(in alloc; "refused: {line}\n")?),
         status: REFUSED,
     })
 }
 
-/// What is said where a call has no answer.
+/// The report on a fault, other than a failed allocation.
 fn fault_report(alloc: Global, fault: HexFault) -> Result<Report, AllocError>
-    ensures { IfOk result (λ report. TellsHexFault fault (said report.output) report.status) }
+    ensures { IfOk result (λ report. TellsHexFault fault (line_of report.output) report.status) }
 {
     match fault {
         HexFault::NotHex => Report::not_hex(alloc),
@@ -155,8 +150,7 @@ fn fault_report(alloc: Global, fault: HexFault) -> Result<Report, AllocError>
 }
 
 fn rewriting_report(alloc: Global, order: Endianness, text: &str) -> Result<Report, AllocError>
-    ensures { IfOk result (λ report. Says (text.now ∷ []) (Command.Rewrite order)
-        (said report.output) report.status) }
+    ensures { IfOk result (IsReportOn (text.now ∷ []) (Command.Rewrite order)) }
 {
     let options = WriteOptions {
         endianness: order,
@@ -176,8 +170,7 @@ fn rewriting_with_srid_report(
     order: Endianness,
     text: &str,
 ) -> Result<Report, AllocError>
-    ensures { IfOk result (λ report. Says (text.now ∷ []) (Command.RewriteWithSrid order)
-        (said report.output) report.status) }
+    ensures { IfOk result (IsReportOn (text.now ∷ []) (Command.RewriteWithSrid order)) }
 {
     match rewrite_hex_with_srid(alloc, text, order) {
         Ok(bytes) => Ok(Report {
@@ -189,23 +182,21 @@ fn rewriting_with_srid_report(
 }
 
 fn comparison_report(alloc: Global, first: &str, second: &str) -> Result<Report, AllocError>
-    ensures { IfOk result (λ report. Says (first.now ∷ second.now ∷ []) Command.Same
-        (said report.output) report.status) }
+    ensures { IfOk result (IsReportOn (first.now ∷ second.now ∷ []) Command.Same) }
 {
     let equal = match same_hex(alloc, first, second) {
         Ok(equal) => equal,
         Err(fault) => return fault_report(alloc, fault),
     };
     if equal {
-        Report::new(alloc, "same", ANSWERED)
+        Report::new(alloc, "same\n", ANSWERED)
     } else {
-        Report::new(alloc, "different", ANSWERED)
+        Report::new(alloc, "different\n", ANSWERED)
     }
 }
 
 fn cost_report(alloc: Global, text: &str) -> Result<Report, AllocError>
-    ensures { IfOk result
-        (λ report. Says (text.now ∷ []) Command.Cost (said report.output) report.status) }
+    ensures { IfOk result (IsReportOn (text.now ∷ []) Command.Cost) }
 {
     let cost = match cost_hex(alloc, text) {
         Ok(cost) => cost,
@@ -224,27 +215,25 @@ fn counts_report(
     spent: Counts,
     status: u8,
 ) -> Result<Report, AllocError>
-    ensures { IfOk result (λ report. (said report.output ≡ counts verdict.now spent.turns spent.slots)
-        × (report.status ≡ status)) }
+    ensures { IfOk result (IsReport (counts verdict.now spent.turns spent.slots) status) }
 {
     let turns = spent.turns;
     let slots = spent.slots;
     Ok(Report {
-        output: Output::Text(format!(in alloc; "{verdict} turns {turns} slots {slots}")?),
+        output: Output::Text(format!(in alloc; "{verdict} turns {turns} slots {slots}\n")?),
         status,
     })
 }
 
 fn srid_report(alloc: Global, text: &str) -> Result<Report, AllocError>
-    ensures { IfOk result
-        (λ report. Says (text.now ∷ []) Command.Srid (said report.output) report.status) }
+    ensures { IfOk result (IsReportOn (text.now ∷ []) Command.Srid) }
 {
     match srid_hex(alloc, text) {
         Ok(Some(srid)) => Ok(Report {
-            output: Output::Text(format!(in alloc; "srid {srid}")?),
+            output: Output::Text(format!(in alloc; "srid {srid}\n")?),
             status: ANSWERED,
         }),
-        Ok(None) => Report::new(alloc, "no srid", ANSWERED),
+        Ok(None) => Report::new(alloc, "no srid\n", ANSWERED),
         Err(fault) => fault_report(alloc, fault),
     }
 }
@@ -261,8 +250,8 @@ fn without_last_feed(text: &str) -> &str
 
 /// The line of an input that has no other.
 fn only_line(text: &str) -> Option<&str>
-    ensures { MatchOption result ((line : List ℕ) → lines text.now ≢ line ∷ [])
-        (λ line. lines text.now ≡ line.now ∷ []) }
+    ensures { MatchOption result (IsNotSingle (lines text.now))
+        (λ l. lines text.now ≡ l.now ∷ []) }
 {
     let body = without_last_feed(text);
     match body.split_once('\n') {
@@ -273,8 +262,7 @@ fn only_line(text: &str) -> Option<&str>
 
 /// The lines of an input that has two.
 fn two_lines(text: &str) -> Option<(&str, &str)>
-    ensures { MatchOption result ((first : List ℕ) (second : List ℕ)
-        → lines text.now ≢ first ∷ second ∷ [])
+    ensures { MatchOption result (IsNotPair (lines text.now))
         (λ pair. lines text.now ≡ pair.0.now ∷ pair.1.now ∷ []) }
 {
     let body = without_last_feed(text);
@@ -286,8 +274,7 @@ fn two_lines(text: &str) -> Option<(&str, &str)>
 }
 
 fn report_on_line(alloc: Global, command: Command, line: &str) -> Result<Report, AllocError>
-    ensures { IfOk result
-        (λ report. Says (line.now ∷ []) command (said report.output) report.status) }
+    ensures { IfOk result (IsReportOn (line.now ∷ []) command) }
 {
     match command {
         Command::Rewrite(order) => rewriting_report(alloc, order, line),
@@ -298,10 +285,9 @@ fn report_on_line(alloc: Global, command: Command, line: &str) -> Result<Report,
     }
 }
 
-/// What the command says of its input, without a line feed.
+/// The report on the input of a command.
 fn report_on_input(alloc: Global, command: Command, input: &[u8]) -> Result<Report, AllocError>
-    ensures { IfOk result
-        (λ report. Says (lines input.now) command (said report.output) report.status) }
+    ensures { IfOk result (IsReportOn (lines input.now) command) }
 {
     let Ok(text) = str::from_utf8(input) else {
         return Report::not_hex(alloc);
@@ -318,33 +304,11 @@ fn report_on_input(alloc: Global, command: Command, input: &[u8]) -> Result<Repo
     }
 }
 
-/// Puts the line feed behind a text. That of hex is written with its last digits.
-fn ended(report: Result<Report, AllocError>) -> Result<Report, AllocError>
-    ensures { (arguments : List (List ℕ)) (input : List ℕ)
-        → IfOk report
-        (λ report. Answers arguments input (said report.output ++ line_feed ∷ []) report.status)
-        → IfOk result (λ report. Answers arguments input (told report.output) report.status) }
-{
-    let Report { output, status } = report?;
-    let output = match output {
-        Output::Text(mut text) => {
-            text.push('\n')?;
-            Output::Text(text)
-        }
-        Output::Hex(bytes) => Output::Hex(bytes),
-    };
-    Ok(Report { output, status })
-}
-
-/// Writes what is said and a line feed, or that memory is wanted, and answers the status.
+/// Writes the line of the report, or that an allocation failed, and returns the status.
 fn tell<W: Write>(report: Result<Report, AllocError>, out: &mut W) -> u8
-    ensures { (written : List ℕ) × Appends (W.contents out.old) (W.contents out.new) written
-        × ((arguments : List (List ℕ)) (input : List ℕ)
-        → IfOk report
-        (λ report. Answers arguments input (said report.output ++ line_feed ∷ []) report.status)
-        → Ends arguments input result written) }
+    ensures { RunEnds (W.contents out.old) (W.contents out.new) (IsLineOf report) result }
 {
-    match ended(report) {
+    match report {
         Ok(report) => match report.output.write_to(out) {
             Ok(()) => report.status,
             Err(_) => FAILED,
@@ -356,15 +320,14 @@ fn tell<W: Write>(report: Result<Report, AllocError>, out: &mut W) -> u8
     }
 }
 
-/// Runs the program: writes the line that answers the arguments and the input, and answers the status.
+/// Runs the program: writes the line for the arguments and the input, and returns the status.
 ///
-/// The status is 0 for an answer, 1 for a refused input, 2 for an input that isn't hex and for other
-/// arguments, and 3 where memory, the input or the output is wanting. The arguments are looked at before the
-/// input is read. No more than 16777216 reads are made, and no read or write is tried again.
+/// The status is 0 for an accepted input, 1 for a refused one, 2 for an input that isn't hex and for
+/// other arguments, and 3 where an allocation, a read or a write failed. The arguments are looked at
+/// before the input is read. At most 16777216 reads are made, and no read or write is tried again.
 pub fn run<R: Read, W: Write>(alloc: Global, arguments: &[String], input: &mut R, out: &mut W) -> u8
-    ensures ends { IfSome (R.remaining input.old) (λ text. (written : List ℕ)
-        × Appends (W.contents out.old) (W.contents out.new) written
-        × Ends (map string_bytes arguments.now) text result written) }
+    ensures ends { IfSome (R.remaining input.old)
+        (IsRunOf (map string_bytes arguments.now) (W.contents out.old) (W.contents out.new) result) }
     ensures arguments_first { AreNoCommand (map string_bytes arguments.now)
         → input.new ≡ input.old }
 {

@@ -1,9 +1,9 @@
 //! Reading an input to its end, and writing a text whole.
 
-ghost use Rattle.std.specs.Prelude.{◌≡◌, ◌≤◌, ◌*◌, ◌++◌, ◌∷◌, [], IfOk, IfSome, length, take};
+ghost use Rattle.std.specs.Prelude.{◌≡◌, ◌≤◌, ◌*◌, IfOk, IfSome, length, take};
 ghost use Rattle.hex.specs.Hex.{encode_lower};
 ghost use Rattle.wkb_command.specs.Transfer.{WroteBeginning};
-ghost use Rattle.wkb_command.specs.Program.{line_feed};
+ghost use Rattle.wkb_command.specs.Program.{hex_line};
 
 use std::alloc::{AllocError, Global};
 use std::io::{Read, Write};
@@ -22,7 +22,7 @@ const DIGITS_SIZE: usize = 65_537;
 /// Why an input isn't in memory.
 #[derive(Drop)]
 pub enum ReadFault {
-    /// A read failed, or the end wasn't met in so many reads.
+    /// A read failed, or `MAX_READS` reads did not reach the end.
     Unreadable,
     Memory(AllocError),
 }
@@ -78,18 +78,17 @@ fn encode_piece(piece: &[u8], digits: &mut [u8])
     };
 }
 
-/// Writes bytes as a line of hex, piece by piece. It takes no memory.
+/// Writes bytes as a line of hex, piece by piece. It allocates nothing.
 pub fn write_hex_line<W: Write>(out: &mut W, bytes: &[u8]) -> Result<(), WriteFault>
-    ensures { WroteBeginning (W.contents out.old) (W.contents out.new)
-        (encode_lower bytes.now ++ line_feed ∷ []) result }
+    ensures { WroteBeginning (W.contents out.old) (W.contents out.new) (hex_line bytes.now) result }
 {
     let mut digits = [0u8; DIGITS_SIZE];
     let mut rest = bytes;
     while rest.len() > PIECE_SIZE {
-        let (piece, behind) = rest.split_at(PIECE_SIZE);
+        let (piece, after) = rest.split_at(PIECE_SIZE);
         encode_piece(piece, &mut digits);
         write_whole(out, &digits[..2 * PIECE_SIZE])?;
-        rest = behind;
+        rest = after;
     }
     encode_piece(rest, &mut digits);
     let end = 2 * rest.len();

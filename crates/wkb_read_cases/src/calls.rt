@@ -60,7 +60,7 @@ fn hex_calls(rt: HostRuntime) -> Result<(), Fail> {
 /// A point with an SRID.
 const POINT: &str = "01e9030020e6100000000000000000f03f00000000000000400000000000000840";
 
-// Whether its SRID is told, and goes into this encoding under EWKB.
+// Whether its SRID is found, and goes into this encoding under EWKB.
 fn has_srid(alloc: Global, expected: &Spelled) -> Result<bool, HexFault> {
     Ok(
         srid_hex(alloc, POINT)? == Some(4326)

@@ -1,4 +1,4 @@
-//! The cases whose reading takes memory.
+//! The cases whose reading allocates.
 
 use std::test::Fail;
 use wkb_cases::spelled::{Spelled, bytes};

@@ -1,10 +1,10 @@
-//! What clients answer: words of geometries in a blob, and whether a value is stored.
+//! What clients return: words of geometries in a blob, and whether a value is stored.
 
 use std::alloc::Global;
 use std::test::Fail;
 use wkb_cases::spelled::bytes;
 use wkb_cases::support::{THREE, TWO};
-use wkb_clients::collections::{Place, ring_word};
+use wkb_clients::collections::{WordPath, ring_word};
 use wkb_clients::keys::Store;
 use wkb_clients::package::word;
 
@@ -17,7 +17,7 @@ const POLYGON: &str = "47500001 00000000 01 07000000 02000000
     00 000003e9 3ff0000000000000 4000000000000000 4008000000000000
     01 03000000 02000000 01000000 P 00000000";
 
-/// The first coordinate's z behind the eight bytes.
+/// The first coordinate's z after the eight bytes.
 fn z_of_line(alloc: Global) -> Result<Option<u64>, Fail> {
     let blob = bytes(LINE)?;
     match word(alloc, blob.as_slice(), 8, 0, 2) {
@@ -26,10 +26,10 @@ fn z_of_line(alloc: Global) -> Result<Option<u64>, Fail> {
     }
 }
 
-/// The first coordinate's y of the exterior of the second member behind the eight bytes.
+/// The first coordinate's y of the exterior of the second member after the eight bytes.
 fn y_of_exterior(alloc: Global) -> Result<Option<u64>, Fail> {
     let blob = bytes(POLYGON)?;
-    let at = Place {
+    let at = WordPath {
         member: 1,
         ring: 0,
         coordinate: 0,
@@ -59,7 +59,7 @@ fn was_there(store: &mut Store, text: &str) -> Result<bool, Fail> {
 
 // One polygon in two spellings, of which the second has an SRID.
 #[test]
-fn same_polygons(rt: HostRuntime) -> Result<(), Fail> {
+fn value_stored_once(rt: HostRuntime) -> Result<(), Fail> {
     let mut store = Store::new(rt.alloc());
     let little = "01 03000000 01000000 01000000 P";
     let big = "00 20000003 000010e6 00000001 00000001 3ff0000000000000 4000000000000000";

@@ -1,4 +1,4 @@
-//! Each clone. The source of one that is refused answers as before.
+//! Each clone. If a clone fails, its source is as before.
 
 use crate::cases::{CASES, Case, case_at};
 use std::alloc::Global;
@@ -6,7 +6,7 @@ use std::test::Fail;
 use wkb::reader::{GeometryType, Wkb};
 use wkb_cases::reading::{as_multi_line_string, as_multi_polygon, as_polygon, read, view_size};
 
-// Whether a geometry answers as the case does.
+// Whether a geometry is that of the case.
 fn is_case(wkb: &Wkb<'_>, case: &Case) -> bool {
     wkb.buf() == case.input.as_slice() && view_size(wkb) == case.input.len() as u64
 }

@@ -1,4 +1,4 @@
-//! Every proper beginning of an input is refused.
+//! Every strict prefix of an input is refused.
 
 use std::alloc::Global;
 use std::test::Fail;
@@ -16,7 +16,7 @@ fn outcome(alloc: Global, input: &[u8]) -> Result<Outcome, Fail> {
     }
 }
 
-// What is answered to so many bytes of the nested collections.
+// How reading the first `len` bytes of the nested collections ends.
 fn outcome_of_cut(len: usize) -> Outcome {
     if len <= 1156 {
         return Outcome::EndOfInput;
@@ -41,7 +41,7 @@ fn cut_nested(rt: HostRuntime) -> Result<(), Fail> {
     Ok(())
 }
 
-// Whether a reading ended for want of bytes.
+// Whether a reading ended because bytes are missing.
 fn is_short(answer: Outcome) -> bool {
     match answer {
         Outcome::EndOfInput => true,
@@ -56,7 +56,7 @@ fn is_short(answer: Outcome) -> bool {
     }
 }
 
-// Whether this is so of every proper beginning.
+// Whether this is so of every strict prefix.
 fn are_short(alloc: Global, text: &str) -> Result<bool, Fail> {
     let input = bytes(text)?;
     let whole = input.as_slice();

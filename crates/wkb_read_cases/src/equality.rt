@@ -1,5 +1,5 @@
-//! Derived comparisons, defaults and conversions of the types that calls take and answer. What they are is proved of
-//! the functions here, so that but for the hashes nothing is left to run.
+//! Derived comparisons, defaults and conversions of the types that calls take and return. What they are is proved of
+//! the functions here, so that only the hashes are left to run.
 
 ghost use Rattle.std.specs.Prelude.{◌≡◌, ◌↔◌, Ok, Err, IsTrue};
 ghost use Rattle.wkb_geom.specs.declared.common.Endianness.TheVariants.{LittleEndian};

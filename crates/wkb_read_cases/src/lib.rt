@@ -1,10 +1,10 @@
 //! What can't be a row of the worked cases of reading: what outlives a geometry, views as geometries, cut inputs, what
-//! clients answer, printed texts, and readings, clones and hex calls that take memory, as tests of public calls. The
+//! clients return, printed texts, and readings, clones and hex calls that allocate, as tests of public calls. The
 //! bytes and numbers that they expect were written down before the program ran.
 //!
-//! The inputs of the calls that take memory take none, so that each growth which the call under test asks for can be
-//! refused in turn: `memory/run wkb_read_cases` does that. A test in which a growth was refused ends with that error
-//! and no other, and one in which none was passes.
+//! The inputs of the calls that allocate are made without an allocation, so that only those of the call under test can
+//! fail, each in turn: `memory/run wkb_read_cases` does that. A test in which an allocation failed ends with that error
+//! and no other, and one in which none did passes.
 #![tactic(auto)]
 
 #[cfg(test)]

@@ -1,4 +1,4 @@
-//! What is taken out of a geometry and used once that is gone, and a ring as a geometry of its own.
+//! What is taken out of a geometry and used after that is dropped, and a ring as a geometry of its own.
 
 use std::alloc::Global;
 use std::test::Fail;
@@ -20,7 +20,7 @@ enum Part<'a> {
     LineString(LineString<'a>),
 }
 
-/// The coordinate of the point that a point hands out.
+/// The coordinate of the point that a point returns as its type.
 fn coord_of<'a>(wkb: &Wkb<'a>) -> Result<Coord<'a>, Fail> {
     let point = as_point(wkb)?;
     match point.as_type() {
@@ -52,7 +52,7 @@ fn part_of<'a>(wkb: &Wkb<'a>) -> Result<Part<'a>, Fail> {
     }
 }
 
-// Whether a coordinate of two words answers 1.0 and 2.0 to each call.
+// Whether each call on a coordinate of two words returns 1.0 and 2.0.
 fn is_one_and_two<C: CoordTrait>(coord: &C) -> bool {
     coord.dim().size() == 2
         && words(coord) == (Some(ONE), Some(TWO), None)
@@ -70,7 +70,7 @@ fn begins_with_one_and_two(part: Part<'_>) -> Result<bool, Fail> {
     }
 }
 
-// Whether the coordinate of these bytes is there still when the geometry is let go.
+// Whether the coordinate of these bytes is still there after the geometry is dropped.
 fn is_kept(alloc: Global, text: &str) -> Result<bool, Fail> {
     let input = bytes(text)?;
     let part = part_of(&read(alloc, input.as_slice())?)?;

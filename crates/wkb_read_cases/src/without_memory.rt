@@ -1,5 +1,4 @@
-//! The cases of headers, points, line strings, multi points and polygons without rings take no memory: this test meets
-//! no growth.
+//! The cases of headers, points, line strings, multi points and polygons without rings: none of them allocates.
 
 use std::alloc::Global;
 use std::test::Fail;
@@ -83,7 +82,7 @@ const REFUSED: &str = "
 01 04000000 01000000 00 20000001 3ff0000000000000 40000000000000
 01 04000000 01000000 00 00000002 3ff0000000000000 40000000000000";
 
-/// What all three calls that read answer to the bytes of a text; none where they differ.
+/// How all three calls that read end for the bytes of a text; `None` if they differ.
 fn answer(alloc: Global, text: &str) -> Result<Option<Outcome>, Fail> {
     let input = bytes(text)?;
     let input = input.as_slice();
@@ -96,7 +95,7 @@ fn answer(alloc: Global, text: &str) -> Result<Option<Outcome>, Fail> {
     }
 }
 
-/// Whether bytes are accepted; none where they are neither that nor refused for what they are.
+/// Whether bytes are accepted; `None` if they are neither that nor refused for what they are.
 fn is_accepted(alloc: Global, text: &str) -> Result<Option<bool>, Fail> {
     match answer(alloc, text)? {
         Some(Outcome::Accepted(_)) => Ok(Some(true)),
@@ -106,7 +105,7 @@ fn is_accepted(alloc: Global, text: &str) -> Result<Option<bool>, Fail> {
 }
 
 #[test]
-fn no_growth(rt: HostRuntime) -> Result<(), Fail> {
+fn nothing_allocated(rt: HostRuntime) -> Result<(), Fail> {
     for (texts, accepted) in [(ACCEPTED, true), (REFUSED, false)] {
         for text in texts.lines() {
             assert!(rt; is_accepted(rt.alloc(), text)? == Some(accepted), "{text}");

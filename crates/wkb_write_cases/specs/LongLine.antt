@@ -1,6 +1,5 @@
--- Coordinates at the origin, as many as one likes.
-use Rattle.std.proofs.Common.{◌≡◌, ℕ, zero, suc, ◌<◌, ◌≤◌, List, [], ◌∷◌, length, refl, ap, arith, lit<, Some, None}
-use Rattle.std.proofs.Common.{slice_get}
+-- A number of coordinates at the origin.
+use Rattle.std.proofs.Common.{ℕ, zero, suc, List, [], ◌∷◌, refl, lit<}
 use Rattle.std.specs.Prelude.{replicate}
 use Rattle.wkb_geom.specs.declared.common.Dimensions.TheVariants.{Xy}
 use Rattle.wkb_geom.specs.Geometries.{AreCoordinates}

@@ -1,4 +1,4 @@
-//! What size functions and writers answered, as values to compare.
+//! What size functions and writers returned, as values to compare.
 
 use std::io;
 use wkb::error::{General, Overflow, WkbError, WkbResult};
@@ -24,7 +24,7 @@ fn refusal(error: &WkbError) -> Answer {
     }
 }
 
-/// What a writer answered.
+/// What a writer returned.
 pub fn writer_answer(written: &WkbResult<()>) -> Answer {
     match written {
         Ok(()) => Answer::Written,
@@ -32,7 +32,7 @@ pub fn writer_answer(written: &WkbResult<()>) -> Answer {
     }
 }
 
-/// What a size function answered.
+/// What a size function returned.
 pub fn size_answer(size: &WkbResult<usize>) -> Answer {
     match size {
         Ok(size) => Answer::Size(*size),

@@ -1,5 +1,5 @@
-//! Encodings of each length round the sizes of a block, in sinks that have room for all or a part of them. Where a sink
-//! fails, the writer answers the sink's own error.
+//! Encodings of each length around the sizes of a block, in sinks that have room for all or a part of them. If a sink
+//! fails, the writer returns the sink's own error.
 
 use crate::answers::{Answer, writer_answer};
 use crate::kinds::{put_multi_line_string, put_point};
@@ -12,15 +12,15 @@ use wkb::writer::Sink;
 use wkb_cases::spelled::Spelled;
 use wkb_cases::support::{ONE, iso, line_string_of, multi_line_string_of, point_of};
 
-/// How many words sixty-four coordinates have: a line string of so many is longer than any block.
+/// How many words sixty-four coordinates have: a line string of them is longer than any block.
 const WORDS: usize = 128;
 
-/// With fewer empty line strings before it than that, another begins at each place modulo sixteen.
+/// After 0 to 15 empty line strings of nine bytes each, the next one begins at each offset modulo sixteen.
 const MOST_EMPTY: usize = 16;
 
 const EMPTY: &str = "01 02000000 00000000";
 
-/// Where a sink's room ends: round the lengths of blocks, and of what goes by a small one.
+/// Where a sink's room ends: around the lengths of blocks, and of what goes through a small one.
 const ROOMS: [usize; 10] = [0, 1, 159, 160, 191, 192, 193, 1023, 1024, 1025];
 
 fn push_count(encoding: &mut Spelled, count: usize) -> Result<(), Fail> {
@@ -52,7 +52,7 @@ fn push_multi(encoding: &mut Spelled, empty: usize, words: &[u64]) -> Result<(),
     encoding.spell(EMPTY)
 }
 
-/// The encoding of so many line strings without coordinates, one of these words, and another without, little endian.
+/// The encoding of `empty` line strings without coordinates, one of these words, and another without, little endian.
 fn encoding_of(empty: usize, words: &[u64]) -> Result<Spelled, Fail> {
     let mut encoding = Spelled::new();
     push_multi(&mut encoding, empty, words)?;
@@ -68,7 +68,7 @@ fn words() -> [u64; WORDS] {
     words
 }
 
-// Whether a sink with so much room holds a beginning of the encoding, and the writer answers its error where that isn't
+// Whether a sink with this room holds a prefix of the encoding, and the writer returns the sink's error if that isn't
 // all.
 fn fills(multi: &MultiLineString<'_>, encoding: &[u8], room: usize, most: usize) -> bool {
     let limits = Limits {
@@ -103,7 +103,7 @@ fn fills_all(multi: &MultiLineString<'_>, encoding: &[u8], rooms: &[usize]) -> b
         && fills(multi, encoding, whole, 1)
 }
 
-// So for so many line strings without coordinates, one of these words, and another without.
+// So for `empty` line strings without coordinates, one of these words, and another without.
 fn fills_rooms(empty: usize, words: &[u64], rooms: &[usize]) -> Result<bool, Fail> {
     if empty >= MOST_EMPTY {
         return Ok(false);
@@ -138,7 +138,7 @@ fn each_room(rt: HostRuntime) -> Result<(), Fail> {
     Ok(())
 }
 
-// The text of the sink's error is handed on too.
+// The text of the sink's error is returned too.
 #[test]
 fn own_error(rt: HostRuntime) -> Result<(), Fail> {
     let point = point_of(Dimensions::Xy, &[ONE, ONE])?;

@@ -1,5 +1,5 @@
-//! Each kind's size and encoding. A short encoding is one write of `Out`, and takes no memory of a `VecSink` that has
-//! room for it.
+//! Each kind's size and encoding. A short encoding is one write of `Out`, and a `VecSink` that has room for it does not
+//! allocate.
 
 use crate::answers::Answer;
 use crate::kinds::{Answers, ENCODINGS, Kind, TWO_WORDS, put_kind};

@@ -12,7 +12,7 @@ use wkb_cases::spelled::{Spelled, bytes};
 /// More bytes than an encoding has.
 const ROOM: usize = 128;
 
-/// What a writer answers that puts so much of an encoding into a sink, which fails by this kind of error.
+/// What a writer returns that puts `len` bytes of an encoding into a sink, which fails with this kind of error.
 fn answer_of(len: usize, encoding: &Spelled, failure: io::ErrorKind) -> Answer {
     if len < encoding.len() {
         Answer::Failed(failure)
@@ -21,12 +21,12 @@ fn answer_of(len: usize, encoding: &Spelled, failure: io::ErrorKind) -> Answer {
     }
 }
 
-/// Whether so many bytes were taken, and are a beginning of the encoding.
+/// Whether `len` bytes were taken, and are a prefix of the encoding.
 fn is_beginning(taken: &[u8], encoding: &Spelled, len: usize) -> bool {
     taken.len() == len && encoding.as_slice().starts_with(taken)
 }
 
-// Whether a sink takes so many bytes. Where these aren't all, it has failed, and the writer answers so.
+// Whether a sink takes `len` bytes. If these aren't all, it has failed, and the writer returns that.
 fn takes(
     alloc: Global,
     kind: Kind,
@@ -95,14 +95,14 @@ fn is_interrupted(alloc: Global, kind: Kind) -> Result<bool, Fail> {
 }
 
 #[test]
-fn failing_sinks_interrupted(rt: HostRuntime) -> Result<(), Fail> {
+fn interrupted_writes(rt: HostRuntime) -> Result<(), Fail> {
     for (kind, text) in ENCODINGS {
         assert!(rt; is_interrupted(rt.alloc(), kind)?, "{text}");
     }
     Ok(())
 }
 
-// Whether a slice of so many bytes takes a beginning of the encoding, and the bytes behind it stand as they were.
+// Whether a slice of `room` bytes takes a prefix of the encoding, and the bytes after it are as they were.
 fn fills(alloc: Global, kind: Kind, encoding: &Spelled, room: usize) -> Result<bool, Fail> {
     let len = room.min(encoding.len());
     let mut slice = [7u8; ROOM];

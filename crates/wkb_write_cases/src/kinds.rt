@@ -96,7 +96,7 @@ pub const FIVE_WORDS: Corner<'static> = Corner {
     origin: &[0, 0, 0, 0, 0],
 };
 
-/// What size function and writer answered.
+/// What size function and writer returned.
 #[derive(Clone, Copy)]
 pub struct Answers {
     pub size: Answer,
@@ -164,7 +164,7 @@ pub fn any_size(geometry: &Geometry<'_>, options: &WriteOptions) -> WkbResult<us
     geometry_wkb_size_with(geometry, options)
 }
 
-/// What a size function and a writer answered.
+/// What a size function and a writer returned.
 fn told(size: WkbResult<usize>, written: WkbResult<()>) -> Answers {
     Answers {
         size: size_answer(&size),
@@ -172,8 +172,8 @@ fn told(size: WkbResult<usize>, written: WkbResult<()>) -> Answers {
     }
 }
 
-// What size function and writer answer of a geometry of each kind, little endian, whose parts are this corner, twice
-// where it has several.
+// What size function and writer return for a geometry of each kind, little endian, whose parts are this corner, twice
+// if it has several.
 
 fn point<S: Sink>(sink: &mut S, corner: Corner<'_>) -> Result<Answers, Fail>
     requires working { S.has_failed sink.old ≡ false }
@@ -286,7 +286,7 @@ fn collection<S: Sink>(alloc: Global, sink: &mut S, corner: Corner<'_>) -> Resul
     }
 }
 
-/// What `geometry_wkb_size_with` and `write_geometry` answer of any geometry, little endian.
+/// What `geometry_wkb_size_with` and `write_geometry` return for any geometry, little endian.
 pub fn any<S: Sink>(sink: &mut S, geometry: &Geometry<'_>) -> Answers
     requires working { S.has_failed sink.old ≡ false }
 {
@@ -325,7 +325,7 @@ fn put_corner<S: Sink>(
     }
 }
 
-/// Measures and puts a geometry of the kind, little endian. Want of memory is an error of its own.
+/// Measures and puts a geometry of the kind, little endian. A failed allocation is an error of its own.
 pub fn put_kind<S: Sink>(
     alloc: Global,
     sink: &mut S,

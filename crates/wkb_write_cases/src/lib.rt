@@ -24,4 +24,6 @@ mod sinks;
 #[cfg(test)]
 mod use_of_the_library;
 #[cfg(test)]
+mod whole;
+#[cfg(test)]
 mod writing;

@@ -23,7 +23,7 @@ const POINT: &str = "01e9030020e6100000000000000000f03f0000000000000040000000000
 const TWO_LINES: &str = "0101000000000000000000f03f0000000000000040
 0020000001000010e63ff00000000000004000000000000000";
 
-/// Each word, an input, and the line that it answers.
+/// Each word, an input, and the line that is written.
 const ANSWERS: [(&str, &str, &str); 7] = [
     (
         "le",
@@ -50,11 +50,11 @@ const ANSWERS: [(&str, &str, &str); 7] = [
     ("same", TWO_LINES, "same\n"),
 ];
 
-/// What is said of a point that isn't all there, up to its numbers.
+/// The line for a point that isn't all there, up to its numbers.
 const SHORT_POINT: &str =
     "refused: General error: Invalid buffer length for Point: geometry would end at byte";
 
-/// Gives one digit a read, so many in all. Then it ends; or it fails once, and goes on with so many more.
+/// Gives one digit a read. After a number of digits it ends; or it fails once, and goes on with as many more.
 #[derive(Drop)]
 struct Digits {
     left: u32,
@@ -128,7 +128,7 @@ fn ends_behind(alloc: Global, left: u32, status: u8, line: &str) -> Result<bool,
     ends(alloc, "le", &mut digits, status, line)
 }
 
-// Whether a run fails whose reader does so at its second call, and then has so many digits more.
+// Whether a run fails if its reader fails at its second call, and would then have `more` digits.
 fn fails_with_its_reader(alloc: Global, word: &str, more: u32) -> Result<bool, Fail> {
     let mut digits = Digits {
         left: 1,
@@ -137,14 +137,14 @@ fn fails_with_its_reader(alloc: Global, word: &str, more: u32) -> Result<bool, F
     ends(alloc, word, &mut digits, 3, "")
 }
 
-// So also where the reader would go on: no read is tried again.
+// Also if the reader would go on: no read is tried again.
 fn fails_at_once(alloc: Global, word: &str) -> Result<bool, Fail> {
     Ok(fails_with_its_reader(alloc, word, 0)? && fails_with_its_reader(alloc, word, 1)?)
 }
 
-// A reader that fails at its second call; digits for ever, as many as are read and the end, and one more.
+// A reader that fails at its second call; digits without an end, as many as are read before the end, and one more.
 #[test]
-fn program_io_of_readers(rt: HostRuntime) -> Result<(), Fail> {
+fn failing_readers(rt: HostRuntime) -> Result<(), Fail> {
     for (word, _input, _line) in ANSWERS {
         assert!(rt; fails_at_once(rt.alloc(), word)?, "{word}");
     }
@@ -154,7 +154,7 @@ fn program_io_of_readers(rt: HostRuntime) -> Result<(), Fail> {
     Ok(())
 }
 
-// Whether a run writes the beginning of its line into a writer that takes a byte a call, fails once after so many, and
+// Whether a run writes a prefix of its line into a writer that takes a byte a call, fails once after `room` bytes, and
 // would then go on. It is offered no byte twice.
 fn is_told(alloc: Global, answer: (&str, &str, &str), room: usize) -> Result<bool, Fail> {
     let (word, input, line) = answer;
@@ -182,7 +182,7 @@ fn is_told_at_each(alloc: Global, answer: (&str, &str, &str)) -> Result<bool, Fa
 }
 
 #[test]
-fn program_io_of_writers(rt: HostRuntime) -> Result<(), Fail> {
+fn failing_writers(rt: HostRuntime) -> Result<(), Fail> {
     for answer in ANSWERS {
         let (word, _input, _line) = answer;
         assert!(rt; is_told_at_each(rt.alloc(), answer)?, "{word}");
@@ -190,7 +190,7 @@ fn program_io_of_writers(rt: HostRuntime) -> Result<(), Fail> {
     Ok(())
 }
 
-/// What is said of so many bytes of the nested collections.
+/// The line for the first `len` bytes of the nested collections.
 fn line_of_cut(alloc: Global, len: usize) -> Result<String, AllocError> {
     if len < 1157 {
         return String::from_str(alloc, "refused: end of input\n");
@@ -199,14 +199,14 @@ fn line_of_cut(alloc: Global, len: usize) -> Result<String, AllocError> {
     format!(in alloc; "{SHORT_POINT} 21, but buffer length is {left}.\n")
 }
 
-// Whether so many of the bytes that these digits spell are refused as they should be.
+// Whether the first `len` of the bytes that these digits spell are refused as they should be.
 fn is_refused(alloc: Global, digits: &[u8], len: usize) -> Result<bool, Fail> {
     let mut reader = digits.get(..len.saturating_mul(2)).ok_or("too few digits")?;
     let line = line_of_cut(alloc, len)?;
     ends(alloc, "le", &mut reader, 1, line.as_str())
 }
 
-// The same beginnings as bytes stand in `wkb_read_cases`.
+// `wkb_read_cases` reads the same prefixes as bytes.
 #[test]
 fn cut_nested(rt: HostRuntime) -> Result<(), Fail> {
     let digits = digits_of(nested_in(128)?.as_slice())?;
@@ -219,7 +219,7 @@ fn cut_nested(rt: HostRuntime) -> Result<(), Fail> {
 /// What else is said of an input that is cut short, up to the kind.
 const TOO_SHORT: &str = "refused: General error: Invalid buffer length for ";
 
-// Whether a run ends with 1 on so many bytes of these digits, and says that they are too few.
+// Whether a run ends with 1 on the first `len` bytes of these digits, and says that they are too few.
 fn is_short(alloc: Global, digits: &[u8], len: usize) -> Result<bool, Fail> {
     let mut reader = digits.get(..len.saturating_mul(2)).ok_or("too few digits")?;
     let (status, out) = outcome(alloc, "le", &mut reader)?;
@@ -231,7 +231,7 @@ fn is_short(alloc: Global, digits: &[u8], len: usize) -> Result<bool, Fail> {
     )
 }
 
-// So of each proper beginning.
+// So of each strict prefix.
 fn are_short(alloc: Global, text: &str) -> Result<bool, Fail> {
     let input = bytes(text)?;
     let digits = digits_of(input.as_slice())?;
@@ -256,7 +256,7 @@ fn cut_others(rt: HostRuntime) -> Result<(), Fail> {
     Ok(())
 }
 
-/// Arguments, and whether those behind the name are texts.
+/// Arguments, and whether those after the name are texts.
 const ARGUMENTS: [([&[u8]; 3], bool); 3] = [
     ([b"\xff/", b"le", b"be"], true),
     ([b"wkb_hex", b"le", &[b'x'; 1000]], true),
@@ -291,7 +291,7 @@ impl Env for Process<'_> {
     }
 }
 
-/// Whether the words are those behind the name.
+/// Whether the words are those after the name.
 fn are_arguments(words: &[String], arguments: [&[u8]; 3]) -> bool {
     match words {
         [first, second] => first.as_bytes() == arguments[1] && second.as_bytes() == arguments[2],

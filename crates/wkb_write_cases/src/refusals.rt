@@ -1,4 +1,4 @@
-//! Each writer of a geometry that can't be written, over each sink: nothing stands, and no sink failed.
+//! Each writer of a geometry that can't be written, over each sink: nothing is written, and no sink failed.
 
 ghost use Rattle.std.specs.Prelude.{◌≡◌, false};
 
@@ -66,7 +66,7 @@ fn unknown_dimensions(rt: HostRuntime) -> Result<(), Fail> {
     Ok(())
 }
 
-// What is answered of a collection of two empty points, of which the second can't be written.
+// What is returned for a collection of two empty points, of which the second can't be written.
 fn two_points<S: Sink>(alloc: Global, sink: &mut S) -> Result<Answers, Fail>
     requires working { S.has_failed sink.old ≡ false }
 {
@@ -87,7 +87,7 @@ fn unknown_dimensions_in_a_collection(rt: HostRuntime) -> Result<(), Fail> {
 }
 
 #[test]
-fn long_line(rt: HostRuntime) {
+fn count_past_32_bits(rt: HostRuntime) {
     let line = LongLine { count: 4294967296 };
     let mut sink = VecSink::new(rt.alloc());
     let size = size_answer(&line_string_wkb_size(&line));

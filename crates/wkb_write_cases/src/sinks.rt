@@ -1,4 +1,4 @@
-//! Sinks and writers that take little, or fail. They keep what they took without memory.
+//! Sinks and writers that take little, or fail. They keep what they took, and allocate nothing for it.
 
 ghost use Rattle.std.specs.Prelude.{◌≡◌, false};
 
@@ -7,7 +7,7 @@ use std::io::Write;
 use wkb::writer::Sink;
 use wkb_cases::spelled::Spelled;
 
-/// What a full sink answers.
+/// The text of a full sink's error.
 pub const FULL: &str = "the disk is full";
 
 /// What a sink takes before it fails.
@@ -15,7 +15,7 @@ pub const FULL: &str = "the disk is full";
 pub struct Limits {
     /// How many calls.
     pub puts: usize,
-    /// How many bytes a call. Where it is none, the call answers so.
+    /// How many bytes a call. If it is none, a call returns 0.
     pub most: usize,
     /// How many bytes in all.
     pub room: usize,
@@ -79,7 +79,7 @@ pub struct LimitedWriter {
 }
 
 impl LimitedWriter {
-    /// A writer that takes so many bytes of each write. The first write is the one of number 1.
+    /// A writer that takes `most` bytes of each write. The first write has the number 1.
     pub fn new(most: usize, interrupted_at: Option<usize>) -> LimitedWriter {
         LimitedWriter {
             taken: Spelled::new(),

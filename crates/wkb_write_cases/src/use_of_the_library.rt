@@ -2,8 +2,9 @@
 
 use std::test::Fail;
 use wkb::Endianness;
+use wkb::geom::ordinate;
 use wkb_cases::example::{corners, with_srid};
-use wkb_cases::ordinates::{greatest_x, ordinate};
+use wkb_cases::ordinates::greatest_x;
 use wkb_cases::places::{Place, written};
 use wkb_cases::spelled::bytes;
 use wkb_cases::support::{ONE, TWO, iso};

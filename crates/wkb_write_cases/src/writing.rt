@@ -18,7 +18,7 @@ use wkb_cases::support::{
 const POINT: &str = "00000000013ff00000000000004000000000000000";
 
 #[test]
-fn sinks(rt: HostRuntime) -> Result<(), Fail> {
+fn point_in_each_sink(rt: HostRuntime) -> Result<(), Fail> {
     let point = point_of(Dimensions::Xy, &[ONE, TWO])?;
     let expected = bytes(POINT)?;
     let mut out = Out::new(Spelled::new());
@@ -137,7 +137,7 @@ fn ewkb_size(corner: Corner<'_>, srid: Option<u32>) -> Result<usize, Fail> {
 
 // Also the cases rect-sizes and ewkb-sizes. Of corners past Xy, x and y alone are written.
 #[test]
-fn rect(rt: HostRuntime) -> Result<(), Fail> {
+fn rects_written(rt: HostRuntime) -> Result<(), Fail> {
     for (dim, origin, words) in CORNERS {
         let corner = Corner { dim, words, origin };
         assert!(rt; is_rect(rt.alloc(), corner)?, "{dim:?}");
@@ -182,7 +182,7 @@ fn words_at(
 }
 
 #[test]
-fn line_plain(rt: HostRuntime) -> Result<(), Fail> {
+fn line_strings_of_words(rt: HostRuntime) -> Result<(), Fail> {
     let line = line_string_of(Dimensions::Xyz, &[ONE, TWO, THREE, 4, 5, 6])?;
     assert!(rt; line.num_coords() == 2 && line.coord(2).is_none());
     assert!(rt; words_at(&line, 0)? == (Some(ONE), Some(TWO), Some(THREE)));
@@ -200,7 +200,7 @@ fn collection_around<'w>(alloc: Global, member: Geometry<'w>) -> Result<Geometry
     Ok(collection_of(Dimensions::Xy, members))
 }
 
-// The size and the encoding of so many collections, one in the other, round a point.
+// The size and the encoding of `levels` collections, one inside the other, around a point.
 fn nested_written(alloc: Global, levels: usize) -> Result<(usize, Vec<u8>), Fail> {
     let mut geometry = Geometry::Point(point_of(Dimensions::Xy, &[ONE, TWO])?);
     for _level in 0..levels {
@@ -210,7 +210,7 @@ fn nested_written(alloc: Global, levels: usize) -> Result<(usize, Vec<u8>), Fail
 }
 
 #[test]
-fn plain_129(rt: HostRuntime) -> Result<(), Fail> {
+fn written_too_deep_to_read(rt: HostRuntime) -> Result<(), Fail> {
     let (size, encoding) = nested_written(rt.alloc(), 129)?;
     assert!(rt; size == 1182 && encoding.len() == 1182);
     let answer = answer_to(rt.alloc(), encoding.as_slice());

@@ -11,9 +11,9 @@ returns-in-Err c =
 pub returns-then-cost : goal.returns-then-cost
 returns-then-cost c =
     reports_line _ Cost _ _ _ c.counts_report.ensures
-    (says_accepted c.args.text.now c.in-Ok.cost.accepted _ _ c.if-cost.true c.in-Ok.ensures.ok)
+    (says_accepted c.args.text.now c.in-Ok.cost c.if-cost.true c.in-Ok.ensures.ok)
 
 pub returns-else-cost : goal.returns-else-cost
 returns-else-cost c =
     reports_line _ Cost _ _ _ c.counts_report-else-cost.ensures
-    (says_counted c.args.text.now c.in-Ok.cost.accepted _ _ c.if-cost.false c.in-Ok.ensures.ok)
+    (says_counted c.args.text.now c.in-Ok.cost c.if-cost.false c.in-Ok.ensures.ok)

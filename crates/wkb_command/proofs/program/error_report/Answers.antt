@@ -4,7 +4,6 @@ use Rattle.wkb_command.proofs.program.error_report.Goals as goal
 
 pub returns : goal.returns
 returns c = (
-  tells_text _ _ _ _ c.in_default.not-IOError c.first_line.ensures.line c.in_ok-line.ensures.ok
-      c.in_ok-push_str.ensures.bytes,
+  tells_text _ _ _ c.in_default.not-IOError c.first_line-line.ensures.line c.in_ok-format.ensures.ok,
   refl,
 )

@@ -5,5 +5,5 @@ use Rattle.wkb_command.proofs.program.report_on_line.Goals as goal
 
 pub returns-in-Same : goal.returns-in-Same
 returns-in-Same c =
-    reports_line _ c.args.command (codes "not hex") 2 _ c.not_hex.ensures
+    reports_line _ c.args.command (codes "not hex\n") 2 _ c.not_hex.ensures
     (rw c.in-Same.is (table.not_hex (λ inputs. gives_two _ inputs (λ a b is. cc))))

@@ -13,7 +13,7 @@ returns-in_ok-format-in-Ok-Some c =
 pub returns-in-Ok-None : goal.returns-in-Ok-None
 returns-in-Ok-None c =
     let h = c.in-Ok-None.ensures.ok in
-    reports_line _ Srid (codes "no srid") 0 _ c.new.ensures
+    reports_line _ Srid (codes "no srid\n") 0 _ c.new.ensures
     (table.no_srid (one_input Srid _ h.0 refl h.1) (rw c.in-Ok-None.field-0-is at h.2))
 
 pub returns-in-Err : goal.returns-in-Err

@@ -12,7 +12,7 @@ all_read old mid new bytes chunk count before read none room =
     Consumes-whole old new _ (λ all. bytes ≡ all) (Consumes-trans old mid new bytes _ before read.0)
     (read.1 none room) (sym (ap (λ n. bytes ++ take n chunk) none ∙ append-nil bytes))
 
--- what was read stands behind the bytes so far
+-- what was read is after the bytes so far
 more_read : (old mid new : Option (List ℕ)) (bytes read after : List ℕ) → Consumes old mid bytes
     → Consumes mid new read → after ≡ bytes ++ read → Consumes old new after
 more_read old mid new bytes read after before more is =

@@ -1,0 +1,128 @@
+//! Whole encodings: in a vector of their own, and at the front of a slice.
+
+use crate::answers::{Answer, size_answer};
+use crate::kinds::{ENCODINGS, LITTLE};
+use std::alloc::Global;
+use std::io;
+use std::test::Fail;
+use wkb::Endianness;
+use wkb::error::WkbResult;
+use wkb::geom::{Dimensions, Geometry, GeometryTrait};
+use wkb::reader::Wkb;
+use wkb::writer::{WriteOptions, to_vec, write_to_slice};
+use wkb_cases::reading::read;
+use wkb_cases::spelled::{Spelled, bytes};
+use wkb_cases::support::{empty_point_of, iso};
+
+/// More bytes than an encoding here has.
+const ROOM: usize = 2048;
+
+/// What each byte of a slice is at first.
+const OLD: u8 = 0xaa;
+
+// The calls under test, without clauses, so that a test's proof reads few facts.
+
+fn in_vec<G: GeometryTrait>(
+    alloc: Global,
+    geometry: &G,
+    options: &WriteOptions,
+) -> WkbResult<Vec<u8>> {
+    to_vec(alloc, geometry, options)
+}
+
+fn in_slice<G: GeometryTrait>(
+    geometry: &G,
+    options: &WriteOptions,
+    out: &mut [u8],
+) -> WkbResult<usize> {
+    write_to_slice(geometry, options, out)
+}
+
+// Whether a slice of `room` bytes holds the encoding and, after it, what it held before; or all that it held before, if
+// it is too short.
+fn fills(wkb: &Wkb<'_>, options: &WriteOptions, encoding: &[u8], room: usize) -> bool {
+    let mut slice = [OLD; ROOM];
+    let answer = size_answer(&in_slice(wkb, options, &mut slice[..room.min(ROOM)]));
+    let (expected, len) = if room < encoding.len() {
+        (Answer::Failed(io::ErrorKind::WriteZero), 0)
+    } else {
+        (Answer::Size(encoding.len()), encoding.len())
+    };
+    answer == expected
+        && slice.get(..len) == encoding.get(..len)
+        && slice.get(len..) == [OLD; ROOM].get(len..)
+}
+
+// Whether a geometry's encoding is this one in a vector, and in slices that it fits just, with room to spare, and not.
+fn is_written(
+    alloc: Global,
+    wkb: &Wkb<'_>,
+    options: &WriteOptions,
+    encoding: &Spelled,
+) -> Result<bool, Fail> {
+    let expected = encoding.as_slice();
+    let len = expected.len();
+    let written = in_vec(alloc, wkb, options)?;
+    Ok(
+        written.as_slice() == expected
+            && fills(wkb, options, expected, len)
+            && fills(wkb, options, expected, len.saturating_add(3))
+            && fills(wkb, options, expected, len.saturating_sub(1))
+            && fills(wkb, options, expected, 0),
+    )
+}
+
+// Whether an input is written as these bytes in its own order and form, and as those big endian.
+fn is_written_in_both(alloc: Global, little: &Spelled, big: &Spelled) -> Result<bool, Fail> {
+    let wkb = read(alloc, little.as_slice())?;
+    Ok(
+        is_written(alloc, &wkb, &LITTLE, little)?
+            && is_written(alloc, &wkb, &iso(Endianness::BigEndian), big)?,
+    )
+}
+
+/// A header and a number of coordinates of 1.0 and 2.0.
+fn line_of(header: &str, coordinate: &str) -> Result<Spelled, Fail> {
+    let mut line = bytes(header)?;
+    for _coordinate in 0..70 {
+        line.spell(coordinate)?;
+    }
+    Ok(line)
+}
+
+// An input that is copied at once, the same in the other order, and a line string that is longer than any block.
+#[test]
+fn own_order_and_the_other(rt: HostRuntime) -> Result<(), Fail> {
+    let little = bytes("01 01000000 P")?;
+    let big = bytes("00 00000001 3ff0000000000000 4000000000000000")?;
+    assert!(rt; is_written_in_both(rt.alloc(), &little, &big)?);
+    let little = line_of("01 02000000 46000000", "P")?;
+    let big = line_of("00 00000002 00000046", "3ff0000000000000 4000000000000000")?;
+    assert!(rt; is_written_in_both(rt.alloc(), &little, &big)?);
+    Ok(())
+}
+
+fn kind_is_written(alloc: Global, text: &str) -> Result<bool, Fail> {
+    let encoding = bytes(text)?;
+    let wkb = read(alloc, encoding.as_slice())?;
+    is_written(alloc, &wkb, &LITTLE, &encoding)
+}
+
+#[test]
+fn kinds_in_vectors_and_slices(rt: HostRuntime) -> Result<(), Fail> {
+    for (_kind, text) in ENCODINGS {
+        assert!(rt; kind_is_written(rt.alloc(), text)?, "{text}");
+    }
+    Ok(())
+}
+
+// What can't be written leaves a slice as it was.
+#[test]
+fn refused_whole(rt: HostRuntime) -> Result<(), Fail> {
+    let point = Geometry::Point(empty_point_of(Dimensions::Unknown(5))?);
+    let mut slice = [OLD; ROOM];
+    let answer = size_answer(&in_slice(&point, &LITTLE, &mut slice));
+    assert!(rt; answer == Answer::UnsupportedDimensions(5) && slice == [OLD; ROOM]);
+    assert!(rt; in_vec(rt.alloc(), &point, &LITTLE).is_err());
+    Ok(())
+}
