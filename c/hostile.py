@@ -1,4 +1,5 @@
-"""The extensions of SQLite and PostgreSQL beside wkb.py, over geometries with each byte changed, and cut at each byte.
+"""The extensions of SQLite and PostgreSQL beside the Python package, over geometries with each byte changed, and cut at
+each byte.
 
     python3 hostile.py sqlite LIBRARY EXTENSION    # tries all functions, also over the blobs of GeoPackages
     python3 hostile.py rows LIBRARY                # prints what the functions have to return, for c/postgres/run
@@ -6,11 +7,15 @@
 The results have to be those of the library in Python for the same bytes.
 """
 import os
+import pathlib
 import sqlite3
 import struct
 import sys
 
-from wkb import Form, Kind, Library, Refused, Status
+sys.path.insert(0, os.fspath(pathlib.Path(__file__).parent / "python" / "src"))
+
+import wkb
+from wkb import Form, Refused, Status
 
 SEEDS = [bytes.fromhex(it) for it in (
     "0101000000000000000000f03f0000000000000040",
@@ -44,27 +49,27 @@ def place(text, part, offset):
     return f"{text}, in part {part} at byte {offset}"
 
 
-def results(library, data, header=b"", srs_id=None):
+def results(data, header=b"", srs_id=None):
     """What the functions return of a geometry with this header before it."""
     try:
-        found = library.check(data)
+        found = wkb.check(data)
     except Refused as refused:
-        text = library.status_text(refused.status)
+        text = refused.text
         if refused.status == Status.CODE_OUT_OF_RANGE:
             text += f" {refused.fault.code}"
         return (0, place(text, refused.fault.part, len(header) + refused.fault.offset)) + (None,) * (8 + len(SIDES))
     is_whole = found.size == len(data)
     fault = None if is_whole else f"bytes after the geometry, from {len(header) + found.size} on"
-    srid = srs_id if srs_id is not None else found.srid if found.has_srid else None
+    srid = found.srid if srs_id is None else srs_id
     form = Form.EWKB_WITH_SRID if srid is not None and (srid > 0 or srs_id is None) else Form.EWKB_WITHOUT_SRID
-    ewkb = library.write(data, form=form, srid=srid if form == Form.EWKB_WITH_SRID else 0)
-    box = library.bounds(data)
+    ewkb = wkb.write(data, form=form, srid=srid if form == Form.EWKB_WITH_SRID else 0)
+    box = wkb.bounds(data)
     sides = [getattr(getattr(box, axis), {"min": "least", "max": "greatest"}[end]) for axis, end in SIDES]
     sides = [side if getattr(box, axis).count else None for side, (axis, end) in zip(sides, SIDES)]
-    same = int(library.same(data, SEEDS[0]))
+    same = int(wkb.same(data, SEEDS[0]))
     return (
-        int(is_whole), fault, Kind(found.kind).name.replace("_", "").lower(), srid, library.write(data), ewkb,
-        library.write(data, form=Form.EWKB_WITH_SRID, srid=3857), same, same, 1, *sides,
+        int(is_whole), fault, found.kind.name.replace("_", "").lower(), srid, wkb.write(data), ewkb,
+        wkb.write(data, form=Form.EWKB_WITH_SRID, srid=3857), same, same, 1, *sides,
     )
 
 
@@ -77,7 +82,7 @@ def headers():
                 yield b"GP\0" + bytes([flags]) + struct.pack(order + "i", srs_id) + bytes(size), srs_id
 
 
-def try_sqlite(library, extension):
+def try_sqlite(extension):
     """Compares the results of the extension at a path, which is all that a user gives."""
     count, database = 0, sqlite3.connect(":memory:")
     database.enable_load_extension(True)
@@ -85,7 +90,7 @@ def try_sqlite(library, extension):
     for data in inputs():
         for header, srs_id in [(b"", None), *headers()]:
             returned = database.execute(QUERY, (header + data, SEEDS[0])).fetchone()
-            expected = results(library, data, header, srs_id)
+            expected = results(data, header, srs_id)
             count += 1
             if returned != expected:
                 sys.exit(f"{(header + data).hex()}:\n  expected {expected}\n  returned {returned}")
@@ -99,18 +104,18 @@ def copied(value):
     return "\\\\x" + value.hex() if isinstance(value, bytes) else str(value)
 
 
-def print_rows(library):
+def print_rows():
     """A line for each input and what the functions return of it, for the database's COPY."""
     for data in inputs():
-        print("\t".join(map(copied, (data, *results(library, data)))))
+        print("\t".join(map(copied, (data, *results(data)))))
 
 
 def main():
-    library = Library(sys.argv[2])
+    wkb.load(sys.argv[2])
     if sys.argv[1] == "sqlite":
-        try_sqlite(library, sys.argv[3])
+        try_sqlite(sys.argv[3])
     else:
-        print_rows(library)
+        print_rows()
 
 
 main()

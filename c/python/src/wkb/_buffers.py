@@ -1,0 +1,69 @@
+"""Where the bytes of a caller's buffer are, and memory for results."""
+import array
+import ctypes
+from typing import TYPE_CHECKING, Any, Tuple
+
+try:
+    import numpy
+
+    has_numpy = True
+except ImportError:
+    has_numpy = False
+
+# Numbers in one piece of memory: an array of numpy where it is installed, else of the module array.
+if TYPE_CHECKING:
+    Numbers = numpy.ndarray[Any, Any]
+else:
+    Numbers = Any
+
+# Anything with the buffer protocol.
+Buffer = Any
+
+# The numbers of results by their types in numpy, and as the modules array and struct have them.
+CODES = {"u1": "B", "u4": "I", "i8": "q", "f8": "d"}
+
+
+class _PyBuffer(ctypes.Structure):
+    """CPython's `Py_buffer`: where the bytes are, how many there are, and what isn't needed here."""
+
+    _fields_ = [
+        ("address", ctypes.c_void_p),
+        ("owner", ctypes.c_void_p),
+        ("size", ctypes.c_ssize_t),
+        ("rest", ctypes.c_void_p * 8),
+    ]
+
+
+_get_buffer = ctypes.pythonapi.PyObject_GetBuffer
+_get_buffer.argtypes = [ctypes.py_object, ctypes.POINTER(_PyBuffer), ctypes.c_int]
+_release_buffer = ctypes.pythonapi.PyBuffer_Release
+_release_buffer.argtypes = [ctypes.POINTER(_PyBuffer)]
+_release_buffer.restype = None
+
+
+class Bytes:
+    """The address and the size of a buffer's bytes while a `with` lasts; of a copy where they aren't in one piece."""
+
+    def __init__(self, data: Buffer):
+        self._data, self._buffer = data, _PyBuffer()
+
+    def __enter__(self) -> "Bytes":
+        try:
+            _get_buffer(self._data, self._buffer, 0)
+        except (BufferError, ValueError):  # ValueError is numpy's
+            _get_buffer(memoryview(self._data).tobytes(), self._buffer, 0)
+        self.address: int = self._buffer.address
+        self.size: int = self._buffer.size
+        return self
+
+    def __exit__(self, *_: Any) -> None:
+        _release_buffer(self._buffer)
+
+
+def new_numbers(kind: str, count: int) -> Tuple[Numbers, int]:
+    """An array of `count` numbers of this type of numpy's, and its address."""
+    if has_numpy:
+        numbers = numpy.empty(count, kind)
+        return numbers, numbers.ctypes.data
+    items: Any = array.array(CODES[kind], [0]) * count
+    return items, items.buffer_info()[0]

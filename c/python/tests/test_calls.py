@@ -1,0 +1,145 @@
+"""The calls for one geometry."""
+import pickle
+import struct
+import sys
+import unittest
+
+import wkb
+from samples import BIG_POINT, EMPTY_POINT, ISO_POLYGON, LINE, POINT, POLYGON, rows_of
+from wkb import Dimension, Form, Kind, Order, Part, Range, Refused, Status
+
+try:
+    import numpy
+except ImportError:
+    numpy = None
+
+
+class Calls(unittest.TestCase):
+    def test_check(self):
+        self.assertEqual(wkb.check(POLYGON), wkb.Found(33, 2, 1, 4326, Kind.POLYGON, Dimension.XY, Order.BIG))
+        line = wkb.Found(57, 1, 2, None, Kind.LINE_STRING, Dimension.XYZ, Order.LITTLE)
+        self.assertEqual(wkb.check(LINE + b".."), line)
+
+    def test_parts(self):
+        table = wkb.parts(POLYGON)
+        whole, ring = table
+        self.assertEqual(whole, Part(0, 33, 13, 1, 2, 4326, Kind.POLYGON, Dimension.XY, Order.BIG))
+        self.assertEqual(ring, Part(13, 33, 17, 1, 2, None, Kind.RING, Dimension.XY, Order.BIG))
+        self.assertEqual((len(table), table[1], table[-2], table[1:]), (2, ring, whole, [ring]))
+        self.assertEqual(repr(table), "<table of 2 Part>")
+        for index in (2, -3):
+            self.assertRaises(IndexError, lambda: table[index])
+
+    def test_coordinates(self):
+        whole, ring = wkb.parts(POLYGON)
+        self.assertEqual(wkb.coordinates(POLYGON, ring), [(1.0, 2.0)])
+        first, last = wkb.coordinates(LINE, wkb.parts(LINE)[0])
+        self.assertEqual((first, last[0], last[2]), ((1.0, 2.0, 3.0), 5.0, -7.0))
+        for call in (wkb.coordinates, wkb.view) if numpy else (wkb.coordinates,):
+            with self.assertRaisesRegex(ValueError, "a POLYGON has no coordinates of its own, but 1 rings or members"):
+                call(POLYGON, whole)
+
+    @unittest.skipUnless(numpy, "numpy is not here")
+    def test_numpy(self):
+        data = bytearray(POLYGON)
+        view = wkb.view(data, wkb.parts(data)[1])
+        self.assertEqual((view.tolist(), view.dtype), ([[1.0, 2.0]], numpy.dtype(">f8")))
+        data[17:25] = struct.pack(">d", 7)
+        self.assertEqual(view[0, 0], 7)
+        self.assertEqual(wkb.view(LINE, wkb.parts(LINE)[0]).shape, (2, 3))
+        table = numpy.asarray(wkb.parts(POLYGON))
+        self.assertEqual((table["kind"].tolist(), table["srid"].tolist()), ([3, 0], [4326, 0]))
+        self.assertEqual((table["end"] - table["begin"]).tolist(), [33, 20])
+
+    @unittest.skipIf(numpy, "numpy is here")
+    def test_no_numpy(self):
+        self.assertRaises(ImportError, wkb.view, POINT, wkb.parts(POINT)[0])
+
+    def test_write(self):
+        self.assertEqual(wkb.write(POLYGON), ISO_POLYGON)
+        self.assertEqual(wkb.write(POLYGON + b"....", Order.BIG, Form.EWKB_OWN_SRID), POLYGON)
+        with_srid = wkb.write(POINT, form=Form.EWKB_WITH_SRID, srid=2**32 - 1)
+        self.assertEqual(with_srid, b"\1\1\0\0\x20" + b"\xff" * 4 + POINT[5:])
+        self.assertEqual(wkb.write(with_srid, form=Form.EWKB_WITHOUT_SRID), POINT)
+
+    def test_write_large(self):
+        """More than the room that is tried first."""
+        for count in (4095, 4096, 4097, 100_000):
+            words = struct.pack(f"<{2 * count}d", *range(2 * count))
+            line = struct.pack("<BII", 1, 2, count) + words
+            with_srid = struct.pack("<BIII", 1, 0x20000002, 4326, count) + words
+            self.assertEqual(wkb.write(line, form=Form.EWKB_WITH_SRID, srid=4326), with_srid)
+            self.assertEqual(wkb.write(with_srid), line)
+        self.assertEqual(wkb.write(POINT + bytes(200_000)), POINT)
+
+    def test_options(self):
+        for options in ((2,), (2**32,), (-1,), (0, 4), (0, 2, -1), (0, 2, 2**32)):
+            self.assertRaises(ValueError, wkb.write, POINT, *options)
+            self.assertRaises(ValueError, wkb.Column(*rows_of(POINT)).write, *options)
+        self.assertRaises(TypeError, wkb.write, POINT, 0, 2, 4326.0)
+        self.assertRaises(ValueError, wkb.Column(*rows_of(POINT)).coordinates, 4)
+
+    def test_same(self):
+        self.assertIs(wkb.same(POINT, BIG_POINT), True)
+        self.assertIs(wkb.same(POINT, EMPTY_POINT), False)
+        for first, second, which in ((b"\2", b"", 1), (POINT, b"", 2)):
+            with self.assertRaises(Refused) as raised:
+                wkb.same(first, second)
+            self.assertEqual(raised.exception.which, which)
+        self.assertEqual(str(raised.exception), f"{wkb.status_text(4)}, in part 0 at byte 0 of the second")
+
+    def test_bounds(self):
+        box = wkb.bounds(LINE)
+        self.assertEqual((box.x, box.y, box.z), (Range(1, 5, 2), Range(2, 2, 1), Range(-7, 3, 2)))
+        self.assertEqual(box.m, Range(float("inf"), float("-inf"), 0))
+        self.assertRaises(Refused, wkb.bounds, LINE[:-1])
+
+    def test_refused(self):
+        for data, status, numbers, end in (
+            (POLYGON[:-1], Status.SHORT_LINEAR_RING, (1, 13, 20, 19, 0), "1 at byte 13, which would end at 20 of 19"),
+            (b"\1\21\0\0\0", Status.CODE_OUT_OF_RANGE, (0, 0, 0, 0, 17), " 17, in part 0 at byte 0"),
+            (b"\2", Status.INVALID_BYTE_ORDER, (0, 0, 0, 0, 0), "part 0 at byte 0"),
+        ):
+            for call in (wkb.check, wkb.write, wkb.parts, wkb.bounds):
+                with self.assertRaises(Refused) as raised:
+                    call(data)
+                refused, fault = raised.exception, wkb.Fault(*numbers, status)
+                self.assertEqual((refused.status, refused.fault, refused.which), (status, fault, 1))
+                self.assertTrue(str(refused).startswith(wkb.status_text(status)), str(refused))
+                self.assertTrue(str(refused).endswith(end), str(refused))
+
+    def test_texts(self):
+        self.assertEqual(wkb.version(), (1, 0))
+        self.assertEqual(repr(wkb.bounds(POINT).y), "Range(least=2.0, greatest=2.0, count=1)")
+        text = repr(wkb.check(POLYGON))
+        self.assertTrue(text.startswith("Found(size=33, parts=2, coordinates=1, srid=4326, kind=<Kind.POLYGON"), text)
+        self.assertEqual(len({wkb.status_text(status) for status in Status}), len(Status))
+        self.assertEqual(wkb.status_text(99), wkb.status_text(100))
+
+    def test_many_parts(self):
+        """A table of 64 bytes for each part, and no object for each."""
+        count = 300_000
+        data = struct.pack("<BII", 1, 7, count) + bytes.fromhex("010200000000000000") * count
+        before = sys.getallocatedblocks()
+        table = wkb.parts(data)
+        self.assertLess(sys.getallocatedblocks() - before, 1_000)
+        self.assertEqual((len(table), table[0].next, table[count].end), (count + 1, count + 1, 9 * count + 9))
+
+
+class Pickling(unittest.TestCase):
+    def test_refused(self):
+        with self.assertRaises(Refused) as raised:
+            wkb.same(POINT, b"\1\21\0\0\0")
+        again = pickle.loads(pickle.dumps(raised.exception))
+        self.assertEqual(str(again), str(raised.exception))
+        self.assertEqual((again.fault, again.which), (raised.exception.fault, 2))
+
+    def test_records(self):
+        for record in (wkb.check(POLYGON), wkb.parts(POLYGON)[1], wkb.bounds(LINE)):
+            self.assertEqual(pickle.loads(pickle.dumps(record)), record)
+
+    def test_tables(self):
+        column = wkb.Column(*rows_of(POLYGON, LINE))
+        for table in (wkb.parts(POLYGON), column.parts().parts, column.bounds().boxes):
+            self.assertEqual(list(pickle.loads(pickle.dumps(table))), list(table))
+        self.assertEqual(bytes(pickle.loads(pickle.dumps(column)).check()), bytes(2))

@@ -1,0 +1,184 @@
+"""The calls for columns."""
+import array
+import ctypes
+import struct
+import sys
+import unittest
+
+from samples import BIG_POINT, EMPTY_POINT, ISO_POLYGON, LINE, POINT, POINTS, POLYGON, flat, rows_of
+from wkb import Column, Dimension, Form, Kind, Order, Range, Status
+
+try:
+    import numpy
+except ImportError:
+    numpy = None
+
+
+def statuses(column):
+    return list(column.check())
+
+
+class Taken(unittest.TestCase):
+    """What a column is made of."""
+
+    def test_offsets(self):
+        data, offsets = 3 * POINT, [0, 21, 42, 63]
+        for taken in (
+            [array.array(code, offsets) for code in "ilqLQ"]
+            + [(kind * 4)(*offsets) for kind in (ctypes.c_int32, ctypes.c_int64, ctypes.c_uint64)]
+            + [memoryview(struct.pack("=4i", *offsets)).cast("i")]
+            + ([numpy.array(offsets, kind) for kind in ("i4", "i8", "u8")] if numpy else [])
+            + ([numpy.array([0, 9, 21, 9, 42, 9, 63], kind)[::2] for kind in ("i4", "i8")] if numpy else [])
+        ):
+            self.assertEqual(statuses(Column(data, taken)), [0, 0, 0], taken)
+            size = memoryview(taken).itemsize
+            self.assertEqual(statuses(Column(data, taken, offset_size=size)), [0, 0, 0], taken)
+            self.assertRaises(TypeError, Column, data, taken, offset_size=12 - size)
+        swapped = ">i8" if sys.byteorder == "little" else "<i8"
+        for refused in (
+            [array.array(code, offsets) for code in "hHIbdf"]
+            + [(ctypes.c_int64.__ctype_be__ * 4)(*offsets), (ctypes.c_int32.__ctype_be__ * 4)(*offsets)]
+            + [struct.pack("=4q", *offsets), "0123456789abcdef", None, offsets]
+            + ([numpy.array(offsets, kind) for kind in (swapped, "u4", "f8", "i2", "?")] if numpy else [])
+        ):
+            self.assertRaises(TypeError, Column, data, refused)
+        self.assertRaises(TypeError, Column, data, memoryview(bytes(32)).cast("B", (4, 8)), offset_size=8)
+
+    def test_raw_offsets(self):
+        """Bytes without a type, as Arrow's own buffers are."""
+        for size, code in ((4, "i"), (8, "q")):
+            raw = struct.pack(f"=4{code}", 0, 21, 42, 63)
+            for taken in (raw, bytearray(raw), memoryview(raw).cast("b"), memoryview(raw).cast("c")):
+                self.assertEqual(statuses(Column(3 * POINT, taken, offset_size=size)), [0, 0, 0])
+            for wrong in (2, 16, None):
+                self.assertRaises(TypeError, Column, POINT, raw, offset_size=wrong)
+            self.assertRaises(ValueError, Column, POINT, raw[:-1], offset_size=size)
+
+    def test_hostile_offsets(self):
+        lowest, highest = -(2**63), 2**63 - 1
+        rows = (0, 21), (-1, 21), (0, 22), (21, 0), (lowest, highest), (highest, lowest), (21, 21), (22, 22), (-1, -1)
+        expected = [Status.OK] + [Status.BAD_OFFSETS] * 5 + [Status.IO_ERROR] + [Status.BAD_OFFSETS] * 2
+        for (begin, end), status in zip(rows, expected):
+            column = Column(POINT, array.array("q", [begin, end]))
+            results = [column.check()] + [
+                call().statuses for call in (column.bounds, column.parts, column.write, column.coordinates)
+            ]
+            self.assertEqual([list(it) for it in results], [[status]] * 5, (begin, end))
+        for begin, end in ((-1, 21), (0, 22), (21, 0), (-(2**31), 2**31 - 1)):
+            self.assertEqual(statuses(Column(POINT, array.array("i", [begin, end]))), [Status.BAD_OFFSETS])
+
+    def test_no_rows(self):
+        for offsets in (array.array("q"), array.array("q", [0]), array.array("i"), array.array("i", [5])):
+            column = Column(b"", offsets)
+            self.assertEqual((len(column), len(column.check())), (0, 0))
+            self.assertEqual([len(it) for it in column.bounds()], [0, 0])
+            self.assertEqual([len(it) for it in column.parts()], [0, 1, 0])
+            self.assertEqual([len(it) for it in column.write()], [0, 1, 0])
+            self.assertEqual([len(it) for it in column.coordinates()], [0, 1, 1, 1, 0])
+
+    def test_validity(self):
+        data, offsets = rows_of(*[POINT] * 12)
+        bits = 0b0110_0101_1010
+        expected = [0 if bits >> i & 1 else Status.NULL_ROW for i in range(12)]
+        for first in range(13):
+            for rows in range(13 - first):
+                column = Column(data, offsets, struct.pack("<H", bits), first=first, rows=rows)
+                self.assertEqual(statuses(column), expected[first : first + rows], (first, rows))
+            self.assertEqual(len(Column(data, offsets, struct.pack("<H", bits), first=first)), 12 - first)
+
+    def test_slices(self):
+        """Rows 2 to 4 of a column, as Arrow slices one."""
+        data, offsets = rows_of(POINT, b"\2", POLYGON, POINT[:-1], BIG_POINT)
+        bits = b"\x17"
+        whole = Column(data, offsets, bits)
+        self.assertEqual(statuses(whole), [0, Status.INVALID_BYTE_ORDER, 0, Status.NULL_ROW, 0])
+        for code, size in (("i", 4), ("q", 8)):
+            raw = struct.pack(f"=6{code}", *offsets)
+            for part in (
+                Column(data, offsets, bits, first=2),
+                Column(data, offsets, bits, first=2, rows=3),
+                Column(data, raw, bits, first=2, rows=3, offset_size=size),
+            ):
+                self.slice_is_right(part, statuses(whole)[2:])
+
+    def slice_is_right(self, part, expected):
+        self.assertEqual(statuses(part), expected)
+        table = part.parts()
+        self.assertEqual([it.kind for it in table.parts], [Kind.POLYGON, Kind.RING, Kind.POINT])
+        self.assertEqual((list(table.statuses), list(table.offsets)), (expected, [0, 2, 2, 3]))
+        written = part.write()
+        self.assertEqual((list(written.statuses), list(written.offsets)), (expected, [0, 29, 29, 50]))
+        self.assertEqual(bytes(written.data), ISO_POLYGON + POINT)
+        self.assertEqual([box.x.count for box in part.bounds().boxes], [1, 0, 1])
+        self.assertEqual(list(part.coordinates().row_offsets), [0, 1, 1, 2])
+
+    def test_wrong_slices(self):
+        data, offsets = rows_of(*[POINT] * 3)
+        for first, rows in ((-1, 1), (0, 4), (4, None), (3, 1), (1, 3), (0, -1), (4, 0), (2**62, 0), (0, 2**62)):
+            self.assertRaises(ValueError, Column, data, offsets, first=first, rows=rows)
+        self.assertRaises(TypeError, Column, data, offsets, first=0.5)
+        self.assertRaises(TypeError, Column, data, offsets, rows="1")
+
+    def test_wrong_validity(self):
+        data, offsets = rows_of(*[POINT] * 9)
+        for validity, first in ((b"\xff", 0), (b"\xff", 8), (b"", 0)):
+            self.assertRaises(ValueError, Column, data, offsets, validity, first=first)
+        for wrong in (array.array("i", [1] * 9), array.array("d", [1] * 9), "ff", 255):
+            self.assertRaises(TypeError, Column, data, offsets, wrong)
+
+
+class Results(unittest.TestCase):
+    def test_check(self):
+        data, offsets = POLYGON + ISO_POLYGON, array.array("q", [0, 33, 62, 99, 62])
+        found = statuses(Column(data, offsets, b"\x0d"))
+        self.assertEqual([Status(it).name for it in found], ["OK", "NULL_ROW", "BAD_OFFSETS", "BAD_OFFSETS"])
+
+    def test_bounds(self):
+        found, boxes = Column(*rows_of(LINE, b"", POINTS)).bounds()
+        self.assertEqual(list(found), [0, Status.IO_ERROR, 0])
+        none = Range(float("inf"), float("-inf"), 0)
+        self.assertEqual([box.x for box in boxes], [Range(1, 5, 2), none, Range(1, 1, 1)])
+        self.assertEqual([(box.y.count, box.z.count, box.m.count) for box in boxes], [(1, 2, 0), (0, 0, 0), (1, 0, 0)])
+
+    def test_write(self):
+        column = Column(*rows_of(POLYGON, b"\2", POINT))
+        written = column.write(Order.BIG, Form.EWKB_WITH_SRID, 4326)
+        big = bytes.fromhex("0020000001000010e6") + BIG_POINT[5:]
+        self.assertEqual((list(written.statuses), list(written.offsets)), ([0, 5, 0], [0, 33, 33, 58]))
+        self.assertEqual(bytes(written.data), POLYGON + big)
+        again = Column(written.data, written.offsets).write()
+        self.assertEqual(bytes(again.data), ISO_POLYGON + POINT)
+
+    def test_write_rows_that_overlap(self):
+        """Rows that are longer together than the data: offsets go back between them."""
+        column = Column(POINT, array.array("q", [0, 21, 0, 21, 0, 21]))
+        written = column.write()
+        bad = Status.BAD_OFFSETS
+        self.assertEqual(list(written.statuses), [0, bad, 0, bad, 0])
+        self.assertEqual((list(written.offsets), bytes(written.data)), ([0, 21, 21, 42, 42, 63], 3 * POINT))
+
+    def test_coordinates(self):
+        column = Column(*rows_of(POINTS, POLYGON, b"\2", LINE, bytes.fromhex("010300000000000000")))
+        it = column.coordinates()
+        self.assertEqual(list(it.statuses), [0, 0, Status.INVALID_BYTE_ORDER, 0, 0])
+        levels = [list(offsets) for offsets in it[1:4]]
+        self.assertEqual(levels, [[0, 2, 3, 3, 4, 5], [0, 1, 2, 3, 4, 4], [0, 1, 2, 3, 5]])
+        self.assertEqual(flat(it.coordinates), "1.0 2.0 nan nan 1.0 2.0 1.0 2.0 5.0 nan")
+        self.assertEqual(flat(column.coordinates(Dimension.XYZ).coordinates),
+                         "1.0 2.0 nan nan nan nan 1.0 2.0 nan 1.0 2.0 3.0 5.0 nan -7.0")
+        self.assertEqual(flat(Column(*rows_of(LINE)).coordinates(Dimension.XYM).coordinates),
+                         "1.0 2.0 nan 5.0 nan nan")
+
+    def test_types(self):
+        column = Column(*rows_of(POINTS, EMPTY_POINT))
+        it = column.coordinates()
+        if numpy:
+            self.assertEqual((it.coordinates.shape, it.coordinates.dtype), ((3, 2), numpy.dtype("f8")))
+            self.assertEqual([column.check().dtype, it.row_offsets.dtype], [numpy.dtype("u1"), numpy.dtype("i8")])
+            boxes, parts = numpy.asarray(column.bounds().boxes), numpy.asarray(column.parts().parts)
+            self.assertEqual(it.ring_offsets[it.single_offsets[it.row_offsets]].tolist(), [0, 2, 3])
+            self.assertEqual((boxes["x"]["count"].tolist(), boxes["y"]["least"][0]), ([1, 0], 2.0))
+            self.assertEqual((parts["kind"].tolist(), parts["begin"].tolist()), ([4, 1, 1, 1], [0, 9, 30, 0]))
+        else:
+            for numbers, code in ((column.check(), "B"), (it.row_offsets, "q"), (it.coordinates, "d")):
+                self.assertEqual((type(numbers), numbers.typecode), (array.array, code))
