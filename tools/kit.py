@@ -1,12 +1,14 @@
 #!/usr/bin/env python3
 """The crates as the Rattle kit's command `rt` knows them, for scripts that call the prover over the libraries built.
 
-    tools/kit.py archive NAME FILE     proves crates/NAME, a static library, alone, and builds it into FILE
+    tools/kit.py archive NAME FILE [TOOLCHAIN]
+                                       proves crates/NAME, a static library, alone, and builds it into FILE
     tools/kit.py program NAME FILE     proves crates/NAME, a program, and all crates below it from nothing, and builds
                                        it into FILE
 
-`archive` ends with 2 where a library below the crate is not built, or is older than its sources. `program` builds those
-libraries anew, and proves as many crates side by side as RT_JOBS says.
+`archive` ends with 2 where a library below the crate is not built, or is older than its sources. TOOLCHAIN stands for
+the kit's folder of that name. `program` builds those libraries anew, and proves as many crates side by side as RT_JOBS
+says.
 
 The command is a program and no library, so another kit may have other names inside. BORROWED lists each name that is
 used here, and a name that is missing ends the script with 2 before anything is tried.
@@ -124,13 +126,13 @@ def prove(verb, crate, flags, folder):
     return subprocess.run([*rt.rtlib.guarded(), rt.rtlib.RATTLE, verb, *words], **how)
 
 
-def archive(name, file):
+def archive(name, file, toolchain=f"{rt.KIT}/toolchain"):
     """Proves a static library alone, and builds it into the file. Returns the status."""
     library = crate(name)
     missing = unbuilt([library])
     if missing:
         stop(f"not built, or older than the sources: {' '.join(missing)}. {ADVICE}")
-    flags = ["--jobs", str(min(4, processors())), "--toolchain", f"{rt.KIT}/toolchain"]
+    flags = ["--jobs", str(min(4, processors())), "--toolchain", toolchain]
     ran = prove("build", library, [*flags, "--backend", "llvm", "-o", os.path.abspath(file)], library.folder)
     print(ran.stdout, end="")
     return ran.returncode
@@ -165,7 +167,8 @@ def program(name, file):
 
 
 if __name__ == "__main__":
-    verb = {"archive": archive, "program": program}.get("".join(sys.argv[1:2]))
-    if len(sys.argv) != 4 or verb is None:
+    verbs = {("archive", 4): archive, ("archive", 5): archive, ("program", 4): program}
+    verb = verbs.get(("".join(sys.argv[1:2]), len(sys.argv)))
+    if verb is None:
         stop(__doc__)
     sys.exit(verb(*sys.argv[2:]))

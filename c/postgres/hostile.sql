@@ -1,6 +1,5 @@
 -- The functions over the rows of c/hostile.py, whose other columns are what they have to return. c/postgres/run fills
 -- the table and asks for what differs.
-create extension wkb;
 create table hostile (
   wkb bytea, well_formed int, fault text, kind text, srid bigint, canonical bytea, own bytea, other bytea,
   same int, same_turned int, same_self int,

@@ -1,6 +1,6 @@
 /* Well-Known Binary in PostgreSQL, over bytea, and so over a geometry of PostGIS that is cast to bytea. wkb--1.0.sql
- * says what each function returns. The library keeps nothing between calls and has freed its memory when it returns, so
- * that an error can be raised after any call. */
+ * says what each function returns. The library keeps nothing between calls, so an error can be raised after any call,
+ * and also where it asks for memory. */
 #include "postgres.h"
 
 #include "fmgr.h"
@@ -9,6 +9,16 @@
 #include "wkb.h"
 
 PG_MODULE_MAGIC;
+
+/* The library's memory is the server's, which counts it, and frees it where an error is raised: the linker puts these
+ * in place of malloc, realloc and free. A request that fails raises the server's own error. */
+void *__wrap_malloc(size_t size);
+void *__wrap_realloc(void *p, size_t size);
+void __wrap_free(void *p);
+
+void *__wrap_malloc(size_t size) { return MemoryContextAllocHuge(CurrentMemoryContext, size); }
+void *__wrap_realloc(void *p, size_t size) { return repalloc_huge(p, size); }
+void __wrap_free(void *p) { pfree(p); }
 
 #define BYTES(v) VARDATA_ANY(v), VARSIZE_ANY_EXHDR(v)
 
@@ -27,6 +37,7 @@ static const char *text_of(const wkb_fault *fault) {
 /* Raises an error unless a call succeeded: PLACE is an input among several, or empty. */
 static void accept(wkb_status status, const char *place, const wkb_fault *fault) {
   if (status == WKB_STATUS_OK) return;
+  /* Not where the linker has put in the functions above, which raise it themselves. */
   if (status == WKB_STATUS_NO_MEMORY) ereport(ERROR, (errcode(ERRCODE_OUT_OF_MEMORY), errmsg("out of memory")));
   if (status == WKB_STATUS_NO_ROOM)
     ereport(ERROR, (errcode(ERRCODE_PROGRAM_LIMIT_EXCEEDED), errmsg("the encoding is longer than a bytea can be")));

@@ -1,4 +1,5 @@
-/* Well-Known Binary in SQLite. The functions have the names and the meanings of those of the PostgreSQL extension:
+/* Well-Known Binary in SQLite. `make sqlite` in the folder above builds it as sqlite/wkb.so, which `.load ./wkb` loads in
+ * that folder. The functions have the names and the meanings of those of the PostgreSQL extension:
  *
  *   wkb_well_formed(b)     1 or 0: whether the blob is one geometry of the grammar, and nothing after it
  *   wkb_fault(b)           why it is not, as a text; NULL where it is
@@ -22,6 +23,15 @@
 #include <stdbool.h>
 #include <sqlite3ext.h>
 SQLITE_EXTENSION_INIT1
+
+/* The library's memory is SQLite's, within its limits: the linker puts these in place of malloc, realloc and free. */
+void *__wrap_malloc(size_t size);
+void *__wrap_realloc(void *p, size_t size);
+void __wrap_free(void *p);
+
+void *__wrap_malloc(size_t size) { return sqlite3_malloc64(size); }
+void *__wrap_realloc(void *p, size_t size) { return sqlite3_realloc64(p, size); }
+void __wrap_free(void *p) { sqlite3_free(p); }
 
 static const char *const KINDS[] = {"ring",       "point",           "linestring",   "polygon",
                                     "multipoint", "multilinestring", "multipolygon", "geometrycollection"};
