@@ -6,6 +6,19 @@ import re
 ROOT = pathlib.Path(__file__).resolve().parent.parent
 CRATES = ROOT / "crates"
 
+# Calls that a user's code reaches through an exported type, though they are no part of the API: their clauses may name
+# anything. docs/DECISIONS.md (D9) says why they are reachable.
+NO_API = {
+    "Point::read",
+    "LineString::read",
+    "Polygon::read",
+    "MultiPoint::read",
+    "MultiLineString::read",
+    "MultiPolygon::read",
+    "WriteOptions::inner",
+    "Form::inner",
+}
+
 USE = re.compile(r"^(?:unfoldable )?(?:pub )?(?:unfoldable )?(?:ghost )?use\s+(.*)$", re.S)
 
 
