@@ -12,7 +12,7 @@ use crate::nested::skip_geometry;
 use crate::skip::skip_plain;
 use crate::walk::Walk;
 use wkb_geom::code::WkbType;
-use wkb_geom::{Cause, Endianness, Header};
+use wkb_geom::{Cause, Endianness, Head};
 
 /// The geometry at the front of the bytes.
 #[derive(Clone, Copy)]
@@ -44,7 +44,7 @@ pub struct Refused {
 
 /// The summary of the geometry with this header, of what was counted in it and of the bytes after it.
 #[inline(always)]
-fn summary_of(header: Header, buf: &[u8], walk: Walk, rest: &[u8]) -> Summary
+fn summary_of(header: Head, buf: &[u8], walk: Walk, rest: &[u8]) -> Summary
     requires head { head_at buf.now ≡ Ok header }
     requires passed { skim_geometry max_nesting buf.now ≡ (tally walk, Ok rest.now) }
     ensures checks { Checks buf.now (Ok result) }

@@ -8,7 +8,7 @@ use crate::head::read;
 use crate::skip::skip_plain;
 use crate::walk::Walk;
 use wkb_geom::code::WkbType;
-use wkb_geom::{Cause, Header};
+use wkb_geom::{Cause, Head};
 
 /// How many collections may be open at once.
 const MAX_OPEN: usize = 128;
@@ -26,7 +26,7 @@ impl OpenCounts {
     #[inline(always)]
     fn skip_or_open<'a>(
         &mut self,
-        header: Header,
+        header: Head,
         bytes: &'a [u8],
         walk: &mut Walk,
     ) -> Result<&'a [u8], Cause>
@@ -76,7 +76,7 @@ impl OpenCounts {
 }
 
 /// Passes over the collection with this header, and returns the bytes after it.
-fn skip_collection<'a>(outermost: Header, buf: &'a [u8], walk: &mut Walk) -> Result<&'a [u8], Cause>
+fn skip_collection<'a>(outermost: Head, buf: &'a [u8], walk: &mut Walk) -> Result<&'a [u8], Cause>
     requires here { walk.old.left ≡ length buf.now }
     requires fits { FitsCounters walk.old (skim_body_inside 0 outermost buf.now) }
     ensures { Passes result (skim_body_inside 0 outermost buf.now) walk.old walk.new }
@@ -102,7 +102,7 @@ fn skip_collection<'a>(outermost: Header, buf: &'a [u8], walk: &mut Walk) -> Res
 /// since laying out its stack takes time.
 #[inline]
 pub(crate) fn skip_geometry<'a>(
-    header: Header,
+    header: Head,
     buf: &'a [u8],
     walk: &mut Walk,
 ) -> Result<&'a [u8], Cause>

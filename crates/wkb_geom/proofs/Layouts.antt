@@ -1,12 +1,12 @@
 -- The layout of a member that is known to stand at the front of the bytes, by its first byte and the flag of its code.
 use Rattle.std.proofs.Common.{◌≡◌, ℕ, ◌≤◌, List, [], ◌∷◌, length, drop, Option, Some, None, Bool, true, false, refl}
-use Rattle.std.proofs.Common.{sym, ap, ◌∙◌, arith, length-drop, subst, Result, Ok, Err}
+use Rattle.std.proofs.Common.{sym, ap, ◌∙◌, arith, length-drop, Result, Ok, Err}
 use Rattle.std.specs.Prelude.{IsOk, nat_lt, ◌==◌, ◌&&◌, if◌then◌else◌, slice_index_or, not}
-use Rattle.std.proofs.lemmas.Bool.{ltb-false, ne_eqb}
+use Rattle.std.proofs.lemmas.Bool.{ltb-false}
 use Rattle.wkb_geom.specs.declared.common.Dimension.{Dimension}
 use Rattle.wkb_geom.specs.declared.common.Endianness.{Endianness}
 use Rattle.wkb_geom.specs.declared.error.Cause.TheVariants.{EndOfInput as end_of_input, IncorrectType as incorrect_type}
-use Rattle.wkb_geom.specs.declared.header.Header.{Header as Head}
+use Rattle.wkb_geom.specs.declared.header.Head.{Head}
 use Rattle.wkb_geom.specs.declared.header.Layout.{Layout}
 use Rattle.wkb_geom.specs.declared.error.Cause.{Cause}
 use Rattle.wkb_geom.specs.Meanings.{has_srid_flag}
@@ -101,23 +101,34 @@ module _ (k : ℕ) (d : Dimension) (bytes : List ℕ) (is : IsOk (member_layout 
       apart : (order : Endianness) → Some order ≡ None → ⊥
       apart order h = cc
 
-  -- by the order and the flag that were read, where the flag of a point is not
-  pub known_layout : (o : Option Endianness) (order : Endianness) (code : ℕ) (flag : Bool)
-      → o ≡ order_of_byte (slice_index_or bytes 0 0) → o ≡ Some order
-      → code ≡ number order 4 (drop 1 bytes) → flag ≡ (if k == 1 then false else has_srid_flag code)
-      → member_layout k d bytes ≡ Ok (laid order d flag)
-  known_layout o order code flag e some code-is flag-is =
+  known_layout : (order : Endianness) → order_of_byte (slice_index_or bytes 0 0) ≡ Some order
+      → member_layout k d bytes ≡ Ok (layout_by k d order (number order 4 (drop 1 bytes)))
+  known_layout order first =
       let stands = known k d bytes is in
-      let same = same_order stands.order order (sym stands.order_is ∙ sym e ∙ some) in
-      stands.layout_is ∙ ap (λ (x : Endianness). Ok (layout_by k d x (number x 4 (drop 1 bytes)))) same
-      ∙ ap (λ (c : ℕ). Ok (layout_by k d order c)) (sym code-is) ∙ ap (λ (f : Bool). Ok (laid order d f)) (sym flag-is)
+      stands.layout_is
+      ∙ ap (λ (x : Endianness). Ok (layout_by k d x (number x 4 (drop 1 bytes))))
+      (same_order stands.order order (sym stands.order_is ∙ first))
     where
       same_order : (a b : Endianness) → Some a ≡ Some b → a ≡ b
       same_order a b h = cc
 
--- the flag of another member than a point is read, and that of a point is not set
-pub flag_read : (k : ℕ) (flag : Bool) → (k ≡ 1 → ⊥) → flag ≡ (if k == 1 then false else flag)
-flag_read k flag other = sym (ap (λ (one : Bool). if one then false else flag) (ne_eqb k 1 other))
+  -- the flag of another member than a point is read
+  pub known_flagged : (order : Endianness) (code : ℕ) (point : Bool) (dimension : Dimension)
+      → order_of_byte (slice_index_or bytes 0 0) ≡ Some order → code ≡ number order 4 (drop 1 bytes)
+      → point ≡ (k == 1) → point ≡ false → dimension ≡ d
+      → member_layout k d bytes ≡ Ok (laid order dimension (has_srid_flag code))
+  known_flagged order code point dimension first code-is one other same =
+      rw (same, code-is)
+      (known_layout order first
+      ∙ ap (λ (is : Bool). Ok (laid order d (if is then false else has_srid_flag (number order 4 (drop 1 bytes)))))
+      (sym one ∙ other))
 
-pub flag_known : (k : ℕ) (flag : Bool) → k ≡ 1 → not (k == 1) ≡ (if k == 1 then false else flag)
-flag_known k flag one = subst (λ (n : ℕ). not (n == 1) ≡ (if n == 1 then false else flag)) (sym one) refl
+  -- that of a point is not set
+  pub known_point : (order : Endianness) (point : Bool) (dimension : Dimension)
+      → order_of_byte (slice_index_or bytes 0 0) ≡ Some order → point ≡ (k == 1) → point ≡ true → dimension ≡ d
+      → member_layout k d bytes ≡ Ok (laid order dimension (not point))
+  known_point order point dimension first is one same =
+      rw (same, one)
+      (known_layout order first
+      ∙ ap (λ (is : Bool). Ok (laid order d (if is then false else has_srid_flag (number order 4 (drop 1 bytes)))))
+      (sym is ∙ one))

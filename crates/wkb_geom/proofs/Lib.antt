@@ -3,6 +3,4 @@ mod Layouts
 pub mod Rows
 pub mod Codes
 pub mod Meanings
-pub mod FirstItem
 pub mod Faults
-pub mod Nodes

@@ -1,6 +1,6 @@
 //! The codes of geometries.
 
-ghost use Rattle.std.specs.Prelude.{◌≡◌, ◌||◌, ℕ, Bool, option_map};
+ghost use Rattle.std.specs.Prelude.{◌≡◌, ◌==◌, ◌||◌, ℕ, Bool, option_map};
 ghost use Rattle.wkb_geom.specs.declared.common.Dimension.{Dimension};
 ghost use Rattle.wkb_geom.specs.Dimensions.{has_z, has_m};
 ghost use Rattle.wkb_geom.specs.Codes.{Code, thousands, flag, iso_code, ewkb_code};
@@ -142,8 +142,8 @@ impl WkbGeometryCode {
         SRID_FLAG <= cleared(cleared(self.code, Z_FLAG), M_FLAG)
     }
 
-    /// The kind and the dimension, by ISO codes and the flags of EWKB. `CodeOutOfRange` with the whole code if it is not
-    /// in the table.
+    /// The kind and the dimension, by ISO codes and the flags of EWKB. `CodeOutOfRange` with the whole code if it is
+    /// not in the table.
     pub fn get_type(&self) -> WkbResult<WkbType>
         ensures meant { HasType self.now result }
     {
@@ -201,6 +201,14 @@ impl WkbType {
             | WkbType::MultiPolygon(dimension)
             | WkbType::GeometryCollection(dimension) => dimension,
         }
+    }
+
+    /// Whether it is a point's.
+    #[inline]
+    pub(crate) fn is_point(self) -> bool
+        ensures { result ≡ (type_kind self == 1) }
+    {
+        matches!(self, WkbType::Point(_))
     }
 
     /// The code with the flags of EWKB.

@@ -1,4 +1,4 @@
-//! The errors of reading and writing.
+//! The errors of reading and writing. A refusal is a value of fixed size (docs/DECISIONS.md, D2).
 
 ghost use Rattle.std.specs.Prelude.{◌≡◌};
 ghost use Rattle.wkb_geom.specs.declared.error.WkbError.TheVariants.{IOError, Memory};

@@ -28,7 +28,7 @@ pub trait Dimensioned: Drop {
 
 /// A coordinate: as many words as its dimension has.
 pub trait CoordTrait: Dimensioned {
-    // The words of the coordinate, in order.
+    // The words of the coordinate, in order: bits of doubles, and no floats (docs/DECISIONS.md, D1).
     ghost words: { Self → List ℕ };
 
     /// The word at an index, if there is one.

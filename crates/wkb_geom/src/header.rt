@@ -1,6 +1,6 @@
 //! What comes before a body: order, code and SRID; and the count after them.
 
-use crate::code::{POINT, WkbGeometryCode, WkbType};
+use crate::code::{WkbGeometryCode, WkbType};
 use crate::common::{Dimension, Endianness, Form};
 use crate::error::{Cause, General};
 use crate::words::{COUNT_SIZE, u32_at};
@@ -23,9 +23,9 @@ pub const MAX_HEADER_SIZE: usize = MEMBER_HEADER_SIZE + SRID_SIZE;
 /// The size of the shortest member: a header, and a count.
 pub const MIN_MEMBER_SIZE: usize = MEMBER_HEADER_SIZE + COUNT_SIZE;
 
-/// What comes before a body.
+/// A header, decoded: the order of its numbers, what its code means, and so whether an SRID follows the code.
 #[derive(Clone, Copy)]
-pub struct Header {
+pub struct Head {
     pub order: Endianness,
     pub wkb_type: WkbType,
     pub has_srid: bool,
@@ -39,14 +39,14 @@ pub struct Layout {
     pub has_srid: bool,
 }
 
-impl Header {
+impl Head {
     ghost use Rattle.std.specs.Prelude.{◌≡◌};
     ghost use Rattle.wkb_geom.specs.Reading.{head_at, layout_of};
 
     /// The header at the front of the bytes.
     #[tactic(auto, unfolding(crate::specs::Reading::head_at))]
     #[inline]
-    pub fn read(bytes: &[u8]) -> Result<Header, Cause>
+    pub fn read(bytes: &[u8]) -> Result<Head, Cause>
         ensures { head_at bytes.now ≡ result }
     {
         let Some(first) = bytes.first() else {
@@ -61,7 +61,7 @@ impl Header {
         let number = u32_at(bytes, ORDER_SIZE, order);
         let code = WkbGeometryCode::new(number);
         match code.known_type() {
-            Some(wkb_type) => Ok(Header {
+            Some(wkb_type) => Ok(Head {
                 order,
                 wkb_type,
                 has_srid: code.has_srid(),
@@ -88,36 +88,36 @@ impl Layout {
     ghost use Rattle.std.specs.Prelude.{None};
     ghost use Rattle.wkb_geom.specs.Numbers.{AreBytes};
     ghost use Rattle.wkb_geom.specs.Reading.{body_start, member_layout, parts_start, srid_in, code_in};
+    ghost use Rattle.wkb_geom.specs.Reading.{type_kind, type_dimension};
     ghost use Rattle.wkb_geom.specs.Reading.{count_in, HasNoCount};
     ghost use Rattle.wkb_geom.specs.Encodings.{type_code, form_srid};
 
-    /// The layout of the member of this kind and dimension at the front of the bytes, whose order and flag are its own.
+    /// The layout of the member of this type at the front of the bytes, whose order and flag are its own.
     ///
     /// A member that is a point has no SRID. `IncorrectType` if another is there.
     #[inline]
-    pub fn of_member(kind: u32, dimension: Dimension, bytes: &[u8]) -> Result<Layout, Cause>
-        ensures { member_layout kind dimension bytes.now ≡ result }
+    pub fn of_member(wanted: WkbType, bytes: &[u8]) -> Result<Layout, Cause>
+        ensures { member_layout (type_kind wanted) (type_dimension wanted) bytes.now ≡ result }
     {
-        let header = Header::read(bytes)?;
-        let wkb_type = header.wkb_type;
-        let is_member = wkb_type.kind() == kind
-            && wkb_type.dimension() == dimension
-            && !(kind == POINT && header.has_srid);
+        let header = Head::read(bytes)?;
+        let is_member = header.wkb_type == wanted && !(wanted.is_point() && header.has_srid);
         if !is_member {
             return Err(Cause::IncorrectType);
         }
         Ok(Layout {
             order: header.order,
-            dimension,
+            dimension: wanted.dimension(),
             has_srid: header.has_srid,
         })
     }
 
-    /// The layout of a member that is known to be there: its order and its flag are read, and nothing is tested.
+    /// The layout of a member that is known to be there. Its type was tested when it was read, so only its order and
+    /// its flag are read again.
+    #[tactic(auto, using(crate::proofs::Layouts::known_flagged, crate::proofs::Layouts::known_point))]
     #[inline]
-    pub fn of_known_member(kind: u32, dimension: Dimension, bytes: &[u8]) -> Layout
-        requires { IsOk (member_layout kind dimension bytes.now) }
-        ensures { member_layout kind dimension bytes.now ≡ Ok result }
+    pub fn of_known_member(wanted: WkbType, bytes: &[u8]) -> Layout
+        requires { IsOk (member_layout (type_kind wanted) (type_dimension wanted) bytes.now) }
+        ensures { member_layout (type_kind wanted) (type_dimension wanted) bytes.now ≡ Ok result }
     {
         let Some(order) = Endianness::of_byte(bytes[0]) else {
             unreachable!()
@@ -125,8 +125,8 @@ impl Layout {
         let code = WkbGeometryCode::new(u32_at(bytes, ORDER_SIZE, order));
         Layout {
             order,
-            dimension,
-            has_srid: kind != POINT && code.has_srid(),
+            dimension: wanted.dimension(),
+            has_srid: !wanted.is_point() && code.has_srid(),
         }
     }
 

@@ -4,7 +4,7 @@ pub use Rattle.wkb_geom.specs.declared.common.{Endianness.TheVariants.LittleEndi
 pub use Rattle.wkb_geom.specs.declared.common.{Dimension.Dimension, Dimensions.Dimensions, Form.Form}
 pub use Rattle.wkb_geom.specs.declared.common.{Form.TheVariants.Iso, Form.TheVariants.Ewkb}
 pub use Rattle.wkb_geom.specs.declared.common.Dimension.TheVariants.{Xy, Xyz, Xym, Xyzm}
-pub use Rattle.wkb_geom.specs.declared.{code.WkbType.WkbType, header.Header.Header as Head, header.Layout.Layout}
+pub use Rattle.wkb_geom.specs.declared.{code.WkbType.WkbType, header.Head.Head, header.Layout.Layout}
 pub use Rattle.wkb_geom.specs.declared.{error.Cause.Cause}
 pub use Rattle.wkb_geom.specs.declared.error.Cause.TheVariants.{EndOfInput as end_of_input, General as general}
 pub use Rattle.wkb_geom.specs.declared.error.Cause.TheVariants.{IncorrectType as incorrect_type}

@@ -60,8 +60,13 @@ impl<'w> LineStringTrait for LineString<'w> {
 
     ghost lawful = { line_string_lawful };
 
+    // Widths that are constants make the division a multiplication.
     fn num_coords(&self) -> usize {
-        self.words.len() / self.dim.size()
+        match self.dim.size() {
+            2 => self.words.len() / 2,
+            3 => self.words.len() / 3,
+            width => self.words.len() / width,
+        }
     }
 
     fn coord(&self, i: usize) -> Option<Coord<'w>> {

@@ -17,12 +17,9 @@ returns-then-width-eq0-clause-some c = (
   ],
 )
 
-pub invariant_of-result : goal.invariant_of-result
-invariant_of-result c = record {
-  some_words = omega (arith, c.if-width-eq0.false, c.size-width.ensures);
-  whole_coordinates = rw c.size-width.ensures at c.if-words-width-ne0.false;
-  in_range = λ k d lt. subst IsWord (get_or_default c.args.words.now k 0 d lt) (c.type_inv.words k).fits;
-}
+pub invariant_of-result-clause-in_range : goal.invariant_of-result-clause-in_range
+invariant_of-result-clause-in_range c =
+    λ k d lt. subst IsWord (get_or_default c.args.words.now k 0 d lt) (c.type_inv.words k).fits
 
 pub returns-clause-some : goal.returns-clause-some
 returns-clause-some c = (
