@@ -11,6 +11,8 @@ use Rattle.wkb_geom.specs.declared.common.Dimensions.{Dimensions}
 use Rattle.wkb_geom.specs.Dimensions.{size}
 use Rattle.wkb_geom.specs.Numbers.{number, number_bytes, IsWord}
 use Rattle.wkb_geom.specs.Geometries.{AreCoordinates}
+use Rattle.wkb_sink.proofs.Stores.{stored_next, flat_map_step}
+use borrow.Rule.Slice.PartMut.{put_mid}
 
 word_length : (order : Endianness) (w : ℕ) → length (number_bytes order 8 w) ≡ 8
 unfolding number_bytes
@@ -41,6 +43,22 @@ word_at order (w ∷ ws) (suc i) h there =
     let rest = flat_map (number_bytes order 8) ws in
     let place : 8 * suc i ≡ length first + 8 * i = omega (arith, word_length order w) in
     rw (place, drop-append-add first rest (8 * i)) (word_at order ws i h.1 (omega arith))
+
+-- one word more is read in one order, and stored in another
+pub turned_more : (held order : Endianness) (words lent all part : List ℕ) (i k word : ℕ) → AllByRecursion IsWord words
+    → lent ≡ words_encoding held words
+    → take (8 * i) all ≡ words_encoding order (take i words)
+    → word ≡ number held 8 (drop (8 * i) lent)
+    → take 8 part ≡ number_bytes order 8 word
+    → i < length words → 8 * i ≤ length all → 8 ≤ length part
+    → take (8 * (i + 1)) (put_mid (8 * i) k all part) ≡ words_encoding order (take (i + 1) words)
+unfolding words_encoding
+turned_more held order words lent all part i k word fit is behind read stored more fits part_fits =
+    let item : slice_get words i ≡ Some word =
+    word_at held words i fit more ∙ ap (λ l. Some (number held 8 (drop (8 * i) l))) (sym is) ∙ ap Some (sym read) in
+    let next : 8 * (i + 1) ≡ 8 * i + 8 = omega arith in
+    rw next (stored_next _ _ _ _ (8 * i) 8 _ behind fits stored part_fits)
+    ∙ sym (flat_map_step (number_bytes order 8) words i word item)
 
 -- a run of items of k bytes each
 run_front : {X : Type 0} (f : X → List ℕ) (k : ℕ) (xs : List X) (to : ℕ) → AllByRecursion (λ x. length (f x) ≡ k) xs

@@ -26,8 +26,8 @@ pub const CORNER_SIZE: usize = 16;
 /// The size of the longest coordinate, which has four words.
 pub const MAX_COORDINATE_SIZE: usize = 32;
 
-/// The least that a block holds: the most that is laid in one piece, which is a triangle.
-pub const MIN_BLOCK: usize = MAX_HEADER_SIZE + 2 * COUNT_SIZE + 4 * MAX_COORDINATE_SIZE;
+/// The least that a block holds: the most that is laid in one piece, which is a point.
+pub const MIN_BLOCK: usize = MAX_HEADER_SIZE + MAX_COORDINATE_SIZE;
 
 /// Bytes that are laid in a borrowed slice and not yet given to a sink.
 #[derive(Drop)]

@@ -1,17 +1,22 @@
 //! Bytes to a sink, by blocks.
 
-ghost use Rattle.std.specs.Prelude.{◌≡◌, ◌≤◌, [], false, IfOk};
+ghost use Rattle.std.specs.Prelude.{◌≡◌, ◌≤◌, ◌∷◌, [], false, IfOk};
+ghost use Rattle.wkb_geom.specs.Encodings.{words_encoding};
 ghost use Rattle.wkb_geom.specs.Numbers.{number_bytes};
 ghost use Rattle.wkb_sink.specs.Options.{counted_header};
 ghost use Rattle.wkb_sink.specs.Progress.{Lays, PutsTo};
+ghost use Rattle.wkb_sink.specs.Runs.{FitsCoordinate};
+ghost use Rattle.wkb_sink.specs.declared.block.TheConstants.{MAX_COORDINATE_SIZE};
 
-use crate::block::{Block, MIN_BLOCK, lay_count, lay_header};
+use crate::block::{
+    Block, CORNER_SIZE, MAX_COORDINATE_SIZE, MIN_BLOCK, lay_corner, lay_count, lay_header,
+};
 use crate::{Sink, WriteOptions};
 use std::io;
-use wkb_geom::Endianness;
 use wkb_geom::code::WkbType;
 use wkb_geom::header::MAX_HEADER_SIZE;
 use wkb_geom::words::COUNT_SIZE;
+use wkb_geom::{CoordTrait, Endianness};
 
 /// The sink failed. The error, if it had one, is kept in `Buffered`: an `io::Error` is too large to be passed on by
 /// each step.
@@ -146,6 +151,29 @@ impl<'a, S: Sink> Buffered<'a, S> {
         self.make_room(MAX_HEADER_SIZE + COUNT_SIZE)?;
         lay_header(&mut self.block, options, kind);
         lay_count(&mut self.block, options.endianness, n);
+        Ok(())
+    }
+
+    /// Puts a vertex: a coordinate of two, three or four words.
+    #[tactic(auto, using(crate::proofs::Steps::step_laws))]
+    pub fn put_vertex<C: CoordTrait>(&mut self, order: Endianness, coord: &C) -> Result<(), Stopped>
+        requires dimension { FitsCoordinate (C.dimensions coord.now) MAX_COORDINATE_SIZE }
+        requires working { S.has_failed self.old.sink.now ≡ false }
+        ensures { Lays S.Sink self.old self.new (words_encoding order (C.words coord.now)) result }
+    {
+        self.make_room(MAX_COORDINATE_SIZE)?;
+        self.block.lay_coordinate(coord, order);
+        Ok(())
+    }
+
+    /// Puts a corner of a rectangle: only x and y.
+    #[tactic(auto, using(crate::proofs::Steps::step_laws))]
+    pub fn put_corner(&mut self, order: Endianness, x: u64, y: u64) -> Result<(), Stopped>
+        requires working { S.has_failed self.old.sink.now ≡ false }
+        ensures { Lays S.Sink self.old self.new (words_encoding order (x ∷ y ∷ [])) result }
+    {
+        self.make_room(CORNER_SIZE)?;
+        lay_corner(&mut self.block, order, x, y);
         Ok(())
     }
 }

@@ -1,6 +1,7 @@
 //! Numbers and coordinates into the bytes of a slice.
 
 ghost use Rattle.std.specs.Prelude.{◌≡◌, ◌-◌, ◌*◌, ◌≤◌, ◌++◌, length, drop, take};
+ghost use Rattle.std.specs.Prelude.{slice_index};
 ghost use Rattle.wkb_geom.specs.Dimensions.{size};
 ghost use Rattle.wkb_geom.specs.Numbers.{number_bytes};
 ghost use Rattle.wkb_geom.specs.Encodings.{words_encoding};
@@ -38,6 +39,7 @@ pub fn store_word(bytes: &mut [u8], order: Endianness, word: u64)
 }
 
 #[inline]
+#[tactic(auto, using(crate::proofs::Stores::stored_next))]
 fn store_two(bytes: &mut [u8], order: Endianness, first: u64, second: u64)
     requires { 16 ≤ length bytes.old }
     ensures { take 16 bytes.new ≡ number_bytes order 8 first ++ number_bytes order 8 second }
@@ -46,8 +48,18 @@ fn store_two(bytes: &mut [u8], order: Endianness, first: u64, second: u64)
     store_word(&mut bytes[8..], order, second);
 }
 
-/// Stores the words of a coordinate of two, three or four in the first bytes.
 #[inline]
+fn store_x_y<C: CoordTrait>(bytes: &mut [u8], order: Endianness, coord: &C)
+    requires least { 2 ≤ size (C.dimensions coord.now) }
+    requires room { 16 ≤ length bytes.old }
+    ensures { take 16 bytes.new ≡ number_bytes order 8 (slice_index (C.words coord.now) 0)
+        ++ number_bytes order 8 (slice_index (C.words coord.now) 1) }
+{
+    store_two(bytes, order, coord.x(), coord.y());
+}
+
+/// Stores the words of a coordinate of two, three or four in the first bytes.
+#[inline(always)]
 pub fn store_coordinate<C: CoordTrait>(bytes: &mut [u8], coord: &C, width: usize, order: Endianness)
     requires width { width ≡ size (C.dimensions coord.now) }
     requires least { 2 ≤ width }
@@ -55,7 +67,7 @@ pub fn store_coordinate<C: CoordTrait>(bytes: &mut [u8], coord: &C, width: usize
     requires room { 8 * width ≤ length bytes.old }
     ensures { take (8 * width) bytes.new ≡ words_encoding order (C.words coord.now) }
 {
-    store_two(bytes, order, coord.x(), coord.y());
+    store_x_y(bytes, order, coord);
     match width {
         2 => {}
         3 => store_word(&mut bytes[16..], order, coord.at(2)),
@@ -100,6 +112,7 @@ fn items_between(all: &[u8], size: usize, from: usize, to: usize) -> &[u8]
 
 /// Stores words in one order out of bytes that hold them in another.
 #[inline(always)]
+#[tactic(auto, using(crate::proofs::Turned::turned_more, crate::proofs::Turned::words_length))]
 fn store_words(bytes: &mut [u8], lent: &[u8], held: Endianness, order: Endianness)
     requires { length lent.now ≤ length bytes.old }
     ensures { Turns held order lent.now (take (length lent.now) bytes.new) }
@@ -110,7 +123,8 @@ fn store_words(bytes: &mut [u8], lent: &[u8], held: Endianness, order: Endiannes
     }
 }
 
-// The order that isn't this one. Coordinates that the line has as bytes in this one are put as they are.
+// The order that isn't this one. Coordinates that the line has as bytes in this one are put as they are
+// (docs/DECISIONS.md, D7).
 #[inline(always)]
 fn other(order: Endianness) -> Endianness {
     match order {

@@ -1,14 +1,14 @@
 -- A collection's members, as a list of what they mean.
 use Rattle.wkb_write.proofs.Prelude.{◌≡◌, ℕ, ◌+◌, ◌*◌, ◌<◌, List, [], ◌∷◌, ◌++◌, length, map, get_or, refl, sym, ap}
 use Rattle.wkb_write.proofs.Prelude.{◌∙◌, arith, None, ◌^◌, Result, flat_map, Endianness, Form, Dimension, Dimensions}
-use Rattle.wkb_write.proofs.Prelude.{Stopped, written_dimension, Geometry, geometries, collection, node_count}
-use Rattle.wkb_write.proofs.Prelude.{node_counts, encoding, encodings, fault, fault_each, first_fault, or_else}
+use Rattle.wkb_write.proofs.Prelude.{Stopped, written_dimension, Geometry, geometries, collection}
+use Rattle.wkb_write.proofs.Prelude.{encoding, encodings, fault, fault_each, first_fault, or_else}
 use Rattle.wkb_write.proofs.Prelude.{count_geometries, members_encoding, header_encoding, dimensions_fault, Progress}
 use Rattle.wkb_write.proofs.Prelude.{Advances, counted, none_first, none_rest, count_below, slice_get_read}
-use Rattle.wkb_geom.proofs.Nodes.{node_count-member}
 use Rattle.wkb_sink.specs.Options.{inner_options}
 use Rattle.wkb_sink.specs.declared.options.WriteOptions.{WriteOptions}
 use Rattle.wkb_write.specs.Answers.{encoding_of}
+use Rattle.wkb_write.proofs.Nodes.{node_count, node_counts, node_count-member}
 use Rattle.wkb_write.proofs.Supported.{none_at}
 use Rattle.wkb_write.proofs.Whole.{added_alone}
 use Rattle.wkb_write.proofs.Loops.{counted_of}

@@ -11,7 +11,7 @@ use Rattle.std.specs.Prelude.{IfSome}
 use Rattle.std.specs.Option.{option_map}
 use Rattle.std.proofs.lemmas.List.Folds.{flat_map-map}
 use Rattle.wkb_sink.proofs.Stores.{flat_map_step}
-use Rattle.wkb_sink.proofs.Laid.{laid_then, cut_then, cut_first}
+use Rattle.wkb_sink.proofs.Laid.{laid_then, cut_then, cut_first, lays_then}
 
 flat_map_parts : {X : Type 0} (f : X → List ℕ) (xs : List X) (i : ℕ)
     → flat_map f xs ≡ flat_map f (take i xs) ++ flat_map f (drop i xs)
@@ -147,12 +147,26 @@ module _ {X : Type 0} {a b : Progress} {order : Endianness} {whole : List ℕ} (
       lays_last_encoding c r p there (omega (arith, length-map xs (f own), past))
       (subst (λ k. Advances b c (f k x) r) (sym same) q)
 
+-- bytes that are the encoding were laid
+pub lays_lent : (a b : Progress) {s t : List ℕ} (r : Result (Unit {0}) Stopped) → Advances a b s r → s ≡ t
+    → Advances a b t r
+lays_lent a b r laid is = subst (λ l. Advances a b l r) is laid
+
 -- the encoding of the item at a place was laid
 pub lays_item : {X : Type 0} (a b : Progress) (r : Result (Unit {0}) Stopped) (f : X → List ℕ) (xs : List X) (i : ℕ)
     (x : X) → slice_get xs i ≡ Some x → Advances a b (f x) r → Advances a b (get_or (map f xs) i []) r
 lays_item a b r f [] i x item laid = absurd (cc)
 lays_item a b r f (y ∷ xs) zero x item laid = let same : x ≡ y = cc in subst (λ z. Advances a b (f z) r) same laid
 lays_item a b r f (y ∷ xs) (suc i) x item laid = lays_item a b r f xs i x item laid
+
+-- the count and the coordinates of the ring at a place were laid
+pub lays_ring : (a b c : Progress) (order : Endianness) (rings : List (List Coordinate)) (i n : ℕ)
+    (ring : List Coordinate) (r : Result (Unit {0}) Stopped) → slice_get rings i ≡ Some ring → n ≡ length ring
+    → IsLaid a b (number_bytes order 4 n) → Advances b c (flat_map (words_encoding order) ring) r
+    → Advances a c (get_or (map (coordinates_encoding order) rings) i []) r
+unfolding coordinates_encoding
+lays_ring a b c order rings i n ring r there many head laid =
+    lays_item a c r (coordinates_encoding order) rings i ring there (rw (← many) (lays_then c _ r head laid))
 
 -- the encoding of an item that was handed out was laid, whose dimension is that of the whole
 pub lays_member : {X V : Type 0} (a b : Progress) (r : Result (Unit {0}) Stopped) (f : Dimensions → V → List ℕ)

@@ -4,7 +4,7 @@ use Rattle.std.proofs.Common.{subst, slice_get}
 use Rattle.std.proofs.lemmas.List.{length-map}
 use Rattle.std.specs.Option.{option_map}
 use Rattle.std.specs.Prelude.{IfSome, IsSome}
-use Rattle.wkb_geom.proofs.FirstItem.{some_below}
+use Rattle.wkb_write.proofs.FirstItem.{some_below}
 use Rattle.wkb_geom.specs.declared.common.Dimensions.{Dimensions}
 use Rattle.wkb_geom.specs.declared.error.Fault.{Fault}
 use Rattle.wkb_write.specs.Bodies.{Measure}

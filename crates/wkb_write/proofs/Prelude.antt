@@ -14,7 +14,6 @@ pub use Rattle.wkb_geom.specs.declared.common.Form.{Form}
 pub use Rattle.wkb_geom.specs.Dimensions.{written_dimension, size}
 pub use Rattle.wkb_geom.specs.Geometries.{Geometry, geometries, collection}
 pub use Rattle.wkb_geom.specs.Numbers.{number_bytes}
-pub use Rattle.wkb_geom.specs.Sizes.{node_count, node_counts}
 pub use Rattle.wkb_geom.specs.Encodings.{encoding, encodings, fault, fault_each, count_geometries, inner}
 unfoldable pub use Rattle.wkb_geom.specs.Encodings.{words_encoding, first_fault, or_else, members_encoding}
 unfoldable pub use Rattle.wkb_geom.specs.Encodings.{header_encoding, dimensions_fault, coordinates_encoding}

@@ -1,6 +1,6 @@
 -- The laws that each step of putting a kind rests on.
 use Rattle.wkb_write.proofs.Prelude.{none_first, none_rest, none_both, count_below}
-use Rattle.wkb_geom.proofs.FirstItem.{some_below}
+use Rattle.wkb_write.proofs.FirstItem.{some_below}
 use Rattle.wkb_write.proofs.Supported.{has_room, none_at, supported_at_least, supported_at_most}
 use Rattle.wkb_write.proofs.Loops.{members_told, rings_told}
 use Rattle.wkb_sink.proofs.Steps.{step_laws as sink_laws}

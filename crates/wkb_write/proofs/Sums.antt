@@ -83,11 +83,14 @@ headers_fit header n short counted =
     omega (arith, mul-le header n (2 ^ 8) (2 ^ 32) (omega (arith, short)) (omega (arith, few)))
 
 -- the fault of the count, and of a part
+pub count_found : (ps : List Measure) (n : ℕ) (e : Fault) → n ≡ length ps → Finds e (count_fault n)
+    → Finds e (parts_fault ps)
+unfolding parts_fault
+count_found ps n e is told = reports_first e _ _ (subst (λ k. Finds e (count_fault k)) is told)
+
 pub count_reports : (ps : List Measure) (size n : ℕ) (e : Fault) (r : Result ℕ Fault) → n ≡ length ps → r ≡ Err e
     → Finds e (count_fault n) → Measures (parts_fault ps) size r
-unfolding parts_fault
-count_reports ps size n e r is exit told =
-    measured_err e _ _ r exit (reports_first e _ _ (subst (λ k. Finds e (count_fault k)) is told))
+count_reports ps size n e r is exit told = measured_err e _ _ r exit (count_found ps n e is told)
 
 pub part_reports : (ps : List Measure) (size n first i total : ℕ) (e : Fault) (r : Result ℕ Fault) → n ≡ length ps
     → count_fault n ≡ None → i < length ps → IfSome (slice_get ps i) (λ p. Finds e p.fault) → SoFar ps first i total
@@ -121,6 +124,15 @@ parts_all ps header n i total is counted past s =
       rw (whole, is) at s.sum,
     )
 
+-- what is measured of all parts
+module _ (ps : List Measure) (header n i total : ℕ) (s : SoFar ps (4 + header * n) i (capped total)) (is : n ≡ length ps)
+    (counted : count_fault n ≡ None) (past : length ps ≤ i) where
+  pub parts_faultless : parts_fault ps ≡ None
+  parts_faultless = (parts_all ps header n i (capped total) is counted past s).0
+
+  pub parts_sized : (size : ℕ) → size ≡ capped total → size ≡ capped (parts_size header ps)
+  parts_sized size told = told ∙ (parts_all ps header n i (capped total) is counted past s).1
+
 -- all of the parts, after other bytes
 pub parts_behind : (ps : List Measure) (before header n i total : ℕ) → n ≡ length ps → count_fault n ≡ None
     → length ps ≤ i → SoFar ps (before + (4 + header * n)) i total
@@ -145,3 +157,5 @@ last_added ps before header n i total (Ok m) is counted end told s =
     parts_behind ps before header n (i + 1) m is counted (omega (arith, end)) (subst (SoFar ps _ (i + 1)) sum whole)
 last_added ps before header n i total (Err e) is counted end told s =
     part_reports ps (before + parts_size header ps) n _ i total e (Err e) is counted (omega (arith, end)) told s refl
+
+pub ruleset measured_laws = (count_found, parts_faultless, parts_sized)

@@ -12,17 +12,16 @@ use Rattle.wkb_geom.specs.declared.error.Fault.{Fault}
 use Rattle.wkb_geom.specs.Geometries.{Geometry, Geometries, point, line_string, polygon, multi_point, multi_line_string}
 use Rattle.wkb_geom.specs.Geometries.{multi_polygon, collection, rectangle, triangle, line, no_geometries, geometry}
 use Rattle.wkb_geom.specs.Geometries.{geometries, dimensions_of}
-use Rattle.wkb_geom.specs.Sizes.{node_count, node_counts, byte_size, byte_sizes, ring_size, line_string_size}
-use Rattle.wkb_geom.specs.Sizes.{polygon_size}
+use Rattle.wkb_geom.specs.Sizes.{byte_size, byte_sizes, ring_size, line_string_size, polygon_size}
 use Rattle.wkb_geom.specs.Encodings.{or_else, first_fault, count_fault, count_geometries, dimensions_fault}
 use Rattle.wkb_geom.specs.Encodings.{coordinates_fault, rings_fault, fault, fault_each}
 use Rattle.wkb_geom.proofs.Faults.{count_below, none_both, none_first, none_rest}
-use Rattle.wkb_geom.proofs.Nodes.{node_count-member}
 use Rattle.wkb_write.specs.Measures.{Finds, IsAdded, IsMeasured, Measures, capped}
 use Rattle.wkb_write.specs.Bodies.{Measure, parts_fault, parts_size, coordinate_words, ring_bytes, ring_measure}
 use Rattle.wkb_write.specs.Bodies.{point_measure, polygon_measure, member_measure, member_measures, body_fault}
 use Rattle.wkb_write.specs.Bodies.{bytes_behind_header, HasMeasures, size_by_parts}
 use Rattle.wkb_write.proofs.Faults.{reports_first, reports_rest, supported_words}
+use Rattle.wkb_write.proofs.Nodes.{node_count, node_counts, node_count-member}
 
 -- the faults and the sizes of a list's items, each as a part
 faults_of : {X : Type 0} (part : X → Measure) (f : X → Option Fault) (xs : List X) → ((x : X) → (part x).fault ≡ f x)

@@ -8,4 +8,4 @@ pub use wkb_geom::header::{MAX_HEADER_SIZE, MEMBER_HEADER_SIZE};
 pub use wkb_geom::words::COUNT_SIZE;
 pub use wkb_geom::{Dimensioned, Form, WkbResult};
 pub use wkb_sink::Buffered;
-pub use wkb_sink::block::{MAX_COORDINATE_SIZE, dimension_to_write, lay_count, lay_header};
+pub use wkb_sink::block::{MAX_COORDINATE_SIZE, dimension_to_write, lay_header};

@@ -38,7 +38,7 @@ pub trait Items<G: Dimensioned> {
         requires { i < length (measures geom.now) }
         ensures { IfSome (slice_get (measures geom.now) i) (λ m. IsMeasureOf m result) };
 
-    /// Puts the item at an index.
+    /// Puts the item at an index. The options go by reference, in one register.
     fn put_item<S: Sink>(
         out: &mut Buffered<'_, S>,
         geom: &G,
@@ -85,12 +85,14 @@ impl<G: Dimensioned, I: Items<G>> Writable<G> for Counted<I> {
 }
 
 /// Measures the count and the items in order, each with its header.
+#[tactic(auto, using(crate::proofs::Sums::measured_laws))]
 pub fn measure_items<G: Dimensioned, I: Items<G>>(geom: &G) -> Measured
     ensures { IsMeasureOf (parts_measure I.ITEM_HEADER (I.measures geom.now)) result }
 {
     let Some(count) = short_count(I::count(geom)) else {
         return Measured::Count;
     };
+    // In 128 bits no sum overflows, so that the compiler multiplies where all items have one size, as points have.
     let mut total = COUNT_SIZE as u128 + I::ITEM_HEADER as u128 * count as u128;
     for i in 0..count as usize {
         match I::measure_item(geom, i) {

@@ -24,12 +24,9 @@ impl<L: LineTrait> Writable<L> for LineKind {
     fn put<S: Sink>(out: &mut Buffered<'_, S>, geom: &L, options: &WriteOptions) -> Put {
         let order = options.endianness;
         let kind = WkbType::LineString(dimension_to_write(geom.dim()));
-        out.make_room(MAX_HEADER_SIZE + COUNT_SIZE + 2 * MAX_COORDINATE_SIZE)?;
-        lay_header(&mut out.block, options, kind);
-        lay_count(&mut out.block, order, 2);
-        out.block.lay_coordinate(&geom.start(), order);
-        out.block.lay_coordinate(&geom.end(), order);
-        Ok(())
+        out.put_head(options, kind, 2)?;
+        out.put_vertex(order, &geom.start())?;
+        out.put_vertex(order, &geom.end())
     }
 }
 

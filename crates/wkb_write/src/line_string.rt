@@ -20,7 +20,7 @@ pub fn measure_coordinates<L: LineStringTrait>(line: &L) -> Measured
 }
 
 /// Puts the coordinates of a line string or a ring.
-#[tactic(auto, using(crate::proofs::Steps::step_laws))]
+#[tactic(auto, using(crate::proofs::Steps::step_laws, crate::proofs::Loops::lays_lent))]
 pub fn put_coordinates<S: Sink, L: LineStringTrait>(
     out: &mut Buffered<'_, S>,
     line: &L,

@@ -61,7 +61,8 @@ impl<G: Dimensioned, K: Nested<G>> Writable<G> for Node<K> {
 }
 
 // Adds the size of a collection of these dimensions and members to the size before it. Where the last member is a
-// collection, the last call adds it, which the compiler makes a jump.
+// collection, the last call adds it. The compiler makes it a jump, so that the stack stays flat along a chain of
+// collections.
 #[cycle(measure)]
 pub fn add_members<G: Dimensioned, K: Nested<G>>(
     before: usize,
@@ -153,8 +154,8 @@ fn put_member<S: Sink, G: Dimensioned, K: Nested<G>>(
     }
 }
 
-// Puts a collection's header, and its members after their count. The last call puts the last member, and the compiler
-// makes it a jump.
+// Puts a collection's header, and its members after their count. The last call puts the last member. The compiler makes
+// it a jump, so that the stack stays flat along a chain of collections.
 #[cycle(put)]
 #[inline(always)]
 #[tactic(auto, using(crate::proofs::Steps::node_laws))]

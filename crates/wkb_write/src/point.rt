@@ -26,6 +26,8 @@ impl<P: PointTrait> Writable<P> for PointKind {
 
     ghost lawful = { λ p. P.lawful p };
 
+    const IN_ONE_PIECE: bool = true;
+
     #[inline(always)]
     fn measure(geom: &P) -> Measured {
         measure_point(geom.dim())

@@ -1,19 +1,42 @@
 //! A polygon: its rings, the exterior first.
 
-ghost use Rattle.std.specs.Prelude.{◌≡◌, false, map, refl};
+ghost use Rattle.std.specs.Prelude.{◌≡◌, ◌<◌, Some, false, length, map, refl, slice_get};
 ghost use Rattle.wkb_write.specs.Prelude.{Iso, polygon_meant, coordinates_encoding, IsSizeOf};
 ghost use Rattle.wkb_write.specs.Prelude.{WritesTo, ring_measure};
 
 use crate::common::*;
 use crate::items::{Counted, Items};
 use crate::line_string::{measure_coordinates, put_coordinates};
-use wkb_geom::rings::{nth_ring, ring_count};
 use wkb_geom::{LineStringTrait, PolygonTrait};
 
 /// A polygon.
 pub struct PolygonKind;
 
-#[tactic(auto, using(crate::proofs::Steps::item_laws))]
+/// The number of rings.
+#[tactic(auto, using(crate::proofs::FirstItem::ring_laws))]
+fn ring_count<P: PolygonTrait>(polygon: &P) -> u128
+    ensures { result ≡ length (P.rings polygon.now) }
+{
+    match polygon.exterior() {
+        None => 0,
+        Some(_) => polygon.num_interiors() as u128 + 1,
+    }
+}
+
+/// The ring at an index, the exterior first.
+fn nth_ring<P: PolygonTrait>(polygon: &P, i: usize) -> P::RingType
+    requires { i < length (P.rings polygon.now) }
+    ensures value { slice_get (P.rings polygon.now) i ≡ Some (P.RingType.coordinates result) }
+    ensures dimensions { P.RingType.dimensions result ≡ P.dimensions polygon.now }
+{
+    if i == 0 {
+        polygon.exterior().unwrap()
+    } else {
+        polygon.interior(i - 1).unwrap()
+    }
+}
+
+#[tactic(auto, using(crate::proofs::Steps::item_laws, crate::proofs::Loops::lays_ring))]
 impl<P: PolygonTrait> Items<P> for PolygonKind {
     ghost geometry = { polygon_meant P.PolygonTrait };
 

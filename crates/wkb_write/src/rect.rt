@@ -5,7 +5,7 @@ ghost use Rattle.wkb_write.specs.Prelude.{Iso, rect_meant, IsSizeOf, WritesTo};
 
 use crate::common::*;
 use wkb_geom::{CoordTrait, Dimension, RectTrait};
-use wkb_sink::block::{CORNER_SIZE, lay_corner};
+use wkb_sink::block::CORNER_SIZE;
 
 /// A rectangle, which is put as a polygon of one ring, with only x and y.
 pub struct RectKind;
@@ -26,16 +26,13 @@ impl<R: RectTrait> Writable<R> for RectKind {
         let order = options.endianness;
         let (x0, y0) = geom.min().x_y();
         let (x1, y1) = geom.max().x_y();
-        out.make_room(MAX_HEADER_SIZE + 2 * COUNT_SIZE + 5 * CORNER_SIZE)?;
-        lay_header(&mut out.block, options, WkbType::Polygon(Dimension::Xy));
-        lay_count(&mut out.block, order, 1);
-        lay_count(&mut out.block, order, 5);
-        lay_corner(&mut out.block, order, x0, y0);
-        lay_corner(&mut out.block, order, x0, y1);
-        lay_corner(&mut out.block, order, x1, y1);
-        lay_corner(&mut out.block, order, x1, y0);
-        lay_corner(&mut out.block, order, x0, y0);
-        Ok(())
+        out.put_head(options, WkbType::Polygon(Dimension::Xy), 1)?;
+        out.put_count(order, 5)?;
+        out.put_corner(order, x0, y0)?;
+        out.put_corner(order, x0, y1)?;
+        out.put_corner(order, x1, y1)?;
+        out.put_corner(order, x1, y0)?;
+        out.put_corner(order, x0, y0)
     }
 }
 

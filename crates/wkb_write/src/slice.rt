@@ -5,9 +5,7 @@ ghost use Rattle.wkb_write.specs.Prelude.{encoding_of, fault, refusal_of, IsInFr
 ghost use Rattle.wkb_write.specs.Prelude.{TellsFailure};
 
 use crate::measure::{refuse, whole_size};
-use crate::writable::{
-    LARGE_BLOCK, SHORT_SIZE, SMALL_BLOCK, Writable, length, put_through, sink_error,
-};
+use crate::writable::{Writable, length, put_sized, sink_error};
 use crate::{Sink, WriteOptions};
 use std::io;
 use wkb_geom::WkbResult;
@@ -53,18 +51,13 @@ fn fill<G, K: Writable<G>>(out: &mut [u8], geom: &G, options: &WriteOptions)
     requires size { length out.old ≡ length (encoding_of options.now (K.geometry geom.now)) }
     ensures { out.new ≡ encoding_of options.now (K.geometry geom.now) }
 {
-    let short = out.len() <= SHORT_SIZE;
+    let size = out.len();
     let mut filler = Filler {
         slice: out,
         len: 0,
         has_failed: false,
     };
-    let put = if short {
-        put_through::<Filler<'_>, G, K>(&mut filler, &mut [0; SMALL_BLOCK], geom, options)
-    } else {
-        put_through::<Filler<'_>, G, K>(&mut filler, &mut [0; LARGE_BLOCK], geom, options)
-    };
-    match put {
+    match put_sized::<Filler<'_>, G, K>(&mut filler, size, geom, options) {
         Ok(()) => {
             let Filler {
                 slice: _slice,

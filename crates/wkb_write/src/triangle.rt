@@ -24,15 +24,12 @@ impl<T: TriangleTrait> Writable<T> for TriangleKind {
         let order = options.endianness;
         let kind = WkbType::Polygon(dimension_to_write(geom.dim()));
         let first = geom.first();
-        out.make_room(MAX_HEADER_SIZE + 2 * COUNT_SIZE + 4 * MAX_COORDINATE_SIZE)?;
-        lay_header(&mut out.block, options, kind);
-        lay_count(&mut out.block, order, 1);
-        lay_count(&mut out.block, order, 4);
-        out.block.lay_coordinate(&first, order);
-        out.block.lay_coordinate(&geom.second(), order);
-        out.block.lay_coordinate(&geom.third(), order);
-        out.block.lay_coordinate(&first, order);
-        Ok(())
+        out.put_head(options, kind, 1)?;
+        out.put_count(order, 4)?;
+        out.put_vertex(order, &first)?;
+        out.put_vertex(order, &geom.second())?;
+        out.put_vertex(order, &geom.third())?;
+        out.put_vertex(order, &first)
     }
 }
 

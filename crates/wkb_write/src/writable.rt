@@ -25,6 +25,9 @@ pub trait Writable<G> {
     // What a geometry means.
     ghost geometry: { G → Geometry };
 
+    /// Whether geometries are laid in one piece, so that the smallest block holds each.
+    const IN_ONE_PIECE: bool = false;
+
     /// The size without the header, or the first fault.
     fn measure(geom: &G) -> Measured
         ensures { IsMeasured (geometry geom.now) (result_of result) };
@@ -39,19 +42,19 @@ pub trait Writable<G> {
     ghost lawful: { (g : G) → IsGeometry (geometry g) };
 }
 
-// Zeroing a block takes time in proportion to its size, so short encodings get a small one.
-pub const SMALL_BLOCK: usize = 192;
+// Zeroing a block takes time in proportion to its size, so short encodings get a small one (docs/DECISIONS.md, D8).
+const SMALL_BLOCK: usize = 192;
 
-pub const LARGE_BLOCK: usize = 1024;
+const LARGE_BLOCK: usize = 1024;
 
 // The longest encoding that fits a small block, whatever its steps ask for. Its last point may take no more than a
 // member's header, x and y, and yet the step that lays it asks for the room of the longest point.
-pub const SHORT_SIZE: usize = SMALL_BLOCK - (MAX_HEADER_SIZE + MAX_COORDINATE_SIZE)
+const SHORT_SIZE: usize = SMALL_BLOCK - (MAX_HEADER_SIZE + MAX_COORDINATE_SIZE)
     + (MEMBER_HEADER_SIZE + CORNER_SIZE);
 
 // Puts a geometry through a block over these bytes, and then what still waits there.
 #[inline(always)]
-pub fn put_through<S: Sink, G, K: Writable<G>>(
+fn put_through<S: Sink, G, K: Writable<G>>(
     writer: &mut S,
     bytes: &mut [u8],
     geom: &G,
@@ -96,6 +99,28 @@ pub fn put_through<S: Sink, G, K: Writable<G>>(
     }
 }
 
+/// Puts a geometry of this size through a block that suits the kind and the size.
+#[inline(always)]
+pub fn put_sized<S: Sink, G, K: Writable<G>>(
+    writer: &mut S,
+    size: usize,
+    geom: &G,
+    options: &WriteOptions,
+) -> Result<(), Option<io::Error>>
+    requires fault { fault (K.geometry geom.now) ≡ None }
+    requires working { S.has_failed writer.old ≡ false }
+    ensures { PutsTo S.Sink writer.old writer.new
+        (encoding_of options.now (K.geometry geom.now)) result }
+{
+    if K::IN_ONE_PIECE {
+        put_through::<S, G, K>(writer, &mut [0; MIN_BLOCK], geom, options)
+    } else if size <= SHORT_SIZE {
+        put_through::<S, G, K>(writer, &mut [0; SMALL_BLOCK], geom, options)
+    } else {
+        put_through::<S, G, K>(writer, &mut [0; LARGE_BLOCK], geom, options)
+    }
+}
+
 /// The size of a geometry of a kind, under the form.
 #[inline(always)]
 pub fn size_as<G, K: Writable<G>>(geom: &G, form: Form) -> WkbResult<usize>
@@ -114,12 +139,10 @@ pub fn write_as<S: Sink, G, K: Writable<G>>(
     requires { S.has_failed writer.old ≡ false }
     ensures { WritesTo S.Sink writer.old writer.new options.now (K.geometry geom.now) result }
 {
+    // A refusal leaves the sink untouched (docs/DECISIONS.md, D6).
     let measured = K::measure(geom);
     match whole_size(measured, options.form) {
-        Ok(size) if size <= SHORT_SIZE => {
-            wkb_result(put_through::<S, G, K>(writer, &mut [0; SMALL_BLOCK], geom, options))
-        }
-        Ok(_) => wkb_result(put_through::<S, G, K>(writer, &mut [0; LARGE_BLOCK], geom, options)),
+        Ok(size) => wkb_result(put_sized::<S, G, K>(writer, size, geom, options)),
         Err(fault) => refuse(fault),
     }
 }
@@ -163,12 +186,7 @@ pub fn vec_as<G, K: Writable<G>>(
         Err(fault) => return refuse(fault),
     };
     let mut sink = VecSink::with_capacity(alloc, size)?;
-    let put = if size <= SHORT_SIZE {
-        put_through::<VecSink, G, K>(&mut sink, &mut [0; SMALL_BLOCK], geom, options)
-    } else {
-        put_through::<VecSink, G, K>(&mut sink, &mut [0; LARGE_BLOCK], geom, options)
-    };
-    match put {
+    match put_sized::<VecSink, G, K>(&mut sink, size, geom, options) {
         Ok(()) => Ok(sink.into_vec()),
         // This sink fails only if an allocation does.
         Err(_) => Err(WkbError::from(AllocError)),

@@ -6,14 +6,14 @@ pub returns-in-2 : goal.returns-in-2
 returns-in-2 g c =
     let words = g.C.CoordTrait.words c.args.coord.now in
     let len : length words ≡ 2 = omega (arith, (g.met.C.CoordTrait.lawful c.args.coord.now).len) in
-    rw (c.in-2.is, two_words c.args.order words len, ← c.x.ensures, ← c.y.ensures) c.store_two.ensures
+    rw (c.in-2.is, two_words c.args.order words len) c.store_x_y.ensures
 
 pub returns-in-3 : goal.returns-in-3
 returns-in-3 g c =
     let words = g.C.CoordTrait.words c.args.coord.now in
     let len : length words ≡ 3 = omega (arith, (g.met.C.CoordTrait.lawful c.args.coord.now).len) in
-    rw (c.in-3.is, three_words c.args.order words len, ← c.x.ensures, ← c.y.ensures, ← c.at.ensures)
-    (stored_next _ _ _ _ 16 8 _ c.store_two.ensures (omega arith) c.store_word.ensures (omega arith))
+    rw (c.in-3.is, three_words c.args.order words len, ← c.at.ensures)
+    (stored_next _ _ _ _ 16 8 _ c.store_x_y.ensures (omega arith) c.store_word.ensures (omega arith))
 
 pub returns-in_default : goal.returns-in_default
 returns-in_default g c =
@@ -21,5 +21,5 @@ returns-in_default g c =
     let wide : c.args.width ≡ 4 = omega arith in
     let len : length words ≡ 4 = omega (arith, (g.met.C.CoordTrait.lawful c.args.coord.now).len) in
     let word = four_words c.args.order words len in
-    rw (wide, word, ← c.x.ensures, ← c.y.ensures, ← c.at-in_default.ensures, ← c.at-in_default-2.ensures)
-    (stored_next _ _ _ _ 16 16 _ c.store_two.ensures (omega arith) c.store_two-in_default.ensures (omega arith))
+    rw (wide, word, ← c.at-in_default.ensures, ← c.at-in_default-2.ensures)
+    (stored_next _ _ _ _ 16 16 _ c.store_x_y.ensures (omega arith) c.store_two.ensures (omega arith))

@@ -1,11 +1,7 @@
-use Rattle.std.proofs.Common.{◌∙◌, ◌+◌, ◌*◌, ◌≡◌, ◌<◌, length, Err, refl, subst, arith}
+use Rattle.std.proofs.Common.{◌∙◌, ◌+◌, ◌*◌, ◌≡◌, ◌<◌, length, subst, arith}
 use Rattle.wkb_write.specs.Measures.{capped}
-use Rattle.wkb_write.proofs.Sums.{SoFar, parts_begin, parts_step, part_fits, headers_fit, count_reports, part_refused}
-use Rattle.wkb_write.proofs.Sums.{parts_all}
+use Rattle.wkb_write.proofs.Sums.{SoFar, parts_begin, parts_step, part_fits, headers_fit, part_refused}
 use Rattle.wkb_write.proofs.items.measure_items.Goals as goal
-
-pub returns-in_default : goal.returns-in_default
-returns-in_default g c = count_reports _ 0 _ _ (Err _) c.count.ensures.measured refl c.in_default.ensures
 
 pub loop-i-init : goal.loop-i-init
 loop-i-init g c = record {
@@ -32,10 +28,3 @@ loop-i-preserved g c =
           (parts_step items first c.loop-i.i _ _ within c.in-Bytes.ensures c.loop-i.invariant.so_far);
       fits = omega (arith, c.loop-i.invariant.fits, part_fits items c.loop-i.i _ within c.in-Bytes.ensures);
     }
-
-pub returns : goal.returns
-returns g c =
-    let is = c.in-Some.ensures.1 ∙ c.count.ensures.measured in
-    let all = parts_all _ _ _ _ _ is (rw c.in-Some.ensures.1 c.in-Some.ensures.0)
-    (omega (arith, is, c.loop-i-test.false)) c.loop-i.invariant.so_far in
-    (all.0, omega (arith, c.min.ensures, all.1))

@@ -22,9 +22,6 @@ loop-done-preserved g c = record {
 pub returns : goal.returns
 returns g c = whole_run c.loop-done.invariant.laid (omega arith)
 
-pub returns-in-Some : goal.returns-in-Some
-returns-in-Some g c = rw (← c.in-Some.ensures) c.put_bytes.ensures
-
 pub make_room-requires-clause-working : goal.make_room-requires-clause-working
 make_room-requires-clause-working g c = c.loop-done.invariant.laid.laid.works
 

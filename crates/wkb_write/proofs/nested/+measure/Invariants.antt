@@ -1,7 +1,7 @@
 use Rattle.std.proofs.Common.{◌+◌, ◌*◌, map}
 use Rattle.wkb_geom.specs.Geometries.{geometries}
-use Rattle.wkb_geom.specs.Sizes.{node_count, node_counts}
 use Rattle.wkb_write.specs.Bodies.{member_measures}
+use Rattle.wkb_write.proofs.Nodes.{node_count, node_counts}
 use Rattle.wkb_write.proofs.Sums.{SoFar}
 use Rattle.wkb_write.proofs.nested.+measure.Given as goal
 

@@ -1,8 +1,9 @@
-use Rattle.wkb_write.proofs.Prelude.{◌<◌, ◌-◌, sym, ap, length, arith, length-map, node_count, encoding}
+use Rattle.wkb_write.proofs.Prelude.{◌<◌, ◌-◌, sym, ap, length, arith, length-map, encoding}
 use Rattle.wkb_write.proofs.Collections.{collection_count, collection_ready, collection_told, lays_collection}
 use Rattle.wkb_write.proofs.Collections.{member_ready}
 use Rattle.wkb_sink.proofs.Laid.{exits}
 use Rattle.wkb_write.proofs.Loops.{head_cut, none_laid, no_member, next_member, member_cut, last_member}
+use Rattle.wkb_write.proofs.Nodes.{node_count}
 use Rattle.wkb_write.proofs.nested.+put.Goals as goal
 
 pub put_members-returns-in_err-put_head : goal.put_members-returns-in_err-put_head

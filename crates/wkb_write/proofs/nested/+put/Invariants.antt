@@ -1,7 +1,8 @@
-use Rattle.wkb_write.proofs.Prelude.{◌+◌, ◌*◌, map, geometries, node_count, node_counts, collection, progress}
+use Rattle.wkb_write.proofs.Prelude.{◌+◌, ◌*◌, map, geometries, collection, progress}
 use Rattle.wkb_sink.specs.Options.{inner_options}
 use Rattle.wkb_write.specs.Answers.{encoding_of}
 use Rattle.wkb_write.proofs.Loops.{HasLaid}
+use Rattle.wkb_write.proofs.Nodes.{node_count, node_counts}
 use Rattle.wkb_write.proofs.nested.+put.Given as goal
 
 abbrev pub decreases-put_member : goal.decreases-put_member
