@@ -1,5 +1,6 @@
 pub mod Prelude
 pub mod Algebra
+pub mod AsWritten
 pub mod Bodies
 pub mod LastItem
 pub mod NoMemory

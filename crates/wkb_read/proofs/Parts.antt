@@ -59,16 +59,16 @@ members_together (value.member v vs) =
 pub part_seen : (g : Geometry) (v : Value) → geometry_of v ≡ g → IsGeometry g → g ≡ fitted_geometry (geometry_of v)
 part_seen g v e h = sym (fitted_geometry-same g h) ∙ ap fitted_geometry (sym e)
 
-pub point_means : (p : Point)
+point_means : (p : Point)
     → point (as_dimensions (point_layout p).dimension) (seen_coordinate p) ≡ geometry_seen (point_seen p)
 point_means p = part_seen _ (point_seen p).value (ap geometry_of (point_value p)) (point_is_lawful p)
 
-pub line_string_means : (l : LineString)
+line_string_means : (l : LineString)
     → line_string (as_dimensions (line_string_layout l).dimension) (line_string_coordinates l)
     ≡ geometry_seen (line_string_seen l)
 line_string_means l = part_seen _ (line_string_seen l).value refl (line_string_is_lawful l)
 
-pub multi_point_means : (m : MultiPoint)
+multi_point_means : (m : MultiPoint)
     → multi_point (as_dimensions (multi_point_layout m).dimension) (seen_points m) ≡ geometry_seen (multi_point_seen m)
 multi_point_means m = part_seen _ (multi_point_seen m).value refl (multi_point_is_lawful m)
 

@@ -7,7 +7,7 @@ pub use Rattle.wkb_geom.specs.declared.error.Cause.{Cause}
 pub use Rattle.wkb_geom.specs.declared.error.Refusal.{Refusal}
 pub use Rattle.wkb_geom.specs.declared.error.Refusal.TheVariants as refusals
 pub use Rattle.wkb_geom.specs.declared.error.WkbError.{WkbError}
-pub use Rattle.wkb_geom.specs.declared.header.Header.{Header as Head}
+pub use Rattle.wkb_geom.specs.declared.header.Head.{Head}
 pub use Rattle.wkb_geom.specs.declared.header.Layout.{Layout}
 pub use Rattle.wkb_geom.specs.Dimensions.{as_dimensions}
 pub use Rattle.wkb_geom.specs.Fronts.{Front, HasNoFront, max_nesting}
@@ -30,6 +30,8 @@ pub use Rattle.wkb_geom.specs.Values.{dimension, no_members, member, member_coun
 pub use Rattle.wkb_view.specs.declared.counts.Counts.{Counts}
 pub use Rattle.wkb_view.specs.Headers.{HasHead}
 pub use Rattle.wkb_view.specs.Outcome.{Spent, AtMost, CanCount, Stops, IsCause}
-pub use Rattle.wkb_view.specs.Parts.{srid_of, list_of_values, members_spelled, IsCollection, BytesSpell}
+pub use Rattle.wkb_view.specs.Parts.{list_of_values, members_spelled, IsCollection}
+pub use Rattle.wkb_view.specs.Spelled.{BytesSpell, srid_of}
 pub use Rattle.wkb_view.specs.Members.{polygon_seen, multi_line_string_seen, multi_polygon_seen}
 pub use Rattle.wkb_view.specs.Views.{point_seen, line_string_seen, multi_point_seen}
+pub use Rattle.wkb_view.specs.Lent.{IsSpelledAsWritten}

@@ -8,6 +8,7 @@ use crate::geometry_type::GeometryType as TypeName;
 use crate::read::read_wkb;
 use std::alloc::{AllocError, Global};
 use std::marker::Model;
+use wkb_geom::code::WkbType;
 use wkb_geom::error::WkbResult;
 use wkb_geom::{
     Dimension, Dimensioned, Dimensions, Endianness, Form, GeometryCollectionTrait, GeometryTrait,
@@ -15,6 +16,7 @@ use wkb_geom::{
 };
 use wkb_plain::{Line, Rect, Triangle};
 use wkb_view::any::AnyView;
+use wkb_view::as_written::AsWritten;
 use wkb_view::line_string::LineString;
 use wkb_view::multi_line_string::MultiLineString;
 use wkb_view::multi_point::MultiPoint;
@@ -100,8 +102,8 @@ impl<'a> Model for Wkb<'a> {
 }
 
 impl<'a> GeometryCollection<'a> {
-    ghost use Rattle.std.specs.Prelude.{◌≡◌, IfOk, length};
-    ghost use Rattle.wkb_read.specs.Prelude.{srid_of, BytesSpell};
+    ghost use Rattle.std.specs.Prelude.{◌≡◌, true, IfOk, length};
+    ghost use Rattle.wkb_read.specs.Prelude.{srid_of, BytesSpell, IsSpelledAsWritten};
     ghost use Rattle.wkb_read.specs.Placed.{collection_seen};
 
     /// The number of its bytes.
@@ -135,6 +137,25 @@ impl<'a> GeometryCollection<'a> {
         ensures { result ≡ srid_of self.now.spelled }
     {
         self.layout.srid(self.buf)
+    }
+
+    /// Whether its bytes are known to be its encoding in this order and form. Its own header is looked at, and then each
+    /// member, up to the first that would be written otherwise.
+    #[cycle(spellings)]
+    fn is_as_written(&self, order: Endianness, form: Form) -> bool
+        ensures { result ≡ true → IsSpelledAsWritten order form (collection_seen self.now) }
+    {
+        let wkb_type = WkbType::GeometryCollection(self.layout.dimension);
+        if !self.layout.begins_as(wkb_type, self.buf, order, form) {
+            return false;
+        }
+        let inner = form.inner();
+        for member in &self.members {
+            if !member.is_as_written(order, inner) {
+                return false;
+            }
+        }
+        true
     }
 
     /// A copy with lists of its own.
@@ -197,8 +218,8 @@ impl<'a> GeometryCollectionTrait for GeometryCollection<'a> {
 }
 
 impl<'a> Wkb<'a> {
-    ghost use Rattle.std.specs.Prelude.{◌≡◌, IfOk, IfSome, IsSome};
-    ghost use Rattle.wkb_read.specs.Prelude.{srid_of, dimension, IsCollection, BytesSpell};
+    ghost use Rattle.std.specs.Prelude.{◌≡◌, true, IfOk, IfSome, IsSome};
+    ghost use Rattle.wkb_read.specs.Prelude.{srid_of, dimension, IsCollection, BytesSpell, IsSpelledAsWritten};
     ghost use Rattle.wkb_read.specs.Placed.{collection_seen};
     ghost use Rattle.wkb_read.specs.Types.{geometry_type_of};
     ghost use Rattle.wkb_read.specs.Reads.{Reads};
@@ -271,6 +292,36 @@ impl<'a> Wkb<'a> {
         }
     }
 
+    /// Whether its bytes are known to be its encoding in this order and form. Most geometries have no members, and take
+    /// no call.
+    #[cycle(spellings)]
+    #[inline(always)]
+    fn is_as_written(&self, order: Endianness, form: Form) -> bool
+        ensures { result ≡ true → IsSpelledAsWritten order form self.now }
+    {
+        match &self.kind {
+            View::Point(point) => point.is_as_written(order, form),
+            View::LineString(line_string) => line_string.is_as_written(order, form),
+            View::Polygon(polygon) => polygon.is_as_written(order, form),
+            _ => self.has_members_as_written(order, form),
+        }
+    }
+
+    /// Whether it has members, and its bytes are known to be its encoding in this order and form.
+    #[cycle(spellings)]
+    #[inline(never)]
+    fn has_members_as_written(&self, order: Endianness, form: Form) -> bool
+        ensures { result ≡ true → IsSpelledAsWritten order form self.now }
+    {
+        match &self.kind {
+            View::MultiPoint(multi) => multi.is_as_written(order, form),
+            View::MultiLineString(multi) => multi.is_as_written(order, form),
+            View::MultiPolygon(multi) => multi.is_as_written(order, form),
+            View::GeometryCollection(collection) => collection.is_as_written(order, form),
+            _ => false,
+        }
+    }
+
     /// The collection that this is, if it is one.
     pub fn as_geometry_collection(&self) -> Option<&GeometryCollection<'a>>
         ensures some { IsCollection self.now.value → IsSome result }
@@ -338,14 +389,15 @@ impl<'a> GeometryTrait for Wkb<'a> {
 
     ghost lawful = { geometry_lawful };
 
-    /// The bytes, where they are the encoding in this order and form: of a point, a line string or a polygon.
+    /// The bytes, where they are the encoding in this order and form.
+    ///
+    /// None if a point in them is empty, and where there is an SRID or one is to be written.
     #[inline(always)]
     fn whole(&self, order: Endianness, form: Form) -> Option<&[u8]> {
-        match &self.kind {
-            View::Point(point) => point.whole(order, form),
-            View::LineString(line_string) => line_string.whole(order, form),
-            View::Polygon(polygon) => polygon.whole(order, form),
-            _ => None,
+        if self.is_as_written(order, form) {
+            Some(self.buf())
+        } else {
+            None
         }
     }
 

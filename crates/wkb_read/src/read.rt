@@ -10,7 +10,7 @@ use crate::geometry::{View, Wkb};
 use crate::read::stack::{Begun, begin_collection, read_collection};
 use std::alloc::Global;
 use wkb_geom::code::WkbType;
-use wkb_geom::{Header, Refusal, WkbResult};
+use wkb_geom::{Head, Refusal, WkbResult};
 use wkb_view::counts::Counts;
 use wkb_view::line_string::LineString;
 use wkb_view::multi_line_string::MultiLineString;
@@ -90,7 +90,7 @@ pub(crate) fn read_front<'a>(
     ensures begins { BeginsAs geometry_inside depth bytes.now result counts.old counts.new }
     ensures no_memory { ReadsWithoutMemory bytes.now → NeedsNone result }
 {
-    let header = Header::read(bytes)?;
+    let header = Head::read(bytes)?;
     let layout = header.layout();
     let (kind, rest) = match header.wkb_type {
         WkbType::Point(_) => {

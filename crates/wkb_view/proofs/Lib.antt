@@ -7,4 +7,4 @@ pub mod Pieces
 pub mod SpelledRead
 pub mod Asked
 mod Standing
-mod Whole
+pub mod Whole

@@ -7,9 +7,8 @@ use Rattle.wkb_view.specs.Prelude.{Cause, refused, end_of_input, Refusal, Cost, 
 use Rattle.wkb_view.specs.Prelude.refusals
 use Rattle.wkb_view.specs.Prelude.{Reading, costs, done, count_in, and_then, repeated, Layout, Item, number}
 use Rattle.wkb_view.specs.Prelude.{multi_point_end, slots_asked, slots_of, consumed, body_start, parts_start, list_at}
-use Rattle.wkb_view.specs.Prelude.{list_item, ring_part, member_at, width, parts_body, polygon_item, multi_point_with}
-use Rattle.wkb_view.specs.Prelude.{multi_line_string_with, multi_polygon_with, polygon_at, multi_point_at}
-use Rattle.wkb_view.specs.Prelude.{multi_line_string_at, multi_polygon_at}
+use Rattle.wkb_view.specs.Prelude.{list_item, member_at, width, parts_body, multi_point_with, multi_polygon_with}
+use Rattle.wkb_view.specs.Prelude.{multi_point_at, multi_polygon_at}
 use Rattle.wkb_view.specs.declared.counts.Counts.{Counts}
 use Rattle.wkb_view.specs.Outcome.{Spent, CanCount, Stops}
 use Rattle.wkb_view.specs.Members.{parts_behind}
@@ -163,7 +162,7 @@ module _ (l : Layout) (bytes : List ℕ) (n : ℕ) (old mid : Counts) (whole : b
   abbrev Asked : ℕ → Type 0
   Asked k = mid.slots ≡ old.slots + slots_asked k (count_in l bytes) (length bytes - (body_start l.has_srid + 4))
 
-  list_here : {A : Type 0} (k : ℕ) (part : List ℕ → Reading A) (end : List A → List ℕ → Item) → Asked k
+  pub list_here : {A : Type 0} (k : ℕ) (part : List ℕ → Reading A) (end : List A → List ℕ → Item) → Asked k
       → IsList k l part end bytes n old mid (list_at k l part end bytes)
   list_here k part end slots =
       let long : ltb (length bytes) (body_start l.has_srid + 4) ≡ false = le-ltb _ _ whole in
@@ -172,16 +171,6 @@ module _ (l : Layout) (bytes : List ℕ) (n : ℕ) (old mid : Counts) (whole : b
         turns = turns;
         slots = rw (counted, parts_length l.has_srid bytes) slots;
       }
-
-  pub rings_here : Asked 3 → IsList 3 l (ring_part l) (polygon_item l) bytes n old mid (polygon_at l bytes)
-  unfolding polygon_at
-  rings_here = list_here 3 (ring_part l) (polygon_item l)
-
-  pub line_strings_here : Asked 5
-      → IsList 5 l (member_at 2 l.dimension) (list_item l multi_line_string_with) bytes n old mid
-      (multi_line_string_at l bytes)
-  unfolding multi_line_string_at
-  line_strings_here = list_here 5 (member_at 2 l.dimension) (list_item l multi_line_string_with)
 
   pub polygons_here : Asked 6
       → IsList 6 l (member_at 3 l.dimension) (list_item l multi_polygon_with) bytes n old mid (multi_polygon_at l bytes)
@@ -215,25 +204,6 @@ module _ (least : ℕ) (l : Layout) (bytes : List ℕ) where
         record { turns = omega (arith, turns); slots = omega (arith, slots, entries_within) }
 
 module _ (l : Layout) (bytes : List ℕ) where
-  pub rings_within : entries_asked 4 l bytes ≤ (polygon_at l bytes).0.slots
-  unfolding polygon_at
-  rings_within = entries_within 4 l bytes _ (omega (arith, parts_length l.has_srid bytes))
-
-  pub rings_refused : (refusal : Refusal) (old new : Counts) → HasNoList l bytes refusal → new.turns ≡ old.turns
-      → new.slots ≡ old.slots + entries_asked 4 l bytes → Stops refusal (polygon_at l bytes) old new
-  unfolding polygon_at
-  rings_refused = list_refused 4 l bytes _ (omega (arith, parts_length l.has_srid bytes))
-
-  pub line_strings_within : entries_asked 9 l bytes ≤ (multi_line_string_at l bytes).0.slots
-  unfolding multi_line_string_at
-  line_strings_within = entries_within 9 l bytes _ (omega (arith, parts_length l.has_srid bytes))
-
-  pub line_strings_refused : (refusal : Refusal) (old new : Counts) → HasNoList l bytes refusal
-      → new.turns ≡ old.turns
-      → new.slots ≡ old.slots + entries_asked 9 l bytes → Stops refusal (multi_line_string_at l bytes) old new
-  unfolding multi_line_string_at
-  line_strings_refused = list_refused 9 l bytes _ (omega (arith, parts_length l.has_srid bytes))
-
   pub polygons_within : entries_asked 9 l bytes ≤ (multi_polygon_at l bytes).0.slots
   unfolding multi_polygon_at
   polygons_within = entries_within 9 l bytes _ (omega (arith, parts_length l.has_srid bytes))

@@ -1,10 +1,12 @@
 -- Parts of one form one after another, by the offsets at which they end.
 use Rattle.std.proofs.Common.{◌≡◌, ℕ, suc, zero, Option, ◌-◌, ◌+◌, ◌≤◌, ◌<◌, List, [], ◌∷◌, length, take, drop, map}
 use Rattle.std.proofs.Common.{Some, None, refl, sym, ap, subst, ◌∙◌}
-use Rattle.std.proofs.Common.{get_or, arith, Bool, ◌*◌, ◌++◌, Ok, length-append, length-drop, length-take}
+use Rattle.std.proofs.Common.{get_or, arith, Bool, ◌/◌, ◌*◌, ◌++◌, Ok, length-append, length-drop, length-take}
 use Rattle.std.specs.Prelude.{slice_get, option_map}
 use Rattle.std.proofs.lemmas.List.{length-map, drop-drop, drop-take, take-take}
+use Rattle.std.proofs.lemmas.Nat.{le-div}
 use Rattle.std.proofs.lemmas.Option.{slice_get_past, slice_get-map}
+use Rattle.std.proofs.Math.Nat.{mul-add}
 use Rattle.wkb_view.specs.Prelude.{Reading, consumed, body_start, parts_start, repeated}
 use Rattle.wkb_view.specs.Pieces.{pieces, ArePieces, AreInOrder, IsPiece, Passed}
 use Rattle.wkb_view.specs.declared.counts.Counts.{Counts}
@@ -215,3 +217,9 @@ module _ {A : Type 0} {least : ℕ} {P : List ℕ → Type 0} {seen : List ℕ �
       let end = parts_end le so_far.left in
       let taken_out = pieces-take P start ends last bytes so_far.stand (omega arith) in
       (rw (cut, taken_out.0) end.0, end.1, rw cut taken_out.1)
+
+-- where another part fits, its end has a slot
+pub parts_fit : (least n passed rest start all : ℕ) → 0 < least → least * n + rest + start ≤ all
+    → least + passed ≤ rest → n < (all - start) / least
+parts_fit least n passed rest start all some so_far more =
+    let enough = le-div (n + 1) (all - start) least some (omega (arith, mul-add least n 1)) in omega (arith, enough)

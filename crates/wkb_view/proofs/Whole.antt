@@ -1,19 +1,69 @@
--- Views whose header is the one that is written are their own encodings.
-use Rattle.std.proofs.Common.{◌≡◌, ℕ, List, [], drop, None, Some, false, Bool, refl, sym, subst}
+-- Views whose bytes are what is written of them.
+use Rattle.std.proofs.Common.{◌≡◌, ℕ, ◌+◌, ◌≤◌, List, [], ◌∷◌, length, map, take, drop, None, Some, false}
+use Rattle.std.proofs.Common.{refl, sym, ap, ◌∙◌, subst, arith}
+use Rattle.std.specs.Prelude.{slice_get, option_map, Option, IfSome, Bool, true}
+use Rattle.std.specs.Borrow.{Bor}
+use Rattle.std.specs.Bool.{then_some}
+use Rattle.std.proofs.lemmas.List.{take_all, take_more_same, length-map}
+use Rattle.std.proofs.lemmas.Option.{slice_get-map, slice_get_within, get_or_from_slice_get}
 use Rattle.wkb_geom.specs.declared.common.Form.{Form}
 use Rattle.wkb_geom.specs.declared.common.Form.TheVariants.{Iso, Ewkb}
-use Rattle.wkb_geom.specs.Values as value
-use Rattle.wkb_geom.specs.Geometries.{Geometry, point, line_string, polygon, geometry_of}
-use Rattle.wkb_geom.specs.Encodings.{form_srid, code_of, encoding, fault, dimensions_fault, IsForm}
-use Rattle.wkb_geom.specs.Reading.{point_words_in}
-use Rattle.wkb_laws.specs.Written.{written, written_plain}
+use Rattle.wkb_geom.specs.Values.{Value}
+use Rattle.wkb_geom.specs.Spellings.{node, spelling}
+use Rattle.wkb_geom.specs.Geometries.{Geometry, geometry_of}
+use Rattle.wkb_geom.specs.Encodings.{form_srid, inner, code_of, encoding, fault, IsForm}
+use Rattle.wkb_laws.specs.Written.{written, written_header, each_spelling}
 use Rattle.wkb_laws.proofs.Spelled.{in_full_lem}
 use Rattle.wkb_laws.proofs.EncodingBytes.{as_written}
 use Rattle.wkb_laws.proofs.Values.{same_dimension, spelled_good, lawful-geometry_of}
-use Rattle.wkb_view.specs.Prelude.{Endianness, Dimension, Xy, Xyz, Xym, Xyzm, Coordinate, AreBytes, number, Layout, Item}
-use Rattle.wkb_view.specs.Prelude.{no_spellings, spelled_in, all_nan, as_dimensions, BytesSpell}
-use Rattle.wkb_view.specs.Prelude.{point_item, point_item_of, point_of, line_string_item, ring_in, body_start}
-use Rattle.wkb_view.specs.Fitted.{fitted_line_strings, line_strings_fit}
+use Rattle.wkb_view.specs.Prelude.{Endianness, Dimension, number, Layout, Item, Spelling, Spellings, spellings, spelled_in}
+use Rattle.wkb_geom.specs.Dimensions.{written_dimension}
+use Rattle.wkb_view.specs.Prelude.{as_dimensions, spelling_at, list_of_spellings, members_spelled, BytesSpell}
+use Rattle.wkb_view.specs.Fitted.{fitted_geometry, fitted_geometry-same}
+use Rattle.wkb_view.specs.Lent.{IsSpelledAsWritten}
+use Rattle.wkb_view.proofs.Members.{spelled_each}
+
+-- ---- bytes in memory that are the encoding of a geometry without a fault
+
+pub record IsWhole (bytes : List ℕ) (order : Endianness) (form : Form) (g : Geometry) : Type 0 where
+  pub encoding : bytes ≡ encoding order form g
+  pub writable : fault g ≡ None
+
+is_form : (form : Form) → form_srid form ≡ None → IsForm form
+is_form Iso e = tt
+is_form (Ewkb None) e = tt
+is_form (Ewkb (Some srid)) e = absurd cc
+
+module _ (order : Endianness) (form : Form) (i : Item) (spells : BytesSpell i) (is : IsSpelledAsWritten order form i) where
+  -- those of what is spelled as it is written
+  pub is_whole : IsWhole i.encoding order form (geometry_of i.value)
+  is_whole =
+      let full = in_full_lem i.spelled i.value i.encoding spells in
+      record {
+        encoding = as_written order form i.spelled i.value i.encoding (is_form form is.no_srid) is.bytes full is.same;
+        writable = (spelled_good i.spelled i.value i.encoding is.bytes full).1;
+      }
+
+  -- what is spelled is lawful, so fitting leaves it as it is
+  pub is_whole_fitted : IsWhole i.encoding order form (fitted_geometry (geometry_of i.value))
+  is_whole_fitted =
+      let full = in_full_lem i.spelled i.value i.encoding spells in
+      let good = spelled_good i.spelled i.value i.encoding is.bytes full in
+      subst (IsWhole i.encoding order form)
+      (sym (fitted_geometry-same (geometry_of i.value) (lawful-geometry_of i.value good.0))) is_whole
+
+-- what is lent where a test holds
+pub record Lends (order : Endianness) (form : Form) (g : Geometry) (result : Option (Bor (List ℕ))) : Type 0 where
+  pub encoding : IfSome result (λ b. b.now ≡ encoding order form g)
+  pub writable : IfSome result (λ _. fault g ≡ None)
+
+pub lends : {order : Endianness} {form : Form} {g : Geometry} (test : Bool) (buf : Bor (List ℕ))
+    → (test ≡ true → IsWhole buf.now order form g)
+    → Lends order form g (then_some test buf)
+lends true buf h = let whole = h refl in record { encoding = whole.encoding; writable = whole.writable }
+lends false buf h = record { encoding = tt; writable = tt }
+
+-- ---- the spelling that is written: of the header, and of the members
 
 -- the header is the one that is written of this kind
 pub record HasWrittenHeader (k : ℕ) (l : Layout) (bytes : List ℕ) (order : Endianness) (form : Form) : Type 0 where
@@ -22,74 +72,67 @@ pub record HasWrittenHeader (k : ℕ) (l : Layout) (bytes : List ℕ) (order : E
   pub form_is : form_srid form ≡ None
   pub code : number order 4 (drop 1 bytes) ≡ code_of form k l.dimension
 
-plain_spelled : (k : ℕ) (l : Layout) (bytes : List ℕ) (order : Endianness) (form : Form)
+-- the spelling of a geometry with that header and these members
+pub header_spelled : (k : ℕ) (l : Layout) (bytes : List ℕ) (order : Endianness) (form : Form) (ss : Spellings)
     → HasWrittenHeader k l bytes order form
-    → spelled_in l bytes [] no_spellings ≡ written_plain order form k l.dimension
-plain_spelled k l bytes order form h = rw (h.order_is, h.plain, h.code, h.form_is) refl
+    → spelled_in l bytes [] ss ≡ node (written_header order form k (written_dimension (as_dimensions l.dimension))) [] ss
+header_spelled k l bytes order form ss h =
+    rw (same_dimension l.dimension, h.order_is, h.plain, h.code, h.form_is) refl
 
-is_form : (form : Form) → form_srid form ≡ None → IsForm form
-is_form Iso e = tt
-is_form (Ewkb None) e = tt
-is_form (Ewkb (Some srid)) e = absurd cc
+-- a member with this part is written with this spelling
+abbrev pub member_written : {A : Type 0} → Endianness → Form → (Dimension → A → Value) → Dimension → A → Spelling
+member_written order form kind d part = written order (inner form) (geometry_of (kind d part))
 
--- bytes in memory that spell a value as it is written
-pub record IsWhole (bytes : List ℕ) (order : Endianness) (form : Form) (g : Geometry) : Type 0 where
-  pub encoding : bytes ≡ encoding order form g
-  pub writable : fault g ≡ None
+-- the members before an index are spelled as they are written
+pub record AreWrittenBefore {A : Type 0} (order : Endianness) (form : Form) (kind : Dimension → A → Value) (d : Dimension)
+    (i : ℕ) (s : Spelling) (parts : List A) : Type 0 where
+  pub same : take i (list_of_spellings (members_spelled s)) ≡ take i (map (member_written order form kind d) parts)
 
-is_whole : (i : Item) (order : Endianness) (form : Form) → form_srid form ≡ None → AreBytes i.encoding → BytesSpell i
-    → i.spelled ≡ written order form (geometry_of i.value) → IsWhole i.encoding order form (geometry_of i.value)
-is_whole i order form plain range spells same =
-    let full = in_full_lem i.spelled i.value i.encoding spells in
+-- and so is the next one
+pub one_more_written : {A : Type 0} {order : Endianness} {form : Form} {kind : Dimension → A → Value} {d : Dimension} {i : ℕ}
+    {s : Spelling} {parts : List A} {m : Item} {part : A}
+    → AreWrittenBefore order form kind d i s parts
+    → IsSpelledAsWritten order (inner form) m → m.value ≡ kind d part → Some m.spelled ≡ spelling_at s i
+    → Some part ≡ slice_get parts i
+    → AreWrittenBefore order form kind d (i + 1) s parts
+one_more_written {order = order} {form = form} {kind = kind} {d = d} {i = i} {parts = parts} {m = m} {part = part} before is value-is
+    spelled-at part-at =
+    let f = member_written order form kind d in
+    let same : m.spelled ≡ f part = is.same ∙ ap (λ v. written order (inner form) (geometry_of v)) value-is in
+    let there : slice_get (map f parts) i ≡ Some m.spelled =
+    slice_get-map f parts i ∙ ap (option_map f) (sym part-at) ∙ ap (λ (u : Spelling). Some u) (sym same) in
+    let found = get_or_from_slice_get _ i m.spelled m.spelled (sym spelled-at) in
     record {
-      encoding = as_written order form i.spelled i.value i.encoding (is_form form plain) range full same;
-      writable = (spelled_good i.spelled i.value i.encoding range full).1;
+      same =
+          take_more_same _ _ i m.spelled (slice_get_within _ i _ (sym spelled-at)) (slice_get_within _ i _ there)
+          before.same
+          (found ∙ sym (get_or_from_slice_get _ i m.spelled m.spelled there));
     }
 
-module _ (l : Layout) (bytes : List ℕ) (order : Endianness) (form : Form) (range : AreBytes bytes) where
-  -- a point that isn't empty
-  pub point_whole : BytesSpell (point_item l bytes) → HasWrittenHeader 1 l bytes order form
-      → all_nan (point_words_in l bytes) ≡ false
-      → IsWhole bytes order form (point (as_dimensions l.dimension) (point_of (point_item l bytes).value))
-  point_whole spells h known =
-      let words = point_words_in l bytes in
-      let item = point_item_of l bytes words false in
-      let there = subst (λ (b : Bool). BytesSpell (point_item_of l bytes words b)) known spells in
-      subst (λ (b : Bool). IsWhole bytes order form
-      (point (as_dimensions l.dimension) (point_of (point_item_of l bytes words b).value))) (sym known)
-      (is_whole item order form h.form_is range there
-      (rw (same_dimension l.dimension, known) (plain_spelled 1 l bytes order form h)))
+-- spellings that are those of parts, one by one
+each_spelled : {A : Type 0} (f : A → Spelling) (part : Item → A) (ms : List Item)
+    → map (λ m. m.spelled) ms ≡ map f (map part ms) → spellings ms ≡ each_spelling f (map part ms)
+each_spelled f part [] e = refl
+each_spelled f part (m ∷ ms) e =
+    let head : m.spelled ≡ f (part m) = cc in
+    let tail : map (λ n. n.spelled) ms ≡ map f (map part ms) = cc in
+    let others = each_spelled f part ms tail in
+    λ i. spelling (head i) (others i)
 
-  pub line_string_whole : BytesSpell (line_string_item l bytes) → HasWrittenHeader 2 l bytes order form
-      → IsWhole bytes order form
-      (line_string (as_dimensions l.dimension) (ring_in l.order l.dimension (drop (body_start l.has_srid) bytes)))
-  line_string_whole spells h =
-      is_whole (line_string_item l bytes) order form h.form_is range spells
-      (rw (same_dimension l.dimension) (plain_spelled 2 l bytes order form h))
-
-  -- a polygon, whose rings are fitted
-  pub polygon_whole : (rings : List (List Coordinate))
-      → BytesSpell
-      (record {
-        encoding = bytes;
-        spelled = spelled_in l bytes [] no_spellings;
-        value = value.polygon l.dimension rings;
-      })
-      → HasWrittenHeader 3 l bytes order form
-      → IsWhole bytes order form (polygon (as_dimensions l.dimension) (fitted_line_strings (as_dimensions l.dimension) rings))
-  polygon_whole rings spells h =
-      let d = l.dimension in
-      let t = value.polygon d rings in
-      let spelled = spelled_in l bytes [] no_spellings in
-      let good = spelled_good spelled t bytes range (in_full_lem spelled t bytes spells) in
-      let same = (line_strings_fit (as_dimensions d) rings).same (lawful-geometry_of t good.0) in
-      subst (λ (parts : List (List Coordinate)). IsWhole bytes order form (polygon (as_dimensions d) parts)) (sym same)
-      (is_whole (record { encoding = bytes; spelled = spelled; value = t }) order form h.form_is range spells
-      (rw (same_dimension d) (plain_spelled 3 l bytes order form h)))
-
-pub named_dimension : (d : Dimension) → dimensions_fault (as_dimensions d) ≡ None
-unfolding dimensions_fault
-named_dimension Xy = refl
-named_dimension Xyz = refl
-named_dimension Xym = refl
-named_dimension Xyzm = refl
+-- a geometry with the header that is written, all members of which are spelled as they are written
+pub all_written : {A : Type 0} {k : ℕ} {l : Layout} {bytes : List ℕ} {order : Endianness} {form : Form}
+    {kind : Dimension → A → Value} {i : ℕ} (part : Item → A) (ms : List Item)
+    → HasWrittenHeader k l bytes order form → length (map part ms) ≤ i
+    → AreWrittenBefore order form kind l.dimension i (spelled_in l bytes [] (spellings ms)) (map part ms)
+    → spelled_in l bytes [] (spellings ms)
+    ≡ node (written_header order form k (written_dimension (as_dimensions l.dimension))) []
+    (each_spelling (member_written order form kind l.dimension) (map part ms))
+all_written {k = k} {l = l} {bytes = bytes} {order = order} {form = form} {kind = kind} {i = i} part ms header all before =
+    let f = member_written order form kind l.dimension in
+    let same =
+    sym (take_all i (map (λ m. m.spelled) ms) (omega (arith, length-map ms part, length-map ms (λ m. m.spelled))))
+    ∙ ap (take i) (sym (spelled_each ms)) ∙ before.same
+    ∙ take_all i (map f (map part ms)) (omega (arith, length-map (map part ms) f)) in
+    header_spelled k l bytes order form (spellings ms) header
+    ∙ ap (λ ss. node (written_header order form k (written_dimension (as_dimensions l.dimension))) [] ss)
+    (each_spelled f part ms same)

@@ -1,5 +1,6 @@
 -- What the views of coordinates and rings mean.
 use Rattle.std.specs.Prelude.{ℕ, ◌+◌, ◌*◌, List, take, drop}
+use Rattle.wkb_geom.specs.Spellings.{SpellsCoordinate, SpellsCoordinates}
 use Rattle.wkb_view.specs.Prelude.{Dimension, Endianness, Coordinate, width, coordinate, ring_in}
 use Rattle.wkb_view.specs.declared.coord.Coord.{Coord}
 use Rattle.wkb_view.specs.declared.linear_ring.LinearRing.{LinearRing}
@@ -42,3 +43,10 @@ ring_offset r i = 4 + 8 * width r.dimension * i
 -- the bytes of the coordinate at an index
 abbrev pub ring_coord_bytes : LinearRing → ℕ → List ℕ
 ring_coord_bytes r i = coordinate_encoding r.dimension (ring_offset r i) r.bytes.now
+
+-- the bytes of a coordinate spell its words, and those of a ring its coordinates
+abbrev pub CoordBytesSpell : Coord → Type 0
+CoordBytesSpell c = SpellsCoordinate c.order c.dimension (words_seen c) c.bytes.now
+
+abbrev pub RingBytesSpell : LinearRing → Type 0
+RingBytesSpell r = SpellsCoordinates r.order r.dimension (ring_seen r) r.bytes.now

@@ -1,12 +1,15 @@
 pub mod Coords
+pub mod Ends
 pub mod Entries
 pub mod Fitted
 pub mod Headers
+pub mod Lent
 pub mod Members
 pub mod Outcome
 pub mod Parts
 pub mod Passing
 pub mod Pieces
 pub mod Ranges
+pub mod Spelled
 pub mod Views
 pub mod Prelude

@@ -47,11 +47,15 @@ abbrev pub Stops : {A : Type 0} → Refusal → Reading A → Counts → Counts 
 Stops (refusals.Cause cause) reading old new = (reading.1 ≡ Err cause) × Spent old new reading.0
 Stops refusals.Memory reading old new = AtMost old new reading.0
 
+-- the result is the outcome of a reading, and its cost was counted, or the reader stopped
+abbrev pub CountsOrStops : {X Y : Type 0} → (X → Y × List ℕ) → Result X Refusal → Reading Y → Counts → Counts → Type 0
+CountsOrStops shown (Ok x) reading old new = (reading.1 ≡ Ok (shown x)) × Spent old new reading.0
+CountsOrStops shown (Err refusal) reading old new = Stops refusal reading old new
+
 -- the view and the bytes after it are those of a reading, whose cost was counted, or the reader stopped
 abbrev pub IsReadOrStops : {X Y : Type 0} → (X → Y) → Result (X × Bor (List ℕ)) Refusal → Reading Y → Counts → Counts
     → Type 0
-IsReadOrStops seen (Ok x) reading old new = (reading.1 ≡ Ok (seen_with_rest seen x)) × Spent old new reading.0
-IsReadOrStops seen (Err refusal) reading old new = Stops refusal reading old new
+IsReadOrStops seen result reading old new = CountsOrStops (seen_with_rest seen) result reading old new
 
 -- the bytes are refused: no allocation failed
 abbrev pub IsCause : Refusal → Type 0

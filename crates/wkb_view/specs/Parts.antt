@@ -1,21 +1,12 @@
 -- The parts of a value and of a spelling, as the calls of views return them.
 use Rattle.std.specs.Prelude.{ℕ, List, [], ◌∷◌, Option, slice_get}
-use Rattle.wkb_geom.specs.declared.common.Endianness.{Endianness}
 use Rattle.wkb_geom.specs.Values.{Coordinate, Value, Values, multi_point, collection, no_members, member}
-use Rattle.wkb_geom.specs.Spellings.{Spelling, node, Spellings, no_spellings, spelling, header, Spells}
-use Rattle.wkb_geom.specs.Reading.{Item}
+use Rattle.wkb_geom.specs.Spellings.{Spelling, node, Spellings, no_spellings, spelling}
 
 -- the members of a collection, as a list
 abbrev pub list_of_values : Values → List Value
 list_of_values no_members = []
 list_of_values (member v vs) = v ∷ list_of_values vs
-
--- the SRID and the order of the outermost geometry
-abbrev pub srid_of : Spelling → Option ℕ
-srid_of s = (header s).srid
-
-abbrev pub order_of : Spelling → Endianness
-order_of s = (header s).order
 
 -- the value is a collection
 abbrev pub IsCollection : Value → Type 0
@@ -35,10 +26,6 @@ members_spelled (node h words ss) = ss
 abbrev pub list_of_spellings : Spellings → List Spelling
 list_of_spellings no_spellings = []
 list_of_spellings (spelling s ss) = s ∷ list_of_spellings ss
-
--- the bytes of a geometry spell its value
-abbrev pub BytesSpell : Item → Type 0
-BytesSpell i = ∥ Spells i.spelled i.value i.encoding ∥₁
 
 -- the spelling of the member at an index
 abbrev pub spelling_at : Spelling → ℕ → Option Spelling

@@ -21,8 +21,7 @@ impl<'a> Coord<'a> {
     ghost use Rattle.std.specs.Prelude.{◌≡◌, ◌*◌, length};
     ghost use Rattle.wkb_view.specs.Prelude.{width, all_nan};
     ghost use Rattle.wkb_view.specs.Coords.{words_seen, coord_order, coord_dimension};
-    ghost use Rattle.wkb_view.specs.Coords.{coord_encoding};
-    ghost use Rattle.wkb_geom.specs.Spellings.{SpellsCoordinate};
+    ghost use Rattle.wkb_view.specs.Coords.{coord_encoding, CoordBytesSpell};
 
     /// The order of its numbers.
     #[inline]
@@ -36,9 +35,7 @@ impl<'a> Coord<'a> {
     #[inline]
     pub fn coord_slice(&self) -> &'a [u8]
         ensures encoding { result.now ≡ coord_encoding self.now }
-        ensures spells { SpellsCoordinate (coord_order self.now) (coord_dimension self.now)
-            (words_seen self.now)
-            (coord_encoding self.now) }
+        ensures spells { CoordBytesSpell self.now }
     {
         self.bytes
     }
@@ -60,7 +57,8 @@ impl<'a> Coord<'a> {
         self.bytes.len() as u64
     }
 
-    /// Whether all its words are not-a-numbers.
+    /// Whether all its words are not-a-numbers. Inlined, so that a view of which only this asks needs no memory.
+    #[inline(always)]
     pub(crate) fn is_all_nan(&self) -> bool
         ensures { result ≡ all_nan (words_seen self.now) }
     {

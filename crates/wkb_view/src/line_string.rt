@@ -7,6 +7,7 @@ ghost use Rattle.wkb_view.specs.Prelude.{BytesSpell};
 use crate::any::{
     AnyView, Line, MultiLineString, MultiPoint, MultiPolygon, Point, Polygon, Rect, Triangle,
 };
+use crate::as_written::AsWritten;
 use crate::coord::Coord;
 use crate::linear_ring::LinearRing;
 use crate::own_srid::OwnSrid;
@@ -160,6 +161,18 @@ impl OwnSrid for LineString<'_> {
     }
 }
 
+impl AsWritten for LineString<'_> {
+    ghost use Rattle.wkb_view.specs.Views.{line_string_seen};
+
+    ghost seen = { line_string_seen };
+
+    #[inline]
+    fn is_as_written(&self, order: Endianness, form: Form) -> bool {
+        let wkb_type = WkbType::LineString(self.layout.dimension);
+        self.layout.begins_as(wkb_type, self.buf, order, form)
+    }
+}
+
 impl Dimensioned for LineString<'_> {
     ghost use Rattle.wkb_view.specs.Prelude.{as_dimensions};
     ghost use Rattle.wkb_view.specs.Views.{line_string_layout};
@@ -259,12 +272,7 @@ impl<'a> GeometryTrait for LineString<'a> {
 
     #[inline]
     fn whole(&self, order: Endianness, form: Form) -> Option<&[u8]> {
-        let wkb_type = WkbType::LineString(self.layout.dimension);
-        if self.layout.begins_as(wkb_type, self.buf, order, form) {
-            Some(self.buf)
-        } else {
-            None
-        }
+        self.is_as_written(order, form).then_some(self.buf)
     }
 
     #[inline]

@@ -1,17 +1,16 @@
 //! A ring of a polygon.
 
-ghost use Rattle.std.specs.Prelude.{◌≡◌, length, IfOk};
+ghost use Rattle.std.specs.Prelude.{◌≡◌, length};
 ghost use Rattle.wkb_view.specs.Prelude.{ring_end, AreBytes, number};
-ghost use Rattle.wkb_view.specs.Pieces.{PassedRing};
-ghost use Rattle.wkb_view.specs.Passing.{PassesRing};
 
 use crate::any::{Line, MultiLineString, MultiPoint, MultiPolygon, Point, Polygon, Rect, Triangle};
 use crate::coord::Coord;
+use crate::ends::Parts;
 use crate::part::subslice;
 use wkb_geom::words::{COUNT_SIZE, WORD_SIZE, u32_at};
 use wkb_geom::{
     Cause, Dimension, Dimensioned, Dimensions, Endianness, Form, General, GeometryTrait,
-    GeometryType, LineStringTrait,
+    GeometryType, Layout, LineStringTrait,
 };
 
 /// A ring: a count and that many coordinates, in its polygon's order and dimension.
@@ -29,9 +28,8 @@ pub struct LinearRing<'a> {
 impl<'a> LinearRing<'a> {
     ghost use Rattle.std.specs.Prelude.{◌≡◌, length, ◌≤◌, drop};
     ghost use Rattle.wkb_view.specs.Coords.{ring_encoding, ring_order, ring_dimension, ring_seen};
-    ghost use Rattle.wkb_view.specs.Coords.{ring_offset};
+    ghost use Rattle.wkb_view.specs.Coords.{ring_offset, RingBytesSpell};
     ghost use Rattle.wkb_view.specs.Prelude.{AreBytes, ring_end};
-    ghost use Rattle.wkb_geom.specs.Spellings.{SpellsCoordinates};
 
     /// The number of its bytes: of its count and its coordinates.
     #[tactic(auto, using(crate::proofs::Items::ring_counted))]
@@ -65,9 +63,7 @@ impl<'a> LinearRing<'a> {
     #[inline]
     pub fn coords_slice(&self) -> &'a [u8]
         ensures encoding { result.now ≡ drop COUNT_SIZE (ring_encoding self.now) }
-        ensures spells { SpellsCoordinates (ring_order self.now) (ring_dimension self.now)
-            (ring_seen self.now)
-            (ring_encoding self.now) }
+        ensures spells { RingBytesSpell self.now }
         ensures bytes { AreBytes (ring_encoding self.now) }
     {
         &self.bytes[COUNT_SIZE..]
@@ -82,29 +78,35 @@ impl<'a> LinearRing<'a> {
     }
 }
 
-/// The bytes after the ring at the front of the bytes.
+/// The rings of a polygon.
+pub(crate) struct Rings;
+
 #[tactic(auto, unfolding(wkb_geom::specs::Reading::ring_at))]
-#[inline]
-pub(crate) fn pass_ring<'a>(
-    order: Endianness,
-    dimension: Dimension,
-    bytes: &'a [u8],
-) -> Result<&'a [u8], Cause>
-    ensures answer { PassesRing order dimension bytes.now result }
-    ensures passed { IfOk result (λ rest. PassedRing order dimension bytes.now rest.now) }
-{
-    if bytes.len() < COUNT_SIZE {
-        return Err(Cause::EndOfInput);
+impl Parts for Rings {
+    ghost use Rattle.wkb_geom.specs.declared.words.TheConstants.{COUNT_SIZE};
+    ghost use Rattle.wkb_view.specs.Ends.{ring_parts};
+
+    ghost MIN_SIZE = { COUNT_SIZE };
+
+    ghost parts = { ring_parts };
+
+    const MIN_SIZE: usize = COUNT_SIZE;
+
+    #[inline]
+    fn pass<'a>(layout: Layout, bytes: &'a [u8]) -> Result<&'a [u8], Cause> {
+        if bytes.len() < COUNT_SIZE {
+            return Err(Cause::EndOfInput);
+        }
+        let count = u32_at(bytes, 0, layout.order);
+        let end = COUNT_SIZE as u64 + (WORD_SIZE * layout.dimension.width()) as u64 * count as u64;
+        if (bytes.len() as u64) < end {
+            return Err(Cause::General(General::ShortLinearRing {
+                end,
+                len: bytes.len(),
+            }));
+        }
+        Ok(&bytes[end as usize..])
     }
-    let count = u32_at(bytes, 0, order);
-    let end = COUNT_SIZE as u64 + (WORD_SIZE * dimension.width()) as u64 * count as u64;
-    if (bytes.len() as u64) < end {
-        return Err(Cause::General(General::ShortLinearRing {
-            end,
-            len: bytes.len(),
-        }));
-    }
-    Ok(&bytes[end as usize..])
 }
 
 impl Dimensioned for LinearRing<'_> {

@@ -1,23 +1,18 @@
 //! A multi line string.
 
-ghost use Rattle.std.specs.Prelude.{◌≡◌, ◌+◌, length, ◌≤◌, IfOk, []};
-ghost use Rattle.wkb_view.specs.Prelude.{as_dimensions, body_start, consumed};
-ghost use Rattle.wkb_view.specs.Members.{members_behind, AreMembersOfKind, PassedMember};
-ghost use Rattle.wkb_view.specs.Outcome.{CanCount};
-ghost use Rattle.wkb_view.specs.Passing.{PassesMember, PassesLineStrings};
-ghost use Rattle.wkb_view.specs.Entries.{entries, capacity, HasSlots};
-ghost use Rattle.wkb_view.specs.Pieces.{IsAfterCount};
+ghost use Rattle.wkb_view.specs.Prelude.{as_dimensions};
 
 use crate::any::{
     AnyView, Line, LineString, MultiPoint, MultiPolygon, Point, Polygon, Rect, Triangle,
 };
+use crate::as_written::AsWritten;
 use crate::counts::Counts;
+use crate::ends::{Parts, read_ends};
 use crate::own_srid::OwnSrid;
 use crate::part::part_at;
-use crate::reserved::{Reserved, counted_list};
 use std::alloc::{AllocError, Global};
 use std::marker::Model;
-use wkb_geom::code::LINE_STRING;
+use wkb_geom::code::WkbType;
 use wkb_geom::header::MIN_MEMBER_SIZE;
 use wkb_geom::words::COUNT_SIZE;
 use wkb_geom::{
@@ -108,7 +103,7 @@ impl<'a> MultiLineString<'a> {
             &self.ends,
             i,
         )?;
-        let layout = Layout::of_known_member(LINE_STRING, self.layout.dimension, buf);
+        let layout = Layout::of_known_member(WkbType::LineString(self.layout.dimension), buf);
         Some(LineString::of_encoding(layout, buf))
     }
 
@@ -129,59 +124,40 @@ impl<'a> MultiLineString<'a> {
         ensures no_memory { (multi_line_string_at layout bytes.now).0.slots ≡ 0
             → IfErr result IsCause }
     {
-        let (count, ends) = counted_list(alloc, layout, bytes, MIN_MEMBER_SIZE, counts)?;
-        let (ends, rest) = pass_line_strings(layout, bytes, ends, count, counts)?;
+        let (ends, rest) = read_ends::<LineStrings>(alloc, layout, bytes, counts)?;
         let multi_line_string = MultiLineString {
             buf: &bytes[..bytes.len() - rest.len()],
             layout,
-            ends: ends.into_vec(),
+            ends,
         };
         Ok((multi_line_string, rest))
     }
 }
 
-/// Passes the line string of this dimension at the front of the bytes.
-fn pass_line_string<'a>(dimension: Dimension, bytes: &'a [u8]) -> Result<&'a [u8], Cause>
-    ensures answer { PassesMember LINE_STRING dimension bytes.now result }
-    ensures passed { IfOk result
-        (λ rest. PassedMember LINE_STRING dimension bytes.now rest.now) }
-{
-    let member = Layout::of_member(LINE_STRING, dimension, bytes)?;
-    // Built from its fields, so that it doesn't go through memory.
-    let layout = Layout {
-        order: member.order,
-        dimension,
-        has_srid: member.has_srid,
-    };
-    let (_, rest) = LineString::read(layout, bytes)?;
-    Ok(rest)
-}
+/// The line strings of a multi line string.
+struct LineStrings;
 
-/// Passes `count` line strings, and keeps the offsets at which they end.
-#[tactic(auto, using(crate::proofs::Lists::parts_length))]
-fn pass_line_strings<'a>(
-    layout: Layout,
-    bytes: &'a [u8],
-    mut ends: Reserved<usize>,
-    count: u32,
-    counts: &mut Counts,
-) -> Result<(Reserved<usize>, &'a [u8]), Cause>
-    requires whole { body_start layout.has_srid + COUNT_SIZE ≤ length bytes.now }
-    requires empty { entries ends ≡ [] }
-    requires room { HasSlots MIN_MEMBER_SIZE layout count bytes.now (capacity ends) }
-    requires fits { CanCount counts.old (members_behind LINE_STRING layout count bytes.now).0 }
-    ensures line_strings { PassesLineStrings layout count bytes.now result counts.old counts.new }
-    ensures ends { IfOk result
-        (λ x. AreMembersOfKind LINE_STRING layout (entries x.0) (consumed bytes.now x.1.now)) }
-    ensures shorter { IfOk result (λ x. IsAfterCount layout bytes.now x.1.now) }
-{
-    let mut rest = layout.after_count(bytes);
-    for _ in 0..count {
-        counts.turns += 1;
-        rest = pass_line_string(layout.dimension, rest)?;
-        ends.push(bytes.len() - rest.len());
+impl Parts for LineStrings {
+    ghost use Rattle.wkb_geom.specs.declared.header.TheConstants.{MIN_MEMBER_SIZE};
+    ghost use Rattle.wkb_view.specs.Ends.{line_string_parts};
+
+    ghost MIN_SIZE = { MIN_MEMBER_SIZE };
+
+    ghost parts = { line_string_parts };
+
+    const MIN_SIZE: usize = MIN_MEMBER_SIZE;
+
+    fn pass<'a>(layout: Layout, bytes: &'a [u8]) -> Result<&'a [u8], Cause> {
+        let member = Layout::of_member(WkbType::LineString(layout.dimension), bytes)?;
+        // Built from its fields, so that it doesn't go through memory.
+        let member = Layout {
+            order: member.order,
+            dimension: layout.dimension,
+            has_srid: member.has_srid,
+        };
+        let (_, rest) = LineString::read(member, bytes)?;
+        Ok(rest)
     }
-    Ok((ends, rest))
 }
 
 /// A copy with a list of its own.
@@ -205,6 +181,25 @@ impl OwnSrid for MultiLineString<'_> {
     #[inline]
     fn srid(&self) -> Option<u32> {
         self.layout.srid(self.buf)
+    }
+}
+
+impl AsWritten for MultiLineString<'_> {
+    ghost use Rattle.wkb_view.specs.Members.{multi_line_string_seen};
+
+    ghost seen = { multi_line_string_seen };
+
+    fn is_as_written(&self, order: Endianness, form: Form) -> bool {
+        let wkb_type = WkbType::MultiLineString(self.layout.dimension);
+        if !self.layout.begins_as(wkb_type, self.buf, order, form) {
+            return false;
+        }
+        for i in 0..self.num_members() {
+            if !self.member(i).unwrap().is_as_written(order, form.inner()) {
+                return false;
+            }
+        }
+        true
     }
 }
 
@@ -285,9 +280,8 @@ impl<'a> GeometryTrait for MultiLineString<'a> {
         GeometryType::MultiLineString(self)
     }
 
-    // The trait's default says the same, but the check would prove it again here, in some ten seconds.
     #[inline]
-    fn whole(&self, _order: Endianness, _form: Form) -> Option<&[u8]> {
-        None
+    fn whole(&self, order: Endianness, form: Form) -> Option<&[u8]> {
+        self.is_as_written(order, form).then_some(self.buf)
     }
 }

@@ -4,15 +4,16 @@ ghost use Rattle.std.specs.Prelude.{◌≡◌, ◌+◌, length, ◌≤◌, IfOk}
 ghost use Rattle.wkb_view.specs.Prelude.{AreBytes, body_start, consumed, multi_point_end, BytesSpell};
 ghost use Rattle.wkb_view.specs.Members.{members_behind, ArePoints, PassedMember, multi_point_item};
 ghost use Rattle.wkb_view.specs.Outcome.{CanCount};
-ghost use Rattle.wkb_view.specs.Passing.{PassesMember, PassesPoints};
+ghost use Rattle.wkb_view.specs.Passing.{PassesPoint, PassesPoints, IsAfterPoints};
 
 use crate::any::{
     AnyView, Line, LineString, MultiLineString, MultiPolygon, Point, Polygon, Rect, Triangle,
 };
+use crate::as_written::AsWritten;
 use crate::counts::Counts;
 use crate::own_srid::OwnSrid;
 use crate::part::subslice;
-use wkb_geom::code::POINT;
+use wkb_geom::code::{POINT, WkbType};
 use wkb_geom::header::{MEMBER_HEADER_SIZE, MIN_MEMBER_SIZE};
 use wkb_geom::words::{COUNT_SIZE, WORD_SIZE};
 use wkb_geom::{
@@ -110,11 +111,10 @@ impl<'a> MultiPoint<'a> {
 /// Passes the point of this dimension, without an SRID, at the front of the bytes.
 #[inline]
 fn pass_point<'a>(dimension: Dimension, bytes: &'a [u8]) -> Result<&'a [u8], Cause>
-    ensures answer { PassesMember POINT dimension bytes.now result }
-    ensures passed { IfOk result
-        (λ rest. PassedMember POINT dimension bytes.now rest.now) }
+    ensures answer { PassesPoint dimension bytes.now result }
+    ensures passed { IfOk result (λ rest. PassedMember POINT dimension bytes.now rest.now) }
 {
-    let member = Layout::of_member(POINT, dimension, bytes)?;
+    let member = Layout::of_member(WkbType::Point(dimension), bytes)?;
     // Built from what is known, so that it doesn't go through memory.
     let layout = Layout {
         order: member.order,
@@ -136,9 +136,7 @@ fn pass_points<'a>(
     requires fits { CanCount counts.old (members_behind POINT layout count bytes.now).0 }
     ensures points { PassesPoints layout count bytes.now result counts.old counts.new }
     ensures each { IfOk result (λ rest. ArePoints layout count (consumed bytes.now rest.now)) }
-    ensures end { IfOk result
-        (λ rest. multi_point_end layout.dimension layout.has_srid count + length rest.now
-        ≡ length bytes.now) }
+    ensures end { IfOk result (λ rest. IsAfterPoints layout count bytes.now rest.now) }
 {
     let mut rest = layout.after_count(bytes);
     for _ in 0..count {
@@ -156,6 +154,25 @@ impl OwnSrid for MultiPoint<'_> {
     #[inline]
     fn srid(&self) -> Option<u32> {
         self.layout.srid(self.buf)
+    }
+}
+
+impl AsWritten for MultiPoint<'_> {
+    ghost use Rattle.wkb_view.specs.Views.{multi_point_seen};
+
+    ghost seen = { multi_point_seen };
+
+    fn is_as_written(&self, order: Endianness, form: Form) -> bool {
+        let wkb_type = WkbType::MultiPoint(self.layout.dimension);
+        if !self.layout.begins_as(wkb_type, self.buf, order, form) {
+            return false;
+        }
+        for i in 0..self.num_points() {
+            if !self.point(i).unwrap().is_as_written(order, form.inner()) {
+                return false;
+            }
+        }
+        true
     }
 }
 
@@ -209,7 +226,7 @@ impl<'a> MultiPointTrait for MultiPoint<'a> {
         let start = self.point_offset(i as u64) as usize;
         let member = MEMBER_HEADER_SIZE + WORD_SIZE * self.layout.dimension.width();
         let buf = subslice(self.buf, start, member);
-        let layout = Layout::of_known_member(POINT, self.layout.dimension, buf);
+        let layout = Layout::of_known_member(WkbType::Point(self.layout.dimension), buf);
         Some(Point::of_encoding(layout, buf))
     }
 }
@@ -254,9 +271,8 @@ impl<'a> GeometryTrait for MultiPoint<'a> {
         GeometryType::MultiPoint(self)
     }
 
-    // The trait's default says the same, but the check would prove it again here, in some ten seconds.
     #[inline]
-    fn whole(&self, _order: Endianness, _form: Form) -> Option<&[u8]> {
-        None
+    fn whole(&self, order: Endianness, form: Form) -> Option<&[u8]> {
+        self.is_as_written(order, form).then_some(self.buf)
     }
 }

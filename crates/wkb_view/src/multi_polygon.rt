@@ -11,12 +11,13 @@ ghost use Rattle.wkb_view.specs.Entries.{entries, capacity, HasSlots};
 use crate::any::{
     AnyView, Line, LineString, MultiLineString, MultiPoint, Point, Polygon, Rect, Triangle,
 };
+use crate::as_written::AsWritten;
 use crate::counts::Counts;
 use crate::own_srid::OwnSrid;
 use crate::reserved::{Reserved, counted_list};
 use std::alloc::{AllocError, Global};
 use std::marker::Model;
-use wkb_geom::code::POLYGON;
+use wkb_geom::code::{POLYGON, WkbType};
 use wkb_geom::header::MIN_MEMBER_SIZE;
 use wkb_geom::words::COUNT_SIZE;
 use wkb_geom::{
@@ -124,7 +125,7 @@ fn read_member<'a>(
     ensures shorter { IfOk result (λ x. length x.1.now + MIN_MEMBER_SIZE ≤ length bytes.now) }
     ensures no_memory { (member_at POLYGON dimension bytes.now).0.slots ≡ 0 → IfErr result IsCause }
 {
-    let layout = Layout::of_member(POLYGON, dimension, bytes)?;
+    let layout = Layout::of_member(WkbType::Polygon(dimension), bytes)?;
     Polygon::read(alloc, layout, bytes, counts)
 }
 
@@ -181,6 +182,25 @@ impl OwnSrid for MultiPolygon<'_> {
     #[inline]
     fn srid(&self) -> Option<u32> {
         self.layout.srid(self.buf)
+    }
+}
+
+impl AsWritten for MultiPolygon<'_> {
+    ghost use Rattle.wkb_view.specs.Members.{multi_polygon_seen};
+
+    ghost seen = { multi_polygon_seen };
+
+    fn is_as_written(&self, order: Endianness, form: Form) -> bool {
+        let wkb_type = WkbType::MultiPolygon(self.layout.dimension);
+        if !self.layout.begins_as(wkb_type, self.buf, order, form) {
+            return false;
+        }
+        for i in 0..self.num_polygons() {
+            if !self.polygon(i).unwrap().is_as_written(order, form.inner()) {
+                return false;
+            }
+        }
+        true
     }
 }
 
@@ -259,9 +279,8 @@ impl<'a> GeometryTrait for MultiPolygon<'a> {
         GeometryType::MultiPolygon(self)
     }
 
-    // The trait's default says the same, but the check would prove it again here, in some ten seconds.
     #[inline]
-    fn whole(&self, _order: Endianness, _form: Form) -> Option<&[u8]> {
-        None
+    fn whole(&self, order: Endianness, form: Form) -> Option<&[u8]> {
+        self.is_as_written(order, form).then_some(self.buf)
     }
 }

@@ -6,6 +6,7 @@ ghost use Rattle.wkb_view.specs.Prelude.{point_end, AreBytes, point_item, BytesS
 use crate::any::{
     AnyView, Line, LineString, MultiLineString, MultiPoint, MultiPolygon, Polygon, Rect, Triangle,
 };
+use crate::as_written::AsWritten;
 use crate::coord::Coord;
 use crate::own_srid::OwnSrid;
 use crate::part::subslice;
@@ -155,6 +156,18 @@ impl OwnSrid for Point<'_> {
     }
 }
 
+impl AsWritten for Point<'_> {
+    ghost use Rattle.wkb_view.specs.Views.{point_seen};
+
+    ghost seen = { point_seen };
+
+    #[inline]
+    fn is_as_written(&self, order: Endianness, form: Form) -> bool {
+        let wkb_type = WkbType::Point(self.layout.dimension);
+        self.layout.begins_as(wkb_type, self.buf, order, form) && !self.words().is_all_nan()
+    }
+}
+
 impl Dimensioned for Point<'_> {
     ghost use Rattle.wkb_view.specs.Prelude.{as_dimensions};
     ghost use Rattle.wkb_view.specs.Views.{point_layout};
@@ -231,12 +244,7 @@ impl<'a> GeometryTrait for Point<'a> {
 
     #[inline]
     fn whole(&self, order: Endianness, form: Form) -> Option<&[u8]> {
-        let wkb_type = WkbType::Point(self.layout.dimension);
-        if !self.layout.begins_as(wkb_type, self.buf, order, form) {
-            return None;
-        }
-        let is_empty = self.words().is_all_nan();
-        if is_empty { None } else { Some(self.buf) }
+        self.is_as_written(order, form).then_some(self.buf)
     }
 
     #[inline]

@@ -1,29 +1,24 @@
 //! A polygon.
 
-ghost use Rattle.std.specs.Prelude.{◌≡◌, ◌+◌, length, ◌≤◌, IfOk, []};
-ghost use Rattle.wkb_view.specs.Prelude.{as_dimensions, body_start, ring_part, consumed};
-ghost use Rattle.wkb_view.specs.Members.{parts_behind, AreRings};
-ghost use Rattle.wkb_view.specs.Outcome.{CanCount};
-ghost use Rattle.wkb_view.specs.Passing.{PassesRings};
-ghost use Rattle.wkb_view.specs.Pieces.{IsAfterCount};
-ghost use Rattle.wkb_view.specs.Entries.{entries, capacity, HasSlots};
+ghost use Rattle.wkb_view.specs.Prelude.{as_dimensions};
 
 use crate::any::{
     AnyView, Line, LineString, MultiLineString, MultiPoint, MultiPolygon, Point, Rect, Triangle,
 };
+use crate::as_written::AsWritten;
 use crate::counts::Counts;
-use crate::linear_ring::{LinearRing, pass_ring};
+use crate::ends::read_ends;
+use crate::linear_ring::{LinearRing, Rings};
 use crate::own_srid::OwnSrid;
 use crate::part::part_at;
-use crate::reserved::{Reserved, counted_list};
 use std::alloc::{AllocError, Global};
 use std::marker::Model;
 use wkb_geom::code::WkbType;
 use wkb_geom::header::MIN_MEMBER_SIZE;
 use wkb_geom::words::{COUNT_SIZE, u32_at};
 use wkb_geom::{
-    Cause, Dimension, Dimensioned, Dimensions, Endianness, Form, GeometryTrait, GeometryType,
-    Layout, PolygonTrait, Refusal,
+    Dimension, Dimensioned, Dimensions, Endianness, Form, GeometryTrait, GeometryType, Layout,
+    PolygonTrait, Refusal,
 };
 
 /// A polygon: its rings by the offsets at which they end.
@@ -130,40 +125,14 @@ impl<'a> Polygon<'a> {
         ensures shorter { IfOk result (λ x. length x.1.now + MIN_MEMBER_SIZE ≤ length bytes.now) }
         ensures no_memory { (polygon_at layout bytes.now).0.slots ≡ 0 → IfErr result IsCause }
     {
-        let (count, ends) = counted_list(alloc, layout, bytes, COUNT_SIZE, counts)?;
-        let (ends, rest) = pass_rings(layout, bytes, ends, count, counts)?;
+        let (ends, rest) = read_ends::<Rings>(alloc, layout, bytes, counts)?;
         let polygon = Polygon {
             buf: &bytes[..bytes.len() - rest.len()],
             layout,
-            ends: ends.into_vec(),
+            ends,
         };
         Ok((polygon, rest))
     }
-}
-
-/// Passes `count` rings, and keeps the offsets at which they end.
-fn pass_rings<'a>(
-    layout: Layout,
-    bytes: &'a [u8],
-    mut ends: Reserved<usize>,
-    count: u32,
-    counts: &mut Counts,
-) -> Result<(Reserved<usize>, &'a [u8]), Cause>
-    requires whole { body_start layout.has_srid + COUNT_SIZE ≤ length bytes.now }
-    requires empty { entries ends ≡ [] }
-    requires room { HasSlots COUNT_SIZE layout count bytes.now (capacity ends) }
-    requires fits { CanCount counts.old (parts_behind (ring_part layout) layout count bytes.now).0 }
-    ensures rings { PassesRings layout count bytes.now result counts.old counts.new }
-    ensures ends { IfOk result (λ x. AreRings layout (entries x.0) (consumed bytes.now x.1.now)) }
-    ensures shorter { IfOk result (λ x. IsAfterCount layout bytes.now x.1.now) }
-{
-    let mut rest = layout.after_count(bytes);
-    for _ in 0..count {
-        counts.turns += 1;
-        rest = pass_ring(layout.order, layout.dimension, rest)?;
-        ends.push(bytes.len() - rest.len());
-    }
-    Ok((ends, rest))
 }
 
 /// A copy with a list of its own.
@@ -187,6 +156,18 @@ impl OwnSrid for Polygon<'_> {
     #[inline]
     fn srid(&self) -> Option<u32> {
         self.layout.srid(self.buf)
+    }
+}
+
+impl AsWritten for Polygon<'_> {
+    ghost use Rattle.wkb_view.specs.Members.{polygon_seen};
+
+    ghost seen = { polygon_seen };
+
+    #[inline]
+    fn is_as_written(&self, order: Endianness, form: Form) -> bool {
+        let wkb_type = WkbType::Polygon(self.layout.dimension);
+        self.layout.begins_as(wkb_type, self.buf, order, form)
     }
 }
 
@@ -275,12 +256,7 @@ impl<'a> GeometryTrait for Polygon<'a> {
 
     #[inline]
     fn whole(&self, order: Endianness, form: Form) -> Option<&[u8]> {
-        let wkb_type = WkbType::Polygon(self.layout.dimension);
-        if self.layout.begins_as(wkb_type, self.buf, order, form) {
-            Some(self.buf)
-        } else {
-            None
-        }
+        self.is_as_written(order, form).then_some(self.buf)
     }
 
     #[inline]

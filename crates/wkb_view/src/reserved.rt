@@ -73,6 +73,7 @@ pub fn counted_list<T>(
 {
     let count = layout.count(bytes)?;
     let remaining = bytes.len() - (layout.header_length() + COUNT_SIZE);
+    // A count may claim anything, and no later push may fail (docs/DECISIONS.md, D4).
     let capacity = bounded_capacity(count, remaining, least);
     counts.slots += capacity as u128;
     let items = Vec::with_capacity(alloc, capacity)?;

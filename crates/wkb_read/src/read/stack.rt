@@ -1,9 +1,9 @@
-//! Reading the members of collections, with an explicit stack of open ones.
+//! Reading the members of collections, with an explicit stack of open ones (docs/DECISIONS.md, D3).
 
 ghost use Rattle.wkb_geom.specs.declared.code.WkbType.TheVariants as kinds;
 ghost use Rattle.std.specs.Prelude.{◌≡◌, ◌++◌, ◌∷◌, [], ◌+◌, ◌<◌, ◌^◌, length, reverse};
 ghost use Rattle.std.specs.Prelude.{IfOk, IfErr};
-ghost use Rattle.wkb_read.specs.Prelude.{body_start, HasHead, CanCount};
+ghost use Rattle.wkb_read.specs.Prelude.{max_nesting, body_start, HasHead, CanCount};
 ghost use Rattle.wkb_read.specs.Memory.{NeedsNone};
 ghost use Rattle.wkb_read.specs.Stack.{collection_inside, outward, first_member, cost_of, next_turn};
 ghost use Rattle.wkb_read.specs.Stack.{IsOpen, AreOpen, IsFinished, BeginsAs, Settles, ReadsAs};
@@ -45,6 +45,7 @@ pub(crate) fn begin_collection<'a>(
 ) -> Result<Begun<'a>, Refusal>
     requires head { HasHead (λ d. kinds.GeometryCollection d) layout bytes.now }
     requires fits { CanCount counts.old (collection_inside layout depth bytes.now).0 }
+    ensures shallow { IfOk result (λ begun. depth < max_nesting) }
     ensures begins { BeginsAs (collection_inside layout) depth bytes.now result counts.old counts.new }
     ensures no_memory { length bytes.now < body_start layout.has_srid + 4 → NeedsNone result }
 {

@@ -1,28 +1,34 @@
 use Rattle.std.specs.List.{AllByRecursion}
 use Rattle.std.proofs.Common.{◌≡◌, subst, sym, ◌-◌, length, length-take, arith}
 use Rattle.std.proofs.lemmas.Result.{err_from_is_err_and}
-use Rattle.wkb_view.proofs.Lists.{parts_length, polygons_here, list_fits, list_costs, list_reads, list_stops}
+use Rattle.wkb_view.specs.Prelude.{member_at, list_item, multi_polygon_with, multi_polygon_at}
+use Rattle.wkb_view.proofs.Lists.{IsList, parts_length, polygons_here, list_fits, list_costs, list_reads, list_stops}
 use Rattle.wkb_view.proofs.Lists.{polygons_within, polygons_refused}
 use Rattle.wkb_view.proofs.SpelledRead.{body_spelled}
 use Rattle.wkb_view.proofs.multi_polygon.MultiPolygon.read.Goals as goal
+use Rattle.wkb_view.proofs.multi_polygon.MultiPolygon.read.Goals.{In_ok-count}
+
+-- the list that was asked for
+here : (c : In_ok-count)
+    → IsList 6 c.args.layout (member_at 3 c.args.layout.dimension) (list_item c.args.layout multi_polygon_with)
+    c.args.bytes.now c.in_ok-count.count c.args.counts.now c.counted_list.new.counts
+    (multi_polygon_at c.args.layout c.args.bytes.now)
+here c =
+    polygons_here c.args.layout c.args.bytes.now c.in_ok-count.count c.args.counts.now c.counted_list.new.counts
+    c.in_ok-count.ensures.whole c.in_ok-count.ensures.count c.counted_list.ensures.turns c.counted_list.ensures.slots
 
 pub returns-clause-answer : goal.returns-clause-answer
 returns-clause-answer c =
     let e = c.in_ok-members.ensures.polygons in
-    rw c.into_vec.ensures (list_reads _ _ _
-    (polygons_here c.args.layout c.args.bytes.now _ c.args.counts.now c.counted_list.new.counts
-    c.in_ok-count.ensures.whole c.in_ok-count.ensures.count
-    c.counted_list.ensures.turns c.counted_list.ensures.slots) e.0 e.1)
+    rw c.into_vec.ensures (list_reads _ _ _ (here (goal.at.returns-clause-answer c).In_ok-count) e.0 e.1)
 
 pub invariant_of-multi_polygon : goal.invariant_of-multi_polygon
 invariant_of-multi_polygon c =
     let l = c.args.layout in
     let bytes = c.args.bytes.now in
     let e = c.in_ok-members.ensures in
-    let read = list_reads _ _ _
-    (polygons_here l bytes _ c.args.counts.now c.counted_list.new.counts c.in_ok-count.ensures.whole
-    c.in_ok-count.ensures.count
-    c.counted_list.ensures.turns c.counted_list.ensures.slots) e.polygons.0 e.polygons.1 in (
+    let read =
+    list_reads _ _ _ (here (goal.at.invariant_of-multi_polygon c).In_ok-count) e.polygons.0 e.polygons.1 in (
       omega (
         arith,
         e.shorter,
@@ -41,18 +47,13 @@ read_members-requires-clause-room c =
 
 pub read_members-requires-clause-fits : goal.read_members-requires-clause-fits
 read_members-requires-clause-fits c =
-    list_fits
-    (polygons_here c.args.layout c.args.bytes.now _ c.args.counts.now c.counted_list.new.counts
-    c.in_ok-count.ensures.whole c.in_ok-count.ensures.count
-    c.counted_list.ensures.turns c.counted_list.ensures.slots) c.requires.fits
+    list_fits (here (goal.at.read_members-requires-clause-fits c).In_ok-count) c.requires.fits
 
 pub returns-in_err-members-clause-answer : goal.returns-in_err-members-clause-answer
 returns-in_err-members-clause-answer c =
     let p = err_from_is_err_and c.from_residual-in_err-members.result c.from_residual-in_err-members.ensures.1 in
     rw (p.1, p.2) (list_stops c.in_err-members.field-0.0 _
-    (polygons_here c.args.layout c.args.bytes.now _ c.args.counts.now c.counted_list.new.counts
-    c.in_ok-count.ensures.whole c.in_ok-count.ensures.count
-    c.counted_list.ensures.turns c.counted_list.ensures.slots) c.in_err-members.ensures.polygons)
+    (here (goal.at.returns-in_err-members-clause-answer c).In_ok-count) c.in_err-members.ensures.polygons)
 
 pub counted_list-requires-clause-fits : goal.counted_list-requires-clause-fits
 counted_list-requires-clause-fits c =
@@ -92,9 +93,5 @@ returns-clause-shorter c =
 pub returns-in_err-members-clause-no_memory : goal.returns-in_err-members-clause-no_memory
 returns-in_err-members-clause-no_memory c = λ none.
     let p = err_from_is_err_and c.from_residual-in_err-members.result c.from_residual-in_err-members.ensures.1 in
-    let costs =
-    list_costs
-    (polygons_here c.args.layout c.args.bytes.now _ c.args.counts.now c.counted_list.new.counts
-    c.in_ok-count.ensures.whole c.in_ok-count.ensures.count
-    c.counted_list.ensures.turns c.counted_list.ensures.slots) in
+    let costs = list_costs (here (goal.at.returns-in_err-members-clause-no_memory c).In_ok-count) in
     rw (p.1, p.2) (c.in_err-members.ensures.no_memory (omega (arith, none, costs)))

@@ -1,18 +1,17 @@
-use Rattle.std.proofs.Common.{◌≡◌, false, refl, sym, ap, ◌∙◌}
-use Rattle.wkb_geom.specs.Reading.{point_words_in}
-use Rattle.wkb_view.specs.Prelude.{all_nan}
-use Rattle.wkb_view.proofs.Whole.{HasWrittenHeader, named_dimension, point_whole}
+use Rattle.std.proofs.Common.{subst}
+use Rattle.wkb_geom.specs.Geometries.{geometry_of}
+use Rattle.wkb_view.specs.Views.{point_seen, point_value}
+use Rattle.wkb_view.proofs.Items.{point_encoding_is}
+use Rattle.wkb_view.proofs.Whole.{IsWhole, is_whole, lends}
 use Rattle.wkb_view.proofs.point.PointGeometryTrait.whole.Goals as goal
 
-pub returns-else-is_empty-clause-encoding : goal.returns-else-is_empty-clause-encoding
-returns-else-is_empty-clause-encoding c =
+pub returns : goal.returns
+returns c =
     let p = c.args.self.now in
-    let is = c.if-not-begins_as.ensures in
-    let header : HasWrittenHeader 1 p.layout p.buf.now c.args.order c.args.form =
-    record { order_is = is.order refl; plain = is.plain refl; form_is = is.form refl; code = is.code refl } in
-    let known : all_nan (point_words_in p.layout p.buf.now) ≡ false =
-    ap all_nan (sym c.words.ensures.words) ∙ sym c.is_all_nan-is_empty.ensures ∙ c.if-is_empty.false in
-    (point_whole p.layout p.buf.now c.args.order c.args.form p.in_range p.spells header known).encoding
-
-pub returns-else-is_empty-clause-writable : goal.returns-else-is_empty-clause-writable
-returns-else-is_empty-clause-writable c = named_dimension _
+    let encoding = point_encoding_is p.layout p.buf.now in
+    let whole = is_whole c.args.order c.args.form (point_seen p) p.spells in
+    let lent =
+    lends c.is_as_written.result p.buf
+    (λ test. subst (λ T. T) (λ i. IsWhole (encoding i) c.args.order c.args.form (geometry_of (point_value p i)))
+    (whole (c.is_as_written.ensures test))) in
+    rw c.then_some.ensures (record { encoding = lent.encoding; writable = lent.writable })

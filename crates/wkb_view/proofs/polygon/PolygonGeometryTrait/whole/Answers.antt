@@ -1,17 +1,12 @@
-use Rattle.std.proofs.Common.{refl, map}
-use Rattle.wkb_view.specs.Prelude.{ring_in}
-use Rattle.wkb_view.specs.Members.{pieces_behind}
-use Rattle.wkb_view.proofs.Whole.{HasWrittenHeader, polygon_whole}
+use Rattle.wkb_view.specs.Members.{polygon_seen, polygon_laid}
+use Rattle.wkb_view.proofs.Whole.{is_whole_fitted, lends}
 use Rattle.wkb_view.proofs.polygon.PolygonGeometryTrait.whole.Goals as goal
 
-pub returns-then-begins_as : goal.returns-then-begins_as
-returns-then-begins_as c =
+pub returns : goal.returns
+returns c =
     let p = c.self.inside in
-    let is = c.if-begins_as.ensures in
-    let header : HasWrittenHeader 3 p.layout p.buf.now c.args.order c.args.form =
-    record { order_is = is.order refl; plain = is.plain refl; form_is = is.form refl; code = is.code refl } in
-    let rings = map (ring_in p.layout.order p.layout.dimension) (pieces_behind p.layout p.ends.items p.buf.now) in
-    let whole =
-    polygon_whole p.layout p.buf.now c.args.order c.args.form c.if-begins_as.ensures.bytes rings c.self.invariant.2
-    header in
-    rw (← c.self.view_is) (record { encoding = whole.encoding; writable = whole.writable })
+    let seen = polygon_seen (polygon_laid p.layout p.ends.items p.buf.now) in
+    let whole = is_whole_fitted c.args.order c.args.form seen c.self.invariant.2 in
+    let spelled = rw (← c.self.view_is) at c.is_as_written.ensures in
+    let lent = lends c.is_as_written.result p.buf (λ test. whole (spelled test)) in
+    rw (← c.self.view_is, c.then_some.ensures) (record { encoding = lent.encoding; writable = lent.writable })

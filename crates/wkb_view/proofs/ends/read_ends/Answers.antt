@@ -1,0 +1,62 @@
+use Rattle.std.proofs.Common.{ℕ, List, ◌-◌, ◌+◌, ◌≤◌, ◌∙◌, ap, length, sym, arith}
+use Rattle.std.proofs.lemmas.Result.{err_from_is_err_and}
+use Rattle.wkb_view.specs.Prelude.{Layout, body_start, count_in, slots_asked}
+use Rattle.wkb_view.specs.Prelude.refusals
+use Rattle.wkb_view.specs.Ends.{PartsOf, whole_at}
+use Rattle.wkb_view.specs.Entries.{entries_asked}
+use Rattle.wkb_view.proofs.Lists.{IsList, list_here, list_fits, list_reads, list_stops, entries_within}
+use Rattle.wkb_view.proofs.Lists.{parts_length}
+use Rattle.wkb_view.proofs.ends.read_ends.Given.{Over}
+use Rattle.wkb_view.proofs.ends.read_ends.Goals as goal
+use Rattle.wkb_view.proofs.ends.read_ends.Goals.{In_ok-count}
+
+-- the list that was asked for
+here : (g : Over) (c : In_ok-count g)
+    → let parts = g.P.Parts.parts c.args.layout in
+    IsList parts.kind c.args.layout parts.reading parts.whole c.args.bytes.now c.in_ok-count.count c.args.counts.now
+    c.counted_list.new.counts (whole_at g.P.Parts.parts c.args.layout c.args.bytes.now)
+here g c =
+    let l = c.args.layout in
+    let bytes = c.args.bytes.now in
+    let parts = g.P.Parts.parts l in
+    list_here l bytes c.in_ok-count.count c.args.counts.now c.counted_list.new.counts c.in_ok-count.ensures.whole
+    c.in_ok-count.ensures.count c.counted_list.ensures.turns parts.kind _ _
+    (rw c.MIN_SIZE.ensures at c.counted_list.ensures.slots
+    ∙ ap (λ (n : ℕ). c.args.counts.now.slots + n)
+    (sym (parts.slots (count_in l bytes) (length bytes - (body_start l.has_srid + 4)))))
+
+-- its entries are among those of the whole
+within : {least : ℕ} (parts : Layout → PartsOf least) (l : Layout) (bytes : List ℕ)
+    → entries_asked least l bytes ≤ (whole_at parts l bytes).0.slots
+within parts l bytes =
+    let n = count_in l bytes in
+    entries_within _ l bytes _ (omega (
+      arith,
+      sym ((parts l).slots n _) ∙ ap (slots_asked (parts l).kind n) (sym (parts_length l.has_srid bytes)),
+    ))
+
+pub returns-in_err-count-clause-no_memory : goal.returns-in_err-count-clause-no_memory
+returns-in_err-count-clause-no_memory g c = λ none.
+    let stopped = err_from_is_err_and c.from_residual.result c.from_residual.ensures.1 in
+    rw (stopped.1, stopped.2) (rw c.MIN_SIZE.ensures at c.in_err-count.ensures.no_memory
+    (omega (arith, none, within g.P.Parts.parts c.args.layout c.args.bytes.now)))
+
+pub pass_parts-requires-clause-room : goal.pass_parts-requires-clause-room
+pass_parts-requires-clause-room g c =
+    rw (parts_length c.args.layout.has_srid c.args.bytes.now, ← c.MIN_SIZE.ensures)
+    (omega (arith, c.in_ok-count.ensures.room, c.in_ok-count.ensures.count))
+
+pub pass_parts-requires-clause-fits : goal.pass_parts-requires-clause-fits
+pass_parts-requires-clause-fits g c =
+    list_fits (here g (goal.at.pass_parts-requires-clause-fits g c).In_ok-count) c.requires.fits
+
+pub returns-in_err-ends-clause-answer : goal.returns-in_err-ends-clause-answer
+returns-in_err-ends-clause-answer g c =
+    let p = err_from_is_err_and c.from_residual-in_err-ends.result c.from_residual-in_err-ends.ensures.1 in
+    rw (p.1, p.2) (list_stops (refusals.Cause c.in_err-ends.field-0.0) _
+    (here g (goal.at.returns-in_err-ends-clause-answer g c).In_ok-count) c.in_err-ends.ensures.answer)
+
+pub returns-clause-answer : goal.returns-clause-answer
+returns-clause-answer g c =
+    let e = c.in_ok-ends.ensures.answer in
+    rw c.into_vec.ensures (list_reads _ _ _ (here g (goal.at.returns-clause-answer g c).In_ok-count) e.0 e.1)

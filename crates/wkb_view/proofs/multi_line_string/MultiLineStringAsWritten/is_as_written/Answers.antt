@@ -1,0 +1,35 @@
+use Rattle.std.proofs.Common.{refl, ap, arith, map, length, ◌≤◌}
+use Rattle.wkb_geom.specs.Values.{line_string}
+use Rattle.wkb_view.specs.Prelude.{line_string_of}
+use Rattle.wkb_view.specs.Members.{members_in}
+use Rattle.wkb_view.specs.Views.{line_string_coordinates}
+use Rattle.wkb_view.proofs.Whole.{HasWrittenHeader, one_more_written, all_written}
+use Rattle.wkb_view.proofs.multi_line_string.MultiLineStringAsWritten.is_as_written.Goals as goal
+
+pub loop-i-preserved : goal.loop-i-preserved
+loop-i-preserved c =
+    let l = c.unwrap.result in
+    let is = rw c.inner.ensures at c.if-not-is_as_written.ensures refl in
+    let dimension = rw c.unwrap.ensures at c.member.ensures.dimension in
+    record {
+      so_far =
+          one_more_written c.loop-i.invariant.so_far is (ap (λ d. line_string d (line_string_coordinates l)) dimension)
+          (rw c.unwrap.ensures at c.member.ensures.spelled) (rw c.unwrap.ensures at c.member.ensures.value);
+    }
+
+pub returns : goal.returns
+returns c =
+    let m = c.self.inside in
+    let is = c.if-not-begins_as.ensures in
+    let header : HasWrittenHeader 5 m.layout m.buf.now c.args.order c.args.form =
+    record { order_is = is.order refl; plain = is.plain refl; form_is = is.form refl; code = is.code refl } in
+    let members = members_in 2 m.layout m.ends.items m.buf.now in
+    let counted = rw (← c.self.view_is) at c.num_members-i-end.ensures in
+    let all : length (map (λ i. line_string_of i.value) members) ≤ c.loop-i.i =
+    omega (arith, counted, c.loop-i-test.false) in
+    let so_far = rw (← c.self.view_is) at c.loop-i.invariant.so_far in
+    rw (← c.self.view_is) (λ _. record {
+      bytes = is.bytes;
+      no_srid = is.form refl;
+      same = all_written (λ i. line_string_of i.value) members header all so_far;
+    })

@@ -1,0 +1,10 @@
+use Rattle.wkb_view.specs.Views.{multi_point_seen}
+use Rattle.wkb_view.proofs.Whole.{is_whole, lends}
+use Rattle.wkb_view.proofs.multi_point.MultiPointGeometryTrait.whole.Goals as goal
+
+pub returns : goal.returns
+returns c =
+    let m = c.args.self.now in
+    let whole = is_whole c.args.order c.args.form (multi_point_seen m) m.spells in
+    let lent = lends c.is_as_written.result m.buf (λ test. whole (c.is_as_written.ensures test)) in
+    rw c.then_some.ensures (record { encoding = lent.encoding; writable = lent.writable })
