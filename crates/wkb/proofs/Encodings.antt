@@ -29,7 +29,7 @@ use Rattle.wkb_read.specs.Reads.{IsFront, IsRefusal, CanBeWritten}
 use Rattle.wkb_read.specs.Seen.{geometry_seen}
 use Rattle.wkb_write.specs.Answers.{encoding_of, IsVecError}
 use Rattle.wkb_sink.specs.declared.options.WriteOptions.{WriteOptions}
-use Rattle.wkb.specs.Canonical.{IsSize, IsAccepted, OverflowsWithSrid, IsRewritingUnder, IsRefusedUnder, HaveOneValue}
+use Rattle.wkb.specs.Canonical.{IsSize, OverflowsWithSrid, IsRewritingUnder, IsRefusedUnder, HaveOneValue}
 use Rattle.wkb.specs.Canonical.{HaveTwoValues}
 
 -- a length that is a fault
@@ -75,18 +75,24 @@ refused_size order form g e writable h =
     let large = too_large (length (encoding order form g)) h.fault size in
     (fits (length (encoding order Iso g)) (none_rest (fault g) iso writable), large.0, size_error e h.fault large.1 h.told)
 
+-- the encoding of a geometry that was read is a rewriting of the input
+is_rewriting : (order : Endianness) (form : Form) (buf : List ℕ) (w : Item) → IsFront buf w
+    → geometry_seen w ≡ geometry_of w.value → IsRewriting order form buf (encoding order form (geometry_seen w))
+is_rewriting order form buf w front seen = record {
+  s = w.spelled;
+  t = w.value;
+  rest = front.rest;
+  front = front.front;
+  written = ap (encoding order form) seen;
+}
+
 -- what is written of a geometry that was read, and means its value, is a rewriting of the input
 pub rewritten : (options : WriteOptions) (buf : List ℕ) (w : Item) (r : Result (Vec ℕ Global) WkbError) → IsFront buf w
     → geometry_seen w ≡ geometry_of w.value
     → IfOk r (λ out. out.items ≡ encoding_of options (geometry_seen w))
     → IfOk r (λ out. IsRewritingUnder options buf out.items)
-rewritten options buf w (Ok out) front seen is = record {
-  s = w.spelled;
-  t = w.value;
-  rest = front.rest;
-  front = front.front;
-  written = is ∙ ap (encoding_of options) seen;
-}
+rewritten options buf w (Ok out) front seen is =
+    subst (IsRewritingUnder options buf) (sym is) (is_rewriting options.endianness options.form buf w front seen)
 rewritten options buf w (Err e) front seen is = tt
 
 -- the same under EWKB with its own SRID
@@ -130,29 +136,33 @@ not_rewritten options buf w (Ok out) front writable seen h = tt
 not_rewritten options buf w (Err e) front writable seen h =
     refused_or_long options buf w e front writable (rw seen at h)
 
+-- what can be written fails only for memory
+only_memory : (order : Endianness) (form : Form) (g : Geometry) (e : WkbError) → IsWritable order form g
+    → IsMemory e ⊎ Reports e (refusal order form g) → IsMemory e
+only_memory order form g e writable (inl memory) = memory
+only_memory order form g e writable (inr h) = let none : None ≡ Some h.fault = sym writable ∙ h.is in absurd (cc)
+
 -- what can be written with its own SRID fails only for memory
 pub refused_alone : (order : Endianness) (srid own : Option ℕ) (buf : List ℕ) (t : Value) (e : WkbError) → srid ≡ own
     → IsWritable order (Ewkb own) (geometry_of t)
     → IsMemory e ⊎ Reports e (refusal order (Ewkb srid) (geometry_of t)) → IsMemory e ⊎ IsRefusal buf e
-refused_alone order srid own buf t e is writable (inl memory) = inl memory
-refused_alone order srid own buf t e is writable (inr h) =
-    let none : None ≡ Some h.fault = sym writable ∙ ap (λ o. refusal order (Ewkb o) (geometry_of t)) (sym is) ∙ h.is in
-    absurd (cc)
+refused_alone order srid own buf t e is writable h =
+    inl (only_memory order (Ewkb own) (geometry_of t) e writable (rw is at h))
+
+-- a comparison of geometries that were read fails only for memory
+pub not_compared : (order : Endianness) (v w : Item) (e : WkbError) → CanBeWritten v.value → CanBeWritten w.value
+    → geometry_seen v ≡ geometry_of v.value → geometry_seen w ≡ geometry_of w.value
+    → (IsMemory e ⊎ Reports e (refusal order Iso (geometry_seen v)))
+    ⊎ (IsMemory e ⊎ Reports e (refusal order Iso (geometry_seen w)))
+    → IsMemory e
+not_compared order v w e first second seen seen' (inl h) =
+    only_memory order Iso (geometry_of v.value) e (first order) (rw seen at h)
+not_compared order v w e first second seen seen' (inr h) =
+    only_memory order Iso (geometry_of w.value) e (second order) (rw seen' at h)
 
 -- under ISO no SRID is written that could make the encoding too long
 pub iso_fits : (order : Endianness) (buf : List ℕ) → OverflowsWithSrid order Iso buf → ⊥
 iso_fits order buf h = let low = h.plain in let high = h.with_srid in omega (arith, low, high)
-
--- what is refused under ISO is what the reader refuses
-pub iso_refused : (order : Endianness) (buf : List ℕ) (e : WkbError)
-    → IsMemory e ⊎ (IsRefusal buf e ⊎ (OverflowsWithSrid order Iso buf × IsSize e))
-    → IsMemory e ⊎ IsRefusal buf e
-iso_refused order buf e (inl memory) = inl memory
-iso_refused order buf e (inr (inl refused)) = inr refused
-iso_refused order buf e (inr (inr long)) = absurd (iso_fits order buf long.0)
-
-pub accepted : (order : Endianness) (form : Form) (buf out : List ℕ) → IsRewriting order form buf out → IsAccepted buf
-accepted order form buf out h = record { s = h.s; t = h.t; rest = h.rest; front = h.front }
 
 -- inputs that are rewritten alike
 pub have_one_value : (order : Endianness) (a b x y : List ℕ) → AreBytes a → AreBytes b → IsRewriting order Iso a x
@@ -197,9 +207,13 @@ compared_by order a b x y true bytes bytes' h k decides = have_one_value order a
 compared_by order a b x y false bytes bytes' h k decides =
     have_two_values order a b x y bytes bytes' h k (λ one. let never : false ≡ true = decides.1 one in absurd (cc))
 
-pub compared : (order : Endianness) (a b x y v w : List ℕ) (equal : Bool) → AreBytes a → AreBytes b
-    → IsRewriting order Iso a x → IsRewriting order Iso b y
-    → v ≡ x → w ≡ y → equal ≡ bytes_eq v w → MatchBool equal (HaveOneValue a b) (HaveTwoValues a b)
-compared order a b x y v w equal bytes bytes' h k is is' tested =
-    let decides = subst (λ r. Decides r (v ≡ w)) (sym tested) (bytes_eq-Decides v w) in
-    compared_by order a b v w equal bytes bytes' (rw is h) (rw is' k) decides
+pub compared : (order : Endianness) (a b : List ℕ) (v w : Item) (equal : Bool) → AreBytes a → AreBytes b
+    → IsFront a v → IsFront b w → geometry_seen v ≡ geometry_of v.value → geometry_seen w ≡ geometry_of w.value
+    → equal ≡ bytes_eq (encoding order Iso (geometry_seen v)) (encoding order Iso (geometry_seen w))
+    → MatchBool equal (HaveOneValue a b) (HaveTwoValues a b)
+compared order a b v w equal bytes bytes' front front' seen seen' tested =
+    let x = encoding order Iso (geometry_seen v) in
+    let y = encoding order Iso (geometry_seen w) in
+    compared_by order a b x y equal bytes bytes' (is_rewriting order Iso a v front seen)
+    (is_rewriting order Iso b w front' seen')
+    (subst (λ r. Decides r (x ≡ y)) (sym tested) (bytes_eq-Decides x y))

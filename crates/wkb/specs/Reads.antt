@@ -13,15 +13,16 @@ pub use Rattle.wkb_read.specs.Views.{IsCollectionOf, IsViewOf}
 pub use Rattle.wkb_read.specs.Placed.{collection_seen, joined_encodings, HoldsMembers, IsCollectionIn, AreMembers, IsMemberAt}
 pub use Rattle.wkb_view.specs.Coords.{words_seen, ring_seen, coordinate_encoding, coord_order, coord_dimension}
 pub use Rattle.wkb_view.specs.Coords.{coord_encoding, ring_order, ring_dimension, ring_encoding, ring_offset}
-pub use Rattle.wkb_view.specs.Coords.{ring_coord_bytes}
+pub use Rattle.wkb_view.specs.Coords.{ring_coord_bytes, CoordBytesSpell, RingBytesSpell}
 pub use Rattle.wkb_view.specs.Views.{point_seen, line_string_seen, multi_point_seen, point_layout, line_string_layout}
 pub use Rattle.wkb_view.specs.Views.{multi_point_layout, point_order, point_spelling, line_string_order}
 pub use Rattle.wkb_view.specs.Views.{line_string_spelling, line_string_coordinates, coordinate_in, line_string_offset}
 pub use Rattle.wkb_view.specs.Views.{multi_point_offset, point_value, seen_coordinate, seen_points, point_coord_bytes}
 pub use Rattle.wkb_view.specs.Views.{point_words_bytes, line_string_coord_bytes, line_string_coords_bytes}
 pub use Rattle.wkb_view.specs.Views.{multi_point_member_bytes}
-pub use Rattle.wkb_view.specs.Parts.{list_of_values, srid_of, order_of, IsCollection, points_of, members_spelled}
-pub use Rattle.wkb_view.specs.Parts.{list_of_spellings, BytesSpell, spelling_at}
+pub use Rattle.wkb_view.specs.Parts.{list_of_values, IsCollection, points_of, members_spelled, list_of_spellings}
+pub use Rattle.wkb_view.specs.Parts.{spelling_at}
+pub use Rattle.wkb_view.specs.Spelled.{BytesSpell, srid_of, order_of}
 pub use Rattle.wkb_view.specs.Members.{polygon_seen, multi_line_string_seen, multi_polygon_seen, stride, ArePoints, multi_point_item}
 pub use Rattle.wkb_geom.specs.Reading.{body_start, parts_start, point_item, line_string_item}
 pub use Rattle.wkb_view.specs.Fitted.{fitted_line_string, fitted_line_strings, fitted_polygons, fitted_point}

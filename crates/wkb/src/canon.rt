@@ -1,16 +1,19 @@
 //! The canonical form: the one encoding of the value that was read.
 
-ghost use Rattle.std.specs.Prelude.{◌⊎◌, IfOk, IfErr, MatchBool};
+ghost use Rattle.std.specs.Prelude.{◌≡◌, ◌⊎◌, IfOk, IfErr, MatchBool, bytes_eq};
 ghost use Rattle.wkb_geom.specs.Errors.{IsMemory};
 ghost use Rattle.wkb_geom.specs.Encodings.{IsRewritingWithSrid};
 ghost use Rattle.wkb_read.specs.Reads.{IsRefusal};
+ghost use Rattle.wkb_read.specs.Seen.{geometry_seen};
+ghost use Rattle.wkb_write.specs.Answers.{encoding_of, IsVecError};
 ghost use Rattle.wkb.specs.Canonical.{IsRewritingUnder, IsRefusedUnder, IsPairRefusal};
 ghost use Rattle.wkb.specs.Canonical.{HaveOneValue, HaveTwoValues};
 
 use crate::laws::are_bytes;
 use std::alloc::Global;
 use wkb_geom::error::WkbResult;
-use wkb_geom::{Endianness, Form};
+use wkb_geom::{Endianness, Form, GeometryTrait};
+use wkb_read::geometry::Wkb;
 use wkb_read::read::read_wkb;
 use wkb_write::{WriteOptions, to_vec};
 
@@ -71,17 +74,60 @@ pub fn same(alloc: Global, a: &[u8], b: &[u8]) -> WkbResult<bool>
 {
     are_bytes(a);
     are_bytes(b);
+    let first = match read_wkb(alloc, a) {
+        Ok(wkb) => wkb,
+        Err(e) => return Err(e),
+    };
+    let second = match read_wkb(alloc, b) {
+        Ok(wkb) => wkb,
+        Err(e) => return Err(e),
+    };
+    // Values are equal where their encodings are (docs/DECISIONS.md, D12).
     let options = WriteOptions {
         endianness: Endianness::LittleEndian,
         form: Form::Iso,
     };
-    let first = match canonical(alloc, a, &options) {
-        Ok(encoding) => encoding,
-        Err(e) => return Err(e),
-    };
-    let second = match canonical(alloc, b, &options) {
-        Ok(encoding) => encoding,
-        Err(e) => return Err(e),
-    };
-    Ok(first.as_slice() == second.as_slice())
+    have_one_encoding(alloc, &first, &second, &options)
+}
+
+/// Whether two geometries have the same encoding. One that is in memory as it is written isn't copied.
+fn have_one_encoding(
+    alloc: Global,
+    first: &Wkb<'_>,
+    second: &Wkb<'_>,
+    options: &WriteOptions,
+) -> WkbResult<bool>
+    ensures ok { IfOk result (λ equal. equal ≡ bytes_eq
+        (encoding_of options.now (geometry_seen first.now))
+        (encoding_of options.now (geometry_seen second.now))) }
+    ensures err { IfErr result (λ e. IsVecError options.now (geometry_seen first.now) e
+        ⊎ IsVecError options.now (geometry_seen second.now) e) }
+{
+    if let Some(lent) = first.whole(options.endianness, options.form) {
+        return is_encoding(alloc, lent, second, options);
+    }
+    match to_vec(alloc, first, options) {
+        Ok(made) => is_encoding(alloc, made.as_slice(), second, options),
+        Err(e) => Err(e),
+    }
+}
+
+/// Whether the bytes are the geometry's encoding.
+fn is_encoding(
+    alloc: Global,
+    bytes: &[u8],
+    wkb: &Wkb<'_>,
+    options: &WriteOptions,
+) -> WkbResult<bool>
+    ensures ok { IfOk result
+        (λ equal. equal ≡ bytes_eq bytes.now (encoding_of options.now (geometry_seen wkb.now))) }
+    ensures err { IfErr result (λ e. IsVecError options.now (geometry_seen wkb.now) e) }
+{
+    if let Some(lent) = wkb.whole(options.endianness, options.form) {
+        return Ok(bytes == lent);
+    }
+    match to_vec(alloc, wkb, options) {
+        Ok(made) => Ok(bytes == made.as_slice()),
+        Err(e) => Err(e),
+    }
 }

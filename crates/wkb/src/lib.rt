@@ -11,7 +11,7 @@
 //! ```
 //!
 //! All names but those of `canon`, `geom::ordinate`, `laws::are_bytes` and `laws::srid_fits` are re-exports of the crates
-//! below.
+//! below (docs/DECISIONS.md, D9).
 #![tactic(auto)]
 
 pub mod canon;

@@ -23,10 +23,11 @@ use Rattle.wkb_command.specs.declared.calls.HexFault.{HexFault}
 use Rattle.wkb_command.specs.declared.calls.HexFault.TheVariants.{NotHex, Wkb, Memory}
 use Rattle.wkb_command.specs.declared.program.Command.{Command}
 use Rattle.wkb_command.specs.declared.program.Command.TheVariants.{Rewrite, RewriteWithSrid, Same, Cost, Srid}
-use Rattle.wkb_command.specs.declared.calls.Cost.{Cost as Spent}
-use Rattle.wkb_command.specs.Calls.{AreHex, AreHexOf, IsHexOf, OfHex, IsCost, IsFaultOf, RefusedFirst, IsOversized}
+use Rattle.wkb_command.specs.declared.calls.Verdict.{Verdict}
+use Rattle.wkb_command.specs.Calls.{AreHex, AreHexOf, IsHexOf, OfHex, IsVerdict, IsFaultOf, RefusedFirst, IsOversized}
+use Rattle.wkb_command.specs.Calls.{OfTwoHexes, AreCompared}
 use Rattle.wkb_command.specs.Program.{Says, rewritten, rewritten_with_srid, accepted, counted_refusal, srid, refused}
-use Rattle.wkb_command.specs.Program.{not_hex, IsOneLine, IsNotSingle, IsNotPair, hex_line}
+use Rattle.wkb_command.specs.Program.{same, different, not_hex, IsOneLine, IsNotSingle, IsNotPair, hex_line}
 use Rattle.wkb_command.specs.Program.{wanted_lines, Gives, counts, TellsCause, TellsError, TellsHexFault}
 use Rattle.wkb.proofs.Encodings.{iso_fits}
 use Rattle.wkb_command.proofs.Hexes.{AreHex-from, AreHexOf-length}
@@ -172,18 +173,33 @@ says_iso_refused order text line inputs e gives (inl first) told =
     says_refused (Rewrite order) (text ∷ []) line (λ is. cc) inputs e gives first told
 says_iso_refused order text line inputs e gives (inr h) told = absurd (iso_fits order h.bytes h.long)
 
-pub counts_line : (verdict : List ℕ) (turns slots : ℕ)
-    → verdict ++ (codes " turns " ++ (decimal turns ++ (codes " slots " ++ (decimal slots ++ codes "\n"))))
-    ≡ counts verdict turns slots
-counts_line verdict turns slots = simp append_assoc
+pub says_same : (first second : List ℕ) (equal : Bool) (r : Result Report AllocError)
+    → IfOk r (IsReport (codes "same\n") 0) → equal ≡ true → OfTwoHexes first second (AreCompared equal)
+    → IfOk r (IsReportOn (first ∷ second ∷ []) Same)
+says_same first second equal r new is h =
+    reports_line _ Same (codes "same\n") 0 r new (same (two_inputs _ _ _ _ h.1 h.2.1) (when_true _ _ _ is h.2.2))
 
-pub says_accepted : (text : List ℕ) (cost : Spent) → cost.accepted ≡ true → OfHex text (IsCost cost)
-    → Says (text ∷ []) Cost (counts (codes "accepted") cost.counts.turns cost.counts.slots) 0
-says_accepted text cost is h = accepted (one_input Cost text h.0 refl h.1) (when_true _ _ _ is h.2)
+pub says_different : (first second : List ℕ) (equal : Bool) (r : Result Report AllocError)
+    → IfOk r (IsReport (codes "different\n") 0) → equal ≡ false → OfTwoHexes first second (AreCompared equal)
+    → IfOk r (IsReportOn (first ∷ second ∷ []) Same)
+says_different first second equal r new is h =
+    reports_line _ Same (codes "different\n") 0 r new
+    (different (two_inputs _ _ _ _ h.1 h.2.1) (when_false _ _ _ is h.2.2))
 
-pub says_counted : (text : List ℕ) (cost : Spent) → cost.accepted ≡ false → OfHex text (IsCost cost)
-    → Says (text ∷ []) Cost (counts (codes "refused") cost.counts.turns cost.counts.slots) 1
-says_counted text cost is h =
+pub ruleset comparison_laws = (says_same, says_different)
+
+pub counts_line : (verdict line : List ℕ) (turns slots : ℕ)
+    → line ≡ verdict ++ (codes " turns " ++ (decimal turns ++ (codes " slots " ++ (decimal slots ++ codes "\n"))))
+    → line ≡ counts verdict turns slots
+counts_line verdict line turns slots is = is ∙ simp append_assoc
+
+pub says_accepted : (text : List ℕ) (verdict : Verdict) → verdict.accepted ≡ true → OfHex text (IsVerdict verdict)
+    → Says (text ∷ []) Cost (counts (codes "accepted") verdict.counts.turns verdict.counts.slots) 0
+says_accepted text verdict is h = accepted (one_input Cost text h.0 refl h.1) (when_true _ _ _ is h.2)
+
+pub says_counted : (text : List ℕ) (verdict : Verdict) → verdict.accepted ≡ false → OfHex text (IsVerdict verdict)
+    → Says (text ∷ []) Cost (counts (codes "refused") verdict.counts.turns verdict.counts.slots) 1
+says_counted text verdict is h =
     let refusal = when_false _ _ _ is h.2 in
     counted_refusal (one_input Cost text h.0 refl h.1) refusal.1
 

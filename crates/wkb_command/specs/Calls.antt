@@ -9,7 +9,7 @@ use Rattle.wkb_geom.specs.Errors.{Tells}
 use Rattle.wkb.specs.Writes.{WriteOptions}
 use Rattle.wkb.specs.Canonical.{IsAccepted, IsSize, OverflowsWithSrid, HaveOneValue, HaveTwoValues}
 use Rattle.wkb_command.specs.Readings.{Accepts, IsRefused}
-use Rattle.wkb_command.specs.declared.calls.Cost.{Cost}
+use Rattle.wkb_command.specs.declared.calls.Verdict.{Verdict}
 use Rattle.wkb_geom.specs.declared.error.WkbError.{WkbError}
 use Rattle.wkb_geom.specs.declared.error.WkbError.TheVariants as errors
 use Rattle.wkb_command.specs.declared.calls.HexFault.{HexFault}
@@ -37,10 +37,10 @@ abbrev pub AreCompared : Bool → List ℕ → List ℕ → Type 0
 AreCompared equal a b = MatchBool equal (HaveOneValue a b) (HaveTwoValues a b)
 
 -- whether an input is accepted, after so many turns and slots
-abbrev pub IsCost : Cost → List ℕ → Type 0
-IsCost cost bytes =
-    MatchBool cost.accepted (Accepts bytes cost.counts.turns cost.counts.slots)
-    ((cause : Cause) × IsRefused bytes cause cost.counts.turns cost.counts.slots)
+abbrev pub IsVerdict : Verdict → List ℕ → Type 0
+IsVerdict verdict bytes =
+    MatchBool verdict.accepted (Accepts bytes verdict.counts.turns verdict.counts.slots)
+    ((cause : Cause) × IsRefused bytes cause verdict.counts.turns verdict.counts.slots)
 
 -- each text is hex
 abbrev pub AreHex : List (List ℕ) → Type 0

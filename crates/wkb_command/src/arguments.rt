@@ -1,5 +1,8 @@
 //! The program's arguments as texts.
 
+ghost use Rattle.std.specs.Prelude.{◌≡◌};
+ghost use Rattle.wkb_command.specs.declared.arguments.ArgumentFault.TheVariants.{Memory};
+
 use std::alloc::{AllocError, Global};
 use std::env::{Env, FillError};
 
@@ -15,6 +18,8 @@ pub enum ArgumentFault {
 }
 
 impl From<AllocError> for ArgumentFault {
+    ghost from_gives = { λ error fault. fault ≡ Memory };
+
     fn from(_error: AllocError) -> ArgumentFault {
         ArgumentFault::Memory
     }

@@ -7,7 +7,7 @@ ghost use Rattle.wkb_geom.specs.Encodings.{IsRewritingWithSrid};
 ghost use Rattle.wkb.specs.Canonical.{IsRewritingUnder};
 ghost use Rattle.wkb_command.specs.Readings.{HasSrid};
 ghost use Rattle.wkb_command.specs.Calls.{IsHexOf, OfHex, OfTwoHexes, IsFaultOf, IsDecodingFault};
-ghost use Rattle.wkb_command.specs.Calls.{AreCompared, IsCost, RefusedFirst};
+ghost use Rattle.wkb_command.specs.Calls.{AreCompared, IsVerdict, RefusedFirst};
 ghost use Rattle.wkb_command.specs.Calls.{RefusedOrOversized, FaultOfError, FaultOfHexError};
 
 use hex::FromHexError;
@@ -31,7 +31,7 @@ pub enum HexFault {
 
 /// Whether an input is accepted, and what reading it cost.
 #[derive(Debug, Clone, Copy, PartialEq)]
-pub struct Cost {
+pub struct Verdict {
     /// Whether the reader returned a geometry.
     pub accepted: bool,
     /// Parts begun and list entries asked for, up to the end or to the refusal.
@@ -113,19 +113,20 @@ pub fn same_hex(alloc: Global, first: &str, second: &str) -> Result<bool, HexFau
 /// Whether the bytes that a hex text spells are accepted, and what it cost to read them.
 ///
 /// A refusal is a result here, and no fault.
-pub fn cost_hex(alloc: Global, text: &str) -> Result<Cost, HexFault>
-    ensures ok { IfOk result (λ cost. OfHex text.now (IsCost cost)) }
+#[tactic(auto, using(crate::proofs::Costs::refused_cost))]
+pub fn cost_hex(alloc: Global, text: &str) -> Result<Verdict, HexFault>
+    ensures ok { IfOk result (λ verdict. OfHex text.now (IsVerdict verdict)) }
     ensures err { IfErr result (IsFaultOf (text.now ∷ []) (λ inputs e. ⊥)) }
 {
     let bytes = decoded(alloc, text)?;
     let (read, counts) = read_wkb_counted(alloc, bytes.as_slice());
     match read.err() {
-        None => Ok(Cost {
+        None => Ok(Verdict {
             accepted: true,
             counts,
         }),
         Some(WkbError::Memory(_)) => Err(HexFault::Memory),
-        Some(_) => Ok(Cost {
+        Some(_) => Ok(Verdict {
             accepted: false,
             counts,
         }),

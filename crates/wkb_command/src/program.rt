@@ -181,6 +181,7 @@ fn rewriting_with_srid_report(
     }
 }
 
+#[tactic(auto, using(crate::proofs::Told::comparison_laws))]
 fn comparison_report(alloc: Global, first: &str, second: &str) -> Result<Report, AllocError>
     ensures { IfOk result (IsReportOn (first.now ∷ second.now ∷ []) Command.Same) }
 {
@@ -209,6 +210,7 @@ fn cost_report(alloc: Global, text: &str) -> Result<Report, AllocError>
     }
 }
 
+#[tactic(auto, using(crate::proofs::Told::counts_line))]
 fn counts_report(
     alloc: Global,
     verdict: &str,
@@ -289,6 +291,7 @@ fn report_on_line(alloc: Global, command: Command, line: &str) -> Result<Report,
 fn report_on_input(alloc: Global, command: Command, input: &[u8]) -> Result<Report, AllocError>
     ensures { IfOk result (IsReportOn (lines input.now) command) }
 {
+    // Digits are ASCII, so that input which isn't UTF-8 is no hex. It is tested once, and is a text from here on.
     let Ok(text) = str::from_utf8(input) else {
         return Report::not_hex(alloc);
     };
