@@ -85,27 +85,40 @@ static size_t validity_len(const wkb_column *column) {
   return first / 8 + more / 8 + (first % 8 + more % 8) / 8 + 1;
 }
 
-/* The arguments that all calls of columns begin with. */
-#define UNPACKED(column)                                                                          \
-  bytes_of((column)->data, (column)->size), (column)->size,                                       \
-      bytes_of((column)->offsets, offsets_len(column)), offsets_len(column), (column)->offset_size, \
-      bytes_of((column)->validity, validity_len(column)), validity_len(column), (column)->validity_offset
+/* The same column with the lengths of its buffers, for one that has rows. */
+static wkb_raw_column unpacked(const wkb_column *column) {
+  size_t offsets = offsets_len(column), validity = validity_len(column);
+  wkb_raw_column raw = {
+      .bytes = bytes_of(column->data, column->size),
+      .bytes_len = column->size,
+      .offsets = bytes_of(column->offsets, offsets),
+      .offsets_len = offsets,
+      .offset_size = column->offset_size,
+      .validity = bytes_of(column->validity, validity),
+      .validity_len = validity,
+      .validity_offset = column->validity_offset,
+  };
+  return raw;
+}
 
 void wkb_column_check(const wkb_column *column, uint8_t *statuses) {
   if (column->rows == 0) return;
-  wkb_raw_column_check(UNPACKED(column), statuses, column->rows);
+  wkb_raw_column raw = unpacked(column);
+  wkb_raw_column_check(&raw, statuses, column->rows);
 }
 
 void wkb_column_bounds(const wkb_column *column, wkb_box *boxes, uint8_t *statuses) {
   if (column->rows == 0) return;
-  wkb_raw_column_bounds(UNPACKED(column), boxes, column->rows, statuses, column->rows);
+  wkb_raw_column raw = unpacked(column);
+  wkb_raw_column_bounds(&raw, boxes, column->rows, statuses, column->rows);
 }
 
 uint64_t wkb_column_parts(const wkb_column *column, wkb_part *parts, size_t room, uint64_t *ends, uint8_t *statuses) {
   wkb_part part_here;
   size_t rows = column->rows;
   if (rows == 0) return 0;
-  wkb_raw_column_parts(UNPACKED(column), room == 0 ? &part_here : parts, room, ends, rows, statuses, rows);
+  wkb_raw_column raw = unpacked(column);
+  wkb_raw_column_parts(&raw, room == 0 ? &part_here : parts, room, ends, rows, statuses, rows);
   return ends[rows - 1];
 }
 
@@ -114,8 +127,8 @@ uint64_t wkb_column_write(const wkb_column *column, const wkb_options *options, 
   uint8_t out_here;
   size_t rows = column->rows;
   if (rows == 0) return 0;
-  wkb_raw_column_write(UNPACKED(column), options, room == 0 ? &out_here : (uint8_t *)out, room, ends, rows, statuses,
-                       rows);
+  wkb_raw_column raw = unpacked(column);
+  wkb_raw_column_write(&raw, options, room == 0 ? &out_here : (uint8_t *)out, room, ends, rows, statuses, rows);
   return ends[rows - 1];
 }
 
@@ -124,11 +137,18 @@ void wkb_column_coordinates(const wkb_column *column, wkb_dim dimension, wkb_coo
   uint64_t ring_end_here, single_end_here;
   wkb_raw_totals totals = {0, 0, 0};
   size_t rows = column->rows;
-  if (rows > 0)
-    wkb_raw_column_coordinates(UNPACKED(column), (uint32_t)dimension, out->words_room == 0 ? &word_here : out->words,
-                               out->words_room, out->ring_room == 0 ? &ring_end_here : out->ring_ends, out->ring_room,
-                               out->single_room == 0 ? &single_end_here : out->single_ends, out->single_room,
-                               out->row_ends, rows, &totals, statuses, rows);
+  if (rows > 0) {
+    wkb_raw_column raw = unpacked(column);
+    wkb_raw_level_slices slices = {
+        .words = out->words_room == 0 ? &word_here : out->words,
+        .words_room = out->words_room,
+        .ring_ends = out->ring_room == 0 ? &ring_end_here : out->ring_ends,
+        .ring_room = out->ring_room,
+        .single_ends = out->single_room == 0 ? &single_end_here : out->single_ends,
+        .single_room = out->single_room,
+    };
+    wkb_raw_column_coordinates(&raw, (uint32_t)dimension, &slices, out->row_ends, rows, &totals, statuses, rows);
+  }
   out->coordinates = totals.coordinates;
   out->rings = totals.rings;
   out->singles = totals.singles;

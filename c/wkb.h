@@ -104,7 +104,8 @@ typedef struct wkb_fault {
   uint32_t status;  /* the wkb_status that the call returns */
 } wkb_fault;
 
-/* The byte order and the form that are written. */
+/* The byte order and the form that are written. Any number may stand here, since C lets any number into an enum: one
+ * without a meaning is refused by WKB_STATUS_UNKNOWN_OPTION (docs/DECISIONS.md, D11). */
 typedef struct wkb_options {
   uint32_t order;  /* a wkb_order */
   uint32_t form;   /* a wkb_form */

@@ -1,6 +1,6 @@
-/* The proved calls of crates/wkb_c, which wkb.c calls and the library hides. A slice is a pointer and a length. No
- * pointer may be null, not even where its length is 0, and each is aligned. The contracts of crates/wkb_c/src/lib.rt say
- * what the calls promise. */
+/* The proved calls of crates/wkb_c, which wkb.c calls and the library hides. A slice is a pointer and a length, also in
+ * a struct. No pointer may be null, not even where its length is 0, and each is aligned. The contracts of
+ * crates/wkb_c/src/lib.rt say what the calls promise. */
 #ifndef WKB_RAW_H
 #define WKB_RAW_H
 
@@ -13,6 +13,28 @@ typedef struct wkb_raw_totals {
   uint64_t singles;
 } wkb_raw_totals;
 
+/* The buffers of a column. */
+typedef struct wkb_raw_column {
+  const uint8_t *bytes;
+  size_t bytes_len;
+  const uint8_t *offsets;
+  size_t offsets_len;
+  size_t offset_size;
+  const uint8_t *validity;
+  size_t validity_len;
+  size_t validity_offset;
+} wkb_raw_column;
+
+/* The slices that the levels of coordinates are written to. */
+typedef struct wkb_raw_level_slices {
+  double *words;
+  size_t words_room;
+  uint64_t *ring_ends;
+  size_t ring_room;
+  uint64_t *single_ends;
+  size_t single_room;
+} wkb_raw_level_slices;
+
 wkb_status wkb_raw_check(const uint8_t *buf, size_t len, wkb_found *found, wkb_fault *fault);
 wkb_status wkb_raw_bounds(const uint8_t *buf, size_t len, wkb_box *box, wkb_fault *fault);
 wkb_status wkb_raw_write(const uint8_t *buf, size_t len, const wkb_options *options, uint8_t *out, size_t room,
@@ -22,24 +44,14 @@ wkb_status wkb_raw_same(const uint8_t *a, size_t a_len, const uint8_t *b, size_t
 wkb_status wkb_raw_parts(const uint8_t *buf, size_t len, wkb_part *parts, size_t room, uint64_t *count,
                          wkb_fault *fault);
 
-void wkb_raw_column_check(const uint8_t *data, size_t size, const uint8_t *offsets, size_t offsets_len,
-                          size_t offset_size, const uint8_t *validity, size_t validity_len, size_t validity_offset,
-                          uint8_t *statuses, size_t rows);
-void wkb_raw_column_bounds(const uint8_t *data, size_t size, const uint8_t *offsets, size_t offsets_len,
-                           size_t offset_size, const uint8_t *validity, size_t validity_len, size_t validity_offset,
-                           wkb_box *boxes, size_t box_count, uint8_t *statuses, size_t rows);
-void wkb_raw_column_parts(const uint8_t *data, size_t size, const uint8_t *offsets, size_t offsets_len,
-                          size_t offset_size, const uint8_t *validity, size_t validity_len, size_t validity_offset,
-                          wkb_part *parts, size_t room, uint64_t *ends, size_t end_count, uint8_t *statuses,
-                          size_t rows);
-void wkb_raw_column_write(const uint8_t *data, size_t size, const uint8_t *offsets, size_t offsets_len,
-                          size_t offset_size, const uint8_t *validity, size_t validity_len, size_t validity_offset,
-                          const wkb_options *options, uint8_t *out, size_t room, uint64_t *ends, size_t end_count,
-                          uint8_t *statuses, size_t rows);
-void wkb_raw_column_coordinates(const uint8_t *data, size_t size, const uint8_t *offsets, size_t offsets_len,
-                                size_t offset_size, const uint8_t *validity, size_t validity_len,
-                                size_t validity_offset, uint32_t dimension, double *words, size_t room,
-                                uint64_t *ring_ends, size_t ring_room, uint64_t *single_ends, size_t single_room,
+void wkb_raw_column_check(const wkb_raw_column *column, uint8_t *statuses, size_t rows);
+void wkb_raw_column_bounds(const wkb_raw_column *column, wkb_box *boxes, size_t box_count, uint8_t *statuses,
+                           size_t rows);
+void wkb_raw_column_parts(const wkb_raw_column *column, wkb_part *parts, size_t room, uint64_t *ends,
+                          size_t end_count, uint8_t *statuses, size_t rows);
+void wkb_raw_column_write(const wkb_raw_column *column, const wkb_options *options, uint8_t *out, size_t room,
+                          uint64_t *ends, size_t end_count, uint8_t *statuses, size_t rows);
+void wkb_raw_column_coordinates(const wkb_raw_column *column, uint32_t dimension, wkb_raw_level_slices *out,
                                 uint64_t *row_ends, size_t row_count, wkb_raw_totals *totals, uint8_t *statuses,
                                 size_t rows);
 

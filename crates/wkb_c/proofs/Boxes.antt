@@ -5,7 +5,7 @@ use Rattle.std.proofs.Common.{set}
 use lib.Seq.{get_or-set_same, get_or-set_other}
 use Rattle.wkb_check.specs.Bounded.{nothing}
 use Rattle.wkb_check.specs.declared.range.Bounds.{Bounds}
-use Rattle.wkb_c.specs.Columns.{Column}
+use Rattle.wkb_c.specs.declared.column.Column.{Column}
 use Rattle.wkb_c.specs.Boxes.{IsRowBox, AreRowBoxes}
 use Rattle.wkb_c.proofs.Rows.{split}
 

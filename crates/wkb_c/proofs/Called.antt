@@ -12,7 +12,8 @@ use Rattle.wkb_geom.specs.Encodings.{members_encoding}
 use Rattle.wkb_geom.specs.Fronts.{Front}
 use Rattle.wkb_geom.specs.Geometries.{geometry_of}
 use Rattle.wkb.specs.Canonical.{IsAccepted}
-use Rattle.wkb_c.specs.Columns.{Column, IsRow}
+use Rattle.wkb_c.specs.Columns.{IsRow}
+use Rattle.wkb_c.specs.declared.column.Column.{Column}
 use Rattle.wkb_c.specs.Requests.{IsRequested, request_of}
 use Rattle.wkb_c.specs.RowItems.{IsRowStep}
 use Rattle.wkb_c.specs.Statuses.{FailsToList, no_memory as no_memory_to_list}

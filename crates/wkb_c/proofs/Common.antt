@@ -21,6 +21,6 @@ pub use Rattle.wkb_geom.specs.declared.common.Dimension.{Dimension}
 pub use Rattle.wkb_read.specs.Nodes.{nodes, nodes_all}
 pub use Rattle.wkb_read.specs.Reads.{IsFront, IsRefusal, TakesNoMemory}
 pub use Rattle.wkb_view.specs.Fitted.{fitted_line_string, fitted_line_strings}
-pub use Rattle.wkb_view.specs.Parts.{members_spelled, srid_of, BytesSpell, order_of, list_of_values, list_of_spellings}
-pub use Rattle.wkb_view.specs.Parts.{points_of}
+pub use Rattle.wkb_view.specs.Parts.{members_spelled, list_of_values, list_of_spellings, points_of}
+pub use Rattle.wkb_view.specs.Spelled.{BytesSpell, srid_of, order_of}
 pub use Rattle.wkb_view.specs.Views.{multi_point_seen, point_seen, point_value as value_seen, line_string_seen}

@@ -10,7 +10,7 @@ use Rattle.wkb_geom.specs.Codes.{thousands}
 use Rattle.wkb_geom.specs.Reading.{head_at, srid_in, body_start, type_kind, type_dimension}
 use Rattle.wkb_geom.specs.declared.common.Dimension.TheVariants.{Xy, Xyz, Xym, Xyzm}
 use Rattle.wkb_geom.specs.declared.error.Cause.{Cause}
-use Rattle.wkb_geom.specs.declared.header.Header.{Header as Head}
+use Rattle.wkb_geom.specs.declared.header.Head.{Head}
 use Rattle.wkb_check.proofs.Public.{HeaderSays, geometry_opens, one_head}
 use Rattle.wkb_c.specs.Growing.{IsHeadOf}
 use Rattle.wkb_c.specs.Tables.{leading}

@@ -2,7 +2,7 @@
 use Rattle.wkb_c.proofs.Common.{◌≡◌, ℕ, zero, suc, ◌+◌, ◌≤◌, ◌<◌, List, length, sym, subst, ◌∙◌, arith}
 use Rattle.std.proofs.Common.{set}
 use lib.Seq.{get_or-set_same, get_or-set_other}
-use Rattle.wkb_c.specs.Columns.{Column}
+use Rattle.wkb_c.specs.declared.column.Column.{Column}
 use Rattle.wkb_c.specs.Coordinates.{Levels, AreColumnCoordinates, IsCoordinatesRow}
 use Rattle.wkb_c.specs.declared.coordinates.Totals.{Totals}
 

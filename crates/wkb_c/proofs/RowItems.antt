@@ -11,7 +11,8 @@ use Rattle.std.proofs.lemmas.List.{take-append-drop, take-append-le, drop-append
 use Rattle.std.proofs.lemmas.Slice.{drop-append-drop, between_to_end}
 use lib.Seq.{get_or-set_same, get_or-set_other}
 use Rattle.wkb_c.specs.declared.status.TheConstants.{OK, NO_ROOM}
-use Rattle.wkb_c.specs.Columns.{Column, IsRow}
+use Rattle.wkb_c.specs.Columns.{IsRow}
+use Rattle.wkb_c.specs.declared.column.Column.{Column}
 use Rattle.wkb_c.specs.Room.{IsHeld, Exceeds}
 use Rattle.wkb_c.specs.RowItems.{start_of, end_of, IsRowAnswer, handed, no_room, failed, no_row}
 use Rattle.wkb_c.specs.RowItems.{AreRowAnswers, KeepsAfter, IsRowStep, put, lacks, fails, has_no_row}

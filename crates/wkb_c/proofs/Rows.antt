@@ -3,7 +3,8 @@ use Rattle.wkb_c.proofs.Common.{◌≡◌, ℕ, zero, suc, ◌+◌, ◌<◌, ◌
 use Rattle.wkb_c.proofs.Common.{sym, subst, ◌∙◌, arith}
 use Rattle.std.proofs.Common.{set}
 use lib.Seq.{get_or-set_same, get_or-set_other}
-use Rattle.wkb_c.specs.Columns.{Column, IsStatusOfRow, AreStatuses}
+use Rattle.wkb_c.specs.Columns.{IsStatusOfRow, AreStatuses}
+use Rattle.wkb_c.specs.declared.column.Column.{Column}
 
 up : (j i : ℕ) → (j ≡ i) ⊎ (j < i) → (suc j ≡ suc i) ⊎ (suc j < suc i)
 up j i (inl same) = inl (ap suc same)

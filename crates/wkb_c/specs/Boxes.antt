@@ -2,7 +2,8 @@
 use Rattle.std.specs.Prelude.{◌≡◌, ℕ, ◌<◌, List, slice_index, slice_index_or}
 use Rattle.wkb_check.specs.Bounded.{BoundsFront, nothing}
 use Rattle.wkb_check.specs.declared.range.Bounds.{Bounds}
-use Rattle.wkb_c.specs.Columns.{Column, IsRow, LacksRow, IsRefusedWith}
+use Rattle.wkb_c.specs.Columns.{IsRow, LacksRow, IsRefusedWith}
+use Rattle.wkb_c.specs.declared.column.Column.{Column}
 use Rattle.wkb_c.specs.declared.status.TheConstants.{OK}
 
 -- the status of row i, and its box: without bounds that of no coordinate

@@ -5,26 +5,10 @@ use Rattle.std.specs.Prelude.{Option, Some, None, drop, slice_get, slice_range, 
 use Rattle.wkb.specs.Canonical.{IsAccepted}
 use Rattle.wkb_geom.specs.Numbers.{number}
 use Rattle.wkb_geom.specs.declared.common.Endianness.TheVariants.{LittleEndian}
+use Rattle.wkb_c.specs.declared.column.Column.{Column}
 use Rattle.wkb_c.specs.declared.fault.WkbFault.{WkbFault}
 use Rattle.wkb_c.specs.declared.status.TheConstants.{OK, NULL_ROW, BAD_OFFSETS}
 use Rattle.wkb_c.specs.Statuses.{IsFault}
-
--- a column: the bytes of its rows, its offsets, the bytes of an offset, its validity bitmap, and the bit of row 0
-pub record Column : Type 0 where
-  pub bytes : List ℕ
-  pub offsets : List ℕ
-  pub offset_size : ℕ
-  pub validity : List ℕ
-  pub validity_offset : ℕ
-
-abbrev pub column : List ℕ → List ℕ → ℕ → List ℕ → ℕ → Column
-column bytes offsets offset_size validity validity_offset = record {
-  bytes = bytes;
-  offsets = offsets;
-  offset_size = offset_size;
-  validity = validity;
-  validity_offset = validity_offset;
-}
 
 -- whether this bit of a byte is 0, counted from the lowest; without a byte no bit is
 abbrev pub is_zero_bit : Option ℕ → ℕ → Bool
@@ -37,7 +21,7 @@ is_unset_bit bitmap bit = is_zero_bit (slice_get bitmap (bit / 8)) (bit % 8)
 
 -- whether a row is null
 abbrev pub is_null_row : Column → ℕ → Bool
-is_null_row c i = is_unset_bit c.validity (c.validity_offset + i)
+is_null_row c i = is_unset_bit c.validity.now (c.validity_offset + i)
 
 -- offset i is this number: it has 4 or 8 bytes, is little endian and signed, and isn't negative
 pub record IsOffset (offsets : List ℕ) (size i n : ℕ) : Type 0 where
@@ -67,12 +51,12 @@ HasNoSlice bytes offsets size i = (row : List ℕ) → IsRowSlice bytes offsets 
 -- row i isn't null, and has these bytes
 pub record IsRow (c : Column) (i : ℕ) (row : List ℕ) : Type 0 where
   pub present : is_null_row c i ≡ false
-  pub slice : IsRowSlice c.bytes c.offsets c.offset_size i row
+  pub slice : IsRowSlice c.bytes.now c.offsets.now c.offset_size i row
 
 -- row i has no bytes, and this status says why
 pub data LacksRow (c : Column) (i status : ℕ) : Type 0 where
   null_row : is_null_row c i ≡ true → status ≡ NULL_ROW → LacksRow c i status
-  bad_offsets : is_null_row c i ≡ false → HasNoSlice c.bytes c.offsets c.offset_size i → status ≡ BAD_OFFSETS
+  bad_offsets : is_null_row c i ≡ false → HasNoSlice c.bytes.now c.offsets.now c.offset_size i → status ≡ BAD_OFFSETS
       → LacksRow c i status
 
 -- the bytes are refused, and this status says why

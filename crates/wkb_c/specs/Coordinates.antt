@@ -11,7 +11,8 @@ use Rattle.wkb_geom.specs.declared.common.Endianness.{Endianness}
 use Rattle.wkb_geom.specs.declared.common.Endianness.TheVariants.{BigEndian, LittleEndian}
 use Rattle.wkb_geom.specs.Dimensions.{width}
 use Rattle.wkb_geom.specs.Numbers.{number, empty_word}
-use Rattle.wkb_c.specs.Columns.{Column, IsRow, LacksRow, IsRefusedWith}
+use Rattle.wkb_c.specs.Columns.{IsRow, LacksRow, IsRefusedWith}
+use Rattle.wkb_c.specs.declared.column.Column.{Column}
 use Rattle.wkb_c.specs.RowItems.{end_of, rows_of}
 use Rattle.wkb_c.specs.Tables.{HasTable}
 use Rattle.wkb_c.specs.declared.coordinates.Level.{Level}

@@ -8,7 +8,8 @@ use Rattle.wkb_geom.specs.Values.{Coordinate, Value, Values, no_members, member,
 use Rattle.wkb_geom.specs.Spellings.{Spelling, Spellings, no_spellings, spelling, header}
 use Rattle.wkb_geom.specs.Refusals.{ring_end}
 use Rattle.wkb_view.specs.Coords.{ring_seen, ring_dimension, ring_order}
-use Rattle.wkb_view.specs.Parts.{members_spelled, BytesSpell}
+use Rattle.wkb_view.specs.Parts.{members_spelled}
+use Rattle.wkb_view.specs.Spelled.{BytesSpell}
 use Rattle.wkb_view.specs.declared.linear_ring.LinearRing.{LinearRing}
 use Rattle.wkb_c.specs.declared.parts.Part.{Part}
 use Rattle.wkb_c.specs.declared.parts.PartHead.{PartHead}

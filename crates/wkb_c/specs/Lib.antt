@@ -2,6 +2,7 @@ pub mod Boxes
 pub mod Checks
 pub mod Columns
 pub mod Coordinates
+pub mod LevelLists
 pub mod Requests
 pub mod Room
 pub mod RowItems

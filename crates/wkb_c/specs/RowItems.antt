@@ -1,7 +1,8 @@
 -- What rows write one after another: the items of a row begin where those of the row before it end.
 use Rattle.std.specs.Prelude.{◌≡◌, ℕ, zero, suc, ◌+◌, ◌-◌, ◌^◌, ◌<◌, ◌≤◌, ◌++◌, List, length, drop, take}
 use Rattle.std.specs.Prelude.{min, slice_range, slice_index}
-use Rattle.wkb_c.specs.Columns.{Column, IsRow, LacksRow}
+use Rattle.wkb_c.specs.Columns.{IsRow, LacksRow}
+use Rattle.wkb_c.specs.declared.column.Column.{Column}
 use Rattle.wkb_c.specs.Statuses.{FailsToList}
 use Rattle.wkb_c.specs.Tables.{HasTable}
 use Rattle.wkb_c.specs.Writings.{HasEncoding, FailsToWrite}

@@ -8,12 +8,12 @@ ghost use Rattle.wkb_c.specs.Columns.{IsRefusedWith, IsStatusOf, IsStatusOfRow, 
 
 use crate::fault::{NO_FAULT, check_input};
 use crate::status::{BAD_OFFSETS, NULL_ROW, OK};
-use std::marker::Model;
 use wkb::Endianness;
 use wkb_check::{Summary, check_plain};
 use wkb_geom::words::{u32_at, u64_at};
 
 /// A column of bytes as Arrow has it: binary, large binary, or a slice of one.
+#[repr(C)]
 #[derive(Drop)]
 pub struct Column<'a> {
     /// The bytes of the rows.
@@ -26,14 +26,6 @@ pub struct Column<'a> {
     pub validity: &'a [u8],
     /// The bit of the first row.
     pub validity_offset: usize,
-}
-
-impl<'a> Model for Column<'a> {
-    ghost use Rattle.wkb_c.specs.Columns.{Column as Buffers, column};
-
-    ghost Value = { Buffers };
-
-    ghost view = { λ c. column c.bytes.now c.offsets.now c.offset_size c.validity.now c.validity_offset };
 }
 
 impl<'a> Column<'a> {
@@ -132,7 +124,7 @@ pub fn check_row(row: &[u8]) -> Result<Summary, u32>
     check_input(row, &mut fault)
 }
 
-/// The status of some bytes.
+/// The status of some bytes. The short way comes first: most rows hold no collection, and it counts in registers.
 fn status_of_bytes(row: &[u8]) -> u32
     ensures status { IsStatusOf row.now result }
     ensures known { result < NULL_ROW }

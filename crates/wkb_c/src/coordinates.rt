@@ -33,6 +33,15 @@ pub struct Totals {
     pub singles: u64,
 }
 
+/// The slices that the levels are written to.
+#[repr(C)]
+#[derive(Drop)]
+pub struct LevelSlices<'a> {
+    pub words: &'a mut [u64],
+    pub ring_ends: &'a mut [u64],
+    pub single_ends: &'a mut [u64],
+}
+
 /// What the parts of a table are counted as.
 #[derive(Clone, Copy)]
 pub enum Level {

@@ -22,8 +22,9 @@ ghost use Rattle.wkb.specs.Canonical.{IsAccepted};
 ghost use Rattle.wkb_check.specs.Bounded.{BoundsFront};
 ghost use Rattle.wkb_c.specs.Boxes.{AreRowBoxes};
 ghost use Rattle.wkb_c.specs.Checks.{IsFound};
-ghost use Rattle.wkb_c.specs.Columns.{column as column_of, AreStatuses};
-ghost use Rattle.wkb_c.specs.Coordinates.{AreLevels, levels};
+ghost use Rattle.wkb_c.specs.Columns.{AreStatuses};
+ghost use Rattle.wkb_c.specs.Coordinates.{AreLevels};
+ghost use Rattle.wkb_c.specs.LevelLists.{levels_of, AreSameSlices};
 ghost use Rattle.wkb_c.specs.Requests.{request_of};
 ghost use Rattle.wkb_c.specs.RowItems.{AreTables, AreEncodings, KeepsAfter, KeepsFrom, rows_of};
 ghost use Rattle.wkb_c.specs.Statuses.{IsFault, IsRefusedInTurn, IsComparison};
@@ -34,7 +35,7 @@ use bounds::bounds_input;
 use column::{Column, check_rows};
 use column_bounds::bound_rows;
 use column_items::{list_rows, write_rows};
-use coordinates::{Totals, put_row, row_parts};
+use coordinates::{LevelSlices, Totals, put_row, row_parts};
 use encoding::write_requested;
 use fault::{WkbFault, check_input};
 use found::{Found, found_of};
@@ -160,6 +161,7 @@ pub extern "C" fn wkb_raw_same(
     ensures fault_kept { (result ≡ OK) ⊎ (result ≡ NO_MEMORY) → fault.new ≡ fault.old }
     ensures which_kept { (result ≡ OK) ⊎ (result ≡ NO_MEMORY) → which.new ≡ which.old }
 {
+    // Only what the check accepts is read, so a refusal allocates nothing (docs/DECISIONS.md, D11).
     if let Err(status) = check_input(a, fault) {
         *which = FIRST;
         return status;
@@ -210,27 +212,11 @@ pub extern "C" fn wkb_raw_parts(
 /// Row i has the bytes from offset i up to offset i + 1. An offset is a signed little endian number of `offset_size`
 /// bytes, 4 or 8. A row is null where bit `validity_offset + i` of `validity` is 0. No row stops the others.
 #[unsafe(no_mangle)]
-pub extern "C" fn wkb_raw_column_check(
-    bytes: &[u8],
-    offsets: &[u8],
-    offset_size: usize,
-    validity: &[u8],
-    validity_offset: usize,
-    statuses: &mut [u8],
-)
-    ensures each { AreStatuses
-        (column_of bytes.now offsets.now offset_size validity.now validity_offset)
-        (length statuses.old) statuses.new }
+pub extern "C" fn wkb_raw_column_check(column: &Column<'_>, statuses: &mut [u8])
+    ensures each { AreStatuses column.now (length statuses.old) statuses.new }
     ensures as_many { length statuses.new ≡ length statuses.old }
 {
-    let column = Column {
-        bytes,
-        offsets,
-        offset_size,
-        validity,
-        validity_offset,
-    };
-    check_rows(&column, statuses);
+    check_rows(column, statuses);
 }
 
 /// The bounds of each row of a column: a status and a box a row, that of no coordinate for a row without bounds. It
@@ -239,30 +225,17 @@ pub extern "C" fn wkb_raw_column_check(
 /// The rows are those of `wkb_raw_column_check`. No row stops the others.
 #[unsafe(no_mangle)]
 pub extern "C" fn wkb_raw_column_bounds(
-    bytes: &[u8],
-    offsets: &[u8],
-    offset_size: usize,
-    validity: &[u8],
-    validity_offset: usize,
+    column: &Column<'_>,
     boxes: &mut [Bounds],
     statuses: &mut [u8],
 )
-    ensures each { AreRowBoxes
-        (column_of bytes.now offsets.now offset_size validity.now validity_offset)
-        (rows_of statuses.old boxes.old) statuses.new boxes.new }
+    ensures each { AreRowBoxes column.now (rows_of statuses.old boxes.old) statuses.new boxes.new }
     ensures statuses_kept { KeepsFrom (rows_of statuses.old boxes.old) statuses.old statuses.new }
     ensures boxes_kept { KeepsFrom (rows_of statuses.old boxes.old) boxes.old boxes.new }
     ensures as_many { length statuses.new ≡ length statuses.old }
     ensures as_many_boxes { length boxes.new ≡ length boxes.old }
 {
-    let column = Column {
-        bytes,
-        offsets,
-        offset_size,
-        validity,
-        validity_offset,
-    };
-    bound_rows(&column, boxes, statuses);
+    bound_rows(column, boxes, statuses);
 }
 
 /// Lists the parts of each row of a column after those of the rows before it, as far as there is room: a status a row,
@@ -272,18 +245,12 @@ pub extern "C" fn wkb_raw_column_bounds(
 #[unsafe(no_mangle)]
 pub extern "C" fn wkb_raw_column_parts(
     alloc: Global,
-    bytes: &[u8],
-    offsets: &[u8],
-    offset_size: usize,
-    validity: &[u8],
-    validity_offset: usize,
+    column: &Column<'_>,
     parts: &mut [Part],
     ends: &mut [u64],
     statuses: &mut [u8],
 )
-    ensures each { AreTables
-        (column_of bytes.now offsets.now offset_size validity.now validity_offset)
-        statuses.new ends.new parts.new }
+    ensures each { AreTables column.now statuses.new ends.new parts.new }
     ensures parts_kept { KeepsAfter (rows_of statuses.old ends.old) statuses.new ends.new
         parts.old parts.new }
     ensures statuses_kept { KeepsFrom (rows_of statuses.old ends.old) statuses.old statuses.new }
@@ -291,14 +258,7 @@ pub extern "C" fn wkb_raw_column_parts(
     ensures as_many { length statuses.new ≡ length statuses.old }
     ensures as_many_ends { length ends.new ≡ length ends.old }
 {
-    let column = Column {
-        bytes,
-        offsets,
-        offset_size,
-        validity,
-        validity_offset,
-    };
-    list_rows(alloc, &column, parts, ends, statuses);
+    list_rows(alloc, column, parts, ends, statuses);
 }
 
 /// Writes the encoding of each row of a column after those of the rows before it, as far as there is room: a status a
@@ -309,19 +269,13 @@ pub extern "C" fn wkb_raw_column_parts(
 #[unsafe(no_mangle)]
 pub extern "C" fn wkb_raw_column_write(
     alloc: Global,
-    bytes: &[u8],
-    offsets: &[u8],
-    offset_size: usize,
-    validity: &[u8],
-    validity_offset: usize,
+    column: &Column<'_>,
     options: &Options,
     out: &mut [u8],
     ends: &mut [u64],
     statuses: &mut [u8],
 )
-    ensures each { AreEncodings options.now
-        (column_of bytes.now offsets.now offset_size validity.now validity_offset)
-        statuses.new ends.new out.new }
+    ensures each { AreEncodings options.now column.now statuses.new ends.new out.new }
     ensures out_kept { KeepsAfter (rows_of statuses.old ends.old) statuses.new ends.new
         out.old out.new }
     ensures statuses_kept { KeepsFrom (rows_of statuses.old ends.old) statuses.old statuses.new }
@@ -329,14 +283,7 @@ pub extern "C" fn wkb_raw_column_write(
     ensures as_many { length statuses.new ≡ length statuses.old }
     ensures as_many_ends { length ends.new ≡ length ends.old }
 {
-    let column = Column {
-        bytes,
-        offsets,
-        offset_size,
-        validity,
-        validity_offset,
-    };
-    write_rows(alloc, &column, options, out, ends, statuses);
+    write_rows(alloc, column, options, out, ends, statuses);
 }
 
 /// Writes the coordinates of each row of a column after those of the rows before it, as far as there is room, in
@@ -346,43 +293,29 @@ pub extern "C" fn wkb_raw_column_write(
 #[unsafe(no_mangle)]
 pub extern "C" fn wkb_raw_column_coordinates(
     alloc: Global,
-    bytes: &[u8],
-    offsets: &[u8],
-    offset_size: usize,
-    validity: &[u8],
-    validity_offset: usize,
+    column: &Column<'_>,
     dimension: u32,
-    words: &mut [u64],
-    ring_ends: &mut [u64],
-    single_ends: &mut [u64],
+    out: &mut LevelSlices<'_>,
     row_ends: &mut [u64],
     totals: &mut Totals,
     statuses: &mut [u8],
 )
-    ensures each { AreLevels
-        (column_of bytes.now offsets.now offset_size validity.now validity_offset) dimension
-        statuses.new row_ends.new totals.new (levels words.old ring_ends.old single_ends.old)
-        (levels words.new ring_ends.new single_ends.new) }
+    ensures each { AreLevels column.now dimension statuses.new row_ends.new totals.new
+        (levels_of out.old) (levels_of out.new) }
+    ensures same_slices { AreSameSlices out.old out.new }
     ensures statuses_kept { KeepsFrom (rows_of statuses.old row_ends.old) statuses.old statuses.new }
     ensures row_ends_kept { KeepsFrom (rows_of statuses.old row_ends.old) row_ends.old row_ends.new }
     ensures as_many { length statuses.new ≡ length statuses.old }
     ensures as_many_ends { length row_ends.new ≡ length row_ends.old }
 {
-    let column = Column {
-        bytes,
-        offsets,
-        offset_size,
-        validity,
-        validity_offset,
-    };
     let mut at = Totals {
         coordinates: 0,
         rings: 0,
         singles: 0,
     };
     for i in 0..statuses.len().min(row_ends.len()) {
-        let status = match row_parts(alloc, &column, i, dimension) {
-            Ok(row) => put_row(&row, &mut at, words, ring_ends, single_ends),
+        let status = match row_parts(alloc, column, i, dimension) {
+            Ok(row) => put_row(&row, &mut at, out.words, out.ring_ends, out.single_ends),
             Err(status) => status,
         };
         statuses[i] = status as u8;

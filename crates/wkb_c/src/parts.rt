@@ -8,7 +8,7 @@ ghost use Rattle.wkb_geom.specs.Values.{multi_line_string as line_strings_of};
 ghost use Rattle.wkb_geom.specs.Values.{multi_polygon as polygons_of};
 ghost use Rattle.wkb_geom.specs.Stored.{whole_of};
 ghost use Rattle.wkb_view.specs.Coords.{ring_seen, ring_dimension, ring_order};
-ghost use Rattle.wkb_view.specs.Parts.{order_of};
+ghost use Rattle.wkb_view.specs.Spelled.{order_of};
 ghost use Rattle.wkb_view.specs.Views.{point_seen, line_string_seen, multi_point_seen};
 ghost use Rattle.wkb_c.specs.Tables.{geometry_entries, size_of_rings, size, sizes, IsTable};
 ghost use Rattle.wkb_c.specs.Tables.{LacksEntries, HasParts};
@@ -29,7 +29,7 @@ use wkb::reader::{
     Dimension, LineString, LinearRing, MultiLineString, MultiPoint, MultiPolygon, Point, Polygon,
     Wkb,
 };
-use wkb_geom::Header;
+use wkb_geom::Head;
 use wkb_geom::code::POINT;
 use wkb_geom::words::COUNT_SIZE;
 
@@ -90,12 +90,12 @@ fn count_size(kind: u32) -> usize
     if kind == POINT { 0 } else { COUNT_SIZE }
 }
 
-/// The head of the geometry that these bytes spell.
+/// The head of the geometry that these bytes spell. It is read from the bytes again, so one function serves all views.
 fn head_of(buf: &[u8]) -> PartHead
     requires { SpellSome buf.now }
     ensures { IsHeadOf buf.now result }
 {
-    let header = Header::read(buf).unwrap();
+    let header = Head::read(buf).unwrap();
     let layout = header.layout();
     let kind = header.wkb_type.kind();
     PartHead {
@@ -135,15 +135,24 @@ fn add(table: &mut Table, head: PartHead, count: u64, coordinates: u64) -> Resul
     Ok(())
 }
 
+impl Part {
+    ghost use Rattle.wkb_c.specs.Growing.{closed};
+
+    /// The same part, which ends at this byte, and its rings or members before this index.
+    fn with_end(self, end: u64, next: u64) -> Part
+        ensures { result ≡ closed end next self }
+    {
+        Part { end, next, ..self }
+    }
+}
+
 /// Ends the part at the index where the last of its rings or members ends.
 fn close(table: &mut Table, index: usize)
     requires { index < length table.old.parts.items }
     ensures { Closes table.old table.new index }
 {
-    let mut part = table.parts[index];
-    part.end = table.at;
-    part.next = table.parts.len() as u64;
-    table.parts[index] = part;
+    let part = table.parts[index];
+    table.parts[index] = part.with_end(table.at, table.parts.len() as u64);
 }
 
 fn add_point(table: &mut Table, point: &Point<'_>) -> Result<(), AllocError>

@@ -1,5 +1,6 @@
 use Rattle.wkb_c.proofs.Common.{◌≡◌, length}
-use Rattle.wkb_c.specs.Coordinates.{AreColumnCoordinates, levels}
+use Rattle.wkb_c.specs.Coordinates.{AreColumnCoordinates}
+use Rattle.wkb_c.specs.LevelLists.{levels_of, AreSameSlices}
 use Rattle.wkb_c.specs.RowItems.{KeepsFrom}
 use Rattle.wkb_c.proofs.wkb_raw_column_coordinates.Given as goal
 
@@ -10,6 +11,6 @@ invariant-loop-i l = record {
   statuses_kept : KeepsFrom l.i-end l.initial.statuses l.statuses;
   ends_kept : KeepsFrom l.i-end l.initial.row_ends l.row_ends;
   done : AreColumnCoordinates l.column l.dimension l.statuses l.row_ends
-      (levels l.initial.words l.initial.ring_ends l.initial.single_ends) l.i l.at
-      (levels l.words l.ring_ends l.single_ends);
+      (levels_of l.initial.out) l.i l.at (levels_of l.out);
+  same_slices : AreSameSlices l.initial.out l.out;
 }
