@@ -13,9 +13,9 @@
  * a process with threads. wkb_check, wkb_bounds and their column calls never allocate. The other calls check first: for
  * a refused input they allocate nothing, whatever its counts claim, and never return WKB_STATUS_NO_MEMORY. What they
  * allocate with malloc they free before they return: at most 32 bytes for each byte of BUF (only tested), and beside
- * these the table of parts, which the coordinates of a row need too, or the two encodings that wkb_same compares.
- * wkb_write writes into OUT only. Numbers in BUF may have either byte order and any alignment; numbers in the structs
- * have the machine's.
+ * these the table of parts, which the coordinates of a row need too, or wkb_same's copy of each input that isn't a
+ * little endian ISO encoding already. wkb_write writes into OUT only. Numbers in BUF may have either byte order and any
+ * alignment; numbers in the structs have the machine's.
  *
  * Structs, numbers and names don't change within version 1. Later versions add calls and statuses. */
 #ifndef WKB_H

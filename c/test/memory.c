@@ -43,7 +43,15 @@ static size_t refused_in_turn(call called, const uint8_t *bytes, size_t len) {
   }
 }
 
-/* Single inputs: a check never asks, a refused input neither. */
+/* Whether an input begins with what wkb_write makes of it: wkb_same doesn't copy such an input. */
+static bool is_as_written(const uint8_t *bytes, size_t len) {
+  uint8_t out[128];
+  uint64_t size;
+  return wkb_write(bytes, len, &LITTLE_ISO, out, sizeof out, &size, NULL) == WKB_STATUS_OK &&
+         memcmp(out, bytes, size) == 0;
+}
+
+/* Single inputs: a check never asks, a refused input neither. A comparison reads twice. */
 static void inputs_without_memory(void) {
   uint8_t bytes[128];
   for (int i = 0; i < ANSWER_COUNT; i++) {
@@ -61,10 +69,11 @@ static void inputs_without_memory(void) {
     allowed = SIZE_MAX;
     uint32_t kind = a->found.kind;
     bool has_list = a->found.parts > 1 && kind != WKB_KIND_MULTI_POINT;
-    size_t lists = has_list ? 1 : 0;
-    expect((refused_in_turn(written, bytes, len) > 0) == has_list, "blocks of an encoding", a->input);
+    size_t lists = refused_in_turn(written, bytes, len);
+    size_t copies = is_as_written(bytes, len) ? 0 : 2;
+    expect((lists > 0) == has_list, "blocks of an encoding", a->input);
     expect(refused_in_turn(listed, bytes, len) > lists, "blocks of a table", a->input);
-    expect(refused_in_turn(compared, bytes, len) > 2 * lists, "blocks of a comparison", a->input);
+    expect(refused_in_turn(compared, bytes, len) == 2 * lists + copies, "blocks of a comparison", a->input);
   }
 }
 
