@@ -187,6 +187,9 @@ impl Dimensioned for LineString<'_> {
 
 impl<'a> LineStringTrait for LineString<'a> {
     ghost use Rattle.std.specs.Prelude.{◌≡◌, length, option_map, IfSome, ◌<◌, Some, slice_get};
+    ghost use Rattle.std.specs.Prelude.{IsSome, ◌↔◌};
+    ghost use Rattle.std.specs.List.{flat_map};
+    ghost use Rattle.wkb_geom.specs.Encodings.{words_encoding};
     ghost use Rattle.wkb_view.specs.Coords.{words_seen, coord_order, coord_dimension};
     ghost use Rattle.wkb_view.specs.Coords.{coord_encoding};
     ghost use Rattle.wkb_view.specs.Ranges.{line_string_lawful};
@@ -206,7 +209,11 @@ impl<'a> LineStringTrait for LineString<'a> {
     }
 
     #[inline]
-    fn standing(&self, order: Endianness) -> Option<&[u8]> {
+    fn standing(&self, order: Endianness) -> Option<&[u8]>
+        ensures written { IfSome result
+            (λ b. b.now ≡ flat_map (words_encoding order) (line_string_coordinates self.now)) }
+        ensures own_order { IsSome result ↔ (line_string_order self.now ≡ order) }
+    {
         if self.layout.order == order {
             Some(self.coords_slice())
         } else {

@@ -123,6 +123,9 @@ impl Dimensioned for LinearRing<'_> {
 
 impl<'a> LineStringTrait for LinearRing<'a> {
     ghost use Rattle.std.specs.Prelude.{◌≡◌, length, option_map, IfSome, ◌<◌, Some, slice_get};
+    ghost use Rattle.std.specs.Prelude.{IsSome, ◌↔◌};
+    ghost use Rattle.std.specs.List.{flat_map};
+    ghost use Rattle.wkb_geom.specs.Encodings.{words_encoding};
     ghost use Rattle.wkb_view.specs.Coords.{words_seen, coord_order, coord_dimension};
     ghost use Rattle.wkb_view.specs.Coords.{coord_encoding, ring_order, ring_dimension, ring_seen};
     ghost use Rattle.wkb_view.specs.Coords.{ring_coord_bytes};
@@ -141,7 +144,11 @@ impl<'a> LineStringTrait for LinearRing<'a> {
     }
 
     #[inline]
-    fn standing(&self, order: Endianness) -> Option<&[u8]> {
+    fn standing(&self, order: Endianness) -> Option<&[u8]>
+        ensures written { IfSome result
+            (λ b. b.now ≡ flat_map (words_encoding order) (ring_seen self.now)) }
+        ensures own_order { IsSome result ↔ (ring_order self.now ≡ order) }
+    {
         if self.order == order {
             Some(self.coords_slice())
         } else {

@@ -6,8 +6,8 @@ use Rattle.wkb_view.specs.Coords.{ring_seen}
 use Rattle.wkb_view.proofs.Standing.{ring_stands}
 use Rattle.wkb_view.proofs.linear_ring.LinearRingLineStringTrait.standing.Goals as goal
 
-pub returns-then-eq : goal.returns-then-eq
-returns-then-eq c =
+pub returns-then-eq-clause-written : goal.returns-then-eq-clause-written
+returns-then-eq-clause-written c =
     let r = c.args.self.now in
     let same : r.order ≡ c.args.order = search rules in
     c.coords_slice.ensures.encoding
