@@ -210,7 +210,7 @@ impl<'a> LineStringTrait for LineString<'a> {
 
     #[inline]
     fn standing(&self, order: Endianness) -> Option<&[u8]>
-        ensures written { IfSome result
+        ensures bytes { IfSome result
             (λ b. b.now ≡ flat_map (words_encoding order) (line_string_coordinates self.now)) }
         ensures own_order { IsSome result ↔ (line_string_order self.now ≡ order) }
     {

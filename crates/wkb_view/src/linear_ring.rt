@@ -145,7 +145,7 @@ impl<'a> LineStringTrait for LinearRing<'a> {
 
     #[inline]
     fn standing(&self, order: Endianness) -> Option<&[u8]>
-        ensures written { IfSome result
+        ensures bytes { IfSome result
             (λ b. b.now ≡ flat_map (words_encoding order) (ring_seen self.now)) }
         ensures own_order { IsSome result ↔ (ring_order self.now ≡ order) }
     {

@@ -6,8 +6,8 @@ use Rattle.wkb_view.specs.Ranges.{AreBytes-drop}
 use Rattle.wkb_view.proofs.Standing.{ring_stands}
 use Rattle.wkb_view.proofs.line_string.LineStringLineStringTrait.standing.Goals as goal
 
-pub returns-then-eq-clause-written : goal.returns-then-eq-clause-written
-returns-then-eq-clause-written c =
+pub returns-then-eq-clause-bytes : goal.returns-then-eq-clause-bytes
+returns-then-eq-clause-bytes c =
     let l = c.args.self.now in
     let start = body_start l.layout.has_srid in
     let ring = drop start l.buf.now in

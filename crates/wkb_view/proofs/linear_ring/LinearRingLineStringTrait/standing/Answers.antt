@@ -6,8 +6,8 @@ use Rattle.wkb_view.specs.Coords.{ring_seen}
 use Rattle.wkb_view.proofs.Standing.{ring_stands}
 use Rattle.wkb_view.proofs.linear_ring.LinearRingLineStringTrait.standing.Goals as goal
 
-pub returns-then-eq-clause-written : goal.returns-then-eq-clause-written
-returns-then-eq-clause-written c =
+pub returns-then-eq-clause-bytes : goal.returns-then-eq-clause-bytes
+returns-then-eq-clause-bytes c =
     let r = c.args.self.now in
     let same : r.order ≡ c.args.order = search rules in
     c.coords_slice.ensures.encoding
