@@ -5,7 +5,7 @@ unfoldable pub use Rattle.wkb_geom.specs.Reading.{geometry_at}
 pub use Rattle.wkb_geom.specs.Stored.{Listed, whole_of, value_code, rings_code, polygons_code, item_code, listed_code}
 pub use Rattle.wkb_geom.specs.Fronts.{HasNoFront}
 pub use Rattle.wkb_read.specs.Reads.{IsFront, IsOnlyFront, IsRefusal, TellsEach, IfRefused, IfMemory, CountsValue}
-pub use Rattle.wkb_read.specs.Reads.{CountsRefusal, CountsAtMost, CanBeWritten, AsksForNone, KindTakesNone}
+pub use Rattle.wkb_read.specs.Reads.{CountsRefusal, CountsAtMost, CanBeWritten, AsksForNone, BeginsNone, KindTakesNone}
 pub use Rattle.wkb_read.specs.Reads.{TakesNoMemory, Reads, Costs}
 pub use Rattle.wkb_read.specs.Seen.{geometry_seen, members_seen, geometry_lawful, members_lawful, one_dimension_seen}
 pub use Rattle.wkb_read.specs.Seen.{seen_as_it_is, members_as_they_are}
@@ -40,6 +40,6 @@ pub use Rattle.wkb_geom.specs.declared.geom.GeometryType.TheVariants as handed
 pub use Rattle.wkb_geom.specs.declared.header.Layout.{Layout}
 pub use Rattle.wkb_geom.specs.Reading.{Reading, Cost}
 pub use Rattle.wkb_read.specs.Memory.{IsNotMemory}
-pub use Rattle.wkb_read.specs.Types.{geometry_type_of}
+pub use Rattle.wkb_read.specs.Types.{geometry_type_of, IsListed}
 pub use Rattle.wkb_read.specs.declared.geometry_type.GeometryType.{GeometryType as GeometryKind}
 pub use Rattle.wkb_read.specs.declared.geometry_type.GeometryType.TheVariants as kinds

@@ -1,9 +1,14 @@
 -- Inputs that take no memory, by their headers.
-use Rattle.wkb_read.proofs.Prelude.{◌≡◌, ℕ, ◌+◌, ◌<◌, Bool, List, length, drop, Ok, Err, refl, subst, arith, WkbType}
-use Rattle.wkb_read.proofs.Prelude.{Endianness, max_nesting, Item, Reading, head_at, type_kind, type_dimension, laid}
-use Rattle.wkb_read.proofs.Prelude.{geometry_at, srid_size, Agrees, geometry_agrees_lem, TypeTakesNone}
-use Rattle.wkb_read.proofs.Prelude.{ReadsWithoutMemory, AsksForNone, KindTakesNone, TakesNoMemory}
+use Rattle.wkb_read.proofs.Prelude.{◌≡◌, ℕ, zero, suc, ◌+◌, Bool, true, false, ltb, List, length, drop, Ok, Err, refl}
+use Rattle.wkb_read.proofs.Prelude.{subst, arith, WkbType, Endianness, Layout, max_nesting, Item, Reading, and_then}
+use Rattle.wkb_read.proofs.Prelude.{head_at, type_kind, type_dimension, laid, body_start, count_in, parts_start}
+use Rattle.wkb_read.proofs.Prelude.{repeated, collection_at, geometry_at, Agrees, geometry_agrees_lem, HasNoMembers}
+use Rattle.wkb_read.proofs.Prelude.{TypeTakesNone, ReadsWithoutMemory, AsksForNone, BeginsNone, KindTakesNone}
+use Rattle.wkb_read.proofs.Prelude.{TakesNoMemory, closing}
+use Rattle.std.proofs.lemmas.Bool.{ltb-true, ltb-false, le-ltb}
+use Rattle.wkb_view.specs.Entries.{entries_asked}
 use Rattle.wkb_geom.specs.declared.code.WkbType.TheVariants as kinds
+use Rattle.wkb_read.proofs.Algebra.{and_then-least}
 use Rattle.wkb_read.proofs.Bodies.{behind_header, head_opens}
 
 -- what asks for no entry costs none
@@ -14,14 +19,47 @@ asked_by buf (c, Err f) none h = none.refusal f c.turns c.slots h
 asked : (buf : List ℕ) (r : Reading Item) → AsksForNone buf → geometry_at max_nesting buf ≡ r → r.0.slots ≡ 0
 asked buf r none e = asked_by buf r none (subst (Agrees buf) e (geometry_agrees_lem buf))
 
+-- what begins no part takes no turn
+takes_no_turn_by : (buf : List ℕ) (r : Reading Item) → BeginsNone buf → Agrees buf r → r.0.turns ≡ 0
+takes_no_turn_by buf (c, Ok x) none h = omega (arith, h.1, none.front x.0.spelled x.0.value x.1 h.0)
+takes_no_turn_by buf (c, Err f) none h = none.refusal f c.turns c.slots h
+
+takes_no_turn : (buf : List ℕ) (r : Reading Item) → BeginsNone buf → geometry_at max_nesting buf ≡ r → r.0.turns ≡ 0
+takes_no_turn buf r none e = takes_no_turn_by buf r none (subst (Agrees buf) e (geometry_agrees_lem buf))
+
+-- parts that take no turn are none
+no_parts : {A B : Type 0} (n : ℕ) (part : List ℕ → Reading A) (bytes : List ℕ) (end : List A → List ℕ → Reading B)
+    → (and_then (repeated n part bytes) end).0.turns ≡ 0 → n ≡ 0
+unfolding repeated
+no_parts zero part bytes end none = refl
+no_parts (suc n) part bytes end none =
+    absurd (omega (arith, none, (and_then-least (repeated (suc n) part bytes) end).0))
+
+-- a collection that takes no turn has no members
+no_members_in : (member : List ℕ → Reading Item) (l : Layout) (bytes : List ℕ)
+    → (collection_at member l bytes).0.turns ≡ 0 → HasNoMembers l bytes
+unfolding collection_at
+no_members_in member l bytes none = λ whole.
+    let long : ltb (length bytes) (body_start l.has_srid + 4) ≡ false = le-ltb _ _ whole in
+    no_parts (count_in l bytes) member (parts_start l.has_srid bytes) (closing l bytes) (omega (arith, rw long at none))
+
+-- where there are no members, no entry is asked for
+asked_if : (l : Layout) (bytes : List ℕ) (b : Bool) → ltb (length bytes) (body_start l.has_srid + 4) ≡ b
+    → HasNoMembers l bytes → entries_asked 9 l bytes ≡ 0
+asked_if l bytes true is none = let cut = ltb-true _ _ is in omega (arith, cut)
+asked_if l bytes false is none = let count = none (ltb-false _ _ is) in omega (arith, count)
+
+pub none_asked : (l : Layout) (bytes : List ℕ) → HasNoMembers l bytes → entries_asked 9 l bytes ≡ 0
+none_asked l bytes none = asked_if l bytes _ refl none
+
 by_kind : (buf : List ℕ) (type : WkbType) (order : Endianness) (srid : Bool)
     → head_at buf ≡ Ok (record { order = order; wkb_type = type; has_srid = srid })
-    → KindTakesNone (type_kind type) srid buf → TypeTakesNone type (laid order (type_dimension type) srid) buf
+    → KindTakesNone (type_kind type) buf → TypeTakesNone type (laid order (type_dimension type) srid) buf
 by_kind buf (kinds.Polygon d) order srid e k = asked buf _ (k.polygon refl) (behind_header 0 buf _ e)
 by_kind buf (kinds.MultiLineString d) order srid e k = asked buf _ (k.multi_line_string refl) (behind_header 0 buf _ e)
 by_kind buf (kinds.MultiPolygon d) order srid e k = asked buf _ (k.multi_polygon refl) (behind_header 0 buf _ e)
 by_kind buf (kinds.GeometryCollection d) order srid e k =
-    let short : length buf < 9 + srid_size srid = k.collection refl in omega arith
+    no_members_in _ _ buf (takes_no_turn buf _ (k.collection refl) (behind_header 0 buf _ e))
 by_kind buf _ order srid e k = tt
 
 pub without_memory : (buf : List ℕ) → TakesNoMemory buf → ReadsWithoutMemory buf

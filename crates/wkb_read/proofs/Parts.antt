@@ -2,8 +2,10 @@
 use Rattle.wkb_read.proofs.Prelude.{◌≡◌, ℕ, List, [], ◌∷◌, map, refl, sym, ap, ◌∙◌, slice_get, Option, Some, None}
 use Rattle.wkb_read.proofs.Prelude.{option_map, Bor, length, Value, Values, Coordinate, Listed, Geometry, Geometries}
 use Rattle.wkb_read.proofs.Prelude.{geometries, geometry_of, geometries_of, IsGeometry, Item, values, geometry_seen}
-use Rattle.wkb_read.proofs.Prelude.{members_seen}
+use Rattle.wkb_read.proofs.Prelude.{members_seen, AreMembers, IsMemberAt}
+use Rattle.wkb_read.proofs.Placed.{is_member_at}
 use Rattle.std.proofs.lemmas.Bool.{ltb-true, ltb-false}
+use Rattle.std.proofs.lemmas.List.{length-map}
 use Rattle.std.proofs.lemmas.Option.{slice_get-map, slice_get_past, slice_get_read}
 use Rattle.std.specs.Slice.{IsItemAt}
 use Rattle.wkb_geom.specs.Dimensions.{as_dimensions}
@@ -30,24 +32,33 @@ pub members_are : (ms : List Item) → map geometry_seen ms ≡ members_seen (va
 members_are [] = refl
 members_are (m ∷ ms) = ap (λ (gs : List Geometry). geometry_seen m ∷ gs) (members_are ms)
 
--- a member that was found is seen so
-pub member_seen : (ms : List Item) (i : ℕ) (found : Option Item) → found ≡ slice_get ms i
-    → option_map geometry_seen found ≡ slice_get (members_seen (values ms)) i
-member_seen ms i found e =
-    ap (λ (o : Option Item). option_map geometry_seen o) e ∙ sym (slice_get-map geometry_seen ms i)
-    ∙ ap (λ (gs : List Geometry). slice_get gs i) (members_are ms)
-
 -- what `get` finds is the item at this index
-pub found_at : {A : Type 0} (xs : List A) (i : ℕ) (found : Option (Bor A)) → IsItemAt xs i found
+found_at : {A : Type 0} (xs : List A) (i : ℕ) (found : Option (Bor A)) → IsItemAt xs i found
     → option_map (λ b. b.now) found ≡ slice_get xs i
 found_at xs i None h = sym (slice_get_past xs i (ltb-false i (length xs) (sym h.0)))
 found_at xs i (Some b) h = sym (slice_get_read xs (length xs) i b.now refl (ltb-true i (length xs) (sym h.0)) h.1)
 
--- a member that was found means what the member at this index means
-pub found_means : (found : Option (Bor Item))
+found_means : (found : Option (Bor Item))
     → option_map (λ g. geometry_seen g.now) found ≡ option_map geometry_seen (option_map (λ g. g.now) found)
 found_means None = refl
 found_means (Some g) = refl
+
+-- there are as many geometries as members that mean them
+pub members_counted : (gs : List Geometry) (ms : List Item) (n : ℕ) → map geometry_seen ms ≡ gs → n ≡ length ms
+    → n ≡ length gs
+members_counted gs ms n means is = is ∙ sym (length-map ms geometry_seen) ∙ ap length means
+
+-- what `get` finds in the members means what the member at this index means
+pub member_means : (gs : List Geometry) (ms : List Item) (i : ℕ) (found : Option (Bor Item)) → map geometry_seen ms ≡ gs
+    → IsItemAt ms i found → option_map (λ g. geometry_seen g.now) found ≡ slice_get gs i
+member_means gs ms i found means is =
+    found_means found ∙ ap (λ (o : Option Item). option_map geometry_seen o) (found_at ms i found is)
+    ∙ sym (slice_get-map geometry_seen ms i) ∙ ap (λ (hs : List Geometry). slice_get hs i) means
+
+-- what `get` finds in a collection's members is the collection's member of this number
+pub member_is : (whole : Listed Values) (ms : List Item) (i : ℕ) (found : Option (Bor Item)) → AreMembers whole ms
+    → IsItemAt ms i found → IsMemberAt whole i (option_map (λ g. g.now) found)
+member_is whole ms i found are is = is_member_at whole ms i _ are (found_at ms i found is)
 
 -- the members in one geometry
 pub members_together : (vs : Values) → geometries (members_seen vs) ≡ fitted_geometries (geometries_of vs)

@@ -1,6 +1,6 @@
 -- The words that the proofs of this crate share, passed on from one place. Declares nothing.
 pub use Rattle.std.proofs.Common.{◌≡◌, ℕ, zero, suc, ◌+◌, ◌-◌, ◌*◌, ◌/◌, ◌<◌, ◌≤◌, min, List, [], ◌∷◌, ◌++◌, length}
-pub use Rattle.std.proofs.Common.{take, drop, map, reverse, slice_set, slice_index_or, vec_len, Bool, false, ltb}
+pub use Rattle.std.proofs.Common.{take, drop, map, reverse, slice_set, slice_index_or, vec_len, Bool, true, false, ltb}
 pub use Rattle.std.proofs.Common.{Option, Some, None, Result, Ok, Err, refl, sym, ap, subst, ◌∙◌, append_assoc}
 pub use Rattle.std.proofs.Common.{append-nil, length-append, length-drop, length-set, take_all, take-suc, take-suc-set}
 pub use Rattle.std.proofs.Common.{add_assoc, zero-add, arith, rules}
@@ -18,21 +18,22 @@ pub use Rattle.wkb_read.specs.Prelude.{Geometries, geometries, geometry_of, geom
 pub use Rattle.wkb_read.specs.Prelude.{free, one_turn, Outcome, Reading, costs, done, list_item, collection_with}
 pub use Rattle.wkb_read.specs.Prelude.{collection_within, layout_of, laid, at_no_cost, and_then, consumed, body_start}
 pub use Rattle.wkb_read.specs.Prelude.{parts_start, type_kind, type_dimension, too_deep, body_at, values, spellings}
-pub use Rattle.wkb_read.specs.Prelude.{Refuses, srid_size, any, Listed, Tells, TellsRefusal, Coordinate, Value, Values}
+pub use Rattle.wkb_read.specs.Prelude.{Refuses, any, Listed, Tells, TellsRefusal, Coordinate, Value, Values}
 pub use Rattle.wkb_read.specs.Prelude.{collection, member_count, listed_count, Counts, HasHead, IsCause, Spent, AtMost}
-pub use Rattle.wkb_read.specs.Prelude.{CanCount, Stops, BytesSpell}
+pub use Rattle.wkb_read.specs.Prelude.{CanCount, Stops, BytesSpell, count_in}
 unfoldable pub use Rattle.wkb_read.specs.Prelude.{repeated, by_type, geometry_at, collection_at, head_at}
 pub use Rattle.wkb_laws.specs.Laws.{Agrees}
 pub use Rattle.wkb_laws.proofs.GeometryAt.{geometry_agrees_lem}
 pub use Rattle.wkb_read.specs.declared.geometry.Wkb.{Wkb}
 pub use Rattle.wkb_read.specs.declared.read.stack.Begun.TheVariants.{Whole, Opened}
 pub use Rattle.wkb_read.specs.declared.read.stack.Open.{Open}
-pub use Rattle.wkb_read.specs.Memory.{IsNotMemory, TypeTakesNone, ReadsWithoutMemory}
+pub use Rattle.wkb_read.specs.Memory.{IsNotMemory, HasNoMembers, TypeTakesNone, ReadsWithoutMemory}
 pub use Rattle.wkb_read.specs.Placed.{joined_encodings, parts_in, closing, HoldsMembers, IsCollectionIn, AreMembers}
 pub use Rattle.wkb_read.specs.Placed.{IsMemberAt}
 pub use Rattle.wkb_geom.specs.Fronts.{HasNoFront}
 pub use Rattle.wkb_read.specs.Reads.{IsFront, IsOnlyFront, IsRefusal, TellsEach, IfRefused, IfMemory, CountsValue}
-pub use Rattle.wkb_read.specs.Reads.{CountsRefusal, CountsAtMost, AsksForNone, KindTakesNone, TakesNoMemory}
+pub use Rattle.wkb_read.specs.Reads.{CountsRefusal, CountsAtMost, AsksForNone, BeginsNone, KindTakesNone}
+pub use Rattle.wkb_read.specs.Reads.{TakesNoMemory}
 pub use Rattle.wkb_read.specs.Seen.{geometry_seen, members_seen, seen_as_it_is}
 pub use Rattle.wkb_read.specs.Stack.{geometry_inside, after_member, in_collection, outward, first_member, cost_of}
 pub use Rattle.wkb_read.specs.Stack.{next_turn, IsOpen, AreOpen, IsFinished, collection_inside, BeginsAs, ReadsAs}

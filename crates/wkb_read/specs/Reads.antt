@@ -1,7 +1,7 @@
 -- What the result of reading says of the input.
-use Rattle.std.specs.Prelude.{◌≡◌, ℕ, ◌+◌, ◌*◌, ◌<◌, ◌≤◌, List, length, Bool, Result, Ok, Err, IfOk, IfErr}
+use Rattle.std.specs.Prelude.{◌≡◌, ℕ, ◌+◌, ◌*◌, ◌≤◌, List, length, Bool, Result, Ok, Err, IfOk, IfErr}
 use Rattle.wkb_read.specs.Prelude.{Endianness, Dimension, Iso, WkbError, Value, member_count, listed_count, Spelling, any}
-use Rattle.wkb_read.specs.Prelude.{Front, HasNoFront, max_nesting, Cause, Refuses, Opens, srid_size, Tells, geometry_of}
+use Rattle.wkb_read.specs.Prelude.{Front, HasNoFront, max_nesting, Cause, Refuses, Opens, Tells, geometry_of}
 use Rattle.wkb_read.specs.Prelude.{IsWritable, Item, Counts, IsGeometry, normal}
 use Rattle.wkb_read.specs.Memory.{IsNotMemory}
 use Rattle.wkb_read.specs.Seen.{geometry_seen}
@@ -67,18 +67,23 @@ pub record AsksForNone (buf : List ℕ) : Type 0 where
   pub front : (s : Spelling) (t : Value) (rest : List ℕ) → Front buf s t rest → listed_count t ≡ 0
   pub refusal : (cause : Cause) (turns slots : ℕ) → Refuses max_nesting any buf cause turns slots → slots ≡ 0
 
+-- no ring and no member of the input is begun
+pub record BeginsNone (buf : List ℕ) : Type 0 where
+  pub front : (s : Spelling) (t : Value) (rest : List ℕ) → Front buf s t rest → member_count t ≡ 0
+  pub refusal : (cause : Cause) (turns slots : ℕ) → Refuses max_nesting any buf cause turns slots → turns ≡ 0
+
 -- A geometry of this kind takes no memory: a point, a line string or a multi point; a list of rings, line strings or
--- polygons that asks for no entry; a collection whose count is missing.
-pub record KindTakesNone (k : ℕ) (srid : Bool) (buf : List ℕ) : Type 0 where
+-- polygons that asks for no entry; a collection of which no member is begun.
+pub record KindTakesNone (k : ℕ) (buf : List ℕ) : Type 0 where
   pub polygon : k ≡ 3 → AsksForNone buf
   pub multi_line_string : k ≡ 5 → AsksForNone buf
   pub multi_polygon : k ≡ 6 → AsksForNone buf
-  pub collection : k ≡ 7 → length buf < 9 + srid_size srid
+  pub collection : k ≡ 7 → BeginsNone buf
 
 -- if the input begins with a header, the geometry after it takes no memory
 abbrev pub TakesNoMemory : List ℕ → Type 0
 TakesNoMemory buf = (order : Endianness) (k : ℕ) (d : Dimension) (srid : Bool) (behind : List ℕ)
-    → Opens buf order k d srid behind → KindTakesNone k srid buf
+    → Opens buf order k d srid behind → KindTakesNone k buf
 
 -- What a result says of the bytes: a geometry is the one at the front, and means what its value means; an error gives
 -- the one refusal; and an allocation failure is reported only where memory is taken.

@@ -15,3 +15,10 @@ geometry_type_of (multi_point d points) = MultiPoint
 geometry_type_of (multi_line_string d lines) = MultiLineString
 geometry_type_of (multi_polygon d polygons) = MultiPolygon
 geometry_type_of (collection d ts) = GeometryCollection
+
+-- a geometry of this value is kept with a list: of the ends of its rings or line strings, of its polygons or members
+abbrev pub IsListed : Value → Type 0
+IsListed (point d c) = ⊥
+IsListed (line_string d cs) = ⊥
+IsListed (multi_point d points) = ⊥
+IsListed _ = Unit {0}

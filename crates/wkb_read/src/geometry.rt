@@ -202,26 +202,28 @@ impl<'a> GeometryCollectionTrait for GeometryCollection<'a> {
         self.members.as_slice()
     }
 
+    #[tactic(auto, using(crate::proofs::Parts::members_counted))]
     #[inline]
     fn num_geometries(&self) -> usize {
-        self.members.len()
+        self.geometries().len()
     }
 
+    #[tactic(auto, using(crate::proofs::Parts::member_means, crate::proofs::Parts::member_is))]
     #[inline]
     fn geometry(&self, i: usize) -> Option<&Wkb<'a>>
         ensures member { option_map (λ g. geometry_seen g.now) result
             ≡ slice_get (members_seen self.now.parts) i }
         ensures one { IsMemberAt self.now i (option_map (λ g. g.now) result) }
     {
-        self.members.get(i)
+        self.geometries().get(i)
     }
 }
 
 impl<'a> Wkb<'a> {
-    ghost use Rattle.std.specs.Prelude.{◌≡◌, true, IfOk, IfSome, IsSome};
+    ghost use Rattle.std.specs.Prelude.{◌≡◌, true, IfOk, IfErr, IfSome, IsSome};
     ghost use Rattle.wkb_read.specs.Prelude.{srid_of, dimension, IsCollection, BytesSpell, IsSpelledAsWritten};
     ghost use Rattle.wkb_read.specs.Placed.{collection_seen};
-    ghost use Rattle.wkb_read.specs.Types.{geometry_type_of};
+    ghost use Rattle.wkb_read.specs.Types.{geometry_type_of, IsListed};
     ghost use Rattle.wkb_read.specs.Reads.{Reads};
 
     /// The geometry at the front of the bytes, as `read_wkb` returns it.
@@ -336,7 +338,8 @@ impl<'a> Wkb<'a> {
     /// A copy with lists of its own.
     #[cycle(clones)]
     pub fn clone(&self) -> Result<Wkb<'a>, AllocError>
-        ensures { IfOk result (λ w. w ≡ self.now) }
+        ensures same { IfOk result (λ w. w ≡ self.now) }
+        ensures listed { IfErr result (λ e. IsListed self.now.value) }
     {
         let kind = match &self.kind {
             View::Point(point) => View::Point(*point),

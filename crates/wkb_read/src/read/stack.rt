@@ -3,8 +3,8 @@
 ghost use Rattle.wkb_geom.specs.declared.code.WkbType.TheVariants as kinds;
 ghost use Rattle.std.specs.Prelude.{◌≡◌, ◌++◌, ◌∷◌, [], ◌+◌, ◌<◌, ◌^◌, length, reverse};
 ghost use Rattle.std.specs.Prelude.{IfOk, IfErr};
-ghost use Rattle.wkb_read.specs.Prelude.{max_nesting, body_start, HasHead, CanCount};
-ghost use Rattle.wkb_read.specs.Memory.{NeedsNone};
+ghost use Rattle.wkb_read.specs.Prelude.{max_nesting, HasHead, CanCount};
+ghost use Rattle.wkb_read.specs.Memory.{HasNoMembers, NeedsNone};
 ghost use Rattle.wkb_read.specs.Stack.{collection_inside, outward, first_member, cost_of, next_turn};
 ghost use Rattle.wkb_read.specs.Stack.{IsOpen, AreOpen, IsFinished, BeginsAs, Settles, ReadsAs};
 
@@ -47,7 +47,7 @@ pub(crate) fn begin_collection<'a>(
     requires fits { CanCount counts.old (collection_inside layout depth bytes.now).0 }
     ensures shallow { IfOk result (λ begun. depth < max_nesting) }
     ensures begins { BeginsAs (collection_inside layout) depth bytes.now result counts.old counts.new }
-    ensures no_memory { length bytes.now < body_start layout.has_srid + 4 → NeedsNone result }
+    ensures no_memory { HasNoMembers layout bytes.now → NeedsNone result }
 {
     if depth >= MAX_WKB_NESTING_DEPTH {
         return Err(Refusal::Cause(Cause::NestingDepthExceeded(MAX_WKB_NESTING_DEPTH)));

@@ -7,6 +7,7 @@ use Rattle.wkb_view.proofs.Lists.{parts_length, entries_within, list_refused}
 use Rattle.wkb_view.specs.Entries.{entries, entries_asked, HasNoList}
 use Rattle.wkb_read.proofs.Placed.{closed, front_taken}
 use Rattle.wkb_read.proofs.Opens.{opens, without_members, first_begins, too_many_around}
+use Rattle.wkb_read.proofs.NoMemory.{none_asked}
 use Rattle.wkb_read.proofs.read.stack.begin_collection.Goals as goal
 
 pub returns-then-count-eq0-clause-begins : goal.returns-then-count-eq0-clause-begins
@@ -70,7 +71,8 @@ returns-then-depth-ge-MAX_WKB_NESTING_DEPTH-clause-begins c =
     c.if-depth-ge-MAX_WKB_NESTING_DEPTH.true
 
 pub returns-clause-no_memory : goal.returns-clause-no_memory
-returns-clause-no_memory c = λ short. absurd (omega (arith, short, c.in_ok-count.ensures.whole))
+returns-clause-no_memory c = λ none.
+    let asked = none c.in_ok-count.ensures.whole in absurd (omega (arith, asked, c.in_ok-count.ensures.count))
 
 module _ (l : Layout) (bytes : List ℕ) where
   within : (member : List ℕ → Reading Item) → entries_asked 9 l bytes ≤ (collection_at member l bytes).0.slots
@@ -111,6 +113,6 @@ returns-in_err-count-clause-begins c =
     c.in_err-count.ensures.no_list c.counted_list.ensures.turns c.counted_list.ensures.slots)
 
 pub returns-in_err-count-clause-no_memory : goal.returns-in_err-count-clause-no_memory
-returns-in_err-count-clause-no_memory c = λ short.
+returns-in_err-count-clause-no_memory c = λ none.
     let stopped = err_from_is_err_and c.from_residual.result c.from_residual.ensures.1 in
-    rw (stopped.1, stopped.2) (c.in_err-count.ensures.no_memory (omega (arith, short)))
+    rw (stopped.1, stopped.2) (c.in_err-count.ensures.no_memory (none_asked c.args.layout c.args.bytes.now none))
