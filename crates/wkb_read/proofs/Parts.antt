@@ -2,7 +2,7 @@
 use Rattle.wkb_read.proofs.Prelude.{◌≡◌, ℕ, List, [], ◌∷◌, map, refl, sym, ap, ◌∙◌, slice_get, Option, Some, None}
 use Rattle.wkb_read.proofs.Prelude.{option_map, Bor, length, Value, Values, Coordinate, Listed, Geometry, Geometries}
 use Rattle.wkb_read.proofs.Prelude.{geometries, geometry_of, geometries_of, IsGeometry, Item, values, geometry_seen}
-use Rattle.wkb_read.proofs.Prelude.{members_seen, AreMembers, IsMemberAt}
+use Rattle.wkb_read.proofs.Prelude.{members_seen, Layout, parts_in, AreMembers, IsMemberAt}
 use Rattle.wkb_read.proofs.Placed.{is_member_at}
 use Rattle.std.proofs.lemmas.Bool.{ltb-true, ltb-false}
 use Rattle.std.proofs.lemmas.List.{length-map}
@@ -42,6 +42,11 @@ found_means : (found : Option (Bor Item))
     → option_map (λ g. geometry_seen g.now) found ≡ option_map geometry_seen (option_map (λ g. g.now) found)
 found_means None = refl
 found_means (Some g) = refl
+
+-- the members of a collection mean what their values mean
+pub members_mean : (whole : Listed Values) (found : List Item) (l : Layout) (members : List Item) (encoding : List ℕ)
+    → parts_in l members encoding ≡ whole → found ≡ members → map geometry_seen found ≡ members_seen whole.parts
+members_mean whole found l members encoding is same = rw (← is, same) (members_are members)
 
 -- there are as many geometries as members that mean them
 pub members_counted : (gs : List Geometry) (ms : List Item) (n : ℕ) → map geometry_seen ms ≡ gs → n ≡ length ms

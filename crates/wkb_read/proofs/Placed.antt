@@ -120,13 +120,14 @@ closed l bytes members rest head counted long behind each =
 
 -- ---- the members of a collection that was read
 
-pub are_members : (l : Layout) (members : List Item) (encoding : List ℕ) → HoldsMembers l.has_srid encoding members
-    → AreMembers (parts_in l members encoding) members
-are_members l members encoding h = record {
+pub are_members : (whole : Listed Values) (found : List Item) (l : Layout) (members : List Item) (encoding : List ℕ)
+    → parts_in l members encoding ≡ whole → found ≡ members → HoldsMembers l.has_srid encoding members
+    → AreMembers whole found
+are_members whole found l members encoding is same h = rw (← is, same) (record {
   bytes = subst (λ (b : Bool). HoldsMembers b encoding members) (has_srid_in l.order l.has_srid encoding) h;
   spelled = refl;
   value = refl;
-}
+})
 
 -- members with the same bytes, spellings and values are the same
 same_members : (xs ys : List Item) → AllByRecursion BytesSpell xs → AllByRecursion BytesSpell ys

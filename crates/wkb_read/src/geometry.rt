@@ -194,6 +194,7 @@ impl<'a> GeometryCollectionTrait for GeometryCollection<'a> {
 
     ghost lawful = { λ c. members_lawful c.parts };
 
+    #[tactic(auto, using(crate::proofs::Parts::members_mean, crate::proofs::Placed::are_members))]
     #[inline]
     fn geometries(&self) -> &[Wkb<'a>]
         ensures members { map geometry_seen result.now ≡ members_seen self.now.parts }
