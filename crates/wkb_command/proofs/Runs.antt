@@ -6,17 +6,18 @@ use Rattle.wkb_command.specs.declared.program.Command.{Command}
 use Rattle.wkb_command.specs.declared.program.Report.{Report}
 use Rattle.wkb_command.specs.Reports.{line_of, IsReport, IsReportOn, IsLineOf}
 use Rattle.wkb_command.specs.Program.{Answers, asked, Ends, answered, cut_short, out_of_memory, RunEnds, status_failed}
-use Rattle.wkb_command.specs.Program.{command_name, lines}
+use Rattle.wkb_command.specs.Program.{command_name, lines, OfReported}
 
-pub IfSome-any : (o : Option (List ℕ)) (P : List ℕ → Type 0) → ((x : List ℕ) → P x) → IfSome o P
-IfSome-any None P f = tt
-IfSome-any (Some x) P f = f x
+-- what holds of any bytes holds of those of a reader
+pub of_any : (o : Option (List ℕ)) (P : List ℕ → Type 0) → ((x : List ℕ) → P x) → OfReported o P
+of_any None P f = ([], f [])
+of_any (Some x) P f = f x
 
--- what is known of the bytes that were read is known of all that there are
-pub IfSome-read : (o : Option (List ℕ)) (P : List ℕ → Type 0) (read : List ℕ) → IfSome o (λ all. read ≡ all) → P read
-    → IfSome o P
-IfSome-read None P read is h = tt
-IfSome-read (Some x) P read is h = rw (sym is) h
+-- what holds of the bytes that were read holds of those of the reader
+pub of_read : (o : Option (List ℕ)) (P : List ℕ → Type 0) (read : List ℕ) → IfSome o (λ all. read ≡ all) → P read
+    → OfReported o P
+of_read None P read is h = (read, h)
+of_read (Some x) P read is h = rw (sym is) h
 
 -- the whole line of a report was written
 pub ends_whole : (r : Result Report AllocError) (report : Report) (written : List ℕ) → r ≡ Ok report

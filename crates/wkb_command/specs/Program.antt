@@ -201,6 +201,11 @@ pub record RunEnds (old new : Option (List ℕ)) (IsDue : List ℕ → ℕ → T
   pub appended : Appends old new written
   pub ends : Ends IsDue status written
 
+-- so it is of the bytes that a reader reports, or of some bytes where it doesn't report them
+abbrev pub OfReported : Option (List ℕ) → (List ℕ → Type 0) → Type 0
+OfReported (Some bytes) P = P bytes
+OfReported None P = (bytes : List ℕ) × P bytes
+
 -- the run of the program with these arguments on this input
 abbrev pub IsRunOf : List (List ℕ) → Option (List ℕ) → Option (List ℕ) → ℕ → List ℕ → Type 0
 IsRunOf arguments old new status input = RunEnds old new (Answers arguments input) status
