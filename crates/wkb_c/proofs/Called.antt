@@ -1,5 +1,5 @@
 -- What the call for one row of a column does.
-use Rattle.wkb_c.proofs.Common.{◌≡◌, ◌≢◌, ℕ, ◌<◌, ◌⊎◌, inl, inr, List, ◌++◌, length, drop, ap, arith, refl, sym, ◌∙◌}
+use Rattle.wkb_c.proofs.Common.{◌≡◌, ◌≢◌, ℕ, ◌<◌, ◌≤◌, ◌⊎◌, inl, inr, List, ◌++◌, length, drop, ap, arith, refl, sym, ◌∙◌}
 use Rattle.wkb_c.proofs.Common.{Spelling, Value, point, line_string, polygon, multi_point, multi_line_string}
 use Rattle.wkb_c.proofs.Common.{multi_polygon}
 use Rattle.wkb_c.proofs.Common.{collection, header}
@@ -17,7 +17,7 @@ use Rattle.wkb_c.specs.declared.column.Column.{Column}
 use Rattle.wkb_c.specs.Requests.{IsRequested, request_of}
 use Rattle.wkb_c.specs.RowItems.{IsRowStep}
 use Rattle.wkb_c.specs.Statuses.{FailsToList, no_memory as no_memory_to_list}
-use Rattle.wkb_c.specs.Tables.{IsTable, LacksEntries, HasTable, geometry_entries}
+use Rattle.wkb_c.specs.Tables.{IsTable, LacksEntries, HasTable, HasParts, geometry_entries}
 use Rattle.wkb_c.specs.Writings.{IsHandedOut, FindsNoRoom, HasEncoding, FailsToWrite, no_memory}
 use Rattle.wkb_c.specs.declared.options.Options.{Options}
 use Rattle.wkb_c.specs.declared.options.Request.{Request}
@@ -58,19 +58,22 @@ some_requested (OwnSrid order) input out h =
 pub is_asked : (o : Options) (request : Request) → request_of o ≡ Some request → request_of o ≢ None
 is_asked o request asked none = let never : Some request ≡ None = sym asked ∙ none in absurd (cc)
 
-module _ {c : Column} {i start : ℕ} (row : List ℕ) (is : IsRow c i row) (good : IsAccepted row) where
-  pub list_step : (at status count : ℕ) (before lent sub after : List Part) → at ≡ min start (length before)
+module _ {c : Column} {i start : ℕ} (row : List ℕ) (is : IsRow c i row) where
+  pub list_step : (many : ℕ) → HasParts row many → (at status count : ℕ) (before lent sub after : List Part) → at ≡ min start (length before)
       → lent ≡ drop at before
       → after ≡ take at before ++ sub → length sub ≡ length lent → (status ≡ OK → IsTable row lent sub count)
-      → (status ≡ NO_ROOM → LacksEntries row lent count) → (status ≢ OK → sub ≡ lent)
+      → (status ≡ NO_ROOM → LacksEntries row lent count) → (status ≡ NO_MEMORY → many ≤ length lent)
+      → (status ≢ OK → sub ≡ lent)
       → (status ≢ OK → status ≢ NO_ROOM → count ≡ 0) → (status ≡ OK) ⊎ ((status ≡ NO_ROOM) ⊎ (status ≡ NO_MEMORY))
       → IsRowStep HasTable FailsToList c i status count start before after
-  list_step at status count before lent sub after at_is lent_is after_is long listed short kept none (inl ok) =
+  list_step many has at status count before lent sub after at_is lent_is after_is long listed short fit kept none
+      (inl ok) =
       let h = listed ok in
       put_step row is at before lent sub after at_is lent_is after_is (geometry_entries 0 0 h.s h.t)
       (has_table row h.s h.t h.rest h.front) ok
       (omega (arith, entries_many h.s h.t h.front.front h.front.spelled)) h.held long
-  list_step at status count before lent sub after at_is lent_is after_is long listed short kept none (inr (inl told)) =
+  list_step many has at status count before lent sub after at_is lent_is after_is long listed short fit kept none
+      (inr (inl told)) =
       let h = short told in
       lacks_step row is at before lent sub after at_is lent_is after_is (geometry_entries 0 0 h.s h.t)
       (has_table row h.s h.t h.rest h.front) told
@@ -79,32 +82,34 @@ module _ {c : Column} {i start : ℕ} (row : List ℕ) (is : IsRow c i row) (goo
         short = omega (arith, h.many, h.short, entries_many h.s h.t h.front.front h.front.spelled);
       })
       (kept (λ ok. omega (arith, ok, told)))
-  list_step at status count before lent sub after at_is lent_is after_is long listed short kept none (inr (inr told)) =
-      fails_step row is at before lent sub after at_is lent_is after_is (no_memory_to_list told good)
+  list_step many has at status count before lent sub after at_is lent_is after_is long listed short fit kept none
+      (inr (inr told)) =
+      fails_step row is at before lent sub after at_is lent_is after_is
+      (no_memory_to_list told (record { many = many; parts = has; fit = fit told }))
       (none (λ ok. omega (arith, ok, told)) (λ room. omega (arith, room, told)))
       (kept (λ ok. omega (arith, ok, told)))
 
-  pub write_step : (o : Options) (request : Request) → request_of o ≡ Some request
+  pub write_step : IsAccepted row → (o : Options) (request : Request) → request_of o ≡ Some request
       → (at status count : ℕ) (before lent sub after : List ℕ)
       → at ≡ min start (length before) → lent ≡ drop at before → after ≡ take at before ++ sub
       → length sub ≡ length lent
       → (status ≡ OK → IsHandedOut request row lent sub count)
       → (status ≡ NO_ROOM → FindsNoRoom request row lent count) → (status ≢ OK → sub ≡ lent)
       → (status ≢ OK → status ≢ NO_ROOM → count ≡ 0) → (status ≡ OK) ⊎ ((status ≡ NO_ROOM) ⊎ (status ≡ NO_MEMORY))
-      → IsRowStep (HasEncoding o) (FailsToWrite o) c i status count start before after
-  write_step o request asked at status count before lent sub after at_is lent_is after_is long written short kept none
+      → IsRowStep (HasEncoding o) (λ row room. FailsToWrite o row) c i status count start before after
+  write_step good o request asked at status count before lent sub after at_is lent_is after_is long written short kept none
       (inl ok) =
       let h = written ok in
       put_step row is at before lent sub after at_is lent_is after_is h.encoding
       (record { request = request; asked = asked; is_requested = h.is_requested }) ok
       (some_requested request row h.encoding h.is_requested) h.held long
-  write_step o request asked at status count before lent sub after at_is lent_is after_is long written short kept none
+  write_step good o request asked at status count before lent sub after at_is lent_is after_is long written short kept none
       (inr (inl told)) =
       let h = short told in
       lacks_step row is at before lent sub after at_is lent_is after_is h.encoding
       (record { request = request; asked = asked; is_requested = h.is_requested }) told
       h.lacks (kept (λ ok. omega (arith, ok, told)))
-  write_step o request asked at status count before lent sub after at_is lent_is after_is long written short kept none
+  write_step good o request asked at status count before lent sub after at_is lent_is after_is long written short kept none
       (inr (inr told)) =
       fails_step row is at before lent sub after at_is lent_is after_is (no_memory (is_asked o request asked) told good)
       (none (λ ok. omega (arith, ok, told)) (λ room. omega (arith, room, told)))

@@ -77,7 +77,7 @@ end_grows start n small = below_both start (start + n) (2 ^ 64 - 1) (omega arith
 
 -- ---- a step of one row
 
-module _ {A : Type 0} {Has : List ℕ → List A → Type 0} {Fails : List ℕ → ℕ → Type 0} {c : Column}
+module _ {A : Type 0} {Has : List ℕ → List A → Type 0} {Fails : List ℕ → ℕ → ℕ → Type 0} {c : Column}
   where
     step_length : {i status count start : ℕ} {before after : List A}
         → IsRowStep Has Fails c i status count start before after
@@ -128,8 +128,8 @@ module _ {A : Type 0} {Has : List ℕ → List A → Type 0} {Fails : List ℕ �
         ∙ range_put before items (drop (start + count) before) start (omega (arith, there)))
     step_answer {count = count} {start = start} (lacks row items is has ok many short same) small fits =
         no_room row items is has ok (ap (end_of start) many) (omega (arith, ap length same, many, short))
-    step_answer {count = count} {start = start} (fails row is why none same) small fits =
-        failed row is why (ap (end_of start) none ∙ fits_end start 0 (omega (arith, fits)) ∙ omega arith)
+    step_answer {status = status} {count = count} {start = start} (fails row is why none same) small fits =
+        failed row is (subst (λ n. Fails row (n - start) status) (ap length (sym same)) why) (ap (end_of start) none ∙ fits_end start 0 (omega (arith, fits)) ∙ omega arith)
     step_answer {count = count} {start = start} (has_no_row why none same) small fits =
         no_row why (ap (end_of start) none ∙ fits_end start 0 (omega (arith, fits)) ∙ omega arith)
 
@@ -144,13 +144,14 @@ module _ {A : Type 0} {Has : List ℕ → List A → Type 0} {Fails : List ℕ �
         (before start end (omega (arith, end_is)) (below ok) ∙ range)
     kept_answer at (no_room row items is has ok end_is short) below same before =
         no_room row items is has ok end_is (omega (arith, short, same))
-    kept_answer at (failed row is why end_is) below same before = failed row is why end_is
+    kept_answer {status = status} {start = start} at (failed row is why end_is) below same before =
+        failed row is (subst (λ n. Fails row (n - start) status) (sym same) why) end_is
     kept_answer at (no_row why end_is) below same before = no_row why end_is
 
 -- ---- all rows
 
 -- the rows below this number are done, and their items end here
-pub record RowsDone {A : Type 0} (Has : List ℕ → List A → Type 0) (Fails : List ℕ → ℕ → Type 0)
+pub record RowsDone {A : Type 0} (Has : List ℕ → List A → Type 0) (Fails : List ℕ → ℕ → ℕ → Type 0)
     (c : Column) (i at : ℕ)
     (statuses ends : List ℕ) (before out : List A) : Type 0 where
   pub at_is : at ≡ start_of ends i
@@ -174,7 +175,7 @@ at_or_below (suc j) (suc i) h = up (at_or_below j i (omega (arith, h))) where
   up (inl same) = inl (ap suc same)
   up (inr below) = inr (omega (arith, below))
 
-module _ {A : Type 0} {Has : List ℕ → List A → Type 0} {Fails : List ℕ → ℕ
+module _ {A : Type 0} {Has : List ℕ → List A → Type 0} {Fails : List ℕ → ℕ → ℕ
     → Type 0} {c : Column} {i at : ℕ} {statuses ends : List ℕ}
     {before out new : List A} (status count : ℕ)
     (done : RowsDone Has Fails c i at statuses ends before out)
@@ -248,7 +249,7 @@ module _ {A : Type 0} {Has : List ℕ → List A → Type 0} {Fails : List ℕ �
         (let next : i + 1 ≡ suc i = omega arith in ap (start_of (set ends i (end_of at count))) next) ∙ end_here
 
 -- before any row
-pub none_done : {A : Type 0} (Has : List ℕ → List A → Type 0) (Fails : List ℕ → ℕ → Type 0)
+pub none_done : {A : Type 0} (Has : List ℕ → List A → Type 0) (Fails : List ℕ → ℕ → ℕ → Type 0)
     (c : Column) (statuses ends : List ℕ) (out : List A)
     → RowsDone Has Fails c 0 0 statuses ends out out
 none_done Has Fails c statuses ends out = record {
@@ -287,7 +288,7 @@ unchanged at before lent sub after lent_is after_is same =
 lent_length : {A : Type 0} (at : ℕ) (before lent : List A) → lent ≡ drop at before → length lent ≡ length before - at
 lent_length at before lent lent_is = ap length lent_is ∙ length-drop at before
 
-module _ {A : Type 0} {Has : List ℕ → List A → Type 0} {Fails : List ℕ → ℕ
+module _ {A : Type 0} {Has : List ℕ → List A → Type 0} {Fails : List ℕ → ℕ → ℕ
     → Type 0} {c : Column} {i status count start : ℕ}
     (row : List ℕ) (is : IsRow c i row) (at : ℕ)
     (before lent sub after : List A)
@@ -318,6 +319,10 @@ module _ {A : Type 0} {Has : List ℕ → List A → Type 0} {Fails : List ℕ �
       (unchanged at before lent sub after lent_is after_is same)
 
   -- it has none
-  pub fails_step : Fails row status → count ≡ 0 → sub ≡ lent
+  pub fails_step : Fails row (length lent) status → count ≡ 0 → sub ≡ lent
       → IsRowStep Has Fails c i status count start before after
-  fails_step why none same = fails row is why none (unchanged at before lent sub after lent_is after_is same)
+  fails_step why none same =
+      let room : length lent ≡ length before - start =
+      omega (arith, at_is, lent_length at before lent lent_is) in
+      fails row is (subst (λ n. Fails row n status) room why) none
+      (unchanged at before lent sub after lent_is after_is same)

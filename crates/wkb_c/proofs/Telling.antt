@@ -22,7 +22,7 @@ use Rattle.wkb_check.specs.declared.answer.Refused.{Refused}
 use Rattle.wkb_check.specs.declared.answer.Summary.{Summary}
 use Rattle.wkb_c.specs.declared.fault.WkbFault.{WkbFault}
 use Rattle.wkb_c.specs.Statuses.{cause_status, general_status, cause_fault, IsFault}
-use Rattle.wkb_c.specs.Tables.{HasParts}
+use Rattle.wkb_c.specs.Tables.{HasParts, HasPartsWithin}
 use Rattle.wkb_c.specs.declared.status.TheConstants.{IO_ERROR, NULL_ROW}
 
 general_is_late : (g : Bad) → IO_ERROR ≤ general_status g
@@ -87,6 +87,11 @@ found_is_accepted buf f d = record { s = d.spelled; t = d.value; rest = d.rest; 
 pub found_has_parts : (buf : List ℕ) (f : Summary) → DescribesFront buf f → HasParts buf f.parts
 found_has_parts buf f d =
     record { s = d.spelled; t = d.value; rest = d.rest; front = d.front; many_are = omega (arith, d.described.parts) }
+
+-- and no more than there is room for, if these fit
+pub parts_within : (buf : List ℕ) (f : Summary) (room : ℕ) → DescribesFront buf f → f.parts ≤ room
+    → HasPartsWithin buf room
+parts_within buf f room d fit = record { many = f.parts; parts = found_has_parts buf f d; fit = fit }
 
 -- the kind and the dimension that the type of a value has
 pub kind_kept : (t : Value) → type_kind (type_of (kind t) (dimension t)) ≡ kind t

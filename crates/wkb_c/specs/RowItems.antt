@@ -24,8 +24,8 @@ abbrev pub end_of : ℕ → ℕ → ℕ
 end_of start n = min (start + n) (2 ^ 64 - 1)
 
 -- The status of row i, and where its items begin and end in `out`. `Has row items`: these are the items of those bytes.
--- `Fails row status`: they have none, and this status says why.
-pub data IsRowAnswer {A : Type 0} (Has : List ℕ → List A → Type 0) (Fails : List ℕ → ℕ → Type 0)
+-- `Fails row room status`: there are none where there is so much room, and this status says why.
+pub data IsRowAnswer {A : Type 0} (Has : List ℕ → List A → Type 0) (Fails : List ℕ → ℕ → ℕ → Type 0)
     (c : Column) (i status start end : ℕ) (out : List A) : Type 0 where
   handed : (row : List ℕ) (items : List A) → IsRow c i row → Has row items → status ≡ OK
       → end ≡ start + length items → end ≤ length out → slice_range out start end ≡ items
@@ -33,13 +33,13 @@ pub data IsRowAnswer {A : Type 0} (Has : List ℕ → List A → Type 0) (Fails 
   no_room : (row : List ℕ) (items : List A) → IsRow c i row → Has row items → status ≡ NO_ROOM
       → end ≡ end_of start (length items) → length out < start + length items
       → IsRowAnswer Has Fails c i status start end out
-  failed : (row : List ℕ) → IsRow c i row → Fails row status → end ≡ start
+  failed : (row : List ℕ) → IsRow c i row → Fails row (length out - start) status → end ≡ start
       → IsRowAnswer Has Fails c i status start end out
   no_row : LacksRow c i status → end ≡ start → IsRowAnswer Has Fails c i status start end out
 
 -- so it is of the rows below this number
-abbrev pub AreRowAnswers : {A : Type 0} → (List ℕ → List A → Type 0) → (List ℕ → ℕ → Type 0) → Column → ℕ → List ℕ
-    → List ℕ → List A → Type 0
+abbrev pub AreRowAnswers : {A : Type 0} → (List ℕ → List A → Type 0) → (List ℕ → ℕ → ℕ → Type 0) → Column → ℕ
+    → List ℕ → List ℕ → List A → Type 0
 AreRowAnswers Has Fails c rows statuses ends out =
     (i : ℕ) → i < rows
     → IsRowAnswer Has Fails c i (slice_index statuses i) (start_of ends i) (slice_index ends i) out
@@ -51,7 +51,7 @@ AreTables c statuses ends parts = AreRowAnswers HasTable FailsToList c (rows_of 
 -- the encodings of the rows of a column
 abbrev pub AreEncodings : Options → Column → List ℕ → List ℕ → List ℕ → Type 0
 AreEncodings o c statuses ends out =
-    AreRowAnswers (HasEncoding o) (FailsToWrite o) c (rows_of statuses ends) statuses ends out
+    AreRowAnswers (HasEncoding o) (λ row room. FailsToWrite o row) c (rows_of statuses ends) statuses ends out
 
 -- after the last items of these rows nothing has changed
 abbrev pub KeepsAfter : {A : Type 0} → ℕ → List ℕ → List ℕ → List A → List A → Type 0
@@ -64,7 +64,7 @@ KeepsFrom n before after = drop n after ≡ drop n before
 
 -- The status of row i, and how many items it has, where those before it end at `start`: they are put there, if there is
 -- room for them.
-pub data IsRowStep {A : Type 0} (Has : List ℕ → List A → Type 0) (Fails : List ℕ → ℕ → Type 0)
+pub data IsRowStep {A : Type 0} (Has : List ℕ → List A → Type 0) (Fails : List ℕ → ℕ → ℕ → Type 0)
     (c : Column) (i status count start : ℕ) (before after : List A) : Type 0 where
   put : (row : List ℕ) (items : List A) → IsRow c i row → Has row items → status ≡ OK
       → count ≡ length items → start + count ≤ length before
@@ -73,7 +73,7 @@ pub data IsRowStep {A : Type 0} (Has : List ℕ → List A → Type 0) (Fails : 
   lacks : (row : List ℕ) (items : List A) → IsRow c i row → Has row items → status ≡ NO_ROOM
       → count ≡ length items → length before < start + count → after ≡ before
       → IsRowStep Has Fails c i status count start before after
-  fails : (row : List ℕ) → IsRow c i row → Fails row status → count ≡ 0 → after ≡ before
+  fails : (row : List ℕ) → IsRow c i row → Fails row (length before - start) status → count ≡ 0 → after ≡ before
       → IsRowStep Has Fails c i status count start before after
   has_no_row : LacksRow c i status → count ≡ 0 → after ≡ before
       → IsRowStep Has Fails c i status count start before after

@@ -19,6 +19,7 @@ use Rattle.wkb_c.specs.declared.status.TheConstants.{NESTING_DEPTH_EXCEEDED, SHO
 use Rattle.wkb_c.specs.declared.status.TheConstants.{SHORT_LINE_STRING, SHORT_MULTI_POINT, SHORT_LINEAR_RING}
 use Rattle.wkb_c.specs.declared.inputs.TheConstants.{FIRST, SECOND, DIFFERENT, EQUAL}
 use Rattle.wkb_c.specs.declared.fault.WkbFault.{WkbFault}
+use Rattle.wkb_c.specs.Tables.{HasPartsWithin}
 
 -- the status of a fault of the bytes (no reading refuses an unsupported dimension)
 abbrev pub general_status : General → ℕ
@@ -86,7 +87,7 @@ pub data IsComparison (a b : List ℕ) (equal : ℕ) : Type 0 where
   one_value : equal ≡ EQUAL → HaveOneValue a b → IsComparison a b equal
   two_values : equal ≡ DIFFERENT → HaveTwoValues a b → IsComparison a b equal
 
--- the input has no parts, and this status says why
-pub data FailsToList (input : List ℕ) (status : ℕ) : Type 0 where
-  refused : (fault : WkbFault) → IsFault input status fault → FailsToList input status
-  no_memory : status ≡ NO_MEMORY → IsAccepted input → FailsToList input status
+-- where there is room for so many parts, none are listed, and this status says why
+pub data FailsToList (input : List ℕ) (room status : ℕ) : Type 0 where
+  refused : (fault : WkbFault) → IsFault input status fault → FailsToList input room status
+  no_memory : status ≡ NO_MEMORY → HasPartsWithin input room → FailsToList input room status

@@ -1,6 +1,6 @@
 -- The parts of a geometry in preorder, and where they are in its bytes.
 use Rattle.std.specs.Prelude.{◌≡◌, ℕ, suc, ◌+◌, ◌*◌, List, [], ◌∷◌, ◌++◌, length, drop}
-use Rattle.std.specs.Prelude.{◌<◌, Option, slice_get, Some, None, is_some, unwrap_or}
+use Rattle.std.specs.Prelude.{◌<◌, ◌≤◌, Option, slice_get, Some, None, is_some, unwrap_or}
 use mir.Val.{bool_byte as from_bool}
 use Rattle.wkb_geom.specs.declared.common.Endianness.{Endianness}
 use Rattle.wkb_geom.specs.declared.common.Dimension.{Dimension}
@@ -212,6 +212,12 @@ pub record HasParts (input : List ℕ) (many : ℕ) : Type 0 where
   pub rest : List ℕ
   pub front : Front input s t rest
   pub many_are : many ≡ suc (member_count t)
+
+-- it begins with one that has no more parts than there is room for
+pub record HasPartsWithin (input : List ℕ) (room : ℕ) : Type 0 where
+  pub many : ℕ
+  pub parts : HasParts input many
+  pub fit : many ≤ room
 
 -- these are the entries of the geometry that the input begins with: where the bytes and words of its parts are
 pub record HasTable (input : List ℕ) (parts : List Part) : Type 0 where

@@ -44,8 +44,8 @@ fn write_row(
     start: u64,
 ) -> (u32, u64)
     requires { i < 2 ^ 63 }
-    ensures step { IsRowStep (HasEncoding options.now) (FailsToWrite options.now) column.now i
-        result.0 result.1 start out.old out.new }
+    ensures step { IsRowStep (HasEncoding options.now) (λ row room. FailsToWrite options.now row)
+        column.now i result.0 result.1 start out.old out.new }
     ensures known { result.0 ≤ BAD_OFFSETS }
 {
     let row = match column.row(i) {

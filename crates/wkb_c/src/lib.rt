@@ -28,7 +28,7 @@ ghost use Rattle.wkb_c.specs.LevelLists.{levels_of, AreSameSlices};
 ghost use Rattle.wkb_c.specs.Requests.{request_of};
 ghost use Rattle.wkb_c.specs.RowItems.{AreTables, AreEncodings, KeepsAfter, KeepsFrom, rows_of};
 ghost use Rattle.wkb_c.specs.Statuses.{IsFault, IsRefusedInTurn, IsComparison};
-ghost use Rattle.wkb_c.specs.Tables.{IsTable, LacksEntries};
+ghost use Rattle.wkb_c.specs.Tables.{IsTable, LacksEntries, HasPartsWithin};
 ghost use Rattle.wkb_c.specs.Writings.{WritesEncoding, WantsRoom};
 
 use bounds::bounds_input;
@@ -182,7 +182,8 @@ pub extern "C" fn wkb_raw_same(
 
 /// Lists the parts of the geometry at the front of the bytes in preorder, and writes their number.
 ///
-/// `NO_ROOM` writes their number too. A refusal leaves `parts` unchanged.
+/// `NO_ROOM` writes their number too, and allocates nothing. A refusal leaves `parts` unchanged.
+#[tactic(auto, using(crate::proofs::Telling::parts_within))]
 #[unsafe(no_mangle)]
 pub extern "C" fn wkb_raw_parts(
     alloc: Global,
@@ -194,7 +195,7 @@ pub extern "C" fn wkb_raw_parts(
     ensures listed { result ≡ OK → IsTable buf.now parts.old parts.new count.new }
     ensures no_room { result ≡ NO_ROOM → LacksEntries buf.now parts.old count.new }
     ensures refused { IO_ERROR ≤ result → IsFault buf.now result fault.new }
-    ensures memory { result ≡ NO_MEMORY → IsAccepted buf.now }
+    ensures memory { result ≡ NO_MEMORY → HasPartsWithin buf.now (length parts.old) }
     ensures known { result ≢ UNKNOWN_OPTION }
     ensures parts_kept { result ≢ OK → parts.new ≡ parts.old }
     ensures count_kept { result ≢ OK → result ≢ NO_ROOM → count.new ≡ count.old }

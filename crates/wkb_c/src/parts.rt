@@ -1,6 +1,6 @@
 //! The table of a geometry's parts, by the headers, counts and sizes of its views.
 
-ghost use Rattle.std.specs.Prelude.{◌≡◌, ◌≢◌, ◌⊎◌, ◌+◌, ◌*◌, ◌<◌, ◌^◌, [], ◌∷◌, length, slice_get};
+ghost use Rattle.std.specs.Prelude.{◌≡◌, ◌≢◌, ◌⊎◌, ◌+◌, ◌*◌, ◌<◌, ◌≤◌, ◌^◌, [], ◌∷◌, length, slice_get};
 ghost use Rattle.std.specs.Prelude.{Some, IfOk};
 ghost use Rattle.wkb_geom.specs.Reading.{spellings, values};
 ghost use Rattle.wkb_geom.specs.Values.{polygon as polygon_of};
@@ -369,6 +369,7 @@ pub fn list_parts(
     requires accepted { HasParts buf.now many }
     ensures listed { result ≡ OK → IsTable buf.now parts.old parts.new count.new }
     ensures no_room { result ≡ NO_ROOM → LacksEntries buf.now parts.old count.new }
+    ensures memory { result ≡ NO_MEMORY → many ≤ length parts.old }
     ensures known { (result ≡ OK) ⊎ ((result ≡ NO_ROOM) ⊎ (result ≡ NO_MEMORY)) }
     ensures long { length parts.new ≡ length parts.old }
     ensures parts_kept { result ≢ OK → parts.new ≡ parts.old }

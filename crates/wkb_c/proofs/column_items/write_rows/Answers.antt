@@ -18,8 +18,8 @@ loop-i-preserved c =
           drop-set-lt c.min-i-end.result l.statuses l.i status (omega arith) ∙ l.invariant.statuses_kept;
       ends_kept = drop-set-lt c.min-i-end.result l.ends l.i end (omega arith) ∙ l.invariant.ends_kept;
       done =
-          subst (λ to. RowsDone (HasEncoding a.options.now) (FailsToWrite a.options.now) a.column.now (l.i + 1) to
-          (set l.statuses l.i status) (set l.ends l.i to) a.out.now c.write_row-status.new.out)
+          subst (λ to. RowsDone (HasEncoding a.options.now) (λ row room. FailsToWrite a.options.now row) a.column.now
+          (l.i + 1) to (set l.statuses l.i status) (set l.ends l.i to) a.out.now c.write_row-status.new.out)
           (sym c.saturating_add-at.ensures)
           (row_done status c.write_row-status.result.1 l.invariant.done c.write_row-status.ensures.step (omega arith)
           (omega (arith, c.loop-i-test.true, c.min-i-end.ensures, l.invariant.as_many))

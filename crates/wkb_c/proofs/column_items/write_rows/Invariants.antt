@@ -10,6 +10,6 @@ invariant-loop-i l = record {
   as_many_ends : length l.ends ≡ length l.initial.ends;
   statuses_kept : KeepsFrom l.i-end l.initial.statuses l.statuses;
   ends_kept : KeepsFrom l.i-end l.initial.ends l.ends;
-  done : RowsDone (HasEncoding l.options) (FailsToWrite l.options) l.column l.i l.at l.statuses l.ends l.initial.out
-      l.out;
+  done : RowsDone (HasEncoding l.options) (λ row room. FailsToWrite l.options row) l.column l.i l.at l.statuses l.ends
+      l.initial.out l.out;
 }
