@@ -28,7 +28,7 @@ loop-i-preserved c =
       ends_kept =
           drop-set-lt c.min-i-end.result l.row_ends l.i m.at.singles (omega arith) ∙ l.invariant.ends_kept;
       done =
-          row_more rows a.dimension l.statuses l.row_ends (levels_of a.out.now) l.i
+          row_more rows a.dimension l.statuses l.row_ends _ l.i
           m.status l.at m.at (levels_of l.out) (levels_of m.out)
           (omega (arith, c.loop-i-test.true, c.min-i-end.ensures, l.invariant.as_many))
           (omega (arith, c.loop-i-test.true, c.min-i-end.ensures, l.invariant.as_many_ends)) l.invariant.done row;
