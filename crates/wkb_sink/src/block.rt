@@ -4,7 +4,7 @@ ghost use Rattle.std.specs.Prelude.{◌≡◌, ◌+◌, ◌-◌, ◌≤◌, ◌�
 ghost use Rattle.wkb_geom.specs.Dimensions.{width, written_dimension};
 ghost use Rattle.wkb_geom.specs.Numbers.{number_bytes, empty_word};
 ghost use Rattle.wkb_geom.specs.Reading.{type_kind, type_dimension};
-ghost use Rattle.wkb_geom.specs.Encodings.{code_of, words_encoding};
+ghost use Rattle.wkb_geom.specs.Encodings.{code_of, form_srid, words_encoding};
 ghost use Rattle.wkb_geom.specs.declared.header.TheConstants.{MAX_HEADER_SIZE};
 ghost use Rattle.wkb_geom.specs.declared.words.TheConstants.{COUNT_SIZE};
 ghost use Rattle.wkb_sink.specs.Blocks.{Waiting, LaysIn};
@@ -151,13 +151,16 @@ pub fn dimension_to_write(dim: Dimensions) -> Dimension
     Dimension::try_from(dim).unwrap_or(Dimension::Xy)
 }
 
+// The code of a header, and the SRID after it. One match tells both, so that a header without an SRID takes one branch.
+#[inline]
 #[tactic(auto, unfolding(wkb_geom::specs::Encodings::code_of))]
-fn code(form: Form, kind: WkbType) -> u32
-    ensures { result ≡ code_of form (type_kind kind) (type_dimension kind) }
+fn code_and_srid(form: Form, kind: WkbType) -> (u32, Option<u32>)
+    ensures code { result.0 ≡ code_of form (type_kind kind) (type_dimension kind) }
+    ensures srid { result.1 ≡ form_srid form }
 {
     match form {
-        Form::Iso => u32::from(kind),
-        Form::Ewkb { srid } => kind.ewkb_code(srid.is_some()),
+        Form::Iso => (u32::from(kind), None),
+        Form::Ewkb { srid } => (kind.ewkb_code(srid.is_some()), srid),
     }
 }
 
@@ -181,9 +184,10 @@ pub fn lay_header(block: &mut Block<'_>, options: &WriteOptions, kind: WkbType)
         endianness: order,
         form,
     } = *options;
+    let (code, srid) = code_and_srid(form, kind);
     block.lay(&[u8::from(order)]);
-    lay_count(block, order, code(form, kind));
-    if let Some(srid) = form.srid() {
+    lay_count(block, order, code);
+    if let Some(srid) = srid {
         lay_count(block, order, srid);
     }
 }

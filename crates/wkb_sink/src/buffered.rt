@@ -143,6 +143,7 @@ impl<'a, S: Sink> Buffered<'a, S> {
     }
 
     /// Puts a header of this code, and a count.
+    #[inline]
     #[tactic(auto, using(crate::proofs::Steps::step_laws, crate::proofs::Behind::behind))]
     pub fn put_head(&mut self, options: &WriteOptions, kind: WkbType, n: u32) -> Result<(), Stopped>
         requires working { S.has_failed self.old.sink.now ≡ false }

@@ -1,9 +1,10 @@
 //! A line string. A ring is measured and put as its coordinates are.
 
-ghost use Rattle.std.specs.Prelude.{◌≡◌, ◌<◌, ◌^◌, None, false, length};
+ghost use Rattle.std.specs.Prelude.{◌≡◌, ◌≤◌, ◌<◌, ◌*◌, ◌-◌, ◌^◌, None, false, length};
 ghost use Rattle.std.specs.List.{flat_map};
 ghost use Rattle.wkb_write.specs.Prelude.{Iso, line_string_meant, words_encoding, dimensions_fault};
 ghost use Rattle.wkb_write.specs.Prelude.{Lays, IsSizeOf, WritesTo, IsMeasureOf, ring_measure};
+ghost use Rattle.wkb_sink.specs.declared.block.TheConstants.{MAX_COORDINATE_SIZE};
 
 use crate::common::*;
 use crate::measure::short_count;
@@ -16,6 +17,25 @@ pub fn measure_coordinates<L: LineStringTrait>(line: &L) -> Measured
     match short_count(line.num_coords() as u128) {
         Some(count) => Measured::Bytes(COUNT_SIZE + words_size(line.dim(), count)),
         None => Measured::Count,
+    }
+}
+
+// The index up to which the coordinates from another one on fit the room. Only those that don't all fit take a division.
+#[inline]
+fn end_of_run(from: usize, count: usize, size: usize, room: usize) -> usize
+    requires order { from < count }
+    requires count { count < 2 ^ 32 }
+    requires some { 0 < size }
+    requires one { size ≤ room }
+    requires most { size ≤ MAX_COORDINATE_SIZE }
+    ensures order { from < result }
+    ensures within { result ≤ count }
+    ensures room { size * (result - from) ≤ room }
+{
+    if size * (count - from) <= room {
+        count
+    } else {
+        from + room / size
     }
 }
 
@@ -40,7 +60,7 @@ pub fn put_coordinates<S: Sink, L: LineStringTrait>(
     let mut done = 0;
     while done < count {
         out.make_room(MAX_COORDINATE_SIZE)?;
-        let next = count.min(done + out.block.room() / bytes);
+        let next = end_of_run(done, count, bytes, out.block.room());
         out.block.lay_coordinates(line, done, next, order);
         done = next;
     }
