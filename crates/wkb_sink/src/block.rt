@@ -184,8 +184,8 @@ pub fn lay_header(block: &mut Block<'_>, options: &WriteOptions, kind: WkbType)
         endianness: order,
         form,
     } = *options;
-    let (code, srid) = code_and_srid(form, kind);
     block.lay(&[u8::from(order)]);
+    let (code, srid) = code_and_srid(form, kind);
     lay_count(block, order, code);
     if let Some(srid) = srid {
         lay_count(block, order, srid);
