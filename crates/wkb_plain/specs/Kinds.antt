@@ -140,21 +140,21 @@ rect_lawful r = ((coord_lawful r.min), coord_lawful_beside r.min.dim r.max r.one
 
 -- a triangle
 abbrev pub triangle_dimensions : Triangle → Dimensions
-triangle_dimensions t = t.first.dim
+triangle_dimensions t = t.dim
 
 abbrev pub triangle_first : Triangle → List ℕ
-triangle_first t = coord_words t.first
+triangle_first t = t.first.now
 
 abbrev pub triangle_second : Triangle → List ℕ
-triangle_second t = coord_words t.second
+triangle_second t = t.second.now
 
 abbrev pub triangle_third : Triangle → List ℕ
-triangle_third t = coord_words t.third
+triangle_third t = t.third.now
 
 pub triangle_lawful : (t : Triangle) → IsCoordinate (triangle_dimensions t) (triangle_first t)
     × IsCoordinate (triangle_dimensions t) (triangle_second t) × IsCoordinate (triangle_dimensions t) (triangle_third t)
 triangle_lawful t = (
-  coord_lawful t.first,
-  coord_lawful_beside t.first.dim t.second t.second_dimension,
-  coord_lawful_beside t.first.dim t.third t.third_dimension,
+  lawful_coordinate t.dim t.first.now t.first_fits.0 t.first_fits.1,
+  lawful_coordinate t.dim t.second.now t.second_fits.0 t.second_fits.1,
+  lawful_coordinate t.dim t.third.now t.third_fits.0 t.third_fits.1,
 )

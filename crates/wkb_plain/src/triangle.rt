@@ -1,18 +1,23 @@
 //! Triangles of three corners.
 
-ghost use Rattle.std.specs.Prelude.{◌≡◌, ◌↔◌, IfSome, IsSome};
+ghost use Rattle.std.specs.Prelude.{◌≡◌, ◌↔◌, length, IfSome, IsSome, All};
+ghost use Rattle.wkb_geom.specs.Dimensions.{size};
+ghost use Rattle.wkb_geom.specs.Numbers.{IsWord};
 
 use crate::coord::Coord;
 use wkb_geom::{Dimensioned, Dimensions, TriangleTrait};
 
 /// A triangle of three corners.
+// It keeps their one dimension once: a plain geometry of any kind is as long as the longest, which is a triangle.
 #[derive(Debug, Clone, Copy)]
 pub struct Triangle<'w> {
-    first: Coord<'w>,
-    second: Coord<'w>,
-    third: Coord<'w>,
-    ghost second_dimension: { second.dim ≡ first.dim },
-    ghost third_dimension: { third.dim ≡ first.dim },
+    dim: Dimensions,
+    first: &'w [u64],
+    second: &'w [u64],
+    third: &'w [u64],
+    ghost first_fits: { (length first.now ≡ size dim) × All IsWord first.now },
+    ghost second_fits: { (length second.now ≡ size dim) × All IsWord second.now },
+    ghost third_fits: { (length third.now ≡ size dim) × All IsWord third.now },
 }
 
 impl<'w> Triangle<'w> {
@@ -33,9 +38,10 @@ impl<'w> Triangle<'w> {
             return None;
         }
         Some(Triangle {
-            first,
-            second,
-            third,
+            dim: first.dim,
+            first: first.words,
+            second: second.words,
+            third: third.words,
         })
     }
 }
@@ -46,7 +52,7 @@ impl Dimensioned for Triangle<'_> {
     ghost dimensions = { triangle_dimensions };
 
     fn dim(&self) -> Dimensions {
-        self.first.dim
+        self.dim
     }
 }
 
@@ -65,14 +71,23 @@ impl<'w> TriangleTrait for Triangle<'w> {
     ghost lawful = { triangle_lawful };
 
     fn first(&self) -> Coord<'w> {
-        self.first
+        Coord {
+            dim: self.dim,
+            words: self.first,
+        }
     }
 
     fn second(&self) -> Coord<'w> {
-        self.second
+        Coord {
+            dim: self.dim,
+            words: self.second,
+        }
     }
 
     fn third(&self) -> Coord<'w> {
-        self.third
+        Coord {
+            dim: self.dim,
+            words: self.third,
+        }
     }
 }
