@@ -20,7 +20,7 @@ use wkb_write::{WriteOptions, to_vec};
 /// The encoding under the options of the geometry at the front of the bytes.
 ///
 /// Refused as `read_wkb` refuses the bytes. `OverflowError(Size)` where the SRID's four bytes make
-/// the encoding pass `usize`.
+/// the encoding longer than `usize` can hold.
 ///
 /// ```
 /// // A key of the value: the same bytes whatever the order, the codes and the SRIDs it was read in.

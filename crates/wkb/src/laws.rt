@@ -18,12 +18,12 @@ pub use wkb_laws::{
     rewriting_is_read, work_is_bounded, writable_is_read, written_is_read,
 };
 
-/// A slice of bytes holds bytes, each below 256, as laws ask it of what they are said of.
+/// The bytes of a slice are numbers below 256, as laws require of their lists.
 pub fn are_bytes(_bytes: &[u8])
     ensures { AreBytes _bytes.now }
 {}
 
-/// The SRID of a form fits its four bytes, as laws ask it of the form that is written.
+/// The SRID of a form fits in four bytes, as laws require of the form that is written.
 pub fn srid_fits(form: Form)
     ensures { IsForm form }
 {

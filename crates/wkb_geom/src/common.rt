@@ -5,7 +5,7 @@ ghost use Rattle.wkb_geom.specs.Dimensions.{size, width, has_z, has_m, as_dimens
 ghost use Rattle.wkb_geom.specs.Meanings.{HasOrder, IsNamed};
 ghost use Rattle.wkb_geom.specs.Numbers.{order_byte};
 ghost use Rattle.wkb_geom.specs.Reading.{order_of_byte};
-ghost use Rattle.wkb_geom.specs.Encodings.{form_srid, inner};
+ghost use Rattle.wkb_geom.specs.Encodings.{inner};
 
 use crate::error::{General, WkbError};
 
@@ -20,7 +20,7 @@ pub enum Endianness {
 }
 
 impl Endianness {
-    /// The order that a geometry's first byte means, if it means one.
+    /// The byte order that a geometry's first byte stands for, if any.
     #[inline]
     pub fn of_byte(byte: u8) -> Option<Endianness>
         ensures { result ≡ order_of_byte byte }
@@ -121,16 +121,6 @@ pub enum Form {
 }
 
 impl Form {
-    /// The SRID that is written.
-    pub fn srid(self) -> Option<u32>
-        ensures { result ≡ form_srid self }
-    {
-        match self {
-            Form::Iso => None,
-            Form::Ewkb { srid } => srid,
-        }
-    }
-
     /// The form of a geometry's members: only the outermost geometry has an SRID.
     pub fn inner(self) -> Form
         ensures { result ≡ inner self }
@@ -142,7 +132,7 @@ impl Form {
     }
 }
 
-/// The order that a geometry's first byte means.
+/// The byte order that a geometry's first byte stands for.
 impl TryFrom<u8> for Endianness {
     type Error = WkbError;
 

@@ -42,7 +42,7 @@ pub enum Cause {
     EndOfInput,
     /// A fault with its numbers.
     General(General),
-    /// A member of a multi geometry of another kind or dimension, or a point among them with an SRID.
+    /// A member whose kind or dimension its multi geometry doesn't take, or a point of a multi point with an SRID.
     IncorrectType,
     /// A collection inside this many open ones.
     NestingDepthExceeded(usize),
@@ -80,7 +80,7 @@ pub enum Overflow {
 /// Why a geometry is not read or not written.
 #[derive(Debug, Drop, Error)]
 pub enum WkbError {
-    /// A member of a multi geometry of another kind or dimension, or a point among them with an SRID.
+    /// A member whose kind or dimension its multi geometry doesn't take, or a point of a multi point with an SRID.
     #[error("Incorrect type passed to operation: {0}")]
     IncorrectType(&'static str),
     /// Kept for its name: nothing returns it.

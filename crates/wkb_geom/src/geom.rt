@@ -117,7 +117,7 @@ pub trait LineStringTrait: Dimensioned {
         ensures value { slice_get (coordinates self.now) i ≡ Some (Self.CoordType.words result) }
         ensures dimensions { Self.CoordType.dimensions result ≡ Self.dimensions self.now };
 
-    /// The coordinates as they are written in this order, without a count, if memory holds them so.
+    /// The coordinates as they are written in this order, without a count, if they are in memory in exactly these bytes.
     ///
     /// Bytes that are borrowed here are written in one copy. An implementation may leave this method out: the writer
     /// then asks for each coordinate.
@@ -276,12 +276,12 @@ pub trait RectTrait: Dimensioned {
 
     ghost max_words: { Self → List ℕ };
 
-    /// The corner of the least ordinates.
+    /// The corner with the least ordinates.
     fn min(&self) -> Self::CoordType
         ensures value { Self.CoordType.words result ≡ min_words self.now }
         ensures dimensions { Self.CoordType.dimensions result ≡ Self.dimensions self.now };
 
-    /// The corner of the greatest ordinates.
+    /// The corner with the greatest ordinates.
     fn max(&self) -> Self::CoordType
         ensures value { Self.CoordType.words result ≡ max_words self.now }
         ensures dimensions { Self.CoordType.dimensions result ≡ Self.dimensions self.now };
@@ -320,7 +320,7 @@ pub trait TriangleTrait: Dimensioned {
         × IsCoordinate (Self.dimensions t) (third_words t) };
 }
 
-/// A geometry by its kind. The dimension of a collection is that of the geometry.
+/// A geometry by its kind. The dimension of a collection is that of the geometry itself.
 #[derive(Drop)]
 pub enum GeometryType<'a, P, L, Y, MP, ML, MY, G, R, T, N> {
     Point(&'a P),
@@ -358,7 +358,7 @@ pub trait GeometryTrait: Dimensioned + Sized {
     // What the geometry means, with all its parts.
     ghost geometry: { Self → Geometry };
 
-    /// The part that shows the kind, and what it holds.
+    /// The geometry as its kind, with what that kind holds.
     fn as_type(
         &self,
     ) -> GeometryType<
@@ -387,7 +387,7 @@ pub trait GeometryTrait: Dimensioned + Sized {
         ensures triangle { TriangleMeans Self.TriangleType.TriangleTrait result (geometry self.now) }
         ensures line { LineMeans Self.LineType.LineTrait result (geometry self.now) };
 
-    /// The whole encoding in this order and form, if memory holds it so.
+    /// The whole encoding in this order and form, if it is in memory in exactly these bytes.
     ///
     /// Bytes that are borrowed here are written in one copy. An implementation may leave this method out: the geometry
     /// is then written by its parts.

@@ -19,7 +19,7 @@ pub fn spelled_is_writable()
     ensures { SpelledIsWritable }
 {}
 
-/// Two values that bytes spell are equal exactly where they are written alike.
+/// Two values that bytes spell are equal exactly if they have the same encoding.
 pub fn equal_spelled()
     ensures plain { EqualSpelled }
     ensures with_srid { EqualSpelledWithSrid }

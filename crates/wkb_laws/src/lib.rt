@@ -99,28 +99,28 @@ pub fn rewriting_is_read()
     ensures { RewritingIsRead }
 {}
 
-/// What was rewritten is rewritten to itself.
+/// Rewriting a rewriting changes nothing.
 pub fn rewriting_is_fixed()
     ensures plain { RewritingIsFixed }
     ensures with_srid { RewritingWithSridIsFixed }
 {}
 
-/// Two inputs have equal values exactly where they are rewritten alike.
+/// Two inputs have equal values exactly if they are rewritten alike.
 pub fn equal_encodings()
     ensures { EqualEncodings }
 {}
 
-/// Two inputs have equal values exactly where they are rewritten alike with an SRID.
+/// Two inputs have equal values exactly if they are rewritten alike with an SRID.
 pub fn equal_encodings_with_srid()
     ensures { EqualEncodingsWithSrid }
 {}
 
-/// Two inputs are rewritten alike with their own SRIDs exactly where values and outermost SRIDs are equal.
+/// Two inputs are rewritten alike with their own SRIDs exactly if values and outermost SRIDs are equal.
 pub fn equal_encodings_with_own_srid()
     ensures { EqualEncodingsWithOwnSrid }
 {}
 
-/// A dimension that was made a caller's dimension is named again.
+/// A `Dimension` turned into `Dimensions` is named as the same `Dimension`.
 #[tactic(auto, using(crate::proofs::Values::named_dimension_lem))]
 pub fn named_dimension()
     ensures { NamedDimension }

@@ -18,7 +18,7 @@ pub struct Coord<'w> {
 impl<'w> Coord<'w> {
     ghost use Rattle.wkb_plain.specs.Kinds.{coord_dimensions, coord_words};
 
-    /// The coordinate of these words. None where the dimension has no words at all, or another
+    /// The coordinate of these words. None if the dimension has no words at all, or another
     /// number of them.
     pub fn new(dim: Dimensions, words: &'w [u64]) -> Option<Coord<'w>>
         ensures some { IsSome result ↔ ((0 < size dim) × (length words.now ≡ size dim)) }

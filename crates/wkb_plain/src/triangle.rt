@@ -8,9 +8,9 @@ use crate::coord::Coord;
 use wkb_geom::{Dimensioned, Dimensions, TriangleTrait};
 
 /// A triangle of three corners.
-// It keeps their one dimension once: a plain geometry of any kind is as long as the longest, which is a triangle.
 #[derive(Debug, Clone, Copy)]
 pub struct Triangle<'w> {
+    // Kept once: a plain geometry of any kind is as long as the longest of them, which is a triangle.
     dim: Dimensions,
     first: &'w [u64],
     second: &'w [u64],

@@ -38,8 +38,8 @@ pub trait Sink {
     // What is known where the sink failed by this error, or, by no error, since it took nothing.
     ghost fails_by: { Self → Option Error → Type 0 } = { λ _ _. ⊤ };
 
-    /// Appends the first bytes, and returns how many. With an error it appends nothing. An error, or `Ok(0)` for some
-    /// bytes, is a failure, and lasts.
+    /// Appends as many of the first bytes as it takes, and returns how many. With an error it appends nothing. An error, or
+    /// `Ok(0)` for a slice that isn't empty, is a failure, and lasts.
     fn put(&mut self, bytes: &[u8]) -> io::Result<usize>
         ensures bound { WritesAtMost result bytes.now }
         ensures bytes { WriteAppends (appended self.old) (appended self.new) result bytes.now }
@@ -47,7 +47,7 @@ pub trait Sink {
             ≡ (has_failed self.old || put_fails (length bytes.now) result) }
         ensures cause { KnownOfFailure (length bytes.now) result (fails_by self.new) };
 
-    /// Whether a put has failed. Then at most a beginning was appended.
+    /// Whether a put has failed. Then at most a prefix was appended.
     fn failed(&self) -> bool
         ensures { result ≡ has_failed self.now };
 }
@@ -130,7 +130,7 @@ impl Model for VecSink {
 }
 
 impl VecSink {
-    /// An empty sink, which asks for memory as bytes come.
+    /// An empty sink, which allocates as bytes arrive.
     pub fn new(alloc: Global) -> VecSink
         ensures bytes { result.bytes ≡ [] }
         ensures failed { result.failed ≡ false }
@@ -141,7 +141,7 @@ impl VecSink {
         }
     }
 
-    /// A sink whose first `n` bytes ask for no more memory. Fails if the allocation does.
+    /// A sink that takes its first `n` bytes without another allocation. Fails if the allocation does.
     pub fn with_capacity(alloc: Global, n: usize) -> Result<VecSink, AllocError>
         ensures bytes { IfOk result (λ s. s.bytes ≡ []) }
         ensures capacity { IfOk result (λ s. n ≤ s.capacity) }
@@ -195,8 +195,8 @@ impl Sink for VecSink {
     }
 }
 
-/// A sink over a borrowed slice, which takes as many bytes as fit. What the slice holds once the sink is gone isn't
-/// promised: `write_to_slice` promises that.
+/// A sink over a borrowed slice, which takes as many bytes as fit. No contract says what the slice holds after the sink
+/// is dropped: use `write_to_slice` for that.
 #[derive(Drop)]
 pub struct SliceSink<'a> {
     slice: &'a mut [u8],

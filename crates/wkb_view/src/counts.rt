@@ -1,7 +1,7 @@
 //! What a read costs.
 
 /// What a read costs. A *turn* is begun for each ring of a polygon and for each member of another geometry, before it
-/// is looked at. A *slot* is one entry of a list that is asked for, counted before it is asked for.
+/// is looked at. A *slot* is one entry of a list that is allocated, counted before the allocation.
 #[derive(Debug, Clone, Copy, PartialEq)]
 pub struct Counts {
     pub turns: u128,
