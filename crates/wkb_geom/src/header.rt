@@ -1,7 +1,7 @@
 //! What comes before a body: order, code and SRID; and the count after them.
 
 use crate::code::{WkbGeometryCode, WkbType};
-use crate::common::{Dimension, Endianness, Form};
+use crate::common::{Dimension, Endianness};
 use crate::error::{Cause, General};
 use crate::words::{COUNT_SIZE, u32_at};
 
@@ -90,7 +90,7 @@ impl Layout {
     ghost use Rattle.wkb_geom.specs.Reading.{body_start, member_layout, parts_start, srid_in, code_in};
     ghost use Rattle.wkb_geom.specs.Reading.{type_kind, type_dimension};
     ghost use Rattle.wkb_geom.specs.Reading.{count_in, HasNoCount};
-    ghost use Rattle.wkb_geom.specs.Encodings.{type_code, form_srid};
+    ghost use Rattle.wkb_geom.specs.Encodings.{type_code, form_with_flags};
 
     /// The layout of the member of this type at the front of the bytes, whose order and flag are its own.
     ///
@@ -130,25 +130,31 @@ impl Layout {
         }
     }
 
-    /// Whether a geometry of this type and layout begins with the header that is written of it in this order and form.
-    /// False if it has an SRID, or is to be written with one.
+    /// Whether a geometry of this type and layout begins with the header that is written of it in this order, with EWKB's
+    /// flags or without, and with no SRID.
     #[tactic(auto, unfolding(crate::specs::Encodings::code_of))]
     #[inline]
-    pub fn begins_as(self, wkb_type: WkbType, buf: &[u8], order: Endianness, form: Form) -> bool
+    pub fn begins_as(
+        self,
+        wkb_type: WkbType,
+        buf: &[u8],
+        order: Endianness,
+        has_flags: bool,
+    ) -> bool
         requires { MEMBER_HEADER_SIZE ≤ length buf.now }
         ensures order { result ≡ true → self.order ≡ order }
         ensures plain { result ≡ true → self.has_srid ≡ false }
-        ensures form { result ≡ true → form_srid form ≡ None }
-        ensures code { result ≡ true → code_in order buf.now ≡ type_code form wkb_type }
+        ensures code { result ≡ true
+            → code_in order buf.now ≡ type_code (form_with_flags has_flags) wkb_type }
         ensures bytes { AreBytes buf.now }
     {
         if self.order != order || self.has_srid {
             return false;
         }
-        let code = match form {
-            Form::Iso => u32::from(wkb_type),
-            Form::Ewkb { srid: None } => wkb_type.ewkb_code(false),
-            Form::Ewkb { srid: Some(_) } => return false,
+        let code = if has_flags {
+            wkb_type.ewkb_code(false)
+        } else {
+            u32::from(wkb_type)
         };
         u32_at(buf, ORDER_SIZE, order) == code
     }

@@ -139,23 +139,28 @@ impl<'a> GeometryCollection<'a> {
         self.layout.srid(self.buf)
     }
 
-    /// Whether its bytes are known to be its encoding in this order and form. Its own header is looked at, and then each
-    /// member, up to the first that would be written otherwise.
+    /// Whether its bytes are known to be its encoding in this order, with EWKB's flags or without, and with no SRID. Its
+    /// own header is looked at, and then each member, up to the first that would be written otherwise.
+    ///
+    /// The last call looks at the last member. The compiler makes it a jump, so that the stack stays flat along a chain of
+    /// collections.
     #[cycle(spellings)]
-    fn is_as_written(&self, order: Endianness, form: Form) -> bool
-        ensures { result ≡ true → IsSpelledAsWritten order form (collection_seen self.now) }
+    fn is_as_written(&self, order: Endianness, has_flags: bool) -> bool
+        ensures { result ≡ true → IsSpelledAsWritten order has_flags (collection_seen self.now) }
     {
         let wkb_type = WkbType::GeometryCollection(self.layout.dimension);
-        if !self.layout.begins_as(wkb_type, self.buf, order, form) {
+        if !self.layout.begins_as(wkb_type, self.buf, order, has_flags) {
             return false;
         }
-        let inner = form.inner();
-        for member in &self.members {
-            if !member.is_as_written(order, inner) {
+        let Some((last, others)) = self.members.split_last() else {
+            return true;
+        };
+        for member in others {
+            if !member.is_as_written(order, has_flags) {
                 return false;
             }
         }
-        true
+        last.is_as_written(order, has_flags)
     }
 
     /// A copy with lists of its own.
@@ -221,7 +226,8 @@ impl<'a> GeometryCollectionTrait for GeometryCollection<'a> {
 }
 
 impl<'a> Wkb<'a> {
-    ghost use Rattle.std.specs.Prelude.{◌≡◌, true, IfOk, IfErr, IfSome, IsSome};
+    ghost use Rattle.std.specs.Prelude.{◌≡◌, true, None, IfOk, IfErr, IfSome, IsSome};
+    ghost use Rattle.wkb_geom.specs.Encodings.{encoding, fault, form_with_flags};
     ghost use Rattle.wkb_read.specs.Prelude.{srid_of, dimension, IsCollection, BytesSpell, IsSpelledAsWritten};
     ghost use Rattle.wkb_read.specs.Placed.{collection_seen};
     ghost use Rattle.wkb_read.specs.Types.{geometry_type_of, IsListed};
@@ -295,33 +301,47 @@ impl<'a> Wkb<'a> {
         }
     }
 
-    /// Whether its bytes are known to be its encoding in this order and form. Most geometries have no members, and take
-    /// no call.
+    /// Whether its bytes are known to be its encoding in this order, with EWKB's flags or without, and with no SRID. Most
+    /// geometries have no members, and take no call.
     #[cycle(spellings)]
     #[inline(always)]
-    fn is_as_written(&self, order: Endianness, form: Form) -> bool
-        ensures { result ≡ true → IsSpelledAsWritten order form self.now }
+    fn is_as_written(&self, order: Endianness, has_flags: bool) -> bool
+        ensures { result ≡ true → IsSpelledAsWritten order has_flags self.now }
     {
         match &self.kind {
-            View::Point(point) => point.is_as_written(order, form),
-            View::LineString(line_string) => line_string.is_as_written(order, form),
-            View::Polygon(polygon) => polygon.is_as_written(order, form),
-            _ => self.has_members_as_written(order, form),
+            View::Point(point) => point.is_as_written(order, has_flags),
+            View::LineString(line_string) => line_string.is_as_written(order, has_flags),
+            View::Polygon(polygon) => polygon.is_as_written(order, has_flags),
+            _ => self.has_members_as_written(order, has_flags),
         }
     }
 
-    /// Whether it has members, and its bytes are known to be its encoding in this order and form.
+    /// Whether it has members, and its bytes are known to be that encoding.
     #[cycle(spellings)]
     #[inline(never)]
-    fn has_members_as_written(&self, order: Endianness, form: Form) -> bool
-        ensures { result ≡ true → IsSpelledAsWritten order form self.now }
+    fn has_members_as_written(&self, order: Endianness, has_flags: bool) -> bool
+        ensures { result ≡ true → IsSpelledAsWritten order has_flags self.now }
     {
         match &self.kind {
-            View::MultiPoint(multi) => multi.is_as_written(order, form),
-            View::MultiLineString(multi) => multi.is_as_written(order, form),
-            View::MultiPolygon(multi) => multi.is_as_written(order, form),
-            View::GeometryCollection(collection) => collection.is_as_written(order, form),
+            View::MultiPoint(multi) => multi.is_as_written(order, has_flags),
+            View::MultiLineString(multi) => multi.is_as_written(order, has_flags),
+            View::MultiPolygon(multi) => multi.is_as_written(order, has_flags),
+            View::GeometryCollection(collection) => collection.is_as_written(order, has_flags),
             _ => false,
+        }
+    }
+
+    /// Its bytes, if they are known to be its encoding in this order, with EWKB's flags or without, and with no SRID.
+    #[inline(always)]
+    fn lent(&self, order: Endianness, has_flags: bool) -> Option<&[u8]>
+        ensures encoding { IfSome result (λ b. b.now
+            ≡ encoding order (form_with_flags has_flags) (geometry_seen self.now)) }
+        ensures writable { IfSome result (λ _. fault (geometry_seen self.now) ≡ None) }
+    {
+        if self.is_as_written(order, has_flags) {
+            Some(self.buf())
+        } else {
+            None
         }
     }
 
@@ -398,10 +418,11 @@ impl<'a> GeometryTrait for Wkb<'a> {
     /// None if a point in them is empty, and where there is an SRID or one is to be written.
     #[inline(always)]
     fn whole(&self, order: Endianness, form: Form) -> Option<&[u8]> {
-        if self.is_as_written(order, form) {
-            Some(self.buf())
-        } else {
-            None
+        // Here the flags are constants, for which the compiler makes each call code of its own.
+        match form {
+            Form::Iso => self.lent(order, false),
+            Form::Ewkb { srid: None } => self.lent(order, true),
+            Form::Ewkb { srid: Some(_) } => None,
         }
     }
 

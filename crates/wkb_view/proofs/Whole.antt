@@ -7,11 +7,10 @@ use Rattle.std.specs.Bool.{then_some}
 use Rattle.std.proofs.lemmas.List.{take_all, take_more_same, length-map}
 use Rattle.std.proofs.lemmas.Option.{slice_get-map, slice_get_within, get_or_from_slice_get}
 use Rattle.wkb_geom.specs.declared.common.Form.{Form}
-use Rattle.wkb_geom.specs.declared.common.Form.TheVariants.{Iso, Ewkb}
 use Rattle.wkb_geom.specs.Values.{Value}
 use Rattle.wkb_geom.specs.Spellings.{node, spelling}
 use Rattle.wkb_geom.specs.Geometries.{Geometry, geometry_of}
-use Rattle.wkb_geom.specs.Encodings.{form_srid, inner, code_of, encoding, fault, IsForm}
+use Rattle.wkb_geom.specs.Encodings.{form_srid, inner, form_with_flags, code_of, encoding, fault, IsForm}
 use Rattle.wkb_laws.specs.Written.{written, written_header, each_spelling}
 use Rattle.wkb_laws.proofs.Spelled.{in_full_lem}
 use Rattle.wkb_laws.proofs.EncodingBytes.{as_written}
@@ -29,20 +28,20 @@ pub record IsWhole (bytes : List ℕ) (order : Endianness) (form : Form) (g : Ge
   pub encoding : bytes ≡ encoding order form g
   pub writable : fault g ≡ None
 
-is_form : (form : Form) → form_srid form ≡ None → IsForm form
-is_form Iso e = tt
-is_form (Ewkb None) e = tt
-is_form (Ewkb (Some srid)) e = absurd cc
+is_form : (has_flags : Bool) → IsForm (form_with_flags has_flags)
+is_form true = tt
+is_form false = tt
 
-module _ (order : Endianness) (form : Form) (i : Item) (spells : BytesSpell i) (is : IsSpelledAsWritten order form i) where
+module _ (order : Endianness) (form : Form) (has_flags : Bool) (form_is : form ≡ form_with_flags has_flags) (i : Item)
+    (spells : BytesSpell i) (is : IsSpelledAsWritten order has_flags i) where
   -- those of what is spelled as it is written
   pub is_whole : IsWhole i.encoding order form (geometry_of i.value)
   is_whole =
       let full = in_full_lem i.spelled i.value i.encoding spells in
-      record {
-        encoding = as_written order form i.spelled i.value i.encoding (is_form form is.no_srid) is.bytes full is.same;
+      rw form_is (record {
+        encoding = as_written order _ i.spelled i.value i.encoding (is_form has_flags) is.bytes full is.same;
         writable = (spelled_good i.spelled i.value i.encoding is.bytes full).1;
-      }
+      })
 
   -- what is spelled is lawful, so fitting leaves it as it is
   pub is_whole_fitted : IsWhole i.encoding order form (fitted_geometry (geometry_of i.value))
@@ -66,39 +65,51 @@ lends false buf h = record { encoding = tt; writable = tt }
 -- ---- the spelling that is written: of the header, and of the members
 
 -- the header is the one that is written of this kind
-pub record HasWrittenHeader (k : ℕ) (l : Layout) (bytes : List ℕ) (order : Endianness) (form : Form) : Type 0 where
+pub record HasWrittenHeader (k : ℕ) (l : Layout) (bytes : List ℕ) (order : Endianness) (has_flags : Bool) : Type 0 where
   pub order_is : l.order ≡ order
   pub plain : l.has_srid ≡ false
-  pub form_is : form_srid form ≡ None
-  pub code : number order 4 (drop 1 bytes) ≡ code_of form k l.dimension
+  pub code : number order 4 (drop 1 bytes) ≡ code_of (form_with_flags has_flags) k l.dimension
+
+no_srid : (has_flags : Bool) → form_srid (form_with_flags has_flags) ≡ None
+no_srid true = refl
+no_srid false = refl
 
 -- the spelling of a geometry with that header and these members
-pub header_spelled : (k : ℕ) (l : Layout) (bytes : List ℕ) (order : Endianness) (form : Form) (ss : Spellings)
-    → HasWrittenHeader k l bytes order form
-    → spelled_in l bytes [] ss ≡ node (written_header order form k (written_dimension (as_dimensions l.dimension))) [] ss
-header_spelled k l bytes order form ss h =
-    rw (same_dimension l.dimension, h.order_is, h.plain, h.code, h.form_is) refl
+pub header_spelled : (k : ℕ) (l : Layout) (bytes : List ℕ) (order : Endianness) (has_flags : Bool) (ss : Spellings)
+    → HasWrittenHeader k l bytes order has_flags
+    → spelled_in l bytes [] ss
+    ≡ node (written_header order (form_with_flags has_flags) k (written_dimension (as_dimensions l.dimension))) [] ss
+header_spelled k l bytes order has_flags ss h =
+    rw (same_dimension l.dimension, h.order_is, h.plain, h.code, no_srid has_flags) refl
 
 -- a member with this part is written with this spelling
-abbrev pub member_written : {A : Type 0} → Endianness → Form → (Dimension → A → Value) → Dimension → A → Spelling
-member_written order form kind d part = written order (inner form) (geometry_of (kind d part))
+abbrev pub member_written : {A : Type 0} → Endianness → Bool → (Dimension → A → Value) → Dimension → A → Spelling
+member_written order has_flags kind d part = written order (inner (form_with_flags has_flags)) (geometry_of (kind d part))
+
+-- which is that of a geometry by itself
+pub as_member : (order : Endianness) (has_flags : Bool) (v : Value)
+    → written order (form_with_flags has_flags) (geometry_of v) ≡ written order (inner (form_with_flags has_flags)) (geometry_of v)
+as_member order true v = refl
+as_member order false v = refl
 
 -- the members before an index are spelled as they are written
-pub record AreWrittenBefore {A : Type 0} (order : Endianness) (form : Form) (kind : Dimension → A → Value) (d : Dimension)
+pub record AreWrittenBefore {A : Type 0} (order : Endianness) (has_flags : Bool) (kind : Dimension → A → Value) (d : Dimension)
     (i : ℕ) (s : Spelling) (parts : List A) : Type 0 where
-  pub same : take i (list_of_spellings (members_spelled s)) ≡ take i (map (member_written order form kind d) parts)
+  pub same : take i (list_of_spellings (members_spelled s)) ≡ take i (map (member_written order has_flags kind d) parts)
 
 -- and so is the next one
-pub one_more_written : {A : Type 0} {order : Endianness} {form : Form} {kind : Dimension → A → Value} {d : Dimension} {i : ℕ}
-    {s : Spelling} {parts : List A} {m : Item} {part : A}
-    → AreWrittenBefore order form kind d i s parts
-    → IsSpelledAsWritten order (inner form) m → m.value ≡ kind d part → Some m.spelled ≡ spelling_at s i
+pub one_more_written : {A : Type 0} {order : Endianness} {has_flags : Bool} {kind : Dimension → A → Value} {d : Dimension}
+    {i : ℕ} {s : Spelling} {parts : List A} {m : Item} {part : A}
+    → AreWrittenBefore order has_flags kind d i s parts
+    → IsSpelledAsWritten order has_flags m → m.value ≡ kind d part → Some m.spelled ≡ spelling_at s i
     → Some part ≡ slice_get parts i
-    → AreWrittenBefore order form kind d (i + 1) s parts
-one_more_written {order = order} {form = form} {kind = kind} {d = d} {i = i} {parts = parts} {m = m} {part = part} before is value-is
-    spelled-at part-at =
-    let f = member_written order form kind d in
-    let same : m.spelled ≡ f part = is.same ∙ ap (λ v. written order (inner form) (geometry_of v)) value-is in
+    → AreWrittenBefore order has_flags kind d (i + 1) s parts
+one_more_written {order = order} {has_flags = has_flags} {kind = kind} {d = d} {i = i} {parts = parts} {m = m} {part = part}
+    before is value-is spelled-at part-at =
+    let f = member_written order has_flags kind d in
+    let same : m.spelled ≡ f part =
+    is.same ∙ as_member order has_flags m.value
+    ∙ ap (λ v. written order (inner (form_with_flags has_flags)) (geometry_of v)) value-is in
     let there : slice_get (map f parts) i ≡ Some m.spelled =
     slice_get-map f parts i ∙ ap (option_map f) (sym part-at) ∙ ap (λ (u : Spelling). Some u) (sym same) in
     let found = get_or_from_slice_get _ i m.spelled m.spelled (sym spelled-at) in
@@ -120,19 +131,19 @@ each_spelled f part (m ∷ ms) e =
     λ i. spelling (head i) (others i)
 
 -- a geometry with the header that is written, all members of which are spelled as they are written
-pub all_written : {A : Type 0} {k : ℕ} {l : Layout} {bytes : List ℕ} {order : Endianness} {form : Form}
+pub all_written : {A : Type 0} {k : ℕ} {l : Layout} {bytes : List ℕ} {order : Endianness} {has_flags : Bool}
     {kind : Dimension → A → Value} {i : ℕ} (part : Item → A) (ms : List Item)
-    → HasWrittenHeader k l bytes order form → length (map part ms) ≤ i
-    → AreWrittenBefore order form kind l.dimension i (spelled_in l bytes [] (spellings ms)) (map part ms)
+    → HasWrittenHeader k l bytes order has_flags → length (map part ms) ≤ i
+    → AreWrittenBefore order has_flags kind l.dimension i (spelled_in l bytes [] (spellings ms)) (map part ms)
     → spelled_in l bytes [] (spellings ms)
-    ≡ node (written_header order form k (written_dimension (as_dimensions l.dimension))) []
-    (each_spelling (member_written order form kind l.dimension) (map part ms))
-all_written {k = k} {l = l} {bytes = bytes} {order = order} {form = form} {kind = kind} {i = i} part ms header all before =
-    let f = member_written order form kind l.dimension in
+    ≡ node (written_header order (form_with_flags has_flags) k (written_dimension (as_dimensions l.dimension))) []
+    (each_spelling (member_written order has_flags kind l.dimension) (map part ms))
+all_written {k = k} {l = l} {bytes = bytes} {order = order} {has_flags = has_flags} {kind = kind} {i = i} part ms header all before =
+    let f = member_written order has_flags kind l.dimension in
     let same =
     sym (take_all i (map (λ m. m.spelled) ms) (omega (arith, length-map ms part, length-map ms (λ m. m.spelled))))
     ∙ ap (take i) (sym (spelled_each ms)) ∙ before.same
     ∙ take_all i (map f (map part ms)) (omega (arith, length-map (map part ms) f)) in
-    header_spelled k l bytes order form (spellings ms) header
-    ∙ ap (λ ss. node (written_header order form k (written_dimension (as_dimensions l.dimension))) [] ss)
+    header_spelled k l bytes order has_flags (spellings ms) header
+    ∙ ap (λ ss. node (written_header order (form_with_flags has_flags) k (written_dimension (as_dimensions l.dimension))) [] ss)
     (each_spelled f part ms same)

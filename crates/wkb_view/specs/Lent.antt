@@ -1,13 +1,11 @@
 -- Geometries whose bytes in memory are what is written of them.
-use Rattle.std.specs.Prelude.{◌≡◌, None}
-use Rattle.wkb_geom.specs.declared.common.Form.{Form}
+use Rattle.std.specs.Prelude.{◌≡◌, Bool}
 use Rattle.wkb_geom.specs.Geometries.{geometry_of}
-use Rattle.wkb_geom.specs.Encodings.{form_srid}
+use Rattle.wkb_geom.specs.Encodings.{form_with_flags}
 use Rattle.wkb_laws.specs.Written.{written}
 use Rattle.wkb_view.specs.Prelude.{Endianness, AreBytes, Item}
 
--- the geometry's bytes spell it as it is written in this order and form, without an SRID
-pub record IsSpelledAsWritten (order : Endianness) (form : Form) (item : Item) : Type 0 where
+-- the geometry's bytes spell it as it is written in this order, with EWKB's flags or without, and with no SRID
+pub record IsSpelledAsWritten (order : Endianness) (has_flags : Bool) (item : Item) : Type 0 where
   pub bytes : AreBytes item.encoding
-  pub no_srid : form_srid form ≡ None
-  pub same : item.spelled ≡ written order form (geometry_of item.value)
+  pub same : item.spelled ≡ written order (form_with_flags has_flags) (geometry_of item.value)

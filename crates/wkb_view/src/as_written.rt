@@ -1,6 +1,7 @@
 //! Whether a geometry in memory is as it is written.
 
-ghost use Rattle.std.specs.Prelude.{◌≡◌, true};
+ghost use Rattle.std.specs.Prelude.{◌≡◌, true, IsSome, MatchOption};
+ghost use Rattle.wkb_geom.specs.Encodings.{form_srid, form_with_flags};
 ghost use Rattle.wkb_geom.specs.Reading.{Item};
 ghost use Rattle.wkb_view.specs.Lent.{IsSpelledAsWritten};
 
@@ -11,9 +12,23 @@ pub trait AsWritten {
     // The geometry: its bytes, how they spell it, and its value.
     ghost seen: { Self → Item };
 
-    /// Whether its bytes are known to be its encoding in this order and form.
+    /// Whether its bytes are known to be its encoding in this order, with EWKB's flags or without, and with no SRID.
     ///
-    /// False where a point is empty, and where there is an SRID or one is to be written.
-    fn is_as_written(&self, order: Endianness, form: Form) -> bool
-        ensures { result ≡ true → IsSpelledAsWritten order form (seen self.now) };
+    /// False where a point is empty, and where there is an SRID. Order and flags are passed on to the members in
+    /// registers, which a `Form` isn't.
+    fn is_as_written(&self, order: Endianness, has_flags: bool) -> bool
+        ensures { result ≡ true → IsSpelledAsWritten order has_flags (seen self.now) };
+}
+
+/// Whether a form's codes have EWKB's flags; none if it has an SRID.
+#[inline(always)]
+pub fn flags_without_srid(form: Form) -> Option<bool>
+    ensures { MatchOption result (IsSome (form_srid form))
+        (λ has_flags. form ≡ form_with_flags has_flags) }
+{
+    match form {
+        Form::Iso => Some(false),
+        Form::Ewkb { srid: None } => Some(true),
+        Form::Ewkb { srid: Some(_) } => None,
+    }
 }

@@ -7,7 +7,7 @@ ghost use Rattle.wkb_view.specs.Prelude.{BytesSpell};
 use crate::any::{
     AnyView, Line, MultiLineString, MultiPoint, MultiPolygon, Point, Polygon, Rect, Triangle,
 };
-use crate::as_written::AsWritten;
+use crate::as_written::{AsWritten, flags_without_srid};
 use crate::coord::Coord;
 use crate::linear_ring::LinearRing;
 use crate::own_srid::OwnSrid;
@@ -167,9 +167,9 @@ impl AsWritten for LineString<'_> {
     ghost seen = { line_string_seen };
 
     #[inline]
-    fn is_as_written(&self, order: Endianness, form: Form) -> bool {
+    fn is_as_written(&self, order: Endianness, has_flags: bool) -> bool {
         let wkb_type = WkbType::LineString(self.layout.dimension);
-        self.layout.begins_as(wkb_type, self.buf, order, form)
+        self.layout.begins_as(wkb_type, self.buf, order, has_flags)
     }
 }
 
@@ -279,7 +279,8 @@ impl<'a> GeometryTrait for LineString<'a> {
 
     #[inline]
     fn whole(&self, order: Endianness, form: Form) -> Option<&[u8]> {
-        self.is_as_written(order, form).then_some(self.buf)
+        let has_flags = flags_without_srid(form)?;
+        self.is_as_written(order, has_flags).then_some(self.buf)
     }
 
     #[inline]

@@ -5,7 +5,7 @@ ghost use Rattle.wkb_view.specs.Prelude.{as_dimensions};
 use crate::any::{
     AnyView, Line, LineString, MultiPoint, MultiPolygon, Point, Polygon, Rect, Triangle,
 };
-use crate::as_written::AsWritten;
+use crate::as_written::{AsWritten, flags_without_srid};
 use crate::counts::Counts;
 use crate::ends::{Parts, read_ends};
 use crate::own_srid::OwnSrid;
@@ -189,13 +189,13 @@ impl AsWritten for MultiLineString<'_> {
 
     ghost seen = { multi_line_string_seen };
 
-    fn is_as_written(&self, order: Endianness, form: Form) -> bool {
+    fn is_as_written(&self, order: Endianness, has_flags: bool) -> bool {
         let wkb_type = WkbType::MultiLineString(self.layout.dimension);
-        if !self.layout.begins_as(wkb_type, self.buf, order, form) {
+        if !self.layout.begins_as(wkb_type, self.buf, order, has_flags) {
             return false;
         }
         for i in 0..self.num_members() {
-            if !self.member(i).unwrap().is_as_written(order, form.inner()) {
+            if !self.member(i).unwrap().is_as_written(order, has_flags) {
                 return false;
             }
         }
@@ -282,6 +282,7 @@ impl<'a> GeometryTrait for MultiLineString<'a> {
 
     #[inline]
     fn whole(&self, order: Endianness, form: Form) -> Option<&[u8]> {
-        self.is_as_written(order, form).then_some(self.buf)
+        let has_flags = flags_without_srid(form)?;
+        self.is_as_written(order, has_flags).then_some(self.buf)
     }
 }

@@ -11,7 +11,7 @@ ghost use Rattle.wkb_view.specs.Entries.{entries, capacity, HasSlots};
 use crate::any::{
     AnyView, Line, LineString, MultiLineString, MultiPoint, Point, Polygon, Rect, Triangle,
 };
-use crate::as_written::AsWritten;
+use crate::as_written::{AsWritten, flags_without_srid};
 use crate::counts::Counts;
 use crate::own_srid::OwnSrid;
 use crate::reserved::{Reserved, counted_list};
@@ -190,13 +190,13 @@ impl AsWritten for MultiPolygon<'_> {
 
     ghost seen = { multi_polygon_seen };
 
-    fn is_as_written(&self, order: Endianness, form: Form) -> bool {
+    fn is_as_written(&self, order: Endianness, has_flags: bool) -> bool {
         let wkb_type = WkbType::MultiPolygon(self.layout.dimension);
-        if !self.layout.begins_as(wkb_type, self.buf, order, form) {
+        if !self.layout.begins_as(wkb_type, self.buf, order, has_flags) {
             return false;
         }
         for i in 0..self.num_polygons() {
-            if !self.polygon(i).unwrap().is_as_written(order, form.inner()) {
+            if !self.polygon(i).unwrap().is_as_written(order, has_flags) {
                 return false;
             }
         }
@@ -281,6 +281,7 @@ impl<'a> GeometryTrait for MultiPolygon<'a> {
 
     #[inline]
     fn whole(&self, order: Endianness, form: Form) -> Option<&[u8]> {
-        self.is_as_written(order, form).then_some(self.buf)
+        let has_flags = flags_without_srid(form)?;
+        self.is_as_written(order, has_flags).then_some(self.buf)
     }
 }

@@ -6,7 +6,7 @@ ghost use Rattle.wkb_view.specs.Prelude.{point_end, AreBytes, point_item, BytesS
 use crate::any::{
     AnyView, Line, LineString, MultiLineString, MultiPoint, MultiPolygon, Polygon, Rect, Triangle,
 };
-use crate::as_written::AsWritten;
+use crate::as_written::{AsWritten, flags_without_srid};
 use crate::coord::Coord;
 use crate::own_srid::OwnSrid;
 use crate::part::subslice;
@@ -162,9 +162,9 @@ impl AsWritten for Point<'_> {
     ghost seen = { point_seen };
 
     #[inline]
-    fn is_as_written(&self, order: Endianness, form: Form) -> bool {
+    fn is_as_written(&self, order: Endianness, has_flags: bool) -> bool {
         let wkb_type = WkbType::Point(self.layout.dimension);
-        self.layout.begins_as(wkb_type, self.buf, order, form) && !self.words().is_all_nan()
+        self.layout.begins_as(wkb_type, self.buf, order, has_flags) && !self.words().is_all_nan()
     }
 }
 
@@ -244,7 +244,8 @@ impl<'a> GeometryTrait for Point<'a> {
 
     #[inline]
     fn whole(&self, order: Endianness, form: Form) -> Option<&[u8]> {
-        self.is_as_written(order, form).then_some(self.buf)
+        let has_flags = flags_without_srid(form)?;
+        self.is_as_written(order, has_flags).then_some(self.buf)
     }
 
     #[inline]

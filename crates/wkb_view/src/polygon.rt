@@ -5,7 +5,7 @@ ghost use Rattle.wkb_view.specs.Prelude.{as_dimensions};
 use crate::any::{
     AnyView, Line, LineString, MultiLineString, MultiPoint, MultiPolygon, Point, Rect, Triangle,
 };
-use crate::as_written::AsWritten;
+use crate::as_written::{AsWritten, flags_without_srid};
 use crate::counts::Counts;
 use crate::ends::read_ends;
 use crate::linear_ring::{LinearRing, Rings};
@@ -165,9 +165,9 @@ impl AsWritten for Polygon<'_> {
     ghost seen = { polygon_seen };
 
     #[inline]
-    fn is_as_written(&self, order: Endianness, form: Form) -> bool {
+    fn is_as_written(&self, order: Endianness, has_flags: bool) -> bool {
         let wkb_type = WkbType::Polygon(self.layout.dimension);
-        self.layout.begins_as(wkb_type, self.buf, order, form)
+        self.layout.begins_as(wkb_type, self.buf, order, has_flags)
     }
 }
 
@@ -256,7 +256,8 @@ impl<'a> GeometryTrait for Polygon<'a> {
 
     #[inline]
     fn whole(&self, order: Endianness, form: Form) -> Option<&[u8]> {
-        self.is_as_written(order, form).then_some(self.buf)
+        let has_flags = flags_without_srid(form)?;
+        self.is_as_written(order, has_flags).then_some(self.buf)
     }
 
     #[inline]

@@ -8,7 +8,7 @@ pub use Rattle.wkb_geom.specs.Parts.{multi_line_string_meant, multi_polygon_mean
 pub use Rattle.wkb_geom.specs.Parts.{triangle_meant, line_meant}
 pub use Rattle.wkb_geom.specs.Refusals.{srid_size}
 pub use Rattle.wkb_geom.specs.Encodings.{coordinates_fault, coordinates_encoding, count_fault, dimensions_fault, fault}
-pub use Rattle.wkb_geom.specs.Encodings.{encoding, inner, words_encoding, form_srid, IsForm}
+pub use Rattle.wkb_geom.specs.Encodings.{encoding, inner, form_with_flags, words_encoding, form_srid, IsForm}
 pub use Rattle.wkb_geom.specs.declared.common.Endianness.{Endianness}
 pub use Rattle.wkb_geom.specs.declared.common.Form.TheVariants.{Iso}
 pub use Rattle.wkb_sink.specs.Options.{header_of, inner_options}
@@ -20,6 +20,5 @@ pub use Rattle.wkb_write.specs.Answers.{encoding_of, refusal_of, IsInFront, IsSi
 pub use Rattle.wkb_write.specs.Answers.{OutgrowsSlice, ListsItems, WritesTo}
 pub use Rattle.wkb_write.specs.Bodies.{Measure, parts_measure, point_measure, polygon_measure, ring_measure}
 pub use Rattle.wkb_write.specs.Bodies.{collection_of, coordinate_words, body_fault, size_by_parts, IsLeaf, HasMeasures}
-pub use Rattle.wkb_write.specs.Counted.{form_with_flags}
 pub use Rattle.wkb_write.specs.Measures.{Finds, IsAdded, IsMeasured, IsMeasureOf, Measures, OfMeasured, Reports}
 pub use Rattle.wkb_write.specs.Measures.{result_of}

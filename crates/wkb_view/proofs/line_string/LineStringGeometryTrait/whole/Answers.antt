@@ -5,6 +5,6 @@ use Rattle.wkb_view.proofs.line_string.LineStringGeometryTrait.whole.Goals as go
 pub returns : goal.returns
 returns c =
     let l = c.args.self.now in
-    let whole = is_whole c.args.order c.args.form (line_string_seen l) l.spells in
+    let whole = is_whole c.args.order c.args.form _ c.in_ok-has_flags.ensures (line_string_seen l) l.spells in
     let lent = lends c.is_as_written.result l.buf (λ test. whole (c.is_as_written.ensures test)) in
     rw c.then_some.ensures (record { encoding = lent.encoding; writable = lent.writable })

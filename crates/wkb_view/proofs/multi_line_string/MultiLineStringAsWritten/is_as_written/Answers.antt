@@ -9,7 +9,7 @@ use Rattle.wkb_view.proofs.multi_line_string.MultiLineStringAsWritten.is_as_writ
 pub loop-i-preserved : goal.loop-i-preserved
 loop-i-preserved c =
     let l = c.unwrap.result in
-    let is = rw c.inner.ensures at c.if-not-is_as_written.ensures refl in
+    let is = c.if-not-is_as_written.ensures refl in
     let dimension = rw c.unwrap.ensures at c.member.ensures.dimension in
     record {
       so_far =
@@ -21,8 +21,8 @@ pub returns : goal.returns
 returns c =
     let m = c.self.inside in
     let is = c.if-not-begins_as.ensures in
-    let header : HasWrittenHeader 5 m.layout m.buf.now c.args.order c.args.form =
-    record { order_is = is.order refl; plain = is.plain refl; form_is = is.form refl; code = is.code refl } in
+    let header : HasWrittenHeader 5 m.layout m.buf.now c.args.order c.args.has_flags =
+    record { order_is = is.order refl; plain = is.plain refl; code = is.code refl } in
     let members = members_in 2 m.layout m.ends.items m.buf.now in
     let counted = rw (← c.self.view_is) at c.num_members-i-end.ensures in
     let all : length (map (λ i. line_string_of i.value) members) ≤ c.loop-i.i =
@@ -30,6 +30,5 @@ returns c =
     let so_far = rw (← c.self.view_is) at c.loop-i.invariant.so_far in
     rw (← c.self.view_is) (λ _. record {
       bytes = is.bytes;
-      no_srid = is.form refl;
       same = all_written (λ i. line_string_of i.value) members header all so_far;
     })

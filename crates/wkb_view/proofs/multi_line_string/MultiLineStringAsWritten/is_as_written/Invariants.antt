@@ -4,4 +4,4 @@ use Rattle.wkb_view.proofs.multi_line_string.MultiLineStringAsWritten.is_as_writ
 
 abbrev pub invariant-loop-i : goal.invariant-loop-i
 invariant-loop-i l =
-    record { so_far : AreWrittenBefore l.order l.form line_string l.self.dimension l.i l.self.spelled l.self.parts }
+    record { so_far : AreWrittenBefore l.order l.has_flags line_string l.self.dimension l.i l.self.spelled l.self.parts }

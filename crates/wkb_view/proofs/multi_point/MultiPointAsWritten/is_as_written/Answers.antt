@@ -9,7 +9,7 @@ use Rattle.wkb_view.proofs.multi_point.MultiPointAsWritten.is_as_written.Goals a
 pub loop-i-preserved : goal.loop-i-preserved
 loop-i-preserved c =
     let p = c.unwrap.result in
-    let is = rw c.inner.ensures at c.if-not-is_as_written.ensures refl in
+    let is = c.if-not-is_as_written.ensures refl in
     let dimension = rw c.unwrap.ensures at c.point.ensures.dimension in
     record {
       so_far =
@@ -22,13 +22,12 @@ pub returns : goal.returns
 returns c =
     let m = c.args.self.now in
     let is = c.if-not-begins_as.ensures in
-    let header : HasWrittenHeader 4 m.layout m.buf.now c.args.order c.args.form =
-    record { order_is = is.order refl; plain = is.plain refl; form_is = is.form refl; code = is.code refl } in
+    let header : HasWrittenHeader 4 m.layout m.buf.now c.args.order c.args.has_flags =
+    record { order_is = is.order refl; plain = is.plain refl; code = is.code refl } in
     let members = points_in m.layout m.count m.buf.now in
     let all : length (map (λ i. point_of i.value) members) ≤ c.loop-i.i =
     omega (arith, c.num_points-i-end.ensures, c.loop-i-test.false) in
     λ _. record {
       bytes = is.bytes;
-      no_srid = is.form refl;
       same = all_written (λ i. point_of i.value) members header all c.loop-i.invariant.so_far;
     }

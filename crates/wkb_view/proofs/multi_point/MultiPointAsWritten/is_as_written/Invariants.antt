@@ -5,6 +5,6 @@ use Rattle.wkb_view.proofs.multi_point.MultiPointAsWritten.is_as_written.Given a
 
 abbrev pub invariant-loop-i : goal.invariant-loop-i
 invariant-loop-i l = record {
-  so_far : AreWrittenBefore l.order l.form point (multi_point_layout l.self).dimension l.i
+  so_far : AreWrittenBefore l.order l.has_flags point (multi_point_layout l.self).dimension l.i
       (multi_point_seen l.self).spelled (seen_points l.self);
 }

@@ -5,6 +5,6 @@ use Rattle.wkb_view.proofs.multi_point.MultiPointGeometryTrait.whole.Goals as go
 pub returns : goal.returns
 returns c =
     let m = c.args.self.now in
-    let whole = is_whole c.args.order c.args.form (multi_point_seen m) m.spells in
+    let whole = is_whole c.args.order c.args.form _ c.in_ok-has_flags.ensures (multi_point_seen m) m.spells in
     let lent = lends c.is_as_written.result m.buf (λ test. whole (c.is_as_written.ensures test)) in
     rw c.then_some.ensures (record { encoding = lent.encoding; writable = lent.writable })

@@ -10,7 +10,7 @@ use Rattle.wkb_view.proofs.multi_polygon.MultiPolygonAsWritten.is_as_written.Goa
 pub loop-i-preserved : goal.loop-i-preserved
 loop-i-preserved c =
     let p = c.unwrap.result.now in
-    let is = rw c.inner.ensures at c.if-not-is_as_written.ensures refl in
+    let is = c.if-not-is_as_written.ensures refl in
     let dimension = rw c.unwrap.ensures at c.polygon.ensures.dimension in
     record {
       so_far =
@@ -22,8 +22,8 @@ pub returns : goal.returns
 returns c =
     let m = c.self.inside in
     let is = c.if-not-begins_as.ensures in
-    let header : HasWrittenHeader 6 m.layout m.buf.now c.args.order c.args.form =
-    record { order_is = is.order refl; plain = is.plain refl; form_is = is.form refl; code = is.code refl } in
+    let header : HasWrittenHeader 6 m.layout m.buf.now c.args.order c.args.has_flags =
+    record { order_is = is.order refl; plain = is.plain refl; code = is.code refl } in
     let members = polygon_items m.members.items in
     let parts = map (λ i. polygon_of i.value) members in
     let counted = rw (← c.self.view_is) at c.num_polygons-i-end.ensures in
@@ -32,6 +32,5 @@ returns c =
     let so_far = rw (← c.self.view_is) at c.loop-i.invariant.so_far in
     rw (← c.self.view_is) (λ _. record {
       bytes = is.bytes;
-      no_srid = is.form refl;
       same = all_written (λ i. polygon_of i.value) members header all so_far;
     })

@@ -4,4 +4,4 @@ use Rattle.wkb_view.proofs.multi_polygon.MultiPolygonAsWritten.is_as_written.Giv
 
 abbrev pub invariant-loop-i : goal.invariant-loop-i
 invariant-loop-i l =
-    record { so_far : AreWrittenBefore l.order l.form polygon l.self.dimension l.i l.self.spelled l.self.parts }
+    record { so_far : AreWrittenBefore l.order l.has_flags polygon l.self.dimension l.i l.self.spelled l.self.parts }

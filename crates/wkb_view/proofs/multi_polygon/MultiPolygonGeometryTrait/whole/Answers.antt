@@ -6,7 +6,7 @@ pub returns : goal.returns
 returns c =
     let p = c.self.inside in
     let seen = multi_polygon_seen (polygons_laid p.layout p.members.items p.buf.now) in
-    let whole = is_whole_fitted c.args.order c.args.form seen c.self.invariant.2 in
+    let whole = is_whole_fitted c.args.order c.args.form _ c.in_ok-has_flags.ensures seen c.self.invariant.2 in
     let spelled = rw (← c.self.view_is) at c.is_as_written.ensures in
     let lent = lends c.is_as_written.result p.buf (λ test. whole (spelled test)) in
     rw (← c.self.view_is, c.then_some.ensures) (record { encoding = lent.encoding; writable = lent.writable })

@@ -9,7 +9,7 @@ pub returns : goal.returns
 returns c =
     let p = c.args.self.now in
     let encoding = point_encoding_is p.layout p.buf.now in
-    let whole = is_whole c.args.order c.args.form (point_seen p) p.spells in
+    let whole = is_whole c.args.order c.args.form _ c.in_ok-has_flags.ensures (point_seen p) p.spells in
     let lent =
     lends c.is_as_written.result p.buf
     (λ test. subst (λ T. T) (λ i. IsWhole (encoding i) c.args.order c.args.form (geometry_of (point_value p i)))
