@@ -1,6 +1,6 @@
-/* The lines of the library that aren't proved: each call of wkb.h replaces null pointers, unpacks the structs of
- * columns and calls its proved wkb_raw_ call. The texts, the version and wkb_words are whole here. docs/DECISIONS.md
- * says why (D11). */
+/* The part of the library that isn't proved: each call of wkb.h replaces null pointers, unpacks the structs of columns
+ * and calls its proved wkb_raw_ call. The texts, the version and wkb_words have no such call. docs/DECISIONS.md says
+ * why (D11). */
 #include "wkb_raw.h"
 
 /* What an empty slice points to, for any type of its items. */

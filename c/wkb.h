@@ -1,6 +1,6 @@
-/* Well-Known Binary for C and C++: a reader and a writer that are proved to do what this header says. Only tested are
- * what it marks so, wkb_words and wkb_word, the texts, what it says of null, and that the members of wkb_column and
- * wkb_coordinates reach the proved calls.
+/* Well-Known Binary for C and C++: a reader and a writer that are proved to do what this header says. A few things are
+ * only tested: what is marked so below, wkb_words and wkb_word, the texts, what is said of null, and that the members
+ * of wkb_column and wkb_coordinates reach the proved calls.
  *
  * BUF may hold any bytes. A call reads the bytes that it is given and no others, writes only through its other
  * pointers, keeps nothing, and returns. Output buffers must not overlap each other or any input.
@@ -12,7 +12,7 @@
  * Calls may run at the same time: there is no static data. Don't call from a signal handler, or in the forked child of
  * a process with threads. wkb_check, wkb_bounds and their column calls never allocate. The other calls check first: for
  * a refused input they allocate nothing, whatever its counts claim, and never return WKB_STATUS_NO_MEMORY. What they
- * allocate with malloc they free before they return: at most 32 bytes for each byte of BUF (only tested), and beside
+ * allocate with malloc they free before they return: at most 32 bytes for each byte of BUF (only tested), and besides
  * these the table of parts, which the coordinates of a row need too, or wkb_same's copy of each input that isn't a
  * little endian ISO encoding already. wkb_write writes into OUT only. Numbers in BUF may have either byte order and any
  * alignment; numbers in the structs have the machine's.
@@ -83,9 +83,9 @@ typedef enum wkb_form {
 
 /* The geometry at the front of the input. */
 typedef struct wkb_found {
-  uint64_t size;         /* its bytes; the bytes after them were not looked at */
+  uint64_t size;         /* how many bytes it has; the bytes after them were not looked at */
   uint64_t parts;        /* itself, and its rings and members at every level */
-  uint64_t coordinates;  /* how many these have; a point has one, an empty one of not-a-numbers */
+  uint64_t coordinates;  /* how many these have; each point has one, an empty point one of not-a-numbers */
   uint32_t srid;         /* its own SRID, or 0 */
   uint32_t has_srid;     /* 1 if it has an SRID, else 0 */
   uint32_t kind;         /* a wkb_kind */
@@ -104,7 +104,7 @@ typedef struct wkb_fault {
   uint32_t status;  /* the wkb_status that the call returns */
 } wkb_fault;
 
-/* The byte order and the form that are written. Any number may stand here, since C lets any number into an enum: one
+/* The byte order and the form that are written. A member may be any number, since C lets any number into an enum: one
  * without a meaning is refused by WKB_STATUS_UNKNOWN_OPTION (docs/DECISIONS.md, D11). */
 typedef struct wkb_options {
   uint32_t order;  /* a wkb_order */
@@ -112,14 +112,14 @@ typedef struct wkb_options {
   uint32_t srid;   /* of WKB_FORM_EWKB_WITH_SRID */
 } wkb_options;
 
-/* A geometry, or a ring of a polygon. Its rings or members follow it in the table, each before its own. Offsets are
- * counted from the front of BUF. The bytes from BEGIN up to END are the part's own; those of a geometry are a
+/* A geometry, or a ring of a polygon. Its rings or members follow it in the table, each followed by its own. Offsets
+ * are counted from the front of BUF. The bytes from BEGIN up to END are the part's own; those of a geometry are a
  * well-formed input by themselves. */
 typedef struct wkb_part {
   uint64_t begin;      /* its first byte */
   uint64_t end;        /* one past its last byte */
   uint64_t offset;     /* where its coordinates, rings or members begin */
-  uint64_t count;      /* how many it has; a point has one coordinate, an empty one of not-a-numbers */
+  uint64_t count;      /* how many it has; a point has one coordinate, an empty point one of not-a-numbers */
   uint64_t next;       /* the index of the entry after those of its own rings and members */
   uint32_t srid;       /* its own SRID, or 0 */
   uint32_t has_srid;   /* 1 if it has an SRID, else 0 */
@@ -168,15 +168,16 @@ wkb_status wkb_check(const void *buf, size_t len, wkb_found *found, wkb_fault *f
 wkb_status wkb_bounds(const void *buf, size_t len, wkb_box *box, wkb_fault *fault);
 
 /* The one encoding of the input's geometry under the options. WKB_STATUS_OK: it is at the front of OUT, and *SIZE is
- * its length. WKB_STATUS_NO_ROOM: *SIZE is its length, which is more than ROOM, and nothing was written; it is never
- * more than LEN + 4. WKB_STATUS_UNKNOWN_OPTION wherever the options have no meaning, whatever the input. A refusal
- * writes FAULT. Any other status leaves *SIZE and FAULT unchanged, and any but WKB_STATUS_OK leaves OUT unchanged. */
+ * its length, which is never more than LEN + 4. WKB_STATUS_NO_ROOM: *SIZE is its length, which is more than ROOM, and
+ * nothing was written. WKB_STATUS_UNKNOWN_OPTION: the options have no meaning, whatever the input is. A refusal writes
+ * FAULT. Any other status leaves *SIZE and FAULT unchanged, and any but WKB_STATUS_OK leaves OUT unchanged. */
 wkb_status wkb_write(const void *buf, size_t len, const wkb_options *options, void *out, size_t room, uint64_t *size,
                      wkb_fault *fault);
 
-/* Whether both inputs begin with geometries of one value: kinds, dimensions, and coordinates by their bits, except for
- * empty points, whose words may be any not-a-numbers; SRIDs and byte orders aside. WKB_STATUS_OK writes *EQUAL, 1 or 0.
- * A refusal is that of A, or else that of B: it writes FAULT, and *WHICH, 1 for A and 2 for B. */
+/* Whether both inputs begin with geometries of one value: the same kinds, dimensions and coordinates, bit for bit,
+ * whatever their SRIDs and byte orders are. Empty points are the same whatever not-a-numbers they hold. WKB_STATUS_OK
+ * writes *EQUAL, 1 or 0. A refusal is that of A, or else that of B: it writes FAULT, and *WHICH, 1 for A and 2 for B.
+ */
 wkb_status wkb_same(const void *a, size_t a_len, const void *b, size_t b_len, uint32_t *equal, wkb_fault *fault,
                     uint32_t *which);
 
@@ -198,7 +199,7 @@ void wkb_column_bounds(const wkb_column *column, wkb_box *boxes, uint8_t *status
 /* What wkb_parts returns for each row, the tables one after another in PARTS: that of row i ends at ends[i], and begins
  * at ends[i - 1], or at 0 where i is 0. Offsets in it are counted from the row's own front. STATUSES has a byte a row,
  * ENDS a number a row. A row without a table ends where it begins. WKB_STATUS_NO_ROOM: the table would end at ends[i],
- * which is more than ROOM. Returns the last end, 0 without rows: with so much room each row has its table. PARTS is
+ * which is more than ROOM. Returns the last end, or 0 without rows: with that much room, no row lacks room. PARTS is
  * unchanged after the last table that was written. */
 uint64_t wkb_column_parts(const wkb_column *column, wkb_part *parts, size_t room, uint64_t *ends, uint8_t *statuses);
 
@@ -210,8 +211,8 @@ uint64_t wkb_column_write(const wkb_column *column, const wkb_options *options, 
 
 /* The coordinates of a column, in levels as GeoArrow has them: a row has singles, a single has rings, a ring has
  * coordinates, a coordinate has as many words as the dimension that is asked for. A single is a point, a line string or
- * a polygon, by itself or inside a multi geometry or a collection. A point or a line string is one ring. Each end
- * counts from the front of the column, and level i begins where level i - 1 ends. */
+ * a polygon, by itself or inside a multi geometry or a collection. A point or a line string has one ring. Each end
+ * counts from the front of the column, and item i of a level begins where item i - 1 ends. */
 typedef struct wkb_coordinates {
   double   *words;        /* one coordinate after another, in the machine's byte order */
   size_t    words_room;
@@ -229,8 +230,8 @@ typedef struct wkb_coordinates {
  * geometry doesn't have is a not-a-number (7ff8000000000000). The words of an empty point are written as they are. A
  * row that wkb_check refuses has no singles, and its status says why. WKB_STATUS_NO_ROOM: one of the three rooms is too
  * small for the row, which would end at row_ends[i]; nothing of it is written. WKB_STATUS_UNKNOWN_OPTION as in
- * wkb_column_write, where DIMENSION is none. COORDINATES, RINGS and SINGLES are what all rows need: with so much room
- * (in words: COORDINATES times the width of DIMENSION) each row has its coordinates. No row stops the others. */
+ * wkb_column_write, where DIMENSION is none. COORDINATES, RINGS and SINGLES are what all rows need: with that much room
+ * (in words: COORDINATES times the width of DIMENSION) no row lacks room. No row stops the others. */
 void wkb_column_coordinates(const wkb_column *column, wkb_dim dimension, wkb_coordinates *out, uint8_t *statuses);
 
 /* Copies the words of COUNT coordinates of a ring, a point or a line string from coordinate FIRST on, in the machine's

@@ -1,5 +1,5 @@
-// A C++20 view over wkb.h: spans, optionals, exceptions, and ranges over the parts of a geometry. Header only.
-// Nothing is copied but words on demand. A lack of memory is std::bad_alloc.
+// A C++20 wrapper of wkb.h: spans, optionals, exceptions, and ranges over the parts of a geometry. Header only.
+// Nothing is copied but words on demand. A failed allocation is std::bad_alloc.
 #ifndef WKB_HPP
 #define WKB_HPP
 
@@ -19,10 +19,10 @@
 
 namespace wkb {
 
-// The bytes of an input. Those of a vector of other bytes are std::as_bytes(std::span(vector)).
+// The bytes of an input. For a vector of another byte type this is std::as_bytes(std::span(vector)).
 using bytes = std::span<const std::byte>;
 
-// A refused input: what the status says, and of which part.
+// A refused input: why, and which part of it.
 class refused : public std::runtime_error {
  public:
   explicit refused(const wkb_fault &fault) : std::runtime_error(text_of(fault)), fault_(fault) {}
@@ -39,7 +39,7 @@ class refused : public std::runtime_error {
   wkb_fault fault_;
 };
 
-// A refused input of the two of `same`.
+// One of the two inputs of `same` is refused.
 class refused_of_two : public refused {
  public:
   refused_of_two(const wkb_fault &fault, std::uint32_t which) : refused(fault), which_(which) {}
@@ -62,7 +62,7 @@ namespace detail {
 
 }  // namespace detail
 
-// What is at the front of the input, or nothing where it is refused. FAULT then has why, unless it is null.
+// What is at the front of the input, or nothing where it is refused. FAULT then says why, unless it is null.
 inline std::optional<wkb_found> check(bytes input, wkb_fault *fault = nullptr) noexcept {
   wkb_found found;
   if (wkb_check(input.data(), input.size(), &found, fault) != WKB_STATUS_OK) return std::nullopt;
@@ -78,7 +78,7 @@ inline wkb_box bounds(bytes input) {
   return box;
 }
 
-// Replaces what OUT has by the encoding of the input's geometry under the options, in the memory that OUT has if that
+// Replaces what OUT holds by the encoding of the input's geometry under the options, in the memory that OUT has if that
 // is enough. Throws refused, and std::invalid_argument for unknown options; OUT is then unchanged.
 inline void write(bytes input, const wkb_options &options, std::vector<std::byte> &out) {
   std::uint64_t size = 0;
@@ -200,7 +200,7 @@ class part::iterator {
 inline part::iterator part::begin() const noexcept { return {input_, table_, entry_ + 1}; }
 inline part::iterator part::end() const noexcept { return {input_, table_, table_ + entry_->next}; }
 
-// Reads one input after another into one table, so that a scan asks for no more memory once the table has grown.
+// Reads one input after another into one table, so that a scan stops allocating once the table has grown.
 class reader {
  public:
   // The input's geometry. Throws refused.

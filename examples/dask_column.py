@@ -17,7 +17,7 @@ and two tables over all partitions:
 
 The work is done by processes on this machine (--workers, by default one for each processor), or by those of a Dask
 cluster (--scheduler ADDRESS), which see both folders and have the packages numpy, distributed and wkb. Rows are
-compared by digests of 128 bits of their keys.
+compared by 128-bit digests of their keys.
 """
 import argparse
 import csv

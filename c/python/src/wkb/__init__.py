@@ -2,15 +2,15 @@
 
     import wkb
 
-    found = wkb.check(blob)                 # its kind, size, SRID; raises wkb.Refused where it is no geometry
+    found = wkb.check(blob)                 # its kind, size, SRID; raises wkb.Refused if it isn't a geometry
     key = wkb.write(blob)                   # the one encoding of its value
     box = wkb.bounds(blob)                  # box.x.least .. box.x.greatest
     whole, *rest = wkb.parts(blob)          # itself, and its rings and members
     statuses = wkb.Column(data, offsets).check()
 
-A blob is anything with the buffer protocol. A call exports it until it returns or raises, and no longer. Only the
-array that `wkb.view` returns is a view of it. Calls don't hold the interpreter's lock: those of several threads run
-side by side, and no thread may change a blob during a call. Sizes and offsets are in bytes.
+A blob is anything with the buffer protocol. A call holds its buffer until it returns or raises, and no longer; only
+`wkb.view` returns an array over the blob's own memory. Calls don't hold the interpreter's lock: those of several
+threads run side by side, and no thread may change a blob during a call. Sizes and offsets are in bytes.
 
 The shared library is beside this package; `wkb.load` or the environment variable WKB_LIBRARY names another. Functions,
 results and `Refused` can be pickled, for other processes.

@@ -60,7 +60,7 @@ def _check(it: Bytes) -> Found:
 
 
 def check(data: Buffer) -> Found:
-    """What is at the front of the bytes. Raises `Refused` where it is no geometry."""
+    """What is at the front of the bytes. Raises `Refused` if it isn't a geometry."""
     with Bytes(data) as it:
         return _check(it)
 
@@ -74,7 +74,7 @@ def bounds(data: Buffer) -> Box:
 
 
 def make_options(order: Order, form: Form, srid: int) -> Options:
-    """The options, if they have a meaning: ctypes would cut an SRID to its low bits."""
+    """The options, if they have a meaning. An SRID is tested here, since ctypes would cut it to its low bits."""
     number = operator.index(srid)
     if not 0 <= number < 2**32:
         raise ValueError(f"SRID {number} is not from 0 to 4294967295")
@@ -84,8 +84,8 @@ def make_options(order: Order, form: Form, srid: int) -> Options:
 def write(data: Buffer, order: Order = Order.LITTLE, form: Form = Form.ISO, srid: int = 0) -> bytes:
     """The one encoding of the geometry at the front of the bytes, in this order and form.
 
-    The SRID is that of `Form.EWKB_WITH_SRID`. As it is called without options, two geometries of one value have the
-    same encoding, whatever their byte orders and SRIDs are.
+    The SRID is that of `Form.EWKB_WITH_SRID`. With the default options, two geometries of one value have the same
+    encoding, whatever their byte orders and SRIDs are.
     """
     options, fault = make_options(order, form, srid), FAULT()
     with Bytes(data) as it:
@@ -129,9 +129,9 @@ def coordinates(data: Buffer, part: Part) -> List[Tuple[float, ...]]:
 
 
 def view(data: Buffer, part: Part) -> Numbers:
-    """The coordinates of a point, a line string or a ring as an array of numpy: a row for each, and nothing is copied.
+    """The coordinates of a point, a line string or a ring as a numpy array, a row for each. Nothing is copied.
 
-    The numbers have the byte order of the part. The array keeps the data from being resized.
+    The numbers have the byte order of the part. While the array lives, the data can't be resized.
     """
     import numpy
 

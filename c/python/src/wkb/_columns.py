@@ -44,7 +44,7 @@ class ColumnCoordinates(NamedTuple):
     row_offsets: Numbers  # in singles
     single_offsets: Numbers  # in rings; a point or a line string is one
     ring_offsets: Numbers  # in coordinates
-    coordinates: Numbers  # an array of numpy with a row for each; without numpy one number after another
+    coordinates: Numbers  # a numpy array with a row for each; without numpy one number after another
 
 
 def _offset_size(offsets: Buffer, given: Optional[int]) -> int:
@@ -70,7 +70,7 @@ def _check_validity(validity: Buffer, bits: int) -> None:
         if view.format not in ("B", "b", "c"):
             raise TypeError(f"validity of format {view.format!r} is not bits in bytes")
         if 8 * view.nbytes < bits:
-            raise ValueError(f"{view.nbytes} bytes of validity have not {bits} bits")
+            raise ValueError(f"{view.nbytes} bytes of validity hold fewer than {bits} bits")
 
 
 class Column:
@@ -81,9 +81,9 @@ class Column:
     8. `validity` has a bit for each row, from the lowest of a byte on, 0 for a null row; None where no row is null.
     `first` and `rows` pick some rows, counted in offsets and in bits alike; without `rows`, all from `first` on.
 
-    Each of the three is any object with the buffer protocol. The column keeps the objects, and exports them during
-    calls only. No row stops a call: each row has a `Status` in the result. The results are arrays of numpy where it is
-    installed, else of the module `array`.
+    Each of the three is any object with the buffer protocol. The column keeps the objects, and holds their buffers
+    during calls only. No row stops a call: each row has a `Status` in the result. The results are numpy arrays where
+    numpy is installed, else arrays of the module `array`.
     """
 
     def __init__(
@@ -169,7 +169,7 @@ class Column:
         return ColumnEncodings(statuses, offsets, data[: offsets[-1]])
 
     def coordinates(self, dimension: Dimension = Dimension.XY) -> ColumnCoordinates:
-        """The coordinates of all rows in this dimension: a number that a geometry doesn't have is a not-a-number."""
+        """The coordinates of all rows in this dimension, with a NaN for each number that a geometry doesn't have."""
         dimension = Dimension(dimension)
         statuses, address = new_numbers("u1", self._rows)
         row_offsets, row_ends = _new_offsets(self._rows)

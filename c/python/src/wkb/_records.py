@@ -30,9 +30,9 @@ RANGE = fields("f8", "least greatest") + fields("i8", "count")
 class Found:
     """The geometry at the front of some bytes."""
 
-    size: int  # its bytes; the bytes after them were not looked at
+    size: int  # how many bytes it has; the bytes after them were not looked at
     parts: int  # itself, and its rings and members at every level
-    coordinates: int  # how many all parts have; a point has one, an empty one of not-a-numbers
+    coordinates: int  # how many all parts have; each point has one, an empty point one of not-a-numbers
     srid: Optional[int]
     kind: Kind
     dimension: Dimension
@@ -72,12 +72,12 @@ class Fault:
 
 @dataclass
 class Part:
-    """A geometry, or a ring of a polygon. Its rings or members follow it in the table, each before its own."""
+    """A geometry, or a ring of a polygon. Its rings or members follow it in the table, each followed by its own."""
 
     begin: int  # its first byte, counted from the front of the input
     end: int  # one past its last byte
     offset: int  # the byte where its coordinates, rings or members begin
-    count: int  # how many it has; a point has one coordinate, an empty one of not-a-numbers
+    count: int  # how many it has; a point has one coordinate, an empty point one of not-a-numbers
     next: int  # the index of the part after its own rings and members
     srid: Optional[int]
     kind: Kind
@@ -129,7 +129,7 @@ Record = TypeVar("Record", Part, Box)
 
 
 class Table(Sequence[Record]):
-    """Records as the library has written them: one becomes an object of Python when it is asked for.
+    """Records as the library has written them: each becomes a Python object when it is asked for.
 
     `numpy.asarray(table)` is a structured array of them without a copy. Its fields have the names that they have in
     wkb.h.
