@@ -182,9 +182,9 @@ wkb_status wkb_same(const void *a, size_t a_len, const void *b, size_t b_len, ui
                     uint32_t *which);
 
 /* The table of the parts of the input's geometry in preorder. WKB_STATUS_OK: it is at the front of PARTS, and *COUNT is
- * its length, which is wkb_found.parts. WKB_STATUS_NO_ROOM: *COUNT is its length, which is more than ROOM. A refusal
- * writes FAULT. Any other status leaves *COUNT and FAULT unchanged, and any but WKB_STATUS_OK leaves PARTS
- * unchanged. */
+ * its length, which is wkb_found.parts. WKB_STATUS_NO_ROOM: *COUNT is its length, which is more than ROOM; this takes
+ * no memory. A refusal writes FAULT. Any other status leaves *COUNT and FAULT unchanged, and any but WKB_STATUS_OK
+ * leaves PARTS unchanged. */
 wkb_status wkb_parts(const void *buf, size_t len, wkb_part *parts, size_t room, uint64_t *count, wkb_fault *fault);
 
 /* What wkb_check returns for each row, a byte a row in STATUSES. A null row is WKB_STATUS_NULL_ROW. A row whose offsets
