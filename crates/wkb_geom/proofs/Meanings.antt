@@ -213,11 +213,3 @@ code_of_meaning c =
 -- nothing is read where there is none
 pub no_code_without_meaning : (c : ℕ) → meaning_of c ≡ None → HasNoMeaning c
 no_code_without_meaning c = meaning_holds (λ o. o ≡ None → HasNoMeaning c) c (λ n code e. cc) (λ none e. none)
-
--- the flag of an SRID is what every meaning says
-pub srid_of_code : (c k : ℕ) (d : Dimension) (srid : Bool) → Code c k d srid → has_srid_flag c ≡ srid
-srid_of_code c k d srid code = by_table (is_in_table c) refl
-  where
-    by_table : (b : Bool) → b ≡ is_in_table c → has_srid_flag c ≡ srid
-    by_table true e = (one_meaning (code_of_meaning c (meant c) (meaning_found c e)) code).srid
-    by_table false e = absurd (no_code_without_meaning c (meaning_missing c e) k d srid code)

@@ -104,7 +104,7 @@ fn is_in_table(n: u32) -> bool
 }
 
 /// The kind of this number.
-fn of_kind(kind: u32, dimension: Dimension) -> WkbType
+pub fn of_kind(kind: u32, dimension: Dimension) -> WkbType
     ensures { result ≡ type_of kind dimension }
 {
     match kind {

@@ -3,7 +3,7 @@
 use crate::code::{WkbGeometryCode, WkbType};
 use crate::common::{Dimension, Endianness};
 use crate::error::{Cause, General};
-use crate::words::{COUNT_SIZE, u32_at};
+use crate::words::{COUNT_SIZE, WORD_SIZE, u32_at};
 
 /// The size of an order byte.
 const ORDER_SIZE: usize = 1;
@@ -100,7 +100,10 @@ impl Layout {
         ensures { member_layout (type_kind wanted) (type_dimension wanted) bytes.now ≡ result }
     {
         let header = Head::read(bytes)?;
-        let is_member = header.wkb_type == wanted && !(wanted.is_point() && header.has_srid);
+        // By numbers: `==` of the seven kinds makes a proof of many cases (docs/COST.md).
+        let found = header.wkb_type;
+        let is_same = found.kind() == wanted.kind() && found.dimension() == wanted.dimension();
+        let is_member = is_same && !(wanted.is_point() && header.has_srid);
         if !is_member {
             return Err(Cause::IncorrectType);
         }
@@ -205,5 +208,98 @@ impl Layout {
         ensures { result.now ≡ parts_start self.has_srid bytes.now }
     {
         &bytes[self.header_length()..][COUNT_SIZE..]
+    }
+}
+
+impl Layout {
+    ghost use Rattle.std.specs.Prelude.{◌≡◌, ◌≤◌, IfOk, IfErr, length};
+    ghost use Rattle.wkb_geom.specs.Refusals.{point_end, line_string_end, multi_point_end, ring_end};
+    ghost use Rattle.wkb_geom.specs.Numbers.{number};
+    ghost use Rattle.wkb_geom.specs.Reading.{Ends, EndsWith, point_at, point_item, line_string_at};
+    ghost use Rattle.wkb_geom.specs.Reading.{line_string_item, ring_at, count_in, multi_point_at, refused, points_counted};
+
+    /// Where the point at the front of the bytes ends.
+    #[tactic(auto, unfolding(crate::specs::Reading::point_told))]
+    #[inline(always)]
+    pub fn end_of_point(self, bytes: &[u8]) -> Result<usize, Cause>
+        ensures answer { Ends (point_item self) bytes.now (point_at self bytes.now) result }
+        ensures end { IfOk result (λ end. end ≡ point_end self.dimension self.has_srid) }
+        ensures whole { IfOk result (λ end. end ≤ length bytes.now) }
+    {
+        let end = self.header_length() + WORD_SIZE * self.dimension.width();
+        if bytes.len() < end {
+            return Err(Cause::General(General::ShortPoint {
+                end: end as u64,
+                len: bytes.len(),
+            }));
+        }
+        Ok(end)
+    }
+
+    /// How many coordinates the line string at the front of the bytes has, and where it ends.
+    #[tactic(auto, unfolding(crate::specs::Reading::line_string_told))]
+    #[inline(always)]
+    pub fn end_of_line_string(self, bytes: &[u8]) -> Result<(u32, usize), Cause>
+        ensures answer { EndsWith (line_string_item self) bytes.now (line_string_at self bytes.now).1 result }
+        ensures counted { IfOk result (λ x. x.0 ≡ count_in self bytes.now) }
+        ensures end { IfOk result (λ x. x.1 ≡ line_string_end self.dimension self.has_srid x.0) }
+        ensures whole { IfOk result (λ x. x.1 ≤ length bytes.now) }
+    {
+        let count = self.count(bytes)?;
+        let start = self.header_length() + COUNT_SIZE;
+        let end = start as u64 + (WORD_SIZE * self.dimension.width()) as u64 * count as u64;
+        if (bytes.len() as u64) < end {
+            return Err(Cause::General(General::ShortLineString {
+                end,
+                len: bytes.len(),
+            }));
+        }
+        Ok((count, end as usize))
+    }
+
+    /// How many coordinates the ring at the front of the bytes has, and where it ends. It is in a polygon of this layout.
+    #[tactic(auto, unfolding(crate::specs::Reading::ring_told))]
+    #[inline(always)]
+    pub fn end_of_ring(self, bytes: &[u8]) -> Result<(u32, usize), Cause>
+        ensures answer { EndsWith (λ ring. ring) bytes.now (ring_at self.order self.dimension bytes.now) result }
+        ensures counted { IfOk result (λ x. x.0 ≡ number self.order COUNT_SIZE bytes.now) }
+        ensures end { IfOk result (λ x. x.1 ≡ ring_end self.dimension x.0) }
+        ensures whole { IfOk result (λ x. x.1 ≤ length bytes.now) }
+    {
+        if bytes.len() < COUNT_SIZE {
+            return Err(Cause::EndOfInput);
+        }
+        let count = u32_at(bytes, 0, self.order);
+        let end = COUNT_SIZE as u64 + (WORD_SIZE * self.dimension.width()) as u64 * count as u64;
+        if (bytes.len() as u64) < end {
+            return Err(Cause::General(General::ShortLinearRing {
+                end,
+                len: bytes.len(),
+            }));
+        }
+        Ok((count, end as usize))
+    }
+
+    /// How many points the multi point at the front of the bytes has, if the bytes are as many as these take. The points
+    /// aren't looked at.
+    #[tactic(auto, unfolding(crate::specs::Reading::multi_point_told))]
+    #[inline(always)]
+    pub fn count_of_points(self, bytes: &[u8]) -> Result<u32, Cause>
+        ensures answer { points_counted self bytes.now ≡ result }
+        ensures counted { IfOk result (λ n. n ≡ count_in self bytes.now) }
+        ensures whole { IfOk result (λ n. multi_point_end self.dimension self.has_srid n ≤ length bytes.now) }
+        ensures short { IfErr result (λ cause. multi_point_at self bytes.now ≡ refused cause) }
+    {
+        let count = self.count(bytes)?;
+        let start = self.header_length() + COUNT_SIZE;
+        let member = MEMBER_HEADER_SIZE + WORD_SIZE * self.dimension.width();
+        let end = start as u64 + member as u64 * count as u64;
+        if (bytes.len() as u64) < end {
+            return Err(Cause::General(General::ShortMultiPoint {
+                end,
+                len: bytes.len(),
+            }));
+        }
+        Ok(count)
     }
 }

@@ -35,6 +35,7 @@ use Rattle.wkb_laws.proofs.Heads.{refused_as, ItemIs, IsRight, Opened, counts_he
 use Rattle.wkb_laws.proofs.Heads.{item_is}
 use Rattle.wkb_laws.proofs.Lists.{count-each, each_sum, each_same, by_list_kind, whole_by, list_behind}
 use Rattle.wkb_laws.proofs.Lengths.{value_size-least, spelled_length}
+unfoldable use Rattle.wkb_geom.specs.Reading.{line_string_told, point_told, polygon_told, ring_told}
 
 -- a coordinate is the words of its bytes
 pub coordinate_is : (order : Endianness) (d : Dimension) (y : List ℕ) → 8 * width d ≤ length y
@@ -104,7 +105,7 @@ module _ (l : Layout) where
       (subst (λ z. RefusesRings l.order l.dimension (suc n) input cause z) t later, omega arith)
 
   rings_say : (n : ℕ) (input : List ℕ) → RingsSay n input (repeated n (ring_part l) input)
-  unfolding repeated ring_at
+  unfolding repeated ring_told
   rings_say zero input = record { many = refl; front = []; whole = refl; spelled = refl; turns = refl; slots = refl }
   rings_say (suc n) input =
       let end = ring_end l.dimension (number l.order 4 input) in
@@ -176,7 +177,7 @@ module _ (room : ℕ) (w : Wanted) (input : List ℕ) (l : Layout) where
       (omega arith) refl refl
 
   pub point_says : Opened input 1 l → IsPart w 1 l.dimension l.has_srid → IsRight room w input (free, point_at l input)
-  unfolding point_at
+  unfolding point_told
   point_says o p =
       let end = point_end l.dimension l.has_srid in
       cond_both (nat_lt (length input) end) _ _ (λ r. IsRight room w input (free, r))
@@ -192,7 +193,7 @@ module _ (room : ℕ) (w : Wanted) (input : List ℕ) (l : Layout) where
 
   pub line_string_says : Opened input 2 l → IsPart w 2 l.dimension l.has_srid
       → IsRight room w input (line_string_at l input)
-  unfolding line_string_at
+  unfolding line_string_told
   line_string_says o p =
       let allowed : IsAllowed room w 2 l.dimension l.has_srid =
       record { wanted = p; shallow = λ e. absurd (omega arith) } in
@@ -241,7 +242,7 @@ module _ (room : ℕ) (w : Wanted) (input : List ℕ) (l : Layout) where
       refused_as (omega arith) (omega (arith, says.1)) (bad_ring (counts_here room w input 3 l o allowed enough) says.0)
 
   pub polygon_says : Opened input 3 l → IsPart w 3 l.dimension l.has_srid → IsRight room w input (polygon_at l input)
-  unfolding polygon_at
+  unfolding polygon_told
   polygon_says o p =
       let allowed : IsAllowed room w 3 l.dimension l.has_srid =
       record { wanted = p; shallow = λ e. absurd (omega arith) } in

@@ -6,6 +6,7 @@ use Rattle.wkb_laws.proofs.Bounds.{front_is_bounded_lem, refusal_is_bounded_lem}
 use Rattle.wkb_laws.proofs.Heads.{IsRight}
 use Rattle.wkb_laws.proofs.Sound.{geometry_says}
 use Rattle.wkb_laws.proofs.Complete.{front_read, refusal_read}
+use Rattle.wkb_geom.specs.Reading.{cause_alone}
 
 agrees : (input : List ℕ) (r : Reading Item) → IsRight max_nesting any input r → Agrees input r
 agrees input (cost, Ok x) h =
@@ -16,10 +17,10 @@ pub geometry_agrees_lem : GeometryAgrees
 geometry_agrees_lem input = agrees input _ (geometry_says max_nesting input)
 
 pub front_is_read_lem : FrontIsRead
-front_is_read_lem input s t rest f = front_read max_nesting any tt input s t rest f tt
+front_is_read_lem input s t rest f = front_read cause_alone max_nesting any tt input s t rest f tt
 
 pub refusal_is_read_lem : RefusalIsRead
-refusal_is_read_lem input cause turns slots r = refusal_read r tt
+refusal_is_read_lem input cause turns slots r = refusal_read cause_alone r tt
 
 bounded : (input : List ℕ) (r : Reading Item) → Agrees input r
     → (4 * r.0.turns ≤ length input + 4) × (r.0.slots ≤ 15 * length input)

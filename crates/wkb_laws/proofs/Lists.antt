@@ -8,6 +8,8 @@ use Rattle.wkb_laws.specs.Prelude.{Values, no_members, member, Value, each, coun
 use Rattle.wkb_laws.specs.Prelude.{ShortMultiPoint, Wanted, any, part, multi_point_end}
 use Rattle.wkb_laws.specs.Prelude.{Reading, Item, collection_with, list_item, multi_line_string_with, multi_point_with}
 use Rattle.wkb_laws.specs.Prelude.{multi_polygon_with, parts_body, refused}
+use Rattle.wkb_geom.specs.Reading.{ReadingOf, cause_alone}
+use Rattle.wkb_geom.specs.declared.error.Cause.{Cause}
 
 -- what follows for one follows for all
 pub all_imply : {A : Type 0} (P Q : A → Type 0) → ((a : A) → P a → Q a) → (l : List A) → AllByRecursion P l
@@ -50,8 +52,13 @@ whole_by k =
     else collection_with
 
 -- what comes after the count of a list of members
-abbrev pub list_behind : ℕ → Layout → (List ℕ → Reading Item) → List ℕ → ℕ → Reading Item
-list_behind k l part_at input n =
+abbrev pub list_behind_told : {F : Type 0} → (List ℕ → Cause → F) → ℕ → Layout → (List ℕ → ReadingOf F Item) → List ℕ
+    → ℕ → ReadingOf F Item
+list_behind_told told k l part_at input n =
     let end = multi_point_end l.dimension l.has_srid n in
-    if (k == 4) && nat_lt (length input) end then refused (general (ShortMultiPoint end (length input)))
+    if (k == 4) && nat_lt (length input) end then refused (told input (general (ShortMultiPoint end (length input))))
     else parts_body k l part_at (list_item l (whole_by k)) input n
+
+-- the same, where of a fault its cause is told
+abbrev pub list_behind : ℕ → Layout → (List ℕ → Reading Item) → List ℕ → ℕ → Reading Item
+list_behind = list_behind_told cause_alone

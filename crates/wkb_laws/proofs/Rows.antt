@@ -23,6 +23,8 @@ use Rattle.wkb_laws.specs.Prelude.{multi_polygon_at, collection_at, repeated}
 use Rattle.wkb_geom.proofs.Hex.{hex, copies}
 use Rattle.wkb_laws.specs.Laws.{Agrees}
 use Rattle.wkb_laws.proofs.GeometryAt.{geometry_agrees_lem}
+unfoldable use Rattle.wkb_geom.specs.Reading.{by_type_told, geometry_told, line_string_told, multi_point_told, point_told, polygon_told, ring_told}
+unfoldable use Rattle.wkb_geom.specs.Reading.{multi_line_string_told, multi_polygon_told, collection_told}
 
 -- a kind, a dimension, the number of its bytes, turns and slots; or a cause, turns and slots
 data Answer : Type 0 where
@@ -35,9 +37,9 @@ answer_of (cost, Err cause) = refused cause cost.turns cost.slots
 
 -- what an input is read as, computed
 read : List ℕ → Reading Item
-unfolding number geometry_at by_type head_at meaning_of point_at line_string_at ring_at polygon_at multi_point_at
-    multi_line_string_at multi_polygon_at
-    collection_at repeated
+unfolding number geometry_told by_type_told head_at meaning_of point_told line_string_told ring_told polygon_told multi_point_told
+    multi_line_string_told multi_polygon_told
+    collection_told repeated
 read input = geometry_at max_nesting input
 
 answer : List ℕ → Answer

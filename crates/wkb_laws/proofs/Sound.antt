@@ -14,6 +14,7 @@ use Rattle.wkb_geom.specs.Reading as reading
 use Rattle.wkb_geom.proofs.Codes.{thousands_inj}
 use Rattle.wkb_laws.proofs.Heads.{IsRight, Opened, head_says}
 use Rattle.wkb_laws.proofs.Bodies.{point_says, line_string_says, polygon_says, list_says}
+unfoldable use Rattle.wkb_geom.specs.Reading.{by_type_told, collection_told, geometry_told, multi_line_string_told, multi_point_told, multi_polygon_told}
 
 -- members that pass the test are wanted, and no others
 no_srid : (k : ℕ) (srid : Bool) → (if (k == 1) && srid then false else true) ≡ true → k ≡ 1 → srid ≡ false
@@ -71,7 +72,7 @@ module _ (room : ℕ) where
       → ((l : Layout) → Opened input 7 l → IsRight room any input (collection l input))
       → (t : WkbType) (l : Layout) → Opened input (type_kind t) l
       → IsRight room any input (body_at collection t l input)
-  unfolding multi_point_at multi_line_string_at multi_polygon_at
+  unfolding multi_point_told multi_line_string_told multi_polygon_told
   body_says input collection deeper (kinds.Point d) l o = point_says room any input l o tt
   body_says input collection deeper (kinds.LineString d) l o = line_string_says room any input l o tt
   body_says input collection deeper (kinds.Polygon d) l o = polygon_says room any input l o tt
@@ -89,7 +90,7 @@ module _ (room : ℕ) where
   by_type_says : (input : List ℕ) (collection : Layout → List ℕ → Reading Item) → ((l : Layout) → Opened input 7 l
       → IsRight room any input (collection l input))
       → IsRight room any input (by_type collection input)
-  unfolding by_type
+  unfolding by_type_told
   by_type_says input collection deeper =
       head_says room any input
       (λ r. IsRight room any input (then_body r (λ h. body_at collection h.wkb_type (layout_of h) input)))
@@ -97,7 +98,7 @@ module _ (room : ℕ) where
       (λ h o. body_says input collection deeper h.wkb_type (layout_of h) o)
 
 pub geometry_says : (room : ℕ) (input : List ℕ) → IsRight room any input (geometry_at room input)
-unfolding geometry_at collection_at
+unfolding geometry_told collection_told
 geometry_says zero input = by_type_says zero input reading.too_deep (λ l o. too_deep o tt)
 geometry_says (suc room) input =
     let inside : room ≡ suc room - 1 = omega arith in

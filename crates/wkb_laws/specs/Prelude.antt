@@ -60,9 +60,12 @@ pub use Rattle.wkb_geom.specs.Reading.{point_item_of, srid_in}
 pub use Rattle.wkb_geom.specs.Reading.{head_by_order, meaning, then_body, member_body, layout_wanted, is_member}
 pub use Rattle.wkb_geom.specs.Reading.{member_at, refused, collection_with}
 pub use Rattle.wkb_geom.specs.Reading.{multi_line_string_with, multi_point_with, multi_polygon_with}
-unfoldable pub use Rattle.wkb_geom.specs.Reading.{geometry_at, point_at, repeated, ring_at, collection_at}
-unfoldable pub use Rattle.wkb_geom.specs.Reading.{line_string_at, multi_line_string_at, multi_point_at}
-unfoldable pub use Rattle.wkb_geom.specs.Reading.{multi_polygon_at, polygon_at, head_at, meaning_of, by_type}
+unfoldable pub use Rattle.wkb_geom.specs.Reading.{repeated, geometry_told, point_told, ring_told, collection_told}
+pub use Rattle.wkb_geom.specs.Reading.{geometry_at, point_at, ring_at, collection_at}
+unfoldable pub use Rattle.wkb_geom.specs.Reading.{line_string_told, multi_line_string_told, multi_point_told}
+pub use Rattle.wkb_geom.specs.Reading.{line_string_at, multi_line_string_at, multi_point_at}
+unfoldable pub use Rattle.wkb_geom.specs.Reading.{head_at, meaning_of, multi_polygon_told, polygon_told, by_type_told}
+pub use Rattle.wkb_geom.specs.Reading.{multi_polygon_at, polygon_at, by_type}
 pub use Rattle.wkb_geom.specs.Sizes.{byte_size, byte_sizes}
 pub use Rattle.wkb_geom.specs.Items.{length-items}
 pub use Rattle.wkb_geom.specs.declared.error.Fault.{Fault}

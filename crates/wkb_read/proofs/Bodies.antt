@@ -1,20 +1,19 @@
 -- Geometries by their headers and kinds.
 use Rattle.wkb_read.specs.Prelude.refusals
-use Rattle.wkb_read.proofs.Prelude.{any, max_nesting, ◌≡◌, ◌<◌, ◌-◌, ℕ, zero, suc, List, Result, Ok, Err, refl, sym, ap}
+use Rattle.wkb_read.proofs.Prelude.{any, max_nesting, ◌≡◌, ◌-◌, ℕ, zero, suc, List, Result, Ok, Err, refl, sym, ap}
 use Rattle.wkb_read.proofs.Prelude.{◌∙◌, subst, arith, WkbType, Layout, layout_of, collection_within, then_body, Cause}
-use Rattle.wkb_read.proofs.Prelude.{Head, Item, Outcome, Reading, free, costs, done, at_no_cost, type_kind}
-use Rattle.wkb_read.proofs.Prelude.{head_at, body_at, too_deep, by_type, geometry_at, Counts, Spent, Stops}
+use Rattle.wkb_read.proofs.Prelude.{Head, Item, Outcome, Reading, free, costs, done, at_no_cost}
+use Rattle.wkb_read.proofs.Prelude.{head_at, body_at, by_type, geometry_at, Counts, Spent, Stops}
 use Rattle.wkb_read.proofs.Prelude.{geometry_inside, cost_of, Refusal, BeginsAs}
 use Rattle.std.specs.Prelude.{IsErrAnd}
 use Rattle.wkb_read.specs.declared.read.stack.Begun.{Begun}
-use Rattle.wkb_geom.specs.declared.code.WkbType.TheVariants as kinds
 use Rattle.wkb_laws.proofs.Heads.{OpensAs, head_says}
-use Rattle.wkb_view.proofs.Leaves.{line_string_free}
+unfoldable use Rattle.wkb_geom.specs.Reading.{by_type_told, geometry_told}
 
 geometry_is : (levels : ℕ) (bytes : List ℕ)
     → geometry_at levels bytes
     ≡ then_body (head_at bytes) (λ h. body_at (collection_within levels) h.wkb_type (layout_of h) bytes)
-unfolding geometry_at by_type
+unfolding geometry_told by_type_told
 geometry_is zero bytes = refl
 geometry_is (suc levels) bytes = refl
 
@@ -36,14 +35,6 @@ pub by_header : (depth : ℕ) (bytes : List ℕ) (h : Head) (t : WkbType) (l : L
 by_header depth bytes h t l e is laid =
     behind_header depth bytes h e
     ∙ (λ i. body_at (collection_within (max_nesting - depth)) (is i) (sym laid i) bytes)
-
--- a point or a line string costs nothing, whatever reads a collection
-pub leaf_free : (depth : ℕ) (t : WkbType) (l : Layout) (bytes : List ℕ)
-    → type_kind t < 3
-    → body_at (collection_within (max_nesting - depth)) t l bytes ≡ at_no_cost (body_at too_deep t l bytes).1
-leaf_free depth (kinds.Point d) l bytes leaf = refl
-leaf_free depth (kinds.LineString d) l bytes leaf = line_string_free l bytes
-leaf_free depth _ l bytes leaf = absurd (omega (arith, leaf))
 
 -- what fails at no cost stops there
 nothing_spent : (c : Counts) → Spent c c free

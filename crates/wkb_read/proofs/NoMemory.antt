@@ -10,6 +10,7 @@ use Rattle.wkb_view.specs.Entries.{entries_asked}
 use Rattle.wkb_geom.specs.declared.code.WkbType.TheVariants as kinds
 use Rattle.wkb_read.proofs.Algebra.{and_then-least}
 use Rattle.wkb_read.proofs.Bodies.{behind_header, head_opens}
+unfoldable use Rattle.wkb_geom.specs.Reading.{collection_told}
 
 -- what asks for no entry costs none
 asked_by : (buf : List ℕ) (r : Reading Item) → AsksForNone buf → Agrees buf r → r.0.slots ≡ 0
@@ -38,7 +39,7 @@ no_parts (suc n) part bytes end none =
 -- a collection that takes no turn has no members
 no_members_in : (member : List ℕ → Reading Item) (l : Layout) (bytes : List ℕ)
     → (collection_at member l bytes).0.turns ≡ 0 → HasNoMembers l bytes
-unfolding collection_at
+unfolding collection_told
 no_members_in member l bytes none = λ whole.
     let long : ltb (length bytes) (body_start l.has_srid + 4) ≡ false = le-ltb _ _ whole in
     no_parts (count_in l bytes) member (parts_start l.has_srid bytes) (closing l bytes) (omega (arith, rw long at none))

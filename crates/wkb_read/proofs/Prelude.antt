@@ -21,7 +21,8 @@ pub use Rattle.wkb_read.specs.Prelude.{parts_start, type_kind, type_dimension, t
 pub use Rattle.wkb_read.specs.Prelude.{Refuses, any, Listed, Tells, TellsRefusal, Coordinate, Value, Values}
 pub use Rattle.wkb_read.specs.Prelude.{collection, member_count, listed_count, Counts, HasHead, IsCause, Spent, AtMost}
 pub use Rattle.wkb_read.specs.Prelude.{CanCount, Stops, BytesSpell, count_in}
-unfoldable pub use Rattle.wkb_read.specs.Prelude.{repeated, by_type, geometry_at, collection_at, head_at}
+unfoldable pub use Rattle.wkb_read.specs.Prelude.{repeated, head_at, by_type_told, geometry_told, collection_told}
+pub use Rattle.wkb_read.specs.Prelude.{by_type, geometry_at, collection_at}
 pub use Rattle.wkb_laws.specs.Laws.{Agrees}
 pub use Rattle.wkb_laws.proofs.GeometryAt.{geometry_agrees_lem}
 pub use Rattle.wkb_read.specs.declared.geometry.Wkb.{Wkb}

@@ -19,8 +19,10 @@ pub use Rattle.wkb_geom.specs.Reading.{consumed, body_start, count_in, parts_sta
 pub use Rattle.wkb_geom.specs.Reading.{layout_of, laid}
 pub use Rattle.wkb_geom.specs.Reading.{list_item, collection_with, collection_within, spelled_in, spellings, values}
 pub use Rattle.wkb_geom.specs.Reading.{too_deep, body_at}
-unfoldable pub use Rattle.wkb_geom.specs.Reading.{head_at, repeated, polygon_at, multi_line_string_at, multi_polygon_at}
-unfoldable pub use Rattle.wkb_geom.specs.Reading.{collection_at, by_type, geometry_at}
+unfoldable pub use Rattle.wkb_geom.specs.Reading.{head_at, repeated, polygon_told, multi_line_string_told, multi_polygon_told}
+pub use Rattle.wkb_geom.specs.Reading.{polygon_at, multi_line_string_at, multi_polygon_at}
+unfoldable pub use Rattle.wkb_geom.specs.Reading.{collection_told, by_type_told, geometry_told}
+pub use Rattle.wkb_geom.specs.Reading.{collection_at, by_type, geometry_at}
 pub use Rattle.wkb_geom.specs.Refusals.{Refuses, Opens}
 pub use Rattle.wkb_geom.specs.Spellings.{Spelling, any}
 pub use Rattle.wkb_geom.specs.Stored.{Listed, whole_of, listed_code, values_code, item_code}

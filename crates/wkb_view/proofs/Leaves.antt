@@ -9,6 +9,7 @@ use Rattle.wkb_view.specs.Prelude.{member_body, member_at, then_body}
 use Rattle.wkb_view.specs.Members.{item_of, IsEncoding, IsMemberOfKind, layout_said, member_item}
 use Rattle.wkb_view.specs.Pieces.{Passed, IsRing}
 use Rattle.wkb_view.proofs.Pieces.{drop-of-take}
+unfoldable use Rattle.wkb_geom.specs.Reading.{line_string_told}
 
 -- a number within the encoding that was taken
 pub number_within : (order : Endianness) (at end : ℕ) (bytes : List ℕ) → at + 4 ≤ end
@@ -38,7 +39,7 @@ free_by false r p h k = k
 
 -- a line string costs nothing
 pub line_string_free : (l : Layout) (bytes : List ℕ) → line_string_at l bytes ≡ at_no_cost (line_string_at l bytes).1
-unfolding line_string_at
+unfolding line_string_told
 line_string_free l bytes = ap (λ c. (c, (line_string_at l bytes).1)) (free_by _ _ _ refl refl)
 
 -- ---- what was passed, by the encoding that was taken

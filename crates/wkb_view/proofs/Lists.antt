@@ -1,5 +1,5 @@
 -- Parts read one after the other, as a loop does, and lists of them after a count.
-use Rattle.std.proofs.Common.{◌≡◌, ℕ, suc, ◌+◌, ◌-◌, ◌*◌, ◌≤◌, ◌<◌, List, [], ◌∷◌, ◌++◌, Ok, Err, refl, sym, ap, ◌∙◌}
+use Rattle.std.proofs.Common.{◌≡◌, ℕ, suc, ◌+◌, ◌-◌, ◌≤◌, ◌<◌, List, [], ◌∷◌, ◌++◌, Ok, Err, refl, sym, ap, ◌∙◌}
 use Rattle.std.proofs.Common.{append_assoc, arith, Bool, true, false, cond, length, drop, ltb, ltb-true, length-drop}
 use Rattle.std.proofs.lemmas.List.{append-nil}
 use Rattle.std.proofs.lemmas.Bool.{le-ltb, lt-ltb}
@@ -7,12 +7,13 @@ use Rattle.wkb_view.specs.Prelude.{Cause, refused, end_of_input, Refusal, Cost, 
 use Rattle.wkb_view.specs.Prelude.refusals
 use Rattle.wkb_view.specs.Prelude.{Reading, costs, done, count_in, and_then, repeated, Layout, Item, number}
 use Rattle.wkb_view.specs.Prelude.{multi_point_end, slots_asked, slots_of, consumed, body_start, parts_start, list_at}
-use Rattle.wkb_view.specs.Prelude.{list_item, member_at, width, parts_body, multi_point_with, multi_polygon_with}
+use Rattle.wkb_view.specs.Prelude.{list_item, member_at, parts_body, multi_point_with, multi_polygon_with}
 use Rattle.wkb_view.specs.Prelude.{multi_point_at, multi_polygon_at}
 use Rattle.wkb_view.specs.declared.counts.Counts.{Counts}
 use Rattle.wkb_view.specs.Outcome.{Spent, CanCount, Stops}
 use Rattle.wkb_view.specs.Members.{parts_behind}
 use Rattle.wkb_view.specs.Entries.{entries_asked, HasNoList}
+unfoldable use Rattle.wkb_geom.specs.Reading.{multi_point_told, multi_polygon_told}
 
 -- what was spent since the start and what is still to be read make up the whole
 pub record Leads {A : Type 0} (start now : Counts) (left whole : Reading A) : Type 0 where
@@ -174,7 +175,7 @@ module _ (l : Layout) (bytes : List ℕ) (n : ℕ) (old mid : Counts) (whole : b
 
   pub polygons_here : Asked 6
       → IsList 6 l (member_at 3 l.dimension) (list_item l multi_polygon_with) bytes n old mid (multi_polygon_at l bytes)
-  unfolding multi_polygon_at
+  unfolding multi_polygon_told
   polygons_here = list_here 6 (member_at 3 l.dimension) (list_item l multi_polygon_with)
 
 -- A list whose count is cut short, or for whose entries memory is refused: its reading, where the count is there, costs
@@ -205,24 +206,22 @@ module _ (least : ℕ) (l : Layout) (bytes : List ℕ) where
 
 module _ (l : Layout) (bytes : List ℕ) where
   pub polygons_within : entries_asked 9 l bytes ≤ (multi_polygon_at l bytes).0.slots
-  unfolding multi_polygon_at
+  unfolding multi_polygon_told
   polygons_within = entries_within 9 l bytes _ (omega (arith, parts_length l.has_srid bytes))
 
   pub polygons_refused : (refusal : Refusal) (old new : Counts) → HasNoList l bytes refusal → new.turns ≡ old.turns
       → new.slots ≡ old.slots + entries_asked 9 l bytes → Stops refusal (multi_polygon_at l bytes) old new
-  unfolding multi_polygon_at
+  unfolding multi_polygon_told
   polygons_refused = list_refused 9 l bytes _ (omega (arith, parts_length l.has_srid bytes))
 
 -- where its bytes are there, a multi point is a list that asks for no entry
-pub points_here : (l : Layout) (bytes : List ℕ) (n s w : ℕ) (old : Counts) → body_start l.has_srid + 4 ≤ length bytes
-    → n ≡ number l.order 4 (drop (body_start l.has_srid) bytes) → s ≡ body_start l.has_srid → w ≡ width l.dimension
-    → s + 4 + (5 + 8 * w) * n ≤ length bytes
+pub points_here : (l : Layout) (bytes : List ℕ) (n : ℕ) (old : Counts)
+    → n ≡ number l.order 4 (drop (body_start l.has_srid) bytes) → multi_point_end l.dimension l.has_srid n ≤ length bytes
     → IsList 4 l (member_at 1 l.dimension) (list_item l multi_point_with) bytes n old old (multi_point_at l bytes)
-unfolding multi_point_at
-points_here l bytes n s w old whole counted s-is w-is enough =
-    let there : ltb (length bytes) (body_start l.has_srid + 4) ≡ false = le-ltb _ _ whole in
-    let end : multi_point_end l.dimension l.has_srid n ≤ length bytes = omega (arith, rw (s-is, w-is) at enough) in
-    let long : ltb (length bytes) (multi_point_end l.dimension l.has_srid n) ≡ false = le-ltb _ _ end in
+unfolding multi_point_told
+points_here l bytes n old counted enough =
+    let there : ltb (length bytes) (body_start l.has_srid + 4) ≡ false = le-ltb _ _ (omega (arith, enough)) in
+    let long : ltb (length bytes) (multi_point_end l.dimension l.has_srid n) ≡ false = le-ltb _ _ enough in
     record { is = rw (there, ← counted, long) refl; turns = refl; slots = omega arith }
 
 module _ {A : Type 0} (end : List A → List ℕ → Item) (bytes : List ℕ) (old mid : Counts) where

@@ -51,11 +51,6 @@ pub parts_counted : {A : Type 0} (seen : List ℕ → A) (start : ℕ) (ends enc
 parts_counted seen start ends encoding =
     length-map (pieces start ends encoding) seen ∙ pieces_counted start ends encoding
 
-pub pieces_within : (P : List ℕ → Type 0) (start : ℕ) (ends encoding : List ℕ) → ArePieces P start ends encoding
-    → start ≤ length encoding
-pieces_within P start [] encoding h = h
-pieces_within P start (x ∷ ends) encoding h = omega (arith, h.0.ordered, h.0.within)
-
 -- ---- by the part that is handed out
 
 -- parts of one form follow one another

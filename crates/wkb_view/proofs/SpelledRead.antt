@@ -1,10 +1,9 @@
 -- What was read is spelled by its bytes.
-use Rattle.std.proofs.Common.{◌≡◌, ℕ, ◌+◌, ◌≤◌, ltb, List, length, take, drop, false, Result, Ok, Err, refl, ap, ◌∙◌}
+use Rattle.std.proofs.Common.{◌≡◌, ℕ, ◌≤◌, List, length, take, drop, Result, Ok, Err, ap}
 use Rattle.std.proofs.Common.{subst, length-take, arith}
-use Rattle.std.proofs.lemmas.Bool.{le-ltb}
 use Rattle.wkb_geom.specs.declared.code.WkbType.TheVariants as kinds
 use Rattle.wkb_geom.specs.Spellings.{Wanted, any}
-use Rattle.wkb_geom.specs.Reading.{body_at, too_deep, geometry_at, by_type, layout_of}
+use Rattle.wkb_geom.specs.Reading.{body_at, too_deep, layout_of}
 use Rattle.wkb_laws.proofs.Heads.{IsRight}
 use Rattle.wkb_laws.proofs.Sound.{geometry_says}
 use Rattle.wkb_view.specs.Prelude.{Cause, Head, Layout, number, point_end, line_string_end, Item, Reading, head_at}
@@ -13,6 +12,7 @@ use Rattle.wkb_view.specs.Prelude.{point_at, line_string_at, point_item, line_st
 use Rattle.wkb_view.specs.Headers.{HasHead}
 use Rattle.wkb_view.specs.Members.{IsEncoding}
 use Rattle.wkb_view.proofs.Leaves.{number_within}
+unfoldable use Rattle.wkb_geom.specs.Reading.{by_type_told, geometry_told}
 
 says_spelled : (w : Wanted) (bytes : List ℕ) (r : Reading Item) → IsRight 0 w bytes r → (i : Item) (rest : List ℕ)
     → r.1 ≡ Ok (i, rest) → BytesSpell i
@@ -21,7 +21,7 @@ says_spelled w bytes (c, Err f) h i rest e = absurd cc
 
 says_body : (bytes : List ℕ) (h : Head) → head_at bytes ≡ Ok h
     → IsRight 0 any bytes (body_at too_deep h.wkb_type (layout_of h) bytes)
-unfolding geometry_at by_type
+unfolding geometry_told by_type_told
 says_body bytes h e =
     subst (λ (r : Result Head Cause). IsRight 0 any bytes
     (then_body r (λ g. body_at too_deep g.wkb_type (layout_of g) bytes))) e (geometry_says 0 bytes)
@@ -35,38 +35,25 @@ body_spelled bytes h i rest e is =
 -- the encoding of a point that was read
 pub point_encoding : (l : Layout) (bytes buf : List ℕ) (end : ℕ) → HasHead (λ d. kinds.Point d) l bytes
     → end ≡ point_end l.dimension l.has_srid
-    → end ≤ length bytes → buf ≡ take end bytes → IsEncoding 1 l buf
-unfolding point_at
-point_encoding l bytes buf end head end-is long buf-is =
-    let at = point_end l.dimension l.has_srid in
-    let there : ltb (length bytes) at ≡ false = le-ltb _ _ (omega arith) in
-    let cut : buf ≡ take at bytes = buf-is ∙ ap (λ (n : ℕ). take n bytes) end-is in
-    let read : point_at l bytes ≡ Ok (point_item l (take at bytes), drop at bytes) = rw there refl in
+    → end ≤ length bytes → buf ≡ take end bytes
+    → point_at l bytes ≡ Ok (point_item l (take end bytes), drop end bytes) → IsEncoding 1 l buf
+point_encoding l bytes buf end head end-is long buf-is read =
     record {
       whole = omega (arith, ap length buf-is, length-take end bytes);
-      spells = rw cut (body_spelled bytes _ _ _ head read);
+      spells = rw buf-is (body_spelled bytes _ _ _ head read);
     }
 
 -- and of a line string
 pub line_string_is_encoding : (l : Layout) (bytes buf : List ℕ) (n end : ℕ) → HasHead (λ d. kinds.LineString d) l bytes
-    → body_start l.has_srid + 4 ≤ length bytes
     → n ≡ number l.order 4 (drop (body_start l.has_srid) bytes) → end ≡ line_string_end l.dimension l.has_srid n
     → end ≤ length bytes → buf ≡ take end bytes
-    → IsEncoding 2 l buf
-unfolding line_string_at
-line_string_is_encoding l bytes buf n end head whole n-is end-is long buf-is =
-    let at = line_string_end l.dimension l.has_srid (number l.order 4 (drop (body_start l.has_srid) bytes)) in
-    let same : end ≡ at = end-is ∙ ap (line_string_end l.dimension l.has_srid) n-is in
-    let counted : ltb (length bytes) (body_start l.has_srid + 4) ≡ false = le-ltb _ _ whole in
-    let there : ltb (length bytes) at ≡ false = le-ltb _ _ (omega (arith, same)) in
-    let cut : buf ≡ take at bytes = buf-is ∙ ap (λ (k : ℕ). take k bytes) same in
-    let read : (line_string_at l bytes).1 ≡ Ok (line_string_item l (take at bytes), drop at bytes) =
-    rw (counted, there) refl in
+    → (line_string_at l bytes).1 ≡ Ok (line_string_item l (take end bytes), drop end bytes) → IsEncoding 2 l buf
+line_string_is_encoding l bytes buf n end head n-is end-is long buf-is read =
     record {
       whole =
-          rw (cut, number_within l.order (body_start l.has_srid) at bytes (omega arith))
-          (omega (arith, same, length-take at bytes));
+          rw (buf-is, number_within l.order (body_start l.has_srid) end bytes (omega arith), ← n-is)
+          (omega (arith, length-take end bytes));
       spells =
-          rw cut (body_spelled bytes
+          rw buf-is (body_spelled bytes
           (record { order = l.order; wkb_type = kinds.LineString l.dimension; has_srid = l.has_srid }) _ _ head read);
     }

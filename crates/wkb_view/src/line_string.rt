@@ -111,7 +111,6 @@ impl<'a> LineString<'a> {
     }
 
     /// The line string after this header, and the bytes after it.
-    #[tactic(auto, unfolding(wkb_geom::specs::Reading::line_string_at))]
     #[inline]
     pub fn read(layout: Layout, bytes: &'a [u8]) -> Result<(LineString<'a>, &'a [u8]), Cause>
         requires head { HasHead (λ d. kinds.LineString d) layout bytes.now }
@@ -121,16 +120,8 @@ impl<'a> LineString<'a> {
         ensures passed { IfOk result (λ x. PassedEncoding LINE_STRING layout bytes.now x.1.now) }
         ensures shorter { IfOk result (λ x. length x.1.now + MIN_MEMBER_SIZE ≤ length bytes.now) }
     {
-        let count = layout.count(bytes)?;
-        let start = layout.header_length() + COUNT_SIZE;
-        let end = start as u64 + (WORD_SIZE * layout.dimension.width()) as u64 * count as u64;
-        if (bytes.len() as u64) < end {
-            return Err(Cause::General(General::ShortLineString {
-                end,
-                len: bytes.len(),
-            }));
-        }
-        let (buf, rest) = bytes.split_at(end as usize);
+        let (count, end) = layout.end_of_line_string(bytes)?;
+        let (buf, rest) = bytes.split_at(end);
         let line_string = LineString { buf, layout, count };
         Ok((line_string, rest))
     }

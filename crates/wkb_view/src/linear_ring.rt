@@ -81,7 +81,6 @@ impl<'a> LinearRing<'a> {
 /// The rings of a polygon.
 pub(crate) struct Rings;
 
-#[tactic(auto, unfolding(wkb_geom::specs::Reading::ring_at))]
 impl Parts for Rings {
     ghost use Rattle.wkb_geom.specs.declared.words.TheConstants.{COUNT_SIZE};
     ghost use Rattle.wkb_view.specs.Ends.{ring_parts};
@@ -94,18 +93,8 @@ impl Parts for Rings {
 
     #[inline]
     fn pass<'a>(layout: Layout, bytes: &'a [u8]) -> Result<&'a [u8], Cause> {
-        if bytes.len() < COUNT_SIZE {
-            return Err(Cause::EndOfInput);
-        }
-        let count = u32_at(bytes, 0, layout.order);
-        let end = COUNT_SIZE as u64 + (WORD_SIZE * layout.dimension.width()) as u64 * count as u64;
-        if (bytes.len() as u64) < end {
-            return Err(Cause::General(General::ShortLinearRing {
-                end,
-                len: bytes.len(),
-            }));
-        }
-        Ok(&bytes[end as usize..])
+        let (_, end) = layout.end_of_ring(bytes)?;
+        Ok(&bytes[end..])
     }
 }
 

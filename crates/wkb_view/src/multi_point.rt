@@ -80,7 +80,6 @@ impl<'a> MultiPoint<'a> {
     }
 
     /// The multi point after this header, and the bytes after it.
-    #[tactic(auto, unfolding(wkb_geom::specs::Reading::multi_point_at))]
     #[inline(always)]
     pub fn read(
         layout: Layout,
@@ -92,16 +91,7 @@ impl<'a> MultiPoint<'a> {
         ensures answer { IsReadCounted multi_point_seen result (multi_point_at layout bytes.now) counts.old counts.new }
         ensures shorter { IfOk result (λ x. length x.1.now + MIN_MEMBER_SIZE ≤ length bytes.now) }
     {
-        let count = layout.count(bytes)?;
-        let start = layout.header_length() + COUNT_SIZE;
-        let member = MEMBER_HEADER_SIZE + WORD_SIZE * layout.dimension.width();
-        let end = start as u64 + member as u64 * count as u64;
-        if (bytes.len() as u64) < end {
-            return Err(Cause::General(General::ShortMultiPoint {
-                end,
-                len: bytes.len(),
-            }));
-        }
+        let count = layout.count_of_points(bytes)?;
         let rest = pass_points(layout, bytes, count, counts)?;
         let buf = &bytes[..bytes.len() - rest.len()];
         Ok((MultiPoint { buf, layout, count }, rest))

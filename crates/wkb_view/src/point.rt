@@ -111,7 +111,6 @@ impl<'a> Point<'a> {
     }
 
     /// The point after this header, and the bytes after it.
-    #[tactic(auto, unfolding(wkb_geom::specs::Reading::point_at))]
     #[inline]
     pub fn read(layout: Layout, bytes: &'a [u8]) -> Result<(Point<'a>, &'a [u8]), Cause>
         requires head { HasHead (λ d. kinds.Point d) layout bytes.now }
@@ -121,13 +120,7 @@ impl<'a> Point<'a> {
         ensures passed { IfOk result (λ x. PassedEncoding POINT layout bytes.now x.1.now) }
         ensures shorter { IfOk result (λ x. length x.1.now + MIN_MEMBER_SIZE ≤ length bytes.now) }
     {
-        let end = layout.header_length() + WORD_SIZE * layout.dimension.width();
-        if bytes.len() < end {
-            return Err(Cause::General(General::ShortPoint {
-                end: end as u64,
-                len: bytes.len(),
-            }));
-        }
+        let end = layout.end_of_point(bytes)?;
         let (buf, rest) = bytes.split_at(end);
         let point = Point { buf, layout };
         Ok((point, rest))

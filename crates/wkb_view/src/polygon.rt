@@ -110,7 +110,7 @@ impl<'a> Polygon<'a> {
     }
 
     /// The polygon after this header, and the bytes after it.
-    #[tactic(auto, unfolding(wkb_geom::specs::Reading::polygon_at))]
+    #[tactic(auto, unfolding(wkb_geom::specs::Reading::polygon_told))]
     #[inline(always)]
     pub fn read(
         alloc: Global,

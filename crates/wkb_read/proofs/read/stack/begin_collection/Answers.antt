@@ -9,6 +9,7 @@ use Rattle.wkb_read.proofs.Placed.{closed, front_taken}
 use Rattle.wkb_read.proofs.Opens.{opens, without_members, first_begins, too_many_around}
 use Rattle.wkb_read.proofs.NoMemory.{none_asked}
 use Rattle.wkb_read.proofs.read.stack.begin_collection.Goals as goal
+unfoldable use Rattle.wkb_geom.specs.Reading.{collection_told}
 
 pub returns-then-count-eq0-clause-begins : goal.returns-then-count-eq0-clause-begins
 returns-then-count-eq0-clause-begins c =
@@ -76,13 +77,13 @@ returns-clause-no_memory c = λ none.
 
 module _ (l : Layout) (bytes : List ℕ) where
   within : (member : List ℕ → Reading Item) → entries_asked 9 l bytes ≤ (collection_at member l bytes).0.slots
-  unfolding collection_at
+  unfolding collection_told
   within member = entries_within 9 l bytes _ (omega (arith, parts_length l.has_srid bytes))
 
   refused : (member : List ℕ → Reading Item) (refusal : Refusal) (old new : Counts) → HasNoList l bytes refusal
       → new.turns ≡ old.turns
       → new.slots ≡ old.slots + entries_asked 9 l bytes → Stops refusal (collection_at member l bytes) old new
-  unfolding collection_at
+  unfolding collection_told
   refused member = list_refused 9 l bytes _ (omega (arith, parts_length l.has_srid bytes))
 
   module _ (depth : ℕ) (shallow : depth < 128) where

@@ -9,18 +9,16 @@ use Rattle.wkb_view.proofs.multi_point.MultiPoint.read.Goals as goal
 pub pass_points-requires-clause-fits : goal.pass_points-requires-clause-fits
 pass_points-requires-clause-fits c =
     list_fits
-    (points_here c.args.layout c.args.bytes.now c.in_ok-count.count _ _ c.args.counts.now c.in_ok-count.ensures.whole
-    c.in_ok-count.ensures.counted
-    c.header_length-start.ensures c.width.ensures c.if-bytes-end.false) c.requires.fits
+    (points_here c.args.layout c.args.bytes.now c.in_ok-count.count c.args.counts.now c.in_ok-count.ensures.counted
+    c.in_ok-count.ensures.whole) c.requires.fits
 
 pub invariant_of-result : goal.invariant_of-result
 invariant_of-result c =
     let bytes = c.args.bytes.now in
     let e = c.in_ok-rest.ensures.points in
     let read = list_reads _ _ _
-    (points_here c.args.layout c.args.bytes.now c.in_ok-count.count _ _ c.args.counts.now c.in_ok-count.ensures.whole
-    c.in_ok-count.ensures.counted
-    c.header_length-start.ensures c.width.ensures c.if-bytes-end.false) e.0 e.1 in
+    (points_here c.args.layout c.args.bytes.now c.in_ok-count.count c.args.counts.now c.in_ok-count.ensures.counted
+    c.in_ok-count.ensures.whole) e.0 e.1 in
     record {
       whole = omega (arith, c.in_ok-rest.ensures.end, length-take (length bytes - length c.in_ok-rest.rest.now) bytes);
       in_range = AreBytes-take _ bytes (λ i. search rules);
@@ -32,14 +30,12 @@ pub returns-clause-answer : goal.returns-clause-answer
 returns-clause-answer c =
     let e = c.in_ok-rest.ensures.points in
     list_reads _ _ _
-    (points_here c.args.layout c.args.bytes.now c.in_ok-count.count _ _ c.args.counts.now c.in_ok-count.ensures.whole
-    c.in_ok-count.ensures.counted
-    c.header_length-start.ensures c.width.ensures c.if-bytes-end.false) e.0 e.1
+    (points_here c.args.layout c.args.bytes.now c.in_ok-count.count c.args.counts.now c.in_ok-count.ensures.counted
+    c.in_ok-count.ensures.whole) e.0 e.1
 
 pub returns-in_err-rest-clause-answer : goal.returns-in_err-rest-clause-answer
 returns-in_err-rest-clause-answer c =
     let p = err_from_is_err_and c.from_residual-in_err-rest.result c.from_residual-in_err-rest.ensures.1 in
     rw (p.1, p.2) (list_stops (refusals.Cause c.in_err-rest.field-0.0) _
-    (points_here c.args.layout c.args.bytes.now c.in_ok-count.count _ _ c.args.counts.now c.in_ok-count.ensures.whole
-    c.in_ok-count.ensures.counted
-    c.header_length-start.ensures c.width.ensures c.if-bytes-end.false) c.in_err-rest.ensures.points)
+    (points_here c.args.layout c.args.bytes.now c.in_ok-count.count c.args.counts.now c.in_ok-count.ensures.counted
+    c.in_ok-count.ensures.whole) c.in_err-rest.ensures.points)

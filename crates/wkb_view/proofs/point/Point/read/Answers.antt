@@ -1,4 +1,4 @@
-use Rattle.std.proofs.Common.{rules, subst, sym, refl, ◌+◌, ◌*◌, arith}
+use Rattle.std.proofs.Common.{rules, subst, sym, refl, arith}
 use Rattle.wkb_view.specs.Prelude.{AreBytes}
 use Rattle.wkb_view.specs.Ranges.{AreBytes-take}
 use Rattle.wkb_view.proofs.Items.{width-within}
@@ -12,15 +12,13 @@ invariant_of-point-clause-in_range c =
 
 pub invariant_of-point-clause-spells : goal.invariant_of-point-clause-spells
 invariant_of-point-clause-spells c =
-    (point_encoding c.args.layout c.args.bytes.now _ _ c.requires.head
-    (rw (c.header_length.ensures, c.width.ensures) refl)
-    (omega arith) c.split_at.ensures.front).spells
+    let read = c.in_ok-end.ensures in
+    (point_encoding c.args.layout c.args.bytes.now _ _ c.requires.head read.end read.whole c.split_at.ensures.front
+    read.answer).spells
 
 pub returns-clause-passed : goal.returns-clause-passed
 returns-clause-passed c =
+    let read = c.in_ok-end.ensures in
     let wide = (width-within c.args.layout.dimension).0 in
-    passed_by 9 c.args.bytes.now _ (c.header_length.result + 8 * c.width.result)
-    (omega (arith, c.header_length.ensures, c.width.ensures))
-    (omega arith) c.split_at.ensures.back
-    (point_encoding c.args.layout c.args.bytes.now _ _ c.requires.head
-    (rw (c.header_length.ensures, c.width.ensures) refl) (omega arith) refl)
+    passed_by 9 c.args.bytes.now _ c.in_ok-end.end (omega (arith, read.end)) read.whole c.split_at.ensures.back
+    (point_encoding c.args.layout c.args.bytes.now _ _ c.requires.head read.end read.whole refl read.answer)
