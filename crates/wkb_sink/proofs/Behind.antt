@@ -1,16 +1,20 @@
 -- Encodings that follow one another in a block.
 use Rattle.wkb_sink.proofs.Prelude.{ℕ, List, [], ◌++◌, sym, ap, ◌∙◌, append_assoc, append-nil, ◌≡◌, ◌+◌, refl}
+use Rattle.wkb_sink.proofs.Prelude.{arith, length, length-append, subst, take}
 use Rattle.wkb_sink.proofs.Prelude.{replicate, replicate_more, flat_map-append, Endianness, number_bytes}
-use Rattle.wkb_sink.proofs.Prelude.{words_encoding, IsExtended}
+use Rattle.wkb_sink.proofs.Prelude.{words_encoding, LaysAt}
 
-pub behind : {a b c s t : List ℕ} → IsExtended a b s → IsExtended b c t → IsExtended a c (s ++ t)
-behind {a = a} {s = s} {t = t} p q = record { is = q.is ∙ ap (λ l. l ++ t) p.is ∙ append_assoc a s t }
+pub behind : {a b c : ℕ} {x y z s t : List ℕ} → LaysAt a b x y s → LaysAt b c y z t → LaysAt a c x z (s ++ t)
+behind {a = a} {x = x} {s = s} {t = t} p q = record {
+  ends = omega (arith, p.ends, q.ends, length-append s t);
+  is = q.is ∙ ap (λ l. l ++ t) p.is ∙ append_assoc (take a x) s t;
+}
 
-pub last : {b c t : List ℕ} → IsExtended b c t → IsExtended b c (t ++ [])
-last {b = b} {t = t} p = record { is = p.is ∙ ap (λ l. b ++ l) (sym (append-nil t)) }
+pub last : {b c : ℕ} {y z t : List ℕ} → LaysAt b c y z t → LaysAt b c y z (t ++ [])
+last {b = b} {c = c} {y = y} {z = z} {t = t} p = subst (LaysAt b c y z) (sym (append-nil t)) p
 
-pub nothing_behind : (a : List ℕ) → IsExtended a a []
-nothing_behind a = record { is = sym (append-nil a) }
+pub nothing_behind : (a : ℕ) (x : List ℕ) → LaysAt a a x x []
+nothing_behind a x = record { ends = omega arith; is = sym (append-nil (take a x)) }
 
 -- one word more of the same
 pub word_more : (order : Endianness) (n w : ℕ)

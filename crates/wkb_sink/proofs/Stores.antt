@@ -1,10 +1,9 @@
 -- Parts of an encoding that are stored one after another.
-use Rattle.wkb_sink.proofs.Prelude.{◌≡◌, ℕ, zero, suc, ◌+◌, ◌-◌, ◌*◌, ◌/◌, ◌<◌, ◌≤◌, List, [], ◌∷◌, ◌++◌, length, take}
+use Rattle.wkb_sink.proofs.Prelude.{◌≡◌, ℕ, zero, suc, ◌+◌, ◌-◌, ◌*◌, ◌<◌, ◌≤◌, List, [], ◌∷◌, ◌++◌, length, take}
 use Rattle.wkb_sink.proofs.Prelude.{drop, Some, refl, sym, ap, ◌∙◌, append_assoc, append-nil, arith, length-drop}
 use Rattle.wkb_sink.proofs.Prelude.{slice_get, slice_index, add-one, flat_map, length-take-le, take-append-le, take_at}
-use Rattle.wkb_sink.proofs.Prelude.{Endianness, number_bytes, words_encoding, Waiting, IsExtended}
-use Rattle.std.proofs.Math.Nat.{mul-add, mul-le-mul_left}
-use Rattle.std.proofs.lemmas.Nat.{le-div}
+use Rattle.wkb_sink.proofs.Prelude.{Endianness, number_bytes, words_encoding, LaysAt}
+use Rattle.std.proofs.Math.Nat.{mul-add}
 use Rattle.std.proofs.Math.Seq.{take-append-add}
 use borrow.Rule.Slice.PartMut.{put_mid, mid_of, post_of}
 
@@ -60,19 +59,20 @@ run_step f (y ∷ ys) (suc start) zero x item h = absurd (omega arith)
 run_step f (y ∷ ys) (suc start) (suc i) x item h =
     rw add-one (rw add-one at (run_step f ys start i x item (omega arith)))
 
--- an encoding that was stored after the bytes that wait in a block
-pub block_next : (old : Waiting) (bytes part s : List ℕ) (len n : ℕ)
-    → record { waiting = take len bytes; room = length bytes - len } ≡ old
-    → len ≤ length bytes → length part ≡ length (mid_of len (length bytes - len) bytes) → n ≤ old.room → take n part ≡ s
-    → IsExtended old.waiting (take (len + n) (put_mid len (length bytes - len) bytes part)) s
-block_next old bytes part s len n is fits many room stored =
-    let left : length (drop len bytes) ≡ length bytes - len = length-drop len bytes in
-    let free : length part ≡ length bytes - len =
-    many ∙ length-take-le (length bytes - len) (drop len bytes) (omega (arith, left)) in
-    let holds = ap (λ w. w.room) is in
+-- an encoding that was stored at a place
+pub stored_at : (bytes part s : List ℕ) (place n end : ℕ) → place + n ≤ length bytes
+    → length part ≡ length (mid_of place (length bytes - place) bytes) → take n part ≡ s → end ≡ place + n
+    → LaysAt place end bytes (put_mid place (length bytes - place) bytes part) s
+stored_at bytes part s place n end fits many stored is =
+    let left : length (drop place bytes) ≡ length bytes - place = length-drop place bytes in
+    let free : length part ≡ length bytes - place =
+    many ∙ length-take-le (length bytes - place) (drop place bytes) (omega (arith, left)) in
+    let long : length s ≡ n = ap length (sym stored) ∙ length-take-le n part (omega (arith, free, fits)) in
     record {
-      is = stored_next bytes part old.waiting s len n (length bytes - len) (ap (λ w. w.waiting) is) fits stored
-          (omega (arith, free, holds, room));
+      ends = omega (arith, long, is);
+      is = rw is
+          (stored_next bytes part (take place bytes) s place n (length bytes - place) refl (omega (arith, fits)) stored
+          (omega (arith, free, fits)));
     }
 
 -- the bytes of the items that are left, of w bytes each
@@ -80,11 +80,3 @@ pub one_more : (w i to : ℕ) → i < to → w * (to - i) ≡ w * (to - (i + 1))
 one_more w i to h =
     let step : to - i ≡ (to - (i + 1)) + 1 = omega arith in
     ap (λ k. w * k) step ∙ omega (arith, mul-add w (to - (i + 1)) 1)
-
--- as many items of w bytes as a room is divided into fit there
-pub run_fits : (w k room : ℕ) → 0 < w → k ≤ room / w → w * k ≤ room
-run_fits w k room some few = let most = mul-le-mul_left w few in omega (arith, most)
-
--- and where there is room for one, that is at least one
-pub one_fits : (w room : ℕ) → 0 < w → w ≤ room → 0 < room / w
-one_fits w room some fits = le-div 1 room w some (omega arith)

@@ -1,7 +1,8 @@
 -- Words that are read in one order, and stored in another.
 use Rattle.wkb_sink.proofs.Prelude.{◌≡◌, ℕ, zero, suc, ◌+◌, ◌-◌, ◌*◌, ◌<◌, ◌≤◌, List, [], ◌∷◌, ◌++◌, length, take, drop}
 use Rattle.wkb_sink.proofs.Prelude.{Some, refl, sym, ap, ◌∙◌, arith, slice_get, length-append, flat_map}
-use Rattle.wkb_sink.proofs.Prelude.{flat_map-append, Endianness, words_encoding}
+use Rattle.wkb_sink.proofs.Prelude.{flat_map-append, length-drop, length-take-le, Endianness, words_encoding}
+use Rattle.std.proofs.Math.Nat.{mul-add}
 use Rattle.std.specs.List.{AllByRecursion, concat}
 use Rattle.std.proofs.Math.Seq.{drop-append-add, take-append-add}
 use Rattle.byteorder.specs.Numbers.{big_number-reads_back, little_number-reads_back, length-bytes_high_first}
@@ -134,6 +135,15 @@ pub run_within : (order : Endianness) (dims : Dimensions) (cs : List (List ℕ))
     → 8 * size dims * to ≤ length (flat_map (words_encoding order) cs)
 run_within order dims cs to h within =
     items_fit (words_encoding order) (8 * size dims) cs to (coordinates_length order dims cs h) within
+
+-- the length of a run, by the items' size
+pub run_length : (w from to : ℕ) (all : List ℕ) → from ≤ to → w * to ≤ length all
+    → length (take (w * to - w * from) (drop (w * from) all)) ≡ w * (to - from)
+run_length w from to all order within =
+    let parts : to ≡ from + (to - from) = omega arith in
+    let whole : w * to ≡ w * from + w * (to - from) = ap (λ n. w * n) parts ∙ mul-add w from (to - from) in
+    let left = length-drop (w * from) all in
+    length-take-le (w * to - w * from) (drop (w * from) all) (omega (arith, left, whole, within)) ∙ omega (arith, whole)
 
 pub run_lent : (order : Endianness) (dims : Dimensions) (cs : List (List ℕ)) (from to : ℕ) → AreCoordinates dims cs
     → from ≤ to → to ≤ length cs

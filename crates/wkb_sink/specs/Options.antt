@@ -1,7 +1,9 @@
 -- What is written under some options.
-use Rattle.std.specs.Prelude.{ℕ, List, ◌++◌}
-use Rattle.wkb_geom.specs.Encodings.{header_encoding, inner}
+use Rattle.std.specs.Prelude.{ℕ, ◌+◌, List, ◌++◌, is_some}
+use Rattle.wkb_geom.specs.Encodings.{form_srid, header_encoding, inner}
 use Rattle.wkb_geom.specs.Numbers.{number_bytes}
+use Rattle.wkb_geom.specs.Refusals.{srid_size}
+use Rattle.wkb_geom.specs.declared.common.Form.{Form}
 use Rattle.wkb_geom.specs.Reading.{type_dimension, type_kind}
 use Rattle.wkb_geom.specs.declared.code.WkbType.{WkbType}
 use Rattle.wkb_sink.specs.declared.options.WriteOptions.{WriteOptions}
@@ -18,3 +20,7 @@ header_of options kind =
 -- such a header, and then a count
 abbrev pub counted_header : WriteOptions → WkbType → ℕ → List ℕ
 counted_header options kind n = header_of options kind ++ number_bytes options.endianness 4 n
+
+-- the length of a header under a form
+abbrev pub header_length : Form → ℕ
+header_length form = 5 + srid_size (is_some (form_srid form))

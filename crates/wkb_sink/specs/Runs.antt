@@ -7,13 +7,12 @@ use Rattle.wkb_geom.specs.Dimensions.{size}
 use Rattle.wkb_geom.specs.Encodings.{words_encoding}
 use Rattle.wkb_geom.specs.Numbers.{IsWord}
 use Rattle.wkb_geom.specs.Values.{Coordinate}
-use Rattle.wkb_sink.specs.declared.block.TheConstants.{MAX_COORDINATE_SIZE}
 
--- there is room for a coordinate of this dimension, which can be written
-pub record FitsCoordinate (d : Dimensions) (left : ℕ) : Type 0 where
-  pub least : 2 ≤ size d
-  pub most : size d ≤ 4
-  pub room : MAX_COORDINATE_SIZE ≤ left
+-- a coordinate of this dimension has as many words, and can be written
+pub record FitsCoordinate (d : Dimensions) (words : ℕ) : Type 0 where
+  pub is : words ≡ size d
+  pub least : 2 ≤ words
+  pub most : words ≤ 4
 
 -- the two indices are a run's, and the dimension can be written
 pub record IsRun (d : Dimensions) (cs : List Coordinate) (from to : ℕ) : Type 0 where

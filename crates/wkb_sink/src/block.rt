@@ -1,23 +1,21 @@
-//! Bytes that wait to go to a sink together, and the parts of an encoding that are laid there.
+//! The parts of an encoding, laid in the bytes of a slice. Each is laid at a place, and returns where it ends.
 
-ghost use Rattle.std.specs.Prelude.{◌≡◌, ◌+◌, ◌-◌, ◌≤◌, ◌∷◌, [], length, take, replicate};
-ghost use Rattle.wkb_geom.specs.Dimensions.{width, written_dimension};
+ghost use Rattle.std.specs.Prelude.{◌≡◌, ◌+◌, ◌*◌, ◌≤◌, ◌∷◌, [], length, replicate};
+ghost use Rattle.wkb_geom.specs.Dimensions.{written_dimension};
+ghost use Rattle.wkb_geom.specs.Encodings.{code_of, form_srid, words_encoding};
 ghost use Rattle.wkb_geom.specs.Numbers.{number_bytes, empty_word};
 ghost use Rattle.wkb_geom.specs.Reading.{type_kind, type_dimension};
-ghost use Rattle.wkb_geom.specs.Encodings.{code_of, form_srid, words_encoding};
-ghost use Rattle.wkb_geom.specs.declared.header.TheConstants.{MAX_HEADER_SIZE};
 ghost use Rattle.wkb_geom.specs.declared.words.TheConstants.{COUNT_SIZE};
-ghost use Rattle.wkb_sink.specs.Blocks.{Waiting, LaysIn};
-ghost use Rattle.wkb_sink.specs.Options.{header_of};
+ghost use Rattle.wkb_sink.specs.Blocks.{LaysAt};
+ghost use Rattle.wkb_sink.specs.Options.{header_length, header_of};
 ghost use Rattle.wkb_sink.specs.Runs.{FitsCoordinate, IsRun, run_size, run_encoding};
-ghost use Rattle.wkb_sink.specs.declared.block.TheConstants.{MIN_BLOCK};
+ghost use Rattle.wkb_sink.specs.declared.block.TheConstants.{CORNER_SIZE};
 
 use crate::options::WriteOptions;
 use crate::store::{store_coordinate, store_coordinates, store_word, u32_bytes};
-use std::marker::Model;
 use wkb_geom::code::WkbType;
 use wkb_geom::header::MAX_HEADER_SIZE;
-use wkb_geom::words::COUNT_SIZE;
+use wkb_geom::words::{COUNT_SIZE, WORD_SIZE};
 use wkb_geom::{CoordTrait, Dimension, Dimensions, EMPTY_WORD, Endianness, Form, LineStringTrait};
 
 /// The size of a corner: x and y.
@@ -26,123 +24,8 @@ pub const CORNER_SIZE: usize = 16;
 /// The size of the longest coordinate, which has four words.
 pub const MAX_COORDINATE_SIZE: usize = 32;
 
-/// The least that a block holds: the most that is laid in one piece, which is a point.
-pub const MIN_BLOCK: usize = MAX_HEADER_SIZE + MAX_COORDINATE_SIZE;
-
-/// Bytes that are laid in a borrowed slice and not yet given to a sink.
-#[derive(Drop)]
-pub struct Block<'a> {
-    bytes: &'a mut [u8],
-    len: usize,
-}
-
-impl<'a> Model for Block<'a> {
-    ghost Value = { Waiting };
-
-    ghost view = { λ b. record {
-      waiting = take b.len b.bytes.now;
-      room = length b.bytes.now - b.len;
-    } };
-
-    ghost invariant = { λ b. (b.len ≤ length b.bytes.now) × (MIN_BLOCK ≤ length b.bytes.now) };
-}
-
-impl<'a> Block<'a> {
-    /// An empty block over a slice, which is as long as what it can hold.
-    #[inline]
-    pub fn over(bytes: &'a mut [u8]) -> Block<'a>
-        requires { MIN_BLOCK ≤ length bytes.old }
-        ensures { result.waiting ≡ [] }
-    {
-        Block { bytes, len: 0 }
-    }
-
-    /// The number of bytes for which the block has room.
-    #[inline]
-    pub fn room(&self) -> usize
-        ensures room { result ≡ self.now.room }
-        ensures least { MIN_BLOCK ≤ length self.now.waiting + self.now.room }
-    {
-        self.bytes.len() - self.len
-    }
-
-    /// The bytes that wait.
-    #[inline]
-    pub fn waiting(&self) -> &[u8]
-        ensures { result.now ≡ self.now.waiting }
-    {
-        &self.bytes[..self.len]
-    }
-
-    /// Forgets the bytes that wait, once a sink has them.
-    #[inline]
-    pub fn clear(&mut self)
-        ensures empty { self.new.waiting ≡ [] }
-        ensures room { MIN_BLOCK ≤ self.new.room }
-    {
-        self.len = 0;
-    }
-
-    /// Lays bytes as they are.
-    #[inline]
-    pub fn lay(&mut self, bytes: &[u8])
-        requires { length bytes.now ≤ self.old.room }
-        ensures room { self.new.room + length bytes.now ≡ self.old.room }
-        ensures bytes { LaysIn self.old self.new bytes.now }
-    {
-        let end = self.len + bytes.len();
-        self.bytes[self.len..end].copy_from_slice(bytes);
-        self.len = end;
-    }
-
-    /// Lays a word in its eight bytes.
-    #[inline]
-    pub fn lay_word(&mut self, order: Endianness, word: u64)
-        requires { 8 ≤ self.old.room }
-        ensures room { self.new.room + 8 ≡ self.old.room }
-        ensures bytes { LaysIn self.old self.new (number_bytes order 8 word) }
-    {
-        store_word(&mut self.bytes[self.len..], order, word);
-        self.len += 8;
-    }
-
-    /// Lays a coordinate of two, three or four words.
-    #[inline(always)]
-    pub fn lay_coordinate<C: CoordTrait>(&mut self, coord: &C, order: Endianness)
-        requires { FitsCoordinate (C.dimensions coord.now) self.old.room }
-        ensures room { self.old.room ≤ self.new.room + MAX_COORDINATE_SIZE }
-        ensures bytes { LaysIn self.old self.new
-            (words_encoding order (C.words coord.now)) }
-    {
-        let width = coord.dim().size();
-        store_coordinate(&mut self.bytes[self.len..], coord, width, order);
-        self.len += 8 * width;
-    }
-
-    /// Lays the coordinates from an index up to another one.
-    #[inline]
-    pub fn lay_coordinates<L: LineStringTrait>(
-        &mut self,
-        line: &L,
-        from: usize,
-        to: usize,
-        order: Endianness,
-    )
-        requires run { IsRun (L.dimensions line.now) (L.coordinates line.now) from to }
-        requires room { run_size (L.dimensions line.now) from to ≤ self.old.room }
-        ensures { LaysIn self.old self.new
-            (run_encoding order (L.coordinates line.now) from to) }
-    {
-        let rest = &mut self.bytes[self.len..];
-        // In each arm the order is a constant, for which the call is compiled.
-        self.len += match order {
-            Endianness::BigEndian => store_coordinates(rest, line, from, to, Endianness::BigEndian),
-            Endianness::LittleEndian => {
-                store_coordinates(rest, line, from, to, Endianness::LittleEndian)
-            }
-        };
-    }
-}
+/// The least that a block before a sink holds: the most that is laid in one piece, which is a triangle.
+pub const MIN_BLOCK: usize = MAX_HEADER_SIZE + 2 * COUNT_SIZE + 4 * MAX_COORDINATE_SIZE;
 
 /// The dimension that is written; Xy where there is none.
 pub fn dimension_to_write(dim: Dimensions) -> Dimension
@@ -151,10 +34,10 @@ pub fn dimension_to_write(dim: Dimensions) -> Dimension
     Dimension::try_from(dim).unwrap_or(Dimension::Xy)
 }
 
-// The code of a header, and the SRID after it. One match tells both, so that a header without an SRID takes one branch.
+/// The code of a header, and the SRID after it. One match tells both, so that a header without an SRID takes one branch.
 #[inline]
 #[tactic(auto, unfolding(wkb_geom::specs::Encodings::code_of))]
-fn code_and_srid(form: Form, kind: WkbType) -> (u32, Option<u32>)
+pub fn code_and_srid(form: Form, kind: WkbType) -> (u32, Option<u32>)
     ensures code { result.0 ≡ code_of form (type_kind kind) (type_dimension kind) }
     ensures srid { result.1 ≡ form_srid form }
 {
@@ -164,54 +47,144 @@ fn code_and_srid(form: Form, kind: WkbType) -> (u32, Option<u32>)
     }
 }
 
-/// Lays a count, or an SRID.
-pub fn lay_count(block: &mut Block<'_>, order: Endianness, n: u32)
-    requires { COUNT_SIZE ≤ block.old.room }
-    ensures room { block.new.room + COUNT_SIZE ≡ block.old.room }
-    ensures bytes { LaysIn block.old block.new (number_bytes order 4 n) }
+/// Lays bytes as they are.
+#[inline]
+#[tactic(auto, using(crate::proofs::Stores::stored_at))]
+pub fn lay(bytes: &mut [u8], at: usize, part: &[u8]) -> usize
+    requires { at + length part.now ≤ length bytes.old }
+    ensures { LaysAt at result bytes.old bytes.new part.now }
 {
-    block.lay(&u32_bytes(order, n));
+    let end = at + part.len();
+    bytes[at..end].copy_from_slice(part);
+    end
+}
+
+/// Lays a word in its eight bytes.
+#[inline]
+pub fn lay_word(bytes: &mut [u8], at: usize, order: Endianness, word: u64) -> usize
+    requires { at + 8 ≤ length bytes.old }
+    ensures end { result ≡ at + 8 }
+    ensures bytes { LaysAt at result bytes.old bytes.new (number_bytes order 8 word) }
+{
+    store_word(&mut bytes[at..], order, word);
+    at + 8
+}
+
+/// Lays a coordinate of two, three or four words.
+#[inline(always)]
+pub fn lay_coordinate<C: CoordTrait>(
+    bytes: &mut [u8],
+    at: usize,
+    order: Endianness,
+    coord: &C,
+    words: usize,
+) -> usize
+    requires coordinate { FitsCoordinate (C.dimensions coord.now) words }
+    requires room { at + 8 * words ≤ length bytes.old }
+    ensures end { result ≡ at + 8 * words }
+    ensures bytes { LaysAt at result bytes.old bytes.new
+        (words_encoding order (C.words coord.now)) }
+{
+    store_coordinate(&mut bytes[at..], coord, words, order);
+    at + WORD_SIZE * words
+}
+
+/// Lays a coordinate by a call, where several are laid one after another.
+pub fn lay_vertex<C: CoordTrait>(
+    bytes: &mut [u8],
+    at: usize,
+    order: Endianness,
+    coord: &C,
+    words: usize,
+) -> usize
+    requires coordinate { FitsCoordinate (C.dimensions coord.now) words }
+    requires room { at + 8 * words ≤ length bytes.old }
+    ensures end { result ≡ at + 8 * words }
+    ensures bytes { LaysAt at result bytes.old bytes.new
+        (words_encoding order (C.words coord.now)) }
+{
+    lay_coordinate(bytes, at, order, coord, words)
+}
+
+/// Lays the coordinates from an index up to another one.
+#[inline]
+pub fn lay_coordinates<L: LineStringTrait>(
+    bytes: &mut [u8],
+    at: usize,
+    line: &L,
+    from: usize,
+    to: usize,
+    order: Endianness,
+) -> usize
+    requires run { IsRun (L.dimensions line.now) (L.coordinates line.now) from to }
+    requires room { at + run_size (L.dimensions line.now) from to ≤ length bytes.old }
+    ensures end { result ≡ at + run_size (L.dimensions line.now) from to }
+    ensures bytes { LaysAt at result bytes.old bytes.new
+        (run_encoding order (L.coordinates line.now) from to) }
+{
+    let rest = &mut bytes[at..];
+    // In each arm the order is a constant, for which the call is compiled.
+    let stored = match order {
+        Endianness::BigEndian => store_coordinates(rest, line, from, to, Endianness::BigEndian),
+        Endianness::LittleEndian => {
+            store_coordinates(rest, line, from, to, Endianness::LittleEndian)
+        }
+    };
+    at + stored
+}
+
+/// Lays a count, or an SRID.
+pub fn lay_count(bytes: &mut [u8], at: usize, order: Endianness, n: u32) -> usize
+    requires { at + COUNT_SIZE ≤ length bytes.old }
+    ensures end { result ≡ at + COUNT_SIZE }
+    ensures bytes { LaysAt at result bytes.old bytes.new (number_bytes order 4 n) }
+{
+    lay(bytes, at, &u32_bytes(order, n))
 }
 
 /// Lays the order's byte, the code, and the SRID where there is one.
 #[inline(always)]
-pub fn lay_header(block: &mut Block<'_>, options: &WriteOptions, kind: WkbType)
-    requires { MAX_HEADER_SIZE ≤ block.old.room }
-    ensures room { block.old.room ≤ block.new.room + MAX_HEADER_SIZE }
-    ensures bytes { LaysIn block.old block.new (header_of options.now kind) }
+pub fn lay_header(bytes: &mut [u8], at: usize, options: &WriteOptions, kind: WkbType) -> usize
+    requires { at + header_length options.now.form ≤ length bytes.old }
+    ensures end { result ≡ at + header_length options.now.form }
+    ensures bytes { LaysAt at result bytes.old bytes.new (header_of options.now kind) }
 {
     let WriteOptions {
         endianness: order,
         form,
     } = *options;
-    block.lay(&[u8::from(order)]);
+    let at = lay(bytes, at, &[u8::from(order)]);
     let (code, srid) = code_and_srid(form, kind);
-    lay_count(block, order, code);
-    if let Some(srid) = srid {
-        lay_count(block, order, srid);
+    let at = lay_count(bytes, at, order, code);
+    match srid {
+        Some(srid) => lay_count(bytes, at, order, srid),
+        None => at,
     }
 }
 
 /// Lays the words of a point without a coordinate.
 #[inline(always)]
-pub fn lay_empty(block: &mut Block<'_>, order: Endianness, dim: Dimension)
-    requires { MAX_COORDINATE_SIZE ≤ block.old.room }
-    ensures { LaysIn block.old block.new
-        (words_encoding order (replicate (width dim) empty_word)) }
+pub fn lay_empty(bytes: &mut [u8], at: usize, order: Endianness, words: usize) -> usize
+    requires { at + 8 * words ≤ length bytes.old }
+    ensures end { result ≡ at + 8 * words }
+    ensures bytes { LaysAt at result bytes.old bytes.new
+        (words_encoding order (replicate words empty_word)) }
 {
-    for _i in 0..dim.width() {
-        block.lay_word(order, EMPTY_WORD);
+    let mut end = at;
+    for _i in 0..words {
+        end = lay_word(bytes, end, order, EMPTY_WORD);
     }
+    end
 }
 
 /// Lays a corner of a rectangle: only x and y.
 #[tactic(auto, using(crate::proofs::Behind::behind_laws), unfolding(wkb_geom::specs::Encodings::words_encoding))]
-pub fn lay_corner(block: &mut Block<'_>, order: Endianness, x: u64, y: u64)
-    requires { CORNER_SIZE ≤ block.old.room }
-    ensures room { block.new.room + CORNER_SIZE ≡ block.old.room }
-    ensures bytes { LaysIn block.old block.new
+pub fn lay_corner(bytes: &mut [u8], at: usize, order: Endianness, x: u64, y: u64) -> usize
+    requires { at + CORNER_SIZE ≤ length bytes.old }
+    ensures end { result ≡ at + CORNER_SIZE }
+    ensures bytes { LaysAt at result bytes.old bytes.new
         (words_encoding order (x ∷ y ∷ [])) }
 {
-    block.lay_word(order, x);
-    block.lay_word(order, y);
+    let at = lay_word(bytes, at, order, x);
+    lay_word(bytes, at, order, y)
 }

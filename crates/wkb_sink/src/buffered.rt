@@ -1,34 +1,30 @@
 //! Bytes to a sink, by blocks.
 
-ghost use Rattle.std.specs.Prelude.{◌≡◌, ◌≤◌, ◌∷◌, [], false, IfOk};
-ghost use Rattle.wkb_geom.specs.Encodings.{words_encoding};
-ghost use Rattle.wkb_geom.specs.Numbers.{number_bytes};
-ghost use Rattle.wkb_sink.specs.Options.{counted_header};
-ghost use Rattle.wkb_sink.specs.Progress.{Lays, PutsTo};
-ghost use Rattle.wkb_sink.specs.Runs.{FitsCoordinate};
-ghost use Rattle.wkb_sink.specs.declared.block.TheConstants.{MAX_COORDINATE_SIZE};
+ghost use Rattle.std.specs.Prelude.{◌≡◌, ◌≤◌, false, length};
+ghost use Rattle.wkb_sink.specs.Puts.{PutsTo};
 
-use crate::block::{
-    Block, CORNER_SIZE, MAX_COORDINATE_SIZE, MIN_BLOCK, lay_corner, lay_count, lay_header,
-};
+use crate::block::{MIN_BLOCK, lay, lay_count, lay_header};
+use crate::options::length_of_header;
 use crate::{Sink, WriteOptions};
 use std::io;
+use wkb_geom::Endianness;
 use wkb_geom::code::WkbType;
-use wkb_geom::header::MAX_HEADER_SIZE;
 use wkb_geom::words::COUNT_SIZE;
-use wkb_geom::{CoordTrait, Endianness};
 
 /// The sink failed. The error, if it had one, is kept in `Buffered`: an `io::Error` is too large to be passed on by
 /// each step.
 #[derive(Clone, Copy)]
 pub struct Stopped;
 
-/// A sink with a block before it, and the error by which the sink failed.
+/// A sink with a block before it, a slice in whose first bytes wait that the sink hasn't got yet, and the error by which
+/// the sink failed.
 #[derive(Drop)]
 pub struct Buffered<'a, S: Sink> {
     pub sink: &'a mut S,
-    pub block: Block<'a>,
+    pub bytes: &'a mut [u8],
+    pub len: usize,
     pub error: Option<io::Error>,
+    ghost in_range: { len ≤ length bytes.now },
 }
 
 /// Puts all of the bytes, or as many as the sink takes before it fails. It fails by an error, or by taking no byte.
@@ -49,18 +45,31 @@ pub fn put_all<S: Sink>(sink: &mut S, bytes: &[u8]) -> Result<(), Option<io::Err
 }
 
 impl<'a, S: Sink> Buffered<'a, S> {
+    ghost use Rattle.std.specs.Prelude.{◌≡◌, ◌+◌, ◌≤◌, ◌<◌, [], false, length, IfOk};
+    ghost use Rattle.wkb_geom.specs.Numbers.{number_bytes};
+    ghost use Rattle.wkb_sink.specs.Options.{counted_header};
+    ghost use Rattle.wkb_sink.specs.Progress.{Lays, Readies, held};
+    ghost use Rattle.wkb_sink.specs.declared.block.TheConstants.{MIN_BLOCK};
+
+    /// The number of bytes for which the block has room.
+    #[inline]
+    pub fn room(&self) -> usize
+        ensures { result ≡ (held self.now).room }
+    {
+        self.bytes.len() - self.len
+    }
+
     /// Puts what waits. Inlined, so that a block and an error that no other call borrows need no memory.
     #[inline(always)]
     #[tactic(auto, using(crate::proofs::Steps::flush_laws))]
     pub fn flush(&mut self) -> Result<(), Stopped>
         requires { S.has_failed self.old.sink.now ≡ false }
-        ensures laid { Lays S.Sink self.old self.new [] result }
-        ensures empty { IfOk result (λ _. self.new.block.waiting ≡ []) }
-        ensures room { IfOk result (λ _. MIN_BLOCK ≤ self.new.block.room) }
+        ensures ready { Readies S.Sink self.old self.new ((held self.old).room + 1) result }
+        ensures empty { IfOk result (λ _. (held self.new).waiting ≡ []) }
     {
-        match put_all(self.sink, self.block.waiting()) {
+        match put_all(self.sink, &self.bytes[..self.len]) {
             Ok(()) => {
-                self.block.clear();
+                self.len = 0;
                 Ok(())
             }
             Err(error) => {
@@ -70,26 +79,35 @@ impl<'a, S: Sink> Buffered<'a, S> {
         }
     }
 
-    // `flush` by a call. The steps before the last one mostly have room, so it isn't inlined into each.
+    // `flush` by a call, which also stops where the block is too small. The steps before the last one mostly have room,
+    // so it isn't inlined into each.
     #[inline(never)]
-    fn flush_apart(&mut self) -> Result<(), Stopped>
-        requires { S.has_failed self.old.sink.now ≡ false }
-        ensures laid { Lays S.Sink self.old self.new [] result }
-        ensures room { IfOk result (λ _. MIN_BLOCK ≤ self.new.block.room) }
+    #[tactic(auto, using(crate::proofs::Steps::room_laws))]
+    fn flush_apart(&mut self, n: usize) -> Result<(), Stopped>
+        requires fits { n ≤ MIN_BLOCK }
+        requires short { (held self.old).room < n }
+        requires working { S.has_failed self.old.sink.now ≡ false }
+        ensures ready { Readies S.Sink self.old self.new n result }
+        ensures room { IfOk result (λ _. n ≤ (held self.new).room) }
     {
-        self.flush()
+        self.flush()?;
+        if self.room() < n {
+            return Err(Stopped);
+        }
+        Ok(())
     }
 
     /// Makes sure that the block has room for `n` bytes.
     #[inline]
+    #[tactic(auto, using(crate::proofs::Steps::room_laws))]
     pub fn make_room(&mut self, n: usize) -> Result<(), Stopped>
         requires fits { n ≤ MIN_BLOCK }
         requires working { S.has_failed self.old.sink.now ≡ false }
-        ensures laid { Lays S.Sink self.old self.new [] result }
-        ensures room { IfOk result (λ _. n ≤ self.new.block.room) }
+        ensures ready { Readies S.Sink self.old self.new n result }
+        ensures room { IfOk result (λ _. n ≤ (held self.new).room) }
     {
-        if self.block.room() < n {
-            self.flush_apart()
+        if self.room() < n {
+            self.flush_apart(n)
         } else {
             Ok(())
         }
@@ -102,8 +120,8 @@ impl<'a, S: Sink> Buffered<'a, S> {
         requires working { S.has_failed self.old.sink.now ≡ false }
         ensures { Lays S.Sink self.old self.new bytes.now result }
     {
-        if bytes.len() <= self.block.room() {
-            self.block.lay(bytes);
+        if bytes.len() <= self.room() {
+            self.len = lay(self.bytes, self.len, bytes);
             Ok(())
         } else {
             self.put_past(bytes)
@@ -114,12 +132,13 @@ impl<'a, S: Sink> Buffered<'a, S> {
     #[inline(never)]
     #[tactic(auto, using(crate::proofs::Steps::step_laws))]
     fn put_past(&mut self, bytes: &[u8]) -> Result<(), Stopped>
+        requires long { (held self.old).room < length bytes.now }
         requires working { S.has_failed self.old.sink.now ≡ false }
         ensures { Lays S.Sink self.old self.new bytes.now result }
     {
         self.flush()?;
-        if bytes.len() <= self.block.room() {
-            self.block.lay(bytes);
+        if bytes.len() <= self.room() {
+            self.len = lay(self.bytes, self.len, bytes);
             return Ok(());
         }
         match put_all(self.sink, bytes) {
@@ -138,7 +157,7 @@ impl<'a, S: Sink> Buffered<'a, S> {
         ensures { Lays S.Sink self.old self.new (number_bytes order 4 n) result }
     {
         self.make_room(COUNT_SIZE)?;
-        lay_count(&mut self.block, order, n);
+        self.len = lay_count(self.bytes, self.len, order, n);
         Ok(())
     }
 
@@ -149,32 +168,9 @@ impl<'a, S: Sink> Buffered<'a, S> {
         requires working { S.has_failed self.old.sink.now ≡ false }
         ensures { Lays S.Sink self.old self.new (counted_header options.now kind n) result }
     {
-        self.make_room(MAX_HEADER_SIZE + COUNT_SIZE)?;
-        lay_header(&mut self.block, options, kind);
-        lay_count(&mut self.block, options.endianness, n);
-        Ok(())
-    }
-
-    /// Puts a vertex: a coordinate of two, three or four words.
-    #[tactic(auto, using(crate::proofs::Steps::step_laws))]
-    pub fn put_vertex<C: CoordTrait>(&mut self, order: Endianness, coord: &C) -> Result<(), Stopped>
-        requires dimension { FitsCoordinate (C.dimensions coord.now) MAX_COORDINATE_SIZE }
-        requires working { S.has_failed self.old.sink.now ≡ false }
-        ensures { Lays S.Sink self.old self.new (words_encoding order (C.words coord.now)) result }
-    {
-        self.make_room(MAX_COORDINATE_SIZE)?;
-        self.block.lay_coordinate(coord, order);
-        Ok(())
-    }
-
-    /// Puts a corner of a rectangle: only x and y.
-    #[tactic(auto, using(crate::proofs::Steps::step_laws))]
-    pub fn put_corner(&mut self, order: Endianness, x: u64, y: u64) -> Result<(), Stopped>
-        requires working { S.has_failed self.old.sink.now ≡ false }
-        ensures { Lays S.Sink self.old self.new (words_encoding order (x ∷ y ∷ [])) result }
-    {
-        self.make_room(CORNER_SIZE)?;
-        lay_corner(&mut self.block, order, x, y);
+        self.make_room(length_of_header(options.form) + COUNT_SIZE)?;
+        let end = lay_header(self.bytes, self.len, options, kind);
+        self.len = lay_count(self.bytes, end, options.endianness, n);
         Ok(())
     }
 }

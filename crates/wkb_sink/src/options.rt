@@ -1,10 +1,13 @@
 //! What a caller chooses of an encoding: the byte order, and the form of the codes.
 
-ghost use Rattle.std.specs.Prelude.{◌≡◌};
+ghost use Rattle.std.specs.Prelude.{◌≡◌, ◌≤◌};
+ghost use Rattle.wkb_geom.specs.declared.header.TheConstants.{MAX_HEADER_SIZE};
+ghost use Rattle.wkb_geom.specs.Encodings.{IsForm};
 ghost use Rattle.wkb_geom.specs.declared.common.Endianness.TheVariants.{LittleEndian};
 ghost use Rattle.wkb_geom.specs.declared.common.Form.TheVariants.{Iso};
-ghost use Rattle.wkb_sink.specs.Options.{inner_options};
+ghost use Rattle.wkb_sink.specs.Options.{header_length, inner_options};
 
+use wkb_geom::header::{MAX_HEADER_SIZE, MEMBER_HEADER_SIZE};
 use wkb_geom::{Endianness, Form};
 
 /// The byte order and the form of what is written. By default it is little endian, with ISO codes.
@@ -35,5 +38,18 @@ impl WriteOptions {
             endianness: self.endianness,
             form: self.form.inner(),
         }
+    }
+}
+
+/// The size of the header that is written.
+#[inline]
+pub fn length_of_header(form: Form) -> usize
+    ensures size { result ≡ header_length form }
+    ensures most { result ≤ MAX_HEADER_SIZE }
+    ensures fits { IsForm form }
+{
+    match form {
+        Form::Ewkb { srid: Some(_) } => MAX_HEADER_SIZE,
+        Form::Iso | Form::Ewkb { srid: None } => MEMBER_HEADER_SIZE,
     }
 }

@@ -88,7 +88,7 @@ fn store_run<L: LineStringTrait>(
     requires run { IsRun (L.dimensions line.now) (L.coordinates line.now) from to }
     requires width { width ≡ size (L.dimensions line.now) }
     requires room { 8 * width * (to - from) ≤ length bytes.old }
-    ensures len { result ≤ 8 * width * (to - from) }
+    ensures len { result ≡ 8 * width * (to - from) }
     ensures bytes { take result bytes.new
         ≡ run_encoding order (L.coordinates line.now) from to }
 {
@@ -113,7 +113,7 @@ fn items_between(all: &[u8], size: usize, from: usize, to: usize) -> &[u8]
 /// Stores words in one order out of bytes that hold them in another.
 #[inline(always)]
 #[tactic(auto, using(crate::proofs::Turned::turned_more, crate::proofs::Turned::words_length))]
-fn store_words(bytes: &mut [u8], lent: &[u8], held: Endianness, order: Endianness)
+pub fn store_words(bytes: &mut [u8], lent: &[u8], held: Endianness, order: Endianness)
     requires { length lent.now ≤ length bytes.old }
     ensures { Turns held order lent.now (take (length lent.now) bytes.new) }
 {
@@ -146,7 +146,7 @@ pub fn store_coordinates<L: LineStringTrait>(
 ) -> usize
     requires run { IsRun (L.dimensions line.now) (L.coordinates line.now) from to }
     requires room { run_size (L.dimensions line.now) from to ≤ length bytes.old }
-    ensures len { result ≤ run_size (L.dimensions line.now) from to }
+    ensures len { result ≡ run_size (L.dimensions line.now) from to }
     ensures bytes { take result bytes.new
         ≡ run_encoding order (L.coordinates line.now) from to }
 {

@@ -11,11 +11,30 @@ use Rattle.std.specs.Prelude.{IfSome}
 use Rattle.std.specs.Option.{option_map}
 use Rattle.std.proofs.lemmas.List.Folds.{flat_map-map}
 use Rattle.wkb_sink.proofs.Stores.{flat_map_step}
-use Rattle.wkb_sink.proofs.Laid.{laid_then, cut_then, cut_first, lays_then}
+use Rattle.wkb_sink.proofs.Laid.{laid_then, cut_then, cut_first, no_room, lays_then}
+use Rattle.wkb_sink.proofs.Turned.{words_length}
+use Rattle.wkb_sink.specs.Progress.{IsShort}
+use Rattle.wkb_geom.specs.Dimensions.{size}
+use Rattle.wkb_geom.specs.Geometries.{AreCoordinates}
+use Rattle.std.proofs.Math.Nat.{mul-le-mul_left}
+use Rattle.std.proofs.Common.{length-append, ◌*◌}
 
 flat_map_parts : {X : Type 0} (f : X → List ℕ) (xs : List X) (i : ℕ)
     → flat_map f xs ≡ flat_map f (take i xs) ++ flat_map f (drop i xs)
 flat_map_parts f xs i = ap (flat_map f) (sym (take-append-drop i xs)) ∙ flat_map-append f (take i xs) (drop i xs)
+
+-- a coordinate's bytes among those of the coordinates from one on
+coordinate_left : (order : Endianness) (d : Dimensions) (cs : List (List ℕ)) (i : ℕ) → AreCoordinates d cs
+    → i < length cs → 8 * size d ≤ length (flat_map (words_encoding order) (drop i cs))
+coordinate_left order d [] i lawful more = absurd (omega arith)
+coordinate_left order d (c ∷ cs) zero lawful more =
+    let whole = length-append (words_encoding order c) (flat_map (words_encoding order) cs) in
+    omega (arith, whole, words_length order c, lawful.0.len)
+coordinate_left order d (c ∷ cs) (suc i) lawful more = coordinate_left order d cs i lawful.1 (omega arith)
+
+-- a run of some items has room for one
+pub one_of_run : (k n : ℕ) → 0 < n → k ≤ k * n
+one_of_run k n some = let most = mul-le-mul_left k some in omega (arith, most)
 
 -- the first of these coordinates were laid
 pub record HasRun (a b : Progress) (order : Endianness) (cs : List (List ℕ)) (i : ℕ) : Type 0 where
@@ -31,8 +50,11 @@ module _ {a b : Progress} {order : Endianness} {cs : List (List ℕ)} {i : ℕ} 
   pub whole_run : HasRun a b order cs i → length cs ≤ i → IsLaid a b (flat_map (words_encoding order) cs)
   whole_run p past = rw take_all at p.laid
 
-  pub run_cut : {c : Progress} → HasRun a b order cs i → IsCut b c [] → IsCut a c (flat_map (words_encoding order) cs)
-  run_cut p q = rw (flat_map_parts (words_encoding order) cs i) (cut_then p.laid (cut_first _ q))
+  pub run_cut : {c : Progress} {n : ℕ} (d : Dimensions) → HasRun a b order cs i → AreCoordinates d cs → i < length cs
+      → n ≡ 8 * size d → IsShort b c n → IsCut a c (flat_map (words_encoding order) cs)
+  run_cut d p lawful more is q =
+      let next = coordinate_left order d cs i lawful more in
+      rw (flat_map_parts (words_encoding order) cs i) (cut_then p.laid (no_room _ q (omega (arith, is, next))))
 
 -- a header, a count and the encodings of items, as a definition of the items
 pub counted_of : {X : Type 0} (order : Endianness) (header : List ℕ) (f : X → List ℕ) (xs : List X)

@@ -20,7 +20,11 @@ use Rattle.wkb_write.proofs.Whole.{header_within}
 use Rattle.wkb_laws.proofs.EncodingSizes.{encoding_has_size_lem}
 use Rattle.wkb_geom.specs.declared.error.WkbError.{WkbError}
 use Rattle.wkb_geom.specs.Errors.{TellsFault}
-use Rattle.wkb_write.specs.Answers.{IsSized, IsSizeOf}
+use Rattle.wkb_write.specs.Answers.{encoding_of, IsSized, IsSizeOf}
+use Rattle.wkb_sink.proofs.Laid.{exits, no_room}
+use Rattle.wkb_sink.specs.Progress.{Advances, IsShort, Progress}
+use Rattle.wkb_sink.specs.declared.buffered.Stopped.{Stopped}
+use Rattle.wkb_sink.specs.declared.options.WriteOptions.{WriteOptions}
 
 reports_size : (n : ℕ) → 2 ^ 64 ≤ n → Finds found.Size (size_fault n)
 unfolding size_fault
@@ -39,6 +43,15 @@ measured_length order form g fits lawful none =
     of_flag : (srid : Bool) → 4 * (if srid then 1 else 0) ≡ srid_size srid
     of_flag true = refl
     of_flag false = refl
+
+-- what the exit of a `?` returns where there was no room for an encoding of this size
+pub no_room_for : {a b : Progress} {n : ℕ} (options : WriteOptions) (g : Geometry) (e : Stopped)
+    (r : Result (Unit {0}) Stopped) → IsErrAnd r (λ y. y ≡ e) → IsShort a b n → IsForm options.form → IsGeometry g
+    → fault g ≡ None → n ≤ byte_size g + srid_size (is_some (form_srid options.form))
+    → Advances a b (encoding_of options g) r
+no_room_for options g e r is short fits lawful none many =
+    let long = measured_length options.endianness options.form g fits lawful none in
+    exits e r is (no_room _ short (omega (arith, many, long)))
 
 -- what was measured without a fault
 at_ok : (measured : Result ℕ Fault) (s : ℕ) (g : Geometry) → measured ≡ Ok s

@@ -1,7 +1,10 @@
 -- What has no fault: an item of a list, and a dimension, of which a coordinate can be laid.
 use Rattle.wkb_write.proofs.Prelude.{◌≡◌, ℕ, zero, suc, ◌≤◌, List, [], ◌∷◌, Option, Some, None, ap, ◌∙◌, arith}
 use Rattle.wkb_write.proofs.Prelude.{slice_get, Dimensions, none_first, none_rest, size, Fault, first_fault}
-use Rattle.wkb_write.proofs.Prelude.{dimensions_fault}
+use Rattle.wkb_write.proofs.Prelude.{dimensions_fault, Dimension, written_dimension, ◌*◌, sym}
+use Rattle.wkb_geom.specs.Dimensions.{width}
+use Rattle.wkb_geom.specs.declared.common.Dimension.TheVariants.{Xy}
+use Rattle.wkb_laws.proofs.Values.{width-written_dimension}
 use Rattle.wkb_sink.specs.Runs.{FitsCoordinate}
 use Rattle.std.proofs.lemmas.Bool.Decides.{nat_tests}
 use Rattle.wkb_geom.specs.declared.common.Dimensions.TheVariants.{Unknown}
@@ -25,7 +28,28 @@ unfolding dimensions_fault
 supported_at_most (Unknown n) h = grind (arith, nat_tests)
 supported_at_most d h = omega arith
 
--- so there is room for its coordinates where there are 32 bytes
-pub has_room : {d of : Dimensions} {room : ℕ} → of ≡ d → dimensions_fault d ≡ None → 32 ≤ room → FitsCoordinate of room
-has_room {d = d} same none enough =
-    record { least = rw same (supported_at_least d none); most = rw same (supported_at_most d none); room = enough }
+pub width_least : (d : Dimension) (n : ℕ) → n ≡ width d → 2 ≤ n
+width_least Xy n is = omega arith
+width_least _ n is = omega arith
+
+pub width_most : (d : Dimension) (n : ℕ) → n ≡ width d → n ≤ 4
+width_most Xy n is = omega arith
+width_most _ n is = omega arith
+
+pub ruleset width_laws = (width_least, width_most)
+
+-- the words of a coordinate that is written
+pub words_are : {d of : Dimensions} {told : Dimension} {words : ℕ} → words ≡ width told → told ≡ written_dimension of
+    → of ≡ d → dimensions_fault d ≡ None → words ≡ size d
+words_are {d = d} is name same none = is ∙ ap width name ∙ ap (λ e. width (written_dimension e)) same ∙ width-written_dimension d none
+
+-- so its coordinates can be laid
+pub has_width : {d of : Dimensions} {told : Dimension} {words : ℕ} → told ≡ written_dimension d → of ≡ d
+    → dimensions_fault d ≡ None → words ≡ width told → FitsCoordinate of words
+has_width {d = d} name same none is =
+    let wide = is ∙ ap width name ∙ width-written_dimension d none in
+    record {
+      is = wide ∙ ap size (sym same);
+      least = omega (arith, wide, supported_at_least d none);
+      most = omega (arith, wide, supported_at_most d none);
+    }

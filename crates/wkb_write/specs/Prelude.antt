@@ -12,7 +12,8 @@ pub use Rattle.wkb_geom.specs.Encodings.{encoding, inner, form_with_flags, words
 pub use Rattle.wkb_geom.specs.declared.common.Endianness.{Endianness}
 pub use Rattle.wkb_geom.specs.declared.common.Form.TheVariants.{Iso}
 pub use Rattle.wkb_sink.specs.Options.{header_of, inner_options}
-pub use Rattle.wkb_sink.specs.Progress.{Lays, PutsTo}
+pub use Rattle.wkb_sink.specs.Progress.{Lays}
+pub use Rattle.wkb_sink.specs.Puts.{PutsTo}
 pub use Rattle.wkb_sink.specs.Sinks.{TellsFailure}
 pub use Rattle.wkb_sink.specs.declared.block.TheConstants.{MIN_BLOCK}
 pub use Rattle.wkb_sink.specs.declared.options.WriteOptions.{WriteOptions}

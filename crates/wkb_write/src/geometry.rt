@@ -111,6 +111,7 @@ pub fn geometry_wkb_size_with<G: GeometryTrait>(
 /// `IOError` where the sink fails: then a strict prefix of the encoding was put. It is the sink's own error, or of the
 /// kind `WriteZero` where the sink took nothing.
 #[inline(always)]
+#[tactic(auto, using(crate::proofs::Writing::writes_same))]
 pub fn write_geometry<S: Sink, G: GeometryTrait>(
     writer: &mut S,
     geom: &G,
@@ -172,7 +173,7 @@ pub fn to_vec<G: GeometryTrait>(
 /// Refused as `geometry_wkb_size_with` refuses it under the same options. `IOError` of the kind `WriteZero` where the
 /// slice is shorter than the encoding. In both cases the slice is untouched.
 #[inline(always)]
-#[tactic(auto, using(crate::proofs::Writing::lent_fits))]
+#[tactic(auto, using(crate::proofs::Writing::lent_fits, crate::proofs::Writing::lent_outgrows))]
 pub fn write_to_slice<G: GeometryTrait>(
     geom: &G,
     options: &WriteOptions,

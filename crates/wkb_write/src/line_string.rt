@@ -9,6 +9,7 @@ ghost use Rattle.wkb_sink.specs.declared.block.TheConstants.{MAX_COORDINATE_SIZE
 use crate::common::*;
 use crate::measure::short_count;
 use wkb_geom::{Endianness, LineStringTrait};
+use wkb_sink::block::lay_coordinates;
 
 /// Measures the coordinates of a line string or a ring, with their count.
 pub fn measure_coordinates<L: LineStringTrait>(line: &L) -> Measured
@@ -53,15 +54,15 @@ pub fn put_coordinates<S: Sink, L: LineStringTrait>(
         (flat_map (words_encoding order) (L.coordinates line.now)) result }
 {
     let count = line.num_coords();
-    let bytes = 8 * line.dim().size();
+    let size = WORD_SIZE * line.dim().size();
     if let Some(bytes) = line.standing(order) {
         return out.put_bytes(bytes);
     }
     let mut done = 0;
     while done < count {
-        out.make_room(MAX_COORDINATE_SIZE)?;
-        let next = end_of_run(done, count, bytes, out.block.room());
-        out.block.lay_coordinates(line, done, next, order);
+        out.make_room(size)?;
+        let next = end_of_run(done, count, size, out.room());
+        out.len = lay_coordinates(out.bytes, out.len, line, done, next, order);
         done = next;
     }
     Ok(())

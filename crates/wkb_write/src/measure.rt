@@ -3,17 +3,18 @@
 //! Faults are found in preorder: a geometry's dimensions, its count, then its items. Only the bytes after the header
 //! are measured. `usize::MAX` means that size or any greater one: with a header none of them fits.
 
-ghost use Rattle.std.specs.Prelude.{◌≡◌, ◌+◌, ◌*◌, ◌^◌, ◌<◌, None, Err, is_some, IsErrAnd};
+ghost use Rattle.std.specs.Prelude.{◌≡◌, ◌*◌, ◌^◌, ◌<◌, ◌≤◌, None, Err, IsErrAnd};
+ghost use Rattle.wkb_geom.specs.Dimensions.{width};
 ghost use Rattle.std.specs.Prelude.{MatchOption};
-ghost use Rattle.wkb_write.specs.Prelude.{Geometry, IsForm, dimensions_of, form_srid};
+ghost use Rattle.wkb_write.specs.Prelude.{Geometry, IsForm, dimensions_of};
 ghost use Rattle.wkb_write.specs.Prelude.{dimensions_fault, count_fault, body_fault, Finds};
-ghost use Rattle.wkb_write.specs.Prelude.{coordinate_words, size_by_parts, srid_size, result_of};
+ghost use Rattle.wkb_write.specs.Prelude.{coordinate_words, size_by_parts, result_of};
 ghost use Rattle.wkb_write.specs.Prelude.{OfMeasured, IsMeasured, Measures, IsSized, IsSizeOf};
 ghost use Rattle.wkb_write.specs.Prelude.{TellsFault};
 ghost use Rattle.wkb_geom.specs.declared.error.Fault.TheVariants.{Count, UnsupportedDimensions};
 
-use wkb_geom::header::{MAX_HEADER_SIZE, MEMBER_HEADER_SIZE};
-use wkb_geom::{Dimensions, Fault, Form, WkbError, WkbResult};
+use wkb_geom::{Dimension, Dimensions, Fault, Form, WkbError, WkbResult};
+use wkb_sink::options::length_of_header;
 
 /// A size, or the fault, in two words: a call returns these in registers. A `Result` of the two takes three words, and
 /// is returned in memory.
@@ -97,16 +98,15 @@ pub fn behind_header(dim: Dimensions, body: Measured) -> Measured
     }
 }
 
-/// The size of the header that is written.
-#[inline]
-pub fn length_of_header(form: Form) -> usize
-    ensures size { result ≡ 5 + srid_size (is_some (form_srid form)) }
-    ensures fits { IsForm form }
+/// The number of words of a coordinate that is written.
+#[inline(always)]
+#[tactic(auto, using(crate::proofs::Supported::width_laws))]
+pub fn words_of(dim: Dimension) -> usize
+    ensures words { result ≡ width dim }
+    ensures least { 2 ≤ result }
+    ensures most { result ≤ 4 }
 {
-    match form {
-        Form::Ewkb { srid: Some(_) } => MAX_HEADER_SIZE,
-        Form::Iso | Form::Ewkb { srid: None } => MEMBER_HEADER_SIZE,
-    }
+    dim.width()
 }
 
 /// The form's SRID, if it has one, fits four bytes.

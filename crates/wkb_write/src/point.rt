@@ -7,7 +7,7 @@ ghost use Rattle.wkb_write.specs.Prelude.{WritesTo, result_of};
 use crate::common::*;
 use crate::measure::size_of;
 use wkb_geom::{Dimensions, PointTrait};
-use wkb_sink::block::lay_empty;
+use wkb_sink::block::{lay_coordinate, lay_empty};
 
 /// A point, empty or not.
 pub struct PointKind;
@@ -26,8 +26,6 @@ impl<P: PointTrait> Writable<P> for PointKind {
 
     ghost lawful = { λ p. P.lawful p };
 
-    const IN_ONE_PIECE: bool = true;
-
     #[inline(always)]
     fn measure(geom: &P) -> Measured {
         measure_point(geom.dim())
@@ -37,11 +35,12 @@ impl<P: PointTrait> Writable<P> for PointKind {
     fn put<S: Sink>(out: &mut Buffered<'_, S>, geom: &P, options: &WriteOptions) -> Put {
         let order = options.endianness;
         let dim = dimension_to_write(geom.dim());
-        out.make_room(MAX_HEADER_SIZE + MAX_COORDINATE_SIZE)?;
-        lay_header(&mut out.block, options, WkbType::Point(dim));
+        let words = words_of(dim);
+        out.make_room(length_of_header(options.form) + WORD_SIZE * words)?;
+        let at = lay_header(out.bytes, out.len, options, WkbType::Point(dim));
         match geom.coord() {
-            Some(coord) => out.block.lay_coordinate(&coord, order),
-            None => lay_empty(&mut out.block, order, dim),
+            Some(coord) => out.len = lay_coordinate(out.bytes, at, order, &coord, words),
+            None => out.len = lay_empty(out.bytes, at, order, words),
         }
         Ok(())
     }

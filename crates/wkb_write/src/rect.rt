@@ -1,11 +1,20 @@
 //! A rectangle, which is written as a polygon of one ring, with only x and y.
 
-ghost use Rattle.std.specs.Prelude.{◌≡◌, false};
+ghost use Rattle.std.specs.Prelude.{◌≡◌, ◌+◌, ◌≤◌, ◌∷◌, [], false, length};
+ghost use Rattle.wkb_geom.specs.Encodings.{polygon_encoding};
+ghost use Rattle.wkb_geom.specs.Geometries.{rectangle_ring};
+ghost use Rattle.wkb_geom.specs.declared.common.Dimension.TheVariants as dimensions;
+ghost use Rattle.wkb_sink.specs.Blocks.{LaysAt};
+ghost use Rattle.wkb_sink.specs.Options.{header_length};
+ghost use Rattle.wkb_write.specs.declared.rect.TheConstants.{BODY_SIZE};
 ghost use Rattle.wkb_write.specs.Prelude.{Iso, rect_meant, IsSizeOf, WritesTo};
 
 use crate::common::*;
 use wkb_geom::{CoordTrait, Dimension, RectTrait};
-use wkb_sink::block::CORNER_SIZE;
+use wkb_sink::block::{CORNER_SIZE, lay_corner};
+
+// The size of a polygon of one ring of five corners, without its header.
+const BODY_SIZE: usize = 2 * COUNT_SIZE + 5 * CORNER_SIZE;
 
 /// A rectangle, which is put as a polygon of one ring, with only x and y.
 pub struct RectKind;
@@ -18,22 +27,44 @@ impl<R: RectTrait> Writable<R> for RectKind {
 
     #[inline(always)]
     fn measure(geom: &R) -> Measured {
-        let size = 2 * COUNT_SIZE + 5 * CORNER_SIZE;
-        behind_header(geom.dim(), Measured::Bytes(size))
+        behind_header(geom.dim(), Measured::Bytes(BODY_SIZE))
     }
 
     fn put<S: Sink>(out: &mut Buffered<'_, S>, geom: &R, options: &WriteOptions) -> Put {
-        let order = options.endianness;
-        let (x0, y0) = geom.min().x_y();
-        let (x1, y1) = geom.max().x_y();
-        out.put_head(options, WkbType::Polygon(Dimension::Xy), 1)?;
-        out.put_count(order, 5)?;
-        out.put_corner(order, x0, y0)?;
-        out.put_corner(order, x0, y1)?;
-        out.put_corner(order, x1, y1)?;
-        out.put_corner(order, x1, y0)?;
-        out.put_corner(order, x0, y0)
+        let min = geom.min().x_y();
+        let max = geom.max().x_y();
+        out.make_room(length_of_header(options.form) + BODY_SIZE)?;
+        out.len = lay_corners(out.bytes, out.len, options, min, max);
+        Ok(())
     }
+}
+
+/// Lays a polygon of one ring around these corners, from the least one.
+#[inline]
+fn lay_corners(
+    bytes: &mut [u8],
+    at: usize,
+    options: &WriteOptions,
+    min: (u64, u64),
+    max: (u64, u64),
+) -> usize
+    requires { at + (header_length options.now.form + BODY_SIZE) ≤ length bytes.old }
+    ensures end { result ≡ at + (header_length options.now.form + BODY_SIZE) }
+    ensures bytes { LaysAt at result bytes.old bytes.new
+        (polygon_encoding options.now.endianness options.now.form dimensions.Xy
+        (rectangle_ring (min.0 ∷ min.1 ∷ []) (max.0 ∷ max.1 ∷ []) ∷ [])) }
+{
+    let order = options.endianness;
+    let (x0, y0) = min;
+    let (x1, y1) = max;
+    let at = lay_header(bytes, at, options, WkbType::Polygon(Dimension::Xy));
+    let at = lay_count(bytes, at, order, 1);
+    let at = lay_count(bytes, at, order, 5);
+    let at = lay_corner(bytes, at, order, x0, y0);
+    let at = lay_corner(bytes, at, order, x0, y1);
+    let at = lay_corner(bytes, at, order, x1, y1);
+    let at = lay_corner(bytes, at, order, x1, y0);
+    lay_corner(bytes, at, order, x0, y0)
 }
 
 /// The size of a rectangle, as a polygon of one ring, with only x and y, in ISO codes.

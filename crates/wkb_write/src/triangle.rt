@@ -1,10 +1,17 @@
 //! A triangle, which is written as a polygon of one ring that ends as it begins.
 
-ghost use Rattle.std.specs.Prelude.{◌≡◌, false};
+ghost use Rattle.std.specs.Prelude.{◌≡◌, ◌+◌, ◌*◌, ◌≤◌, ◌∷◌, [], false, length};
+ghost use Rattle.wkb_geom.specs.Dimensions.{width};
+ghost use Rattle.wkb_geom.specs.Encodings.{polygon_encoding};
+ghost use Rattle.wkb_geom.specs.Geometries.{triangle_ring};
+ghost use Rattle.wkb_sink.specs.Blocks.{LaysAt};
+ghost use Rattle.wkb_sink.specs.Options.{header_length};
+ghost use Rattle.wkb_sink.specs.Runs.{FitsCoordinate};
 ghost use Rattle.wkb_write.specs.Prelude.{Iso, triangle_meant, IsSizeOf, WritesTo};
 
 use crate::common::*;
-use wkb_geom::TriangleTrait;
+use wkb_geom::{CoordTrait, Dimension, TriangleTrait};
+use wkb_sink::block::lay_vertex;
 
 /// A triangle, which is put as a polygon of one ring that ends as it begins.
 pub struct TriangleKind;
@@ -21,16 +28,47 @@ impl<T: TriangleTrait> Writable<T> for TriangleKind {
     }
 
     fn put<S: Sink>(out: &mut Buffered<'_, S>, geom: &T, options: &WriteOptions) -> Put {
-        let order = options.endianness;
-        let kind = WkbType::Polygon(dimension_to_write(geom.dim()));
+        let dim = dimension_to_write(geom.dim());
         let first = geom.first();
-        out.put_head(options, kind, 1)?;
-        out.put_count(order, 4)?;
-        out.put_vertex(order, &first)?;
-        out.put_vertex(order, &geom.second())?;
-        out.put_vertex(order, &geom.third())?;
-        out.put_vertex(order, &first)
+        let second = geom.second();
+        let third = geom.third();
+        let size = 2 * COUNT_SIZE + 4 * (WORD_SIZE * words_of(dim));
+        out.make_room(length_of_header(options.form) + size)?;
+        out.len = lay_vertices(out.bytes, out.len, options, dim, &first, &second, &third);
+        Ok(())
     }
+}
+
+/// Lays a polygon of one ring through these vertices, and back to the first.
+#[inline]
+fn lay_vertices<C: CoordTrait>(
+    bytes: &mut [u8],
+    at: usize,
+    options: &WriteOptions,
+    dim: Dimension,
+    first: &C,
+    second: &C,
+    third: &C,
+) -> usize
+    requires first { FitsCoordinate (C.dimensions first.now) (width dim) }
+    requires second { FitsCoordinate (C.dimensions second.now) (width dim) }
+    requires third { FitsCoordinate (C.dimensions third.now) (width dim) }
+    requires room { at + (header_length options.now.form + (8 + 4 * (8 * width dim)))
+        ≤ length bytes.old }
+    ensures end { result ≡ at + (header_length options.now.form + (8 + 4 * (8 * width dim))) }
+    ensures bytes { LaysAt at result bytes.old bytes.new
+        (polygon_encoding options.now.endianness options.now.form dim
+        (triangle_ring (C.words first.now) (C.words second.now) (C.words third.now) ∷ [])) }
+{
+    let order = options.endianness;
+    let words = words_of(dim);
+    let at = lay_header(bytes, at, options, WkbType::Polygon(dim));
+    let at = lay_count(bytes, at, order, 1);
+    let at = lay_count(bytes, at, order, 4);
+    let at = lay_vertex(bytes, at, order, first, words);
+    let at = lay_vertex(bytes, at, order, second, words);
+    let at = lay_vertex(bytes, at, order, third, words);
+    lay_vertex(bytes, at, order, first, words)
 }
 
 /// The size of a triangle, as a polygon of one ring, in ISO codes.

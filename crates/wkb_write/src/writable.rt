@@ -11,9 +11,8 @@ use crate::{Sink, VecSink, WriteOptions};
 use std::alloc::{AllocError, Global};
 use std::io;
 use std::io::ErrorKind;
-use wkb_geom::header::{MAX_HEADER_SIZE, MEMBER_HEADER_SIZE};
 use wkb_geom::{Form, WkbError, WkbResult};
-use wkb_sink::block::{Block, CORNER_SIZE, MAX_COORDINATE_SIZE, MIN_BLOCK};
+use wkb_sink::block::MIN_BLOCK;
 use wkb_sink::buffered::put_all;
 use wkb_sink::{Buffered, Stopped};
 
@@ -24,9 +23,6 @@ pub type Put = Result<(), Stopped>;
 pub trait Writable<G> {
     // What a geometry means.
     ghost geometry: { G → Geometry };
-
-    /// Whether geometries are laid in one piece, so that the smallest block holds each.
-    const IN_ONE_PIECE: bool = false;
 
     /// The size without the header, or the first fault.
     fn measure(geom: &G) -> Measured
@@ -42,15 +38,12 @@ pub trait Writable<G> {
     ghost lawful: { (g : G) → IsGeometry (geometry g) };
 }
 
-// Zeroing a block takes time in proportion to its size, so short encodings get a small one (docs/DECISIONS.md, D8).
-const SMALL_BLOCK: usize = 192;
-
+// Zeroing a block takes time in proportion to its size, so short encodings get the smallest one (docs/DECISIONS.md, D8).
 const LARGE_BLOCK: usize = 1024;
 
-// The longest encoding that fits a small block, whatever its steps ask for. Its last point may take no more than a
-// member's header, x and y, and yet the step that lays it asks for the room of the longest point.
-const SHORT_SIZE: usize = SMALL_BLOCK - (MAX_HEADER_SIZE + MAX_COORDINATE_SIZE)
-    + (MEMBER_HEADER_SIZE + CORNER_SIZE);
+// The longest encoding that is laid in its vector. The vector is zeroed first, and this takes longer than blocks do where
+// it doesn't fit the processor's caches.
+const MAX_IN_PLACE: usize = 1 << 18;
 
 // Puts a geometry through a block over these bytes, and then what still waits there.
 #[inline(always)]
@@ -67,10 +60,10 @@ fn put_through<S: Sink, G, K: Writable<G>>(
         (encoding_of options.now (K.geometry geom.now)) result }
 {
     let error = None;
-    let block = Block::over(bytes);
     let mut out = Buffered {
         sink: writer,
-        block,
+        bytes,
+        len: 0,
         error,
     };
     let put = match K::put(&mut out, geom, options) {
@@ -82,7 +75,8 @@ fn put_through<S: Sink, G, K: Writable<G>>(
         Ok(()) => {
             let Buffered {
                 sink: _sink,
-                block: _,
+                bytes: _,
+                len: _,
                 error: _,
             } = out;
             Ok(())
@@ -91,7 +85,8 @@ fn put_through<S: Sink, G, K: Writable<G>>(
             let error = out.error;
             let Buffered {
                 sink: _sink,
-                block: _,
+                bytes: _,
+                len: _,
                 error: _,
             } = out;
             Err(error)
@@ -99,7 +94,7 @@ fn put_through<S: Sink, G, K: Writable<G>>(
     }
 }
 
-/// Puts a geometry of this size through a block that suits the kind and the size.
+/// Puts a geometry of this size through a block that suits the size.
 #[inline(always)]
 pub fn put_sized<S: Sink, G, K: Writable<G>>(
     writer: &mut S,
@@ -112,10 +107,8 @@ pub fn put_sized<S: Sink, G, K: Writable<G>>(
     ensures { PutsTo S.Sink writer.old writer.new
         (encoding_of options.now (K.geometry geom.now)) result }
 {
-    if K::IN_ONE_PIECE {
+    if size <= MIN_BLOCK {
         put_through::<S, G, K>(writer, &mut [0; MIN_BLOCK], geom, options)
-    } else if size <= SHORT_SIZE {
-        put_through::<S, G, K>(writer, &mut [0; SMALL_BLOCK], geom, options)
     } else {
         put_through::<S, G, K>(writer, &mut [0; LARGE_BLOCK], geom, options)
     }
@@ -185,11 +178,64 @@ pub fn vec_as<G, K: Writable<G>>(
         Ok(size) => size,
         Err(fault) => return refuse(fault),
     };
+    if size <= MAX_IN_PLACE {
+        let mut bytes = vec![in alloc; 0u8; size]?;
+        lay_whole::<G, K>(&mut bytes, geom, options);
+        return Ok(bytes);
+    }
     let mut sink = VecSink::with_capacity(alloc, size)?;
     match put_sized::<VecSink, G, K>(&mut sink, size, geom, options) {
         Ok(()) => Ok(sink.into_vec()),
         // This sink fails only if an allocation does.
         Err(_) => Err(WkbError::from(AllocError)),
+    }
+}
+
+// A sink that takes nothing.
+#[derive(Drop)]
+struct Full {
+    has_failed: bool,
+}
+
+impl Sink for Full {
+    ghost has_failed = { λ f. f.has_failed };
+
+    fn put(&mut self, bytes: &[u8]) -> io::Result<usize> {
+        self.has_failed |= !bytes.is_empty();
+        Ok(0)
+    }
+
+    fn failed(&self) -> bool {
+        self.has_failed
+    }
+}
+
+/// Lays a geometry in a slice that is as long as its encoding.
+#[inline(always)]
+pub fn lay_whole<G, K: Writable<G>>(bytes: &mut [u8], geom: &G, options: &WriteOptions)
+    requires fault { fault (K.geometry geom.now) ≡ None }
+    requires size { length bytes.old ≡ length (encoding_of options.now (K.geometry geom.now)) }
+    ensures { bytes.new ≡ encoding_of options.now (K.geometry geom.now) }
+{
+    let mut sink = Full { has_failed: false };
+    let error = None;
+    let mut out = Buffered {
+        sink: &mut sink,
+        bytes,
+        len: 0,
+        error,
+    };
+    match K::put(&mut out, geom, options) {
+        Ok(()) => {
+            let Buffered {
+                sink: _,
+                bytes: _bytes,
+                len: _,
+                error: _,
+            } = out;
+        }
+        // The slice has room for the whole encoding.
+        Err(Stopped) => unreachable!(),
     }
 }
 

@@ -1,6 +1,6 @@
 use Rattle.wkb_sink.proofs.Prelude.{◌≡◌, ◌∙◌, ap, words_encoding}
 use Rattle.wkb_geom.specs.Dimensions.{size}
-use Rattle.wkb_sink.proofs.Turned.{run_lent, run_within, run_words, run_are_words, words_joined}
+use Rattle.wkb_sink.proofs.Turned.{run_lent, run_length, run_within, run_words, run_are_words, words_joined}
 use Rattle.wkb_sink.proofs.store.store_coordinates.Goals as goal
 
 pub items_between-lent-requires-clause-within : goal.items_between-lent-requires-clause-within
@@ -11,6 +11,17 @@ items_between-lent-requires-clause-within g c =
     c.size-width.ensures ∙ ap size c.dim.ensures in
     rw (wide, c.in-Some.ensures)
     (run_within c.other-held.result _ (g.L.LineStringTrait.coordinates line) c.args.to lawful c.requires.run.within)
+
+pub returns-in-Some-clause-len : goal.returns-in-Some-clause-len
+returns-in-Some-clause-len g c =
+    let line = c.args.line.now in
+    let cs = g.L.LineStringTrait.coordinates line in
+    let lawful = g.met.L.LineStringTrait.lawful line in
+    let wide : c.size-width.result ≡ size (g.L.Dimensioned.dimensions line) =
+    c.size-width.ensures ∙ ap size c.dim.ensures in
+    rw (c.items_between-lent.ensures, wide, c.in-Some.ensures)
+    (run_length _ _ _ _ c.requires.run.order
+    (run_within c.other-held.result _ cs c.args.to lawful c.requires.run.within))
 
 pub returns-in-Some-clause-bytes : goal.returns-in-Some-clause-bytes
 returns-in-Some-clause-bytes g c =

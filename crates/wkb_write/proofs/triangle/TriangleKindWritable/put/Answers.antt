@@ -1,71 +1,29 @@
-use Rattle.wkb_write.proofs.Prelude.{append_assoc, append-nil, polygon_encoding, coordinates_encoding}
-use Rattle.wkb_sink.proofs.Laid.{exits, cut_first, cut_then, lays_then}
+use Rattle.wkb_write.proofs.Prelude.{arith}
+use Rattle.wkb_geom.specs.Geometries.{triangle}
+use Rattle.wkb_sink.proofs.Laid.{laid_here}
+use Rattle.wkb_write.proofs.Sizes.{no_room_for}
+use Rattle.wkb_write.proofs.Supported.{words_are}
 use Rattle.wkb_write.proofs.triangle.TriangleKindWritable.put.Goals as goal
 
-pub returns-in_err-put_head : goal.returns-in_err-put_head
-unfolding polygon_encoding coordinates_encoding
-returns-in_err-put_head g c =
-    rw (← c.dim.ensures, ← c.dimension_to_write.ensures, ← c.first-first.ensures.value, ← append_assoc)
-    (exits _ _ c.from_residual.ensures.1 (cut_first _ c.in_err-put_head.ensures))
-
-pub returns-in_err-put_count : goal.returns-in_err-put_count
-unfolding polygon_encoding coordinates_encoding
-returns-in_err-put_count g c =
-    rw (← c.dim.ensures, ← c.dimension_to_write.ensures, ← c.first-first.ensures.value, ← append_assoc)
-    (exits _ _ c.from_residual-in_err-put_count.ensures.1
-    (cut_then c.in_ok-put_head.ensures (cut_first _ (cut_first _ c.in_err-put_count.ensures))))
-
-pub returns-in_err-put_vertex : goal.returns-in_err-put_vertex
-unfolding polygon_encoding coordinates_encoding
-returns-in_err-put_vertex g c =
-    rw (← c.dim.ensures, ← c.dimension_to_write.ensures, ← c.first-first.ensures.value, ← append_assoc)
-    (exits _ _ c.from_residual-in_err-put_vertex.ensures.1
-    (cut_then c.in_ok-put_head.ensures (cut_first _ (cut_then c.in_ok-put_count.ensures
-    (cut_first _ c.in_err-put_vertex.ensures)))))
-
-pub returns-in_err-put_vertex-2 : goal.returns-in_err-put_vertex-2
-unfolding polygon_encoding coordinates_encoding
-returns-in_err-put_vertex-2 g c =
-    rw (
-      ← c.dim.ensures,
-      ← c.dimension_to_write.ensures,
-      ← c.first-first.ensures.value,
-      ← c.second.ensures.value,
-      ← append_assoc,
-    )
-    (exits _ _ c.from_residual-in_err-put_vertex-2.ensures.1
-    (cut_then c.in_ok-put_head.ensures (cut_first _ (cut_then c.in_ok-put_count.ensures
-    (cut_then c.in_ok-put_vertex.ensures (cut_first _ c.in_err-put_vertex-2.ensures))))))
-
-pub returns-in_err-put_vertex-3 : goal.returns-in_err-put_vertex-3
-unfolding polygon_encoding coordinates_encoding
-returns-in_err-put_vertex-3 g c =
-    rw (
-      ← c.dim.ensures,
-      ← c.dimension_to_write.ensures,
-      ← c.first-first.ensures.value,
-      ← c.second.ensures.value,
-      ← c.third.ensures.value,
-      ← append_assoc,
-    )
-    (exits _ _ c.from_residual-in_err-put_vertex-3.ensures.1
-    (cut_then c.in_ok-put_head.ensures (cut_first _ (cut_then c.in_ok-put_count.ensures
-    (cut_then c.in_ok-put_vertex.ensures (cut_then c.in_ok-put_vertex-2.ensures
-    (cut_first _ c.in_err-put_vertex-3.ensures)))))))
+pub returns-in_err-make_room : goal.returns-in_err-make_room
+returns-in_err-make_room g c =
+    let wide =
+    words_are c.words_of.ensures.words c.dimension_to_write-dim.ensures c.dim.ensures c.requires.fault in
+    no_room_for c.args.options.now
+    (triangle (g.T.Dimensioned.dimensions c.args.geom.now) (g.T.TriangleTrait.first_words c.args.geom.now)
+    (g.T.TriangleTrait.second_words c.args.geom.now) (g.T.TriangleTrait.third_words c.args.geom.now)) _ _
+    c.from_residual.ensures.1 c.in_err-make_room.ensures.ready c.length_of_header.ensures.fits
+    (g.met.T.TriangleTrait.lawful c.args.geom.now) c.requires.fault (omega (arith, c.length_of_header.ensures.size, wide))
 
 pub returns : goal.returns
-unfolding polygon_encoding coordinates_encoding
 returns g c =
     rw (
       ← c.dim.ensures,
-      ← c.dimension_to_write.ensures,
+      ← c.dimension_to_write-dim.ensures,
       ← c.first-first.ensures.value,
-      ← c.second.ensures.value,
-      ← c.third.ensures.value,
-      ← append_assoc,
-      append-nil,
-      append-nil,
+      ← c.second-second.ensures.value,
+      ← c.third-third.ensures.value,
     )
-    (lays_then _ _ _ c.in_ok-put_head.ensures (lays_then _ _ _ c.in_ok-put_count.ensures
-    (lays_then _ _ _ c.in_ok-put_vertex.ensures (lays_then _ _ _ c.in_ok-put_vertex-2.ensures
-    (lays_then _ _ _ c.in_ok-put_vertex-3.ensures c.put_vertex-4.ensures)))))
+    (laid_here c.in_ok-make_room.ensures.ready c.lay_vertices-out.ensures.bytes c.lay_vertices-out.auto.bytes
+    (omega (arith, c.length_of_header.ensures.size, c.words_of.ensures.words, c.lay_vertices-out.ensures.end, c.in_ok-make_room.ensures.room))
+    (omega (arith, c.length_of_header.ensures.size, c.words_of.ensures.words, c.lay_vertices-out.ensures.end)))
