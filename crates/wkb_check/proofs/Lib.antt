@@ -4,10 +4,14 @@ pub mod Walking
 pub mod Reading
 pub mod Each
 pub mod Sizes
-pub mod Opening
-pub mod Marks
 pub mod Heads
 pub mod Public
+pub mod Ranking
 pub mod Widening
-pub mod BodyBounds
+pub mod Bodies
 pub mod Scanning
+pub mod Ahead
+pub mod Rings
+pub mod Placing
+pub mod Following
+pub mod Words

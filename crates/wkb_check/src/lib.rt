@@ -3,13 +3,19 @@
 #![tactic(auto)]
 
 mod answer;
+mod axes;
 mod head;
 mod nested;
+mod parts;
+mod pieces;
 mod range;
+mod ranks;
 mod scan;
 mod skip;
 mod walk;
 
 pub use answer::{Refused, Summary, check, check_plain};
+pub use parts::{Part, Place, dimension_number, put_geometries, width_number};
+pub use pieces::{Piece, Pieces, RING};
 pub use range::{Bounds, Range};
-pub use scan::bounds;
+pub use scan::{bounds, put_bounds};

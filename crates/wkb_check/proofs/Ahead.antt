@@ -1,0 +1,160 @@
+-- What the header and the count of a geometry say, and the pieces that follow one another.
+use Rattle.std.proofs.Common.{◌≡◌, ◌≢◌, ℕ, ◌+◌, ◌≤◌, List, ◌++◌, length, drop, is_some, Ok, refl, sym, ap, ◌∙◌}
+use Rattle.std.proofs.Common.{subst, arith, length-drop, Option, ◌⊎◌, ⊎_elim}
+use Rattle.std.proofs.lemmas.List.{drop-drop}
+use Rattle.wkb_laws.specs.Prelude.{Endianness, Dimension, Head, Layout, number, Begins, Value}
+use Rattle.wkb_laws.specs.Prelude.{point, line_string, polygon, multi_point, multi_line_string, multi_polygon, collection}
+use Rattle.wkb_laws.specs.Prelude.{kind, dimension, Spelling, node, SpellsBody, Spells, type_of}
+use Rattle.wkb_laws.specs.Prelude.{type_dimension, body_start, layout_of}
+unfoldable use Rattle.wkb_laws.specs.Prelude.{head_at}
+use Rattle.wkb_geom.specs.Reading.{type_kind, srid_in}
+use Rattle.wkb_geom.specs.Refusals.{srid_size}
+use Rattle.wkb_geom.specs.Spellings.{header, Header}
+use Rattle.wkb_laws.proofs.Parts.{then_append, begins_number, drop_front, header_length}
+use Rattle.wkb_laws.proofs.Complete.{head_of}
+use Rattle.wkb_check.specs.Bounded.{HasGeometry}
+use Rattle.wkb_check.specs.Pieces.{count_of, leading, piece_of}
+use Rattle.wkb_check.specs.declared.pieces.Piece.{Piece}
+use Rattle.wkb_check.proofs.Public.{geometry_opens, one_head}
+use Rattle.wkb_check.proofs.Bodies.{rest_smaller}
+
+-- the count at the front of a body
+counted : (order : Endianness) (words : List ℕ) (t : Value) (x more : List ℕ) → SpellsBody order words t x → kind t ≢ 1
+    → (4 ≤ length (x ++ more)) × (number order 4 (x ++ more) ≡ count_of t)
+counted order words (point d c) x more h differs = absurd (differs refl)
+counted order words (line_string d cs) x more h differs =
+    let b = h.1 in
+    let r = begins_number order 4 (length cs) (x ++ more) (b.rest ++ more)
+    (record { front = b.front; whole = then_append b more; first = b.first }) in
+    (r.0, r.1)
+counted order words (polygon d rings) x more h differs =
+    let b = h.1 in
+    let r = begins_number order 4 (length rings) (x ++ more) (b.rest ++ more)
+    (record { front = b.front; whole = then_append b more; first = b.first }) in
+    (r.0, r.1)
+counted order words (multi_point d points) x more h differs =
+    let r = begins_number order 4 _ (x ++ more) more (record { front = x; whole = refl; first = h.1 }) in (r.0, r.1)
+counted order words (multi_line_string d lines) x more h differs =
+    let r = begins_number order 4 _ (x ++ more) more (record { front = x; whole = refl; first = h.1 }) in (r.0, r.1)
+counted order words (multi_polygon d polygons) x more h differs =
+    let r = begins_number order 4 _ (x ++ more) more (record { front = x; whole = refl; first = h.1 }) in (r.0, r.1)
+counted order words (collection d ts) x more h differs =
+    let r = begins_number order 4 _ (x ++ more) more (record { front = x; whole = refl; first = h.1 }) in (r.0, r.1)
+
+type_kind_is : (t : Value) → type_kind (type_of (kind t) (dimension t)) ≡ kind t
+type_kind_is (point d c) = refl
+type_kind_is (line_string d cs) = refl
+type_kind_is (polygon d rings) = refl
+type_kind_is (multi_point d points) = refl
+type_kind_is (multi_line_string d lines) = refl
+type_kind_is (multi_polygon d polygons) = refl
+type_kind_is (collection d ts) = refl
+
+type_dimension_is : (t : Value) → type_dimension (type_of (kind t) (dimension t)) ≡ dimension t
+type_dimension_is (point d c) = refl
+type_dimension_is _ = refl
+
+-- what is read of a geometry at the front of the bytes up to its rings or members
+pub record Says (bytes : List ℕ) (s : Spelling) (t : Value) (h : Head) : Type 0 where
+  pub long : body_start h.has_srid ≤ length bytes
+  pub start_is : body_start h.has_srid ≡ 5 + srid_size (is_some (header s).srid)
+  pub kind_is : type_kind h.wkb_type ≡ kind t
+  pub dimension_is : type_dimension h.wkb_type ≡ dimension t
+  pub order_is : h.order ≡ (header s).order
+  pub srid_is : srid_in h.order h.has_srid bytes ≡ (header s).srid
+  pub counts : kind t ≢ 1
+      → (body_start h.has_srid + 4 ≤ length bytes) × (number h.order 4 (drop (body_start h.has_srid) bytes) ≡ count_of t)
+
+pub says : (bytes : List ℕ) (s : Spelling) (t : Value) (rest : List ℕ) → Begins (Spells s t) bytes rest → (h : Head)
+    → head_at bytes ≡ Ok h
+    → Says bytes s t h
+says bytes (node own words ss) t rest b h head =
+    let x = b.first in
+    let y = x.second in
+    let said = geometry_opens bytes (node own words ss) t rest b in
+    let same : head_of own.order (kind t) (dimension t) (is_some own.srid) ≡ h = one_head (sym said.head ∙ head) in
+    let start = body_start (is_some own.srid) in
+    let shape : bytes ≡ x.front ++ (y.front ++ (y.rest ++ rest)) = b.whole ∙ then_append x rest
+    ∙ ap (λ z. x.front ++ z) (then_append y rest) in
+    let cut : drop start bytes ≡ y.front ++ (y.rest ++ rest) = ap (drop start) shape
+    ∙ drop_front start x.front (y.front ++ (y.rest ++ rest)) (header_length own (kind t) (dimension t) x.front x.first)
+    in
+    subst (Says bytes (node own words ss) t) same
+    (record {
+      long = said.long;
+      start_is = refl;
+      kind_is = type_kind_is t;
+      dimension_is = type_dimension_is t;
+      order_is = refl;
+      srid_is = said.srid;
+      counts = λ differs.
+          let c = counted own.order words t y.front (y.rest ++ rest) y.first differs in
+          (omega (arith, c.0, ap length cut, length-drop start bytes), ap (number own.order 4) cut ∙ c.1);
+    })
+
+-- a geometry is no nothing
+pub begins_inside : (bytes : List ℕ) (begin : ℕ) → HasGeometry (drop begin bytes) → begin + 5 ≤ length bytes
+begins_inside bytes begin g = omega (arith, rest_smaller g, length-drop begin bytes)
+
+point_counts : (h : Header) (t : Value) → kind t ≡ 1
+    → (count_of t ≡ 1) × (leading h t ≡ 5 + srid_size (is_some h.srid))
+point_counts h (point d c) e = (refl, refl)
+point_counts h _ e = absurd (omega (arith, e))
+
+other_leads : (h : Header) (t : Value) → kind t ≢ 1 → leading h t ≡ 9 + srid_size (is_some h.srid)
+other_leads h (point d c) differs = absurd (differs refl)
+other_leads h _ differs = refl
+
+piece_is : (at : ℕ) (s : Spelling) (t : Value) (k : ℕ) (d : Dimension) (order : Endianness) (srid : Option ℕ)
+    (n offset : ℕ) → k ≡ kind t → d ≡ dimension t → order ≡ (header s).order → srid ≡ (header s).srid
+    → n ≡ count_of t
+    → offset ≡ at + leading (header s) t
+    → ◌≡◌ {A = Piece}
+    (record { kind = k; dimension = d; order = order; srid = srid; count = n; begin = at; offset = offset })
+    (piece_of at s t)
+piece_is at (node h words ss) t k d order srid n offset ke de oe se ne fe = λ i. record {
+  kind = ke i;
+  dimension = de i;
+  order = oe i;
+  srid = se i;
+  count = ne i;
+  begin = at;
+  offset = fe i;
+}
+
+-- the piece of a geometry, as it is read
+pub read_piece : (bytes : List ℕ) (begin : ℕ) (g : HasGeometry (drop begin bytes)) (h : Head) (l : Layout)
+    → head_at (drop begin bytes) ≡ Ok h
+    → l ≡ layout_of h → (k body : ℕ) (srid : Option ℕ) → k ≡ type_kind h.wkb_type
+    → body ≡ begin + body_start l.has_srid
+    → srid ≡ srid_in l.order l.has_srid (drop begin bytes) → (n offset : ℕ)
+    → ((k ≡ 1) × (n ≡ 1) × (offset ≡ body)
+    ⊎ (k ≢ 1) × (n ≡ number l.order 4 (drop body bytes)) × (offset ≡ body + 4))
+    → ◌≡◌ {A = Piece}
+    (record { kind = k; dimension = l.dimension; order = l.order; srid = srid; count = n; begin = begin; offset = offset })
+    (piece_of begin g.spelled g.value)
+read_piece bytes begin g h l head l-is k body srid k-is body-is srid-is n offset by =
+    let y = says (drop begin bytes) g.spelled g.value g.rest g.begins h head in
+    let kind_is : k ≡ kind g.value = k-is ∙ y.kind_is in
+    let long : body_start l.has_srid ≡ 5 + srid_size (is_some (header g.spelled).srid) =
+    ap (λ (m : Layout). body_start m.has_srid) l-is ∙ y.start_is in
+    let counted_by : (k ≡ 1) × (n ≡ 1) × (offset ≡ body)
+    ⊎ (k ≢ 1) × (n ≡ number l.order 4 (drop body bytes)) × (offset ≡ body + 4)
+    → (n ≡ count_of g.value) × (offset ≡ begin + leading (header g.spelled) g.value)
+    = λ x. ⊎_elim
+    (λ a. let p = point_counts (header g.spelled) g.value (sym kind_is ∙ a.0) in
+    (a.1 ∙ sym p.0, omega (arith, a.2, body-is, long, p.1)))
+    (λ a. let differs : kind g.value ≢ 1 = λ e. a.0 (kind_is ∙ e) in (
+      a.1 ∙ (λ i. number (l-is i).order 4 (drop (body-is i) bytes))
+          ∙ ap (number h.order 4)
+          (ap (λ j. drop j bytes) (omega (arith, ap (λ (m : Layout). body_start m.has_srid) l-is))
+          ∙ sym (drop-drop (body_start h.has_srid) begin bytes))
+          ∙ (y.counts differs).1,
+      omega (arith, a.2, body-is, long, other_leads (header g.spelled) g.value differs),
+    ))
+    x in
+    let last = counted_by by in
+    piece_is begin g.spelled g.value k l.dimension l.order srid n offset kind_is
+    (ap (λ (m : Layout). m.dimension) l-is ∙ y.dimension_is)
+    (ap (λ (m : Layout). m.order) l-is ∙ y.order_is)
+    (srid-is ∙ (λ i. srid_in (l-is i).order (l-is i).has_srid (drop begin bytes)) ∙ y.srid_is) last.0 last.1

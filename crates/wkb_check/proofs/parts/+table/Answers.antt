@@ -1,0 +1,162 @@
+use Rattle.std.proofs.Common.{◌+◌, ◌-◌, drop, refl, sym, ap, ◌∙◌, arith}
+use lib.Seq.{sets}
+use Rattle.wkb_geom.specs.Numbers.{order_byte}
+use Rattle.wkb_check.specs.Bounded.{rings_in}
+use Rattle.wkb_check.specs.Pieces.{size_of_rings}
+use Rattle.wkb_check.specs.Tables.{ring_entries}
+use Rattle.wkb_check.specs.declared.parts.Place.{Place}
+use Rattle.wkb_check.proofs.Placing.{left_first, left_next, here, geometry_inside, onward, leaf_of, rings_inside}
+use Rattle.wkb_check.proofs.Placing.{members_inside, members_at, item_by, none_left}
+use Rattle.wkb_check.proofs.parts.+table.Goals as goal
+use Rattle.wkb_check.proofs.parts.+table.Goals.{then-has_coordinates, else-has_coordinates+then-piece-eq-POLYGON}
+use Rattle.wkb_check.proofs.parts.+table.Goals.{else-has_coordinates+else-piece-eq-POLYGON}
+
+pub loop-init : goal.loop-init
+loop-init t c = λ more all. left_first c.args.buf.now c.args.count c.args.start.byte more all c.args.start.index c.args.parts.now _ (omega arith)
+
+pub geometry_at-piece-requires : goal.geometry_at-piece-requires
+geometry_at-piece-requires t c =
+    let h = here _ _ _ c.requires.fit.more c.requires.fit.all _ _ _ (c.args.count - (c.loop.counter + 1)) _ _ _
+    (omega (arith, c.loop-test.true)) (c.loop.invariant c.requires.fit.more c.requires.fit.all) c.requires.fit.fit in
+    record { here = h.geometry }
+
+pub overflow_add-inside : goal.overflow_add-inside
+overflow_add-inside t c =
+    let h = here _ _ _ c.requires.fit.more c.requires.fit.all _ _ _ (c.args.count - (c.loop.counter + 1)) _ _ _
+    (omega (arith, c.loop-test.true)) (c.loop.invariant c.requires.fit.more c.requires.fit.all) c.requires.fit.fit in
+    omega (arith, h.room, h.some, c.loop.auto.parts)
+
+pub end-requires : goal.end-requires
+end-requires t c =
+    let h = here _ _ _ c.requires.fit.more c.requires.fit.all _ _ _ (c.args.count - (c.loop.counter + 1)) _ _ _
+    (omega (arith, c.loop-test.true)) (c.loop.invariant c.requires.fit.more c.requires.fit.all) c.requires.fit.fit in
+    omega (
+      arith,
+      (geometry_inside c.args.buf.now c.loop.at.byte _ h.geometry c.geometry_at-piece.result
+          (c.geometry_at-piece.ensures h.geometry) refl).inside,
+    )
+
+pub put_rings-requires-clause-whole : goal.put_rings-requires-clause-whole
+put_rings-requires-clause-whole t c =
+    let h = here _ _ _ c.requires.fit.more c.requires.fit.all _ _ _ (c.args.count - (c.loop.counter + 1)) _ _ _
+    (omega (arith, c.loop-test.true)) (c.loop.invariant c.requires.fit.more c.requires.fit.all) c.requires.fit.fit in
+    rw c.end.ensures
+    (rings_inside c.args.buf.now c.loop.at.byte c.loop.at.index h.geometry c.geometry_at-piece.result
+    (c.geometry_at-piece.ensures h.geometry) c.if-piece-eq-POLYGON.true).whole
+
+pub put_rings-requires-clause-room : goal.put_rings-requires-clause-room
+put_rings-requires-clause-room t c =
+    let h = here _ _ _ c.requires.fit.more c.requires.fit.all _ _ _ (c.args.count - (c.loop.counter + 1)) _ _ _
+    (omega (arith, c.loop-test.true)) (c.loop.invariant c.requires.fit.more c.requires.fit.all) c.requires.fit.fit in
+    omega (
+      arith,
+      h.room,
+      (rings_inside c.args.buf.now c.loop.at.byte c.loop.at.index h.geometry
+          c.geometry_at-piece.result (c.geometry_at-piece.ensures h.geometry) c.if-piece-eq-POLYGON.true).counts,
+    )
+
+pub put_geometries-requires : goal.put_geometries-requires
+put_geometries-requires t c =
+    let l = c.loop.invariant c.requires.fit.more c.requires.fit.all in
+    let h = here _ _ _ c.requires.fit.more c.requires.fit.all _ _ _ (c.args.count - (c.loop.counter + 1)) _ _ _
+    (omega (arith, c.loop-test.true)) l c.requires.fit.fit in
+    let is = c.geometry_at-piece.ensures h.geometry in
+    let inside = geometry_inside c.args.buf.now c.loop.at.byte c.end.result h.geometry c.geometry_at-piece.result is
+    c.end.ensures in
+    let m = members_inside c.args.buf.now c.loop.at.byte c.loop.at.index h.geometry c.geometry_at-piece.result is
+    (sym c.has_coordinates.ensures ∙ c.if-has_coordinates.false) c.if-piece-eq-POLYGON.false in (
+      omega (arith, c.decreases, l.onward, inside.inside, onward _ _ _ c.geometry_at-piece.result inside),
+      rw c.end.ensures (record { more = h.geometry.rest; all = m.all; fit = omega (arith, h.room, m.counts) }),
+    )
+
+pub offset_bounds-parts-at : goal.offset_bounds-parts-at
+offset_bounds-parts-at t c =
+    let h = here _ _ _ c.requires.fit.more c.requires.fit.all _ _ _ (c.args.count - (c.loop.counter + 1)) _ _ _
+    (omega (arith, c.loop-test.true)) (c.loop.invariant c.requires.fit.more c.requires.fit.all) c.requires.fit.fit in
+    omega (arith, h.room, h.some, c.loop.auto.parts, c.if-has_coordinates.auto.parts)
+
+pub bounds-parts-at : goal.bounds-parts-at
+bounds-parts-at t c =
+    let h = here _ _ _ c.requires.fit.more c.requires.fit.all _ _ _ (c.args.count - (c.loop.counter + 1)) _ _ _
+    (omega (arith, c.loop-test.true)) (c.loop.invariant c.requires.fit.more c.requires.fit.all) c.requires.fit.fit in
+    omega (arith, h.room, h.some, c.loop.auto.parts, c.if-has_coordinates.auto.parts)
+
+pub loop-preserved : goal.loop-preserved
+loop-preserved t c = λ more all.
+    left_next c.args.buf.now c.args.count c.args.start.byte more all c.args.start.index c.args.parts.now
+    (c.args.count - c.loop.counter) (c.args.count - (c.loop.counter + 1)) c.loop.at.index c.loop.at.byte c.loop.parts
+    (omega (arith, c.loop-test.true)) (c.loop.invariant more all) c.if-has_coordinates.next.index
+    c.if-has_coordinates.next.byte _
+    (λ g.
+    let is = c.geometry_at-piece.ensures g in
+    item_by c.args.buf.now c.loop.at.byte c.loop.at.index g c.geometry_at-piece.result is c.loop.parts
+    c.if-has_coordinates.parts c.if-has_coordinates.next.index c.if-has_coordinates.next.byte c.of.result
+    (elim c.if-has_coordinates.branch [
+      | then-has_coordinates w ↦
+          let l = leaf_of c.args.buf.now c.loop.at.byte c.loop.at.index g c.geometry_at-piece.result is
+          (sym c.has_coordinates.ensures ∙ w.if-has_coordinates.true) in
+          record {
+            put = w.parts-is ∙ ap (sets c.loop.parts (c.loop.at.index + 1)) (sym l.2);
+            next_is = omega (arith, ap (λ (p : Place). p.index) w.next-is, l.1);
+            to_is = ap (λ (p : Place). p.byte) w.next-is ∙ c.end.ensures ∙ l.0;
+          }
+      | else-has_coordinates+then-piece-eq-POLYGON w ↦
+          let q = c.geometry_at-piece.result in
+          let r = rings_inside c.args.buf.now c.loop.at.byte c.loop.at.index g q is w.if-piece-eq-POLYGON.true in
+          record {
+            put =
+                w.parts-is ∙ w.put_rings.ensures.put
+                ∙ (λ i. sets c.loop.parts (c.loop.at.index + 1)
+                (ring_entries q.dimension (order_byte q.order) (c.loop.at.index + 1) (c.end.ensures i)
+                (rings_in q.order q.dimension q.count (drop (c.end.ensures i) c.args.buf.now))))
+                ∙ ap (sets c.loop.parts (c.loop.at.index + 1)) r.entries;
+            next_is = omega (arith, ap (λ (p : Place). p.index) w.next-is, w.put_rings.ensures.index, r.counts);
+            to_is =
+                omega (
+                  arith,
+                  ap (λ (p : Place). p.byte) w.next-is,
+                  w.put_rings.ensures.byte,
+                  r.long,
+                  c.end.ensures,
+                  ap (λ k. size_of_rings q.dimension (rings_in q.order q.dimension q.count (drop k c.args.buf.now)))
+                      c.end.ensures,
+                );
+          }
+      | else-has_coordinates+else-piece-eq-POLYGON w ↦
+          let q = c.geometry_at-piece.result in
+          let m = members_at c.args.buf.now c.loop.at.byte c.loop.at.index g.spelled g.value g.rest q c.end.result
+          c.end.ensures
+          (members_inside c.args.buf.now c.loop.at.byte c.loop.at.index g q is
+          (sym c.has_coordinates.ensures ∙ w.if-has_coordinates.false) w.if-piece-eq-POLYGON.false) in
+          record {
+            put =
+                w.parts-is ∙ w.put_geometries.ensures.put g.rest m.all
+                ∙ ap (sets c.loop.parts (c.loop.at.index + 1)) m.entries;
+            next_is =
+                omega (
+                  arith,
+                  ap (λ (p : Place). p.index) w.next-is,
+                  w.put_geometries.ensures.index g.rest m.all,
+                  m.counts,
+                );
+            to_is =
+                omega (arith, ap (λ (p : Place). p.byte) w.next-is, w.put_geometries.ensures.byte g.rest m.all, m.long);
+          }
+    ])
+    c.of.ensures)
+
+pub returns-clause-put : goal.returns-clause-put
+returns-clause-put t c = λ more all.
+    let l = c.loop.invariant more all in
+    let none = none_left _ _ _ l.to_come (omega (arith, c.loop-test.false)) in
+    ap (sets c.loop.parts c.loop.at.index) (sym (none.2 c.loop.at.index c.loop.at.byte)) ∙ l.put
+
+pub returns-clause-index : goal.returns-clause-index
+returns-clause-index t c = λ more all.
+    let l = c.loop.invariant more all in
+    omega (arith, l.indices, (none_left _ _ _ l.to_come (omega (arith, c.loop-test.false))).0)
+
+pub returns-clause-byte : goal.returns-clause-byte
+returns-clause-byte t c = λ more all.
+    let l = c.loop.invariant more all in
+    omega (arith, l.bytes, (none_left _ _ _ l.to_come (omega (arith, c.loop-test.false))).1)

@@ -1,0 +1,27 @@
+use Rattle.std.proofs.Common.{arith, ◌∙◌, ap}
+use Rattle.wkb_geom.specs.Reading.{coordinates}
+use Rattle.wkb_check.specs.Ranges.{widened, range_by}
+use Rattle.wkb_check.proofs.Widening.{ordinates_are, no_ordinates, few, place_is}
+use Rattle.wkb_check.proofs.ranks.Ranks.widen_at.Goals as goal
+
+pub widen-requires-clause-inside : goal.widen-requires-clause-inside
+widen-requires-clause-inside c =
+    omega (arith, place_is c.args.dimension c.args.place _ c.in-Some.is c.requires.place, c.width-size.ensures)
+
+pub widen-requires-clause-whole : goal.widen-requires-clause-whole
+widen-requires-clause-whole c = rw c.width-size.ensures c.requires.whole
+
+pub widen-requires-clause-room : goal.widen-requires-clause-room
+widen-requires-clause-room c =
+    omega (arith, c.requires.room, c.requires.whole, few c.args.dimension c.args.count)
+
+pub returns-in-Some : goal.returns-in-Some
+returns-in-Some c =
+    c.widen.ensures
+    ∙ ap (widened (range_by c.args.self.now)) (ordinates_are c.args.order c.args.dimension _ c.args.place _ c.args.count
+    c.args.bytes.now c.in-Some.is c.requires.place c.width-size.ensures)
+
+pub returns-in_default : goal.returns-in_default
+returns-in_default c =
+    no_ordinates c.args.place (range_by c.args.self.now)
+    (coordinates c.args.order c.args.dimension c.args.count c.args.bytes.now) c.in_default.not-Some

@@ -1,0 +1,135 @@
+-- The pieces of a geometry in preorder: itself, and its rings and members at every level; where they are in its bytes,
+-- and what is still to come of them.
+use Rattle.std.specs.Prelude.{◌≡◌, ℕ, ◌+◌, ◌*◌, ◌<◌, ◌≤◌, List, [], ◌∷◌, ◌++◌, length, drop, Option, Some, None, is_some}
+use Rattle.std.specs.Prelude.{nat_lt, if◌then◌else◌}
+use Rattle.wkb_geom.specs.declared.common.Dimension.{Dimension}
+use Rattle.wkb_geom.specs.declared.common.Endianness.{Endianness}
+use Rattle.wkb_geom.specs.declared.code.TheConstants.{POLYGON}
+use Rattle.wkb_geom.specs.Dimensions.{width}
+use Rattle.wkb_geom.specs.Refusals.{srid_size, ring_end}
+use Rattle.wkb_geom.specs.Spellings.{Header, Spelling, node, Spellings, no_spellings, spelling}
+use Rattle.wkb_geom.specs.Values.{Coordinate, Value, Values, point, line_string, polygon, multi_point}
+use Rattle.wkb_geom.specs.Values.{multi_line_string, multi_polygon, collection, no_members, member, kind, dimension}
+use Rattle.wkb_geom.specs.Values.{members, count}
+use Rattle.wkb_check.specs.Bounded.{HasGeometries, AreWhole, rings_in}
+use Rattle.wkb_check.specs.declared.pieces.Piece.{Piece}
+use Rattle.wkb_check.specs.declared.pieces.Pieces.{Pieces}
+
+-- how many coordinates, rings or members a geometry has
+abbrev pub count_of : Value → ℕ
+count_of (point d c) = 1
+count_of (line_string d cs) = length cs
+count_of (polygon d rings) = length rings
+count_of (multi_point d points) = length points
+count_of (multi_line_string d lines) = length lines
+count_of (multi_polygon d polygons) = length polygons
+count_of (collection d ts) = count ts
+
+-- the bytes before them: the header, and the count of all but a point
+abbrev pub leading : Header → Value → ℕ
+leading h (point d c) = 5 + srid_size (is_some h.srid)
+leading h _ = 9 + srid_size (is_some h.srid)
+
+-- the rings of a polygon
+abbrev pub rings_of : Value → List (List Coordinate)
+rings_of (polygon d rings) = rings
+rings_of _ = []
+
+-- the bytes of rings
+abbrev pub size_of_rings : Dimension → List (List Coordinate) → ℕ
+size_of_rings d [] = 0
+size_of_rings d (cs ∷ rest) = ring_end d (length cs) + size_of_rings d rest
+
+-- the bytes of coordinates, and of rings
+abbrev pub content_size : Value → ℕ
+content_size (point d c) = 8 * width d
+content_size (line_string d cs) = 8 * width d * length cs
+content_size (polygon d rings) = size_of_rings d rings
+content_size _ = 0
+
+-- the bytes of a geometry, and of members
+abbrev mutual
+  pub size : Spelling → Value → ℕ
+  size (node h words ss) t = leading h t + content_size t + sizes ss (members t)
+
+  pub sizes : Spellings → Values → ℕ
+  sizes no_spellings ts = 0
+  sizes (spelling s ss) no_members = 0
+  sizes (spelling s ss) (member t ts) = size s t + sizes ss ts
+
+-- the coordinates of a piece end here, or its rings or members begin
+abbrev pub own_end : Piece → ℕ
+own_end p = if nat_lt p.kind POLYGON then p.offset + 8 * width p.dimension * p.count else p.offset
+
+-- the piece of a geometry that begins at this byte
+abbrev pub piece_of : ℕ → Spelling → Value → Piece
+piece_of at (node h words ss) t = record {
+  kind = kind t;
+  dimension = dimension t;
+  order = h.order;
+  srid = h.srid;
+  count = count_of t;
+  begin = at;
+  offset = at + leading h t;
+}
+
+-- the piece of a ring of n coordinates that begins at this byte
+abbrev pub ring_piece : Endianness → Dimension → ℕ → ℕ → Piece
+ring_piece order d at n =
+    record { kind = 0; dimension = d; order = order; srid = None; count = n; begin = at; offset = at + 4 }
+
+-- the pieces of rings, the first of which begins at this byte
+abbrev pub pieces_of_rings : Endianness → Dimension → ℕ → List (List Coordinate) → List Piece
+pieces_of_rings order d at [] = []
+pieces_of_rings order d at (cs ∷ rest) =
+    ring_piece order d at (length cs) ∷ pieces_of_rings order d (at + ring_end d (length cs)) rest
+
+-- the pieces of a geometry that begins at this byte, and of members
+abbrev mutual
+  pub pieces_of : ℕ → Spelling → Value → List Piece
+  pieces_of at (node h words ss) t =
+      piece_of at (node h words ss) t
+      ∷ (pieces_of_rings h.order (dimension t) (at + leading h t) (rings_of t)
+      ++ pieces_of_each (at + leading h t) ss (members t))
+
+  pub pieces_of_each : ℕ → Spellings → Values → List Piece
+  pieces_of_each at no_spellings ts = []
+  pieces_of_each at (spelling s ss) no_members = []
+  pieces_of_each at (spelling s ss) (member t ts) = pieces_of at s t ++ pieces_of_each (at + size s t) ss ts
+
+-- These pieces are to come from this byte on, and no others: the rings of a polygon, and then geometries with all that
+-- is inside them.
+pub record Ahead (buf : List ℕ) (order : Endianness) (d : Dimension) (rings geometries at : ℕ) (xs : List Piece) : Type 0
+  where
+    pub after : ℕ
+    pub more : List ℕ
+    pub whole : AreWhole order d rings (drop at buf)
+    pub after_is : after ≡ at + size_of_rings d (rings_in order d rings (drop at buf))
+    pub all : HasGeometries geometries (drop after buf) more
+    pub are : xs
+        ≡ pieces_of_rings order d at (rings_in order d rings (drop at buf)) ++ pieces_of_each after all.spelled all.values
+
+abbrev pub IsAhead : Pieces → List Piece → Type 0
+IsAhead w xs = Ahead w.bytes.now w.order w.dimension w.rings w.geometries w.at xs
+
+-- some pieces are, or none
+pub record HasAhead (w : Pieces) : Type 0 where
+  pub pieces : List Piece
+  pub are : IsAhead w pieces
+
+-- the first of these pieces was taken, and the others are to come
+pub record IsTaken (now : Pieces) (xs : List Piece) (p : Piece) : Type 0 where
+  pub rest : List Piece
+  pub first : xs ≡ p ∷ rest
+  pub ahead : IsAhead now rest
+
+-- its coordinates, rings or members begin behind this byte, and its own bytes end at that one, inside the bytes
+pub record IsInside (buf : List ℕ) (from to : ℕ) (p : Piece) : Type 0 where
+  pub begins : from < p.offset
+  pub ends : to ≡ own_end p
+  pub inside : to ≤ length buf
+
+-- the next of these pieces was taken, if there is one
+abbrev pub IsNext : Pieces → List Piece → Option Piece → Type 0
+IsNext now xs None = xs ≡ []
+IsNext now xs (Some p) = IsTaken now xs p

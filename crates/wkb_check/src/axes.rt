@@ -1,0 +1,151 @@
+//! Ranges on all axes, while they are widened.
+
+ghost use Rattle.std.specs.Prelude.{◌≡◌, ◌+◌, ◌*◌, ◌^◌, ◌<◌, ◌≤◌, length};
+ghost use Rattle.wkb_geom.specs.Dimensions.{width};
+ghost use Rattle.wkb_geom.specs.Reading.{coordinates};
+ghost use Rattle.wkb_check.specs.Ranges.{widened, range_by};
+ghost use Rattle.wkb_check.specs.Ordinates.{column_words, axis_place, z_axis, m_axis};
+ghost use Rattle.wkb_check.specs.Bounded.{Adds, HasRoom, bounds_by};
+ghost use Rattle.wkb_check.specs.Bounded.{nothing as no_bounds};
+
+use crate::range::{Bounds, Range, rest_from};
+use crate::ranks::Ranks;
+use wkb_geom::words::{WORD_SIZE, u64_at};
+use wkb_geom::{Dimension, Endianness};
+
+/// The ranges on each axis.
+#[derive(Clone, Copy)]
+pub(crate) struct AxisRanks {
+    x: Ranks,
+    y: Ranks,
+    z: Ranks,
+    m: Ranks,
+}
+
+/// Widens the ranges of x and y by the first two words of each of `count` coordinates, which have `size` bytes each.
+#[inline(always)]
+fn widen_plane_in(
+    x: &mut Ranks,
+    y: &mut Ranks,
+    order: Endianness,
+    size: usize,
+    count: u32,
+    bytes: &[u8],
+)
+    requires inside { 16 ≤ size }
+    requires whole { size * count ≤ length bytes.now }
+    requires room_of_x { x.old.count + count < 2 ^ 64 }
+    requires room_of_y { y.old.count + count < 2 ^ 64 }
+    ensures x { range_by x.new ≡ widened (range_by x.old) (column_words order size 0 count bytes.now) }
+    ensures y { range_by y.new ≡ widened (range_by y.old) (column_words order size 8 count bytes.now) }
+{
+    let mut x_ranks = *x;
+    let mut y_ranks = *y;
+    let mut rest = bytes;
+    for _ in 0..count {
+        x_ranks = x_ranks.with(u64_at(rest, 0, order));
+        y_ranks = y_ranks.with(u64_at(rest, WORD_SIZE, order));
+        rest = rest_from(rest, size);
+    }
+    *x = x_ranks;
+    *y = y_ranks;
+}
+
+/// The same, by a loop for each order. It isn't inlined, so that its counters stay in registers.
+#[inline(never)]
+fn widen_plane(
+    x: &mut Ranks,
+    y: &mut Ranks,
+    order: Endianness,
+    size: usize,
+    count: u32,
+    bytes: &[u8],
+)
+    requires inside { 16 ≤ size }
+    requires whole { size * count ≤ length bytes.now }
+    requires room_of_x { x.old.count + count < 2 ^ 64 }
+    requires room_of_y { y.old.count + count < 2 ^ 64 }
+    ensures x { range_by x.new ≡ widened (range_by x.old) (column_words order size 0 count bytes.now) }
+    ensures y { range_by y.new ≡ widened (range_by y.old) (column_words order size 8 count bytes.now) }
+{
+    match order {
+        Endianness::BigEndian => widen_plane_in(x, y, Endianness::BigEndian, size, count, bytes),
+        Endianness::LittleEndian => {
+            widen_plane_in(x, y, Endianness::LittleEndian, size, count, bytes)
+        }
+    }
+}
+
+/// Which word of a coordinate is its z.
+#[inline(always)]
+fn place_of_z(dimension: Dimension) -> Option<usize>
+    ensures { result ≡ axis_place z_axis dimension }
+{
+    match dimension {
+        Dimension::Xyz | Dimension::Xyzm => Some(2),
+        Dimension::Xy | Dimension::Xym => None,
+    }
+}
+
+/// Which word of a coordinate is its m.
+#[inline(always)]
+fn place_of_m(dimension: Dimension) -> Option<usize>
+    ensures { result ≡ axis_place m_axis dimension }
+{
+    match dimension {
+        Dimension::Xym => Some(2),
+        Dimension::Xyzm => Some(3),
+        Dimension::Xy | Dimension::Xyz => None,
+    }
+}
+
+impl AxisRanks {
+    /// Those of no coordinate.
+    #[inline(always)]
+    pub(crate) fn empty() -> AxisRanks
+        ensures { bounds_by result ≡ no_bounds }
+    {
+        let none = Ranks::of(Range::empty());
+        AxisRanks {
+            x: none,
+            y: none,
+            z: none,
+            m: none,
+        }
+    }
+
+    /// The bounds that have these ranges.
+    #[inline(always)]
+    pub(crate) fn bounds(self) -> Bounds
+        ensures { result ≡ bounds_by self }
+    {
+        Bounds {
+            x: self.x.range(),
+            y: self.y.range(),
+            z: self.z.range(),
+            m: self.m.range(),
+        }
+    }
+
+    /// Widens the ranges by the `count` coordinates at the front of the bytes.
+    #[inline(always)]
+    pub(crate) fn widen(
+        &mut self,
+        order: Endianness,
+        dimension: Dimension,
+        count: u32,
+        bytes: &[u8],
+    )
+        requires whole { 8 * width dimension * count ≤ length bytes.now }
+        requires room { HasRoom (bounds_by self.old) bytes.now }
+        ensures { Adds (bounds_by self.old) (bounds_by self.new) dimension
+            (coordinates order dimension count bytes.now) }
+    {
+        let size = WORD_SIZE * dimension.width();
+        widen_plane(&mut self.x, &mut self.y, order, size, count, bytes);
+        let z = place_of_z(dimension);
+        self.z.widen_at(z, order, dimension, count, bytes);
+        let m = place_of_m(dimension);
+        self.m.widen_at(m, order, dimension, count, bytes);
+    }
+}

@@ -1,0 +1,196 @@
+//! The pieces of a geometry that is known to be there, in preorder: itself, and its rings and members at every level.
+
+ghost use Rattle.std.specs.Prelude.{◌≡◌, ◌+◌, ◌≤◌, ◌<◌, ◌^◌, length, drop, List, IfSome, nat_lt};
+ghost use Rattle.wkb_geom.specs.Numbers.{number};
+ghost use Rattle.wkb_check.specs.Bounded.{HasGeometry};
+ghost use Rattle.wkb_check.specs.Pieces.{own_end, piece_of, ring_piece, pieces_of, IsAhead, HasAhead, IsTaken, IsNext};
+ghost use Rattle.wkb_check.specs.Pieces.{IsInside};
+
+use crate::head::read;
+use crate::range::rest_from;
+use wkb_geom::code::{POINT, POLYGON};
+use wkb_geom::words::{COUNT_SIZE, WORD_SIZE, u32_at};
+use wkb_geom::{Dimension, Endianness};
+
+/// The number of a ring among the kinds.
+pub const RING: u32 = 0;
+
+/// A geometry up to its rings or members, or a ring of a polygon.
+#[derive(Clone, Copy)]
+pub struct Piece {
+    /// The number of its kind, as in the codes; 0 is a ring.
+    pub kind: u32,
+    pub dimension: Dimension,
+    /// The order of its words; a ring has its polygon's.
+    pub order: Endianness,
+    /// Its own SRID.
+    pub srid: Option<u32>,
+    /// How many coordinates, rings or members it has.
+    pub count: u32,
+    /// Its first byte, counted from the front of the bytes.
+    pub begin: usize,
+    /// Where its coordinates, rings or members begin.
+    pub offset: usize,
+}
+
+impl Piece {
+    /// Whether it has coordinates, and no rings or members.
+    #[inline(always)]
+    pub fn has_coordinates(&self) -> bool
+        ensures { result ≡ nat_lt self.now.kind POLYGON }
+    {
+        self.kind < POLYGON
+    }
+
+    /// Where its own coordinates end; or where its rings or members begin.
+    #[inline(always)]
+    pub fn end(&self) -> usize
+        requires { own_end self.now < 2 ^ 63 }
+        ensures { result ≡ own_end self.now }
+    {
+        if self.has_coordinates() {
+            self.offset + WORD_SIZE * self.dimension.width() * self.count as usize
+        } else {
+            self.offset
+        }
+    }
+
+    /// The geometry that begins at this byte, up to its rings or members.
+    #[inline(always)]
+    pub fn geometry_at(bytes: &[u8], begin: usize) -> Piece
+        requires here { HasGeometry (drop begin bytes.now) }
+        ensures { (g : HasGeometry (drop begin bytes.now)) → result ≡ piece_of begin g.spelled g.value }
+    {
+        let from = rest_from(bytes, begin);
+        let header = match read(from) {
+            Ok(header) => header,
+            Err(_) => unreachable!(),
+        };
+        let layout = header.layout();
+        let kind = header.wkb_type.kind();
+        let body = begin + layout.header_length();
+        let (count, offset) = if kind == POINT {
+            (1, body)
+        } else {
+            (u32_at(bytes, body, layout.order), body + COUNT_SIZE)
+        };
+        Piece {
+            kind,
+            dimension: layout.dimension,
+            order: layout.order,
+            srid: layout.srid(from),
+            count,
+            begin,
+            offset,
+        }
+    }
+
+    /// The ring that begins at this byte, of a polygon of this order and dimension.
+    #[inline(always)]
+    pub fn ring_at(bytes: &[u8], begin: usize, order: Endianness, dimension: Dimension) -> Piece
+        requires { begin + COUNT_SIZE ≤ length bytes.now }
+        ensures { result ≡ ring_piece order dimension begin (number order 4 (drop begin bytes.now)) }
+    {
+        Piece {
+            kind: RING,
+            dimension,
+            order,
+            srid: None,
+            count: u32_at(bytes, begin, order),
+            begin,
+            offset: begin + COUNT_SIZE,
+        }
+    }
+}
+
+/// The pieces that are still to come.
+#[derive(Drop)]
+pub struct Pieces<'a> {
+    bytes: &'a [u8],
+    /// Where the next one begins.
+    at: usize,
+    /// How many rings of the polygon before them are to come.
+    rings: u32,
+    /// How many geometries are to come after these, besides those inside them.
+    geometries: usize,
+    /// The order and the dimension of that polygon.
+    order: Endianness,
+    dimension: Dimension,
+}
+
+impl<'a> Pieces<'a> {
+    /// All pieces of the geometry at the front of the bytes.
+    #[inline(always)]
+    pub fn of(bytes: &'a [u8]) -> Pieces<'a>
+        requires here { HasGeometry bytes.now }
+        ensures ahead { (g : HasGeometry bytes.now) → IsAhead result (pieces_of 0 g.spelled g.value) }
+        ensures begins { result.at ≡ 0 }
+        ensures same { result.bytes.now ≡ bytes.now }
+    {
+        Pieces {
+            bytes,
+            at: 0,
+            rings: 0,
+            geometries: 1,
+            order: Endianness::LittleEndian,
+            dimension: Dimension::Xy,
+        }
+    }
+
+    /// The next piece, which is a ring.
+    #[inline(always)]
+    fn next_ring(&mut self) -> Piece
+        requires ahead { HasAhead self.old }
+        requires some { 0 < self.old.rings }
+        ensures steps { (xs : List Piece) → IsAhead self.old xs → IsTaken self.new xs result }
+        ensures inside { IsInside self.old.bytes.now self.old.at self.new.at result }
+        ensures same { self.new.bytes.now ≡ self.old.bytes.now }
+    {
+        let piece = Piece::ring_at(self.bytes, self.at, self.order, self.dimension);
+        self.rings -= 1;
+        self.at = piece.end();
+        piece
+    }
+
+    /// The next piece, which is a geometry.
+    #[inline(always)]
+    fn next_geometry(&mut self) -> Piece
+        requires ahead { HasAhead self.old }
+        requires no_ring { self.old.rings ≡ 0 }
+        requires some { 0 < self.old.geometries }
+        ensures steps { (xs : List Piece) → IsAhead self.old xs → IsTaken self.new xs result }
+        ensures inside { IsInside self.old.bytes.now self.old.at self.new.at result }
+        ensures same { self.new.bytes.now ≡ self.old.bytes.now }
+    {
+        let piece = Piece::geometry_at(self.bytes, self.at);
+        self.geometries -= 1;
+        self.at = piece.end();
+        if piece.kind == POLYGON {
+            self.rings = piece.count;
+            self.order = piece.order;
+            self.dimension = piece.dimension;
+        } else if piece.kind > POLYGON {
+            self.geometries += piece.count as usize;
+        }
+        piece
+    }
+
+    /// The next piece, if one is to come.
+    #[tactic(auto, using(crate::proofs::Placing::onward))]
+    #[inline(always)]
+    pub fn next(&mut self) -> Option<Piece>
+        requires ahead { HasAhead self.old }
+        ensures steps { (xs : List Piece) → IsAhead self.old xs → IsNext self.new xs result }
+        ensures inside { IfSome result (λ p. IsInside self.old.bytes.now self.old.at self.new.at p) }
+        ensures further { IfSome result (λ p. self.old.at < self.new.at) }
+        ensures same { self.new.bytes.now ≡ self.old.bytes.now }
+    {
+        if self.rings > 0 {
+            Some(self.next_ring())
+        } else if self.geometries > 0 {
+            Some(self.next_geometry())
+        } else {
+            None
+        }
+    }
+}

@@ -1,0 +1,143 @@
+//! Ranges by the order of numbers on their words.
+
+ghost use Rattle.std.specs.Prelude.{◌≡◌, ◌+◌, ◌*◌, ◌<◌, ◌≤◌, ◌^◌, length, IfSome};
+ghost use Rattle.wkb_geom.specs.Dimensions.{width};
+ghost use Rattle.wkb_geom.specs.Reading.{coordinates};
+ghost use Rattle.wkb_check.specs.Ranges.{rank as rank_of, word_of as word_by, range_by, with_word, widened};
+ghost use Rattle.wkb_check.specs.Ordinates.{column_words, words_of_each, word_at};
+
+use crate::range::{Range, rest_from};
+use wkb_geom::words::{WORD_SIZE, is_nan, u64_at};
+use wkb_geom::{Dimension, Endianness};
+
+/// The sign bit of a word.
+const SIGN: u64 = 0x8000_0000_0000_0000;
+
+/// The rank of a word in the order of numbers.
+#[inline(always)]
+fn rank(word: u64) -> u64
+    ensures { result ≡ rank_of word }
+{
+    if word < SIGN {
+        word + SIGN
+    } else {
+        u64::MAX - word
+    }
+}
+
+/// The word of a rank.
+#[inline(always)]
+fn word_of(rank: u64) -> u64
+    ensures { result ≡ word_by rank }
+{
+    if rank < SIGN {
+        u64::MAX - rank
+    } else {
+        rank - SIGN
+    }
+}
+
+/// A range by the ranks of its words, which are compared as they stand.
+#[derive(Clone, Copy)]
+pub(crate) struct Ranks {
+    least: u64,
+    greatest: u64,
+    count: u64,
+}
+
+impl Ranks {
+    #[inline(always)]
+    pub(crate) fn of(range: Range) -> Ranks
+        ensures { range_by result ≡ range }
+    {
+        Ranks {
+            least: rank(range.least),
+            greatest: rank(range.greatest),
+            count: range.count,
+        }
+    }
+
+    /// The range that has these ranks.
+    #[inline(always)]
+    pub(crate) fn range(self) -> Range
+        ensures { result ≡ range_by self }
+    {
+        Range {
+            least: word_of(self.least),
+            greatest: word_of(self.greatest),
+            count: self.count,
+        }
+    }
+
+    /// The range widened by this word, if it is a number.
+    #[inline(always)]
+    pub(crate) fn with(self, word: u64) -> Ranks
+        requires room { self.count + 1 < 2 ^ 64 }
+        ensures { range_by result ≡ with_word (range_by self) word }
+    {
+        if is_nan(word) {
+            return self;
+        }
+        let here = rank(word);
+        Ranks {
+            least: self.least.min(here),
+            greatest: self.greatest.max(here),
+            count: self.count + 1,
+        }
+    }
+
+    /// Widens the range by the word at offset `at` of each of `count` coordinates, which have `size` bytes each.
+    #[inline(always)]
+    fn widen_in(&mut self, order: Endianness, size: usize, at: usize, count: u32, bytes: &[u8])
+        requires inside { at + 8 ≤ size }
+        requires whole { size * count ≤ length bytes.now }
+        requires room { self.old.count + count < 2 ^ 64 }
+        ensures { range_by self.new ≡ widened (range_by self.old) (column_words order size at count bytes.now) }
+    {
+        let mut ranks = *self;
+        let mut rest = bytes;
+        for _ in 0..count {
+            ranks = ranks.with(u64_at(rest, at, order));
+            rest = rest_from(rest, size);
+        }
+        *self = ranks;
+    }
+
+    /// The same, by a loop for each order. It isn't inlined, so that its counters stay in registers.
+    #[inline(never)]
+    fn widen(&mut self, order: Endianness, size: usize, at: usize, count: u32, bytes: &[u8])
+        requires inside { at + 8 ≤ size }
+        requires whole { size * count ≤ length bytes.now }
+        requires room { self.old.count + count < 2 ^ 64 }
+        ensures { range_by self.new ≡ widened (range_by self.old) (column_words order size at count bytes.now) }
+    {
+        match order {
+            Endianness::BigEndian => self.widen_in(Endianness::BigEndian, size, at, count, bytes),
+            Endianness::LittleEndian => {
+                self.widen_in(Endianness::LittleEndian, size, at, count, bytes)
+            }
+        }
+    }
+
+    /// Widens the range by the word at this place of each of `count` coordinates, if they have one there.
+    #[inline(always)]
+    pub(crate) fn widen_at(
+        &mut self,
+        place: Option<usize>,
+        order: Endianness,
+        dimension: Dimension,
+        count: u32,
+        bytes: &[u8],
+    )
+        requires place { IfSome place (λ k. k < width dimension) }
+        requires whole { 8 * width dimension * count ≤ length bytes.now }
+        requires room { self.old.count + length bytes.now < 2 ^ 64 }
+        ensures { range_by self.new ≡ widened (range_by self.old)
+            (words_of_each (word_at place) (coordinates order dimension count bytes.now)) }
+    {
+        if let Some(word) = place {
+            let size = WORD_SIZE * dimension.width();
+            self.widen(order, size, WORD_SIZE * word, count, bytes);
+        }
+    }
+}
