@@ -1,2 +1,2 @@
-pub mod Encodings
+pub mod Rewritten
 pub mod Ordinates

@@ -1,5 +1,5 @@
 -- What the canonical form says of its inputs.
-use Rattle.std.specs.Prelude.{◌≡◌, ◌≢◌, ◌⊎◌, ℕ, ◌^◌, ◌<◌, ◌≤◌, List, length}
+use Rattle.std.specs.Prelude.{◌≡◌, ◌⊎◌, ℕ, ◌^◌, ◌<◌, ◌≤◌, List, length}
 use Rattle.wkb_geom.specs.declared.common.Endianness.{Endianness}
 use Rattle.wkb_geom.specs.declared.common.Form.{Form}
 use Rattle.wkb_geom.specs.declared.common.Form.TheVariants.{Iso}
@@ -13,18 +13,12 @@ use Rattle.wkb_geom.specs.Geometries.{geometry_of}
 use Rattle.wkb_geom.specs.Encodings.{encoding, IsRewriting}
 use Rattle.wkb_sink.specs.declared.options.WriteOptions.{WriteOptions}
 use Rattle.wkb_read.specs.Reads.{IsRefusal}
+pub use Rattle.wkb_rewrite.specs.Inputs.{IsAccepted, HaveOneValue, HaveTwoValues}
 
 -- the error says that the encoding is too long
 abbrev pub IsSize : WkbError → Type 0
 IsSize (errors.OverflowError o) = o ≡ Size
 IsSize _ = ⊥
-
--- the input begins with a geometry
-pub record IsAccepted (input : List ℕ) : Type 0 where
-  pub s : Spelling
-  pub t : Value
-  pub rest : List ℕ
-  pub front : Front input s t rest
 
 -- the rewriting has a length that `usize` holds, and with the SRID of the form it has not
 pub record OverflowsWithSrid (order : Endianness) (form : Form) (input : List ℕ) : Type 0 where
@@ -47,25 +41,3 @@ IsRefusedUnder options input e =
 -- the first input is refused, or it begins with a geometry and the second is refused, and the error says why
 abbrev pub IsPairRefusal : List ℕ → List ℕ → WkbError → Type 0
 IsPairRefusal a b e = IsRefusal a e ⊎ (IsAccepted a × IsRefusal b e)
-
--- both inputs begin with geometries, and their values are equal
-pub record HaveOneValue (a b : List ℕ) : Type 0 where
-  pub s : Spelling
-  pub u : Spelling
-  pub t : Value
-  pub rest : List ℕ
-  pub more : List ℕ
-  pub first : Front a s t rest
-  pub second : Front b u t more
-
--- both inputs begin with geometries, and their values are different
-pub record HaveTwoValues (a b : List ℕ) : Type 0 where
-  pub s : Spelling
-  pub u : Spelling
-  pub t : Value
-  pub v : Value
-  pub rest : List ℕ
-  pub more : List ℕ
-  pub first : Front a s t rest
-  pub second : Front b u v more
-  pub different : t ≢ v

@@ -1,4 +1,5 @@
 pub mod Canonical
+pub mod Checks
 pub mod Prelude
 pub mod Values
 pub mod Spellings

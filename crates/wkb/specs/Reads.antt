@@ -1,7 +1,8 @@
 -- What the reader promises, and what its views show.
 pub use Rattle.wkb_geom.specs.Reading.{Item, spellings, values, point_of, line_string_of, polygon_of, coordinate}
 pub use Rattle.wkb_geom.specs.Reading.{coordinates, ring_in}
-unfoldable pub use Rattle.wkb_geom.specs.Reading.{geometry_at}
+unfoldable pub use Rattle.wkb_geom.specs.Reading.{geometry_told}
+pub use Rattle.wkb_geom.specs.Reading.{geometry_at}
 pub use Rattle.wkb_geom.specs.Stored.{Listed, whole_of, value_code, rings_code, polygons_code, item_code, listed_code}
 pub use Rattle.wkb_geom.specs.Fronts.{HasNoFront}
 pub use Rattle.wkb_read.specs.Reads.{IsFront, IsOnlyFront, IsRefusal, TellsEach, IfRefused, IfMemory, CountsValue}

@@ -1,67 +1,61 @@
-//! The canonical form: the one encoding of the value that was read.
+//! The canonical form: the one encoding of the value at the front of an input. Inputs are checked, and then rewritten and
+//! compared where they are.
 
-ghost use Rattle.std.specs.Prelude.{◌≡◌, ◌⊎◌, IfOk, IfErr, MatchBool, bytes_eq};
+ghost use Rattle.std.specs.Prelude.{◌⊎◌, IfOk, IfErr, MatchBool};
 ghost use Rattle.wkb_geom.specs.Errors.{IsMemory};
-ghost use Rattle.wkb_geom.specs.Encodings.{IsRewritingWithSrid};
+ghost use Rattle.wkb_read.specs.Memory.{IsNotMemory};
+ghost use Rattle.wkb_geom.specs.Encodings.{IsRewriting, IsRewritingWithSrid};
 ghost use Rattle.wkb_read.specs.Reads.{IsRefusal};
-ghost use Rattle.wkb_read.specs.Seen.{geometry_seen};
-ghost use Rattle.wkb_write.specs.Answers.{encoding_of, IsVecError};
+ghost use Rattle.wkb_check.specs.Public.{DescribesFront, DescribesOnlyFront};
 ghost use Rattle.wkb.specs.Canonical.{IsRewritingUnder, IsRefusedUnder, IsPairRefusal};
-ghost use Rattle.wkb.specs.Canonical.{HaveOneValue, HaveTwoValues};
+ghost use Rattle.wkb.specs.Canonical.{IsAccepted, HaveOneValue, HaveTwoValues};
 
-use crate::laws::are_bytes;
 use std::alloc::Global;
-use wkb_geom::error::WkbResult;
-use wkb_geom::{Endianness, Form, GeometryTrait};
-use wkb_read::geometry::Wkb;
-use wkb_read::read::read_wkb;
-use wkb_write::{WriteOptions, to_vec};
+use wkb_check::{Summary, check};
+use wkb_geom::error::{WkbError, WkbResult};
+use wkb_geom::{Endianness, Form};
+use wkb_rewrite::{Target, encoded_size, have_one_value, put_encoding};
+use wkb_write::WriteOptions;
 
 /// The encoding under the options of the geometry at the front of the bytes.
 ///
-/// Refused as `read_wkb` refuses the bytes. `OverflowError(Size)` where the SRID's four bytes make
-/// the encoding longer than `usize` can hold.
+/// Refused as `read_wkb` refuses the bytes. Only the result is allocated.
 ///
 /// ```
 /// // A key of the value: the same bytes whatever the order, the codes and the SRIDs it was read in.
 /// let key = canonical(alloc, bytes, &WriteOptions::default())?;
 /// ```
-#[tactic(auto, using(crate::proofs::Encodings::rewritten))]
 pub fn canonical(alloc: Global, buf: &[u8], options: &WriteOptions) -> WkbResult<Vec<u8>>
     ensures ok { IfOk result
         (λ encoding. IsRewritingUnder options.now buf.now encoding.items) }
     ensures err { IfErr result (λ e. IsMemory e ⊎ IsRefusedUnder options.now buf.now e) }
+    ensures memory { IfErr result (λ e. IsMemory e → IsAccepted buf.now) }
 {
-    match read_wkb(alloc, buf) {
-        Ok(wkb) => to_vec(alloc, &wkb, options),
-        Err(e) => Err(e),
-    }
+    let target = Target {
+        order: options.endianness,
+        form: options.form,
+    };
+    let found = checked(buf)?;
+    rewritten(alloc, buf, &found, target)
 }
 
 /// The encoding under EWKB with the geometry's own SRID, where it has one.
 ///
-/// Refused as `read_wkb` refuses the bytes: what is written is no longer than what was read.
-#[tactic(auto, using(crate::proofs::Encodings::rewritten_with_srid))]
+/// Refused as `read_wkb` refuses the bytes. Only the result is allocated.
 pub fn canonical_with_srid(alloc: Global, buf: &[u8], order: Endianness) -> WkbResult<Vec<u8>>
     ensures ok { IfOk result (λ encoding. IsRewritingWithSrid order buf.now encoding.items) }
     ensures err { IfErr result (λ e. IsMemory e ⊎ IsRefusal buf.now e) }
+    ensures memory { IfErr result (λ e. IsMemory e → IsAccepted buf.now) }
 {
-    match read_wkb(alloc, buf) {
-        Ok(wkb) => {
-            let options = WriteOptions {
-                endianness: order,
-                form: Form::Ewkb { srid: wkb.srid() },
-            };
-            to_vec(alloc, &wkb, &options)
-        }
-        Err(e) => Err(e),
-    }
+    let found = checked(buf)?;
+    let form = Form::Ewkb { srid: found.srid };
+    rewritten(alloc, buf, &found, Target { order, form })
 }
 
 /// Whether two inputs begin with geometries of the same value, SRIDs aside.
 ///
-/// Refused as `read_wkb` refuses the first, which is read before the second is looked at, or else
-/// the second.
+/// Refused as `read_wkb` refuses the first, which is checked before the second is looked at, or else the second. Nothing
+/// is allocated.
 ///
 /// ```
 /// // Whether a geometry is stored already, in whatever byte order.
@@ -71,63 +65,35 @@ pub fn same(alloc: Global, a: &[u8], b: &[u8]) -> WkbResult<bool>
     ensures ok { IfOk result
         (λ equal. MatchBool equal (HaveOneValue a.now b.now) (HaveTwoValues a.now b.now)) }
     ensures err { IfErr result (λ e. IsMemory e ⊎ IsPairRefusal a.now b.now e) }
+    ensures no_memory { IfErr result IsNotMemory }
 {
-    are_bytes(a);
-    are_bytes(b);
-    let first = match read_wkb(alloc, a) {
-        Ok(wkb) => wkb,
-        Err(e) => return Err(e),
-    };
-    let second = match read_wkb(alloc, b) {
-        Ok(wkb) => wkb,
-        Err(e) => return Err(e),
-    };
-    // Values are equal where their encodings are (docs/DECISIONS.md, D12).
-    let options = WriteOptions {
-        endianness: Endianness::LittleEndian,
-        form: Form::Iso,
-    };
-    have_one_encoding(alloc, &first, &second, &options)
+    let _unused = alloc;
+    let _first = checked(a)?;
+    let _second = checked(b)?;
+    Ok(have_one_value(a, b))
 }
 
-/// Whether two geometries have the same encoding. One that is in memory as it is written isn't copied.
-fn have_one_encoding(
-    alloc: Global,
-    first: &Wkb<'_>,
-    second: &Wkb<'_>,
-    options: &WriteOptions,
-) -> WkbResult<bool>
-    ensures ok { IfOk result (λ equal. equal ≡ bytes_eq
-        (encoding_of options.now (geometry_seen first.now))
-        (encoding_of options.now (geometry_seen second.now))) }
-    ensures err { IfErr result (λ e. IsVecError options.now (geometry_seen first.now) e
-        ⊎ IsVecError options.now (geometry_seen second.now) e) }
+/// What the check finds at the front of the bytes, or the error that reading them returns.
+fn checked(buf: &[u8]) -> WkbResult<Summary>
+    ensures front { IfOk result (λ found. DescribesFront buf.now found) }
+    ensures one_front { IfOk result (λ found. DescribesOnlyFront buf.now found) }
+    ensures refused { IfErr result (λ e. IsRefusal buf.now e) }
+    ensures no_memory { IfErr result IsNotMemory }
 {
-    if let Some(lent) = first.whole(options.endianness, options.form) {
-        return is_encoding(alloc, lent, second, options);
-    }
-    match to_vec(alloc, first, options) {
-        Ok(made) => is_encoding(alloc, made.as_slice(), second, options),
-        Err(e) => Err(e),
+    match check(buf) {
+        Ok(found) => Ok(found),
+        Err(refused) => Err(WkbError::from(refused.cause)),
     }
 }
 
-/// Whether the bytes are the geometry's encoding.
-fn is_encoding(
-    alloc: Global,
-    bytes: &[u8],
-    wkb: &Wkb<'_>,
-    options: &WriteOptions,
-) -> WkbResult<bool>
+/// The encoding of the geometry in which the check found this.
+fn rewritten(alloc: Global, buf: &[u8], found: &Summary, target: Target) -> WkbResult<Vec<u8>>
+    requires { DescribesFront buf.now found.now }
     ensures ok { IfOk result
-        (λ equal. equal ≡ bytes_eq bytes.now (encoding_of options.now (geometry_seen wkb.now))) }
-    ensures err { IfErr result (λ e. IsVecError options.now (geometry_seen wkb.now) e) }
+        (λ encoding. IsRewriting target.order target.form buf.now encoding.items) }
+    ensures err { IfErr result IsMemory }
 {
-    if let Some(lent) = wkb.whole(options.endianness, options.form) {
-        return Ok(bytes == lent);
-    }
-    match to_vec(alloc, wkb, options) {
-        Ok(made) => Ok(bytes == made.as_slice()),
-        Err(e) => Err(e),
-    }
+    let mut encoding = vec![in alloc; 0; encoded_size(buf, found.bytes, target.form)]?;
+    put_encoding(buf, target, encoding.as_mut_slice());
+    Ok(encoding)
 }

@@ -1,8 +1,8 @@
 //! The traits that a caller's own geometries implement, in place of `geo-traits`; plain geometries
 //! that borrow a caller's words; and the number that a word stands for.
 
-ghost use Rattle.std.specs.Prelude.{◌≡◌, IfSome, is_some, not, to_bits};
-ghost use Rattle.std.specs.Float.{binary64};
+ghost use Rattle.std.specs.Prelude.{◌≡◌, IfSome, is_some, not, to_bits, from_bits};
+ghost use Rattle.std.specs.Float.{binary64, NotNan};
 ghost use Rattle.wkb.specs.Prelude.{is_nan as nan};
 
 pub use wkb_geom::Dimensions;
@@ -23,10 +23,12 @@ pub use wkb_plain::{
 /// // The x of a point, as a number.
 /// let x = ordinate(coord.x());
 /// ```
-#[tactic(auto, using(crate::proofs::Ordinates::is_number, crate::proofs::Ordinates::has_bits))]
+#[tactic(auto, using(crate::proofs::Ordinates::ordinate_laws))]
 pub fn ordinate(word: u64) -> Option<f64>
     ensures some { is_some result ≡ not (nan word) }
+    ensures number { IfSome result (λ number. number ≡ from_bits binary64 word) }
     ensures bits { IfSome result (λ number. to_bits binary64 number ≡ word) }
+    ensures not_nan { IfSome result NotNan }
 {
     if is_nan(word) {
         None

@@ -15,6 +15,7 @@
 #![tactic(auto)]
 
 pub mod canon;
+pub mod check;
 pub mod error;
 pub mod geom;
 pub mod laws;

@@ -1,0 +1,108 @@
+-- What the check finds in an input is what is rewritten of it, and compared; what it refuses is what the reader refuses.
+use Rattle.std.proofs.Common.{◌≡◌, ◌≢◌, ℕ, ◌+◌, ◌≤◌, List, ◌++◌, length, Bool, true, false, ◌⊎◌, inl, inr, refl, sym, ap, ◌∙◌}
+use Rattle.std.proofs.Common.{take, drop, ◌↔◌, IsTrue, MatchBool, subst, arith, append-nil}
+use Rattle.std.proofs.Math.Seq.{take-append_seam}
+use Rattle.std.proofs.lemmas.List.{drop_all}
+use Rattle.std.proofs.lemmas.List.Edits.{sets, sets-eq}
+use Rattle.wkb_geom.specs.declared.common.Endianness.{Endianness}
+use Rattle.wkb_geom.specs.declared.common.Form.{Form}
+use Rattle.wkb_geom.specs.declared.common.Form.TheVariants.{Iso, Ewkb}
+use Rattle.wkb_geom.specs.declared.error.Cause.{Cause}
+use Rattle.wkb_geom.specs.declared.error.WkbError.{WkbError}
+use Rattle.wkb_geom.specs.declared.error.WkbError.TheVariants as errors
+use Rattle.wkb_geom.specs.Encodings.{encoding, IsRewriting, IsRewritingWithSrid}
+use Rattle.wkb_geom.specs.Errors.{IsMemory, Tells}
+use Rattle.wkb_geom.specs.Fronts.{Front}
+use Rattle.wkb_geom.specs.Geometries.{geometry_of}
+use Rattle.wkb_check.specs.Bounded.{HasGeometry}
+use Rattle.wkb_check.specs.Public.{DescribesFront, DescribesOnlyFront, IsRefusedFor}
+use Rattle.wkb_check.specs.declared.answer.Refused.{Refused}
+use Rattle.wkb_check.specs.declared.answer.Summary.{Summary}
+use Rattle.wkb_read.specs.Memory.{IsNotMemory}
+use Rattle.wkb_read.specs.Reads.{IsRefusal}
+use Rattle.wkb_rewrite.specs.Rewritings.{IsLong}
+use Rattle.wkb.specs.Canonical.{IsAccepted, HaveOneValue, HaveTwoValues, OverflowsWithSrid}
+
+-- what was found is at the front of the bytes
+abbrev pub here : {buf : List ℕ} {found : Summary} → DescribesFront buf found → HasGeometry buf
+here d = record {
+  spelled = d.spelled;
+  value = d.value;
+  rest = d.rest;
+  begins = record { front = d.front.front; whole = d.front.whole; first = d.front.spelled };
+}
+
+-- and as long as it says
+pub as_long : {buf : List ℕ} {found : Summary} → DescribesFront buf found → IsLong buf found.bytes
+as_long d = record { geometry = here d; long = d.described.bytes_are }
+
+-- what was put into a list of as many bytes is all that it then holds
+pub filled : (x old new items : List ℕ) (len n : ℕ) → length old ≡ len → len ≡ n → n ≡ length x → new ≡ sets old 0 x
+    → take len (new ++ drop (length new) items) ≡ x
+filled x old new items len n long is fits put =
+    let new_is : new ≡ x =
+    put ∙ sets-eq x old 0 (omega (arith, long, is, fits))
+    ∙ ap (λ n. x ++ drop n old) (omega arith)
+    ∙ ap (λ l. x ++ l) (drop_all (length x) old (omega (arith, long, is, fits))) ∙ append-nil x in
+    ap (λ n. take n (new ++ drop (length new) items)) (is ∙ fits ∙ sym (ap length new_is))
+    ∙ take-append_seam new (drop (length new) items) ∙ new_is
+
+-- what was made of it is its rewriting
+pub made : {buf : List ℕ} {found : Summary} {order : Endianness} {form : Form} {out : List ℕ}
+    → (d : DescribesFront buf found) → out ≡ encoding order form (geometry_of (here d).value) → IsRewriting order form buf out
+made d is = record { s = d.spelled; t = d.value; rest = d.rest; front = d.front; written = is }
+
+-- with the geometry's own SRID
+pub made_with_srid : {buf : List ℕ} {found : Summary} {order : Endianness} {out : List ℕ}
+    → DescribesOnlyFront buf found → IsRewriting order (Ewkb found.srid) buf out → IsRewritingWithSrid order buf out
+made_with_srid {order = order} only is = record {
+  s = is.s;
+  t = is.t;
+  rest = is.rest;
+  front = is.front;
+  written =
+      is.written ∙ ap (λ z. encoding order (Ewkb z) (geometry_of is.t)) (only is.s is.t is.rest is.front).srid;
+}
+
+-- ---- what is refused
+
+-- the error of a refusal is the reader's
+pub refusal : {buf : List ℕ} {e : WkbError} (refused : Refused) → IsRefusedFor buf refused → Tells e refused.cause
+    → IsRefusal buf e
+refusal refused r tells =
+    record { cause = refused.cause; turns = refused.part; slots = r.slots; refuses = r.refuses; tells = tells }
+
+-- under ISO no SRID is written that could make the encoding too long
+pub iso_fits : (order : Endianness) (buf : List ℕ) → OverflowsWithSrid order Iso buf → ⊥
+iso_fits order buf h = let low = h.plain in let high = h.with_srid in omega (arith, low, high)
+
+-- ---- comparisons
+
+-- an input with a summary is accepted
+pub accepted : {buf : List ℕ} {found : Summary} → DescribesFront buf found → IsAccepted buf
+accepted d = record { s = d.spelled; t = d.value; rest = d.rest; front = d.front }
+
+-- two inputs are compared by the values at their fronts
+pub compared : {a b : List ℕ} {f g : Summary} (equal : Bool) → DescribesFront a f → DescribesFront b g
+    → ((x : HasGeometry a) (y : HasGeometry b) → IsTrue equal ↔ (x.value ≡ y.value))
+    → MatchBool equal (HaveOneValue a b) (HaveTwoValues a b)
+compared {b = b} true d e values = record {
+  s = d.spelled;
+  u = e.spelled;
+  t = d.value;
+  rest = d.rest;
+  more = e.rest;
+  first = d.front;
+  second = subst (λ v. Front b e.spelled v e.rest) (sym ((values (here d) (here e)).0 refl)) e.front;
+}
+compared false d e values = record {
+  s = d.spelled;
+  u = e.spelled;
+  t = d.value;
+  v = e.value;
+  rest = d.rest;
+  more = e.rest;
+  first = d.front;
+  second = e.front;
+  different = λ one. let no : IsTrue false = (values (here d) (here e)).1 one in absurd (cc);
+}

@@ -1,0 +1,14 @@
+use Rattle.wkb.proofs.Rewritten.{here, as_long, filled, made}
+use Rattle.wkb.proofs.canon.rewritten.Goals as goal
+
+pub encoded_size-requires : goal.encoded_size-requires
+encoded_size-requires c = as_long c.requires
+
+pub returns-clause-ok : goal.returns-clause-ok
+returns-clause-ok c =
+    let found = here c.requires in
+    let put = c.put_encoding.ensures.put found in
+    made c.requires
+    (filled _ c.as_mut_slice.result.now c.put_encoding.new.out c.in_ok-encoding.encoding.items
+    c.in_ok-encoding.encoding.len c.encoded_size.result c.as_mut_slice.ensures.len c.in_ok-encoding.ensures.len
+    (c.encoded_size.ensures.size c.args.target.order found) put)

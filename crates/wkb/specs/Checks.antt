@@ -1,0 +1,12 @@
+-- What the check without memory returns, and the bounds.
+pub use Rattle.wkb_check.specs.Public.{Describes, DescribesFront, DescribesOnlyFront, IsRefusedFor, IsRefusedOnlyFor}
+pub use Rattle.wkb_check.specs.Public.{Checks, IsBounded}
+pub use Rattle.wkb_check.specs.Counted.{coordinate_count, left_in}
+pub use Rattle.wkb_check.specs.declared.answer.Summary.{Summary}
+pub use Rattle.wkb_check.specs.declared.answer.Refused.{Refused}
+pub use Rattle.wkb_check.specs.Bounded.{on, AreBounds, BoundsFront, BoundsOnlyFront, FindsBounds, nothing}
+pub use Rattle.wkb_check.specs.Ordinates.{Axis, x_axis, y_axis, z_axis, m_axis, axis_place, words_in, words_on}
+pub use Rattle.wkb_check.specs.Ranges.{rank, lower, higher, no_numbers, with_number, with_word, widened, range_of}
+pub use Rattle.wkb_check.specs.declared.range.Range.{Range}
+pub use Rattle.wkb_check.specs.declared.range.Bounds.{Bounds}
+pub use Rattle.wkb_geom.specs.Reading.{type_kind, type_dimension, type_of}

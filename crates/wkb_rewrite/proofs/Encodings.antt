@@ -1,0 +1,125 @@
+-- The encoding of a value is that of its shares.
+use Rattle.std.proofs.Common.{◌≡◌, ℕ, ◌+◌, List, [], ◌∷◌, ◌++◌, length, map, refl, sym, ap, ◌∙◌, append-nil}
+use Rattle.std.proofs.Common.{append_assoc}
+use Rattle.std.specs.List.{flat_map, concat}
+use Rattle.wkb_laws.specs.Prelude.{Endianness, Dimension, Form, Iso, Ewkb, Coordinate, Value, Values, no_members}
+use Rattle.wkb_laws.specs.Prelude.{member}
+use Rattle.wkb_laws.specs.Prelude.{dimension, members, each, count}
+use Rattle.wkb_laws.specs.Prelude.{point, line_string, polygon, multi_point, multi_line_string, multi_polygon}
+use Rattle.wkb_laws.specs.Prelude.{collection}
+use Rattle.wkb_laws.specs.Prelude.{Spelling, node, Spellings, no_spellings, spelling, Spells, SpellsEach, Wanted}
+use Rattle.wkb_laws.specs.Prelude.{geometry_of, geometries_of, encoding, encodings, inner, count_geometries}
+use Rattle.wkb_laws.specs.Prelude.{number_bytes}
+use Rattle.wkb_laws.specs.Prelude.{written_dimension, as_dimensions}
+unfoldable use Rattle.wkb_laws.specs.Prelude.{words_encoding, coordinates_encoding, point_encoding}
+unfoldable use Rattle.wkb_laws.specs.Prelude.{line_string_encoding}
+unfoldable use Rattle.wkb_laws.specs.Prelude.{polygon_encoding, members_encoding, header_encoding}
+use Rattle.wkb_laws.proofs.Values.{same_dimension}
+use Rattle.wkb_check.specs.Pieces.{rings_of}
+use Rattle.wkb_sink.proofs.Turned.{words_joined}
+use Rattle.wkb_rewrite.specs.Shares.{Share, share_encoding}
+use Rattle.wkb_rewrite.proofs.ValueShares.{own_share, ring_share, shares_of, shares_of_each}
+
+-- the encodings of a geometry's shares, one after another: only the first has the form's SRID
+abbrev pub shares_encoding : Endianness → Form → List Share → List ℕ
+shares_encoding order form [] = []
+shares_encoding order form (x ∷ xs) = share_encoding order form x ++ shares_encoding order (inner form) xs
+
+inner_twice : (form : Form) → inner (inner form) ≡ inner form
+inner_twice Iso = refl
+inner_twice (Ewkb srid) = refl
+
+-- inside a geometry the form stays the same, so that shares can be encoded list by list
+pub shares_append : (order : Endianness) (form : Form) (xs ys : List Share) → inner form ≡ form
+    → shares_encoding order form (xs ++ ys) ≡ shares_encoding order form xs ++ shares_encoding order form ys
+shares_append order form [] ys e = refl
+shares_append order form (x ∷ xs) ys e =
+    ap (λ f. share_encoding order form x ++ shares_encoding order f (xs ++ ys)) e
+    ∙ ap (λ l. share_encoding order form x ++ l) (shares_append order form xs ys e)
+    ∙ sym (append_assoc (share_encoding order form x) (shares_encoding order form xs) (shares_encoding order form ys))
+    ∙ ap (λ f. (share_encoding order form x ++ shares_encoding order f xs) ++ shares_encoding order form ys) (sym e)
+
+-- a count and coordinates
+counted_words : (order : Endianness) (cs : List Coordinate)
+    → number_bytes order 4 (length cs) ++ words_encoding order (concat cs) ≡ coordinates_encoding order cs
+unfolding coordinates_encoding
+counted_words order cs = ap (λ l. number_bytes order 4 (length cs) ++ l) (words_joined order cs)
+
+rings_encoded : (order : Endianness) (form : Form) (d : Dimension) (rings : List (List Coordinate))
+    → shares_encoding order form (map (ring_share d) rings) ≡ flat_map (coordinates_encoding order) rings
+rings_encoded order form d [] = refl
+rings_encoded order form d (cs ∷ rings) =
+    λ i. counted_words order cs i ++ rings_encoded order (inner form) d rings i
+
+each_encoded : {A : Type 0} (order : Endianness) (form : Form) (f : A → Value) (l : List A)
+    → encodings order form (geometries_of (each f l)) ≡ flat_map (λ a. encoding order form (geometry_of (f a))) l
+each_encoded order form f [] = refl
+each_encoded order form f (a ∷ l) = ap (λ z. encoding order form (geometry_of (f a)) ++ z) (each_encoded order form f l)
+
+geometries_counted : (ts : Values) → count_geometries (geometries_of ts) ≡ count ts
+geometries_counted no_members = refl
+geometries_counted (member t ts) = ap (λ n. 1 + n) (geometries_counted ts)
+
+-- the encoding of what is inside a value
+abbrev pub inside : Endianness → Form → Value → List ℕ
+inside order form t =
+    flat_map (coordinates_encoding order) (rings_of t) ++ encodings order (inner form) (geometries_of (members t))
+
+-- a header, a count, and members
+members_apart : (order : Endianness) (form : Form) (k : ℕ) (e d : Dimension) (n : ℕ) (behind after : List ℕ) → e ≡ d
+    → behind ≡ after
+    → members_encoding order form k e n behind
+    ≡ (header_encoding order form k d ++ (number_bytes order 4 n ++ words_encoding order [])) ++ after
+unfolding members_encoding words_encoding
+members_apart order form k e d n behind after same is =
+    (λ i. header_encoding order form k (same i) ++ (number_bytes order 4 n ++ is i))
+    ∙ sym (ap (λ z. (header_encoding order form k d ++ z) ++ after) (append-nil (number_bytes order 4 n))
+    ∙ append_assoc (header_encoding order form k d) (number_bytes order 4 n) after)
+
+-- a value's own encoding comes first
+pub encoded_apart : (order : Endianness) (form : Form) (t : Value)
+    → encoding order form (geometry_of t) ≡ share_encoding order form (own_share t) ++ inside order form t
+unfolding point_encoding line_string_encoding polygon_encoding members_encoding words_encoding
+encoded_apart order form (point d c) =
+    ap (λ e. point_encoding order form e c) (same_dimension d) ∙ sym (append-nil (point_encoding order form d c))
+encoded_apart order form (line_string d cs) =
+    (λ i. header_encoding order form 2 (same_dimension d i) ++ sym (counted_words order cs) i)
+    ∙ sym (append-nil (header_encoding order form 2 d
+    ++ (number_bytes order 4 (length cs) ++ words_encoding order (concat cs))))
+encoded_apart order form (polygon d rings) =
+    members_apart order form 3 _ d (length rings) _ _ (same_dimension d)
+    (sym (append-nil (flat_map (coordinates_encoding order) rings)))
+encoded_apart order form (multi_point d points) =
+    members_apart order form 4 _ d (length points) _ _ (same_dimension d)
+    (sym (each_encoded order (inner form) (point d) points))
+encoded_apart order form (multi_line_string d lines) =
+    members_apart order form 5 _ d (length lines) _ _ (same_dimension d)
+    (sym (each_encoded order (inner form) (line_string d) lines))
+encoded_apart order form (multi_polygon d polygons) =
+    members_apart order form 6 _ d (length polygons) _ _ (same_dimension d)
+    (sym (each_encoded order (inner form) (polygon d) polygons))
+encoded_apart order form (collection d ts) =
+    ap (λ n. members_encoding order form 7 (written_dimension (as_dimensions d)) n
+    (encodings order (inner form) (geometries_of ts))) (geometries_counted ts)
+    ∙ members_apart order form 7 _ d (count ts) _ _ (same_dimension d) refl
+
+mutual
+  pub shares_encoded : (order : Endianness) (form : Form) (s : Spelling) (t : Value) (x : List ℕ) → Spells s t x
+      → shares_encoding order form (shares_of s t) ≡ encoding order form (geometry_of t)
+  shares_encoded order form (node h words ss) t x a =
+      ap (λ l. share_encoding order form (own_share t) ++ l)
+      (shares_append order (inner form) (map (ring_share (dimension t)) (rings_of t)) (shares_of_each ss (members t))
+      (inner_twice form)
+      ∙ (λ i. rings_encoded order (inner form) (dimension t) (rings_of t) i
+      ++ each_shares_encoded order form _ ss (members t) a.second.rest a.second.second i))
+      ∙ sym (encoded_apart order form t)
+
+  each_shares_encoded : (order : Endianness) (form : Form) (w : Wanted) (ss : Spellings) (ts : Values) (x : List ℕ)
+      → SpellsEach w ss ts x
+      → shares_encoding order (inner form) (shares_of_each ss ts) ≡ encodings order (inner form) (geometries_of ts)
+  each_shares_encoded order form w no_spellings no_members x a = refl
+  each_shares_encoded order form w (spelling s ss) (member t ts) x a =
+      shares_append order (inner form) (shares_of s t) (shares_of_each ss ts) (inner_twice form)
+      ∙ (λ i. shares_encoded order (inner form) s t a.front a.first.0 i
+      ++ each_shares_encoded order form w ss ts a.rest a.second i)
+  each_shares_encoded order form w _ _ x a = absurd a

@@ -1,0 +1,9 @@
+mod Held
+mod ValueShares
+mod Encodings
+mod Spelled
+mod Putting
+mod Walks
+mod Comparing
+pub mod Measured
+mod Encoded

@@ -1,0 +1,107 @@
+-- How long an encoding is, by the SRIDs of the pieces.
+use Rattle.std.proofs.Common.{◌≡◌, ℕ, ◌+◌, ◌*◌, ◌≤◌, List, [], ◌∷◌, ◌++◌, length, is_some, Bool, true, false}
+use Rattle.std.proofs.Common.{if◌then◌else◌}
+use Rattle.std.proofs.Common.{refl, sym, ap, ◌∙◌, arith, length-append}
+use Rattle.wkb_laws.specs.Prelude.{Endianness, Dimension, Form, Coordinate, AreBytes, Value, Values, no_members, member}
+use Rattle.wkb_laws.specs.Prelude.{dimension, members, Spelling, node, Spellings, no_spellings, spelling, Spells}
+use Rattle.wkb_laws.specs.Prelude.{SpellsEach}
+use Rattle.wkb_laws.specs.Prelude.{Wanted, srid_count, srid_count_each, srid_size, ring_end, form_srid, IsForm}
+use Rattle.wkb_laws.specs.Prelude.{geometry_of, encoding}
+use Rattle.wkb_laws.proofs.Lengths.{spelled_length, encoding_length, value_size}
+use Rattle.wkb_laws.proofs.OneFront.{one_spelling}
+use Rattle.wkb_laws.proofs.Values.{spelled_good, normal-geometry_of, lawful-geometry_of}
+use Rattle.wkb_check.specs.declared.pieces.Piece.{Piece}
+use Rattle.wkb_check.specs.declared.pieces.Pieces.{Pieces}
+use Rattle.wkb_check.specs.Bounded.{HasGeometry}
+use Rattle.wkb_check.specs.Pieces.{leading, rings_of, size, pieces_of, pieces_of_rings, pieces_of_each, IsAhead}
+use Rattle.wkb_rewrite.specs.Rewritings.{IsLong}
+use Rattle.wkb_rewrite.proofs.Comparing.{geometry_bytes}
+
+-- the bytes of the SRIDs of pieces
+abbrev pub srid_sizes : List Piece → ℕ
+srid_sizes [] = 0
+srid_sizes (p ∷ ps) = srid_size (is_some p.srid) + srid_sizes ps
+
+sizes_append : (ps qs : List Piece) → srid_sizes (ps ++ qs) ≡ srid_sizes ps + srid_sizes qs
+sizes_append [] qs = omega arith
+sizes_append (p ∷ ps) qs = omega (arith, sizes_append ps qs)
+
+rings_have_none : (order : Endianness) (d : Dimension) (at : ℕ) (rings : List (List Coordinate))
+    → srid_sizes (pieces_of_rings order d at rings) ≡ 0
+rings_have_none order d at [] = refl
+rings_have_none order d at (cs ∷ rings) = omega (arith, rings_have_none order d (at + ring_end d (length cs)) rings)
+
+size_counted : (some : Bool) → srid_size some ≡ 4 * (if some then 1 else 0)
+size_counted true = refl
+size_counted false = refl
+
+pub most_srid : (some : Bool) → srid_size some ≤ 4
+most_srid true = omega arith
+most_srid false = omega arith
+
+mutual
+  srids_counted : (at : ℕ) (s : Spelling) (t : Value) (x : List ℕ) → Spells s t x
+      → srid_sizes (pieces_of at s t) ≡ 4 * srid_count s
+  srids_counted at (node h words ss) t x a =
+      omega (
+        arith,
+        size_counted (is_some h.srid),
+        sizes_append (pieces_of_rings h.order (dimension t) (at + leading h t) (rings_of t))
+            (pieces_of_each (at + leading h t) ss (members t)),
+        rings_have_none h.order (dimension t) (at + leading h t) (rings_of t),
+        each_counted (at + leading h t) _ ss (members t) a.second.rest a.second.second,
+      )
+
+  each_counted : (at : ℕ) (w : Wanted) (ss : Spellings) (ts : Values) (x : List ℕ) → SpellsEach w ss ts x
+      → srid_sizes (pieces_of_each at ss ts) ≡ 4 * srid_count_each ss
+  each_counted at w no_spellings ts x a = refl
+  each_counted at w (spelling s ss) no_members x a = absurd a
+  each_counted at w (spelling s ss) (member t ts) x a =
+      omega (
+        arith,
+        sizes_append (pieces_of at s t) (pieces_of_each (at + size s t) ss ts),
+        srids_counted at s t a.front a.first.0,
+        each_counted (at + size s t) w ss ts a.rest a.second,
+      )
+
+-- whichever geometry is there, it has as many bytes
+pub long_of : (buf : List ℕ) (bytes : ℕ) → IsLong buf bytes → (g : HasGeometry buf) → bytes ≡ length g.begins.front
+long_of buf bytes l g =
+    let h = l.geometry in
+    l.long ∙ ap length (one_spelling h.spelled g.spelled h.value g.value h.begins.front g.begins.front h.rest g.rest
+    h.begins.first g.begins.first (sym h.begins.whole ∙ g.begins.whole)).encoding
+
+-- the encoding has the form's SRID, and not those that the pieces have
+pub measured : (order : Endianness) (form : Form) (buf : List ℕ) (bytes : ℕ) (g : HasGeometry buf) → AreBytes buf
+    → IsForm form → bytes ≡ length g.begins.front
+    → bytes + srid_size (is_some (form_srid form))
+    ≡ length (encoding order form (geometry_of g.value)) + srid_sizes (pieces_of 0 g.spelled g.value)
+measured order form buf bytes g b h long =
+    let good = spelled_good g.spelled g.value g.begins.front (geometry_bytes buf g b) g.begins.first in
+    omega (
+      arith,
+      long,
+      size_counted (is_some (form_srid form)),
+      srids_counted 0 g.spelled g.value g.begins.front g.begins.first,
+      spelled_length g.spelled g.value g.begins.front g.begins.first,
+      encoding_length order form (geometry_of g.value) h (lawful-geometry_of g.value good.0) good.1,
+      ap value_size (normal-geometry_of g.value good.0),
+    )
+
+-- so it is at most the four bytes of an SRID longer than the input
+pub at_most : (order : Endianness) (form : Form) (buf : List ℕ) (g : HasGeometry buf) → AreBytes buf → IsForm form
+    → length (encoding order form (geometry_of g.value)) ≤ length buf + 4
+at_most order form buf g b h =
+    omega (
+      arith,
+      measured order form buf (length g.begins.front) g b h refl,
+      most_srid (is_some (form_srid form)),
+      ap length g.begins.whole,
+      length-append g.begins.front g.rest,
+    )
+
+-- the size so far is too much by the SRIDs of the pieces to come
+pub record Sized (w : Pieces) (size whole : ℕ) : Type 0 where
+  pub pieces : List Piece
+  pub ahead : IsAhead w pieces
+  pub over : size ≡ whole + srid_sizes pieces

@@ -1,0 +1,11 @@
+use Rattle.std.proofs.Common.{◌-◌, length}
+use Rattle.wkb_check.specs.Bounded.{HasGeometry}
+use Rattle.wkb_rewrite.proofs.Comparing.{shares_at, Compared}
+use Rattle.wkb_rewrite.proofs.comparison.have_one_value.Given as goal
+
+abbrev pub decreases-loop-x : goal.decreases-loop-x
+decreases-loop-x l = length l.firsts.bytes.now - l.firsts.at
+
+abbrev pub invariant-loop-x : goal.invariant-loop-x
+invariant-loop-x l = (g : HasGeometry l.a) (h : HasGeometry l.b)
+    → Compared l.a l.b l.firsts l.seconds (shares_at g) (shares_at h)

@@ -1,0 +1,82 @@
+use Rattle.std.proofs.Common.{◌≡◌, ◌+◌, arith, ap, length, ◌∙◌, is_some, length-append}
+use Rattle.wkb_laws.specs.Prelude.{AreBytes, Endianness, LittleEndian, srid_size, form_srid, encoding, geometry_of}
+use Rattle.wkb_check.specs.Bounded.{HasGeometry}
+use Rattle.wkb_rewrite.proofs.Walks.{nothing_ahead}
+use Rattle.wkb_rewrite.proofs.Measured.{srid_sizes, long_of, measured, most_srid}
+use Rattle.wkb_rewrite.proofs.encoding.encoded_size.Goals as goal
+use Rattle.wkb_rewrite.proofs.encoding.encoded_size.Goals.{In_default}
+
+pub overflow_add-size : goal.overflow_add-size
+overflow_add-size c =
+    let g = c.requires.geometry in
+    omega (
+      arith,
+      c.requires.long,
+      c.srid_size.ensures,
+      most_srid (is_some c.srid_of.result),
+      ap length g.begins.whole,
+      length-append g.begins.front g.rest,
+    )
+
+pub loop-piece-init : goal.loop-piece-init
+loop-piece-init c = λ order g. record {
+  pieces = _;
+  ahead = c.of-pieces.ensures.ahead g;
+  over = ap (λ n. c.args.bytes + n) (c.srid_size.ensures ∙ ap (λ o. srid_size (is_some o)) c.srid_of.ensures.is)
+      ∙ measured order c.args.form c.args.buf.now c.args.bytes g (λ i. (c.type_inv.buf i).fits) c.srid_of.ensures.form
+      (long_of c.args.buf.now c.args.bytes c.requires g);
+}
+
+pub next-requires : goal.next-requires
+next-requires c =
+    let l = c.loop-piece.invariant LittleEndian c.requires.geometry in
+    record { ahead = record { pieces = l.pieces; are = l.ahead } }
+
+pub overflow_sub-size : goal.overflow_sub-size
+overflow_sub-size c =
+    let l = c.loop-piece.invariant LittleEndian c.requires.geometry in
+    let x = c.in-Some.ensures.steps l.pieces l.ahead in
+    omega (arith, l.over, ap srid_sizes x.first, c.srid_size-size.ensures)
+
+pub loop-piece-smaller : goal.loop-piece-smaller
+loop-piece-smaller c =
+    omega (
+      arith,
+      c.in-Some.ensures.further,
+      c.in-Some.ensures.inside.ends,
+      c.in-Some.ensures.inside.inside,
+      ap length c.in-Some.ensures.same,
+    )
+
+pub loop-piece-preserved : goal.loop-piece-preserved
+loop-piece-preserved c = λ order g.
+    let l = c.loop-piece.invariant order g in
+    let x = c.in-Some.ensures.steps l.pieces l.ahead in
+    record {
+      pieces = x.rest;
+      ahead = x.ahead;
+      over = omega (arith, l.over, ap srid_sizes x.first, c.srid_size-size.ensures);
+    }
+
+-- what is left when no piece is to come
+whole : (c : In_default) → (order : Endianness) (g : HasGeometry c.args.buf.now)
+    → c.loop-piece.size ≡ length (encoding order c.args.form (geometry_of g.value))
+whole c order g =
+    let l = c.loop-piece.invariant order g in
+    let none = nothing_ahead c.loop-piece.pieces c.next.new.self l.pieces _ l.ahead c.in_default.is c.next.ensures.steps
+    in
+    omega (arith, l.over, ap srid_sizes none)
+
+pub returns-clause-size : goal.returns-clause-size
+returns-clause-size c = whole c
+
+pub returns-clause-bound : goal.returns-clause-bound
+returns-clause-bound c =
+    let g = c.requires.geometry in
+    let bytes : AreBytes c.args.buf.now = λ i. (c.type_inv.buf i).fits in
+    omega (
+      arith,
+      whole c LittleEndian g,
+      most_srid (is_some (form_srid c.args.form)),
+      measured LittleEndian c.args.form c.args.buf.now c.args.bytes g bytes c.srid_of.ensures.form c.requires.long,
+    )

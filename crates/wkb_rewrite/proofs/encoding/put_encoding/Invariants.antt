@@ -1,0 +1,13 @@
+use Rattle.std.proofs.Common.{◌-◌, length}
+use Rattle.wkb_laws.specs.Prelude.{geometry_of, encoding}
+use Rattle.wkb_check.specs.Bounded.{HasGeometry}
+use Rattle.wkb_rewrite.proofs.Encoded.{Left}
+use Rattle.wkb_rewrite.proofs.encoding.put_encoding.Given as goal
+
+abbrev pub decreases-loop-piece : goal.decreases-loop-piece
+decreases-loop-piece l = length l.pieces.bytes.now - l.pieces.at
+
+abbrev pub invariant-loop-piece : goal.invariant-loop-piece
+invariant-loop-piece l = (g : HasGeometry l.buf)
+    → Left l.buf l.target.order l.form l.pieces l.at l.out l.initial.out
+    (encoding l.target.order l.fn.target.form (geometry_of g.value))

@@ -1,0 +1,56 @@
+use Rattle.std.proofs.Common.{◌≡◌, ◌≤◌, ◌+◌, ◌∷◌, ◌++◌, [], arith, length, subst, ap, ◌∙◌, length-set, List, ℕ}
+use Rattle.wkb_laws.specs.Prelude.{number_bytes, srid_encoding, code_of, type_kind, type_dimension}
+use Rattle.wkb_rewrite.specs.Shares.{IsPut, header_part}
+use Rattle.wkb_rewrite.proofs.Putting.{header_is, header_long, byte_put, put_on, put_length, put_end}
+use Rattle.wkb_rewrite.proofs.put.put_header.Goals as goal
+use Rattle.wkb_rewrite.proofs.put.put_header.Goals.{After-byte}
+
+-- what is put is the header
+whole : (c : After-byte)
+    → ◌≡◌ {A = List ℕ} (c.byte.result
+    ∷ (number_bytes c.args.target.order 4 c.code_and_srid-code.result.0
+    ++ srid_encoding c.args.target.order c.code_and_srid-code.result.1))
+    (header_part c.args.target.order c.args.target.form c.args.piece.now.kind c.args.piece.now.dimension)
+whole c =
+    header_is c.args.target.order c.args.target.form c.args.piece.now.kind c.args.piece.now.dimension c.byte.result
+    c.code_and_srid-code.result.0 c.code_and_srid-code.result.1 c.if-piece-eq-RING.false c.byte.ensures
+    (c.code_and_srid-code.ensures.code
+    ∙ (λ i. code_of c.args.target.form (type_kind (c.of_kind.ensures i)) (type_dimension (c.of_kind.ensures i))))
+    c.code_and_srid-code.ensures.srid
+
+room : (c : After-byte)
+    → c.args.at + (5 + length (srid_encoding c.args.target.order c.code_and_srid-code.result.1)) ≤ length c.args.out.now
+room c =
+    omega (
+      arith,
+      c.requires,
+      ap length (whole c),
+      header_long c.args.target.order c.byte.result c.code_and_srid-code.result.0 c.code_and_srid-code.result.1,
+    )
+
+pub bounds-out-at : goal.bounds-out-at
+bounds-out-at c = omega (arith, room (goal.at.bounds-out-at c).After-byte)
+
+pub put_number-end-requires : goal.put_number-end-requires
+put_number-end-requires c =
+    omega (
+      arith,
+      room (goal.at.put_number-end-requires c).After-byte,
+      length-set c.args.out.now c.args.at c.byte.result,
+    )
+
+pub put_srid-requires : goal.put_srid-requires
+put_srid-requires c =
+    omega (
+      arith,
+      room (goal.at.put_srid-requires c).After-byte,
+      length-set c.args.out.now c.args.at c.byte.result,
+      put_length _ _ _ _ _ c.put_number-end.ensures,
+      put_end c.args.target.order c.code_and_srid-code.result.0 _ _ _ _ c.put_number-end.ensures,
+    )
+
+pub returns : goal.returns
+returns c =
+    subst (IsPut c.args.out.now c.put_srid.new.out c.args.at c.put_srid.result) (whole (goal.at.returns c).After-byte)
+    (put_on c.args.out.now _ _ c.args.at _ _ (c.byte.result ∷ []) _ (byte_put c.args.out.now c.args.at c.byte.result)
+    (put_on _ _ _ _ _ _ _ _ c.put_number-end.ensures c.put_srid.ensures))

@@ -1,0 +1,7 @@
+use Rattle.wkb_rewrite.proofs.Putting.{put_on}
+use Rattle.wkb_rewrite.proofs.put.put_piece.Goals as goal
+
+pub returns : goal.returns
+returns c =
+    put_on _ _ _ _ _ _ _ _ c.put_header-count_at.ensures
+    (put_on _ _ _ _ _ _ _ _ c.put_count-words_at.ensures c.put_words.ensures)

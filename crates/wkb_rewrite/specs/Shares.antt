@@ -1,0 +1,70 @@
+-- What each piece of a geometry says of its value, and how that is encoded.
+use Rattle.std.specs.Prelude.{◌≡◌, ℕ, ◌+◌, ◌*◌, List, [], ◌++◌, length, drop, replicate, Bool}
+use Rattle.std.specs.Prelude.{nat_lt, ◌&&◌, ◌==◌, if◌then◌else◌}
+use Rattle.std.specs.List.{AllByRecursion}
+use lib.Seq.{sets}
+use Rattle.wkb_geom.specs.declared.common.Dimension.{Dimension}
+use Rattle.wkb_geom.specs.declared.common.Endianness.{Endianness}
+use Rattle.wkb_geom.specs.declared.common.Endianness.TheVariants.{BigEndian, LittleEndian}
+use Rattle.wkb_geom.specs.declared.common.Form.{Form}
+use Rattle.wkb_geom.specs.declared.code.TheConstants.{POINT, POLYGON}
+use Rattle.wkb_geom.specs.Dimensions.{width}
+use Rattle.wkb_geom.specs.Encodings.{header_encoding, words_encoding}
+use Rattle.wkb_geom.specs.Numbers.{IsWord, number, number_bytes, all_nan, empty_word}
+use Rattle.wkb_geom.specs.Reading.{items, type_of, type_kind, type_dimension}
+use Rattle.wkb_check.specs.declared.pieces.Piece.{Piece}
+use Rattle.wkb_check.specs.declared.pieces.TheConstants.{RING}
+
+-- the bytes hold these words in this order
+pub record Holds (order : Endianness) (words bytes : List ℕ) : Type 0 where
+  pub fit : AllByRecursion IsWord words
+  pub is : bytes ≡ words_encoding order words
+
+-- the order that this one isn't
+abbrev pub other : Endianness → Endianness
+other BigEndian = LittleEndian
+other LittleEndian = BigEndian
+
+-- how many words a piece itself has
+abbrev pub word_count : Piece → ℕ
+word_count p = if nat_lt p.kind POLYGON then width p.dimension * p.count else 0
+
+-- these words
+abbrev pub own_words : List ℕ → Piece → List ℕ
+own_words buf p = items 8 (number p.order 8) (word_count p) (drop p.offset buf)
+
+-- whether a piece is a point whose words are all not-a-numbers
+abbrev pub is_empty : List ℕ → Piece → Bool
+is_empty buf p = (p.kind == POINT) && all_nan (own_words buf p)
+
+-- the words that are written of a piece: of an empty point the empty word in each place
+abbrev pub written_words : List ℕ → Piece → List ℕ
+written_words buf p = if is_empty buf p then replicate (word_count p) empty_word else own_words buf p
+
+-- what a piece says of the value
+pub record Share : Type 0 where
+  pub kind : ℕ
+  pub dimension : Dimension
+  pub count : ℕ
+  pub words : List ℕ
+
+abbrev pub share_in : List ℕ → Piece → Share
+share_in buf p =
+    record { kind = p.kind; dimension = p.dimension; count = p.count; words = written_words buf p }
+
+-- its encoding has three parts: a ring has no header, and a point no count
+abbrev pub header_part : Endianness → Form → ℕ → Dimension → List ℕ
+header_part order form k d =
+    if k == RING then [] else header_encoding order form (type_kind (type_of k d)) (type_dimension (type_of k d))
+
+abbrev pub count_part : Endianness → ℕ → ℕ → List ℕ
+count_part order k n = if k == POINT then [] else number_bytes order 4 n
+
+abbrev pub share_encoding : Endianness → Form → Share → List ℕ
+share_encoding order form x =
+    header_part order form x.kind x.dimension ++ (count_part order x.kind x.count ++ words_encoding order x.words)
+
+-- these bytes were put at this index, and end here
+pub record IsPut (old new : List ℕ) (at end : ℕ) (bytes : List ℕ) : Type 0 where
+  pub end_is : end ≡ at + length bytes
+  pub put : new ≡ sets old at bytes

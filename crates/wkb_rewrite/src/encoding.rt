@@ -1,0 +1,76 @@
+//! The encoding of a geometry that is known to be there, piece by piece.
+
+ghost use Rattle.std.specs.Prelude.{◌≡◌, ◌+◌, ◌≤◌, length, is_some, Option};
+ghost use lib.Seq.{sets};
+ghost use Rattle.wkb_geom.specs.declared.common.Endianness.{Endianness};
+ghost use Rattle.wkb_geom.specs.declared.words.TheConstants.{COUNT_SIZE};
+ghost use Rattle.wkb_geom.specs.Encodings.{encoding, IsForm, form_srid};
+ghost use Rattle.wkb_geom.specs.Geometries.{geometry_of};
+ghost use Rattle.wkb_geom.specs.Refusals.{srid_size as size_of_srid};
+ghost use Rattle.wkb_check.specs.Bounded.{HasGeometry};
+ghost use Rattle.wkb_rewrite.specs.Rewritings.{IsLong};
+
+use crate::put::put_piece;
+use crate::target::Target;
+use wkb_check::Pieces;
+use wkb_geom::Form;
+use wkb_geom::words::COUNT_SIZE;
+
+/// The SRID that is written under a form.
+#[inline(always)]
+fn srid_of(form: Form) -> Option<u32>
+    ensures is { result ≡ form_srid form }
+    ensures form { IsForm form }
+{
+    match form {
+        Form::Iso => None,
+        Form::Ewkb { srid } => srid,
+    }
+}
+
+/// The size of an SRID, where there is one.
+#[inline(always)]
+fn srid_size(srid: Option<u32>) -> usize
+    ensures { result ≡ size_of_srid (is_some srid) }
+{
+    if srid.is_some() { COUNT_SIZE } else { 0 }
+}
+
+/// The size of the encoding under a form of a geometry that is known to be at the front of these bytes, and to have so
+/// many of them itself. Any order gives this size.
+pub fn encoded_size(buf: &[u8], bytes: usize, form: Form) -> usize
+    requires { IsLong buf.now bytes }
+    ensures size { (order : Endianness) (g : HasGeometry buf.now)
+        → result ≡ length (encoding order form (geometry_of g.value)) }
+    ensures bound { result ≤ bytes + COUNT_SIZE }
+{
+    // Only SRIDs make an encoding longer or shorter.
+    let mut size = bytes + srid_size(srid_of(form));
+    let mut pieces = Pieces::of(buf);
+    while let Some(piece) = pieces.next() {
+        size -= srid_size(piece.srid);
+    }
+    size
+}
+
+/// Puts the encoding of a geometry that is known to be at the front of these bytes at the front of a slice, which has
+/// room for it, and returns its size. What comes after it in the slice stays as it was.
+pub fn put_encoding(buf: &[u8], target: Target, out: &mut [u8]) -> usize
+    requires here { HasGeometry buf.now }
+    requires room { (g : HasGeometry buf.now)
+        → length (encoding target.order target.form (geometry_of g.value)) ≤ length out.old }
+    ensures size { (g : HasGeometry buf.now)
+        → result ≡ length (encoding target.order target.form (geometry_of g.value)) }
+    ensures put { (g : HasGeometry buf.now)
+        → out.new ≡ sets out.old 0 (encoding target.order target.form (geometry_of g.value)) }
+{
+    let mut at = 0;
+    let mut form = target.form;
+    let mut pieces = Pieces::of(buf);
+    while let Some(piece) = pieces.next() {
+        let order = target.order;
+        at = put_piece(buf, &piece, Target { order, form }, out, at);
+        form = form.inner();
+    }
+    at
+}

@@ -1,0 +1,13 @@
+//! Rewrites and compares geometries that are known to be at the front of bytes, piece by piece. No call asks for
+//! memory.
+#![tactic(auto)]
+
+mod comparison;
+mod encoding;
+mod own;
+mod put;
+mod target;
+
+pub use comparison::have_one_value;
+pub use encoding::{encoded_size, put_encoding};
+pub use target::Target;

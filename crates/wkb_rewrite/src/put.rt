@@ -1,0 +1,145 @@
+//! Pieces and their numbers, put into a slice.
+
+ghost use Rattle.std.specs.Prelude.{◌≡◌, ◌≤◌, ◌+◌, ◌*◌, ℕ, List, length, replicate};
+ghost use Rattle.wkb_geom.specs.declared.words.TheConstants.{COUNT_SIZE, WORD_SIZE};
+ghost use Rattle.wkb_geom.specs.Encodings.{srid_encoding, words_encoding};
+ghost use Rattle.wkb_geom.specs.Numbers.{number_bytes, empty_word};
+ghost use Rattle.wkb_check.specs.Pieces.{own_end};
+ghost use Rattle.wkb_rewrite.specs.Shares.{Holds, other, header_part, count_part, word_count};
+ghost use Rattle.wkb_rewrite.specs.Shares.{written_words, share_in, share_encoding, IsPut};
+
+use crate::own::{is_empty_point, own_bytes};
+use crate::target::Target;
+use wkb_check::{Piece, RING};
+use wkb_geom::Endianness;
+use wkb_geom::code::{POINT, of_kind};
+use wkb_geom::words::{COUNT_SIZE, EMPTY_WORD, WORD_SIZE};
+use wkb_sink::block::code_and_srid;
+use wkb_sink::{store_word, store_words, u32_bytes};
+
+/// Puts a number of four bytes, and returns the index after it.
+#[inline(always)]
+fn put_number(n: u32, order: Endianness, out: &mut [u8], at: usize) -> usize
+    requires { at + COUNT_SIZE ≤ length out.old }
+    ensures { IsPut out.old out.new at result (number_bytes order COUNT_SIZE n) }
+{
+    let end = at + COUNT_SIZE;
+    out[at..end].copy_from_slice(&u32_bytes(order, n));
+    end
+}
+
+/// Puts an SRID where there is one, and returns the index after it.
+#[inline(always)]
+fn put_srid(srid: Option<u32>, order: Endianness, out: &mut [u8], at: usize) -> usize
+    requires { at + length (srid_encoding order srid) ≤ length out.old }
+    ensures { IsPut out.old out.new at result (srid_encoding order srid) }
+{
+    match srid {
+        Some(srid) => put_number(srid, order, out, at),
+        None => at,
+    }
+}
+
+/// Puts the header of a geometry, and of a ring nothing, and returns the index after it.
+#[inline(always)]
+fn put_header(piece: &Piece, target: Target, out: &mut [u8], at: usize) -> usize
+    requires { at + length (header_part target.order target.form piece.now.kind piece.now.dimension)
+        ≤ length out.old }
+    ensures { IsPut out.old out.new at result
+        (header_part target.order target.form piece.now.kind piece.now.dimension) }
+{
+    if piece.kind == RING {
+        return at;
+    }
+    let (code, srid) = code_and_srid(target.form, of_kind(piece.kind, piece.dimension));
+    out[at] = target.order.byte();
+    let end = put_number(code, target.order, out, at + 1);
+    put_srid(srid, target.order, out, end)
+}
+
+/// Puts the count of a piece, and of a point nothing, and returns the index after it.
+#[inline(always)]
+fn put_count(piece: &Piece, order: Endianness, out: &mut [u8], at: usize) -> usize
+    requires { at + length (count_part order piece.now.kind piece.now.count) ≤ length out.old }
+    ensures { IsPut out.old out.new at result (count_part order piece.now.kind piece.now.count) }
+{
+    if piece.kind == POINT {
+        return at;
+    }
+    put_number(piece.count, order, out, at)
+}
+
+/// Stores the empty word in each place.
+#[inline(always)]
+fn store_empty(out: &mut [u8], order: Endianness)
+    ensures { (n : ℕ) → length out.old ≡ WORD_SIZE * n
+        → out.new ≡ words_encoding order (replicate n empty_word) }
+{
+    for i in 0..out.len() / WORD_SIZE {
+        store_word(&mut out[WORD_SIZE * i..], order, EMPTY_WORD);
+    }
+}
+
+/// Stores in an order the words that these bytes hold in the other one.
+#[inline(always)]
+fn store_turned(bytes: &[u8], order: Endianness, out: &mut [u8])
+    requires { length bytes.now ≡ length out.old }
+    ensures { (words : List ℕ) → Holds (other order) words bytes.now
+        → out.new ≡ words_encoding order words }
+{
+    // In each arm both orders are constants, for which the call is compiled.
+    match order {
+        Endianness::BigEndian => {
+            store_words(out, bytes, Endianness::LittleEndian, Endianness::BigEndian);
+        }
+        Endianness::LittleEndian => {
+            store_words(out, bytes, Endianness::BigEndian, Endianness::LittleEndian);
+        }
+    }
+}
+
+/// Stores the words that are written of a piece.
+#[inline(always)]
+fn store_written(buf: &[u8], piece: &Piece, order: Endianness, out: &mut [u8])
+    requires inside { own_end piece.now ≤ length buf.now }
+    requires room { length out.old ≡ WORD_SIZE * word_count piece.now }
+    ensures { out.new ≡ words_encoding order (written_words buf.now piece.now) }
+{
+    let words = own_bytes(buf, piece);
+    if is_empty_point(buf, piece) {
+        store_empty(out, order);
+    } else if piece.order == order {
+        out.copy_from_slice(words);
+    } else {
+        store_turned(words, order, out);
+    }
+}
+
+/// Puts the words of a piece, and returns the index after them.
+#[inline(always)]
+fn put_words(buf: &[u8], piece: &Piece, order: Endianness, out: &mut [u8], at: usize) -> usize
+    requires inside { own_end piece.now ≤ length buf.now }
+    requires room { at + length (words_encoding order (written_words buf.now piece.now))
+        ≤ length out.old }
+    ensures { IsPut out.old out.new at result
+        (words_encoding order (written_words buf.now piece.now)) }
+{
+    let end = at + own_bytes(buf, piece).len();
+    store_written(buf, piece, order, &mut out[at..end]);
+    end
+}
+
+/// Puts the encoding of a piece up to its rings or members, and returns the index after it.
+#[inline(always)]
+pub fn put_piece(buf: &[u8], piece: &Piece, target: Target, out: &mut [u8], start: usize) -> usize
+    requires inside { own_end piece.now ≤ length buf.now }
+    requires room { start
+        + length (share_encoding target.order target.form (share_in buf.now piece.now))
+        ≤ length out.old }
+    ensures { IsPut out.old out.new start result
+        (share_encoding target.order target.form (share_in buf.now piece.now)) }
+{
+    let count_at = put_header(piece, target, out, start);
+    let words_at = put_count(piece, target.order, out, count_at);
+    put_words(buf, piece, target.order, out, words_at)
+}
