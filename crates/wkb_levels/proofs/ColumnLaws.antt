@@ -1,0 +1,218 @@
+-- The singles of a row, from what its ends are.
+use Rattle.std.proofs.Common.{◌≡◌, ℕ, zero, suc, ◌+◌, ◌-◌, ◌/◌, ◌<◌, ◌≤◌, ◌↔◌, refl, sym, ap, ◌∙◌, subst, arith}
+use Rattle.std.proofs.Common.{List, [], ◌∷◌, length, take, drop, length-take, length-drop, slice_range}
+use Rattle.std.proofs.Common.{Option, Some, None, IsSome, IfSome}
+use Rattle.std.proofs.lemmas.Bool.{false≢true}
+use Rattle.std.proofs.lemmas.List.{drop-drop, take-take, drop-take}
+use Rattle.wkb_geom.specs.declared.common.Dimensions.{Dimensions}
+use Rattle.wkb_geom.specs.Dimensions.{size}
+use Rattle.wkb_plain.specs.Runs.{coordinates_in}
+use Rattle.wkb_levels.specs.declared.ends.Ends.{Ends}
+use Rattle.wkb_levels.specs.declared.levels.Levels.{Levels}
+use Rattle.wkb_levels.specs.Cuts.{start_at, AreEnds, pieces_from}
+use Rattle.wkb_levels.specs.EndLists.{start_of, ends_of, begin_of, AreEndsWithin}
+use Rattle.wkb_levels.specs.RingLists.{rings_in}
+use Rattle.wkb_levels.specs.Columns.{AreRowLevels, column_rings, singles_of, row_begin, row_end, AreEndsBetween}
+use Rattle.wkb_levels.proofs.Pieces.{length-pieces, slice_range-pieces, start_within, start_from}
+use Rattle.wkb_levels.proofs.Pieces.{rest_fit, last_of_part}
+
+-- some of some of the items
+inner_range : {A : Type 0} (items : List A) (r0 r1 s e : ℕ) → r0 ≤ s → s ≤ e → e ≤ r1
+    → slice_range (slice_range items r0 r1) (s - r0) (e - r0) ≡ slice_range items (s - 0) (e - 0)
+inner_range items r0 r1 s e a b c =
+    let whole : r1 - r0 ≡ s - r0 + (r1 - s) = omega (arith, a, b, c) in
+    let short : e - r0 - (s - r0) ≡ e - s = omega (arith, a, b) in
+    let there : r0 + (s - r0) ≡ s - 0 = omega (arith, a) in
+    let long : e - s ≡ e - 0 - (s - 0) = omega (arith, b) in
+    ap (λ k. take (e - r0 - (s - r0)) (drop (s - r0) (take k (drop r0 items)))) whole
+    ∙ ap (take (e - r0 - (s - r0))) (drop-take (s - r0) (r1 - s) (drop r0 items))
+    ∙ ap (λ k. take k (take (r1 - s) (drop (s - r0) (drop r0 items)))) short
+    ∙ take-take (e - s) (r1 - s) (drop (s - r0) (drop r0 items)) (omega (arith, c))
+    ∙ ap (take (e - s)) (drop-drop (s - r0) r0 items)
+    ∙ ap (λ k. take (e - s) (drop k items)) there
+    ∙ ap (λ k. take k (drop (s - 0) items)) long
+
+-- the pieces of some of the items are those of all, where the ends are within them
+pieces_within : {A : Type 0} (items : List A) (r0 r1 start : ℕ) (ends : List ℕ) → r0 ≤ start
+    → AreEnds r1 start ends → pieces_from r0 (slice_range items r0 r1) start ends ≡ pieces_from 0 items start ends
+pieces_within items r0 r1 start [] h are = refl
+pieces_within items r0 r1 start (e ∷ ends) h are =
+    let first = are.1 0 (omega arith) in
+    ap (λ p. p ∷ pieces_from r0 (slice_range items r0 r1) e ends) (inner_range items r0 r1 start e h first.0 first.1)
+    ∙ ap (λ ps. slice_range items (start - 0) (e - 0) ∷ ps)
+    (pieces_within items r0 r1 e ends (omega (arith, h, first.0)) (rest_fit r1 start e ends are))
+
+-- ---- some items of a level
+
+-- these are the items of a level from one number up to another
+pub record HasPart (e : Ends) (from to : ℕ) (part : Ends) : Type 0 where
+  pub order : from ≤ to
+  pub within : to ≤ length (ends_of e)
+  pub start : start_of part ≡ begin_of e from
+  pub ends : ends_of part ≡ slice_range (ends_of e) from to
+
+pub has_part : (e : Ends) (b t : ℕ) (part : Ends) (from to : ℕ) → b ≡ from → t ≡ to → (b ≤ t) × (t ≤ length (ends_of e))
+    → start_of part ≡ begin_of e b → ends_of part ≡ slice_range (ends_of e) b t → HasPart e from to part
+has_part e b t part from to at till are start ends =
+    record {
+      order = omega (arith, are, at, till);
+      within = omega (arith, are, at, till);
+      start = start ∙ ap (begin_of e) at;
+      ends = ends ∙ ap (λ k. slice_range (ends_of e) k t) at ∙ ap (slice_range (ends_of e) from) till;
+    }
+
+-- they end in order if the level does there
+pub part_ends : (limit : ℕ) (e : Ends) (from to : ℕ) (part : Ends) → HasPart e from to part
+    → AreEndsBetween limit e from to → AreEndsWithin limit part
+part_ends limit e from to part has are = rw (has.start, has.ends) are
+
+pub ends_there : (limit : ℕ) (e : Ends) (from to : ℕ) (part : Ends) → HasPart e from to part
+    → AreEndsWithin limit part → AreEndsBetween limit e from to
+ends_there limit e from to part has are =
+    subst (λ T. T) (λ i. AreEnds limit (has.start i) (has.ends i)) are
+
+-- the last of them ends where the level does there
+pub part_last : (e : Ends) (from to : ℕ) (part : Ends) → HasPart e from to part
+    → begin_of part (length (ends_of part)) ≡ begin_of e to
+part_last e from to part has =
+    ap (λ k. start_at k (ends_of part) (length (ends_of part))) has.start
+    ∙ ap (λ x. start_at (begin_of e from) x (length x)) has.ends
+    ∙ last_of_part (start_of e) (ends_of e) from to has.order has.within
+
+pub part_count : (e : Ends) (from to : ℕ) (part : Ends) → HasPart e from to part → length (ends_of part) ≡ to - from
+part_count e from to part has =
+    omega (
+      arith,
+      ap length has.ends,
+      length-take (to - from) (drop from (ends_of e)),
+      length-drop from (ends_of e),
+      has.within,
+    )
+
+-- where ends are in order the first is not behind the last
+pub rises : (limit : ℕ) (e : Ends) → AreEndsWithin limit e
+    → (start_of e ≤ begin_of e (length (ends_of e))) × (begin_of e (length (ends_of e)) ≤ limit)
+rises limit e are = (
+  start_from limit (start_of e) (ends_of e) (length (ends_of e)) are (omega arith),
+  start_within limit (start_of e) (ends_of e) (length (ends_of e)) are (omega arith),
+)
+
+ascend : (limit start : ℕ) (ends : List ℕ) (i k : ℕ) → AreEnds limit start ends → i + k ≤ length ends
+    → start_at start ends i ≤ start_at start ends (i + k)
+ascend limit start ends i zero are h = let same : i ≡ i + 0 = omega arith in rw (← same) (omega arith)
+ascend limit start ends i (suc k) are h =
+    let up : suc (i + k) ≡ i + suc k = omega arith in
+    let more : start_at start ends i ≤ start_at start ends (suc (i + k)) =
+    omega (arith, ascend limit start ends i k are (omega (arith, h)), (are.1 (i + k) (omega (arith, h))).0) in
+    rw (← up) more
+
+-- the last end is a limit
+pub to_last : (limit : ℕ) (e : Ends) (n : ℕ) → n ≡ begin_of e (length (ends_of e)) → AreEndsWithin limit e
+    → AreEndsWithin n e
+to_last limit e n last are = (
+  omega (arith, last, (rises limit e are).0),
+  λ i h.
+      let rest : suc i + (length (ends_of e) - suc i) ≡ length (ends_of e) = omega (arith, h) in
+      let up = rw rest at
+      (ascend limit (start_of e) (ends_of e) (suc i) (length (ends_of e) - suc i) are (omega (arith, h))) in
+      ((are.1 i h).0, omega (arith, up, last)),
+)
+
+pub up_to : (n limit : ℕ) (e : Ends) → n ≤ limit → AreEndsWithin n e → AreEndsWithin limit e
+up_to n limit e more are =
+    (omega (arith, are.0, more), λ i h. let one = are.1 i h in (one.0, omega (arith, one.1, more)))
+
+-- ---- a row: its singles `s`, and the rings that these span, `r`
+
+module _ (l : Levels) (d : Dimensions) (i : ℕ) (s : Ends)
+    (has : HasPart l.single_ends (row_begin l i) (row_end l i) s) where
+  -- if its levels are in order, its singles span some of the rings
+  pub spans_some : AreRowLevels l d i
+      → (start_of s ≤ begin_of s (length (ends_of s)))
+      × (begin_of s (length (ends_of s)) ≤ length (ends_of l.ring_ends))
+  spans_some are =
+      rises (length (ends_of l.ring_ends)) s
+      (part_ends (length (ends_of l.ring_ends)) l.single_ends (row_begin l i) (row_end l i) s has are.singles)
+
+  module _ (r : Ends) (spans : HasPart l.ring_ends (start_of s) (begin_of s (length (ends_of s))) r) where
+    -- these are in order
+    pub rings_fit : AreRowLevels l d i → (0 < size d) × AreEndsWithin (length l.words.now / size d) r
+    rings_fit are = (
+      are.some_words,
+      part_ends (length l.words.now / size d) l.ring_ends (start_of s) (begin_of s (length (ends_of s))) r spans
+          (rw (part_last l.single_ends (row_begin l i) (row_end l i) s has, has.start) are.rings),
+    )
+
+    pub count_rings : (rings : List (List (List ℕ))) → rings ≡ rings_in d l.words.now r
+        → start_of s + length rings ≡ begin_of s (length (ends_of s))
+    count_rings rings are =
+        omega (
+          arith,
+          ap length are,
+          length-pieces 0 (coordinates_in d l.words.now) (start_of r) (ends_of r),
+          part_count l.ring_ends (start_of s) (begin_of s (length (ends_of s))) r spans,
+          spans.order,
+        )
+
+    -- the singles end within them exactly if the row's levels are in order
+    pub levels_are : (n : ℕ) → n ≡ begin_of s (length (ends_of s))
+        → (0 < size d) × AreEndsWithin (length l.words.now / size d) r → AreEndsWithin n s ↔ AreRowLevels l d i
+    levels_are n last fit = (
+      λ are.
+          record {
+            some_words = fit.0;
+            order = has.order;
+            within = has.within;
+            singles = ends_there (length (ends_of l.ring_ends)) l.single_ends (row_begin l i) (row_end l i) s has
+                (up_to n (length (ends_of l.ring_ends)) s (omega (arith, last, spans.within)) are);
+            rings = rw (← has.start, ← part_last l.single_ends (row_begin l i) (row_end l i) s has)
+                (ends_there (length l.words.now / size d) l.ring_ends (start_of s) (begin_of s (length (ends_of s))) r
+                spans fit.1);
+          },
+      λ are.
+          to_last (length (ends_of l.ring_ends)) s n last
+          (part_ends (length (ends_of l.ring_ends)) l.single_ends (row_begin l i) (row_end l i) s has are.singles),
+    )
+
+    -- and then the polygons of the rings are the row's singles
+    pub polygons_are : (n : ℕ) (rings : List (List (List ℕ))) → n ≡ begin_of s (length (ends_of s))
+        → rings ≡ rings_in d l.words.now r → AreEndsWithin n s
+        → pieces_from (start_of s) rings (start_of s) (ends_of s) ≡ singles_of l d i
+    polygons_are n rings last are fit =
+        ap (λ x. pieces_from (start_of s) x (start_of s) (ends_of s)) spanned
+        ∙ pieces_within (column_rings l d) (start_of s) n (start_of s) (ends_of s) (omega arith) fit
+        ∙ ap (λ k. pieces_from 0 (column_rings l d) k (ends_of s)) has.start
+        ∙ ap (pieces_from 0 (column_rings l d) (begin_of l.single_ends (row_begin l i))) has.ends
+        ∙ slice_range-pieces 0 (column_rings l d) (start_of l.single_ends) (ends_of l.single_ends) (row_begin l i)
+        (row_end l i) (omega (arith, has.order, has.within)) where
+          spanned : rings ≡ slice_range (column_rings l d) (start_of s) n
+          spanned =
+              are
+              ∙ ap (λ k. pieces_from 0 (coordinates_in d l.words.now) k (ends_of r)) spans.start
+              ∙ ap (pieces_from 0 (coordinates_in d l.words.now) (begin_of l.ring_ends (start_of s))) spans.ends
+              ∙ slice_range-pieces 0 (coordinates_in d l.words.now) (start_of l.ring_ends) (ends_of l.ring_ends)
+              (start_of s) (begin_of s (length (ends_of s))) (omega (arith, spans.order, spans.within))
+              ∙ ap (slice_range (column_rings l d) (start_of s)) (sym last)
+
+-- its last single ends within the rings
+pub end_within : (l : Levels) (d : Dimensions) (i k : ℕ) → k ≡ row_end l i → AreRowLevels l d i
+    → begin_of l.single_ends k ≤ length (ends_of l.ring_ends)
+end_within l d i k at are =
+    let part = slice_range (ends_of l.single_ends) (row_begin l i) (row_end l i) in
+    rw at (subst (λ n. n ≤ length (ends_of l.ring_ends))
+    (last_of_part (start_of l.single_ends) (ends_of l.single_ends) (row_begin l i) (row_end l i) are.order are.within)
+    (start_within (length (ends_of l.ring_ends)) (begin_of l.single_ends (row_begin l i)) part (length part) are.singles
+    (omega arith)))
+
+-- ---- what follows from an option
+
+pub none_exactly : {A P : Type 0} (o : Option A) → o ≡ None → (P → ⊥) → IsSome o ↔ P
+none_exactly o is differ = (λ some. absurd (false≢true (subst IsSome is some)), λ p. absurd (differ p))
+
+pub some_told : {A B F : Type 0} (f : A → B) (x y : B) (o : Option A) → IsSome o ↔ F → IfSome o (λ a. f a ≡ x)
+    → (F → x ≡ y) → IfSome o (λ a. f a ≡ y)
+some_told f x y None some are same = tt
+some_told f x y (Some a) some are same = are ∙ same (some.0 refl)
+
+pub follows_on : {A F G : Type 0} (o : Option A) → IsSome o ↔ F → F ↔ G → IsSome o ↔ G
+follows_on o some same = (λ s. same.0 (some.0 s), λ g. some.1 (same.1 g))

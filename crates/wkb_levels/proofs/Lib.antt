@@ -1,0 +1,7 @@
+pub mod OnesEach
+pub mod Pieces
+pub mod RingLaws
+pub mod PolygonLaws
+pub mod ColumnLaws
+pub mod Floors
+pub mod RowWrites

@@ -1,0 +1,235 @@
+-- The pieces between ends, one by one, and some of them; and the coordinates in some of the words.
+use Rattle.std.proofs.Common.{◌≡◌, ℕ, zero, suc, ◌+◌, ◌-◌, ◌*◌, ◌/◌, ◌<◌, ◌≤◌, refl, sym, ap, ◌∙◌, arith}
+use Rattle.std.proofs.Common.{List, [], ◌∷◌, length, take, drop, length-take, length-drop, Option, Some, slice_get}
+use Rattle.std.proofs.Common.{option_map}
+use Rattle.std.proofs.Common.{slice_index, slice_range, None, inl, inr}
+use Rattle.std.proofs.lemmas.Bool.{cases_eq}
+use Rattle.std.proofs.Math.Nat.{mul-le-mul_left, mul-div-le, mul-div_cancel_left, mul-sub, mul-zero}
+use Rattle.std.proofs.lemmas.List.{drop-drop, take-take, drop-take, get_or-drop, get_or-take}
+use Rattle.wkb_geom.specs.declared.common.Dimensions.{Dimensions}
+use Rattle.wkb_geom.specs.Dimensions.{size}
+use Rattle.wkb_plain.specs.Runs.{runs, coordinates_in}
+use Rattle.wkb_levels.specs.Cuts.{start_at, AreEnds, AreOnes, pieces_from, only, and_then, only_each}
+
+pub length-pieces : {A : Type 0} (base : ℕ) (items : List A) (start : ℕ) (ends : List ℕ)
+    → length (pieces_from base items start ends) ≡ length ends
+length-pieces base items start [] = refl
+length-pieces base items start (e ∷ ends) = omega (arith, length-pieces base items e ends)
+
+-- where an item begins, seen from the end of the first
+pub start_behind : (start e : ℕ) (ends : List ℕ) (i : ℕ) → start_at e ends i ≡ start_at start (e ∷ ends) (suc i)
+start_behind start e ends zero = refl
+start_behind start e ends (suc i) = refl
+
+pub slice_get-pieces : {A : Type 0} (base : ℕ) (items : List A) (start : ℕ) (ends : List ℕ) (i : ℕ) → i < length ends
+    → slice_get (pieces_from base items start ends) i
+    ≡ Some (slice_range items (start_at start ends i - base) (slice_index ends i - base))
+slice_get-pieces base items start [] i h = absurd (omega arith)
+slice_get-pieces base items start (e ∷ ends) zero h = refl
+slice_get-pieces base items start (e ∷ ends) (suc i) h =
+    slice_get-pieces base items e ends i (omega arith)
+    ∙ ap (λ n. Some (slice_range items (n - base) (slice_index ends i - base))) (start_behind start e ends i)
+
+drop-pieces : {A : Type 0} (base : ℕ) (items : List A) (start : ℕ) (ends : List ℕ) (k : ℕ) → k ≤ length ends
+    → drop k (pieces_from base items start ends) ≡ pieces_from base items (start_at start ends k) (drop k ends)
+drop-pieces base items start ends zero h = refl
+drop-pieces base items start [] (suc k) h = absurd (omega arith)
+drop-pieces base items start (e ∷ ends) (suc k) h =
+    drop-pieces base items e ends k (omega arith)
+    ∙ ap (λ n. pieces_from base items n (drop k ends)) (start_behind start e ends k)
+
+take-pieces : {A : Type 0} (base : ℕ) (items : List A) (start : ℕ) (ends : List ℕ) (k : ℕ)
+    → take k (pieces_from base items start ends) ≡ pieces_from base items start (take k ends)
+take-pieces base items start ends zero = refl
+take-pieces base items start [] (suc k) = refl
+take-pieces base items start (e ∷ ends) (suc k) =
+    ap (λ rest. slice_range items (start - base) (e - base) ∷ rest) (take-pieces base items e ends k)
+
+-- some of the pieces are the pieces between some of the ends
+pub slice_range-pieces : {A : Type 0} (base : ℕ) (items : List A) (start : ℕ) (ends : List ℕ) (from to : ℕ)
+    → from ≤ length ends
+    → pieces_from base items (start_at start ends from) (slice_range ends from to)
+    ≡ slice_range (pieces_from base items start ends) from to
+slice_range-pieces base items start ends from to h =
+    sym (ap (take (to - from)) (drop-pieces base items start ends from h)
+    ∙ take-pieces base items (start_at start ends from) (drop from ends) (to - from))
+
+-- ---- ends
+
+pub start_within : (limit start : ℕ) (ends : List ℕ) (i : ℕ) → AreEnds limit start ends → i ≤ length ends
+    → start_at start ends i ≤ limit
+start_within limit start ends zero are h = are.0
+start_within limit start ends (suc i) are h = (are.1 i (omega arith)).1
+
+pub start_from : (limit start : ℕ) (ends : List ℕ) (i : ℕ) → AreEnds limit start ends → i ≤ length ends
+    → start ≤ start_at start ends i
+start_from limit start ends zero are h = omega arith
+start_from limit start ends (suc i) are h =
+    omega (arith, start_from limit start ends i are (omega arith), (are.1 i (omega arith)).0)
+
+part_index : (ends : List ℕ) (from k i : ℕ) → i < k
+    → slice_index (take k (drop from ends)) i ≡ slice_index ends (from + i)
+part_index ends from k i h = get_or-take k (drop from ends) i 0 h ∙ get_or-drop from ends i 0
+
+pub part_start : (start : ℕ) (ends : List ℕ) (from k b i : ℕ) → b ≡ start_at start ends from → i ≤ k
+    → start_at b (take k (drop from ends)) i ≡ start_at start ends (from + i)
+part_start start ends from k b zero at h = at ∙ ap (start_at start ends) (omega arith)
+part_start start ends from k b (suc i) at h =
+    let next : suc (from + i) ≡ from + suc i = omega arith in
+    part_index ends from k i (omega arith) ∙ ap (start_at start ends) next
+
+-- the last of some of the ends
+pub last_of_part : (start : ℕ) (ends : List ℕ) (from to : ℕ) → from ≤ to → to ≤ length ends
+    → start_at (start_at start ends from) (slice_range ends from to) (length (slice_range ends from to))
+    ≡ start_at start ends to
+last_of_part start ends from to order within =
+    let long : length (slice_range ends from to) ≡ to - from =
+    omega (arith, length-take (to - from) (drop from ends), length-drop from ends, order, within) in
+    let there : from + (to - from) ≡ to = omega (arith, order) in
+    ap (start_at (start_at start ends from) (slice_range ends from to)) long
+    ∙ part_start start ends from (to - from) _ (to - from) refl (omega arith)
+    ∙ ap (start_at start ends) there
+
+-- some of the ends are in order too
+pub part_fits : (limit start : ℕ) (ends : List ℕ) (from to b : ℕ) → AreEnds limit start ends → from ≤ to
+    → to ≤ length ends → b ≡ start_at start ends from → AreEnds limit b (take (to - from) (drop from ends))
+part_fits limit start ends from to b are order within at = (
+  rw at (start_within limit start ends from are (omega arith)),
+  λ i h.
+      let inside : i < to - from = omega (arith, h, length-take (to - from) (drop from ends)) in
+      let old = are.1 (from + i) (omega arith) in (
+        rw (part_start start ends from (to - from) b i at (omega arith))
+            (rw (part_index ends from (to - from) i inside) old.0),
+        rw (part_index ends from (to - from) i inside) old.1,
+      ),
+)
+
+-- ---- items of one item each
+
+one_more : {A : Type 0} (items : List A) (start : ℕ) → start < length items
+    → (x : A) × (drop start items ≡ x ∷ drop (suc start) items)
+one_more [] start h = absurd (omega arith)
+one_more (x ∷ items) zero h = (x, refl)
+one_more (x ∷ items) (suc start) h = one_more items start (omega arith)
+
+pub ones_at : (start : ℕ) (ends : List ℕ) (i : ℕ) → AreOnes start ends → i ≤ length ends
+    → start_at start ends i ≡ start + i
+ones_at start ends zero ones h = omega arith
+ones_at start ends (suc i) ones h =
+    omega (arith, ones i (omega arith), ones_at start ends i ones (omega arith))
+
+pub ones_only : {A : Type 0} (base : ℕ) (items : List A) (start : ℕ) (ends : List ℕ) → base ≤ start → AreOnes start ends
+    → start - base + length ends ≤ length items
+    → only_each (pieces_from base items start ends) ≡ Some (take (length ends) (drop (start - base) items))
+ones_only base items start [] low ones h = refl
+ones_only base items start (e ∷ ends) low ones h =
+    let next : e ≡ start + 1 = ones 0 (omega arith) in
+    let k = start - base in
+    let m = one_more items k (omega arith) in
+    let rest = ones_only base items e ends (omega (arith, low, next))
+    (λ i lt. ones (suc i) (omega (arith, lt)) ∙ ap (λ b. b + 1) (sym (start_behind start e ends i)))
+    (omega (arith, next, low, h)) in
+    let wide : e - base - k ≡ 1 = omega (arith, next, low) in
+    let up : e - base ≡ suc k = omega (arith, next, low) in
+    ap (λ o. and_then (λ a. option_map (λ more. a ∷ more) o) (only (take (e - base - k) (drop k items)))) rest
+    ∙ ap (λ n. and_then (λ a. Some (a ∷ take (length ends) (drop (e - base) items))) (only (take n (drop k items))))
+    wide
+    ∙ ap (λ l. and_then (λ a. Some (a ∷ take (length ends) (drop (e - base) items))) (only (take 1 l))) m.1
+    ∙ ap (λ n. Some (m.0 ∷ take (length ends) (drop n items))) up
+    ∙ ap (λ l. Some (take (suc (length ends)) l)) (sym m.1)
+
+pub not_only : {A : Type 0} (items : List A) → (length items ≡ 1 → ⊥) → only items ≡ None
+not_only [] differ = refl
+not_only (a ∷ []) differ = absurd (differ refl)
+not_only (a ∷ b ∷ items) differ = refl
+
+no_rest : {A B C : Type 0} (f : A → B → C) (o : Option A) → and_then (λ a. option_map (f a) None) o ≡ None
+no_rest f None = refl
+no_rest f (Some a) = refl
+
+pub rest_fit : (limit start e : ℕ) (ends : List ℕ) → AreEnds limit start (e ∷ ends) → AreEnds limit e ends
+rest_fit limit start e ends are = (
+  (are.1 0 (omega arith)).1,
+  λ i h. let a = are.1 (suc i) (omega (arith, h)) in (rw (start_behind start e ends i) a.0, a.1),
+)
+
+-- where not each end is one more, not each has one item
+pub not_ones : {A : Type 0} (base : ℕ) (items : List A) (limit start : ℕ) (ends : List ℕ) → base ≤ start
+    → limit - base ≤ length items → AreEnds limit start ends → (AreOnes start ends → ⊥)
+    → only_each (pieces_from base items start ends) ≡ None
+not_ones base items limit start [] low whole are differ = absurd (differ (λ i h. absurd (omega (arith, h))))
+not_ones base items limit start (e ∷ ends) low whole are differ =
+    let first = slice_range items (start - base) (e - base) in
+    let here = are.1 0 (omega arith) in
+    elim (cases_eq e (start + 1)) [
+      | inl one ↦
+          ap (λ o. and_then (λ a. option_map (λ more. a ∷ more) o) (only first))
+          (not_ones base items limit e ends (omega (arith, low, one)) whole (rest_fit limit start e ends are)
+          (λ ones. differ (λ i h. each_one i h one ones)))
+          ∙ no_rest (λ a more. a ∷ more) (only first)
+      | inr other ↦
+          ap (and_then (λ a. option_map (λ more. a ∷ more) (only_each (pieces_from base items e ends))))
+          (not_only first (λ l. other (omega (
+            arith,
+            l,
+            low,
+            whole,
+            here,
+            length-take (e - base - (start - base)) (drop (start - base) items),
+            length-drop (start - base) items,
+          ))))
+    ] where
+      each_one : (i : ℕ) → i < length (e ∷ ends) → e ≡ start + 1 → AreOnes e ends
+          → slice_index (e ∷ ends) i ≡ start_at start (e ∷ ends) i + 1
+      each_one zero h one ones = one
+      each_one (suc i) h one ones = ones i (omega (arith, h)) ∙ ap (λ k. k + 1) (start_behind start e ends i)
+
+-- ---- coordinates
+
+drop-runs : (width count k : ℕ) (words : List ℕ) → k ≤ count
+    → drop k (runs width count words) ≡ runs width (count - k) (drop (width * k) words)
+drop-runs width count zero words h =
+    let rest : count ≡ count - 0 = omega arith in
+    ap (λ n. runs width n words) rest ∙ ap (λ n. runs width (count - 0) (drop n words)) (sym (mul-zero width))
+drop-runs width zero (suc k) words h = absurd (omega arith)
+drop-runs width (suc count) (suc k) words h =
+    drop-runs width count k (drop width words) (omega arith)
+    ∙ ap (λ l. runs width (count - k) l) (drop-drop (width * k) width words ∙ ap (λ n. drop n words) (omega arith))
+    ∙ ap (λ n. runs width n (drop (width * suc k) words)) (omega arith)
+
+take-runs : (width count k : ℕ) (words : List ℕ) → k ≤ count
+    → take k (runs width count words) ≡ runs width k (take (width * k) words)
+take-runs width count zero words h = refl
+take-runs width zero (suc k) words h = absurd (omega arith)
+take-runs width (suc count) (suc k) words h =
+    ap (λ rest. take width words ∷ rest) (take-runs width count k (drop width words) (omega arith)
+    ∙ ap (runs width k) (sym (drop-take width (width * k) words)))
+    ∙ ap (λ first. first ∷ runs width k (drop width (take (width + width * k) words)))
+    (sym (take-take width (width + width * k) words (omega arith)))
+    ∙ ap (λ n. take width (take n words) ∷ runs width k (drop width (take n words))) (omega arith)
+
+-- some of the coordinates are those in some of the words
+pub coordinates_between : (d : Dimensions) (words : List ℕ) (from to : ℕ) → 0 < size d → from ≤ to
+    → to ≤ length words / size d
+    → coordinates_in d (slice_range words (size d * from) (size d * to)) ≡ slice_range (coordinates_in d words) from to
+coordinates_between d words from to some order within =
+    let w = size d in
+    let count = length words / w in
+    let wide : w * to - w * from ≡ w * (to - from) = sym (mul-sub w to from) in
+    let whole : w * to ≤ length words = omega (arith, mul-le-mul_left w within, mul-div-le (length words) w) in
+    let long : length (slice_range words (w * from) (w * to)) ≡ w * (to - from) =
+    omega (
+      arith,
+      wide,
+      whole,
+      length-take (w * to - w * from) (drop (w * from) words),
+      length-drop (w * from) words,
+      mul-le-mul_left w order,
+    ) in
+    ap (λ n. runs w (n / w) (slice_range words (w * from) (w * to))) long
+    ∙ ap (λ n. runs w n (slice_range words (w * from) (w * to))) (mul-div_cancel_left (to - from) some)
+    ∙ ap (λ n. runs w (to - from) (take n (drop (w * from) words))) wide
+    ∙ sym (take-runs w (count - from) (to - from) (drop (w * from) words) (omega arith))
+    ∙ ap (take (to - from)) (sym (drop-runs w count from words (omega arith)))
+
+pub ruleset piece_laws = (length-pieces, slice_get-pieces, slice_range-pieces)

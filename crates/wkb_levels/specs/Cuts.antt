@@ -1,0 +1,52 @@
+-- Lists that are cut out of one longer list by the ends of their items.
+use Rattle.std.specs.Prelude.{◌≡◌, ℕ, zero, suc, ◌+◌, ◌-◌, ◌≤◌, ◌<◌, List, [], ◌∷◌, length, All, slice_index}
+use Rattle.std.specs.Prelude.{slice_range}
+use Rattle.std.specs.Prelude.{Option, Some, None}
+use Rattle.std.specs.Option.{option_map}
+use Rattle.std.specs.List.{AllByRecursion}
+use Rattle.std.proofs.lemmas.List.Elements.{All-take, All-drop, recursion_from_All}
+
+-- where item i begins, where the first begins at `start`
+abbrev pub start_at : ℕ → List ℕ → ℕ → ℕ
+start_at start ends zero = start
+start_at start ends (suc i) = slice_index ends i
+
+-- the ends don't fall, from the start on, and none passes the limit
+abbrev pub AreEnds : ℕ → ℕ → List ℕ → Type 0
+AreEnds limit start ends =
+    (start ≤ limit)
+    × ((i : ℕ) → i < length ends → (start_at start ends i ≤ slice_index ends i) × (slice_index ends i ≤ limit))
+
+-- each end is one more than the one before it
+abbrev pub AreOnes : ℕ → List ℕ → Type 0
+AreOnes start ends = (i : ℕ) → i < length ends → slice_index ends i ≡ start_at start ends i + 1
+
+-- The items of a list from each end up to the next. The first item of the list has the number `base`.
+abbrev pub pieces_from : {A : Type 0} → ℕ → List A → ℕ → List ℕ → List (List A)
+pieces_from base items start [] = []
+pieces_from base items start (e ∷ ends) =
+    slice_range items (start - base) (e - base) ∷ pieces_from base items e ends
+
+-- what holds of all items holds of all items of the pieces
+pub pieces-all : {A : Type 0} (P : A → Type 0) (base : ℕ) (items : List A) (start : ℕ) (ends : List ℕ) → All P items
+    → AllByRecursion (AllByRecursion P) (pieces_from base items start ends)
+pieces-all P base items start [] all = tt
+pieces-all P base items start (e ∷ ends) all = (
+  recursion_from_All P _ (All-take P (e - base - (start - base)) _ (All-drop P (start - base) items all)),
+  pieces-all P base items e ends all,
+)
+
+-- the one item of a list of one item
+abbrev pub only : {A : Type 0} → List A → Option A
+only [] = None
+only (a ∷ []) = Some a
+only (a ∷ b ∷ rest) = None
+
+abbrev pub and_then : {A B : Type 0} → (A → Option B) → Option A → Option B
+and_then f None = None
+and_then f (Some a) = f a
+
+-- the one item of each list
+abbrev pub only_each : {A : Type 0} → List (List A) → Option (List A)
+only_each [] = Some []
+only_each (items ∷ rest) = and_then (λ a. option_map (λ more. a ∷ more) (only_each rest)) (only items)

@@ -1,0 +1,26 @@
+-- What rings one after another mean.
+use Rattle.std.specs.Prelude.{ℕ, List}
+use Rattle.std.specs.List.{AllByRecursion}
+use Rattle.std.proofs.lemmas.List.Elements.{All-from_recursion}
+use Rattle.wkb_geom.specs.declared.common.Dimensions.{Dimensions}
+use Rattle.wkb_geom.specs.Geometries.{IsCoordinate, AreCoordinates}
+use Rattle.wkb_plain.specs.Runs.{coordinates_in, coordinates_in-lawful}
+use Rattle.wkb_levels.specs.declared.rings.Rings.{Rings}
+use Rattle.wkb_levels.specs.declared.ends.Ends.{Ends}
+use Rattle.wkb_levels.specs.Cuts.{pieces_from, pieces-all}
+use Rattle.wkb_levels.specs.EndLists.{start_of, ends_of}
+
+-- the rings of the coordinates in some words
+abbrev pub rings_in : Dimensions → List ℕ → Ends → List (List (List ℕ))
+rings_in d words e = pieces_from 0 (coordinates_in d words) (start_of e) (ends_of e)
+
+abbrev pub rings_dimensions : Rings → Dimensions
+rings_dimensions r = r.dim
+
+abbrev pub rings_rings : Rings → List (List (List ℕ))
+rings_rings r = rings_in r.dim r.words.now r.ends
+
+pub rings_lawful : (r : Rings) → AllByRecursion (AreCoordinates (rings_dimensions r)) (rings_rings r)
+rings_lawful r =
+    pieces-all (IsCoordinate r.dim) 0 (coordinates_in r.dim r.words.now) (start_of r.ends) (ends_of r.ends)
+    (All-from_recursion (IsCoordinate r.dim) _ (coordinates_in-lawful r.dim r.words.now r.in_range))

@@ -1,0 +1,29 @@
+-- What becomes of a row that is written.
+use Rattle.std.specs.Prelude.{◌≡◌, ℕ, ◌<◌, ◌++◌, List, None, length, drop}
+use Rattle.wkb_geom.specs.declared.common.Dimensions.{Dimensions}
+use Rattle.wkb_geom.specs.Geometries.{Geometry}
+use Rattle.wkb_sink.specs.declared.options.WriteOptions.{WriteOptions}
+use Rattle.wkb_write.specs.Prelude.{encoding_of, refusal_of}
+use Rattle.wkb_levels.specs.declared.levels.Levels.{Levels}
+use Rattle.wkb_levels.specs.declared.row.Kind.{Kind}
+use Rattle.wkb_levels.specs.declared.write.Written.{Written}
+use Rattle.wkb_levels.specs.declared.write.Written.TheVariants as written
+use Rattle.wkb_levels.specs.Meant.{IsLevelRow}
+
+-- these bytes are the encoding of row i
+pub record HasRowEncoding (l : Levels) (kind : Kind) (d : Dimensions) (o : WriteOptions) (i : ℕ) (bytes : List ℕ)
+    : Type 0 where
+  pub geometry : Geometry
+  pub row : IsLevelRow l kind d i geometry
+  pub writable : refusal_of o geometry ≡ None
+  pub is : bytes ≡ encoding_of o geometry
+
+-- what was told of row i, and what became of the bytes
+pub data IsRowWrite (l : Levels) (kind : Kind) (d : Dimensions) (o : WriteOptions) (i : ℕ) (before after : List ℕ)
+    (told : Written) : Type 0 where
+  put : (bytes : List ℕ) → HasRowEncoding l kind d o i bytes → told ≡ written.Whole (length bytes)
+      → after ≡ bytes ++ drop (length bytes) before → IsRowWrite l kind d o i before after told
+  lacks : (bytes : List ℕ) → HasRowEncoding l kind d o i bytes → told ≡ written.LacksRoom (length bytes)
+      → length before < length bytes → after ≡ before → IsRowWrite l kind d o i before after told
+  unfit : ((bytes : List ℕ) → HasRowEncoding l kind d o i bytes → ⊥) → told ≡ written.Unfit → after ≡ before
+      → IsRowWrite l kind d o i before after told

@@ -1,0 +1,166 @@
+//! A row of a column, as a geometry of the column's kind.
+
+ghost use Rattle.std.specs.Prelude.{◌≡◌, ◌<◌, ◌+◌, length, None, IfOk, IfErr, IfSome, MatchOption};
+ghost use Rattle.std.specs.Option.{option_map};
+ghost use Rattle.wkb_geom.specs.Geometries.{Geometry};
+ghost use Rattle.wkb_plain.specs.Kinds.{line_string_coordinates, coord_words, coord_dimensions};
+ghost use Rattle.wkb_plain.specs.Kinds.{line_string_dimensions};
+ghost use Rattle.wkb_write.specs.Prelude.{encoding_of, refusal_of, IsSizeOf, IsInFront, IsSliceError};
+ghost use Rattle.wkb_levels.specs.Columns.{IsFloor};
+ghost use Rattle.wkb_levels.specs.Cuts.{only};
+ghost use Rattle.wkb_levels.specs.EndLists.{ends_of};
+ghost use Rattle.wkb_levels.specs.Meant.{row_meant, kind_meant, rings_meant, single_meant, IsLevelRow};
+ghost use Rattle.wkb_levels.specs.PolygonLists.{polygons_dimensions, polygons_polygons};
+ghost use Rattle.wkb_levels.specs.RingLists.{rings_dimensions, rings_rings};
+
+use crate::levels::{Levels, Place};
+use crate::points::Points;
+use crate::polygons::Polygons;
+use crate::rings::Rings;
+use crate::single::Single;
+use wkb_geom::{Dimensions, LineStringTrait, WkbResult};
+use wkb_plain::{Coord, LineString, Point};
+use wkb_write::{
+    WriteOptions, geometry_wkb_size_with, made_polygons_wkb_size_with,
+    write_made_polygons_to_slice, write_to_slice,
+};
+
+/// The kind that all rows have.
+#[derive(Debug, Clone, Copy, PartialEq)]
+pub enum Kind {
+    Point,
+    LineString,
+    Polygon,
+    MultiPoint,
+    MultiLineString,
+    MultiPolygon,
+}
+
+/// A row.
+#[derive(Debug, Clone, Copy)]
+pub enum Row<'w> {
+    Single(Single<'w>),
+    MultiPolygon(Polygons<'w>),
+}
+
+impl Row<'_> {
+    /// The size of its encoding.
+    pub fn size(&self, options: &WriteOptions) -> WkbResult<usize>
+        ensures { IsSizeOf options.now.form (row_meant self.now) result }
+    {
+        match self {
+            Row::Single(g) => geometry_wkb_size_with(g, options),
+            Row::MultiPolygon(p) => made_polygons_wkb_size_with(p, options),
+        }
+    }
+
+    /// Writes it to the front of a slice, as `write_to_slice` does.
+    pub fn write(&self, options: &WriteOptions, out: &mut [u8]) -> WkbResult<usize>
+        ensures ok { IfOk result
+            (IsInFront out.old out.new (encoding_of options.now (row_meant self.now))) }
+        ensures writable { IfOk result (λ _. refusal_of options.now (row_meant self.now) ≡ None) }
+        ensures err { IfErr result (IsSliceError options.now (row_meant self.now) out.old) }
+        ensures kept { IfErr result (λ _. out.new ≡ out.old) }
+    {
+        match self {
+            Row::Single(g) => write_to_slice(g, options, out),
+            Row::MultiPolygon(p) => write_made_polygons_to_slice(p, options, out),
+        }
+    }
+}
+
+#[tactic(auto, using(crate::proofs::Floors::floor_laws))]
+impl<'w> Levels<'w> {
+    /// Row i as a geometry of the kind and dimension. None where its levels fall, pass the next level's end, begin
+    /// before an earlier row's end, or don't fit the kind: a point, a line string or a polygon is one single, each
+    /// single of another kind than a polygon has one ring, and a point's ring has one coordinate.
+    ///
+    /// The floor is how far the rows before it reach, and then how far it reaches too. So rows are asked for in turn,
+    /// from `Place::front` on. A row whose own levels fall, or pass the next level's end, reaches nowhere.
+    pub fn row(&self, kind: Kind, dim: Dimensions, i: usize, floor: &mut Place) -> Option<Row<'w>>
+        requires index { i < length (ends_of self.now.row_ends) }
+        requires floor { IsFloor self.now dim i floor.old }
+        ensures row { MatchOption result ((g : Geometry) → IsLevelRow self.now kind dim i g → ⊥)
+            (λ r. IsLevelRow self.now kind dim i (row_meant r)) }
+        ensures floor { IsFloor self.now dim (i + 1) floor.new }
+    {
+        let singles = self.singles(dim, i)?;
+        let follows = floor.is_up_to(&self.place(self.row_ends.begin(i)));
+        *floor = floor.furthest(&self.place(self.row_ends.end(i)));
+        if !follows {
+            return None;
+        }
+        row_of_singles(&singles, kind)
+    }
+
+    /// Moves the floor on past row i, as `row` does, where the row itself isn't asked for: a null row.
+    pub fn pass(&self, dim: Dimensions, i: usize, floor: &mut Place)
+        requires index { i < length (ends_of self.now.row_ends) }
+        requires floor { IsFloor self.now dim i floor.old }
+        ensures { IsFloor self.now dim (i + 1) floor.new }
+    {
+        let Some(_) = self.singles(dim, i) else {
+            return;
+        };
+        *floor = floor.furthest(&self.place(self.row_ends.end(i)));
+    }
+}
+
+/// Singles as a row of this kind, if they fit it.
+fn row_of_singles<'w>(singles: &Polygons<'w>, kind: Kind) -> Option<Row<'w>>
+    ensures { option_map row_meant result
+        ≡ kind_meant kind (polygons_dimensions singles.now) (polygons_polygons singles.now) }
+{
+    match kind {
+        Kind::MultiPolygon => Some(Row::MultiPolygon(*singles)),
+        Kind::Polygon => match singles.only() {
+            Some(polygon) => Some(Row::Single(Single::Polygon(polygon))),
+            None => None,
+        },
+        _ => match singles.rings_one_each() {
+            Some(rings) => match row_of_rings(&rings, kind) {
+                Some(single) => Some(Row::Single(single)),
+                None => None,
+            },
+            None => None,
+        },
+    }
+}
+
+/// Rings, each of a single of its own, as a row of this kind, if they fit it.
+fn row_of_rings<'w>(rings: &Rings<'w>, kind: Kind) -> Option<Single<'w>>
+    ensures { option_map single_meant result
+        ≡ rings_meant kind (rings_dimensions rings.now) (rings_rings rings.now) }
+{
+    match kind {
+        Kind::MultiLineString => Some(Single::MultiLineString(*rings)),
+        Kind::LineString => match rings.only() {
+            Some(line) => Some(Single::LineString(line)),
+            None => None,
+        },
+        Kind::Point => match rings.only() {
+            Some(line) => match only_coord(&line) {
+                Some(coord) => Some(Single::Point(Point::new(coord))),
+                None => None,
+            },
+            None => None,
+        },
+        Kind::MultiPoint => match rings.coordinates_one_each() {
+            Some(line) => Some(Single::MultiPoint(Points::new(line))),
+            None => None,
+        },
+        Kind::Polygon | Kind::MultiPolygon => None,
+    }
+}
+
+/// The one coordinate of a ring, if there is one.
+fn only_coord<'w>(ring: &LineString<'w>) -> Option<Coord<'w>>
+    ensures value { option_map coord_words result ≡ only (line_string_coordinates ring.now) }
+    ensures dimensions { IfSome result (λ c. coord_dimensions c ≡ line_string_dimensions ring.now) }
+{
+    if ring.num_coords() == 1 {
+        Some(ring.coord_at(0))
+    } else {
+        None
+    }
+}
