@@ -1,13 +1,13 @@
 mod Common
 mod Telling
-mod Heads
-mod Fitting
-mod Growth
 mod Words
 mod Rows
+mod Spans
 mod Boxes
 mod RowItems
 mod Called
+mod Encodings
+mod LevelRows
 mod Levels
-mod Sound
+mod Rooms
 mod InTurn

@@ -11,11 +11,9 @@ use Rattle.std.proofs.lemmas.List.{take-append-drop, take-append-le, drop-append
 use Rattle.std.proofs.lemmas.Slice.{drop-append-drop, between_to_end}
 use lib.Seq.{get_or-set_same, get_or-set_other}
 use Rattle.wkb_c.specs.declared.status.TheConstants.{OK, NO_ROOM}
-use Rattle.wkb_c.specs.Columns.{IsRow}
-use Rattle.wkb_c.specs.declared.column.Column.{Column}
 use Rattle.wkb_c.specs.Room.{IsHeld, Exceeds}
-use Rattle.wkb_c.specs.RowItems.{start_of, end_of, IsRowAnswer, handed, no_room, failed, no_row}
-use Rattle.wkb_c.specs.RowItems.{AreRowAnswers, KeepsAfter, IsRowStep, put, lacks, fails, has_no_row}
+use Rattle.wkb_c.specs.RowItems.{start_of, end_of, IsRowAnswer, handed, no_room, failed}
+use Rattle.wkb_c.specs.RowItems.{AreRowAnswers, KeepsAfter, IsRowStep, put, lacks, nothing}
 
 -- ---- lists
 
@@ -77,87 +75,79 @@ end_grows start n small = below_both start (start + n) (2 ^ 64 - 1) (omega arith
 
 -- ---- a step of one row
 
-module _ {A : Type 0} {Has : List ℕ → List A → Type 0} {Fails : List ℕ → ℕ → ℕ → Type 0} {c : Column}
+module _ {A : Type 0} {Has : ℕ → List A → Type 0} {Fails : ℕ → ℕ → Type 0}
   where
     step_length : {i status count start : ℕ} {before after : List A}
-        → IsRowStep Has Fails c i status count start before after
+        → IsRowStep Has Fails i status count start before after
         → length after ≡ length before
-    step_length {start = start} {before = before} (put row items is has ok many there put_is) =
+    step_length {start = start} {before = before} (put items has ok many there put_is) =
         ap length put_is ∙ ap (λ n. length (take start before ++ (items ++ drop (start + n) before))) many
         ∙ put_length before items start (rw many at there)
-    step_length (lacks row items is has ok many short same) = ap length same
-    step_length (fails row is why none same) = ap length same
-    step_length (has_no_row why none same) = ap length same
+    step_length (lacks items has ok many short same) = ap length same
+    step_length (nothing why none same) = ap length same
 
     step_before : {i status count start : ℕ} {before after : List A}
-        → IsRowStep Has Fails c i status count start before after
+        → IsRowStep Has Fails i status count start before after
         → (a b : ℕ) → a ≤ b → b ≤ start → slice_range after a b ≡ slice_range before a b
-    step_before {start = start} {before = before} (put row items is has ok many there put_is) a b rise below =
+    step_before {start = start} {before = before} (put items has ok many there put_is) a b rise below =
         ap (λ z. slice_range z a b) put_is ∙ range_before before _ start a b rise below (omega (arith, there))
-    step_before (lacks row items is has ok many short same) a b rise below = ap (λ z. slice_range z a b) same
-    step_before (fails row is why none same) a b rise below = ap (λ z. slice_range z a b) same
-    step_before (has_no_row why none same) a b rise below = ap (λ z. slice_range z a b) same
+    step_before (lacks items has ok many short same) a b rise below = ap (λ z. slice_range z a b) same
+    step_before (nothing why none same) a b rise below = ap (λ z. slice_range z a b) same
 
     step_behind : {i status count start : ℕ} {before after : List A}
-        → IsRowStep Has Fails c i status count start before after
+        → IsRowStep Has Fails i status count start before after
         → length before < 2 ^ 64 → (k : ℕ) → (status ≡ OK → end_of start count ≤ k) → drop k after ≡ drop k before
     step_behind {count = count} {start = start} {before = before}
-        (put row items is has ok many there put_is) small k far =
+        (put items has ok many there put_is) small k far =
         let end : end_of start count ≤ k = far ok in
         let put_there : start + length items ≤ length before = rw many at there in
         ap (drop k) (put_is ∙ ap (λ n. take start before ++ (items ++ drop (start + n) before)) many)
         ∙ drop_behind before items start k put_there
         (omega (arith, end, fits_end start count (omega (arith, there, small)), many))
-    step_behind (lacks row items is has ok many short same) small k far = ap (drop k) same
-    step_behind (fails row is why none same) small k far = ap (drop k) same
-    step_behind (has_no_row why none same) small k far = ap (drop k) same
+    step_behind (lacks items has ok many short same) small k far = ap (drop k) same
+    step_behind (nothing why none same) small k far = ap (drop k) same
 
     -- what is known of a row once it is done
     step_answer : {i status count start : ℕ} {before after : List A}
-        → IsRowStep Has Fails c i status count start before after
+        → IsRowStep Has Fails i status count start before after
         → length before < 2 ^ 64 → start < 2 ^ 64
-        → IsRowAnswer Has Fails c i status start (end_of start count) after
+        → IsRowAnswer Has Fails i status start (end_of start count) after
     step_answer {count = count} {start = start} {before = before} {after = after}
-        (put row items is has ok many there put_is) small fits =
+        (put items has ok many there put_is) small fits =
         let put_there : start + length items ≤ length before = rw many at there in
         let end : end_of start count ≡ start + length items =
         fits_end start count (omega (arith, there, small)) ∙ ap (λ n. start + n) many in
-        let same = step_length (put row items is has ok many there put_is) in
-        handed row items is has ok end (omega (arith, end, same, put_there))
+        let same = step_length (put items has ok many there put_is) in
+        handed items has ok end (omega (arith, end, same, put_there))
         (ap (λ e. slice_range after start e) end ∙ ap (λ z. slice_range z start (start + length items)) put_is
         ∙ range_put before items (drop (start + count) before) start (omega (arith, there)))
-    step_answer {count = count} {start = start} (lacks row items is has ok many short same) small fits =
-        no_room row items is has ok (ap (end_of start) many) (omega (arith, ap length same, many, short))
-    step_answer {status = status} {count = count} {start = start} (fails row is why none same) small fits =
-        failed row is (subst (λ n. Fails row (n - start) status) (ap length (sym same)) why) (ap (end_of start) none ∙ fits_end start 0 (omega (arith, fits)) ∙ omega arith)
-    step_answer {count = count} {start = start} (has_no_row why none same) small fits =
-        no_row why (ap (end_of start) none ∙ fits_end start 0 (omega (arith, fits)) ∙ omega arith)
+    step_answer {count = count} {start = start} (lacks items has ok many short same) small fits =
+        no_room items has ok (ap (end_of start) many) (omega (arith, ap length same, many, short))
+    step_answer {status = status} {count = count} {start = start} (nothing why none same) small fits =
+        failed why (ap (end_of start) none ∙ fits_end start 0 (omega (arith, fits)) ∙ omega arith)
 
     -- what is put after a row doesn't change its answer
     kept_answer : {i status start end : ℕ} {out new : List A} (at : ℕ)
-        → IsRowAnswer Has Fails c i status start end out
+        → IsRowAnswer Has Fails i status start end out
         → (status ≡ OK → end ≤ at) → length new ≡ length out
         → ((a b : ℕ) → a ≤ b → b ≤ at → slice_range new a b ≡ slice_range out a b)
-        → IsRowAnswer Has Fails c i status start end new
-    kept_answer {start = start} {end = end} at (handed row items is has ok end_is inside range) below same before =
-        handed row items is has ok end_is (omega (arith, inside, same))
+        → IsRowAnswer Has Fails i status start end new
+    kept_answer {start = start} {end = end} at (handed items has ok end_is inside range) below same before =
+        handed items has ok end_is (omega (arith, inside, same))
         (before start end (omega (arith, end_is)) (below ok) ∙ range)
-    kept_answer at (no_room row items is has ok end_is short) below same before =
-        no_room row items is has ok end_is (omega (arith, short, same))
-    kept_answer {status = status} {start = start} at (failed row is why end_is) below same before =
-        failed row is (subst (λ n. Fails row (n - start) status) (sym same) why) end_is
-    kept_answer at (no_row why end_is) below same before = no_row why end_is
+    kept_answer at (no_room items has ok end_is short) below same before =
+        no_room items has ok end_is (omega (arith, short, same))
+    kept_answer at (failed why end_is) below same before = failed why end_is
 
 -- ---- all rows
 
 -- the rows below this number are done, and their items end here
-pub record RowsDone {A : Type 0} (Has : List ℕ → List A → Type 0) (Fails : List ℕ → ℕ → ℕ → Type 0)
-    (c : Column) (i at : ℕ)
+pub record RowsDone {A : Type 0} (Has : ℕ → List A → Type 0) (Fails : ℕ → ℕ → Type 0) (i at : ℕ)
     (statuses ends : List ℕ) (before out : List A) : Type 0 where
   pub at_is : at ≡ start_of ends i
   pub fits : at < 2 ^ 64
   pub long : length out ≡ length before
-  pub each : AreRowAnswers Has Fails c i statuses ends out
+  pub each : AreRowAnswers Has Fails i statuses ends out
   pub below : (j : ℕ) → j < i → slice_index statuses j ≡ OK → slice_index ends j ≤ at
   pub kept : KeepsAfter i statuses ends before out
 
@@ -175,11 +165,10 @@ at_or_below (suc j) (suc i) h = up (at_or_below j i (omega (arith, h))) where
   up (inl same) = inl (ap suc same)
   up (inr below) = inr (omega (arith, below))
 
-module _ {A : Type 0} {Has : List ℕ → List A → Type 0} {Fails : List ℕ → ℕ → ℕ
-    → Type 0} {c : Column} {i at : ℕ} {statuses ends : List ℕ}
+module _ {A : Type 0} {Has : ℕ → List A → Type 0} {Fails : ℕ → ℕ → Type 0} {i at : ℕ} {statuses ends : List ℕ}
     {before out new : List A} (status count : ℕ)
-    (done : RowsDone Has Fails c i at statuses ends before out)
-    (step : IsRowStep Has Fails c i status count at out new) (small : length before < 2 ^ 64)
+    (done : RowsDone Has Fails i at statuses ends before out)
+    (step : IsRowStep Has Fails i status count at out new) (small : length before < 2 ^ 64)
     (there : i < length statuses) (there' : i < length ends) where
   end : ℕ
   end = end_of at count
@@ -206,10 +195,10 @@ module _ {A : Type 0} {Has : List ℕ → List A → Type 0} {Fails : List ℕ �
   end_above j above = get_or-set_other ends i j (end_of at count) 0 (λ same. omega (arith, same, above))
 
   row_answer : (j : ℕ) → (j ≡ i) ⊎ (j < i)
-      → IsRowAnswer Has Fails c j (slice_index (set statuses i status) j)
+      → IsRowAnswer Has Fails j (slice_index (set statuses i status) j)
       (start_of (set ends i (end_of at count)) j) (slice_index (set ends i (end_of at count)) j) new
   row_answer j (inl same) =
-      subst (λ k. IsRowAnswer Has Fails c k (slice_index (set statuses i status) k)
+      subst (λ k. IsRowAnswer Has Fails k (slice_index (set statuses i status) k)
       (start_of (set ends i (end_of at count)) k) (slice_index (set ends i (end_of at count)) k) new) (sym same)
       (rw (status_here, end_here, start_kept ends i (end_of at count) i (omega arith), sym done.at_is)
       (step_answer step small_out done.fits))
@@ -234,7 +223,7 @@ module _ {A : Type 0} {Has : List ℕ → List A → Type 0} {Fails : List ℕ �
       ∙ done.kept k
       (λ j above ok. omega (arith, far j (omega (arith, above)) (status_above j above ∙ ok), end_above j above))
 
-  pub row_done : RowsDone Has Fails c (i + 1) (end_of at count) (set statuses i status)
+  pub row_done : RowsDone Has Fails (i + 1) (end_of at count) (set statuses i status)
       (set ends i (end_of at count)) before new
   row_done = record {
     at_is = sym (end_at_next i);
@@ -247,19 +236,6 @@ module _ {A : Type 0} {Has : List ℕ → List A → Type 0} {Fails : List ℕ �
     end_at_next : (k : ℕ) → start_of (set ends i (end_of at count)) (i + 1) ≡ end_of at count
     end_at_next k =
         (let next : i + 1 ≡ suc i = omega arith in ap (start_of (set ends i (end_of at count))) next) ∙ end_here
-
--- before any row
-pub none_done : {A : Type 0} (Has : List ℕ → List A → Type 0) (Fails : List ℕ → ℕ → ℕ → Type 0)
-    (c : Column) (statuses ends : List ℕ) (out : List A)
-    → RowsDone Has Fails c 0 0 statuses ends out out
-none_done Has Fails c statuses ends out = record {
-  at_is = refl;
-  fits = omega arith;
-  long = refl;
-  each = λ j h. absurd (omega (arith, h));
-  below = λ j h. absurd (omega (arith, h));
-  kept = λ k far. refl;
-}
 
 -- ---- a call for one row
 
@@ -280,7 +256,7 @@ put_to_end xs sub at =
     empty (drop k (drop at xs)) (omega (arith, length-drop k (drop at xs), length-drop at xs)) in
     ap (λ z. take at xs ++ (sub ++ z)) none ∙ ap (λ z. take at xs ++ z) (append-nil sub)
 
-unchanged : {A : Type 0} (at : ℕ) (before lent sub after : List A) → lent ≡ drop at before
+pub unchanged : {A : Type 0} (at : ℕ) (before lent sub after : List A) → lent ≡ drop at before
     → after ≡ take at before ++ sub → sub ≡ lent → after ≡ before
 unchanged at before lent sub after lent_is after_is same =
     after_is ∙ ap (λ z. take at before ++ z) (same ∙ lent_is) ∙ take-append-drop at before
@@ -288,16 +264,15 @@ unchanged at before lent sub after lent_is after_is same =
 lent_length : {A : Type 0} (at : ℕ) (before lent : List A) → lent ≡ drop at before → length lent ≡ length before - at
 lent_length at before lent lent_is = ap length lent_is ∙ length-drop at before
 
-module _ {A : Type 0} {Has : List ℕ → List A → Type 0} {Fails : List ℕ → ℕ → ℕ
-    → Type 0} {c : Column} {i status count start : ℕ}
-    (row : List ℕ) (is : IsRow c i row) (at : ℕ)
+module _ {A : Type 0} {Has : ℕ → List A → Type 0} {Fails : ℕ → ℕ → Type 0} {i status count start : ℕ}
+    (at : ℕ)
     (before lent sub after : List A)
     (at_is : at ≡ min start (length before)) (lent_is : lent ≡ drop at before)
     (after_is : after ≡ take at before ++ sub) where
   -- its items were put
-  pub put_step : (items : List A) → Has row items → status ≡ OK → 0 < length items → IsHeld items lent sub count
+  pub put_step : (items : List A) → Has i items → status ≡ OK → 0 < length items → IsHeld items lent sub count
       → length sub ≡ length lent
-      → IsRowStep Has Fails c i status count start before after
+      → IsRowStep Has Fails i status count start before after
   put_step items has ok some held long =
       let n = length items in
       let many = lent_length at before lent lent_is in
@@ -306,23 +281,14 @@ module _ {A : Type 0} {Has : List ℕ → List A → Type 0} {Fails : List ℕ �
       let same : at ≡ start = omega (arith, at_is, some, there, many) in
       let rest : drop n lent ≡ drop (start + count) before =
       ap (drop n) lent_is ∙ drop-drop n at before ∙ ap (λ k. drop k before) (omega (arith, same, held.count_is)) in
-      put row items is has ok held.count_is (omega (arith, same, there, many, held.count_is))
+      put items has ok held.count_is (omega (arith, same, there, many, held.count_is))
       (after_is ∙ ap (λ z. take at before ++ z) (held.whole ∙ ap (λ z. items ++ z) rest)
       ∙ ap (λ k. take k before ++ (items ++ drop (start + count) before)) same)
 
   -- they have no room
-  pub lacks_step : (items : List A) → Has row items → status ≡ NO_ROOM → Exceeds items lent count → sub ≡ lent
-      → IsRowStep Has Fails c i status count start before after
+  pub lacks_step : (items : List A) → Has i items → status ≡ NO_ROOM → Exceeds items lent count → sub ≡ lent
+      → IsRowStep Has Fails i status count start before after
   lacks_step items has is_none short same =
-      lacks row items is has is_none short.count_is
+      lacks items has is_none short.count_is
       (omega (arith, short.count_is, short.short, at_is, lent_length at before lent lent_is))
-      (unchanged at before lent sub after lent_is after_is same)
-
-  -- it has none
-  pub fails_step : Fails row (length lent) status → count ≡ 0 → sub ≡ lent
-      → IsRowStep Has Fails c i status count start before after
-  fails_step why none same =
-      let room : length lent ≡ length before - start =
-      omega (arith, at_is, lent_length at before lent lent_is) in
-      fails row is (subst (λ n. Fails row n status) room why) none
       (unchanged at before lent sub after lent_is after_is same)

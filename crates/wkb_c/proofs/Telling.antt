@@ -1,97 +1,72 @@
 -- What the C library reports of a result of the check.
-use Rattle.wkb_c.proofs.Common.{◌≡◌, ℕ, ◌≤◌, ◌<◌, ◌^◌, List, refl, arith, ◌∙◌, ap, sym, subst, Option, is_some}
-use Rattle.wkb_c.proofs.Common.{unwrap_or, order_byte}
-use mir.Val.{bool_byte as from_bool}
-use Rattle.wkb_geom.specs.Codes.{thousands}
-use Rattle.wkb_c.specs.Checks.{IsFound, numbers_of}
-use Rattle.wkb_c.specs.declared.found.Found.{Found}
-use Rattle.wkb_c.proofs.Common.{Dimension, width, kind, dimension, Value, point}
-use Rattle.wkb_geom.specs.declared.common.Dimension.TheVariants.{Xy, Xyz, Xym, Xyzm}
+use Rattle.wkb_c.proofs.Common.{◌≡◌, ℕ, List, refl, arith, sym, subst, is_some}
+use Rattle.wkb_geom.specs.Grammar.{Begins}
+use Rattle.wkb_geom.specs.Spellings.{Spells}
+use Rattle.wkb_check.proofs.Ahead.{Says, says}
+use Rattle.wkb_check.proofs.Public.{geometry_opens}
+use Rattle.wkb_laws.proofs.Complete.{head_of}
+use Rattle.wkb_c.proofs.Common.{kind, dimension, Value, point, header}
 use Rattle.wkb_geom.specs.Reading.{type_of, type_kind, type_dimension}
 use Rattle.wkb_geom.specs.declared.error.General.{General as Bad}
 use Rattle.wkb_geom.specs.declared.error.General.TheVariants.{UnsupportedDimensions, CodeOutOfRange, InvalidByteOrder}
 use Rattle.wkb_geom.specs.declared.error.General.TheVariants.{ShortPoint, ShortLineString}
 use Rattle.wkb_geom.specs.declared.error.General.TheVariants.{ShortLinearRing, ShortMultiPoint}
-use Rattle.wkb_geom.specs.declared.error.Cause.{Cause}
 use Rattle.wkb_geom.specs.declared.error.Cause.TheVariants.{EndOfInput as end_of_input, General as general}
 use Rattle.wkb_geom.specs.declared.error.Cause.TheVariants.{IncorrectType as incorrect_type}
 use Rattle.wkb_geom.specs.declared.error.Cause.TheVariants.{NestingDepthExceeded as nesting_depth_exceeded}
-use Rattle.wkb.specs.Canonical.{IsAccepted}
-use Rattle.wkb_check.specs.Public.{DescribesFront, IsRefusedFor}
-use Rattle.wkb_check.specs.declared.answer.Refused.{Refused}
+use Rattle.wkb_geom.specs.Fronts.{Front}
+use Rattle.wkb_c.proofs.Common.{◌≢◌}
+use Rattle.wkb_rewrite.specs.Inputs.{IsAccepted, HaveOneValue, HaveTwoValues}
+use Rattle.wkb_check.specs.Bounded.{HasGeometry}
+use Rattle.wkb_check.specs.Public.{DescribesFront}
 use Rattle.wkb_check.specs.declared.answer.Summary.{Summary}
-use Rattle.wkb_c.specs.declared.fault.WkbFault.{WkbFault}
-use Rattle.wkb_c.specs.Statuses.{cause_status, general_status, cause_fault, IsFault}
-use Rattle.wkb_c.specs.Tables.{HasParts, HasPartsWithin}
-use Rattle.wkb_c.specs.declared.status.TheConstants.{IO_ERROR, NULL_ROW}
+use Rattle.wkb_c.specs.Classes.{IsRefusalStatus, IsShortStatus}
+use Rattle.wkb_c.specs.EnumNumbers.{AreRefusals, OthersTellNoEnd}
+use Rattle.wkb_c.specs.Statuses.{general_status, general_fault}
+use Rattle.wkb_c.specs.Subjects.{HasParts}
 
-general_is_late : (g : Bad) → IO_ERROR ≤ general_status g
-general_is_late InvalidByteOrder = omega arith
-general_is_late (CodeOutOfRange code) = omega arith
-general_is_late (UnsupportedDimensions n) = omega arith
-general_is_late (ShortPoint end len) = omega arith
-general_is_late (ShortLineString end len) = omega arith
-general_is_late (ShortMultiPoint end len) = omega arith
-general_is_late (ShortLinearRing end len) = omega arith
+general_is_refusal : (g : Bad) → IsRefusalStatus (general_status g)
+general_is_refusal InvalidByteOrder = omega arith
+general_is_refusal (CodeOutOfRange code) = omega arith
+general_is_refusal (UnsupportedDimensions n) = omega arith
+general_is_refusal (ShortPoint end len) = omega arith
+general_is_refusal (ShortLineString end len) = omega arith
+general_is_refusal (ShortMultiPoint end len) = omega arith
+general_is_refusal (ShortLinearRing end len) = omega arith
 
--- the statuses of refusals are the last ones
-pub cause_is_late : (cause : Cause) → IO_ERROR ≤ cause_status cause
-cause_is_late end_of_input = omega arith
-cause_is_late (general g) = general_is_late g
-cause_is_late incorrect_type = omega arith
-cause_is_late (nesting_depth_exceeded n) = omega arith
+-- each cause has a status of the class of refusals
+pub refusals : AreRefusals
+refusals end_of_input = omega arith
+refusals (general g) = general_is_refusal g
+refusals incorrect_type = omega arith
+refusals (nesting_depth_exceeded n) = omega arith
 
-general_is_small : (g : Bad) → general_status g < NULL_ROW
-general_is_small InvalidByteOrder = omega arith
-general_is_small (CodeOutOfRange code) = omega arith
-general_is_small (UnsupportedDimensions n) = omega arith
-general_is_small (ShortPoint end len) = omega arith
-general_is_small (ShortLineString end len) = omega arith
-general_is_small (ShortMultiPoint end len) = omega arith
-general_is_small (ShortLinearRing end len) = omega arith
+-- and only those of the last part tell where the input ends too early
+general_tells_end : (g : Bad) (part offset : ℕ) → (IsShortStatus (general_status g) → ⊥)
+    → ((general_fault (general_status g) part offset g).end ≡ 0)
+    × ((general_fault (general_status g) part offset g).len ≡ 0)
+general_tells_end InvalidByteOrder part offset long = (refl, refl)
+general_tells_end (CodeOutOfRange code) part offset long = (refl, refl)
+general_tells_end (UnsupportedDimensions n) part offset long = (refl, refl)
+general_tells_end (ShortPoint end len) part offset long = absurd (long (omega arith))
+general_tells_end (ShortLineString end len) part offset long = absurd (long (omega arith))
+general_tells_end (ShortMultiPoint end len) part offset long = absurd (long (omega arith))
+general_tells_end (ShortLinearRing end len) part offset long = absurd (long (omega arith))
 
--- and are below those of rows
-pub cause_is_small : (cause : Cause) → cause_status cause < NULL_ROW
-cause_is_small (general g) = general_is_small g
-cause_is_small end_of_input = omega arith
-cause_is_small incorrect_type = omega arith
-cause_is_small (nesting_depth_exceeded n) = omega arith
-
--- what is reported of a refusal
-pub fault_told : (buf : List ℕ) (e : Refused) (status : ℕ) (fault : WkbFault) → IsRefusedFor buf e
-    → status ≡ cause_status e.cause
-    → fault ≡ cause_fault e.part e.offset e.cause → IsFault buf status fault
-fault_told buf e status fault r status_is fault_is = record {
-  cause = e.cause;
-  turns = e.part;
-  slots = r.slots;
-  refuses = r.refuses;
-  offset = e.offset;
-  status_is = status_is;
-  fault_is = fault_is;
-  begins = r.begins;
-}
-
--- the words of a coordinate are few
-pub width_is_small : (d : Dimension) → width d < 2 ^ 32
-width_is_small Xy = omega arith
-width_is_small Xyz = omega arith
-width_is_small Xym = omega arith
-width_is_small Xyzm = omega arith
+pub others_tell_no_end : OthersTellNoEnd
+others_tell_no_end end_of_input part offset long = (refl, refl)
+others_tell_no_end (general g) part offset long = general_tells_end g part offset long
+others_tell_no_end incorrect_type part offset long = (refl, refl)
+others_tell_no_end (nesting_depth_exceeded n) part offset long = (refl, refl)
 
 -- what is found is accepted
 pub found_is_accepted : (buf : List ℕ) (f : Summary) → DescribesFront buf f → IsAccepted buf
 found_is_accepted buf f d = record { s = d.spelled; t = d.value; rest = d.rest; front = d.front }
 
 -- and has as many parts as were found
-pub found_has_parts : (buf : List ℕ) (f : Summary) → DescribesFront buf f → HasParts buf f.parts
+abbrev pub found_has_parts : (buf : List ℕ) (f : Summary) → DescribesFront buf f → HasParts buf f.parts
 found_has_parts buf f d =
     record { s = d.spelled; t = d.value; rest = d.rest; front = d.front; many_are = omega (arith, d.described.parts) }
-
--- and no more than there is room for, if these fit
-pub parts_within : (buf : List ℕ) (f : Summary) (room : ℕ) → DescribesFront buf f → f.parts ≤ room
-    → HasPartsWithin buf room
-parts_within buf f room d fit = record { many = f.parts; parts = found_has_parts buf f d; fit = fit }
 
 -- the kind and the dimension that the type of a value has
 pub kind_kept : (t : Value) → type_kind (type_of (kind t) (dimension t)) ≡ kind t
@@ -102,24 +77,54 @@ pub dimension_kept : (t : Value) → type_dimension (type_of (kind t) (dimension
 dimension_kept (point d c) = refl
 dimension_kept _ = refl
 
--- the numbers of the summary are those of the geometry
-pub numbers_found : (input : List ℕ) (f : Summary) (found : Found) → DescribesFront input f → found ≡ numbers_of f
-    → IsFound input found
-numbers_found input f found d is =
-    let same = d.described.wkb_type in
-    let dimension_same = ap type_dimension same ∙ dimension_kept d.value in
-    subst (λ found. IsFound input found) (sym is) (record {
-      s = d.spelled;
-      t = d.value;
-      rest = d.rest;
-      front = d.front;
-      size_is = d.described.bytes_are;
-      parts_are = omega (arith, d.described.parts);
-      coordinates_are = d.described.coordinates;
-      kind_is = ap type_kind same ∙ kind_kept d.value;
-      dimension_is = ap thousands dimension_same;
-      width_is = ap width dimension_same;
-      has_srid_is = ap (λ (o : Option ℕ). from_bool (is_some o)) d.described.srid;
-      srid_is = ap (λ (o : Option ℕ). unwrap_or o 0) d.described.srid;
-      order_is = ap order_byte d.described.order;
-    })
+-- what is read of a geometry that is described, up to its count
+pub count_said : (buf : List ℕ) (f : Summary) → (d : DescribesFront buf f)
+    → Says buf d.spelled d.value
+    (head_of (header d.spelled).order (kind d.value) (dimension d.value) (is_some (header d.spelled).srid))
+count_said buf f d =
+    let here : Begins (Spells d.spelled d.value) buf d.rest
+    = record { front = d.front.front; whole = d.front.whole; first = d.front.spelled } in
+    says buf d.spelled d.value d.rest here _ (geometry_opens buf d.spelled d.value d.rest here).head
+
+-- the geometry that is described
+abbrev pub there_is : (buf : List ℕ) (f : Summary) → DescribesFront buf f → HasGeometry buf
+there_is buf f d = record {
+  spelled = d.spelled;
+  value = d.value;
+  rest = d.rest;
+  begins = record { front = d.front.front; whole = d.front.whole; first = d.front.spelled };
+}
+
+-- the geometry that is accepted
+abbrev pub accepted_there : (buf : List ℕ) → IsAccepted buf → HasGeometry buf
+accepted_there buf a = record {
+  spelled = a.s;
+  value = a.t;
+  rest = a.rest;
+  begins = record { front = a.front.front; whole = a.front.whole; first = a.front.spelled };
+}
+
+-- two that are accepted have one value, or two
+pub same_values : (a b : List ℕ) (x : IsAccepted a) (y : IsAccepted b) → x.t ≡ y.t → HaveOneValue a b
+same_values a b x y is = record {
+  s = x.s;
+  u = y.s;
+  t = x.t;
+  rest = x.rest;
+  more = y.rest;
+  first = x.front;
+  second = subst (λ t. Front b y.s t y.rest) (sym is) y.front;
+}
+
+pub other_values : (a b : List ℕ) (x : IsAccepted a) (y : IsAccepted b) → x.t ≢ y.t → HaveTwoValues a b
+other_values a b x y differ = record {
+  s = x.s;
+  u = y.s;
+  t = x.t;
+  v = y.t;
+  rest = x.rest;
+  more = y.rest;
+  first = x.front;
+  second = y.front;
+  different = differ;
+}

@@ -7,24 +7,10 @@ use Rattle.wkb_geom.specs.Numbers.{order_byte}
 use Rattle.wkb_geom.specs.Values.{Value, kind, dimension, member_count}
 use Rattle.wkb_geom.specs.Spellings.{Spelling, header}
 use Rattle.wkb_geom.specs.Fronts.{Front}
-use Rattle.wkb_geom.specs.Reading.{type_kind, type_dimension}
 use Rattle.wkb_check.specs.Counted.{coordinate_count}
-use Rattle.wkb_check.specs.declared.answer.Summary.{Summary}
+use Rattle.wkb_check.specs.Pieces.{count_of, leading}
+use Rattle.wkb_check.specs.declared.parts.Part.{Part}
 use Rattle.wkb_c.specs.declared.found.Found.{Found}
-
--- the numbers of a summary
-abbrev pub numbers_of : Summary → Found
-numbers_of f = record {
-  size = f.bytes;
-  parts = f.parts;
-  coordinates = f.coordinates;
-  srid = unwrap_or f.srid 0;
-  has_srid = from_bool (is_some f.srid);
-  kind = type_kind f.wkb_type;
-  dimension = thousands (type_dimension f.wkb_type);
-  width = width (type_dimension f.wkb_type);
-  order = order_byte f.order;
-}
 
 -- the input begins with a geometry, and these are its numbers
 pub record IsFound (input : List ℕ) (found : Found) : Type 0 where
@@ -35,9 +21,27 @@ pub record IsFound (input : List ℕ) (found : Found) : Type 0 where
   pub size_is : found.size ≡ length front.front
   pub parts_are : found.parts ≡ suc (member_count t)
   pub coordinates_are : found.coordinates ≡ coordinate_count t
+  pub offset_is : found.offset ≡ leading (header s) t
+  pub count_is : found.count ≡ count_of t
   pub kind_is : found.kind ≡ kind t
   pub dimension_is : found.dimension ≡ thousands (dimension t)
   pub width_is : found.width ≡ width (dimension t)
   pub has_srid_is : found.has_srid ≡ from_bool (is_some (header s).srid)
   pub srid_is : found.srid ≡ unwrap_or (header s).srid 0
   pub order_is : found.order ≡ order_byte (header s).order
+
+-- the entry of a geometry that is its only part
+abbrev pub whole_entry : Found → Part
+whole_entry f = record {
+  begin = 0;
+  end = f.size;
+  offset = f.offset;
+  count = f.count;
+  next = 1;
+  srid = f.srid;
+  has_srid = f.has_srid;
+  kind = f.kind;
+  dimension = f.dimension;
+  width = f.width;
+  order = f.order;
+}

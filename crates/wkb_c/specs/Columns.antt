@@ -1,8 +1,8 @@
 -- The rows of a column (Apache Arrow columnar format: variable-size binary layout, validity bitmaps), and their
 -- statuses.
 use Rattle.std.specs.Prelude.{◌≡◌, ◌⊎◌, ℕ, ◌+◌, ◌-◌, ◌*◌, ◌/◌, ◌%◌, ◌^◌, ◌<◌, ◌≤◌, Bool, true, false, List, length}
-use Rattle.std.specs.Prelude.{Option, Some, None, drop, slice_get, slice_range, slice_index, nat_eq}
-use Rattle.wkb.specs.Canonical.{IsAccepted}
+use Rattle.std.specs.Prelude.{Option, Some, None, zero, suc, [], drop, slice_get, slice_range, slice_index, nat_eq}
+use Rattle.wkb_rewrite.specs.Inputs.{IsAccepted}
 use Rattle.wkb_geom.specs.Numbers.{number}
 use Rattle.wkb_geom.specs.declared.common.Endianness.TheVariants.{LittleEndian}
 use Rattle.wkb_c.specs.declared.column.Column.{Column}
@@ -34,14 +34,27 @@ pub record IsOffset (offsets : List ℕ) (size i n : ℕ) : Type 0 where
 abbrev pub HasNoOffset : List ℕ → ℕ → ℕ → Type 0
 HasNoOffset offsets size i = (n : ℕ) → IsOffset offsets size i n → ⊥
 
--- the bytes from offset i up to the next one, where these don't decrease or pass the end
-pub record IsRowSlice (bytes offsets : List ℕ) (size i : ℕ) (row : List ℕ) : Type 0 where
-  pub start : ℕ
-  pub end : ℕ
+-- row i has the bytes from here up to there: its offsets don't decrease or pass the end
+pub record IsSpan (bytes offsets : List ℕ) (size i start end : ℕ) : Type 0 where
   pub start_is : IsOffset offsets size i start
   pub end_is : IsOffset offsets size (i + 1) end
   pub rise : start ≤ end
   pub inside : end ≤ length bytes
+
+-- it has no such bytes
+abbrev pub HasNoSpan : List ℕ → List ℕ → ℕ → ℕ → Type 0
+HasNoSpan bytes offsets size i = (start end : ℕ) → IsSpan bytes offsets size i start end → ⊥
+
+-- no row before row i ends after this byte
+abbrev pub EndBy : List ℕ → List ℕ → ℕ → ℕ → ℕ → Type 0
+EndBy bytes offsets size i limit = (j start end : ℕ) → j < i → IsSpan bytes offsets size j start end → end ≤ limit
+
+-- the bytes of row i, which begins no earlier than a row before it ends
+pub record IsRowSlice (bytes offsets : List ℕ) (size i : ℕ) (row : List ℕ) : Type 0 where
+  pub start : ℕ
+  pub end : ℕ
+  pub span : IsSpan bytes offsets size i start end
+  pub after : EndBy bytes offsets size i start
   pub row_is : row ≡ slice_range bytes start end
 
 -- there are no such bytes
@@ -52,6 +65,30 @@ HasNoSlice bytes offsets size i = (row : List ℕ) → IsRowSlice bytes offsets 
 pub record IsRow (c : Column) (i : ℕ) (row : List ℕ) : Type 0 where
   pub present : is_null_row c i ≡ false
   pub slice : IsRowSlice c.bytes.now c.offsets.now c.offset_size i row
+
+-- how far the rows before row i reach: no row ends later, and no smaller number is as much
+pub record IsReach (bytes offsets : List ℕ) (size i reach : ℕ) : Type 0 where
+  pub enough : EndBy bytes offsets size i reach
+  pub least : (limit : ℕ) → EndBy bytes offsets size i limit → reach ≤ limit
+
+-- so it is of the rows of a column
+abbrev pub Reach : Column → ℕ → ℕ → Type 0
+Reach c i reach = IsReach c.bytes.now c.offsets.now c.offset_size i reach
+
+-- of two rows with bytes the later one begins where the earlier one ends, or after that
+abbrev pub RowsFollow : Type 0
+RowsFollow = (c : Column) (i j : ℕ) (row later : List ℕ) → i < j → (a : IsRow c i row) → (b : IsRow c j later)
+    → a.slice.end ≤ b.slice.start
+
+-- how long the rows below this number are together
+abbrev pub total_length : (ℕ → List ℕ) → ℕ → ℕ
+total_length row zero = 0
+total_length row (suc i) = total_length row i + length (row i)
+
+-- all rows with bytes are together no longer than the bytes of the column
+abbrev pub RowsFit : Type 0
+RowsFit = (c : Column) (row : ℕ → List ℕ) (rows : ℕ)
+    → ((i : ℕ) → i < rows → (row i ≡ []) ⊎ IsRow c i (row i)) → total_length row rows ≤ length c.bytes.now
 
 -- row i has no bytes, and this status says why
 pub data LacksRow (c : Column) (i status : ℕ) : Type 0 where

@@ -1,13 +1,12 @@
 -- What rows write one after another: the items of a row begin where those of the row before it end.
 use Rattle.std.specs.Prelude.{◌≡◌, ℕ, zero, suc, ◌+◌, ◌-◌, ◌^◌, ◌<◌, ◌≤◌, ◌++◌, List, length, drop, take}
 use Rattle.std.specs.Prelude.{min, slice_range, slice_index}
-use Rattle.wkb_c.specs.Columns.{IsRow, LacksRow}
+use Rattle.wkb_c.specs.Columns.{IsRow, LacksRow, IsRefusedWith}
 use Rattle.wkb_c.specs.declared.column.Column.{Column}
-use Rattle.wkb_c.specs.Statuses.{FailsToList}
-use Rattle.wkb_c.specs.Tables.{HasTable}
+use Rattle.wkb_c.specs.Subjects.{HasTable}
 use Rattle.wkb_c.specs.Writings.{HasEncoding, FailsToWrite}
 use Rattle.wkb_c.specs.declared.options.Options.{Options}
-use Rattle.wkb_c.specs.declared.parts.Part.{Part}
+use Rattle.wkb_check.specs.declared.parts.Part.{Part}
 use Rattle.wkb_c.specs.declared.status.TheConstants.{OK, NO_ROOM}
 
 -- as many rows as both of these lists have entries for
@@ -23,35 +22,45 @@ start_of ends (suc i) = slice_index ends i
 abbrev pub end_of : ℕ → ℕ → ℕ
 end_of start n = min (start + n) (2 ^ 64 - 1)
 
--- The status of row i, and where its items begin and end in `out`. `Has row items`: these are the items of those bytes.
--- `Fails row room status`: there are none where there is so much room, and this status says why.
-pub data IsRowAnswer {A : Type 0} (Has : List ℕ → List A → Type 0) (Fails : List ℕ → ℕ → ℕ → Type 0)
-    (c : Column) (i status start end : ℕ) (out : List A) : Type 0 where
-  handed : (row : List ℕ) (items : List A) → IsRow c i row → Has row items → status ≡ OK
+-- The status of row i, and where its items begin and end in `out`. `Has i items`: these are the items of row i.
+-- `Fails i status`: it has none, and this status says why.
+pub data IsRowAnswer {A : Type 0} (Has : ℕ → List A → Type 0) (Fails : ℕ → ℕ → Type 0)
+    (i status start end : ℕ) (out : List A) : Type 0 where
+  handed : (items : List A) → Has i items → status ≡ OK
       → end ≡ start + length items → end ≤ length out → slice_range out start end ≡ items
-      → IsRowAnswer Has Fails c i status start end out
-  no_room : (row : List ℕ) (items : List A) → IsRow c i row → Has row items → status ≡ NO_ROOM
+      → IsRowAnswer Has Fails i status start end out
+  no_room : (items : List A) → Has i items → status ≡ NO_ROOM
       → end ≡ end_of start (length items) → length out < start + length items
-      → IsRowAnswer Has Fails c i status start end out
-  failed : (row : List ℕ) → IsRow c i row → Fails row (length out - start) status → end ≡ start
-      → IsRowAnswer Has Fails c i status start end out
-  no_row : LacksRow c i status → end ≡ start → IsRowAnswer Has Fails c i status start end out
+      → IsRowAnswer Has Fails i status start end out
+  failed : Fails i status → end ≡ start → IsRowAnswer Has Fails i status start end out
 
 -- so it is of the rows below this number
-abbrev pub AreRowAnswers : {A : Type 0} → (List ℕ → List A → Type 0) → (List ℕ → ℕ → ℕ → Type 0) → Column → ℕ
-    → List ℕ → List ℕ → List A → Type 0
-AreRowAnswers Has Fails c rows statuses ends out =
+abbrev pub AreRowAnswers : {A : Type 0} → (ℕ → List A → Type 0) → (ℕ → ℕ → Type 0) → ℕ → List ℕ → List ℕ → List A
+    → Type 0
+AreRowAnswers Has Fails rows statuses ends out =
     (i : ℕ) → i < rows
-    → IsRowAnswer Has Fails c i (slice_index statuses i) (start_of ends i) (slice_index ends i) out
+    → IsRowAnswer Has Fails i (slice_index statuses i) (start_of ends i) (slice_index ends i) out
+
+-- these are the items of the bytes of row i
+pub record RowHas {A : Type 0} (Has : List ℕ → List A → Type 0) (c : Column) (i : ℕ) (items : List A) : Type 0 where
+  pub row : List ℕ
+  pub is : IsRow c i row
+  pub has : Has row items
+
+-- row i has no bytes, or they have no items, and this status says why
+pub data RowFails (Fails : List ℕ → ℕ → Type 0) (c : Column) (i status : ℕ) : Type 0 where
+  fails : (row : List ℕ) → IsRow c i row → Fails row status → RowFails Fails c i status
+  has_no_row : LacksRow c i status → RowFails Fails c i status
 
 -- the tables of the rows of a column
 abbrev pub AreTables : Column → List ℕ → List ℕ → List Part → Type 0
-AreTables c statuses ends parts = AreRowAnswers HasTable FailsToList c (rows_of statuses ends) statuses ends parts
+AreTables c statuses ends parts =
+    AreRowAnswers (RowHas HasTable c) (RowFails IsRefusedWith c) (rows_of statuses ends) statuses ends parts
 
 -- the encodings of the rows of a column
 abbrev pub AreEncodings : Options → Column → List ℕ → List ℕ → List ℕ → Type 0
 AreEncodings o c statuses ends out =
-    AreRowAnswers (HasEncoding o) (λ row room. FailsToWrite o row) c (rows_of statuses ends) statuses ends out
+    AreRowAnswers (RowHas (HasEncoding o) c) (RowFails (FailsToWrite o) c) (rows_of statuses ends) statuses ends out
 
 -- after the last items of these rows nothing has changed
 abbrev pub KeepsAfter : {A : Type 0} → ℕ → List ℕ → List ℕ → List A → List A → Type 0
@@ -64,16 +73,12 @@ KeepsFrom n before after = drop n after ≡ drop n before
 
 -- The status of row i, and how many items it has, where those before it end at `start`: they are put there, if there is
 -- room for them.
-pub data IsRowStep {A : Type 0} (Has : List ℕ → List A → Type 0) (Fails : List ℕ → ℕ → ℕ → Type 0)
-    (c : Column) (i status count start : ℕ) (before after : List A) : Type 0 where
-  put : (row : List ℕ) (items : List A) → IsRow c i row → Has row items → status ≡ OK
-      → count ≡ length items → start + count ≤ length before
+pub data IsRowStep {A : Type 0} (Has : ℕ → List A → Type 0) (Fails : ℕ → ℕ → Type 0)
+    (i status count start : ℕ) (before after : List A) : Type 0 where
+  put : (items : List A) → Has i items → status ≡ OK → count ≡ length items → start + count ≤ length before
       → after ≡ take start before ++ (items ++ drop (start + count) before)
-      → IsRowStep Has Fails c i status count start before after
-  lacks : (row : List ℕ) (items : List A) → IsRow c i row → Has row items → status ≡ NO_ROOM
-      → count ≡ length items → length before < start + count → after ≡ before
-      → IsRowStep Has Fails c i status count start before after
-  fails : (row : List ℕ) → IsRow c i row → Fails row (length before - start) status → count ≡ 0 → after ≡ before
-      → IsRowStep Has Fails c i status count start before after
-  has_no_row : LacksRow c i status → count ≡ 0 → after ≡ before
-      → IsRowStep Has Fails c i status count start before after
+      → IsRowStep Has Fails i status count start before after
+  lacks : (items : List A) → Has i items → status ≡ NO_ROOM → count ≡ length items
+      → length before < start + count → after ≡ before
+      → IsRowStep Has Fails i status count start before after
+  nothing : Fails i status → count ≡ 0 → after ≡ before → IsRowStep Has Fails i status count start before after

@@ -11,15 +11,16 @@ use Rattle.wkb_geom.specs.declared.error.Cause.TheVariants.{EndOfInput as end_of
 use Rattle.wkb_geom.specs.declared.error.Cause.TheVariants.{IncorrectType as incorrect_type}
 use Rattle.wkb_geom.specs.declared.error.Cause.TheVariants.{NestingDepthExceeded as nesting_depth_exceeded}
 use Rattle.wkb_geom.specs.Refusals.{Refuses}
-use Rattle.wkb.specs.Canonical.{IsAccepted, HaveOneValue, HaveTwoValues}
+use Rattle.wkb_rewrite.specs.Inputs.{IsAccepted, HaveOneValue, HaveTwoValues}
 use Rattle.wkb_check.specs.Counted.{left_in}
-use Rattle.wkb_c.specs.declared.status.TheConstants.{NO_MEMORY, IO_ERROR, INVALID_BYTE_ORDER, CODE_OUT_OF_RANGE}
+use Rattle.wkb_c.specs.Classes.{IsRefusalStatus}
+use Rattle.wkb_c.specs.declared.status.TheConstants.{OK, NO_ROOM, UNKNOWN_OPTION}
+use Rattle.wkb_c.specs.declared.status.TheConstants.{SHORT_HEADER, INVALID_BYTE_ORDER, CODE_OUT_OF_RANGE}
 use Rattle.wkb_c.specs.declared.status.TheConstants.{INCORRECT_TYPE}
 use Rattle.wkb_c.specs.declared.status.TheConstants.{NESTING_DEPTH_EXCEEDED, SHORT_POINT}
 use Rattle.wkb_c.specs.declared.status.TheConstants.{SHORT_LINE_STRING, SHORT_MULTI_POINT, SHORT_LINEAR_RING}
 use Rattle.wkb_c.specs.declared.inputs.TheConstants.{FIRST, SECOND, DIFFERENT, EQUAL}
 use Rattle.wkb_c.specs.declared.fault.WkbFault.{WkbFault}
-use Rattle.wkb_c.specs.Tables.{HasPartsWithin}
 
 -- the status of a fault of the bytes (no reading refuses an unsupported dimension)
 abbrev pub general_status : General → ℕ
@@ -33,7 +34,7 @@ general_status (ShortLinearRing end len) = SHORT_LINEAR_RING
 
 -- the status of a cause
 abbrev pub cause_status : Cause → ℕ
-cause_status end_of_input = IO_ERROR
+cause_status end_of_input = SHORT_HEADER
 cause_status (general g) = general_status g
 cause_status incorrect_type = INCORRECT_TYPE
 cause_status (nesting_depth_exceeded n) = NESTING_DEPTH_EXCEEDED
@@ -87,7 +88,12 @@ pub data IsComparison (a b : List ℕ) (equal : ℕ) : Type 0 where
   one_value : equal ≡ EQUAL → HaveOneValue a b → IsComparison a b equal
   two_values : equal ≡ DIFFERENT → HaveTwoValues a b → IsComparison a b equal
 
--- where there is room for so many parts, none are listed, and this status says why
-pub data FailsToList (input : List ℕ) (room status : ℕ) : Type 0 where
-  refused : (fault : WkbFault) → IsFault input status fault → FailsToList input room status
-  no_memory : status ≡ NO_MEMORY → HasPartsWithin input room → FailsToList input room status
+-- what a call returns that writes into a room
+pub data IsStatusOfListing (status : ℕ) : Type 0 where
+  does : status ≡ OK → IsStatusOfListing status
+  lacks_room : status ≡ NO_ROOM → IsStatusOfListing status
+  refuses : IsRefusalStatus status → IsStatusOfListing status
+
+-- and has options
+abbrev pub IsStatusOfWriting : ℕ → Type 0
+IsStatusOfWriting status = (status ≡ UNKNOWN_OPTION) ⊎ IsStatusOfListing status

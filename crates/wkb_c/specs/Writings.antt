@@ -1,11 +1,10 @@
 -- The bytes that an encoding is written into.
 use Rattle.std.specs.Prelude.{◌≡◌, ◌≢◌, ℕ, List, Some, None}
-use Rattle.wkb.specs.Canonical.{IsAccepted}
 use Rattle.wkb_c.specs.Room.{IsHeld, Exceeds}
 use Rattle.wkb_c.specs.declared.options.Options.{Options}
 use Rattle.wkb_c.specs.declared.options.Request.{Request}
 use Rattle.wkb_c.specs.declared.fault.WkbFault.{WkbFault}
-use Rattle.wkb_c.specs.declared.status.TheConstants.{NO_MEMORY, UNKNOWN_OPTION}
+use Rattle.wkb_c.specs.declared.status.TheConstants.{UNKNOWN_OPTION}
 use Rattle.wkb_c.specs.Requests.{request_of, IsRequested}
 use Rattle.wkb_c.specs.Statuses.{IsFault}
 
@@ -43,4 +42,3 @@ pub record HasEncoding (o : Options) (input encoding : List ℕ) : Type 0 where
 pub data FailsToWrite (o : Options) (input : List ℕ) (status : ℕ) : Type 0 where
   unknown : request_of o ≡ None → status ≡ UNKNOWN_OPTION → FailsToWrite o input status
   refused : request_of o ≢ None → (fault : WkbFault) → IsFault input status fault → FailsToWrite o input status
-  no_memory : request_of o ≢ None → status ≡ NO_MEMORY → IsAccepted input → FailsToWrite o input status

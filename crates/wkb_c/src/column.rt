@@ -2,14 +2,16 @@
 
 ghost use Rattle.std.specs.Prelude.{◌≡◌, ◌+◌, ◌<◌, ◌≤◌, ◌^◌, length, IfSome, IfNone, IfOk, IfErr};
 ghost use Rattle.wkb_check.specs.Public.{DescribesFront};
+ghost use Rattle.wkb_c.specs.Classes.{IsRowStatus, FitsByte};
 ghost use Rattle.wkb_c.specs.Columns.{is_unset_bit, is_null_row, IsOffset, HasNoOffset};
+ghost use Rattle.wkb_c.specs.Columns.{IsSpan, HasNoSpan, IsReach, Reach, RowsFollow, RowsFit};
 ghost use Rattle.wkb_c.specs.Columns.{IsRowSlice, HasNoSlice, IsRow, LacksRow};
 ghost use Rattle.wkb_c.specs.Columns.{IsRefusedWith, IsStatusOf, IsStatusOfRow, AreStatuses};
 
 use crate::fault::{NO_FAULT, check_input};
 use crate::status::{BAD_OFFSETS, NULL_ROW, OK};
-use wkb::Endianness;
 use wkb_check::{Summary, check_plain};
+use wkb_geom::Endianness;
 use wkb_geom::words::{u32_at, u64_at};
 
 /// A column of bytes as Arrow has it: binary, large binary, or a slice of one.
@@ -29,25 +31,51 @@ pub struct Column<'a> {
 }
 
 impl<'a> Column<'a> {
-    /// The bytes of row i, or the status of a row without bytes.
-    pub fn row(&self, i: usize) -> Result<&'a [u8], u32>
-        requires { i < 2 ^ 63 }
+    /// The bytes of row i, or the status of a row without bytes. `reach` is how far the rows before it reach, and then
+    /// how far it reaches too.
+    #[inline(always)]
+    pub fn row(&self, i: usize, reach: &mut u64) -> Result<&'a [u8], u32>
+        requires small { i < 2 ^ 63 }
+        requires before { Reach self.now i reach.old }
+        ensures reach { Reach self.now (i + 1) reach.new }
         ensures row { IfOk result (λ row. IsRow self.now i row.now) }
         ensures none { IfErr result (λ status. LacksRow self.now i status) }
-        ensures known { IfErr result (λ status. status ≤ BAD_OFFSETS) }
+        ensures known { IfErr result IsRowStatus }
     {
+        let row = slice_of_row(self.bytes, self.offsets, self.offset_size, i, *reach);
+        *reach = self.reach_with(i, *reach);
         if is_unset(self.validity, self.validity_offset, i) {
             return Err(NULL_ROW);
         }
-        match slice_of_row(self.bytes, self.offsets, self.offset_size, i) {
+        match row {
             Some(row) => Ok(row),
             None => Err(BAD_OFFSETS),
         }
     }
+
+    /// How far the rows up to and with row i reach, where those before it reach this far.
+    #[inline(always)]
+    fn reach_with(&self, i: usize, reach: u64) -> u64
+        requires small { i < 2 ^ 63 }
+        requires before { Reach self.now i reach }
+        ensures { Reach self.now (i + 1) result }
+    {
+        match span_of_row(self.bytes, self.offsets, self.offset_size, i) {
+            Some((_start, end)) => reach.max(end),
+            None => reach,
+        }
+    }
 }
 
+/// Rows with bytes don't overlap, so that all of them are no longer than the bytes of the column.
+pub fn rows_follow()
+    ensures follow { RowsFollow }
+    ensures fit { RowsFit }
+{}
+
 /// Whether bit `first + i` of a bitmap is 0. A bit past the end of the bitmap isn't.
-fn is_unset(bitmap: &[u8], first: usize, i: usize) -> bool
+#[inline(always)]
+pub fn is_unset(bitmap: &[u8], first: usize, i: usize) -> bool
     ensures { result ≡ is_unset_bit bitmap.now (first + i) }
 {
     // The sum itself may not fit.
@@ -59,6 +87,7 @@ fn is_unset(bitmap: &[u8], first: usize, i: usize) -> bool
 }
 
 /// Offset i of four bytes, if there is one that isn't negative.
+#[inline(always)]
 fn offset_of_four(offsets: &[u8], i: usize) -> Option<u64>
     ensures some { IfSome result (λ n. IsOffset offsets.now 4 i n) }
     ensures none { IfNone result (HasNoOffset offsets.now 4 i) }
@@ -74,6 +103,7 @@ fn offset_of_four(offsets: &[u8], i: usize) -> Option<u64>
 }
 
 /// Offset i of eight bytes, if there is one that isn't negative.
+#[inline(always)]
 fn offset_of_eight(offsets: &[u8], i: usize) -> Option<u64>
     ensures some { IfSome result (λ n. IsOffset offsets.now 8 i n) }
     ensures none { IfNone result (HasNoOffset offsets.now 8 i) }
@@ -89,6 +119,7 @@ fn offset_of_eight(offsets: &[u8], i: usize) -> Option<u64>
 }
 
 /// Offset i of `size` bytes, if there is one that isn't negative.
+#[inline(always)]
 fn offset(offsets: &[u8], size: usize, i: usize) -> Option<u64>
     ensures some { IfSome result (λ n. IsOffset offsets.now size i n) }
     ensures none { IfNone result (HasNoOffset offsets.now size i) }
@@ -100,15 +131,37 @@ fn offset(offsets: &[u8], size: usize, i: usize) -> Option<u64>
     }
 }
 
-/// The bytes from offset i up to the next one, if these don't decrease or pass the end of the bytes.
-fn slice_of_row<'a>(bytes: &'a [u8], offsets: &[u8], size: usize, i: usize) -> Option<&'a [u8]>
+/// Offset i and the next one, if these don't decrease or pass the end of the bytes.
+#[inline(always)]
+fn span_of_row(bytes: &[u8], offsets: &[u8], size: usize, i: usize) -> Option<(u64, u64)>
     requires { i < 2 ^ 63 }
-    ensures some { IfSome result (λ row. IsRowSlice bytes.now offsets.now size i row.now) }
-    ensures none { IfNone result (HasNoSlice bytes.now offsets.now size i) }
+    ensures some { IfSome result (λ span. IsSpan bytes.now offsets.now size i span.0 span.1) }
+    ensures none { IfNone result (HasNoSpan bytes.now offsets.now size i) }
 {
     let start = offset(offsets, size, i)?;
     let end = offset(offsets, size, i + 1)?;
     if end < start || (bytes.len() as u64) < end {
+        return None;
+    }
+    Some((start, end))
+}
+
+/// The bytes from offset i up to the next one, if these are good and no row before it ends after the first.
+#[inline(always)]
+fn slice_of_row<'a>(
+    bytes: &'a [u8],
+    offsets: &[u8],
+    size: usize,
+    i: usize,
+    reach: u64,
+) -> Option<&'a [u8]>
+    requires small { i < 2 ^ 63 }
+    requires before { IsReach bytes.now offsets.now size i reach }
+    ensures some { IfSome result (λ row. IsRowSlice bytes.now offsets.now size i row.now) }
+    ensures none { IfNone result (HasNoSlice bytes.now offsets.now size i) }
+{
+    let (start, end) = span_of_row(bytes, offsets, size, i)?;
+    if start < reach {
         return None;
     }
     Some(&bytes[start as usize..end as usize])
@@ -118,7 +171,7 @@ fn slice_of_row<'a>(bytes: &'a [u8], offsets: &[u8], size: usize, i: usize) -> O
 pub fn check_row(row: &[u8]) -> Result<Summary, u32>
     ensures accepted { IfOk result (λ found. DescribesFront row.now found) }
     ensures refused { IfErr result (λ status. IsRefusedWith row.now status) }
-    ensures known { IfErr result (λ status. status < NULL_ROW) }
+    ensures known { IfErr result FitsByte }
 {
     let mut fault = NO_FAULT;
     check_input(row, &mut fault)
@@ -127,7 +180,7 @@ pub fn check_row(row: &[u8]) -> Result<Summary, u32>
 /// The status of some bytes. The short way comes first: most rows hold no collection, and it counts in registers.
 fn status_of_bytes(row: &[u8]) -> u32
     ensures status { IsStatusOf row.now result }
-    ensures known { result < NULL_ROW }
+    ensures known { FitsByte result }
 {
     if let Some(_plain) = check_plain(row) {
         return OK;
@@ -139,23 +192,30 @@ fn status_of_bytes(row: &[u8]) -> u32
 }
 
 /// The status of row i.
-fn status_of_row(column: &Column, i: usize) -> u32
-    requires { i < 2 ^ 63 }
+fn status_of_row(column: &Column, i: usize, reach: &mut u64) -> u32
+    requires small { i < 2 ^ 63 }
+    requires before { Reach column.now i reach.old }
+    ensures reach { Reach column.now (i + 1) reach.new }
     ensures status { IsStatusOfRow column.now i result }
-    ensures known { result ≤ BAD_OFFSETS }
+    ensures known { FitsByte result }
 {
-    match column.row(i) {
+    match column.row(i, reach) {
         Ok(row) => status_of_bytes(row),
         Err(status) => status,
     }
 }
 
-/// Writes the status of each row.
-pub fn check_rows(column: &Column, statuses: &mut [u8])
+/// Whether a geometry is at the front of each row of a column: a status a row.
+///
+/// Row i has the bytes from offset i up to offset i + 1. An offset is a signed little endian number of `offset_size`
+/// bytes, 4 or 8. A row is null where bit `validity_offset + i` of `validity` is 0. No row stops the others.
+#[unsafe(no_mangle)]
+pub extern "C" fn wkb_raw_column_check(column: &Column<'_>, statuses: &mut [u8])
     ensures each { AreStatuses column.now (length statuses.old) statuses.new }
     ensures as_many { length statuses.new ≡ length statuses.old }
 {
+    let mut reach = 0;
     for i in 0..statuses.len() {
-        statuses[i] = status_of_row(column, i) as u8;
+        statuses[i] = status_of_row(column, i, &mut reach) as u8;
     }
 }

@@ -1,43 +1,53 @@
 //! The bounds of a column's rows.
 
-ghost use Rattle.std.specs.Prelude.{◌≡◌, ◌<◌, ◌≤◌, ◌^◌, length};
+ghost use Rattle.std.specs.Prelude.{◌≡◌, ◌+◌, ◌<◌, ◌^◌, length};
 ghost use Rattle.wkb_c.specs.Boxes.{IsRowBox, AreRowBoxes};
+ghost use Rattle.wkb_c.specs.Classes.{FitsByte};
+ghost use Rattle.wkb_c.specs.Columns.{Reach};
 ghost use Rattle.wkb_c.specs.RowItems.{KeepsFrom, rows_of};
 
-use crate::bounds::bounds_input;
 use crate::column::Column;
-use crate::fault::NO_FAULT;
-use crate::status::{BAD_OFFSETS, OK};
-use wkb_check::Bounds;
+use crate::fault::{NO_FAULT, refuse};
+use crate::status::OK;
+use wkb_check::{Bounds, put_bounds};
 
-/// The status of row i, and its bounds.
-fn bounds_of_row(column: &Column, i: usize) -> (u32, Bounds)
-    requires { i < 2 ^ 63 }
-    ensures row { IsRowBox column.now i result.0 result.1 }
-    ensures known { result.0 ≤ BAD_OFFSETS }
+/// Puts the bounds of row i, and returns its status.
+fn bound_row(column: &Column, i: usize, reach: &mut u64, found: &mut Bounds) -> u32
+    requires small { i < 2 ^ 63 }
+    requires before { Reach column.now i reach.old }
+    ensures reach { Reach column.now (i + 1) reach.new }
+    ensures row { IsRowBox column.now i result found.new }
+    ensures known { FitsByte result }
 {
-    let row = match column.row(i) {
+    *found = Bounds::empty();
+    let row = match column.row(i, reach) {
         Ok(row) => row,
-        Err(status) => return (status, Bounds::empty()),
+        Err(status) => return status,
     };
     let mut fault = NO_FAULT;
-    match bounds_input(row, &mut fault) {
-        Ok(found) => (OK, found),
-        Err(status) => (status, Bounds::empty()),
+    match put_bounds(row, found) {
+        Ok(()) => OK,
+        Err(refused) => refuse(&refused, &mut fault),
     }
 }
 
-/// Writes the status and the bounds of each row.
-pub fn bound_rows(column: &Column, boxes: &mut [Bounds], statuses: &mut [u8])
+/// The bounds of each row of a column: a status and a box a row, that of no coordinate for a row without bounds.
+///
+/// The rows are those of `wkb_raw_column_check`. No row stops the others.
+#[unsafe(no_mangle)]
+pub extern "C" fn wkb_raw_column_bounds(
+    column: &Column<'_>,
+    boxes: &mut [Bounds],
+    statuses: &mut [u8],
+)
     ensures each { AreRowBoxes column.now (rows_of statuses.old boxes.old) statuses.new boxes.new }
     ensures statuses_kept { KeepsFrom (rows_of statuses.old boxes.old) statuses.old statuses.new }
     ensures boxes_kept { KeepsFrom (rows_of statuses.old boxes.old) boxes.old boxes.new }
     ensures as_many { length statuses.new ≡ length statuses.old }
     ensures as_many_boxes { length boxes.new ≡ length boxes.old }
 {
+    let mut reach = 0;
     for i in 0..statuses.len().min(boxes.len()) {
-        let (status, found) = bounds_of_row(column, i);
-        statuses[i] = status as u8;
-        boxes[i] = found;
+        statuses[i] = bound_row(column, i, &mut reach, &mut boxes[i]) as u8;
     }
 }

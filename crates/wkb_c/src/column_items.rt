@@ -1,26 +1,36 @@
 //! What the rows of a column write one after another: tables of parts, or encodings.
 
-ghost use Rattle.std.specs.Prelude.{◌≡◌, ◌≤◌, ◌<◌, ◌^◌, length};
+ghost use Rattle.std.specs.Prelude.{◌≡◌, ◌+◌, ◌<◌, ◌^◌, length};
+ghost use Rattle.wkb_c.specs.Classes.{FitsByte};
+ghost use Rattle.wkb_c.specs.Columns.{IsRefusedWith, Reach};
 ghost use Rattle.wkb_c.specs.RowItems.{AreTables, AreEncodings, IsRowStep, KeepsAfter, KeepsFrom};
-ghost use Rattle.wkb_c.specs.RowItems.{rows_of};
-ghost use Rattle.wkb_c.specs.Statuses.{FailsToList};
-ghost use Rattle.wkb_c.specs.Tables.{HasTable};
+ghost use Rattle.wkb_c.specs.RowItems.{rows_of, RowHas, RowFails};
+ghost use Rattle.wkb_c.specs.Subjects.{HasTable};
 ghost use Rattle.wkb_c.specs.Writings.{HasEncoding, FailsToWrite};
 
 use crate::column::{Column, check_row};
 use crate::encoding::write_requested;
 use crate::options::{Options, requested};
-use crate::parts::{Part, list_parts};
-use crate::status::{BAD_OFFSETS, UNKNOWN_OPTION};
-use std::alloc::Global;
+use crate::parts::list_parts;
+use crate::status::UNKNOWN_OPTION;
+use wkb_check::Part;
 
 /// Lists the parts of row i from an index on. Returns its status, and how many parts it has.
-fn list_row(alloc: Global, column: &Column, i: usize, parts: &mut [Part], start: u64) -> (u32, u64)
-    requires { i < 2 ^ 63 }
-    ensures step { IsRowStep HasTable FailsToList column.now i result.0 result.1 start parts.old parts.new }
-    ensures known { result.0 ≤ BAD_OFFSETS }
+fn list_row(
+    column: &Column,
+    i: usize,
+    reach: &mut u64,
+    parts: &mut [Part],
+    start: u64,
+) -> (u32, u64)
+    requires small { i < 2 ^ 63 }
+    requires before { Reach column.now i reach.old }
+    ensures reach { Reach column.now (i + 1) reach.new }
+    ensures step { IsRowStep (RowHas HasTable column.now) (RowFails IsRefusedWith column.now)
+        i result.0 result.1 start parts.old parts.new }
+    ensures known { FitsByte result.0 }
 {
-    let row = match column.row(i) {
+    let row = match column.row(i, reach) {
         Ok(row) => row,
         Err(status) => return (status, 0),
     };
@@ -30,44 +40,50 @@ fn list_row(alloc: Global, column: &Column, i: usize, parts: &mut [Part], start:
     };
     let at = start.min(parts.len() as u64) as usize;
     let mut count = 0;
-    let status = list_parts(alloc, row, found.parts, &mut parts[at..], &mut count);
+    let status = list_parts(row, &found, &mut parts[at..], &mut count);
     (status, count)
 }
 
 /// Writes the encoding of row i from an index on. Returns its status, and how long its encoding is.
 fn write_row(
-    alloc: Global,
     column: &Column,
     i: usize,
+    reach: &mut u64,
     options: &Options,
     out: &mut [u8],
     start: u64,
 ) -> (u32, u64)
-    requires { i < 2 ^ 63 }
-    ensures step { IsRowStep (HasEncoding options.now) (λ row room. FailsToWrite options.now row)
-        column.now i result.0 result.1 start out.old out.new }
-    ensures known { result.0 ≤ BAD_OFFSETS }
+    requires small { i < 2 ^ 63 }
+    requires before { Reach column.now i reach.old }
+    ensures reach { Reach column.now (i + 1) reach.new }
+    ensures step { IsRowStep (RowHas (HasEncoding options.now) column.now)
+        (RowFails (FailsToWrite options.now) column.now) i result.0 result.1 start out.old out.new }
+    ensures known { FitsByte result.0 }
 {
-    let row = match column.row(i) {
+    let row = match column.row(i, reach) {
         Ok(row) => row,
         Err(status) => return (status, 0),
     };
     let Some(request) = requested(options) else {
         return (UNKNOWN_OPTION, 0);
     };
-    if let Err(status) = check_row(row) {
-        return (status, 0);
-    }
+    let found = match check_row(row) {
+        Ok(found) => found,
+        Err(status) => return (status, 0),
+    };
     let at = start.min(out.len() as u64) as usize;
     let mut size = 0;
-    let status = write_requested(alloc, row, request, &mut out[at..], &mut size);
+    let status = write_requested(row, &found, request, &mut out[at..], &mut size);
     (status, size)
 }
 
-/// Lists the parts of each row after those of the rows before it.
-pub fn list_rows(
-    alloc: Global,
-    column: &Column,
+/// Lists the parts of each row of a column after those of the rows before it, as far as there is room: a status a row,
+/// and where its parts end.
+///
+/// The rows are those of `wkb_raw_column_check`. A row without parts ends where it begins. No row stops the others.
+#[unsafe(no_mangle)]
+pub extern "C" fn wkb_raw_column_parts(
+    column: &Column<'_>,
     parts: &mut [Part],
     ends: &mut [u64],
     statuses: &mut [u8],
@@ -81,18 +97,23 @@ pub fn list_rows(
     ensures as_many_ends { length ends.new ≡ length ends.old }
 {
     let mut at = 0;
+    let mut reach = 0;
     for i in 0..statuses.len().min(ends.len()) {
-        let (status, count) = list_row(alloc, column, i, parts, at);
+        let (status, count) = list_row(column, i, &mut reach, parts, at);
         at = at.saturating_add(count);
         statuses[i] = status as u8;
         ends[i] = at;
     }
 }
 
-/// Writes the encoding of each row after those of the rows before it.
-pub fn write_rows(
-    alloc: Global,
-    column: &Column,
+/// Writes the encoding of each row of a column after those of the rows before it, as far as there is room: a status a
+/// row, and where its encoding ends.
+///
+/// The rows are those of `wkb_raw_column_check`. A row without an encoding ends where it begins. No row stops the
+/// others.
+#[unsafe(no_mangle)]
+pub extern "C" fn wkb_raw_column_write(
+    column: &Column<'_>,
     options: &Options,
     out: &mut [u8],
     ends: &mut [u64],
@@ -107,8 +128,9 @@ pub fn write_rows(
     ensures as_many_ends { length ends.new ≡ length ends.old }
 {
     let mut at = 0;
+    let mut reach = 0;
     for i in 0..statuses.len().min(ends.len()) {
-        let (status, size) = write_row(alloc, column, i, options, out, at);
+        let (status, size) = write_row(column, i, &mut reach, options, out, at);
         at = at.saturating_add(size);
         statuses[i] = status as u8;
         ends[i] = at;

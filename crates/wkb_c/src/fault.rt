@@ -1,12 +1,13 @@
 //! Where and why some bytes are refused.
 
-ghost use Rattle.std.specs.Prelude.{◌≡◌, ◌≢◌, ◌≤◌, ◌<◌, IfOk, IfErr};
-ghost use Rattle.wkb_check.specs.Public.{DescribesFront};
+ghost use Rattle.std.specs.Prelude.{◌≡◌, ℕ, List, IfOk, IfErr};
+ghost use Rattle.wkb_check.specs.Public.{DescribesFront, IsRefusedFor};
+ghost use Rattle.wkb_c.specs.Classes.{IsRefusalStatus, FitsByte};
 ghost use Rattle.wkb_c.specs.Statuses.{cause_status, general_status, cause_fault, IsFault};
 
 use crate::status::{
-    CODE_OUT_OF_RANGE, INCORRECT_TYPE, INVALID_BYTE_ORDER, IO_ERROR, NESTING_DEPTH_EXCEEDED,
-    NULL_ROW, OK, SHORT_LINE_STRING, SHORT_LINEAR_RING, SHORT_MULTI_POINT, SHORT_POINT,
+    CODE_OUT_OF_RANGE, INCORRECT_TYPE, INVALID_BYTE_ORDER, NESTING_DEPTH_EXCEEDED, OK,
+    SHORT_HEADER, SHORT_LINE_STRING, SHORT_LINEAR_RING, SHORT_MULTI_POINT, SHORT_POINT,
 };
 use wkb_check::{Refused, Summary, check};
 use wkb_geom::{Cause, General};
@@ -59,7 +60,7 @@ fn status_of_cause(cause: Cause) -> u32
     ensures { result ≡ cause_status cause }
 {
     match cause {
-        Cause::EndOfInput => IO_ERROR,
+        Cause::EndOfInput => SHORT_HEADER,
         Cause::General(fault) => status_of_general(fault),
         Cause::IncorrectType => INCORRECT_TYPE,
         Cause::NestingDepthExceeded(_) => NESTING_DEPTH_EXCEEDED,
@@ -67,7 +68,7 @@ fn status_of_cause(cause: Cause) -> u32
 }
 
 /// The numbers of a refusal by the check.
-pub fn fault_of_refused(refused: &Refused) -> WkbFault
+fn fault_of_refused(refused: &Refused) -> WkbFault
     ensures { result ≡ cause_fault refused.now.part refused.now.offset refused.now.cause }
 {
     let (end, len, code) = match refused.cause {
@@ -88,19 +89,26 @@ pub fn fault_of_refused(refused: &Refused) -> WkbFault
     }
 }
 
-/// What is at the front of the bytes; or the status of the one refusal, and its numbers. It allocates nothing.
+/// Reports a refusal by the check, and returns its status.
+pub fn refuse(refused: &Refused, fault: &mut WkbFault) -> u32
+    ensures is { (buf : List ℕ) → IsRefusedFor buf refused.now → IsFault buf result fault.new }
+    ensures refusal { IsRefusalStatus result }
+    ensures small { FitsByte result }
+{
+    *fault = fault_of_refused(refused);
+    fault.status
+}
+
+/// What is at the front of the bytes; or the status of the one refusal, and its numbers.
 pub fn check_input(buf: &[u8], fault: &mut WkbFault) -> Result<Summary, u32>
     ensures accepted { IfOk result (λ found. DescribesFront buf.now found) }
     ensures refused { IfErr result (λ status. IsFault buf.now status fault.new) }
-    ensures late { IfErr result (λ status. IO_ERROR ≤ status) }
-    ensures small { IfErr result (λ status. status < NULL_ROW) }
+    ensures refusal { IfErr result IsRefusalStatus }
+    ensures small { IfErr result FitsByte }
     ensures kept { IfOk result (λ _. fault.new ≡ fault.old) }
 {
     match check(buf) {
         Ok(found) => Ok(found),
-        Err(refused) => {
-            *fault = fault_of_refused(&refused);
-            Err(fault.status)
-        }
+        Err(refused) => Err(refuse(&refused, fault)),
     }
 }

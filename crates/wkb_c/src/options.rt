@@ -3,8 +3,8 @@
 ghost use Rattle.std.specs.Prelude.{◌≡◌};
 ghost use Rattle.wkb_c.specs.Requests.{order_asked, request_of};
 
-use wkb::Endianness;
-use wkb::writer::{Form, WriteOptions};
+use wkb_geom::{Endianness, Form};
+use wkb_rewrite::Target;
 
 /// The number of big endian in `Options`.
 pub const BIG_ENDIAN: u32 = 0;
@@ -38,13 +38,13 @@ pub struct Options {
 #[derive(Clone, Copy)]
 pub enum Request {
     /// The encoding under these options.
-    Encoding(WriteOptions),
+    Encoding(Target),
     /// The encoding under EWKB with the geometry's own SRID.
     OwnSrid(Endianness),
 }
 
 /// The order of this number.
-fn order(number: u32) -> Option<Endianness>
+fn order_of_number(number: u32) -> Option<Endianness>
     ensures { result ≡ order_asked number }
 {
     match number {
@@ -58,15 +58,15 @@ fn order(number: u32) -> Option<Endianness>
 pub fn requested(options: &Options) -> Option<Request>
     ensures { result ≡ request_of options.now }
 {
-    let endianness = order(options.order)?;
+    let order = order_of_number(options.order)?;
     let form = match options.form {
         ISO => Form::Iso,
-        EWKB_OWN_SRID => return Some(Request::OwnSrid(endianness)),
+        EWKB_OWN_SRID => return Some(Request::OwnSrid(order)),
         EWKB_WITH_SRID => Form::Ewkb {
             srid: Some(options.srid),
         },
         EWKB_WITHOUT_SRID => Form::Ewkb { srid: None },
         _ => return None,
     };
-    Some(Request::Encoding(WriteOptions { endianness, form }))
+    Some(Request::Encoding(Target { order, form }))
 }

@@ -1,8 +1,7 @@
 use Rattle.wkb_c.proofs.Common.{refl, sym}
-use Rattle.wkb_c.specs.RowItems.{fails, has_no_row}
+use Rattle.wkb_c.specs.RowItems.{nothing, fails, has_no_row}
 use Rattle.wkb_c.specs.Writings.{refused, unknown}
-use Rattle.wkb_c.proofs.Telling.{found_is_accepted}
-use Rattle.wkb_c.proofs.Called.{is_asked, write_step}
+use Rattle.wkb_c.proofs.Encodings.{is_asked, write_step}
 use Rattle.wkb_c.proofs.RowItems.{lent_to_end, put_to_end}
 use Rattle.wkb_c.proofs.column_items.write_row.Goals as goal
 
@@ -12,22 +11,19 @@ returns-clause-step c =
     let at = c.min-at.result in
     let called = c.write_requested-status in
     let e = called.ensures in
-    write_step c.in-Ok.row.now c.in-Ok.ensures.row
-    (found_is_accepted c.in-Ok.row.now _ c.in_default-check_row.ensures.accepted) c.args.options.now _
-    (sym c.in-Some.ensures) at called.result
+    write_step c.in-Ok.row.now c.in-Ok.ensures.row c.args.options.now _ (sym c.in-Some.ensures) at called.result
     called.new.size xs _ called.new.out _ c.min-at.ensures (lent_to_end xs at)
-    (put_to_end xs called.new.out at) e.long e.written e.no_room e.out_kept
-    e.size_kept e.known
+    (put_to_end xs called.new.out at) e.long e.written e.no_room e.out_kept e.known
 
 pub returns-in-Err-clause-step : goal.returns-in-Err-clause-step
-returns-in-Err-clause-step c = has_no_row c.in-Err.ensures.none refl refl
+returns-in-Err-clause-step c = nothing (has_no_row c.in-Err.ensures.none) refl refl
 
 pub returns-in_default-clause-step : goal.returns-in_default-clause-step
 returns-in_default-clause-step c =
-    fails c.in-Ok.row.now c.in-Ok.ensures.row (unknown (sym c.in_default.ensures) refl) refl refl
+    nothing (fails c.in-Ok.row.now c.in-Ok.ensures.row (unknown (sym c.in_default.ensures) refl)) refl refl
 
 pub returns-in-Err-check_row-clause-step : goal.returns-in-Err-check_row-clause-step
 returns-in-Err-check_row-clause-step c =
     let why = c.in-Err-check_row.ensures.refused in
     let asked = is_asked c.args.options.now _ (sym c.in-Some.ensures) in
-    fails c.in-Ok.row.now c.in-Ok.ensures.row (refused asked why.0 why.1) refl refl
+    nothing (fails c.in-Ok.row.now c.in-Ok.ensures.row (refused asked why.0 why.1)) refl refl

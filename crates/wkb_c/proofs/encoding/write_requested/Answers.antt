@@ -1,62 +1,62 @@
 use Rattle.wkb_c.proofs.Common.{arith}
-use Rattle.wkb_geom.specs.Geometries.{geometry_of}
-use Rattle.wkb_write.specs.Answers.{encoding_of}
-use Rattle.wkb_c.proofs.Fitting.{fits_is_writable, written_fits, is_asked}
+use Rattle.wkb_rewrite.proofs.Measured.{at_most}
+use Rattle.wkb_c.proofs.Encodings.{handed_out, finds_no_room}
+use Rattle.wkb_c.proofs.Telling.{there_is}
 use Rattle.wkb_c.proofs.encoding.write_requested.Goals as goal
+use Rattle.wkb_c.proofs.encoding.write_requested.Goals.{then-out-buf+else-out-wanted, else-out-buf}
 
-pub put_encoding-requires-clause-writable : goal.put_encoding-requires-clause-writable
-put_encoding-requires-clause-writable c =
-    let o = c.options_of-options.result in
-    let w = c.in-Ok.wkb in
-    let f = c.in-Ok.ensures.front in
-    fits_is_writable o.endianness o.form c.args.buf.now w.spelled w.value f.rest
-    (λ i. (c.type_inv.buf i).fits) (omega arith) c.options_of-options.ensures.form
-    f.front
+pub encoded_size-wanted-requires : goal.encoded_size-wanted-requires
+encoded_size-wanted-requires c =
+    let d = c.requires in record { geometry = there_is c.args.buf.now c.args.found.now d; long = d.described.bytes_are }
 
-pub returns-in-Ok-put_encoding-clause-written : goal.returns-in-Ok-put_encoding-clause-written
-returns-in-Ok-put_encoding-clause-written c = λ ok.
-    let w = c.in-Ok.wkb in
-    record {
-      encoding = encoding_of c.options_of-options.result (geometry_of w.value);
-      is_requested =
-          is_asked c.args.request c.srid.result c.options_of-options.result c.args.buf.now w c.in-Ok.ensures.front
-          c.srid.ensures
-          c.options_of-options.ensures.is;
-      held = c.in-Ok-put_encoding.ensures.held;
-    }
+pub returns-then-out-wanted-clause-no_room : goal.returns-then-out-wanted-clause-no_room
+returns-then-out-wanted-clause-no_room c = λ told.
+    let target = c.target_of-target.result in
+    finds_no_room c.args.request c.args.buf.now c.args.found.now c.requires target c.target_of-target.ensures.is
+    c.args.out.now c.encoded_size-wanted.result
+    (c.encoded_size-wanted.ensures.size target.order (there_is c.args.buf.now c.args.found.now c.requires))
+    (omega (arith, c.if-out-wanted.true))
 
-pub returns-in-Ok-put_encoding-clause-bound : goal.returns-in-Ok-put_encoding-clause-bound
-returns-in-Ok-put_encoding-clause-bound c = λ is.
-    let o = c.options_of-options.result in
-    let w = c.in-Ok.wkb in
-    let f = c.in-Ok.ensures.front in
-    omega (
-      arith,
-      c.in-Ok-put_encoding.ensures.held.count_is,
-      written_fits o.endianness o.form c.args.buf.now w.spelled w.value f.rest
-          (λ i. (c.type_inv.buf i).fits) (omega arith) c.options_of-options.ensures.form f.front,
-    )
+pub put_encoding-requires-clause-room : goal.put_encoding-requires-clause-room
+put_encoding-requires-clause-room c = λ g.
+    let target = c.target_of-target.result in
+    elim c.if-out-buf.branch [
+      | then-out-buf+else-out-wanted w ↦ omega (arith, w.encoded_size-wanted.ensures.size target.order g, w.if-out-wanted.false)
+      | else-out-buf w ↦ omega (
+        arith,
+        at_most target.order target.form c.args.buf.now g (λ i. (c.type_inv.buf i).fits) c.target_of-target.ensures.form,
+        w.if-out-buf.false,
+      )
+    ]
 
-pub returns-clause-no_room : goal.returns-clause-no_room
-returns-clause-no_room c = λ is.
-    let w = c.in-Ok.wkb in
-    record {
-      encoding = encoding_of c.options_of-options.result (geometry_of w.value);
-      is_requested =
-          is_asked c.args.request c.srid.result c.options_of-options.result c.args.buf.now w c.in-Ok.ensures.front
-          c.srid.ensures
-          c.options_of-options.ensures.is;
-      lacks = c.in-Err-put_encoding.ensures.lacks;
-    }
+pub returns-clause-written : goal.returns-clause-written
+returns-clause-written c = λ told.
+    let target = c.target_of-target.result in
+    let there = there_is c.args.buf.now c.args.found.now c.requires in
+    handed_out c.args.request c.args.buf.now c.args.found.now c.requires target c.target_of-target.ensures.is
+    c.args.out.now c.put_encoding.new.out c.put_encoding.result (c.put_encoding.ensures.size there)
+    (elim c.if-out-buf.branch [
+      | then-out-buf+else-out-wanted w ↦ omega (
+        arith,
+        c.put_encoding.ensures.size there,
+        w.encoded_size-wanted.ensures.size target.order there,
+        w.if-out-wanted.false,
+      )
+      | else-out-buf w ↦ omega (
+        arith,
+        c.put_encoding.ensures.size there,
+        at_most target.order target.form c.args.buf.now there (λ i. (c.type_inv.buf i).fits) c.target_of-target.ensures.form,
+        w.if-out-buf.false,
+      )
+    ])
+    (c.put_encoding.ensures.put there)
 
 pub returns-clause-bound : goal.returns-clause-bound
-returns-clause-bound c = λ is.
-    let o = c.options_of-options.result in
-    let w = c.in-Ok.wkb in
-    let f = c.in-Ok.ensures.front in
+returns-clause-bound c =
+    let there = there_is c.args.buf.now c.args.found.now c.requires in
+    let target = c.target_of-target.result in
     omega (
       arith,
-      c.in-Err-put_encoding.ensures.lacks.count_is,
-      written_fits o.endianness o.form c.args.buf.now w.spelled w.value f.rest
-          (λ i. (c.type_inv.buf i).fits) (omega arith) c.options_of-options.ensures.form f.front,
+      c.put_encoding.ensures.size there,
+      at_most target.order target.form c.args.buf.now there (λ i. (c.type_inv.buf i).fits) c.target_of-target.ensures.form,
     )

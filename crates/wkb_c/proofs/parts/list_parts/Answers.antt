@@ -1,42 +1,24 @@
-use Rattle.wkb_c.proofs.Common.{◌∙◌, List, length, ap, subst, arith}
-use Rattle.wkb_c.specs.declared.parts.Part.{Part}
-use Rattle.wkb_c.specs.Room.{IsHeld}
-use Rattle.wkb_c.proofs.Words.{front_fits, holds, entries_many}
+use Rattle.wkb_c.proofs.Common.{arith, ap}
+use Rattle.std.proofs.Common.{set}
+use Rattle.wkb_c.proofs.Called.{fits_table, table_put, one_geometry, whole_put, parts_found}
 use Rattle.wkb_c.proofs.parts.list_parts.Goals as goal
 
-pub table_of-requires : goal.table_of-requires
-table_of-requires c = record { fits = front_fits c.args.buf.now c.in-Ok.wkb c.in-Ok.ensures.front (omega arith) }
+pub put_geometries-requires : goal.put_geometries-requires
+put_geometries-requires c = record {
+  fit =
+      fits_table c.args.buf.now c.found_of-whole.result.parts c.args.parts.now
+      (parts_found c.args.buf.now c.found_of-whole.result c.found_of-whole.ensures)
+      (omega (arith, c.if-parts-whole.false));
+}
 
-pub returns-in-Ok-table_of-clause-listed : goal.returns-in-Ok-table_of-clause-listed
-returns-in-Ok-table_of-clause-listed c = λ ok.
-    let w = c.in-Ok.wkb in
-    let f = c.in-Ok.ensures.front in
-    let is = c.as_slice.ensures.value ∙ c.in-Ok-table_of.ensures in
-    record {
-      s = w.spelled;
-      t = w.value;
-      rest = f.rest;
-      front = f.front;
-      held =
-          subst (λ (parts : List Part). IsHeld parts c.args.parts.now c.hand_out.new.out c.hand_out.new.count) is
-          (c.hand_out.ensures.held ok);
-      parts = holds c.args.buf.now w.spelled w.value 0 0 f.front.front f.rest f.front.whole f.front.spelled;
-      many =
-          (c.hand_out.ensures.held ok).count_is ∙ ap length is
-          ∙ entries_many w.spelled w.value f.front.front f.front.spelled;
-    }
+pub returns-then-whole-eq1-clause-listed : goal.returns-then-whole-eq1-clause-listed
+returns-then-whole-eq1-clause-listed c = λ ok.
+    whole_put c.args.buf.now c.found_of-whole.result c.args.parts.now _ c.found_of-whole.ensures
+    c.if-whole-eq1.true (omega (arith, c.if-parts-whole.false)) (ap (set c.args.parts.now 0) c.whole_part.ensures)
 
-pub returns-in-Ok-table_of-clause-no_room : goal.returns-in-Ok-table_of-clause-no_room
-returns-in-Ok-table_of-clause-no_room c = λ short.
-    let w = c.in-Ok.wkb in
-    let f = c.in-Ok.ensures.front in
-    let is = c.as_slice.ensures.value ∙ c.in-Ok-table_of.ensures in
-    let lacks = (c.hand_out.ensures.no_room (λ ok. omega (arith, ok, short))).1 in
-    record {
-      s = w.spelled;
-      t = w.value;
-      rest = f.rest;
-      front = f.front;
-      many = lacks.count_is ∙ ap length is ∙ entries_many w.spelled w.value f.front.front f.front.spelled;
-      short = (omega (arith, lacks.count_is, lacks.short));
-    }
+pub returns-clause-listed : goal.returns-clause-listed
+returns-clause-listed c = λ ok.
+    let f = c.found_of-whole.ensures in
+    table_put c.args.buf.now c.found_of-whole.result.parts c.args.parts.now c.put_geometries.new.parts
+    (parts_found c.args.buf.now c.found_of-whole.result f) (omega (arith, c.if-parts-whole.false))
+    (c.put_geometries.ensures.put f.rest (one_geometry c.args.buf.now f.s f.t f.rest f.front))

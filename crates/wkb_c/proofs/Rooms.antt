@@ -1,0 +1,189 @@
+-- With room for the totals no row lacks room.
+use Rattle.wkb_c.proofs.Common.{◌≡◌, ℕ, ◌+◌, ◌*◌, ◌≤◌, ◌<◌, ◌⊎◌, inl, inr, List, length, Some, sym, ap, ◌∙◌, arith}
+use Rattle.wkb_c.proofs.Common.{refl, slice_index, subst, Dimension, width}
+use Rattle.std.specs.Prelude.{flat_map}
+use Rattle.std.proofs.Common.{set}
+use lib.Seq.{get_or-set_same, get_or-set_other, length-sets}
+use Rattle.wkb_geom.specs.declared.common.Dimension.TheVariants.{Xy, Xyz, Xym, Xyzm}
+use Rattle.wkb_check.specs.Public.{DescribesFront}
+use Rattle.wkb_check.specs.declared.answer.Summary.{Summary}
+use Rattle.wkb_c.specs.Columns.{IsRow, LacksRow, null_row, bad_offsets}
+use Rattle.wkb_c.specs.declared.column.Column.{Column}
+use Rattle.wkb_c.specs.Coordinates.{Levels, HasRoomUpTo, NoneLacksRoom, written, no_room, LacksCoordinates}
+use Rattle.wkb_c.specs.Coordinates.{no_row, unknown, refused, IsCoordinatesRow, HasCoordinates, handed, failed}
+use Rattle.wkb_c.specs.Coordinates.{dimension_named}
+use Rattle.wkb_c.specs.Coordinates.{totals_after, with_levels, ring_counts, single_counts, ends, words_in}
+use Rattle.wkb_c.specs.declared.coordinates.Totals.{Totals}
+use Rattle.wkb_c.specs.declared.status.TheConstants.{NO_ROOM}
+use Rattle.wkb_c.specs.Subjects.{Subject, subjects}
+use Rattle.wkb_c.proofs.Levels.{AreSmall}
+use Rattle.wkb_c.proofs.Rows.{split}
+use Rattle.wkb_c.proofs.Telling.{refusals}
+
+-- what was checked has coordinates
+pub has_coordinates : {c : Column} {dimension i : ℕ} {asked : Dimension} (row : List ℕ) → IsRow c i row
+    → dimension_named dimension ≡ Some asked → (found : Summary) → (d : DescribesFront row found)
+    → HasCoordinates c dimension i asked (subjects d.spelled d.value)
+has_coordinates row is asked_is found d = record {
+  row = row;
+  is_row = is;
+  asked_is = asked_is;
+  s = d.spelled;
+  t = d.value;
+  rest = d.rest;
+  front = d.front;
+  are = refl;
+}
+
+-- lists are as long as others
+pub record AreAsLong (a b : Levels) : Type 0 where
+  pub words : length a.words ≡ length b.words
+  pub ring_ends : length a.ring_ends ≡ length b.ring_ends
+  pub single_ends : length a.single_ends ≡ length b.single_ends
+
+-- totals reach no less far than others
+pub record Reaches (from to : Totals) : Type 0 where
+  pub coordinates : from.coordinates ≤ to.coordinates
+  pub rings : from.rings ≤ to.rings
+  pub singles : from.singles ≤ to.singles
+
+scaled : (d : Dimension) (a b : ℕ) → a ≤ b → width d * a ≤ width d * b
+scaled Xy a b h = omega (arith, h)
+scaled Xyz a b h = omega (arith, h)
+scaled Xym a b h = omega (arith, h)
+scaled Xyzm a b h = omega (arith, h)
+
+room_before : (asked : Dimension) (out : Levels) (from to : Totals) → Reaches from to → HasRoomUpTo asked out to
+    → HasRoomUpTo asked out from
+room_before asked out from to far room = record {
+  words_fit = omega (arith, room.words_fit, scaled asked from.coordinates to.coordinates far.coordinates);
+  rings_fit = omega (arith, room.rings_fit, far.rings);
+  singles_fit = omega (arith, room.singles_fit, far.singles);
+}
+
+room_in : (asked : Dimension) (out other : Levels) (to : Totals) → AreAsLong other out → HasRoomUpTo asked out to
+    → HasRoomUpTo asked other to
+room_in asked out other to long room = record {
+  words_fit = omega (arith, room.words_fit, long.words);
+  rings_fit = omega (arith, room.rings_fit, long.ring_ends);
+  singles_fit = omega (arith, room.singles_fit, long.single_ends);
+}
+
+-- a row with its levels goes from here to there
+reaches : (from to : Totals) (xs : List Subject) → AreSmall from → to ≡ totals_after from xs → Reaches from to
+reaches from to xs small is = record {
+  coordinates = omega (arith, small.coordinates, ap (λ (t : Totals). t.coordinates) is);
+  rings = omega (arith, small.rings, ap (λ (t : Totals). t.rings) is);
+  singles = omega (arith, small.singles, ap (λ (t : Totals). t.singles) is);
+}
+
+small_after : (from to : Totals) (xs : List Subject) → to ≡ totals_after from xs → AreSmall to
+small_after from to xs is = record {
+  coordinates = omega (arith, ap (λ (t : Totals). t.coordinates) is);
+  rings = omega (arith, ap (λ (t : Totals). t.rings) is);
+  singles = omega (arith, ap (λ (t : Totals). t.singles) is);
+}
+
+same_reach : (from to : Totals) → to ≡ from → Reaches from to
+same_reach from to is = record {
+  coordinates = omega (arith, ap (λ (t : Totals). t.coordinates) is);
+  rings = omega (arith, ap (λ (t : Totals). t.rings) is);
+  singles = omega (arith, ap (λ (t : Totals). t.singles) is);
+}
+
+same_small : (from to : Totals) → to ≡ from → AreSmall from → AreSmall to
+same_small from to is small = record {
+  coordinates = omega (arith, small.coordinates, ap (λ (t : Totals). t.coordinates) is);
+  rings = omega (arith, small.rings, ap (λ (t : Totals). t.rings) is);
+  singles = omega (arith, small.singles, ap (λ (t : Totals). t.singles) is);
+}
+
+same_long : (a b : Levels) → a ≡ b → AreAsLong a b
+same_long a b is = record {
+  words = ap (λ (l : Levels). length l.words) is;
+  ring_ends = ap (λ (l : Levels). length l.ring_ends) is;
+  single_ends = ap (λ (l : Levels). length l.single_ends) is;
+}
+
+put_long : (asked : Dimension) (xs : List Subject) (from : Totals) (before after : Levels)
+    → after ≡ with_levels asked xs from before → AreAsLong after before
+put_long asked xs from before after is = record {
+  words =
+      ap (λ (l : Levels). length l.words) is
+      ∙ length-sets before.words (width asked * from.coordinates) (flat_map (words_in asked) xs);
+  ring_ends =
+      ap (λ (l : Levels). length l.ring_ends) is
+      ∙ length-sets before.ring_ends from.rings (ends from.coordinates (flat_map ring_counts xs));
+  single_ends =
+      ap (λ (l : Levels). length l.single_ends) is
+      ∙ length-sets before.single_ends from.singles (ends from.rings (flat_map single_counts xs));
+}
+
+no_room_missing : {c : Column} {i status : ℕ} → LacksRow c i status → status ≡ NO_ROOM → ⊥
+no_room_missing (null_row none is) told = omega (arith, is, told)
+no_room_missing (bad_offsets some none is) told = omega (arith, is, told)
+
+no_room_lacking : {c : Column} {dimension i status : ℕ} → LacksCoordinates c dimension i status → status ≡ NO_ROOM → ⊥
+no_room_lacking (no_row why) told = no_room_missing why told
+no_room_lacking (unknown row is none is_status) told = omega (arith, is_status, told)
+no_room_lacking (refused row asked is asked_is why) told = omega (arith, why.1.status_is, told, refusals why.1.cause)
+
+one_dimension : (n : ℕ) (a b : Dimension) → dimension_named n ≡ Some a → dimension_named n ≡ Some b → a ≡ b
+one_dimension n a b f g = let same : Some a ≡ Some b = sym f ∙ g in cc
+
+-- what a row more says of totals, lengths and room
+pub record RowSays (dimension status : ℕ) (from to : Totals) (before after : Levels) : Type 0 where
+  pub far : Reaches from to
+  pub small : AreSmall to
+  pub long : AreAsLong after before
+  pub lacks : (asked : Dimension) → dimension_named dimension ≡ Some asked → HasRoomUpTo asked before to
+      → status ≡ NO_ROOM → ⊥
+
+pub row_says : {c : Column} {dimension i status : ℕ} {from to : Totals} {before after : Levels}
+    → IsCoordinatesRow c dimension i status from to before after → AreSmall from
+    → RowSays dimension status from to before after
+row_says {from = from} {to = to} {before = before} {after = after} (handed asked xs has (written ok is room put)) small =
+    record {
+      far = reaches from to xs small is;
+      small = small_after from to xs is;
+      long = put_long asked xs from before after put;
+      lacks = λ other named room told. omega (arith, ok, told);
+    }
+row_says {dimension = dimension} {from = from} {to = to} {before = before} {after = after}
+    (handed asked xs has (no_room told is short same))
+    small =
+    record {
+      far = reaches from to xs small is;
+      small = small_after from to xs is;
+      long = same_long after before same;
+      lacks = λ other named room told.
+          short (subst (λ d. HasRoomUpTo d before to) (one_dimension dimension other asked named has.asked_is) room);
+    }
+row_says {from = from} {to = to} {before = before} {after = after} (failed why is same) small = record {
+  far = same_reach from to is;
+  small = same_small from to is small;
+  long = same_long after before same;
+  lacks = λ other named room told. no_room_lacking why told;
+}
+
+module _ {dimension status i : ℕ} {from to : Totals} {out before after : Levels} (statuses : List ℕ)
+    (says : RowSays dimension status from to before after) (long : AreAsLong before out)
+    (done : NoneLacksRoom dimension out from i statuses) (there : i < length statuses) where
+  pub long_more : AreAsLong after out
+  long_more = record {
+    words = says.long.words ∙ long.words;
+    ring_ends = says.long.ring_ends ∙ long.ring_ends;
+    single_ends = says.long.single_ends ∙ long.single_ends;
+  }
+
+  row_has_room : (asked : Dimension) → dimension_named dimension ≡ Some asked → HasRoomUpTo asked out to → (j : ℕ)
+      → (j ≡ i) ⊎ (j < i) → slice_index (set statuses i status) j ≡ NO_ROOM → ⊥
+  row_has_room asked named room j (inl same) told =
+      says.lacks asked named (room_in asked out before to long room)
+      (sym (ap (slice_index (set statuses i status)) same ∙ get_or-set_same statuses i status 0 there) ∙ told)
+  row_has_room asked named room j (inr above) told =
+      done asked named (room_before asked out from to says.far room) j above
+      (sym (get_or-set_other statuses i j status 0 (λ same. omega (arith, same, above))) ∙ told)
+
+  pub room_more : NoneLacksRoom dimension out to (i + 1) (set statuses i status)
+  room_more asked named room j below told = row_has_room asked named room j (split j i below) told

@@ -1,0 +1,12 @@
+use Rattle.wkb_c.proofs.Common.{refl, ◌∙◌}
+use Rattle.wkb_c.specs.Boxes.{bounded, refused}
+use Rattle.wkb_c.proofs.column_bounds.bound_row.Goals as goal
+
+pub returns-in-Ok-put_bounds-clause-row : goal.returns-in-Ok-put_bounds-clause-row
+returns-in-Ok-put_bounds-clause-row c = bounded c.in-Ok.row.now c.in-Ok.ensures.row refl c.in-Ok-put_bounds.ensures.front
+
+pub returns-in-Err-put_bounds-clause-row : goal.returns-in-Err-put_bounds-clause-row
+returns-in-Err-put_bounds-clause-row c =
+    refused c.in-Ok.row.now c.in-Ok.ensures.row
+    (_, c.refuse.ensures.is c.in-Ok.row.now c.in-Err-put_bounds.ensures.refused.refusal)
+    (c.in-Err-put_bounds.ensures.kept ∙ c.empty.ensures)

@@ -1,0 +1,35 @@
+use Rattle.wkb_c.proofs.Common.{arith, ap, ◌∙◌, length}
+use Rattle.wkb_c.proofs.Levels.{totals_first, totals_next, totals_last}
+use Rattle.wkb_c.proofs.coordinates.Totals.after.Goals as goal
+
+pub loop-piece-init : goal.loop-piece-init
+loop-piece-init c = record {
+  left = λ g. totals_first c.args.row.now c.of-pieces.result c.args.self g (c.of-pieces.ensures.ahead g)
+      (record { coordinates = omega arith; rings = omega arith; singles = omega arith });
+  same = c.of-pieces.ensures.same;
+  inside = omega (arith, c.of-pieces.ensures.begins);
+}
+
+pub next-requires : goal.next-requires
+next-requires c =
+    let left = c.loop-piece.invariant.left c.requires.here in record { ahead = record { pieces = left.ps; are = left.ahead } }
+
+pub loop-piece-preserved : goal.loop-piece-preserved
+loop-piece-preserved c = record {
+  left = λ g.
+      let left = c.loop-piece.invariant.left g in
+      let more = c.with-to.ensures in
+      totals_next left c.next.new.self c.in-Some.piece c.with-to.result (c.in-Some.ensures.steps left.ps left.ahead)
+      (record {
+        coordinates_is = more.coordinates;
+        rings_is = more.rings;
+        singles_is = more.singles;
+      });
+  same = c.next.ensures.same ∙ c.loop-piece.invariant.same;
+  inside = omega (arith, c.in-Some.ensures.inside.inside, ap length c.loop-piece.invariant.same);
+}
+
+pub returns : goal.returns
+returns c = λ g.
+    let left = c.loop-piece.invariant.left g in
+    totals_last left (c.in_default.ensures.steps left.ps left.ahead)

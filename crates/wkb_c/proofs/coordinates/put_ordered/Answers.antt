@@ -1,0 +1,18 @@
+use Rattle.wkb_c.proofs.Common.{arith, ap, ◌∙◌, ◌+◌, ◌*◌, length, drop}
+use Rattle.std.specs.Prelude.{◌-◌}
+use lib.Seq.{length-sets}
+use Rattle.wkb_geom.specs.Reading.{coordinate}
+use Rattle.wkb_c.specs.Coordinates.{words_asked}
+use Rattle.wkb_c.proofs.Levels.{words_next}
+use Rattle.wkb_c.proofs.coordinates.put_ordered.Goals as goal
+
+pub loop-preserved : goal.loop-preserved
+loop-preserved c =
+    let l = c.loop in
+    let a = c.args in
+    let d = a.piece.now.dimension in
+    let long = length-sets l.out l.at (words_asked a.asked d (coordinate a.order d (drop l.from a.row.now))) in
+    words_next l.invariant (a.piece.now.count - (l.counter + 1)) (omega (arith, c.loop-test.true))
+    (l.from + 8 * c.width.result) (l.at + c.width-at.result) c.put_coordinate.new.out
+    (ap length c.put_coordinate.ensures ∙ long)
+    (omega (arith, c.width.ensures)) (omega (arith, c.width-at.ensures)) c.put_coordinate.ensures

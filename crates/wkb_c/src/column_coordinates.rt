@@ -1,0 +1,86 @@
+//! The coordinates of a column's rows, in levels: a row has singles, a single has rings, a ring has coordinates.
+
+ghost use Rattle.std.specs.Prelude.{◌≡◌, ◌+◌, ◌<◌, ◌^◌, length};
+ghost use Rattle.wkb_c.specs.Classes.{FitsByte};
+ghost use Rattle.wkb_c.specs.Columns.{Reach};
+ghost use Rattle.wkb_c.specs.Coordinates.{IsCoordinatesRow, AreLevels, NoneLacksRoom};
+ghost use Rattle.wkb_c.specs.LevelLists.{levels_of, AreSameSlices};
+ghost use Rattle.wkb_c.specs.RowItems.{KeepsFrom, rows_of};
+
+use crate::column::{Column, check_row};
+use crate::coordinates::{LevelSlices, Totals, dimension_of_number, has_room, put_levels};
+use crate::status::{NO_ROOM, OK, UNKNOWN_OPTION};
+
+/// Writes the levels of row i from the totals on, and moves the totals to their end. Without room it only moves the
+/// totals. Returns the row's status.
+fn put_row(
+    column: &Column<'_>,
+    i: usize,
+    reach: &mut u64,
+    dimension: u32,
+    at: &mut Totals,
+    out: &mut LevelSlices<'_>,
+) -> u32
+    requires small { i < 2 ^ 63 }
+    requires before { Reach column.now i reach.old }
+    ensures reach { Reach column.now (i + 1) reach.new }
+    ensures put { IsCoordinatesRow column.now dimension i result at.old at.new
+        (levels_of out.old) (levels_of out.new) }
+    ensures same_slices { AreSameSlices out.old out.new }
+    ensures known { FitsByte result }
+{
+    let row = match column.row(i, reach) {
+        Ok(row) => row,
+        Err(status) => return status,
+    };
+    let Some(asked) = dimension_of_number(dimension) else {
+        return UNKNOWN_OPTION;
+    };
+    if let Err(status) = check_row(row) {
+        return status;
+    }
+    let from = *at;
+    *at = from.after(row);
+    if !has_room(at, asked, out) {
+        return NO_ROOM;
+    }
+    put_levels(row, from, asked, out);
+    OK
+}
+
+/// Writes the coordinates of each row of a column after those of the rows before it, as far as there is room, in
+/// levels: a row has singles, a single has rings, a ring has coordinates. `totals` is how many of each all rows have.
+///
+/// The rows are those of `wkb_raw_column_check`. The words are those that `dimension` names. No row stops the others.
+#[unsafe(no_mangle)]
+pub extern "C" fn wkb_raw_column_coordinates(
+    column: &Column<'_>,
+    dimension: u32,
+    out: &mut LevelSlices<'_>,
+    row_ends: &mut [u64],
+    totals: &mut Totals,
+    statuses: &mut [u8],
+)
+    ensures each { AreLevels column.now dimension statuses.new row_ends.new totals.new
+        (levels_of out.old) (levels_of out.new) }
+    ensures room { NoneLacksRoom dimension (levels_of out.old) totals.new
+        (rows_of statuses.old row_ends.old) statuses.new }
+    ensures same_slices { AreSameSlices out.old out.new }
+    ensures statuses_kept { KeepsFrom (rows_of statuses.old row_ends.old) statuses.old statuses.new }
+    ensures row_ends_kept { KeepsFrom (rows_of statuses.old row_ends.old) row_ends.old row_ends.new }
+    ensures as_many { length statuses.new ≡ length statuses.old }
+    ensures as_many_ends { length row_ends.new ≡ length row_ends.old }
+{
+    let mut at = Totals {
+        coordinates: 0,
+        rings: 0,
+        singles: 0,
+    };
+    let mut reach = 0;
+    for i in 0..statuses.len().min(row_ends.len()) {
+        let status = put_row(column, i, &mut reach, dimension, &mut at, out);
+        statuses[i] = status as u8;
+        row_ends[i] = at.singles;
+    }
+    *totals = at;
+}

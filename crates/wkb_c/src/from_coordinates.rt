@@ -1,0 +1,182 @@
+//! The encodings of rows that are given in levels.
+
+ghost use Rattle.std.specs.Prelude.{◌≡◌, ◌+◌, ◌<◌, ◌==◌, length, Some, None, if◌then◌else◌};
+ghost use Rattle.wkb_c.specs.Classes.{FitsByte};
+ghost use Rattle.wkb_c.specs.LevelRows.{HasLevelEncoding, LacksLevels, AreLevelEncodings, level_rows};
+ghost use Rattle.wkb_c.specs.LevelTargets.{kind_named, levels_in, target_asked, options_of, Ready};
+ghost use Rattle.wkb_c.specs.RowItems.{IsRowStep, KeepsAfter, KeepsFrom};
+ghost use Rattle.wkb_levels.specs.declared.ends.Ends.TheVariants.{Each, At};
+ghost use Rattle.wkb_levels.specs.EndLists.{ends_of};
+
+use crate::column::is_unset;
+use crate::coordinates::dimension_of_number;
+use crate::encoding::target_of;
+use crate::options::{Options, Request, requested};
+use crate::status::{BAD_LEVELS, NO_ROOM, NULL_ROW, OK, UNKNOWN_OPTION};
+use wkb_geom::Dimensions;
+use wkb_geom::code::{LINE_STRING, MULTI_LINE_STRING, MULTI_POINT, MULTI_POLYGON, POINT, POLYGON};
+use wkb_levels::{Ends, Kind, Levels, Place, Written};
+use wkb_sink::WriteOptions;
+
+/// Levels as GeoArrow has them, and which rows are null. A level without ends has one item of the next level each.
+#[repr(C)]
+#[derive(Drop)]
+pub struct LevelColumn<'a> {
+    /// One coordinate after another.
+    pub words: &'a [u64],
+    /// For each ring, its end in coordinates.
+    pub ring_ends: &'a [u64],
+    /// How many rings there are, where they have no ends.
+    pub rings: u64,
+    /// For each single, its end in rings.
+    pub single_ends: &'a [u64],
+    /// How many singles there are, where they have no ends.
+    pub singles: u64,
+    /// For each row, its end in singles.
+    pub row_ends: &'a [u64],
+    /// How many rows there are, where they have no ends.
+    pub rows: u64,
+    /// A bit a row, from the lowest bit of the first byte on: 0 for a null row. A row without a bit isn't null.
+    pub validity: &'a [u8],
+    /// The bit of the first row.
+    pub validity_offset: usize,
+}
+
+/// What each row is written as.
+#[derive(Clone, Copy)]
+pub struct LevelTarget {
+    pub kind: Kind,
+    pub dim: Dimensions,
+    pub options: WriteOptions,
+}
+
+/// Ends, or as many items of one each.
+fn ends_or_ones<'a>(ends: &'a [u64], count: u64) -> Ends<'a>
+    ensures { result ≡ (if length ends.now == 0 then Each 0 count else At 0 ends.entry) }
+{
+    if ends.is_empty() {
+        Ends::Each { from: 0, to: count }
+    } else {
+        Ends::At { start: 0, ends }
+    }
+}
+
+/// The levels of a column.
+fn levels_of_column<'a>(column: &LevelColumn<'a>) -> Levels<'a>
+    ensures { result ≡ levels_in column.now }
+{
+    Levels {
+        words: column.words,
+        ring_ends: ends_or_ones(column.ring_ends, column.rings),
+        single_ends: ends_or_ones(column.single_ends, column.singles),
+        row_ends: ends_or_ones(column.row_ends, column.rows),
+    }
+}
+
+/// The kind of this number, if rows in levels can have it.
+fn kind_of_number(number: u32) -> Option<Kind>
+    ensures { result ≡ kind_named number }
+{
+    match number {
+        POINT => Some(Kind::Point),
+        LINE_STRING => Some(Kind::LineString),
+        POLYGON => Some(Kind::Polygon),
+        MULTI_POINT => Some(Kind::MultiPoint),
+        MULTI_LINE_STRING => Some(Kind::MultiLineString),
+        MULTI_POLYGON => Some(Kind::MultiPolygon),
+        _ => None,
+    }
+}
+
+/// The options of a request. Levels have no SRID of their own.
+fn write_options(request: Request) -> WriteOptions
+    ensures { result ≡ options_of request }
+{
+    let target = target_of(request, None);
+    WriteOptions {
+        endianness: target.order,
+        form: target.form,
+    }
+}
+
+/// What the numbers ask for, if they mean something.
+fn target_of_numbers(kind: u32, dimension: u32, options: &Options) -> Option<LevelTarget>
+    ensures { result ≡ target_asked kind dimension options.now }
+{
+    let kind = kind_of_number(kind)?;
+    let dimension = dimension_of_number(dimension)?;
+    let request = requested(options)?;
+    Some(LevelTarget {
+        kind,
+        dim: Dimensions::from(dimension),
+        options: write_options(request),
+    })
+}
+
+/// Writes row i from an index on. Returns its status, and how long its encoding is. The floor is as of `Levels::row`.
+fn write_level_row(
+    column: &LevelColumn<'_>,
+    target: &Option<LevelTarget>,
+    i: usize,
+    floor: &mut Place,
+    out: &mut [u8],
+    start: u64,
+) -> (u32, u64)
+    requires index { i < length (ends_of (levels_in column.now).row_ends) }
+    requires before { Ready column.now target.now i floor.old }
+    ensures ready { Ready column.now target.now (i + 1) floor.new }
+    ensures step { IsRowStep (HasLevelEncoding column.now target.now) (LacksLevels column.now target.now)
+        i result.0 result.1 start out.old out.new }
+    ensures known { FitsByte result.0 }
+{
+    let null = is_unset(column.validity, column.validity_offset, i);
+    let Some(target) = target else {
+        return (if null { NULL_ROW } else { UNKNOWN_OPTION }, 0);
+    };
+    let levels = levels_of_column(column);
+    if null {
+        levels.pass(target.dim, i, floor);
+        return (NULL_ROW, 0);
+    }
+    let at = start.min(out.len() as u64) as usize;
+    let rest = &mut out[at..];
+    match levels.write_row(target.kind, target.dim, &target.options, i, floor, rest) {
+        Written::Whole(size) => (OK, size as u64),
+        Written::LacksRoom(size) => (NO_ROOM, size as u64),
+        Written::Unfit => (BAD_LEVELS, 0),
+    }
+}
+
+/// Writes the encoding of each row of a column in levels, as one kind and dimension, after those of the rows before it,
+/// as far as there is room: a status a row, and where its encoding ends.
+///
+/// A row without an encoding ends where it begins. No row stops the others.
+#[unsafe(no_mangle)]
+pub extern "C" fn wkb_raw_column_from_coordinates(
+    column: &LevelColumn<'_>,
+    kind: u32,
+    dimension: u32,
+    options: &Options,
+    out: &mut [u8],
+    ends: &mut [u64],
+    statuses: &mut [u8],
+)
+    ensures each { AreLevelEncodings kind dimension options.now column.now statuses.new ends.new out.new }
+    ensures out_kept { KeepsAfter (level_rows column.now statuses.old ends.old) statuses.new ends.new
+        out.old out.new }
+    ensures statuses_kept { KeepsFrom (level_rows column.now statuses.old ends.old) statuses.old statuses.new }
+    ensures ends_kept { KeepsFrom (level_rows column.now statuses.old ends.old) ends.old ends.new }
+    ensures as_many { length statuses.new ≡ length statuses.old }
+    ensures as_many_ends { length ends.new ≡ length ends.old }
+{
+    let target = target_of_numbers(kind, dimension, options);
+    let rows = levels_of_column(column).row_ends.len();
+    let mut at = 0;
+    let mut floor = Place::front();
+    for i in 0..statuses.len().min(ends.len()).min(rows) {
+        let (status, size) = write_level_row(column, &target, i, &mut floor, out, at);
+        at = at.saturating_add(size);
+        statuses[i] = status as u8;
+        ends[i] = at;
+    }
+}

@@ -1,0 +1,13 @@
+//! The numbers that C programs are compiled with.
+
+ghost use Rattle.wkb_c.specs.EnumNumbers.{HaveStatusNumbers, HaveOptionNumbers, HaveInputNumbers};
+ghost use Rattle.wkb_c.specs.EnumNumbers.{AreRefusals, OthersTellNoEnd};
+
+/// The constants have the numbers of `c/wkb.h`, and the statuses of refusals their classes.
+pub fn numbers()
+    ensures statuses { HaveStatusNumbers }
+    ensures options { HaveOptionNumbers }
+    ensures inputs { HaveInputNumbers }
+    ensures refusals { AreRefusals }
+    ensures others_tell_no_end { OthersTellNoEnd }
+{}
