@@ -9,3 +9,4 @@ pub mod reading;
 pub mod spelled;
 pub mod support;
 pub mod texts;
+pub mod with_srid;

@@ -85,10 +85,6 @@ no_polygon w ms k j m c is other =
     λ ring h. other (ap kind (sym (same_value ms k h.spelled (polygon h.of_polygon h.rings) m is
     (member_in w ms k h.spelled (polygon h.of_polygon h.rings) c h.is_member))))
 
--- nor what is no collection
-pub no_collection : (w : Item) (k j : ℕ) → (kind w.value ≡ 7 → ⊥) → HasNoRing w k j
-no_collection w k j other = λ ring h. other (ap kind h.value_is)
-
 -- a polygon's ring is found, or there is none
 pub ring_or_none : (w : Item) (ms : List Item) (k j : ℕ) (m : Item) (p : Listed (List (List Coordinate)))
     (r : Option LinearRing) → IsCollectionOf w ms

@@ -1,14 +1,18 @@
 //! Encodings of each length around the sizes of a block, in sinks that have room for all or a part of them. If a sink
 //! fails, the writer returns the sink's own error.
 
+ghost use Rattle.std.specs.Prelude.{◌≡◌, false};
+
 use crate::answers::{Answer, writer_answer};
 use crate::kinds::{put_multi_line_string, put_point};
-use crate::sinks::{FULL, LimitedSink, Limits};
+use crate::sinks::{FULL, FullWriter, LimitedSink, Limits};
+use std::alloc::Global;
 use std::io;
 use std::test::Fail;
 use wkb::Endianness;
+use wkb::error::WkbError;
 use wkb::geom::{Dimensions, MultiLineString};
-use wkb::writer::Sink;
+use wkb::writer::{Out, Sink};
 use wkb_cases::spelled::Spelled;
 use wkb_cases::support::{ONE, iso, line_string_of, multi_line_string_of, point_of};
 
@@ -138,21 +142,29 @@ fn each_room(rt: HostRuntime) -> Result<(), Fail> {
     Ok(())
 }
 
-// The text of the sink's error is returned too.
+// Whether a point's writer returns the error of a sink that is full, with its kind and its text.
+fn is_full<S: Sink>(alloc: Global, sink: &mut S) -> Result<bool, Fail>
+    requires working { S.has_failed sink.old ≡ false }
+{
+    let point = point_of(Dimensions::Xy, &[ONE, ONE])?;
+    match put_point(sink, &point, &iso(Endianness::LittleEndian)) {
+        Err(WkbError::IOError(error)) => {
+            let printed = format!(in alloc; "{error}")?;
+            Ok(error.kind() == io::ErrorKind::PermissionDenied && printed.as_str() == FULL)
+        }
+        _ => Ok(false),
+    }
+}
+
 #[test]
 fn own_error(rt: HostRuntime) -> Result<(), Fail> {
-    let point = point_of(Dimensions::Xy, &[ONE, ONE])?;
     let mut sink = LimitedSink::new(Limits {
         puts: 0,
         most: 1,
         room: 1,
     });
-    match put_point(&mut sink, &point, &iso(Endianness::LittleEndian)) {
-        Err(error) => {
-            let printed = format!(in rt.alloc(); "{error}")?;
-            assert!(rt; printed.as_str() == FULL);
-        }
-        Ok(()) => assert!(rt; false),
-    }
+    assert!(rt; is_full(rt.alloc(), &mut sink)?);
+    let mut out = Out::new(FullWriter);
+    assert!(rt; is_full(rt.alloc(), &mut out)?);
     Ok(())
 }

@@ -142,13 +142,13 @@ fn fails_at_once(alloc: Global, word: &str) -> Result<bool, Fail> {
     Ok(fails_with_its_reader(alloc, word, 0)? && fails_with_its_reader(alloc, word, 1)?)
 }
 
-// A reader that fails at its second call; digits without an end, as many as are read before the end, and one more.
+// A reader that fails at its second call; as many digits as are read before the end, and one more. Each of the last two
+// is read digit by digit, so this test takes long.
 #[test]
 fn failing_readers(rt: HostRuntime) -> Result<(), Fail> {
     for (word, _input, _line) in ANSWERS {
         assert!(rt; fails_at_once(rt.alloc(), word)?, "{word}");
     }
-    assert!(rt; ends_behind(rt.alloc(), u32::MAX, 3, "")?);
     assert!(rt; ends_behind(rt.alloc(), MOST_DIGITS, 2, "not hex\n")?);
     assert!(rt; ends_behind(rt.alloc(), MOST_DIGITS + 1, 3, "")?);
     Ok(())

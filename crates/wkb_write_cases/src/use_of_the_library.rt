@@ -3,11 +3,12 @@
 use std::test::Fail;
 use wkb::Endianness;
 use wkb::geom::ordinate;
-use wkb_cases::example::{corners, with_srid};
+use wkb_cases::example::corners;
 use wkb_cases::ordinates::greatest_x;
 use wkb_cases::places::{Place, written};
 use wkb_cases::spelled::bytes;
 use wkb_cases::support::{ONE, TWO, iso};
+use wkb_cases::with_srid::as_ewkb;
 
 #[test]
 fn geometries(rt: HostRuntime) -> Result<(), Fail> {
@@ -15,7 +16,7 @@ fn geometries(rt: HostRuntime) -> Result<(), Fail> {
     let point = bytes("01 01000000 P")?;
     assert!(rt; corners(rt.alloc(), polygon.as_slice())? == Some(4));
     assert!(rt; corners(rt.alloc(), point.as_slice())?.is_none());
-    let ewkb = with_srid(rt.alloc(), point.as_slice(), 4326)?;
+    let ewkb = as_ewkb(rt.alloc(), point.as_slice(), 4326)?;
     let expected = bytes("00 20000001 000010e6 3ff0000000000000 4000000000000000")?;
     assert!(rt; ewkb.as_slice() == expected.as_slice());
     Ok(())
