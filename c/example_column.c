@@ -1,13 +1,14 @@
-/* Reads the coordinates of a column in two calls: one without rooms, which returns what is needed, and one with them. */
+/* Reads the coordinates of a column in two calls: one without rooms, which tells what is needed, and one with them. */
 #include "wkb.h"
 #include <stdio.h>
 #include <stdlib.h>
 
-/* Prints each row's geometries with the coordinates of each. */
+/* Prints each row's geometries with the coordinates of each. A row without room would end after what was written. */
 static void print_rows(const wkb_coordinates *it, const uint8_t *statuses, size_t rows) {
   uint64_t single = 0, ring = 0, at = 0;
   for (size_t row = 0; row < rows; row++) {
     printf("row %d: %s\n", (int)row, wkb_status_text(statuses[row]));
+    if (statuses[row] == WKB_STATUS_NO_ROOM) return;
     for (; single < it->row_ends[row]; single++) {
       for (; ring < it->single_ends[single]; ring++) {
         printf(" ");

@@ -15,7 +15,7 @@ import sys
 sys.path.insert(0, os.fspath(pathlib.Path(__file__).parent / "python" / "src"))
 
 import wkb
-from wkb import Form, Refused, Status
+from wkb import Form, Kind, Refused, Status
 
 SEEDS = [bytes.fromhex(it) for it in (
     "0101000000000000000000f03f0000000000000040",
@@ -33,6 +33,11 @@ SIDES = [(axis, end) for axis in "xyzm" for end in ("min", "max")]
 QUERY = "select wkb_well_formed(?1), wkb_fault(?1), wkb_kind(?1), wkb_srid(?1), wkb_canonical(?1), wkb_ewkb(?1), " + (
     "wkb_ewkb(?1, 3857), wkb_same(?1, ?2), wkb_same(?2, ?1), wkb_same(?1, ?1), "
 ) + ", ".join(f"wkb_{axis}{end}(?1)" for axis, end in SIDES)
+# The functions that PostgreSQL doesn't have. An SRID of EWKB that needs 32 bits without a sign is an error of wkb_gpkg.
+GEOPACKAGE = (
+    "case when coalesce(wkb_srid(?1), 0) < 2147483648 then wkb_gpkg(?1) end, wkb_gpkg(?1, 3857), "
+    "ST_IsEmpty(?1), ST_MinX(?1), ST_MaxX(?1), ST_MinY(?1), ST_MaxY(?1)"
+)
 
 
 def inputs():
@@ -49,6 +54,15 @@ def place(text, part, offset):
     return f"{text}, in part {part} at byte {offset}"
 
 
+def fault_of(data, found, header):
+    """What is wrong with bytes that begin with a geometry: EWKB behind a header, or bytes after it."""
+    for index, part in enumerate(wkb.parts(data) if header else ()):
+        highest = data[part.begin + (4 if data[part.begin] == 1 else 1)]
+        if part.kind != Kind.RING and highest & 0xe0:
+            return place("EWKB in a GeoPackage", index, len(header) + part.begin)
+    return None if found.size == len(data) else f"bytes after the geometry, from {len(header) + found.size} on"
+
+
 def results(data, header=b"", srs_id=None):
     """What the functions return of a geometry with this header before it."""
     try:
@@ -58,19 +72,37 @@ def results(data, header=b"", srs_id=None):
         if refused.status == Status.CODE_OUT_OF_RANGE:
             text += f" {refused.fault.code}"
         return (0, place(text, refused.fault.part, len(header) + refused.fault.offset)) + (None,) * (8 + len(SIDES))
-    is_whole = found.size == len(data)
-    fault = None if is_whole else f"bytes after the geometry, from {len(header) + found.size} on"
+    fault = fault_of(data, found, header)
     srid = found.srid if srs_id is None else srs_id
     form = Form.EWKB_WITH_SRID if srid is not None and (srid > 0 or srs_id is None) else Form.EWKB_WITHOUT_SRID
-    ewkb = wkb.write(data, form=form, srid=srid if form == Form.EWKB_WITH_SRID else 0)
+    ewkb = wkb.write(data, form=form, srid=srid if form == Form.EWKB_WITH_SRID else None)
     box = wkb.bounds(data)
     sides = [getattr(getattr(box, axis), {"min": "least", "max": "greatest"}[end]) for axis, end in SIDES]
     sides = [side if getattr(box, axis).count else None for side, (axis, end) in zip(sides, SIDES)]
     same = int(wkb.same(data, SEEDS[0]))
     return (
-        int(is_whole), fault, found.kind.name.replace("_", "").lower(), srid, wkb.write(data), ewkb,
+        int(fault is None), fault, found.kind.name.replace("_", "").lower(), srid, wkb.write(data), ewkb,
         wkb.write(data, form=Form.EWKB_WITH_SRID, srid=3857), same, same, 1, *sides,
     )
+
+
+def geopackage(data, srs_id):
+    """What wkb_gpkg and the functions of triggers return of a geometry with this SRID."""
+    try:
+        found = wkb.check(data)
+    except Refused:
+        return (None,) * 7
+    box = wkb.bounds(data)
+    empty = box.x.count == 0 or box.y.count == 0
+    sides = (box.x.least, box.x.greatest, box.y.least, box.y.greatest)
+    envelope = b"" if empty or found.kind == Kind.POINT else struct.pack("<4d", *sides)
+    flags = bytes([1 | 2 * (envelope != b"") | 16 * empty])
+    own, other = (
+        b"GP\0" + flags + struct.pack("<i", it) + envelope + wkb.write(data) if it < 2**31 else None
+        for it in ((found.srid or 0) if srs_id is None else srs_id, 3857)
+    )
+    counts = (box.x.count, box.x.count, box.y.count, box.y.count)
+    return own, other, int(empty), *(side if count else None for side, count in zip(sides, counts))
 
 
 def headers():
@@ -89,8 +121,8 @@ def try_sqlite(extension):
     database.load_extension(os.fspath(extension))
     for data in inputs():
         for header, srs_id in [(b"", None), *headers()]:
-            returned = database.execute(QUERY, (header + data, SEEDS[0])).fetchone()
-            expected = results(data, header, srs_id)
+            returned = database.execute(f"{QUERY}, {GEOPACKAGE}", (header + data, SEEDS[0])).fetchone()
+            expected = results(data, header, srs_id) + geopackage(data, srs_id)
             count += 1
             if returned != expected:
                 sys.exit(f"{(header + data).hex()}:\n  expected {expected}\n  returned {returned}")

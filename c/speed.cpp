@@ -1,5 +1,6 @@
-// speed ROUNDS: nanoseconds of a call over random geometries of one shape after another, beside the readers of GEOS and
-// OGR where they are. All calls of a shape are timed in each round, and the shortest of the rounds counts.
+// speed ROUNDS: nanoseconds of a call over random geometries of one shape after another, and by the row of a call for a
+// column of them, beside the readers of GEOS and OGR where they are. All calls of a shape are timed in each round, and
+// the shortest of the rounds counts.
 #include "wkb.hpp"
 
 #include <algorithm>
@@ -86,16 +87,54 @@ row multi_polygon() {
   return out;
 }
 
-// A call, and the nanoseconds of its shortest round, divided by the rows and by what a row has of what is timed.
+// All rows of a shape as a column, of which a call is timed by the row.
+struct whole_column {
+  std::vector<std::byte> data;
+  std::vector<std::int64_t> offsets{0};
+  std::vector<std::uint8_t> statuses;
+  std::vector<std::uint64_t> ends;
+  std::vector<wkb_box> boxes;
+  std::vector<wkb_part> parts;
+  std::vector<std::byte> out;
+  wkb::row_coordinates levels;
+  wkb_kind kind;
+  wkb_column raw;
+
+  explicit whole_column(const std::vector<row> &rows)
+      : statuses(rows.size()), ends(rows.size()), boxes(rows.size()),
+        kind(static_cast<wkb_kind>(wkb::check(rows[0])->kind)) {
+    for (const row &it : rows) {
+      data.insert(data.end(), it.begin(), it.end());
+      offsets.push_back(static_cast<std::int64_t>(data.size()));
+    }
+    raw = wkb::column(data, std::span<const std::int64_t>(offsets));
+    parts.resize(wkb_column_parts(&raw, nullptr, 0, ends.data(), statuses.data()));
+    out.resize(data.size());
+    levels = wkb::coordinates_of_rows(raw, WKB_DIM_XY);
+  }
+};
+
+// A call for a geometry and its like for a column, where there is one, and the nanoseconds of their shortest rounds,
+// divided by the rows and by what a row has of what is timed.
 struct timed {
   const char *name;
   std::function<void(const row &)> call;
-  double shortest = std::numeric_limits<double>::infinity();
+  std::function<void(whole_column &)> column_call{};
   double per_row = 1;
+  double shortest = std::numeric_limits<double>::infinity();
+  double shortest_of_column = std::numeric_limits<double>::infinity();
 };
 
 // The columns that a time takes in the table.
 int width_of(const timed &it) { return static_cast<int>(std::max<std::size_t>(std::strlen(it.name), 8)); }
+
+// A time, or nothing where there is no such call.
+void print(const timed &it, double time) {
+  if (time < std::numeric_limits<double>::infinity())
+    std::printf(" %*.1f", width_of(it), time);
+  else
+    std::printf(" %*s", width_of(it), "");
+}
 
 double now() {
   timespec time;
@@ -103,18 +142,30 @@ double now() {
   return 1e9 * static_cast<double>(time.tv_sec) + static_cast<double>(time.tv_nsec);
 }
 
-void time_round(std::vector<timed> &calls, const std::vector<row> &rows) {
+// Times PASSES passes over so many items, and keeps the shortest time of an item.
+void time_passes(double &shortest, double items, const std::function<void()> &pass) {
+  const double start = now();
+  for (int i = 0; i < PASSES; i++) pass();
+  shortest = std::min(shortest, (now() - start) / (PASSES * items));
+}
+
+void time_round(std::vector<timed> &calls, const std::vector<row> &rows, whole_column &column) {
   for (timed &it : calls) {
-    const double start = now();
-    for (int pass = 0; pass < PASSES; pass++)
-      for (const row &input : rows) it.call(input);
-    it.shortest = std::min(it.shortest, (now() - start) / (PASSES * static_cast<double>(rows.size()) * it.per_row));
+    const double items = static_cast<double>(rows.size()) * it.per_row;
+    if (it.call)
+      time_passes(it.shortest, items, [&] {
+        for (const row &input : rows) it.call(input);
+      });
+    if (!it.column_call) continue;
+    time_passes(it.shortest_of_column, items, [&] { it.column_call(column); });
+    if (column.statuses != wkb::statuses(rows.size())) std::exit(1);
   }
 }
 
 std::vector<wkb_part> table(1024);
 std::vector<double> words(4096);
 std::vector<std::byte> encoding(65536);
+constexpr wkb_options BIG = {WKB_ORDER_BIG, WKB_FORM_ISO, 0};
 
 std::uint64_t parts_of(const row &input) {
   std::uint64_t count = 0;
@@ -155,10 +206,37 @@ void call_parts_and_each_word(const row &input) {
 }
 
 void call_write(const row &input) {
-  static const wkb_options BIG = {WKB_ORDER_BIG, WKB_FORM_ISO, 0};
   std::uint64_t size = 0;
   wkb_write(input.data(), input.size(), &BIG, encoding.data(), encoding.size(), &size, nullptr);
   sum += static_cast<double>(size);
+}
+
+void column_check(whole_column &it) { wkb_column_check(&it.raw, it.statuses.data()); }
+
+void column_bounds(whole_column &it) { wkb_column_bounds(&it.raw, it.boxes.data(), it.statuses.data()); }
+
+void column_parts(whole_column &it) {
+  wkb_column_parts(&it.raw, it.parts.data(), it.parts.size(), it.ends.data(), it.statuses.data());
+}
+
+void column_write(whole_column &it) {
+  wkb_column_write(&it.raw, &BIG, it.out.data(), it.out.size(), it.ends.data(), it.statuses.data());
+}
+
+void column_coordinates(whole_column &it) {
+  wkb::row_coordinates &to = it.levels;
+  wkb_coordinates out{to.words.data(), to.words.size(), to.ring_ends.data(), to.ring_ends.size(),
+                      to.single_ends.data(), to.single_ends.size(), to.row_ends.data(), 0, 0, 0};
+  wkb_column_coordinates(&it.raw, WKB_DIM_XY, &out, it.statuses.data());
+}
+
+void column_from_coordinates(whole_column &it) {
+  const wkb::row_coordinates &from = it.levels;
+  const wkb_levels levels{from.words.data(), from.words.size(), from.ring_ends.data(), from.ring_ends.size(),
+                          from.single_ends.data(), from.single_ends.size(), from.row_ends.data(), from.row_ends.size(),
+                          nullptr, 0};
+  wkb_column_from_coordinates(&levels, it.kind, WKB_DIM_XY, &BIG, it.out.data(), it.out.size(), it.ends.data(),
+                              it.statuses.data());
 }
 
 #ifdef WITH_GEOS
@@ -193,9 +271,12 @@ void time_shape(const char *shape, const std::function<row()> &make, std::vector
   std::generate(rows.begin(), rows.end(), make);
   for (const row &input : rows)
     if (!wkb::check(input)) std::exit(1);
-  for (int round = 0; round < rounds; round++) time_round(calls, rows);
+  whole_column column(rows);
+  for (int round = 0; round < rounds; round++) time_round(calls, rows, column);
   std::printf("%-14s %6zu", shape, rows[0].size());
-  for (const timed &it : calls) std::printf(" %*.1f", width_of(it), it.shortest);
+  for (const timed &it : calls) print(it, it.shortest);
+  std::printf("\n%-14s %6s", "  in a column", "");
+  for (const timed &it : calls) print(it, it.shortest_of_column);
   std::printf("\n");
 }
 
@@ -217,7 +298,8 @@ void time_words(int rounds) {
          }}};
     for (timed &it : calls) it.per_row = 2 * COUNT;
     const std::vector<row> rows(100, *input);
-    for (int round = 0; round < rounds; round++) time_round(calls, rows);
+    whole_column column(rows);
+    for (int round = 0; round < rounds; round++) time_round(calls, rows, column);
     std::printf("a word, %s endian: wkb_word %.2f, wkb_words %.2f\n", input == &little ? "little" : "big",
                 calls[0].shortest, calls[1].shortest);
   }
@@ -227,12 +309,14 @@ void time_words(int rounds) {
 
 int main(int argc, char **argv) {
   const int rounds = argc == 2 ? std::atoi(argv[1]) : 5;
-  std::vector<timed> calls{{"check", call_check},
-                           {"bounds", call_bounds},
-                           {"parts", call_parts},
+  std::vector<timed> calls{{"check", call_check, column_check},
+                           {"bounds", call_bounds, column_bounds},
+                           {"parts", call_parts, column_parts},
                            {"parts, words", call_parts_and_words},
                            {"parts, each word", call_parts_and_each_word},
-                           {"write", call_write}};
+                           {"write", call_write, column_write},
+                           {"coordinates", {}, column_coordinates},
+                           {"from coordinates", {}, column_from_coordinates}};
 #ifdef WITH_OGR
   calls.push_back({"OGR", ogr_read});
 #endif

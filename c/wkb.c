@@ -12,13 +12,16 @@ static const uint8_t *bytes_of(const void *bytes, size_t len) {
 
 unsigned wkb_version(void) { return WKB_VERSION; }
 
-const char *wkb_status_text(unsigned status) {
+const char *wkb_status_text(uint32_t status) {
   switch (status) {
     case WKB_STATUS_OK: return "ok";
     case WKB_STATUS_NO_MEMORY: return "out of memory";
     case WKB_STATUS_NO_ROOM: return "the output doesn't fit its room";
     case WKB_STATUS_UNKNOWN_OPTION: return "unknown byte order, form or dimension";
-    case WKB_STATUS_IO_ERROR: return "the input ends inside a header or before a count";
+    case WKB_STATUS_NULL_ROW: return "the row is null";
+    case WKB_STATUS_BAD_OFFSETS: return "the row's offsets decrease, pass the end of the data, or overlap a row";
+    case WKB_STATUS_BAD_LEVELS: return "the row's levels don't fit its kind or each other";
+    case WKB_STATUS_SHORT_HEADER: return "the input ends inside a header or before a count";
     case WKB_STATUS_INVALID_BYTE_ORDER: return "a byte order is neither 0 nor 1";
     case WKB_STATUS_CODE_OUT_OF_RANGE: return "unknown geometry type code";
     case WKB_STATUS_INCORRECT_TYPE: return "a member does not belong in its multi geometry";
@@ -27,11 +30,11 @@ const char *wkb_status_text(unsigned status) {
     case WKB_STATUS_SHORT_LINE_STRING: return "the input ends inside a line string";
     case WKB_STATUS_SHORT_MULTI_POINT: return "the input ends inside a multi point";
     case WKB_STATUS_SHORT_LINEAR_RING: return "the input ends inside a ring";
-    case WKB_STATUS_NULL_ROW: return "the row is null";
-    case WKB_STATUS_BAD_OFFSETS: return "the row's offsets decrease, or pass the end of the data";
   }
   return "unknown status";
 }
+
+int wkb_status_is_refusal(uint32_t status) { return status >= 32; }
 
 wkb_status wkb_check(const void *buf, size_t len, wkb_found *found, wkb_fault *fault) {
   wkb_found found_here;
@@ -78,16 +81,17 @@ static size_t offsets_len(const wkb_column *column) {
   return column->rows < SIZE_MAX / size ? size * (column->rows + 1) : 0;
 }
 
-/* The bytes up to the one with the validity bit of the last row, for a column that has rows; none without validity. */
-static size_t validity_len(const wkb_column *column) {
-  size_t first = column->validity_offset, more = column->rows - 1;
-  if (column->validity == NULL) return 0;
+/* The bytes up to the one with the validity bit of the last of some rows; none without validity. */
+static size_t validity_len(const void *validity, size_t first, size_t rows) {
+  size_t more = rows - 1;
+  if (validity == NULL) return 0;
   return first / 8 + more / 8 + (first % 8 + more % 8) / 8 + 1;
 }
 
 /* The same column with the lengths of its buffers, for one that has rows. */
 static wkb_raw_column unpacked(const wkb_column *column) {
-  size_t offsets = offsets_len(column), validity = validity_len(column);
+  size_t offsets = offsets_len(column);
+  size_t validity = validity_len(column->validity, column->validity_offset, column->rows);
   wkb_raw_column raw = {
       .bytes = bytes_of(column->data, column->size),
       .bytes_len = column->size,
@@ -132,7 +136,7 @@ uint64_t wkb_column_write(const wkb_column *column, const wkb_options *options, 
   return ends[rows - 1];
 }
 
-void wkb_column_coordinates(const wkb_column *column, wkb_dim dimension, wkb_coordinates *out, uint8_t *statuses) {
+void wkb_column_coordinates(const wkb_column *column, uint32_t dimension, wkb_coordinates *out, uint8_t *statuses) {
   double word_here;
   uint64_t ring_end_here, single_end_here;
   wkb_raw_totals totals = {0, 0, 0};
@@ -147,11 +151,47 @@ void wkb_column_coordinates(const wkb_column *column, wkb_dim dimension, wkb_coo
         .single_ends = out->single_room == 0 ? &single_end_here : out->single_ends,
         .single_room = out->single_room,
     };
-    wkb_raw_column_coordinates(&raw, (uint32_t)dimension, &slices, out->row_ends, rows, &totals, statuses, rows);
+    wkb_raw_column_coordinates(&raw, dimension, &slices, out->row_ends, rows, &totals, statuses, rows);
   }
   out->coordinates = totals.coordinates;
   out->rings = totals.rings;
   out->singles = totals.singles;
+}
+
+/* Levels with the lengths of their slices, where there are rows. */
+static wkb_raw_level_column unpacked_levels(const wkb_levels *levels) {
+  static const double no_words[1] = {0};
+  static const uint64_t no_ends[1] = {0};
+  size_t validity = validity_len(levels->validity, levels->validity_offset, levels->rows);
+  wkb_raw_level_column raw = {
+      .words = levels->word_count == 0 ? no_words : levels->words,
+      .word_count = levels->word_count,
+      .ring_ends = levels->ring_ends ? levels->ring_ends : no_ends,
+      .ring_end_count = levels->ring_ends ? levels->rings : 0,
+      .rings = levels->rings,
+      .single_ends = levels->single_ends ? levels->single_ends : no_ends,
+      .single_end_count = levels->single_ends ? levels->singles : 0,
+      .singles = levels->singles,
+      .row_ends = levels->row_ends ? levels->row_ends : no_ends,
+      .row_end_count = levels->row_ends ? levels->rows : 0,
+      .rows = levels->rows,
+      .validity = bytes_of(levels->validity, validity),
+      .validity_len = validity,
+      .validity_offset = levels->validity_offset,
+  };
+  return raw;
+}
+
+uint64_t wkb_column_from_coordinates(const wkb_levels *levels, uint32_t kind, uint32_t dimension,
+                                     const wkb_options *options, void *out, size_t room, uint64_t *ends,
+                                     uint8_t *statuses) {
+  uint8_t out_here;
+  size_t rows = levels->rows;
+  if (rows == 0) return 0;
+  wkb_raw_level_column raw = unpacked_levels(levels);
+  wkb_raw_column_from_coordinates(&raw, kind, dimension, options, room == 0 ? &out_here : (uint8_t *)out, room, ends,
+                                  rows, statuses, rows);
+  return ends[rows - 1];
 }
 
 void wkb_words(const void *buf, const wkb_part *part, uint64_t first, uint64_t count, double *out) {

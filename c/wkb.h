@@ -1,23 +1,20 @@
-/* Well-Known Binary for C and C++: a reader and a writer that are proved to do what this header says. A few things are
- * only tested: what is marked so below, wkb_words and wkb_word, the texts, what is said of null, and that the members
- * of wkb_column and wkb_coordinates reach the proved calls.
+/* Well-Known Binary for C and C++: a reader and a writer that are proved to do what this header says. A sentence that
+ * ends in (tested) is tested only, and so are wkb_words, wkb_word, wkb_whole, the texts and wkb_status_is_refusal.
  *
- * BUF may hold any bytes. A call reads the bytes that it is given and no others, writes only through its other
- * pointers, keeps nothing, and returns. Output buffers must not overlap each other or any input.
+ * BUF may hold any bytes. A call returns, and keeps nothing. It reads the bytes that it is given and no others, and
+ * writes only through its other pointers (tested). Output buffers must not overlap each other or any input.
  *
  * A pointer may be null where its length, room or number of rows is 0. FOUND, FAULT, BOX, SIZE, COUNT, EQUAL and WHICH
- * may be null where the caller doesn't want that result. No other pointer may be null. What a call doesn't write is
- * unchanged.
+ * may be null where the caller doesn't want that result (tested). No other pointer may be null. What a call doesn't
+ * write is unchanged.
  *
- * Calls may run at the same time: there is no static data. Don't call from a signal handler, or in the forked child of
- * a process with threads. wkb_check, wkb_bounds and their column calls never allocate. The other calls check first: for
- * a refused input they allocate nothing, whatever its counts claim, and never return WKB_STATUS_NO_MEMORY. What they
- * allocate with malloc they free before they return: at most 32 bytes for each byte of BUF (only tested), and besides
- * these the table of parts, which the coordinates of a row need too, or wkb_same's copy of each input that isn't a
- * little endian ISO encoding already. wkb_write writes into OUT only. Numbers in BUF may have either byte order and any
- * alignment; numbers in the structs have the machine's.
+ * No call asks for memory: none returns WKB_STATUS_NO_MEMORY, whose number stays free, and all may be called from a
+ * signal handler, in a forked child and on a thread with a small stack: wkb_parts and wkb_column_parts take at most
+ * 20 KB of it, any other call 2 KB (tested). Calls may run at the same time: there is no static data (tested). Numbers
+ * in BUF may have either byte order and any alignment; numbers in the structs have the machine's.
  *
- * Structs, numbers and names don't change within version 1. Later versions add calls and statuses. */
+ * Structs, numbers and names don't change within version 1. Later versions add calls, and statuses inside the classes
+ * that wkb_status names. */
 #ifndef WKB_H
 #define WKB_H
 
@@ -32,27 +29,36 @@ extern "C" {
 /* The version that a program is compiled against; wkb_version() returns the one that it runs with. */
 #define WKB_VERSION_MAJOR 1
 #define WKB_VERSION_MINOR 0
-#define WKB_VERSION (WKB_VERSION_MAJOR * 1000 + WKB_VERSION_MINOR)
+#define WKB_VERSION_PATCH 0
+#define WKB_VERSION (WKB_VERSION_MAJOR * 1000000 + WKB_VERSION_MINOR * 1000 + WKB_VERSION_PATCH)
 
-/* What a call returns. From WKB_STATUS_IO_ERROR to WKB_STATUS_SHORT_LINEAR_RING: why the input is refused, the first
- * fault from its front on. The last two are for rows of columns only. */
+/* What a call returns, and what became of a row of a column, which fits a byte. Each number belongs to a class, and
+ * later versions add statuses inside the classes, so ask for the class where the number isn't known:
+ *
+ *      1 to 15    what the call couldn't do
+ *     16 to 31    what is wrong with a row of a column
+ *     32 to 255   the input is refused: the first fault from its front on, and FAULT is written
+ *     48 to 255   so it is because it ends too early: `end` and `len` of FAULT are told */
 typedef enum wkb_status {
   WKB_STATUS_OK = 0,
-  WKB_STATUS_NO_MEMORY = 1,               /* malloc returned null */
-  WKB_STATUS_NO_ROOM = 2,                 /* a room is too small; *SIZE, *COUNT or the ends say what is needed */
-  WKB_STATUS_UNKNOWN_OPTION = 3,          /* the options name no order, form or dimension */
-  WKB_STATUS_IO_ERROR = 4,                /* the input ends inside a header or before a count */
-  WKB_STATUS_INVALID_BYTE_ORDER = 5,      /* an order byte is neither 0 nor 1 */
-  WKB_STATUS_CODE_OUT_OF_RANGE = 6,       /* unknown geometry type code: code */
-  WKB_STATUS_INCORRECT_TYPE = 7,          /* a member has another kind or dimension than its multi geometry takes, or a
-                                             point of a multi point has an SRID */
-  WKB_STATUS_NESTING_DEPTH_EXCEEDED = 8,  /* a collection inside 128 others */
-  WKB_STATUS_SHORT_POINT = 9,             /* the input ends before its coordinates do: end, len */
-  WKB_STATUS_SHORT_LINE_STRING = 10,
-  WKB_STATUS_SHORT_MULTI_POINT = 11,
-  WKB_STATUS_SHORT_LINEAR_RING = 12,
-  WKB_STATUS_NULL_ROW = 13,               /* the row's validity bit is 0 */
-  WKB_STATUS_BAD_OFFSETS = 14             /* the row's offsets decrease, or pass the end of the data */
+  WKB_STATUS_NO_MEMORY = 1,                /* no call of this version returns it */
+  WKB_STATUS_NO_ROOM = 2,                  /* a room is too small; *SIZE, *COUNT or the ends say what is needed */
+  WKB_STATUS_UNKNOWN_OPTION = 3,           /* the options name no order, form, kind or dimension */
+  WKB_STATUS_NULL_ROW = 16,                /* the row's validity bit is 0 */
+  WKB_STATUS_BAD_OFFSETS = 17,             /* the row's offsets decrease, pass the end of the data, or begin before an
+                                              earlier row ends */
+  WKB_STATUS_BAD_LEVELS = 18,              /* the row's levels don't fit its kind or each other */
+  WKB_STATUS_SHORT_HEADER = 32,            /* the input ends inside a header or before a count */
+  WKB_STATUS_INVALID_BYTE_ORDER = 33,      /* an order byte is neither 0 nor 1 */
+  WKB_STATUS_CODE_OUT_OF_RANGE = 34,       /* unknown geometry type code: code */
+  WKB_STATUS_INCORRECT_TYPE = 35,          /* a member has another kind or dimension than its multi geometry takes, or a
+                                              point of a multi point has an SRID */
+  WKB_STATUS_NESTING_DEPTH_EXCEEDED = 36,  /* a collection inside 128 others */
+  WKB_STATUS_SHORT_POINT = 48,             /* the input ends before its coordinates do: end, len */
+  WKB_STATUS_SHORT_LINE_STRING = 49,
+  WKB_STATUS_SHORT_MULTI_POINT = 50,
+  WKB_STATUS_SHORT_LINEAR_RING = 51,
+  WKB_STATUS_MAX_ENUM = 0x7fffffff         /* no status: the enum holds any number that is no more */
 } wkb_status;
 
 /* The kinds, by their numbers in the codes. A ring is a part of a polygon. */
@@ -64,21 +70,29 @@ typedef enum wkb_kind {
   WKB_KIND_MULTI_POINT = 4,
   WKB_KIND_MULTI_LINE_STRING = 5,
   WKB_KIND_MULTI_POLYGON = 6,
-  WKB_KIND_GEOMETRY_COLLECTION = 7
+  WKB_KIND_GEOMETRY_COLLECTION = 7,
+  WKB_KIND_MAX_ENUM = 0x7fffffff
 } wkb_kind;
 
 /* The dimensions, by the thousands of ISO codes. */
-typedef enum wkb_dim { WKB_DIM_XY = 0, WKB_DIM_XYZ = 1, WKB_DIM_XYM = 2, WKB_DIM_XYZM = 3 } wkb_dim;
+typedef enum wkb_dim {
+  WKB_DIM_XY = 0,
+  WKB_DIM_XYZ = 1,
+  WKB_DIM_XYM = 2,
+  WKB_DIM_XYZM = 3,
+  WKB_DIM_MAX_ENUM = 0x7fffffff
+} wkb_dim;
 
 /* The byte orders, by their bytes. */
-typedef enum wkb_order { WKB_ORDER_BIG = 0, WKB_ORDER_LITTLE = 1 } wkb_order;
+typedef enum wkb_order { WKB_ORDER_BIG = 0, WKB_ORDER_LITTLE = 1, WKB_ORDER_MAX_ENUM = 0x7fffffff } wkb_order;
 
 /* What is written besides the geometry itself. Only the outermost geometry's SRID is ever written. */
 typedef enum wkb_form {
-  WKB_FORM_ISO = 0,               /* ISO codes, no SRID */
-  WKB_FORM_EWKB_OWN_SRID = 1,     /* EWKB, with the SRID of the input's geometry if it has one */
-  WKB_FORM_EWKB_WITH_SRID = 2,    /* EWKB, with the SRID of the options */
-  WKB_FORM_EWKB_WITHOUT_SRID = 3  /* EWKB, without an SRID */
+  WKB_FORM_ISO = 0,                /* ISO codes, no SRID */
+  WKB_FORM_EWKB_OWN_SRID = 1,      /* EWKB, with the SRID of the input's geometry if it has one */
+  WKB_FORM_EWKB_WITH_SRID = 2,     /* EWKB, with the SRID of the options */
+  WKB_FORM_EWKB_WITHOUT_SRID = 3,  /* EWKB, without an SRID */
+  WKB_FORM_MAX_ENUM = 0x7fffffff
 } wkb_form;
 
 /* The geometry at the front of the input. */
@@ -86,6 +100,8 @@ typedef struct wkb_found {
   uint64_t size;         /* how many bytes it has; the bytes after them were not looked at */
   uint64_t parts;        /* itself, and its rings and members at every level */
   uint64_t coordinates;  /* how many these have; each point has one, an empty point one of not-a-numbers */
+  uint64_t offset;       /* where its own coordinates, rings or members begin */
+  uint64_t count;        /* how many it has; a point has one coordinate */
   uint32_t srid;         /* its own SRID, or 0 */
   uint32_t has_srid;     /* 1 if it has an SRID, else 0 */
   uint32_t kind;         /* a wkb_kind */
@@ -98,8 +114,8 @@ typedef struct wkb_found {
 typedef struct wkb_fault {
   uint64_t part;    /* how many parts come before it, in preorder: 0 is the whole geometry */
   uint64_t offset;  /* where it begins, counted from the front of the input, whatever the status */
-  uint64_t end;     /* of WKB_STATUS_SHORT_..: where it would end, counted from its own first byte; else 0 */
-  uint64_t len;     /* of WKB_STATUS_SHORT_..: where the input ends, counted likewise; else 0 */
+  uint64_t end;     /* of a status from 48 on: where it would end, counted from its own first byte; else 0 */
+  uint64_t len;     /* of a status from 48 on: where the input ends, counted likewise; else 0 */
   uint32_t code;    /* of WKB_STATUS_CODE_OUT_OF_RANGE: all bits of the code; else 0 */
   uint32_t status;  /* the wkb_status that the call returns */
 } wkb_fault;
@@ -136,13 +152,14 @@ typedef struct wkb_range {
   uint64_t count;     /* how many numbers there are */
 } wkb_range;
 
-/* The bounds of a geometry: z of coordinates that have a z, m of those that have an m. */
+/* The bounds of a geometry: z of coordinates that have a z, m of those that have an m. They are over all its rings;
+ * PostGIS, GEOS and OGR take the exterior of a polygon alone. */
 typedef struct wkb_box {
   wkb_range x, y, z, m;
 } wkb_box;
 
 /* A column as Arrow has it (binary, large binary, or a slice of one). Row i has the bytes of DATA from offset i up to
- * offset i + 1. */
+ * offset i + 1. Rows that are read don't overlap, so the work of a call is bounded by SIZE and ROWS. */
 typedef struct wkb_column {
   const void *data;        /* the bytes of the rows */
   size_t size;             /* how many there are */
@@ -157,14 +174,16 @@ typedef struct wkb_column {
 unsigned wkb_version(void);
 
 /* The text of a status, in one line: a static string, for any number. */
-const char *wkb_status_text(unsigned status);
+const char *wkb_status_text(uint32_t status);
+
+/* Whether a status says that the input is refused, so that FAULT is written: 1 from 32 on, else 0. */
+int wkb_status_is_refusal(uint32_t status);
 
 /* Whether a geometry of the grammar is at the front of the input, with at most 128 collections inside one another.
- * WKB_STATUS_OK writes FOUND, a refusal writes FAULT. It never allocates, and never returns WKB_STATUS_NO_MEMORY. */
+ * WKB_STATUS_OK writes FOUND, a refusal writes FAULT. */
 wkb_status wkb_check(const void *buf, size_t len, wkb_found *found, wkb_fault *fault);
 
-/* The bounds of the input's geometry. WKB_STATUS_OK writes BOX, a refusal writes FAULT, as wkb_check would. It never
- * allocates, and never returns WKB_STATUS_NO_MEMORY. */
+/* The bounds of the input's geometry. WKB_STATUS_OK writes BOX, a refusal writes FAULT, as wkb_check would. */
 wkb_status wkb_bounds(const void *buf, size_t len, wkb_box *box, wkb_fault *fault);
 
 /* The one encoding of the input's geometry under the options. WKB_STATUS_OK: it is at the front of OUT, and *SIZE is
@@ -182,14 +201,15 @@ wkb_status wkb_same(const void *a, size_t a_len, const void *b, size_t b_len, ui
                     uint32_t *which);
 
 /* The table of the parts of the input's geometry in preorder. WKB_STATUS_OK: it is at the front of PARTS, and *COUNT is
- * its length, which is wkb_found.parts. WKB_STATUS_NO_ROOM: *COUNT is its length, which is more than ROOM; this takes
- * no memory. A refusal writes FAULT. Any other status leaves *COUNT and FAULT unchanged, and any but WKB_STATUS_OK
- * leaves PARTS unchanged. */
+ * its length, which is wkb_found.parts. WKB_STATUS_NO_ROOM: *COUNT is its length, which is more than ROOM. A refusal
+ * writes FAULT. Any other status leaves *COUNT and FAULT unchanged, and any but WKB_STATUS_OK leaves PARTS unchanged.
+ */
 wkb_status wkb_parts(const void *buf, size_t len, wkb_part *parts, size_t room, uint64_t *count, wkb_fault *fault);
 
 /* What wkb_check returns for each row, a byte a row in STATUSES. A null row is WKB_STATUS_NULL_ROW. A row whose offsets
- * decrease or pass the end of the data is WKB_STATUS_BAD_OFFSETS, and so is each row that is not null where OFFSET_SIZE
- * is neither 4 nor 8: none of these is read. No row stops the others. */
+ * decrease or pass the end of the data is WKB_STATUS_BAD_OFFSETS. So is a row that begins before an earlier row ends,
+ * null or not, whose own offsets do neither; and so is each row that is not null where OFFSET_SIZE is neither 4 nor 8.
+ * None of these is read. No row stops the others. */
 void wkb_column_check(const wkb_column *column, uint8_t *statuses);
 
 /* What wkb_bounds returns for each row, and its bounds: BOXES has one a row. The box of a row without bounds is that of
@@ -232,7 +252,41 @@ typedef struct wkb_coordinates {
  * small for the row, which would end at row_ends[i]; nothing of it is written. WKB_STATUS_UNKNOWN_OPTION as in
  * wkb_column_write, where DIMENSION is none. COORDINATES, RINGS and SINGLES are what all rows need: with that much room
  * (in words: COORDINATES times the width of DIMENSION) no row lacks room. No row stops the others. */
-void wkb_column_coordinates(const wkb_column *column, wkb_dim dimension, wkb_coordinates *out, uint8_t *statuses);
+void wkb_column_coordinates(const wkb_column *column, uint32_t dimension, wkb_coordinates *out, uint8_t *statuses);
+
+/* Levels to read, as wkb_coordinates has them. Where the ends of a level are null, item i has item i of the next level,
+ * as the points of GeoArrow have no ends. */
+typedef struct wkb_levels {
+  const double   *words;        /* one coordinate after another, in the machine's byte order */
+  size_t          word_count;
+  const uint64_t *ring_ends;    /* for each ring, its end in coordinates; may be null */
+  size_t          rings;
+  const uint64_t *single_ends;  /* for each single, its end in rings; may be null */
+  size_t          singles;
+  const uint64_t *row_ends;     /* for each row, its end in singles; may be null */
+  size_t          rows;
+  const void     *validity;     /* as in wkb_column */
+  size_t          validity_offset;
+} wkb_levels;
+
+/* The inverse of wkb_column_coordinates for rows of one kind, from WKB_KIND_POINT to WKB_KIND_MULTI_POLYGON, and one
+ * dimension: the encoding of each row under the options, with ENDS, STATUSES and the result as wkb_column_write has
+ * them. A point, a line string and a polygon is one single. A single that is no polygon has one ring, a point's ring
+ * one coordinate; an empty point is a coordinate of not-a-numbers. All words are written as they are, so an empty point
+ * is as wkb_column_write has it only where each is 7ff8000000000000. WKB_STATUS_BAD_LEVELS: the row doesn't fit its
+ * kind, its ends decrease or pass the next level, it begins before an earlier row ends, null or not, whose own ends do
+ * neither, or it needs a count of 2^32. WKB_STATUS_UNKNOWN_OPTION: the row isn't null, and the kind, the dimension or
+ * the options have no meaning. WKB_FORM_EWKB_OWN_SRID writes no SRID. No row stops the others. */
+uint64_t wkb_column_from_coordinates(const wkb_levels *levels, uint32_t kind, uint32_t dimension,
+                                     const wkb_options *options, void *out, size_t room, uint64_t *ends,
+                                     uint8_t *statuses);
+
+/* The first entry of the table of wkb_parts, made of what wkb_check finds: all that a point or a line string needs. */
+static inline wkb_part wkb_whole(const wkb_found *found) {
+  wkb_part whole = {0,           found->size,     found->offset, found->count,     found->parts, found->srid,
+                    found->has_srid, found->kind, found->dimension, found->width, found->order};
+  return whole;
+}
 
 /* Copies the words of COUNT coordinates of a ring, a point or a line string from coordinate FIRST on, in the machine's
  * byte order. FIRST + COUNT is at most the part's count, and OUT has room for COUNT * width words. */

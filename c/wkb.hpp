@@ -1,15 +1,20 @@
 // A C++20 wrapper of wkb.h: spans, optionals, exceptions, and ranges over the parts of a geometry. Header only.
-// Nothing is copied but words on demand. A failed allocation is std::bad_alloc.
+// Nothing is copied but words on demand. Only vectors ask for memory. A refused input is an exception, or for the calls
+// whose names begin with try_ and for check an empty optional or false, which costs a hundredth of that.
 #ifndef WKB_HPP
 #define WKB_HPP
+
+#if __cplusplus <= 201703L
+#error "wkb.hpp needs C++20 (-std=c++20); wkb.h is for C and for any C++"
+#endif
 
 #include "wkb.h"
 
 #include <algorithm>
+#include <concepts>
 #include <cstddef>
 #include <cstdint>
 #include <iterator>
-#include <new>
 #include <optional>
 #include <ranges>
 #include <span>
@@ -55,9 +60,16 @@ namespace detail {
 
 // Throws the exception for a status other than WKB_STATUS_OK.
 [[noreturn]] inline void fail(wkb_status status, const wkb_fault &fault) {
-  if (status == WKB_STATUS_NO_MEMORY) throw std::bad_alloc();
-  if (status == WKB_STATUS_UNKNOWN_OPTION) throw std::invalid_argument(wkb_status_text(status));
-  throw refused(fault);
+  if (wkb_status_is_refusal(status)) throw refused(fault);
+  throw std::invalid_argument(wkb_status_text(status));
+}
+
+// Whether a call did what it promises. A refusal is told; any other status throws.
+inline bool accepted(wkb_status status, const wkb_fault &found, wkb_fault *fault) {
+  if (status == WKB_STATUS_OK) return true;
+  if (!wkb_status_is_refusal(status)) fail(status, found);
+  if (fault != nullptr) *fault = found;
+  return false;
 }
 
 }  // namespace detail
@@ -69,27 +81,47 @@ inline std::optional<wkb_found> check(bytes input, wkb_fault *fault = nullptr) n
   return found;
 }
 
-// The bounds of the input's geometry. Throws refused.
-inline wkb_box bounds(bytes input) {
+// The bounds of the input's geometry, or nothing where it is refused. FAULT then says why, unless it is null.
+inline std::optional<wkb_box> try_bounds(bytes input, wkb_fault *fault = nullptr) noexcept {
   wkb_box box;
-  wkb_fault fault;
-  wkb_status status = wkb_bounds(input.data(), input.size(), &box, &fault);
-  if (status != WKB_STATUS_OK) detail::fail(status, fault);
+  if (wkb_bounds(input.data(), input.size(), &box, fault) != WKB_STATUS_OK) return std::nullopt;
   return box;
 }
 
-// Replaces what OUT holds by the encoding of the input's geometry under the options, in the memory that OUT has if that
-// is enough. Throws refused, and std::invalid_argument for unknown options; OUT is then unchanged.
-inline void write(bytes input, const wkb_options &options, std::vector<std::byte> &out) {
-  std::uint64_t size = 0;
+// The bounds of the input's geometry. Throws refused.
+inline wkb_box bounds(bytes input) {
   wkb_fault fault;
-  wkb_status status = wkb_write(input.data(), input.size(), &options, out.data(), out.size(), &size, &fault);
-  if (status == WKB_STATUS_NO_ROOM) {
-    out.resize(size);
-    status = wkb_write(input.data(), input.size(), &options, out.data(), out.size(), &size, &fault);
+  const auto box = try_bounds(input, &fault);
+  if (!box) throw refused(fault);
+  return *box;
+}
+
+// Replaces what OUT holds by the encoding of the input's geometry under the options, in the memory that OUT has if that
+// is enough for it and four bytes. Returns whether the input is accepted. If it isn't, OUT is unchanged, and FAULT says
+// why, unless it is null. Throws std::invalid_argument for unknown options; OUT is then unchanged.
+inline bool try_write(bytes input, const wkb_options &options, std::vector<std::byte> &out,
+                      wkb_fault *fault = nullptr) {
+  // No encoding is longer than its geometry and an SRID. Of a long input only the front may be the geometry.
+  constexpr std::size_t LONG = 1 << 16, SRID_SIZE = 4;
+  const std::size_t before = out.size();
+  std::size_t most = input.size();
+  if (most > LONG) {
+    const auto found = check(input);
+    most = found ? found->size : 0;
   }
-  if (status != WKB_STATUS_OK) detail::fail(status, fault);
-  out.resize(size);
+  out.resize(std::max(before, most + SRID_SIZE));
+  std::uint64_t size = 0;
+  wkb_fault found;
+  const wkb_status status =
+      wkb_write(input.data(), input.size(), &options, out.data(), out.size(), &size, &found);
+  out.resize(status == WKB_STATUS_OK ? size : before);
+  return detail::accepted(status, found, fault);
+}
+
+// The same. Throws refused, and std::invalid_argument for unknown options; OUT is then unchanged.
+inline void write(bytes input, const wkb_options &options, std::vector<std::byte> &out) {
+  wkb_fault fault;
+  if (!try_write(input, options, out, &fault)) throw refused(fault);
 }
 
 // The encoding of the input's geometry under the options. Throws as the call above.
@@ -99,15 +131,23 @@ inline std::vector<std::byte> write(bytes input, const wkb_options &options) {
   return out;
 }
 
+// Whether both inputs begin with geometries of one value, or nothing where one is refused. FAULT then says why, and
+// WHICH is 1 for the first input, 2 for the second, unless they are null.
+inline std::optional<bool> try_same(bytes a, bytes b, wkb_fault *fault = nullptr, std::uint32_t *which = nullptr) {
+  std::uint32_t equal = 0;
+  wkb_fault found;
+  const wkb_status status = wkb_same(a.data(), a.size(), b.data(), b.size(), &equal, &found, which);
+  if (!detail::accepted(status, found, fault)) return std::nullopt;
+  return equal != 0;
+}
+
 // Whether both inputs begin with geometries of one value. Throws refused_of_two.
 inline bool same(bytes a, bytes b) {
-  std::uint32_t equal = 0;
   std::uint32_t which = 0;
   wkb_fault fault;
-  wkb_status status = wkb_same(a.data(), a.size(), b.data(), b.size(), &equal, &fault, &which);
-  if (status == WKB_STATUS_NO_MEMORY) throw std::bad_alloc();
-  if (status != WKB_STATUS_OK) throw refused_of_two(fault, which);
-  return equal != 0;
+  const auto equal = try_same(a, b, &fault, &which);
+  if (!equal) throw refused_of_two(fault, which);
+  return *equal;
 }
 
 // A geometry, or a ring of a polygon; a range of its own rings or members. It is valid as long as the input, and until
@@ -203,19 +243,25 @@ inline part::iterator part::end() const noexcept { return {input_, table_, table
 // Reads one input after another into one table, so that a scan stops allocating once the table has grown.
 class reader {
  public:
+  // The input's geometry, or nothing where it is refused. FAULT then says why, unless it is null.
+  std::optional<part> try_read(bytes input, wkb_fault *fault = nullptr) {
+    wkb_fault found;
+    wkb_status status = wkb_parts(input.data(), input.size(), table_.data(), table_.size(), &count_, &found);
+    if (status == WKB_STATUS_NO_ROOM) {
+      table_.resize(count_);
+      status = wkb_parts(input.data(), input.size(), table_.data(), table_.size(), &count_, &found);
+    }
+    if (status != WKB_STATUS_OK) count_ = 0;
+    if (!detail::accepted(status, found, fault)) return std::nullopt;
+    return part(input.data(), table_.data(), table_.data());
+  }
+
   // The input's geometry. Throws refused.
   part read(bytes input) {
     wkb_fault fault;
-    wkb_status status = wkb_parts(input.data(), input.size(), table_.data(), table_.size(), &count_, &fault);
-    if (status == WKB_STATUS_NO_ROOM) {
-      table_.resize(count_);
-      status = wkb_parts(input.data(), input.size(), table_.data(), table_.size(), &count_, &fault);
-    }
-    if (status != WKB_STATUS_OK) {
-      count_ = 0;
-      detail::fail(status, fault);
-    }
-    return part(input.data(), table_.data(), table_.data());
+    const auto whole = try_read(input, &fault);
+    if (!whole) throw refused(fault);
+    return *whole;
   }
 
   // The table of the input that was read last, in preorder.
@@ -225,6 +271,125 @@ class reader {
   std::vector<wkb_part> table_;
   std::uint64_t count_ = 0;
 };
+
+// A column as Arrow has it, with an offset more than it has rows. Null VALIDITY is that of a column without null rows.
+template <typename Offset>
+  requires std::same_as<Offset, std::int32_t> || std::same_as<Offset, std::int64_t>
+wkb_column column(bytes data, std::span<const Offset> offsets, const void *validity = nullptr,
+                  std::size_t validity_offset = 0) noexcept {
+  return {data.data(), data.size(), offsets.data(), sizeof(Offset), validity, validity_offset,
+          offsets.empty() ? 0 : offsets.size() - 1};
+}
+
+// The status of each row. No row stops the others, nor makes one of these calls throw.
+using statuses = std::vector<std::uint8_t>;
+
+inline statuses check_rows(const wkb_column &column) {
+  statuses found(column.rows);
+  wkb_column_check(&column, found.data());
+  return found;
+}
+
+// The bounds of each row; a row without bounds has those of a geometry without coordinates.
+struct row_bounds {
+  wkb::statuses statuses;
+  std::vector<wkb_box> boxes;
+};
+
+inline row_bounds bounds_of_rows(const wkb_column &column) {
+  row_bounds it{statuses(column.rows), std::vector<wkb_box>(column.rows)};
+  wkb_column_bounds(&column, it.boxes.data(), it.statuses.data());
+  return it;
+}
+
+// The tables of all rows, one after another. That of row i ends at ends[i].
+struct row_parts {
+  wkb::statuses statuses;
+  std::vector<std::uint64_t> ends;
+  std::vector<wkb_part> parts;
+};
+
+inline row_parts parts_of_rows(const wkb_column &column) {
+  row_parts it{statuses(column.rows), std::vector<std::uint64_t>(column.rows), {}};
+  it.parts.resize(wkb_column_parts(&column, nullptr, 0, it.ends.data(), it.statuses.data()));
+  it.parts.resize(wkb_column_parts(&column, it.parts.data(), it.parts.size(), it.ends.data(), it.statuses.data()));
+  return it;
+}
+
+// The encodings of all rows, one after another. That of row i ends at ends[i].
+struct row_encodings {
+  wkb::statuses statuses;
+  std::vector<std::uint64_t> ends;
+  std::vector<std::byte> data;
+};
+
+inline row_encodings write_rows(const wkb_column &column, const wkb_options &options) {
+  row_encodings it{statuses(column.rows), std::vector<std::uint64_t>(column.rows), {}};
+  it.data.resize(wkb_column_write(&column, &options, nullptr, 0, it.ends.data(), it.statuses.data()));
+  it.data.resize(
+      wkb_column_write(&column, &options, it.data.data(), it.data.size(), it.ends.data(), it.statuses.data()));
+  return it;
+}
+
+// The coordinates of all rows, in the levels of wkb_coordinates.
+struct row_coordinates {
+  wkb::statuses statuses;
+  std::vector<std::uint64_t> row_ends, single_ends, ring_ends;
+  std::vector<double> words;
+};
+
+// The words that a coordinate has in a dimension.
+inline std::size_t width_of(wkb_dim dimension) noexcept {
+  return dimension == WKB_DIM_XY ? 2 : dimension == WKB_DIM_XYZM ? 4 : 3;
+}
+
+// Each coordinate has the words that DIMENSION names.
+inline row_coordinates coordinates_of_rows(const wkb_column &column, wkb_dim dimension) {
+  row_coordinates it{statuses(column.rows), std::vector<std::uint64_t>(column.rows), {}, {}, {}};
+  const std::size_t width = width_of(dimension);
+  wkb_coordinates out{};
+  out.row_ends = it.row_ends.data();
+  const auto resize = [&] {
+    it.words.resize(width * out.coordinates), it.ring_ends.resize(out.rings), it.single_ends.resize(out.singles);
+  };
+  wkb_column_coordinates(&column, dimension, &out, it.statuses.data());
+  resize();
+  out.words = it.words.data(), out.words_room = it.words.size();
+  out.ring_ends = it.ring_ends.data(), out.ring_room = it.ring_ends.size();
+  out.single_ends = it.single_ends.data(), out.single_room = it.single_ends.size();
+  wkb_column_coordinates(&column, dimension, &out, it.statuses.data());
+  resize();
+  return it;
+}
+
+// Coordinates of one's own, in the levels of wkb_levels. A level without ends has one item for each of the next, as the
+// points of GeoArrow have; a level with ends has as many items as these are.
+struct levels {
+  std::span<const double> words;
+  std::optional<std::span<const std::uint64_t>> ring_ends{}, single_ends{}, row_ends{};
+  const void *validity = nullptr;
+  std::size_t validity_offset = 0;
+};
+
+// The encodings of rows of one kind and one dimension.
+inline row_encodings rows_from_coordinates(const levels &from, wkb_kind kind, wkb_dim dimension,
+                                           const wkb_options &options) {
+  const auto items = [](const auto &ends, std::size_t below) { return ends ? ends->size() : below; };
+  const auto data = [](const auto &ends) { return ends ? ends->data() : nullptr; };
+  const std::size_t rings = items(from.ring_ends, from.words.size() / width_of(dimension));
+  const std::size_t singles = items(from.single_ends, rings), rows = items(from.row_ends, singles);
+  const wkb_levels raw{from.words.data(),      from.words.size(), data(from.ring_ends), rings,
+                       data(from.single_ends), singles,           data(from.row_ends),  rows,
+                       from.validity,          from.validity_offset};
+  row_encodings it{statuses(rows), std::vector<std::uint64_t>(rows), {}};
+  const auto write = [&] {
+    return wkb_column_from_coordinates(&raw, kind, dimension, &options, it.data.data(), it.data.size(), it.ends.data(),
+                                       it.statuses.data());
+  };
+  it.data.resize(write());
+  write();
+  return it;
+}
 
 }  // namespace wkb
 

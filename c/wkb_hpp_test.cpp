@@ -35,7 +35,7 @@ static void checks() {
   wkb_fault fault{};
   auto found = wkb::check(POINT, &fault);
   expect(found && found->size == 25 && found->srid == 4326 && found->has_srid == 1, "check");
-  expect(!wkb::check({}, &fault) && fault.status == WKB_STATUS_IO_ERROR, "nothing is refused");
+  expect(!wkb::check({}, &fault) && fault.status == WKB_STATUS_SHORT_HEADER, "nothing is refused");
   expect(!wkb::check({}), "nothing is refused without a fault");
 }
 
@@ -69,7 +69,7 @@ static void writes() {
     wkb::write({}, {WKB_ORDER_BIG, WKB_FORM_ISO, 0}, out);
     expect(false, "nothing is refused");
   } catch (const wkb::refused &refusal) {
-    expect(refusal.status() == WKB_STATUS_IO_ERROR && out == before, "what a refusal leaves");
+    expect(refusal.status() == WKB_STATUS_SHORT_HEADER && out == before, "what a refusal leaves");
   }
 }
 
@@ -81,7 +81,7 @@ static void compares() {
       wkb::same(which == 1 ? wkb::bytes() : POINT, which == 2 ? wkb::bytes() : POINT);
       expect(false, "nothing is refused");
     } catch (const wkb::refused_of_two &refusal) {
-      expect(refusal.which() == which && refusal.status() == WKB_STATUS_IO_ERROR, "which is refused");
+      expect(refusal.which() == which && refusal.status() == WKB_STATUS_SHORT_HEADER, "which is refused");
     }
   }
 }
@@ -114,10 +114,99 @@ static void reads() {
   }
 }
 
+// The calls that don't throw tell of a refusal what the others throw.
+static void refusals_without_exceptions() {
+  wkb_fault fault{};
+  std::uint32_t which = 0;
+  std::vector<std::byte> out(3);
+  const auto before = out;
+  const wkb_options iso = {WKB_ORDER_LITTLE, WKB_FORM_ISO, 0};
+  expect(wkb::try_bounds(POINT)->y.least == 2 && wkb::try_same(POINT, POINT).value(), "bounds and a comparison");
+  expect(!wkb::try_bounds({}, &fault) && fault.status == WKB_STATUS_SHORT_HEADER, "no bounds");
+  fault = {};
+  expect(!wkb::try_write({}, iso, out, &fault) && fault.status == WKB_STATUS_SHORT_HEADER, "not written");
+  expect(!wkb::try_write({}, iso, out) && out == before, "what a refusal leaves");
+  expect(wkb::try_write(POINT, iso, out) && out.size() == 21, "written");
+  fault = {};
+  expect(!wkb::try_same(POINT, {}, &fault, &which) && which == 2 && fault.status == WKB_STATUS_SHORT_HEADER, "same");
+  wkb::reader reader;
+  fault = {};
+  expect(reader.try_read(POINT)->size() == 1 && !reader.try_read({}, &fault), "a reader");
+  expect(fault.status == WKB_STATUS_SHORT_HEADER && reader.table().empty(), "no table");
+}
+
+// An input that is longer than its geometry takes no more room for that, and a long one is written.
+static void long_inputs() {
+  std::vector<std::byte> input = spelled("0102000000ffff0000"), out;
+  input.resize(9 + 16 * 65535 + 5000000);
+  wkb::write(input, {WKB_ORDER_BIG, WKB_FORM_EWKB_WITH_SRID, 4326}, out);
+  expect(out.size() == 13 + 16 * 65535 && out.capacity() < 2000000, "a long input");
+  input.resize(100000);
+  expect(!wkb::try_write(input, {WKB_ORDER_BIG, WKB_FORM_ISO, 0}, out), "a long input that is cut off");
+  expect(out.size() == 13 + 16 * 65535, "what it leaves");
+}
+
+// A column of the two inputs, a null row and one without bytes.
+static void columns() {
+  std::vector<std::byte> data = POINT;
+  data.insert(data.end(), POLYGONS.begin(), POLYGONS.end());
+  const std::int64_t end = static_cast<std::int64_t>(data.size());
+  const std::int64_t offsets[] = {0, 25, end, end, end};
+  const std::uint8_t validity = 0x0b;
+  const wkb_column column = wkb::column(data, std::span<const std::int64_t>(offsets), &validity);
+  const wkb::statuses expected = {WKB_STATUS_OK, WKB_STATUS_OK, WKB_STATUS_NULL_ROW, WKB_STATUS_SHORT_HEADER};
+  expect(wkb::check_rows(column) == expected, "a column's statuses");
+  const auto bounds = wkb::bounds_of_rows(column);
+  expect(bounds.statuses == expected && bounds.boxes[1].y.greatest == 2 && bounds.boxes[3].x.count == 0, "its bounds");
+  const auto parts = wkb::parts_of_rows(column);
+  expect(parts.statuses == expected && parts.parts.size() == 6 && parts.ends[0] == 1 && parts.ends[3] == 6, "parts");
+  expect(parts.parts[1].kind == WKB_KIND_MULTI_POLYGON, "the first part of a row");
+  const auto written = wkb::write_rows(column, {WKB_ORDER_LITTLE, WKB_FORM_EWKB_OWN_SRID, 0});
+  expect(written.statuses == expected && written.ends[0] == 25 && written.data.size() == data.size(), "encodings");
+  expect(std::equal(POINT.begin(), POINT.end(), written.data.begin()), "the first encoding");
+  const auto levels = wkb::coordinates_of_rows(column, WKB_DIM_XY);
+  expect(levels.statuses == expected && levels.words == std::vector<double>{1, 2, 1, 2}, "words of a column");
+  expect(levels.ring_ends == std::vector<std::uint64_t>{1, 2, 2}, "ends of rings");
+  expect(levels.single_ends == std::vector<std::uint64_t>{1, 1, 3}, "ends of singles");
+  expect(levels.row_ends == std::vector<std::uint64_t>{1, 3, 3, 3}, "ends of rows");
+  expect(wkb::check_rows(wkb::column({}, std::span<const std::int32_t>())).empty(), "no rows");
+}
+
+// Coordinates of one's own: levels with ends and without, null rows, bad ones, and back.
+static void rows_of_ones_own() {
+  const wkb_options little = {WKB_ORDER_LITTLE, WKB_FORM_ISO, 0};
+  const std::vector<double> words = {1, 2, 1, 2};
+  const std::vector<std::uint64_t> ends = {1, 1, 2}, past = {1, 3};
+  const std::uint8_t validity = 0x04;
+  const auto points = wkb::rows_from_coordinates({.words = words, .validity = &validity, .validity_offset = 1},
+                                                 WKB_KIND_POINT, WKB_DIM_XY,
+                                                 {WKB_ORDER_LITTLE, WKB_FORM_EWKB_WITH_SRID, 4326});
+  expect(points.statuses == wkb::statuses{WKB_STATUS_NULL_ROW, WKB_STATUS_OK} && points.data == POINT, "points");
+  const auto lines = wkb::rows_from_coordinates({.words = words, .ring_ends = past}, WKB_KIND_LINE_STRING, WKB_DIM_XY,
+                                                little);
+  expect(lines.statuses == wkb::statuses{WKB_STATUS_OK, WKB_STATUS_BAD_LEVELS} && lines.ends[1] == 25, "lines");
+  const auto several = wkb::rows_from_coordinates({.words = words, .row_ends = ends}, WKB_KIND_MULTI_POINT, WKB_DIM_XY,
+                                                  little);
+  expect(several.statuses == wkb::statuses(3), "the statuses of multi points");
+  expect(several.ends == std::vector<std::uint64_t>{30, 39, 69}, "the ends of multi points");
+  const std::int32_t offsets[] = {0, static_cast<std::int32_t>(POLYGONS.size())};
+  const auto column = wkb::column(POLYGONS, std::span<const std::int32_t>(offsets));
+  const auto found = wkb::coordinates_of_rows(column, WKB_DIM_XY);
+  const wkb::levels levels = {found.words, found.ring_ends, found.single_ends, found.row_ends};
+  const auto again = wkb::rows_from_coordinates(levels, WKB_KIND_MULTI_POLYGON, WKB_DIM_XY,
+                                                {WKB_ORDER_BIG, WKB_FORM_ISO, 0});
+  expect(again.statuses == wkb::statuses(1) && again.data == POLYGONS, "polygons and back");
+  expect(wkb::rows_from_coordinates({}, WKB_KIND_POINT, WKB_DIM_XY, little).ends.empty(), "no rows of one's own");
+}
+
 int main() {
   checks();
   bounds_and_refusals();
   writes();
   compares();
   reads();
+  refusals_without_exceptions();
+  long_inputs();
+  columns();
+  rows_of_ones_own();
 }

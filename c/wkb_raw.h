@@ -35,6 +35,24 @@ typedef struct wkb_raw_level_slices {
   size_t single_room;
 } wkb_raw_level_slices;
 
+/* The levels of a column that is written. The numbers are asked for where a level has no ends. */
+typedef struct wkb_raw_level_column {
+  const double *words;
+  size_t word_count;
+  const uint64_t *ring_ends;
+  size_t ring_end_count;
+  uint64_t rings;
+  const uint64_t *single_ends;
+  size_t single_end_count;
+  uint64_t singles;
+  const uint64_t *row_ends;
+  size_t row_end_count;
+  uint64_t rows;
+  const uint8_t *validity;
+  size_t validity_len;
+  size_t validity_offset;
+} wkb_raw_level_column;
+
 wkb_status wkb_raw_check(const uint8_t *buf, size_t len, wkb_found *found, wkb_fault *fault);
 wkb_status wkb_raw_bounds(const uint8_t *buf, size_t len, wkb_box *box, wkb_fault *fault);
 wkb_status wkb_raw_write(const uint8_t *buf, size_t len, const wkb_options *options, uint8_t *out, size_t room,
@@ -54,5 +72,8 @@ void wkb_raw_column_write(const wkb_raw_column *column, const wkb_options *optio
 void wkb_raw_column_coordinates(const wkb_raw_column *column, uint32_t dimension, wkb_raw_level_slices *out,
                                 uint64_t *row_ends, size_t row_count, wkb_raw_totals *totals, uint8_t *statuses,
                                 size_t rows);
+void wkb_raw_column_from_coordinates(const wkb_raw_level_column *column, uint32_t kind, uint32_t dimension,
+                                     const wkb_options *options, uint8_t *out, size_t room, uint64_t *ends,
+                                     size_t end_count, uint8_t *statuses, size_t rows);
 
 #endif

@@ -1,14 +1,14 @@
 #!/usr/bin/env python3
 """The crates as the Rattle kit's command `rt` knows them, for scripts that call the prover over the libraries built.
 
-    tools/kit.py archive NAME FILE [TOOLCHAIN]
-                                       proves crates/NAME, a static library, alone, and builds it into FILE
-    tools/kit.py program NAME FILE     proves crates/NAME, a program, and all crates below it from nothing, and builds
-                                       it into FILE
+    tools/kit.py archive NAME FILE [TOOLCHAIN TARGET CPU]
+                                       proves crates/NAME, a static library, and builds it into FILE
+    tools/kit.py program NAME FILE     proves crates/NAME, a program, and builds it into FILE
+    tools/kit.py built NAME            prints the libraries below crates/NAME that are built
 
-`archive` ends with 2 where a library below the crate is not built, or is older than its sources. TOOLCHAIN stands for
-the kit's folder of that name. `program` builds those libraries anew, and proves as many crates side by side as RT_JOBS
-says.
+`archive` and `program` first prove and build each library below the crate that is not built, or is older than its
+sources, and those above it; as many side by side as RT_JOBS says. TOOLCHAIN stands for the kit's folder of that name;
+TARGET and CPU are a target and a processor of its prover's `build`.
 
 The command is a program and no library, so another kit may have other names inside. BORROWED lists each name that is
 used here, and a name that is missing ends the script with 2 before anything is tried.
@@ -19,6 +19,7 @@ import importlib.util
 import os
 import pathlib
 import shutil
+import signal
 import subprocess
 import sys
 
@@ -66,7 +67,11 @@ rt = load()
 
 
 def begin():
-    """Starts what ends the prover with this script. No other thread may run then, since a signal's handler is set."""
+    """Starts what ends the prover with this script. No other thread may run then, since a signal's handler is set.
+
+    Ctrl-C ends the script at once: else Python waits for the threads that wait for a proof.
+    """
+    signal.signal(signal.SIGINT, signal.SIG_DFL)
     rt.rtlib.guarded()
 
 
@@ -126,21 +131,21 @@ def prove(verb, crate, flags, folder):
     return subprocess.run([*rt.rtlib.guarded(), rt.rtlib.RATTLE, verb, *words], **how)
 
 
-def archive(name, file, toolchain=f"{rt.KIT}/toolchain"):
-    """Proves a static library alone, and builds it into the file. Returns the status."""
+def archive(name, file, toolchain=f"{rt.KIT}/toolchain", target="x86_64-unknown-linux-gnu", cpu="x86-64"):
+    """Proves a static library, and builds it into the file. Returns the status."""
+    begin()
     library = crate(name)
-    missing = unbuilt([library])
-    if missing:
-        stop(f"not built, or older than the sources: {' '.join(missing)}. {ADVICE}")
-    flags = ["--jobs", str(min(4, processors())), "--toolchain", toolchain]
+    if not prove_below(library):
+        return 1
+    flags = ["--jobs", str(min(4, processors())), "--toolchain", toolchain, "--target", target, "--cpu", cpu]
     ran = prove("build", library, [*flags, "--backend", "llvm", "-o", os.path.abspath(file)], library.folder)
     print(ran.stdout, end="")
     return ran.returncode
 
 
-def prove_anew(crate, given, _jobs):
-    """Proves a crate from nothing, where those below it are proved, and builds its library or its object file."""
-    if not all(given[it.name] for it in crate.below()):
+def prove_anew(crate, built, given, _jobs):
+    """Proves a crate, where those below it are proved or built, and builds its library or its object file."""
+    if not all({**built, **given}[it.name] for it in crate.below()):
         return False
     to = f"{crate.folder}/out/{crate.name}.o" if crate.is_program else crate.rlib
     kind = ["--toolchain", f"{rt.KIT}/toolchain", "--backend", "llvm"] if crate.is_program else ["--statements"]
@@ -151,24 +156,47 @@ def prove_anew(crate, given, _jobs):
     return ran.returncode == 0
 
 
+def built_below(crate):
+    """The libraries below a crate that are built, and stand on such alone, by their names."""
+    built = {}
+    for it in crate.below():
+        built[it.name] = is_built(it) and all(built[dep.name] for dep in it.below())
+    return {name for name, is_here in built.items() if is_here}
+
+
+def prove_below(crate, *last):
+    """Proves the libraries below a crate that are not built, and then the last. Returns whether all are proved."""
+    built, tasks = built_below(crate), {}
+    for it in [*crate.below(), *last]:
+        if it.name not in built:
+            below = [dep.name for dep in it.below() if dep.name not in built]
+            given_built = dict.fromkeys(built, True)
+            tasks[it.name] = below, it.count(rb"\n"), rt.need(it), functools.partial(prove_anew, it, given_built)
+    return all(rt.in_lanes(tasks).values())
+
+
 def program(name, file):
-    """Proves a program and the crates below it from nothing, and builds it into the file. Returns the status."""
+    """Proves a program, and the libraries below it that are not built, and builds it into the file."""
     begin()
     whole = crate(name)
-    tasks = {}
-    for it in [*whole.below(), whole]:
-        below = [dep.name for dep in it.below()]
-        tasks[it.name] = below, it.count(rb"\n"), rt.need(it), functools.partial(prove_anew, it)
-    given = rt.in_lanes(tasks)
-    if not all(given.values()) or whole.link(f"out/{name}.o", f"out/{name}"):
+    if not prove_below(whole, whole) or whole.link(f"out/{name}.o", f"out/{name}"):
         return 1
     shutil.move(f"{whole.folder}/out/{name}", file)
     return 0
 
 
+def built(name):
+    """Prints the libraries below a crate that are built."""
+    print(*sorted(built_below(crate(name))))
+    return 0
+
+
 if __name__ == "__main__":
-    verbs = {("archive", 4): archive, ("archive", 5): archive, ("program", 4): program}
+    verbs = {("built", 3): built, ("archive", 4): archive, ("archive", 7): archive, ("program", 4): program}
     verb = verbs.get(("".join(sys.argv[1:2]), len(sys.argv)))
+    if sys.argv[1:] == ["--help"]:
+        print(__doc__)
+        sys.exit(0)
     if verb is None:
         stop(__doc__)
     sys.exit(verb(*sys.argv[2:]))

@@ -4,10 +4,11 @@
 
 /* The offset in bytes of a member, which ends where the next begins. */
 #define IS_AT(type, member, offset) (offsetof(type, member) == (offset))
-_Static_assert(sizeof(wkb_found) == 48 && IS_AT(wkb_found, size, 0) && IS_AT(wkb_found, parts, 8) &&
-                   IS_AT(wkb_found, coordinates, 16) && IS_AT(wkb_found, srid, 24) && IS_AT(wkb_found, has_srid, 28) &&
-                   IS_AT(wkb_found, kind, 32) && IS_AT(wkb_found, dimension, 36) && IS_AT(wkb_found, width, 40) &&
-                   IS_AT(wkb_found, order, 44), "wkb_found");
+_Static_assert(sizeof(wkb_found) == 64 && IS_AT(wkb_found, size, 0) && IS_AT(wkb_found, parts, 8) &&
+                   IS_AT(wkb_found, coordinates, 16) && IS_AT(wkb_found, offset, 24) && IS_AT(wkb_found, count, 32) &&
+                   IS_AT(wkb_found, srid, 40) && IS_AT(wkb_found, has_srid, 44) && IS_AT(wkb_found, kind, 48) &&
+                   IS_AT(wkb_found, dimension, 52) && IS_AT(wkb_found, width, 56) && IS_AT(wkb_found, order, 60),
+               "wkb_found");
 _Static_assert(sizeof(wkb_fault) == 40 && IS_AT(wkb_fault, part, 0) && IS_AT(wkb_fault, offset, 8) &&
                    IS_AT(wkb_fault, end, 16) && IS_AT(wkb_fault, len, 24) && IS_AT(wkb_fault, code, 32) &&
                    IS_AT(wkb_fault, status, 36), "wkb_fault");
@@ -42,7 +43,8 @@ void check_is_as_expected(const answer *a, const uint8_t *bytes, size_t len) {
 
 /* The entries of a table fit each other and the slices of the input. */
 static void table_is_consistent(const answer *a, const uint8_t *bytes, const wkb_part *parts, uint64_t count) {
-  expect(parts[0].begin == 0 && parts[0].end == a->found.size && parts[0].next == count, "the whole", a->input);
+  wkb_part whole = wkb_whole(&a->found);
+  expect(memcmp(&whole, &parts[0], sizeof whole) == 0, "the whole", a->input);
   for (uint64_t i = 0; i < count; i++) {
     expect(parts[i].begin < parts[i].offset && parts[i].offset <= parts[i].end, "where a part is", a->input);
     for (uint64_t k = i + 1; k < parts[i].next; k = parts[k].next)
@@ -108,7 +110,7 @@ static void null_is_allowed(void) {
   uint8_t point[21];
   size_t len = spelled("01 01000000 P", point);
   uint32_t which = 0;
-  wkb_status ended = WKB_STATUS_IO_ERROR, no_room = WKB_STATUS_NO_ROOM;
+  wkb_status ended = WKB_STATUS_SHORT_HEADER, no_room = WKB_STATUS_NO_ROOM;
   expect(wkb_check(NULL, 0, NULL, NULL) == ended, "null", "check nothing");
   expect(wkb_check(point, len, NULL, NULL) == WKB_STATUS_OK, "null", "check");
   expect(wkb_bounds(NULL, 0, NULL, NULL) == ended, "null", "bounds of nothing");
@@ -199,7 +201,7 @@ static const comparison COMPARISONS[] = {
     {"01 01000000 N W", "01 01000000 010000000000f0ff W", WKB_STATUS_OK, 0, 0},
     {"01 01000000 O W", "01 01000000 M W", WKB_STATUS_OK, 0, 0},
     {"02", "", WKB_STATUS_INVALID_BYTE_ORDER, 0, 1},
-    {"01 01000000 P", "", WKB_STATUS_IO_ERROR, 0, 2},
+    {"01 01000000 P", "", WKB_STATUS_SHORT_HEADER, 0, 2},
 };
 enum { COMPARISON_COUNT = sizeof COMPARISONS / sizeof COMPARISONS[0] };
 
@@ -274,15 +276,30 @@ static void nesting_is_bounded(void) {
   expect(found.parts == 128 && found.size == 1152, "128 parts", "");
 }
 
+static bool is_known(uint32_t status) { return strcmp(wkb_status_text(status), "unknown status") != 0; }
+
 /* Each status has a text of its own, other numbers have one text, and the version is the header's. */
 static void texts_and_version(void) {
+  int known = 0;
   expect(strcmp(wkb_status_text(WKB_STATUS_OK), "ok") == 0, "a text", "ok");
-  expect(strcmp(wkb_status_text(15), "unknown status") == 0, "a text", "15");
-  expect(strcmp(wkb_status_text(UINT32_MAX), "unknown status") == 0, "a text", "the last");
-  for (unsigned i = 0; i <= WKB_STATUS_BAD_OFFSETS + 1; i++)
-    for (unsigned k = 0; k < i; k++)
+  expect(!is_known(UINT32_MAX) && !is_known(WKB_STATUS_MAX_ENUM), "a text", "the last");
+  for (uint32_t i = 0; i < 256; i++) {
+    if (is_known(i)) known++;
+    for (uint32_t k = 0; k < i && is_known(i); k++)
       expect(strcmp(wkb_status_text(i), wkb_status_text(k)) != 0, "a status's text", wkb_status_text(i));
-  expect(wkb_version() == 1000 && WKB_VERSION == 1000, "the version", "");
+  }
+  expect(known == 16, "as many texts as statuses", "");
+  expect(wkb_version() == 1000000 && WKB_VERSION == 1000000, "the version", "");
+}
+
+/* The statuses that refuse an input are a class, also those that no version has yet. */
+static void refusals_are_a_class(void) {
+  for (uint32_t i = 0; i < 256; i++) expect(wkb_status_is_refusal(i) == (i >= 32), "a class", wkb_status_text(i));
+  for (int i = 0; i < ANSWER_COUNT; i++) {
+    const answer *a = &ANSWERS[i];
+    expect(wkb_status_is_refusal(a->status) == (a->status != WKB_STATUS_OK), "a refusal", a->input);
+    expect((a->status >= 48) == (a->fault.end != 0), "an input that ends too early", a->input);
+  }
 }
 
 void calls_are_right(void) {
@@ -300,4 +317,5 @@ void calls_are_right(void) {
   nesting_is_bounded();
   null_is_allowed();
   texts_and_version();
+  refusals_are_a_class();
 }

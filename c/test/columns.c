@@ -25,22 +25,21 @@ static void columns_are_checked(void) {
   expect(statuses[COLUMN_ROWS] == 0x5a, "a status more was written", "");
   f.column.validity = NULL;
   wkb_column_check(&f.column, statuses);
-  expect(statuses[ANSWER_COUNT] == WKB_STATUS_IO_ERROR, "an empty row", "no validity");
+  expect(statuses[ANSWER_COUNT] == WKB_STATUS_SHORT_HEADER, "an empty row", "no validity");
 }
 
-/* Offsets that decrease, pass the end or are negative, and good ones between them; the statuses of their rows. */
+/* Offsets that decrease, pass the end, are negative or begin before a row ends, and good ones between them; the
+ * statuses of their rows. */
 #define BAD WKB_STATUS_BAD_OFFSETS
 #define GOOD WKB_STATUS_OK
-static const int64_t OFFSETS[] = {0, 21, 20, 42, 21, 42, -1, 42, INT64_MIN, 0, 21, INT64_MAX, 21, 42, 43};
-/* Row 2 begins with the last byte of the first point, which is no byte order. */
-static const wkb_status OF_OFFSETS[] = {GOOD, BAD, WKB_STATUS_INVALID_BYTE_ORDER, BAD, GOOD, BAD, BAD,
-                                        BAD,  BAD, GOOD,                          BAD, BAD,  GOOD, BAD};
+static const int64_t OFFSETS[] = {0, 21, 20, 42, 63, -1, 84, INT64_MIN, 0, 21, INT64_MAX, 63, 84, 85};
+static const wkb_status OF_OFFSETS[] = {GOOD, BAD, BAD, GOOD, BAD, BAD, BAD, BAD, BAD, BAD, BAD, GOOD, BAD};
 enum { OFFSET_ROWS = sizeof OF_OFFSETS / sizeof OF_OFFSETS[0] };
 
-/* Over two points the offsets give these statuses. */
+/* Over four points the offsets give these statuses. */
 static void offsets_are_checked_by(const void *offsets, size_t offset_size) {
-  uint8_t data[42], statuses[OFFSET_ROWS];
-  spelled("01 01000000 P 01 01000000 P", data);
+  uint8_t data[84], statuses[OFFSET_ROWS];
+  spelled("01 01000000 P 01 01000000 P 01 01000000 P 01 01000000 P", data);
   wkb_column column = {data, sizeof data, offsets, offset_size, NULL, 0, OFFSET_ROWS};
   memset(statuses, 0x5a, sizeof statuses);
   wkb_column_check(&column, statuses);
@@ -54,6 +53,43 @@ static void offsets_are_checked(void) {
     narrow[i] = OFFSETS[i] < INT32_MIN ? INT32_MIN : OFFSETS[i] > INT32_MAX ? INT32_MAX : (int32_t)OFFSETS[i];
   offsets_are_checked_by(OFFSETS, sizeof OFFSETS[0]);
   offsets_are_checked_by(narrow, sizeof narrow[0]);
+}
+
+/* Offsets over three points, the validity of their rows and the statuses that all calls give. */
+static const struct {
+  int64_t offsets[6];
+  uint8_t validity;
+  uint8_t statuses[5];
+} OVERLAPS[] = {
+    {{0, 21, 0, 21, 0, 21}, 0xff, {GOOD, BAD, BAD, BAD, BAD}},     /* the same row again and again */
+    {{0, 21, 42, 21, 42, 63}, 0xff, {GOOD, GOOD, BAD, BAD, GOOD}}, /* what is behind all rows is read */
+    {{0, 42, 21, 63, 42, 63}, 0xff, {GOOD, BAD, BAD, BAD, BAD}},   /* a row that overlaps one ends after it */
+    {{0, 42, 0, 21, 42, 63}, 0xfe, {WKB_STATUS_NULL_ROW, BAD, BAD, BAD, GOOD}},      /* a null row ends too */
+    {{0, 64, 0, 21, 21, 42}, 0xff, {BAD, BAD, GOOD, WKB_STATUS_SHORT_HEADER, GOOD}}, /* a bad row doesn't */
+};
+
+/* A row that begins before an earlier one ends is not read, so that no byte is read for two rows. */
+static void overlapping_rows_are_refused(void) {
+  uint8_t data[63], out[256], statuses[5];
+  uint64_t ends[5];
+  double words[16];
+  uint64_t ring_ends[5], single_ends[5];
+  wkb_box boxes[5];
+  wkb_part parts[5];
+  spelled("01 01000000 P 01 01000000 P 01 01000000 P", data);
+  for (size_t k = 0; k < sizeof OVERLAPS / sizeof OVERLAPS[0]; k++) {
+    wkb_column column = {data, sizeof data, OVERLAPS[k].offsets, 8, &OVERLAPS[k].validity, 0, 5};
+    for (int call = 0; call < 5; call++) {
+      wkb_coordinates levels = {words, 16, ring_ends, 5, single_ends, 5, ends, 0, 0, 0};
+      memset(statuses, 0x5a, sizeof statuses);
+      if (call == 0) wkb_column_check(&column, statuses);
+      if (call == 1) wkb_column_bounds(&column, boxes, statuses);
+      if (call == 2) wkb_column_parts(&column, parts, 5, ends, statuses);
+      if (call == 3) wkb_column_write(&column, &LITTLE_ISO, out, sizeof out, ends, statuses);
+      if (call == 4) wkb_column_coordinates(&column, WKB_DIM_XY, &levels, statuses);
+      expect(memcmp(statuses, OVERLAPS[k].statuses, sizeof statuses) == 0, "rows that overlap", "");
+    }
+  }
 }
 
 /* A negative offset of four bytes is bad also where the data go on to where it would be without its sign. */
@@ -123,11 +159,10 @@ static void other_offset_sizes_are_refused(void) {
 /* Bits of validity from any bit on: those before the first row and after the last don't matter. */
 static void validity_may_begin_anywhere(void) {
   enum { ROWS = 19, MOST = 17 };
-  static const char PATTERN[] = "1101110010111011011";
-  uint8_t point[21], statuses[ROWS];
-  int64_t offsets[ROWS + 1];
-  size_t len = spelled("01 01000000 P", point);
-  for (size_t i = 0; i <= ROWS; i++) offsets[i] = i % 2 == 0 ? 0 : (int64_t)len;
+  static const char PATTERN[] = "1101110010111011010";
+  uint8_t points[21 * ROWS], statuses[ROWS];
+  int64_t offsets[ROWS + 1] = {0};
+  for (size_t i = 0; i < ROWS; i++) offsets[i + 1] = offsets[i] + (int64_t)spelled("01 01000000 P", points + 21 * i);
   for (size_t first = 0; first <= MOST; first++) {
     for (int others = 0; others < 2; others++) {
       uint8_t *bits = malloc((first + ROWS + 7) / 8);
@@ -137,12 +172,10 @@ static void validity_may_begin_anywhere(void) {
         uint8_t bit = (uint8_t)(1 << (first + i) % 8), *byte = &bits[(first + i) / 8];
         *byte = (uint8_t)(PATTERN[i] == '1' ? *byte | bit : *byte & ~bit);
       }
-      wkb_column column = {point, len, offsets, 8, bits, first, ROWS};
+      wkb_column column = {points, sizeof points, offsets, 8, bits, first, ROWS};
       wkb_column_check(&column, statuses);
-      for (size_t i = 0; i < ROWS; i++) {
-        wkb_status wanted = i % 2 == 0 ? WKB_STATUS_OK : WKB_STATUS_BAD_OFFSETS;
-        expect(statuses[i] == (PATTERN[i] == '1' ? wanted : WKB_STATUS_NULL_ROW), "a validity bit", "");
-      }
+      for (size_t i = 0; i < ROWS; i++)
+        expect(statuses[i] == (PATTERN[i] == '1' ? WKB_STATUS_OK : WKB_STATUS_NULL_ROW), "a validity bit", "");
       free(bits);
     }
   }
@@ -263,9 +296,9 @@ static void null_is_allowed(void) {
   expect(wkb_column_parts(&none, NULL, 0, NULL, NULL) == 0, "no rows", "parts");
   expect(wkb_column_write(&none, &LITTLE_ISO, NULL, 0, NULL, NULL) == 0, "no rows", "write");
   wkb_column_check(&empties, statuses);
-  expect(statuses[0] == WKB_STATUS_IO_ERROR && statuses[1] == WKB_STATUS_IO_ERROR, "no data", "check");
+  expect(statuses[0] == WKB_STATUS_SHORT_HEADER && statuses[1] == WKB_STATUS_SHORT_HEADER, "no data", "check");
   wkb_column_bounds(&empties, boxes, statuses);
-  expect(boxes[1].x.count == 0 && statuses[1] == WKB_STATUS_IO_ERROR, "no data", "bounds");
+  expect(boxes[1].x.count == 0 && statuses[1] == WKB_STATUS_SHORT_HEADER, "no data", "bounds");
   expect(wkb_column_parts(&empties, NULL, 0, ends, statuses) == 0 && ends[0] == 0, "no data", "parts");
   expect(wkb_column_write(&empties, &LITTLE_ISO, NULL, 0, ends, statuses) == 0 && ends[0] == 0, "no data", "write");
 }
@@ -273,6 +306,7 @@ static void null_is_allowed(void) {
 void columns_are_right(void) {
   columns_are_checked();
   offsets_are_checked();
+  overlapping_rows_are_refused();
   offsets_have_a_sign();
   narrow_offsets_are_the_same();
   other_offset_sizes_are_refused();

@@ -2,9 +2,9 @@
  * for and every size of its rooms. */
 #include "shared.h"
 
-enum { ROWS = 12, COORDINATES = 14, RINGS = 13, SINGLES = 12, WIDTH_MOST = 4, NULL_AT = 9, BAD_AT = 10 };
+enum { ROWS = 13, COORDINATES = 14, RINGS = 13, SINGLES = 12, WIDTH_MOST = 4, NULL_AT = 9, BAD_AT = 10 };
 
-/* Row 9 is null. The offsets of row 10 decrease: row 11 is row 0 again. */
+/* Row 9 is null. The offsets of row 10 decrease, row 11 overlaps the rows above, and row 12 is as row 0. */
 static const char *const INPUTS[NULL_AT + 1] = {
     "01 01000000 W X",
     ("00 000003ea 00000002 3ff0000000000000 4000000000000000 4008000000000000"
@@ -47,6 +47,7 @@ static const struct {
     {11, 12, 13, WKB_STATUS_INVALID_BYTE_ORDER},
     {11, 12, 13, WKB_STATUS_NULL_ROW},
     {11, 12, 13, WKB_STATUS_BAD_OFFSETS},
+    {11, 12, 13, WKB_STATUS_BAD_OFFSETS},
     {12, 13, 14, WKB_STATUS_OK},
 };
 
@@ -56,8 +57,9 @@ static const uint8_t VALIDITY[2] = {0xff, 0xfd};
 
 static wkb_column column_of_inputs(void) {
   for (size_t i = 0; i <= NULL_AT; i++) offsets[i + 1] = offsets[i] + (int64_t)spelled(INPUTS[i], data + offsets[i]);
-  size_t size = (size_t)offsets[BAD_AT];
-  offsets[BAD_AT + 1] = 0, offsets[BAD_AT + 2] = 21;
+  offsets[BAD_AT + 1] = 0, offsets[BAD_AT + 2] = offsets[BAD_AT];
+  offsets[ROWS] = offsets[BAD_AT] + (int64_t)spelled(INPUTS[0], data + offsets[BAD_AT]);
+  size_t size = (size_t)offsets[ROWS];
   wkb_column column = {data, size, offsets, 8, VALIDITY, 0, ROWS};
   return column;
 }
@@ -70,7 +72,7 @@ typedef struct rooms {
 } rooms;
 
 /* Calls with rooms of these sizes, and compares all that is written. */
-static void rooms_are_filled(wkb_dim dimension, size_t words, size_t rings, size_t singles) {
+static void rooms_are_filled(uint32_t dimension, size_t words, size_t rings, size_t singles) {
   wkb_column column = column_of_inputs();
   static rooms r, before;
   uint8_t wanted[8 * WIDTH_MOST * COORDINATES];
@@ -105,9 +107,9 @@ static void no_dimension_is_reported(void) {
   memset(&r, 0x5a, sizeof r);
   wkb_coordinates out = {r.words, COORDINATES, r.ring_ends, RINGS, r.single_ends, SINGLES, r.row_ends, 77, 77, 77};
   uint64_t before = r.ring_ends[0];
-  wkb_column_coordinates(&column, (wkb_dim)4, &out, r.statuses);
+  wkb_column_coordinates(&column, 4, &out, r.statuses);
   for (size_t i = 0; i < ROWS; i++) {
-    wkb_status status = i == NULL_AT || i == BAD_AT ? ENDS[i].status : WKB_STATUS_UNKNOWN_OPTION;
+    wkb_status status = i == NULL_AT || i == BAD_AT || i == BAD_AT + 1 ? ENDS[i].status : WKB_STATUS_UNKNOWN_OPTION;
     expect(r.statuses[i] == status && r.row_ends[i] == 0, "no dimension", "");
   }
   expect(out.coordinates == 0 && out.rings == 0 && out.singles == 0, "the totals of no dimension", "");
@@ -139,7 +141,7 @@ static void narrow_offsets_are_the_same(void) {
 }
 
 void coordinates_are_right(void) {
-  for (wkb_dim dimension = WKB_DIM_XY; dimension <= WKB_DIM_XYZM; dimension++) {
+  for (uint32_t dimension = WKB_DIM_XY; dimension <= WKB_DIM_XYZM; dimension++) {
     size_t words = WIDTHS[dimension] * COORDINATES;
     for (size_t room = 0; room <= words; room++) rooms_are_filled(dimension, room, RINGS, SINGLES);
     for (size_t room = 0; room < RINGS; room++) rooms_are_filled(dimension, words, room, SINGLES);

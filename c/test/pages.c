@@ -15,7 +15,7 @@ static void cut_is_refused(const answer *a, const uint8_t *bytes, size_t len, ui
   uint32_t equal, which = 0;
   memcpy(start, bytes, cut);
   wkb_status status = wkb_check(start, cut, NULL, &fault);
-  expect(status >= WKB_STATUS_IO_ERROR && status <= WKB_STATUS_SHORT_LINEAR_RING, "a cut is refused", a->input);
+  expect(wkb_status_is_refusal(status), "a cut is refused", a->input);
   expect(wkb_bounds(start, cut, &box, &again[0]) == status, "bounds of a cut", a->input);
   expect(wkb_write(start, cut, &LITTLE_ISO, out, sizeof out, &size, &again[1]) == status, "a cut written", a->input);
   expect(wkb_same(bytes, len, start, cut, &equal, &again[2], &which) == status && which == 2, "a cut second", a->input);

@@ -7,10 +7,8 @@
 #include <stdio.h>
 #include <stdlib.h>
 
-/* How many more blocks malloc and realloc give a thread; how many blocks it holds; the bytes that it asked for. */
-extern __thread size_t allowed;
-extern __thread long held;
-extern __thread size_t asked;
+/* How often a thread has called malloc or realloc. */
+extern __thread size_t asks;
 
 /* Prints what is wrong, and ends. */
 void expect(bool holds, const char *what, const char *where);
@@ -53,12 +51,14 @@ void bounds_are_right(void);
 void words_are_right(void);
 void columns_are_right(void);
 void coordinates_are_right(void);
+void levels_are_right(void);
+void levels_come_back_from_rows(void);
 void check_is_as_expected(const answer *a, const uint8_t *bytes, size_t len);
 void parts_are_as_expected(const answer *a, const uint8_t *bytes, size_t len);
 void refusal_leaves_outputs(const answer *a, const uint8_t *bytes, size_t len);
 void nothing_is_read_after_the_input(void);
-void memory_is_refused(void);
-void memory_is_bounded(void);
+void no_memory_is_asked_for(void);
+void little_stack_is_taken(void);
 void calls_run_at_the_same_time(void);
 
 #endif

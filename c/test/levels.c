@@ -1,0 +1,170 @@
+/* wkb_column_from_coordinates on a column of each kind, with each status, smaller rooms, and back by
+ * wkb_column_coordinates. */
+#include "shared.h"
+
+enum { ROWS_MOST = 6, OUT_MOST = 512, ALIKE = 0x5a };
+
+/* Levels of one kind, and the encoding of each row in hex, or none and the status of the row. */
+typedef struct worked {
+  const char *words;
+  wkb_kind kind;
+  wkb_dim dimension;
+  size_t rings, singles, rows;
+  const uint64_t *ring_ends, *single_ends, *row_ends;
+  const char *encodings[ROWS_MOST];
+  wkb_status statuses[ROWS_MOST];
+} worked;
+
+#define ENDS(...) (const uint64_t[]){__VA_ARGS__}
+#define OK WKB_STATUS_OK
+#define BAD WKB_STATUS_BAD_LEVELS
+
+static const worked WORKED[] = {
+    /* No ends: a point each. Of not-a-numbers it is empty, and they are written as they are. */
+    {"WX NN 010000000000f87f N YZ", WKB_KIND_POINT, WKB_DIM_XY, 4, 4, 4, NULL, NULL, NULL,
+     {"01 01000000 WX", "01 01000000 NN", "01 01000000 010000000000f87f N", "01 01000000 YZ"}, {OK, OK, OK, OK}},
+    /* Ends of rings alone; no coordinates are an empty line string. The last but one ends before it begins. */
+    {"WXYZYX WXY", WKB_KIND_LINE_STRING, WKB_DIM_XYZ, 5, 5, 5, ENDS(2, 2, 3, 1, 3), NULL, NULL,
+     {"01 ea030000 02000000 WXY ZYX", "01 ea030000 00000000", "01 ea030000 01000000 WXY", NULL, NULL},
+     {OK, OK, OK, BAD, BAD}},
+    /* Two rings, none, and a ring that ends past the words. */
+    {"WX YZ WX ZW", WKB_KIND_POLYGON, WKB_DIM_XY, 4, 4, 4, ENDS(3, 4, 4, 5), ENDS(2, 2, 3, 4), NULL,
+     {"01 03000000 02000000 03000000 WX YZ WX 01000000 ZW", "01 03000000 00000000",
+      "01 03000000 01000000 00000000", NULL}, {OK, OK, OK, BAD}},
+    /* Points one each, under rows of several. */
+    {"WXY ZYX YYY", WKB_KIND_MULTI_POINT, WKB_DIM_XYM, 3, 3, 4, NULL, NULL, ENDS(2, 2, 3, 4),
+     {"01 d4070000 02000000 01 d1070000 WXY 01 d1070000 ZYX", "01 d4070000 00000000",
+      "01 d4070000 01000000 01 d1070000 YYY", NULL}, {OK, OK, OK, BAD}},
+    /* The second single has two rings, so it is no line string. */
+    {"WX YZ ZY XX", WKB_KIND_MULTI_LINE_STRING, WKB_DIM_XY, 4, 3, 3, ENDS(2, 3, 4, 4), ENDS(1, 3, 4), ENDS(1, 2, 3),
+     {"01 05000000 01000000 01 02000000 02000000 WX YZ", NULL, "01 05000000 01000000 01 02000000 00000000"},
+     {OK, BAD, OK}},
+    /* Row 1 ends before it begins, and row 2 begins before row 0 ends. */
+    {"WXYZ ZYXW", WKB_KIND_MULTI_POLYGON, WKB_DIM_XYZM, 2, 2, 4, ENDS(1, 2), ENDS(1, 2), ENDS(2, 0, 1, 2),
+     {"01 be0b0000 02000000 01 bb0b0000 01000000 01000000 WXYZ 01 bb0b0000 01000000 01000000 ZYXW", NULL, NULL, NULL},
+     {OK, BAD, BAD, BAD}},
+};
+static const size_t WIDTHS[4] = {2, 3, 3, 4};
+
+static wkb_levels levels_of(const worked *w, double *words) {
+  size_t count = spelled(w->words, (uint8_t *)words) / sizeof words[0];
+  wkb_levels levels = {words, count, w->ring_ends, w->rings, w->single_ends, w->singles, w->row_ends, w->rows, NULL, 0};
+  return levels;
+}
+
+/* A call with this much room, under options that write little endian. Returns what all rows need. */
+static uint64_t rows_are_written(const worked *w, size_t room) {
+  double words[32];
+  uint8_t out[OUT_MOST + 1], statuses[ROWS_MOST + 1], wanted[OUT_MOST];
+  uint64_t ends[ROWS_MOST + 1], start = 0, last = 0;
+  memset(out, ALIKE, sizeof out), memset(statuses, ALIKE, sizeof statuses), memset(ends, ALIKE, sizeof ends);
+  wkb_levels levels = levels_of(w, words);
+  uint64_t total = wkb_column_from_coordinates(&levels, w->kind, w->dimension, &LITTLE_ISO, room ? out : NULL, room,
+                                               ends, statuses);
+  for (size_t i = 0; i < w->rows; i++) {
+    size_t size = w->encodings[i] ? spelled(w->encodings[i], wanted) : 0;
+    wkb_status status = w->statuses[i] == OK && start + size > room ? WKB_STATUS_NO_ROOM : w->statuses[i];
+    expect(statuses[i] == status, "the status of a row of levels", w->words);
+    expect(ends[i] == start + size, "the end of an encoding", w->words);
+    if (status == OK) expect(memcmp(out + start, wanted, size) == 0, "an encoding of levels", w->encodings[i]);
+    if (status == OK) last = ends[i];
+    start = ends[i];
+  }
+  expect(total == start, "all bytes of levels", w->words);
+  for (uint64_t k = last; k <= OUT_MOST; k++) expect(out[k] == ALIKE, "bytes more", w->words);
+  expect(statuses[w->rows] == ALIKE && ends[w->rows] == ends[ROWS_MOST], "a row more", w->words);
+  return total;
+}
+
+/* What was written has the levels that it was written from. */
+static void levels_come_back(const worked *w) {
+  double words[32], again[32];
+  uint8_t out[OUT_MOST], statuses[ROWS_MOST];
+  uint64_t ends[ROWS_MOST + 1] = {0}, rings[8], singles[8], rows[ROWS_MOST];
+  wkb_levels levels = levels_of(w, words);
+  wkb_column_from_coordinates(&levels, w->kind, w->dimension, &LITTLE_ISO, out, OUT_MOST, ends + 1, statuses);
+  wkb_column column = {out, ends[w->rows], ends, 8, NULL, 0, w->rows};
+  wkb_coordinates found = {again, 32, rings, 8, singles, 8, rows, 0, 0, 0};
+  wkb_column_coordinates(&column, w->dimension, &found, statuses);
+  for (size_t i = 0; i < w->rows && w->statuses[i] == OK; i++) {
+    uint64_t single = w->row_ends ? w->row_ends[i] : i + 1;
+    expect(rows[i] == single, "the end of a row", w->words);
+    if (single == 0) continue;
+    uint64_t ring = w->single_ends ? w->single_ends[single - 1] : single;
+    expect(singles[single - 1] == ring, "the end of a single", w->words);
+    if (ring == 0) continue;
+    uint64_t coordinates = w->ring_ends ? w->ring_ends[ring - 1] : ring;
+    expect(rings[ring - 1] == coordinates, "the end of a ring", w->words);
+    expect(memcmp(again, words, 8 * WIDTHS[w->dimension] * coordinates) == 0, "the words", w->words);
+  }
+}
+
+/* A null row isn't written, but the rows after it begin where it ends or later. */
+static void null_rows_are_passed(void) {
+  static const double WORDS[6] = {1, 2, 3, 4, 1, 2};
+  static const uint64_t ROW_ENDS[4] = {1, 3, 2, 3};
+  static const uint8_t VALIDITY[2] = {0xbf, 0xff};
+  uint8_t out[64], statuses[4];
+  uint64_t ends[4];
+  wkb_levels levels = {WORDS, 6, NULL, 3, NULL, 3, ROW_ENDS, 4, VALIDITY, 5};
+  wkb_column_from_coordinates(&levels, WKB_KIND_MULTI_POINT, WKB_DIM_XY, &LITTLE_ISO, out, 64, ends, statuses);
+  expect(statuses[0] == OK && statuses[1] == WKB_STATUS_NULL_ROW, "a null row", "levels");
+  expect(statuses[2] == BAD && statuses[3] == BAD, "a row before a null row's end", "levels");
+  expect(ends[0] == 30 && ends[1] == 30 && ends[2] == 30 && ends[3] == 30, "the ends", "a null row");
+}
+
+/* A kind, a dimension or options without a meaning are the status of each row that isn't null. */
+static void no_meaning_is_reported(void) {
+  static const double WORDS[4] = {1, 2, 3, 4};
+  static const uint8_t VALIDITY[1] = {0xfd};
+  static const wkb_options NO_FORM = {WKB_ORDER_LITTLE, (wkb_form)4, 0};
+  const wkb_levels levels = {WORDS, 4, NULL, 2, NULL, 2, NULL, 2, VALIDITY, 0};
+  const struct {
+    uint32_t kind, dimension;
+    const wkb_options *options;
+  } WITHOUT[4] = {{0, 0, &LITTLE_ISO}, {7, 0, &LITTLE_ISO}, {1, 4, &LITTLE_ISO}, {1, 0, &NO_FORM}};
+  for (size_t i = 0; i < 4; i++) {
+    uint8_t out[64], statuses[2];
+    uint64_t ends[2];
+    uint64_t total = wkb_column_from_coordinates(&levels, WITHOUT[i].kind, WITHOUT[i].dimension, WITHOUT[i].options,
+                                                 out, 64, ends, statuses);
+    expect(statuses[0] == WKB_STATUS_UNKNOWN_OPTION, "no meaning", "levels");
+    expect(statuses[1] == WKB_STATUS_NULL_ROW, "a null row without a meaning", "levels");
+    expect(total == 0 && ends[0] == 0 && ends[1] == 0, "the ends without a meaning", "levels");
+  }
+}
+
+/* The options are kept: an SRID is written where one is given, and EWKB with the own SRID has none. */
+static void options_are_kept(void) {
+  static const double WORDS[2] = {1, 2};
+  static const wkb_options WITH = {WKB_ORDER_LITTLE, WKB_FORM_EWKB_WITH_SRID, 4326};
+  static const wkb_options OWN = {WKB_ORDER_BIG, WKB_FORM_EWKB_OWN_SRID, 4326};
+  const wkb_levels levels = {WORDS, 2, NULL, 1, NULL, 1, NULL, 1, NULL, 0};
+  uint8_t out[32], wanted[32], status;
+  uint64_t end;
+  wkb_column_from_coordinates(&levels, WKB_KIND_POINT, WKB_DIM_XY, &WITH, out, 32, &end, &status);
+  expect(status == OK && end == spelled("01 01000020 e6100000 WX", wanted), "with an SRID", "levels");
+  expect(memcmp(out, wanted, end) == 0, "the bytes with an SRID", "levels");
+  wkb_column_from_coordinates(&levels, WKB_KIND_POINT, WKB_DIM_XY, &OWN, out, 32, &end, &status);
+  expect(status == OK && end == spelled("00 00000001 3ff0000000000000 4000000000000000", wanted), "no SRID", "levels");
+  expect(memcmp(out, wanted, end) == 0, "the bytes without an SRID", "levels");
+}
+
+/* Without rows there is nothing, and all pointers may be null. */
+static void no_rows_are_written(void) {
+  const wkb_levels none = {NULL, 0, NULL, 0, NULL, 0, NULL, 0, NULL, 0};
+  expect(wkb_column_from_coordinates(&none, WKB_KIND_POINT, WKB_DIM_XY, &LITTLE_ISO, NULL, 0, NULL, NULL) == 0,
+         "no rows", "levels");
+}
+
+void levels_are_right(void) {
+  for (size_t i = 0; i < sizeof WORKED / sizeof WORKED[0]; i++) {
+    uint64_t total = rows_are_written(&WORKED[i], OUT_MOST);
+    for (size_t room = 0; room <= total; room++) rows_are_written(&WORKED[i], room);
+    levels_come_back(&WORKED[i]);
+  }
+  null_rows_are_passed();
+  no_meaning_is_reported();
+  options_are_kept();
+  no_rows_are_written();
+}
