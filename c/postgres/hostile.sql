@@ -14,7 +14,8 @@ create view different_geometry as select wkb from (select * from hostile where k
     (wkb_same(wkb, '\x0101000000000000000000f03f0000000000000040'), wkb_same(wkb, wkb)) is distinct from
       (same = 1, true) or
     (wkb_xmin(wkb), wkb_xmax(wkb), wkb_ymin(wkb), wkb_ymax(wkb)) is distinct from (x_min, x_max, y_min, y_max) or
-    (wkb_zmin(wkb), wkb_zmax(wkb), wkb_mmin(wkb), wkb_mmax(wkb)) is distinct from (z_min, z_max, m_min, m_max);
+    (wkb_zmin(wkb), wkb_zmax(wkb), wkb_mmin(wkb), wkb_mmax(wkb)) is distinct from (z_min, z_max, m_min, m_max) or
+    wkb_box(wkb)::text is distinct from box(point(x_min, y_min), point(x_max, y_max))::text;
 -- The text of the error that a call raises; null where it raises none.
 create function raised(call text, wkb bytea) returns text language plpgsql as $$
 begin
@@ -26,7 +27,7 @@ end $$;
 create view different_error as select wkb from hostile, (values
     ('select wkb_kind($1)', ''), ('select wkb_srid($1)', ''), ('select wkb_canonical($1)', ''),
     ('select wkb_ewkb($1)', ''), ('select wkb_ewkb($1, 3857)', ''), ('select wkb_xmin($1)', ''),
-    ('select wkb_mmax($1)', ''), ('select wkb_same($1, $1)', ' in the first argument'),
+    ('select wkb_mmax($1)', ''), ('select wkb_box($1)', ''), ('select wkb_same($1, $1)', ' in the first argument'),
     ($$select wkb_same('\x0101000000000000000000f03f0000000000000040', $1)$$, ' in the second argument')
   ) as calls (call, place)
   where kind is null and raised(call, wkb) is distinct from format('invalid WKB%s: %s', place, fault);

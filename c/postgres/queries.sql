@@ -31,7 +31,7 @@ insert into points values
   (2, '\x0101000000000000000000f87f000000000000f03f'),
   (3, '\x0101000000000000000000f07f0000000000000040'),
   (4, '\x01b90b0000000000000000f03f000000000000004000000000000008400000000000001040');
-select id, wkb_xmin(wkb), wkb_ymin(wkb), wkb_xmax(wkb), wkb_ymax(wkb) from points order by id;
+select id, wkb_xmin(wkb), wkb_ymin(wkb), wkb_xmax(wkb), wkb_ymax(wkb), wkb_box(wkb) from points order by id;
 select id, wkb_zmin(wkb), wkb_zmax(wkb), wkb_mmin(wkb), wkb_mmax(wkb) from points order by id;
 -- The key, and as EWKB with its own SRID and with another.
 select id, wkb_canonical(wkb), wkb_ewkb(wkb), wkb_ewkb(wkb, 3857) from rows where id in (2, 3, 7) order by id;
@@ -48,31 +48,85 @@ select wkb_same(wkb, '\x02') from rows where id = 1;
 select wkb_ewkb(wkb, -1) from rows where id = 1;
 select wkb_ewkb(wkb, 4294967296) from rows where id = 1;
 select wkb_ewkb(wkb, 4326.9) from rows where id = 1;
--- A column that takes well-formed geometries alone, and one of each value, whatever the byte orders and SRIDs are.
-create table places (wkb bytea check (wkb_well_formed(wkb)));
-create unique index places_once on places (sha256(wkb_canonical(wkb)));
+select wkb_box(wkb) from rows where id = 6;
+-- With its hint.
+\set VERBOSITY default
+select wkb_canonical(wkb) from rows where id = 6;
+select wkb_ewkb(wkb, -1) from rows where id = 1;
+\set VERBOSITY terse
+-- A column that takes well-formed geometries alone, and one of each value and SRID, whatever the byte orders are.
+create table places (wkb bytea not null check (wkb_well_formed(wkb)));
+create unique index places_once on places (sha256(wkb_ewkb(wkb)));
 insert into places select wkb from rows where wkb_well_formed(wkb) on conflict do nothing;
 select count(*) from places;
 insert into places values ('\x02');
 insert into places values ('\x00000000013ff00000000000004000000000000000');
--- The boxes of places, of which three meet this one; the empty point has none.
-create function bounds(wkb bytea) returns box language sql immutable strict parallel safe
-  as 'select box(point(wkb_xmin(wkb), wkb_ymin(wkb)), point(wkb_xmax(wkb), wkb_ymax(wkb)))';
-create index places_bounds on places using gist (bounds(wkb));
-select count(*) from places where bounds(wkb) && box '((0, 0), (1, 2))';
+-- The boxes of places, of which four meet this one; the empty point has none.
+create index places_box on places using gist (wkb_box(wkb));
+select count(*) from places where wkb_box(wkb) && box '((0, 0), (1, 2))';
 
--- The same through the index, which a planner leaves aside for so few rows.
+-- The same through the index, and through a smaller one, which a planner leaves aside for so few rows.
 set enable_seqscan to off;
-select bounds(wkb), wkb_kind(wkb) from places where bounds(wkb) && box '((2, 3), (9, 9))';
+select wkb_box(wkb), wkb_kind(wkb) from places where wkb_box(wkb) && box '((2, 3), (9, 9))';
+drop index places_box;
+create index places_range on places using brin (wkb_box(wkb));
+select wkb_box(wkb), wkb_kind(wkb) from places where wkb_box(wkb) && box '((2, 3), (9, 9))';
 reset enable_seqscan;
 create table many as select n, case n % 2 when 0 then '\x010100000000000000000000000000000000000040'::bytea
   else '\x000000000100000000000000004000000000000000'::bytea end as wkb from generate_series(0, 99999) n;
 select count(*), bool_and(wkb_well_formed(wkb)), sum(wkb_xmin(wkb)), sum(wkb_ymax(wkb)),
   count(distinct wkb_canonical(wkb)) from many;
+-- Two lines of 312 points, of 5001 bytes each, which differ in the last one: bounds are kept of a whole value, or not
+-- at all.
+select length(wkb), wkb_box(wkb), wkb_xmax(wkb), wkb_ymin(wkb) from (
+  select '\x010200000038010000'::bytea || decode(repeat('000000000000f03f0000000000000040', 311) || last, 'hex') as wkb
+    from (values (1, '00000000000010400000000000000040'), (2, '00000000000014400000000000000040')) as ends (n, last)
+    order by n) as lines;
 -- A collection of a million empty line strings.
 select wkb_well_formed(wkb), wkb_kind(wkb), wkb_xmin(wkb), length(wkb_canonical(wkb)) from
   (select '\x010700000040420f00'::bytea || decode(repeat('010200000000000000', 1000000), 'hex') as wkb) as huge;
--- The sixteen functions are the extension's, and go with it.
+-- Each of the seventeen functions is strict, immutable and safe in parallel, and has a comment.
+select count(*), count(*) filter (where proisstrict and provolatile = 'i' and proparallel = 's'),
+  count(obj_description(oid, 'pg_proc')) from pg_proc where proname like 'wkb\_%';
+-- Their calls, as texts, with null in one place, or in none, which is place 0. One that has null is null.
+create view calls as
+  select proname, place, prorettype, format('%I(%s)', proname, (
+      select string_agg(case when nth = place then 'null' when type = 'bytea'::regtype then 'wkb' else '1' end ||
+        '::' || type::regtype, ', ' order by nth)
+      from unnest(proargtypes) with ordinality as arguments (type, nth))) as call
+    from pg_proc, generate_series(0, pronargs) as place where proname like 'wkb\_%';
+do $$
+declare
+  call text;
+  is_null boolean;
+begin
+  for call in select calls.call from calls where place > 0 loop
+    execute format('select %s is null from rows where id = 1', call) into is_null;
+    if not is_null then raise 'not null: %', call; end if;
+  end loop;
+end $$;
+-- No call keeps the copy that a large value is read into: beside what it returns, which is as long as the value for
+-- three of them, it leaves little memory in use until the row ends. A server before version 14 doesn't tell.
+create table large as
+  select '\x0107000000a0860100'::bytea || decode(repeat('010200000000000000', 100000), 'hex') as wkb;
+create function in_use(call text) returns bigint language plpgsql as $$
+declare
+  before bigint;
+  is_null boolean;
+  after bigint;
+begin
+  execute format('select (select sum(used_bytes) from pg_backend_memory_contexts), %s is null,
+    (select sum(used_bytes) from pg_backend_memory_contexts) from large', call) into before, is_null, after;
+  return after - before;
+end $$;
+select to_regclass('pg_backend_memory_contexts') is not null as counts_memory \gset
+\if :counts_memory
+select call from calls
+  where place = 0 and in_use(call) > case prorettype when 'bytea'::regtype then 1350000 else 450000 end;
+\endif
+drop view calls;
+drop function in_use;
+-- They are the extension's, and go with it.
 select extversion, count(*) from pg_extension e join pg_depend d on d.refobjid = e.oid and d.deptype = 'e'
   where extname = 'wkb' group by 1;
 drop extension wkb;

@@ -1,24 +1,15 @@
-/* Well-Known Binary in PostgreSQL, over bytea, and so over a geometry of PostGIS that is cast to bytea. wkb--1.0.sql
- * says what each function returns. The library keeps nothing between calls, so an error can be raised after any call,
- * and also where it asks for memory. */
+/* Well-Known Binary in PostgreSQL, over bytea, and so over a geometry of PostGIS that is cast to bytea. The file of SQL
+ * beside it says what each function returns. The library keeps nothing between calls and asks for no memory, so an
+ * error can be raised after any call. */
 #include "postgres.h"
 
 #include "fmgr.h"
 #include "utils/builtins.h"
+#include "utils/geo_decls.h"
 #include "utils/memutils.h"
 #include "wkb.h"
 
 PG_MODULE_MAGIC;
-
-/* The library's memory is the server's, which counts it, and frees it where an error is raised: the linker puts these
- * in place of malloc, realloc and free. A request that fails raises the server's own error. */
-void *__wrap_malloc(size_t size);
-void *__wrap_realloc(void *p, size_t size);
-void __wrap_free(void *p);
-
-void *__wrap_malloc(size_t size) { return MemoryContextAllocHuge(CurrentMemoryContext, size); }
-void *__wrap_realloc(void *p, size_t size) { return repalloc_huge(p, size); }
-void __wrap_free(void *p) { pfree(p); }
 
 #define BYTES(v) VARDATA_ANY(v), VARSIZE_ANY_EXHDR(v)
 
@@ -37,11 +28,11 @@ static const char *text_of(const wkb_fault *fault) {
 /* Raises an error unless a call succeeded: PLACE is an input among several, or empty. */
 static void accept(wkb_status status, const char *place, const wkb_fault *fault) {
   if (status == WKB_STATUS_OK) return;
-  /* Not where the linker has put in the functions above, which raise it themselves. */
-  if (status == WKB_STATUS_NO_MEMORY) ereport(ERROR, (errcode(ERRCODE_OUT_OF_MEMORY), errmsg("out of memory")));
   if (status == WKB_STATUS_NO_ROOM)
-    ereport(ERROR, (errcode(ERRCODE_PROGRAM_LIMIT_EXCEEDED), errmsg("the encoding is longer than a bytea can be")));
-  ereport(ERROR, (errcode(ERRCODE_INVALID_BINARY_REPRESENTATION), errmsg("invalid WKB%s: %s", place, text_of(fault))));
+    ereport(ERROR, (errcode(ERRCODE_PROGRAM_LIMIT_EXCEEDED), errmsg("the encoding is longer than a bytea can be"),
+                    errhint("A bytea has at most 1 GB, and an SRID takes four bytes more.")));
+  ereport(ERROR, (errcode(ERRCODE_INVALID_BINARY_REPRESENTATION), errmsg("invalid WKB%s: %s", place, text_of(fault)),
+                  errhint("wkb_fault returns why a value is not well formed, and null of those that are.")));
 }
 
 /* The geometry at the front of the argument; an error where there is none. The copy that a large value is read into is
@@ -119,7 +110,8 @@ Datum wkb_ewkb_with_srid_sql(PG_FUNCTION_ARGS) {
   wkb_options options = {WKB_ORDER_LITTLE, WKB_FORM_EWKB_WITH_SRID, (uint32_t)srid};
   if (srid < 0 || srid > UINT32_MAX)
     ereport(ERROR, (errcode(ERRCODE_NUMERIC_VALUE_OUT_OF_RANGE),
-                    errmsg("an SRID is an integer from 0 to 4294967295")));
+                    errmsg("an SRID is an integer from 0 to 4294967295"),
+                    errhint("wkb_canonical writes no SRID, and wkb_ewkb without this argument that of the value.")));
   return rewritten(fcinfo, &options);
 }
 
@@ -179,3 +171,15 @@ SIDE(wkb_xmax_sql, x, greatest)
 SIDE(wkb_ymax_sql, y, greatest)
 SIDE(wkb_zmax_sql, z, greatest)
 SIDE(wkb_mmax_sql, m, greatest)
+
+/* The box of x and y, in PostgreSQL's own type; null where no coordinate has an x, or none a y. */
+PG_FUNCTION_INFO_V1(wkb_box_sql);
+Datum wkb_box_sql(PG_FUNCTION_ARGS) {
+  wkb_box box = box_of(fcinfo);
+  BOX *result;
+  if (box.x.count == 0 || box.y.count == 0) PG_RETURN_NULL();
+  result = palloc(sizeof *result);
+  result->low.x = box.x.least, result->low.y = box.y.least;
+  result->high.x = box.x.greatest, result->high.y = box.y.greatest;
+  PG_RETURN_BOX_P(result);
+}

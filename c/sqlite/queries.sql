@@ -56,7 +56,7 @@ insert into roads (geom)
 select fid, wkb_fault(geom) from roads where not wkb_well_formed(geom);
 -- A column that takes well-formed geometries alone, and a key that is unique whatever the byte orders and SRIDs are.
 create temp table places (
-  wkb blob check (wkb_well_formed(wkb)),
+  wkb blob not null check (wkb_well_formed(wkb)),
   key blob as (wkb_canonical(wkb)) stored unique
 );
 insert or ignore into places (wkb) select wkb from rows where wkb_well_formed(wkb);
@@ -68,3 +68,91 @@ insert into many with recursive c(n) as (select 0 union all select n + 1 from c 
                        else x'000000000100000000000000004000000000000000' end from c;
 select count(*), sum(wkb_well_formed(wkb)), sum(wkb_xmin(wkb)), sum(wkb_ymax(wkb)), count(distinct wkb_canonical(wkb))
   from many;
+-- Lines of 255 and of 1000 points, which are a little shorter and much longer than what bounds are kept of.
+create temp table lines (n integer primary key, wkb blob);
+insert into lines select n, cast(head || replace(hex(zeroblob(n)), '00', x'000000000000f03f0000000000000040') as blob)
+  from (select 255 as n, x'0102000000ff000000' as head union all select 1000, x'0102000000e8030000');
+select n, length(wkb), wkb_xmin(wkb), wkb_ymax(wkb), wkb_xmax(wkb), length(wkb_canonical(wkb)), wkb_same(wkb, wkb),
+  wkb_fault(substr(wkb, 1, 100)) from lines;
+-- Two lines of 312 points, of 5001 bytes each, which differ in the last one: bounds are kept of a whole blob, or not
+-- at all.
+create temp table ends (n integer primary key, wkb blob);
+insert into ends select value, cast(x'010200000038010000' || replace(hex(zeroblob(311)), '00', point) || last as blob)
+  from (select x'000000000000f03f0000000000000040' as point),
+    (select 1 as value, x'00000000000010400000000000000040' as last
+     union all select 2, x'00000000000014400000000000000040');
+select n, length(wkb), wkb_xmin(wkb), wkb_xmax(wkb), wkb_ymin(wkb), wkb_ymax(wkb) from ends;
+-- Each of the 23 functions is deterministic (800 in hex) and innocuous (200000), so that a schema that isn't trusted may
+-- call it.
+select count(*), sum(flags & 0x200800 = 0x200800) from pragma_function_list
+  where name like 'wkb\_%' escape '\' or name like 'st\_%' escape '\';
+pragma trusted_schema = off;
+create table checked (wkb blob check (wkb_well_formed(wkb)), least real as (ST_MinX(wkb)));
+insert into checked select wkb from rows where id in (1, 4);
+select count(*), sum(least) from checked;
+pragma trusted_schema = on;
+-- The blobs of a GeoPackage: a point, with an SRID, without one and with another; an empty point; a polygon, which has
+-- an envelope; cut bytes. Of a GeoPackage's own blob the header's srs_id stays.
+select id, hex(wkb_gpkg(wkb)) from rows where id in (1, 3, 4, 5, 6);
+select hex(wkb_gpkg(wkb, -1)), hex(wkb_gpkg(wkb, 2147483647)), wkb_gpkg(wkb, null) from rows where id = 1;
+select id, hex(wkb_gpkg(geom)) from packages where id in (3, 8, 9);
+-- EWKB is not what a GeoPackage holds: with an SRID, or with a flag for z; a member; one after others. The first byte
+-- of a ring's x, where a geometry has the highest of its code, is no flag.
+create temp table flagged (id integer primary key, wkb blob);
+insert into flagged (wkb) values
+  (x'0101000020e6100000000000000000f03f0000000000000040'),
+  (x'010200008000000000'),
+  (x'008000000300000000'),
+  (x'010700000001000000010200008000000000'),
+  (x'01070000000300000001030000000100000000000000010200000000000000004000000200000000'),
+  (x'01070000000100000001020000000000000000'),
+  (cast(x'010700000001000000' || x'010300000001000000' || x'01000000' || x'e0000000000000000000000000000040' as blob));
+select id, wkb_well_formed(wkb), wkb_well_formed(geom), wkb_kind(geom), wkb_fault(geom)
+  from (select id, wkb, cast(x'47500001e6100000' || wkb as blob) as geom from flagged);
+-- A layer of a GeoPackage, its R-tree, and the triggers that keep it, as OGR writes them.
+create table towns (fid integer primary key autoincrement not null, geom geometry, name text);
+create virtual table rtree_towns_geom using rtree(id, minx, maxx, miny, maxy);
+create trigger rtree_towns_geom_insert after insert on towns
+  when (new.geom not null and not ST_IsEmpty(new.geom)) begin
+    insert or replace into rtree_towns_geom values
+      (new.fid, ST_MinX(new.geom), ST_MaxX(new.geom), ST_MinY(new.geom), ST_MaxY(new.geom));
+  end;
+create trigger rtree_towns_geom_update1 after update of geom on towns
+  when old.fid = new.fid and (new.geom notnull and not ST_IsEmpty(new.geom)) begin
+    insert or replace into rtree_towns_geom values
+      (new.fid, ST_MinX(new.geom), ST_MaxX(new.geom), ST_MinY(new.geom), ST_MaxY(new.geom));
+  end;
+create trigger rtree_towns_geom_update2 after update of geom on towns
+  when old.fid = new.fid and (new.geom isnull or ST_IsEmpty(new.geom)) begin
+    delete from rtree_towns_geom where id = old.fid;
+  end;
+create trigger rtree_towns_geom_update3 after update on towns
+  when old.fid != new.fid and (new.geom notnull and not ST_IsEmpty(new.geom)) begin
+    delete from rtree_towns_geom where id = old.fid;
+    insert or replace into rtree_towns_geom values
+      (new.fid, ST_MinX(new.geom), ST_MaxX(new.geom), ST_MinY(new.geom), ST_MaxY(new.geom));
+  end;
+create trigger rtree_towns_geom_update4 after update on towns
+  when old.fid != new.fid and (new.geom isnull or ST_IsEmpty(new.geom)) begin
+    delete from rtree_towns_geom where id in (old.fid, new.fid);
+  end;
+create trigger rtree_towns_geom_delete after delete on towns when old.geom not null begin
+  delete from rtree_towns_geom where id = old.fid;
+end;
+insert into towns (geom) select wkb_gpkg(wkb, 4326) from rows where wkb_well_formed(wkb);
+select towns.fid, wkb_kind(geom), wkb_srid(geom), minx, maxx, miny, maxy
+  from towns left join rtree_towns_geom on id = towns.fid;
+-- A blob without a geometry gets no entry, like null, and a point that has an x alone.
+insert into towns (geom) select wkb_gpkg(wkb) from points where id = 1;
+insert into towns (geom) values (x'47500001e6100000'), (null), (x'');
+select count(*), group_concat(id) from rtree_towns_geom;
+-- In one form, with the headers that they have: an update that changes no blob here, nor any bounds.
+create temp table before as select * from towns;
+update towns set geom = wkb_gpkg(geom) where wkb_well_formed(geom);
+select count(*), sum(towns.geom is before.geom), sum(wkb_srid(towns.geom) = 4326) from towns join before using (fid);
+update towns set geom = wkb_gpkg(x'0101000000000000000000004000000000000000c0', 4326) where fid = 5;
+update towns set geom = wkb_gpkg(x'0102000000' || x'00000000', 4326) where fid = 1;
+update towns set fid = 90 where fid = 2;
+update towns set fid = 91 where fid = 1;
+delete from towns where fid = 3;
+select * from rtree_towns_geom;
