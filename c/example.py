@@ -13,6 +13,10 @@ for x, y in wkb.coordinates(polygon, ring):
 little = wkb.write(polygon)
 print(little.hex())
 
+# Rows that are objects of their own, as a list or a column of pandas has them. None is a null row.
+rows = wkb.Column.of([polygon, None, polygon[:-1]])
+print(*(wkb.Status(status).name for status in rows.check()))
+
 # A column of three rows. The last one would end after the data.
 data = polygon + little
 column = wkb.Column(data, array.array("q", [0, 33, 62, 99]))

@@ -82,7 +82,7 @@ class Buffers(unittest.TestCase):
         for none in (b"", bytearray(), memoryview(b""), array.array("d")):
             with self.assertRaises(Refused) as raised:
                 wkb.check(none)
-            self.assertEqual(raised.exception.status, Status.IO_ERROR)
+            self.assertEqual(raised.exception.status, Status.SHORT_HEADER)
         for wrong in ("0101", None, 1, [1, 2]):
             self.assertRaises(TypeError, wkb.check, wrong)
 

@@ -1,11 +1,12 @@
 """The calls for one geometry."""
+import dataclasses
 import pickle
 import struct
 import sys
 import unittest
 
 import wkb
-from samples import BIG_POINT, EMPTY_POINT, ISO_POLYGON, LINE, POINT, POLYGON, rows_of
+from samples import BIG_POINT, EMPTY_POINT, ISO_POLYGON, LINE, POINT, POINTS, POLYGON, rows_of
 from wkb import Dimension, Form, Kind, Order, Part, Range, Refused, Status
 
 try:
@@ -16,8 +17,8 @@ except ImportError:
 
 class Calls(unittest.TestCase):
     def test_check(self):
-        self.assertEqual(wkb.check(POLYGON), wkb.Found(33, 2, 1, 4326, Kind.POLYGON, Dimension.XY, Order.BIG))
-        line = wkb.Found(57, 1, 2, None, Kind.LINE_STRING, Dimension.XYZ, Order.LITTLE)
+        self.assertEqual(wkb.check(POLYGON), wkb.Found(33, 2, 1, 13, 1, 4326, Kind.POLYGON, Dimension.XY, Order.BIG))
+        line = wkb.Found(57, 1, 2, 9, 2, None, Kind.LINE_STRING, Dimension.XYZ, Order.LITTLE)
         self.assertEqual(wkb.check(LINE + b".."), line)
 
     def test_parts(self):
@@ -38,6 +39,41 @@ class Calls(unittest.TestCase):
         for call in (wkb.coordinates, wkb.view) if numpy else (wkb.coordinates,):
             with self.assertRaisesRegex(ValueError, "a POLYGON has no coordinates of its own, but 1 rings or members"):
                 call(POLYGON, whole)
+
+    def test_other_bytes(self):
+        """The coordinates of a part that isn't in these bytes, or not at its place."""
+        longer = struct.pack("<BII6d", 1, 2, 3, *range(6))
+        ring, point, line = wkb.parts(POLYGON)[1], wkb.parts(POINTS)[1], wkb.check(LINE)
+        cases = [(other, line) for other in (b"", LINE[:-1], LINE[1:], b".." + LINE, longer + LINE, POLYGON, POINTS)]
+        cases += [(other, ring) for other in (b"", POLYGON[:-1], ISO_POLYGON + POINT, b"." + POLYGON)]
+        cases += [(other, point) for other in (b"", POINTS[:29], BIG_POINT * 3, POINT * 3, LINE)]
+        first, second = (wkb.write(POINT, form=Form.EWKB_WITH_SRID, srid=srid) for srid in (4326, 3857))
+        shorter = dataclasses.replace(wkb.check(longer), count=2)
+        cases += [(first, wkb.check(second)), (POINT, wkb.check(BIG_POINT)), (longer, shorter)]
+        for data, part in ((POINT, wkb.parts(POINT)[0]), (POLYGON, ring), (LINE, wkb.parts(LINE)[0])):
+            for name, number in (("begin", -1), ("begin", 1), ("offset", 0), ("offset", -16), ("count", -1)):
+                cases.append((data, dataclasses.replace(part, **{name: number})))
+            begin, offset = part.begin - len(data), part.offset - len(data)
+            cases.append((data, dataclasses.replace(part, begin=begin, offset=offset)))
+            cases.append((data, dataclasses.replace(part, count=2**70)))
+        for call in (wkb.coordinates, wkb.view) if numpy else (wkb.coordinates,):
+            for data, part in cases:
+                with self.assertRaisesRegex(ValueError, "these are other bytes than those of the part") as raised:
+                    call(data, part)
+                self.assertNotIsInstance(raised.exception, Refused)
+
+    def test_every_part(self):
+        """Each point, line string and ring is found where it is."""
+        for data in (POINTS, POLYGON, struct.pack("<BII", 1, 7, 3) + LINE + POINTS + POLYGON):
+            for part in wkb.parts(data):
+                if part.kind <= Kind.LINE_STRING:
+                    self.assertEqual(len(wkb.coordinates(data, part)), part.count)
+
+    def test_no_table(self):
+        """What the check has found of a point or a line string is enough for its coordinates."""
+        for data in (POINT, BIG_POINT, LINE):
+            lists = [repr(wkb.coordinates(data, it)) for it in (wkb.check(data), wkb.parts(data)[0])]
+            self.assertEqual(*lists)
 
     @unittest.skipUnless(numpy, "numpy is not here")
     def test_numpy(self):
@@ -63,7 +99,7 @@ class Calls(unittest.TestCase):
         self.assertEqual(wkb.write(with_srid, form=Form.EWKB_WITHOUT_SRID), POINT)
 
     def test_write_large(self):
-        """More than the room that is tried first."""
+        """Inputs that are long, and one that is longer than its geometry."""
         for count in (4095, 4096, 4097, 100_000):
             words = struct.pack(f"<{2 * count}d", *range(2 * count))
             line = struct.pack("<BII", 1, 2, count) + words
@@ -77,6 +113,10 @@ class Calls(unittest.TestCase):
             self.assertRaises(ValueError, wkb.write, POINT, *options)
             self.assertRaises(ValueError, wkb.Column(*rows_of(POINT)).write, *options)
         self.assertRaises(TypeError, wkb.write, POINT, 0, 2, 4326.0)
+        for form in Form:
+            srid = None if form == Form.EWKB_WITH_SRID else 4326
+            for call in (wkb.Column(*rows_of(POINT)).write, lambda *it: wkb.write(POINT, *it)):
+                self.assertRaisesRegex(ValueError, "an SRID is written in", call, Order.LITTLE, form, srid)
         self.assertRaises(ValueError, wkb.Column(*rows_of(POINT)).coordinates, 4)
 
     def test_same(self):
@@ -86,7 +126,7 @@ class Calls(unittest.TestCase):
             with self.assertRaises(Refused) as raised:
                 wkb.same(first, second)
             self.assertEqual(raised.exception.which, which)
-        self.assertEqual(str(raised.exception), f"{wkb.status_text(4)}, in part 0 at byte 0 of the second")
+        self.assertEqual(str(raised.exception), f"{wkb.status_text(Status.SHORT_HEADER)}, in part 0 at byte 0 of the second")
 
     def test_bounds(self):
         box = wkb.bounds(LINE)
@@ -109,12 +149,24 @@ class Calls(unittest.TestCase):
                 self.assertTrue(str(refused).endswith(end), str(refused))
 
     def test_texts(self):
-        self.assertEqual(wkb.version(), (1, 0))
+        self.assertEqual(wkb.version(), (1, 0, 0))
         self.assertEqual(repr(wkb.bounds(POINT).y), "Range(least=2.0, greatest=2.0, count=1)")
         text = repr(wkb.check(POLYGON))
-        self.assertTrue(text.startswith("Found(size=33, parts=2, coordinates=1, srid=4326, kind=<Kind.POLYGON"), text)
+        start = "Found(size=33, parts=2, coordinates=1, offset=13, count=1, srid=4326, kind=<Kind.POLYGON"
+        self.assertTrue(text.startswith(start), text)
         self.assertEqual(len({wkb.status_text(status) for status in Status}), len(Status))
         self.assertEqual(wkb.status_text(99), wkb.status_text(100))
+
+    def test_statuses(self):
+        """A status that a later version has is of a class too, and has a name."""
+        self.assertEqual([it for it in Status if wkb.is_refusal(it)], list(Status)[7:])
+        later = Status(52)
+        self.assertEqual((later.name, later, wkb.is_refusal(later)), ("STATUS_52", 52, True))
+        self.assertEqual((Status(19).name, pickle.loads(pickle.dumps(later))), ("STATUS_19", later))
+        for number in (-1, 256, "ok"):
+            self.assertRaises(ValueError, Status, number)
+        fault = wkb.Fault._read(wkb.Fault.LAYOUT.pack(0, 0, 9, 5, 0, 52))
+        self.assertTrue(str(Refused(fault, 1, "later")).endswith("which would end at 9 of 5"))
 
     def test_many_parts(self):
         """A table of 64 bytes for each part, and no object for each."""
@@ -124,6 +176,29 @@ class Calls(unittest.TestCase):
         table = wkb.parts(data)
         self.assertLess(sys.getallocatedblocks() - before, 1_000)
         self.assertEqual((len(table), table[0].next, table[count].end), (count + 1, count + 1, 9 * count + 9))
+
+
+class Records(unittest.TestCase):
+    ALL = wkb.check(POLYGON), wkb.parts(POLYGON)[1], wkb.bounds(LINE), wkb.bounds(LINE).x
+
+    def test_frozen(self):
+        for record in (*self.ALL, wkb.Fault(1, 2, 0, 0, 0, Status.SHORT_HEADER)):
+            for name in ("count", "x", "offset", "other"):
+                with self.assertRaises(dataclasses.FrozenInstanceError):
+                    setattr(record, name, 0)
+
+    def test_keys(self):
+        again = wkb.check(POLYGON), wkb.parts(POLYGON)[1], wkb.bounds(LINE), wkb.bounds(LINE).x
+        self.assertEqual(({*self.ALL, *again}, len({*self.ALL, *again})), (set(self.ALL), 4))
+        self.assertEqual(again, self.ALL)
+        self.assertNotEqual(wkb.check(POLYGON), wkb.check(ISO_POLYGON))
+
+    def test_values(self):
+        """What a call returns is what the class itself makes of the same values."""
+        for record in self.ALL:
+            values = {it.name: getattr(record, it.name) for it in dataclasses.fields(record)}
+            made = type(record)(**values)
+            self.assertEqual((made, repr(made), vars(made)), (record, repr(record), vars(record)))
 
 
 class Pickling(unittest.TestCase):

@@ -57,7 +57,7 @@ class Taken(unittest.TestCase):
     def test_hostile_offsets(self):
         lowest, highest = -(2**63), 2**63 - 1
         rows = (0, 21), (-1, 21), (0, 22), (21, 0), (lowest, highest), (highest, lowest), (21, 21), (22, 22), (-1, -1)
-        expected = [Status.OK] + [Status.BAD_OFFSETS] * 5 + [Status.IO_ERROR] + [Status.BAD_OFFSETS] * 2
+        expected = [Status.OK] + [Status.BAD_OFFSETS] * 5 + [Status.SHORT_HEADER] + [Status.BAD_OFFSETS] * 2
         for (begin, end), status in zip(rows, expected):
             column = Column(POINT, array.array("q", [begin, end]))
             results = [column.check()] + [
@@ -119,6 +119,34 @@ class Taken(unittest.TestCase):
         self.assertRaises(TypeError, Column, data, offsets, first=0.5)
         self.assertRaises(TypeError, Column, data, offsets, rows="1")
 
+    def test_texts(self):
+        """What is wrong with offsets or with a slice is said."""
+        data, offsets = rows_of(*[POINT] * 3)
+        raw = struct.pack("=4q", *offsets)
+        for text, offsets, options in (
+            ("first=0 and rows=-7 can't be negative", offsets, {"rows": -7}),
+            ("first=-1 and rows=None can't be negative", offsets, {"first": -1}),
+            ("4 offsets have 3 rows: not 0 from row 10 on", offsets, {"first": 10}),
+            ("4 offsets have 3 rows: not 3 from row 1 on", offsets, {"first": 1, "rows": 3}),
+            ("0 offsets have 0 rows: not 1 from row 0 on", array.array("q"), {"rows": 1}),
+            ("7 bytes are after the last offset", raw[:-1], {"offset_size": 8}),
+            ("format 'i' have 4 bytes: no offset_size=8", array.array("i", offsets), {"offset_size": 8}),
+            ("format 'q' have 8 bytes: no offset_size=4", offsets, {"offset_size": 4}),
+            ("format 'f' are not 32-bit or 64-bit numbers", array.array("f", offsets), {"offset_size": 4}),
+            ("raw bytes need offset_size=4 or offset_size=8, and not None", raw, {}),
+            ("raw bytes need offset_size=4 or offset_size=8, and not 2", raw, {"offset_size": 2}),
+            ("one dimension, and not 2", memoryview(raw).cast("B", (4, 8)), {"offset_size": 8}),
+        ):
+            with self.assertRaises((TypeError, ValueError)) as raised:
+                Column(data, offsets, **options)
+            self.assertIn(text, str(raised.exception))
+
+    def test_offsets_taken_away(self):
+        data, offsets = rows_of(*[POINT] * 3)
+        column = Column(data, offsets)
+        del offsets[3:]
+        self.assertRaisesRegex(ValueError, "3 offsets are left, too few for 3 rows", column.check)
+
     def test_wrong_validity(self):
         data, offsets = rows_of(*[POINT] * 9)
         for validity, first in ((b"\xff", 0), (b"\xff", 8), (b"", 0)):
@@ -135,7 +163,7 @@ class Results(unittest.TestCase):
 
     def test_bounds(self):
         found, boxes = Column(*rows_of(LINE, b"", POINTS)).bounds()
-        self.assertEqual(list(found), [0, Status.IO_ERROR, 0])
+        self.assertEqual(list(found), [0, Status.SHORT_HEADER, 0])
         none = Range(float("inf"), float("-inf"), 0)
         self.assertEqual([box.x for box in boxes], [Range(1, 5, 2), none, Range(1, 1, 1)])
         self.assertEqual([(box.y.count, box.z.count, box.m.count) for box in boxes], [(1, 2, 0), (0, 0, 0), (1, 0, 0)])
@@ -144,18 +172,17 @@ class Results(unittest.TestCase):
         column = Column(*rows_of(POLYGON, b"\2", POINT))
         written = column.write(Order.BIG, Form.EWKB_WITH_SRID, 4326)
         big = bytes.fromhex("0020000001000010e6") + BIG_POINT[5:]
-        self.assertEqual((list(written.statuses), list(written.offsets)), ([0, 5, 0], [0, 33, 33, 58]))
+        self.assertEqual((list(written.statuses), list(written.offsets)), ([0, Status.INVALID_BYTE_ORDER, 0], [0, 33, 33, 58]))
         self.assertEqual(bytes(written.data), POLYGON + big)
         again = Column(written.data, written.offsets).write()
         self.assertEqual(bytes(again.data), ISO_POLYGON + POINT)
 
-    def test_write_rows_that_overlap(self):
-        """Rows that are longer together than the data: offsets go back between them."""
-        column = Column(POINT, array.array("q", [0, 21, 0, 21, 0, 21]))
+    def test_rows_that_overlap(self):
+        """No byte is read for two rows: a row that begins before an earlier one ends has bad offsets."""
+        column, bad = Column(2 * POINT, array.array("q", [0, 21, 0, 21, 42, 0])), Status.BAD_OFFSETS
         written = column.write()
-        bad = Status.BAD_OFFSETS
-        self.assertEqual(list(written.statuses), [0, bad, 0, bad, 0])
-        self.assertEqual((list(written.offsets), bytes(written.data)), ([0, 21, 21, 42, 42, 63], 3 * POINT))
+        self.assertEqual(list(written.statuses), [0, bad, bad, 0, bad])
+        self.assertEqual((list(written.offsets), bytes(written.data)), ([0, 21, 21, 21, 42, 42], 2 * POINT))
 
     def test_coordinates(self):
         column = Column(*rows_of(POINTS, POLYGON, b"\2", LINE, bytes.fromhex("010300000000000000")))

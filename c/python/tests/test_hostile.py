@@ -40,7 +40,7 @@ class Hostile(unittest.TestCase):
     def test_check(self):
         expected = bytes(result(wkb.check, row)[1] for row in self.rows)
         self.assertEqual(bytes(self.column.check()), expected)
-        refusals = set(range(Status.IO_ERROR, Status.NULL_ROW)) - {Status.NESTING_DEPTH_EXCEEDED}
+        refusals = set(filter(wkb.is_refusal, Status)) - {Status.NESTING_DEPTH_EXCEEDED}
         self.assertEqual(set(expected), refusals | {Status.OK})
 
     def test_write(self):

@@ -1,8 +1,10 @@
 """The package beside wkb.h, the shared library, other processes, and the example of the pages."""
 import concurrent.futures
 import ctypes
+import inspect
 import os
 import pathlib
+import pydoc
 import re
 import shutil
 import subprocess
@@ -41,20 +43,47 @@ class Header(unittest.TestCase):
         types["*"] = ctypes.c_void_p
         for struct, name in (
             (_library.Options, "options"), (_library.ColumnArguments, "column"),
-            (_library.CoordinatesArguments, "coordinates"),
+            (_library.CoordinatesArguments, "coordinates"), (_library.LevelsArguments, "levels"),
         ):
             self.assertEqual(list(self.fields(f"wkb_{name}", types)), struct._fields_)
 
     def test_numbers(self):
         for numbers in (Status, wkb.Kind, wkb.Dimension, wkb.Order, wkb.Form):
             prefix = {"Dimension": "DIM"}.get(numbers.__name__, numbers.__name__.upper())
-            found = re.findall(rf"WKB_{prefix}_(\w+) = (\d+)", self.TEXT)
+            found = re.findall(rf"WKB_{prefix}_(\w+) = (\d+)\b", self.TEXT)
             self.assertEqual(found, [(it.name, str(it.value)) for it in numbers])
 
 
 def _flat(fields):
     """The types of the fields, and of those inside them."""
     return [it for _, kind in fields for it in ([kind] if isinstance(kind, str) else _flat(kind))]
+
+
+class Names(unittest.TestCase):
+    """What is public, and what help says of it."""
+
+    PUBLIC = {name for name in vars(wkb) if not name.startswith("_")}
+
+    def test_help(self):
+        shown = pydoc.plain(pydoc.render_doc(wkb))
+        self.assertLess(len(shown.splitlines()), 100)
+        for name in self.PUBLIC:
+            call = r"\(" if inspect.isfunction(getattr(wkb, name)) else ""
+            self.assertRegex(wkb.__doc__, rf"\b{name}\b{call}")
+        for name in {name for name in vars(wkb.Column) if not name.startswith("_")}:
+            self.assertRegex(wkb.__doc__, rf"\.{name}\(")
+
+    def test_names(self):
+        self.assertEqual(len(self.PUBLIC), 29)
+        for name in self.PUBLIC:
+            self.assertTrue(getattr(wkb, name).__doc__, name)
+        everything = {}
+        exec("from wkb import *", everything)
+        self.assertEqual(self.PUBLIC, everything.keys() - {"__builtins__"})
+
+    def test_version(self):
+        written = re.search(r'^version = "(.*)"$', (C / "python/pyproject.toml").read_text(), re.MULTILINE)
+        self.assertEqual(wkb.__version__, written.group(1))
 
 
 class Finding(unittest.TestCase):
@@ -69,7 +98,7 @@ class Finding(unittest.TestCase):
         program = "import sys, wkb; wkb.load(*sys.argv[1:]); print(wkb.__file__, wkb.version())"
         ran = subprocess.run([sys.executable, "-c", program, *map(os.fspath, paths)], env=environment,
                              stdout=subprocess.PIPE, stderr=subprocess.PIPE, universal_newlines=True)
-        self.assertIn("OSError" if ran.returncode else f"{package}/wkb/__init__.py (1, 0)", ran.stdout + ran.stderr)
+        self.assertIn("OSError" if ran.returncode else f"{package}/wkb/__init__.py (1, 0, 0)", ran.stdout + ran.stderr)
         return ran.returncode == 0
 
     def test_places(self):
@@ -111,6 +140,7 @@ class Example(unittest.TestCase):
             "POLYGON of 2 parts in 33 bytes, SRID 4326",
             "1.0 2.0",
             ISO_POLYGON.hex(),
+            "OK NULL_ROW SHORT_LINEAR_RING",
             "OK OK BAD_OFFSETS",
             "1.0 1.0",
             "0 1 2 2 0 1 2",

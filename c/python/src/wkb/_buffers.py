@@ -1,7 +1,7 @@
 """Where the bytes of a caller's buffer are, and memory for results."""
 import array
 import ctypes
-from typing import TYPE_CHECKING, Any, Tuple
+from typing import TYPE_CHECKING, Any, Dict, Tuple, Union
 
 try:
     import numpy
@@ -10,14 +10,22 @@ try:
 except ImportError:
     has_numpy = False
 
-# Numbers in one piece of memory: an array of numpy where it is installed, else of the module array.
+# Numbers: numbers in one piece of memory, an array of numpy where it is installed, else of the module array.
+# Buffer: anything with the buffer protocol. Arrays of numpy are told by a property, so that nothing else becomes a
+# buffer for checkers of types where numpy isn't installed.
 if TYPE_CHECKING:
-    Numbers = numpy.ndarray[Any, Any]
-else:
-    Numbers = Any
+    from typing import Protocol
 
-# Anything with the buffer protocol.
-Buffer = Any
+    from _typeshed import ReadableBuffer
+
+    class _NumpyArray(Protocol):
+        @property
+        def __array_interface__(self) -> Dict[str, Any]: ...
+
+    Numbers = numpy.ndarray[Any, Any]
+    Buffer = Union[ReadableBuffer, _NumpyArray]
+else:
+    Numbers = Buffer = Any
 
 # The numbers of results by their types in numpy, and as the modules array and struct have them.
 CODES = {"u1": "B", "u4": "I", "i8": "q", "f8": "d"}
@@ -41,6 +49,12 @@ _release_buffer.argtypes = [ctypes.POINTER(_PyBuffer)]
 _release_buffer.restype = None
 
 
+def view_of(data: Buffer) -> memoryview:
+    """The buffer as Python has it."""
+    buffer: Any = data
+    return memoryview(buffer)
+
+
 class Bytes:
     """The address and the size of a buffer's bytes while a `with` lasts; of a copy where they aren't in one piece."""
 
@@ -51,7 +65,7 @@ class Bytes:
         try:
             _get_buffer(self._data, self._buffer, 0)
         except (BufferError, ValueError):  # ValueError is numpy's
-            _get_buffer(memoryview(self._data).tobytes(), self._buffer, 0)
+            _get_buffer(view_of(self._data).tobytes(), self._buffer, 0)
         self.address: int = self._buffer.address
         self.size: int = self._buffer.size
         return self

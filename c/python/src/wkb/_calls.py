@@ -2,10 +2,10 @@
 import ctypes
 import operator
 import struct
-from typing import Any, List, Tuple
+from typing import Any, List, Optional, Tuple, Union
 
-from ._buffers import Buffer, Bytes, Numbers, new_numbers
-from ._enums import Form, Kind, Order, Status
+from ._buffers import Buffer, Bytes, Numbers, new_numbers, view_of
+from ._enums import Form, Kind, Order, Status, is_refusal
 from ._library import Options, library, status_text
 from ._records import Box, Fault, Found, Part, Table
 
@@ -15,8 +15,8 @@ FAULT = ctypes.c_char * Fault.LAYOUT.size
 BOX = ctypes.c_char * Box.LAYOUT.size
 # An encoding may be four bytes longer than the input: an SRID.
 SRID_SIZE = 4
-# The room that is tried before the size of an encoding is asked for.
-FIRST_ROOM = 1 << 16
+# Of input that is longer only the front may be the geometry, so its size is asked for before there is room for it.
+LONG = 1 << 16
 
 
 class Refused(ValueError):
@@ -37,7 +37,7 @@ class Refused(ValueError):
         fault = self.fault
         code = f" {fault.code}" if fault.status == Status.CODE_OUT_OF_RANGE else ""
         second = " of the second" if self.which == 2 else ""
-        end = f", which would end at {fault.end} of {fault.len}" if fault.status >= Status.SHORT_POINT else ""
+        end = f", which would end at {fault.end} of {fault.len}" if fault.end else ""
         return f"{self.text}{code}, in part {fault.part} at byte {fault.offset}{second}{end}"
 
 
@@ -46,17 +46,15 @@ def _accept(status: int, fault: Any, which: int = 1) -> None:
     if status == Status.OK:
         return
     text = status_text(status)
-    if status == Status.NO_MEMORY:
-        raise MemoryError(text)
-    if status < Status.IO_ERROR:
-        raise ValueError(text)
-    raise Refused(Fault.read(fault), which, text)
+    if is_refusal(status):
+        raise Refused(Fault._read(fault), which, text)
+    raise ValueError(text)
 
 
 def _check(it: Bytes) -> Found:
     found, fault = FOUND(), FAULT()
     _accept(library().wkb_check(it.address, it.size, found, fault), fault)
-    return Found.read(found)
+    return Found._read(found)
 
 
 def check(data: Buffer) -> Found:
@@ -70,30 +68,30 @@ def bounds(data: Buffer) -> Box:
     box, fault = BOX(), FAULT()
     with Bytes(data) as it:
         _accept(library().wkb_bounds(it.address, it.size, box, fault), fault)
-    return Box.read(box)
+    return Box._read(box)
 
 
-def make_options(order: Order, form: Form, srid: int) -> Options:
+def make_options(order: Order, form: Form, srid: Optional[int]) -> Options:
     """The options, if they have a meaning. An SRID is tested here, since ctypes would cut it to its low bits."""
-    number = operator.index(srid)
+    if (srid is not None) != (form == Form.EWKB_WITH_SRID):
+        raise ValueError("an SRID is written in Form.EWKB_WITH_SRID, and in no other form")
+    number = operator.index(srid or 0)
     if not 0 <= number < 2**32:
         raise ValueError(f"SRID {number} is not from 0 to 4294967295")
     return Options(Order(order), Form(form), number)
 
 
-def write(data: Buffer, order: Order = Order.LITTLE, form: Form = Form.ISO, srid: int = 0) -> bytes:
+def write(data: Buffer, order: Order = Order.LITTLE, form: Form = Form.ISO, srid: Optional[int] = None) -> bytes:
     """The one encoding of the geometry at the front of the bytes, in this order and form.
 
-    The SRID is that of `Form.EWKB_WITH_SRID`. With the default options, two geometries of one value have the same
-    encoding, whatever their byte orders and SRIDs are.
+    The SRID is that of `Form.EWKB_WITH_SRID`, which needs one; no other form takes one. With the default options, two
+    geometries of one value have the same encoding, whatever their byte orders and SRIDs are.
     """
-    options, fault = make_options(order, form, srid), FAULT()
+    options, size, fault = make_options(order, form, srid), ctypes.c_uint64(), FAULT()
     with Bytes(data) as it:
-        size, status = ctypes.c_uint64(min(it.size + SRID_SIZE, FIRST_ROOM)), int(Status.NO_ROOM)
-        while status == Status.NO_ROOM:
-            out = ctypes.create_string_buffer(size.value)
-            status = library().wkb_write(it.address, it.size, options, out, size.value, size, fault)
-        _accept(status, fault)
+        room = (it.size if it.size < LONG else _check(it).size) + SRID_SIZE
+        out = ctypes.create_string_buffer(room)
+        _accept(library().wkb_write(it.address, it.size, options, out, room, size, fault), fault)
     return ctypes.string_at(out, size.value)
 
 
@@ -115,23 +113,52 @@ def parts(data: Buffer) -> Table[Part]:
     return Table(Part, memory)
 
 
-def _words(data: Buffer, part: Part) -> memoryview:
+def _is_there(view: memoryview, part: Union[Part, Found]) -> bool:
+    """Whether these bytes have this part where it says: the header and the count are right, and no byte lacks."""
+    begin = part.begin if isinstance(part, Part) else 0
+    if begin < 0:
+        return False
+    if part.kind == Kind.RING:
+        count = part.count.to_bytes(4, "big" if part.order == Order.BIG else "little")
+        size = 8 * part.dimension.width * part.count
+        return begin == part.offset - 4 and view[begin : part.offset] == count and part.offset + size <= len(view)
+    with Bytes(view[begin:]) as it:
+        found = _check(it)
+    alike = (found.kind, found.dimension, found.order, found.srid, found.count)
+    return begin + found.offset == part.offset and alike == (
+        part.kind, part.dimension, part.order, part.srid, part.count
+    )
+
+
+def _words(data: Buffer, part: Union[Part, Found]) -> memoryview:
     """The bytes of a part's coordinates where they are in the data."""
     if part.kind > Kind.LINE_STRING:
         raise ValueError(f"a {part.kind.name} has no coordinates of its own, but {part.count} rings or members")
-    return memoryview(data).cast("B")[part.offset : part.offset + 8 * part.dimension.width * part.count]
+    view = view_of(data).cast("B")
+    try:
+        is_there = _is_there(view, part)
+    except (Refused, OverflowError):
+        is_there = False
+    if not is_there:
+        raise ValueError(f"these are other bytes than those of the part: they have no such {part.kind.name} there")
+    return view[part.offset : part.offset + 8 * part.dimension.width * part.count]
 
 
-def coordinates(data: Buffer, part: Part) -> List[Tuple[float, ...]]:
-    """The coordinates of a point, a line string or a ring, each of two to four numbers."""
+def coordinates(data: Buffer, part: Union[Part, Found]) -> List[Tuple[float, ...]]:
+    """The coordinates of a point, a line string or a ring, each of two to four numbers.
+
+    The part is one that `parts` has found in these bytes, or `check` if it is a point or a line string. Raises
+    `ValueError` where the bytes have no such part at its place.
+    """
     order = ">" if part.order == Order.BIG else "<"
     return list(struct.iter_unpack(order + "d" * part.dimension.width, _words(data, part)))
 
 
-def view(data: Buffer, part: Part) -> Numbers:
+def view(data: Buffer, part: Union[Part, Found]) -> Numbers:
     """The coordinates of a point, a line string or a ring as a numpy array, a row for each. Nothing is copied.
 
-    The numbers have the byte order of the part. While the array lives, the data can't be resized.
+    The part is one that `coordinates` takes. The numbers have its byte order. While the array lives, the data can't be
+    resized.
     """
     import numpy
 

@@ -3,13 +3,14 @@ import contextlib
 import ctypes
 import operator
 import sys
-from typing import Any, Iterator, NamedTuple, Optional
+from typing import Any, Dict, Iterable, Iterator, NamedTuple, Optional
 
-from ._buffers import Buffer, Bytes, Numbers, has_numpy, new_numbers
+from ._buffers import Buffer, Bytes, Numbers, has_numpy, new_numbers, view_of
 from ._calls import SRID_SIZE, make_options
 from ._enums import Dimension, Form, Order
 from ._library import ColumnArguments, CoordinatesArguments, library
 from ._records import Box, Part, Table
+from ._rows import ArrowArray, Pieces, pieces_of, pieces_of_arrow
 
 
 class ColumnBounds(NamedTuple):
@@ -47,27 +48,33 @@ class ColumnCoordinates(NamedTuple):
     coordinates: Numbers  # a numpy array with a row for each; without numpy one number after another
 
 
-def _offset_size(offsets: Buffer, given: Optional[int]) -> int:
+def code_of(view: memoryview) -> str:
+    """The format of a buffer without the sign for the machine's own byte order."""
+    native = "@=" + ("<" if sys.byteorder == "little" else ">")
+    return view.format[1:] if view.format[:1] in native else view.format
+
+
+def size_of_offsets(offsets: Buffer, given: Optional[int]) -> int:
     """The bytes of an offset: as given for raw bytes, else by the format of the buffer."""
-    with memoryview(offsets) as view:
-        native = "@=" + ("<" if sys.byteorder == "little" else ">")
-        code = view.format[1:] if view.format[:1] in native else view.format
-        if view.ndim == 1:
-            if code in ("B", "b", "c") and given in (4, 8):
-                return operator.index(given)
-            sizes = {"i": (4,), "l": (4, 8), "q": (8,), "L": (8,), "Q": (8,)}.get(code, ())
-            if view.itemsize in sizes and given in (None, view.itemsize):
-                return view.itemsize
-        raise TypeError(
-            f"offsets of format {view.format!r} in {view.ndim} dimensions are not 32-bit or 64-bit numbers of the "
-            "machine's byte order; raw bytes need offset_size=4 or offset_size=8"
-        )
+    with view_of(offsets) as view:
+        code = code_of(view)
+        if view.ndim != 1:
+            raise TypeError(f"offsets have one dimension, and not {view.ndim}")
+        if code in ("B", "b", "c"):
+            if given not in (4, 8):
+                raise TypeError(f"offsets in raw bytes need offset_size=4 or offset_size=8, and not {given}")
+            return operator.index(given)
+        if view.itemsize not in {"i": (4,), "l": (4, 8), "q": (8,), "L": (8,), "Q": (8,)}.get(code, ()):
+            raise TypeError(f"offsets of format {view.format!r} are not 32-bit or 64-bit numbers of this machine")
+        if given not in (None, view.itemsize):
+            raise TypeError(f"offsets of format {view.format!r} have {view.itemsize} bytes: no offset_size={given}")
+        return view.itemsize
 
 
-def _check_validity(validity: Buffer, bits: int) -> None:
+def check_validity(validity: Buffer, bits: int) -> None:
     """Raises an error unless the buffer is bytes and has at least this many bits."""
-    with memoryview(validity) as view:
-        if view.format not in ("B", "b", "c"):
+    with view_of(validity) as view:
+        if code_of(view) not in ("B", "b", "c"):
             raise TypeError(f"validity of format {view.format!r} is not bits in bytes")
         if 8 * view.nbytes < bits:
             raise ValueError(f"{view.nbytes} bytes of validity hold fewer than {bits} bits")
@@ -97,17 +104,52 @@ class Column:
         offset_size: Optional[int] = None,
     ):
         self._data, self._offsets, self._validity = data, offsets, validity
-        self._offset_size = _offset_size(offsets, offset_size)
-        with memoryview(offsets) as view:
+        self._offset_size = size_of_offsets(offsets, offset_size)
+        with view_of(offsets) as view:
             held, rest = divmod(view.nbytes, self._offset_size)
         if rest:
             raise ValueError(f"{rest} bytes are after the last offset")
-        self._first = operator.index(first)
-        self._rows = max(held - 1, 0) - self._first if rows is None else operator.index(rows)
+        self._first, held_rows = operator.index(first), max(held - 1, 0)
+        self._rows = max(held_rows - self._first, 0) if rows is None else operator.index(rows)
         if self._first < 0 or self._rows < 0:
-            raise ValueError(f"{held} offsets have no {self._rows} rows from {self._first} on")
+            raise ValueError(f"first={first} and rows={rows} can't be negative")
+        if self._first + self._rows > held_rows:
+            raise ValueError(f"{held} offsets have {held_rows} rows: not {self._rows} from row {self._first} on")
+        self._owner: Any = None
         with self._arguments():
             pass
+
+    @classmethod
+    def of(cls, rows: Iterable[Optional[Buffer]]) -> "Column":
+        """A column of rows that are objects of their own, with a null row for None. The bytes are copied.
+
+        The rows are those of a list, or of a column of pandas, whose missing values are null too. A column of geopandas
+        is written by its own `to_wkb`, without SRIDs.
+        """
+        return cls._of_pieces(pieces_of(rows))
+
+    @classmethod
+    def from_arrow(cls, column: ArrowArray) -> "Column":
+        """A column of an Arrow array of type binary or large binary, or of a slice of one. Nothing is copied.
+
+        The array is any object with the method `__arrow_c_array__`: an array of pyarrow, or one chunk of a column. Its
+        memory lives as long as the column. It is taken to be as Arrow's format says, with as many offsets as rows need.
+        """
+        return cls._of_pieces(pieces_of_arrow(column))
+
+    @classmethod
+    def _of_pieces(cls, it: Pieces) -> "Column":
+        column = cls(it.data, it.offsets, it.validity, first=it.first, rows=it.rows, offset_size=it.offset_size)
+        column._owner = it.owner
+        return column
+
+    def __getstate__(self) -> Dict[str, Any]:
+        """What is pickled: of memory that is someone else's, a copy."""
+        state = dict(self.__dict__)
+        if state.pop("_owner") is not None:
+            for name in ("_data", "_offsets", "_validity"):
+                state[name] = None if state[name] is None else bytes(state[name])
+        return dict(state, _owner=None)
 
     def __len__(self) -> int:
         return self._rows
@@ -122,9 +164,9 @@ class Column:
             data, offsets = (stack.enter_context(Bytes(it)) for it in (self._data, self._offsets))
             size, end, validity = self._offset_size, self._first + self._rows, None
             if end and offsets.size < (end + 1) * size:
-                raise ValueError(f"{offsets.size // size} offsets have no {self._rows} rows from {self._first} on")
+                raise ValueError(f"{offsets.size // size} offsets are left, too few for {end} rows")
             if self._validity is not None:
-                _check_validity(self._validity, end)
+                check_validity(self._validity, end)
                 validity = stack.enter_context(Bytes(self._validity)).address
             first = (offsets.address or 0) + self._first * size
             yield ColumnArguments(data.address, data.size, first, size, validity, self._first, self._rows)
@@ -147,18 +189,18 @@ class Column:
     def parts(self) -> ColumnParts:
         """The parts of each row in preorder."""
         statuses, address = new_numbers("u1", self._rows)
-        offsets, ends = _new_offsets(self._rows)
+        offsets, ends = new_offsets(self._rows)
         with self._arguments() as column:
             count = library().wkb_column_parts(column, None, 0, ends, address)
             memory, table = new_numbers("u1", count * Part.LAYOUT.size)
-            library().wkb_column_parts(column, table, count, ends, address)
-        return ColumnParts(statuses, offsets, Table(Part, memory[: offsets[-1] * Part.LAYOUT.size]))
+            expect_same(library().wkb_column_parts(column, table, count, ends, address) == count)
+        return ColumnParts(statuses, offsets, Table(Part, memory))
 
-    def write(self, order: Order = Order.LITTLE, form: Form = Form.ISO, srid: int = 0) -> ColumnEncodings:
+    def write(self, order: Order = Order.LITTLE, form: Form = Form.ISO, srid: Optional[int] = None) -> ColumnEncodings:
         """The one encoding of each row in this order and form, as `wkb.write` has it."""
         options = make_options(order, form, srid)
         statuses, address = new_numbers("u1", self._rows)
-        offsets, ends = _new_offsets(self._rows)
+        offsets, ends = new_offsets(self._rows)
         with self._arguments() as column:
             needed = _bytes_of(column) + SRID_SIZE * self._rows
             room = -1
@@ -172,23 +214,28 @@ class Column:
         """The coordinates of all rows in this dimension, with a NaN for each number that a geometry doesn't have."""
         dimension = Dimension(dimension)
         statuses, address = new_numbers("u1", self._rows)
-        row_offsets, row_ends = _new_offsets(self._rows)
+        row_offsets, row_ends = new_offsets(self._rows)
         with self._arguments() as column:
             out = CoordinatesArguments(row_ends=row_ends)
             library().wkb_column_coordinates(column, dimension, out, address)
             out.ring_room, out.single_room, out.words_room = out.rings, out.singles, out.coordinates * dimension.width
-            ring_offsets, out.ring_ends = _new_offsets(out.ring_room)
-            single_offsets, out.single_ends = _new_offsets(out.single_room)
+            ring_offsets, out.ring_ends = new_offsets(out.ring_room)
+            single_offsets, out.single_ends = new_offsets(out.single_room)
             words, out.words = new_numbers("f8", out.words_room)
+            needed = out.coordinates, out.rings, out.singles
             library().wkb_column_coordinates(column, dimension, out, address)
-        # Where an allocation fails, the second call may refuse a row that the first one took.
-        words = words[: out.coordinates * dimension.width]
+            expect_same((out.coordinates, out.rings, out.singles) == needed)
         coordinates = words.reshape(-1, dimension.width) if has_numpy else words
-        offsets = row_offsets, single_offsets[: out.singles + 1], ring_offsets[: out.rings + 1]
-        return ColumnCoordinates(statuses, *offsets, coordinates)
+        return ColumnCoordinates(statuses, row_offsets, single_offsets, ring_offsets, coordinates)
 
 
-def _new_offsets(count: int) -> Any:
+def expect_same(holds: bool) -> None:
+    """Raises an error if a second call needs another room than the first one said: not all of it is written then."""
+    if not holds:
+        raise RuntimeError("the rows have changed during the call")
+
+
+def new_offsets(count: int) -> Any:
     """An array of offset 0 and `count` ends, and the address of the first end."""
     offsets, address = new_numbers("i8", count + 1)
     offsets[0] = 0

@@ -1,25 +1,47 @@
 """The numbers of wkb.h that have names."""
 import enum
+from typing import Any
 
 
 class Status(enum.IntEnum):
-    """What a call returns, and what became of a row of a column. `status_text` returns what a status says."""
+    """What a call returns, and what became of a row of a column. `status_text` returns what a status says.
+
+    From 1 on it is what a call couldn't do, from 16 on what is wrong with a row, and from 32 on why bytes are refused
+    (`is_refusal`). A library of a later version may have more of each: such a status is named by its number.
+    """
 
     OK = 0
     NO_MEMORY = 1
     NO_ROOM = 2
     UNKNOWN_OPTION = 3
-    IO_ERROR = 4
-    INVALID_BYTE_ORDER = 5
-    CODE_OUT_OF_RANGE = 6
-    INCORRECT_TYPE = 7
-    NESTING_DEPTH_EXCEEDED = 8
-    SHORT_POINT = 9
-    SHORT_LINE_STRING = 10
-    SHORT_MULTI_POINT = 11
-    SHORT_LINEAR_RING = 12
-    NULL_ROW = 13
-    BAD_OFFSETS = 14
+    NULL_ROW = 16
+    BAD_OFFSETS = 17
+    BAD_LEVELS = 18
+    SHORT_HEADER = 32
+    INVALID_BYTE_ORDER = 33
+    CODE_OUT_OF_RANGE = 34
+    INCORRECT_TYPE = 35
+    NESTING_DEPTH_EXCEEDED = 36
+    SHORT_POINT = 48
+    SHORT_LINE_STRING = 49
+    SHORT_MULTI_POINT = 50
+    SHORT_LINEAR_RING = 51
+
+    @classmethod
+    def _missing_(cls, value: object) -> Any:
+        if not isinstance(value, int) or not 0 <= value < 256:
+            return None
+        status = int.__new__(cls, value)
+        status._name_, status._value_ = f"STATUS_{value}", value
+        return status
+
+    def __reduce_ex__(self, protocol: Any) -> Any:
+        return type(self), (int(self),)  # by its number: Python 3.11 would look for the name
+
+
+def is_refusal(status: Any) -> Any:
+    """Whether a status says that the bytes are refused; of a numpy array of statuses, which of them do."""
+    return status >= 32
 
 
 class Kind(enum.IntEnum):

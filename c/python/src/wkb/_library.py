@@ -44,14 +44,33 @@ class CoordinatesArguments(ctypes.Structure):
     ]
 
 
+class LevelsArguments(ctypes.Structure):
+    """A `wkb_levels`."""
+
+    _fields_ = [
+        ("words", ctypes.c_void_p),
+        ("word_count", ctypes.c_size_t),
+        ("ring_ends", ctypes.c_void_p),
+        ("rings", ctypes.c_size_t),
+        ("single_ends", ctypes.c_void_p),
+        ("singles", ctypes.c_size_t),
+        ("row_ends", ctypes.c_void_p),
+        ("rows", ctypes.c_size_t),
+        ("validity", ctypes.c_void_p),
+        ("validity_offset", ctypes.c_size_t),
+    ]
+
+
 def _declare(library: ctypes.CDLL) -> None:
     """Declares the types of all calls."""
     status, size, memory, number = ctypes.c_uint, ctypes.c_size_t, ctypes.c_void_p, ctypes.POINTER(ctypes.c_uint64)
     flag, options = ctypes.POINTER(ctypes.c_uint32), ctypes.POINTER(Options)
     column, table = ctypes.POINTER(ColumnArguments), [memory, size, memory, memory]
+    levels = ctypes.POINTER(LevelsArguments)
     for name, result, *arguments in (
         ("version", status),
         ("status_text", ctypes.c_char_p, status),
+        ("status_is_refusal", ctypes.c_int, status),
         ("check", status, memory, size, memory, memory),
         ("bounds", status, memory, size, memory, memory),
         ("write", status, memory, size, options, memory, size, number, memory),
@@ -62,6 +81,7 @@ def _declare(library: ctypes.CDLL) -> None:
         ("column_parts", ctypes.c_uint64, column, *table),
         ("column_write", ctypes.c_uint64, column, options, *table),
         ("column_coordinates", None, column, ctypes.c_uint, ctypes.POINTER(CoordinatesArguments), memory),
+        ("column_from_coordinates", ctypes.c_uint64, levels, ctypes.c_uint, ctypes.c_uint, options, *table),
     ):
         call = getattr(library, f"wkb_{name}")
         call.restype, call.argtypes = result, arguments
@@ -81,10 +101,15 @@ def load(path: Union[str, "os.PathLike[str]", None] = None) -> None:
         _declare(library)
     except AttributeError as error:
         raise OSError(f"{found} lacks a call of wkb.h: {error}") from None
-    major, minor = divmod(library.wkb_version(), 1000)
+    major, minor, patch = _numbers_of(library.wkb_version())
     if major != 1:
-        raise OSError(f"{found} has version {major}.{minor} of wkb.h, and not 1")
+        raise OSError(f"{found} has version {major}.{minor}.{patch} of wkb.h, and not 1")
     _loaded = library
+
+
+def _numbers_of(version: int) -> Tuple[int, int, int]:
+    """The three numbers of a version of wkb.h."""
+    return version // 1000000, version // 1000 % 1000, version % 1000
 
 
 def library() -> ctypes.CDLL:
@@ -95,10 +120,9 @@ def library() -> ctypes.CDLL:
     return _loaded
 
 
-def version() -> Tuple[int, int]:
+def version() -> Tuple[int, int, int]:
     """The version of wkb.h that the shared library has."""
-    number: int = library().wkb_version()
-    return divmod(number, 1000)
+    return _numbers_of(library().wkb_version())
 
 
 def status_text(status: int) -> str:

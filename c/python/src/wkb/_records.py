@@ -26,37 +26,52 @@ TYPE = fields("u4", "srid has_srid kind dimension width order")
 RANGE = fields("f8", "least greatest") + fields("i8", "count")
 
 
-@dataclass
+Made = TypeVar("Made")
+
+
+def made(record: Type[Made], **values: Any) -> Made:
+    """A frozen record of these values. Its own `__init__` takes three times as long, by a setter for each."""
+    it = object.__new__(record)
+    it.__dict__.update(values)
+    return it
+
+
+@dataclass(frozen=True)
 class Found:
     """The geometry at the front of some bytes."""
 
     size: int  # how many bytes it has; the bytes after them were not looked at
     parts: int  # itself, and its rings and members at every level
     coordinates: int  # how many all parts have; each point has one, an empty point one of not-a-numbers
+    offset: int  # the byte where its own coordinates, rings or members begin
+    count: int  # how many it has; a point has one coordinate
     srid: Optional[int]
     kind: Kind
     dimension: Dimension
     order: Order
 
-    FIELDS: ClassVar[Fields] = fields("i8", "size parts coordinates") + TYPE
+    FIELDS: ClassVar[Fields] = fields("i8", "size parts coordinates offset count") + TYPE
     LAYOUT: ClassVar[Struct] = layout(FIELDS)
 
     @classmethod
-    def read(cls, memory: Any) -> "Found":
+    def _read(cls, memory: Any) -> "Found":
         """The struct at the front of the memory."""
-        size, parts, coordinates, srid, has_srid, kind, dimension, _, order = cls.LAYOUT.unpack_from(memory)
-        own = srid if has_srid else None
-        return cls(size, parts, coordinates, own, KINDS[kind], DIMENSIONS[dimension], ORDERS[order])
+        *numbers, srid, has_srid, kind, dimension, _, order = cls.LAYOUT.unpack_from(memory)
+        size, parts, coordinates, offset, count = numbers
+        return made(
+            cls, size=size, parts=parts, coordinates=coordinates, offset=offset, count=count,
+            srid=srid if has_srid else None, kind=KINDS[kind], dimension=DIMENSIONS[dimension], order=ORDERS[order],
+        )
 
 
-@dataclass
+@dataclass(frozen=True)
 class Fault:
     """The part that is refused, and why."""
 
     part: int  # how many parts come before it, in preorder: 0 is the whole geometry
     offset: int  # the byte where it begins, counted from the front of the input
-    end: int  # of a status SHORT_..: the byte where it would end, counted from its own first; else 0
-    len: int  # of a status SHORT_..: the byte where the input ends, counted likewise; else 0
+    end: int  # of a status from 48 on: the byte where it would end, counted from its own first; else 0
+    len: int  # of a status from 48 on: the byte where the input ends, counted likewise; else 0
     code: int  # of CODE_OUT_OF_RANGE: all bits of the code; else 0
     status: Status
 
@@ -64,13 +79,13 @@ class Fault:
     LAYOUT: ClassVar[Struct] = layout(FIELDS)
 
     @classmethod
-    def read(cls, memory: Any) -> "Fault":
+    def _read(cls, memory: Any) -> "Fault":
         """The struct at the front of the memory."""
         part, offset, end, size, code, status = cls.LAYOUT.unpack_from(memory)
         return cls(part, offset, end, size, code, Status(status))
 
 
-@dataclass
+@dataclass(frozen=True)
 class Part:
     """A geometry, or a ring of a polygon. Its rings or members follow it in the table, each followed by its own."""
 
@@ -88,14 +103,16 @@ class Part:
     LAYOUT: ClassVar[Struct] = layout(FIELDS)
 
     @classmethod
-    def read(cls, memory: Any) -> "Part":
+    def _read(cls, memory: Any) -> "Part":
         """The struct at the front of the memory."""
         begin, end, offset, count, after, srid, has_srid, kind, dimension, _, order = cls.LAYOUT.unpack_from(memory)
-        own = srid if has_srid else None
-        return cls(begin, end, offset, count, after, own, KINDS[kind], DIMENSIONS[dimension], ORDERS[order])
+        return made(
+            cls, begin=begin, end=end, offset=offset, count=count, next=after,
+            srid=srid if has_srid else None, kind=KINDS[kind], dimension=DIMENSIONS[dimension], order=ORDERS[order],
+        )
 
 
-@dataclass
+@dataclass(frozen=True)
 class Range:
     """The range of an ordinate over all coordinates that have one. Not-a-numbers are left out."""
 
@@ -106,7 +123,7 @@ class Range:
     FIELDS: ClassVar[Fields] = RANGE
 
 
-@dataclass
+@dataclass(frozen=True)
 class Box:
     """The bounds of a geometry: z of coordinates that have a z, m of those that have an m."""
 
@@ -119,10 +136,11 @@ class Box:
     LAYOUT: ClassVar[Struct] = layout([field for _ in "xyzm" for field in RANGE])
 
     @classmethod
-    def read(cls, memory: Any) -> "Box":
+    def _read(cls, memory: Any) -> "Box":
         """The struct at the front of the memory."""
-        numbers = cls.LAYOUT.unpack_from(memory)
-        return cls(*(Range(*numbers[i : i + 3]) for i in range(0, 12, 3)))
+        numbers = iter(cls.LAYOUT.unpack_from(memory))
+        ranges = (made(Range, least=a, greatest=b, count=n) for a, b, n in zip(numbers, numbers, numbers))
+        return made(cls, **dict(zip("xyzm", ranges)))
 
 
 Record = TypeVar("Record", Part, Box)
@@ -157,7 +175,7 @@ class Table(Sequence[Record]):
         return map(self._at, range(len(self)))
 
     def _at(self, index: int) -> Record:
-        record: Record = self._record.read(self._memory[index * self._size :])
+        record: Record = self._record._read(self._memory[index * self._size :])
         return record
 
     def __array__(self, dtype: Any = None, copy: Optional[bool] = None) -> Any:

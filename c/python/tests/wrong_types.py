@@ -1,0 +1,51 @@
+"""Calls that a checker of types must refuse: `mypy --strict` passes this file only where it refuses each such line."""
+import array
+import mmap
+from typing import Any, List, Optional, Tuple
+
+import wkb
+
+
+class NotArrow:
+    """No Arrow array."""
+
+    def __arrow_c_array__(self) -> int:
+        return 0
+
+
+class Arrow:
+    """An Arrow array, as pyarrow and others have them."""
+
+    def __arrow_c_array__(self, requested_schema: Optional[object] = None) -> Tuple[Any, Any]:
+        raise NotImplementedError
+
+
+def wrong(part: wkb.Part, column: wkb.Column) -> None:
+    """Each line is refused."""
+    wkb.check("text")  # type: ignore[arg-type]
+    wkb.check(5)  # type: ignore[arg-type]
+    wkb.check(None)  # type: ignore[arg-type]
+    wkb.bounds([1, 2])  # type: ignore[arg-type]
+    wkb.write(b"", 0)  # type: ignore[arg-type]
+    wkb.write(b"", srid="4326")  # type: ignore[arg-type]
+    wkb.same(b"", "text")  # type: ignore[arg-type]
+    wkb.coordinates(b"", 0)  # type: ignore[arg-type]
+    wkb.Column([1, 2], b"")  # type: ignore[arg-type]
+    wkb.Column(b"", "x")  # type: ignore[arg-type]
+    wkb.Column.of([1, 2])  # type: ignore[list-item]
+    wkb.Column.of("text")  # type: ignore[arg-type]
+    wkb.Column.from_arrow([b""])  # type: ignore[arg-type]
+    wkb.Column.from_arrow(NotArrow())  # type: ignore[arg-type]
+    wkb.column_from_coordinates(1, b"")  # type: ignore[arg-type]
+    wkb.column_from_coordinates(wkb.Kind.POINT, [1.0, 2.0])  # type: ignore[arg-type]
+    column.coordinates(3)  # type: ignore[arg-type]
+    part.count = 0  # type: ignore[misc]
+
+
+def right(data: bytes, mapped: mmap.mmap, rows: List[Optional[bytes]]) -> List[wkb.Found]:
+    """No line is refused."""
+    wkb.Column(memoryview(data), array.array("q"), bytearray(data))
+    wkb.Column.of(rows)
+    wkb.Column.from_arrow(Arrow())
+    wkb.column_from_coordinates(wkb.Kind.LINE_STRING, array.array("d"), array.array("i"))
+    return [wkb.check(data), wkb.check(mapped)]
