@@ -51,7 +51,7 @@ class Specs:
         self.passed = {}
         for path in CRATES.glob("*/specs/**/*.antt"):
             parts = path.relative_to(CRATES).with_suffix("").parts
-            self.passed["Rattle." + ".".join(parts)] = list(self.uses(path.read_text()))
+            self.passed["Rattle." + ".".join(parts)] = list(self.uses(path.read_text(encoding="utf-8")))
 
     @staticmethod
     def uses(text):
