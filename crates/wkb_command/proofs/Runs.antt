@@ -22,7 +22,8 @@ of_read (Some x) P read is h = rw (sym is) h
 -- the whole line of a report was written
 pub ends_whole : (r : Result Report AllocError) (report : Report) (written : List ℕ) → r ≡ Ok report
     → written ≡ line_of report.output → Ends (IsLineOf r) report.status written
-ends_whole r report written is whole = rw whole (answered {line = line_of report.output} {status = report.status} (rw is (refl, refl)))
+ends_whole r report written is whole =
+    rw whole (answered {line = line_of report.output} {status = report.status} (rw is (refl, refl)))
 
 -- a prefix of it was written
 pub ends_cut : (r : Result Report AllocError) (report : Report) (written : List ℕ) → r ≡ Ok report

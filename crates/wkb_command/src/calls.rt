@@ -61,7 +61,7 @@ impl From<FromHexError> for HexFault {
 }
 
 /// The bytes that a text spells.
-fn decoded(alloc: Global, text: &str) -> Result<Vec<u8>, HexFault>
+fn bytes_of_hex(alloc: Global, text: &str) -> Result<Vec<u8>, HexFault>
     ensures ok { IfOk result (λ bytes. IsHexOf text.now bytes.items) }
     ensures err { IfErr result (IsDecodingFault text.now) }
 {
@@ -77,7 +77,7 @@ pub fn rewrite_hex(alloc: Global, text: &str, options: &WriteOptions) -> Result<
         (λ it. OfHex text.now (λ b. IsRewritingUnder options.now b it.items)) }
     ensures err { IfErr result (IsFaultOf (text.now ∷ []) (RefusedOrOversized options.now)) }
 {
-    let bytes = decoded(alloc, text)?;
+    let bytes = bytes_of_hex(alloc, text)?;
     Ok(canonical(alloc, bytes.as_slice(), options)?)
 }
 
@@ -93,7 +93,7 @@ pub fn rewrite_hex_with_srid(
         (λ it. OfHex text.now (λ b. IsRewritingWithSrid order b it.items)) }
     ensures err { IfErr result (IsFaultOf (text.now ∷ []) RefusedFirst) }
 {
-    let bytes = decoded(alloc, text)?;
+    let bytes = bytes_of_hex(alloc, text)?;
     Ok(canonical_with_srid(alloc, bytes.as_slice(), order)?)
 }
 
@@ -105,8 +105,8 @@ pub fn same_hex(alloc: Global, first: &str, second: &str) -> Result<bool, HexFau
     ensures ok { IfOk result (λ equal. OfTwoHexes first.now second.now (AreCompared equal)) }
     ensures err { IfErr result (IsFaultOf (first.now ∷ second.now ∷ []) RefusedFirst) }
 {
-    let first = decoded(alloc, first)?;
-    let second = decoded(alloc, second)?;
+    let first = bytes_of_hex(alloc, first)?;
+    let second = bytes_of_hex(alloc, second)?;
     Ok(same(alloc, first.as_slice(), second.as_slice())?)
 }
 
@@ -118,7 +118,7 @@ pub fn cost_hex(alloc: Global, text: &str) -> Result<Verdict, HexFault>
     ensures ok { IfOk result (λ verdict. OfHex text.now (IsVerdict verdict)) }
     ensures err { IfErr result (IsFaultOf (text.now ∷ []) (λ inputs e. ⊥)) }
 {
-    let bytes = decoded(alloc, text)?;
+    let bytes = bytes_of_hex(alloc, text)?;
     let (read, counts) = read_wkb_counted(alloc, bytes.as_slice());
     match read.err() {
         None => Ok(Verdict {
@@ -138,6 +138,6 @@ pub fn srid_hex(alloc: Global, text: &str) -> Result<Option<u32>, HexFault>
     ensures ok { IfOk result (λ srid. OfHex text.now (λ bytes. HasSrid bytes srid)) }
     ensures err { IfErr result (IsFaultOf (text.now ∷ []) RefusedFirst) }
 {
-    let bytes = decoded(alloc, text)?;
+    let bytes = bytes_of_hex(alloc, text)?;
     Ok(read_wkb(alloc, bytes.as_slice())?.srid())
 }

@@ -81,7 +81,7 @@ fn of_thousands(thousands: u32) -> Dimension
 }
 
 /// The dimension that has a z or an m where a flag or the thousands say so.
-fn joined(z: bool, m: bool, iso: Dimension) -> Dimension
+fn dimension_with_flags(z: bool, m: bool, iso: Dimension) -> Dimension
     ensures { result ≡ dimension_with (z || has_z iso) (m || has_m iso) }
 {
     // Most codes have no flag.
@@ -119,7 +119,7 @@ pub fn of_kind(kind: u32, dimension: Dimension) -> WkbType
 }
 
 /// A code without one of its flags, where it is the highest that may be set.
-fn cleared(code: u32, flag: u32) -> u32
+fn without_flag(code: u32, flag: u32) -> u32
     ensures { result ≡ without code flag }
 {
     if flag <= code { code - flag } else { code }
@@ -139,7 +139,7 @@ impl WkbGeometryCode {
         ensures meant { (k : ℕ) (d : Dimension) (srid : Bool) → Code self.now k d srid
             → result ≡ srid }
     {
-        SRID_FLAG <= cleared(cleared(self.code, Z_FLAG), M_FLAG)
+        SRID_FLAG <= without_flag(without_flag(self.code, Z_FLAG), M_FLAG)
     }
 
     /// The kind and the dimension, by ISO codes and the flags of EWKB. `CodeOutOfRange` with the whole code if it is
@@ -160,14 +160,14 @@ impl WkbGeometryCode {
             ≡ option_map (λ t. meaning t (has_srid_flag self.now)) result }
     {
         let z = Z_FLAG <= self.code;
-        let a = cleared(self.code, Z_FLAG);
+        let a = without_flag(self.code, Z_FLAG);
         let m = M_FLAG <= a;
-        let b = cleared(a, M_FLAG);
-        let n = cleared(b, SRID_FLAG);
+        let b = without_flag(a, M_FLAG);
+        let n = without_flag(b, SRID_FLAG);
         if !is_in_table(n) {
             return None;
         }
-        let dimension = joined(z, m, of_thousands(n / 1000));
+        let dimension = dimension_with_flags(z, m, of_thousands(n / 1000));
         Some(of_kind(n % 1000, dimension))
     }
 }

@@ -5,7 +5,7 @@
 ghost use Rattle.std.specs.Prelude.{◌≡◌, ℕ, ◌+◌, ◌-◌, ◌<◌, ◌≤◌, List, length, map, All, slice_get};
 ghost use Rattle.std.specs.Prelude.{Option, None, IfSome, slice_index};
 ghost use Rattle.std.specs.Option.{option_map};
-ghost use Rattle.std.specs.List.{AllByRecursion, flat_map};
+ghost use Rattle.std.specs.List.{AllByRecursion, flat_map, concat};
 ghost use Rattle.wkb_geom.specs.declared.common.Dimensions.{Dimensions};
 ghost use Rattle.wkb_geom.specs.Dimensions.{size};
 ghost use Rattle.wkb_geom.specs.Geometries.{Geometry, dimensions_of, geometries, IsCoordinate};
@@ -117,13 +117,25 @@ pub trait LineStringTrait: Dimensioned {
         ensures value { slice_get (coordinates self.now) i ≡ Some (Self.CoordType.words result) }
         ensures dimensions { Self.CoordType.dimensions result ≡ Self.dimensions self.now };
 
-    /// The coordinates as they are written in this order, without a count, if they are in memory in exactly these bytes.
+    /// The coordinates as they are written in this order, without a count, if they are in memory in exactly these
+    /// bytes.
     ///
     /// Bytes that are borrowed here are written in one copy. An implementation may leave this method out: the writer
     /// then asks for each coordinate.
     #[inline]
-    fn standing(&self, order: Endianness) -> Option<&[u8]>
+    fn coords_as_written(&self, order: Endianness) -> Option<&[u8]>
         ensures { IfSome result (λ b. b.now ≡ flat_map (words_encoding order) (coordinates self.now)) }
+    {
+        None
+    }
+
+    /// The words of all coordinates, one after another, if they are in memory so.
+    ///
+    /// Words that are borrowed here are written by one loop. An implementation may leave this method out: the writer
+    /// then asks for each coordinate.
+    #[inline]
+    fn coords_as_words(&self) -> Option<&[u64]>
+        ensures { IfSome result (λ words. words.now ≡ concat (coordinates self.now)) }
     {
         None
     }
@@ -202,6 +214,9 @@ pub trait MultiLineStringTrait: Dimensioned {
 }
 
 /// Polygons of one dimension.
+///
+/// They are lent. So a polygon that leads through references to a type with ghost fields is an enum, or a struct with a
+/// ghost field of its own: the checker doesn't take an `Option` of a reference to another struct of this sort.
 pub trait MultiPolygonTrait: Dimensioned {
     type InnerPolygonType: PolygonTrait;
 
@@ -224,6 +239,8 @@ pub trait MultiPolygonTrait: Dimensioned {
 }
 
 /// Geometries of any kind and dimension.
+///
+/// They are lent, as the polygons of a multi polygon are, and what is said there holds of their type as well.
 pub trait GeometryCollectionTrait: Dimensioned {
     type GeometryType: GeometryTrait;
 
@@ -392,7 +409,7 @@ pub trait GeometryTrait: Dimensioned + Sized {
     /// Bytes that are borrowed here are written in one copy. An implementation may leave this method out: the geometry
     /// is then written by its parts.
     #[inline]
-    fn whole(&self, order: Endianness, form: Form) -> Option<&[u8]>
+    fn as_written(&self, order: Endianness, form: Form) -> Option<&[u8]>
         ensures encoding { IfSome result (λ b. b.now ≡ encoding order form (geometry self.now)) }
         ensures writable { IfSome result (λ _. fault (geometry self.now) ≡ None) }
     {

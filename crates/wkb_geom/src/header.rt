@@ -100,7 +100,7 @@ impl Layout {
         ensures { member_layout (type_kind wanted) (type_dimension wanted) bytes.now ≡ result }
     {
         let header = Head::read(bytes)?;
-        // By numbers: `==` of the seven kinds makes a proof of many cases (docs/COST.md).
+        // By numbers: `==` of the seven kinds makes a proof of many cases (docs/PROVING.md).
         let found = header.wkb_type;
         let is_same = found.kind() == wanted.kind() && found.dimension() == wanted.dimension();
         let is_member = is_same && !(wanted.is_point() && header.has_srid);
@@ -133,8 +133,8 @@ impl Layout {
         }
     }
 
-    /// Whether a geometry of this type and layout begins with the header that is written of it in this order, with EWKB's
-    /// flags or without, and with no SRID.
+    /// Whether a geometry of this type and layout begins with the header that is written of it in this order, with
+    /// EWKB's flags or without, and with no SRID.
     #[tactic(auto, unfolding(crate::specs::Encodings::code_of))]
     #[inline]
     pub fn begins_as(
@@ -216,7 +216,8 @@ impl Layout {
     ghost use Rattle.wkb_geom.specs.Refusals.{point_end, line_string_end, multi_point_end, ring_end};
     ghost use Rattle.wkb_geom.specs.Numbers.{number};
     ghost use Rattle.wkb_geom.specs.Reading.{Ends, EndsWith, point_at, point_item, line_string_at};
-    ghost use Rattle.wkb_geom.specs.Reading.{line_string_item, ring_at, count_in, multi_point_at, refused, points_counted};
+    ghost use Rattle.wkb_geom.specs.Reading.{line_string_item, ring_at, count_in, multi_point_at, refused};
+    ghost use Rattle.wkb_geom.specs.Reading.{points_counted};
 
     /// Where the point at the front of the bytes ends.
     #[tactic(auto, unfolding(crate::specs::Reading::point_told))]
@@ -257,7 +258,8 @@ impl Layout {
         Ok((count, end as usize))
     }
 
-    /// How many coordinates the ring at the front of the bytes has, and where it ends. It is in a polygon of this layout.
+    /// How many coordinates the ring at the front of the bytes has, and where it ends. It is in a polygon of this
+    /// layout.
     #[tactic(auto, unfolding(crate::specs::Reading::ring_told))]
     #[inline(always)]
     pub fn end_of_ring(self, bytes: &[u8]) -> Result<(u32, usize), Cause>
@@ -280,8 +282,8 @@ impl Layout {
         Ok((count, end as usize))
     }
 
-    /// How many points the multi point at the front of the bytes has, if the bytes are as many as these take. The points
-    /// aren't looked at.
+    /// How many points the multi point at the front of the bytes has, if the bytes are as many as these take. The
+    /// points aren't looked at.
     #[tactic(auto, unfolding(crate::specs::Reading::multi_point_told))]
     #[inline(always)]
     pub fn count_of_points(self, bytes: &[u8]) -> Result<u32, Cause>

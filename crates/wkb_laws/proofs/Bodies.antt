@@ -6,8 +6,8 @@ use Rattle.std.proofs.Common.{length-append, length-drop, take-append-drop}
 use Rattle.std.proofs.Common.{length-take-le, take_all, ltb-true, ltb-false, ◌<◌, ◌==◌, ◌&&◌, eqb-true, eq-eqb}
 use Rattle.std.proofs.lemmas.Bool.{cond_both, and_parts, and_from, false_from_ne_true, both_ways}
 use Rattle.std.proofs.lemmas.List.{length-map}
-use Rattle.wkb_laws.specs.Prelude.{count_in, Endianness, Dimension, Layout, end_of_input, general, ShortLinearRing, IsNumber}
-use Rattle.wkb_laws.specs.Prelude.{number, all_nan, width, IsEach, point}
+use Rattle.wkb_laws.specs.Prelude.{count_in, Endianness, Dimension, Layout, end_of_input, general, ShortLinearRing}
+use Rattle.wkb_laws.specs.Prelude.{IsNumber, number, all_nan, width, IsEach, point}
 use Rattle.wkb_laws.specs.Prelude.{line_string, polygon, no_spellings, SpellsCoordinate, SpellsCoordinates, Wanted}
 use Rattle.wkb_laws.specs.Prelude.{IsPart}
 use Rattle.wkb_laws.specs.Prelude.{point_end, line_string_end, ring_end}

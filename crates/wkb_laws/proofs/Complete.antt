@@ -5,16 +5,16 @@ use Rattle.std.proofs.Common.{le-ltb, ◌≢◌, ◌+◌, ◌-◌, ◌*◌, ◌+
 use Rattle.std.proofs.Common.{if◌then◌else◌, subst, append_assoc}
 use Rattle.std.proofs.Common.{append-nil, length-append, drop-drop, lit<, lit≤}
 use Rattle.std.proofs.lemmas.Bool.{cond-true, cond-false, false_from_ne_true}
-use Rattle.wkb_laws.specs.Prelude.{count_in, Endianness, BigEndian, LittleEndian, Dimension, Head, Layout, WkbType, Cause}
-use Rattle.wkb_laws.specs.Prelude.{end_of_input, general, incorrect_type}
-use Rattle.wkb_laws.specs.Prelude.{InvalidByteOrder, IsNumber, order_byte, Code, Begins, Wanted, any, part, IsPart, Opens}
-use Rattle.wkb_laws.specs.Prelude.{Reading, Item, type_kind, type_dimension}
+use Rattle.wkb_laws.specs.Prelude.{count_in, Endianness, BigEndian, LittleEndian, Dimension, Head, Layout, WkbType}
+use Rattle.wkb_laws.specs.Prelude.{Cause, end_of_input, general, incorrect_type}
+use Rattle.wkb_laws.specs.Prelude.{InvalidByteOrder, IsNumber, order_byte, Code, Begins, Wanted, any, part, IsPart}
+use Rattle.wkb_laws.specs.Prelude.{Opens, Reading, Item, type_kind, type_dimension}
 use Rattle.wkb_laws.specs.Prelude.{type_of, layout_of, laid, head_at, head_by_order, head_by_code, meaning, meaning_of}
 use Rattle.wkb_laws.specs.Prelude.{then_body, member_body, layout_wanted}
 use Rattle.wkb_laws.specs.Prelude.{body_at, collection_within, by_type, geometry_at, is_member, member_at, refused}
 use Rattle.wkb_laws.specs.Prelude.{ShortLinearRing, number, all_nan, width}
-use Rattle.wkb_laws.specs.Prelude.{IsEach, Coordinate, Value, point, line_string, polygon, multi_point, multi_line_string}
-use Rattle.wkb_laws.specs.Prelude.{multi_polygon, collection, Values}
+use Rattle.wkb_laws.specs.Prelude.{IsEach, Coordinate, Value, point, line_string, polygon, multi_point}
+use Rattle.wkb_laws.specs.Prelude.{multi_line_string, multi_polygon, collection, Values}
 use Rattle.wkb_laws.specs.Prelude.{no_members, member, each, count, nest, nest_each, members, kind, dimension}
 use Rattle.wkb_laws.specs.Prelude.{member_count, member_count_each, listed_count}
 use Rattle.wkb_laws.specs.Prelude.{Header, Spelling, node, Spellings, no_spellings, spelling, IsSrid, SpellsCoordinate}
@@ -42,16 +42,18 @@ use Rattle.wkb_geom.proofs.Codes.{one_meaning}
 use Rattle.wkb_geom.proofs.Meanings.{meaning_holds, type_kind-type_of}
 use Rattle.wkb_laws.specs.Laws.{listed_inside}
 use Rattle.wkb_laws.proofs.Parts.{then_length, then_append, begins_number, number-front, take_front, drop_front}
-use Rattle.wkb_laws.proofs.Parts.{items_read, length-opens, header_length}
+use Rattle.wkb_laws.proofs.Parts.{items_read, coordinate_read, length-opens, header_length}
 use Rattle.wkb_laws.proofs.Parts.{srid_length}
 use Rattle.wkb_laws.proofs.Lists.{IsWanted, by_list_kind, whole_by, list_behind, count-each, each_same}
 use Rattle.wkb_laws.proofs.Sound.{passes, is_passed}
 use Rattle.wkb_laws.proofs.Lengths.{coordinate_length, coordinates_length, each_size, each_spelled_length}
 use Rattle.wkb_laws.proofs.Bounds.{wanted_inside, each_long, coordinates_long}
 use Rattle.wkb_laws.proofs.Bodies.{asked_all, list_body, each_nine, list_turns, list_slots}
-unfoldable use Rattle.wkb_geom.specs.Reading.{by_type_told, collection_told, geometry_told, line_string_told, multi_line_string_told, multi_point_told, multi_polygon_told, point_told, polygon_told, ring_told}
-use Rattle.wkb_geom.specs.Reading.{ReadingOf, OutcomeOf, then_body_told, with_count_told, line_string_body_told, ring_part_told}
-use Rattle.wkb_geom.specs.Reading.{member_body_told, member_told, kind_told, collection_within_told}
+unfoldable use Rattle.wkb_geom.specs.Reading.{by_type_told, collection_told, geometry_told, line_string_told}
+unfoldable use Rattle.wkb_geom.specs.Reading.{multi_line_string_told, multi_point_told, multi_polygon_told, point_told}
+unfoldable use Rattle.wkb_geom.specs.Reading.{polygon_told, ring_told}
+use Rattle.wkb_geom.specs.Reading.{ReadingOf, OutcomeOf, then_body_told, with_count_told, line_string_body_told}
+use Rattle.wkb_geom.specs.Reading.{ring_part_told, member_body_told, member_told, kind_told, collection_within_told}
 use Rattle.wkb_laws.proofs.Lists.{list_behind_told}
 
 pub type_of-type : (t : WkbType) → type_of (type_kind t) (type_dimension t) ≡ t
@@ -131,8 +133,11 @@ module _ {F : Type 0} (told : List ℕ → Cause → F) where
 
   -- what it gives by a head
   abbrev read_by : ℕ → Wanted → List ℕ → Result Head Cause → ReadingOf F Item
-  read_by room any input r = then_body_told (told input) r (λ h. kind_told told (collection_within_told told room) h.wkb_type (layout_of h) input)
-  read_by room (part k d) input r = then_body_told (told input) (layout_wanted k d r) (λ l. member_body_told told k l input)
+  read_by room any input r =
+      then_body_told (told input) r
+      (λ h. kind_told told (collection_within_told told room) h.wkb_type (layout_of h) input)
+  read_by room (part k d) input r =
+      then_body_told (told input) (layout_wanted k d r) (λ l. member_body_told told k l input)
 
   reader_by : (room : ℕ) (w : Wanted) (input : List ℕ) → reader room w input ≡ read_by room w input (head_at input)
   unfolding geometry_told by_type_told
@@ -145,8 +150,8 @@ module _ {F : Type 0} (told : List ℕ → Cause → F) where
   faulty room any input cause e = reader_by room any input ∙ ap (read_by room any input) e
   faulty room (part k d) input cause e = ap (read_by room (part k d) input) e
 
-  member_body_is : (deeper : Layout → List ℕ → ReadingOf F Item) (k : ℕ) (d : Dimension) (l : Layout) (input : List ℕ) → 1 ≤ k
-      → k ≤ 3
+  member_body_is : (deeper : Layout → List ℕ → ReadingOf F Item) (k : ℕ) (d : Dimension) (l : Layout) (input : List ℕ)
+      → 1 ≤ k → k ≤ 3
       → member_body_told told k l input ≡ kind_told told deeper (type_of k d) l input
   member_body_is deeper (suc zero) d l input low few = refl
   member_body_is deeper (suc (suc zero)) d l input low few = refl
@@ -159,10 +164,12 @@ module _ {F : Type 0} (told : List ℕ → Cause → F) where
     same_type = type_kind-type_of k d o.meaning.kind.low o.meaning.kind.high
 
     opened : (room : ℕ) (w : Wanted) → IsWanted w → IsPart w k d srid
-        → reader room w input ≡ kind_told told (collection_within_told told room) (type_of k d) (laid order d srid) input
+        → reader room w input
+        ≡ kind_told told (collection_within_told told room) (type_of k d) (laid order d srid) input
     opened room any good p =
         reader_by room any input ∙ ap (read_by room any input) (head_opened o)
-        ∙ ap (λ z. kind_told told (collection_within_told told room) (type_of k d) (laid order z srid) input) same_type.1
+        ∙ ap (λ z. kind_told told (collection_within_told told room) (type_of k d) (laid order z srid) input)
+        same_type.1
     opened room (part l e) good p =
         let wanted = is_passed l e (head_of order k d srid) (same_type.0 ∙ p.0, same_type.1 ∙ p.1, p.2) in
         let few : k ≤ 3 = omega (arith, p.0) in
@@ -172,7 +179,8 @@ module _ {F : Type 0} (told : List ℕ → Cause → F) where
         ∙ (λ i. member_body_told told (sym p.0 i) (laid order (sym p.1 i) srid) input)
         ∙ member_body_is (collection_within_told told room) k d (laid order d srid) input o.meaning.kind.low few
 
-    unwanted : (room : ℕ) (w : Wanted) → (IsPart w k d srid → ⊥) → reader room w input ≡ refused (told input incorrect_type)
+    unwanted : (room : ℕ) (w : Wanted) → (IsPart w k d srid → ⊥)
+        → reader room w input ≡ refused (told input incorrect_type)
     unwanted room any n = absurd (n tt)
     unwanted room (part l e) n =
         let not =
@@ -180,19 +188,20 @@ module _ {F : Type 0} (told : List ℕ → Cause → F) where
         (λ t. let p = passes l e (head_of order k d srid) t in n (sym same_type.0 ∙ p.0, sym same_type.1 ∙ p.1, p.2))
         in
         ap (read_by room (part l e) input) (head_opened o)
-        ∙ ap (λ z. then_body_told (told input) z (λ m. member_body_told told l m input)) (cond-false (is_member l e (head_of order k d srid)) _ _ not)
+        ∙ ap (λ z. then_body_told (told input) z (λ m. member_body_told told l m input))
+        (cond-false (is_member l e (head_of order k d srid)) _ _ not)
 
   -- what comes after the count of a body, by the kind
   abbrev behind_of : ℕ → ℕ → Layout → List ℕ → ℕ → ReadingOf F Item
   behind_of room k l input =
-      if k == 2 then
-      (λ n. at_no_cost (line_string_body_told told l input n)) else if k == 3 then parts_body 3 l (ring_part_told told l)
-      (polygon_item l) input
+      if k == 2 then (λ n. at_no_cost (line_string_body_told told l input n))
+      else if k == 3 then parts_body 3 l (ring_part_told told l) (polygon_item l) input
       else list_behind_told told k l (reader (room_inside k room) (member_part k l.dimension)) input
 
   -- every body but a point's has a count
   body_counted : (room k : ℕ) (l : Layout) (input : List ℕ) → 1 ≤ k → k ≤ 7 → k ≢ 1 → (k ≡ 7 → 0 < room)
-      → kind_told told (collection_within_told told room) (type_of k l.dimension) l input ≡ with_count_told told l input (behind_of room k l input)
+      → kind_told told (collection_within_told told room) (type_of k l.dimension) l input
+      ≡ with_count_told told l input (behind_of room k l input)
   unfolding line_string_told polygon_told multi_point_told multi_line_string_told multi_polygon_told collection_told
   body_counted room (suc zero) l input low high n some = absurd (n refl)
   body_counted room (suc (suc zero)) l input low high n some = refl
@@ -255,7 +264,8 @@ module _ {F : Type 0} (told : List ℕ → Cause → F) where
       by_list_kind (λ k. (k ≡ 4 → multi_point_end l.dimension l.has_srid n ≤ length input)
       → behind_of room k l input n
       ≡ parts_body k l (reader (room_inside k room) (member_part k l.dimension)) (list_item l (whole_by k)) input n)
-      (λ fits. cond-false (nat_lt (length input) (multi_point_end l.dimension l.has_srid n)) _ _ (le-ltb _ _ (fits refl)))
+      (λ fits. cond-false (nat_lt (length input) (multi_point_end l.dimension l.has_srid n)) _ _
+      (le-ltb _ _ (fits refl)))
       (λ fits. refl) (λ fits. refl) (λ fits. refl) k low high long
 
   -- what is read of n parts, by what each of them is read as
@@ -277,13 +287,6 @@ module _ {F : Type 0} (told : List ℕ → Cause → F) where
       ap (λ z. take z (x ++ rest)) n ∙ take_front (length x) x rest refl
 
   -- ---- words, coordinates and rings, as they are read at the front of the bytes
-
-  coordinate_read : (order : Endianness) (d : Dimension) (c : Coordinate) (x y : List ℕ) → SpellsCoordinate order d c x
-      → coordinate order d (x ++ y) ≡ c
-  coordinate_read order d c x y h =
-      ap (λ n. items 8 (number order 8) n (x ++ y)) (sym h.len)
-      ∙ items_read (IsNumber order 8) 8 (number order 8)
-      (λ v x y is. (is.len, number-front order 8 v x y is)) c x y h.words
 
   pub record RingRead (order : Endianness) (d : Dimension) (cs : List Coordinate) (x y : List ℕ) : Type 0 where
     pub many : number order 4 (x ++ y) ≡ length cs
@@ -441,7 +444,8 @@ module _ {F : Type 0} (told : List ℕ → Cause → F) where
     body_cut : drop (body_start (is_some h.srid)) x ≡ a.second.front ++ a.second.rest
     body_cut =
         ap (drop (body_start (is_some h.srid))) a.whole
-        ∙ drop_front (body_start (is_some h.srid)) a.front a.rest (header_length h (kind t) (dimension t) a.front a.first)
+        ∙ drop_front (body_start (is_some h.srid)) a.front a.rest
+        (header_length h (kind t) (dimension t) a.front a.first)
         ∙ a.second.whole
 
     encoding_length : length x ≡ body_start (is_some h.srid) + (length a.second.front + length a.second.rest)
@@ -556,7 +560,8 @@ module _ {F : Type 0} (told : List ℕ → Cause → F) where
         ∙ (λ i. (free, Ok (point_item_of l x (is i) (all_nan (is i)), rest)))
         ∙ (λ i. (free, Ok (point_item_of l x words (nan i), rest)))
 
-    line_string_by : (cs : List Coordinate) → Spells (node h own ss) (line_string d cs) x → IsPart w 2 d (is_some h.srid)
+    line_string_by : (cs : List Coordinate) → Spells (node h own ss) (line_string d cs) x
+        → IsPart w 2 d (is_some h.srid)
         → reader room w (x ++ rest) ≡ found (node h own ss) (line_string d cs) x rest
     line_string_by cs a p =
         let body = a.second.first.1 in
@@ -593,7 +598,8 @@ module _ {F : Type 0} (told : List ℕ → Cause → F) where
         (length rings) body.front body.rest body.whole body.first in
         let spelled = spelling_read h own ss (polygon d rings) x a [] no_spellings (sym a.second.first.0) none.0 in
         let cost : Cost = record { turns = length rings; slots = length rings } in
-        let asked = asked_all (length rings) (length (body.rest ++ more)) (omega (arith, length-append body.rest more)) in
+        let asked =
+        asked_all (length rings) (length (body.rest ++ more)) (omega (arith, length-append body.rest more)) in
         counted c good (λ e. omega arith)
         ∙ parts_read 3 l (ring_part_told told l) (polygon_item l) (x ++ rest) (body.rest ++ more) (length rings) _
         (count_read c).behind f.read
@@ -722,7 +728,8 @@ module _ {F : Type 0} (told : List ℕ → Cause → F) where
     refusal_read {input = input} (bad_ring {n = n} {order = order} {d = d} {srid = srid} {rest = rest} c h) good =
         let l = laid order d srid in
         counted c good (λ e. omega arith)
-        ∙ parts_read 3 l (ring_part_told told l) (polygon_item l) input rest n _ (count_read c).behind (rings_refused srid h)
+        ∙ parts_read 3 l (ring_part_told told l) (polygon_item l) input rest n _ (count_read c).behind
+        (rings_refused srid h)
         ∙ at_cost (omega arith) (omega arith)
     refusal_read {room} {w} {input}
         (bad_member {k = k} {n = n} {order = order} {d = d} {srid = srid} {rest = rest} c low long h) good =

@@ -2,8 +2,8 @@
 use Rattle.std.proofs.Common.{◌≡◌, ◌+◌, ◌*◌, [], ◌∷◌, length, map, None, refl, ap, ◌∙◌, arith, sum_by, is_some}
 use Rattle.std.proofs.Common.{if◌then◌else◌}
 use Rattle.std.proofs.lemmas.List.{length-map}
-use Rattle.wkb_laws.specs.Prelude.{size, Geometry, Geometries, line, rectangle, triangle, no_geometries, geometry, normal}
-use Rattle.wkb_laws.specs.Prelude.{normal_each, normal_point}
+use Rattle.wkb_laws.specs.Prelude.{size, Geometry, Geometries, line, rectangle, triangle, no_geometries, geometry}
+use Rattle.wkb_laws.specs.Prelude.{normal, normal_each, normal_point}
 use Rattle.wkb_laws.specs.Prelude.{triangle_ring, byte_size, byte_sizes, form_srid, fault, fault_each}
 use Rattle.wkb_geom.specs.Geometries.{point, line_string, polygon, multi_point, multi_line_string, multi_polygon}
 use Rattle.wkb_geom.specs.Geometries.{collection}

@@ -10,12 +10,12 @@ use Rattle.std.proofs.Math.Bool.{or-false}
 use Rattle.byteorder.specs.Numbers.{big_number-reads_back, little_number-reads_back, length-bytes_high_first}
 use Rattle.byteorder.specs.Numbers.{length-bytes_low_first}
 use Rattle.byteorder.specs.Endian.{big_number, little_number}
-use Rattle.wkb_laws.specs.Prelude.{Endianness, BigEndian, LittleEndian, Dimension, Xy, Form, Iso, Ewkb, number, IsNumber}
-use Rattle.wkb_laws.specs.Prelude.{number_bytes, has_z, has_m, Code}
+use Rattle.wkb_laws.specs.Prelude.{Endianness, BigEndian, LittleEndian, Dimension, Xy, Form, Iso, Ewkb, number}
+use Rattle.wkb_laws.specs.Prelude.{IsNumber, number_bytes, has_z, has_m, Code}
 use Rattle.wkb_laws.specs.Prelude.{form_srid, code_of, Xyzm, Dimensions, IsWord, all_nan, empty_word, width}
 use Rattle.wkb_laws.specs.Prelude.{written_dimension, IsEach, IsCounted, Coordinate}
-use Rattle.wkb_laws.specs.Prelude.{Value, each, kind, dimension, members, count, Spelling, node, Spellings, no_spellings}
-use Rattle.wkb_laws.specs.Prelude.{IsHeader, IsSrid, SpellsCoordinate}
+use Rattle.wkb_laws.specs.Prelude.{Value, each, kind, dimension, members, count, Spelling, node, Spellings}
+use Rattle.wkb_laws.specs.Prelude.{no_spellings, IsHeader, IsSrid, SpellsCoordinate}
 use Rattle.wkb_laws.specs.Prelude.{SpellsCoordinates, SpellsBody, Wanted, any, part, member_part, IsPart, has_srid}
 use Rattle.wkb_laws.specs.Prelude.{Spells}
 use Rattle.wkb_laws.specs.Prelude.{SpellsEach, Geometry, line, rectangle}

@@ -12,8 +12,8 @@ use Rattle.wkb_laws.specs.Prelude.{members, nest, member_count, listed_count, He
 use Rattle.wkb_laws.specs.Prelude.{SpellsBody, Spells, SpellsEach, Wanted}
 use Rattle.wkb_laws.specs.Prelude.{member_part, IsPart, has_srid, srid_size, Opens, IsAllowed, OpensCounted, Refuses}
 use Rattle.wkb_laws.specs.Prelude.{no_order_byte, bad_order_byte, no_code, bad_code}
-use Rattle.wkb_laws.specs.Prelude.{no_count, Cost, Reading, Item, type_kind, layout_of, body_start, parts_start, head_at}
-use Rattle.wkb_laws.specs.Prelude.{head_by_order, head_by_code, with_count}
+use Rattle.wkb_laws.specs.Prelude.{no_count, Cost, Reading, Item, type_kind, layout_of, body_start, parts_start}
+use Rattle.wkb_laws.specs.Prelude.{head_at, head_by_order, head_by_code, with_count}
 use Rattle.wkb_laws.specs.Prelude.{srid_in, spelled_in, count_in}
 use Rattle.wkb_geom.proofs.Meanings.{meaning_holds}
 use Rattle.wkb_laws.proofs.Parts.{number-more, number_begins, begins_number, field_taken, length-opens}

@@ -6,10 +6,10 @@ use Rattle.std.proofs.lemmas.List.Sums.{sum_by-cons}
 use Rattle.std.proofs.lemmas.Bool.{cond-true}
 use Rattle.wkb_laws.specs.Prelude.{Endianness, Dimension, Xy, Form, Iso, Ewkb, AreBytes, IsNumber, width, IsEach}
 use Rattle.wkb_laws.specs.Prelude.{Coordinate, Value, point, line_string, polygon}
-use Rattle.wkb_laws.specs.Prelude.{multi_point, multi_line_string, multi_polygon, collection, Values, no_members, member}
-use Rattle.wkb_laws.specs.Prelude.{kind, dimension, members, header}
-use Rattle.wkb_laws.specs.Prelude.{Spelling, node, Spellings, no_spellings, spelling, SpellsCoordinate, SpellsCoordinates}
-use Rattle.wkb_laws.specs.Prelude.{SpellsBody, Wanted, member_part, Spells}
+use Rattle.wkb_laws.specs.Prelude.{multi_point, multi_line_string, multi_polygon, collection, Values, no_members}
+use Rattle.wkb_laws.specs.Prelude.{member, kind, dimension, members, header}
+use Rattle.wkb_laws.specs.Prelude.{Spelling, node, Spellings, no_spellings, spelling, SpellsCoordinate}
+use Rattle.wkb_laws.specs.Prelude.{SpellsCoordinates, SpellsBody, Wanted, member_part, Spells}
 use Rattle.wkb_laws.specs.Prelude.{SpellsEach, srid_count, srid_count_each, Front, srid_size, Geometry, IsGeometry}
 use Rattle.wkb_laws.specs.Prelude.{normal, geometry_of, or_else, size_fault}
 use Rattle.wkb_laws.specs.Prelude.{form_srid, inner, encoding, fault, refusal, IsForm, IsWritable}
@@ -46,7 +46,7 @@ abbrev mutual
   each_size (member t ts) = value_size t + each_size ts
 
 -- a geometry has at least nine bytes
-width-least : (d : Dimension) → 2 ≤ width d
+pub width-least : (d : Dimension) → 2 ≤ width d
 width-least Xy = omega arith
 width-least _ = omega arith
 
@@ -104,7 +104,7 @@ body_length order own (polygon d rings) x h =
     omega (arith, ((h.1).first).len, then_length h.1)
 body_length order own _ x h = (h.1).len
 
-srid_size_is : (b : Bool) → srid_size b ≡ 4 * (if b then 1 else 0)
+pub srid_size_is : (b : Bool) → srid_size b ≡ 4 * (if b then 1 else 0)
 srid_size_is true = refl
 srid_size_is false = refl
 

@@ -14,7 +14,6 @@ pub mod Complete
 pub mod GeometryAt
 pub mod Outcomes
 pub mod Cut
-pub mod Rows
 pub mod Spelled
 pub mod OneEncoding
 pub mod PartsInPlace

@@ -4,8 +4,8 @@ use Rattle.std.proofs.Common.{refl, sym, ap, subst, ◌∙◌, arith, ◌/◌}
 use Rattle.std.proofs.lemmas.Nat.{div-mul-add}
 use Rattle.byteorder.specs.Endian.{big_from, little_from}
 use Rattle.byteorder.specs.Numbers.{big_from-cons, little_from-cons, big_from-lt}
-use Rattle.wkb_laws.specs.Prelude.{Endianness, BigEndian, LittleEndian, Dimension, AreBytes, IsNumber, number, order_byte}
-use Rattle.wkb_laws.specs.Prelude.{Then, IsEach, IsCounted, Coordinate}
+use Rattle.wkb_laws.specs.Prelude.{Endianness, BigEndian, LittleEndian, Dimension, AreBytes, IsNumber, number}
+use Rattle.wkb_laws.specs.Prelude.{order_byte, Then, IsEach, IsCounted, Coordinate}
 use Rattle.wkb_laws.specs.Prelude.{Value, Values, point, line_string, polygon, no_members, member, kind, dimension}
 use Rattle.wkb_laws.specs.Prelude.{members, Header, Spelling, node, Spellings}
 use Rattle.wkb_laws.specs.Prelude.{no_spellings, spelling, IsHeader, IsSrid, SpellsCoordinate, SpellsCoordinates}

@@ -20,7 +20,8 @@ one_spelling s u t v x y r q a b e =
     let both : found cause_alone s t x r ≡ found cause_alone u v y q =
     sym (front_at cause_alone room any tt s t x r a (omega arith) tt) ∙ ap (geometry_at room) e
     ∙ front_at cause_alone room any tt u v y q b (omega arith) tt in
-    let answers : ◌≡◌ {A = reading.Outcome Item} (found cause_alone s t x r).1 (found cause_alone u v y q).1 = ap (λ z. z.1) both in
+    let answers : ◌≡◌ {A = reading.Outcome Item} (found cause_alone s t x r).1 (found cause_alone u v y q).1 =
+    ap (λ z. z.1) both in
     let item : ◌≡◌ {A = Item × List ℕ} (record { encoding = x; spelled = s; value = t }, r)
     (record { encoding = y; spelled = u; value = v }, q) = cc in
     record {

@@ -5,9 +5,9 @@ use Rattle.std.proofs.Common.{ap, ◌∙◌, subst, arith, length-drop, length-a
 use Rattle.std.proofs.Common.{take-add, Option, None, Bool, is_some}
 use Rattle.std.proofs.Math.Seq.{take-append_seam, drop-append_seam}
 use Rattle.byteorder.specs.Numbers.{big_from-append, little_from-append}
-use Rattle.wkb_laws.specs.Prelude.{Then, Endianness, BigEndian, LittleEndian, IsNumber, number, IsEach, Begins, Dimension}
-use Rattle.wkb_laws.specs.Prelude.{Header, IsHeader, IsSrid, srid_size}
-use Rattle.wkb_laws.specs.Prelude.{Opens}
+use Rattle.wkb_laws.specs.Prelude.{Then, Endianness, BigEndian, LittleEndian, IsNumber, number, IsEach, Begins}
+use Rattle.wkb_laws.specs.Prelude.{Dimension, Header, IsHeader, IsSrid, srid_size}
+use Rattle.wkb_laws.specs.Prelude.{Opens, Coordinate, SpellsCoordinate, coordinate}
 use Rattle.wkb_geom.specs.Items.{number-take}
 pub use Rattle.wkb_geom.specs.Reading.{items}
 
@@ -91,6 +91,14 @@ items_read P size item one (a ∷ l) x y h =
     let tail : items size item (length l) (drop size (x ++ y)) ≡ l =
     ap (items size item (length l)) behind ∙ items_read P size item one l h.rest y h.second in
     cc
+
+-- a coordinate at the front of the bytes
+pub coordinate_read : (order : Endianness) (d : Dimension) (c : Coordinate) (x y : List ℕ) → SpellsCoordinate order d c x
+    → coordinate order d (x ++ y) ≡ c
+coordinate_read order d c x y h =
+    ap (λ n. items 8 (number order 8) n (x ++ y)) (sym h.len)
+    ∙ items_read (IsNumber order 8) 8 (number order 8)
+    (λ v x y is. (is.len, number-front order 8 v x y is)) c x y h.words
 
 -- one of the items, by its number
 pub item_at : {A : Type 0} (size : ℕ) (item : List ℕ → A) (n i : ℕ) (y : List ℕ) (a : A)

@@ -1,16 +1,20 @@
 -- The parts of a geometry at their places in its bytes.
 use Rattle.std.proofs.Common.{◌≡◌, ℕ, zero, suc, ◌+◌, ◌*◌, List, [], ◌∷◌, ◌++◌, length, take, drop, Some, refl, sym, ap}
+use Rattle.std.proofs.Common.{sum_by}
+use Rattle.std.proofs.lemmas.List.Sums.{sum_by_more}
+use Rattle.std.proofs.lemmas.Option.{slice_get_within, get_or_from_slice_get}
 use Rattle.std.proofs.Common.{subst, ◌∙◌, append_assoc}
 use Rattle.std.proofs.Common.{length-append, arith, slice_get, is_some, drop-drop}
 use Rattle.wkb_laws.specs.Prelude.{Then, Endianness, Dimension, number, width, IsEach, Coordinate, Value, Values, point}
 use Rattle.wkb_laws.specs.Prelude.{line_string, polygon, no_members, member}
 use Rattle.wkb_laws.specs.Prelude.{kind, dimension, members, count, Header, Spelling, node, Spellings, no_spellings}
 use Rattle.wkb_laws.specs.Prelude.{spelling, header, IsHeader}
-use Rattle.wkb_laws.specs.Prelude.{SpellsCoordinates, SpellsBody, Wanted, any, member_part, Spells, SpellsEach, srid_size}
-use Rattle.wkb_laws.specs.Prelude.{ring_end, coordinate, AreBytes}
+use Rattle.wkb_laws.specs.Prelude.{SpellsCoordinates, SpellsBody, Wanted, any, member_part, Spells, SpellsEach}
+use Rattle.wkb_laws.specs.Prelude.{srid_size, ring_end, coordinate, AreBytes}
 use Rattle.wkb_laws.specs.Encodings.{spelled_size}
 use Rattle.wkb_laws.specs.Places.{behind_count, IsOneOf, IsMember, first_spellings, first_values, ring_start, StandsAt}
-use Rattle.wkb_laws.specs.Places.{first_size, NextStart, HoldsMember, MembersStand, HoldsRing}
+use Rattle.wkb_laws.specs.Places.{first_size, FirstStart, NextStart, FirstRingStart, NextRingStart, HoldsMember}
+use Rattle.wkb_laws.specs.Places.{MembersStand, HoldsRing}
 use Rattle.wkb_laws.specs.Places.{RingsStand, MembersInPlace, RingsInPlace, WordsStand, LineStringWordsStand}
 use Rattle.wkb_laws.proofs.Parts.{then_append, take_front, drop_front, item_at, header_length}
 use Rattle.wkb_laws.proofs.Values.{AreBytes-front, AreBytes-rest}
@@ -150,8 +154,25 @@ next_size (suc k) no_spellings ts s t is = absurd is
 next_size zero (spelling a ss) no_members s t is = absurd is
 next_size (suc k) (spelling a ss) no_members s t is = absurd is
 
+pub first_start_lem : FirstStart
+first_start_lem (node h words ss) value = omega arith
+
 pub next_start_lem : NextStart
 next_start_lem k (node h words ss) value s t is = omega (arith, next_size k ss (members value) s t is)
+
+pub first_ring_lem : FirstRingStart
+first_ring_lem s d rings = omega arith
+
+pub next_ring_lem : NextRingStart
+next_ring_lem j s d rings ring is =
+    let size = λ (cs : List Coordinate). ring_end d (length cs) in
+    let more : suc j ≡ j + 1 = omega arith in
+    omega (
+      arith,
+      ap (λ n. sum_by size (take n rings)) more,
+      sum_by_more size rings j ring (slice_get_within rings j ring is),
+      ap size (get_or_from_slice_get rings j ring ring is),
+    )
 
 -- one member's encoding among those of the others
 member_at : (w : Wanted) (k : ℕ) (ss : Spellings) (ts : Values) (s : Spelling) (t : Value) (bytes : List ℕ)

@@ -14,7 +14,8 @@ use Rattle.wkb_geom.specs.Reading as reading
 use Rattle.wkb_geom.proofs.Codes.{thousands_inj}
 use Rattle.wkb_laws.proofs.Heads.{IsRight, Opened, head_says}
 use Rattle.wkb_laws.proofs.Bodies.{point_says, line_string_says, polygon_says, list_says}
-unfoldable use Rattle.wkb_geom.specs.Reading.{by_type_told, collection_told, geometry_told, multi_line_string_told, multi_point_told, multi_polygon_told}
+unfoldable use Rattle.wkb_geom.specs.Reading.{by_type_told, collection_told, geometry_told, multi_line_string_told}
+unfoldable use Rattle.wkb_geom.specs.Reading.{multi_point_told, multi_polygon_told}
 
 -- members that pass the test are wanted, and no others
 no_srid : (k : ℕ) (srid : Bool) → (if (k == 1) && srid then false else true) ≡ true → k ≡ 1 → srid ≡ false

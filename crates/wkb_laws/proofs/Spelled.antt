@@ -6,8 +6,8 @@ use Rattle.std.proofs.Props.{props}
 use Rattle.std.specs.Coded.{Coded-set}
 use Rattle.wkb_geom.specs.Stored.{item_code}
 use Rattle.wkb_geom.specs.Reading as reading
-use Rattle.wkb_laws.specs.Prelude.{Dimension, Xy, width, size, as_dimensions, Value, Values, point, line_string, polygon}
-use Rattle.wkb_laws.specs.Prelude.{multi_point, multi_line_string, multi_polygon}
+use Rattle.wkb_laws.specs.Prelude.{Dimension, Xy, width, size, as_dimensions, Value, Values, point, line_string}
+use Rattle.wkb_laws.specs.Prelude.{polygon, multi_point, multi_line_string, multi_polygon}
 use Rattle.wkb_laws.specs.Prelude.{collection, no_members, member, nest, Spelling, Spellings, no_spellings, spelling}
 use Rattle.wkb_laws.specs.Prelude.{Spells, SpellsEach, any, srid_count}
 use Rattle.wkb_laws.specs.Prelude.{geometry_of, geometries_of, byte_size, byte_sizes, Reading, Item, geometry_at}
@@ -39,7 +39,8 @@ full_by s t bytes (cost, Err cause) right spelled read = absurd (∥∥₁_elim 
 pub in_full_lem : SpelledInFull
 in_full_lem s t bytes spelled =
     full_by s t bytes (geometry_at (nest t) bytes) (geometry_says (nest t) bytes) spelled (λ h.
-    ap (geometry_at (nest t)) (sym (append-nil bytes)) ∙ front_at cause_alone (nest t) any tt s t bytes [] h (omega arith) tt)
+    ap (geometry_at (nest t)) (sym (append-nil bytes))
+    ∙ front_at cause_alone (nest t) any tt s t bytes [] h (omega arith) tt)
 
 -- ---- by how many bytes
 

@@ -8,8 +8,8 @@ use Rattle.std.specs.List.{AllByRecursion}
 use Rattle.byteorder.specs.Numbers.{big_from-lt, little_from-lt}
 use Rattle.wkb_laws.specs.Prelude.{Then, Dimension, Xy, Xyz, Xyzm, Dimensions, width, size, written_dimension, Fault}
 use Rattle.wkb_laws.specs.Prelude.{unsupported_dimensions, or_else}
-use Rattle.wkb_laws.specs.Prelude.{dimensions_fault, Endianness, BigEndian, LittleEndian, Xym, number, AreBytes, IsNumber}
-use Rattle.wkb_laws.specs.Prelude.{IsWord, all_nan, as_dimensions, IsEach}
+use Rattle.wkb_laws.specs.Prelude.{dimensions_fault, Endianness, BigEndian, LittleEndian, Xym, number, AreBytes}
+use Rattle.wkb_laws.specs.Prelude.{IsNumber, IsWord, all_nan, as_dimensions, IsEach}
 use Rattle.wkb_laws.specs.Prelude.{IsCounted, Coordinate, Value, point, line_string, polygon, multi_point}
 use Rattle.wkb_laws.specs.Prelude.{multi_line_string, multi_polygon, collection, Values}
 use Rattle.wkb_laws.specs.Prelude.{no_members, member, kind, dimension, members, each, count, IsValueCoordinate}
@@ -22,13 +22,9 @@ use Rattle.wkb_laws.specs.Prelude.{Ewkb, Front, IsForm, count_fault}
 use Rattle.wkb_laws.specs.Prelude.{first_fault, coordinates_fault, rings_fault, fault, fault_each, count_geometries}
 use Rattle.wkb_geom.specs.declared.common.Dimensions.TheVariants as asked
 use Rattle.wkb_geom.specs.Geometries as geometry
+use Rattle.wkb_geom.proofs.Faults.{none_both}
 use Rattle.wkb_laws.specs.Laws.{NamedDimension}
 use Rattle.wkb_laws.proofs.Lists.{all_imply}
-
-pub or_else-none : (a b : Option Fault) → a ≡ None → b ≡ None → or_else a b ≡ None
-unfolding or_else
-or_else-none None b e f = f
-or_else-none (Some x) b e f = e
 
 pub or_else_parts : (a b : Option Fault) → or_else a b ≡ None → (a ≡ None) × (b ≡ None)
 unfolding or_else
@@ -115,7 +111,7 @@ faultless : {A : Type 0} (P : A → Type 0) (f : A → Option Fault) (l : List A
     → AllByRecursion P l × (first_fault f l ≡ None)
 unfolding first_fault
 faultless P f [] h = (tt, refl)
-faultless P f (a ∷ l) h = let others = faultless P f l h.1 in (((h.0).0, others.0), or_else-none _ _ (h.0).1 others.1)
+faultless P f (a ∷ l) h = let others = faultless P f l h.1 in (((h.0).0, others.0), none_both _ _ (h.0).1 others.1)
 
 -- a polygon's rings that can be written
 abbrev pub GoodRings : Dimension → List (List Coordinate) → Type 0
@@ -147,7 +143,7 @@ members_good f good one (a ∷ l) h =
     let parts = or_else_parts _ _ h.1 in
     (one a ((h.0).0, parts.0), members_good f good one l ((h.0).1, parts.1))
 
-count-geometries_of : (ts : Values) → count_geometries (geometries_of ts) ≡ count ts
+pub count-geometries_of : (ts : Values) → count_geometries (geometries_of ts) ≡ count ts
 count-geometries_of no_members = refl
 count-geometries_of (member t ts) = ap (λ n. 1 + n) (count-geometries_of ts)
 
@@ -158,30 +154,30 @@ value_good order own (point d None) x b h m = (tt, named_dimension d)
 value_good order own (point d (Some c)) x b h m = ((coordinate_good order d c x b h.2, h.1), named_dimension d)
 value_good order own (line_string d cs) x b h m =
     let good = coordinates_good order d cs x b h.1 in
-    (good.0, or_else-none _ _ (named_dimension d) good.1)
+    (good.0, none_both _ _ (named_dimension d) good.1)
 value_good order own (polygon d rings) x b h m =
     let both = counted_good (SpellsCoordinates order d) (GoodLine d) (coordinates_good order d) order rings x b h.1 in
     let all = faultless (AreValueCoordinates d) coordinates_fault rings both.1 in
-    (all.0, or_else-none _ _ (named_dimension d) (or_else-none _ _ (count_fault_none (length rings) both.0) all.1))
+    (all.0, none_both _ _ (named_dimension d) (none_both _ _ (count_fault_none (length rings) both.0) all.1))
 value_good order own (multi_point d l) x b h m =
     let fits = count_fault_none (length l) (number-lt order 4 (length l) x h.1 b) in
-    (members_good (point d) (IsValuePoint d) (λ c one. one.0) l m, or_else-none _ _ (named_dimension d) fits)
+    (members_good (point d) (IsValuePoint d) (λ c one. one.0) l m, none_both _ _ (named_dimension d) fits)
 value_good order own (multi_line_string d l) x b h m =
     let fits = count_fault_none (length l) (number-lt order 4 (length l) x h.1 b) in
     let all =
     faultless _ coordinates_fault l
     (members_good (line_string d) (GoodLine d) (λ cs one. (one.0, (or_else_parts _ _ one.1).1)) l m) in
-    (all.0, or_else-none _ _ (named_dimension d) (or_else-none _ _ fits all.1))
+    (all.0, none_both _ _ (named_dimension d) (none_both _ _ fits all.1))
 value_good order own (multi_polygon d l) x b h m =
     let fits = count_fault_none (length l) (number-lt order 4 (length l) x h.1 b) in
     let all =
     faultless _ rings_fault l
     (members_good (polygon d) (GoodRings d) (λ rings one. (one.0, (or_else_parts _ _ one.1).1)) l m) in
-    (all.0, or_else-none _ _ (named_dimension d) (or_else-none _ _ fits all.1))
+    (all.0, none_both _ _ (named_dimension d) (none_both _ _ fits all.1))
 value_good order own (collection d ts) x b h m =
     let fits =
     ap count_fault (count-geometries_of ts) ∙ count_fault_none (count ts) (number-lt order 4 (count ts) x h.1 b) in
-    (m.0, or_else-none _ _ (named_dimension d) (or_else-none _ _ fits m.1))
+    (m.0, none_both _ _ (named_dimension d) (none_both _ _ fits m.1))
 
 mutual
   pub spelled_good : (s : Spelling) (t : Value) (x : List ℕ) → AreBytes x → Spells s t x → Good t
@@ -197,7 +193,7 @@ mutual
       let bytes = bytes_of a b in
       let first = spelled_good s t a.front bytes.0 a.first.0 in
       let others = each_spelled_good w ss ts a.rest bytes.1 a.second in
-      ((first.0, others.0), or_else-none _ _ first.1 others.1)
+      ((first.0, others.0), none_both _ _ first.1 others.1)
   each_spelled_good w _ _ x b a = absurd a
 
 -- the bytes that an input begins with

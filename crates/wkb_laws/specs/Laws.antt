@@ -4,8 +4,8 @@ use Rattle.std.proofs.Common.{None, Bool, ◌^◌, is_some, if◌then◌else◌}
 use Rattle.std.proofs.Common.{Option}
 use Rattle.wkb_laws.specs.Prelude.{Endianness, Dimension, Form, Iso, Ewkb, AreBytes, Value, Values, no_members, member}
 use Rattle.wkb_laws.specs.Prelude.{count, nest, nest_each, member_count}
-use Rattle.wkb_laws.specs.Prelude.{member_count_each, listed_count, Spelling, Spellings, Spells, SpellsEach, Wanted, any}
-use Rattle.wkb_laws.specs.Prelude.{srid_count, header, Front, max_nesting}
+use Rattle.wkb_laws.specs.Prelude.{member_count_each, listed_count, Spelling, Spellings, Spells, SpellsEach, Wanted}
+use Rattle.wkb_laws.specs.Prelude.{any, srid_count, header, Front, max_nesting}
 use Rattle.wkb_laws.specs.Prelude.{ShortPoint, ShortLineString, ShortLinearRing, ShortMultiPoint, Cause, end_of_input}
 use Rattle.wkb_laws.specs.Prelude.{general, slots_asked, OpensCounted, Refuses}
 use Rattle.wkb_laws.specs.Prelude.{named, as_dimensions, Geometry, IsGeometry, normal, geometry_of, byte_size, encoding}

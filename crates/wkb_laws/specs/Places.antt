@@ -62,6 +62,10 @@ first_size (suc k) ss ts = 0
 abbrev pub member_start : ℕ → Spelling → Value → ℕ
 member_start k (node h words ss) t = behind_count (node h words ss) + first_size k ss (members t)
 
+-- The first member begins where the count ends.
+abbrev pub FirstStart : Type 0
+FirstStart = (whole : Spelling) (value : Value) → member_start 0 whole value ≡ behind_count whole
+
 -- A member begins where the one before it ends.
 abbrev pub NextStart : Type 0
 NextStart = (k : ℕ) (whole : Spelling) (value : Value) (s : Spelling) (t : Value) → IsMember k whole value s t
@@ -70,6 +74,17 @@ NextStart = (k : ℕ) (whole : Spelling) (value : Value) (s : Spelling) (t : Val
 -- where the ring of this number begins: after the count and the rings before it
 abbrev pub ring_start : ℕ → Spelling → Dimension → List (List Coordinate) → ℕ
 ring_start j s d rings = behind_count s + sum_by (λ cs. ring_end d (length cs)) (take j rings)
+
+-- The first ring begins where the count ends.
+abbrev pub FirstRingStart : Type 0
+FirstRingStart =
+    (s : Spelling) (d : Dimension) (rings : List (List Coordinate)) → ring_start 0 s d rings ≡ behind_count s
+
+-- A ring begins where the one before it ends.
+abbrev pub NextRingStart : Type 0
+NextRingStart = (j : ℕ) (s : Spelling) (d : Dimension) (rings : List (List Coordinate)) (ring : List Coordinate)
+    → slice_get rings j ≡ Some ring
+    → ring_start (suc j) s d rings ≡ ring_start j s d rings + ring_end d (length ring)
 
 -- the bytes of a part are those of the whole from an offset on
 pub record StandsAt (start : ℕ) (part whole : List ℕ) : Type 0 where

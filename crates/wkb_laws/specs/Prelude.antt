@@ -8,8 +8,7 @@ pub use Rattle.wkb_geom.specs.declared.{code.WkbType.WkbType, header.Head.Head, 
 pub use Rattle.wkb_geom.specs.declared.{error.Cause.Cause}
 pub use Rattle.wkb_geom.specs.declared.error.Cause.TheVariants.{EndOfInput as end_of_input, General as general}
 pub use Rattle.wkb_geom.specs.declared.error.Cause.TheVariants.{IncorrectType as incorrect_type}
-pub use Rattle.wkb_geom.specs.declared.error.Cause.TheVariants.{NestingDepthExceeded as nesting_depth_exceeded}
-pub use Rattle.wkb_geom.specs.declared.error.General.TheVariants.{CodeOutOfRange, InvalidByteOrder, ShortPoint}
+pub use Rattle.wkb_geom.specs.declared.error.General.TheVariants.{InvalidByteOrder, ShortPoint}
 pub use Rattle.wkb_geom.specs.declared.error.General.TheVariants.{ShortLineString}
 pub use Rattle.wkb_geom.specs.declared.error.General.TheVariants.{ShortLinearRing, ShortMultiPoint}
 pub use Rattle.wkb_geom.specs.Numbers.{AreBytes, IsNumber, IsWord, order_byte, all_nan, empty_word}

@@ -2,7 +2,8 @@
 
 ghost use Rattle.wkb_laws.specs.Places.{HasOneEncoding, HaveOneEncoding, CoordinateHasOneEncoding};
 ghost use Rattle.wkb_laws.specs.Places.{MembersStand, RingsStand, MembersInPlace, RingsInPlace};
-ghost use Rattle.wkb_laws.specs.Places.{NextStart, WordsStand, LineStringWordsStand};
+ghost use Rattle.wkb_laws.specs.Places.{FirstStart, NextStart, FirstRingStart, NextRingStart};
+ghost use Rattle.wkb_laws.specs.Places.{WordsStand, LineStringWordsStand};
 
 /// A spelling and a value have one encoding: whatever bytes spell both are the same bytes.
 #[tactic(auto, using(crate::proofs::OneEncoding::one_encoding_lem))]
@@ -34,10 +35,12 @@ pub fn members_in_place()
     ensures { MembersInPlace }
 {}
 
-/// A member begins where the one before it ends, and the first of them at the end of the count.
-#[tactic(auto, using(crate::proofs::PartsInPlace::next_start_lem))]
+/// A member begins where the one before it ends, and the first of them where the count ends. So do rings.
 pub fn next_start()
-    ensures { NextStart }
+    ensures first { FirstStart }
+    ensures next { NextStart }
+    ensures first_ring { FirstRingStart }
+    ensures next_ring { NextRingStart }
 {}
 
 /// The bytes that spell a ring are those of its polygon at its place: after the count and the rings before it.

@@ -1,13 +1,13 @@
 -- A collection that is spelled as it is written.
-use Rattle.wkb_read.proofs.Prelude.{◌≡◌, ℕ, List, [], ◌∷◌, Bool, refl, ap, ◌∙◌, AllByRecursion, Layout, Endianness, Item}
-use Rattle.wkb_read.proofs.Prelude.{spellings, values, geometries_of, list_item, collection_with}
+use Rattle.wkb_read.proofs.Prelude.{◌≡◌, ℕ, List, [], ◌∷◌, Bool, refl, ap, ◌∙◌, AllByRecursion, Layout, Endianness}
+use Rattle.wkb_read.proofs.Prelude.{Item, spellings, values, geometries_of, list_item, collection_with}
 use Rattle.wkb_read.specs.Prelude.{IsSpelledAsWritten}
 use Rattle.wkb_geom.specs.Dimensions.{as_dimensions, written_dimension}
 use Rattle.wkb_geom.specs.Encodings.{inner, form_with_flags}
 use Rattle.wkb_geom.specs.Numbers.{AreBytes}
 use Rattle.wkb_geom.specs.Spellings.{Spellings, node}
 use Rattle.wkb_laws.specs.Written.{written_header, written_each}
-use Rattle.wkb_view.proofs.Whole.{HasWrittenHeader, header_spelled, as_member}
+use Rattle.wkb_view.proofs.Encoded.{HasWrittenHeader, header_spelled, as_member}
 
 -- members that are spelled as they are written
 members_written : (order : Endianness) (has_flags : Bool) (members : List Item)

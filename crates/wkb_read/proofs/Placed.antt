@@ -1,11 +1,12 @@
 -- The bytes of the members of open collections.
-use Rattle.wkb_read.proofs.Prelude.{collection, member_count, listed_count, list_item, collection_with, Head, ◌≡◌, ℕ, ◌+◌}
-use Rattle.wkb_read.proofs.Prelude.{◌-◌, ◌≤◌, List, [], ◌∷◌, ◌++◌, length, take, drop, Ok, Err, refl, sym, ap, subst, ◌∙◌}
-use Rattle.wkb_read.proofs.Prelude.{append_assoc, append-nil, Bool, Option, length-append, length-drop, slice_get}
-use Rattle.wkb_read.proofs.Prelude.{AllByRecursion, ∥∥₁_elim, props, arith, Bor, Layout, any, number, Listed, Values}
-use Rattle.wkb_read.proofs.Prelude.{Item, Reading, body_start, parts_start, consumed, spellings, values, Counts, HasHead}
-use Rattle.wkb_read.proofs.Prelude.{BytesSpell, Wkb, Whole, joined_encodings, parts_in, HoldsMembers, IsCollectionIn}
-use Rattle.wkb_read.proofs.Prelude.{AreMembers, IsMemberAt, geometry_inside, IsFinished, BeginsAs, max_nesting}
+use Rattle.wkb_read.proofs.Prelude.{collection, member_count, listed_count, list_item, collection_with, Head, ◌≡◌, ℕ}
+use Rattle.wkb_read.proofs.Prelude.{◌+◌, ◌-◌, ◌≤◌, List, [], ◌∷◌, ◌++◌, length, take, drop, Ok, Err, refl, sym, ap}
+use Rattle.wkb_read.proofs.Prelude.{subst, ◌∙◌, append_assoc, append-nil, Bool, Option, length-append, length-drop}
+use Rattle.wkb_read.proofs.Prelude.{slice_get, AllByRecursion, ∥∥₁_elim, props, arith, Bor, Layout, any, number, Listed}
+use Rattle.wkb_read.proofs.Prelude.{Values, Item, Reading, body_start, parts_start, consumed, spellings, values, Counts}
+use Rattle.wkb_read.proofs.Prelude.{HasHead, BytesSpell, Wkb, Whole, joined_encodings, parts_in, HoldsMembers}
+use Rattle.wkb_read.proofs.Prelude.{IsCollectionIn, AreMembers, IsMemberAt, geometry_inside, IsFinished, BeginsAs}
+use Rattle.wkb_read.proofs.Prelude.{max_nesting}
 use Rattle.wkb_geom.specs.declared.code.WkbType.TheVariants as kinds
 use Rattle.wkb_geom.specs.Numbers.{IsNumber}
 use Rattle.wkb_geom.specs.Spellings.{SpellsEach}

@@ -13,14 +13,14 @@ pub use Rattle.std.proofs.Math.Logic.{∥∥₁_elim}
 pub use Rattle.std.proofs.Props.{props}
 pub use Rattle.wkb_geom.specs.declared.common.Endianness.TheVariants.{LittleEndian}
 pub use Rattle.wkb_geom.specs.Reading.{◌⊕◌, slots_of, then_body}
-pub use Rattle.wkb_read.specs.Prelude.{WkbType, Endianness, Cause, Refusal, WkbError, Head, Layout, max_nesting, Geometry}
-pub use Rattle.wkb_read.specs.Prelude.{Geometries, geometries, geometry_of, geometries_of, IsGeometry, number, Item, Cost}
-pub use Rattle.wkb_read.specs.Prelude.{free, one_turn, Outcome, Reading, costs, done, list_item, collection_with}
-pub use Rattle.wkb_read.specs.Prelude.{collection_within, layout_of, laid, at_no_cost, and_then, consumed, body_start}
-pub use Rattle.wkb_read.specs.Prelude.{parts_start, type_kind, type_dimension, too_deep, body_at, values, spellings}
-pub use Rattle.wkb_read.specs.Prelude.{Refuses, any, Listed, Tells, TellsRefusal, Coordinate, Value, Values}
-pub use Rattle.wkb_read.specs.Prelude.{collection, member_count, listed_count, Counts, HasHead, IsCause, Spent, AtMost}
-pub use Rattle.wkb_read.specs.Prelude.{CanCount, Stops, BytesSpell, count_in}
+pub use Rattle.wkb_read.specs.Prelude.{WkbType, Endianness, Cause, Refusal, WkbError, Head, Layout, max_nesting}
+pub use Rattle.wkb_read.specs.Prelude.{Geometry, Geometries, geometries, geometry_of, geometries_of, IsGeometry, number}
+pub use Rattle.wkb_read.specs.Prelude.{Item, Cost, free, one_turn, Outcome, Reading, costs, done, list_item}
+pub use Rattle.wkb_read.specs.Prelude.{collection_with, collection_within, layout_of, laid, at_no_cost, and_then}
+pub use Rattle.wkb_read.specs.Prelude.{consumed, body_start, parts_start, type_kind, type_dimension, too_deep, body_at}
+pub use Rattle.wkb_read.specs.Prelude.{values, spellings, Refuses, any, Listed, Tells, TellsRefusal, Coordinate, Value}
+pub use Rattle.wkb_read.specs.Prelude.{Values, collection, member_count, listed_count, Counts, HasHead, IsCause, Spent}
+pub use Rattle.wkb_read.specs.Prelude.{AtMost, CanCount, Stops, BytesSpell, count_in}
 unfoldable pub use Rattle.wkb_read.specs.Prelude.{repeated, head_at, by_type_told, geometry_told, collection_told}
 pub use Rattle.wkb_read.specs.Prelude.{by_type, geometry_at, collection_at}
 pub use Rattle.wkb_laws.specs.Laws.{Agrees}

@@ -19,7 +19,8 @@ pub use Rattle.wkb_geom.specs.Reading.{consumed, body_start, count_in, parts_sta
 pub use Rattle.wkb_geom.specs.Reading.{layout_of, laid}
 pub use Rattle.wkb_geom.specs.Reading.{list_item, collection_with, collection_within, spelled_in, spellings, values}
 pub use Rattle.wkb_geom.specs.Reading.{too_deep, body_at}
-unfoldable pub use Rattle.wkb_geom.specs.Reading.{head_at, repeated, polygon_told, multi_line_string_told, multi_polygon_told}
+unfoldable pub use Rattle.wkb_geom.specs.Reading.{head_at, repeated, polygon_told, multi_line_string_told}
+unfoldable pub use Rattle.wkb_geom.specs.Reading.{multi_polygon_told}
 pub use Rattle.wkb_geom.specs.Reading.{polygon_at, multi_line_string_at, multi_polygon_at}
 unfoldable pub use Rattle.wkb_geom.specs.Reading.{collection_told, by_type_told, geometry_told}
 pub use Rattle.wkb_geom.specs.Reading.{collection_at, by_type, geometry_at}
@@ -37,4 +38,4 @@ pub use Rattle.wkb_view.specs.Parts.{list_of_values, members_spelled, IsCollecti
 pub use Rattle.wkb_view.specs.Spelled.{BytesSpell, srid_of}
 pub use Rattle.wkb_view.specs.Members.{polygon_seen, multi_line_string_seen, multi_polygon_seen}
 pub use Rattle.wkb_view.specs.Views.{point_seen, line_string_seen, multi_point_seen}
-pub use Rattle.wkb_view.specs.Lent.{IsSpelledAsWritten}
+pub use Rattle.wkb_view.specs.SpelledAsWritten.{IsSpelledAsWritten}

@@ -1,7 +1,7 @@
 -- What the result of reading says of the input.
 use Rattle.std.specs.Prelude.{◌≡◌, ℕ, ◌+◌, ◌*◌, ◌≤◌, List, length, Bool, Result, Ok, Err, IfOk, IfErr}
-use Rattle.wkb_read.specs.Prelude.{Endianness, Dimension, Iso, WkbError, Value, member_count, listed_count, Spelling, any}
-use Rattle.wkb_read.specs.Prelude.{Front, HasNoFront, max_nesting, Cause, Refuses, Opens, Tells, geometry_of}
+use Rattle.wkb_read.specs.Prelude.{Endianness, Dimension, Iso, WkbError, Value, member_count, listed_count, Spelling}
+use Rattle.wkb_read.specs.Prelude.{any, Front, HasNoFront, max_nesting, Cause, Refuses, Opens, Tells, geometry_of}
 use Rattle.wkb_read.specs.Prelude.{IsWritable, Item, Counts, IsGeometry, normal}
 use Rattle.wkb_read.specs.Memory.{IsNotMemory}
 use Rattle.wkb_read.specs.Seen.{geometry_seen}

@@ -139,11 +139,11 @@ impl<'a> GeometryCollection<'a> {
         self.layout.srid(self.buf)
     }
 
-    /// Whether its bytes are known to be its encoding in this order, with EWKB's flags or without, and with no SRID. Its
-    /// own header is looked at, and then each member, up to the first that would be written otherwise.
+    /// Whether its bytes are known to be its encoding in this order, with EWKB's flags or without, and with no SRID.
+    /// Its own header is looked at, and then each member, up to the first that would be written otherwise.
     ///
-    /// The last call looks at the last member. The compiler makes it a jump, so that the stack stays flat along a chain of
-    /// collections.
+    /// The last call looks at the last member. The compiler makes it a jump, so that the stack stays flat along a chain
+    /// of collections.
     #[cycle(spellings)]
     fn is_as_written(&self, order: Endianness, has_flags: bool) -> bool
         ensures { result ≡ true → IsSpelledAsWritten order has_flags (collection_seen self.now) }
@@ -301,8 +301,8 @@ impl<'a> Wkb<'a> {
         }
     }
 
-    /// Whether its bytes are known to be its encoding in this order, with EWKB's flags or without, and with no SRID. Most
-    /// geometries have no members, and take no call.
+    /// Whether its bytes are known to be its encoding in this order, with EWKB's flags or without, and with no SRID.
+    /// Most geometries have no members, and take no call.
     #[cycle(spellings)]
     #[inline(always)]
     fn is_as_written(&self, order: Endianness, has_flags: bool) -> bool
@@ -333,7 +333,7 @@ impl<'a> Wkb<'a> {
 
     /// Its bytes, if they are known to be its encoding in this order, with EWKB's flags or without, and with no SRID.
     #[inline(always)]
-    fn lent(&self, order: Endianness, has_flags: bool) -> Option<&[u8]>
+    fn as_written_without_srid(&self, order: Endianness, has_flags: bool) -> Option<&[u8]>
         ensures encoding { IfSome result (λ b. b.now
             ≡ encoding order (form_with_flags has_flags) (geometry_seen self.now)) }
         ensures writable { IfSome result (λ _. fault (geometry_seen self.now) ≡ None) }
@@ -417,11 +417,11 @@ impl<'a> GeometryTrait for Wkb<'a> {
     ///
     /// None if a point in them is empty, and where there is an SRID or one is to be written.
     #[inline(always)]
-    fn whole(&self, order: Endianness, form: Form) -> Option<&[u8]> {
+    fn as_written(&self, order: Endianness, form: Form) -> Option<&[u8]> {
         // Here the flags are constants, for which the compiler makes each call code of its own.
         match form {
-            Form::Iso => self.lent(order, false),
-            Form::Ewkb { srid: None } => self.lent(order, true),
+            Form::Iso => self.as_written_without_srid(order, false),
+            Form::Ewkb { srid: None } => self.as_written_without_srid(order, true),
             Form::Ewkb { srid: Some(_) } => None,
         }
     }

@@ -8,13 +8,13 @@ use Rattle.wkb_laws.specs.Prelude.{dimension, members, each, count}
 use Rattle.wkb_laws.specs.Prelude.{point, line_string, polygon, multi_point, multi_line_string, multi_polygon}
 use Rattle.wkb_laws.specs.Prelude.{collection}
 use Rattle.wkb_laws.specs.Prelude.{Spelling, node, Spellings, no_spellings, spelling, Spells, SpellsEach, Wanted}
-use Rattle.wkb_laws.specs.Prelude.{geometry_of, geometries_of, encoding, encodings, inner, count_geometries}
+use Rattle.wkb_laws.specs.Prelude.{geometry_of, geometries_of, encoding, encodings, inner}
 use Rattle.wkb_laws.specs.Prelude.{number_bytes}
 use Rattle.wkb_laws.specs.Prelude.{written_dimension, as_dimensions}
 unfoldable use Rattle.wkb_laws.specs.Prelude.{words_encoding, coordinates_encoding, point_encoding}
 unfoldable use Rattle.wkb_laws.specs.Prelude.{line_string_encoding}
 unfoldable use Rattle.wkb_laws.specs.Prelude.{polygon_encoding, members_encoding, header_encoding}
-use Rattle.wkb_laws.proofs.Values.{same_dimension}
+use Rattle.wkb_laws.proofs.Values.{same_dimension, count-geometries_of}
 use Rattle.wkb_check.specs.Pieces.{rings_of}
 use Rattle.wkb_sink.proofs.Turned.{words_joined}
 use Rattle.wkb_rewrite.specs.Shares.{Share, share_encoding}
@@ -56,10 +56,6 @@ each_encoded : {A : Type 0} (order : Endianness) (form : Form) (f : A → Value)
 each_encoded order form f [] = refl
 each_encoded order form f (a ∷ l) = ap (λ z. encoding order form (geometry_of (f a)) ++ z) (each_encoded order form f l)
 
-geometries_counted : (ts : Values) → count_geometries (geometries_of ts) ≡ count ts
-geometries_counted no_members = refl
-geometries_counted (member t ts) = ap (λ n. 1 + n) (geometries_counted ts)
-
 -- the encoding of what is inside a value
 abbrev pub inside : Endianness → Form → Value → List ℕ
 inside order form t =
@@ -100,7 +96,7 @@ encoded_apart order form (multi_polygon d polygons) =
     (sym (each_encoded order (inner form) (polygon d) polygons))
 encoded_apart order form (collection d ts) =
     ap (λ n. members_encoding order form 7 (written_dimension (as_dimensions d)) n
-    (encodings order (inner form) (geometries_of ts))) (geometries_counted ts)
+    (encodings order (inner form) (geometries_of ts))) (count-geometries_of ts)
     ∙ members_apart order form 7 _ d (count ts) _ _ (same_dimension d) refl
 
 mutual

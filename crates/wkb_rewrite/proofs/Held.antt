@@ -23,7 +23,8 @@ use Rattle.wkb_laws.proofs.EncodingSpells.{IsNumber-number_bytes}
 use Rattle.wkb_laws.proofs.OneEncoding.{number_fixed}
 use Rattle.wkb_check.specs.declared.pieces.Piece.{Piece}
 use Rattle.wkb_check.specs.Pieces.{own_end}
-use Rattle.wkb_rewrite.specs.Shares.{Holds, other, own_words, word_count, written_words, is_empty}
+use Rattle.wkb_sink.specs.Runs.{other}
+use Rattle.wkb_rewrite.specs.Shares.{Holds, own_words, word_count, written_words, is_empty}
 
 taken_bytes : (n : ℕ) (z : List ℕ) → AreBytes z → AreBytes (take n z) × AreBytes (drop n z)
 taken_bytes n z b =

@@ -1,13 +1,12 @@
 -- How long an encoding is, by the SRIDs of the pieces.
 use Rattle.std.proofs.Common.{◌≡◌, ℕ, ◌+◌, ◌*◌, ◌≤◌, List, [], ◌∷◌, ◌++◌, length, is_some, Bool, true, false}
-use Rattle.std.proofs.Common.{if◌then◌else◌}
 use Rattle.std.proofs.Common.{refl, sym, ap, ◌∙◌, arith, length-append}
 use Rattle.wkb_laws.specs.Prelude.{Endianness, Dimension, Form, Coordinate, AreBytes, Value, Values, no_members, member}
 use Rattle.wkb_laws.specs.Prelude.{dimension, members, Spelling, node, Spellings, no_spellings, spelling, Spells}
 use Rattle.wkb_laws.specs.Prelude.{SpellsEach}
 use Rattle.wkb_laws.specs.Prelude.{Wanted, srid_count, srid_count_each, srid_size, ring_end, form_srid, IsForm}
 use Rattle.wkb_laws.specs.Prelude.{geometry_of, encoding}
-use Rattle.wkb_laws.proofs.Lengths.{spelled_length, encoding_length, value_size}
+use Rattle.wkb_laws.proofs.Lengths.{spelled_length, encoding_length, value_size, srid_size_is}
 use Rattle.wkb_laws.proofs.OneFront.{one_spelling}
 use Rattle.wkb_laws.proofs.Values.{spelled_good, normal-geometry_of, lawful-geometry_of}
 use Rattle.wkb_check.specs.declared.pieces.Piece.{Piece}
@@ -31,10 +30,6 @@ rings_have_none : (order : Endianness) (d : Dimension) (at : ℕ) (rings : List 
 rings_have_none order d at [] = refl
 rings_have_none order d at (cs ∷ rings) = omega (arith, rings_have_none order d (at + ring_end d (length cs)) rings)
 
-size_counted : (some : Bool) → srid_size some ≡ 4 * (if some then 1 else 0)
-size_counted true = refl
-size_counted false = refl
-
 pub most_srid : (some : Bool) → srid_size some ≤ 4
 most_srid true = omega arith
 most_srid false = omega arith
@@ -45,7 +40,7 @@ mutual
   srids_counted at (node h words ss) t x a =
       omega (
         arith,
-        size_counted (is_some h.srid),
+        srid_size_is (is_some h.srid),
         sizes_append (pieces_of_rings h.order (dimension t) (at + leading h t) (rings_of t))
             (pieces_of_each (at + leading h t) ss (members t)),
         rings_have_none h.order (dimension t) (at + leading h t) (rings_of t),
@@ -81,7 +76,7 @@ measured order form buf bytes g b h long =
     omega (
       arith,
       long,
-      size_counted (is_some (form_srid form)),
+      srid_size_is (is_some (form_srid form)),
       srids_counted 0 g.spelled g.value g.begins.front g.begins.first,
       spelled_length g.spelled g.value g.begins.front g.begins.first,
       encoding_length order form (geometry_of g.value) h (lawful-geometry_of g.value good.0) good.1,

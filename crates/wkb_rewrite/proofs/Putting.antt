@@ -2,15 +2,17 @@
 use Rattle.std.proofs.Common.{◌≡◌, ℕ, ◌+◌, ◌≤◌, List, ◌++◌, length, take, drop, refl, sym, ap, ◌∙◌, arith, append_assoc}
 use Rattle.std.proofs.Common.{length-append, ◌≢◌, ◌∷◌, [], Option, Some, None, slice_set, if◌then◌else◌}
 use Rattle.std.proofs.lemmas.Bool.{ne_eqb}
-use Rattle.std.proofs.lemmas.List.{drop-drop}
+use Rattle.std.proofs.Common.{◌*◌, ◌/◌, replicate}
+use Rattle.std.proofs.lemmas.List.{drop-drop, take_all}
 use Rattle.std.proofs.lemmas.List.Edits.{sets-eq}
 use lib.Seq.{sets, length-sets}
-use Rattle.byteorder.specs.Numbers.{length-bytes_high_first, length-bytes_low_first}
-use Rattle.wkb_laws.specs.Prelude.{Endianness, BigEndian, LittleEndian, Dimension, Form, order_byte, form_srid}
-use Rattle.wkb_laws.specs.Prelude.{type_kind, type_dimension, type_of}
+use Rattle.wkb_laws.specs.Prelude.{Endianness, Dimension, Form, order_byte, form_srid}
+use Rattle.wkb_laws.specs.Prelude.{type_kind, type_dimension, type_of, empty_word, words_encoding}
 unfoldable use Rattle.wkb_laws.specs.Prelude.{number_bytes, header_encoding, code_of, srid_encoding}
 use borrow.Rule.Slice.PartMut.{put_mid}
 use Rattle.wkb_check.proofs.Placing.{sets_after}
+use Rattle.wkb_sink.specs.Blocks.{LaysAt}
+use Rattle.wkb_sink.proofs.Lengths.{length-number}
 use Rattle.wkb_rewrite.specs.Shares.{IsPut, header_part, count_part}
 
 -- a part of a slice that was borrowed
@@ -32,11 +34,6 @@ put_on a b c i j k xs ys p q = record {
 pub put_length : (a b : List ℕ) (i j : ℕ) (xs : List ℕ) → IsPut a b i j xs → length b ≡ length a
 put_length a b i j xs p = ap length p.put ∙ length-sets a i xs
 
-pub number_long : (order : Endianness) (n x : ℕ) → length (number_bytes order n x) ≡ n
-unfolding number_bytes
-number_long BigEndian n x = length-bytes_high_first n x
-number_long LittleEndian n x = length-bytes_low_first 0 n x
-
 -- ---- headers
 
 -- a header's three parts, as they are put
@@ -53,7 +50,7 @@ header_is order form k d byte code srid some b c s =
 pub header_long : (order : Endianness) (byte code : ℕ) (srid : Option ℕ)
     → length (byte ∷ (number_bytes order 4 code ++ srid_encoding order srid)) ≡ 5 + length (srid_encoding order srid)
 header_long order byte code srid =
-    omega (arith, length-append (number_bytes order 4 code) (srid_encoding order srid), number_long order 4 code)
+    omega (arith, length-append (number_bytes order 4 code) (srid_encoding order srid), length-number order 4 code)
 
 pub byte_put : (out : List ℕ) (at byte : ℕ) → IsPut out (slice_set out at byte) at (at + 1) (byte ∷ [])
 byte_put out at byte = record { end_is = omega arith; put = refl }
@@ -79,4 +76,16 @@ nothing_put out at = record { end_is = omega arith; put = refl }
 
 -- where a number of four bytes ends
 pub put_end : (order : Endianness) (x : ℕ) (a b : List ℕ) (i j : ℕ) → IsPut a b i j (number_bytes order 4 x) → j ≡ i + 4
-put_end order x a b i j p = omega (arith, p.end_is, number_long order 4 x)
+put_end order x a b i j p = omega (arith, p.end_is, length-number order 4 x)
+
+-- ---- empty points
+
+-- as many empty words as there is room for are all that there is
+pub all_empty : (order : Endianness) (out new : List ℕ) (end n : ℕ)
+    → LaysAt 0 end out new (words_encoding order (replicate (length out / 8) empty_word))
+    → end ≡ 8 * (length out / 8) → length new ≡ length out → length out ≡ 8 * n
+    → new ≡ words_encoding order (replicate n empty_word)
+all_empty order out new end n laid ends same long =
+    let many : length out / 8 ≡ n = omega (arith, long) in
+    sym (take_all end new (omega (arith, ends, same, long, many)))
+    ∙ laid.is ∙ ap (λ k. words_encoding order (replicate k empty_word)) many

@@ -5,7 +5,6 @@ use Rattle.std.specs.List.{AllByRecursion}
 use lib.Seq.{sets}
 use Rattle.wkb_geom.specs.declared.common.Dimension.{Dimension}
 use Rattle.wkb_geom.specs.declared.common.Endianness.{Endianness}
-use Rattle.wkb_geom.specs.declared.common.Endianness.TheVariants.{BigEndian, LittleEndian}
 use Rattle.wkb_geom.specs.declared.common.Form.{Form}
 use Rattle.wkb_geom.specs.declared.code.TheConstants.{POINT, POLYGON}
 use Rattle.wkb_geom.specs.Dimensions.{width}
@@ -19,11 +18,6 @@ use Rattle.wkb_check.specs.declared.pieces.TheConstants.{RING}
 pub record Holds (order : Endianness) (words bytes : List ℕ) : Type 0 where
   pub fit : AllByRecursion IsWord words
   pub is : bytes ≡ words_encoding order words
-
--- the order that this one isn't
-abbrev pub other : Endianness → Endianness
-other BigEndian = LittleEndian
-other LittleEndian = BigEndian
 
 -- how many words a piece itself has
 abbrev pub word_count : Piece → ℕ

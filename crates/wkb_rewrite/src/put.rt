@@ -5,7 +5,8 @@ ghost use Rattle.wkb_geom.specs.declared.words.TheConstants.{COUNT_SIZE, WORD_SI
 ghost use Rattle.wkb_geom.specs.Encodings.{srid_encoding, words_encoding};
 ghost use Rattle.wkb_geom.specs.Numbers.{number_bytes, empty_word};
 ghost use Rattle.wkb_check.specs.Pieces.{own_end};
-ghost use Rattle.wkb_rewrite.specs.Shares.{Holds, other, header_part, count_part, word_count};
+ghost use Rattle.wkb_sink.specs.Runs.{other};
+ghost use Rattle.wkb_rewrite.specs.Shares.{Holds, header_part, count_part, word_count};
 ghost use Rattle.wkb_rewrite.specs.Shares.{written_words, share_in, share_encoding, IsPut};
 
 use crate::own::{is_empty_point, own_bytes};
@@ -13,9 +14,9 @@ use crate::target::Target;
 use wkb_check::{Piece, RING};
 use wkb_geom::Endianness;
 use wkb_geom::code::{POINT, of_kind};
-use wkb_geom::words::{COUNT_SIZE, EMPTY_WORD, WORD_SIZE};
-use wkb_sink::block::code_and_srid;
-use wkb_sink::{store_word, store_words, u32_bytes};
+use wkb_geom::words::{COUNT_SIZE, WORD_SIZE};
+use wkb_sink::block::{code_and_srid, lay_empty};
+use wkb_sink::{store_words, u32_bytes};
 
 /// Puts a number of four bytes, and returns the index after it.
 #[inline(always)]
@@ -71,13 +72,13 @@ fn put_count(piece: &Piece, order: Endianness, out: &mut [u8], at: usize) -> usi
 
 /// Stores the empty word in each place.
 #[inline(always)]
+#[tactic(auto, using(crate::proofs::Putting::all_empty))]
 fn store_empty(out: &mut [u8], order: Endianness)
     ensures { (n : ℕ) → length out.old ≡ WORD_SIZE * n
         → out.new ≡ words_encoding order (replicate n empty_word) }
 {
-    for i in 0..out.len() / WORD_SIZE {
-        store_word(&mut out[WORD_SIZE * i..], order, EMPTY_WORD);
-    }
+    let words = out.len() / WORD_SIZE;
+    lay_empty(out, 0, order, words);
 }
 
 /// Stores in an order the words that these bytes hold in the other one.

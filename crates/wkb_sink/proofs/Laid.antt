@@ -2,7 +2,8 @@
 use Rattle.wkb_sink.proofs.Prelude.{◌≡◌, ℕ, ◌+◌, ◌≤◌, ◌<◌, List, [], ◌++◌, Option, refl, sym, ap, ◌∙◌, subst, length}
 use Rattle.wkb_sink.proofs.Prelude.{append_assoc, append-nil, arith, length-append, Bool, true, false, Result, Ok, Err}
 use Rattle.wkb_sink.proofs.Prelude.{Appends, Stopped, LaysAt, Waiting, block_size, Progress, IsReady, IsLaid, IsShort}
-use Rattle.wkb_sink.proofs.Prelude.{IsBroken, IsCut, Advances, progress, IsBegun, IsWritten, MIN_BLOCK, take, take_all, length-take-le, ◌-◌}
+use Rattle.wkb_sink.proofs.Prelude.{IsBroken, IsCut, Advances, progress, IsBegun, IsWritten, MIN_BLOCK, take, take_all}
+use Rattle.wkb_sink.proofs.Prelude.{length-take-le, ◌-◌}
 use Rattle.std.specs.Prelude.{IsErrAnd, IfOk, MatchResult}
 use Rattle.std.proofs.Common.{◌⊎◌, inl, inr}
 use Rattle.std.proofs.lemmas.Bool.{cases_lt}

@@ -1,9 +1,11 @@
 -- Words that are read in one order, and stored in another.
 use Rattle.wkb_sink.proofs.Prelude.{◌≡◌, ℕ, zero, suc, ◌+◌, ◌-◌, ◌*◌, ◌<◌, ◌≤◌, List, [], ◌∷◌, ◌++◌, length, take, drop}
-use Rattle.wkb_sink.proofs.Prelude.{Some, refl, sym, ap, ◌∙◌, arith, slice_get, length-append, flat_map}
+use Rattle.wkb_sink.proofs.Prelude.{Some, refl, sym, ap, ◌∙◌, arith, slice_get, slice_index, length-append, flat_map}
 use Rattle.wkb_sink.proofs.Prelude.{flat_map-append, length-drop, length-take-le, Endianness, words_encoding}
 use Rattle.std.proofs.Math.Nat.{mul-add}
 use Rattle.std.specs.List.{AllByRecursion, concat}
+use Rattle.std.proofs.lemmas.List.Concat.{concat_is}
+use Rattle.std.proofs.lemmas.Option.{slice_get-get_or}
 use Rattle.std.proofs.Math.Seq.{drop-append-add, take-append-add}
 use Rattle.byteorder.specs.Numbers.{big_number-reads_back, little_number-reads_back, length-bytes_high_first}
 use Rattle.byteorder.specs.Numbers.{length-bytes_low_first}
@@ -45,7 +47,27 @@ word_at order (w ∷ ws) (suc i) h there =
     let place : 8 * suc i ≡ length first + 8 * i = omega (arith, word_length order w) in
     rw (place, drop-append-add first rest (8 * i)) (word_at order ws i h.1 (omega arith))
 
--- one word more is read in one order, and stored in another
+-- one word more is stored
+one_word_more : (order : Endianness) (words all part : List ℕ) (i k word : ℕ)
+    → take (8 * i) all ≡ words_encoding order (take i words) → slice_get words i ≡ Some word
+    → take 8 part ≡ number_bytes order 8 word → 8 * i ≤ length all → 8 ≤ length part
+    → take (8 * (i + 1)) (put_mid (8 * i) k all part) ≡ words_encoding order (take (i + 1) words)
+unfolding words_encoding
+one_word_more order words all part i k word behind item stored fits part_fits =
+    let next : 8 * (i + 1) ≡ 8 * i + 8 = omega arith in
+    rw next (stored_next _ _ _ _ (8 * i) 8 _ behind fits stored part_fits)
+    ∙ sym (flat_map_step (number_bytes order 8) words i word item)
+
+-- of words at hand
+pub stored_more : (order : Endianness) (words all part : List ℕ) (i k : ℕ)
+    → take (8 * i) all ≡ words_encoding order (take i words)
+    → take 8 part ≡ number_bytes order 8 (slice_index words i)
+    → i < length words → 8 * i ≤ length all → 8 ≤ length part
+    → take (8 * (i + 1)) (put_mid (8 * i) k all part) ≡ words_encoding order (take (i + 1) words)
+stored_more order words all part i k behind stored more fits part_fits =
+    one_word_more order words all part i k _ behind (slice_get-get_or words i 0 more) stored fits part_fits
+
+-- of words that are read in one order, and stored in another
 pub turned_more : (held order : Endianness) (words lent all part : List ℕ) (i k word : ℕ) → AllByRecursion IsWord words
     → lent ≡ words_encoding held words
     → take (8 * i) all ≡ words_encoding order (take i words)
@@ -53,13 +75,10 @@ pub turned_more : (held order : Endianness) (words lent all part : List ℕ) (i 
     → take 8 part ≡ number_bytes order 8 word
     → i < length words → 8 * i ≤ length all → 8 ≤ length part
     → take (8 * (i + 1)) (put_mid (8 * i) k all part) ≡ words_encoding order (take (i + 1) words)
-unfolding words_encoding
 turned_more held order words lent all part i k word fit is behind read stored more fits part_fits =
     let item : slice_get words i ≡ Some word =
     word_at held words i fit more ∙ ap (λ l. Some (number held 8 (drop (8 * i) l))) (sym is) ∙ ap Some (sym read) in
-    let next : 8 * (i + 1) ≡ 8 * i + 8 = omega arith in
-    rw next (stored_next _ _ _ _ (8 * i) 8 _ behind fits stored part_fits)
-    ∙ sym (flat_map_step (number_bytes order 8) words i word item)
+    one_word_more order words all part i k word behind item stored fits part_fits
 
 -- a run of items of k bytes each
 run_front : {X : Type 0} (f : X → List ℕ) (k : ℕ) (xs : List X) (to : ℕ) → AllByRecursion (λ x. length (f x) ≡ k) xs
@@ -153,3 +172,23 @@ pub run_lent : (order : Endianness) (dims : Dimensions) (cs : List (List ℕ)) (
 run_lent order dims cs from to h ordered within =
     run_bytes (words_encoding order) (8 * size dims) cs from to (coordinates_length order dims cs h) ordered within
     ∙ sym (words_joined order (drop from (take to cs)))
+
+-- ---- the words of all coordinates, one after another
+
+words_each : (dims : Dimensions) (cs : List (List ℕ)) → AreCoordinates dims cs
+    → AllByRecursion (λ c. length c ≡ size dims) cs
+words_each dims [] h = tt
+words_each dims (c ∷ cs) h = (h.0.len, words_each dims cs h.1)
+
+-- those of a run are among them
+pub own_within : (dims : Dimensions) (cs : List (List ℕ)) (to : ℕ) → AreCoordinates dims cs → to ≤ length cs
+    → size dims * to ≤ length (concat cs)
+own_within dims cs to h within =
+    rw (concat_is cs) (items_fit (λ c. c) (size dims) cs to (words_each dims cs h) within)
+
+pub own_run : (dims : Dimensions) (cs : List (List ℕ)) (from to : ℕ) → AreCoordinates dims cs → from ≤ to
+    → to ≤ length cs
+    → take (size dims * to - size dims * from) (drop (size dims * from) (concat cs)) ≡ run_words cs from to
+own_run dims cs from to h ordered within =
+    rw (concat_is cs, concat_is (drop from (take to cs)))
+    (run_bytes (λ c. c) (size dims) cs from to (words_each dims cs h) ordered within)

@@ -84,11 +84,13 @@ progress sink out = record {
 }
 
 -- a step laid the encoding by this sink and block, or the sink failed
-abbrev pub Lays : {S : Type 0} (sink : Ghosts S) → Buffered S sink → Buffered S sink → List ℕ → Result (Unit {0}) Stopped → Type 0
+abbrev pub Lays : {S : Type 0} (sink : Ghosts S) → Buffered S sink → Buffered S sink → List ℕ
+    → Result (Unit {0}) Stopped → Type 0
 Lays sink old new encoding r = Advances (progress sink old) (progress sink new) encoding r
 
 -- a step made ready for n bytes, or the sink failed
-abbrev pub Readies : {S : Type 0} (sink : Ghosts S) → Buffered S sink → Buffered S sink → ℕ → Result (Unit {0}) Stopped → Type 0
+abbrev pub Readies : {S : Type 0} (sink : Ghosts S) → Buffered S sink → Buffered S sink → ℕ
+    → Result (Unit {0}) Stopped → Type 0
 Readies sink old new n r =
     MatchResult r (λ _. IsReady (progress sink old) (progress sink new) n)
     (λ _. IsShort (progress sink old) (progress sink new) n)

@@ -3,6 +3,7 @@ use Rattle.std.specs.Prelude.{◌≡◌, ℕ, ◌≤◌, ◌-◌, ◌*◌, List,
 use Rattle.std.specs.List.{AllByRecursion, flat_map}
 use Rattle.wkb_geom.specs.declared.common.Dimensions.{Dimensions}
 use Rattle.wkb_geom.specs.declared.common.Endianness.{Endianness}
+use Rattle.wkb_geom.specs.declared.common.Endianness.TheVariants.{BigEndian, LittleEndian}
 use Rattle.wkb_geom.specs.Dimensions.{size}
 use Rattle.wkb_geom.specs.Encodings.{words_encoding}
 use Rattle.wkb_geom.specs.Numbers.{IsWord}
@@ -20,6 +21,11 @@ pub record IsRun (d : Dimensions) (cs : List Coordinate) (from to : ℕ) : Type 
   pub within : to ≤ length cs
   pub least : 2 ≤ size d
   pub most : size d ≤ 4
+
+-- the order that this one isn't
+abbrev pub other : Endianness → Endianness
+other BigEndian = LittleEndian
+other LittleEndian = BigEndian
 
 -- words that the first bytes hold in one order are held by the others in another one
 abbrev pub Turns : Endianness → Endianness → List ℕ → List ℕ → Type 0

@@ -34,7 +34,8 @@ pub fn dimension_to_write(dim: Dimensions) -> Dimension
     Dimension::try_from(dim).unwrap_or(Dimension::Xy)
 }
 
-/// The code of a header, and the SRID after it. One match tells both, so that a header without an SRID takes one branch.
+/// The code of a header, and the SRID after it. One match tells both, so that a header without an SRID takes one
+/// branch.
 #[inline]
 #[tactic(auto, unfolding(wkb_geom::specs::Encodings::code_of))]
 pub fn code_and_srid(form: Form, kind: WkbType) -> (u32, Option<u32>)

@@ -16,8 +16,8 @@ use wkb_geom::words::COUNT_SIZE;
 #[derive(Clone, Copy)]
 pub struct Stopped;
 
-/// A sink with a block before it, a slice in whose first bytes wait that the sink hasn't got yet, and the error by which
-/// the sink failed.
+/// A sink with a block before it, a slice in whose first bytes wait that the sink hasn't got yet, and the error by
+/// which the sink failed.
 #[derive(Drop)]
 pub struct Buffered<'a, S: Sink> {
     pub sink: &'a mut S,

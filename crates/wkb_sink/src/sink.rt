@@ -38,8 +38,8 @@ pub trait Sink {
     // What is known where the sink failed by this error, or, by no error, since it took nothing.
     ghost fails_by: { Self → Option Error → Type 0 } = { λ _ _. ⊤ };
 
-    /// Appends as many of the first bytes as it takes, and returns how many. With an error it appends nothing. An error, or
-    /// `Ok(0)` for a slice that isn't empty, is a failure, and lasts.
+    /// Appends as many of the first bytes as it takes, and returns how many. With an error it appends nothing. An
+    /// error, or `Ok(0)` for a slice that isn't empty, is a failure, and lasts.
     fn put(&mut self, bytes: &[u8]) -> io::Result<usize>
         ensures bound { WritesAtMost result bytes.now }
         ensures bytes { WriteAppends (appended self.old) (appended self.new) result bytes.now }

@@ -5,7 +5,7 @@ ghost use Rattle.std.specs.Prelude.{slice_index};
 ghost use Rattle.wkb_geom.specs.Dimensions.{size};
 ghost use Rattle.wkb_geom.specs.Numbers.{number_bytes};
 ghost use Rattle.wkb_geom.specs.Encodings.{words_encoding};
-ghost use Rattle.wkb_sink.specs.Runs.{IsRun, Turns, run_size, run_encoding};
+ghost use Rattle.wkb_sink.specs.Runs.{IsRun, Turns, run_size, run_encoding, other as the_other};
 
 use byteorder::{BigEndian, ByteOrder, LittleEndian};
 use wkb_geom::words::{WORD_SIZE, u64_at};
@@ -100,9 +100,9 @@ fn store_run<L: LineStringTrait>(
     at
 }
 
-/// The bytes of the items from an index up to another one, all of one size, out of the bytes of all.
+/// The items from an index up to another one, all of one size, out of the bytes or the words of all.
 #[inline(always)]
-fn items_between(all: &[u8], size: usize, from: usize, to: usize) -> &[u8]
+fn items_between<T>(all: &[T], size: usize, from: usize, to: usize) -> &[T]
     requires order { from ≤ to }
     requires within { size * to ≤ length all.now }
     ensures { result.now ≡ take (size * to - size * from) (drop (size * from) all.now) }
@@ -123,10 +123,24 @@ pub fn store_words(bytes: &mut [u8], lent: &[u8], held: Endianness, order: Endia
     }
 }
 
+/// Stores words one after another.
+#[inline(always)]
+#[tactic(auto, using(crate::proofs::Turned::stored_more))]
+fn store_each(bytes: &mut [u8], words: &[u64], order: Endianness)
+    requires { 8 * length words.now ≤ length bytes.old }
+    ensures { take (8 * length words.now) bytes.new ≡ words_encoding order words.now }
+{
+    for i in 0..words.len() {
+        store_word(&mut bytes[WORD_SIZE * i..], order, words[i]);
+    }
+}
+
 // The order that isn't this one. Coordinates that the line has as bytes in this one are put as they are
 // (docs/DECISIONS.md, D7).
 #[inline(always)]
-fn other(order: Endianness) -> Endianness {
+fn other(order: Endianness) -> Endianness
+    ensures { result ≡ the_other order }
+{
     match order {
         Endianness::BigEndian => Endianness::LittleEndian,
         Endianness::LittleEndian => Endianness::BigEndian,
@@ -134,8 +148,8 @@ fn other(order: Endianness) -> Endianness {
 }
 
 /// Stores the coordinates from an index up to another one, and returns their size. Where the line has them as bytes in
-/// the other order, it stores the words of those; else it asks for one coordinate after another. Where it is inlined
-/// the order is a constant.
+/// the other order, or as words, it stores the words of those; else it asks for one coordinate after another. Where it
+/// is inlined the order is a constant.
 #[inline(always)]
 pub fn store_coordinates<L: LineStringTrait>(
     bytes: &mut [u8],
@@ -152,10 +166,14 @@ pub fn store_coordinates<L: LineStringTrait>(
 {
     let width = line.dim().size();
     let held = other(order);
-    if let Some(all) = line.standing(held) {
+    if let Some(all) = line.coords_as_written(held) {
         let lent = items_between(all, WORD_SIZE * width, from, to);
         store_words(bytes, lent, held, order);
         lent.len()
+    } else if let Some(all) = line.coords_as_words() {
+        let run = items_between(all, width, from, to);
+        store_each(bytes, run, order);
+        WORD_SIZE * run.len()
     } else if width == 2 {
         store_run(bytes, line, from, to, order, 2)
     } else {

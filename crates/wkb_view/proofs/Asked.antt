@@ -1,7 +1,7 @@
 -- What is asked for after a count, and what is returned where the count, or what it counts, is missing.
 use Rattle.std.proofs.Common.{◌≡◌, ◌/◌, min, [], ◌∷◌}
 use Rattle.std.proofs.Common.{◌++◌, refl}
-use Rattle.wkb_geom.proofs.Hex.{hex}
+use Rattle.wkb_view.proofs.Hex.{hex}
 use Rattle.wkb_view.specs.Pieces.{pieces}
 
 -- ---- lists, whose entries are asked for at once

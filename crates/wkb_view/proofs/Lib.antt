@@ -5,6 +5,7 @@ pub mod Lists
 pub mod Members
 pub mod Pieces
 pub mod SpelledRead
+pub mod Hex
 pub mod Asked
-mod Standing
-pub mod Whole
+mod CoordsAsWritten
+pub mod Encoded

@@ -216,7 +216,8 @@ module _ (l : Layout) (bytes : List ℕ) where
 
 -- where its bytes are there, a multi point is a list that asks for no entry
 pub points_here : (l : Layout) (bytes : List ℕ) (n : ℕ) (old : Counts)
-    → n ≡ number l.order 4 (drop (body_start l.has_srid) bytes) → multi_point_end l.dimension l.has_srid n ≤ length bytes
+    → n ≡ number l.order 4 (drop (body_start l.has_srid) bytes)
+    → multi_point_end l.dimension l.has_srid n ≤ length bytes
     → IsList 4 l (member_at 1 l.dimension) (list_item l multi_point_with) bytes n old old (multi_point_at l bytes)
 unfolding multi_point_told
 points_here l bytes n old counted enough =

@@ -1,6 +1,6 @@
 -- Members in lists.
 use Rattle.std.proofs.Common.{◌≡◌, ℕ, zero, suc, List, [], ◌∷◌, ◌++◌, map, Option, Some, None, refl, sym, ap, ◌∙◌}
-use Rattle.std.proofs.Common.{subst, ◌+◌, ◌-◌, ◌*◌, ◌≤◌, ◌<◌, length, Bor, is_some, IfSome, nat_lt, slice_index_or}
+use Rattle.std.proofs.Common.{subst, ◌+◌, ◌-◌, ◌*◌, ◌≤◌, ◌<◌, length, Bor}
 use Rattle.std.proofs.Common.{take, drop, Bool, true, false, ◌&&◌, Result, Ok, Err, length-drop, length-take, arith}
 use Rattle.std.specs.Prelude.{slice_get, option_map, if◌then◌else◌, ◌==◌, IsOk}
 use Rattle.std.specs.List.{AllByRecursion}
@@ -12,7 +12,7 @@ use Rattle.wkb_geom.specs.Reading.{type_kind, type_dimension, same_dimension}
 use Rattle.wkb_view.specs.Prelude.{Dimension, as_dimensions, Spelling, Coordinate, Listed, whole_of, Item, spellings}
 use Rattle.wkb_view.specs.Prelude.{polygon_of, Endianness, Layout, Head, Cause, multi_point_end, body_start, point_of}
 use Rattle.wkb_view.specs.Prelude.{consumed, laid, head_at, layout_wanted, member_layout, list_of_spellings}
-use Rattle.wkb_plain.proofs.Lookups.{copied_is}
+use Rattle.wkb_plain.proofs.Lookups.{IsAnswered, copied_is}
 use Rattle.wkb_view.specs.Fitted.{fitted_parts, fitted_line_strings, fitted_polygons}
 use Rattle.wkb_view.specs.Members.{polygon_items, IsEncoding, IsMemberOfKind, AreMembersOfKind, member_item, members_in}
 use Rattle.wkb_view.specs.Members.{pieces_behind, every, stride, point_ends, points_in}
@@ -90,18 +90,14 @@ items_at f ps i o e =
     ∙ ap (option_map f)
     (slice_get-map (λ p. whole_of polygon p) ps i ∙ ap (option_map (λ p. whole_of polygon p)) e))
 
--- what `get` of a list returns for an index
-abbrev IsGot : {A : Type 0} → List A → ℕ → Option (Bor A) → Type 0
-IsGot xs i o = (is_some o ≡ nat_lt i (length xs)) × IfSome o (λ x. x.now ≡ slice_index_or xs i x.now)
-
 seen_at : {B : Type 0} (f : Item → B) (ps : List (Listed (List (List Coordinate)))) (i : ℕ)
-    (o : Option (Bor (Listed (List (List Coordinate))))) → IsGot ps i o
+    (o : Option (Bor (Listed (List (List Coordinate))))) → IsAnswered ps i o
     → option_map (λ p. f (whole_of polygon p.now)) o ≡ slice_get (map f (polygon_items ps)) i
 seen_at f ps i None got = items_at f ps i None (sym (copied_is ps i None got))
 seen_at f ps i (Some p) got = items_at f ps i (Some p.now) (sym (copied_is ps i (Some p) got))
 
 fitted_at : (d : Dimension) (ps : List (Listed (List (List Coordinate)))) (i : ℕ)
-    (o : Option (Bor (Listed (List (List Coordinate))))) → IsGot ps i o
+    (o : Option (Bor (Listed (List (List Coordinate))))) → IsAnswered ps i o
     → AllByRecursion (λ p. p.dimension ≡ d) ps
     → option_map (λ p. fitted_parts p.now) o
     ≡ option_map (fitted_line_strings (as_dimensions d)) (option_map (λ p. p.now.parts) o)
@@ -119,7 +115,7 @@ pub record PolygonAt (d : Dimension) (ps : List (Listed (List (List Coordinate))
   pub spelled : option_map (λ p. p.now.spelled) o ≡ slice_get (list_of_spellings (spellings (polygon_items ps))) i
 
 pub polygon_there : (d : Dimension) (ps : List (Listed (List (List Coordinate)))) (i : ℕ)
-    (o : Option (Bor (Listed (List (List Coordinate))))) → IsGot ps i o
+    (o : Option (Bor (Listed (List (List Coordinate))))) → IsAnswered ps i o
     → AllByRecursion (λ p. p.dimension ≡ d) ps → PolygonAt d ps i o
 polygon_there d ps i o got all =
     let part = seen_at (λ m. polygon_of m.value) ps i o got in

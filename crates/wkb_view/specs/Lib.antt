@@ -3,7 +3,7 @@ pub mod Ends
 pub mod Entries
 pub mod Fitted
 pub mod Headers
-pub mod Lent
+pub mod SpelledAsWritten
 pub mod Members
 pub mod Outcome
 pub mod Parts

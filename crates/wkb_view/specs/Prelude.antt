@@ -26,7 +26,8 @@ pub use Rattle.wkb_geom.specs.Reading.{point_item, point_item_of, line_string_it
 pub use Rattle.wkb_geom.specs.Reading.{line_string_of, polygon_of, multi_point_with, multi_line_string_with}
 pub use Rattle.wkb_geom.specs.Reading.{multi_polygon_with, ring_part, parts_body, list_at, HasNoCount, layout_wanted}
 pub use Rattle.wkb_geom.specs.Reading.{member_layout, member_body, member_at}
-unfoldable pub use Rattle.wkb_geom.specs.Reading.{repeated, head_at, point_told, line_string_told, ring_told, polygon_told}
+unfoldable pub use Rattle.wkb_geom.specs.Reading.{repeated, head_at, point_told, line_string_told, ring_told}
+unfoldable pub use Rattle.wkb_geom.specs.Reading.{polygon_told}
 pub use Rattle.wkb_geom.specs.Reading.{point_at, line_string_at, ring_at, polygon_at}
 unfoldable pub use Rattle.wkb_geom.specs.Reading.{multi_point_told, multi_line_string_told, multi_polygon_told}
 pub use Rattle.wkb_geom.specs.Reading.{multi_point_at, multi_line_string_at, multi_polygon_at}

@@ -8,13 +8,13 @@ use Rattle.wkb_geom.specs.declared.error.Cause.TheVariants.{IncorrectType as inc
 use Rattle.wkb_view.specs.Prelude.{Endianness, BigEndian, LittleEndian, Dimension, Xy, Xyz, Xym, Xyzm, Layout, width}
 use Rattle.wkb_view.specs.Prelude.{size, as_dimensions, number, all_nan, Head, Cause, AreBytes, IsWord, length-items}
 use Rattle.wkb_view.specs.Prelude.{items, coordinate, coordinates, head_at, laid, body_start, point_of, point_item}
-use Rattle.wkb_view.specs.Prelude.{point_item_of, line_string_of, line_string_item, ring_in, layout_wanted, member_layout}
-use Rattle.wkb_view.specs.Prelude.{points_of}
+use Rattle.wkb_view.specs.Prelude.{point_item_of, line_string_of, line_string_item, ring_in, layout_wanted}
+use Rattle.wkb_view.specs.Prelude.{member_layout, points_of}
 use Rattle.wkb_view.specs.Members.{layout_said, member_item, point_ends, multi_point_item}
 use Rattle.wkb_view.specs.Pieces.{pieces}
 use Rattle.byteorder.specs.Numbers.{big_from-lt, little_from-lt}
 
-number-lt : (e : Endianness) (n : ℕ) (bytes : List ℕ) → AreBytes bytes → number e n bytes < 256 ^ n
+pub number-lt : (e : Endianness) (n : ℕ) (bytes : List ℕ) → AreBytes bytes → number e n bytes < 256 ^ n
 unfolding number
 number-lt BigEndian n bytes h = big_from-lt 0 n bytes h
 number-lt LittleEndian n bytes h = little_from-lt 0 n bytes h

@@ -1,8 +1,8 @@
 -- What the views of points, line strings and multi points mean.
 use Rattle.std.proofs.Common.{◌≡◌, ℕ, ◌+◌, ◌*◌, List, take, drop, Option, Bool, true, false, refl}
 use Rattle.wkb_view.specs.Prelude.{Layout, Coordinate, width, all_nan, Item, coordinate, point_item, point_item_of}
-use Rattle.wkb_view.specs.Prelude.{point_of, points_of, line_string_of, line_string_item, body_start, order_of, Spelling}
-use Rattle.wkb_view.specs.Prelude.{Endianness}
+use Rattle.wkb_view.specs.Prelude.{point_of, points_of, line_string_of, line_string_item, body_start, order_of}
+use Rattle.wkb_view.specs.Prelude.{Spelling, Endianness}
 use Rattle.wkb_geom.specs.Values.{point}
 use Rattle.wkb_view.specs.declared.point.Point.{Point}
 use Rattle.wkb_view.specs.declared.line_string.LineString.{LineString}

@@ -3,11 +3,11 @@
 ghost use Rattle.std.specs.Prelude.{◌≡◌, true, IsSome, MatchOption};
 ghost use Rattle.wkb_geom.specs.Encodings.{form_srid, form_with_flags};
 ghost use Rattle.wkb_geom.specs.Reading.{Item};
-ghost use Rattle.wkb_view.specs.Lent.{IsSpelledAsWritten};
+ghost use Rattle.wkb_view.specs.SpelledAsWritten.{IsSpelledAsWritten};
 
 use wkb_geom::{Endianness, Form};
 
-/// A geometry in memory that may be there as it is written. Users ask `GeometryTrait::whole`.
+/// A geometry in memory that may be there as it is written. Users ask `GeometryTrait::as_written`.
 pub trait AsWritten {
     // The geometry: its bytes, how they spell it, and its value.
     ghost seen: { Self → Item };

@@ -200,7 +200,7 @@ impl<'a> LineStringTrait for LineString<'a> {
     }
 
     #[inline]
-    fn standing(&self, order: Endianness) -> Option<&[u8]>
+    fn coords_as_written(&self, order: Endianness) -> Option<&[u8]>
         ensures bytes { IfSome result
             (λ b. b.now ≡ flat_map (words_encoding order) (line_string_coordinates self.now)) }
         ensures own_order { IsSome result ↔ (line_string_order self.now ≡ order) }
@@ -269,7 +269,7 @@ impl<'a> GeometryTrait for LineString<'a> {
     ghost lawful = { λ l. line_string_lawful l.layout l.buf.now l.in_range };
 
     #[inline]
-    fn whole(&self, order: Endianness, form: Form) -> Option<&[u8]> {
+    fn as_written(&self, order: Endianness, form: Form) -> Option<&[u8]> {
         let has_flags = flags_without_srid(form)?;
         self.is_as_written(order, has_flags).then_some(self.buf)
     }

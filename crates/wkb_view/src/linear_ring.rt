@@ -1,6 +1,6 @@
 //! A ring of a polygon.
 
-ghost use Rattle.std.specs.Prelude.{◌≡◌, length};
+ghost use Rattle.std.specs.Prelude.{◌≡◌, ℕ, ◌≤◌, length};
 ghost use Rattle.wkb_view.specs.Prelude.{ring_end, AreBytes, number};
 
 use crate::any::{Line, MultiLineString, MultiPoint, MultiPolygon, Point, Polygon, Rect, Triangle};
@@ -29,7 +29,28 @@ impl<'a> LinearRing<'a> {
     ghost use Rattle.std.specs.Prelude.{◌≡◌, length, ◌≤◌, drop};
     ghost use Rattle.wkb_view.specs.Coords.{ring_encoding, ring_order, ring_dimension, ring_seen};
     ghost use Rattle.wkb_view.specs.Coords.{ring_offset, RingBytesSpell};
-    ghost use Rattle.wkb_view.specs.Prelude.{AreBytes, ring_end};
+    ghost use Rattle.wkb_view.specs.Prelude.{AreBytes, ring_end, ring_in};
+    ghost use Rattle.wkb_view.specs.Pieces.{IsRing};
+
+    /// The ring of these bytes.
+    #[inline]
+    pub(crate) fn of_encoding(
+        order: Endianness,
+        dimension: Dimension,
+        bytes: &'a [u8],
+    ) -> LinearRing<'a>
+        requires { IsRing order dimension bytes.now }
+        ensures seen { ring_seen result ≡ ring_in order dimension bytes.now }
+        ensures order { ring_order result ≡ order }
+        ensures dimension { ring_dimension result ≡ dimension }
+    {
+        LinearRing {
+            bytes,
+            order,
+            dimension,
+            count: count_of_size(dimension, bytes.len()) as u32,
+        }
+    }
 
     /// The number of its bytes: of its count and its coordinates.
     #[tactic(auto, using(crate::proofs::Items::ring_counted))]
@@ -75,6 +96,20 @@ impl<'a> LinearRing<'a> {
         ensures { result ≡ ring_order self.now }
     {
         self.order
+    }
+}
+
+/// The count of a ring of this many bytes. It is taken from their number, so that a ring far away in memory is not
+/// looked at. Sizes that are constants make the division a multiplication.
+#[inline]
+fn count_of_size(dimension: Dimension, size: usize) -> usize
+    requires { COUNT_SIZE ≤ size }
+    ensures { (count : ℕ) → size ≡ ring_end dimension count → result ≡ count }
+{
+    match dimension {
+        Dimension::Xy => (size - COUNT_SIZE) / 16,
+        Dimension::Xyz | Dimension::Xym => (size - COUNT_SIZE) / 24,
+        Dimension::Xyzm => (size - COUNT_SIZE) / 32,
     }
 }
 
@@ -133,7 +168,7 @@ impl<'a> LineStringTrait for LinearRing<'a> {
     }
 
     #[inline]
-    fn standing(&self, order: Endianness) -> Option<&[u8]>
+    fn coords_as_written(&self, order: Endianness) -> Option<&[u8]>
         ensures bytes { IfSome result
             (λ b. b.now ≡ flat_map (words_encoding order) (ring_seen self.now)) }
         ensures own_order { IsSome result ↔ (ring_order self.now ≡ order) }
@@ -232,7 +267,7 @@ impl<'a> GeometryTrait for LinearRing<'a> {
 
     // The trait's default says the same, but the check would prove it again here, in some ten seconds.
     #[inline]
-    fn whole(&self, _order: Endianness, _form: Form) -> Option<&[u8]> {
+    fn as_written(&self, _order: Endianness, _form: Form) -> Option<&[u8]> {
         None
     }
 }

@@ -236,7 +236,7 @@ impl<'a> GeometryTrait for Point<'a> {
     ghost lawful = { λ p. point_lawful p.layout p.buf.now p.in_range };
 
     #[inline]
-    fn whole(&self, order: Endianness, form: Form) -> Option<&[u8]> {
+    fn as_written(&self, order: Endianness, form: Form) -> Option<&[u8]> {
         let has_flags = flags_without_srid(form)?;
         self.is_as_written(order, has_flags).then_some(self.buf)
     }

@@ -15,7 +15,7 @@ use std::alloc::{AllocError, Global};
 use std::marker::Model;
 use wkb_geom::code::WkbType;
 use wkb_geom::header::MIN_MEMBER_SIZE;
-use wkb_geom::words::{COUNT_SIZE, u32_at};
+use wkb_geom::words::COUNT_SIZE;
 use wkb_geom::{
     Dimension, Dimensioned, Dimensions, Endianness, Form, GeometryTrait, GeometryType, Layout,
     PolygonTrait, Refusal,
@@ -101,12 +101,7 @@ impl<'a> Polygon<'a> {
             &self.ends,
             i,
         )?;
-        Some(LinearRing {
-            bytes,
-            order: self.layout.order,
-            dimension: self.layout.dimension,
-            count: u32_at(bytes, 0, self.layout.order),
-        })
+        Some(LinearRing::of_encoding(self.layout.order, self.layout.dimension, bytes))
     }
 
     /// The polygon after this header, and the bytes after it.
@@ -255,7 +250,7 @@ impl<'a> GeometryTrait for Polygon<'a> {
     ghost lawful = { λ p. (line_strings_fit (as_dimensions p.dimension) p.parts).lawful };
 
     #[inline]
-    fn whole(&self, order: Endianness, form: Form) -> Option<&[u8]> {
+    fn as_written(&self, order: Endianness, form: Form) -> Option<&[u8]> {
         let has_flags = flags_without_srid(form)?;
         self.is_as_written(order, has_flags).then_some(self.buf)
     }

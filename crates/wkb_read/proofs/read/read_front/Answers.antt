@@ -27,8 +27,8 @@ fits c t is = subst (λ (r : Reading Item). CanCount c.args.counts.now r.0) (by_
 
 pub returns-in_err-header-clause-begins : goal.returns-in_err-header-clause-begins
 returns-in_err-header-clause-begins c =
-    hands_on c.args.depth c.args.bytes.now c.from_residual.result (refusals.Cause c.in_err-header.field-0.0) _ c.args.counts.now
-    c.args.counts.now c.from_residual.ensures.1 refl
+    hands_on c.args.depth c.args.bytes.now c.from_residual.result (refusals.Cause c.in_err-header.field-0.0) _
+    c.args.counts.now c.args.counts.now c.from_residual.ensures.1 refl
     (stops_without_header c.in_err-header.field-0.0 c.args.depth c.args.bytes.now c.args.counts.now
     c.in_err-header.ensures)
 
@@ -43,8 +43,8 @@ pub returns-in_err-line_string-in-LineString-clause-begins :
     goal.returns-in_err-line_string-in-LineString-clause-begins
 returns-in_err-line_string-in-LineString-clause-begins c =
     let p = (goal.at.returns-in_err-line_string-in-LineString-clause-begins c).After-layout-layout in
-    hands_on c.args.depth c.args.bytes.now _ (refusals.Cause c.in_err-line_string-in-LineString.field-0.0) _ c.args.counts.now
-    c.args.counts.now c.from_residual-in_err-line_string-in-LineString.ensures.1
+    hands_on c.args.depth c.args.bytes.now _ (refusals.Cause c.in_err-line_string-in-LineString.field-0.0) _
+    c.args.counts.now c.args.counts.now c.from_residual-in_err-line_string-in-LineString.ensures.1
     (by_type p _ c.in-LineString.is ∙ line_string_free c.layout-layout.result c.args.bytes.now)
     (stops_at_no_cost _ _ c.args.counts.now c.in_err-line_string-in-LineString.ensures.answer)
 

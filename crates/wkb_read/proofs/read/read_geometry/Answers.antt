@@ -16,8 +16,9 @@ read_collection-requires-clause-fits c =
 
 pub returns-in-Ok-Opened-clause-reads : goal.returns-in-Ok-Opened-clause-reads
 returns-in-Ok-Opened-clause-reads c =
-    reads_on c.read_collection.result _ (geometry_at max_nesting c.args.buf.now) c.args.counts.now c.read_front.new.counts
-    c.read_collection.new.counts (rw c.in-Ok-Opened.field-0-is at c.in-Ok-Opened.ensures.begins).0 c.read_collection.ensures
+    reads_on c.read_collection.result _ (geometry_at max_nesting c.args.buf.now) c.args.counts.now
+    c.read_front.new.counts c.read_collection.new.counts
+    (rw c.in-Ok-Opened.field-0-is at c.in-Ok-Opened.ensures.begins).0 c.read_collection.ensures
 
 pub returns-in-Ok-Opened-clause-no_memory : goal.returns-in-Ok-Opened-clause-no_memory
 returns-in-Ok-Opened-clause-no_memory c = λ none.

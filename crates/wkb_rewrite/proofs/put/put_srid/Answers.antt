@@ -1,6 +1,7 @@
 use Rattle.std.proofs.Common.{arith, length, subst, sym, ap}
+use Rattle.wkb_sink.proofs.Lengths.{length-number}
 use Rattle.wkb_rewrite.specs.Shares.{IsPut}
-use Rattle.wkb_rewrite.proofs.Putting.{number_long, srid_is, no_srid, nothing_put}
+use Rattle.wkb_rewrite.proofs.Putting.{srid_is, no_srid, nothing_put}
 use Rattle.wkb_rewrite.proofs.put.put_srid.Goals as goal
 
 pub put_number-requires : goal.put_number-requires
@@ -9,7 +10,7 @@ put_number-requires c =
       arith,
       c.requires,
       ap length (srid_is c.args.order c.args.srid c.in-Some.srid c.in-Some.is),
-      number_long c.args.order 4 c.in-Some.srid,
+      length-number c.args.order 4 c.in-Some.srid,
     )
 
 pub returns-in-Some : goal.returns-in-Some

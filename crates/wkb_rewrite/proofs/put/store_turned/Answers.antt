@@ -1,7 +1,8 @@
 use Rattle.std.proofs.Common.{arith, length, sym, ap, ◌∙◌, subst}
 use Rattle.std.proofs.lemmas.List.{take_all}
 use Rattle.wkb_laws.specs.Prelude.{words_encoding}
-use Rattle.wkb_rewrite.specs.Shares.{Holds, other}
+use Rattle.wkb_sink.specs.Runs.{other}
+use Rattle.wkb_rewrite.specs.Shares.{Holds}
 use Rattle.wkb_rewrite.proofs.put.store_turned.Goals as goal
 
 pub returns-in-BigEndian : goal.returns-in-BigEndian

@@ -24,8 +24,8 @@ loop-preserved g c =
     record {
       so_far =
           rw c.push.ensures.entries
-          (pieces_next _ _ (g.P.Parts.parts c.args.layout).counted c.loop-test.true c.loop.invariant.so_far gives.0 gives.1
-          c.in_ok-rest.ensures.passed);
+          (pieces_next _ _ (g.P.Parts.parts c.args.layout).counted c.loop-test.true c.loop.invariant.so_far
+          gives.0 gives.1 c.in_ok-rest.ensures.passed);
       room = omega (arith, c.push.ensures.room, c.loop.invariant.room);
     }
 

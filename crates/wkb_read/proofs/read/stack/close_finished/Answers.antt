@@ -1,6 +1,6 @@
-use Rattle.wkb_read.proofs.Prelude.{◌≡◌, ◌<◌, ◌+◌, ◌-◌, ℕ, ◌∷◌, [], ◌++◌, length, reverse, length-append, length-reverse}
-use Rattle.wkb_read.proofs.Prelude.{refl, sym, ap, ◌∙◌, arith, vec_len, List, slice_set, Item, Reading, costs, Open}
-use Rattle.wkb_read.proofs.Prelude.{cost_of, outward}
+use Rattle.wkb_read.proofs.Prelude.{◌≡◌, ◌<◌, ◌+◌, ◌-◌, ℕ, ◌∷◌, [], ◌++◌, length, reverse, length-append}
+use Rattle.wkb_read.proofs.Prelude.{length-reverse, refl, sym, ap, ◌∙◌, arith, vec_len, List, slice_set, Item, Reading}
+use Rattle.wkb_read.proofs.Prelude.{costs, Open, cost_of, outward}
 use Rattle.std.proofs.Common.{length-take, true, false}
 use Rattle.std.proofs.lemmas.Bool.{false≢true}
 use Rattle.wkb_view.specs.Entries.{entries}

@@ -1,6 +1,6 @@
 use Rattle.wkb_read.proofs.Prelude.{◌≡◌, ◌+◌, length, reverse, [], ◌∷◌, refl, ap, ◌∙◌, length-append, reverse-append}
-use Rattle.wkb_read.proofs.Prelude.{length-reverse, arith, Item, Reading, costs, Counts, cost_of, next_turn, first_member}
-use Rattle.wkb_read.proofs.Prelude.{outward}
+use Rattle.wkb_read.proofs.Prelude.{length-reverse, arith, Item, Reading, costs, Counts, cost_of, next_turn}
+use Rattle.wkb_read.proofs.Prelude.{first_member, outward}
 use Rattle.wkb_read.proofs.Stacks.{Reaches, Finishes, can_begin, at_most_turn, enters, finishes, stops_outward}
 use Rattle.wkb_read.proofs.Stacks.{all_read}
 use Rattle.std.proofs.lemmas.Result.{err_from_is_err_and}

@@ -1,7 +1,9 @@
 use Rattle.wkb_geom.specs.Values.{line_string}
-use Rattle.wkb_view.proofs.Whole.{AreWrittenBefore}
+use Rattle.wkb_view.proofs.Encoded.{AreWrittenBefore}
 use Rattle.wkb_view.proofs.multi_line_string.MultiLineStringAsWritten.is_as_written.Given as goal
 
 abbrev pub invariant-loop-i : goal.invariant-loop-i
 invariant-loop-i l =
-    record { so_far : AreWrittenBefore l.order l.has_flags line_string l.self.dimension l.i l.self.spelled l.self.parts }
+    record {
+      so_far : AreWrittenBefore l.order l.has_flags line_string l.self.dimension l.i l.self.spelled l.self.parts;
+    }

@@ -4,7 +4,7 @@ use Rattle.wkb_geom.specs.Values.{polygon}
 use Rattle.wkb_view.specs.Prelude.{polygon_of, as_dimensions}
 use Rattle.wkb_view.specs.Members.{polygon_items}
 use Rattle.wkb_view.specs.Fitted.{fitted_line_strings}
-use Rattle.wkb_view.proofs.Whole.{HasWrittenHeader, one_more_written, all_written}
+use Rattle.wkb_view.proofs.Encoded.{HasWrittenHeader, one_more_written, all_written}
 use Rattle.wkb_view.proofs.multi_polygon.MultiPolygonAsWritten.is_as_written.Goals as goal
 
 pub loop-i-preserved : goal.loop-i-preserved
@@ -28,7 +28,12 @@ returns c =
     let parts = map (λ i. polygon_of i.value) members in
     let counted = rw (← c.self.view_is) at c.num_polygons-i-end.ensures in
     let all : length parts ≤ c.loop-i.i =
-    omega (arith, counted, length-map parts (fitted_line_strings (as_dimensions m.layout.dimension)), c.loop-i-test.false) in
+    omega (
+      arith,
+      counted,
+      length-map parts (fitted_line_strings (as_dimensions m.layout.dimension)),
+      c.loop-i-test.false,
+    ) in
     let so_far = rw (← c.self.view_is) at c.loop-i.invariant.so_far in
     rw (← c.self.view_is) (λ _. record {
       bytes = is.bytes;

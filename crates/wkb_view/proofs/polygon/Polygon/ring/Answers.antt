@@ -1,4 +1,4 @@
-use Rattle.std.proofs.Common.{refl}
+use Rattle.std.proofs.Common.{Some, ap, ◌∙◌}
 use Rattle.wkb_view.specs.Prelude.{ring_in}
 use Rattle.wkb_view.specs.Pieces.{IsRing}
 use Rattle.wkb_view.proofs.Pieces.{in_order, piece_form, piece_seen}
@@ -10,28 +10,17 @@ part_at-requires c =
     rw (c.header_length.ensures, c.deref.ensures.value)
     (in_order (IsRing p.layout.order p.layout.dimension) _ p.ends.items p.buf.now c.self.invariant.1)
 
-pub u32_at-requires : goal.u32_at-requires
-u32_at-requires c =
+pub of_encoding-requires : goal.of_encoding-requires
+of_encoding-requires c =
     let p = c.self.inside in
-    (piece_form (IsRing p.layout.order p.layout.dimension) _ p.ends.items p.buf.now c.args.i _ c.self.invariant.1
-    (rw (c.header_length.ensures, c.deref.ensures.value) at c.in_ok-bytes.ensures.part)).counted
-
-pub invariant_of-result : goal.invariant_of-result
-invariant_of-result c =
-    let p = c.self.inside in
-    let ring =
     piece_form (IsRing p.layout.order p.layout.dimension) _ p.ends.items p.buf.now c.args.i _ c.self.invariant.1
-    (rw (c.header_length.ensures, c.deref.ensures.value) at c.in_ok-bytes.ensures.part) in
-    record {
-      counted = c.u32_at.ensures;
-      whole = rw c.u32_at.ensures ring.whole;
-      in_range = c.in_ok-bytes.ensures.bytes;
-    }
+    (rw (c.header_length.ensures, c.deref.ensures.value) at c.in_ok-bytes.ensures.part)
 
 pub returns-clause-value : goal.returns-clause-value
 returns-clause-value c =
     let p = c.self.inside in
-    rw (← c.self.view_is) (piece_seen (ring_in p.layout.order p.layout.dimension) _ p.ends.items p.buf.now c.args.i _
+    rw (← c.self.view_is) (ap Some c.of_encoding.ensures.seen
+    ∙ piece_seen (ring_in p.layout.order p.layout.dimension) _ p.ends.items p.buf.now c.args.i _
     (rw (c.header_length.ensures, c.deref.ensures.value) at c.in_ok-bytes.ensures.part))
 
 pub returns-in_err-bytes-clause-value : goal.returns-in_err-bytes-clause-value
@@ -42,7 +31,7 @@ returns-in_err-bytes-clause-value c =
     (rw (c.header_length.ensures, c.deref.ensures.value) at c.in_err-bytes.ensures.part))
 
 pub returns-clause-dimension : goal.returns-clause-dimension
-returns-clause-dimension c = rw (← c.self.view_is) refl
+returns-clause-dimension c = rw (← c.self.view_is) c.of_encoding.ensures.dimension
 
 pub returns-clause-order : goal.returns-clause-order
-returns-clause-order c = rw (← c.self.view_is) refl
+returns-clause-order c = rw (← c.self.view_is) c.of_encoding.ensures.order

@@ -1,5 +1,5 @@
 -- Bytes from text in hex, two digits a byte; spaces are for reading.
-use Rattle.std.specs.Prelude.{ℕ, zero, suc, ◌+◌, ◌-◌, ◌*◌, List, [], ◌∷◌, ◌++◌, codes, nat_lt, ◌==◌, if◌then◌else◌}
+use Rattle.std.specs.Prelude.{ℕ, ◌+◌, ◌-◌, ◌*◌, List, [], ◌∷◌, ◌++◌, codes, nat_lt, ◌==◌, if◌then◌else◌}
 use Prim.Native.String.{String}
 
 -- the digits among the characters' codes: 0 to 9 and a to f
@@ -14,8 +14,3 @@ pairs (high ∷ low ∷ rest) = (16 * high + low) ∷ pairs rest
 
 abbrev pub hex : String → List ℕ
 hex text = pairs (digits (codes text))
-
--- so many copies, one after another
-abbrev pub copies : ℕ → List ℕ → List ℕ
-copies zero bytes = []
-copies (suc n) bytes = bytes ++ copies n bytes

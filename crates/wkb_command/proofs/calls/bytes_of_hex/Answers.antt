@@ -1,5 +1,5 @@
 use Rattle.wkb_command.proofs.Faults.{IfErr-from, decode_fault}
-use Rattle.wkb_command.proofs.calls.decoded.Goals as goal
+use Rattle.wkb_command.proofs.calls.bytes_of_hex.Goals as goal
 
 pub returns-in_err-decode-clause-err : goal.returns-in_err-decode-clause-err
 returns-in_err-decode-clause-err c =

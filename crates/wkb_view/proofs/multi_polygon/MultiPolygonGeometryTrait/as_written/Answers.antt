@@ -1,12 +1,12 @@
 use Rattle.wkb_view.specs.Members.{multi_polygon_seen, polygons_laid}
-use Rattle.wkb_view.proofs.Whole.{is_whole_fitted, lends}
-use Rattle.wkb_view.proofs.multi_polygon.MultiPolygonGeometryTrait.whole.Goals as goal
+use Rattle.wkb_view.proofs.Encoded.{is_encoded_fitted, exposes}
+use Rattle.wkb_view.proofs.multi_polygon.MultiPolygonGeometryTrait.as_written.Goals as goal
 
 pub returns : goal.returns
 returns c =
     let p = c.self.inside in
     let seen = multi_polygon_seen (polygons_laid p.layout p.members.items p.buf.now) in
-    let whole = is_whole_fitted c.args.order c.args.form _ c.in_ok-has_flags.ensures seen c.self.invariant.2 in
+    let whole = is_encoded_fitted c.args.order c.args.form _ c.in_ok-has_flags.ensures seen c.self.invariant.2 in
     let spelled = rw (← c.self.view_is) at c.is_as_written.ensures in
-    let lent = lends c.is_as_written.result p.buf (λ test. whole (spelled test)) in
+    let lent = exposes c.is_as_written.result p.buf (λ test. whole (spelled test)) in
     rw (← c.self.view_is, c.then_some.ensures) (record { encoding = lent.encoding; writable = lent.writable })

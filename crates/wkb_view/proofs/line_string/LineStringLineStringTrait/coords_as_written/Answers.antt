@@ -3,8 +3,8 @@ use Rattle.std.specs.List.{flat_map}
 use Rattle.wkb_geom.specs.Encodings.{words_encoding}
 use Rattle.wkb_view.specs.Prelude.{width, body_start, ring_in}
 use Rattle.wkb_view.specs.Ranges.{AreBytes-drop}
-use Rattle.wkb_view.proofs.Standing.{ring_stands}
-use Rattle.wkb_view.proofs.line_string.LineStringLineStringTrait.standing.Goals as goal
+use Rattle.wkb_view.proofs.CoordsAsWritten.{ring_stands}
+use Rattle.wkb_view.proofs.line_string.LineStringLineStringTrait.coords_as_written.Goals as goal
 
 pub returns-then-eq-clause-bytes : goal.returns-then-eq-clause-bytes
 returns-then-eq-clause-bytes c =

@@ -15,16 +15,17 @@ use Rattle.wkb_laws.specs.Written.{written, written_header, each_spelling}
 use Rattle.wkb_laws.proofs.Spelled.{in_full_lem}
 use Rattle.wkb_laws.proofs.EncodingBytes.{as_written}
 use Rattle.wkb_laws.proofs.Values.{same_dimension, spelled_good, lawful-geometry_of}
-use Rattle.wkb_view.specs.Prelude.{Endianness, Dimension, number, Layout, Item, Spelling, Spellings, spellings, spelled_in}
+use Rattle.wkb_view.specs.Prelude.{Endianness, Dimension, number, Layout, Item, Spelling, Spellings, spellings}
+use Rattle.wkb_view.specs.Prelude.{spelled_in}
 use Rattle.wkb_geom.specs.Dimensions.{written_dimension}
 use Rattle.wkb_view.specs.Prelude.{as_dimensions, spelling_at, list_of_spellings, members_spelled, BytesSpell}
 use Rattle.wkb_view.specs.Fitted.{fitted_geometry, fitted_geometry-same}
-use Rattle.wkb_view.specs.Lent.{IsSpelledAsWritten}
+use Rattle.wkb_view.specs.SpelledAsWritten.{IsSpelledAsWritten}
 use Rattle.wkb_view.proofs.Members.{spelled_each}
 
 -- ---- bytes in memory that are the encoding of a geometry without a fault
 
-pub record IsWhole (bytes : List ℕ) (order : Endianness) (form : Form) (g : Geometry) : Type 0 where
+pub record IsEncoded (bytes : List ℕ) (order : Endianness) (form : Form) (g : Geometry) : Type 0 where
   pub encoding : bytes ≡ encoding order form g
   pub writable : fault g ≡ None
 
@@ -35,8 +36,8 @@ is_form false = tt
 module _ (order : Endianness) (form : Form) (has_flags : Bool) (form_is : form ≡ form_with_flags has_flags) (i : Item)
     (spells : BytesSpell i) (is : IsSpelledAsWritten order has_flags i) where
   -- those of what is spelled as it is written
-  pub is_whole : IsWhole i.encoding order form (geometry_of i.value)
-  is_whole =
+  pub is_encoded : IsEncoded i.encoding order form (geometry_of i.value)
+  is_encoded =
       let full = in_full_lem i.spelled i.value i.encoding spells in
       rw form_is (record {
         encoding = as_written order _ i.spelled i.value i.encoding (is_form has_flags) is.bytes full is.same;
@@ -44,23 +45,23 @@ module _ (order : Endianness) (form : Form) (has_flags : Bool) (form_is : form �
       })
 
   -- what is spelled is lawful, so fitting leaves it as it is
-  pub is_whole_fitted : IsWhole i.encoding order form (fitted_geometry (geometry_of i.value))
-  is_whole_fitted =
+  pub is_encoded_fitted : IsEncoded i.encoding order form (fitted_geometry (geometry_of i.value))
+  is_encoded_fitted =
       let full = in_full_lem i.spelled i.value i.encoding spells in
       let good = spelled_good i.spelled i.value i.encoding is.bytes full in
-      subst (IsWhole i.encoding order form)
-      (sym (fitted_geometry-same (geometry_of i.value) (lawful-geometry_of i.value good.0))) is_whole
+      subst (IsEncoded i.encoding order form)
+      (sym (fitted_geometry-same (geometry_of i.value) (lawful-geometry_of i.value good.0))) is_encoded
 
 -- what is lent where a test holds
-pub record Lends (order : Endianness) (form : Form) (g : Geometry) (result : Option (Bor (List ℕ))) : Type 0 where
+pub record Exposes (order : Endianness) (form : Form) (g : Geometry) (result : Option (Bor (List ℕ))) : Type 0 where
   pub encoding : IfSome result (λ b. b.now ≡ encoding order form g)
   pub writable : IfSome result (λ _. fault g ≡ None)
 
-pub lends : {order : Endianness} {form : Form} {g : Geometry} (test : Bool) (buf : Bor (List ℕ))
-    → (test ≡ true → IsWhole buf.now order form g)
-    → Lends order form g (then_some test buf)
-lends true buf h = let whole = h refl in record { encoding = whole.encoding; writable = whole.writable }
-lends false buf h = record { encoding = tt; writable = tt }
+pub exposes : {order : Endianness} {form : Form} {g : Geometry} (test : Bool) (buf : Bor (List ℕ))
+    → (test ≡ true → IsEncoded buf.now order form g)
+    → Exposes order form g (then_some test buf)
+exposes true buf h = let whole = h refl in record { encoding = whole.encoding; writable = whole.writable }
+exposes false buf h = record { encoding = tt; writable = tt }
 
 -- ---- the spelling that is written: of the header, and of the members
 
@@ -84,28 +85,30 @@ header_spelled k l bytes order has_flags ss h =
 
 -- a member with this part is written with this spelling
 abbrev pub member_written : {A : Type 0} → Endianness → Bool → (Dimension → A → Value) → Dimension → A → Spelling
-member_written order has_flags kind d part = written order (inner (form_with_flags has_flags)) (geometry_of (kind d part))
+member_written order has_flags kind d part =
+    written order (inner (form_with_flags has_flags)) (geometry_of (kind d part))
 
 -- which is that of a geometry by itself
 pub as_member : (order : Endianness) (has_flags : Bool) (v : Value)
-    → written order (form_with_flags has_flags) (geometry_of v) ≡ written order (inner (form_with_flags has_flags)) (geometry_of v)
+    → written order (form_with_flags has_flags) (geometry_of v)
+    ≡ written order (inner (form_with_flags has_flags)) (geometry_of v)
 as_member order true v = refl
 as_member order false v = refl
 
 -- the members before an index are spelled as they are written
-pub record AreWrittenBefore {A : Type 0} (order : Endianness) (has_flags : Bool) (kind : Dimension → A → Value) (d : Dimension)
-    (i : ℕ) (s : Spelling) (parts : List A) : Type 0 where
+pub record AreWrittenBefore {A : Type 0} (order : Endianness) (has_flags : Bool) (kind : Dimension → A → Value)
+    (d : Dimension) (i : ℕ) (s : Spelling) (parts : List A) : Type 0 where
   pub same : take i (list_of_spellings (members_spelled s)) ≡ take i (map (member_written order has_flags kind d) parts)
 
 -- and so is the next one
-pub one_more_written : {A : Type 0} {order : Endianness} {has_flags : Bool} {kind : Dimension → A → Value} {d : Dimension}
-    {i : ℕ} {s : Spelling} {parts : List A} {m : Item} {part : A}
+pub one_more_written : {A : Type 0} {order : Endianness} {has_flags : Bool} {kind : Dimension → A → Value}
+    {d : Dimension} {i : ℕ} {s : Spelling} {parts : List A} {m : Item} {part : A}
     → AreWrittenBefore order has_flags kind d i s parts
     → IsSpelledAsWritten order has_flags m → m.value ≡ kind d part → Some m.spelled ≡ spelling_at s i
     → Some part ≡ slice_get parts i
     → AreWrittenBefore order has_flags kind d (i + 1) s parts
-one_more_written {order = order} {has_flags = has_flags} {kind = kind} {d = d} {i = i} {parts = parts} {m = m} {part = part}
-    before is value-is spelled-at part-at =
+one_more_written {order = order} {has_flags = has_flags} {kind = kind} {d = d} {i = i} {parts = parts} {m = m}
+    {part = part} before is value-is spelled-at part-at =
     let f = member_written order has_flags kind d in
     let same : m.spelled ≡ f part =
     is.same ∙ as_member order has_flags m.value
@@ -138,12 +141,14 @@ pub all_written : {A : Type 0} {k : ℕ} {l : Layout} {bytes : List ℕ} {order 
     → spelled_in l bytes [] (spellings ms)
     ≡ node (written_header order (form_with_flags has_flags) k (written_dimension (as_dimensions l.dimension))) []
     (each_spelling (member_written order has_flags kind l.dimension) (map part ms))
-all_written {k = k} {l = l} {bytes = bytes} {order = order} {has_flags = has_flags} {kind = kind} {i = i} part ms header all before =
+all_written {k = k} {l = l} {bytes = bytes} {order = order} {has_flags = has_flags} {kind = kind} {i = i} part ms
+    header all before =
     let f = member_written order has_flags kind l.dimension in
     let same =
     sym (take_all i (map (λ m. m.spelled) ms) (omega (arith, length-map ms part, length-map ms (λ m. m.spelled))))
     ∙ ap (take i) (sym (spelled_each ms)) ∙ before.same
     ∙ take_all i (map f (map part ms)) (omega (arith, length-map (map part ms) f)) in
     header_spelled k l bytes order has_flags (spellings ms) header
-    ∙ ap (λ ss. node (written_header order (form_with_flags has_flags) k (written_dimension (as_dimensions l.dimension))) [] ss)
+    ∙ ap (λ ss.
+    node (written_header order (form_with_flags has_flags) k (written_dimension (as_dimensions l.dimension))) [] ss)
     (each_spelled f part ms same)

@@ -3,8 +3,8 @@ use Rattle.std.specs.List.{flat_map}
 use Rattle.wkb_geom.specs.Encodings.{words_encoding}
 use Rattle.wkb_view.specs.Prelude.{width}
 use Rattle.wkb_view.specs.Coords.{ring_seen}
-use Rattle.wkb_view.proofs.Standing.{ring_stands}
-use Rattle.wkb_view.proofs.linear_ring.LinearRingLineStringTrait.standing.Goals as goal
+use Rattle.wkb_view.proofs.CoordsAsWritten.{ring_stands}
+use Rattle.wkb_view.proofs.linear_ring.LinearRingLineStringTrait.coords_as_written.Goals as goal
 
 pub returns-then-eq-clause-bytes : goal.returns-then-eq-clause-bytes
 returns-then-eq-clause-bytes c =
