@@ -1,13 +1,9 @@
 -- Faults, one after another.
-use Rattle.std.proofs.Common.{◌≡◌, ℕ, ◌<◌, ◌≤◌, ◌^◌, Option, None, refl, arith, ◌⊎◌, min, Result, Err}
-use Rattle.std.proofs.lemmas.Bool.Decides.{nat_tests}
-use Rattle.wkb_geom.specs.declared.common.Dimensions.{Dimensions}
-use Rattle.wkb_geom.specs.declared.common.Dimensions.TheVariants.{Unknown}
-use Rattle.wkb_geom.specs.Dimensions.{size}
-use Rattle.wkb_geom.specs.declared.error.Fault.{Fault}
-use Rattle.wkb_geom.specs.Encodings.{or_else, count_fault, dimensions_fault}
+use Rattle.wkb_write.proofs.Prelude.{◌≡◌, ℕ, ◌<◌, ◌≤◌, ◌^◌, Option, None, refl, arith, ◌⊎◌, Result, Err, nat_tests}
+use Rattle.wkb_write.proofs.Prelude.{Dimensions, Unknown, size, Fault, or_else, count_fault, dimensions_fault, Finds}
+use Rattle.wkb_write.proofs.Prelude.{Measures}
+use Rattle.std.proofs.Common.{min}
 use Rattle.wkb_geom.specs.declared.error.Fault.TheVariants as found
-use Rattle.wkb_write.specs.Measures.{Finds, Measures}
 
 pub reports_first : (e : Fault) (a b : Option Fault) → Finds e a → Finds e (or_else a b)
 unfolding or_else

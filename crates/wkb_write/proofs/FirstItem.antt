@@ -1,7 +1,8 @@
--- A list with a first item, and one without.
-use Rattle.std.proofs.Common.{◌≡◌, ℕ, zero, suc, ◌+◌, ◌-◌, ◌<◌, List, [], ◌∷◌, length, Option, Some, None, refl, arith}
-use Rattle.std.proofs.Common.{slice_get}
-use Rattle.std.specs.Prelude.{IsSome}
+-- The item of a list at an index, and the first one.
+use Rattle.wkb_write.proofs.Prelude.{◌≡◌, ℕ, zero, suc, ◌+◌, ◌-◌, ◌<◌, List, [], ◌∷◌, length, Option, Some, None, refl}
+use Rattle.wkb_write.proofs.Prelude.{arith, slice_get, get_or, drop, sym, ap, ◌∙◌, add-one}
+use Rattle.std.proofs.lemmas.List.{drop_more}
+use Rattle.std.specs.Prelude.{IfSome, IsSome}
 use Rattle.std.specs.Option.{option_map}
 
 pub length-none_first : {X : Type 0} (xs : List X) → slice_get xs 0 ≡ None → length xs ≡ 0
@@ -20,4 +21,28 @@ some_below f None [] i h k = absurd (omega arith)
 some_below f None (x ∷ xs) zero h k = cc
 some_below f None (x ∷ xs) (suc i) h k = some_below f None xs i h (omega arith)
 
-pub ruleset ring_laws = (length-none_first, length-some_first)
+pub ruleset ring_laws = (length-none_first, length-some_first, some_below)
+
+-- the item at an index, with those behind it, and what is said of it
+pub record ItemAt {X : Type 0} (xs : List X) (i : ℕ) (P : X → Type 0) : Type 0 where
+  pub item : X
+  pub rest : drop i xs ≡ item ∷ drop (i + 1) xs
+  pub told : P item
+
+-- as a clause says it
+pub item_at : {X : Type 0} {P : X → Type 0} (xs : List X) (i : ℕ) → i < length xs → IfSome (slice_get xs i) P
+    → ItemAt xs i P
+item_at [] i within told = absurd (omega arith)
+item_at (x ∷ xs) zero within told = record { item = x; rest = refl; told = told }
+item_at (x ∷ xs) (suc i) within told =
+    let next = item_at xs i (omega arith) told in
+    record { item = next.item; rest = rw add-one (rw add-one at next.rest); told = next.told }
+
+-- as a loop reads it
+pub item_read : {X : Type 0} {P : X → Type 0} (xs : List X) (i : ℕ) (x : X) → i < length xs → x ≡ get_or xs i x → P x
+    → ItemAt xs i P
+item_read xs i x within is told = record {
+  item = x;
+  rest = drop_more xs i x within ∙ ap (λ y. y ∷ drop (i + 1) xs) (sym is);
+  told = told;
+}

@@ -2,8 +2,6 @@ pub mod Collections
 pub mod Faults
 pub mod FirstItem
 pub mod Loops
-pub mod MeasuredItems
-pub mod Members
 pub mod Nodes
 pub mod Prelude
 pub mod Sizes

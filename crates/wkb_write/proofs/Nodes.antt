@@ -1,6 +1,7 @@
 -- The nodes of a geometry, by which the recursion of collections falls.
-use Rattle.std.proofs.Common.{◌+◌, ◌<◌, ◌≤◌, ℕ, zero, suc, List, [], ◌∷◌, length, map, get_or, arith}
-use Rattle.wkb_geom.specs.Geometries.{Geometry, Geometries, collection, no_geometries, geometry, geometries}
+use Rattle.wkb_write.proofs.Prelude.{◌≡◌, ◌+◌, ◌*◌, ◌<◌, ◌≤◌, ℕ, zero, suc, List, [], ◌∷◌, length, map, get_or, ap}
+use Rattle.wkb_write.proofs.Prelude.{arith, Dimensions, Geometry, collection, geometries}
+use Rattle.wkb_geom.specs.Geometries.{Geometries, no_geometries, geometry}
 
 -- how many nodes a geometry has, those of its members among them
 abbrev mutual
@@ -18,3 +19,15 @@ pub node_count-member : {X : Type 0} (f : X → Geometry) (xs : List X) (i : ℕ
 node_count-member f [] i d h = absurd (omega arith)
 node_count-member f (x ∷ xs) zero d h = omega arith
 node_count-member f (x ∷ xs) (suc i) d h = omega (arith, node_count-member f xs i d (omega arith))
+
+-- the measure of the recursion falls
+pub members_fall : (d : Dimensions) (gs : Geometries) (geo : Geometry) (t : ℕ) → collection d gs ≡ geo
+    → 2 * node_count geo ≡ t → 2 * node_counts gs + 1 < t
+members_fall d gs geo t is measure = let whole = ap node_count is in omega (arith, whole)
+
+pub member_falls : {X : Type 0} (f : X → Geometry) (xs : List X) (i : ℕ) (x : X) (t : ℕ) → i < length xs
+    → x ≡ get_or xs i x → 2 * node_counts (geometries (map f xs)) + 1 ≡ t → 2 * node_count (f x) < t
+member_falls f xs i x t within item measure =
+    let member = node_count-member f xs i x within in
+    let here = ap (λ y. node_count (f y)) item in
+    omega (arith, member, here)

@@ -1,13 +1,11 @@
 -- What has no fault: an item of a list, and a dimension, of which a coordinate can be laid.
 use Rattle.wkb_write.proofs.Prelude.{◌≡◌, ℕ, zero, suc, ◌≤◌, List, [], ◌∷◌, Option, Some, None, ap, ◌∙◌, arith}
 use Rattle.wkb_write.proofs.Prelude.{slice_get, Dimensions, none_first, none_rest, size, Fault, first_fault}
-use Rattle.wkb_write.proofs.Prelude.{dimensions_fault, Dimension, written_dimension, ◌*◌, sym}
+use Rattle.wkb_write.proofs.Prelude.{dimensions_fault, Dimension, written_dimension, sym, nat_tests, Unknown}
 use Rattle.wkb_geom.specs.Dimensions.{width}
 use Rattle.wkb_geom.specs.declared.common.Dimension.TheVariants.{Xy}
 use Rattle.wkb_laws.proofs.Values.{width-written_dimension}
 use Rattle.wkb_sink.specs.Runs.{FitsCoordinate}
-use Rattle.std.proofs.lemmas.Bool.Decides.{nat_tests}
-use Rattle.wkb_geom.specs.declared.common.Dimensions.TheVariants.{Unknown}
 
 -- where no item has a fault, the item at i has none
 pub none_at : {X : Type 0} (f : X → Option Fault) (xs : List X) (i : ℕ) (x : X) → first_fault f xs ≡ None
@@ -41,7 +39,8 @@ pub ruleset width_laws = (width_least, width_most)
 -- the words of a coordinate that is written
 pub words_are : {d of : Dimensions} {told : Dimension} {words : ℕ} → words ≡ width told → told ≡ written_dimension of
     → of ≡ d → dimensions_fault d ≡ None → words ≡ size d
-words_are {d = d} is name same none = is ∙ ap width name ∙ ap (λ e. width (written_dimension e)) same ∙ width-written_dimension d none
+words_are {d = d} is name same none =
+    is ∙ ap width name ∙ ap (λ e. width (written_dimension e)) same ∙ width-written_dimension d none
 
 -- so its coordinates can be laid
 pub has_width : {d of : Dimensions} {told : Dimension} {words : ℕ} → told ≡ written_dimension d → of ≡ d

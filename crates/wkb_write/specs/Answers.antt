@@ -5,7 +5,6 @@ use Rattle.std.specs.declared.io.Error.{Error}
 use Rattle.std.specs.Io.KnownBytes.{Appends}
 use Rattle.wkb_geom.specs.declared.common.Endianness.{Endianness}
 use Rattle.wkb_geom.specs.declared.common.Form.{Form}
-use Rattle.wkb_geom.specs.declared.code.WkbType.{WkbType}
 use Rattle.wkb_geom.specs.declared.error.WkbError.{WkbError}
 use Rattle.wkb_geom.specs.Errors.{IsMemory, TellsFault}
 use Rattle.wkb_geom.specs.Geometries.{Geometry, normal}
@@ -15,8 +14,6 @@ use Rattle.wkb_geom.specs.Encodings.{refusal, encoding}
 use Rattle.wkb_laws.specs.Written.{HasOptions}
 use Rattle.wkb_write.specs.Measures.{Reports, Finds}
 use Rattle.wkb_geom.specs.declared.error.Fault.{Fault}
-use Rattle.wkb_sink.specs.Options.{header_of, inner_options}
-use Rattle.wkb_write.specs.Counted.{counted}
 use Rattle.wkb_sink.specs.Sinks.{IsOwnError, Puts, TellsFailure}
 use Rattle.wkb_sink.specs.declared.sink.Sink.{Ghosts}
 use Rattle.wkb_sink.specs.declared.options.WriteOptions.{WriteOptions}
@@ -105,9 +102,3 @@ IsVecError options g e = IsMemory e ⊎ Reports e (refusal_of options g)
 -- the error reports what is refused, or that the slice is too short
 abbrev pub IsSliceError : WriteOptions → Geometry → List ℕ → WkbError → Type 0
 IsSliceError options g old e = Reports e (refusal_of options g) ⊎ OutgrowsSlice options g old e
-
--- a geometry's encoding is a header of this type, and its items after their count
-abbrev pub ListsItems : Geometry → WkbType → (WriteOptions → List (List ℕ)) → Type 0
-ListsItems g kind items =
-    (options : WriteOptions)
-    → encoding_of options g ≡ header_of options kind ++ counted options.endianness (items (inner_options options))

@@ -1,9 +1,60 @@
--- A count, and the encodings of that many items.
-use Rattle.std.specs.Prelude.{ℕ, List, ◌++◌, length}
+-- A count, and that many items: how they are measured and encoded.
+use Rattle.std.specs.Prelude.{◌≡◌, ℕ, List, ◌++◌, length, slice_get, IfSome}
 use Rattle.std.specs.List.{flat_map}
+use Rattle.wkb_geom.specs.declared.common.Dimensions.{Dimensions}
 use Rattle.wkb_geom.specs.declared.common.Endianness.{Endianness}
+use Rattle.wkb_geom.specs.declared.code.WkbType.{WkbType}
+use Rattle.wkb_geom.specs.Encodings.{coordinates_encoding}
+use Rattle.wkb_geom.specs.Geometries.{Geometry, dimensions_of}
 use Rattle.wkb_geom.specs.Numbers.{number_bytes}
+use Rattle.wkb_geom.specs.Values.{Coordinate}
+use Rattle.wkb_sink.specs.Options.{header_of, inner_options}
+use Rattle.wkb_sink.specs.declared.options.WriteOptions.{WriteOptions}
+use Rattle.wkb_write.specs.Answers.{encoding_of}
+use Rattle.wkb_write.specs.Bodies.{Measure, body_fault, parts_fault, parts_size, ring_measure, size_by_parts}
+
+-- the items of a geometry: how each is measured, and encoded under the options of items
+pub record ItemList : Type 1 where
+  pub Item : Type 0
+  pub list : List Item
+  pub measure : Item → Measure
+  pub encode : WriteOptions → Item → List ℕ
+
+-- rings
+abbrev pub ring_list : Dimensions → List (List Coordinate) → ItemList
+ring_list d rings = record {
+  Item = List Coordinate;
+  list = rings;
+  measure = ring_measure d;
+  encode = λ options ring. coordinates_encoding options.endianness ring;
+}
+
+-- members, by how each is measured and what it means
+abbrev pub member_list : {X : Type 0} → (X → Measure) → (X → Geometry) → List X → ItemList
+member_list {X} measure meant xs = record {
+  Item = X;
+  list = xs;
+  measure = measure;
+  encode = λ options x. encoding_of options (meant x);
+}
 
 -- a count, and the encodings
-unfoldable pub counted : Endianness → List (List ℕ) → List ℕ
-counted order encodings = number_bytes order 4 (length encodings) ++ flat_map (λ t. t) encodings
+unfoldable pub counted : {X : Type 0} → Endianness → (X → List ℕ) → List X → List ℕ
+counted order encode xs = number_bytes order 4 (length xs) ++ flat_map encode xs
+
+-- a geometry's encoding is a header of this type, and its items after their count
+abbrev pub ListsItems : Geometry → WkbType → ItemList → Type 0
+ListsItems g kind items =
+    (options : WriteOptions)
+    → encoding_of options g
+    ≡ header_of options kind ++ counted options.endianness (items.encode (inner_options options)) items.list
+
+-- what is said of the item at an index
+abbrev pub OfItem : (items : ItemList) → ℕ → (items.Item → Type 0) → Type 0
+OfItem items i P = IfSome (slice_get items.list i) P
+
+-- after its header a geometry of this dimension is these items, each with a header of this size
+pub record HasMeasures (g : Geometry) (d : Dimensions) (header : ℕ) (items : ItemList) : Type 0 where
+  pub dimensions : d ≡ dimensions_of g
+  pub fault : body_fault g ≡ parts_fault items.measure items.list
+  pub size : size_by_parts g ≡ parts_size header items.measure items.list

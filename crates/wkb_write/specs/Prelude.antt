@@ -18,8 +18,9 @@ pub use Rattle.wkb_sink.specs.Sinks.{TellsFailure}
 pub use Rattle.wkb_sink.specs.declared.block.TheConstants.{MIN_BLOCK}
 pub use Rattle.wkb_sink.specs.declared.options.WriteOptions.{WriteOptions}
 pub use Rattle.wkb_write.specs.Answers.{encoding_of, refusal_of, IsInFront, IsSized, IsSizeOf, IsSliceError, IsVecError}
-pub use Rattle.wkb_write.specs.Answers.{OutgrowsSlice, ListsItems, WritesTo}
-pub use Rattle.wkb_write.specs.Bodies.{Measure, parts_measure, point_measure, polygon_measure, ring_measure}
-pub use Rattle.wkb_write.specs.Bodies.{collection_of, coordinate_words, body_fault, size_by_parts, IsLeaf, HasMeasures}
+pub use Rattle.wkb_write.specs.Answers.{OutgrowsSlice, WritesTo}
+pub use Rattle.wkb_write.specs.Bodies.{parts_measure, point_measure, polygon_measure, ring_measure, collection_of}
+pub use Rattle.wkb_write.specs.Bodies.{coordinate_words, body_fault, size_by_parts, IsLeaf}
+pub use Rattle.wkb_write.specs.Counted.{HasMeasures, ItemList, ListsItems, OfItem, member_list, ring_list}
 pub use Rattle.wkb_write.specs.Measures.{Finds, IsAdded, IsMeasured, IsMeasureOf, Measures, OfMeasured, Reports}
 pub use Rattle.wkb_write.specs.Measures.{result_of}

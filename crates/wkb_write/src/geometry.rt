@@ -15,9 +15,9 @@ use crate::nested::{Nested, Node};
 use crate::point::{PointKind, write_point};
 use crate::polygon::{PolygonKind, write_polygon};
 use crate::rect::RectKind;
-use crate::slice::{slice_as, slice_lent};
+use crate::slice::{encoding_to_slice, slice_as};
 use crate::triangle::TriangleKind;
-use crate::writable::{vec_as, vec_lent, write_lent};
+use crate::writable::{vec_as, vec_of_encoding, write_encoding};
 use std::alloc::Global;
 use wkb_geom::{GeometryTrait, GeometryType};
 
@@ -120,8 +120,8 @@ pub fn write_geometry<S: Sink, G: GeometryTrait>(
     requires working { S.has_failed writer.old ≡ false }
     ensures { WritesTo S.Sink writer.old writer.new options.now (G.geometry geom.now) result }
 {
-    if let Some(encoding) = geom.whole(options.endianness, options.form) {
-        return write_lent(writer, encoding, options);
+    if let Some(encoding) = geom.as_written(options.endianness, options.form) {
+        return write_encoding(writer, encoding, options);
     }
     match geom.as_type() {
         // Most geometries are of these kinds, for which their own writers are called at once.
@@ -141,7 +141,7 @@ pub fn write_geometry<S: Sink, G: GeometryTrait>(
 ///
 /// Refused as `geometry_wkb_size_with` refuses it under the same options, or `Memory`.
 #[inline(always)]
-#[tactic(auto, using(crate::proofs::Writing::lent_fits))]
+#[tactic(auto, using(crate::proofs::Writing::encoding_fits))]
 pub fn to_vec<G: GeometryTrait>(
     alloc: Global,
     geom: &G,
@@ -151,8 +151,8 @@ pub fn to_vec<G: GeometryTrait>(
     ensures writable { IfOk result (λ _. refusal_of options.now (G.geometry geom.now) ≡ None) }
     ensures err { IfErr result (IsVecError options.now (G.geometry geom.now)) }
 {
-    if let Some(encoding) = geom.whole(options.endianness, options.form) {
-        return vec_lent(alloc, encoding);
+    if let Some(encoding) = geom.as_written(options.endianness, options.form) {
+        return vec_of_encoding(alloc, encoding);
     }
     match geom.as_type() {
         // A point by itself needs no call.
@@ -173,7 +173,7 @@ pub fn to_vec<G: GeometryTrait>(
 /// Refused as `geometry_wkb_size_with` refuses it under the same options. `IOError` of the kind `WriteZero` where the
 /// slice is shorter than the encoding. In both cases the slice is untouched.
 #[inline(always)]
-#[tactic(auto, using(crate::proofs::Writing::lent_fits, crate::proofs::Writing::lent_outgrows))]
+#[tactic(auto, using(crate::proofs::Writing::encoding_fits, crate::proofs::Writing::encoding_outgrows))]
 pub fn write_to_slice<G: GeometryTrait>(
     geom: &G,
     options: &WriteOptions,
@@ -185,8 +185,8 @@ pub fn write_to_slice<G: GeometryTrait>(
     ensures err { IfErr result (IsSliceError options.now (G.geometry geom.now) out.old) }
     ensures kept { IfErr result (λ _. out.new ≡ out.old) }
 {
-    if let Some(encoding) = geom.whole(options.endianness, options.form) {
-        return slice_lent(encoding, out);
+    if let Some(encoding) = geom.as_written(options.endianness, options.form) {
+        return encoding_to_slice(encoding, out);
     }
     slice_as::<G, Node<GeometryKind>>(geom, options, out)
 }

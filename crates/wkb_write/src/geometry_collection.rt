@@ -11,7 +11,7 @@ use wkb_geom::GeometryCollectionTrait;
 /// A collection, whose members are of another type.
 pub struct GeometryCollectionKind;
 
-#[tactic(auto, using(crate::proofs::Collections::whole_laws))]
+#[tactic(auto, using(crate::proofs::Collections::added_alone))]
 impl<C: GeometryCollectionTrait> Writable<C> for GeometryCollectionKind {
     ghost geometry = { collection_meant C.GeometryCollectionTrait };
 

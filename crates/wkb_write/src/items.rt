@@ -1,23 +1,19 @@
 //! Items after a count: the rings of a polygon, the members of a multi geometry.
 
-ghost use Rattle.std.specs.Prelude.{◌≡◌, ◌<◌, ℕ, List, [], None, false, length, get_or, IfSome};
-ghost use Rattle.std.specs.Prelude.{slice_get};
-ghost use Rattle.wkb_write.specs.Prelude.{Geometry, IsGeometry, WriteOptions, fault, ListsItems};
-ghost use Rattle.wkb_write.specs.Prelude.{IsMeasureOf, parts_measure, HasMeasures, Lays, Measure};
+ghost use Rattle.std.specs.Prelude.{◌≡◌, ◌<◌, ℕ, None, false, length};
+ghost use Rattle.wkb_write.specs.Prelude.{Geometry, IsGeometry, ItemList, ListsItems, OfItem, fault};
+ghost use Rattle.wkb_write.specs.Prelude.{IsMeasureOf, parts_measure, HasMeasures, Lays};
 
 use crate::common::*;
-use crate::measure::short_count;
+use crate::measure::count_to_write;
 
 /// A kind whose geometries are items after a count.
 pub trait Items<G: Dimensioned> {
     // What a geometry means.
     ghost geometry: { G → Geometry };
 
-    // The encodings of the items, in order, under the options of items.
-    ghost encodings: { WriteOptions → G → List (List ℕ) };
-
-    // The fault and the size of each item without its header, in order.
-    ghost measures: { G → List Measure };
+    // The items, in order.
+    ghost items: { G → ItemList };
 
     // The size of an item's header.
     ghost ITEM_HEADER: { ℕ };
@@ -26,17 +22,17 @@ pub trait Items<G: Dimensioned> {
 
     /// The kind and the dimension that the header has.
     fn kind(geom: &G) -> WkbType
-        ensures { ListsItems (geometry geom.now) result (λ options. encodings options geom.now) };
+        ensures { ListsItems (geometry geom.now) result (items geom.now) };
 
     /// The number of items after the count.
     fn count(geom: &G) -> u128
-        ensures counted { (options : WriteOptions) → result ≡ length (encodings options geom.now) }
-        ensures measured { result ≡ length (measures geom.now) };
+        ensures { result ≡ length (items geom.now).list };
 
     /// The fault of the item at an index, or its size without its header.
     fn measure_item(geom: &G, i: usize) -> Measured
-        requires { i < length (measures geom.now) }
-        ensures { IfSome (slice_get (measures geom.now) i) (λ m. IsMeasureOf m result) };
+        requires { i < length (items geom.now).list }
+        ensures { OfItem (items geom.now) i
+            (λ x. IsMeasureOf ((items geom.now).measure x) result) };
 
     /// Puts the item at an index. The options go by reference, in one register.
     fn put_item<S: Sink>(
@@ -46,12 +42,13 @@ pub trait Items<G: Dimensioned> {
         options: &WriteOptions,
     ) -> Put
         requires fault { fault (geometry geom.now) ≡ None }
-        requires within { i < length (encodings options.now geom.now) }
+        requires within { i < length (items geom.now).list }
         requires working { S.has_failed out.old.sink.now ≡ false }
-        ensures { Lays S.Sink out.old out.new (get_or (encodings options.now geom.now) i []) result };
+        ensures { OfItem (items geom.now) i
+            (λ x. Lays S.Sink out.old out.new ((items geom.now).encode options.now x) result) };
 
     // After its header a geometry is its items.
-    ghost parts: { (g : G) → HasMeasures (geometry g) (G.dimensions g) ITEM_HEADER (measures g) };
+    ghost parts: { (g : G) → HasMeasures (geometry g) (G.dimensions g) ITEM_HEADER (items g) };
 
     // Every coordinate fits the dimension.
     ghost lawful: { (g : G) → IsGeometry (geometry g) };
@@ -60,7 +57,7 @@ pub trait Items<G: Dimensioned> {
 /// The geometries of a kind of items. All are measured and put in one way: the count, and then the items.
 pub struct Counted<I>(I);
 
-#[tactic(auto, using(crate::proofs::Steps::step_laws))]
+#[tactic(auto, using(crate::proofs::Steps::counted_laws))]
 impl<G: Dimensioned, I: Items<G>> Writable<G> for Counted<I> {
     ghost geometry = { λ g. I.geometry g };
 
@@ -87,9 +84,10 @@ impl<G: Dimensioned, I: Items<G>> Writable<G> for Counted<I> {
 /// Measures the count and the items in order, each with its header.
 #[tactic(auto, using(crate::proofs::Sums::measured_laws))]
 pub fn measure_items<G: Dimensioned, I: Items<G>>(geom: &G) -> Measured
-    ensures { IsMeasureOf (parts_measure I.ITEM_HEADER (I.measures geom.now)) result }
+    ensures { IsMeasureOf (parts_measure I.ITEM_HEADER (I.items geom.now).measure
+        (I.items geom.now).list) result }
 {
-    let Some(count) = short_count(I::count(geom)) else {
+    let Some(count) = count_to_write(I::count(geom)) else {
         return Measured::Count;
     };
     // In 128 bits no sum overflows, so that the compiler multiplies where all items have one size, as points have.

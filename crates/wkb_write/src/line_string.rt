@@ -7,7 +7,7 @@ ghost use Rattle.wkb_write.specs.Prelude.{Lays, IsSizeOf, WritesTo, IsMeasureOf,
 ghost use Rattle.wkb_sink.specs.declared.block.TheConstants.{MAX_COORDINATE_SIZE};
 
 use crate::common::*;
-use crate::measure::short_count;
+use crate::measure::count_to_write;
 use wkb_geom::{Endianness, LineStringTrait};
 use wkb_sink::block::lay_coordinates;
 
@@ -15,13 +15,14 @@ use wkb_sink::block::lay_coordinates;
 pub fn measure_coordinates<L: LineStringTrait>(line: &L) -> Measured
     ensures { IsMeasureOf (ring_measure (L.dimensions line.now) (L.coordinates line.now)) result }
 {
-    match short_count(line.num_coords() as u128) {
+    match count_to_write(line.num_coords() as u128) {
         Some(count) => Measured::Bytes(COUNT_SIZE + words_size(line.dim(), count)),
         None => Measured::Count,
     }
 }
 
-// The index up to which the coordinates from another one on fit the room. Only those that don't all fit take a division.
+// The index up to which the coordinates from another one on fit the room. Only those that don't all fit take a
+// division.
 #[inline]
 fn end_of_run(from: usize, count: usize, size: usize, room: usize) -> usize
     requires order { from < count }
@@ -41,7 +42,7 @@ fn end_of_run(from: usize, count: usize, size: usize, room: usize) -> usize
 }
 
 /// Puts the coordinates of a line string or a ring.
-#[tactic(auto, using(crate::proofs::Steps::step_laws, crate::proofs::Loops::lays_lent))]
+#[tactic(auto, using(crate::proofs::Steps::run_laws))]
 pub fn put_coordinates<S: Sink, L: LineStringTrait>(
     out: &mut Buffered<'_, S>,
     line: &L,
@@ -55,7 +56,7 @@ pub fn put_coordinates<S: Sink, L: LineStringTrait>(
 {
     let count = line.num_coords();
     let size = WORD_SIZE * line.dim().size();
-    if let Some(bytes) = line.standing(order) {
+    if let Some(bytes) = line.coords_as_written(order) {
         return out.put_bytes(bytes);
     }
     let mut done = 0;
@@ -71,7 +72,7 @@ pub fn put_coordinates<S: Sink, L: LineStringTrait>(
 /// A line string.
 pub struct LineStringKind;
 
-#[tactic(auto, using(crate::proofs::Steps::node_laws), unfolding(wkb_geom::specs::Encodings::line_string_encoding))]
+#[tactic(auto, using(crate::proofs::Steps::line_laws), unfolding(wkb_geom::specs::Encodings::line_string_encoding))]
 impl<L: LineStringTrait> Writable<L> for LineStringKind {
     ghost geometry = { line_string_meant L.LineStringTrait };
 

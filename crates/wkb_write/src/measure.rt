@@ -57,7 +57,7 @@ fn as_result(measured: Measured) -> Result<usize, Fault>
 /// The number of words of a coordinate, where a geometry of these dimensions can't be written.
 #[inline(always)]
 #[tactic(auto, using(crate::proofs::Faults::fault_laws), unfolding(wkb_geom::specs::Encodings::dimensions_fault))]
-pub fn unsupported(dim: Dimensions) -> Option<usize>
+pub fn unsupported_dimension(dim: Dimensions) -> Option<usize>
     ensures { MatchOption result (dimensions_fault dim ≡ None)
         (λ n. Finds (UnsupportedDimensions n) (dimensions_fault dim)) }
 {
@@ -69,7 +69,7 @@ pub fn unsupported(dim: Dimensions) -> Option<usize>
 
 /// A count, where four bytes hold it.
 #[tactic(auto, using(crate::proofs::Faults::fault_laws))]
-pub fn short_count(n: u128) -> Option<u32>
+pub fn count_to_write(n: u128) -> Option<u32>
     ensures { MatchOption result (Finds Count (count_fault n))
         (λ m. (count_fault n ≡ None) × (m ≡ n)) }
 {
@@ -87,12 +87,13 @@ pub fn words_size(dim: Dimensions, n: u32) -> usize
 
 /// A geometry of these dimensions, by what was measured of its body.
 #[inline(always)]
+#[tactic(auto, using(crate::proofs::Whole::header_laws), unfolding(crate::specs::Measures::IsMeasured))]
 pub fn behind_header(dim: Dimensions, body: Measured) -> Measured
     ensures { (g : Geometry) → dim ≡ dimensions_of g
         → Measures (body_fault g) (size_by_parts g) (result_of body)
         → IsMeasured g (result_of result) }
 {
-    match unsupported(dim) {
+    match unsupported_dimension(dim) {
         None => body,
         Some(n) => Measured::UnsupportedDimensions(n),
     }
@@ -132,6 +133,7 @@ pub fn whole_size(measured: Measured, form: Form) -> Result<usize, Fault>
 
 /// The size of an encoding under the form, or the error that reports the fault.
 #[inline]
+#[tactic(auto, using(crate::proofs::Sizes::size_answered))]
 pub fn size_of(measured: Measured, form: Form) -> WkbResult<usize>
     ensures { OfMeasured measured (λ g. IsSizeOf form g result) }
 {

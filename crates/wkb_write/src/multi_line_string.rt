@@ -1,7 +1,7 @@
 //! A multi line string.
 
-ghost use Rattle.std.specs.Prelude.{◌≡◌, false, map, refl};
-ghost use Rattle.wkb_write.specs.Prelude.{Iso, multi_line_string_meant, line_string, encoding_of};
+ghost use Rattle.std.specs.Prelude.{◌≡◌, false, refl};
+ghost use Rattle.wkb_write.specs.Prelude.{Iso, multi_line_string_meant, line_string, member_list};
 ghost use Rattle.wkb_write.specs.Prelude.{IsSizeOf, WritesTo, ring_measure};
 
 use crate::common::*;
@@ -16,10 +16,8 @@ pub struct MultiLineStringKind;
 impl<M: MultiLineStringTrait> Items<M> for MultiLineStringKind {
     ghost geometry = { multi_line_string_meant M.MultiLineStringTrait };
 
-    ghost encodings = { λ options m.
-        map (λ c. encoding_of options (line_string (M.dimensions m) c)) (M.line_strings m) };
-
-    ghost measures = { λ m. map (ring_measure (M.dimensions m)) (M.line_strings m) };
+    ghost items = { λ m.
+        member_list (ring_measure (M.dimensions m)) (line_string (M.dimensions m)) (M.line_strings m) };
 
     ghost ITEM_HEADER = { 5 };
 

@@ -1,7 +1,7 @@
 //! A multi point.
 
-ghost use Rattle.std.specs.Prelude.{◌≡◌, false, map, refl};
-ghost use Rattle.wkb_write.specs.Prelude.{Iso, multi_point_meant, point, encoding_of, IsSizeOf};
+ghost use Rattle.std.specs.Prelude.{◌≡◌, false, refl};
+ghost use Rattle.wkb_write.specs.Prelude.{Iso, multi_point_meant, point, member_list, IsSizeOf};
 ghost use Rattle.wkb_write.specs.Prelude.{WritesTo, point_measure};
 
 use crate::common::*;
@@ -16,10 +16,8 @@ pub struct MultiPointKind;
 impl<M: MultiPointTrait> Items<M> for MultiPointKind {
     ghost geometry = { multi_point_meant M.MultiPointTrait };
 
-    ghost encodings = { λ options m.
-        map (λ c. encoding_of options (point (M.dimensions m) c)) (M.points m) };
-
-    ghost measures = { λ m. map (point_measure (M.dimensions m)) (M.points m) };
+    ghost items = { λ m.
+        member_list (point_measure (M.dimensions m)) (point (M.dimensions m)) (M.points m) };
 
     ghost ITEM_HEADER = { 5 };
 

@@ -1,7 +1,7 @@
 //! A multi polygon.
 
-ghost use Rattle.std.specs.Prelude.{◌≡◌, false, map, refl};
-ghost use Rattle.wkb_write.specs.Prelude.{Iso, multi_polygon_meant, polygon, encoding_of, IsSizeOf};
+ghost use Rattle.std.specs.Prelude.{◌≡◌, false, refl};
+ghost use Rattle.wkb_write.specs.Prelude.{Iso, multi_polygon_meant, polygon, member_list, IsSizeOf};
 ghost use Rattle.wkb_write.specs.Prelude.{WritesTo, polygon_measure};
 
 use crate::common::*;
@@ -16,10 +16,8 @@ pub struct MultiPolygonKind;
 impl<M: MultiPolygonTrait> Items<M> for MultiPolygonKind {
     ghost geometry = { multi_polygon_meant M.MultiPolygonTrait };
 
-    ghost encodings = { λ options m.
-        map (λ c. encoding_of options (polygon (M.dimensions m) c)) (M.polygons m) };
-
-    ghost measures = { λ m. map (polygon_measure (M.dimensions m)) (M.polygons m) };
+    ghost items = { λ m.
+        member_list (polygon_measure (M.dimensions m)) (polygon (M.dimensions m)) (M.polygons m) };
 
     ghost ITEM_HEADER = { 5 };
 

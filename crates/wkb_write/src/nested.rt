@@ -8,7 +8,7 @@ ghost use Rattle.wkb_write.specs.Prelude.{encoding_of, form_with_flags, inner, L
 ghost use Rattle.wkb_write.specs.Prelude.{IsMeasured, result_of};
 
 use crate::common::*;
-use crate::measure::{short_count, unsupported};
+use crate::measure::{count_to_write, unsupported_dimension};
 use wkb_geom::{Dimensions, Endianness, Fault};
 
 /// A kind whose geometries may be collections of more of them. This is all that the recursion knows of a geometry, so
@@ -42,6 +42,7 @@ pub trait Nested<G: Dimensioned> {
 /// The geometries of a kind, each a leaf or a collection.
 pub struct Node<K>(K);
 
+#[tactic(auto, using(crate::proofs::Collections::collection_laws))]
 impl<G: Dimensioned, K: Nested<G>> Writable<G> for Node<K> {
     ghost geometry = { λ g. K.geometry g };
 
@@ -71,10 +72,10 @@ pub fn add_members<G: Dimensioned, K: Nested<G>>(
 ) -> Measured
     ensures { IsAdded before (collection_of K.geometry dim members.now) (result_of result) }
 {
-    if let Some(n) = unsupported(dim) {
+    if let Some(n) = unsupported_dimension(dim) {
         return Measured::from(Fault::UnsupportedDimensions(n));
     }
-    let Some(count) = short_count(members.len() as u128) else {
+    let Some(count) = count_to_write(members.len() as u128) else {
         return Measured::from(Fault::Count);
     };
     let count = count as usize;

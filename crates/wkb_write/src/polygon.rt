@@ -1,8 +1,7 @@
 //! A polygon: its rings, the exterior first.
 
-ghost use Rattle.std.specs.Prelude.{◌≡◌, ◌<◌, Some, false, length, map, refl, slice_get};
-ghost use Rattle.wkb_write.specs.Prelude.{Iso, polygon_meant, coordinates_encoding, IsSizeOf};
-ghost use Rattle.wkb_write.specs.Prelude.{WritesTo, ring_measure};
+ghost use Rattle.std.specs.Prelude.{◌≡◌, ◌<◌, Some, false, length, refl, slice_get};
+ghost use Rattle.wkb_write.specs.Prelude.{Iso, polygon_meant, ring_list, IsSizeOf, WritesTo};
 
 use crate::common::*;
 use crate::items::{Counted, Items};
@@ -24,6 +23,7 @@ fn ring_count<P: PolygonTrait>(polygon: &P) -> u128
 }
 
 /// The ring at an index, the exterior first.
+#[tactic(auto, using(crate::proofs::FirstItem::ring_laws))]
 fn nth_ring<P: PolygonTrait>(polygon: &P, i: usize) -> P::RingType
     requires { i < length (P.rings polygon.now) }
     ensures value { slice_get (P.rings polygon.now) i ≡ Some (P.RingType.coordinates result) }
@@ -36,13 +36,11 @@ fn nth_ring<P: PolygonTrait>(polygon: &P, i: usize) -> P::RingType
     }
 }
 
-#[tactic(auto, using(crate::proofs::Steps::item_laws, crate::proofs::Loops::lays_ring))]
+#[tactic(auto, using(crate::proofs::Steps::item_laws), unfolding(wkb_geom::specs::Encodings::coordinates_encoding))]
 impl<P: PolygonTrait> Items<P> for PolygonKind {
     ghost geometry = { polygon_meant P.PolygonTrait };
 
-    ghost encodings = { λ options p. map (coordinates_encoding options.endianness) (P.rings p) };
-
-    ghost measures = { λ p. map (ring_measure (P.dimensions p)) (P.rings p) };
+    ghost items = { λ p. ring_list (P.dimensions p) (P.rings p) };
 
     ghost ITEM_HEADER = { 0 };
 

@@ -2,12 +2,13 @@
 //!
 //! `MultiPolygonTrait` lends its polygons, so each has to stand in memory. These needn't.
 
-ghost use Rattle.std.specs.Prelude.{◌≡◌, ◌<◌, ℕ, List, IfOk, IfErr, Some, None, length, map, refl};
+ghost use Rattle.std.specs.Prelude.{◌≡◌, ◌<◌, ℕ, List, IfOk, IfErr, Some, None, length, refl};
 ghost use Rattle.std.specs.Prelude.{slice_get};
 ghost use Rattle.std.specs.List.{AllByRecursion};
 ghost use Rattle.wkb_geom.specs.Geometries.{AreCoordinates};
 ghost use Rattle.wkb_write.specs.Prelude.{Geometry, multi_polygon, polygon, encoding_of, refusal_of};
 ghost use Rattle.wkb_write.specs.Prelude.{IsSizeOf, IsInFront, IsSliceError, polygon_measure};
+ghost use Rattle.wkb_write.specs.Prelude.{member_list};
 
 use crate::common::*;
 use crate::items::{Counted, Items, measure_items};
@@ -43,10 +44,8 @@ pub struct MadePolygonsKind;
 impl<M: MadePolygons> Items<M> for MadePolygonsKind {
     ghost geometry = { λ m. multi_polygon (M.dimensions m) (M.polygons m) };
 
-    ghost encodings = { λ options m.
-        map (λ c. encoding_of options (polygon (M.dimensions m) c)) (M.polygons m) };
-
-    ghost measures = { λ m. map (polygon_measure (M.dimensions m)) (M.polygons m) };
+    ghost items = { λ m.
+        member_list (polygon_measure (M.dimensions m)) (polygon (M.dimensions m)) (M.polygons m) };
 
     ghost ITEM_HEADER = { 5 };
 

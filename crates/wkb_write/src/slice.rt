@@ -5,8 +5,8 @@ ghost use Rattle.wkb_write.specs.Prelude.{encoding_of, refusal_of, IsInFront, Is
 ghost use Rattle.wkb_write.specs.Prelude.{TellsFailure};
 
 use crate::WriteOptions;
-use crate::measure::{refuse, whole_size};
-use crate::writable::{Writable, lay_whole, length, sink_error};
+use crate::measure::refuse;
+use crate::writable::{Writable, checked_size, lay_whole, length, sink_error};
 use wkb_geom::WkbResult;
 
 /// The encoding of a geometry of a kind at the front of a slice.
@@ -22,7 +22,7 @@ pub fn slice_as<G, K: Writable<G>>(
     ensures err { IfErr result (IsSliceError options.now (K.geometry geom.now) out.old) }
     ensures kept { IfErr result (λ _. out.new ≡ out.old) }
 {
-    let size = match whole_size(K::measure(geom), options.form) {
+    let size = match checked_size::<G, K>(geom, options.form) {
         Ok(size) => size,
         Err(fault) => return refuse(fault),
     };
@@ -35,7 +35,7 @@ pub fn slice_as<G, K: Writable<G>>(
 
 /// An encoding that is in memory, at the front of a slice.
 #[inline(always)]
-pub fn slice_lent(bytes: &[u8], out: &mut [u8]) -> WkbResult<usize>
+pub fn encoding_to_slice(bytes: &[u8], out: &mut [u8]) -> WkbResult<usize>
     ensures ok { IfOk result (IsInFront out.old out.new bytes.now) }
     ensures short { IfErr result (λ _. length out.old < length bytes.now) }
     ensures err { IfErr result (λ e. TellsFailure e None) }

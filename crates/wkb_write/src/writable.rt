@@ -3,7 +3,8 @@
 ghost use Rattle.std.specs.Prelude.{◌≡◌, ◌≤◌, ◌<◌, ◌^◌, false, length, None, Ok, IfOk, IfErr};
 ghost use Rattle.std.specs.Prelude.{IsErrAnd, MatchResult};
 ghost use Rattle.wkb_write.specs.Prelude.{Geometry, IsGeometry, fault, encoding_of, refusal_of};
-ghost use Rattle.wkb_write.specs.Prelude.{IsMeasured, IsSizeOf, IsMemory, IsVecError, WritesTo, Lays};
+ghost use Rattle.wkb_write.specs.Prelude.{IsForm, IsMeasured, IsSized, IsSizeOf, IsMemory, IsVecError};
+ghost use Rattle.wkb_write.specs.Prelude.{Lays, WritesTo};
 ghost use Rattle.wkb_write.specs.Prelude.{PutsTo, TellsFailure, MIN_BLOCK, result_of};
 
 use crate::measure::{Measured, form_fits, refuse, size_of, whole_size};
@@ -11,7 +12,7 @@ use crate::{Sink, VecSink, WriteOptions};
 use std::alloc::{AllocError, Global};
 use std::io;
 use std::io::ErrorKind;
-use wkb_geom::{Form, WkbError, WkbResult};
+use wkb_geom::{Fault, Form, WkbError, WkbResult};
 use wkb_sink::block::MIN_BLOCK;
 use wkb_sink::buffered::put_all;
 use wkb_sink::{Buffered, Stopped};
@@ -38,11 +39,12 @@ pub trait Writable<G> {
     ghost lawful: { (g : G) → IsGeometry (geometry g) };
 }
 
-// Zeroing a block takes time in proportion to its size, so short encodings get the smallest one (docs/DECISIONS.md, D8).
+// Zeroing a block takes time in proportion to its size, so short encodings get the smallest one
+// (docs/DECISIONS.md, D8).
 const LARGE_BLOCK: usize = 1024;
 
-// The longest encoding that is laid in its vector. The vector is zeroed first, and this takes longer than blocks do where
-// it doesn't fit the processor's caches.
+// The longest encoding that is laid in its vector. The vector is zeroed first, and this takes longer than blocks do
+// where it doesn't fit the processor's caches.
 const MAX_IN_PLACE: usize = 1 << 18;
 
 // Puts a geometry through a block over these bytes, and then what still waits there.
@@ -122,8 +124,20 @@ pub fn size_as<G, K: Writable<G>>(geom: &G, form: Form) -> WkbResult<usize>
     size_of(K::measure(geom), form)
 }
 
+/// Measures a geometry of a kind: the size of its encoding under the form, or the fault for which there is none.
+#[inline(always)]
+pub fn checked_size<G, K: Writable<G>>(geom: &G, form: Form) -> Result<usize, Fault>
+    ensures size { IsSized form (K.geometry geom.now) result }
+    ensures fault { IfOk result (λ _. fault (K.geometry geom.now) ≡ None) }
+    ensures fits { IsForm form }
+    ensures lawful { IsGeometry (K.geometry geom.now) }
+{
+    whole_size(K::measure(geom), form)
+}
+
 /// Writes a geometry of a kind: measures the whole of it, and then puts it.
 #[inline(always)]
+#[tactic(auto, using(crate::proofs::Writing::refusal_writes))]
 pub fn write_as<S: Sink, G, K: Writable<G>>(
     writer: &mut S,
     geom: &G,
@@ -133,8 +147,7 @@ pub fn write_as<S: Sink, G, K: Writable<G>>(
     ensures { WritesTo S.Sink writer.old writer.new options.now (K.geometry geom.now) result }
 {
     // A refusal leaves the sink untouched (docs/DECISIONS.md, D6).
-    let measured = K::measure(geom);
-    match whole_size(measured, options.form) {
+    match checked_size::<G, K>(geom, options.form) {
         Ok(size) => wkb_result(put_sized::<S, G, K>(writer, size, geom, options)),
         Err(fault) => refuse(fault),
     }
@@ -174,7 +187,7 @@ pub fn vec_as<G, K: Writable<G>>(
     ensures writable { IfOk result (λ _. refusal_of options.now (K.geometry geom.now) ≡ None) }
     ensures err { IfErr result (IsVecError options.now (K.geometry geom.now)) }
 {
-    let size = match whole_size(K::measure(geom), options.form) {
+    let size = match checked_size::<G, K>(geom, options.form) {
         Ok(size) => size,
         Err(fault) => return refuse(fault),
     };
@@ -257,7 +270,11 @@ fn length_fits(bytes: &[u8])
 
 /// Writes an encoding that is in memory.
 #[inline(always)]
-pub fn write_lent<S: Sink>(writer: &mut S, bytes: &[u8], options: &WriteOptions) -> WkbResult<()>
+pub fn write_encoding<S: Sink>(
+    writer: &mut S,
+    bytes: &[u8],
+    options: &WriteOptions,
+) -> WkbResult<()>
     requires working { S.has_failed writer.old ≡ false }
     ensures { (g : Geometry) → IsGeometry g → fault g ≡ None → bytes.now ≡ encoding_of options.now g
         → WritesTo S.Sink writer.old writer.new options.now g result }
@@ -269,7 +286,7 @@ pub fn write_lent<S: Sink>(writer: &mut S, bytes: &[u8], options: &WriteOptions)
 
 /// An encoding that is in memory, in a vector.
 #[inline(always)]
-pub fn vec_lent(alloc: Global, bytes: &[u8]) -> WkbResult<Vec<u8>>
+pub fn vec_of_encoding(alloc: Global, bytes: &[u8]) -> WkbResult<Vec<u8>>
     ensures ok { IfOk result (λ out. out.items ≡ bytes.now) }
     ensures err { IfErr result IsMemory }
     ensures fits { length bytes.now < 2 ^ 64 }

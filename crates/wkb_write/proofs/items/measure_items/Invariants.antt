@@ -1,10 +1,14 @@
-use Rattle.std.proofs.Common.{◌+◌, ◌*◌, ◌^◌, ◌<◌}
-use Rattle.wkb_write.specs.Measures.{capped}
-use Rattle.wkb_write.proofs.Sums.{SoFar}
+use Rattle.wkb_write.proofs.Prelude.{◌+◌, ◌*◌, ◌^◌, ◌<◌}
+use Rattle.wkb_write.specs.Bodies.{parts_measure}
+use Rattle.wkb_write.proofs.Sums.{Ahead}
 use Rattle.wkb_write.proofs.items.measure_items.Given as goal
 
 abbrev pub invariant-loop-i : goal.invariant-loop-i
-invariant-loop-i g l = record {
-  so_far : SoFar (g.I.Items.measures l.geom) (4 + g.I.Items.ITEM_HEADER * l.count) l.i (capped l.total);
-  fits : l.total < 2 ^ 64 * (l.i + 1);
-}
+invariant-loop-i g l =
+    let items = g.I.Items.items l.geom in
+    record {
+      ahead :
+          Ahead items.measure (parts_measure g.I.Items.ITEM_HEADER items.measure items.list) l.total
+          items.list l.i;
+      fits : l.total < 2 ^ 64 * (l.i + 1);
+    }

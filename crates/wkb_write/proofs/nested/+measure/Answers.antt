@@ -1,11 +1,10 @@
-use Rattle.std.proofs.Common.{refl, map, arith}
-use Rattle.wkb_geom.specs.Geometries.{collection, geometries}
-use Rattle.wkb_write.specs.Measures.{result_of, IsAdded}
-use Rattle.wkb_write.proofs.Faults.{measured_err}
-use Rattle.wkb_write.proofs.Members.{added_as, member_step, member_refused, member_last, members_whole}
-use Rattle.wkb_write.proofs.Sums.{parts_begin, count_reports}
-use Rattle.wkb_write.proofs.Whole.{added_alone, collected, whole_unsupported, members_length, members_fall}
-use Rattle.wkb_write.proofs.Whole.{member_falls}
+use Rattle.wkb_write.proofs.Prelude.{arith, refl}
+use Rattle.wkb_write.specs.Measures.{IsAdded, IsMeasured, result_of}
+use Rattle.wkb_write.proofs.Collections.{added_alone, collection_added, count_refused, members_ahead}
+use Rattle.wkb_write.proofs.Faults.{measured_err, reports_first}
+use Rattle.wkb_write.proofs.FirstItem.{item_read}
+use Rattle.wkb_write.proofs.Nodes.{members_fall, member_falls}
+use Rattle.wkb_write.proofs.Sums.{part_step, part_refused, last_part, all_parts, saturated}
 use Rattle.wkb_write.proofs.nested.+measure.Goals as goal
 
 pub measure_geometry-add_members-requires : goal.measure_geometry-add_members-requires
@@ -17,18 +16,22 @@ measure_geometry-returns-in-Some g t c =
 
 pub add_members-returns-in-Some : goal.add_members-returns-in-Some
 unfolding IsAdded
-add_members-returns-in-Some g t c =
-    let whole = collection c.args.dim (geometries (map g.K.Nested.geometry c.args.members.now)) in
-    measured_err _ _ _ _ c.from.ensures (whole_unsupported whole _ _ refl c.in-Some.ensures)
+add_members-returns-in-Some g t c = measured_err _ _ _ _ c.from.ensures (reports_first _ _ _ c.in-Some.ensures)
 
-pub add_members-returns-in_default-short_count : goal.add_members-returns-in_default-short_count
-add_members-returns-in_default-short_count g t c =
-    collected _ _ _ _ c.in_default.ensures
-    (count_reports _ _ _ _ _ (members_length g.K.Nested.geometry c.args.members.now)
-    c.from-in_default-short_count.ensures c.in_default-short_count.ensures)
+pub add_members-returns-in_default-count_to_write : goal.add_members-returns-in_default-count_to_write
+unfolding IsAdded
+add_members-returns-in_default-count_to_write g t c =
+    measured_err _ _ _ _ c.from-in_default-count_to_write.ensures
+    (count_refused g.K.Nested.geometry _ c.args.members.now _ c.in_default.ensures refl
+    c.in_default-count_to_write.ensures)
 
 pub add_members-loop-i-init : goal.add_members-loop-i-init
-add_members-loop-i-init g t c = rw c.saturating_add-total.ensures (parts_begin _ _)
+add_members-loop-i-init g t c = record {
+  ahead =
+      members_ahead g.K.Nested.geometry _ c.args.members.now _ _ c.in_default.ensures c.in-Some-count_to_write.ensures
+      c.saturating_add-total.ensures;
+  fits = omega (arith, c.saturating_add-total.ensures);
+}
 
 pub add_members-measure_geometry-requires : goal.add_members-measure_geometry-requires
 add_members-measure_geometry-requires g t c κs within = (
@@ -38,15 +41,21 @@ add_members-measure_geometry-requires g t c κs within = (
 )
 
 pub add_members-returns-in_default-measure_geometry : goal.add_members-returns-in_default-measure_geometry
+unfolding IsAdded IsMeasured
 add_members-returns-in_default-measure_geometry g t c =
-    member_refused g.K.Nested.geometry _ _ _ c.in_default.ensures c.in-Some-short_count.ensures c.loop-i.invariant
-    _ c.loop-i-test.true c.index-members-i.is c.measure_geometry.ensures.measured
+    part_refused c.loop-i.invariant.ahead _
+    (item_read c.args.members.now _ _ c.loop-i-test.true c.index-members-i.is c.measure_geometry.ensures.measured)
     c.in_default-measure_geometry.not-Bytes
 
 pub add_members-loop-i-preserved : goal.add_members-loop-i-preserved
-add_members-loop-i-preserved g t c =
-    member_step g.K.Nested.geometry _ _ c.loop-i-test.true c.index-members-i.is c.in-Bytes.ensures.measured
-    c.saturating_add-total-in-loop-i.ensures c.loop-i.invariant
+unfolding IsMeasured
+add_members-loop-i-preserved g t c = record {
+  ahead =
+      part_step c.loop-i.invariant.ahead
+      (item_read c.args.members.now _ _ c.loop-i-test.true c.index-members-i.is c.in-Bytes.ensures.measured)
+      (saturated _ c.saturating_add-total-in-loop-i.ensures);
+  fits = omega (arith, c.saturating_add-total-in-loop-i.ensures);
+}
 
 pub add_members-add_members-requires : goal.add_members-add_members-requires
 add_members-add_members-requires g t c κs within =
@@ -56,12 +65,16 @@ add_members-add_members-requires g t c κs within =
 
 -- the last member is a collection
 pub add_members-returns-in-Some-members_of : goal.add_members-returns-in-Some-members_of
+unfolding IsAdded
 add_members-returns-in-Some-members_of g t c =
-    member_last g.K.Nested.geometry _ _ _ c.in_default.ensures c.in-Some-short_count.ensures c.loop-i.invariant
-    (result_of c.add_members.result) c.loop-i-test.true c.if-i-count.true c.index-members-i.is
-    (added_as _ _ c.dim.ensures c.in-Some-members_of.ensures c.add_members.ensures)
+    let added = collection_added g.K.Nested.geometry _ c.dim.ensures c.in-Some-members_of.ensures _ _
+    c.add_members.ensures in
+    last_part c.loop-i.invariant.ahead (result_of c.add_members.result)
+    (item_read c.args.members.now _ _ c.loop-i-test.true c.index-members-i.is added)
+    (omega (arith, c.in-Some-count_to_write.ensures.1, c.if-i-count.true))
 
 pub add_members-returns : goal.add_members-returns
+unfolding IsAdded
 add_members-returns g t c =
-    members_whole g.K.Nested.geometry _ _ _ c.in_default.ensures c.in-Some-short_count.ensures c.loop-i.invariant
-    c.loop-i-test.false
+    let whole = all_parts c.loop-i.invariant.ahead c.loop-i-test.false in
+    (whole.0, omega (arith, whole.1, c.loop-i.invariant.fits))

@@ -1,8 +1,7 @@
-use Rattle.std.proofs.Common.{◌+◌, ◌*◌, map}
-use Rattle.wkb_geom.specs.Geometries.{geometries}
-use Rattle.wkb_write.specs.Bodies.{member_measures}
+use Rattle.wkb_write.proofs.Prelude.{◌+◌, ◌*◌, ◌^◌, ◌<◌, map, collection, geometries}
+use Rattle.wkb_write.specs.Bodies.{measure_after, member_measure}
 use Rattle.wkb_write.proofs.Nodes.{node_count, node_counts}
-use Rattle.wkb_write.proofs.Sums.{SoFar}
+use Rattle.wkb_write.proofs.Sums.{Ahead}
 use Rattle.wkb_write.proofs.nested.+measure.Given as goal
 
 abbrev pub decreases-measure_geometry : goal.decreases-measure_geometry
@@ -13,5 +12,8 @@ decreases-add_members g l = 2 * node_counts (geometries (map g.K.Nested.geometry
 
 abbrev pub invariant-add_members-loop-i : goal.invariant-add_members-loop-i
 invariant-add_members-loop-i g l =
-    SoFar (member_measures (geometries (map g.K.Nested.geometry l.members)))
-    (l.before + (4 + 5 * l.count)) l.i l.total
+    let whole = collection l.fn.dim (geometries (map g.K.Nested.geometry l.members)) in
+    record {
+      ahead : Ahead (λ m. member_measure (g.K.Nested.geometry m)) (measure_after l.before whole) l.total l.members l.i;
+      fits : l.total < 2 ^ 64;
+    }

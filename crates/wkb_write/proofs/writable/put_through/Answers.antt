@@ -1,7 +1,7 @@
 use Rattle.wkb_write.proofs.Prelude.{arith, refl, rules}
 use Rattle.wkb_sink.proofs.Laid.{cut_last, ends_laid, ends_cut, lays_last}
-use Rattle.wkb_write.proofs.writable.put_through.Goals as goal
 use Rattle.wkb_write.proofs.writable.put_through.Goals.{in-Ok, in-Err}
+use Rattle.wkb_write.proofs.writable.put_through.Goals as goal
 
 pub returns-in-Ok-put : goal.returns-in-Ok-put
 returns-in-Ok-put g c = elim c.match-put.branch [

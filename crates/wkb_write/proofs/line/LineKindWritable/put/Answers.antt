@@ -1,28 +1,12 @@
 use Rattle.wkb_write.proofs.Prelude.{arith}
 use Rattle.wkb_geom.specs.Geometries.{line}
-use Rattle.wkb_sink.proofs.Laid.{laid_here}
 use Rattle.wkb_write.proofs.Sizes.{no_room_for}
 use Rattle.wkb_write.proofs.Supported.{words_are}
 use Rattle.wkb_write.proofs.line.LineKindWritable.put.Goals as goal
 
 pub returns-in_err-make_room : goal.returns-in_err-make_room
 returns-in_err-make_room g c =
-    let wide =
-    words_are c.words_of.ensures.words c.dimension_to_write-dim.ensures c.dim.ensures c.requires.fault in
-    no_room_for c.args.options.now
-    (line (g.L.Dimensioned.dimensions c.args.geom.now) (g.L.LineTrait.start_words c.args.geom.now)
-    (g.L.LineTrait.end_words c.args.geom.now)) _ _
-    c.from_residual.ensures.1 c.in_err-make_room.ensures.ready c.length_of_header.ensures.fits
-    (g.met.L.LineTrait.lawful c.args.geom.now) c.requires.fault (omega (arith, c.length_of_header.ensures.size, wide))
-
-pub returns : goal.returns
-returns g c =
-    rw (
-      ← c.dim.ensures,
-      ← c.dimension_to_write-dim.ensures,
-      ← c.start-start.ensures.value,
-      ← c.end-end.ensures.value,
-    )
-    (laid_here c.in_ok-make_room.ensures.ready c.lay_ends-out.ensures.bytes c.lay_ends-out.auto.bytes
-    (omega (arith, c.length_of_header.ensures.size, c.words_of.ensures.words, c.lay_ends-out.ensures.end, c.in_ok-make_room.ensures.room))
-    (omega (arith, c.length_of_header.ensures.size, c.words_of.ensures.words, c.lay_ends-out.ensures.end)))
+    let wide = words_are c.words_of.ensures.words c.dimension_to_write-dim.ensures c.dim.ensures c.requires.fault in
+    no_room_for c.args.options.now (line _ _ _) _ _ c.from_residual.ensures.1 c.in_err-make_room.ensures.ready
+    c.length_of_header.ensures.fits (g.met.L.LineTrait.lawful c.args.geom.now) c.requires.fault
+    (omega (arith, c.length_of_header.ensures.size, wide))

@@ -1,29 +1,12 @@
 use Rattle.wkb_write.proofs.Prelude.{arith}
 use Rattle.wkb_geom.specs.Geometries.{triangle}
-use Rattle.wkb_sink.proofs.Laid.{laid_here}
 use Rattle.wkb_write.proofs.Sizes.{no_room_for}
 use Rattle.wkb_write.proofs.Supported.{words_are}
 use Rattle.wkb_write.proofs.triangle.TriangleKindWritable.put.Goals as goal
 
 pub returns-in_err-make_room : goal.returns-in_err-make_room
 returns-in_err-make_room g c =
-    let wide =
-    words_are c.words_of.ensures.words c.dimension_to_write-dim.ensures c.dim.ensures c.requires.fault in
-    no_room_for c.args.options.now
-    (triangle (g.T.Dimensioned.dimensions c.args.geom.now) (g.T.TriangleTrait.first_words c.args.geom.now)
-    (g.T.TriangleTrait.second_words c.args.geom.now) (g.T.TriangleTrait.third_words c.args.geom.now)) _ _
-    c.from_residual.ensures.1 c.in_err-make_room.ensures.ready c.length_of_header.ensures.fits
-    (g.met.T.TriangleTrait.lawful c.args.geom.now) c.requires.fault (omega (arith, c.length_of_header.ensures.size, wide))
-
-pub returns : goal.returns
-returns g c =
-    rw (
-      ← c.dim.ensures,
-      ← c.dimension_to_write-dim.ensures,
-      ← c.first-first.ensures.value,
-      ← c.second-second.ensures.value,
-      ← c.third-third.ensures.value,
-    )
-    (laid_here c.in_ok-make_room.ensures.ready c.lay_vertices-out.ensures.bytes c.lay_vertices-out.auto.bytes
-    (omega (arith, c.length_of_header.ensures.size, c.words_of.ensures.words, c.lay_vertices-out.ensures.end, c.in_ok-make_room.ensures.room))
-    (omega (arith, c.length_of_header.ensures.size, c.words_of.ensures.words, c.lay_vertices-out.ensures.end)))
+    let wide = words_are c.words_of.ensures.words c.dimension_to_write-dim.ensures c.dim.ensures c.requires.fault in
+    no_room_for c.args.options.now (triangle _ _ _ _) _ _ c.from_residual.ensures.1 c.in_err-make_room.ensures.ready
+    c.length_of_header.ensures.fits (g.met.T.TriangleTrait.lawful c.args.geom.now) c.requires.fault
+    (omega (arith, c.length_of_header.ensures.size, wide))

@@ -1,0 +1,6 @@
+use Rattle.wkb_write.proofs.Writing.{no_fault}
+use Rattle.wkb_write.proofs.writable.checked_size.Goals as goal
+
+pub returns-clause-fault : goal.returns-clause-fault
+returns-clause-fault g c =
+    no_fault _ _ _ (c.whole_size.ensures.size _ (g.met.K.Writable.lawful c.args.geom.now) c.measure.ensures)
