@@ -3,7 +3,8 @@ use Rattle.std.proofs.Common.{◌≡◌, ◌≢◌, ℕ, ◌+◌, ◌≤◌, Lis
 use Rattle.std.proofs.Common.{subst, arith, length-drop, Option, ◌⊎◌, ⊎_elim}
 use Rattle.std.proofs.lemmas.List.{drop-drop}
 use Rattle.wkb_laws.specs.Prelude.{Endianness, Dimension, Head, Layout, number, Begins, Value}
-use Rattle.wkb_laws.specs.Prelude.{point, line_string, polygon, multi_point, multi_line_string, multi_polygon, collection}
+use Rattle.wkb_laws.specs.Prelude.{point, line_string, polygon, multi_point, multi_line_string, multi_polygon}
+use Rattle.wkb_laws.specs.Prelude.{collection}
 use Rattle.wkb_laws.specs.Prelude.{kind, dimension, Spelling, node, SpellsBody, Spells, type_of}
 use Rattle.wkb_laws.specs.Prelude.{type_dimension, body_start, layout_of}
 unfoldable use Rattle.wkb_laws.specs.Prelude.{head_at}
@@ -63,7 +64,8 @@ pub record Says (bytes : List ℕ) (s : Spelling) (t : Value) (h : Head) : Type 
   pub order_is : h.order ≡ (header s).order
   pub srid_is : srid_in h.order h.has_srid bytes ≡ (header s).srid
   pub counts : kind t ≢ 1
-      → (body_start h.has_srid + 4 ≤ length bytes) × (number h.order 4 (drop (body_start h.has_srid) bytes) ≡ count_of t)
+      → (body_start h.has_srid + 4 ≤ length bytes)
+      × (number h.order 4 (drop (body_start h.has_srid) bytes) ≡ count_of t)
 
 pub says : (bytes : List ℕ) (s : Spelling) (t : Value) (rest : List ℕ) → Begins (Spells s t) bytes rest → (h : Head)
     → head_at bytes ≡ Ok h
@@ -131,7 +133,15 @@ pub read_piece : (bytes : List ℕ) (begin : ℕ) (g : HasGeometry (drop begin b
     → ((k ≡ 1) × (n ≡ 1) × (offset ≡ body)
     ⊎ (k ≢ 1) × (n ≡ number l.order 4 (drop body bytes)) × (offset ≡ body + 4))
     → ◌≡◌ {A = Piece}
-    (record { kind = k; dimension = l.dimension; order = l.order; srid = srid; count = n; begin = begin; offset = offset })
+    (record {
+      kind = k;
+      dimension = l.dimension;
+      order = l.order;
+      srid = srid;
+      count = n;
+      begin = begin;
+      offset = offset;
+    })
     (piece_of begin g.spelled g.value)
 read_piece bytes begin g h l head l-is k body srid k-is body-is srid-is n offset by =
     let y = says (drop begin bytes) g.spelled g.value g.rest g.begins h head in

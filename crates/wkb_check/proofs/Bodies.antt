@@ -2,8 +2,10 @@
 use Rattle.std.proofs.Common.{◌≡◌, ℕ, ◌+◌, ◌≤◌, List, [], ◌∷◌, ◌++◌, length, drop}
 use Rattle.std.proofs.Common.{Ok, Err, Result, refl, sym, ap, ◌∙◌, subst, arith, length-append}
 use Rattle.wkb_geom.specs.Reading.{cause_alone}
-use Rattle.wkb_laws.specs.Prelude.{Cause, Endianness, Dimension, Head, number, Begins, IsEach, Coordinate, Value, Values}
-use Rattle.wkb_laws.specs.Prelude.{no_members, member, kind, dimension, Spelling, node, Spellings, no_spellings, spelling}
+use Rattle.wkb_laws.specs.Prelude.{Cause, Endianness, Dimension, Head, number, Begins, IsEach, Coordinate, Value}
+use Rattle.wkb_laws.specs.Prelude.{Values}
+use Rattle.wkb_laws.specs.Prelude.{no_members, member, kind, dimension, Spelling, node, Spellings, no_spellings}
+use Rattle.wkb_laws.specs.Prelude.{spelling}
 use Rattle.wkb_laws.specs.Prelude.{SpellsCoordinates, Spells, SpellsEach, Wanted, any, ring_end, ring_in}
 unfoldable use Rattle.wkb_laws.specs.Prelude.{head_at}
 use Rattle.wkb_laws.proofs.Parts.{then_length, then_append, drop_front, header_length}
@@ -13,7 +15,8 @@ use Rattle.wkb_check.specs.Bounded.{AreWhole, rings_in, HasGeometry}
 use Rattle.wkb_check.proofs.Public.{geometry_opens}
 
 -- the members of one kind are geometries
-pub wanted_by_any : (w : Wanted) (ss : Spellings) (ts : Values) (x : List ℕ) → SpellsEach w ss ts x → SpellsEach any ss ts x
+pub wanted_by_any : (w : Wanted) (ss : Spellings) (ts : Values) (x : List ℕ) → SpellsEach w ss ts x
+    → SpellsEach any ss ts x
 wanted_by_any w no_spellings no_members x h = h
 wanted_by_any w (spelling s ss) (member t ts) x h =
     record {

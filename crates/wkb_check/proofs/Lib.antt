@@ -1,9 +1,8 @@
-pub mod Skimming
+pub mod Nesting
 pub mod Closing
+pub mod Counting
 pub mod Walking
-pub mod Reading
-pub mod Each
-pub mod Sizes
+pub mod Leaves
 pub mod Heads
 pub mod Public
 pub mod Ranking
@@ -13,5 +12,6 @@ pub mod Scanning
 pub mod Ahead
 pub mod Rings
 pub mod Placing
+pub mod Filling
 pub mod Following
 pub mod Words

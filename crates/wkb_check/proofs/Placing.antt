@@ -4,11 +4,13 @@ use Rattle.std.proofs.Common.{refl, sym, ap, ◌∙◌, subst, arith, length-app
 use Rattle.std.proofs.Common.{None, Some, is_some, true, false, nat_lt}
 use Rattle.std.proofs.lemmas.Bool.{cond_both}
 use Rattle.std.proofs.lemmas.List.{drop-drop, set_comm}
-use lib.Seq.{sets, length-sets}
+use lib.Seq.{sets}
 use Rattle.wkb_laws.specs.Prelude.{Endianness, Dimension, Begins, Coordinate, Value, Values}
-use Rattle.wkb_laws.specs.Prelude.{point, line_string, polygon, multi_point, multi_line_string, multi_polygon, collection}
+use Rattle.wkb_laws.specs.Prelude.{point, line_string, polygon, multi_point, multi_line_string, multi_polygon}
+use Rattle.wkb_laws.specs.Prelude.{collection}
 use Rattle.wkb_laws.specs.Prelude.{no_members, member, members, count, kind, dimension}
-use Rattle.wkb_laws.specs.Prelude.{Spelling, node, Spellings, no_spellings, spelling, SpellsBody, Spells, SpellsEach, Wanted}
+use Rattle.wkb_laws.specs.Prelude.{Spelling, node, Spellings, no_spellings, spelling, SpellsBody, Spells}
+use Rattle.wkb_laws.specs.Prelude.{SpellsEach, Wanted}
 use Rattle.wkb_laws.specs.Prelude.{SpellsCoordinates, IsEach, any, ring_end}
 use Rattle.wkb_geom.specs.Numbers.{order_byte}
 use Rattle.wkb_geom.specs.Refusals.{srid_size}
@@ -17,7 +19,8 @@ use Rattle.wkb_laws.proofs.Parts.{then_length, then_append, drop_front, header_l
 use Rattle.wkb_laws.proofs.Lengths.{coordinate_length, coordinates_length}
 use Rattle.wkb_laws.proofs.Lists.{count-each}
 use Rattle.wkb_check.specs.Bounded.{HasGeometry, HasGeometries, AreWhole, rings_in}
-use Rattle.wkb_check.specs.Pieces.{count_of, leading, rings_of, size_of_rings, content_size, size, sizes, own_end, piece_of}
+use Rattle.wkb_check.specs.Pieces.{count_of, leading, rings_of, size_of_rings, content_size, size, sizes, own_end}
+use Rattle.wkb_check.specs.Pieces.{piece_of}
 use Rattle.wkb_check.specs.Pieces.{pieces_of, pieces_of_rings, pieces_of_each, IsInside}
 use Rattle.wkb_check.specs.Tables.{entry_of, ring_entries, geometry_entries, member_entries, entry_count, entry_counts}
 use Rattle.wkb_check.specs.declared.parts.Part.{Part}
@@ -104,7 +107,15 @@ behind_geometry buf at next g e =
       ap (λ k. drop k buf) (omega (arith, e)) ∙ sym (drop-drop (size g.spelled g.value) at buf)
           ∙ ap (drop (size g.spelled g.value)) g.begins.whole
           ∙ drop_front (size g.spelled g.value) g.begins.front g.rest long,
-      omega (arith, e, long, ap length g.begins.whole, length-append g.begins.front g.rest, length-drop at buf, rest_smaller g),
+      omega (
+        arith,
+        e,
+        long,
+        ap length g.begins.whole,
+        length-append g.begins.front g.rest,
+        length-drop at buf,
+        rest_smaller g,
+      ),
     )
 
 rings_many : (d : Dimension) (order index at : ℕ) (rings : List (List Coordinate))
@@ -178,19 +189,19 @@ first_by n m bytes more (spelling s ss) (member t ts) b counted e =
       pieces = λ at. refl;
     }
 
-pub first_one : (n m : ℕ) (bytes more : List ℕ) (all : HasGeometries n bytes more) → n ≡ suc m → First n bytes more all m
+pub first_one : (n m : ℕ) (bytes more : List ℕ) (all : HasGeometries n bytes more) → n ≡ suc m
+    → First n bytes more all m
 first_one n m bytes more all e = first_by n m bytes more all.spelled all.values all.begins all.counted e
 
-pub none_left : (n : ℕ) (bytes more : List ℕ) (all : HasGeometries n bytes more) → n ≡ 0
-    → (entry_counts all.spelled all.values ≡ 0) × (sizes all.spelled all.values ≡ 0)
-    × ((index at : ℕ) → member_entries index at all.spelled all.values ≡ [])
-none_left n bytes more all e = by all.spelled all.values (sym e ∙ all.counted)
-  where
-    by : (ss : Spellings) (ts : Values) → 0 ≡ count ts → (entry_counts ss ts ≡ 0) × (sizes ss ts ≡ 0)
-        × ((index at : ℕ) → member_entries index at ss ts ≡ [])
-    by no_spellings ts c = (refl, refl, λ index at. refl)
-    by (spelling s ss) no_members c = (refl, refl, λ index at. refl)
-    by ss (member t ts) c = absurd (omega (arith, c))
+-- the same, where these bytes begin
+abbrev pub begun_at : {n : ℕ} {start bytes more : List ℕ} → start ≡ bytes → HasGeometries n bytes more
+    → HasGeometries n start more
+begun_at e all = record {
+  spelled = all.spelled;
+  values = all.values;
+  begins = record { front = all.begins.front; whole = e ∙ all.begins.whole; first = all.begins.first };
+  counted = all.counted;
+}
 
 -- ---- the entries of what is inside a geometry
 
@@ -215,7 +226,8 @@ item_put buf at index (node h words ss) t p p-is parts with w end next e end-is 
 
 pub inner_pieces : ℕ → Spelling → Value → List Piece
 inner_pieces at (node h words ss) t =
-    pieces_of_rings h.order (dimension t) (at + leading h t) (rings_of t) ++ pieces_of_each (at + leading h t) ss (members t)
+    pieces_of_rings h.order (dimension t) (at + leading h t) (rings_of t)
+    ++ pieces_of_each (at + leading h t) ss (members t)
 
 pub own_piece : (at : ℕ) (s : Spelling) (t : Value) → pieces_of at s t ≡ piece_of at s t ∷ inner_pieces at s t
 unfolding inner_pieces
@@ -237,7 +249,8 @@ no_sizes : (ss : Spellings) → sizes ss no_members ≡ 0
 no_sizes no_spellings = refl
 no_sizes (spelling s ss) = refl
 
-pub cut : (buf : List ℕ) (at n to : ℕ) (front rest : List ℕ) → drop at buf ≡ front ++ rest → length front ≡ n → to ≡ at + n
+pub cut : (buf : List ℕ) (at n to : ℕ) (front rest : List ℕ) → drop at buf ≡ front ++ rest → length front ≡ n
+    → to ≡ at + n
     → drop to buf ≡ rest
 cut buf at n to front rest e long is =
     ap (λ k. drop k buf) (omega (arith, is)) ∙ sym (drop-drop n at buf) ∙ ap (drop n) e ∙ drop_front n front rest long
@@ -322,7 +335,8 @@ has_rings buf at index (node h words ss) (polygon d rings) rest b e =
 has_rings buf at index (node h words ss) _ rest b e = absurd (omega (arith, e))
 
 -- it has members
-pub record HasMembers (buf : List ℕ) (at index : ℕ) (s : Spelling) (t : Value) (rest : List ℕ) (p : Piece) : Type 0 where
+pub record HasMembers (buf : List ℕ) (at index : ℕ) (s : Spelling) (t : Value) (rest : List ℕ) (p : Piece)
+    : Type 0 where
   pub all : HasGeometries p.count (drop (own_end p) buf) rest
   pub long : own_end p + sizes all.spelled all.values ≡ at + size s t
   pub counts : entry_count s t ≡ 1 + entry_counts all.spelled all.values
@@ -387,83 +401,6 @@ has_inner buf at index (node h words ss) (collection d ts) rest b e f = record {
   entries = refl;
   pieces = refl;
 }
-
--- ---- the loop
-
--- What is left of the geometries, at the next index and from the next byte on, makes of the table what all make of it.
-pub record Left (buf : List ℕ) (total start : ℕ) (more : List ℕ) (all : HasGeometries total (drop start buf) more)
-    (first : ℕ) (before : List Part) (n index at : ℕ) (parts : List Part) : Type 0 where
-  pub to_come : HasGeometries n (drop at buf) more
-  pub indices : index + entry_counts to_come.spelled to_come.values ≡ first + entry_counts all.spelled all.values
-  pub bytes : at + sizes to_come.spelled to_come.values ≡ start + sizes all.spelled all.values
-  pub put : sets parts index (member_entries index at to_come.spelled to_come.values)
-      ≡ sets before first (member_entries first start all.spelled all.values)
-  pub long : length parts ≡ length before
-  pub onward : start ≤ at
-
-pub left_first : (buf : List ℕ) (total start : ℕ) (more : List ℕ) (all : HasGeometries total (drop start buf) more)
-    (first : ℕ) (before : List Part) (n : ℕ) → n ≡ total
-    → Left buf total start more all first before n first start before
-left_first buf total start more all first before n e =
-    subst (λ k. Left buf total start more all first before k first start before) (sym e)
-    (record { to_come = all; indices = refl; bytes = refl; put = refl; long = refl; onward = omega arith })
-
-pub left_next : (buf : List ℕ) (total start : ℕ) (more : List ℕ) (all : HasGeometries total (drop start buf) more)
-    (first : ℕ) (before : List Part) (n m index at : ℕ) (parts : List Part) → n ≡ suc m
-    → (l : Left buf total start more all first before n index at parts)
-    → (next to : ℕ) (after : List Part)
-    → ((g : HasGeometry (drop at buf))
-    → (after ≡ sets parts index (geometry_entries index at g.spelled g.value))
-    × (next ≡ index + entry_count g.spelled g.value) × (to ≡ at + size g.spelled g.value))
-    → Left buf total start more all first before m next to after
-left_next buf total start more all first before n m index at parts e l next to after item =
-    let f = first_one n m (drop at buf) more l.to_come e in
-    let g = f.geometry in
-    let i = item g in
-    let behind = behind_geometry buf at to g i.2 in
-    record {
-      to_come = record {
-        spelled = f.others.spelled;
-        values = f.others.values;
-        begins = record {
-          front = f.others.begins.front;
-          whole = behind.0 ∙ f.others.begins.whole;
-          first = f.others.begins.first;
-        };
-        counted = f.others.counted;
-      };
-      indices = omega (arith, l.indices, f.counts, i.1);
-      bytes = omega (arith, l.bytes, f.long, i.2);
-      put =
-          (λ j. sets (i.0 j) next (member_entries (i.1 j) (i.2 j) f.others.spelled f.others.values))
-          ∙ sets_after parts index next (geometry_entries index at g.spelled g.value) _
-          (omega (arith, i.1, entries_are index at g.spelled g.value))
-          ∙ ap (sets parts index) (sym (f.entries index at)) ∙ l.put;
-      long = ap length i.0 ∙ length-sets parts index (geometry_entries index at g.spelled g.value) ∙ l.long;
-      onward = omega (arith, l.onward, i.2);
-    }
-
-some_entries : (s : Spelling) (t : Value) → 1 ≤ entry_count s t
-some_entries (node h words ss) t = omega arith
-
--- a geometry that is there, and its entries fit the table
-pub record Here (buf : List ℕ) (at index : ℕ) (parts : List Part) : Type 0 where
-  pub geometry : HasGeometry (drop at buf)
-  pub room : index + entry_count geometry.spelled geometry.value ≤ length parts
-  pub some : 1 ≤ entry_count geometry.spelled geometry.value
-
-pub here : (buf : List ℕ) (total start : ℕ) (more : List ℕ) (all : HasGeometries total (drop start buf) more)
-    (first : ℕ) (before : List Part) (n m index at : ℕ) (parts : List Part) → n ≡ suc m
-    → Left buf total start more all first before n index at parts
-    → first + entry_counts all.spelled all.values ≤ length before
-    → Here buf at index parts
-here buf total start more all first before n m index at parts e l fit =
-    let f = first_one n m (drop at buf) more l.to_come e in
-    record {
-      geometry = f.geometry;
-      room = omega (arith, fit, l.indices, f.counts, l.long);
-      some = some_entries f.geometry.spelled f.geometry.value;
-    }
 
 own_inside : (at : ℕ) (s : Spelling) (t : Value) → own_end (piece_of at s t) ≤ at + size s t
 own_inside at (node h words ss) (point d c) = omega arith
@@ -541,12 +478,12 @@ module _ (buf : List ℕ) (at index : ℕ) (g : HasGeometry (drop at buf)) (p : 
   )
 
 -- the same from where they begin
-pub record MembersAt (buf : List ℕ) (at index : ℕ) (s : Spelling) (t : Value) (rest : List ℕ) (p : Piece) (end : ℕ) : Type 0
-  where
-    pub all : HasGeometries p.count (drop end buf) rest
-    pub long : end + sizes all.spelled all.values ≡ at + size s t
-    pub counts : entry_count s t ≡ 1 + entry_counts all.spelled all.values
-    pub entries : member_entries (index + 1) end all.spelled all.values ≡ inner_entries index at s t
+pub record MembersAt (buf : List ℕ) (at index : ℕ) (s : Spelling) (t : Value) (rest : List ℕ) (p : Piece) (end : ℕ)
+    : Type 0 where
+  pub all : HasGeometries p.count (drop end buf) rest
+  pub long : end + sizes all.spelled all.values ≡ at + size s t
+  pub counts : entry_count s t ≡ 1 + entry_counts all.spelled all.values
+  pub entries : member_entries (index + 1) end all.spelled all.values ≡ inner_entries index at s t
 
 pub members_at : (buf : List ℕ) (at index : ℕ) (s : Spelling) (t : Value) (rest : List ℕ) (p : Piece) (end : ℕ)
     → end ≡ own_end p

@@ -1,5 +1,6 @@
 -- Words and their ranks, one for one.
-use Rattle.std.proofs.Common.{◌≡◌, ℕ, ◌+◌, ◌-◌, ◌<◌, ◌^◌, sym, ap, ◌∙◌, arith, nat_lt, if◌then◌else◌, false, lt-ltb, le-ltb}
+use Rattle.std.proofs.Common.{◌≡◌, ℕ, ◌+◌, ◌-◌, ◌<◌, ◌^◌, sym, ap, ◌∙◌, arith, nat_lt, if◌then◌else◌, false, lt-ltb}
+use Rattle.std.proofs.Common.{le-ltb}
 use Rattle.std.proofs.Common.{ltb-true, ltb-false, min, max}
 use Rattle.std.proofs.lemmas.Bool.{cond-true, cond-false, cond_both}
 use Rattle.wkb_geom.specs.Numbers.{is_nan}

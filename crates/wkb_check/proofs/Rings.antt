@@ -21,7 +21,8 @@ width_is_small Xyz = omega arith
 width_is_small Xym = omega arith
 width_is_small Xyzm = omega arith
 
-pub items_many : {A : Type 0} (size : ℕ) (item : List ℕ → A) (n : ℕ) (input : List ℕ) → length (items size item n input) ≡ n
+pub items_many : {A : Type 0} (size : ℕ) (item : List ℕ → A) (n : ℕ) (input : List ℕ)
+    → length (items size item n input) ≡ n
 items_many size item zero input = refl
 items_many size item (suc n) input = ap suc (items_many size item n (drop size input))
 
@@ -41,23 +42,24 @@ pub record RingThere (buf : List ℕ) (order : Endianness) (d : Dimension) (at :
   pub counted : at + 4 ≤ length buf
   pub whole : at + ring_end d (number order 4 (drop at buf)) ≤ length buf
 
-pub ring_there : (buf : List ℕ) (order : Endianness) (d : Dimension) (n m index at : ℕ) (parts : List Part)
-    (all first start : ℕ) (before : List Part) → n ≡ suc m → RingsLeft buf order d n index at parts all first start before
+pub ring_there : {buf : List ℕ} {order : Endianness} {d : Dimension} {n index at : ℕ} {parts : List Part}
+    {all first start : ℕ} {before : List Part} → RingsLeft buf order d n index at parts all first start before → 0 < n
     → RingThere buf order d at
-ring_there buf order d zero m index at parts all first start before e l = absurd (omega (arith, e))
-ring_there buf order d (suc n) m index at parts all first start before e l = record {
+ring_there {n = zero} l some = absurd (omega (arith, some))
+ring_there {buf = buf} {n = suc n} {at = at} l some = record {
   counted = omega (arith, l.whole.0, length-drop at buf);
   whole = omega (arith, l.whole.0, l.whole.1, length-drop at buf);
 }
 
-pub ring_next : (buf : List ℕ) (order : Endianness) (d : Dimension) (n m index at : ℕ) (parts : List Part)
-    (all first start : ℕ) (before : List Part) → n ≡ suc m → RingsLeft buf order d n index at parts all first start before
-    → (p : Part) (next : ℕ)
+pub ring_next : {buf : List ℕ} {order : Endianness} {d : Dimension} {n m index at : ℕ} {parts : List Part}
+    {all first start : ℕ} {before : List Part} → RingsLeft buf order d n index at parts all first start before
+    → n ≡ suc m → (p : Part) (next : ℕ)
     → next ≡ own_end (ring_piece order d at (number order 4 (drop at buf)))
     → p ≡ entry_of (ring_piece order d at (number order 4 (drop at buf))) next (index + 1)
     → RingsLeft buf order d m (index + 1) next (set parts index p) all first start before
-ring_next buf order d zero m index at parts all first start before e l p next ends is = absurd (omega (arith, e))
-ring_next buf order d (suc n) m index at parts all first start before e l p next ends is =
+ring_next {n = zero} l e p next ends is = absurd (omega (arith, e))
+ring_next {buf = buf} {order = order} {d = d} {n = suc n} {m = m} {index = index} {at = at} {parts = parts} {all = all}
+    {first = first} {start = start} {before = before} l e p next ends is =
     let bytes = drop at buf in
     let n-is : n ≡ m = omega (arith, e) in
     let many : ℕ = number order 4 bytes in

@@ -8,20 +8,23 @@ use Rattle.wkb_geom.specs.Numbers.{is_nan}
 use Rattle.wkb_geom.specs.Reading.{cause_alone}
 use Rattle.wkb_geom.specs.Refusals.{srid_size}
 use Rattle.wkb_laws.specs.Prelude.{Endianness, Dimension, number, all_nan, width, Begins, Coordinate, Value, Values}
-use Rattle.wkb_laws.specs.Prelude.{point, line_string, polygon, multi_point, multi_line_string, multi_polygon, collection}
+use Rattle.wkb_laws.specs.Prelude.{point, line_string, polygon, multi_point, multi_line_string, multi_polygon}
+use Rattle.wkb_laws.specs.Prelude.{collection}
 use Rattle.wkb_laws.specs.Prelude.{no_members, member, each, members, kind, dimension, Spelling, node, Spellings}
 use Rattle.wkb_laws.specs.Prelude.{no_spellings, spelling, SpellsBody, Spells, SpellsEach, Wanted, ring_end}
-use Rattle.wkb_laws.specs.Prelude.{coordinate, coordinates, ring_in, items, IsNumber, SpellsCoordinate, member_part}
-use Rattle.wkb_laws.proofs.Parts.{then_append, number-front, items_read}
+use Rattle.wkb_laws.specs.Prelude.{coordinate, coordinates, ring_in, SpellsCoordinate, member_part}
+use Rattle.wkb_laws.proofs.Parts.{then_append, coordinate_read}
 use Rattle.wkb_laws.proofs.Complete.{ring_read}
 use Rattle.wkb_check.specs.declared.pieces.Piece.{Piece}
 use Rattle.wkb_check.specs.declared.range.Range.{Range}
 use Rattle.wkb_check.specs.declared.range.Bounds.{Bounds}
 use Rattle.wkb_check.specs.Ranges.{widened, range_of, no_numbers}
-use Rattle.wkb_check.specs.Ordinates.{Axis, x_axis, y_axis, z_axis, m_axis, axis_place, word_at, words_of_each, words_in}
+use Rattle.wkb_check.specs.Ordinates.{Axis, x_axis, y_axis, z_axis, m_axis, axis_place, word_at, words_of_each}
+use Rattle.wkb_check.specs.Ordinates.{words_in}
 use Rattle.wkb_check.specs.Ordinates.{words_on, words_on_each, point_words_on}
 use Rattle.wkb_check.specs.Bounded.{on, nothing, HasGeometry, AreBounds, rings_in}
-use Rattle.wkb_check.specs.Pieces.{leading, size, pieces_of, pieces_of_rings, pieces_of_each, piece_of, own_end, IsAhead, IsTaken}
+use Rattle.wkb_check.specs.Pieces.{leading, size, pieces_of, pieces_of_rings, pieces_of_each, piece_of, own_end}
+use Rattle.wkb_check.specs.Pieces.{IsAhead, IsTaken}
 use Rattle.wkb_check.specs.declared.pieces.Pieces.{Pieces}
 use Rattle.wkb_check.proofs.Widening.{widened-append}
 use Rattle.wkb_check.proofs.Rings.{items_many}
@@ -72,13 +75,6 @@ ring_words a buf order d at (suc n) =
 
 -- ---- points
 
-coordinate_read : (order : Endianness) (d : Dimension) (c : Coordinate) (x y : List ℕ) → SpellsCoordinate order d c x
-    → coordinate order d (x ++ y) ≡ c
-coordinate_read order d c x y h =
-    ap (λ n. items 8 (number order 8) n (x ++ y)) (sym h.len)
-    ∙ items_read (IsNumber order 8) 8 (number order 8)
-    (λ v x y is. (is.len, number-front order 8 v x y is)) c x y h.words
-
 both : (a b : Bool) → (a && b) ≡ true → (a ≡ true) × (b ≡ true)
 both true b e = (refl, e)
 both false b e = absurd cc
@@ -94,7 +90,8 @@ empty_words : (r : Range) (p : Option ℕ) (ws : List ℕ) → all_nan ws ≡ tr
 empty_words r None ws e = refl
 empty_words r (Some k) ws e = no_number r ws k e
 
-point_words : (a : Axis) (order : Endianness) (d : Dimension) (c : Option Coordinate) (words x more : List ℕ) (r : Range)
+point_words : (a : Axis) (order : Endianness) (d : Dimension) (c : Option Coordinate) (words x more : List ℕ)
+    (r : Range)
     → SpellsBody order words (point d c) x
     → widened r (words_in a d (coordinates order d 1 (x ++ more))) ≡ widened r (point_words_on a d c)
 point_words a order d None words x more r h =

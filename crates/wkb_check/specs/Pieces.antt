@@ -1,6 +1,7 @@
 -- The pieces of a geometry in preorder: itself, and its rings and members at every level; where they are in its bytes,
 -- and what is still to come of them.
-use Rattle.std.specs.Prelude.{◌≡◌, ℕ, ◌+◌, ◌*◌, ◌<◌, ◌≤◌, List, [], ◌∷◌, ◌++◌, length, drop, Option, Some, None, is_some}
+use Rattle.std.specs.Prelude.{◌≡◌, ℕ, ◌+◌, ◌*◌, ◌<◌, ◌≤◌, List, [], ◌∷◌, ◌++◌, length, drop, Option, Some, None}
+use Rattle.std.specs.Prelude.{is_some}
 use Rattle.std.specs.Prelude.{nat_lt, if◌then◌else◌}
 use Rattle.wkb_geom.specs.declared.common.Dimension.{Dimension}
 use Rattle.wkb_geom.specs.declared.common.Endianness.{Endianness}
@@ -99,15 +100,16 @@ abbrev mutual
 
 -- These pieces are to come from this byte on, and no others: the rings of a polygon, and then geometries with all that
 -- is inside them.
-pub record Ahead (buf : List ℕ) (order : Endianness) (d : Dimension) (rings geometries at : ℕ) (xs : List Piece) : Type 0
-  where
-    pub after : ℕ
-    pub more : List ℕ
-    pub whole : AreWhole order d rings (drop at buf)
-    pub after_is : after ≡ at + size_of_rings d (rings_in order d rings (drop at buf))
-    pub all : HasGeometries geometries (drop after buf) more
-    pub are : xs
-        ≡ pieces_of_rings order d at (rings_in order d rings (drop at buf)) ++ pieces_of_each after all.spelled all.values
+pub record Ahead (buf : List ℕ) (order : Endianness) (d : Dimension) (rings geometries at : ℕ) (xs : List Piece)
+    : Type 0 where
+  pub after : ℕ
+  pub more : List ℕ
+  pub whole : AreWhole order d rings (drop at buf)
+  pub after_is : after ≡ at + size_of_rings d (rings_in order d rings (drop at buf))
+  pub all : HasGeometries geometries (drop after buf) more
+  pub are : xs
+      ≡ pieces_of_rings order d at (rings_in order d rings (drop at buf))
+      ++ pieces_of_each after all.spelled all.values
 
 abbrev pub IsAhead : Pieces → List Piece → Type 0
 IsAhead w xs = Ahead w.bytes.now w.order w.dimension w.rings w.geometries w.at xs

@@ -43,8 +43,8 @@ pub fn put_bounds(buf: &[u8], bounds: &mut Bounds) -> Result<(), Refused>
 /// The bounds of the geometry at the front of the bytes, over its coordinates at every level. What follows it is not
 /// looked at. It accepts and refuses what `check` does, and allocates nothing.
 ///
-/// Each word that is a number counts, whatever the other words of its coordinate are. The order is that of numbers, with
-/// minus zero below zero.
+/// Each word that is a number counts, whatever the other words of its coordinate are. The order is that of numbers,
+/// with minus zero below zero.
 pub fn bounds(buf: &[u8]) -> Result<Bounds, Refused>
     ensures { FindsBounds buf.now result }
 {

@@ -1,35 +1,33 @@
-use Rattle.std.proofs.Common.{◌+◌, ◌-◌, drop, refl, sym, ap, ◌∙◌, arith}
+use Rattle.std.proofs.Common.{◌+◌, drop, refl, sym, ap, ◌∙◌, arith}
 use lib.Seq.{sets}
 use Rattle.wkb_geom.specs.Numbers.{order_byte}
 use Rattle.wkb_check.specs.Bounded.{rings_in}
 use Rattle.wkb_check.specs.Pieces.{size_of_rings}
 use Rattle.wkb_check.specs.Tables.{ring_entries}
 use Rattle.wkb_check.specs.declared.parts.Place.{Place}
-use Rattle.wkb_check.proofs.Placing.{left_first, left_next, here, geometry_inside, onward, leaf_of, rings_inside}
-use Rattle.wkb_check.proofs.Placing.{members_inside, members_at, item_by, none_left}
+use Rattle.wkb_check.proofs.Filling.{left_first, left_next, here, none_left}
+use Rattle.wkb_check.proofs.Placing.{geometry_inside, onward, leaf_of, rings_inside}
+use Rattle.wkb_check.proofs.Placing.{members_inside, members_at, item_by}
 use Rattle.wkb_check.proofs.parts.+table.Goals as goal
 use Rattle.wkb_check.proofs.parts.+table.Goals.{then-has_coordinates, else-has_coordinates+then-piece-eq-POLYGON}
 use Rattle.wkb_check.proofs.parts.+table.Goals.{else-has_coordinates+else-piece-eq-POLYGON}
 
 pub loop-init : goal.loop-init
-loop-init t c = λ more all. left_first c.args.buf.now c.args.count c.args.start.byte more all c.args.start.index c.args.parts.now _ (omega arith)
+loop-init t c = λ more all. left_first (omega arith)
 
 pub geometry_at-piece-requires : goal.geometry_at-piece-requires
 geometry_at-piece-requires t c =
-    let h = here _ _ _ c.requires.fit.more c.requires.fit.all _ _ _ (c.args.count - (c.loop.counter + 1)) _ _ _
-    (omega (arith, c.loop-test.true)) (c.loop.invariant c.requires.fit.more c.requires.fit.all) c.requires.fit.fit in
+    let h = here (c.loop.invariant _ c.requires.fit.all) (omega (arith, c.loop-test.true)) c.requires.fit.fit in
     record { here = h.geometry }
 
 pub overflow_add-inside : goal.overflow_add-inside
 overflow_add-inside t c =
-    let h = here _ _ _ c.requires.fit.more c.requires.fit.all _ _ _ (c.args.count - (c.loop.counter + 1)) _ _ _
-    (omega (arith, c.loop-test.true)) (c.loop.invariant c.requires.fit.more c.requires.fit.all) c.requires.fit.fit in
+    let h = here (c.loop.invariant _ c.requires.fit.all) (omega (arith, c.loop-test.true)) c.requires.fit.fit in
     omega (arith, h.room, h.some, c.loop.auto.parts)
 
 pub end-requires : goal.end-requires
 end-requires t c =
-    let h = here _ _ _ c.requires.fit.more c.requires.fit.all _ _ _ (c.args.count - (c.loop.counter + 1)) _ _ _
-    (omega (arith, c.loop-test.true)) (c.loop.invariant c.requires.fit.more c.requires.fit.all) c.requires.fit.fit in
+    let h = here (c.loop.invariant _ c.requires.fit.all) (omega (arith, c.loop-test.true)) c.requires.fit.fit in
     omega (
       arith,
       (geometry_inside c.args.buf.now c.loop.at.byte _ h.geometry c.geometry_at-piece.result
@@ -38,16 +36,14 @@ end-requires t c =
 
 pub put_rings-requires-clause-whole : goal.put_rings-requires-clause-whole
 put_rings-requires-clause-whole t c =
-    let h = here _ _ _ c.requires.fit.more c.requires.fit.all _ _ _ (c.args.count - (c.loop.counter + 1)) _ _ _
-    (omega (arith, c.loop-test.true)) (c.loop.invariant c.requires.fit.more c.requires.fit.all) c.requires.fit.fit in
+    let h = here (c.loop.invariant _ c.requires.fit.all) (omega (arith, c.loop-test.true)) c.requires.fit.fit in
     rw c.end.ensures
     (rings_inside c.args.buf.now c.loop.at.byte c.loop.at.index h.geometry c.geometry_at-piece.result
     (c.geometry_at-piece.ensures h.geometry) c.if-piece-eq-POLYGON.true).whole
 
 pub put_rings-requires-clause-room : goal.put_rings-requires-clause-room
 put_rings-requires-clause-room t c =
-    let h = here _ _ _ c.requires.fit.more c.requires.fit.all _ _ _ (c.args.count - (c.loop.counter + 1)) _ _ _
-    (omega (arith, c.loop-test.true)) (c.loop.invariant c.requires.fit.more c.requires.fit.all) c.requires.fit.fit in
+    let h = here (c.loop.invariant _ c.requires.fit.all) (omega (arith, c.loop-test.true)) c.requires.fit.fit in
     omega (
       arith,
       h.room,
@@ -57,9 +53,8 @@ put_rings-requires-clause-room t c =
 
 pub put_geometries-requires : goal.put_geometries-requires
 put_geometries-requires t c =
-    let l = c.loop.invariant c.requires.fit.more c.requires.fit.all in
-    let h = here _ _ _ c.requires.fit.more c.requires.fit.all _ _ _ (c.args.count - (c.loop.counter + 1)) _ _ _
-    (omega (arith, c.loop-test.true)) l c.requires.fit.fit in
+    let l = c.loop.invariant _ c.requires.fit.all in
+    let h = here l (omega (arith, c.loop-test.true)) c.requires.fit.fit in
     let is = c.geometry_at-piece.ensures h.geometry in
     let inside = geometry_inside c.args.buf.now c.loop.at.byte c.end.result h.geometry c.geometry_at-piece.result is
     c.end.ensures in
@@ -71,21 +66,17 @@ put_geometries-requires t c =
 
 pub offset_bounds-parts-at : goal.offset_bounds-parts-at
 offset_bounds-parts-at t c =
-    let h = here _ _ _ c.requires.fit.more c.requires.fit.all _ _ _ (c.args.count - (c.loop.counter + 1)) _ _ _
-    (omega (arith, c.loop-test.true)) (c.loop.invariant c.requires.fit.more c.requires.fit.all) c.requires.fit.fit in
+    let h = here (c.loop.invariant _ c.requires.fit.all) (omega (arith, c.loop-test.true)) c.requires.fit.fit in
     omega (arith, h.room, h.some, c.loop.auto.parts, c.if-has_coordinates.auto.parts)
 
 pub bounds-parts-at : goal.bounds-parts-at
 bounds-parts-at t c =
-    let h = here _ _ _ c.requires.fit.more c.requires.fit.all _ _ _ (c.args.count - (c.loop.counter + 1)) _ _ _
-    (omega (arith, c.loop-test.true)) (c.loop.invariant c.requires.fit.more c.requires.fit.all) c.requires.fit.fit in
+    let h = here (c.loop.invariant _ c.requires.fit.all) (omega (arith, c.loop-test.true)) c.requires.fit.fit in
     omega (arith, h.room, h.some, c.loop.auto.parts, c.if-has_coordinates.auto.parts)
 
 pub loop-preserved : goal.loop-preserved
 loop-preserved t c = λ more all.
-    left_next c.args.buf.now c.args.count c.args.start.byte more all c.args.start.index c.args.parts.now
-    (c.args.count - c.loop.counter) (c.args.count - (c.loop.counter + 1)) c.loop.at.index c.loop.at.byte c.loop.parts
-    (omega (arith, c.loop-test.true)) (c.loop.invariant more all) c.if-has_coordinates.next.index
+    left_next (c.loop.invariant more all) (omega (arith, c.loop-test.true)) c.if-has_coordinates.next.index
     c.if-has_coordinates.next.byte _
     (λ g.
     let is = c.geometry_at-piece.ensures g in

@@ -23,10 +23,12 @@ loop-piece-preserved-then-has_coordinates c =
     let x = c.in-Some.ensures.steps _ c.loop-piece.invariant.ahead.are in
     record {
       comes = λ g.
-          comes_next c.args.buf.now c.loop-piece.pieces c.next.new.self (bounds_by c.loop-piece.ranks) (bounds_by c.widen.new.self)
+          comes_next c.args.buf.now c.loop-piece.pieces c.next.new.self (bounds_by c.loop-piece.ranks)
+          (bounds_by c.widen.new.self)
           g.value p c.in-Some.ensures.steps
           (λ a. c.widen.ensures a
-          ∙ ap (λ z. widened (on a (bounds_by c.loop-piece.ranks)) (words_in a p.dimension (coordinates p.order p.dimension p.count z)))
+          ∙ ap (λ z. widened (on a (bounds_by c.loop-piece.ranks))
+          (words_in a p.dimension (coordinates p.order p.dimension p.count z)))
           c.rest_from-bytes.ensures
           ∙ ap (widened (on a (bounds_by c.loop-piece.ranks))) (sym (leaf_words a c.args.buf.now p leaf)))
           (c.loop-piece.invariant.comes g);
@@ -53,7 +55,8 @@ loop-piece-preserved c =
     let x = c.in-Some.ensures.steps _ c.loop-piece.invariant.ahead.are in
     record {
       comes = λ g.
-          comes_next c.args.buf.now c.loop-piece.pieces c.next.new.self (bounds_by c.loop-piece.ranks) (bounds_by c.loop-piece.ranks)
+          comes_next c.args.buf.now c.loop-piece.pieces c.next.new.self (bounds_by c.loop-piece.ranks)
+          (bounds_by c.loop-piece.ranks)
           g.value p c.in-Some.ensures.steps
           (λ a. ap (widened (on a (bounds_by c.loop-piece.ranks))) (sym (no_words a c.args.buf.now p high)))
           (c.loop-piece.invariant.comes g);

@@ -27,7 +27,8 @@ pub loop-init : goal.loop-init
 loop-init c =
     let all : c.args.count - 0 ≡ c.args.count = omega arith in
     record {
-      left = column_first c.args.order c.args.size c.args.at c.args.count c.args.bytes.now _ (range_by c.args.self.now) refl
+      left = column_first c.args.order c.args.size c.args.at c.args.count c.args.bytes.now _ (range_by c.args.self.now)
+          refl
           c.requires.room;
       long = rw all c.requires.whole;
     }

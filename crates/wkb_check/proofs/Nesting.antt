@@ -1,0 +1,164 @@
+-- The loop over the open collections: what is looked at, and what comes of it ahead_of.
+use Rattle.std.proofs.Common.{◌≡◌, ℕ, zero, suc, ◌+◌, ◌-◌, ◌<◌, ◌≤◌, List, [], ◌∷◌, length, take, slice_set, sum_by}
+use Rattle.std.proofs.Common.{Result, Ok, Err, refl, sym, ap, ◌∙◌, arith, length-take}
+use Rattle.std.proofs.lemmas.List.{length-reverse}
+use Rattle.std.proofs.lemmas.List.Sums.{sum_by-cons}
+use Rattle.wkb_geom.specs.declared.code.WkbType.{WkbType}
+use Rattle.wkb_geom.specs.declared.code.WkbType.TheVariants as kinds
+use Rattle.wkb_geom.specs.declared.common.Dimension.{Dimension}
+use Rattle.wkb_geom.specs.declared.error.Cause.{Cause}
+use Rattle.wkb_geom.specs.declared.header.Head.{Head}
+use Rattle.wkb_geom.specs.declared.header.Layout.{Layout}
+use Rattle.wkb_geom.specs.Fronts.{max_nesting}
+use Rattle.wkb_geom.specs.Reading.{Item, values, list_item, collection_with, layout_of, body_start, parts_start}
+use Rattle.wkb_geom.specs.Reading.{count_in}
+use Rattle.wkb_geom.specs.Reading.{HasNoCount, list_told, parts_body, type_kind, ReadingOf, done, point_item_of}
+use Rattle.wkb_geom.specs.Reading.{costs, slots_of}
+use Rattle.wkb_geom.specs.Reading.{and_then, polygon_item, consumed, kind_told, at_no_cost, point_words_in}
+use Rattle.wkb_geom.specs.Reading.{then_body_told, collection_within_told}
+unfoldable use Rattle.wkb_geom.specs.Reading.{geometry_told, by_type_told, point_told, line_string_told}
+unfoldable use Rattle.wkb_geom.specs.Reading.{polygon_told, head_at}
+use Rattle.wkb_geom.specs.Refusals.{point_end, line_string_end, slots_asked}
+use Rattle.wkb_geom.specs.Numbers.{all_nan}
+use Rattle.std.proofs.lemmas.Bool.{cond_both}
+use Rattle.std.proofs.Common.{Bool, true, false, nat_lt}
+unfoldable use Rattle.wkb_geom.specs.Reading.{repeated, collection_told}
+use Rattle.wkb_check.specs.Counted.{coordinate_count_each}
+use Rattle.wkb_check.specs.Passes.{open_counts, body_walked, inside_walked, IsFollowed}
+use Rattle.wkb_check.specs.Walked.{Tally, Walked, walked, with_left, onward, item_coordinates, coordinates_by}
+use Rattle.wkb_check.specs.Walked.{inside_told, body_told, ahead_of}
+use Rattle.wkb_check.proofs.Counting.{no_count, list_walked}
+use Rattle.wkb_check.proofs.Closing.{top_set}
+use Rattle.wkb_check.proofs.Leaves.{refused_walked}
+
+values_sum : (l : List Item) → coordinate_count_each (values l) ≡ sum_by item_coordinates l
+values_sum [] = refl
+values_sum (i ∷ l) = ap (λ n. item_coordinates i + n) (values_sum l) ∙ sym (sum_by-cons item_coordinates i l)
+
+-- ---- a geometry with its header
+
+module _ (u : Tally) (l : Layout) (bytes : List ℕ) where
+  abbrev IsSame : ℕ → ReadingOf (Cause × ℕ) Item → Type 0
+  IsSame k r = walked item_coordinates r u ≡ walked (coordinates_by k) r u
+
+  point_same : (encoding words : List ℕ) (empty : Bool) (rest : List ℕ)
+      → IsSame 1 (done (point_item_of l encoding words empty) rest)
+  point_same encoding words true rest = refl
+  point_same encoding words false rest = refl
+
+  rings_same : (n : ℕ) (r : ReadingOf (Cause × ℕ) (List (List ℕ)))
+      → IsSame 3
+      (costs (slots_of n) (and_then r (λ rings rest. done (polygon_item l rings (consumed bytes rest)) rest)))
+  rings_same n (c, Ok x) = refl
+  rings_same n (c, Err e) = refl
+
+  -- the coordinates of a geometry are those of one of its kind
+  kind_same : (collection : Layout → List ℕ → ReadingOf (Cause × ℕ) Item) (t : WkbType)
+      → IsSame (type_kind t) (kind_told with_left collection t l bytes)
+  unfolding point_told line_string_told polygon_told
+  kind_same collection (kinds.Point d) =
+      cond_both (nat_lt (length bytes) (point_end l.dimension l.has_srid)) _ _ (λ p. IsSame 1 (at_no_cost p))
+      (λ e. refl)
+      (λ e. point_same _ (point_words_in l _) (all_nan (point_words_in l _)) _)
+  kind_same collection (kinds.LineString d) =
+      cond_both (nat_lt (length bytes) (body_start l.has_srid + 4)) _ _ (IsSame 2) (λ e. refl)
+      (λ e. cond_both (nat_lt (length bytes) (line_string_end l.dimension l.has_srid (count_in l bytes))) _ _
+      (λ p. IsSame 2 (at_no_cost p)) (λ e. refl) (λ e. refl))
+  kind_same collection (kinds.Polygon d) =
+      cond_both (nat_lt (length bytes) (body_start l.has_srid + 4)) _ _ (IsSame 3) (λ e. refl) (λ e. rings_same
+      (slots_asked 3 (count_in l bytes) (length (parts_start l.has_srid bytes))) _)
+  kind_same collection _ = refl
+
+by_header : (room : ℕ) (bytes : List ℕ) (read : Result Head Cause) → head_at bytes ≡ read
+    → geometry_told with_left room bytes
+    ≡ then_body_told (with_left bytes) read (λ h. body_told room h.wkb_type (layout_of h) bytes)
+unfolding geometry_told by_type_told
+by_header zero bytes read e =
+    ap (λ r. then_body_told (with_left bytes) r (λ h. body_told zero h.wkb_type (layout_of h) bytes)) e
+by_header (suc room) bytes read e =
+    ap (λ r. then_body_told (with_left bytes) r (λ h. body_told (suc room) h.wkb_type (layout_of h) bytes)) e
+
+pub with_header : (around : ℕ) (bytes : List ℕ) (h : Head) (t : Tally) → head_at bytes ≡ Ok h
+    → inside_walked around bytes t ≡ body_walked around h bytes t
+with_header around bytes h t e =
+    let room = max_nesting - around in
+    ap (λ r. walked item_coordinates r t) (by_header room bytes (Ok h) e)
+    ∙ kind_same t (layout_of h) bytes (collection_within_told with_left room) h.wkb_type
+
+pub without_header : (around : ℕ) (bytes : List ℕ) (c : Cause) (t : Tally) → head_at bytes ≡ Err c
+    → inside_walked around bytes t ≡ Err (t.0, (c, length bytes))
+without_header around bytes c t e =
+    ap (λ r. walked item_coordinates r t) (by_header (max_nesting - around) bytes (Err c) e)
+    ∙ refused_walked item_coordinates (c, length bytes) t
+
+-- ---- the open collections
+
+-- as many counts as collections are open
+as_many : (left : List ℕ) (depth : ℕ) → length left ≡ 128 → depth ≤ 128 → length (open_counts left depth) ≡ depth
+as_many left depth len shallow = length-reverse (take depth left) ∙ omega (arith, length-take depth left)
+
+module _ (depth : ℕ) (h : Head) (d : Dimension) (l : Layout) (bytes : List ℕ)
+    (is : h.wkb_type ≡ kinds.GeometryCollection d) (l-is : l ≡ layout_of h) (shallow : depth < 128) where
+  -- what follows the header of a collection
+  behind : (t : Tally)
+      → body_walked depth h bytes t
+      ≡ walked item_coordinates (list_told with_left 7 l (inside_told (suc depth)) (list_item l collection_with) bytes)
+      t
+  unfolding collection_told
+  behind t =
+      let k : max_nesting - depth ≡ suc (max_nesting - suc depth) = omega arith in
+      rw (l-is, is, k) refl
+
+  pub opens : (left start : List ℕ) (n turns passed : ℕ) → length left ≡ 128 → n ≡ count_in l bytes
+      → body_start l.has_srid + 4 ≤ length bytes → start ≡ parts_start l.has_srid bytes
+      → onward (body_walked depth h bytes (turns, passed)) (ahead_of (open_counts left depth))
+      ≡ ahead_of (open_counts (slice_set left depth n) (depth + 1)) (turns, passed) start
+  opens left start n turns passed len counts long at =
+      let ns = open_counts left depth in
+      let one : depth + 1 ≡ suc depth = omega arith in
+      let more : open_counts (slice_set left depth n) (depth + 1) ≡ n ∷ ns =
+      ap (λ (k : ℕ). open_counts (slice_set left depth n) k) one ∙ top_set left depth n (omega (arith, len, shallow)) in
+      ap (λ w. onward w (ahead_of ns)) (behind (turns, passed)
+      ∙ list_walked item_coordinates (list_item l collection_with) item_coordinates (λ parts encoding. values_sum parts)
+      (inside_told (suc depth)) 7 l bytes start n counts long at (turns, passed)
+      ∙ ap (λ k. walked (sum_by item_coordinates) (repeated n (inside_told (suc k)) start) (turns, passed))
+      (sym (as_many left depth len (omega (arith, shallow)))))
+      ∙ ap (λ (cs : List ℕ). ahead_of cs (turns, passed) start) (sym more)
+
+  pub opens_none : (turns passed : ℕ) (c : Cause) → HasNoCount l bytes c
+      → body_walked depth h bytes (turns, passed) ≡ Err (turns, (c, length bytes))
+  opens_none turns passed c none =
+      behind (turns, passed) ∙ no_count item_coordinates l bytes turns passed
+      (parts_body 7 l (inside_told (suc depth)) (list_item l collection_with) bytes) c none
+
+-- ---- the loop
+
+pub starts : (left : List ℕ) (w : Walked) → onward w (ahead_of (open_counts left 0)) ≡ w
+starts left (Ok x) = refl
+starts left (Err e) = refl
+
+-- the next member begins
+module _ (left next bytes : List ℕ) (depth deep turns passed : ℕ) (reached whole : Walked) (ahead : reached ≡ whole)
+    (finished : reached ≡ ahead_of (open_counts left depth) (turns, passed) bytes)
+    (settled : IsFollowed (open_counts left depth) (open_counts next deep)) (len : length next ≡ 128)
+    (shallow : deep ≤ 128) where
+  begun : onward (inside_walked deep bytes (turns + 1, passed)) (ahead_of (open_counts next deep)) ≡ whole
+  begun =
+      ap (λ k. onward (inside_walked k bytes (turns + 1, passed)) (ahead_of (open_counts next deep)))
+      (sym (as_many next deep len shallow)) ∙ sym (settled.by_member (turns, passed) bytes)
+      ∙ sym finished ∙ ahead
+
+  pub next_begins : (h : Head) → head_at bytes ≡ Ok h
+      → onward (body_walked deep h bytes (turns + 1, passed)) (ahead_of (open_counts next deep)) ≡ whole
+  next_begins h e =
+      ap (λ w. onward w (ahead_of (open_counts next deep))) (sym (with_header deep bytes h (turns + 1, passed) e))
+      ∙ begun
+
+  pub next_stops : (c : Cause) → head_at bytes ≡ Err c → whole ≡ Err (turns + 1, (c, length bytes))
+  next_stops c e =
+      sym begun
+      ∙ ap (λ w. onward w (ahead_of (open_counts next deep))) (without_header deep bytes c (turns + 1, passed) e)
+
+pub ruleset open_laws = (opens, opens_none)
+
+pub ruleset loop_laws = (starts, next_begins, next_stops)

@@ -1,0 +1,78 @@
+-- Passing over parts from left to right: a reading without its values, of which the coordinates are counted.
+use Rattle.std.specs.Prelude.{ℕ, suc, ◌+◌, ◌-◌, List, [], ◌∷◌, length, sum_by, Result, Ok, Err, ◌==◌, if◌then◌else◌}
+use Rattle.wkb_geom.specs.declared.code.WkbType.{WkbType}
+use Rattle.wkb_geom.specs.declared.error.Cause.{Cause}
+use Rattle.wkb_geom.specs.declared.header.Layout.{Layout}
+use Rattle.wkb_check.specs.declared.skip.MemberKind.{MemberKind}
+use Rattle.wkb_check.specs.declared.skip.MemberKind.TheVariants as members
+use Rattle.wkb_geom.specs.Fronts.{max_nesting}
+use Rattle.wkb_geom.specs.Reading.{ReadingOf, Item, ring_in, line_string_of, polygon_of, list_item, list_told}
+use Rattle.wkb_geom.specs.Reading.{multi_point_with, member_told, multi_line_string_told, multi_polygon_told}
+use Rattle.wkb_geom.specs.Reading.{kind_told, collection_within_told}
+unfoldable use Rattle.wkb_geom.specs.Reading.{repeated, geometry_told}
+use Rattle.wkb_check.specs.Counted.{coordinate_count}
+
+-- parts that are begun, and coordinates that are passed
+abbrev pub Tally : Type 0
+Tally = ℕ × ℕ
+
+-- what was counted, and the bytes that are left; or how many parts are begun, the fault, and how many bytes are left
+-- where the refused part begins
+abbrev pub Walked : Type 0
+Walked = Result (Tally × List ℕ) (ℕ × (Cause × ℕ))
+
+-- of a fault its cause is told, and how many bytes are left
+abbrev pub with_left : List ℕ → Cause → Cause × ℕ
+with_left = λ bytes c. (c, length bytes)
+
+-- a reading without its values, after this tally
+abbrev pub walked : {A : Type 0} → (A → ℕ) → ReadingOf (Cause × ℕ) A → Tally → Walked
+walked many (c, Ok x) t = Ok ((t.0 + c.turns, t.1 + many x.0), x.1)
+walked many (c, Err e) t = Err (t.0 + c.turns, e)
+
+-- one part, then what follows it
+abbrev pub onward : Walked → (Tally → List ℕ → Walked) → Walked
+onward (Ok x) f = f x.0 x.1
+onward (Err e) f = Err e
+
+-- the coordinates of a ring, by its encoding
+abbrev pub ring_coordinates : Layout → List ℕ → ℕ
+ring_coordinates l encoding = length (ring_in l.order l.dimension encoding)
+
+-- the coordinates of a geometry, and of one of this kind
+abbrev pub item_coordinates : Item → ℕ
+item_coordinates i = coordinate_count i.value
+
+abbrev pub coordinates_by : ℕ → Item → ℕ
+coordinates_by k i =
+    if k == 1 then 1
+    else if k == 2 then length (line_string_of i.value)
+    else if k == 3 then sum_by length (polygon_of i.value)
+    else item_coordinates i
+
+-- the number of a member's kind in a code
+abbrev pub number_of_member : MemberKind → ℕ
+number_of_member members.Point = 1
+number_of_member members.LineString = 2
+number_of_member members.Polygon = 3
+
+-- the multi geometry of members of this kind, where the length of multi points is not tested before
+unfoldable pub multi_told : MemberKind → Layout → List ℕ → ReadingOf (Cause × ℕ) Item
+multi_told members.Point l bytes =
+    list_told with_left 4 l (member_told with_left 1 l.dimension) (list_item l multi_point_with) bytes
+multi_told members.LineString l bytes = multi_line_string_told with_left l bytes
+multi_told members.Polygon l bytes = multi_polygon_told with_left l bytes
+
+-- a geometry inside this many open collections
+abbrev pub inside_told : ℕ → List ℕ → ReadingOf (Cause × ℕ) Item
+inside_told around bytes = geometry_told with_left (max_nesting - around) bytes
+
+-- a geometry of this type, with room for this many open collections
+abbrev pub body_told : ℕ → WkbType → Layout → List ℕ → ReadingOf (Cause × ℕ) Item
+body_told room t l bytes = kind_told with_left (collection_within_told with_left room) t l bytes
+
+-- what follows a finished part: the members that the open collections still have, the innermost first
+abbrev pub ahead_of : List ℕ → Tally → List ℕ → Walked
+ahead_of [] t rest = Ok (t, rest)
+ahead_of (n ∷ ns) t rest =
+    onward (walked (sum_by item_coordinates) (repeated n (inside_told (suc (length ns))) rest) t) (ahead_of ns)
