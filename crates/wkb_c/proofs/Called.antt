@@ -1,57 +1,62 @@
 -- What the call for one row of a column does.
-use Rattle.wkb_c.proofs.Common.{◌≡◌, ◌≢◌, ℕ, ◌⊎◌, inl, inr, List, ◌++◌, length, drop, arith, refl, [], ◌≤◌, sym, ap, ◌∙◌}
-use Rattle.wkb_c.proofs.Common.{append-nil, Spelling, spelling, no_spellings, Value, member, no_members}
+use Rattle.wkb_c.proofs.Common.{◌≡◌, ◌≢◌, ℕ, ◌+◌, ◌≤◌, ◌<◌, ◌⊎◌, List, [], ◌∷◌, ◌++◌, length, drop, refl, sym, ap, ◌∙◌}
+use Rattle.wkb_c.proofs.Common.{arith, append-nil, Spelling, node, spelling, no_spellings, header, Value, member}
+use Rattle.wkb_c.proofs.Common.{no_members, kind, dimension, order_byte}
 use lib.Seq.{sets, sets-eq}
-use Rattle.std.specs.Prelude.{take, min}
 use Rattle.std.proofs.Common.{set}
+use Rattle.std.proofs.lemmas.List.{nil_from_length}
 use Rattle.wkb_geom.specs.Fronts.{Front}
 use Rattle.wkb_check.specs.Bounded.{HasGeometries}
 use Rattle.wkb_check.specs.Pieces.{leading, count_of, size}
 use Rattle.wkb_check.specs.Tables.{geometry_entries, FitGeometries, entry, place, entry_count}
+use Rattle.wkb_check.specs.declared.parts.Part.{Part}
 use Rattle.wkb_check.proofs.Placing.{spelled_size}
-use Rattle.wkb_c.proofs.Common.{node, header, kind, dimension, order_byte, ◌∷◌, ◌+◌}
 use Rattle.wkb_c.specs.Checks.{IsFound, whole_entry}
 use Rattle.wkb_c.specs.declared.found.Found.{Found}
-use Rattle.wkb_check.specs.declared.parts.Part.{Part}
 use Rattle.wkb_c.specs.Columns.{IsRow, IsRefusedWith}
 use Rattle.wkb_c.specs.declared.column.Column.{Column}
 use Rattle.wkb_c.specs.RowItems.{IsRowStep, RowHas, RowFails}
 use Rattle.wkb_c.specs.Subjects.{IsTable, LacksEntries, HasTable, HasParts}
 use Rattle.wkb_c.specs.declared.status.TheConstants.{OK, NO_ROOM}
-use Rattle.wkb_c.proofs.RowItems.{put_step, lacks_step}
+use Rattle.wkb_c.proofs.RowItems.{IsLent, called_step}
+use Rattle.wkb_c.proofs.Telling.{begins}
 use Rattle.wkb_c.proofs.Words.{holds, counted, entries_many}
 
-has_table : (input : List ℕ) (s : Spelling) (t : Value) (rest : List ℕ) → Front input s t rest
-    → HasTable input (geometry_entries 0 0 s t)
-has_table input s t rest f = record {
-  s = s;
-  t = t;
-  rest = rest;
-  front = f;
-  parts_are = refl;
-  hold = holds input s t f.front rest f.whole f.spelled;
+row_table : {c : Column} {i : ℕ} (row : List ℕ) → IsRow c i row → (s : Spelling) (t : Value) (rest : List ℕ)
+    → Front row s t rest → RowHas HasTable c i (geometry_entries 0 0 s t)
+row_table row is s t rest f = record {
+  row = row;
+  is = is;
+  has = record {
+    s = s;
+    t = t;
+    rest = rest;
+    front = f;
+    parts_are = refl;
+    hold = holds s t (begins row s t rest f);
+  };
 }
 
-module _ {c : Column} {i start : ℕ} (row : List ℕ) (is : IsRow c i row) where
-  pub list_step : (at status count : ℕ) (before lent sub after : List Part) → at ≡ min start (length before)
-      → lent ≡ drop at before → after ≡ take at before ++ sub → length sub ≡ length lent
-      → (status ≡ OK → IsTable row lent sub count) → (status ≡ NO_ROOM → LacksEntries row lent count)
+module _ {c : Column} {i start status count : ℕ} {before lent sub after : List Part} (row : List ℕ)
+    (is : IsRow c i row) (l : IsLent start before lent sub after) where
+  pub list_step : (status ≡ OK → IsTable row lent sub count) → (status ≡ NO_ROOM → LacksEntries row lent count)
       → (status ≢ OK → sub ≡ lent) → (status ≡ OK) ⊎ (status ≡ NO_ROOM)
       → IsRowStep (RowHas HasTable c) (RowFails IsRefusedWith c) i status count start before after
-  list_step at status count before lent sub after at_is lent_is after_is long listed short kept (inl ok) =
+  list_step listed short =
+      called_step l
+      (λ ok.
       let h = listed ok in
-      put_step at before lent sub after at_is lent_is after_is (geometry_entries 0 0 h.s h.t)
-      (record { row = row; is = is; has = has_table row h.s h.t h.rest h.front }) ok
-      (omega (arith, entries_many h.s h.t h.front.front h.front.spelled)) h.held long
-  list_step at status count before lent sub after at_is lent_is after_is long listed short kept (inr told) =
+      let some : 0 < length (geometry_entries 0 0 h.s h.t) = omega (arith, h.many, h.held.count_is) in
+      (geometry_entries 0 0 h.s h.t, (row_table row is h.s h.t h.rest h.front, (some, h.held))))
+      (λ told.
       let h = short told in
-      lacks_step at before lent sub after at_is lent_is after_is (geometry_entries 0 0 h.s h.t)
-      (record { row = row; is = is; has = has_table row h.s h.t h.rest h.front }) told
-      (record {
-        count_is = omega (arith, h.many, entries_many h.s h.t h.front.front h.front.spelled);
-        short = omega (arith, h.many, h.short, entries_many h.s h.t h.front.front h.front.spelled);
-      })
-      (kept (λ ok. omega (arith, ok, told)))
+      let many = entries_many h.s h.t h.front.front h.front.spelled in (
+        geometry_entries 0 0 h.s h.t,
+        (
+          row_table row is h.s h.t h.rest h.front,
+          record { count_is = omega (arith, h.many, many); short = omega (arith, h.many, h.short, many) },
+        ),
+      ))
 
 -- the geometry at the front, as the only one of some
 abbrev pub one_geometry : (input : List ℕ) (s : Spelling) (t : Value) (rest : List ℕ) → Front input s t rest
@@ -98,16 +103,9 @@ table_put input many parts new h fit put =
             ∙ sets-eq entries parts 0 (omega (arith, fit, long, h.many_are))
             ∙ ap (λ n. entries ++ drop n parts) (omega arith);
       };
-      parts = holds input h.s h.t h.front.front h.rest h.front.whole h.front.spelled;
+      parts = holds h.s h.t (begins input h.s h.t h.rest h.front);
       many = h.many_are;
     }
-
-none_left : {A : Type 0} (xs : List A) → length xs ≡ 0 → xs ≡ []
-none_left [] is = refl
-none_left (x ∷ xs) is = absurd (omega (arith, is))
-
-one_left : {A : Type 0} (x : A) (xs : List A) → length (x ∷ xs) ≡ 1 → x ∷ xs ≡ x ∷ []
-one_left x xs is = ap (λ z. x ∷ z) (none_left xs (omega (arith, is)))
 
 -- the first entry of a geometry
 abbrev first_entry : Spelling → Value → Part
@@ -116,9 +114,11 @@ first_entry s t =
 
 entries_begin : (s : Spelling) (t : Value) → length (geometry_entries 0 0 s t) ≡ 1
     → geometry_entries 0 0 s t ≡ first_entry s t ∷ []
-entries_begin (node h words ss) t is = one_left _ _ is
+entries_begin (node h words ss) t is =
+    ap (λ z. first_entry (node h words ss) t ∷ z) (nil_from_length _ (omega (arith, is)))
 
-first_is_whole : (input : List ℕ) (f : Found) → (h : IsFound input f) → f.parts ≡ 1 → first_entry h.s h.t ≡ whole_entry f
+first_is_whole : (input : List ℕ) (f : Found) → (h : IsFound input f) → f.parts ≡ 1
+    → first_entry h.s h.t ≡ whole_entry f
 first_is_whole input f h one =
     let end : 0 + size h.s h.t ≡ f.size =
     omega (arith, h.size_is, spelled_size h.s h.t h.front.front h.front.spelled) in
@@ -156,4 +156,5 @@ whole_put input f parts new h one fit put =
     let entries = entries_begin h.s h.t
     (omega (arith, entries_many h.s h.t h.front.front h.front.spelled, h.parts_are, one))
     ∙ ap (λ e. e ∷ []) (first_is_whole input f h one) in
-    table_put input f.parts parts new (parts_found input f h) fit (put ∙ ap (λ es. sets parts 0 (es ++ [])) (sym entries))
+    table_put input f.parts parts new (parts_found input f h) fit
+    (put ∙ ap (λ es. sets parts 0 (es ++ [])) (sym entries))

@@ -1,15 +1,13 @@
 -- The encoding that is asked for of what was checked, and how long it is.
-use Rattle.wkb_c.proofs.Common.{◌≡◌, ◌≢◌, ℕ, ◌≤◌, ◌<◌, List, ◌++◌, length, drop, Some, None}
-use Rattle.wkb_c.proofs.Common.{sym, ap, ◌∙◌, arith, header, ◌⊎◌, inl, inr}
-use Rattle.std.specs.Prelude.{take, min}
+use Rattle.wkb_c.proofs.Common.{◌≡◌, ◌≢◌, ℕ, ◌≤◌, ◌<◌, ◌⊎◌, List, ◌++◌, length, drop, Some, None, sym, ap, ◌∙◌, arith}
+use Rattle.wkb_c.proofs.Common.{header}
 use lib.Seq.{sets, sets-eq}
 use Rattle.wkb_geom.specs.declared.common.Endianness.{Endianness}
 use Rattle.wkb_geom.specs.declared.common.Form.{Form}
 use Rattle.wkb_geom.specs.declared.common.Form.TheVariants.{Ewkb}
-use Rattle.wkb_geom.specs.Encodings.{encoding, header_encoding}
-use Rattle.wkb_geom.specs.Encodings.{point_encoding, line_string_encoding, polygon_encoding, members_encoding}
-use Rattle.wkb_geom.specs.Geometries.{geometry_of, Geometry, point, line_string, polygon, multi_point, multi_line_string}
-use Rattle.wkb_geom.specs.Geometries.{multi_polygon, collection, line, rectangle, triangle}
+use Rattle.wkb_geom.specs.Encodings.{encoding, header_encoding, point_encoding, line_string_encoding}
+use Rattle.wkb_geom.specs.Encodings.{polygon_encoding, members_encoding}
+use Rattle.wkb_geom.specs.Geometries.{geometry_of, Geometry, point}
 use Rattle.wkb_check.specs.Public.{DescribesFront}
 use Rattle.wkb_check.specs.declared.answer.Summary.{Summary}
 use Rattle.wkb_rewrite.specs.declared.target.Target.{Target}
@@ -22,24 +20,17 @@ use Rattle.wkb_c.specs.declared.options.Options.{Options}
 use Rattle.wkb_c.specs.declared.options.Request.{Request}
 use Rattle.wkb_c.specs.declared.options.Request.TheVariants.{Encoding, OwnSrid}
 use Rattle.wkb_c.specs.declared.status.TheConstants.{OK, NO_ROOM}
-use Rattle.wkb_c.proofs.RowItems.{put_step, lacks_step}
+use Rattle.wkb_c.proofs.RowItems.{IsLent, called_step}
 
 -- an encoding has a first byte
 pub some_encoding : (order : Endianness) (form : Form) (g : Geometry) → 0 < length (encoding order form g)
 unfolding header_encoding point_encoding line_string_encoding polygon_encoding members_encoding
 some_encoding order form (point d c) = omega arith
-some_encoding order form (line_string d cs) = omega arith
-some_encoding order form (polygon d rings) = omega arith
-some_encoding order form (multi_point d points) = omega arith
-some_encoding order form (multi_line_string d lines) = omega arith
-some_encoding order form (multi_polygon d polygons) = omega arith
-some_encoding order form (collection d ts) = omega arith
-some_encoding order form (line d start end) = omega arith
-some_encoding order form (rectangle d least greatest) = omega arith
-some_encoding order form (triangle d first second third) = omega arith
+some_encoding order form _ = omega arith
 
 some_requested : (request : Request) (input out : List ℕ) → IsRequested request input out → 0 < length out
-some_requested (Encoding o) input out h = omega (arith, ap length h.written, some_encoding o.order o.form (geometry_of h.t))
+some_requested (Encoding o) input out h =
+    omega (arith, ap length h.written, some_encoding o.order o.form (geometry_of h.t))
 some_requested (OwnSrid order) input out h =
     omega (arith, ap length h.written, some_encoding order (Ewkb (header h.s).srid) (geometry_of h.t))
 
@@ -50,76 +41,61 @@ is_asked o request asked none = let never : Some request ≡ None = sym asked �
 -- the encoding of a target is what is asked for
 module _ (request : Request) (input : List ℕ) (found : Summary) (d : DescribesFront input found) (target : Target)
     (target_is : target ≡ target_for request found.srid) where
-  requested_of : (request : Request) → target ≡ target_for request found.srid
-      → IsRequested request input (encoding target.order target.form (geometry_of d.value))
-  requested_of (Encoding own) is = record {
-    s = d.spelled;
-    t = d.value;
-    rest = d.rest;
-    front = d.front;
-    written = ap (λ z. encoding z.order z.form (geometry_of d.value)) is;
-  }
-  requested_of (OwnSrid order) is = record {
-    s = d.spelled;
-    t = d.value;
-    rest = d.rest;
-    front = d.front;
-    written =
-        ap (λ z. encoding z.order z.form (geometry_of d.value)) is
-        ∙ ap (λ z. encoding order (Ewkb z) (geometry_of d.value)) d.described.srid;
-  }
+  abbrev bytes : List ℕ
+  bytes = encoding target.order target.form (geometry_of d.value)
 
-  pub handed_out : (out new : List ℕ) (size : ℕ)
-      → size ≡ length (encoding target.order target.form (geometry_of d.value)) → size ≤ length out
-      → new ≡ sets out 0 (encoding target.order target.form (geometry_of d.value))
+  requested_of : (request : Request) → target ≡ target_for request found.srid → IsRequested request input bytes
+  requested_of (Encoding own) is =
+      let written = ap (λ z. encoding z.order z.form (geometry_of d.value)) is in
+      record { s = d.spelled; t = d.value; rest = d.rest; front = d.front; written = written }
+  requested_of (OwnSrid order) is =
+      let written = ap (λ z. encoding z.order z.form (geometry_of d.value)) is
+      ∙ ap (λ z. encoding order (Ewkb z) (geometry_of d.value)) d.described.srid in
+      record { s = d.spelled; t = d.value; rest = d.rest; front = d.front; written = written }
+
+  pub handed_out : (out new : List ℕ) (size : ℕ) → size ≡ length bytes → size ≤ length out → new ≡ sets out 0 bytes
       → IsHandedOut request input out new size
   handed_out out new size size_is fit put = record {
-    encoding = encoding target.order target.form (geometry_of d.value);
+    encoding = bytes;
     is_requested = requested_of request target_is;
     held = record {
       count_is = size_is;
       whole =
-          put
-          ∙ sets-eq (encoding target.order target.form (geometry_of d.value)) out 0 (omega (arith, fit, size_is))
-          ∙ ap (λ n. encoding target.order target.form (geometry_of d.value) ++ drop n out) (omega arith);
+          put ∙ sets-eq bytes out 0 (omega (arith, fit, size_is)) ∙ ap (λ n. bytes ++ drop n out) (omega arith);
     };
   }
 
-  pub finds_no_room : (out : List ℕ) (size : ℕ)
-      → size ≡ length (encoding target.order target.form (geometry_of d.value)) → length out < size
+  pub finds_no_room : (out : List ℕ) (size : ℕ) → size ≡ length bytes → length out < size
       → FindsNoRoom request input out size
   finds_no_room out size size_is short = record {
-    encoding = encoding target.order target.form (geometry_of d.value);
+    encoding = bytes;
     is_requested = requested_of request target_is;
     lacks = record { count_is = size_is; short = omega (arith, short, size_is) };
   }
 
-module _ {c : Column} {i start : ℕ} (row : List ℕ) (is : IsRow c i row) where
-  pub write_step : (o : Options) (request : Request) → request_of o ≡ Some request
-      → (at status count : ℕ) (before lent sub after : List ℕ)
-      → at ≡ min start (length before) → lent ≡ drop at before → after ≡ take at before ++ sub
-      → length sub ≡ length lent
-      → (status ≡ OK → IsHandedOut request row lent sub count)
+row_encoding : {c : Column} {i : ℕ} (row : List ℕ) → IsRow c i row → (o : Options) (request : Request)
+    → request_of o ≡ Some request → (encoding : List ℕ) → IsRequested request row encoding
+    → RowHas (HasEncoding o) c i encoding
+row_encoding row is o request asked encoding requested =
+    record { row = row; is = is; has = record { request = request; asked = asked; is_requested = requested } }
+
+module _ {c : Column} {i start status count : ℕ} {before lent sub after : List ℕ} (row : List ℕ)
+    (is : IsRow c i row) (o : Options) (request : Request) (asked : request_of o ≡ Some request)
+    (l : IsLent start before lent sub after) where
+  pub write_step : (status ≡ OK → IsHandedOut request row lent sub count)
       → (status ≡ NO_ROOM → FindsNoRoom request row lent count) → (status ≢ OK → sub ≡ lent)
       → (status ≡ OK) ⊎ (status ≡ NO_ROOM)
       → IsRowStep (RowHas (HasEncoding o) c) (RowFails (FailsToWrite o) c) i status count start before after
-  write_step o request asked at status count before lent sub after at_is lent_is after_is long written short kept
-      (inl ok) =
-      let h = written ok in
-      put_step at before lent sub after at_is lent_is after_is h.encoding
-      (record {
-        row = row;
-        is = is;
-        has = record { request = request; asked = asked; is_requested = h.is_requested };
-      }) ok
-      (some_requested request row h.encoding h.is_requested) h.held long
-  write_step o request asked at status count before lent sub after at_is lent_is after_is long written short kept
-      (inr told) =
+  write_step written short =
+      called_step l
+      (λ ok.
+      let h = written ok in (
+        h.encoding,
+        (
+          row_encoding row is o request asked h.encoding h.is_requested,
+          (some_requested request row h.encoding h.is_requested, h.held),
+        ),
+      ))
+      (λ told.
       let h = short told in
-      lacks_step at before lent sub after at_is lent_is after_is h.encoding
-      (record {
-        row = row;
-        is = is;
-        has = record { request = request; asked = asked; is_requested = h.is_requested };
-      }) told
-      h.lacks (kept (λ ok. omega (arith, ok, told)))
+      (h.encoding, (row_encoding row is o request asked h.encoding h.is_requested, h.lacks)))

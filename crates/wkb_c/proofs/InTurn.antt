@@ -12,18 +12,12 @@ module _ (c : Column) (dimension : ℕ) (statuses row_ends : List ℕ) (out : Le
       → AreColumnCoordinates c dimension statuses row_ends out n at now
       → AreColumnCoordinates c dimension (set statuses i s) (set row_ends i e) out n at now
   rows_kept zero at now above h = h
-  rows_kept (suc n) at now above h = (
-    h.0,
-    (
-      h.1.0,
-      (
-        rows_kept n h.0 h.1.0 (omega (arith, above)) h.1.1.0,
-        subst (λ status. IsCoordinatesRow c dimension n status h.0 at h.1.0 now)
-            (sym (get_or-set_other statuses i n s 0 (λ same. omega (arith, same, above)))) h.1.1.1,
-        get_or-set_other row_ends i n e 0 (λ same. omega (arith, same, above)) ∙ h.1.1.2,
-      ),
-    ),
-  )
+  rows_kept (suc n) at now above h =
+      let other : n ≡ i → ⊥ = λ same. omega (arith, same, above) in
+      let row = subst (λ status. IsCoordinatesRow c dimension n status h.0 at h.1.0 now)
+      (sym (get_or-set_other statuses i n s 0 other)) h.1.1.1 in
+      let end = get_or-set_other row_ends i n e 0 other ∙ h.1.1.2 in
+      (h.0, (h.1.0, (rows_kept n h.0 h.1.0 (omega (arith, above)) h.1.1.0, row, end)))
 
 pub row_more : (c : Column) (dimension : ℕ) (statuses row_ends : List ℕ) (out : Levels) (i s : ℕ) (from at : Totals)
     (before now : Levels)
@@ -32,16 +26,9 @@ pub row_more : (c : Column) (dimension : ℕ) (statuses row_ends : List ℕ) (ou
     → AreColumnCoordinates c dimension (set statuses i s) (set row_ends i at.singles) out (i + 1) at now
 row_more c dimension statuses row_ends out i s from at before now there there' done row =
     let next : suc i ≡ i + 1 = omega arith in
-    let all : AreColumnCoordinates c dimension (set statuses i s) (set row_ends i at.singles) out (suc i) at now = (
-      from,
-      (
-        before,
-        (
-          rows_kept c dimension statuses row_ends out i s at.singles i from before (omega arith) done,
-          subst (λ status. IsCoordinatesRow c dimension i status from at before now)
-              (sym (get_or-set_same statuses i s 0 there)) row,
-          get_or-set_same row_ends i at.singles 0 there',
-        ),
-      ),
-    ) in
+    let before_row = rows_kept c dimension statuses row_ends out i s at.singles i from before (omega arith) done in
+    let own = subst (λ status. IsCoordinatesRow c dimension i status from at before now)
+    (sym (get_or-set_same statuses i s 0 there)) row in
+    let all : AreColumnCoordinates c dimension (set statuses i s) (set row_ends i at.singles) out (suc i) at now =
+    (from, (before, (before_row, own, get_or-set_same row_ends i at.singles 0 there'))) in
     subst (λ n. AreColumnCoordinates c dimension (set statuses i s) (set row_ends i at.singles) out n at now) next all

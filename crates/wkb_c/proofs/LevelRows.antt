@@ -1,6 +1,6 @@
 -- What becomes of a row in levels.
-use Rattle.wkb_c.proofs.Common.{◌≡◌, ℕ, ◌+◌, ◌<◌, List, ◌++◌, length, drop, Option, Some, None, ap, arith, subst}
-use Rattle.std.specs.Prelude.{take, min, false}
+use Rattle.wkb_c.proofs.Common.{◌≡◌, ℕ, ◌+◌, ◌<◌, List, length, Option, Some, None, ap, arith, subst}
+use Rattle.std.specs.Prelude.{false}
 use Rattle.wkb_geom.specs.declared.common.Dimensions.{Dimensions}
 use Rattle.wkb_levels.specs.declared.levels.Levels.{Levels}
 use Rattle.wkb_levels.specs.declared.levels.Place.{Place}
@@ -12,12 +12,12 @@ use Rattle.wkb_levels.specs.RowWrites as row_writes
 use Rattle.wkb_c.specs.Columns.{is_unset_bit}
 use Rattle.wkb_c.specs.LevelRows.{HasLevelEncoding, LacksLevels, unfit}
 use Rattle.wkb_c.specs.LevelTargets.{levels_in, Ready}
-use Rattle.wkb_c.specs.RowItems.{IsRowStep, nothing}
+use Rattle.wkb_c.specs.RowItems.{IsRowStep}
 use Rattle.wkb_c.specs.declared.from_coordinates.LevelColumn.{LevelColumn}
 use Rattle.wkb_c.specs.declared.from_coordinates.LevelTarget.{LevelTarget}
 use Rattle.wkb_c.specs.declared.status.TheConstants.{OK, NO_ROOM, BAD_LEVELS}
 use Rattle.wkb_c.proofs.Encodings.{some_encoding}
-use Rattle.wkb_c.proofs.RowItems.{put_step, lacks_step, unchanged}
+use Rattle.wkb_c.proofs.RowItems.{IsLent, put_step, lacks_step, no_step}
 
 -- the status of what was told of a row
 abbrev pub told_status : Written → ℕ
@@ -49,29 +49,21 @@ module _ {c : LevelColumn} {asked : Option LevelTarget} {i : ℕ} (t : LevelTarg
   has_encoding bytes has = record { present = present; target = t; is_asked = is_asked; encoding = has }
 
   -- what was told of a row is what a step of it says
-  level_step : {start : ℕ} (told : Written) (at : ℕ) (before lent sub after : List ℕ) → at ≡ min start (length before)
-      → lent ≡ drop at before → after ≡ take at before ++ sub → length sub ≡ length lent
-      → IsRowWrite (levels_in c) t.kind t.dim t.options i lent sub told
-      → IsRowStep (HasLevelEncoding c asked) (LacksLevels c asked) i (told_status told) (told_size told) start
-      before after
-  level_step told at before lent sub after at_is lent_is after_is long (row_writes.put bytes has told_is whole) =
-      put_step at before lent sub after at_is lent_is after_is bytes (has_encoding bytes has) (ap told_status told_is)
-      (some_bytes (levels_in c) t i bytes has) (record { count_is = ap told_size told_is; whole = whole }) long
-  level_step told at before lent sub after at_is lent_is after_is long
-      (row_writes.lacks bytes has told_is short same) =
-      lacks_step at before lent sub after at_is lent_is after_is bytes (has_encoding bytes has)
-      (ap told_status told_is) (record { count_is = ap told_size told_is; short = short }) same
-  level_step told at before lent sub after at_is lent_is after_is long (row_writes.unfit differ told_is same) =
-      nothing (unfit present t is_asked differ (ap told_status told_is)) (ap told_size told_is)
-      (unchanged at before lent sub after lent_is after_is same)
-
-  -- so it is where these are the levels of the column
-  pub written_step : {start : ℕ} (levels : Levels) → levels ≡ levels_in c → (told : Written) (at : ℕ)
-      (before lent sub after : List ℕ) → at ≡ min start (length before)
-      → lent ≡ drop at before → after ≡ take at before ++ sub → length sub ≡ length lent
+  pub written_step : {start : ℕ} {before lent sub after : List ℕ} (levels : Levels) → levels ≡ levels_in c
+      → (told : Written) → IsLent start before lent sub after
       → IsRowWrite levels t.kind t.dim t.options i lent sub told
       → IsRowStep (HasLevelEncoding c asked) (LacksLevels c asked) i (told_status told) (told_size told) start
       before after
-  written_step levels same told at before lent sub after at_is lent_is after_is long written =
-      level_step told at before lent sub after at_is lent_is after_is long
-      (subst (λ l. IsRowWrite l t.kind t.dim t.options i lent sub told) same written)
+  written_step {start} {before} {lent} {sub} {after} levels same told l written =
+      step (subst (λ l. IsRowWrite l t.kind t.dim t.options i lent sub told) same written) where
+        step : IsRowWrite (levels_in c) t.kind t.dim t.options i lent sub told
+            → IsRowStep (HasLevelEncoding c asked) (LacksLevels c asked) i (told_status told) (told_size told) start
+            before after
+        step (row_writes.put bytes has told_is whole) =
+            put_step l bytes (has_encoding bytes has) (ap told_status told_is) (some_bytes (levels_in c) t i bytes has)
+            (record { count_is = ap told_size told_is; whole = whole })
+        step (row_writes.lacks bytes has told_is short same) =
+            lacks_step l bytes (has_encoding bytes has) (ap told_status told_is)
+            (record { count_is = ap told_size told_is; short = short }) same
+        step (row_writes.unfit differ told_is same) =
+            no_step l (unfit present t is_asked differ (ap told_status told_is)) (ap told_size told_is) same

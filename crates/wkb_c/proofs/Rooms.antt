@@ -1,23 +1,22 @@
 -- With room for the totals no row lacks room.
-use Rattle.wkb_c.proofs.Common.{◌≡◌, ℕ, ◌+◌, ◌*◌, ◌≤◌, ◌<◌, ◌⊎◌, inl, inr, List, length, Some, sym, ap, ◌∙◌, arith}
-use Rattle.wkb_c.proofs.Common.{refl, slice_index, subst, Dimension, width}
+use Rattle.wkb_c.proofs.Common.{◌≡◌, ℕ, ◌+◌, ◌*◌, ◌≤◌, ◌<◌, List, [], length, Some, refl, sym, ◌∙◌, subst, arith}
+use Rattle.wkb_c.proofs.Common.{slice_index, Dimension, width}
 use Rattle.std.specs.Prelude.{flat_map}
 use Rattle.std.proofs.Common.{set}
 use lib.Seq.{get_or-set_same, get_or-set_other, length-sets}
-use Rattle.wkb_geom.specs.declared.common.Dimension.TheVariants.{Xy, Xyz, Xym, Xyzm}
+use Rattle.wkb_geom.specs.declared.common.Dimension.TheVariants.{Xy}
 use Rattle.wkb_check.specs.Public.{DescribesFront}
 use Rattle.wkb_check.specs.declared.answer.Summary.{Summary}
 use Rattle.wkb_c.specs.Columns.{IsRow, LacksRow, null_row, bad_offsets}
 use Rattle.wkb_c.specs.declared.column.Column.{Column}
-use Rattle.wkb_c.specs.Coordinates.{Levels, HasRoomUpTo, NoneLacksRoom, written, no_room, LacksCoordinates}
-use Rattle.wkb_c.specs.Coordinates.{no_row, unknown, refused, IsCoordinatesRow, HasCoordinates, handed, failed}
-use Rattle.wkb_c.specs.Coordinates.{dimension_named}
+use Rattle.wkb_c.specs.Coordinates.{Levels, HasRoomUpTo, NoneLacksRoom, written, no_room, LacksCoordinates, no_row}
+use Rattle.wkb_c.specs.Coordinates.{unknown, refused, IsCoordinatesRow, HasCoordinates, handed, failed, dimension_named}
 use Rattle.wkb_c.specs.Coordinates.{totals_after, with_levels, ring_counts, single_counts, ends, words_in}
 use Rattle.wkb_c.specs.declared.coordinates.Totals.{Totals}
 use Rattle.wkb_c.specs.declared.status.TheConstants.{NO_ROOM}
 use Rattle.wkb_c.specs.Subjects.{Subject, subjects}
-use Rattle.wkb_c.proofs.Levels.{AreSmall}
-use Rattle.wkb_c.proofs.Rows.{split}
+use Rattle.wkb_c.proofs.Levels.{AreSmall, none_added}
+use Rattle.wkb_c.proofs.Rows.{below_more}
 use Rattle.wkb_c.proofs.Telling.{refusals}
 
 -- what was checked has coordinates
@@ -49,9 +48,7 @@ pub record Reaches (from to : Totals) : Type 0 where
 
 scaled : (d : Dimension) (a b : ℕ) → a ≤ b → width d * a ≤ width d * b
 scaled Xy a b h = omega (arith, h)
-scaled Xyz a b h = omega (arith, h)
-scaled Xym a b h = omega (arith, h)
-scaled Xyzm a b h = omega (arith, h)
+scaled _ a b h = omega (arith, h)
 
 room_before : (asked : Dimension) (out : Levels) (from to : Totals) → Reaches from to → HasRoomUpTo asked out to
     → HasRoomUpTo asked out from
@@ -69,54 +66,26 @@ room_in asked out other to long room = record {
   singles_fit = omega (arith, room.singles_fit, long.single_ends);
 }
 
--- a row with its levels goes from here to there
-reaches : (from to : Totals) (xs : List Subject) → AreSmall from → to ≡ totals_after from xs → Reaches from to
-reaches from to xs small is = record {
-  coordinates = omega (arith, small.coordinates, ap (λ (t : Totals). t.coordinates) is);
-  rings = omega (arith, small.rings, ap (λ (t : Totals). t.rings) is);
-  singles = omega (arith, small.singles, ap (λ (t : Totals). t.singles) is);
+-- items after these totals go no less far
+reaches : (from : Totals) (xs : List Subject) → AreSmall from → Reaches from (totals_after from xs)
+reaches from xs small = record {
+  coordinates = omega (arith, small.coordinates);
+  rings = omega (arith, small.rings);
+  singles = omega (arith, small.singles);
 }
 
-small_after : (from to : Totals) (xs : List Subject) → to ≡ totals_after from xs → AreSmall to
-small_after from to xs is = record {
-  coordinates = omega (arith, ap (λ (t : Totals). t.coordinates) is);
-  rings = omega (arith, ap (λ (t : Totals). t.rings) is);
-  singles = omega (arith, ap (λ (t : Totals). t.singles) is);
-}
+small_after : (from : Totals) (xs : List Subject) → AreSmall (totals_after from xs)
+small_after from xs = record { coordinates = omega arith; rings = omega arith; singles = omega arith }
 
-same_reach : (from to : Totals) → to ≡ from → Reaches from to
-same_reach from to is = record {
-  coordinates = omega (arith, ap (λ (t : Totals). t.coordinates) is);
-  rings = omega (arith, ap (λ (t : Totals). t.rings) is);
-  singles = omega (arith, ap (λ (t : Totals). t.singles) is);
-}
+same_long : (out : Levels) → AreAsLong out out
+same_long out = record { words = refl; ring_ends = refl; single_ends = refl }
 
-same_small : (from to : Totals) → to ≡ from → AreSmall from → AreSmall to
-same_small from to is small = record {
-  coordinates = omega (arith, small.coordinates, ap (λ (t : Totals). t.coordinates) is);
-  rings = omega (arith, small.rings, ap (λ (t : Totals). t.rings) is);
-  singles = omega (arith, small.singles, ap (λ (t : Totals). t.singles) is);
-}
-
-same_long : (a b : Levels) → a ≡ b → AreAsLong a b
-same_long a b is = record {
-  words = ap (λ (l : Levels). length l.words) is;
-  ring_ends = ap (λ (l : Levels). length l.ring_ends) is;
-  single_ends = ap (λ (l : Levels). length l.single_ends) is;
-}
-
-put_long : (asked : Dimension) (xs : List Subject) (from : Totals) (before after : Levels)
-    → after ≡ with_levels asked xs from before → AreAsLong after before
-put_long asked xs from before after is = record {
-  words =
-      ap (λ (l : Levels). length l.words) is
-      ∙ length-sets before.words (width asked * from.coordinates) (flat_map (words_in asked) xs);
-  ring_ends =
-      ap (λ (l : Levels). length l.ring_ends) is
-      ∙ length-sets before.ring_ends from.rings (ends from.coordinates (flat_map ring_counts xs));
-  single_ends =
-      ap (λ (l : Levels). length l.single_ends) is
-      ∙ length-sets before.single_ends from.singles (ends from.rings (flat_map single_counts xs));
+put_long : (asked : Dimension) (xs : List Subject) (from : Totals) (out : Levels)
+    → AreAsLong (with_levels asked xs from out) out
+put_long asked xs from out = record {
+  words = length-sets out.words (width asked * from.coordinates) (flat_map (words_in asked) xs);
+  ring_ends = length-sets out.ring_ends from.rings (ends from.coordinates (flat_map ring_counts xs));
+  single_ends = length-sets out.single_ends from.singles (ends from.rings (flat_map single_counts xs));
 }
 
 no_room_missing : {c : Column} {i status : ℕ} → LacksRow c i status → status ≡ NO_ROOM → ⊥
@@ -139,51 +108,45 @@ pub record RowSays (dimension status : ℕ) (from to : Totals) (before after : L
   pub lacks : (asked : Dimension) → dimension_named dimension ≡ Some asked → HasRoomUpTo asked before to
       → status ≡ NO_ROOM → ⊥
 
+says : {dimension status : ℕ} {from to : Totals} {before after : Levels} (xs : List Subject) (now : Levels)
+    → to ≡ totals_after from xs → after ≡ now → AreSmall from → AreAsLong now before
+    → ((asked : Dimension) → dimension_named dimension ≡ Some asked → HasRoomUpTo asked before to → status ≡ NO_ROOM
+    → ⊥)
+    → RowSays dimension status from to before after
+says {from = from} {before = before} xs now to_is after_is small long lacks = record {
+  far = subst (Reaches from) (sym to_is) (reaches from xs small);
+  small = subst AreSmall (sym to_is) (small_after from xs);
+  long = subst (λ l. AreAsLong l before) (sym after_is) long;
+  lacks = lacks;
+}
+
 pub row_says : {c : Column} {dimension i status : ℕ} {from to : Totals} {before after : Levels}
     → IsCoordinatesRow c dimension i status from to before after → AreSmall from
     → RowSays dimension status from to before after
-row_says {from = from} {to = to} {before = before} {after = after} (handed asked xs has (written ok is room put)) small =
-    record {
-      far = reaches from to xs small is;
-      small = small_after from to xs is;
-      long = put_long asked xs from before after put;
-      lacks = λ other named room told. omega (arith, ok, told);
-    }
-row_says {dimension = dimension} {from = from} {to = to} {before = before} {after = after}
-    (handed asked xs has (no_room told is short same))
-    small =
-    record {
-      far = reaches from to xs small is;
-      small = small_after from to xs is;
-      long = same_long after before same;
-      lacks = λ other named room told.
-          short (subst (λ d. HasRoomUpTo d before to) (one_dimension dimension other asked named has.asked_is) room);
-    }
-row_says {from = from} {to = to} {before = before} {after = after} (failed why is same) small = record {
-  far = same_reach from to is;
-  small = same_small from to is small;
-  long = same_long after before same;
-  lacks = λ other named room told. no_room_lacking why told;
+row_says {from = from} {before = before} (handed asked xs has (written ok is room put)) small =
+    says xs _ is put small (put_long asked xs from before) (λ other named room told. omega (arith, ok, told))
+row_says {dimension = dimension} {to = to} {before = before} (handed asked xs has (no_room told is short same)) small =
+    says xs _ is same small (same_long before)
+    (λ other named room told.
+    short (subst (λ d. HasRoomUpTo d before to) (one_dimension dimension other asked named has.asked_is) room))
+row_says {from = from} {before = before} (failed why is same) small =
+    says [] _ (is ∙ none_added from small) same small (same_long before)
+    (λ other named room told. no_room_lacking why told)
+
+pub long_more : {out before after : Levels} → AreAsLong after before → AreAsLong before out → AreAsLong after out
+long_more more long = record {
+  words = more.words ∙ long.words;
+  ring_ends = more.ring_ends ∙ long.ring_ends;
+  single_ends = more.single_ends ∙ long.single_ends;
 }
 
 module _ {dimension status i : ℕ} {from to : Totals} {out before after : Levels} (statuses : List ℕ)
-    (says : RowSays dimension status from to before after) (long : AreAsLong before out)
+    (row : RowSays dimension status from to before after) (long : AreAsLong before out)
     (done : NoneLacksRoom dimension out from i statuses) (there : i < length statuses) where
-  pub long_more : AreAsLong after out
-  long_more = record {
-    words = says.long.words ∙ long.words;
-    ring_ends = says.long.ring_ends ∙ long.ring_ends;
-    single_ends = says.long.single_ends ∙ long.single_ends;
-  }
-
-  row_has_room : (asked : Dimension) → dimension_named dimension ≡ Some asked → HasRoomUpTo asked out to → (j : ℕ)
-      → (j ≡ i) ⊎ (j < i) → slice_index (set statuses i status) j ≡ NO_ROOM → ⊥
-  row_has_room asked named room j (inl same) told =
-      says.lacks asked named (room_in asked out before to long room)
-      (sym (ap (slice_index (set statuses i status)) same ∙ get_or-set_same statuses i status 0 there) ∙ told)
-  row_has_room asked named room j (inr above) told =
-      done asked named (room_before asked out from to says.far room) j above
-      (sym (get_or-set_other statuses i j status 0 (λ same. omega (arith, same, above))) ∙ told)
-
   pub room_more : NoneLacksRoom dimension out to (i + 1) (set statuses i status)
-  room_more asked named room j below told = row_has_room asked named room j (split j i below) told
+  room_more asked named room =
+      below_more (λ j. slice_index (set statuses i status) j ≡ NO_ROOM → ⊥) i
+      (λ j above told. done asked named (room_before asked out from to row.far room) j above
+      (sym (get_or-set_other statuses i j status 0 (λ same. omega (arith, same, above))) ∙ told))
+      (λ told. row.lacks asked named (room_in asked out before to long room)
+      (sym (get_or-set_same statuses i status 0 there) ∙ told))

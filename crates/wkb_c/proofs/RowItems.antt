@@ -1,19 +1,21 @@
 -- Rows that write their items one after another.
-use Rattle.wkb_c.proofs.Common.{◌≡◌, ℕ, zero, suc, ◌+◌, ◌≤◌, ◌<◌, ◌^◌, ◌⊎◌, inl, inr, List, ◌++◌, length, drop}
-use Rattle.wkb_c.proofs.Common.{slice_index}
-use Rattle.wkb_c.proofs.Common.{refl, ap, sym, subst, ◌∙◌, arith, append_assoc, append-nil, length-append, drop-drop}
-use Rattle.wkb_c.proofs.Common.{[], ◌∷◌}
+use Rattle.wkb_c.proofs.Common.{◌≡◌, ◌≢◌, ℕ, zero, suc, ◌+◌, ◌≤◌, ◌<◌, ◌^◌, ◌⊎◌, inl, inr, List, [], ◌∷◌, ◌++◌}
+use Rattle.wkb_c.proofs.Common.{length, drop, slice_index, refl, ap, sym, ◌∙◌, arith, append_assoc, append-nil}
+use Rattle.wkb_c.proofs.Common.{length-append, drop-drop}
 use Rattle.std.specs.Prelude.{take, ◌-◌, min, slice_range}
 use Rattle.std.proofs.Common.{set, length-drop}
-use Rattle.std.proofs.Math.Nat.{min-eq_left, min-le_right, le-min}
 use Rattle.std.proofs.Math.Seq.{drop-append_seam, take-append_seam}
-use Rattle.std.proofs.lemmas.List.{take-append-drop, take-append-le, drop-append-le, length-take-le}
+use Rattle.std.proofs.lemmas.List.{take-append-drop, take-append-le, drop-append-le, length-take-le, drop-set-lt}
+use Rattle.std.proofs.lemmas.List.{nil_from_length}
 use Rattle.std.proofs.lemmas.Slice.{drop-append-drop, between_to_end}
+use lib.ListN.{length-set}
 use lib.Seq.{get_or-set_same, get_or-set_other}
 use Rattle.wkb_c.specs.declared.status.TheConstants.{OK, NO_ROOM}
 use Rattle.wkb_c.specs.Room.{IsHeld, Exceeds}
-use Rattle.wkb_c.specs.RowItems.{start_of, end_of, IsRowAnswer, handed, no_room, failed}
-use Rattle.wkb_c.specs.RowItems.{AreRowAnswers, KeepsAfter, IsRowStep, put, lacks, nothing}
+use Rattle.wkb_levels.specs.Cuts.{start_at}
+use Rattle.wkb_c.specs.RowItems.{end_of, IsRowAnswer, handed, no_room, failed, AreRowAnswers, KeepsAfter}
+use Rattle.wkb_c.specs.RowItems.{KeepsFrom, IsRowStep, put, lacks, nothing}
+use Rattle.wkb_c.proofs.Rows.{below_more}
 
 -- ---- lists
 
@@ -62,17 +64,6 @@ put_length xs items start there =
       length-take-le start xs (omega (arith, there)),
     )
 
--- ---- ends
-
-fits_end : (start n : ℕ) → start + n < 2 ^ 64 → end_of start n ≡ start + n
-fits_end start n small = min-eq_left (omega (arith, small))
-
-below_both : (a x y : ℕ) → a ≤ x → a ≤ y → a ≤ min x y
-below_both a x y h k = le-min h k
-
-end_grows : (start n : ℕ) → start < 2 ^ 64 → start ≤ end_of start n
-end_grows start n small = below_both start (start + n) (2 ^ 64 - 1) (omega arith) (omega (arith, small))
-
 -- ---- a step of one row
 
 module _ {A : Type 0} {Has : ℕ → List A → Type 0} {Fails : ℕ → ℕ → Type 0}
@@ -103,7 +94,7 @@ module _ {A : Type 0} {Has : ℕ → List A → Type 0} {Fails : ℕ → ℕ →
         let put_there : start + length items ≤ length before = rw many at there in
         ap (drop k) (put_is ∙ ap (λ n. take start before ++ (items ++ drop (start + n) before)) many)
         ∙ drop_behind before items start k put_there
-        (omega (arith, end, fits_end start count (omega (arith, there, small)), many))
+        (omega (arith, end, there, small, many))
     step_behind (lacks items has ok many short same) small k far = ap (drop k) same
     step_behind (nothing why none same) small k far = ap (drop k) same
 
@@ -115,8 +106,7 @@ module _ {A : Type 0} {Has : ℕ → List A → Type 0} {Fails : ℕ → ℕ →
     step_answer {count = count} {start = start} {before = before} {after = after}
         (put items has ok many there put_is) small fits =
         let put_there : start + length items ≤ length before = rw many at there in
-        let end : end_of start count ≡ start + length items =
-        fits_end start count (omega (arith, there, small)) ∙ ap (λ n. start + n) many in
+        let end : end_of start count ≡ start + length items = omega (arith, there, small, many) in
         let same = step_length (put items has ok many there put_is) in
         handed items has ok end (omega (arith, end, same, put_there))
         (ap (λ e. slice_range after start e) end ∙ ap (λ z. slice_range z start (start + length items)) put_is
@@ -124,7 +114,7 @@ module _ {A : Type 0} {Has : ℕ → List A → Type 0} {Fails : ℕ → ℕ →
     step_answer {count = count} {start = start} (lacks items has ok many short same) small fits =
         no_room items has ok (ap (end_of start) many) (omega (arith, ap length same, many, short))
     step_answer {status = status} {count = count} {start = start} (nothing why none same) small fits =
-        failed why (ap (end_of start) none ∙ fits_end start 0 (omega (arith, fits)) ∙ omega arith)
+        failed why (omega (arith, none, fits))
 
     -- what is put after a row doesn't change its answer
     kept_answer : {i status start end : ℕ} {out new : List A} (at : ℕ)
@@ -144,151 +134,165 @@ module _ {A : Type 0} {Has : ℕ → List A → Type 0} {Fails : ℕ → ℕ →
 -- the rows below this number are done, and their items end here
 pub record RowsDone {A : Type 0} (Has : ℕ → List A → Type 0) (Fails : ℕ → ℕ → Type 0) (i at : ℕ)
     (statuses ends : List ℕ) (before out : List A) : Type 0 where
-  pub at_is : at ≡ start_of ends i
+  pub at_is : at ≡ start_at 0 ends i
   pub fits : at < 2 ^ 64
   pub long : length out ≡ length before
   pub each : AreRowAnswers Has Fails i statuses ends out
   pub below : (j : ℕ) → j < i → slice_index statuses j ≡ OK → slice_index ends j ≤ at
   pub kept : KeepsAfter i statuses ends before out
 
-start_kept : (ends : List ℕ) (i e j : ℕ) → j ≤ i → start_of (set ends i e) j ≡ start_of ends j
+pub rows_first : {A : Type 0} {Has : ℕ → List A → Type 0} {Fails : ℕ → ℕ → Type 0} {statuses ends : List ℕ}
+    {out : List A} → RowsDone Has Fails 0 0 statuses ends out out
+rows_first = record {
+  at_is = refl;
+  fits = omega arith;
+  long = refl;
+  each = λ j above. absurd (omega (arith, above));
+  below = λ j above ok. absurd (omega (arith, above));
+  kept = λ k far. refl;
+}
+
+start_kept : (ends : List ℕ) (i e j : ℕ) → j ≤ i → start_at 0 (set ends i e) j ≡ start_at 0 ends j
 start_kept ends i e zero h = refl
 start_kept ends i e (suc j) h = get_or-set_other ends i j e 0 (λ same. omega (arith, same, h))
 
--- below one more is below or at it
-at_or_below : (j i : ℕ) → j < i + 1 → (j ≡ i) ⊎ (j < i)
-at_or_below zero zero h = inl refl
-at_or_below zero (suc i) h = inr (omega arith)
-at_or_below (suc j) zero h = absurd (omega (arith, h))
-at_or_below (suc j) (suc i) h = up (at_or_below j i (omega (arith, h))) where
-  up : (j ≡ i) ⊎ (j < i) → (suc j ≡ suc i) ⊎ (suc j < suc i)
-  up (inl same) = inl (ap suc same)
-  up (inr below) = inr (omega (arith, below))
-
 module _ {A : Type 0} {Has : ℕ → List A → Type 0} {Fails : ℕ → ℕ → Type 0} {i at : ℕ} {statuses ends : List ℕ}
-    {before out new : List A} (status count : ℕ)
-    (done : RowsDone Has Fails i at statuses ends before out)
-    (step : IsRowStep Has Fails i status count at out new) (small : length before < 2 ^ 64)
-    (there : i < length statuses) (there' : i < length ends) where
-  end : ℕ
-  end = end_of at count
-
-  now : List ℕ
-  now = set statuses i status
-
-  later : List ℕ
-  later = set ends i end
-
+    {before out new : List A} {status count end : ℕ} (done : RowsDone Has Fails i at statuses ends before out)
+    (step : IsRowStep Has Fails i status count at out new) (end_is : end ≡ end_of at count)
+    (small : length before < 2 ^ 64) (there : i < length statuses) (there' : i < length ends) where
   small_out : length out < 2 ^ 64
   small_out = omega (arith, small, done.long)
 
   status_here : slice_index (set statuses i status) i ≡ status
   status_here = get_or-set_same statuses i status 0 there
 
-  end_here : slice_index (set ends i (end_of at count)) i ≡ end_of at count
-  end_here = get_or-set_same ends i (end_of at count) 0 there'
+  end_here : slice_index (set ends i end) i ≡ end_of at count
+  end_here = get_or-set_same ends i end 0 there' ∙ end_is
 
   status_above : (j : ℕ) → j < i → slice_index (set statuses i status) j ≡ slice_index statuses j
   status_above j above = get_or-set_other statuses i j status 0 (λ same. omega (arith, same, above))
 
-  end_above : (j : ℕ) → j < i → slice_index (set ends i (end_of at count)) j ≡ slice_index ends j
-  end_above j above = get_or-set_other ends i j (end_of at count) 0 (λ same. omega (arith, same, above))
+  end_above : (j : ℕ) → j < i → slice_index (set ends i end) j ≡ slice_index ends j
+  end_above j above = get_or-set_other ends i j end 0 (λ same. omega (arith, same, above))
 
-  row_answer : (j : ℕ) → (j ≡ i) ⊎ (j < i)
-      → IsRowAnswer Has Fails j (slice_index (set statuses i status) j)
-      (start_of (set ends i (end_of at count)) j) (slice_index (set ends i (end_of at count)) j) new
-  row_answer j (inl same) =
-      subst (λ k. IsRowAnswer Has Fails k (slice_index (set statuses i status) k)
-      (start_of (set ends i (end_of at count)) k) (slice_index (set ends i (end_of at count)) k) new) (sym same)
-      (rw (status_here, end_here, start_kept ends i (end_of at count) i (omega arith), sym done.at_is)
-      (step_answer step small_out done.fits))
-  row_answer j (inr above) =
-      rw (status_above j above, end_above j above, start_kept ends i (end_of at count) j (omega (arith, above)))
-      (kept_answer at (done.each j above) (done.below j above) (step_length step) (step_before step))
-
-  row_below : (j : ℕ) → (j ≡ i) ⊎ (j < i) → slice_index (set statuses i status) j ≡ OK
-      → slice_index (set ends i (end_of at count)) j ≤ end_of at count
-  row_below j (inl same) ok = omega (arith, ap (slice_index (set ends i (end_of at count))) same, end_here)
-  row_below j (inr above) ok =
-      omega (
-        arith,
-        end_above j above,
-        done.below j above (sym (status_above j above) ∙ ok),
-        end_grows at count done.fits,
-      )
-
-  row_kept : KeepsAfter (i + 1) (set statuses i status) (set ends i (end_of at count)) before new
-  row_kept k far =
-      step_behind step small_out k (λ ok. omega (arith, far i (omega arith) (status_here ∙ ok), end_here))
-      ∙ done.kept k
-      (λ j above ok. omega (arith, far j (omega (arith, above)) (status_above j above ∙ ok), end_above j above))
-
-  pub row_done : RowsDone Has Fails (i + 1) (end_of at count) (set statuses i status)
-      (set ends i (end_of at count)) before new
+  pub row_done : RowsDone Has Fails (i + 1) end (set statuses i status) (set ends i end) before new
   row_done = record {
-    at_is = sym (end_at_next i);
-    fits = omega (arith, min-le_right (at + count) (2 ^ 64 - 1));
+    at_is =
+        let next : suc i ≡ i + 1 = omega arith in end_is ∙ sym end_here ∙ ap (start_at 0 (set ends i end)) next;
+    fits = omega (arith, end_is);
     long = step_length step ∙ done.long;
-    each = λ j h. row_answer j (at_or_below j i h);
-    below = λ j h. row_below j (at_or_below j i h);
-    kept = row_kept;
-  } where
-    end_at_next : (k : ℕ) → start_of (set ends i (end_of at count)) (i + 1) ≡ end_of at count
-    end_at_next k =
-        (let next : i + 1 ≡ suc i = omega arith in ap (start_of (set ends i (end_of at count))) next) ∙ end_here
+    each =
+        below_more (λ j. IsRowAnswer Has Fails j (slice_index (set statuses i status) j) (start_at 0 (set ends i end) j)
+        (slice_index (set ends i end) j) new) i
+        (λ j above. rw (status_above j above, end_above j above, start_kept ends i end j (omega (arith, above)))
+        (kept_answer at (done.each j above) (done.below j above) (step_length step) (step_before step)))
+        (rw (status_here, end_here, start_kept ends i end i (omega arith), sym done.at_is)
+        (step_answer step small_out done.fits));
+    below =
+        below_more (λ j. slice_index (set statuses i status) j ≡ OK → slice_index (set ends i end) j ≤ end) i
+        (λ j above ok. omega (
+          arith,
+          end_above j above,
+          done.below j above (sym (status_above j above) ∙ ok),
+          end_is,
+          done.fits,
+        ))
+        (λ ok. omega (arith, end_here, end_is));
+    kept = λ k far.
+        step_behind step small_out k (λ ok. omega (arith, far i (omega arith) (status_here ∙ ok), end_here))
+        ∙ done.kept k
+        (λ j above ok. omega (arith, far j (omega (arith, above)) (status_above j above ∙ ok), end_above j above));
+  }
+
+-- lists in which the rows below this number are set, one after another
+pub record AreSet {A : Type 0} (rows : ℕ) (before statuses : List ℕ) (before' others : List A) : Type 0 where
+  pub as_many : length statuses ≡ length before
+  pub as_many_others : length others ≡ length before'
+  pub statuses_kept : KeepsFrom rows before statuses
+  pub others_kept : KeepsFrom rows before' others
+
+pub set_first : {A : Type 0} {rows : ℕ} {statuses : List ℕ} {others : List A}
+    → AreSet rows statuses statuses others others
+set_first = record { as_many = refl; as_many_others = refl; statuses_kept = refl; others_kept = refl }
+
+pub set_more : {A : Type 0} {rows : ℕ} {before statuses : List ℕ} {before' others : List A}
+    → AreSet rows before statuses before' others → (i status : ℕ) (x : A) → i < rows
+    → AreSet rows before (set statuses i status) before' (set others i x)
+set_more {rows = rows} {statuses = statuses} {others = others} are i status x below = record {
+  as_many = length-set statuses i status ∙ are.as_many;
+  as_many_others = length-set others i x ∙ are.as_many_others;
+  statuses_kept = drop-set-lt rows statuses i status below ∙ are.statuses_kept;
+  others_kept = drop-set-lt rows others i x below ∙ are.others_kept;
+}
 
 -- ---- a call for one row
 
-empty : {A : Type 0} (xs : List A) → length xs ≡ 0 → xs ≡ []
-empty [] none = refl
-empty (x ∷ xs) none = absurd (omega (arith, none))
+-- a call is lent what is at `start` or after it, and makes `sub` of it
+pub record IsLent {A : Type 0} (start : ℕ) (before lent sub after : List A) : Type 0 where
+  pub at : ℕ
+  pub at_is : at ≡ min start (length before)
+  pub lent_is : lent ≡ drop at before
+  pub after_is : after ≡ take at before ++ sub
+  pub long : length sub ≡ length lent
 
--- what is borrowed from an index on
-pub lent_to_end : {A : Type 0} (xs : List A) (at : ℕ) → take (length xs - at) (drop at xs) ≡ drop at xs
-lent_to_end xs at = between_to_end xs at (length xs) (omega arith)
-
--- and what comes of it
-pub put_to_end : {A : Type 0} (xs sub : List A) (at : ℕ)
-    → take at xs ++ (sub ++ drop (length xs - at) (drop at xs)) ≡ take at xs ++ sub
-put_to_end xs sub at =
+-- what is borrowed from an index on, and what comes of it
+pub lent_rest : {A : Type 0} {start : ℕ} (xs sub : List A) (at : ℕ) → at ≡ min start (length xs)
+    → length sub ≡ length (take (length xs - at) (drop at xs))
+    → IsLent start xs (take (length xs - at) (drop at xs)) sub
+    (take at xs ++ (sub ++ drop (length xs - at) (drop at xs)))
+lent_rest xs sub at at_is long =
     let k = length xs - at in
     let none : drop k (drop at xs) ≡ [] =
-    empty (drop k (drop at xs)) (omega (arith, length-drop k (drop at xs), length-drop at xs)) in
-    ap (λ z. take at xs ++ (sub ++ z)) none ∙ ap (λ z. take at xs ++ z) (append-nil sub)
+    nil_from_length (drop k (drop at xs)) (omega (arith, length-drop k (drop at xs), length-drop at xs)) in
+    record {
+      at = at;
+      at_is = at_is;
+      lent_is = between_to_end xs at (length xs) (omega arith);
+      after_is =
+          ap (λ z. take at xs ++ (sub ++ z)) none ∙ ap (λ z. take at xs ++ z) (append-nil sub);
+      long = long;
+    }
 
-pub unchanged : {A : Type 0} (at : ℕ) (before lent sub after : List A) → lent ≡ drop at before
-    → after ≡ take at before ++ sub → sub ≡ lent → after ≡ before
-unchanged at before lent sub after lent_is after_is same =
-    after_is ∙ ap (λ z. take at before ++ z) (same ∙ lent_is) ∙ take-append-drop at before
+module _ {A : Type 0} {start : ℕ} {before lent sub after : List A} (l : IsLent start before lent sub after) where
+  unchanged : sub ≡ lent → after ≡ before
+  unchanged same =
+      l.after_is ∙ ap (λ z. take l.at before ++ z) (same ∙ l.lent_is) ∙ take-append-drop l.at before
 
-lent_length : {A : Type 0} (at : ℕ) (before lent : List A) → lent ≡ drop at before → length lent ≡ length before - at
-lent_length at before lent lent_is = ap length lent_is ∙ length-drop at before
+  many_lent : length lent ≡ length before - l.at
+  many_lent = ap length l.lent_is ∙ length-drop l.at before
 
 module _ {A : Type 0} {Has : ℕ → List A → Type 0} {Fails : ℕ → ℕ → Type 0} {i status count start : ℕ}
-    (at : ℕ)
-    (before lent sub after : List A)
-    (at_is : at ≡ min start (length before)) (lent_is : lent ≡ drop at before)
-    (after_is : after ≡ take at before ++ sub) where
+    {before lent sub after : List A} (l : IsLent start before lent sub after) where
   -- its items were put
   pub put_step : (items : List A) → Has i items → status ≡ OK → 0 < length items → IsHeld items lent sub count
-      → length sub ≡ length lent
       → IsRowStep Has Fails i status count start before after
-  put_step items has ok some held long =
+  put_step items has ok some held =
       let n = length items in
-      let many = lent_length at before lent lent_is in
       let there : n ≤ length lent =
-      omega (arith, long, ap length held.whole, length-append items (drop n lent), length-drop n lent) in
-      let same : at ≡ start = omega (arith, at_is, some, there, many) in
+      omega (arith, l.long, ap length held.whole, length-append items (drop n lent), length-drop n lent) in
+      let same : l.at ≡ start = omega (arith, l.at_is, some, there, many_lent l) in
       let rest : drop n lent ≡ drop (start + count) before =
-      ap (drop n) lent_is ∙ drop-drop n at before ∙ ap (λ k. drop k before) (omega (arith, same, held.count_is)) in
-      put items has ok held.count_is (omega (arith, same, there, many, held.count_is))
-      (after_is ∙ ap (λ z. take at before ++ z) (held.whole ∙ ap (λ z. items ++ z) rest)
+      ap (drop n) l.lent_is ∙ drop-drop n l.at before ∙ ap (λ k. drop k before) (omega (arith, same, held.count_is)) in
+      put items has ok held.count_is (omega (arith, same, there, many_lent l, held.count_is))
+      (l.after_is ∙ ap (λ z. take l.at before ++ z) (held.whole ∙ ap (λ z. items ++ z) rest)
       ∙ ap (λ k. take k before ++ (items ++ drop (start + count) before)) same)
 
   -- they have no room
   pub lacks_step : (items : List A) → Has i items → status ≡ NO_ROOM → Exceeds items lent count → sub ≡ lent
       → IsRowStep Has Fails i status count start before after
-  lacks_step items has is_none short same =
-      lacks items has is_none short.count_is
-      (omega (arith, short.count_is, short.short, at_is, lent_length at before lent lent_is))
-      (unchanged at before lent sub after lent_is after_is same)
+  lacks_step items has told short same =
+      lacks items has told short.count_is
+      (omega (arith, short.count_is, short.short, l.at_is, many_lent l)) (unchanged l same)
+
+  -- it has none
+  pub no_step : Fails i status → count ≡ 0 → sub ≡ lent → IsRowStep Has Fails i status count start before after
+  no_step why none same = nothing why none (unchanged l same)
+
+  -- its items were put, or they have no room, as the status says
+  pub called_step : (status ≡ OK
+      → (items : List A) × (Has i items × ((0 < length items) × IsHeld items lent sub count)))
+      → (status ≡ NO_ROOM → (items : List A) × (Has i items × Exceeds items lent count)) → (status ≢ OK → sub ≡ lent)
+      → (status ≡ OK) ⊎ (status ≡ NO_ROOM) → IsRowStep Has Fails i status count start before after
+  called_step puts short kept (inl ok) = let h = puts ok in put_step h.0 h.1.0 ok h.1.1.0 h.1.1.1
+  called_step puts short kept (inr told) =
+      let h = short told in lacks_step h.0 h.1.0 told h.1.1 (kept (λ ok. omega (arith, ok, told)))

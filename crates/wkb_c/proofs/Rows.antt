@@ -1,37 +1,23 @@
 -- The statuses of a column's rows.
-use Rattle.wkb_c.proofs.Common.{◌≡◌, ℕ, zero, suc, ◌+◌, ◌<◌, ◌⊎◌, inl, inr, List, length, slice_index, refl, ap}
-use Rattle.wkb_c.proofs.Common.{sym, subst, ◌∙◌, arith}
+use Rattle.wkb_c.proofs.Common.{ℕ, zero, suc, ◌+◌, ◌<◌, List, length, slice_index, sym, subst, arith}
 use Rattle.std.proofs.Common.{set}
 use lib.Seq.{get_or-set_same, get_or-set_other}
 use Rattle.wkb_c.specs.Columns.{IsStatusOfRow, AreStatuses}
 use Rattle.wkb_c.specs.declared.column.Column.{Column}
 
-up : (j i : ℕ) → (j ≡ i) ⊎ (j < i) → (suc j ≡ suc i) ⊎ (suc j < suc i)
-up j i (inl same) = inl (ap suc same)
-up j i (inr below) = inr (omega (arith, below))
-
-pub split : (j i : ℕ) → j < i + 1 → (j ≡ i) ⊎ (j < i)
-split zero zero h = inl refl
-split zero (suc i) h = inr (omega arith)
-split (suc j) zero h = absurd (omega (arith, h))
-split (suc j) (suc i) h = up j i (split j i (omega (arith, h)))
+-- what holds of the rows below a number, and of the row of this number, holds of the rows below the next
+pub below_more : (Q : ℕ → Type 0) (i : ℕ) → ((j : ℕ) → j < i → Q j) → Q i → (j : ℕ) → j < i + 1 → Q j
+below_more Q zero above own zero h = own
+below_more Q zero above own (suc j) h = absurd (omega (arith, h))
+below_more Q (suc i) above own zero h = above zero (omega arith)
+below_more Q (suc i) above own (suc j) h =
+    below_more (λ k. Q (suc k)) i (λ k h. above (suc k) (omega (arith, h))) own j (omega (arith, h))
 
 -- a row more has its status
-row_more : (c : Column) (statuses : List ℕ) (i s j : ℕ) → i < length statuses
-    → AreStatuses c i statuses
-    → IsStatusOfRow c i s → (j ≡ i) ⊎ (j < i)
-    → IsStatusOfRow c j (slice_index (set statuses i s) j)
-row_more c statuses i s j there are is (inl same) =
-    let read : slice_index (set statuses i s) j ≡ s =
-    ap (slice_index (set statuses i s)) same ∙ get_or-set_same statuses i s 0 there in
-    subst (λ (k : ℕ). IsStatusOfRow c k (slice_index (set statuses i s) j)) (sym same)
-    (subst (IsStatusOfRow c i) (sym read) is)
-row_more c statuses i s j there are is (inr below) =
-    subst (IsStatusOfRow c j)
-    (sym (get_or-set_other statuses i j s 0 (λ same. omega (arith, same, below)))) (are j below)
-
-pub rows_more : (c : Column) (statuses : List ℕ) (i s : ℕ) → i < length statuses
-    → AreStatuses c i statuses
+pub rows_more : (c : Column) (statuses : List ℕ) (i s : ℕ) → i < length statuses → AreStatuses c i statuses
     → IsStatusOfRow c i s → AreStatuses c (i + 1) (set statuses i s)
-rows_more c statuses i s there are is j below =
-    row_more c statuses i s j there are is (split j i below)
+rows_more c statuses i s there are is =
+    below_more (λ j. IsStatusOfRow c j (slice_index (set statuses i s) j)) i
+    (λ j above. subst (IsStatusOfRow c j) (sym (get_or-set_other statuses i j s 0 (λ same. omega (arith, same, above))))
+    (are j above))
+    (subst (IsStatusOfRow c i) (sym (get_or-set_same statuses i s 0 there)) is)

@@ -1,11 +1,10 @@
 -- How far the rows of a column reach, so that no two of them overlap.
-use Rattle.wkb_c.proofs.Common.{◌≡◌, ℕ, zero, suc, ◌+◌, ◌<◌, ◌≤◌, ◌⊎◌, inl, inr, List, [], length, ap, sym, subst}
-use Rattle.wkb_c.proofs.Common.{◌∙◌, arith}
+use Rattle.wkb_c.proofs.Common.{◌≡◌, ℕ, zero, suc, ◌+◌, ◌<◌, ◌≤◌, ◌⊎◌, inl, inr, List, [], length, ap, sym, ◌∙◌, arith}
 use Rattle.std.specs.Prelude.{max, ◌-◌, drop}
 use Rattle.std.proofs.lemmas.List.{length-take}
-use Rattle.wkb_c.proofs.Rows.{split}
+use Rattle.wkb_c.proofs.Rows.{below_more}
 use Rattle.wkb_c.specs.declared.column.Column.{Column}
-use Rattle.wkb_c.specs.Columns.{IsOffset, IsSpan, HasNoSpan, EndBy, HasNoSlice, IsReach, IsRow}
+use Rattle.wkb_c.specs.Columns.{IsOffset, IsSpan, HasNoSpan, EndBy, IsReach, IsRow}
 use Rattle.wkb_c.specs.Columns.{RowsFollow, RowsFit, total_length}
 
 -- an offset is one number
@@ -17,45 +16,22 @@ module _ (bytes offsets : List ℕ) (size : ℕ) where
   fewer : (i limit : ℕ) → EndBy bytes offsets size (i + 1) limit → EndBy bytes offsets size i limit
   fewer i limit by = λ j start end below is. by j start end (omega (arith, below)) is
 
-  -- row i too ends by here
-  one_more : (i start end limit j s e : ℕ) → IsSpan bytes offsets size i start end → end ≤ limit
-      → EndBy bytes offsets size i limit → IsSpan bytes offsets size j s e → (j ≡ i) ⊎ (j < i) → e ≤ limit
-  one_more i start end limit j s e own fit by is (inl same) =
-      let own_end = one_offset offsets size (i + 1) e end
-      (subst (λ k. IsOffset offsets size (k + 1) e) same is.end_is) own.end_is in
-      omega (arith, own_end, fit)
-  one_more i start end limit j s e own fit by is (inr below) = by j s e below is
-
   pub reach_more : (i reach start end : ℕ) → IsReach bytes offsets size i reach
       → IsSpan bytes offsets size i start end → IsReach bytes offsets size (i + 1) (max reach end)
   reach_more i reach start end r own = record {
-    enough = λ j s e below is. one_more i start end (max reach end) j s e own (omega arith)
-        (λ j' s' e' below' is'. omega (arith, r.enough j' s' e' below' is')) is (split j i below);
+    enough = λ j s e below is. below_more (λ j. (s e : ℕ) → IsSpan bytes offsets size j s e → e ≤ max reach end) i
+        (λ j above s e is. omega (arith, r.enough j s e above is))
+        (λ s e is. omega (arith, one_offset offsets size (i + 1) e end is.end_is own.end_is)) j below s e is;
     least = λ limit by. omega (arith, r.least limit (fewer i limit by), by i start end (omega arith) own);
   }
-
-  none_more : (i limit j s e : ℕ) → HasNoSpan bytes offsets size i → EndBy bytes offsets size i limit
-      → IsSpan bytes offsets size j s e → (j ≡ i) ⊎ (j < i) → e ≤ limit
-  none_more i limit j s e none by is (inl same) =
-      absurd (none s e (subst (λ k. IsSpan bytes offsets size k s e) same is))
-  none_more i limit j s e none by is (inr below) = by j s e below is
 
   pub reach_same : (i reach : ℕ) → IsReach bytes offsets size i reach → HasNoSpan bytes offsets size i
       → IsReach bytes offsets size (i + 1) reach
   reach_same i reach r none = record {
-    enough = λ j s e below is. none_more i reach j s e none r.enough is (split j i below);
+    enough = λ j s e below is. below_more (λ j. (s e : ℕ) → IsSpan bytes offsets size j s e → e ≤ reach) i
+        (λ j above s e is. r.enough j s e above is) (λ s e is. absurd (none s e is)) j below s e is;
     least = λ limit by. r.least limit (fewer i limit by);
   }
-
-  -- a row that begins before an earlier one ends has no bytes
-  pub begins_early : (i reach start end : ℕ) → IsReach bytes offsets size i reach
-      → IsSpan bytes offsets size i start end → start < reach → HasNoSlice bytes offsets size i
-  begins_early i reach start end r own early row h = absurd (omega (
-    arith,
-    early,
-    r.least h.start h.after,
-    one_offset offsets size i h.start start h.span.start_is own.start_is,
-  ))
 
 pub rows_follow : RowsFollow
 rows_follow c i j row later below a b = b.slice.after i a.slice.start a.slice.end below a.slice.span

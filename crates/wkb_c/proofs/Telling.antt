@@ -1,25 +1,19 @@
 -- What the C library reports of a result of the check.
-use Rattle.wkb_c.proofs.Common.{◌≡◌, ℕ, List, refl, arith, sym, subst, is_some}
+use Rattle.wkb_c.proofs.Common.{◌≡◌, ◌≢◌, ℕ, List, refl, arith, sym, subst, is_some, kind, dimension, Value, point}
+use Rattle.wkb_c.proofs.Common.{header, Spelling, Spells}
+use Rattle.wkb_geom.specs.Fronts.{Front}
 use Rattle.wkb_geom.specs.Grammar.{Begins}
-use Rattle.wkb_geom.specs.Spellings.{Spells}
+use Rattle.wkb_geom.specs.Reading.{type_of, type_kind, type_dimension}
+use Rattle.wkb_geom.specs.declared.error.Cause.TheVariants.{EndOfInput as end_of_input, General as general}
+use Rattle.wkb_geom.specs.declared.error.General.{General as Bad}
+use Rattle.wkb_geom.specs.declared.error.General.TheVariants.{InvalidByteOrder, CodeOutOfRange, UnsupportedDimensions}
+use Rattle.wkb_laws.proofs.Complete.{head_of}
 use Rattle.wkb_check.proofs.Ahead.{Says, says}
 use Rattle.wkb_check.proofs.Public.{geometry_opens}
-use Rattle.wkb_laws.proofs.Complete.{head_of}
-use Rattle.wkb_c.proofs.Common.{kind, dimension, Value, point, header}
-use Rattle.wkb_geom.specs.Reading.{type_of, type_kind, type_dimension}
-use Rattle.wkb_geom.specs.declared.error.General.{General as Bad}
-use Rattle.wkb_geom.specs.declared.error.General.TheVariants.{UnsupportedDimensions, CodeOutOfRange, InvalidByteOrder}
-use Rattle.wkb_geom.specs.declared.error.General.TheVariants.{ShortPoint, ShortLineString}
-use Rattle.wkb_geom.specs.declared.error.General.TheVariants.{ShortLinearRing, ShortMultiPoint}
-use Rattle.wkb_geom.specs.declared.error.Cause.TheVariants.{EndOfInput as end_of_input, General as general}
-use Rattle.wkb_geom.specs.declared.error.Cause.TheVariants.{IncorrectType as incorrect_type}
-use Rattle.wkb_geom.specs.declared.error.Cause.TheVariants.{NestingDepthExceeded as nesting_depth_exceeded}
-use Rattle.wkb_geom.specs.Fronts.{Front}
-use Rattle.wkb_c.proofs.Common.{◌≢◌}
-use Rattle.wkb_rewrite.specs.Inputs.{IsAccepted, HaveOneValue, HaveTwoValues}
 use Rattle.wkb_check.specs.Bounded.{HasGeometry}
 use Rattle.wkb_check.specs.Public.{DescribesFront}
 use Rattle.wkb_check.specs.declared.answer.Summary.{Summary}
+use Rattle.wkb_rewrite.specs.Inputs.{IsAccepted, HaveOneValue, HaveTwoValues}
 use Rattle.wkb_c.specs.Classes.{IsRefusalStatus, IsShortStatus}
 use Rattle.wkb_c.specs.EnumNumbers.{AreRefusals, OthersTellNoEnd}
 use Rattle.wkb_c.specs.Statuses.{general_status, general_fault}
@@ -27,19 +21,13 @@ use Rattle.wkb_c.specs.Subjects.{HasParts}
 
 general_is_refusal : (g : Bad) → IsRefusalStatus (general_status g)
 general_is_refusal InvalidByteOrder = omega arith
-general_is_refusal (CodeOutOfRange code) = omega arith
-general_is_refusal (UnsupportedDimensions n) = omega arith
-general_is_refusal (ShortPoint end len) = omega arith
-general_is_refusal (ShortLineString end len) = omega arith
-general_is_refusal (ShortMultiPoint end len) = omega arith
-general_is_refusal (ShortLinearRing end len) = omega arith
+general_is_refusal _ = omega arith
 
 -- each cause has a status of the class of refusals
 pub refusals : AreRefusals
 refusals end_of_input = omega arith
 refusals (general g) = general_is_refusal g
-refusals incorrect_type = omega arith
-refusals (nesting_depth_exceeded n) = omega arith
+refusals _ = omega arith
 
 -- and only those of the last part tell where the input ends too early
 general_tells_end : (g : Bad) (part offset : ℕ) → (IsShortStatus (general_status g) → ⊥)
@@ -48,16 +36,12 @@ general_tells_end : (g : Bad) (part offset : ℕ) → (IsShortStatus (general_st
 general_tells_end InvalidByteOrder part offset long = (refl, refl)
 general_tells_end (CodeOutOfRange code) part offset long = (refl, refl)
 general_tells_end (UnsupportedDimensions n) part offset long = (refl, refl)
-general_tells_end (ShortPoint end len) part offset long = absurd (long (omega arith))
-general_tells_end (ShortLineString end len) part offset long = absurd (long (omega arith))
-general_tells_end (ShortMultiPoint end len) part offset long = absurd (long (omega arith))
-general_tells_end (ShortLinearRing end len) part offset long = absurd (long (omega arith))
+general_tells_end _ part offset long = absurd (long (omega arith))
 
 pub others_tell_no_end : OthersTellNoEnd
 others_tell_no_end end_of_input part offset long = (refl, refl)
 others_tell_no_end (general g) part offset long = general_tells_end g part offset long
-others_tell_no_end incorrect_type part offset long = (refl, refl)
-others_tell_no_end (nesting_depth_exceeded n) part offset long = (refl, refl)
+others_tell_no_end _ part offset long = (refl, refl)
 
 -- what is found is accepted
 pub found_is_accepted : (buf : List ℕ) (f : Summary) → DescribesFront buf f → IsAccepted buf
@@ -77,44 +61,34 @@ pub dimension_kept : (t : Value) → type_dimension (type_of (kind t) (dimension
 dimension_kept (point d c) = refl
 dimension_kept _ = refl
 
+-- the bytes of what is in front
+abbrev pub begins : (buf : List ℕ) (s : Spelling) (t : Value) (rest : List ℕ) → Front buf s t rest
+    → Begins (Spells s t) buf rest
+begins buf s t rest f = record { front = f.front; whole = f.whole; first = f.spelled }
+
 -- what is read of a geometry that is described, up to its count
 pub count_said : (buf : List ℕ) (f : Summary) → (d : DescribesFront buf f)
     → Says buf d.spelled d.value
     (head_of (header d.spelled).order (kind d.value) (dimension d.value) (is_some (header d.spelled).srid))
 count_said buf f d =
-    let here : Begins (Spells d.spelled d.value) buf d.rest
-    = record { front = d.front.front; whole = d.front.whole; first = d.front.spelled } in
+    let here = begins buf d.spelled d.value d.rest d.front in
     says buf d.spelled d.value d.rest here _ (geometry_opens buf d.spelled d.value d.rest here).head
 
 -- the geometry that is described
 abbrev pub there_is : (buf : List ℕ) (f : Summary) → DescribesFront buf f → HasGeometry buf
-there_is buf f d = record {
-  spelled = d.spelled;
-  value = d.value;
-  rest = d.rest;
-  begins = record { front = d.front.front; whole = d.front.whole; first = d.front.spelled };
-}
+there_is buf f d =
+    record { spelled = d.spelled; value = d.value; rest = d.rest; begins = begins buf d.spelled d.value d.rest d.front }
 
 -- the geometry that is accepted
 abbrev pub accepted_there : (buf : List ℕ) → IsAccepted buf → HasGeometry buf
-accepted_there buf a = record {
-  spelled = a.s;
-  value = a.t;
-  rest = a.rest;
-  begins = record { front = a.front.front; whole = a.front.whole; first = a.front.spelled };
-}
+accepted_there buf a =
+    record { spelled = a.s; value = a.t; rest = a.rest; begins = begins buf a.s a.t a.rest a.front }
 
 -- two that are accepted have one value, or two
 pub same_values : (a b : List ℕ) (x : IsAccepted a) (y : IsAccepted b) → x.t ≡ y.t → HaveOneValue a b
-same_values a b x y is = record {
-  s = x.s;
-  u = y.s;
-  t = x.t;
-  rest = x.rest;
-  more = y.rest;
-  first = x.front;
-  second = subst (λ t. Front b y.s t y.rest) (sym is) y.front;
-}
+same_values a b x y is =
+    let second = subst (λ t. Front b y.s t y.rest) (sym is) y.front in
+    record { s = x.s; u = y.s; t = x.t; rest = x.rest; more = y.rest; first = x.front; second = second }
 
 pub other_values : (a b : List ℕ) (x : IsAccepted a) (y : IsAccepted b) → x.t ≢ y.t → HaveTwoValues a b
 other_values a b x y differ = record {

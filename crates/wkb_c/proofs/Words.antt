@@ -1,26 +1,23 @@
 -- Where the parts of a geometry are in its bytes, and what is there.
-use Rattle.wkb_c.proofs.Common.{◌≡◌, ℕ, suc, ◌+◌, ◌*◌, ◌≤◌, ◌<◌, List, [], ◌∷◌, ◌++◌, length, drop, Option, Some, None}
-use Rattle.wkb_c.proofs.Common.{refl, sym, ap, ◌∙◌, append_assoc, subst}
-use Rattle.wkb_c.proofs.Common.{append-nil, length-append, arith, drop-drop, slice_get, is_some}
-use Rattle.wkb_c.proofs.Common.{Dimension, width, IsNumber, number}
-use Rattle.wkb_c.proofs.Common.{order_byte, srid_size, ring_end, Header, Spelling, node, Spellings, no_spellings}
-use Rattle.wkb_c.proofs.Common.{spelling, SpellsCoordinate}
-use Rattle.wkb_c.proofs.Common.{SpellsCoordinates, SpellsBody, Wanted, Spells, SpellsEach, Coordinate, Value, Values}
-use Rattle.wkb_c.proofs.Common.{point, line_string, polygon}
-use Rattle.wkb_c.proofs.Common.{no_members, member, members, kind}
-use Rattle.wkb_c.proofs.Common.{dimension, member_count, member_count_each}
+use Rattle.wkb_c.proofs.Common.{◌≡◌, ℕ, suc, ◌+◌, ◌*◌, ◌≤◌, List, [], ◌∷◌, ◌++◌, length, drop, Option, Some, None}
+use Rattle.wkb_c.proofs.Common.{refl, sym, ap, ◌∙◌, arith, append_assoc, append-nil, length-append, drop-drop}
+use Rattle.wkb_c.proofs.Common.{slice_get, is_some, Dimension, width, number, order_byte, srid_size, ring_end}
+use Rattle.wkb_c.proofs.Common.{Header, Spelling, node, Spellings, no_spellings, spelling, Spells, SpellsBody}
+use Rattle.wkb_c.proofs.Common.{SpellsCoordinate, SpellsCoordinates, Wanted, SpellsEach, Coordinate, Value, Values}
+use Rattle.wkb_c.proofs.Common.{point, line_string, polygon, no_members, member, members, kind, dimension, member_count}
+use Rattle.wkb_c.proofs.Common.{member_count_each}
+use Rattle.wkb_geom.specs.Spellings.{IsHeader}
 use Rattle.std.specs.Prelude.{true, nat_lt}
-use Rattle.std.proofs.Common.{length-drop}
 use Rattle.wkb_geom.specs.declared.common.Endianness.{Endianness}
-use Rattle.wkb_geom.specs.Grammar.{IsEach}
-use Rattle.wkb_geom.specs.Reading.{coordinate, coordinates, items}
+use Rattle.wkb_geom.specs.Grammar.{Then, Begins, IsEach}
+use Rattle.wkb_geom.specs.Reading.{coordinate, coordinates}
 use Rattle.wkb_laws.proofs.Bounds.{ring_count, member_count-members}
 use Rattle.wkb_laws.proofs.Lengths.{coordinate_length, coordinates_length}
-use Rattle.wkb_laws.proofs.Parts.{drop_front, number-front, header_length, items_read, item_at, each_len}
+use Rattle.wkb_laws.proofs.Parts.{drop_front, header_length, items_read, item_at, each_len, coordinate_read}
 use Rattle.wkb_check.specs.declared.parts.Part.{Part}
 use Rattle.wkb_check.specs.declared.pieces.Piece.{Piece}
-use Rattle.wkb_check.specs.Pieces.{leading, count_of, rings_of, size, piece_of, ring_piece}
-use Rattle.wkb_check.specs.Pieces.{pieces_of, pieces_of_rings, pieces_of_each}
+use Rattle.wkb_check.specs.Pieces.{leading, count_of, rings_of, size, piece_of, ring_piece, pieces_of, pieces_of_rings}
+use Rattle.wkb_check.specs.Pieces.{pieces_of_each}
 use Rattle.wkb_check.specs.Tables.{entry, place, ring_place, entry_count, entry_counts, geometry_entries, ring_entries}
 use Rattle.wkb_check.specs.Tables.{member_entries}
 use Rattle.wkb_check.proofs.Placing.{spelled_size, entries_are}
@@ -31,16 +28,39 @@ use Rattle.wkb_c.specs.Subjects.{subjects_of_rings, subjects_of_each, HoldsWords
 
 -- ---- places
 
-before : (input : List ℕ) (at : ℕ) (encoding a b rest : List ℕ) → drop at input ≡ encoding ++ rest → encoding ≡ a ++ b
-    → drop at input ≡ a ++ (b ++ rest)
-before input at encoding a b rest stands is = stands ∙ ap (λ (x : List ℕ). x ++ rest) is ∙ append_assoc a b rest
+-- these bytes stand here in the input, and the rest of it behind them
+record Stands (input : List ℕ) (at : ℕ) (bytes rest : List ℕ) : Type 0 where
+  pub is : drop at input ≡ bytes ++ rest
+  pub inside : at + length bytes ≤ length input
 
-behind : (input : List ℕ) (at to : ℕ) (encoding a b rest : List ℕ) → drop at input ≡ encoding ++ rest → encoding ≡ a ++ b
-    → at + length a ≡ to → drop to input ≡ b ++ rest
-behind input at to encoding a b rest stands is long =
-    ap (λ k. drop k input) (sym long) ∙ sym (drop-drop (length a) at input)
-    ∙ ap (drop (length a)) (before input at encoding a b rest stands is)
-    ∙ drop_front (length a) a (b ++ rest) refl
+-- then the first of two parts does too, and the second behind it
+module _ {input : List ℕ} {at : ℕ} {bytes rest : List ℕ} {P Q : List ℕ → Type 0}
+    (stands : Stands input at bytes rest) (both : Then P Q bytes) where
+  long : length bytes ≡ length both.front + length both.rest
+  long = ap length both.whole ∙ length-append both.front both.rest
+
+  front_stands : Stands input at both.front (both.rest ++ rest)
+  front_stands = record {
+    is =
+        stands.is ∙ ap (λ (x : List ℕ). x ++ rest) both.whole ∙ append_assoc both.front both.rest rest;
+    inside = omega (arith, stands.inside, long);
+  }
+
+  rest_stands : (to : ℕ) → at + length both.front ≡ to → Stands input to both.rest rest
+  rest_stands to to_is = record {
+    is =
+        ap (λ k. drop k input) (sym to_is) ∙ sym (drop-drop (length both.front) at input)
+        ∙ ap (drop (length both.front)) front_stands.is
+        ∙ drop_front (length both.front) both.front (both.rest ++ rest) refl;
+    inside = omega (arith, stands.inside, long, to_is);
+  }
+
+-- where the body of a geometry begins that begins here, and what follows its count
+abbrev body_at : Header → ℕ → ℕ
+body_at h at = at + (5 + srid_size (is_some h.srid))
+
+abbrev counted_at : Header → ℕ → ℕ
+counted_at h at = at + (9 + srid_size (is_some h.srid))
 
 -- the entry of a subject that has this index and begins at this byte
 abbrev entry_at : ℕ → ℕ → Subject → Part
@@ -54,181 +74,34 @@ abbrev piece_at : ℕ → Subject → Piece
 piece_at at (whole s t) = piece_of at s t
 piece_at at (ring order d cs) = ring_piece order d at (length cs)
 
--- the bytes of the subject are where its entry and its piece say
-record IsPlaced (input : List ℕ) (e : Part) (p : Piece) (x : Subject) : Type 0 where
-  pub index : ℕ
-  pub at : ℕ
-  pub bytes : List ℕ
-  pub rest : List ℕ
-  pub stand : drop at input ≡ bytes ++ rest
-  pub spell : SpellsSubject x bytes
-  pub entry_is : e ≡ entry_at index at x
-  pub piece_is : p ≡ piece_at at x
-
-abbrev ArePlaced : List ℕ → List Part → List Piece → List Subject → Type 0
-ArePlaced input [] [] [] = Unit {0}
-ArePlaced input (e ∷ es) (p ∷ ps) (x ∷ xs) = IsPlaced input e p x × ArePlaced input es ps xs
-ArePlaced input [] [] (x ∷ xs) = ⊥
-ArePlaced input [] (p ∷ ps) xs = ⊥
-ArePlaced input (e ∷ es) [] xs = ⊥
-ArePlaced input (e ∷ es) (p ∷ ps) [] = ⊥
-
-placed_append : (input : List ℕ) (es fs : List Part) (ps qs : List Piece) (xs ys : List Subject)
-    → ArePlaced input es ps xs → ArePlaced input fs qs ys → ArePlaced input (es ++ fs) (ps ++ qs) (xs ++ ys)
-placed_append input [] fs [] qs [] ys f g = g
-placed_append input (e ∷ es) fs (p ∷ ps) qs (x ∷ xs) ys f g = (f.0, placed_append input es fs ps qs xs ys f.1 g)
-placed_append input [] fs [] qs (x ∷ xs) ys f g = absurd f
-placed_append input [] fs (p ∷ ps) qs xs ys f g = absurd f
-placed_append input (e ∷ es) fs [] qs xs ys f g = absurd f
-placed_append input (e ∷ es) fs (p ∷ ps) qs [] ys f g = absurd f
-
-rings_placed : (input : List ℕ) (order : Endianness) (d : Dimension) (rings : List (List Coordinate)) (index at : ℕ)
-    (bytes rest : List ℕ)
-    → drop at input ≡ bytes ++ rest → IsEach (SpellsCoordinates order d) rings bytes
-    → ArePlaced input (ring_entries d (order_byte order) index at rings) (pieces_of_rings order d at rings)
-    (subjects_of_rings order d rings)
-rings_placed input order d [] index at bytes rest stands h = tt
-rings_placed input order d (cs ∷ rings) index at bytes rest stands h = (
-  record {
-    index = index;
-    at = at;
-    bytes = h.front;
-    rest = h.rest ++ rest;
-    stand = before input at bytes h.front h.rest rest stands h.whole;
-    spell = h.first;
-    entry_is = refl;
-    piece_is = refl;
-  },
-  rings_placed input order d rings (index + 1) (at + ring_end d (length cs)) h.rest rest
-      (behind input at (at + ring_end d (length cs)) bytes h.front h.rest rest stands h.whole
-      (omega (arith, coordinates_length order d cs h.front h.first))) h.second,
-)
-
-own_rings_placed : (input : List ℕ) (h : Header) (words : List ℕ) (t : Value) (index at : ℕ) (bytes rest : List ℕ)
-    → drop (at + (5 + srid_size (is_some h.srid))) input ≡ bytes ++ rest → SpellsBody h.order words t bytes
-    → ArePlaced input (ring_entries (dimension t) (order_byte h.order) index (at + leading h t) (rings_of t))
-    (pieces_of_rings h.order (dimension t) (at + leading h t) (rings_of t))
-    (subjects_of_rings h.order (dimension t) (rings_of t))
-own_rings_placed input h words (polygon d rings) index at bytes rest stands b =
-    rings_placed input h.order d rings index (at + (9 + srid_size (is_some h.srid))) b.1.rest rest
-    (behind input (at + (5 + srid_size (is_some h.srid))) (at + (9 + srid_size (is_some h.srid))) bytes b.1.front
-    b.1.rest rest stands b.1.whole (omega (arith, b.1.first.len))) b.1.second
-own_rings_placed input h words _ index at bytes rest stands b = tt
-
-abbrev MembersPlaced : List ℕ → Header → Spellings → Value → ℕ → ℕ → Type 0
-MembersPlaced input h ss t index at =
-    ArePlaced input (member_entries index (at + leading h t) ss (members t))
-    (pieces_of_each (at + leading h t) ss (members t)) (subjects_of_each ss (members t))
-
-none_placed : (input : List ℕ) (index at : ℕ) (ss : Spellings)
-    → ArePlaced input (member_entries index at ss no_members) (pieces_of_each at ss no_members)
-    (subjects_of_each ss no_members)
-none_placed input index at no_spellings = tt
-none_placed input index at (spelling s ss) = tt
-
--- the members follow a count
-own_members_placed : (input : List ℕ) (h : Header) (words : List ℕ) (ss : Spellings) (t : Value) (index at : ℕ)
-    (bytes body inner rest : List ℕ)
-    → drop (at + (5 + srid_size (is_some h.srid))) input ≡ bytes ++ rest → bytes ≡ body ++ inner
-    → SpellsBody h.order words t body
-    → (drop (at + (9 + srid_size (is_some h.srid))) input ≡ inner ++ rest → leading h t ≡ 9 + srid_size (is_some h.srid)
-    → MembersPlaced input h ss t index at)
-    → MembersPlaced input h ss t index at
-own_members_placed input h words ss (point d c) index at bytes body inner rest stands is b each =
-    none_placed input index _ ss
-own_members_placed input h words ss (line_string d cs) index at bytes body inner rest stands is b each =
-    none_placed input index _ ss
-own_members_placed input h words ss (polygon d rings) index at bytes body inner rest stands is b each =
-    none_placed input index _ ss
-own_members_placed input h words ss _ index at bytes body inner rest stands is b each =
-    each
-    (behind input (at + (5 + srid_size (is_some h.srid))) (at + (9 + srid_size (is_some h.srid))) bytes body inner rest
-    stands is (omega (arith, b.1.len))) refl
-
-mutual
-  placed : (input : List ℕ) (s : Spelling) (t : Value) (index at : ℕ) (bytes rest : List ℕ)
-      → drop at input ≡ bytes ++ rest → Spells s t bytes
-      → ArePlaced input (geometry_entries index at s t) (pieces_of at s t) (subjects s t)
-  placed input (node h words ss) t index at bytes rest stands sp =
-      let inside = behind input at (at + (5 + srid_size (is_some h.srid))) bytes sp.front sp.rest rest stands sp.whole
-      (omega (arith, header_length h (kind t) (dimension t) sp.front sp.first)) in (
-        record {
-          index = index;
-          at = at;
-          bytes = bytes;
-          rest = rest;
-          stand = stands;
-          spell = sp;
-          entry_is = refl;
-          piece_is = refl;
-        },
-        placed_append input _ _ _ _ _ _
-            (own_rings_placed input h words t (index + 1) at sp.second.front (sp.second.rest ++ rest)
-            (before input (at + (5 + srid_size (is_some h.srid))) sp.rest sp.second.front sp.second.rest rest inside
-            sp.second.whole) sp.second.first)
-            (own_members_placed input h words ss t (index + 1) at sp.rest sp.second.front sp.second.rest rest inside
-            sp.second.whole sp.second.first
-            (λ there is. each_placed input _ ss (members t) (index + 1) (at + leading h t) sp.second.rest rest
-            (ap (λ k. drop (at + k) input) is ∙ there) sp.second.second)),
-      )
-
-  each_placed : (input : List ℕ) (w : Wanted) (ss : Spellings) (ts : Values) (index at : ℕ) (bytes rest : List ℕ)
-      → drop at input ≡ bytes ++ rest → SpellsEach w ss ts bytes
-      → ArePlaced input (member_entries index at ss ts) (pieces_of_each at ss ts) (subjects_of_each ss ts)
-  each_placed input w no_spellings ts index at bytes rest stands sp = tt
-  each_placed input w (spelling s ss) no_members index at bytes rest stands sp = tt
-  each_placed input w (spelling s ss) (member t ts) index at bytes rest stands sp =
-      placed_append input _ _ _ _ _ _
-      (placed input s t index at sp.front (sp.rest ++ rest)
-      (before input at bytes sp.front sp.rest rest stands sp.whole) sp.first.0)
-      (each_placed input w ss ts (index + entry_count s t) (at + size s t) sp.rest rest
-      (behind input at (at + size s t) bytes sp.front sp.rest rest stands sp.whole
-      (omega (arith, spelled_size s t sp.front sp.first.0))) sp.second)
-
 -- ---- words
 
-coordinate_read : (order : Endianness) (d : Dimension) (c : Coordinate) (x y : List ℕ) → SpellsCoordinate order d c x
-    → coordinate order d (x ++ y) ≡ c
-coordinate_read order d c x y h =
-    ap (λ n. items 8 (number order 8) n (x ++ y)) (sym h.len)
-    ∙ items_read (IsNumber order 8) 8 (number order 8)
-    (λ v x y is. (is.len, number-front order 8 v x y is)) c x y h.words
-
 -- the coordinates that are read at this place, and that they are inside the input
-record AreRead (input : List ℕ) (order : Endianness) (d : Dimension) (offset n : ℕ) (cs : List Coordinate) : Type 0 where
+record AreRead (input : List ℕ) (order : Endianness) (d : Dimension) (offset n : ℕ) (cs : List Coordinate)
+    : Type 0 where
   pub read : coordinates order d n (drop offset input) ≡ cs
   pub inside : offset + 8 * width d * n ≤ length input
 
-there : (input : List ℕ) (offset : ℕ) (bytes rest : List ℕ) → drop offset input ≡ bytes ++ rest → 0 < length bytes
-    → offset + length bytes ≤ length input
-there input offset bytes rest stands some =
-    omega (arith, some, ap length stands, length-drop offset input, length-append bytes rest)
-
-coordinates_read : (input : List ℕ) (order : Endianness) (d : Dimension) (offset : ℕ) (cs : List Coordinate)
-    (bytes rest : List ℕ)
-    → drop offset input ≡ bytes ++ rest → offset ≤ length input → IsEach (SpellsCoordinate order d) cs bytes
+coordinates_read : {input : List ℕ} {offset : ℕ} {bytes rest : List ℕ} (order : Endianness) (d : Dimension)
+    (cs : List Coordinate) → Stands input offset bytes rest → IsEach (SpellsCoordinate order d) cs bytes
     → AreRead input order d offset (length cs) cs
-coordinates_read input order d offset cs bytes rest stands low h = record {
+coordinates_read {bytes = bytes} {rest = rest} order d cs stands h = record {
   read =
-      ap (coordinates order d (length cs)) stands
+      ap (coordinates order d (length cs)) stands.is
       ∙ items_read (SpellsCoordinate order d) (8 * width d) (coordinate order d)
       (λ c x y is. (coordinate_length order d c x is, coordinate_read order d c x y is)) cs bytes rest h;
   inside =
       omega (
         arith,
-        low,
-        ap length stands,
-        length-drop offset input,
-        length-append bytes rest,
+        stands.inside,
         each_len (SpellsCoordinate order d) (8 * width d) (λ c x is. coordinate_length order d c x is) cs bytes h,
       );
 }
 
-one_read : (input : List ℕ) (order : Endianness) (d : Dimension) (offset : ℕ) (c : Coordinate) (bytes rest : List ℕ)
-    → drop offset input ≡ bytes ++ rest → offset ≤ length input → SpellsCoordinate order d c bytes
-    → AreRead input order d offset 1 (c ∷ [])
-one_read input order d offset c bytes rest stands low h =
-    coordinates_read input order d offset (c ∷ []) bytes rest stands low
+one_read : {input : List ℕ} {offset : ℕ} {bytes rest : List ℕ} (order : Endianness) (d : Dimension) (c : Coordinate)
+    → Stands input offset bytes rest → SpellsCoordinate order d c bytes → AreRead input order d offset 1 (c ∷ [])
+one_read {bytes = bytes} order d c stands h =
+    coordinates_read order d (c ∷ []) stands
     (record { front = bytes; rest = []; whole = sym (append-nil bytes); first = h; second = refl })
 
 word_read : (input : List ℕ) (order : Endianness) (d : Dimension) (offset m i n w : ℕ) (cs : List Coordinate)
@@ -253,16 +126,15 @@ pub record IsPieceOf (input : List ℕ) (p : Piece) (x : Subject) : Type 0 where
   pub words : coordinates_in x ≡ piece_coordinates input p
   pub inside : nat_lt p.kind 3 ≡ true → p.offset + 8 * width p.dimension * p.count ≤ length input
 
-module _ (input : List ℕ) (h : Header) (own : List ℕ) (ss : Spellings) (at : ℕ) (body rest : List ℕ)
-    (stands : drop (at + (5 + srid_size (is_some h.srid))) input ≡ body ++ rest)
-    (low : at + (5 + srid_size (is_some h.srid)) ≤ length input) where
+module _ {input : List ℕ} (at : ℕ) {body rest : List ℕ} (h : Header) (own : List ℕ) (ss : Spellings)
+    (stands : Stands input (body_at h at) body rest) where
   abbrev IsOwnPiece : Value → Type 0
   IsOwnPiece t = IsPieceOf input (piece_of at (node h own ss) t) (whole (node h own ss) t)
 
   one_piece : (d : Dimension) (c : Option Coordinate) (words : Coordinate) → SpellsCoordinate h.order d words body
       → coordinates_in (whole (node h own ss) (point d c)) ≡ words ∷ [] → IsOwnPiece (point d c)
   one_piece d c words sp are =
-      let r = one_read input h.order d (at + (5 + srid_size (is_some h.srid))) words body rest stands low sp in record {
+      let r = one_read h.order d words stands sp in record {
         rings = refl;
         singles = refl;
         dimension_is = refl;
@@ -274,58 +146,24 @@ module _ (input : List ℕ) (h : Header) (own : List ℕ) (ss : Spellings) (at :
   own_piece (point d None) b = one_piece d None own b.1 refl
   own_piece (point d (Some c)) b = one_piece d (Some c) c b.2 refl
   own_piece (line_string d cs) b =
-      let offset = at + (9 + srid_size (is_some h.srid)) in
-      let r = coordinates_read input h.order d offset cs b.1.rest rest
-      (behind input (at + (5 + srid_size (is_some h.srid))) offset body b.1.front b.1.rest rest stands b.1.whole
-      (omega (arith, b.1.first.len)))
-      (omega (
-        arith,
-        low,
-        b.1.first.len,
-        ap length b.1.whole,
-        length-append b.1.front b.1.rest,
-        ap length stands,
-        length-append body rest,
-        length-drop (at + (5 + srid_size (is_some h.srid))) input,
-      )) b.1.second in
+      let there = rest_stands stands b.1 (counted_at h at) (omega (arith, b.1.first.len)) in
+      let r = coordinates_read h.order d cs there b.1.second in
       record { rings = refl; singles = refl; dimension_is = refl; words = sym r.read; inside = λ leaf. r.inside }
-  own_piece _ b = record {
-    rings = refl;
-    singles = refl;
-    dimension_is = refl;
-    words = refl;
-    inside = λ leaf. absurd (cc);
-  }
+  own_piece _ b =
+      record { rings = refl; singles = refl; dimension_is = refl; words = refl; inside = λ leaf. absurd (cc) }
 
-placed_piece : (input : List ℕ) (at : ℕ) (x : Subject) (bytes rest : List ℕ) → drop at input ≡ bytes ++ rest
+body_stands : {input : List ℕ} {at : ℕ} {bytes rest : List ℕ} {Q : List ℕ → Type 0} (h : Header) (t : Value)
+    → Stands input at bytes rest → (sp : Then (IsHeader h (kind t) (dimension t)) Q bytes)
+    → Stands input (body_at h at) sp.rest rest
+body_stands {at = at} h t stands sp =
+    rest_stands stands sp (body_at h at) (omega (arith, header_length h (kind t) (dimension t) sp.front sp.first))
+
+placed_piece : {input : List ℕ} {at : ℕ} {bytes rest : List ℕ} (x : Subject) → Stands input at bytes rest
     → SpellsSubject x bytes → IsPieceOf input (piece_at at x) x
-placed_piece input at (whole (node h words ss) t) bytes rest stands sp =
-    let k = 5 + srid_size (is_some h.srid) in
-    let long = header_length h (kind t) (dimension t) sp.front sp.first in
-    let inside = behind input at (at + k) bytes sp.front sp.rest rest stands sp.whole (omega (arith, long)) in
-    own_piece input h words ss at sp.second.front (sp.second.rest ++ rest)
-    (before input (at + k) sp.rest sp.second.front sp.second.rest rest inside sp.second.whole)
-    (omega (
-      arith,
-      long,
-      ap length sp.whole,
-      length-append sp.front sp.rest,
-      ap length stands,
-      length-append bytes rest,
-      length-drop at input,
-    )) t sp.second.first
-placed_piece input at (ring order d cs) bytes rest stands sp =
-    let r = coordinates_read input order d (at + 4) cs sp.rest rest
-    (behind input at (at + 4) bytes sp.front sp.rest rest stands sp.whole (omega (arith, sp.first.len)))
-    (omega (
-      arith,
-      sp.first.len,
-      ap length sp.whole,
-      length-append sp.front sp.rest,
-      ap length stands,
-      length-append bytes rest,
-      length-drop at input,
-    )) sp.second in
+placed_piece {at = at} (whole (node h words ss) t) stands sp =
+    own_piece at h words ss (front_stands (body_stands h t stands sp) sp.second) t sp.second.first
+placed_piece {at = at} (ring order d cs) stands sp =
+    let r = coordinates_read order d cs (rest_stands stands sp (at + 4) (omega (arith, sp.first.len))) sp.second in
     record { rings = refl; singles = refl; dimension_is = refl; words = sym r.read; inside = λ leaf. r.inside }
 
 -- the words of a subject are where its entry says
@@ -339,67 +177,149 @@ entry_words input index at (whole (node h words ss) (line_string d cs)) is i n w
     word_read input h.order d (at + (9 + srid_size (is_some h.srid))) (length cs) i n w cs c (sym is.words) this that
 entry_words input index at (whole (node h words ss) _) is i n w c this that = absurd (cc)
 
-placed_holds : (input : List ℕ) (index at : ℕ) (x : Subject) (bytes rest : List ℕ) → drop at input ≡ bytes ++ rest
-    → SpellsSubject x bytes → Holds input (entry_at index at x) x
-placed_holds input index at (whole (node h words ss) t) bytes rest stands sp = record {
+placed_holds : {input : List ℕ} {at : ℕ} {bytes rest : List ℕ} (index : ℕ) (x : Subject)
+    → Stands input at bytes rest → SpellsSubject x bytes → IsPieceOf input (piece_at at x) x
+    → Holds input (entry_at index at x) x
+placed_holds {input} {at} {bytes} {rest} index (whole (node h words ss) t) stands sp piece = record {
   bytes = bytes;
   rest = rest;
-  stand = stands;
-  end_is = (omega (arith, spelled_size (node h words ss) t bytes sp));
+  stand = stands.is;
+  end_is = omega (arith, spelled_size (node h words ss) t bytes sp);
   spell = sp;
-  words = entry_words input index at _ (placed_piece input at (whole (node h words ss) t) bytes rest stands sp);
+  words = entry_words input index at _ piece;
 }
-placed_holds input index at (ring order d cs) bytes rest stands sp = record {
+placed_holds {input} {at} {bytes} {rest} index (ring order d cs) stands sp piece = record {
   bytes = bytes;
   rest = rest;
-  stand = stands;
-  end_is = (omega (arith, coordinates_length order d cs bytes sp));
+  stand = stands.is;
+  end_is = omega (arith, coordinates_length order d cs bytes sp);
   spell = sp;
-  words = entry_words input index at _ (placed_piece input at (ring order d cs) bytes rest stands sp);
+  words = entry_words input index at _ piece;
 }
+
+-- ---- parts one after another
+
+-- the bytes of the subject are where its entry and its piece say
+record IsPlaced (input : List ℕ) (e : Part) (p : Piece) (x : Subject) : Type 0 where
+  pub holds : Holds input e x
+  pub piece : IsPieceOf input p x
+
+is_placed : {input : List ℕ} {at : ℕ} {bytes rest : List ℕ} (index : ℕ) (x : Subject) → Stands input at bytes rest
+    → SpellsSubject x bytes → IsPlaced input (entry_at index at x) (piece_at at x) x
+is_placed index x stands sp =
+    let piece = placed_piece x stands sp in record { holds = placed_holds index x stands sp piece; piece = piece }
+
+abbrev ArePlaced : List ℕ → List Part → List Piece → List Subject → Type 0
+ArePlaced input [] [] [] = Unit {0}
+ArePlaced input (e ∷ es) (p ∷ ps) (x ∷ xs) = IsPlaced input e p x × ArePlaced input es ps xs
+ArePlaced input _ _ _ = ⊥
+
+placed_append : (input : List ℕ) (es fs : List Part) (ps qs : List Piece) (xs ys : List Subject)
+    → ArePlaced input es ps xs → ArePlaced input fs qs ys → ArePlaced input (es ++ fs) (ps ++ qs) (xs ++ ys)
+placed_append input [] fs [] qs [] ys f g = g
+placed_append input (e ∷ es) fs (p ∷ ps) qs (x ∷ xs) ys f g = (f.0, placed_append input es fs ps qs xs ys f.1 g)
+placed_append input _ fs _ qs _ ys f g = absurd f
+
+rings_placed : {input : List ℕ} (order : Endianness) (d : Dimension) (rings : List (List Coordinate)) (index : ℕ)
+    {at : ℕ} {bytes rest : List ℕ} → Stands input at bytes rest
+    → IsEach (SpellsCoordinates order d) rings bytes
+    → ArePlaced input (ring_entries d (order_byte order) index at rings) (pieces_of_rings order d at rings)
+    (subjects_of_rings order d rings)
+rings_placed order d [] index stands h = tt
+rings_placed order d (cs ∷ rings) index {at} stands h = (
+  is_placed index (ring order d cs) (front_stands stands h) h.first,
+  rings_placed order d rings (index + 1)
+      (rest_stands stands h (at + ring_end d (length cs))
+      (omega (arith, coordinates_length order d cs h.front h.first))) h.second,
+)
+
+own_rings_placed : {input : List ℕ} {bytes rest : List ℕ} (h : Header) (words : List ℕ) (t : Value)
+    (index at : ℕ) → Stands input (body_at h at) bytes rest → SpellsBody h.order words t bytes
+    → ArePlaced input (ring_entries (dimension t) (order_byte h.order) index (at + leading h t) (rings_of t))
+    (pieces_of_rings h.order (dimension t) (at + leading h t) (rings_of t))
+    (subjects_of_rings h.order (dimension t) (rings_of t))
+own_rings_placed h words (polygon d rings) index at stands b =
+    rings_placed h.order d rings index (rest_stands stands b.1 (counted_at h at) (omega (arith, b.1.first.len)))
+    b.1.second
+own_rings_placed h words _ index at stands b = tt
+
+abbrev MembersPlaced : List ℕ → Header → Spellings → Value → ℕ → ℕ → Type 0
+MembersPlaced input h ss t index at =
+    ArePlaced input (member_entries index (at + leading h t) ss (members t))
+    (pieces_of_each (at + leading h t) ss (members t)) (subjects_of_each ss (members t))
+
+none_placed : (input : List ℕ) (index at : ℕ) (ss : Spellings)
+    → ArePlaced input (member_entries index at ss no_members) (pieces_of_each at ss no_members)
+    (subjects_of_each ss no_members)
+none_placed input index at no_spellings = tt
+none_placed input index at (spelling s ss) = tt
+
+-- the members follow a count
+own_members_placed : {input : List ℕ} {bytes rest : List ℕ} {Q : List ℕ → Type 0} (h : Header)
+    (words : List ℕ) (ss : Spellings) (t : Value) (index at : ℕ) → Stands input (body_at h at) bytes rest
+    → (both : Then (SpellsBody h.order words t) Q bytes)
+    → (Stands input (at + leading h t) both.rest rest → MembersPlaced input h ss t index at)
+    → MembersPlaced input h ss t index at
+own_members_placed {input} h words ss (point d c) index at stands both each = none_placed input index _ ss
+own_members_placed {input} h words ss (line_string d cs) index at stands both each = none_placed input index _ ss
+own_members_placed {input} h words ss (polygon d rings) index at stands both each = none_placed input index _ ss
+own_members_placed h words ss _ index at stands both each =
+    each (rest_stands stands both (counted_at h at) (omega (arith, both.first.1.len)))
+
+mutual
+  placed : {input : List ℕ} (s : Spelling) (t : Value) (index : ℕ) {at : ℕ} {bytes rest : List ℕ}
+      → Stands input at bytes rest → Spells s t bytes
+      → ArePlaced input (geometry_entries index at s t) (pieces_of at s t) (subjects s t)
+  placed {input} (node h words ss) t index {at} stands sp =
+      let body = body_stands h t stands sp in (
+        is_placed index (whole (node h words ss) t) stands sp,
+        placed_append input _ _ _ _ _ _
+            (own_rings_placed h words t (index + 1) at (front_stands body sp.second) sp.second.first)
+            (own_members_placed h words ss t (index + 1) at body sp.second
+            (λ there. each_placed _ ss (members t) (index + 1) there sp.second.second)),
+      )
+
+  each_placed : {input : List ℕ} (w : Wanted) (ss : Spellings) (ts : Values) (index : ℕ) {at : ℕ} {bytes rest : List ℕ}
+      → Stands input at bytes rest → SpellsEach w ss ts bytes
+      → ArePlaced input (member_entries index at ss ts) (pieces_of_each at ss ts) (subjects_of_each ss ts)
+  each_placed w no_spellings ts index stands sp = tt
+  each_placed w (spelling s ss) no_members index stands sp = tt
+  each_placed {input} w (spelling s ss) (member t ts) index {at} stands sp =
+      placed_append input _ _ _ _ _ _ (placed s t index (front_stands stands sp) sp.first.0)
+      (each_placed w ss ts (index + entry_count s t)
+      (rest_stands stands sp (at + size s t) (omega (arith, spelled_size s t sp.front sp.first.0))) sp.second)
 
 each_holds : (input : List ℕ) (es : List Part) (ps : List Piece) (xs : List Subject) → ArePlaced input es ps xs
     → HoldEach input es xs
 each_holds input [] [] [] f = tt
-each_holds input (e ∷ es) (p ∷ ps) (x ∷ xs) f = (
-  subst (λ e. Holds input e x) (sym f.0.entry_is)
-      (placed_holds input f.0.index f.0.at x f.0.bytes f.0.rest f.0.stand f.0.spell),
-  each_holds input es ps xs f.1,
-)
-each_holds input [] [] (x ∷ xs) f = absurd f
-each_holds input [] (p ∷ ps) xs f = absurd f
-each_holds input (e ∷ es) [] xs f = absurd f
-each_holds input (e ∷ es) (p ∷ ps) [] f = absurd f
+each_holds input (e ∷ es) (p ∷ ps) (x ∷ xs) f = (f.0.holds, each_holds input es ps xs f.1)
+each_holds input _ _ _ f = absurd f
 
 -- these are the pieces of the subjects, one for one
 abbrev pub ArePiecesOf : List ℕ → List Piece → List Subject → Type 0
 ArePiecesOf input [] [] = Unit {0}
 ArePiecesOf input (p ∷ ps) (x ∷ xs) = IsPieceOf input p x × ArePiecesOf input ps xs
-ArePiecesOf input [] (x ∷ xs) = ⊥
-ArePiecesOf input (p ∷ ps) [] = ⊥
+ArePiecesOf input _ _ = ⊥
 
 each_piece : (input : List ℕ) (es : List Part) (ps : List Piece) (xs : List Subject) → ArePlaced input es ps xs
     → ArePiecesOf input ps xs
 each_piece input [] [] [] f = tt
-each_piece input (e ∷ es) (p ∷ ps) (x ∷ xs) f = (
-  subst (λ p. IsPieceOf input p x) (sym f.0.piece_is)
-      (placed_piece input f.0.at x f.0.bytes f.0.rest f.0.stand f.0.spell),
-  each_piece input es ps xs f.1,
-)
-each_piece input [] [] (x ∷ xs) f = absurd f
-each_piece input [] (p ∷ ps) xs f = absurd f
-each_piece input (e ∷ es) [] xs f = absurd f
-each_piece input (e ∷ es) (p ∷ ps) [] f = absurd f
+each_piece input (e ∷ es) (p ∷ ps) (x ∷ xs) f = (f.0.piece, each_piece input es ps xs f.1)
+each_piece input _ _ _ f = absurd f
 
 -- ---- the front of an input
 
-module _ (input : List ℕ) (s : Spelling) (t : Value) (bytes rest : List ℕ) (whole_is : input ≡ bytes ++ rest)
-    (sp : Spells s t bytes) where
+module _ {input : List ℕ} (s : Spelling) (t : Value) {rest : List ℕ} (g : Begins (Spells s t) input rest) where
+  all_placed : ArePlaced input (geometry_entries 0 0 s t) (pieces_of 0 s t) (subjects s t)
+  all_placed =
+      placed s t 0
+      (record { is = g.whole; inside = omega (arith, ap length g.whole, length-append g.front rest) }) g.first
+
   pub holds : HoldEach input (geometry_entries 0 0 s t) (subjects s t)
-  holds = each_holds input _ _ _ (placed input s t 0 0 bytes rest whole_is sp)
+  holds = each_holds input _ _ _ all_placed
 
   pub pieces_match : ArePiecesOf input (pieces_of 0 s t) (subjects s t)
-  pieces_match = each_piece input _ _ _ (placed input s t 0 0 bytes rest whole_is sp)
+  pieces_match = each_piece input _ _ _ all_placed
 
 -- ---- how many parts there are
 

@@ -1,5 +1,5 @@
 -- What rows write one after another: the items of a row begin where those of the row before it end.
-use Rattle.std.specs.Prelude.{◌≡◌, ℕ, zero, suc, ◌+◌, ◌-◌, ◌^◌, ◌<◌, ◌≤◌, ◌++◌, List, length, drop, take}
+use Rattle.std.specs.Prelude.{◌≡◌, ℕ, ◌+◌, ◌-◌, ◌^◌, ◌<◌, ◌≤◌, ◌++◌, List, length, drop, take}
 use Rattle.std.specs.Prelude.{min, slice_range, slice_index}
 use Rattle.wkb_c.specs.Columns.{IsRow, LacksRow, IsRefusedWith}
 use Rattle.wkb_c.specs.declared.column.Column.{Column}
@@ -7,16 +7,12 @@ use Rattle.wkb_c.specs.Subjects.{HasTable}
 use Rattle.wkb_c.specs.Writings.{HasEncoding, FailsToWrite}
 use Rattle.wkb_c.specs.declared.options.Options.{Options}
 use Rattle.wkb_check.specs.declared.parts.Part.{Part}
+use Rattle.wkb_levels.specs.Cuts.{start_at}
 use Rattle.wkb_c.specs.declared.status.TheConstants.{OK, NO_ROOM}
 
 -- as many rows as both of these lists have entries for
 abbrev pub rows_of : {A : Type 0} → List ℕ → List A → ℕ
 rows_of statuses items = min (length statuses) (length items)
-
--- where the items of a row begin
-abbrev pub start_of : List ℕ → ℕ → ℕ
-start_of ends zero = 0
-start_of ends (suc i) = slice_index ends i
 
 -- where they end; a number of 64 bits goes no further than this
 abbrev pub end_of : ℕ → ℕ → ℕ
@@ -39,7 +35,7 @@ abbrev pub AreRowAnswers : {A : Type 0} → (ℕ → List A → Type 0) → (ℕ
     → Type 0
 AreRowAnswers Has Fails rows statuses ends out =
     (i : ℕ) → i < rows
-    → IsRowAnswer Has Fails i (slice_index statuses i) (start_of ends i) (slice_index ends i) out
+    → IsRowAnswer Has Fails i (slice_index statuses i) (start_at 0 ends i) (slice_index ends i) out
 
 -- these are the items of the bytes of row i
 pub record RowHas {A : Type 0} (Has : List ℕ → List A → Type 0) (c : Column) (i : ℕ) (items : List A) : Type 0 where

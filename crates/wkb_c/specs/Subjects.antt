@@ -52,7 +52,8 @@ subjects_of_rings order d (cs ∷ rest) = ring order d cs ∷ subjects_of_rings 
 abbrev mutual
   pub subjects : Spelling → Value → List Subject
   subjects (node h words ss) t =
-      whole (node h words ss) t ∷ (subjects_of_rings h.order (dimension t) (rings_of t) ++ subjects_of_each ss (members t))
+      whole (node h words ss) t
+      ∷ (subjects_of_rings h.order (dimension t) (rings_of t) ++ subjects_of_each ss (members t))
 
   pub subjects_of_each : Spellings → Values → List Subject
   subjects_of_each no_spellings ts = []

@@ -68,6 +68,7 @@ impl<'a> Column<'a> {
 }
 
 /// Rows with bytes don't overlap, so that all of them are no longer than the bytes of the column.
+#[tactic(auto, using(crate::proofs::Spans::rows_follow, crate::proofs::Spans::rows_fit))]
 pub fn rows_follow()
     ensures follow { RowsFollow }
     ensures fit { RowsFit }
@@ -178,6 +179,7 @@ pub fn check_row(row: &[u8]) -> Result<Summary, u32>
 }
 
 /// The status of some bytes. The short way comes first: most rows hold no collection, and it counts in registers.
+#[tactic(auto, using(crate::proofs::Telling::found_is_accepted))]
 fn status_of_bytes(row: &[u8]) -> u32
     ensures status { IsStatusOf row.now result }
     ensures known { FitsByte result }

@@ -10,7 +10,7 @@ ghost use Rattle.wkb_c.specs.Writings.{HasEncoding, FailsToWrite};
 
 use crate::column::{Column, check_row};
 use crate::encoding::write_requested;
-use crate::options::{Options, requested};
+use crate::options::{Options, request_of};
 use crate::parts::list_parts;
 use crate::status::UNKNOWN_OPTION;
 use wkb_check::Part;
@@ -64,7 +64,7 @@ fn write_row(
         Ok(row) => row,
         Err(status) => return (status, 0),
     };
-    let Some(request) = requested(options) else {
+    let Some(request) = request_of(options) else {
         return (UNKNOWN_OPTION, 0);
     };
     let found = match check_row(row) {

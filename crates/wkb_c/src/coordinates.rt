@@ -106,22 +106,22 @@ fn put_coordinate(
     }
 }
 
-/// Writes the words that are asked for of the coordinates of a piece, whose words have this order.
+/// Writes the words that are asked for of the coordinates of a piece, which have this order and dimension.
 #[inline(always)]
 fn put_ordered(
     row: &[u8],
     piece: &Piece,
     order: Endianness,
+    own: Dimension,
     asked: Dimension,
     out: &mut [u64],
     start: usize,
 )
-    requires inside { piece.now.offset + 8 * width piece.now.dimension * piece.now.count ≤ length row.now }
+    requires inside { piece.now.offset + 8 * width own * piece.now.count ≤ length row.now }
     requires room { start + width asked * piece.now.count ≤ length out.old }
-    ensures { out.new ≡ sets out.old start (flat_map (words_asked asked piece.now.dimension)
-        (coordinates order piece.now.dimension piece.now.count (drop piece.now.offset row.now))) }
+    ensures { out.new ≡ sets out.old start (flat_map (words_asked asked own)
+        (coordinates order own piece.now.count (drop piece.now.offset row.now))) }
 {
-    let own = piece.dimension;
     let mut from = piece.offset;
     let mut at = start;
     for _ in 0..piece.count {
@@ -131,20 +131,21 @@ fn put_ordered(
     }
 }
 
-/// Writes the words that are asked for of the coordinates of a piece. The order is a constant in either loop.
+/// Writes the words that are asked for of the coordinates of a piece. The order is a constant in each loop, and where x
+/// and y alone are there and asked for, the dimensions are, too.
 fn put_coordinates(row: &[u8], piece: &Piece, asked: Dimension, out: &mut [u64], start: usize)
     requires inside { piece.now.offset + 8 * width piece.now.dimension * piece.now.count ≤ length row.now }
     requires room { start + width asked * piece.now.count ≤ length out.old }
     ensures { out.new ≡ sets out.old start (flat_map (words_asked asked piece.now.dimension)
         (coordinates piece.now.order piece.now.dimension piece.now.count (drop piece.now.offset row.now))) }
 {
-    match piece.order {
-        Endianness::BigEndian => {
-            put_ordered(row, piece, Endianness::BigEndian, asked, out, start)
-        }
-        Endianness::LittleEndian => {
-            put_ordered(row, piece, Endianness::LittleEndian, asked, out, start)
-        }
+    use Dimension::Xy;
+    use Endianness::{BigEndian, LittleEndian};
+    match (piece.order, piece.dimension, asked) {
+        (LittleEndian, Xy, Xy) => put_ordered(row, piece, LittleEndian, Xy, Xy, out, start),
+        (BigEndian, Xy, Xy) => put_ordered(row, piece, BigEndian, Xy, Xy, out, start),
+        (LittleEndian, own, _) => put_ordered(row, piece, LittleEndian, own, asked, out, start),
+        (BigEndian, own, _) => put_ordered(row, piece, BigEndian, own, asked, out, start),
     }
 }
 

@@ -27,8 +27,8 @@ pub fn target_of(request: Request, srid: Option<u32>) -> Target
     }
 }
 
-/// Writes the encoding that is asked for of the geometry at the front of bytes in which the check found this, and reports
-/// its length. Without room nothing is written.
+/// Writes the encoding that is asked for of the geometry at the front of bytes in which the check found this, and
+/// reports its length. Without room nothing is written.
 pub fn write_requested(
     buf: &[u8],
     found: &Summary,

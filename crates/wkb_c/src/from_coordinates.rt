@@ -11,7 +11,7 @@ ghost use Rattle.wkb_levels.specs.EndLists.{ends_of};
 use crate::column::is_unset;
 use crate::coordinates::dimension_of_number;
 use crate::encoding::target_of;
-use crate::options::{Options, Request, requested};
+use crate::options::{Options, Request, request_of};
 use crate::status::{BAD_LEVELS, NO_ROOM, NULL_ROW, OK, UNKNOWN_OPTION};
 use wkb_geom::Dimensions;
 use wkb_geom::code::{LINE_STRING, MULTI_LINE_STRING, MULTI_POINT, MULTI_POLYGON, POINT, POLYGON};
@@ -105,7 +105,7 @@ fn target_of_numbers(kind: u32, dimension: u32, options: &Options) -> Option<Lev
 {
     let kind = kind_of_number(kind)?;
     let dimension = dimension_of_number(dimension)?;
-    let request = requested(options)?;
+    let request = request_of(options)?;
     Some(LevelTarget {
         kind,
         dim: Dimensions::from(dimension),

@@ -32,7 +32,7 @@ use encoding::write_requested;
 use fault::{WkbFault, check_input, refuse};
 use found::{Found, found_of};
 use inputs::{FIRST, SECOND, compare};
-use options::{Options, requested};
+use options::{Options, request_of};
 use parts::list_parts;
 use status::{NO_MEMORY, NO_ROOM, OK, UNKNOWN_OPTION};
 use wkb_check::{Bounds, Part, check_plain, put_bounds};
@@ -116,7 +116,7 @@ pub extern "C" fn wkb_raw_write(
     ensures size_kept { result ≢ OK → result ≢ NO_ROOM → size.new ≡ size.old }
     ensures fault_kept { IsNoRefusal result → fault.new ≡ fault.old }
 {
-    let Some(request) = requested(options) else {
+    let Some(request) = request_of(options) else {
         return UNKNOWN_OPTION;
     };
     match check_input(buf, fault) {

@@ -4,6 +4,7 @@ ghost use Rattle.wkb_c.specs.EnumNumbers.{HaveStatusNumbers, HaveOptionNumbers, 
 ghost use Rattle.wkb_c.specs.EnumNumbers.{AreRefusals, OthersTellNoEnd};
 
 /// The constants have the numbers of `c/wkb.h`, and the statuses of refusals their classes.
+#[tactic(auto, using(crate::proofs::Telling::refusals, crate::proofs::Telling::others_tell_no_end))]
 pub fn numbers()
     ensures statuses { HaveStatusNumbers }
     ensures options { HaveOptionNumbers }

@@ -55,7 +55,7 @@ fn order_of_number(number: u32) -> Option<Endianness>
 }
 
 /// What the options ask for, if their numbers mean something.
-pub fn requested(options: &Options) -> Option<Request>
+pub fn request_of(options: &Options) -> Option<Request>
     ensures { result ≡ request_of options.now }
 {
     let order = order_of_number(options.order)?;

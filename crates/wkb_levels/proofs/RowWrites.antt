@@ -37,7 +37,9 @@ module _ (l : Levels) (kind : Kind) (d : Dimensions) (o : WriteOptions) (i : ℕ
   pub row_refused : (g : Geometry) (e : WkbError) → IsLevelRow l kind d i g → Reports e (refusal_of o g)
       → after ≡ before → IsRowWrite l kind d o i before after written.Unfit
   row_refused g e row refused kept =
-      unfit (λ bytes has. none-some _ (sym has.writable ∙ ap (refusal_of o) (one_row has.geometry has.row) ∙ refused.is))
+      unfit
+      (λ bytes has.
+      let one = one_row has.geometry has.row in none-some _ (sym has.writable ∙ ap (refusal_of o) one ∙ refused.is))
       refl kept where
         one_row : (h : Geometry) → IsLevelRow l kind d i h → h ≡ g
         one_row h other = same_Some h g (sym other.meant ∙ row.meant)

@@ -3,7 +3,8 @@ use Rattle.wkb_c.specs.Boxes.{bounded, refused}
 use Rattle.wkb_c.proofs.column_bounds.bound_row.Goals as goal
 
 pub returns-in-Ok-put_bounds-clause-row : goal.returns-in-Ok-put_bounds-clause-row
-returns-in-Ok-put_bounds-clause-row c = bounded c.in-Ok.row.now c.in-Ok.ensures.row refl c.in-Ok-put_bounds.ensures.front
+returns-in-Ok-put_bounds-clause-row c =
+    bounded c.in-Ok.row.now c.in-Ok.ensures.row refl c.in-Ok-put_bounds.ensures.front
 
 pub returns-in-Err-put_bounds-clause-row : goal.returns-in-Err-put_bounds-clause-row
 returns-in-Err-put_bounds-clause-row c =

@@ -1,8 +1,7 @@
-use Rattle.wkb_c.proofs.Common.{◌≡◌, length}
 use Rattle.wkb_c.specs.Columns.{Reach}
 use Rattle.wkb_c.specs.Coordinates.{AreColumnCoordinates, NoneLacksRoom}
 use Rattle.wkb_c.specs.LevelLists.{levels_of, AreSameSlices}
-use Rattle.wkb_c.specs.RowItems.{KeepsFrom}
+use Rattle.wkb_c.proofs.RowItems.{AreSet}
 use Rattle.wkb_c.proofs.Levels.{AreSmall}
 use Rattle.wkb_c.proofs.Rooms.{AreAsLong}
 use Rattle.wkb_c.proofs.column_coordinates.wkb_raw_column_coordinates.Given as goal
@@ -10,10 +9,7 @@ use Rattle.wkb_c.proofs.column_coordinates.wkb_raw_column_coordinates.Given as g
 abbrev pub invariant-loop-i : goal.invariant-loop-i
 invariant-loop-i l = record {
   reaches : Reach l.column l.i l.reach;
-  as_many : length l.statuses ≡ length l.initial.statuses;
-  as_many_ends : length l.row_ends ≡ length l.initial.row_ends;
-  statuses_kept : KeepsFrom l.i-end l.initial.statuses l.statuses;
-  ends_kept : KeepsFrom l.i-end l.initial.row_ends l.row_ends;
+  lists : AreSet l.i-end l.initial.statuses l.statuses l.initial.row_ends l.row_ends;
   done : AreColumnCoordinates l.column l.dimension l.statuses l.row_ends
       (levels_of l.initial.out) l.i l.at (levels_of l.out);
   room : NoneLacksRoom l.dimension (levels_of l.initial.out) l.at l.i l.statuses;

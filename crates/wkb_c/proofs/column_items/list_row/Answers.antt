@@ -1,7 +1,7 @@
 use Rattle.wkb_c.proofs.Common.{refl}
 use Rattle.wkb_c.specs.RowItems.{nothing, fails, has_no_row}
 use Rattle.wkb_c.proofs.Called.{list_step}
-use Rattle.wkb_c.proofs.RowItems.{lent_to_end, put_to_end}
+use Rattle.wkb_c.proofs.RowItems.{lent_rest}
 use Rattle.wkb_c.proofs.column_items.list_row.Goals as goal
 
 pub returns-in-Err-clause-step : goal.returns-in-Err-clause-step
@@ -13,10 +13,8 @@ returns-in-Err-check_row-clause-step c =
 
 pub returns-clause-step : goal.returns-clause-step
 returns-clause-step c =
-    let xs = c.args.parts.now in
-    let at = c.min-at.result in
     let called = c.list_parts-status in
     let e = called.ensures in
-    list_step c.in-Ok.row.now c.in-Ok.ensures.row at called.result called.new.count xs _ called.new.parts _
-    c.min-at.ensures (lent_to_end xs at) (put_to_end xs called.new.parts at) e.long e.listed e.no_room e.parts_kept
-    e.known
+    list_step c.in-Ok.row.now c.in-Ok.ensures.row
+    (lent_rest c.args.parts.now called.new.parts c.min-at.result c.min-at.ensures e.long) e.listed e.no_room
+    e.parts_kept e.known

@@ -2,18 +2,16 @@ use Rattle.wkb_c.proofs.Common.{refl, sym}
 use Rattle.wkb_c.specs.RowItems.{nothing, fails, has_no_row}
 use Rattle.wkb_c.specs.Writings.{refused, unknown}
 use Rattle.wkb_c.proofs.Encodings.{is_asked, write_step}
-use Rattle.wkb_c.proofs.RowItems.{lent_to_end, put_to_end}
+use Rattle.wkb_c.proofs.RowItems.{lent_rest}
 use Rattle.wkb_c.proofs.column_items.write_row.Goals as goal
 
 pub returns-clause-step : goal.returns-clause-step
 returns-clause-step c =
-    let xs = c.args.out.now in
-    let at = c.min-at.result in
     let called = c.write_requested-status in
     let e = called.ensures in
-    write_step c.in-Ok.row.now c.in-Ok.ensures.row c.args.options.now _ (sym c.in-Some.ensures) at called.result
-    called.new.size xs _ called.new.out _ c.min-at.ensures (lent_to_end xs at)
-    (put_to_end xs called.new.out at) e.long e.written e.no_room e.out_kept e.known
+    write_step c.in-Ok.row.now c.in-Ok.ensures.row c.args.options.now _ (sym c.in-Some.ensures)
+    (lent_rest c.args.out.now called.new.out c.min-at.result c.min-at.ensures e.long) e.written e.no_room e.out_kept
+    e.known
 
 pub returns-in-Err-clause-step : goal.returns-in-Err-clause-step
 returns-in-Err-clause-step c = nothing (has_no_row c.in-Err.ensures.none) refl refl

@@ -9,4 +9,5 @@ returns-in-Xym c = rw (c.in-Xym.is)
 
 pub returns-in-Xyzm : goal.returns-in-Xyzm
 returns-in-Xyzm c = rw (c.in-Xyzm.is)
-    (c.u64_at-in-Xyzm.ensures ∙ coordinate_word c.args.order Xyzm c.args.from 3 _ c.args.row.now (omega arith) (omega arith))
+    (c.u64_at-in-Xyzm.ensures
+    ∙ coordinate_word c.args.order Xyzm c.args.from 3 _ c.args.row.now (omega arith) (omega arith))

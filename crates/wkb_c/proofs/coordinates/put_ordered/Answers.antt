@@ -10,8 +10,7 @@ pub loop-preserved : goal.loop-preserved
 loop-preserved c =
     let l = c.loop in
     let a = c.args in
-    let d = a.piece.now.dimension in
-    let long = length-sets l.out l.at (words_asked a.asked d (coordinate a.order d (drop l.from a.row.now))) in
+    let long = length-sets l.out l.at (words_asked a.asked a.own (coordinate a.order a.own (drop l.from a.row.now))) in
     words_next l.invariant (a.piece.now.count - (l.counter + 1)) (omega (arith, c.loop-test.true))
     (l.from + 8 * c.width.result) (l.at + c.width-at.result) c.put_coordinate.new.out
     (ap length c.put_coordinate.ensures ∙ long)

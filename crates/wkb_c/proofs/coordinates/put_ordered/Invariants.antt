@@ -7,7 +7,7 @@ use Rattle.wkb_c.proofs.coordinates.put_ordered.Given as goal
 
 abbrev pub invariant-loop : goal.invariant-loop
 invariant-loop l =
-    WordsLeft l.asked l.piece.dimension l.order l.row
-    (sets l.initial.out l.start (flat_map (words_asked l.asked l.piece.dimension)
-    (coordinates l.order l.piece.dimension l.piece.count (drop l.piece.offset l.row))))
+    WordsLeft l.asked l.own l.order l.row
+    (sets l.initial.out l.start (flat_map (words_asked l.asked l.own)
+    (coordinates l.order l.own l.piece.count (drop l.piece.offset l.row))))
     (l.piece.count - l.counter) l.from l.at l.out

@@ -1,62 +1,63 @@
-use Rattle.wkb_c.proofs.Common.{arith}
+use Rattle.wkb_c.proofs.Common.{arith, length, ◌≤◌}
+use Rattle.wkb_geom.specs.Encodings.{encoding}
+use Rattle.wkb_geom.specs.Geometries.{geometry_of}
+use Rattle.wkb_check.specs.Bounded.{HasGeometry}
 use Rattle.wkb_rewrite.proofs.Measured.{at_most}
 use Rattle.wkb_c.proofs.Encodings.{handed_out, finds_no_room}
 use Rattle.wkb_c.proofs.Telling.{there_is}
 use Rattle.wkb_c.proofs.encoding.write_requested.Goals as goal
-use Rattle.wkb_c.proofs.encoding.write_requested.Goals.{then-out-buf+else-out-wanted, else-out-buf}
+use Rattle.wkb_c.proofs.encoding.write_requested.Goals.{Joined-out-buf, then-out-buf+else-out-wanted, else-out-buf}
 
 pub encoded_size-wanted-requires : goal.encoded_size-wanted-requires
 encoded_size-wanted-requires c =
-    let d = c.requires in record { geometry = there_is c.args.buf.now c.args.found.now d; long = d.described.bytes_are }
+    let d = c.requires in
+    record { geometry = there_is c.args.buf.now c.args.found.now d; long = d.described.bytes_are }
 
 pub returns-then-out-wanted-clause-no_room : goal.returns-then-out-wanted-clause-no_room
 returns-then-out-wanted-clause-no_room c = λ told.
-    let target = c.target_of-target.result in
-    finds_no_room c.args.request c.args.buf.now c.args.found.now c.requires target c.target_of-target.ensures.is
+    let target = c.target_of-target in
+    finds_no_room c.args.request c.args.buf.now c.args.found.now c.requires target.result target.ensures.is
     c.args.out.now c.encoded_size-wanted.result
-    (c.encoded_size-wanted.ensures.size target.order (there_is c.args.buf.now c.args.found.now c.requires))
+    (c.encoded_size-wanted.ensures.size target.result.order (there_is c.args.buf.now c.args.found.now c.requires))
     (omega (arith, c.if-out-wanted.true))
 
-pub put_encoding-requires-clause-room : goal.put_encoding-requires-clause-room
-put_encoding-requires-clause-room c = λ g.
-    let target = c.target_of-target.result in
+-- there is room for the encoding where it is put
+fits : (c : Joined-out-buf) → (g : HasGeometry c.args.buf.now)
+    → length (encoding c.target_of-target.result.order c.target_of-target.result.form (geometry_of g.value))
+    ≤ length c.args.out.now
+fits c g =
+    let target = c.target_of-target in
     elim c.if-out-buf.branch [
-      | then-out-buf+else-out-wanted w ↦ omega (arith, w.encoded_size-wanted.ensures.size target.order g, w.if-out-wanted.false)
+      | then-out-buf+else-out-wanted w ↦
+          omega (arith, w.encoded_size-wanted.ensures.size target.result.order g, w.if-out-wanted.false)
       | else-out-buf w ↦ omega (
         arith,
-        at_most target.order target.form c.args.buf.now g (λ i. (c.type_inv.buf i).fits) c.target_of-target.ensures.form,
+        at_most target.result.order target.result.form c.args.buf.now g (λ i. (c.type_inv.buf i).fits)
+            target.ensures.form,
         w.if-out-buf.false,
       )
     ]
 
+pub put_encoding-requires-clause-room : goal.put_encoding-requires-clause-room
+put_encoding-requires-clause-room c = fits (goal.at.put_encoding-requires-clause-room c).Joined-out-buf
+
 pub returns-clause-written : goal.returns-clause-written
 returns-clause-written c = λ told.
-    let target = c.target_of-target.result in
+    let target = c.target_of-target in
     let there = there_is c.args.buf.now c.args.found.now c.requires in
-    handed_out c.args.request c.args.buf.now c.args.found.now c.requires target c.target_of-target.ensures.is
-    c.args.out.now c.put_encoding.new.out c.put_encoding.result (c.put_encoding.ensures.size there)
-    (elim c.if-out-buf.branch [
-      | then-out-buf+else-out-wanted w ↦ omega (
-        arith,
-        c.put_encoding.ensures.size there,
-        w.encoded_size-wanted.ensures.size target.order there,
-        w.if-out-wanted.false,
-      )
-      | else-out-buf w ↦ omega (
-        arith,
-        c.put_encoding.ensures.size there,
-        at_most target.order target.form c.args.buf.now there (λ i. (c.type_inv.buf i).fits) c.target_of-target.ensures.form,
-        w.if-out-buf.false,
-      )
-    ])
+    let size_is = c.put_encoding.ensures.size there in
+    handed_out c.args.request c.args.buf.now c.args.found.now c.requires target.result target.ensures.is c.args.out.now
+    c.put_encoding.new.out c.put_encoding.result size_is
+    (omega (arith, size_is, fits (goal.at.returns-clause-written c).Joined-out-buf there))
     (c.put_encoding.ensures.put there)
 
 pub returns-clause-bound : goal.returns-clause-bound
 returns-clause-bound c =
     let there = there_is c.args.buf.now c.args.found.now c.requires in
-    let target = c.target_of-target.result in
+    let target = c.target_of-target in
     omega (
       arith,
       c.put_encoding.ensures.size there,
-      at_most target.order target.form c.args.buf.now there (λ i. (c.type_inv.buf i).fits) c.target_of-target.ensures.form,
+      at_most target.result.order target.result.form c.args.buf.now there (λ i. (c.type_inv.buf i).fits)
+          target.ensures.form,
     )

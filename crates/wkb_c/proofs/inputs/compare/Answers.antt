@@ -16,4 +16,5 @@ returns-else-have_one_value c =
     let b = c.requires.second in
     let told = c.have_one_value.ensures (accepted_there c.args.a.now a) (accepted_there c.args.b.now b) in
     two_values refl
-    (other_values c.args.a.now c.args.b.now a b (λ same. let never = sym c.if-have_one_value.false ∙ told.1 same in absurd (cc)))
+    (other_values c.args.a.now c.args.b.now a b
+    (λ same. let never = sym c.if-have_one_value.false ∙ told.1 same in absurd (cc)))

@@ -12,24 +12,17 @@ loop-piece-init c = record {
 
 pub next-requires : goal.next-requires
 next-requires c =
-    let left = c.loop-piece.invariant.left c.requires.here in record { ahead = record { pieces = left.ps; are = left.ahead } }
+    let left = c.loop-piece.invariant.left c.requires.here in
+    record { ahead = record { pieces = left.ps; are = left.ahead } }
 
 pub loop-piece-preserved : goal.loop-piece-preserved
-loop-piece-preserved c = record {
-  left = λ g.
-      let left = c.loop-piece.invariant.left g in
-      let more = c.with-to.ensures in
-      totals_next left c.next.new.self c.in-Some.piece c.with-to.result (c.in-Some.ensures.steps left.ps left.ahead)
-      (record {
-        coordinates_is = more.coordinates;
-        rings_is = more.rings;
-        singles_is = more.singles;
-      });
-  same = c.next.ensures.same ∙ c.loop-piece.invariant.same;
-  inside = omega (arith, c.in-Some.ensures.inside.inside, ap length c.loop-piece.invariant.same);
-}
+loop-piece-preserved c =
+    let more = c.with-to.ensures in record {
+      left = λ g. totals_next c.with-to.result (c.loop-piece.invariant.left g) c.in-Some.ensures.steps more.coordinates
+          more.rings more.singles;
+      same = c.next.ensures.same ∙ c.loop-piece.invariant.same;
+      inside = omega (arith, c.in-Some.ensures.inside.inside, ap length c.loop-piece.invariant.same);
+    }
 
 pub returns : goal.returns
-returns c = λ g.
-    let left = c.loop-piece.invariant.left g in
-    totals_last left (c.in_default.ensures.steps left.ps left.ahead)
+returns c = λ g. totals_last (c.loop-piece.invariant.left g) c.in_default.ensures.steps

@@ -10,4 +10,5 @@ returns-in-Ok-clause-written c =
 pub returns-in-Ok-size-clause-written : goal.returns-in-Ok-size-clause-written
 returns-in-Ok-size-clause-written c =
     row_lacks c.args.self.now c.args.kind c.args.dim c.args.options.now c.args.i _ _ (row_meant c.in-Some.row) _ _
-    c.in-Some.ensures.row c.in-Err.ensures.err (c.in-Ok-size.ensures c.args.options.now.endianness) c.in-Err.ensures.kept
+    c.in-Some.ensures.row c.in-Err.ensures.err (c.in-Ok-size.ensures c.args.options.now.endianness)
+    c.in-Err.ensures.kept
