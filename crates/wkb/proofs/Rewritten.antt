@@ -1,5 +1,6 @@
--- What the check finds in an input is what is rewritten of it, and compared; what it refuses is what the reader refuses.
-use Rattle.std.proofs.Common.{◌≡◌, ◌≢◌, ℕ, ◌+◌, ◌≤◌, List, ◌++◌, length, Bool, true, false, ◌⊎◌, inl, inr, refl, sym, ap, ◌∙◌}
+-- What the check finds in an input is what is rewritten and compared; what it refuses is what the reader refuses.
+use Rattle.std.proofs.Common.{◌≡◌, ◌≢◌, ℕ, ◌+◌, ◌≤◌, ◌⊎◌, inl, inr, List, ◌++◌, length, Bool, true, false}
+use Rattle.std.proofs.Common.{refl, sym, ap, ◌∙◌}
 use Rattle.std.proofs.Common.{take, drop, ◌↔◌, IsTrue, MatchBool, subst, arith, append-nil}
 use Rattle.std.proofs.Math.Seq.{take-append_seam}
 use Rattle.std.proofs.lemmas.List.{drop_all}
@@ -49,7 +50,8 @@ filled x old new items len n long is fits put =
 
 -- what was made of it is its rewriting
 pub made : {buf : List ℕ} {found : Summary} {order : Endianness} {form : Form} {out : List ℕ}
-    → (d : DescribesFront buf found) → out ≡ encoding order form (geometry_of (here d).value) → IsRewriting order form buf out
+    → (d : DescribesFront buf found) → out ≡ encoding order form (geometry_of (here d).value)
+    → IsRewriting order form buf out
 made d is = record { s = d.spelled; t = d.value; rest = d.rest; front = d.front; written = is }
 
 -- with the geometry's own SRID

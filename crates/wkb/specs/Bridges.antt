@@ -4,17 +4,19 @@ use Rattle.std.proofs.Common.{Bool, ◌⊎◌, inl, inr, refl, sym, ap, subst, s
 use Rattle.std.proofs.Common.{append-nil, drop-drop, take-append-drop, length-append, length-drop, take_all, take-take}
 use Rattle.std.proofs.Common.{arith}
 use Rattle.std.proofs.Math.Seq.{take-append_seam}
-use Rattle.std.proofs.lemmas.List.{drop-take}
+use Rattle.std.proofs.lemmas.List.{drop-take, length-map}
 use Rattle.std.proofs.lemmas.Result.{IfOk-at_ok}
 use Rattle.std.specs.Io.KnownBytes.{Appends}
-use Rattle.wkb.specs.Prelude.{Dimension, WkbError, IsMemory}
+use Rattle.wkb.specs.Prelude.{Dimension, WkbError, IsMemory, Endianness, Form, as_dimensions}
 use Rattle.wkb_geom.specs.declared.error.WkbError.TheVariants as errors
-use Rattle.wkb.specs.Values.{Value, Values, each, members, collection, nest}
-use Rattle.wkb.specs.Spellings.{Spelling, node, Spellings, no_spellings, spelling, Front, max_nesting, HasOptions}
+use Rattle.wkb.specs.Values.{Coordinate, Value, Values, each, members, collection, nest}
+use Rattle.wkb.specs.Spellings.{Spelling, node, Spellings, no_spellings, spelling, header, Front, max_nesting}
+use Rattle.wkb.specs.Spellings.{HasOptions}
 use Rattle.wkb.specs.Geometries.{Geometry, normal}
-use Rattle.wkb.specs.Encodings.{Fault, encoding, refusal}
+use Rattle.wkb.specs.Encodings.{Fault, encoding, refusal, form_srid}
 use Rattle.wkb.specs.Reads.{Item, spellings, values, IfRefused, IsFront, IsCollectionOf, list_of_spellings}
-use Rattle.wkb.specs.Reads.{members_spelled, spelling_at}
+use Rattle.wkb.specs.Reads.{members_spelled, spelling_at, Listed, fitted_parts, fitted_members, fitted_line_string}
+use Rattle.wkb.specs.Reads.{fitted_line_strings}
 use Rattle.std.specs.declared.io.Error.{Error}
 use Rattle.wkb.specs.Writes.{Writes, WriteOptions, IsSpelled}
 use Rattle.wkb.specs.Laws.{IsOneOf, IsMember, StandsAt}
@@ -168,3 +170,18 @@ pub begins_there : {start : ℕ} {part whole : List ℕ} → StandsAt start part
     → drop start whole ≡ part ++ drop (length part) (drop start whole)
 begins_there {start = start} {part = part} {whole = whole} h =
     sym (take-append-drop (length part) (drop start whole)) ∙ ap (λ t. t ++ drop (length part) (drop start whole)) h.is
+
+-- ---- what views count, and the options' SRID
+
+-- A polygon has as many rings, and a multi line string as many line strings, as its value.
+pub parts_counted : (g : Listed (List (List Coordinate))) → length (fitted_parts g) ≡ length g.parts
+parts_counted g = length-map g.parts (fitted_line_string (as_dimensions g.dimension))
+
+-- A multi polygon has as many polygons as its value.
+pub members_counted : (g : Listed (List (List (List Coordinate)))) → length (fitted_members g) ≡ length g.parts
+members_counted g = length-map g.parts (fitted_line_strings (as_dimensions g.dimension))
+
+-- What has the options has the SRID of their form.
+pub srid_of_options : (order : Endianness) (form : Form) (s : Spelling) → HasOptions order form s
+    → (header s).srid ≡ form_srid form
+srid_of_options order form (node h words members) has = has.1

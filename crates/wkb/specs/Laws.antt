@@ -10,5 +10,6 @@ pub use Rattle.wkb_laws.specs.Encodings.{spelled_size, SpelledInFull, SizeOfSpel
 pub use Rattle.wkb_laws.specs.Encodings.{EqualSpelled, EqualSpelledWithSrid}
 pub use Rattle.wkb_laws.specs.Places.{HasOneEncoding, HaveOneEncoding, CoordinateHasOneEncoding, behind_count, IsOneOf}
 pub use Rattle.wkb_laws.specs.Places.{IsMember, first_spellings, first_values, SpellsFirst, first_size, member_start}
-pub use Rattle.wkb_laws.specs.Places.{ring_start, StandsAt, HoldsMember, NextStart, MembersStand, HoldsRing, RingsStand}
+pub use Rattle.wkb_laws.specs.Places.{ring_start, StandsAt, HoldsMember, FirstStart, NextStart, FirstRingStart}
+pub use Rattle.wkb_laws.specs.Places.{NextRingStart, MembersStand, HoldsRing, RingsStand}
 pub use Rattle.wkb_laws.specs.Places.{MembersInPlace, RingsInPlace, IsWordOf, WordsStand, LineStringWordsStand}

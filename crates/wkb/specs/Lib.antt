@@ -5,7 +5,9 @@ pub mod Values
 pub mod Spellings
 pub mod Refusals
 pub mod Geometries
+pub mod PlainGeometry
 pub mod Plain
+pub mod Levels
 pub mod Encodings
 pub mod Reads
 pub mod Writes

@@ -6,8 +6,9 @@ pub use Rattle.wkb_plain.specs.declared.polygon.Polygon.{Polygon}
 pub use Rattle.wkb_plain.specs.declared.multi_point.MultiPoint.{MultiPoint}
 pub use Rattle.wkb_plain.specs.declared.multi_line_string.MultiLineString.{MultiLineString}
 pub use Rattle.wkb_plain.specs.declared.multi_polygon.MultiPolygon.{MultiPolygon}
-pub use Rattle.wkb_plain.specs.declared.geometry.GeometryCollection.{GeometryCollection}
-pub use Rattle.wkb_plain.specs.declared.geometry.Geometry.{Geometry}
+pub use Rattle.wkb.specs.declared.geom.geometry.GeometryCollection.{GeometryCollection}
+pub use Rattle.wkb.specs.declared.geom.geometry.Geometry.{Geometry}
+pub use Rattle.wkb.specs.declared.geom.geometry.Geometry.TheVariants as plain
 pub use Rattle.wkb_plain.specs.declared.rect.Rect.{Rect}
 pub use Rattle.wkb_plain.specs.declared.triangle.Triangle.{Triangle}
 pub use Rattle.wkb_plain.specs.declared.line.Line.{Line}
@@ -19,5 +20,5 @@ pub use Rattle.wkb_plain.specs.Kinds.{multi_line_string_dimensions, multi_line_s
 pub use Rattle.wkb_plain.specs.Kinds.{multi_polygon_dimensions, multi_polygon_polygons, line_dimensions, line_start}
 pub use Rattle.wkb_plain.specs.Kinds.{line_end, rect_dimensions, rect_min, rect_max, triangle_dimensions}
 pub use Rattle.wkb_plain.specs.Kinds.{triangle_first, triangle_second, triangle_third}
-pub use Rattle.wkb_plain.specs.PlainGeometry.{plain_geometry, plain_dimensions, collection_dimensions}
-pub use Rattle.wkb_plain.specs.PlainGeometry.{collection_members}
+pub use Rattle.wkb.specs.PlainGeometry.{plain_geometry, plain_dimensions, collection_dimensions}
+pub use Rattle.wkb.specs.PlainGeometry.{collection_members}

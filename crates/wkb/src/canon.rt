@@ -1,5 +1,5 @@
-//! The canonical form: the one encoding of the value at the front of an input. Inputs are checked, and then rewritten and
-//! compared where they are.
+//! The canonical form: the one encoding of the value at the front of an input. Inputs are checked, and then rewritten
+//! and compared where they are.
 
 ghost use Rattle.std.specs.Prelude.{◌⊎◌, IfOk, IfErr, MatchBool};
 ghost use Rattle.wkb_geom.specs.Errors.{IsMemory};
@@ -35,7 +35,7 @@ pub fn canonical(alloc: Global, buf: &[u8], options: &WriteOptions) -> WkbResult
         order: options.endianness,
         form: options.form,
     };
-    let found = checked(buf)?;
+    let found = summary_or_error(buf)?;
     rewritten(alloc, buf, &found, target)
 }
 
@@ -47,15 +47,15 @@ pub fn canonical_with_srid(alloc: Global, buf: &[u8], order: Endianness) -> WkbR
     ensures err { IfErr result (λ e. IsMemory e ⊎ IsRefusal buf.now e) }
     ensures memory { IfErr result (λ e. IsMemory e → IsAccepted buf.now) }
 {
-    let found = checked(buf)?;
+    let found = summary_or_error(buf)?;
     let form = Form::Ewkb { srid: found.srid };
     rewritten(alloc, buf, &found, Target { order, form })
 }
 
 /// Whether two inputs begin with geometries of the same value, SRIDs aside.
 ///
-/// Refused as `read_wkb` refuses the first, which is checked before the second is looked at, or else the second. Nothing
-/// is allocated.
+/// Refused as `read_wkb` refuses the first, which is checked before the second is looked at, or else the second.
+/// Nothing is allocated.
 ///
 /// ```
 /// // Whether a geometry is stored already, in whatever byte order.
@@ -68,13 +68,13 @@ pub fn same(alloc: Global, a: &[u8], b: &[u8]) -> WkbResult<bool>
     ensures no_memory { IfErr result IsNotMemory }
 {
     let _unused = alloc;
-    let _first = checked(a)?;
-    let _second = checked(b)?;
+    let _first = summary_or_error(a)?;
+    let _second = summary_or_error(b)?;
     Ok(have_one_value(a, b))
 }
 
 /// What the check finds at the front of the bytes, or the error that reading them returns.
-fn checked(buf: &[u8]) -> WkbResult<Summary>
+fn summary_or_error(buf: &[u8]) -> WkbResult<Summary>
     ensures front { IfOk result (λ found. DescribesFront buf.now found) }
     ensures one_front { IfOk result (λ found. DescribesOnlyFront buf.now found) }
     ensures refused { IfErr result (λ e. IsRefusal buf.now e) }

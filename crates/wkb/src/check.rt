@@ -1,5 +1,5 @@
-//! The check that allocates nothing: whether a geometry is at the front of some bytes, what it is, and where it ends. The
-//! bounds of its coordinates, without allocation too.
+//! The check that allocates nothing: whether a geometry is at the front of some bytes, what it is, and where it ends.
+//! The bounds of its coordinates, without allocation too.
 //!
 //! ```
 //! // Bytes from a stranger: nothing is allocated for what is refused.

@@ -5,6 +5,10 @@ ghost use Rattle.std.specs.Prelude.{◌≡◌, IfSome, is_some, not, to_bits, fr
 ghost use Rattle.std.specs.Float.{binary64, NotNan};
 ghost use Rattle.wkb.specs.Prelude.{is_nan as nan};
 
+mod geometry;
+pub mod levels;
+
+pub use geometry::{Geometry, GeometryCollection};
 pub use wkb_geom::Dimensions;
 pub use wkb_geom::geom::{
     CoordTrait, Dimensioned, GeometryCollectionTrait, GeometryTrait, GeometryType, LineStringTrait,
@@ -13,8 +17,8 @@ pub use wkb_geom::geom::{
 };
 use wkb_geom::words::is_nan;
 pub use wkb_plain::{
-    Coord, Geometry, GeometryCollection, Line, LineString, MultiLineString, MultiPoint,
-    MultiPolygon, Point, Polygon, Rect, Triangle,
+    Coord, Line, LineString, MultiLineString, MultiPoint, MultiPolygon, Point, Polygon, Rect,
+    Triangle,
 };
 
 /// The number that a coordinate's word stands for; `None` for a not-a-number.

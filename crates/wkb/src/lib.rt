@@ -10,8 +10,9 @@
 //! let encoding = to_vec(alloc, &wkb, &options)?;
 //! ```
 //!
-//! All names but those of `canon`, `geom::ordinate`, `laws::are_bytes` and `laws::srid_fits` are re-exports of the crates
-//! below (docs/DECISIONS.md, D9).
+//! All names but those of `canon`, `geom::ordinate`, `geom::Geometry`, `geom::GeometryCollection`, `laws::are_bytes`
+//! and `laws::srid_fits` are re-exports of the crates below (docs/DECISIONS.md, D9). A recursive enum like
+//! `geom::Geometry` is declared here, because a crate that lists `wkb` alone can name it in contracts only so.
 #![tactic(auto)]
 
 pub mod canon;

@@ -1,5 +1,6 @@
 -- The words that most files here need, passed on from one place. Declares nothing.
-pub use Rattle.wkb.specs.Prelude.{width, IsMemory, AreBytes, number, Dimension, LittleEndian, Xy, Iso, WkbError, all_nan}
+pub use Rattle.wkb.specs.Prelude.{width, IsMemory, AreBytes, number, Dimension, LittleEndian, Xy, Iso, WkbError}
+pub use Rattle.wkb.specs.Prelude.{all_nan}
 pub use Rattle.wkb.specs.Values.{Coordinate, Value, polygon, line_string, Values, collection, kind, point, members}
 pub use Rattle.wkb.specs.Values.{no_members, member, each, dimension, nest, multi_polygon, multi_line_string}
 pub use Rattle.wkb.specs.Spellings.{Front, max_nesting, Spelling, Spells, SpellsCoordinates, header, node, Spellings}

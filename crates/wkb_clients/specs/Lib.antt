@@ -5,3 +5,6 @@ pub mod Members
 pub mod Rings
 pub mod Words
 pub mod Paths
+pub mod Shapes
+pub mod Corners
+pub mod Features

@@ -28,8 +28,8 @@ FindsWord blob offset i n result =
     (λ e. IsMemory e ⊎ HasNoWordAt blob offset i n)
 
 -- At the offset there is a collection whose member k is a polygon, and this is word n of coordinate i of that polygon's
--- ring j: the number, in the polygon's order, as many words after the ring's count. The ring starts where it does in the
--- polygon, and the polygon where it does in the collection.
+-- ring j: the number, in the polygon's order, as many words after the ring's count. The ring starts where it does in
+-- the polygon, and the polygon where it does in the collection.
 pub record IsRingWordAt (blob : List ℕ) (offset k j i n w : ℕ) : Type 0 where
   pub whole : Item
   pub dimension : Dimension

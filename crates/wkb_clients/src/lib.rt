@@ -3,6 +3,11 @@
 
 pub mod clones;
 pub mod collections;
+pub mod columns;
+pub mod corners;
+pub mod counts;
+pub mod drawn;
+pub mod features;
 pub mod framed;
 pub mod keys;
 pub mod members;
@@ -10,4 +15,5 @@ pub mod orders;
 pub mod package;
 pub mod places;
 pub mod plain;
+pub mod shapes;
 pub mod written;

@@ -14,8 +14,8 @@ use wkb::laws::{
 };
 use wkb::reader::{MultiLineString, MultiPoint, MultiPolygon, Polygon};
 
-/// The bytes of a point of a multi point, if there is one of this index: they are in those of the multi point, after its
-/// count and the points before.
+/// The bytes of a point of a multi point, if there is one of this index: they are in those of the multi point, after
+/// its count and the points before.
 pub fn point_bytes<'a>(multi: &MultiPoint<'a>, i: usize) -> Option<&'a [u8]>
     ensures { IfSome result (λ bytes. LendsMember (multi_point_seen multi.now) i bytes.now) }
 {

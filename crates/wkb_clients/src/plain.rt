@@ -1,11 +1,16 @@
 //! Plain geometries over words of the user's own.
 
-ghost use Rattle.std.specs.Prelude.{◌≡◌, ◌%◌, ◌↔◌, length, is_none, IfSome, IsSome};
+ghost use Rattle.std.specs.Prelude.{◌≡◌, ◌%◌, ◌↔◌, length, is_none, IfOk, IfSome, IsSome};
 ghost use Rattle.wkb.specs.Prelude.traits.{Xy};
 ghost use Rattle.wkb.specs.Plain.{point_coordinate, coordinates_in};
 ghost use Rattle.wkb.specs.Plain.{line_string_dimensions, line_string_coordinates};
+ghost use Rattle.wkb.specs.Plain.{plain_dimensions, plain_geometry};
+ghost use Rattle.wkb.specs.Encodings.{encoding_of};
 
-use wkb::geom::{Dimensions, LineString, Point, PointTrait};
+use std::alloc::Global;
+use wkb::error::WkbResult;
+use wkb::geom::{Dimensioned, Dimensions, Geometry, LineString, Point, PointTrait};
+use wkb::writer::{WriteOptions, to_vec};
 
 /// Whether a point is the empty one.
 pub fn is_empty_point(point: &Point) -> bool
@@ -25,4 +30,19 @@ pub fn line_of_pairs<'w>(words: &'w [u64]) -> Option<LineString<'w>>
         (λ line. line_string_coordinates line ≡ coordinates_in Xy words.now) }
 {
     LineString::new(Dimensions::Xy, words)
+}
+
+/// The dimension of a plain geometry of any kind.
+pub fn dim_of(geometry: &Geometry) -> Dimensions
+    ensures { result ≡ plain_dimensions geometry.now }
+{
+    geometry.dim()
+}
+
+/// The encoding of a plain geometry of any kind.
+pub fn encoded(alloc: Global, geometry: &Geometry, options: &WriteOptions) -> WkbResult<Vec<u8>>
+    ensures { IfOk result
+        (λ bytes. bytes.items ≡ encoding_of options.now (plain_geometry geometry.now)) }
+{
+    to_vec(alloc, geometry, options)
 }

@@ -6,7 +6,7 @@ use Rattle.std.proofs.lemmas.Bool.Decides.{nat_tests}
 use Rattle.std.proofs.lemmas.Option.{slice_get-map, slice_get_past, slice_get_read}
 
 -- what the slice returned for the index
-abbrev IsAnswered : {A : Type 0} → List A → ℕ → Option (Bor A) → Type 0
+abbrev pub IsAnswered : {A : Type 0} → List A → ℕ → Option (Bor A) → Type 0
 IsAnswered xs i o = (is_some o ≡ nat_lt i (length xs)) × IfSome o (λ x. x.now ≡ slice_index_or xs i x.now)
 
 below : (i n : ℕ) → nat_lt i n ≡ true → i < n

@@ -85,4 +85,12 @@ impl<'w> LineStringTrait for LineString<'w> {
             words: &self.words[start..start + width],
         }
     }
+
+    #[inline]
+    fn coords_as_words(&self) -> Option<&[u64]>
+        ensures lent { IsSome result }
+        ensures words { IfSome result (λ ws. ws.now ≡ concat (line_string_coordinates self.now)) }
+    {
+        Some(self.words)
+    }
 }

@@ -6,7 +6,8 @@ pub returns-in-Err : goal.returns-in-Err
 returns-in-Err c =
     let at = c.args.at in
     no_collection_there c.args.blob.now c.args.offset at.member at.ring at.coordinate at.word c.in-Err.e
-    (refused c.args.blob.now c.args.offset c.from_offset.result.now c.in-Err.e c.from_offset.ensures c.in-Err.ensures.no_front)
+    (refused c.args.blob.now c.args.offset c.from_offset.result.now c.in-Err.e c.from_offset.ensures
+    c.in-Err.ensures.no_front)
 
 pub returns-in-Some-coord : goal.returns-in-Some-coord
 returns-in-Some-coord c =

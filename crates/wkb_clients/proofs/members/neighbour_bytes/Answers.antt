@@ -11,7 +11,8 @@ returns-in-Some-polygon_bytes c =
     let o = c.in-Some.ensures in
     subst (λ bytes. AreNeighbours (whole_of multi_polygon m) c.args.i bytes c.in-Some-polygon_bytes.next.now)
     (sym c.buf-bytes.ensures.encoding)
-    (are_neighbours c.spelled_in_full.ensures c.members_in_place.ensures c.next_start.ensures c.size_of_spelled.ensures
+    (are_neighbours c.spelled_in_full.ensures c.members_in_place.ensures c.next_start.ensures.next
+    c.size_of_spelled.ensures
     (whole_of multi_polygon m) c.args.i _ (whole_of polygon p) c.in-Some-polygon_bytes.next.now (omega arith)
     (polygon_member m c.args.i p o.dimension o.spelled o.part)
     (subst AreBytes c.buf.ensures.encoding c.are_bytes.ensures)

@@ -5,16 +5,16 @@ use Rattle.wkb_geom.specs.declared.common.Dimensions.{Dimensions}
 use Rattle.wkb_geom.specs.Geometries.{Geometry, point, line_string, polygon, multi_point, multi_line_string}
 use Rattle.wkb_geom.specs.Geometries.{multi_polygon, collection, rectangle, triangle, line, dimensions_of, geometries}
 use Rattle.wkb_geom.specs.Geometries.{IsGeometry, AreGeometries}
-use Rattle.wkb_plain.specs.declared.geometry.Geometry.{Geometry as PlainGeometry}
-use Rattle.wkb_plain.specs.declared.geometry.Geometry.TheOpen.{Geometry-F, GeometryCollection-F, Point, LineString}
-use Rattle.wkb_plain.specs.declared.geometry.Geometry.TheOpen.{Polygon, MultiPoint, MultiLineString, MultiPolygon}
-use Rattle.wkb_plain.specs.declared.geometry.Geometry.TheOpen.{GeometryCollection, Rect, Triangle, Line}
-use Rattle.wkb_plain.specs.declared.geometry.Geometry.TheViews.{out-Geometry}
-use Rattle.wkb_plain.specs.declared.geometry.Geometry.TheFolds.{fold-Geometry, fold_out-Geometry, map-Geometry}
-use Rattle.wkb_plain.specs.declared.geometry.Geometry.TheFolds.{ind-Geometry, fold-roll-Geometry}
-use Rattle.wkb_plain.specs.declared.geometry.Geometry.TheFolds.{fold-GeometryCollection, fold_out-GeometryCollection}
-use Rattle.wkb_plain.specs.declared.geometry.Geometry.TheFolds.{map-GeometryCollection, fold-roll-GeometryCollection}
-use Rattle.wkb_plain.specs.declared.geometry.GeometryCollection.{GeometryCollection as PlainCollection}
+use Rattle.wkb.specs.declared.geom.geometry.Geometry.{Geometry as PlainGeometry}
+use Rattle.wkb.specs.declared.geom.geometry.Geometry.TheOpen.{Geometry-F, GeometryCollection-F, Point, LineString}
+use Rattle.wkb.specs.declared.geom.geometry.Geometry.TheOpen.{Polygon, MultiPoint, MultiLineString, MultiPolygon}
+use Rattle.wkb.specs.declared.geom.geometry.Geometry.TheOpen.{GeometryCollection, Rect, Triangle, Line}
+use Rattle.wkb.specs.declared.geom.geometry.Geometry.TheViews.{out-Geometry}
+use Rattle.wkb.specs.declared.geom.geometry.Geometry.TheFolds.{fold-Geometry, fold_out-Geometry, map-Geometry}
+use Rattle.wkb.specs.declared.geom.geometry.Geometry.TheFolds.{ind-Geometry, fold-roll-Geometry}
+use Rattle.wkb.specs.declared.geom.geometry.Geometry.TheFolds.{fold-GeometryCollection, fold_out-GeometryCollection}
+use Rattle.wkb.specs.declared.geom.geometry.Geometry.TheFolds.{map-GeometryCollection, fold-roll-GeometryCollection}
+use Rattle.wkb.specs.declared.geom.geometry.GeometryCollection.{GeometryCollection as PlainCollection}
 use Rattle.wkb_plain.specs.Kinds.{point_dimensions, point_coordinate, point_lawful, line_string_dimensions}
 use Rattle.wkb_plain.specs.Kinds.{line_string_coordinates, line_string_lawful, polygon_dimensions, polygon_rings}
 use Rattle.wkb_plain.specs.Kinds.{polygon_lawful, multi_point_dimensions, multi_point_points, multi_point_lawful}

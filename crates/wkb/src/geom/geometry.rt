@@ -1,16 +1,16 @@
 //! A plain geometry of any kind, and collections of them.
 
 ghost use Rattle.std.specs.Prelude.{◌≡◌, map};
-ghost use Rattle.wkb_plain.specs.PlainGeometry.{plain_geometry, plain_dimensions};
-ghost use Rattle.wkb_plain.specs.PlainGeometry.{dimensions_of-plain_geometry};
-ghost use Rattle.wkb_plain.specs.PlainGeometry.{IsGeometry-plain_geometry, collection_dimensions};
-ghost use Rattle.wkb_plain.specs.PlainGeometry.{collection_members, collection_lawful};
+ghost use Rattle.wkb.specs.PlainGeometry.{plain_geometry, plain_dimensions};
+ghost use Rattle.wkb.specs.PlainGeometry.{dimensions_of-plain_geometry};
+ghost use Rattle.wkb.specs.PlainGeometry.{IsGeometry-plain_geometry, collection_dimensions};
+ghost use Rattle.wkb.specs.PlainGeometry.{collection_members, collection_lawful};
 
-use crate::{
-    Line, LineString, MultiLineString, MultiPoint, MultiPolygon, Point, Polygon, Rect, Triangle,
-};
 use wkb_geom::{
     Dimensioned, Dimensions, Endianness, Form, GeometryCollectionTrait, GeometryTrait, GeometryType,
+};
+use wkb_plain::{
+    Line, LineString, MultiLineString, MultiPoint, MultiPolygon, Point, Polygon, Rect, Triangle,
 };
 
 /// A plain geometry of any kind.
@@ -161,7 +161,7 @@ impl<'w> GeometryTrait for Geometry<'w> {
 
     // The trait's default says the same, but the check would prove it again here, in some ten seconds.
     #[inline]
-    fn whole(&self, _order: Endianness, _form: Form) -> Option<&[u8]> {
+    fn as_written(&self, _order: Endianness, _form: Form) -> Option<&[u8]> {
         None
     }
 }

@@ -1,0 +1,25 @@
+-- What columns of coordinates mean: their levels, their rows, and what becomes of a row that is written.
+pub use Rattle.wkb_levels.specs.declared.ends.Ends.{Ends}
+pub use Rattle.wkb_levels.specs.declared.ends.Ends.TheVariants as ends
+pub use Rattle.wkb_levels.specs.declared.levels.Levels.{Levels}
+pub use Rattle.wkb_levels.specs.declared.levels.Place.{Place}
+pub use Rattle.wkb_levels.specs.declared.rings.Rings.{Rings}
+pub use Rattle.wkb_levels.specs.declared.points.Points.{Points}
+pub use Rattle.wkb_levels.specs.declared.polygons.Polygons.{Polygons}
+pub use Rattle.wkb_levels.specs.declared.single.Single.{Single}
+pub use Rattle.wkb_levels.specs.declared.single.Single.TheVariants as singles
+pub use Rattle.wkb_levels.specs.declared.row.Row.{Row}
+pub use Rattle.wkb_levels.specs.declared.row.Row.TheVariants as rows
+pub use Rattle.wkb_levels.specs.declared.row.Kind.{Kind}
+pub use Rattle.wkb_levels.specs.declared.row.Kind.TheVariants as column_kinds
+pub use Rattle.wkb_levels.specs.declared.write.Written.{Written}
+pub use Rattle.wkb_levels.specs.declared.write.Written.TheVariants as written
+pub use Rattle.wkb_levels.specs.Cuts.{start_at, AreEnds, AreOnes, pieces_from, only, and_then, only_each}
+pub use Rattle.wkb_levels.specs.EndLists.{start_of, ends_of, begin_of, AreEndsWithin}
+pub use Rattle.wkb_levels.specs.RingLists.{rings_in, rings_dimensions, rings_rings}
+pub use Rattle.wkb_levels.specs.PointLists.{points_dimensions, points_points}
+pub use Rattle.wkb_levels.specs.PolygonLists.{polygons_dimensions, polygons_polygons}
+pub use Rattle.wkb_levels.specs.Columns.{column_rings, column_singles, row_begin, row_end, singles_of, AreEndsBetween}
+pub use Rattle.wkb_levels.specs.Columns.{AreRowLevels, place_at, IsUpTo, furthest, EndUpTo, IsFloor}
+pub use Rattle.wkb_levels.specs.Meant.{single_dimensions, single_meant, row_meant, rings_meant, kind_meant, IsLevelRow}
+pub use Rattle.wkb_levels.specs.RowWrites.{HasRowEncoding, IsRowWrite}

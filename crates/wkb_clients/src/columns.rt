@@ -1,0 +1,41 @@
+//! Rows of a column of coordinates, as GeoArrow has them.
+
+ghost use Rattle.std.specs.Prelude.{◌≡◌, ◌<◌, ◌+◌, length, IfOk, MatchOption};
+ghost use Rattle.wkb.specs.Prelude.traits.{Xy};
+ghost use Rattle.wkb.specs.Geometries.{Geometry};
+ghost use Rattle.wkb.specs.Levels.{ends_of, IsFloor, IsLevelRow, HasRowEncoding};
+ghost use Rattle.wkb.specs.Levels.column_kinds.{Polygon};
+
+use std::alloc::Global;
+use wkb::error::WkbResult;
+use wkb::geom::Dimensions;
+use wkb::geom::levels::{Kind, Levels, Place, Row};
+use wkb::writer::{WriteOptions, to_vec};
+
+/// The encoding of row i of a column of polygons. None where the row's levels fall, pass the next level's end, begin
+/// before an earlier row's end, or hold no single polygon.
+///
+/// Rows are asked for in turn, from `Place::front` on.
+pub fn polygon_of_row(
+    alloc: Global,
+    levels: &Levels,
+    i: usize,
+    reach: &mut Place,
+    options: &WriteOptions,
+) -> WkbResult<Option<Vec<u8>>>
+    requires index { i < length (ends_of levels.now.row_ends) }
+    requires reach { IsFloor levels.now Xy i reach.old }
+    ensures row { IfOk result (λ found. MatchOption found
+        ((g : Geometry) → IsLevelRow levels.now Polygon Xy i g → ⊥)
+        (λ bytes. HasRowEncoding levels.now Polygon Xy options.now i bytes.items)) }
+    ensures reach { IsFloor levels.now Xy (i + 1) reach.new }
+{
+    match levels.row(Kind::Polygon, Dimensions::Xy, i, reach) {
+        Some(Row::Single(polygon)) => match to_vec(alloc, &polygon, options) {
+            Ok(bytes) => Ok(Some(bytes)),
+            Err(e) => Err(e),
+        },
+        Some(Row::MultiPolygon(_)) => unreachable!(),
+        None => Ok(None),
+    }
+}
