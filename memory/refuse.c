@@ -1,18 +1,22 @@
 // Preloaded into a test or a program of one thread. At each allocation, which the kit's allocator asks of malloc or
 // realloc, the process splits: a child goes on as if the allocation had failed, and after its end the process itself
 // goes on with the memory. What the child writes from then on goes to the file whose descriptor is in REPORT, and
-// after it, between two zero bytes, its status, or its signal as a negative number.
+// after it, between two zero bytes, its status, or its signal as a negative number. At its own end the process writes
+// there how many bytes it has asked for, and how many blocks of memory it has not given back.
 #include <stdio.h>
 #include <stdlib.h>
 #include <sys/wait.h>
 #include <unistd.h>
 
-extern void *__libc_malloc(size_t), *__libc_realloc(void *, size_t);
+extern void *__libc_malloc(size_t), *__libc_realloc(void *, size_t), __libc_free(void *);
 
 enum { SECONDS = 60 };
 
 // Below zero no allocation fails: before the program begins, and in a child.
 static int report = -1;
+
+// What was asked for since the program began, and the blocks that are not given back.
+static unsigned long bytes, blocks;
 
 __attribute__((constructor)) static void begin(void) {
   const char *descriptor = getenv("REPORT");
@@ -27,13 +31,22 @@ static void go_on_without(void) {
 }
 
 // Nothing here asks for memory, as dprintf would.
+static void tell(const char *text, int length) {
+  if (write(report, text, length) != length) abort();
+}
+
 static void wait_for(pid_t child) {
   int status;
   if (child < 0 || waitpid(child, &status, 0) < 0) abort();
   char text[16];
   int end = WIFEXITED(status) ? WEXITSTATUS(status) : -WTERMSIG(status);
-  int length = snprintf(text, sizeof text, "%c%d%c", 0, end, 0);
-  if (write(report, text, length) != length) abort();
+  tell(text, snprintf(text, sizeof text, "%c%d%c", 0, end, 0));
+}
+
+__attribute__((destructor)) static void end(void) {
+  if (report < 0) return;
+  char text[48];
+  tell(text, snprintf(text, sizeof text, "%lu %lu", bytes, blocks));
 }
 
 static int is_refused(void) {
@@ -50,6 +63,19 @@ static int is_refused(void) {
   return 0;
 }
 
-void *malloc(size_t size) { return is_refused() ? NULL : __libc_malloc(size); }
+// Counts a block of this size, which replaces an older one or none.
+static void *counted(void *block, const void *old, size_t size) {
+  if (report < 0 || !block) return block;
+  bytes += size;
+  blocks += !old;
+  return block;
+}
 
-void *realloc(void *old, size_t size) { return is_refused() ? NULL : __libc_realloc(old, size); }
+void *malloc(size_t size) { return is_refused() ? NULL : counted(__libc_malloc(size), NULL, size); }
+
+void *realloc(void *old, size_t size) { return is_refused() ? NULL : counted(__libc_realloc(old, size), old, size); }
+
+void free(void *block) {
+  if (report >= 0 && block) blocks -= 1;
+  __libc_free(block);
+}

@@ -1,4 +1,4 @@
-//! Every strict prefix of an input is refused.
+//! Every strict prefix of an input is refused, and a list of fewer entries than it claims.
 
 use std::alloc::Global;
 use std::test::Fail;
@@ -77,6 +77,27 @@ fn cut_others(rt: HostRuntime) -> Result<(), Fail> {
         MIXED_DIMENSIONS,
     ] {
         assert!(rt; are_short(rt.alloc(), text)?, "{text}");
+    }
+    Ok(())
+}
+
+/// Lists that claim 4294967295 entries, of which the first is there.
+const CLAIMED: [&str; 4] = [
+    "01 03000000 ffffffff 00000000",
+    "01 05000000 ffffffff 01 02000000 00000000",
+    "01 06000000 ffffffff 01 03000000 00000000",
+    "01 07000000 ffffffff 01 02000000 00000000",
+];
+
+// How many bytes their allocations ask for is in memory/expected.
+#[test]
+fn claimed_counts(rt: HostRuntime) -> Result<(), Fail> {
+    for text in CLAIMED {
+        let input = bytes(text)?;
+        assert!(rt;
+            outcome(rt.alloc(), input.as_slice())? == Outcome::EndOfInput,
+            "{text}"
+        );
     }
     Ok(())
 }

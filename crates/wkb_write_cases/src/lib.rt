@@ -16,6 +16,8 @@ mod kinds;
 #[cfg(test)]
 mod long_line;
 #[cfg(test)]
+mod own_shapes;
+#[cfg(test)]
 mod program;
 #[cfg(test)]
 mod refusals;

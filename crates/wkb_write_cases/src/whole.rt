@@ -1,15 +1,16 @@
-//! Whole encodings: in a vector of their own, and at the front of a slice.
+//! Whole encodings: in a vector of their own, at the front of a slice, and in one put where they are in memory already.
 
-use crate::answers::{Answer, size_answer};
+use crate::answers::{Answer, size_answer, writer_answer};
 use crate::kinds::{ENCODINGS, LITTLE};
+use crate::sinks::{LimitedSink, Limits};
 use std::alloc::Global;
 use std::io;
 use std::test::Fail;
 use wkb::Endianness;
 use wkb::error::WkbResult;
-use wkb::geom::{Dimensions, Geometry, GeometryTrait};
+use wkb::geom::{Dimensions, Geometry, GeometryTrait, GeometryType};
 use wkb::reader::Wkb;
-use wkb::writer::{WriteOptions, to_vec, write_to_slice};
+use wkb::writer::{WriteOptions, to_vec, write_geometry, write_to_slice};
 use wkb_cases::reading::read;
 use wkb_cases::spelled::{Spelled, bytes};
 use wkb_cases::support::{empty_point_of, iso};
@@ -81,13 +82,13 @@ fn is_written_in_both(alloc: Global, little: &Spelled, big: &Spelled) -> Result<
     )
 }
 
-/// A header and a number of coordinates of 1.0 and 2.0.
-fn line_of(header: &str, coordinate: &str) -> Result<Spelled, Fail> {
-    let mut line = bytes(header)?;
-    for _coordinate in 0..70 {
-        line.spell(coordinate)?;
+/// A header whose count is seventy, and that many parts: longer than any block.
+fn seventy_of(header: &str, part: &str) -> Result<Spelled, Fail> {
+    let mut spelled = bytes(header)?;
+    for _part in 0..70 {
+        spelled.spell(part)?;
     }
-    Ok(line)
+    Ok(spelled)
 }
 
 // An input that is copied at once, the same in the other order, and a line string that is longer than any block.
@@ -96,8 +97,8 @@ fn own_order_and_the_other(rt: HostRuntime) -> Result<(), Fail> {
     let little = bytes("01 01000000 P")?;
     let big = bytes("00 00000001 3ff0000000000000 4000000000000000")?;
     assert!(rt; is_written_in_both(rt.alloc(), &little, &big)?);
-    let little = line_of("01 02000000 46000000", "P")?;
-    let big = line_of("00 00000002 00000046", "3ff0000000000000 4000000000000000")?;
+    let little = seventy_of("01 02000000 46000000", "P")?;
+    let big = seventy_of("00 00000002 00000046", "3ff0000000000000 4000000000000000")?;
     assert!(rt; is_written_in_both(rt.alloc(), &little, &big)?);
     Ok(())
 }
@@ -124,5 +125,51 @@ fn refused_whole(rt: HostRuntime) -> Result<(), Fail> {
     let answer = size_answer(&in_slice(&point, &LITTLE, &mut slice));
     assert!(rt; answer == Answer::UnsupportedDimensions(5) && slice == [OLD; ROOM]);
     assert!(rt; in_vec(rt.alloc(), &point, &LITTLE).is_err());
+    Ok(())
+}
+
+/// Headers of each kind that has parts, with a count of seventy, and one of those parts.
+const SEVENTY: [(&str, &str); 6] = [
+    ("01 02000000 46000000", "P"),
+    ("01 03000000 46000000", "01000000 P"),
+    ("01 04000000 46000000", "01 01000000 P"),
+    ("01 05000000 46000000", "01 02000000 01000000 P"),
+    ("01 06000000 46000000", "01 03000000 01000000 01000000 P"),
+    ("01 07000000 46000000", "01 01000000 P"),
+];
+
+// Whether a sink that fails at its second put takes the whole geometry.
+fn is_one_put<G: GeometryTrait>(geometry: &G, encoding: &[u8]) -> bool {
+    let mut sink = LimitedSink::new(Limits {
+        puts: 1,
+        most: usize::MAX,
+        room: usize::MAX,
+    });
+    let written = writer_answer(&write_geometry(&mut sink, geometry, &LITTLE));
+    written == Answer::Written && sink.taken.as_slice() == encoding
+}
+
+// So for the view of its kind, of those that can lend their bytes.
+fn is_view_one_put(wkb: &Wkb<'_>, encoding: &[u8]) -> bool {
+    match wkb.as_type() {
+        GeometryType::LineString(view) => is_one_put(view, encoding),
+        GeometryType::MultiPoint(view) => is_one_put(view, encoding),
+        GeometryType::MultiLineString(view) => is_one_put(view, encoding),
+        GeometryType::MultiPolygon(view) => is_one_put(view, encoding),
+        _ => true,
+    }
+}
+
+// What was read in the form that is written is lent to the sink as it stands, and not written by its parts.
+#[test]
+fn lent_in_one_put(rt: HostRuntime) -> Result<(), Fail> {
+    for (header, part) in SEVENTY {
+        let input = seventy_of(header, part)?;
+        let wkb = read(rt.alloc(), input.as_slice())?;
+        assert!(rt;
+            is_one_put(&wkb, input.as_slice()) && is_view_one_put(&wkb, input.as_slice()),
+            "{header}"
+        );
+    }
     Ok(())
 }
