@@ -1,6 +1,7 @@
 // speed ROUNDS: nanoseconds of a call over random geometries of one shape after another, and by the row of a call for a
-// column of them, beside the readers of GEOS and OGR where they are. All calls of a shape are timed in each round, and
-// the shortest of the rounds counts.
+// column of them, beside the readers of GEOS and OGR where they are, and beside a reader of columns in plain C. All calls
+// of a shape are timed in each round, and the shortest of the rounds counts. What is printed is tables in Markdown.
+#include "plain_columns.h"
 #include "wkb.hpp"
 
 #include <algorithm>
@@ -73,9 +74,9 @@ row line(std::uint32_t count) {
   return out;
 }
 
-row polygon() {
+row polygon(std::uint32_t rings, std::uint32_t count) {
   row out;
-  put_polygon(out, 2, 12);
+  put_polygon(out, rings, count);
   return out;
 }
 
@@ -126,14 +127,26 @@ struct timed {
 };
 
 // The columns that a time takes in the table.
-int width_of(const timed &it) { return static_cast<int>(std::max<std::size_t>(std::strlen(it.name), 8)); }
+int width_of(const timed &it) { return static_cast<int>(std::max<std::size_t>(std::strlen(it.name), 7)); }
+
+// The head of a table of times.
+void print_head(const char *first, const std::vector<timed> &calls) {
+  std::printf("| %-16s | %5s |", first, "bytes");
+  for (const timed &it : calls) std::printf(" %*s |", width_of(it), it.name);
+  std::printf("\n|%s|------:|", std::string(18, '-').c_str());
+  for (const timed &it : calls) {
+    const std::string line(static_cast<std::size_t>(width_of(it)) + 1, '-');
+    std::printf("%s:|", line.c_str());
+  }
+  std::printf("\n");
+}
 
 // A time, or nothing where there is no such call.
 void print(const timed &it, double time) {
   if (time < std::numeric_limits<double>::infinity())
-    std::printf(" %*.1f", width_of(it), time);
+    std::printf(" %*.1f |", width_of(it), time);
   else
-    std::printf(" %*s", width_of(it), "");
+    std::printf(" %*s |", width_of(it), "");
 }
 
 double now() {
@@ -223,11 +236,20 @@ void column_write(whole_column &it) {
   wkb_column_write(&it.raw, &BIG, it.out.data(), it.out.size(), it.ends.data(), it.statuses.data());
 }
 
+// The rooms for coordinates that a column has, as C has them.
+wkb_coordinates rooms_of(wkb::row_coordinates &to) {
+  return {to.words.data(), to.words.size(), to.ring_ends.data(), to.ring_ends.size(),
+          to.single_ends.data(), to.single_ends.size(), to.row_ends.data(), 0, 0, 0};
+}
+
 void column_coordinates(whole_column &it) {
-  wkb::row_coordinates &to = it.levels;
-  wkb_coordinates out{to.words.data(), to.words.size(), to.ring_ends.data(), to.ring_ends.size(),
-                      to.single_ends.data(), to.single_ends.size(), to.row_ends.data(), 0, 0, 0};
+  wkb_coordinates out = rooms_of(it.levels);
   wkb_column_coordinates(&it.raw, WKB_DIM_XY, &out, it.statuses.data());
+}
+
+void plain_coordinates(whole_column &it) {
+  wkb_coordinates out = rooms_of(it.levels);
+  if (plain_column_coordinates(&it.raw, WKB_DIM_XY, &out) == 0) std::exit(1);
 }
 
 void column_from_coordinates(whole_column &it) {
@@ -265,19 +287,72 @@ void ogr_read(const row &input) {
 }
 #endif
 
-// The calls are copied, so that each shape has rounds of its own.
-void time_shape(const char *shape, const std::function<row()> &make, std::vector<timed> calls, int rounds) {
+std::vector<row> rows_of(const std::function<row()> &make) {
   std::vector<row> rows(ROWS);
   std::generate(rows.begin(), rows.end(), make);
   for (const row &input : rows)
     if (!wkb::check(input)) std::exit(1);
+  return rows;
+}
+
+// The calls are copied, so that each shape has rounds of its own.
+void time_shape(const char *shape, const std::function<row()> &make, std::vector<timed> calls, int rounds) {
+  const std::vector<row> rows = rows_of(make);
   whole_column column(rows);
   for (int round = 0; round < rounds; round++) time_round(calls, rows, column);
-  std::printf("%-14s %6zu", shape, rows[0].size());
+  std::printf("| %-16s | %5zu |", shape, rows[0].size());
   for (const timed &it : calls) print(it, it.shortest);
-  std::printf("\n%-14s %6s", "  in a column", "");
+  std::printf("\n| %-16s | %5s |", "  in a column", "");
   for (const timed &it : calls) print(it, it.shortest_of_column);
   std::printf("\n");
+}
+
+bool same_bits(const wkb::row_coordinates &a, const wkb::row_coordinates &b) {
+  return a.row_ends == b.row_ends && a.single_ends == b.single_ends && a.ring_ends == b.ring_ends &&
+         a.words.size() == b.words.size() &&
+         std::memcmp(a.words.data(), b.words.data(), a.words.size() * sizeof(double)) == 0;
+}
+
+// Sees that the reader in plain C has the numbers of wkb_column_coordinates, for the column in both byte orders.
+void compare_with_plain(const whole_column &column) {
+  const wkb::row_encodings big = wkb::write_rows(column.raw, BIG);
+  std::vector<std::int64_t> offsets{0};
+  offsets.insert(offsets.end(), big.ends.begin(), big.ends.end());
+  const wkb_column swapped = wkb::column(big.data, std::span<const std::int64_t>(offsets));
+  for (const wkb_column *it : {&column.raw, &swapped}) {
+    const wkb::row_coordinates ours = wkb::coordinates_of_rows(*it, WKB_DIM_XY);
+    wkb::row_coordinates plain = ours;
+    for (auto *ends : {&plain.row_ends, &plain.single_ends, &plain.ring_ends}) std::fill(ends->begin(), ends->end(), 0);
+    std::fill(plain.words.begin(), plain.words.end(), 0);
+    wkb_coordinates out = rooms_of(plain);
+    if (plain_column_coordinates(it, WKB_DIM_XY, &out) != 0 && same_bits(ours, plain)) continue;
+    std::fprintf(stderr, "plain C has other coordinates than wkb_column_coordinates\n");
+    std::exit(1);
+  }
+}
+
+// The coordinates of a column, beside plain C: nanoseconds a row, and our time in times of plain C's.
+void time_beside_plain(const char *shape, const std::function<row()> &make, std::vector<timed> calls, int rounds) {
+  const std::vector<row> rows = rows_of(make);
+  whole_column column(rows);
+  compare_with_plain(column);
+  for (int round = 0; round < rounds; round++) time_round(calls, rows, column);
+  std::printf("| %-16s | %5zu |", shape, rows[0].size());
+  for (const timed &it : calls) print(it, it.shortest_of_column);
+  std::printf(" %7.2f |\n", calls[0].shortest_of_column / calls[1].shortest_of_column);
+}
+
+void time_columns(int rounds) {
+  const std::vector<timed> calls{{"wkb_column_coordinates", {}, column_coordinates},
+                                 {"plain C", {}, plain_coordinates}};
+  std::vector<timed> head = calls;
+  head.push_back({"times", {}});
+  print_head("ns a row", head);
+  time_beside_plain("point", point, calls, rounds);
+  time_beside_plain("line of 10", [] { return line(10); }, calls, rounds);
+  time_beside_plain("polygon of 5", [] { return polygon(1, 5); }, calls, rounds);
+  time_beside_plain("polygon of 20", [] { return polygon(1, 20); }, calls, rounds);
+  time_beside_plain("multi polygon", multi_polygon, calls, rounds);
 }
 
 // One long line string in each order, so that the words alone are timed.
@@ -300,7 +375,7 @@ void time_words(int rounds) {
     const std::vector<row> rows(100, *input);
     whole_column column(rows);
     for (int round = 0; round < rounds; round++) time_round(calls, rows, column);
-    std::printf("a word, %s endian: wkb_word %.2f, wkb_words %.2f\n", input == &little ? "little" : "big",
+    std::printf("- a word, %s endian: wkb_word %.2f, wkb_words %.2f\n", input == &little ? "little" : "big",
                 calls[0].shortest, calls[1].shortest);
   }
 }
@@ -323,14 +398,15 @@ int main(int argc, char **argv) {
 #ifdef WITH_GEOS
   calls.push_back({"GEOS", geos_read});
 #endif
-  std::printf("%-14s %6s", "ns a call", "bytes");
-  for (const timed &it : calls) std::printf(" %*s", width_of(it), it.name);
-  std::printf("\n");
+  print_head("ns a row", calls);
   time_shape("point", point, calls, rounds);
   time_shape("line of 10", [] { return line(10); }, calls, rounds);
   time_shape("line of 100", [] { return line(100); }, calls, rounds);
-  time_shape("polygon", polygon, calls, rounds);
+  time_shape("polygon", [] { return polygon(2, 12); }, calls, rounds);
   time_shape("multi polygon", multi_polygon, calls, rounds);
+  std::printf("\n");
+  time_columns(rounds);
+  std::printf("\n");
   time_words(rounds);
   return sum == 0.5 ? 1 : 0;
 }

@@ -1,6 +1,5 @@
 /* The part of the library that isn't proved: each call of wkb.h replaces null pointers, unpacks the structs of columns
- * and calls its proved wkb_raw_ call. The texts, the version and wkb_words have no such call. docs/DECISIONS.md says
- * why (D11). */
+ * and calls its proved wkb_raw_ call. The texts, the version and wkb_words have no such call. */
 #include "wkb_raw.h"
 
 /* What an empty slice points to, for any type of its items. */
@@ -17,7 +16,7 @@ const char *wkb_status_text(uint32_t status) {
     case WKB_STATUS_OK: return "ok";
     case WKB_STATUS_NO_MEMORY: return "out of memory";
     case WKB_STATUS_NO_ROOM: return "the output doesn't fit its room";
-    case WKB_STATUS_UNKNOWN_OPTION: return "unknown byte order, form or dimension";
+    case WKB_STATUS_UNKNOWN_OPTION: return "unknown byte order, form, kind or dimension";
     case WKB_STATUS_NULL_ROW: return "the row is null";
     case WKB_STATUS_BAD_OFFSETS: return "the row's offsets decrease, pass the end of the data, or overlap a row";
     case WKB_STATUS_BAD_LEVELS: return "the row's levels don't fit its kind or each other";

@@ -58,7 +58,7 @@ typedef enum wkb_status {
   WKB_STATUS_SHORT_LINE_STRING = 49,
   WKB_STATUS_SHORT_MULTI_POINT = 50,
   WKB_STATUS_SHORT_LINEAR_RING = 51,
-  WKB_STATUS_MAX_ENUM = 0x7fffffff         /* no status: the enum holds any number that is no more */
+  WKB_STATUS_MAX_ENUM = 0x7fffffff         /* no status; the enum holds all numbers up to it */
 } wkb_status;
 
 /* The kinds, by their numbers in the codes. A ring is a part of a polygon. */
@@ -121,7 +121,7 @@ typedef struct wkb_fault {
 } wkb_fault;
 
 /* The byte order and the form that are written. A member may be any number, since C lets any number into an enum: one
- * without a meaning is refused by WKB_STATUS_UNKNOWN_OPTION (docs/DECISIONS.md, D11). */
+ * without a meaning is WKB_STATUS_UNKNOWN_OPTION. */
 typedef struct wkb_options {
   uint32_t order;  /* a wkb_order */
   uint32_t form;   /* a wkb_form */
@@ -159,7 +159,7 @@ typedef struct wkb_box {
 } wkb_box;
 
 /* A column as Arrow has it (binary, large binary, or a slice of one). Row i has the bytes of DATA from offset i up to
- * offset i + 1. Rows that are read don't overlap, so the work of a call is bounded by SIZE and ROWS. */
+ * offset i + 1. Rows that are read don't overlap, so all of them together are no longer than SIZE. */
 typedef struct wkb_column {
   const void *data;        /* the bytes of the rows */
   size_t size;             /* how many there are */
@@ -207,9 +207,9 @@ wkb_status wkb_same(const void *a, size_t a_len, const void *b, size_t b_len, ui
 wkb_status wkb_parts(const void *buf, size_t len, wkb_part *parts, size_t room, uint64_t *count, wkb_fault *fault);
 
 /* What wkb_check returns for each row, a byte a row in STATUSES. A null row is WKB_STATUS_NULL_ROW. A row whose offsets
- * decrease or pass the end of the data is WKB_STATUS_BAD_OFFSETS. So is a row that begins before an earlier row ends,
- * null or not, whose own offsets do neither; and so is each row that is not null where OFFSET_SIZE is neither 4 nor 8.
- * None of these is read. No row stops the others. */
+ * decrease or pass the end of the data is WKB_STATUS_BAD_OFFSETS. So is a row that begins before the end of an earlier
+ * one, where the earlier one, null or not, has offsets that do neither; and so is each row that is not null where
+ * OFFSET_SIZE is neither 4 nor 8. None of these rows is read. No row stops the others. */
 void wkb_column_check(const wkb_column *column, uint8_t *statuses);
 
 /* What wkb_bounds returns for each row, and its bounds: BOXES has one a row. The box of a row without bounds is that of
@@ -274,9 +274,9 @@ typedef struct wkb_levels {
  * them. A point, a line string and a polygon is one single. A single that is no polygon has one ring, a point's ring
  * one coordinate; an empty point is a coordinate of not-a-numbers. All words are written as they are, so an empty point
  * is as wkb_column_write has it only where each is 7ff8000000000000. WKB_STATUS_BAD_LEVELS: the row doesn't fit its
- * kind, its ends decrease or pass the next level, it begins before an earlier row ends, null or not, whose own ends do
- * neither, or it needs a count of 2^32. WKB_STATUS_UNKNOWN_OPTION: the row isn't null, and the kind, the dimension or
- * the options have no meaning. WKB_FORM_EWKB_OWN_SRID writes no SRID. No row stops the others. */
+ * kind, its ends decrease or pass the next level, it needs a count of 2^32, or it begins before the end of an earlier
+ * row, null or not, whose own ends do neither. WKB_STATUS_UNKNOWN_OPTION: the row isn't null, and the kind, the
+ * dimension or the options have no meaning. WKB_FORM_EWKB_OWN_SRID writes no SRID. No row stops the others. */
 uint64_t wkb_column_from_coordinates(const wkb_levels *levels, uint32_t kind, uint32_t dimension,
                                      const wkb_options *options, void *out, size_t room, uint64_t *ends,
                                      uint8_t *statuses);

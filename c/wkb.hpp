@@ -1,6 +1,6 @@
-// A C++20 wrapper of wkb.h: spans, optionals, exceptions, and ranges over the parts of a geometry. Header only.
-// Nothing is copied but words on demand. Only vectors ask for memory. A refused input is an exception, or for the calls
-// whose names begin with try_ and for check an empty optional or false, which costs a hundredth of that.
+// A C++20 wrapper of wkb.h: spans, optionals, exceptions, and ranges over the parts of a geometry. Header only. Nothing
+// in it is proved. Nothing is copied but words on demand. Only vectors ask for memory. A refused input is an exception,
+// or for the calls whose names begin with try_ and for check an empty optional or false, which costs a hundredth of it.
 #ifndef WKB_HPP
 #define WKB_HPP
 

@@ -11,8 +11,9 @@ create view different_check as select wkb from hostile
 create view different_geometry as select wkb from (select * from hostile where kind is not null offset 0) as geometries
   where (wkb_kind(wkb), wkb_srid(wkb), wkb_canonical(wkb), wkb_ewkb(wkb), wkb_ewkb(wkb, 3857)) is distinct from
       (kind, srid, canonical, own, other) or
-    (wkb_same(wkb, '\x0101000000000000000000f03f0000000000000040'), wkb_same(wkb, wkb)) is distinct from
-      (same = 1, true) or
+    (wkb_same(wkb, '\x0101000000000000000000f03f0000000000000040')::int,
+      wkb_same('\x0101000000000000000000f03f0000000000000040', wkb)::int, wkb_same(wkb, wkb)::int) is distinct from
+      (same, same_turned, same_self) or
     (wkb_xmin(wkb), wkb_xmax(wkb), wkb_ymin(wkb), wkb_ymax(wkb)) is distinct from (x_min, x_max, y_min, y_max) or
     (wkb_zmin(wkb), wkb_zmax(wkb), wkb_mmin(wkb), wkb_mmax(wkb)) is distinct from (z_min, z_max, m_min, m_max) or
     wkb_box(wkb)::text is distinct from box(point(x_min, y_min), point(x_max, y_max))::text;
@@ -31,3 +32,23 @@ create view different_error as select wkb from hostile, (values
     ($$select wkb_same('\x0101000000000000000000f03f0000000000000040', $1)$$, ' in the second argument')
   ) as calls (call, place)
   where kind is null and raised(call, wkb) is distinct from format('invalid WKB%s: %s', place, fault);
+-- The views that don't see it where a column lacks what it has to hold.
+create function blind() returns setof text language plpgsql as $$
+declare
+  it record;
+  sees boolean;
+begin
+  for it in
+    select attname as name, 'different_' || unnest(case attname when 'well_formed' then '{check}' when 'kind' then '{error}'
+        when 'fault' then '{check, error}' else '{geometry}' end::text[]) as view
+      from pg_attribute where attrelid = 'hostile'::regclass and attnum > 1
+  loop
+    begin
+      execute format('update hostile set %I = null', it.name);
+      execute format('select exists (select from %I)', it.view) into sees;
+      raise 'undone';
+    exception when raise_exception then
+      if not sees then return next it.view || ': ' || it.name; end if;
+    end;
+  end loop;
+end $$;

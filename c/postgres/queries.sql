@@ -55,11 +55,12 @@ select wkb_canonical(wkb) from rows where id = 6;
 select wkb_ewkb(wkb, -1) from rows where id = 1;
 \set VERBOSITY terse
 -- A column that takes well-formed geometries alone, and one of each value and SRID, whatever the byte orders are.
-create table places (wkb bytea not null check (wkb_well_formed(wkb)));
+create table places (wkb bytea not null check (octet_length(wkb) < 20000000 and wkb_well_formed(wkb)));
 create unique index places_once on places (sha256(wkb_ewkb(wkb)));
 insert into places select wkb from rows where wkb_well_formed(wkb) on conflict do nothing;
 select count(*) from places;
 insert into places values ('\x02');
+insert into places values ('\x01070000008ee82100'::bytea || decode(repeat('010200000000000000', 2222222), 'hex'));
 insert into places values ('\x00000000013ff00000000000004000000000000000');
 -- The boxes of places, of which four meet this one; the empty point has none.
 create index places_box on places using gist (wkb_box(wkb));
@@ -126,6 +127,16 @@ select call from calls
 \endif
 drop view calls;
 drop function in_use;
+-- A cancelled statement ends before its next call: this one, of 1,000 calls for one row, in less than half of its time.
+select format('select %s from large', string_agg('wkb_well_formed(wkb)', ' and ')) as long_row
+  from generate_series(1, 1000) \gset
+select clock_timestamp() as began \gset
+:long_row;
+select clock_timestamp() - :'began' as whole, clock_timestamp() as began \gset
+set statement_timeout to '50ms';
+:long_row;
+reset statement_timeout;
+select 2 * (clock_timestamp() - :'began') < :'whole';
 -- They are the extension's, and go with it.
 select extversion, count(*) from pg_extension e join pg_depend d on d.refobjid = e.oid and d.deptype = 'e'
   where extname = 'wkb' group by 1;

@@ -4,6 +4,7 @@
 #include "postgres.h"
 
 #include "fmgr.h"
+#include "miscadmin.h"
 #include "utils/builtins.h"
 #include "utils/geo_decls.h"
 #include "utils/memutils.h"
@@ -35,10 +36,20 @@ static void accept(wkb_status status, const char *place, const wkb_fault *fault)
                   errhint("wkb_fault returns why a value is not well formed, and null of those that are.")));
 }
 
+/* An argument, in a copy where it is stored apart or compressed. No call of the library can be stopped, so a statement
+ * that was cancelled ends here, before the copy and before the call. */
+static bytea *argument(FunctionCallInfo fcinfo, int n) {
+  bytea *v;
+  CHECK_FOR_INTERRUPTS();
+  v = PG_GETARG_BYTEA_PP(n);
+  CHECK_FOR_INTERRUPTS();
+  return v;
+}
+
 /* The geometry at the front of the argument; an error where there is none. The copy that a large value is read into is
  * freed at once, here and below. */
 static wkb_found found_in(FunctionCallInfo fcinfo) {
-  bytea *v = PG_GETARG_BYTEA_PP(0);
+  bytea *v = argument(fcinfo, 0);
   wkb_found found;
   wkb_fault fault;
   accept(wkb_check(BYTES(v), &found, &fault), "", &fault);
@@ -48,7 +59,7 @@ static wkb_found found_in(FunctionCallInfo fcinfo) {
 
 PG_FUNCTION_INFO_V1(wkb_well_formed_sql);
 Datum wkb_well_formed_sql(PG_FUNCTION_ARGS) {
-  bytea *v = PG_GETARG_BYTEA_PP(0);
+  bytea *v = argument(fcinfo, 0);
   wkb_found found;
   bool is_whole = wkb_check(BYTES(v), &found, NULL) == WKB_STATUS_OK && found.size == VARSIZE_ANY_EXHDR(v);
   PG_FREE_IF_COPY(v, 0);
@@ -57,7 +68,7 @@ Datum wkb_well_formed_sql(PG_FUNCTION_ARGS) {
 
 PG_FUNCTION_INFO_V1(wkb_fault_sql);
 Datum wkb_fault_sql(PG_FUNCTION_ARGS) {
-  bytea *v = PG_GETARG_BYTEA_PP(0);
+  bytea *v = argument(fcinfo, 0);
   wkb_found found;
   wkb_fault fault;
   wkb_status status = wkb_check(BYTES(v), &found, &fault);
@@ -81,7 +92,7 @@ Datum wkb_srid_sql(PG_FUNCTION_ARGS) {
 
 /* The encoding of the first argument, in so much room as it can need, or as a bytea can have. */
 static Datum rewritten(FunctionCallInfo fcinfo, const wkb_options *options) {
-  bytea *v = PG_GETARG_BYTEA_PP(0);
+  bytea *v = argument(fcinfo, 0);
   size_t room = Min(VARSIZE_ANY_EXHDR(v) + 4, MaxAllocSize - VARHDRSZ);
   bytea *out = palloc(VARHDRSZ + room);
   uint64_t size = 0;
@@ -117,7 +128,7 @@ Datum wkb_ewkb_with_srid_sql(PG_FUNCTION_ARGS) {
 
 PG_FUNCTION_INFO_V1(wkb_same_sql);
 Datum wkb_same_sql(PG_FUNCTION_ARGS) {
-  bytea *a = PG_GETARG_BYTEA_PP(0), *b = PG_GETARG_BYTEA_PP(1);
+  bytea *a = argument(fcinfo, 0), *b = argument(fcinfo, 1);
   uint32_t equal = 0, which = 1;
   wkb_fault fault;
   wkb_status status = wkb_same(BYTES(a), BYTES(b), &equal, &fault, &which);
@@ -136,7 +147,7 @@ static struct {
 
 /* The bounds of the argument; an error where there is no geometry. */
 static wkb_box box_of(FunctionCallInfo fcinfo) {
-  bytea *v = PG_GETARG_BYTEA_PP(0);
+  bytea *v = argument(fcinfo, 0);
   size_t size = VARSIZE_ANY_EXHDR(v);
   wkb_box box;
   wkb_fault fault;

@@ -2,6 +2,8 @@
 import array
 import struct
 
+from wkb import Status
+
 # (1, 2) in either byte order; a polygon of one ring of one point, with an SRID, in EWKB and as it is written; a
 # multi point of (1, 2) and an empty point; a line string with z of (1, 2, 3) and (5, not a number, -7).
 POINT = bytes.fromhex("0101000000000000000000f03f0000000000000040")
@@ -11,6 +13,10 @@ ISO_POLYGON = bytes.fromhex("01030000000100000001000000000000000000f03f000000000
 EMPTY_POINT = bytes.fromhex("0101000000000000000000f87f000000000000f87f")
 POINTS = bytes.fromhex("010400000002000000") + POINT + EMPTY_POINT
 LINE = bytes.fromhex("01ea03000002000000") + struct.pack("<6d", 1, 2, 3, 5, float("nan"), -7)
+
+# Rows of a column, and their statuses.
+ROWS = [POINT, None, b"", POLYGON, b"\2"]
+STATUSES = [0, Status.NULL_ROW, Status.SHORT_HEADER, 0, Status.INVALID_BYTE_ORDER]
 
 
 def rows_of(*rows):

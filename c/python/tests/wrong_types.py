@@ -20,6 +20,13 @@ class Arrow:
         raise NotImplementedError
 
 
+class Stream:
+    """Arrow arrays one after another, as tables of pyarrow and others have them."""
+
+    def __arrow_c_stream__(self, requested_schema: Optional[object] = None) -> Any:
+        raise NotImplementedError
+
+
 def wrong(part: wkb.Part, column: wkb.Column) -> None:
     """Each line is refused."""
     wkb.check("text")  # type: ignore[arg-type]
@@ -36,6 +43,7 @@ def wrong(part: wkb.Part, column: wkb.Column) -> None:
     wkb.Column.of("text")  # type: ignore[arg-type]
     wkb.Column.from_arrow([b""])  # type: ignore[arg-type]
     wkb.Column.from_arrow(NotArrow())  # type: ignore[arg-type]
+    wkb.Column.chunks_from_arrow(Arrow())  # type: ignore[arg-type]
     wkb.column_from_coordinates(1, b"")  # type: ignore[arg-type]
     wkb.column_from_coordinates(wkb.Kind.POINT, [1.0, 2.0])  # type: ignore[arg-type]
     column.coordinates(3)  # type: ignore[arg-type]
@@ -47,5 +55,7 @@ def right(data: bytes, mapped: mmap.mmap, rows: List[Optional[bytes]]) -> List[w
     wkb.Column(memoryview(data), array.array("q"), bytearray(data))
     wkb.Column.of(rows)
     wkb.Column.from_arrow(Arrow())
+    for column in wkb.Column.chunks_from_arrow(Stream(), "geometry"):
+        column.check()
     wkb.column_from_coordinates(wkb.Kind.LINE_STRING, array.array("d"), array.array("i"))
     return [wkb.check(data), wkb.check(mapped)]

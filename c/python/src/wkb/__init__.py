@@ -1,4 +1,6 @@
-"""Well-Known Binary: a proved reader and writer, called through ctypes. It needs CPython 3.8 or later.
+"""Well-Known Binary: a proved reader and writer, called through ctypes.
+
+The package itself is tested, and not proved. It needs CPython 3.8 or later.
 
 One geometry, at the front of a blob:
 
@@ -13,7 +15,8 @@ One geometry, at the front of a blob:
 A column of geometries, in one piece of memory as Arrow has it:
 
     Column.of(rows)                 of a list, or a column of pandas or geopandas; None is a null row
-    Column.from_arrow(array)        of an array of pyarrow, or of another with __arrow_c_array__
+    Column.from_arrow(array[, name])  of an array of pyarrow, or of another with __arrow_c_array__
+    Column.chunks_from_arrow(stream[, name])  one for each chunk of a column or a table with __arrow_c_stream__
     Column(data, offsets[, validity])  of any buffers; first= and rows= pick a slice
     column.check(), .bounds(), .write([order, form, srid]), .parts(), .coordinates([dimension])
                                     results for all rows, and a Status for each; no row stops a call

@@ -5,12 +5,13 @@ import operator
 import sys
 from typing import Any, Dict, Iterable, Iterator, NamedTuple, Optional
 
+from ._arrow import ArrowArray, ArrowStream, chunks_of_arrow, pieces_of_arrow
 from ._buffers import Buffer, Bytes, Numbers, has_numpy, new_numbers, view_of
 from ._calls import SRID_SIZE, make_options
 from ._enums import Dimension, Form, Order
 from ._library import ColumnArguments, CoordinatesArguments, library
 from ._records import Box, Part, Table
-from ._rows import ArrowArray, Pieces, pieces_of, pieces_of_arrow
+from ._rows import Pieces, pieces_of
 
 
 class ColumnBounds(NamedTuple):
@@ -129,13 +130,24 @@ class Column:
         return cls._of_pieces(pieces_of(rows))
 
     @classmethod
-    def from_arrow(cls, column: ArrowArray) -> "Column":
-        """A column of an Arrow array of type binary or large binary, or of a slice of one. Nothing is copied.
+    def from_arrow(cls, array: ArrowArray, name: Optional[str] = None) -> "Column":
+        """A column of an Arrow array of type binary, large binary or binary view, or of a slice of one.
 
-        The array is any object with the method `__arrow_c_array__`: an array of pyarrow, or one chunk of a column. Its
-        memory lives as long as the column. It is taken to be as Arrow's format says, with as many offsets as rows need.
+        The array is any object with the method `__arrow_c_array__`, such as an array of pyarrow. Of a batch of records
+        `name` picks the column. Nothing is copied but views: the array's memory lives as long as the column. It is
+        taken to be as Arrow's format says, with as many offsets or views as rows need.
         """
-        return cls._of_pieces(pieces_of_arrow(column))
+        return cls._of_pieces(pieces_of_arrow(array, name))
+
+    @classmethod
+    def chunks_from_arrow(cls, stream: ArrowStream, name: Optional[str] = None) -> Iterator["Column"]:
+        """A column for each chunk of an Arrow column in chunks, or of a table, one after another.
+
+        The stream is any object with the method `__arrow_c_stream__`, such as a chunked array of pyarrow; of a table or
+        another stream of records `name` picks the column. Each chunk is an array as `from_arrow` takes it, and is asked
+        for when its column is. Raises `OSError` where the stream fails.
+        """
+        return map(cls._of_pieces, chunks_of_arrow(stream, name))
 
     @classmethod
     def _of_pieces(cls, it: Pieces) -> "Column":

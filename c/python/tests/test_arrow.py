@@ -1,0 +1,262 @@
+"""Columns of Arrow's arrays and streams: those of capsules.py, and OGR's where its bindings are."""
+import gc
+import pickle
+import struct
+import unittest
+
+from capsules import SHORT, Arrow, Records, Stream, Views, new_capsule
+from samples import BIG_POINT, ISO_POLYGON, POINT, ROWS, STATUSES
+from wkb import Column, Dimension, Status
+
+try:
+    from osgeo import gdal, ogr
+except ImportError:
+    gdal = ogr = None
+
+
+def statuses(column):
+    return list(column.check())
+
+
+class FromArrow(unittest.TestCase):
+    def test_kinds(self):
+        for kind in (b"z", b"Z"):
+            column = Column.from_arrow(Arrow(kind))
+            self.assertEqual(list(column.check()), STATUSES)
+            self.assertEqual(bytes(column.write().data), POINT + ISO_POLYGON)
+            self.assertEqual(list(Column.from_arrow(Arrow(kind, [POINT, BIG_POINT])).check()), [0, 0])
+
+    def test_slices(self):
+        """Every slice of 17 rows, whose bits are in three bytes."""
+        rows = [None if i % 3 == 1 else b"\2" if i % 5 == 2 else POINT for i in range(17)]
+        expected = list(Column.of(rows).check())
+        self.assertEqual(len(set(expected)), 3)
+        for kind in (b"z", b"Z"):
+            for offset in range(18):
+                for length in range(18 - offset):
+                    column = Column.from_arrow(Arrow(kind, rows, offset, length))
+                    self.assertEqual(list(column.check()), expected[offset : offset + length])
+                    self.assertEqual(len(column.write().offsets), length + 1)
+
+    def test_lifetime(self):
+        """The memory lives until the column goes, and not longer. The schema goes at once."""
+        source = Arrow()
+        column = Column.from_arrow(source)
+        self.assertEqual(source.released, ["schema"])
+        again = pickle.loads(pickle.dumps(column))
+        self.assertEqual(list(column.check()), STATUSES)
+        del column
+        gc.collect()
+        self.assertEqual(source.released, ["schema", "array"])
+        self.assertEqual(list(again.check()), STATUSES)
+
+    def test_no_rows(self):
+        for source in (Arrow(rows=[]), Arrow(rows=[], buffers=[None] * 3), Arrow(offset=5), Arrow(length=0)):
+            column = Column.from_arrow(source)
+            self.assertEqual((len(column), len(column.check()), len(column.write().offsets)), (0, 0, 1))
+        self.assertEqual(list(Column.from_arrow(Arrow(rows=[None, b""])).check()), STATUSES[1:3])
+
+    def test_refused(self):
+        for kind, named in ((b"u", "'u'"), (b"vu", "'vu'"), (b"w:21", "'w:21'"), (b"+l", "'[+]l'")):
+            with self.assertRaisesRegex(TypeError, f"format {named} is not binary"):
+                Column.from_arrow(Arrow(format=kind))
+        self.assertRaisesRegex(TypeError, "'dictionary'", Column.from_arrow, Arrow(dictionary=8))
+        self.assertRaisesRegex(ValueError, "is released already", Column.from_arrow, Arrow(release=None))
+        self.assertRaisesRegex(TypeError, "list has no method __arrow_c_array__$", Column.from_arrow, ROWS)
+        chunked = type("Chunked", (), {"__arrow_c_stream__": None})()
+        self.assertRaisesRegex(TypeError, "chunks_from_arrow takes", Column.from_arrow, chunked)
+        wrong = type("Wrong", (), {"__arrow_c_array__": lambda self: Arrow().__arrow_c_array__()[::-1]})()
+        self.assertRaises(ValueError, Column.from_arrow, wrong)
+
+    def test_hostile_offsets(self):
+        """Offsets that decrease or are negative. No byte past the last one is read."""
+        bad, short = Status.BAD_OFFSETS, Status.SHORT_HEADER
+        for ends, found in (
+            ((0, 30, 21), [bad, bad]), ((21, 0, 21), [bad, 0]), ((0, 0, -1), [short, bad]), ((0, -5, 21), [bad, bad]),
+            ((0, 21, 0), [bad, bad]), ((0, 22, 21), [bad, bad]),
+        ):
+            source = Arrow(rows=[POINT, b""])
+            source.memory[1][:] = struct.pack("=3i", *ends)
+            self.assertEqual(list(Column.from_arrow(source).check()), found, ends)
+
+
+class FromViews(unittest.TestCase):
+    def test_slices(self):
+        """Rows in views, and rows in one of three buffers."""
+        rows = [POINT, None, b"", b"\2", ISO_POLYGON, bytes(SHORT), bytes(SHORT + 1), BIG_POINT]
+        expected = statuses(Column.of(rows))
+        for offset in range(9):
+            for length in range(9 - offset):
+                source = Views(rows, 3, offset, length)
+                column = Column.from_arrow(source)
+                self.assertEqual(source.released, ["schema", "array"])
+                self.assertEqual(statuses(column), expected[offset : offset + length])
+        self.assertEqual(bytes(Column.from_arrow(Views(rows, 3)).write().data), POINT + ISO_POLYGON + POINT)
+        self.assertEqual(statuses(Column.from_arrow(Views([b"\2", None], 0))), [STATUSES[4], Status.NULL_ROW])
+
+    def test_hostile(self):
+        """Views that say of a row that it is elsewhere."""
+        for length, buffer, offset in (
+            (21, 1, 0), (21, -1, 0), (21, 0, 1), (21, 0, -1), (22, 0, 0), (2**31 - 1, 0, 2**31 - 1)
+        ):
+            source = Views([POINT], 1)
+            source.memory[1][:] = struct.pack("=4i", length, 0, buffer, offset)
+            self.assertRaisesRegex(ValueError, "row 0 .* is not where its view says", Column.from_arrow, source)
+        source = Views([POINT], 1)
+        source.memory[1][:] = struct.pack("=4i", -1, 0, 0, 0)
+        self.assertEqual(statuses(Column.from_arrow(source)), [Status.SHORT_HEADER])
+
+
+def batch(**changes):
+    """Two columns of rows, of which the second has no null row."""
+    shapes = Arrow(name=b"shape", rows=[BIG_POINT, *ROWS, b"", POINT])
+    return Records(Arrow(b"Z", name=b"other", rows=[POINT] * 9), shapes, **changes)
+
+
+class FromRecords(unittest.TestCase):
+    def test_names(self):
+        """A column of a batch of records, and of a slice of one."""
+        whole = [0] + STATUSES + [Status.SHORT_HEADER, 0]
+        for offset in range(8):
+            for length in range(9 - offset):
+                for name, expected in (("shape", whole[offset : offset + length]), ("other", [0] * length)):
+                    column = Column.from_arrow(batch(offset=offset, length=length), name)
+                    self.assertEqual(statuses(column), expected)
+
+    def test_refused(self):
+        self.assertRaisesRegex(TypeError, "'[+]s' is not binary .*; name= picks", Column.from_arrow, batch())
+        self.assertRaisesRegex(ValueError, r"no column 'x', but \['other', 'shape'\]", Column.from_arrow, batch(), "x")
+        self.assertRaisesRegex(ValueError, r"no column 'x', but \[\]", Column.from_arrow, Arrow(), "x")
+        self.assertRaisesRegex(ValueError, "null as a whole", Column.from_arrow, batch(length=1, validity=8), "shape")
+        text = Records(Arrow(name=b"name", format=b"u"))
+        self.assertRaisesRegex(TypeError, "'u' is not binary", Column.from_arrow, text, "name")
+
+
+class FromChunks(unittest.TestCase):
+    def test_chunks(self):
+        """Each chunk lives as long as its column, and the stream as long as chunks are asked for."""
+        for make, name in ((Arrow, None), (lambda: batch(offset=1, length=5), "shape")):
+            sources, schema = [make() for _ in range(3)], make()
+            stream = Stream(schema, sources)
+            chunks = Column.chunks_from_arrow(stream, name)
+            self.assertEqual(schema.released, ["schema"])
+            first, second = next(chunks), next(chunks)
+            self.assertEqual([statuses(first), statuses(second)], [STATUSES] * 2)
+            kept = pickle.loads(pickle.dumps(second))
+            del first, second
+            gc.collect()
+            self.assertEqual([it.released for it in sources], [["array"], ["array"], []])
+            (third,) = chunks
+            del chunks
+            gc.collect()
+            self.assertEqual((stream.released, sources[2].released), (1, []))
+            self.assertEqual([statuses(kept), statuses(third)], [STATUSES] * 2)
+
+    def test_none(self):
+        self.assertEqual(list(Column.chunks_from_arrow(Stream(Arrow(), []))), [])
+        (column,) = Column.chunks_from_arrow(Stream(Arrow(), [Arrow(rows=[], buffers=[None] * 3)]))
+        self.assertEqual(len(column), 0)
+
+    def test_left_early(self):
+        stream = Stream(Arrow(), [Arrow(), Arrow()])
+        self.assertEqual(statuses(next(Column.chunks_from_arrow(stream))), STATUSES)
+        gc.collect()
+        self.assertEqual(stream.released, 1)
+
+    def test_refused(self):
+        for fault, text in ((b"the disk is gone", "the disk is gone"), (b"?", "the Arrow stream failed")):
+            chunks = Column.chunks_from_arrow(Stream(Arrow(), [Arrow()], fault))
+            next(chunks)
+            with self.assertRaisesRegex(OSError, text) as caught:
+                next(chunks)
+            self.assertEqual(caught.exception.errno, 5)
+        source = Arrow(b"u")
+        self.assertRaisesRegex(TypeError, "'u' is not binary", Column.chunks_from_arrow, Stream(source, []))
+        self.assertEqual(source.released, ["schema"])
+        self.assertRaisesRegex(TypeError, "from_arrow takes", Column.chunks_from_arrow, Arrow())
+        self.assertRaisesRegex(TypeError, "list has no method __arrow_c_stream__$", Column.chunks_from_arrow, ROWS)
+        gone = Stream(Arrow(), [])
+        gone.stream.release = None
+        self.assertRaisesRegex(ValueError, "is released already", Column.chunks_from_arrow, gone)
+
+
+class Ogr:
+    """OGR's stream of a layer, with the capsule protocol. Its structs live by OGR's own objects."""
+
+    def __init__(self, layer, size):
+        options = [f"MAX_FEATURES_IN_BATCH={size}", "INCLUDE_FID=NO"]
+        self.kept = [layer.GetArrowStream(options)]
+
+    def __arrow_c_stream__(self, requested_schema=None):
+        return new_capsule(int(self.kept[0].this), b"arrow_array_stream", None)
+
+    def __arrow_c_array__(self, requested_schema=None):
+        self.kept += self.kept[0].GetSchema(), self.kept[0].GetNextRecordBatch()
+        schema, array = (it._getPtr() for it in self.kept[-2:])
+        return new_capsule(schema, b"arrow_schema", None), new_capsule(array, b"arrow_array", None)
+
+
+@unittest.skipUnless(ogr and hasattr(ogr.Layer, "GetArrowStream"), "OGR's bindings, of GDAL 3.6 or later, are not here")
+class FromOgr(unittest.TestCase):
+    """Arrays that OGR makes of a layer's geometries: what is read of them is what OGR says of them."""
+
+    SHAPES = (
+        "POINT (1 2)", None, "LINESTRING (0 -1,2 3,4 5)", "POINT EMPTY", "POINT Z (1 2 3)",
+        "POLYGON ((0 0,4 0,4 4,0 0),(1 1,2 1,2 2,1 1))", "MULTIPOINT (1 2,3 4)", "LINESTRING ZM (1 2 3 4,5 6 7 8)",
+        "MULTILINESTRING ((1 2,3 4),(5 6,7 8,9 10))", "MULTIPOLYGON (((0 0,1 0,1 1,0 0)))",
+        "GEOMETRYCOLLECTION (POINT (7 8),LINESTRING (1 2,3 4))", "GEOMETRYCOLLECTION EMPTY",
+    )
+
+    @classmethod
+    def setUpClass(cls):
+        ogr.UseExceptions()
+        cls.source = ogr.GetDriverByName("Memory").CreateDataSource("shapes")
+        cls.layer = cls.source.CreateLayer("shapes", geom_type=ogr.wkbUnknown)
+        cls.layer.CreateField(ogr.FieldDefn("name", ogr.OFTString))
+        cls.geometries = [text and ogr.CreateGeometryFromWkt(text) for text in 5 * cls.SHAPES]
+        for it in cls.geometries:
+            feature = ogr.Feature(cls.layer.GetLayerDefn())
+            feature["name"] = "a name"
+            if it:
+                feature.SetGeometry(it)
+            cls.layer.CreateFeature(feature)
+
+    def points(self, it):
+        """The coordinates of a geometry of OGR, the x and y of each."""
+        if it.GetGeometryCount():
+            return [point for i in range(it.GetGeometryCount()) for point in self.points(it.GetGeometryRef(i))]
+        return [] if it.IsEmpty() else [tuple(it.GetPoint_2D(i)) for i in range(it.GetPointCount())]
+
+    def is_right(self, column, geometries):
+        expected = [Status.NULL_ROW if it is None else Status.OK for it in geometries]
+        self.assertEqual(statuses(column), expected)
+        _, boxes = column.bounds()
+        encodings = column.write()
+        levels = column.coordinates(Dimension.XY)
+        words = list(struct.iter_unpack("=2d", bytes(levels.coordinates)))
+        for i, it in enumerate(geometries):
+            encoding = bytes(encodings.data[encodings.offsets[i] : encodings.offsets[i + 1]])
+            ends = [levels.ring_offsets[levels.single_offsets[levels.row_offsets[k]]] for k in (i, i + 1)]
+            found = [(x, y) for x, y in words[ends[0] : ends[1]] if x == x]
+            if it is None:
+                self.assertEqual((encoding, found), (b"", []))
+                continue
+            self.assertEqual(encoding, bytes(it.ExportToIsoWkb(ogr.wkbNDR)))
+            self.assertEqual(found, self.points(it))
+            if found:
+                box = boxes[i]
+                self.assertEqual((box.x.least, box.x.greatest, box.y.least, box.y.greatest), it.GetEnvelope())
+
+    def test_chunks(self):
+        for size in (1, 7, 60, 100):
+            at, source = 0, Ogr(self.layer, size)
+            for column in Column.chunks_from_arrow(source, "wkb_geometry"):
+                self.is_right(column, self.geometries[at : at + len(column)])
+                at += len(column)
+            self.assertEqual(at, 60)
+            del source  # OGR allows one stream of a layer at a time
+
+    def test_array(self):
+        source = Ogr(self.layer, 12)
+        for at in range(0, 60, 12):
+            self.is_right(Column.from_arrow(source, "wkb_geometry"), self.geometries[at : at + 12])
