@@ -14,11 +14,15 @@ ROWS = {
     "write": "write what was read",
     "slice": "the same into a lent slice",
     "other": "the same in the other byte order",
+    "vector": "that by to_vec (others: as above)",
     "own": "write a caller's own geometries",
 }
-NAMES = {"original": "original", "geos": "GEOS", "plain": "plain C", "tree": "C, tree"}
+NAMES = {"earlier": "earlier", "original": "original", "geos": "GEOS", "plain": "plain C", "tree": "C, tree"}
+# Beside these the file in which ours is worst is named.
+WORST = ("earlier", "original")
 # What stands for a row that a program lacks: the geometries of GEOS are its own, and plain C copies bytes.
 INSTEAD = {("canonical", "original"): "rewrite", ("canonical", "geos"): "rewrite", ("canonical", "plain"): "rewrite"}
+INSTEAD.update({("vector", who): "other" for who in ("original", "geos", "plain", "tree")})
 INSTEAD.update({("canonical", "tree"): "rewrite", ("own", "geos"): "write", ("own", "plain"): "write"})
 # Of these a reading says little: the original looks at no member's header, and one item takes little more than the clock.
 UNEQUAL = ("multi_points", "long_line", "long_line_big")
@@ -53,14 +57,14 @@ def main(path, rounds):
         pairs = [(time_of("ours", what, file), time_of(who, what, file), file) for file in fair]
         return [(ours / other, file) for ours, other, file in pairs if ours and other]
 
-    order = ([NAMES["original"], "worst file"] if "original" in peers else []) + [NAMES[w] for w in peers if w != "original"]
-    print(f"{'our time / theirs':38}" + "".join(f"{it:>{24 if it == 'worst file' else 10}}" for it in order))
+    head = "".join(f"{NAMES[who]:>10}" + (f"{'worst file':>24}" if who in WORST else "") for who in peers)
+    print(f"{'our time / theirs':38}{head}")
     for what, name in ROWS.items():
         cells = ""
         for who in peers:
             parts = parts_of(who, what)
             cells += f"{mean([part for part, _ in parts]):10.2f}" if parts else f"{'-':>10}"
-            if who == "original":
+            if who in WORST:
                 part, file = max(parts, default=(0, "-"))
                 cells += f"{file + f' {part:.2f}':>24}"
         print(f"{name:38}{cells}")

@@ -1,0 +1,295 @@
+"""The programs that bench/peers compares. Each is a class whose methods take and return bytes of geometries.
+
+`written` reads bytes and writes them again, with all that the program keeps, or returns None where it refuses them;
+`with_srid` does so with the SRID 4326. `is_valid` and `text` return None where the program has no such call.
+`refused_at` reads while allocation N is refused, and returns `read`, `error`, or `none` where there are fewer. `time`
+returns the shortest time of N readings, in nanoseconds.
+"""
+import ctypes
+import os
+import pathlib
+import shutil
+import signal
+import subprocess
+import tempfile
+from ctypes import c_char_p, c_double, c_int, c_size_t, c_uint32, c_void_p
+
+HERE = pathlib.Path(__file__).resolve().parent
+ROOT = HERE.parent.parent
+SRID = 4326
+# What psql ends with after an error, and not where it lost the server.
+SCRIPT_FAILED = 3
+
+
+class Absent(Exception):
+    """Why a program can't be tried here."""
+
+
+def loaded(*names):
+    """The first library that is there."""
+    for name in names:
+        try:
+            return ctypes.CDLL(str(name))
+        except OSError:
+            continue
+    raise Absent(f"there is no {names[0]}")
+
+
+class Silent:
+    """A program that says nothing of validity, and writes no text."""
+
+    def is_valid(self, data):
+        return None
+
+    def text(self, data):
+        return None
+
+
+class InProcess:
+    """A library in this process. Its reader is a C function of at most four words, over bytes that are kept."""
+
+    # Where the reader leaves what it makes, if that isn't its result; what frees that, and whether by it alone.
+    made = free = None
+    is_alone = 0
+
+    def refused_at(self, data, n):
+        call = ctypes.CDLL(os.environ["PEERS_REFUSE"]).peers_call
+        call.restype, is_to_come = c_void_p, c_int()
+        result = call(ctypes.c_long(n), self.reader(), (c_void_p * 4)(*self.words(data)), ctypes.byref(is_to_come))
+        return "none" if is_to_come.value else "read" if self.is_read(result) else "error"
+
+    def time(self, data, n):
+        call = ctypes.CDLL(os.environ["PEERS_REFUSE"]).peers_time
+        call.restype, words = c_double, (c_void_p * 4)(*self.words(data))
+        made = ctypes.byref(self.made) if self.made is not None else None
+        return call(ctypes.c_long(n), self.reader(), words, made, self.free, self.is_alone)
+
+
+class Ours(Silent, InProcess):
+    """The C library, as `make -C c` builds it."""
+
+    name = "Porchsorrel"
+
+    def __init__(self):
+        if not (ROOT / "c/out/libwkb.so.1").is_file():
+            raise Absent("`make -C c` builds it")
+        self.library = loaded(ROOT / "c/out/libwkb.so.1")
+
+    def written(self, data, form=1):
+        options, size = (c_uint32 * 3)(0, form, SRID), ctypes.c_uint64()
+        out = ctypes.create_string_buffer(len(data) + 4)
+        given, room = (data, c_size_t(len(data))), (out, c_size_t(len(out)))
+        status = self.library.wkb_write(*given, options, *room, ctypes.byref(size), c_void_p())
+        return None if status else out.raw[: size.value]
+
+    def with_srid(self, data):
+        return self.written(data, form=2)
+
+    def reader(self):
+        return ctypes.cast(self.library.wkb_check, c_void_p)
+
+    def words(self, data):
+        self.kept = ctypes.create_string_buffer(data, len(data))
+        return ctypes.addressof(self.kept), len(data), None, None
+
+    def is_read(self, status):
+        return not status
+
+
+class Geos(InProcess):
+    """GEOS through its C API."""
+
+    def __init__(self):
+        self.library = lib = loaded("libgeos_c.so.1", "libgeos_c.dylib")
+        lib.GEOSversion.restype = c_char_p
+        for name in ("_init", "WKBReader_create", "WKBWriter_create", "WKBReader_read", "WKBWriter_write"):
+            getattr(lib, f"GEOS{name}_r").restype = c_void_p
+        lib.GEOSGeomToWKT_r.restype = c_char_p
+        self.name = "GEOS " + lib.GEOSversion().decode().split("-")[0]
+        self.context, self.free = c_void_p(lib.GEOS_init_r()), ctypes.cast(lib.GEOSGeom_destroy_r, c_void_p)
+        self.source = c_void_p(lib.GEOSWKBReader_create_r(self.context))
+
+    def read(self, data):
+        found = self.library.GEOSWKBReader_read_r(self.context, self.source, data, c_size_t(len(data)))
+        return found and c_void_p(found)
+
+    def written(self, data, srid=None):
+        lib, geometry, size = self.library, self.read(data), c_size_t()
+        if not geometry:
+            return None
+        if srid:
+            lib.GEOSSetSRID_r(self.context, geometry, srid)
+        writer = c_void_p(lib.GEOSWKBWriter_create_r(self.context))
+        # The richest form: EWKB, with the SRID. A version before 3.12 has no dimension 4, and keeps 3.
+        lib.GEOSWKBWriter_setFlavor_r(self.context, writer, 1)
+        lib.GEOSWKBWriter_setIncludeSRID_r(self.context, writer, ctypes.c_char(1))
+        for dimensions in (3, 4):
+            lib.GEOSWKBWriter_setOutputDimension_r(self.context, writer, dimensions)
+        out = lib.GEOSWKBWriter_write_r(self.context, writer, geometry, ctypes.byref(size))
+        return out and ctypes.string_at(out, size.value)
+
+    def with_srid(self, data):
+        return self.written(data, SRID)
+
+    def is_valid(self, data):
+        return self.library.GEOSisValid_r(self.context, self.read(data)) == 1
+
+    def text(self, data):
+        return self.library.GEOSGeomToWKT_r(self.context, self.read(data)).decode()
+
+    def reader(self):
+        return ctypes.cast(self.library.GEOSWKBReader_read_r, c_void_p)
+
+    def words(self, data):
+        self.kept = ctypes.create_string_buffer(data, len(data))
+        return self.context.value, self.source.value, ctypes.addressof(self.kept), len(data)
+
+    def is_read(self, geometry):
+        return bool(geometry)
+
+
+class Ogr(InProcess):
+    """OGR through its C API, which writes no EWKB."""
+
+    def __init__(self):
+        self.library = lib = loaded("libgdal.so.32", "libgdal.so", "libgdal.dylib")
+        lib.GDALVersionInfo.restype = c_char_p
+        lib.OSRNewSpatialReference.restype = c_void_p
+        self.name = "OGR " + lib.GDALVersionInfo(b"RELEASE_NAME").decode()
+        lib.CPLSetErrorHandler(lib.CPLQuietErrorHandler)
+        self.free, self.is_alone = ctypes.cast(lib.OGR_G_DestroyGeometry, c_void_p), 1
+
+    def read(self, data):
+        geometry = c_void_p()
+        failed = self.library.OGR_G_CreateFromWkb(data, c_void_p(), ctypes.byref(geometry), len(data))
+        return None if failed else geometry
+
+    def written(self, data, srid=None):
+        lib, geometry = self.library, self.read(data)
+        if not geometry:
+            return None
+        if srid:
+            reference = c_void_p(lib.OSRNewSpatialReference(c_void_p()))
+            lib.OSRImportFromEPSG(reference, srid)
+            lib.OGR_G_AssignSpatialReference(geometry, reference)
+        out = ctypes.create_string_buffer(lib.OGR_G_WkbSize(geometry))
+        return None if lib.OGR_G_ExportToIsoWkb(geometry, 1, out) else out.raw
+
+    def with_srid(self, data):
+        return self.written(data, SRID)
+
+    def is_valid(self, data):
+        return self.library.OGR_G_IsValid(self.read(data)) == 1
+
+    def text(self, data):
+        text = c_char_p()
+        self.library.OGR_G_ExportToWkt(self.read(data), ctypes.byref(text))
+        return text.value.decode()
+
+    def reader(self):
+        return ctypes.cast(self.library.OGR_G_CreateFromWkb, c_void_p)
+
+    def words(self, data):
+        self.kept, self.made = ctypes.create_string_buffer(data, len(data)), c_void_p()
+        return ctypes.addressof(self.kept), None, ctypes.addressof(self.made), len(data)
+
+    def is_read(self, failed):
+        return not (failed or 0) & 0xFFFFFFFF
+
+
+class PostGis:
+    """PostGIS in a server of its own, which is gone afterwards. Root may not run a server: the user postgres does."""
+
+    def __init__(self):
+        asked = shutil.which("pg_config") and subprocess.run(["pg_config", "--bindir"], capture_output=True, text=True)
+        self.programs = pathlib.Path(asked.stdout.strip() if asked else "/none")
+        if not (self.programs / "initdb").is_file():
+            raise Absent("there is no PostgreSQL server")
+        self.work = pathlib.Path(tempfile.mkdtemp())
+        self.as_user = ["runuser", "-u", "postgres", "--"] if os.getuid() == 0 else []
+        if self.as_user:
+            shutil.chown(self.work, "postgres")
+        self.run("initdb", "-D", "data", "-A", "trust", "-U", "wkb")
+        self.run("pg_ctl", "-D", "data", "-w", "-o", f"-k {self.work} -c listen_addresses=''", "-l", "server", "start")
+        if self.ask("create extension postgis") is None:
+            self.close()
+            raise Absent("the server has no PostGIS")
+        self.name = "PostGIS " + self.ask("select postgis_lib_version()")
+
+    def run(self, program, *words):
+        clean = {it: value for it, value in os.environ.items() if it != "LD_PRELOAD"}
+        command = [*self.as_user, self.programs / program, *words]
+        ran = subprocess.run(command, cwd=self.work, capture_output=True, env=clean)
+        if ran.returncode:
+            raise Absent(f"{program} failed: {ran.stderr.decode().strip()}")
+
+    def close(self):
+        self.run("pg_ctl", "-D", "data", "-m", "immediate", "stop")
+        shutil.rmtree(self.work)
+
+    def ask(self, question):
+        """The answer, or None where it is an error. Where the server goes down, so does this process."""
+        words = ["psql", "-h", self.work, "-U", "wkb", "-qAtX", "-d", "postgres", "-v", "ON_ERROR_STOP=1"]
+        ran = subprocess.run(words, input=question, capture_output=True, text=True)
+        if ran.returncode not in (0, SCRIPT_FAILED):
+            os.kill(os.getpid(), signal.SIGSEGV)
+        return None if ran.returncode else ran.stdout.strip()
+
+    def made(self, data, wanted):
+        return self.ask(f"select {wanted} from (select ST_GeomFromWKB('\\x{data.hex()}'::bytea) as g) as it")
+
+    def written(self, data):
+        found = self.made(data, "encode(ST_AsEWKB(g), 'hex')")
+        return found and bytes.fromhex(found)
+
+    def written_of_hex(self, data):
+        found = self.ask(f"select encode(ST_AsEWKB('{data.hex()}'::geometry), 'hex')")
+        return found and bytes.fromhex(found)
+
+    def with_srid(self, data):
+        found = self.made(data, f"encode(ST_AsEWKB(ST_SetSRID(g, {SRID})), 'hex')")
+        return found and bytes.fromhex(found)
+
+    def is_valid(self, data):
+        return self.made(data, "ST_IsValid(g)") == "t"
+
+    def text(self, data):
+        return self.made(data, "ST_AsText(g)")
+
+    def time(self, data, n):
+        """The mean time of N readings in one query, by the server's clock."""
+        rows = f"create temp table many as select '\\x{data.hex()}'::bytea as wkb from generate_series(1, {n});"
+        read = "perform count(ST_GeomFromWKB(wkb)) from many"
+        took = "create temp table took as select extract(epoch from clock_timestamp() - begun) as seconds"
+        timed = f"do $$ declare begun timestamptz := clock_timestamp(); begin {read}; {took}; end $$;"
+        return 1e9 * float(self.ask(f"{rows}{timed} select seconds from took")) / n
+
+
+class Original(Silent):
+    """The Rust crate, from a folder or from cargo's registry, in a program that bench/peers builds."""
+
+    name = "`wkb` 0.9.3"
+
+    def __init__(self, program):
+        self.program = program
+
+    def ask(self, data, *words):
+        ran = subprocess.run([self.program, *words], input=data.hex(), capture_output=True, text=True)
+        if ran.returncode < 0:
+            os.kill(os.getpid(), -ran.returncode)
+        if ran.returncode:
+            raise RuntimeError("panic")
+        return ran.stdout.strip()
+
+    def written(self, data):
+        found = self.ask(data)
+        return None if found == "refused" else bytes.fromhex(found)
+
+    def with_srid(self, data):
+        return self.written(data)
+
+    def refused_at(self, data, n):
+        return self.ask(data, "refuse", str(n))
+
+    def time(self, data, n):
+        return float(self.ask(data, "time", str(n)))
