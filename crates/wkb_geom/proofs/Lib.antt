@@ -1,4 +1,5 @@
 mod Layouts
+pub mod Heads
 pub mod Codes
 pub mod Meanings
 pub mod Faults

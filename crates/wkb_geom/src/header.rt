@@ -40,7 +40,7 @@ pub struct Layout {
 }
 
 impl Head {
-    ghost use Rattle.std.specs.Prelude.{◌≡◌};
+    ghost use Rattle.std.specs.Prelude.{◌≡◌, IfSome, Ok};
     ghost use Rattle.wkb_geom.specs.Reading.{head_at, layout_of};
 
     /// The header at the front of the bytes.
@@ -68,6 +68,25 @@ impl Head {
             }),
             None => Err(Cause::General(General::CodeOutOfRange(number))),
         }
+    }
+
+    /// The header at the front of the bytes, if it has the code that ISO writes of this type.
+    #[inline]
+    fn read_iso(wanted: WkbType, bytes: &[u8]) -> Option<Head>
+        ensures head { IfSome result (λ header. head_at bytes.now ≡ Ok header) }
+    {
+        if bytes.len() < MEMBER_HEADER_SIZE {
+            return None;
+        }
+        let order = Endianness::of_byte(bytes[0])?;
+        if u32_at(bytes, ORDER_SIZE, order) != u32::from(wanted) {
+            return None;
+        }
+        Some(Head {
+            order,
+            wkb_type: wanted,
+            has_srid: false,
+        })
     }
 
     /// How the body after it is laid out.
@@ -99,7 +118,11 @@ impl Layout {
     pub fn of_member(wanted: WkbType, bytes: &[u8]) -> Result<Layout, Cause>
         ensures { member_layout (type_kind wanted) (type_dimension wanted) bytes.now ≡ result }
     {
-        let header = Head::read(bytes)?;
+        // Most members have the code that ISO writes.
+        let header = match Head::read_iso(wanted, bytes) {
+            Some(header) => header,
+            None => Head::read(bytes)?,
+        };
         // By numbers: `==` of the seven kinds makes a proof of many cases (docs/PROVING.md).
         let found = header.wkb_type;
         let is_same = found.kind() == wanted.kind() && found.dimension() == wanted.dimension();
@@ -192,7 +215,7 @@ impl Layout {
     pub fn count(self, bytes: &[u8]) -> Result<u32, Cause>
         ensures counted { IfOk result (λ n. n ≡ count_in self bytes.now) }
         ensures whole { IfOk result (λ _. body_start self.has_srid + COUNT_SIZE ≤ length bytes.now) }
-        ensures short { IfErr result (HasNoCount self bytes.now) }
+        ensures refused { IfErr result (HasNoCount self bytes.now) }
     {
         let at = self.header_length();
         if bytes.len() < at + COUNT_SIZE {
@@ -290,7 +313,7 @@ impl Layout {
         ensures answer { points_counted self bytes.now ≡ result }
         ensures counted { IfOk result (λ n. n ≡ count_in self bytes.now) }
         ensures whole { IfOk result (λ n. multi_point_end self.dimension self.has_srid n ≤ length bytes.now) }
-        ensures short { IfErr result (λ cause. multi_point_at self bytes.now ≡ refused cause) }
+        ensures refused { IfErr result (λ cause. multi_point_at self bytes.now ≡ refused cause) }
     {
         let count = self.count(bytes)?;
         let start = self.header_length() + COUNT_SIZE;
