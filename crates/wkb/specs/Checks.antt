@@ -1,7 +1,8 @@
 -- What the check without memory returns, and the bounds.
 pub use Rattle.wkb_check.specs.Public.{Describes, DescribesFront, DescribesOnlyFront, IsRefusedFor, IsRefusedOnlyFor}
 pub use Rattle.wkb_check.specs.Public.{Checks, IsBounded}
-pub use Rattle.wkb_check.specs.Counted.{coordinate_count, left_in}
+pub use Rattle.wkb_check.specs.Counted.{coordinate_count}
+pub use Rattle.wkb_geom.specs.Refusals.{left_in}
 pub use Rattle.wkb_check.specs.declared.answer.Summary.{Summary}
 pub use Rattle.wkb_check.specs.declared.answer.Refused.{Refused}
 pub use Rattle.wkb_check.specs.Bounded.{on, AreBounds, BoundsFront, BoundsOnlyFront, FindsBounds, nothing}

@@ -8,3 +8,4 @@ pub mod Paths
 pub mod Shapes
 pub mod Corners
 pub mod Features
+pub mod Places

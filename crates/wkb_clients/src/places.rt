@@ -1,8 +1,7 @@
 //! A caller's own type that is written as a point, read again and taken out.
 
-ghost use Rattle.std.specs.Prelude.{◌≡◌, true, IfOk, MatchOption};
-ghost use Rattle.wkb.specs.Prelude.{all_nan};
-ghost use Rattle.wkb_cases.specs.Places.{place_words};
+ghost use Rattle.std.specs.Prelude.{IfOk};
+ghost use Rattle.wkb_clients.specs.Places.{IsReadAgain};
 
 use std::alloc::Global;
 use wkb::error::WkbResult;
@@ -19,8 +18,7 @@ pub fn round_trip(
     place: &Place,
     options: &WriteOptions,
 ) -> WkbResult<Option<(u64, u64)>>
-    ensures { IfOk result (λ found. MatchOption found (all_nan (place_words place.now) ≡ true)
-        (λ words. words ≡ (place.now.longitude, place.now.latitude))) }
+    ensures { IfOk result (IsReadAgain place.now) }
 {
     let mut sink = VecSink::new(alloc);
     match write_point(&mut sink, place, options) {

@@ -1,6 +1,7 @@
 //! Plain geometries over words of the user's own.
 
 ghost use Rattle.std.specs.Prelude.{◌≡◌, ◌%◌, ◌↔◌, length, is_none, IfOk, IfSome, IsSome};
+ghost use Rattle.wkb.specs.Geometries.{HasDimensions};
 ghost use Rattle.wkb.specs.Prelude.traits.{Xy};
 ghost use Rattle.wkb.specs.Plain.{point_coordinate, coordinates_in};
 ghost use Rattle.wkb.specs.Plain.{line_string_dimensions, line_string_coordinates};
@@ -25,7 +26,7 @@ pub fn is_empty_point(point: &Point) -> bool
 /// The line string of these pairs of words. None where the last has no pair.
 pub fn line_of_pairs<'w>(words: &'w [u64]) -> Option<LineString<'w>>
     ensures some { IsSome result ↔ (length words.now % 2 ≡ 0) }
-    ensures dimensions { IfSome result (λ line. line_string_dimensions line ≡ Xy) }
+    ensures dimensions { HasDimensions line_string_dimensions result Xy }
     ensures coordinates { IfSome result
         (λ line. line_string_coordinates line ≡ coordinates_in Xy words.now) }
 {

@@ -1,8 +1,8 @@
 //! Shapes of a map, made of places: what a program has that knows nothing of WKB. Each implements the trait of its
 //! kind.
 
-ghost use Rattle.std.specs.Prelude.{◌≡◌, map, slice_get};
-ghost use Rattle.std.specs.Option.{option_map};
+ghost use Rattle.std.specs.Prelude.{map};
+ghost use Rattle.wkb.specs.Geometries.{IsItemAt};
 ghost use Rattle.wkb.specs.Prelude.traits.{Xy};
 ghost use Rattle.wkb_clients.specs.Shapes.{path_words, path_lawful, spots_words, spots_lawful, area_rings};
 ghost use Rattle.wkb_clients.specs.Shapes.{area_lawful, network_words, network_lawful, region_rings};
@@ -147,7 +147,7 @@ impl<'m> PolygonTrait for Area<'m> {
 
 /// The path at an index, if there is one.
 fn path_at<'m>(paths: &'m [Path<'m>], i: usize) -> Option<Path<'m>>
-    ensures { option_map path_words result ≡ slice_get (map path_words paths.now) i }
+    ensures { IsItemAt path_words result (map path_words paths.now) i }
 {
     if i < paths.len() {
         Some(paths[i])

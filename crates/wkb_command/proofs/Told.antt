@@ -19,16 +19,16 @@ use Rattle.wkb.specs.Canonical.{OverflowsWithSrid}
 use Rattle.wkb_command.specs.Readings.{HasSrid}
 use Rattle.wkb_geom.specs.declared.error.WkbError.{WkbError}
 use Rattle.wkb_geom.specs.declared.error.WkbError.TheVariants as errors
-use Rattle.wkb_command.specs.declared.calls.HexFault.{HexFault}
-use Rattle.wkb_command.specs.declared.calls.HexFault.TheVariants.{NotHex, Wkb, Memory}
+use Rattle.wkb_command.specs.declared.calls.HexFailure.{HexFailure}
+use Rattle.wkb_command.specs.declared.calls.HexFailure.TheVariants.{NotHex, Wkb, Memory}
 use Rattle.wkb_command.specs.declared.program.Command.{Command}
 use Rattle.wkb_command.specs.declared.program.Command.TheVariants.{Rewrite, RewriteWithSrid, Same, Cost, Srid}
 use Rattle.wkb_command.specs.declared.calls.Verdict.{Verdict}
-use Rattle.wkb_command.specs.Calls.{AreHex, AreHexOf, IsHexOf, OfHex, IsVerdict, IsFaultOf, RefusedFirst, IsOversized}
+use Rattle.wkb_command.specs.Calls.{AreHex, AreHexOf, IsHexOf, OfHex, IsVerdict, IsFailureOf, RefusedFirst, IsOversized}
 use Rattle.wkb_command.specs.Calls.{OfTwoHexes, AreCompared}
 use Rattle.wkb_command.specs.Program.{Says, rewritten, rewritten_with_srid, accepted, counted_refusal, srid, refused}
 use Rattle.wkb_command.specs.Program.{same, different, not_hex, IsOneLine, IsNotSingle, IsNotPair, hex_line}
-use Rattle.wkb_command.specs.Program.{wanted_lines, Gives, counts, TellsCause, TellsError, TellsHexFault}
+use Rattle.wkb_command.specs.Program.{wanted_lines, Gives, counts, TellsCause, TellsError, TellsHexFailure}
 use Rattle.wkb.proofs.Rewritten.{iso_fits}
 use Rattle.wkb_command.proofs.Hexes.{AreHex-from, AreHexOf-length}
 
@@ -58,18 +58,18 @@ pub says_not_hex : (command : Command) (texts : List (List ℕ)) (line : List �
 says_not_hex command texts line status h is two =
     rw (is, two) (not_hex (λ inputs gives. h (AreHex-from texts inputs gives.hex)))
 
--- the line for a fault, where the line for an error is known
-pub says_fault : (command : Command) (texts : List (List ℕ)) (IsRefused : List (List ℕ) → WkbError → Type 0)
-    (fault : HexFault) (line : List ℕ) (status : ℕ)
+-- the line for a failure, where the line for an error is known
+pub says_failure : (command : Command) (texts : List (List ℕ)) (IsRefused : List (List ℕ) → WkbError → Type 0)
+    (failure : HexFailure) (line : List ℕ) (status : ℕ)
     → length texts ≡ wanted_lines command
     → ((inputs : List (List ℕ)) (e : WkbError) → Gives command texts inputs → IsRefused inputs e → TellsError e line
     → Says texts command line 1)
-    → IsFaultOf texts IsRefused fault → TellsHexFault fault line status → Says texts command line status
-says_fault command texts IsRefused NotHex line status wanted f h told =
+    → IsFailureOf texts IsRefused failure → TellsHexFailure failure line status → Says texts command line status
+says_failure command texts IsRefused NotHex line status wanted f h told =
     says_not_hex command texts line status h told.0 told.1
-says_fault command texts IsRefused (Wkb e) line status wanted f h told =
+says_failure command texts IsRefused (Wkb e) line status wanted f h told =
     rw told.1 (f h.0 e (Gives-from command texts h.0 wanted h.1) h.2 told.0)
-says_fault command texts IsRefused Memory line status wanted f h told = absurd told
+says_failure command texts IsRefused Memory line status wanted f h told = absurd told
 
 -- the first refusal, as its error says
 pub says_refused : (command : Command) (texts : List (List ℕ)) (line : List ℕ) → command ≢ Cost
@@ -91,26 +91,28 @@ pub reports_line : (texts : List (List ℕ)) (command : Command) (line : List �
 reports_line texts command line status r h says =
     IfOk-from r _ _ h (λ report is. rw (is.0, is.1) says)
 
--- a fault
-pub reports_fault : (texts : List (List ℕ)) (command : Command) (IsRefused : List (List ℕ) → WkbError → Type 0)
-    (fault : HexFault) (r : Result Report AllocError)
+-- a failure
+pub reports_failure : (texts : List (List ℕ)) (command : Command) (IsRefused : List (List ℕ) → WkbError → Type 0)
+    (failure : HexFailure) (r : Result Report AllocError)
     → length texts ≡ wanted_lines command
     → ((line : List ℕ) (inputs : List (List ℕ)) (e : WkbError) → Gives command texts inputs → IsRefused inputs e
     → TellsError e line
     → Says texts command line 1)
-    → IsFaultOf texts IsRefused fault
-    → IfOk r (λ report. TellsHexFault fault (line_of report.output) report.status) → IfOk r (IsReportOn texts command)
-reports_fault texts command IsRefused fault r wanted f h told =
+    → IsFailureOf texts IsRefused failure
+    → IfOk r (λ report. TellsHexFailure failure (line_of report.output) report.status)
+    → IfOk r (IsReportOn texts command)
+reports_failure texts command IsRefused failure r wanted f h told =
     IfOk-from r _ _ told
-    (λ report is. says_fault command texts IsRefused fault (line_of report.output) report.status wanted
+    (λ report is. says_failure command texts IsRefused failure (line_of report.output) report.status wanted
     (f (line_of report.output)) h is)
 
-pub reports_refusal : (texts : List (List ℕ)) (command : Command) (fault : HexFault) (r : Result Report AllocError)
+pub reports_refusal : (texts : List (List ℕ)) (command : Command) (failure : HexFailure) (r : Result Report AllocError)
     → length texts ≡ wanted_lines command → command ≢ Cost
-    → IsFaultOf texts RefusedFirst fault
-    → IfOk r (λ report. TellsHexFault fault (line_of report.output) report.status) → IfOk r (IsReportOn texts command)
-reports_refusal texts command fault r wanted ne h told =
-    reports_fault texts command RefusedFirst fault r wanted (λ line. says_refused command texts line ne) h told
+    → IsFailureOf texts RefusedFirst failure
+    → IfOk r (λ report. TellsHexFailure failure (line_of report.output) report.status)
+    → IfOk r (IsReportOn texts command)
+reports_refusal texts command failure r wanted ne h told =
+    reports_failure texts command RefusedFirst failure r wanted (λ line. says_refused command texts line ne) h told
 
 pub one_input : (command : Command) (text bytes : List ℕ) → wanted_lines command ≡ 1 → IsHexOf text bytes
     → Gives command (text ∷ []) (bytes ∷ [])

@@ -12,8 +12,8 @@ use Rattle.wkb_command.specs.Readings.{Accepts, IsRefused}
 use Rattle.wkb_command.specs.declared.calls.Verdict.{Verdict}
 use Rattle.wkb_geom.specs.declared.error.WkbError.{WkbError}
 use Rattle.wkb_geom.specs.declared.error.WkbError.TheVariants as errors
-use Rattle.wkb_command.specs.declared.calls.HexFault.{HexFault}
-use Rattle.wkb_command.specs.declared.calls.HexFault.TheVariants.{NotHex, Wkb, Memory}
+use Rattle.wkb_command.specs.declared.calls.HexFailure.{HexFailure}
+use Rattle.wkb_command.specs.declared.calls.HexFailure.TheVariants.{NotHex, Wkb, Memory}
 
 -- hex digits in either case, two for each byte
 pub record IsHex (text : List ℕ) : Type 0 where
@@ -79,21 +79,21 @@ RefusedOrOversized options inputs e =
     RefusedFirst inputs e ⊎ IsOversized (OverflowsWithSrid options.endianness options.form) inputs e
 
 -- an allocation failed, or the text isn't hex
-abbrev pub IsDecodingFault : List ℕ → HexFault → Type 0
-IsDecodingFault text fault = (fault ≡ Memory) ⊎ ((fault ≡ NotHex) × ¬ IsHex text)
+abbrev pub IsDecodingFailure : List ℕ → HexFailure → Type 0
+IsDecodingFailure text failure = (failure ≡ Memory) ⊎ ((failure ≡ NotHex) × ¬ IsHex text)
 
--- A fault of a call on these texts, other than a failed allocation: one of them isn't hex, or all of them are and what
--- they spell is refused.
-abbrev pub IsFaultOf : List (List ℕ) → (List (List ℕ) → WkbError → Type 0) → HexFault → Type 0
-IsFaultOf texts IsRefused NotHex = ¬ AreHex texts
-IsFaultOf texts IsRefused (Wkb e) = (inputs : List (List ℕ)) × AreHexOf texts inputs × IsRefused inputs e
-IsFaultOf texts IsRefused Memory = Unit {0}
+-- A failure of a call on these texts, other than a failed allocation: one of them isn't hex, or all of them are and
+-- what they spell is refused.
+abbrev pub IsFailureOf : List (List ℕ) → (List (List ℕ) → WkbError → Type 0) → HexFailure → Type 0
+IsFailureOf texts IsRefused NotHex = ¬ AreHex texts
+IsFailureOf texts IsRefused (Wkb e) = (inputs : List (List ℕ)) × AreHexOf texts inputs × IsRefused inputs e
+IsFailureOf texts IsRefused Memory = Unit {0}
 
 -- a failed allocation is always `Memory`
-abbrev pub FaultOfError : WkbError → HexFault → Type 0
-FaultOfError (errors.Memory e) fault = fault ≡ Memory
-FaultOfError e fault = fault ≡ Wkb e
+abbrev pub FailureOfError : WkbError → HexFailure → Type 0
+FailureOfError (errors.Memory e) failure = failure ≡ Memory
+FailureOfError e failure = failure ≡ Wkb e
 
-abbrev pub FaultOfHexError : FromHexError → HexFault → Type 0
-FaultOfHexError OutOfMemory fault = fault ≡ Memory
-FaultOfHexError _ fault = fault ≡ NotHex
+abbrev pub FailureOfHexError : FromHexError → HexFailure → Type 0
+FailureOfHexError OutOfMemory failure = failure ≡ Memory
+FailureOfHexError _ failure = failure ≡ NotHex

@@ -1,6 +1,7 @@
 -- The program: the line that it writes and the status that it ends with, for its arguments and its input.
 use Rattle.std.specs.Prelude.{◌≡◌, ◌≢◌, ℕ, ◌==◌, if◌then◌else◌, codes, Option, Some, None, MatchOption}
 use Rattle.std.specs.Prelude.{List, [], ◌∷◌, ◌++◌, length, EachIndex, slice_index}
+use Rattle.std.specs.Borrow.{Bor}
 use Rattle.std.specs.Fmt.{decimal}
 use Rattle.std.specs.Io.{StartsWith}
 use Rattle.std.specs.Io.KnownBytes.{Appends}
@@ -16,8 +17,8 @@ use Rattle.wkb_command.specs.Readings.{Accepts, IsRefused, HasSrid}
 use Rattle.wkb_command.specs.Calls.{AreHexOf, FirstRefusal}
 use Rattle.wkb_geom.specs.declared.error.WkbError.{WkbError}
 use Rattle.wkb_geom.specs.declared.error.WkbError.TheVariants as errors
-use Rattle.wkb_command.specs.declared.calls.HexFault.{HexFault}
-use Rattle.wkb_command.specs.declared.calls.HexFault.TheVariants.{NotHex, Wkb, Memory}
+use Rattle.wkb_command.specs.declared.calls.HexFailure.{HexFailure}
+use Rattle.wkb_command.specs.declared.calls.HexFailure.TheVariants.{NotHex, Wkb, Memory}
 use Rattle.wkb_command.specs.declared.program.Command.{Command}
 use Rattle.wkb_command.specs.declared.program.Command.TheVariants.{Rewrite, RewriteWithSrid, Same, Cost, Srid}
 
@@ -80,6 +81,14 @@ IsNotSingle lines = (line : List ℕ) → lines ≢ line ∷ []
 abbrev pub IsNotPair : List (List ℕ) → Type 0
 IsNotPair lines = (first second : List ℕ) → lines ≢ first ∷ second ∷ []
 
+-- the only line, or None where there is another number of them
+abbrev pub IsOnlyLine : List (List ℕ) → Option (Bor (List ℕ)) → Type 0
+IsOnlyLine lines result = MatchOption result (IsNotSingle lines) (λ line. lines ≡ line.now ∷ [])
+
+-- the two lines, or None where there is another number of them
+abbrev pub AreTwoLines : List (List ℕ) → Option (Bor (List ℕ) × Bor (List ℕ)) → Type 0
+AreTwoLines lines result = MatchOption result (IsNotPair lines) (λ pair. lines ≡ pair.0.now ∷ pair.1.now ∷ [])
+
 -- how many lines a command wants
 abbrev pub wanted_lines : Command → ℕ
 wanted_lines Same = 2
@@ -134,11 +143,11 @@ abbrev pub TellsError : WkbError → List ℕ → Type 0
 TellsError (errors.IOError e) line = line ≡ codes "refused: end of input\n"
 TellsError _ line = IsRefusalLine line
 
--- the line and the status for a fault
-abbrev pub TellsHexFault : HexFault → List ℕ → ℕ → Type 0
-TellsHexFault NotHex line status = (line ≡ codes "not hex\n") × (status ≡ status_misused)
-TellsHexFault (Wkb e) line status = TellsError e line × (status ≡ status_refused)
-TellsHexFault Memory line status = ⊥
+-- the line and the status for a failure
+abbrev pub TellsHexFailure : HexFailure → List ℕ → ℕ → Type 0
+TellsHexFailure NotHex line status = (line ≡ codes "not hex\n") × (status ≡ status_misused)
+TellsHexFailure (Wkb e) line status = TellsError e line × (status ≡ status_refused)
+TellsHexFailure Memory line status = ⊥
 
 -- the line of `cost`
 abbrev pub counts : List ℕ → ℕ → ℕ → List ℕ

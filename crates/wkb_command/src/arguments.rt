@@ -1,7 +1,7 @@
 //! The program's arguments as texts.
 
 ghost use Rattle.std.specs.Prelude.{◌≡◌};
-ghost use Rattle.wkb_command.specs.declared.arguments.ArgumentFault.TheVariants.{Memory};
+ghost use Rattle.wkb_command.specs.declared.arguments.ArgumentFailure.TheVariants.{Memory};
 
 use std::alloc::{AllocError, Global};
 use std::env::{Env, FillError};
@@ -11,36 +11,40 @@ const FIRST_SIZE: usize = 256;
 
 /// Why an argument isn't a text in memory.
 #[derive(Clone, Copy)]
-pub enum ArgumentFault {
+pub enum ArgumentFailure {
     /// It isn't UTF-8.
     NoText,
     Memory,
 }
 
-impl From<AllocError> for ArgumentFault {
-    ghost from_gives = { λ error fault. fault ≡ Memory };
+impl From<AllocError> for ArgumentFailure {
+    ghost from_gives = { λ error failure. failure ≡ Memory };
 
-    fn from(_error: AllocError) -> ArgumentFault {
-        ArgumentFault::Memory
+    fn from(_error: AllocError) -> ArgumentFailure {
+        ArgumentFailure::Memory
     }
 }
 
 /// The arguments after the program's name. The name itself is not looked at, so it need not be a text.
-pub fn read_arguments<E: Env>(alloc: Global, env: &E) -> Result<Vec<String>, ArgumentFault> {
+pub fn read_arguments<E: Env>(alloc: Global, env: &E) -> Result<Vec<String>, ArgumentFailure> {
     let mut arguments = Vec::new(alloc);
     for i in 1..usize::MAX {
         let Some(argument) = argument_at(alloc, env, i)? else {
             return Ok(arguments);
         };
         if arguments.push(argument).is_err() {
-            return Err(ArgumentFault::Memory);
+            return Err(ArgumentFailure::Memory);
         }
     }
     Ok(arguments)
 }
 
 /// An argument by its place, and `None` past the last. The room for it is doubled until it fits.
-fn argument_at<E: Env>(alloc: Global, env: &E, i: usize) -> Result<Option<String>, ArgumentFault> {
+fn argument_at<E: Env>(
+    alloc: Global,
+    env: &E,
+    i: usize,
+) -> Result<Option<String>, ArgumentFailure> {
     let mut size = FIRST_SIZE;
     for _ in 0..usize::BITS {
         let mut bytes = vec![in alloc; 0u8; size]?;
@@ -53,12 +57,12 @@ fn argument_at<E: Env>(alloc: Global, env: &E, i: usize) -> Result<Option<String
             Err(FillError::TooLong) => size = size.saturating_add(size),
         }
     }
-    Err(ArgumentFault::Memory)
+    Err(ArgumentFailure::Memory)
 }
 
-fn text(bytes: Vec<u8>) -> Result<String, ArgumentFault> {
+fn text(bytes: Vec<u8>) -> Result<String, ArgumentFailure> {
     match String::from_utf8(bytes) {
         Ok(text) => Ok(text),
-        Err(_) => Err(ArgumentFault::NoText),
+        Err(_) => Err(ArgumentFailure::NoText),
     }
 }

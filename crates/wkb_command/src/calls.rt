@@ -1,14 +1,14 @@
 //! The calls on hex texts: each decodes its texts and asks for what they spell.
 //!
-//! A text is hex digits in either case, two for each byte. A failed allocation is always `HexFault::Memory`.
+//! A text is hex digits in either case, two for each byte. A failed allocation is always `HexFailure::Memory`.
 
 ghost use Rattle.std.specs.Prelude.{◌∷◌, [], IfOk, IfErr};
 ghost use Rattle.wkb_geom.specs.Encodings.{IsRewritingWithSrid};
 ghost use Rattle.wkb.specs.Canonical.{IsRewritingUnder};
 ghost use Rattle.wkb_command.specs.Readings.{HasSrid};
-ghost use Rattle.wkb_command.specs.Calls.{IsHexOf, OfHex, OfTwoHexes, IsFaultOf, IsDecodingFault};
+ghost use Rattle.wkb_command.specs.Calls.{IsHexOf, OfHex, OfTwoHexes, IsFailureOf, IsDecodingFailure};
 ghost use Rattle.wkb_command.specs.Calls.{AreCompared, IsVerdict, RefusedFirst};
-ghost use Rattle.wkb_command.specs.Calls.{RefusedOrOversized, FaultOfError, FaultOfHexError};
+ghost use Rattle.wkb_command.specs.Calls.{RefusedOrOversized, FailureOfError, FailureOfHexError};
 
 use hex::FromHexError;
 use std::alloc::Global;
@@ -20,7 +20,7 @@ use wkb::writer::WriteOptions;
 
 /// Why a call on hex texts fails.
 #[derive(Debug, Drop)]
-pub enum HexFault {
+pub enum HexFailure {
     /// A character is no hex digit, or the digits are odd in number.
     NotHex,
     /// The bytes that the text spells are refused.
@@ -38,32 +38,32 @@ pub struct Verdict {
     pub counts: Counts,
 }
 
-impl From<WkbError> for HexFault {
-    ghost from_gives = { FaultOfError };
+impl From<WkbError> for HexFailure {
+    ghost from_gives = { FailureOfError };
 
-    fn from(error: WkbError) -> HexFault {
+    fn from(error: WkbError) -> HexFailure {
         match error {
-            WkbError::Memory(_) => HexFault::Memory,
-            other => HexFault::Wkb(other),
+            WkbError::Memory(_) => HexFailure::Memory,
+            other => HexFailure::Wkb(other),
         }
     }
 }
 
-impl From<FromHexError> for HexFault {
-    ghost from_gives = { FaultOfHexError };
+impl From<FromHexError> for HexFailure {
+    ghost from_gives = { FailureOfHexError };
 
-    fn from(error: FromHexError) -> HexFault {
+    fn from(error: FromHexError) -> HexFailure {
         match error {
-            FromHexError::OutOfMemory => HexFault::Memory,
-            _ => HexFault::NotHex,
+            FromHexError::OutOfMemory => HexFailure::Memory,
+            _ => HexFailure::NotHex,
         }
     }
 }
 
 /// The bytes that a text spells.
-fn bytes_of_hex(alloc: Global, text: &str) -> Result<Vec<u8>, HexFault>
+fn bytes_of_hex(alloc: Global, text: &str) -> Result<Vec<u8>, HexFailure>
     ensures ok { IfOk result (λ bytes. IsHexOf text.now bytes.items) }
-    ensures err { IfErr result (IsDecodingFault text.now) }
+    ensures err { IfErr result (IsDecodingFailure text.now) }
 {
     Ok(hex::decode(alloc, text)?)
 }
@@ -72,10 +72,10 @@ fn bytes_of_hex(alloc: Global, text: &str) -> Result<Vec<u8>, HexFault>
 ///
 /// `Wkb` is the reader's error, or `OverflowError(Size)` where the SRID of the options makes the
 /// rewriting longer than `usize`.
-pub fn rewrite_hex(alloc: Global, text: &str, options: &WriteOptions) -> Result<Vec<u8>, HexFault>
+pub fn rewrite_hex(alloc: Global, text: &str, options: &WriteOptions) -> Result<Vec<u8>, HexFailure>
     ensures ok { IfOk result
         (λ it. OfHex text.now (λ b. IsRewritingUnder options.now b it.items)) }
-    ensures err { IfErr result (IsFaultOf (text.now ∷ []) (RefusedOrOversized options.now)) }
+    ensures err { IfErr result (IsFailureOf (text.now ∷ []) (RefusedOrOversized options.now)) }
 {
     let bytes = bytes_of_hex(alloc, text)?;
     Ok(canonical(alloc, bytes.as_slice(), options)?)
@@ -88,10 +88,10 @@ pub fn rewrite_hex_with_srid(
     alloc: Global,
     text: &str,
     order: Endianness,
-) -> Result<Vec<u8>, HexFault>
+) -> Result<Vec<u8>, HexFailure>
     ensures ok { IfOk result
         (λ it. OfHex text.now (λ b. IsRewritingWithSrid order b it.items)) }
-    ensures err { IfErr result (IsFaultOf (text.now ∷ []) RefusedFirst) }
+    ensures err { IfErr result (IsFailureOf (text.now ∷ []) RefusedFirst) }
 {
     let bytes = bytes_of_hex(alloc, text)?;
     Ok(canonical_with_srid(alloc, bytes.as_slice(), order)?)
@@ -99,11 +99,11 @@ pub fn rewrite_hex_with_srid(
 
 /// Whether two hex texts spell geometries of the same value, SRIDs aside.
 ///
-/// Both texts are decoded before a byte is read, the first text's fault first. `Wkb` is the reader's
+/// Both texts are decoded before a byte is read, the first text first. `Wkb` is the reader's
 /// error for the first, or else for the second.
-pub fn same_hex(alloc: Global, first: &str, second: &str) -> Result<bool, HexFault>
+pub fn same_hex(alloc: Global, first: &str, second: &str) -> Result<bool, HexFailure>
     ensures ok { IfOk result (λ equal. OfTwoHexes first.now second.now (AreCompared equal)) }
-    ensures err { IfErr result (IsFaultOf (first.now ∷ second.now ∷ []) RefusedFirst) }
+    ensures err { IfErr result (IsFailureOf (first.now ∷ second.now ∷ []) RefusedFirst) }
 {
     let first = bytes_of_hex(alloc, first)?;
     let second = bytes_of_hex(alloc, second)?;
@@ -112,11 +112,11 @@ pub fn same_hex(alloc: Global, first: &str, second: &str) -> Result<bool, HexFau
 
 /// Whether the bytes that a hex text spells are accepted, and what it cost to read them.
 ///
-/// A refusal is a result here, and no fault.
+/// A refusal is a result here, and no failure.
 #[tactic(auto, using(crate::proofs::Costs::refused_cost))]
-pub fn cost_hex(alloc: Global, text: &str) -> Result<Verdict, HexFault>
+pub fn cost_hex(alloc: Global, text: &str) -> Result<Verdict, HexFailure>
     ensures ok { IfOk result (λ verdict. OfHex text.now (IsVerdict verdict)) }
-    ensures err { IfErr result (IsFaultOf (text.now ∷ []) (λ inputs e. ⊥)) }
+    ensures err { IfErr result (IsFailureOf (text.now ∷ []) (λ inputs e. ⊥)) }
 {
     let bytes = bytes_of_hex(alloc, text)?;
     let (read, counts) = read_wkb_counted(alloc, bytes.as_slice());
@@ -125,7 +125,7 @@ pub fn cost_hex(alloc: Global, text: &str) -> Result<Verdict, HexFault>
             accepted: true,
             counts,
         }),
-        Some(WkbError::Memory(_)) => Err(HexFault::Memory),
+        Some(WkbError::Memory(_)) => Err(HexFailure::Memory),
         Some(_) => Ok(Verdict {
             accepted: false,
             counts,
@@ -134,9 +134,9 @@ pub fn cost_hex(alloc: Global, text: &str) -> Result<Verdict, HexFault>
 }
 
 /// The SRID of the outermost geometry that a hex text spells, where it has one.
-pub fn srid_hex(alloc: Global, text: &str) -> Result<Option<u32>, HexFault>
+pub fn srid_hex(alloc: Global, text: &str) -> Result<Option<u32>, HexFailure>
     ensures ok { IfOk result (λ srid. OfHex text.now (λ bytes. HasSrid bytes srid)) }
-    ensures err { IfErr result (IsFaultOf (text.now ∷ []) RefusedFirst) }
+    ensures err { IfErr result (IsFailureOf (text.now ∷ []) RefusedFirst) }
 {
     let bytes = bytes_of_hex(alloc, text)?;
     Ok(read_wkb(alloc, bytes.as_slice())?.srid())

@@ -1,16 +1,16 @@
 //! The program: one command over the hex lines of its input.
 
 ghost use Rattle.std.specs.Prelude.{◌≡◌, ◌∷◌, [], map, codes, string_bytes};
-ghost use Rattle.std.specs.Prelude.{IfOk, MatchOption};
+ghost use Rattle.std.specs.Prelude.{IfOk};
 ghost use Rattle.wkb_command.specs.Program.{IsCommandNamed, IsCommandOf, AreNoCommand};
-ghost use Rattle.wkb_command.specs.Program.{without_last_feed, lines, IsNotSingle, IsNotPair};
+ghost use Rattle.wkb_command.specs.Program.{without_last_feed, lines, IsOnlyLine, AreTwoLines};
 ghost use Rattle.wkb_command.specs.Program.{IsOneLine, status_misused, status_refused, TellsError};
-ghost use Rattle.wkb_command.specs.Program.{TellsHexFault, counts, RunEnds, OfReported, IsRunOf};
+ghost use Rattle.wkb_command.specs.Program.{TellsHexFailure, counts, RunEnds, OfReported, IsRunOf};
 ghost use Rattle.wkb_command.specs.Reports.{line_of, IsReport, IsReportOn, IsLineOf};
 ghost use Rattle.wkb_command.specs.Transfer.{WroteBeginning};
 
-use crate::calls::{HexFault, cost_hex, rewrite_hex, rewrite_hex_with_srid, same_hex, srid_hex};
-use crate::transfer::{ReadFault, WriteFault, read_to_end, write_hex_line, write_whole};
+use crate::calls::{HexFailure, cost_hex, rewrite_hex, rewrite_hex_with_srid, same_hex, srid_hex};
+use crate::transfer::{ReadFailure, WriteFailure, read_to_end, write_hex_line, write_whole};
 use std::alloc::{AllocError, Global};
 use std::io::{Read, Write};
 use std::str;
@@ -77,7 +77,7 @@ enum Output {
 
 impl Output {
     /// Writes the line.
-    fn write_to<W: Write>(&self, out: &mut W) -> Result<(), WriteFault>
+    fn write_to<W: Write>(&self, out: &mut W) -> Result<(), WriteFailure>
         ensures { WroteBeginning (W.contents out.old) (W.contents out.new) (line_of self.now) result }
     {
         match self {
@@ -138,14 +138,14 @@ fn error_report(alloc: Global, error: &WkbError) -> Result<Report, AllocError>
     })
 }
 
-/// The report on a fault, other than a failed allocation.
-fn fault_report(alloc: Global, fault: HexFault) -> Result<Report, AllocError>
-    ensures { IfOk result (λ report. TellsHexFault fault (line_of report.output) report.status) }
+/// The report on a failure, other than a failed allocation.
+fn failure_report(alloc: Global, failure: HexFailure) -> Result<Report, AllocError>
+    ensures { IfOk result (λ report. TellsHexFailure failure (line_of report.output) report.status) }
 {
-    match fault {
-        HexFault::NotHex => Report::not_hex(alloc),
-        HexFault::Wkb(error) => error_report(alloc, &error),
-        HexFault::Memory => Err(AllocError),
+    match failure {
+        HexFailure::NotHex => Report::not_hex(alloc),
+        HexFailure::Wkb(error) => error_report(alloc, &error),
+        HexFailure::Memory => Err(AllocError),
     }
 }
 
@@ -161,7 +161,7 @@ fn rewriting_report(alloc: Global, order: Endianness, text: &str) -> Result<Repo
             output: Output::Hex(bytes),
             status: ANSWERED,
         }),
-        Err(fault) => fault_report(alloc, fault),
+        Err(failure) => failure_report(alloc, failure),
     }
 }
 
@@ -177,7 +177,7 @@ fn rewriting_with_srid_report(
             output: Output::Hex(bytes),
             status: ANSWERED,
         }),
-        Err(fault) => fault_report(alloc, fault),
+        Err(failure) => failure_report(alloc, failure),
     }
 }
 
@@ -187,7 +187,7 @@ fn comparison_report(alloc: Global, first: &str, second: &str) -> Result<Report,
 {
     let equal = match same_hex(alloc, first, second) {
         Ok(equal) => equal,
-        Err(fault) => return fault_report(alloc, fault),
+        Err(failure) => return failure_report(alloc, failure),
     };
     if equal {
         Report::new(alloc, "same\n", ANSWERED)
@@ -201,7 +201,7 @@ fn cost_report(alloc: Global, text: &str) -> Result<Report, AllocError>
 {
     let cost = match cost_hex(alloc, text) {
         Ok(cost) => cost,
-        Err(fault) => return fault_report(alloc, fault),
+        Err(failure) => return failure_report(alloc, failure),
     };
     if cost.accepted {
         counts_report(alloc, "accepted", cost.counts, ANSWERED)
@@ -236,7 +236,7 @@ fn srid_report(alloc: Global, text: &str) -> Result<Report, AllocError>
             status: ANSWERED,
         }),
         Ok(None) => Report::new(alloc, "no srid\n", ANSWERED),
-        Err(fault) => fault_report(alloc, fault),
+        Err(failure) => failure_report(alloc, failure),
     }
 }
 
@@ -252,8 +252,7 @@ fn without_last_feed(text: &str) -> &str
 
 /// The line of an input that has no other.
 fn only_line(text: &str) -> Option<&str>
-    ensures { MatchOption result (IsNotSingle (lines text.now))
-        (λ l. lines text.now ≡ l.now ∷ []) }
+    ensures { IsOnlyLine (lines text.now) result }
 {
     let body = without_last_feed(text);
     match body.split_once('\n') {
@@ -264,8 +263,7 @@ fn only_line(text: &str) -> Option<&str>
 
 /// The lines of an input that has two.
 fn two_lines(text: &str) -> Option<(&str, &str)>
-    ensures { MatchOption result (IsNotPair (lines text.now))
-        (λ pair. lines text.now ≡ pair.0.now ∷ pair.1.now ∷ []) }
+    ensures { AreTwoLines (lines text.now) result }
 {
     let body = without_last_feed(text);
     let (first, rest) = body.split_once('\n')?;
@@ -339,8 +337,8 @@ pub fn run<R: Read, W: Write>(alloc: Global, arguments: &[String], input: &mut R
     };
     let bytes = match read_to_end(alloc, input) {
         Ok(bytes) => bytes,
-        Err(ReadFault::Memory(error)) => return tell(Err(error), out),
-        Err(ReadFault::Unreadable) => return FAILED,
+        Err(ReadFailure::Memory(error)) => return tell(Err(error), out),
+        Err(ReadFailure::Unreadable) => return FAILED,
     };
     tell(report_on_input(alloc, command, bytes.as_slice()), out)
 }

@@ -21,7 +21,7 @@ const DIGITS_SIZE: usize = 65_537;
 
 /// Why an input isn't in memory.
 #[derive(Drop)]
-pub enum ReadFault {
+pub enum ReadFailure {
     /// A read failed, or `MAX_READS` reads did not reach the end.
     Unreadable,
     Memory(AllocError),
@@ -29,30 +29,30 @@ pub enum ReadFault {
 
 /// The writer failed, or took nothing.
 #[derive(Clone, Copy)]
-pub struct WriteFault;
+pub struct WriteFailure;
 
 /// All bytes up to the input's end. No read is tried again.
-pub fn read_to_end<R: Read>(alloc: Global, input: &mut R) -> Result<Vec<u8>, ReadFault>
+pub fn read_to_end<R: Read>(alloc: Global, input: &mut R) -> Result<Vec<u8>, ReadFailure>
     ensures { IfOk result (λ bytes. IfSome (R.remaining input.old) (λ all. bytes.items ≡ all)) }
 {
     let mut bytes = Vec::new(alloc);
     let mut chunk = [0u8; CHUNK_SIZE];
     for _ in 0..MAX_READS {
         let Ok(count) = input.read(&mut chunk) else {
-            return Err(ReadFault::Unreadable);
+            return Err(ReadFailure::Unreadable);
         };
         if count == 0 {
             return Ok(bytes);
         }
         if let Err(error) = bytes.extend_from_slice(&chunk[..count]) {
-            return Err(ReadFault::Memory(error));
+            return Err(ReadFailure::Memory(error));
         }
     }
-    Err(ReadFault::Unreadable)
+    Err(ReadFailure::Unreadable)
 }
 
 /// Writes all bytes, going on with the rest after a short write. No write is tried again.
-pub fn write_whole<W: Write>(out: &mut W, bytes: &[u8]) -> Result<(), WriteFault>
+pub fn write_whole<W: Write>(out: &mut W, bytes: &[u8]) -> Result<(), WriteFailure>
     ensures { WroteBeginning (W.contents out.old) (W.contents out.new) bytes.now result }
 {
     let mut rest = bytes;
@@ -60,7 +60,7 @@ pub fn write_whole<W: Write>(out: &mut W, bytes: &[u8]) -> Result<(), WriteFault
         // At an error it took nothing.
         let count = out.write(rest).unwrap_or(0);
         if count == 0 {
-            return Err(WriteFault);
+            return Err(WriteFailure);
         }
         rest = &rest[count..];
     }
@@ -79,7 +79,7 @@ fn encode_piece(piece: &[u8], digits: &mut [u8])
 }
 
 /// Writes bytes as a line of hex, piece by piece. It allocates nothing.
-pub fn write_hex_line<W: Write>(out: &mut W, bytes: &[u8]) -> Result<(), WriteFault>
+pub fn write_hex_line<W: Write>(out: &mut W, bytes: &[u8]) -> Result<(), WriteFailure>
     ensures { WroteBeginning (W.contents out.old) (W.contents out.new) (hex_line bytes.now) result }
 {
     let mut digits = [0u8; DIGITS_SIZE];

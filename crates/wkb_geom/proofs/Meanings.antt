@@ -1,7 +1,8 @@
 -- What codes stand for: the number is taken apart flag by flag, and what is read is the one meaning.
 use Rattle.std.proofs.Common.{◌≡◌, ◌⊎◌, ℕ, zero, suc, ◌+◌, ◌-◌, ◌*◌, ◌/◌, ◌%◌, ◌<◌, ◌≤◌, Option, Some, None, Bool, true}
 use Rattle.std.proofs.Common.{false, refl, sym, ap, ◌∙◌, subst, arith, inl, inr}
-use Rattle.std.specs.Prelude.{nat_le, ◌&&◌, ◌||◌, if◌then◌else◌}
+use Rattle.std.specs.Cmp.{first_so, second_so}
+use Rattle.std.specs.Prelude.{nat_le, nat_lt, ◌&&◌, ◌||◌, if◌then◌else◌}
 use Rattle.std.proofs.lemmas.Bool.{ltb-true, leb-true, lt-ltb}
 use Rattle.std.proofs.lemmas.Bool.Decides.{leb_tells}
 use Rattle.wkb_geom.specs.declared.common.Dimension.{Dimension}
@@ -11,7 +12,7 @@ use Rattle.wkb_geom.specs.Codes.{Code, flag, thousands, z_flag, m_flag, srid_fla
 use Rattle.wkb_geom.specs.Reading.{Meaning, type_kind, type_dimension, meaning_of, meaning_with, without, in_table}
 use Rattle.wkb_geom.specs.Reading.{type_of, dimension_with, iso_dimension}
 use Rattle.wkb_geom.specs.Meanings.{HasNoMeaning, has_srid_flag}
-use Rattle.wkb_geom.proofs.Codes.{bit, flag-bit, bit-most, thousands-most, one_meaning}
+use Rattle.wkb_geom.proofs.Codes.{bit, flag-bit, bit-most, thousands-most}
 
 -- thousands for the dimension and a kind
 abbrev IsIso : ℕ → Dimension → ℕ → Type 0
@@ -114,11 +115,6 @@ thousands-iso (suc (suc zero)) h = refl
 thousands-iso (suc (suc (suc zero))) h = refl
 thousands-iso (suc (suc (suc (suc q)))) h = absurd (omega arith)
 
-both_true : (a b : Bool) → (a && b) ≡ true → (a ≡ true) × (b ≡ true)
-both_true true true e = (refl, refl)
-both_true true false e = cc
-both_true false b e = cc
-
 all_true : (a b c : Bool) → a ≡ true → b ≡ true → c ≡ true → (a && (b && c)) ≡ true
 all_true a b c e f g = rw (e, f, g) refl
 
@@ -138,11 +134,10 @@ meaning_holds Q c some none =
     let em = without_by a m_flag m refl in
     let es = without_by b srid_flag s refl in
     if_holds Q (in_table n) _ _
-    (λ e. let first = both_true _ _ e in
-    let others = both_true _ _ first.1 in
-    let low : 0 < n % 1000 = ltb-true 0 (n % 1000) others.0 in
-    let high : n % 1000 < 8 = ltb-true (n % 1000) 8 others.1 in
-    let q : n / 1000 < 4 = ltb-true (n / 1000) 4 first.0 in
+    (λ e. let others : (nat_lt 0 (n % 1000) && nat_lt (n % 1000) 8) ≡ true = second_so _ _ e in
+    let low : 0 < n % 1000 = ltb-true 0 (n % 1000) (first_so _ _ others) in
+    let high : n % 1000 < 8 = ltb-true (n % 1000) 8 (second_so _ _ others) in
+    let q : n / 1000 < 4 = ltb-true (n / 1000) 4 (first_so _ _ e) in
     let iso = iso_dimension (n / 1000) in
     let th : thousands iso ≡ n / 1000 = thousands-iso (n / 1000) q in
     let d = dimension_with (z || has_z iso) (m || has_m iso) in

@@ -16,3 +16,4 @@ pub mod Lawful
 pub mod Meanings
 pub mod Items
 pub mod Stored
+pub mod Found

@@ -8,6 +8,7 @@ ghost use Rattle.std.specs.Option.{option_map};
 ghost use Rattle.std.specs.List.{AllByRecursion, flat_map, concat};
 ghost use Rattle.wkb_geom.specs.declared.common.Dimensions.{Dimensions};
 ghost use Rattle.wkb_geom.specs.Dimensions.{size};
+ghost use Rattle.wkb_geom.specs.Found.{IsItemAt, HasDimensions};
 ghost use Rattle.wkb_geom.specs.Geometries.{Geometry, dimensions_of, geometries, IsCoordinate};
 ghost use Rattle.wkb_geom.specs.Geometries.{IsPoint, AreCoordinates, IsGeometry, AreGeometries};
 ghost use Rattle.wkb_geom.specs.Parts.{PointMeans, LineStringMeans, PolygonMeans, MultiPointMeans};
@@ -87,8 +88,7 @@ pub trait PointTrait: Dimensioned {
     /// The coordinate; none of an empty point.
     fn coord(&self) -> Option<Self::CoordType>
         ensures value { option_map Self.CoordType.words result ≡ coordinate self.now }
-        ensures dimensions { IfSome result
-            (λ c. Self.CoordType.dimensions c ≡ Self.dimensions self.now) };
+        ensures dimensions { HasDimensions Self.CoordType.dimensions result (Self.dimensions self.now) };
 
     ghost lawful: { (p : Self) → IsPoint (Self.dimensions p) (coordinate p) };
 }
@@ -106,10 +106,8 @@ pub trait LineStringTrait: Dimensioned {
 
     /// The coordinate at an index, if there is one.
     fn coord(&self, i: usize) -> Option<Self::CoordType>
-        ensures value { option_map Self.CoordType.words result
-            ≡ slice_get (coordinates self.now) i }
-        ensures dimensions { IfSome result
-            (λ c. Self.CoordType.dimensions c ≡ Self.dimensions self.now) };
+        ensures value { IsItemAt Self.CoordType.words result (coordinates self.now) i }
+        ensures dimensions { HasDimensions Self.CoordType.dimensions result (Self.dimensions self.now) };
 
     /// The coordinate at an index that is known to be there.
     fn coord_at(&self, i: usize) -> Self::CoordType
@@ -156,16 +154,13 @@ pub trait PolygonTrait: Dimensioned {
 
     /// The exterior ring, if the polygon has rings.
     fn exterior(&self) -> Option<Self::RingType>
-        ensures value { option_map Self.RingType.coordinates result ≡ slice_get (rings self.now) 0 }
-        ensures dimensions { IfSome result
-            (λ r. Self.RingType.dimensions r ≡ Self.dimensions self.now) };
+        ensures value { IsItemAt Self.RingType.coordinates result (rings self.now) 0 }
+        ensures dimensions { HasDimensions Self.RingType.dimensions result (Self.dimensions self.now) };
 
     /// The interior at an index, if there is one.
     fn interior(&self, i: usize) -> Option<Self::RingType>
-        ensures value { option_map Self.RingType.coordinates result
-            ≡ slice_get (rings self.now) (i + 1) }
-        ensures dimensions { IfSome result
-            (λ r. Self.RingType.dimensions r ≡ Self.dimensions self.now) };
+        ensures value { IsItemAt Self.RingType.coordinates result (rings self.now) (i + 1) }
+        ensures dimensions { HasDimensions Self.RingType.dimensions result (Self.dimensions self.now) };
 
     ghost lawful: { (p : Self) → AllByRecursion (AreCoordinates (Self.dimensions p)) (rings p) };
 }
@@ -183,10 +178,9 @@ pub trait MultiPointTrait: Dimensioned {
 
     /// The point at an index, if there is one.
     fn point(&self, i: usize) -> Option<Self::InnerPointType>
-        ensures value { option_map Self.InnerPointType.coordinate result
-            ≡ slice_get (points self.now) i }
-        ensures dimensions { IfSome result
-            (λ p. Self.InnerPointType.dimensions p ≡ Self.dimensions self.now) };
+        ensures value { IsItemAt Self.InnerPointType.coordinate result (points self.now) i }
+        ensures dimensions { HasDimensions Self.InnerPointType.dimensions
+            result (Self.dimensions self.now) };
 
     ghost lawful: { (m : Self) → AllByRecursion (IsPoint (Self.dimensions m)) (points m) };
 }
@@ -204,10 +198,9 @@ pub trait MultiLineStringTrait: Dimensioned {
 
     /// The line string at an index, if there is one.
     fn line_string(&self, i: usize) -> Option<Self::InnerLineStringType>
-        ensures value { option_map Self.InnerLineStringType.coordinates result
-            ≡ slice_get (line_strings self.now) i }
-        ensures dimensions { IfSome result
-            (λ l. Self.InnerLineStringType.dimensions l ≡ Self.dimensions self.now) };
+        ensures value { IsItemAt Self.InnerLineStringType.coordinates result (line_strings self.now) i }
+        ensures dimensions { HasDimensions Self.InnerLineStringType.dimensions
+            result (Self.dimensions self.now) };
 
     ghost lawful: { (m : Self)
         → AllByRecursion (AreCoordinates (Self.dimensions m)) (line_strings m) };
@@ -229,10 +222,9 @@ pub trait MultiPolygonTrait: Dimensioned {
 
     /// The polygon at an index, if there is one.
     fn polygon(&self, i: usize) -> Option<&Self::InnerPolygonType>
-        ensures value { option_map (λ p. Self.InnerPolygonType.rings p.now) result
-            ≡ slice_get (polygons self.now) i }
-        ensures dimensions { IfSome result
-            (λ p. Self.InnerPolygonType.dimensions p.now ≡ Self.dimensions self.now) };
+        ensures value { IsItemAt (λ p. Self.InnerPolygonType.rings p.now) result (polygons self.now) i }
+        ensures dimensions { HasDimensions (λ p. Self.InnerPolygonType.dimensions p.now)
+            result (Self.dimensions self.now) };
 
     ghost lawful: { (m : Self)
         → AllByRecursion (AllByRecursion (AreCoordinates (Self.dimensions m))) (polygons m) };
@@ -257,8 +249,7 @@ pub trait GeometryCollectionTrait: Dimensioned {
 
     /// The member at an index, if there is one.
     fn geometry(&self, i: usize) -> Option<&Self::GeometryType>
-        ensures { option_map (λ g. Self.GeometryType.geometry g.now) result
-            ≡ slice_get (members self.now) i };
+        ensures { IsItemAt (λ g. Self.GeometryType.geometry g.now) result (members self.now) i };
 
     ghost lawful: { (c : Self) → AreGeometries (geometries (members c)) };
 }

@@ -34,8 +34,8 @@ use Rattle.wkb_laws.specs.Prelude.{slots_of, spelled_in, srid_in, consumed}
 use Rattle.wkb_laws.specs.Prelude.{RefusesRings, no_ring_count, short_ring, later_ring, Refuses, no_order_byte}
 use Rattle.wkb_laws.specs.Prelude.{bad_order_byte, no_code, bad_code, wrong_part}
 use Rattle.wkb_laws.specs.Prelude.{too_deep, short_point, no_count, short_line_string, short_multi_point, bad_ring}
-use Rattle.wkb_laws.specs.Prelude.{bad_member, RefusesEach, this_member}
-use Rattle.wkb_laws.specs.Prelude.{later_member}
+use Rattle.wkb_laws.specs.Prelude.{bad_member, RefusesEach, this_member, later_member}
+use Rattle.wkb_geom.specs.Refusals.{left_in, left_in_rings, left_in_each}
 use Rattle.wkb_geom.specs.declared.code.WkbType.TheVariants as kinds
 use Rattle.wkb_geom.specs.Reading as reading
 use Rattle.wkb_geom.proofs.Codes.{one_meaning}
@@ -105,24 +105,6 @@ unfolding head_at
 head_cut zero rest h short = cond-true (nat_lt (length rest) 4) _ _ (lt-ltb (length rest) 4 short)
 head_cut (suc zero) rest h short = cond-true (nat_lt (length rest) 4) _ _ (lt-ltb (length rest) 4 short)
 head_cut (suc (suc n)) rest h short = absurd (omega arith)
-
--- The bytes from the refused ring or member on, where an input is refused for one, else all.
-abbrev pub bytes_in_rings : {order : Endianness} {d : Dimension} {n : ℕ} {input : List ℕ} {cause : Cause} {begun : ℕ}
-    → RefusesRings order d n input cause begun → List ℕ
-bytes_in_rings (later_ring ring first refused) = bytes_in_rings refused
-bytes_in_rings {input = input} _ = input
-
-abbrev mutual
-  pub bytes_in : {room : ℕ} {w : Wanted} {input : List ℕ} {cause : Cause} {begun slots : ℕ}
-      → Refuses room w input cause begun slots → List ℕ
-  bytes_in (bad_ring counts refused) = bytes_in_rings refused
-  bytes_in (bad_member counts low fits refused) = bytes_in_each refused
-  bytes_in {input = input} _ = input
-
-  pub bytes_in_each : {room : ℕ} {w : Wanted} {n : ℕ} {input : List ℕ} {cause : Cause} {begun slots : ℕ}
-      → RefusesEach room w n input cause begun slots → List ℕ
-  bytes_in_each (this_member refused) = bytes_in refused
-  bytes_in_each (later_member front wanted refused) = bytes_in_each refused
 
 -- Readers, by what they tell of a fault and of the bytes from the refused part on.
 module _ {F : Type 0} (told : List ℕ → Cause → F) where
@@ -673,7 +655,7 @@ module _ {F : Type 0} (told : List ℕ → Cause → F) where
   rings_refused : {order : Endianness} {d : Dimension} {n : ℕ} {input : List ℕ} {cause : Cause} {begun : ℕ}
       → (srid : Bool)
       → (r : RefusesRings order d n input cause begun)
-      → repeated n (ring_part_told told (laid order d srid)) input ≡ refusal begun 0 (told (bytes_in_rings r) cause)
+      → repeated n (ring_part_told told (laid order d srid)) input ≡ refusal begun 0 (told (left_in_rings r) cause)
   unfolding ring_told
   rings_refused {order} {d} {input = input} srid (no_ring_count {more = more} h) =
       part_refused (ring_part_told told (laid order d srid)) more input free (told input end_of_input)
@@ -700,7 +682,7 @@ module _ {F : Type 0} (told : List ℕ → Cause → F) where
 
     pub refusal_read : {room : ℕ} {w : Wanted} {input : List ℕ} {cause : Cause} {begun slots : ℕ}
         (r : Refuses room w input cause begun slots) → IsWanted w
-        → reader room w input ≡ refusal begun slots (told (bytes_in r) cause)
+        → reader room w input ≡ refusal begun slots (told (left_in r) cause)
     refusal_read {room} {w} no_order_byte good = faulty room w [] _ refl
     refusal_read {room} {w} (bad_order_byte {first = first} {rest = rest} h) good =
         faulty room w _ _ (head_misordered first rest h)
@@ -743,7 +725,7 @@ module _ {F : Type 0} (told : List ℕ → Cause → F) where
 
     each_refusal_read : {room : ℕ} {w : Wanted} {n : ℕ} {input : List ℕ} {cause : Cause} {begun slots : ℕ}
         (r : RefusesEach room w n input cause begun slots)
-        → IsWanted w → repeated n (reader room w) input ≡ refusal begun slots (told (bytes_in_each r) cause)
+        → IsWanted w → repeated n (reader room w) input ≡ refusal begun slots (told (left_in_each r) cause)
     each_refusal_read {room} {w} {input = input} (this_member {more = more} h) good =
         part_refused (reader room w) more input _ _ (refusal_read h good) ∙ at_cost refl (omega arith)
     each_refusal_read {room} {w} {input = input} (later_member {more = more} {rest = rest} {s = s} {t = t} f p h) good =

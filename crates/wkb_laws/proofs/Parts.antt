@@ -93,8 +93,8 @@ items_read P size item one (a ∷ l) x y h =
     cc
 
 -- a coordinate at the front of the bytes
-pub coordinate_read : (order : Endianness) (d : Dimension) (c : Coordinate) (x y : List ℕ) → SpellsCoordinate order d c x
-    → coordinate order d (x ++ y) ≡ c
+pub coordinate_read : (order : Endianness) (d : Dimension) (c : Coordinate) (x y : List ℕ)
+    → SpellsCoordinate order d c x → coordinate order d (x ++ y) ≡ c
 coordinate_read order d c x y h =
     ap (λ n. items 8 (number order 8) n (x ++ y)) (sym h.len)
     ∙ items_read (IsNumber order 8) 8 (number order 8)

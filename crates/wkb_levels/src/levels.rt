@@ -1,6 +1,7 @@
 //! The levels of a column.
 
 ghost use Rattle.std.specs.Prelude.{◌≡◌, ◌≤◌, ◌<◌, ◌↔◌, length, IfSome, IsSome, IsTrue, slice_index};
+ghost use Rattle.wkb_geom.specs.Found.{HasDimensions};
 ghost use Rattle.wkb_geom.specs.declared.common.Dimensions.{Dimensions};
 ghost use Rattle.wkb_levels.specs.EndLists.{ends_of, begin_of};
 ghost use Rattle.wkb_levels.specs.PolygonLists.{polygons_dimensions, polygons_polygons};
@@ -86,7 +87,7 @@ impl<'w> Levels<'w> {
     pub fn singles(&self, dim: Dimensions, i: usize) -> Option<Polygons<'w>>
         requires { i < length (ends_of self.now.row_ends) }
         ensures some { IsSome result ↔ AreRowLevels self.now dim i }
-        ensures dimensions { IfSome result (λ p. polygons_dimensions p ≡ dim) }
+        ensures dimensions { HasDimensions polygons_dimensions result dim }
         ensures polygons { IfSome result (λ p. polygons_polygons p ≡ singles_of self.now dim i) }
     {
         let singles = self

@@ -2,6 +2,7 @@
 
 ghost use Rattle.std.specs.Prelude.{◌≡◌, ◌+◌, ◌<◌, ◌^◌, ◌↔◌, length, IfSome, IsSome, Some, slice_get};
 ghost use Rattle.std.specs.Option.{option_map};
+ghost use Rattle.wkb_geom.specs.Found.{HasDimensions};
 ghost use Rattle.wkb_levels.specs.Cuts.{pieces_from, only, only_each};
 ghost use Rattle.wkb_levels.specs.EndLists.{start_of, ends_of, AreEndsWithin};
 ghost use Rattle.wkb_levels.specs.RingLists.{rings_dimensions, rings_rings};
@@ -29,7 +30,7 @@ impl<'w> Polygons<'w> {
         requires { start_of ends + length (rings_rings rings) < 2 ^ 64 }
         ensures some { IsSome result
             ↔ AreEndsWithin (start_of ends.entry + length (rings_rings rings.entry)) ends.entry }
-        ensures dimensions { IfSome result (λ p. polygons_dimensions p ≡ rings_dimensions rings.entry) }
+        ensures dimensions { HasDimensions polygons_dimensions result (rings_dimensions rings.entry) }
         ensures polygons { IfSome result (λ p. polygons_polygons p
             ≡ pieces_from (start_of ends.entry) (rings_rings rings.entry) (start_of ends.entry)
             (ends_of ends.entry)) }
@@ -55,7 +56,7 @@ impl<'w> Polygons<'w> {
     /// The one polygon, if there is one.
     pub fn only(&self) -> Option<Rings<'w>>
         ensures value { option_map rings_rings result ≡ only (polygons_polygons self.now) }
-        ensures dimensions { IfSome result (λ r. rings_dimensions r ≡ polygons_dimensions self.now) }
+        ensures dimensions { HasDimensions rings_dimensions result (polygons_dimensions self.now) }
     {
         if self.ends.len() == 1 {
             Some(self.polygon(0))
@@ -67,7 +68,7 @@ impl<'w> Polygons<'w> {
     /// The rings of all polygons, if each polygon has one.
     pub fn rings_one_each(&self) -> Option<Rings<'w>>
         ensures value { option_map rings_rings result ≡ only_each (polygons_polygons self.now) }
-        ensures dimensions { IfSome result (λ r. rings_dimensions r ≡ polygons_dimensions self.now) }
+        ensures dimensions { HasDimensions rings_dimensions result (polygons_dimensions self.now) }
     {
         if !self.ends.are_ones() {
             return None;

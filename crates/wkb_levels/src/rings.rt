@@ -5,6 +5,7 @@ ghost use Rattle.std.specs.Prelude.{Some};
 ghost use Rattle.wkb_geom.specs.Dimensions.{size};
 ghost use Rattle.wkb_geom.specs.Numbers.{IsWord};
 ghost use Rattle.std.specs.Option.{option_map};
+ghost use Rattle.wkb_geom.specs.Found.{IsItemAt, HasDimensions};
 ghost use Rattle.wkb_levels.specs.Cuts.{only, only_each};
 ghost use Rattle.wkb_levels.specs.EndLists.{AreEndsWithin};
 ghost use Rattle.wkb_plain.specs.Kinds.{line_string_dimensions, line_string_coordinates};
@@ -32,7 +33,7 @@ impl<'w> Rings<'w> {
     pub fn new(dim: Dimensions, words: &'w [u64], ends: Ends<'w>) -> Option<Rings<'w>>
         ensures some { IsSome result
             ↔ ((0 < size dim) × AreEndsWithin (length words.now / size dim) ends.entry) }
-        ensures dimensions { IfSome result (λ r. rings_dimensions r ≡ dim) }
+        ensures dimensions { HasDimensions rings_dimensions result dim }
         ensures rings { IfSome result (λ r. rings_rings r ≡ rings_in dim words.now ends.entry) }
     {
         let width = dim.size();
@@ -66,8 +67,8 @@ impl<'w> Rings<'w> {
 
     /// The ring at an index, if there is one.
     fn get(&self, i: usize) -> Option<LineString<'w>>
-        ensures value { option_map line_string_coordinates result ≡ slice_get (rings_rings self.now) i }
-        ensures dimensions { IfSome result (λ l. line_string_dimensions l ≡ rings_dimensions self.now) }
+        ensures value { IsItemAt line_string_coordinates result (rings_rings self.now) i }
+        ensures dimensions { HasDimensions line_string_dimensions result (rings_dimensions self.now) }
     {
         if i < self.ends.len() {
             Some(self.ring(i))
@@ -79,7 +80,7 @@ impl<'w> Rings<'w> {
     /// The one ring, if there is one.
     pub fn only(&self) -> Option<LineString<'w>>
         ensures value { option_map line_string_coordinates result ≡ only (rings_rings self.now) }
-        ensures dimensions { IfSome result (λ l. line_string_dimensions l ≡ rings_dimensions self.now) }
+        ensures dimensions { HasDimensions line_string_dimensions result (rings_dimensions self.now) }
     {
         if self.len() == 1 {
             Some(self.ring(0))
@@ -91,7 +92,7 @@ impl<'w> Rings<'w> {
     /// The coordinates of all rings as one line string, if each ring has one.
     pub fn coordinates_one_each(&self) -> Option<LineString<'w>>
         ensures value { option_map line_string_coordinates result ≡ only_each (rings_rings self.now) }
-        ensures dimensions { IfSome result (λ l. line_string_dimensions l ≡ rings_dimensions self.now) }
+        ensures dimensions { HasDimensions line_string_dimensions result (rings_dimensions self.now) }
     {
         if !self.ends.are_ones() {
             return None;

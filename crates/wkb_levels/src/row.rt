@@ -1,7 +1,8 @@
 //! A row of a column, as a geometry of the column's kind.
 
-ghost use Rattle.std.specs.Prelude.{◌≡◌, ◌<◌, ◌+◌, length, None, IfOk, IfErr, IfSome, MatchOption};
+ghost use Rattle.std.specs.Prelude.{◌≡◌, ◌<◌, ◌+◌, length, None, IfOk, IfErr, MatchOption};
 ghost use Rattle.std.specs.Option.{option_map};
+ghost use Rattle.wkb_geom.specs.Found.{HasDimensions};
 ghost use Rattle.wkb_geom.specs.Geometries.{Geometry};
 ghost use Rattle.wkb_plain.specs.Kinds.{line_string_coordinates, coord_words, coord_dimensions};
 ghost use Rattle.wkb_plain.specs.Kinds.{line_string_dimensions};
@@ -156,7 +157,7 @@ fn row_of_rings<'w>(rings: &Rings<'w>, kind: Kind) -> Option<Single<'w>>
 /// The one coordinate of a ring, if there is one.
 fn only_coord<'w>(ring: &LineString<'w>) -> Option<Coord<'w>>
     ensures value { option_map coord_words result ≡ only (line_string_coordinates ring.now) }
-    ensures dimensions { IfSome result (λ c. coord_dimensions c ≡ line_string_dimensions ring.now) }
+    ensures dimensions { HasDimensions coord_dimensions result (line_string_dimensions ring.now) }
 {
     if ring.num_coords() == 1 {
         Some(ring.coord_at(0))

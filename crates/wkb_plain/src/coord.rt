@@ -1,6 +1,7 @@
 //! Coordinates, which borrow their words.
 
 ghost use Rattle.std.specs.Prelude.{◌≡◌, ◌<◌, ◌↔◌, length, IfSome, IsSome, All};
+ghost use Rattle.wkb_geom.specs.Found.{HasDimensions};
 ghost use Rattle.wkb_geom.specs.Dimensions.{size};
 ghost use Rattle.wkb_geom.specs.Numbers.{IsWord};
 
@@ -22,7 +23,7 @@ impl<'w> Coord<'w> {
     /// number of them.
     pub fn new(dim: Dimensions, words: &'w [u64]) -> Option<Coord<'w>>
         ensures some { IsSome result ↔ ((0 < size dim) × (length words.now ≡ size dim)) }
-        ensures dimensions { IfSome result (λ c. coord_dimensions c ≡ dim) }
+        ensures dimensions { HasDimensions coord_dimensions result dim }
         ensures words { IfSome result (λ c. coord_words c ≡ words.now) }
     {
         let width = dim.size();

@@ -1,6 +1,7 @@
 //! Lines from one coordinate to another.
 
 ghost use Rattle.std.specs.Prelude.{◌≡◌, ◌↔◌, IfSome, IsSome};
+ghost use Rattle.wkb_geom.specs.Found.{HasDimensions};
 
 use crate::coord::Coord;
 use wkb_geom::{Dimensioned, Dimensions, LineTrait};
@@ -20,7 +21,7 @@ impl<'w> Line<'w> {
     /// The line from one coordinate to another. None where they differ in dimension.
     pub fn new(start: Coord<'w>, end: Coord<'w>) -> Option<Line<'w>>
         ensures some { IsSome result ↔ (coord_dimensions end.entry ≡ coord_dimensions start.entry) }
-        ensures dimensions { IfSome result (λ l. line_dimensions l ≡ coord_dimensions start.entry) }
+        ensures dimensions { HasDimensions line_dimensions result (coord_dimensions start.entry) }
         ensures start { IfSome result (λ l. line_start l ≡ coord_words start.entry) }
         ensures end { IfSome result (λ l. line_end l ≡ coord_words end.entry) }
     {

@@ -2,6 +2,7 @@
 
 ghost use Rattle.std.specs.Prelude.{◌≡◌, ◌%◌, ◌<◌, ◌↔◌, length, IfSome, IsSome, All};
 ghost use Rattle.std.specs.List.{concat};
+ghost use Rattle.wkb_geom.specs.Found.{HasDimensions};
 ghost use Rattle.wkb_geom.specs.Dimensions.{size};
 ghost use Rattle.wkb_geom.specs.Numbers.{IsWord};
 
@@ -27,7 +28,7 @@ impl<'w> LineString<'w> {
     /// dimension has no words, or the last coordinate isn't whole.
     pub fn new(dim: Dimensions, words: &'w [u64]) -> Option<LineString<'w>>
         ensures some { IsSome result ↔ ((0 < size dim) × (length words.now % size dim ≡ 0)) }
-        ensures dimensions { IfSome result (λ l. line_string_dimensions l ≡ dim) }
+        ensures dimensions { HasDimensions line_string_dimensions result dim }
         ensures coordinates { IfSome result
             (λ l. line_string_coordinates l ≡ coordinates_in dim words.now) }
         ensures words { IfSome result (λ l. concat (line_string_coordinates l) ≡ words.now) }

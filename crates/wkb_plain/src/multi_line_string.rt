@@ -1,6 +1,7 @@
 //! Line strings of one dimension.
 
 ghost use Rattle.std.specs.Prelude.{◌≡◌, ◌↔◌, map, IfSome, IsSome, All};
+ghost use Rattle.wkb_geom.specs.Found.{HasDimensions};
 
 use crate::line_string::LineString;
 use crate::parts::all_have;
@@ -23,7 +24,7 @@ impl<'w> MultiLineString<'w> {
     /// another dimension.
     pub fn new(dim: Dimensions, line_strings: &'w [LineString<'w>]) -> Option<MultiLineString<'w>>
         ensures some { IsSome result ↔ HaveDimensions line_string_dimensions dim line_strings.now }
-        ensures dimensions { IfSome result (λ m. multi_line_string_dimensions m ≡ dim) }
+        ensures dimensions { HasDimensions multi_line_string_dimensions result dim }
         ensures line_strings { IfSome result (λ m. multi_line_string_line_strings m
             ≡ map line_string_coordinates line_strings.now) }
     {

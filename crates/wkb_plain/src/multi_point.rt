@@ -1,6 +1,7 @@
 //! Points of one dimension.
 
 ghost use Rattle.std.specs.Prelude.{◌≡◌, ◌↔◌, map, IfSome, IsSome, All};
+ghost use Rattle.wkb_geom.specs.Found.{HasDimensions};
 
 use crate::parts::all_have;
 use crate::point::Point;
@@ -22,7 +23,7 @@ impl<'w> MultiPoint<'w> {
     /// dimension.
     pub fn new(dim: Dimensions, points: &'w [Point<'w>]) -> Option<MultiPoint<'w>>
         ensures some { IsSome result ↔ HaveDimensions point_dimensions dim points.now }
-        ensures dimensions { IfSome result (λ m. multi_point_dimensions m ≡ dim) }
+        ensures dimensions { HasDimensions multi_point_dimensions result dim }
         ensures points { IfSome result
             (λ m. multi_point_points m ≡ map point_coordinate points.now) }
     {

@@ -1,6 +1,7 @@
 //! Polygons of one dimension.
 
 ghost use Rattle.std.specs.Prelude.{◌≡◌, ◌↔◌, map, IfSome, IsSome, All};
+ghost use Rattle.wkb_geom.specs.Found.{HasDimensions};
 
 use crate::parts::all_have;
 use crate::polygon::Polygon;
@@ -22,7 +23,7 @@ impl<'w> MultiPolygon<'w> {
     /// dimension.
     pub fn new(dim: Dimensions, polygons: &'w [Polygon<'w>]) -> Option<MultiPolygon<'w>>
         ensures some { IsSome result ↔ HaveDimensions polygon_dimensions dim polygons.now }
-        ensures dimensions { IfSome result (λ m. multi_polygon_dimensions m ≡ dim) }
+        ensures dimensions { HasDimensions multi_polygon_dimensions result dim }
         ensures polygons { IfSome result
             (λ m. multi_polygon_polygons m ≡ map polygon_rings polygons.now) }
     {

@@ -2,6 +2,7 @@
 
 ghost use Rattle.std.specs.Prelude.{◌≡◌, ◌<◌, ◌↔◌, Some, None, IfSome, IsSome};
 ghost use Rattle.std.specs.Option.{ForSome};
+ghost use Rattle.wkb_geom.specs.Found.{HasDimensions};
 ghost use Rattle.wkb_geom.specs.Dimensions.{size};
 
 use crate::coord::Coord;
@@ -33,7 +34,7 @@ impl<'w> Point<'w> {
     /// The empty point. None where the dimension has no words.
     pub fn empty(dim: Dimensions) -> Option<Point<'w>>
         ensures some { IsSome result ↔ (0 < size dim) }
-        ensures dimensions { IfSome result (λ p. point_dimensions p ≡ dim) }
+        ensures dimensions { HasDimensions point_dimensions result dim }
         ensures coordinate { IfSome result (λ p. point_coordinate p ≡ None) }
     {
         if dim.size() == 0 {

@@ -1,6 +1,7 @@
 //! Polygons, which borrow their rings.
 
 ghost use Rattle.std.specs.Prelude.{◌≡◌, ◌↔◌, map, IfSome, IsSome, All};
+ghost use Rattle.wkb_geom.specs.Found.{HasDimensions};
 
 use crate::line_string::LineString;
 use crate::parts::all_have;
@@ -23,7 +24,7 @@ impl<'w> Polygon<'w> {
     /// ring has another dimension.
     pub fn new(dim: Dimensions, rings: &'w [LineString<'w>]) -> Option<Polygon<'w>>
         ensures some { IsSome result ↔ HaveDimensions line_string_dimensions dim rings.now }
-        ensures dimensions { IfSome result (λ p. polygon_dimensions p ≡ dim) }
+        ensures dimensions { HasDimensions polygon_dimensions result dim }
         ensures rings { IfSome result
             (λ p. polygon_rings p ≡ map line_string_coordinates rings.now) }
     {

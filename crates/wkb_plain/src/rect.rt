@@ -1,6 +1,7 @@
 //! Rectangles between two corners.
 
 ghost use Rattle.std.specs.Prelude.{◌≡◌, ◌↔◌, IfSome, IsSome};
+ghost use Rattle.wkb_geom.specs.Found.{HasDimensions};
 
 use crate::coord::Coord;
 use wkb_geom::{Dimensioned, Dimensions, RectTrait};
@@ -21,7 +22,7 @@ impl<'w> Rect<'w> {
     /// dimension.
     pub fn new(min: Coord<'w>, max: Coord<'w>) -> Option<Rect<'w>>
         ensures some { IsSome result ↔ (coord_dimensions max.entry ≡ coord_dimensions min.entry) }
-        ensures dimensions { IfSome result (λ r. rect_dimensions r ≡ coord_dimensions min.entry) }
+        ensures dimensions { HasDimensions rect_dimensions result (coord_dimensions min.entry) }
         ensures min { IfSome result (λ r. rect_min r ≡ coord_words min.entry) }
         ensures max { IfSome result (λ r. rect_max r ≡ coord_words max.entry) }
     {

@@ -1,6 +1,7 @@
 //! Triangles of three corners.
 
 ghost use Rattle.std.specs.Prelude.{◌≡◌, ◌↔◌, length, IfSome, IsSome, All};
+ghost use Rattle.wkb_geom.specs.Found.{HasDimensions};
 ghost use Rattle.wkb_geom.specs.Dimensions.{size};
 ghost use Rattle.wkb_geom.specs.Numbers.{IsWord};
 
@@ -28,8 +29,7 @@ impl<'w> Triangle<'w> {
     /// The triangle of three corners. None where they differ in dimension.
     pub fn new(first: Coord<'w>, second: Coord<'w>, third: Coord<'w>) -> Option<Triangle<'w>>
         ensures some { IsSome result ↔ HaveOneDimension first.entry second.entry third.entry }
-        ensures dimensions { IfSome result
-            (λ t. triangle_dimensions t ≡ coord_dimensions first.entry) }
+        ensures dimensions { HasDimensions triangle_dimensions result (coord_dimensions first.entry) }
         ensures first { IfSome result (λ t. triangle_first t ≡ coord_words first.entry) }
         ensures second { IfSome result (λ t. triangle_second t ≡ coord_words second.entry) }
         ensures third { IfSome result (λ t. triangle_third t ≡ coord_words third.entry) }

@@ -3,7 +3,7 @@ use Rattle.wkb_read.specs.Prelude.refusals
 use Rattle.wkb_read.proofs.Prelude.{any, max_nesting, ◌≡◌, ◌-◌, ℕ, zero, suc, List, Result, Ok, Err, refl, sym, ap}
 use Rattle.wkb_read.proofs.Prelude.{◌∙◌, subst, arith, WkbType, Layout, layout_of, collection_within, then_body, Cause}
 use Rattle.wkb_read.proofs.Prelude.{Head, Item, Outcome, Reading, free, costs, done, at_no_cost}
-use Rattle.wkb_read.proofs.Prelude.{head_at, body_at, by_type, geometry_at, Counts, Spent, Stops}
+use Rattle.wkb_read.proofs.Prelude.{head_at, body_at, geometry_at, Counts, Spent, Stops}
 use Rattle.wkb_read.proofs.Prelude.{geometry_inside, cost_of, Refusal, BeginsAs}
 use Rattle.std.specs.Prelude.{IsErrAnd}
 use Rattle.wkb_read.specs.declared.read.stack.Begun.{Begun}

@@ -2,7 +2,7 @@
 use Rattle.wkb_read.specs.Prelude.refusals
 use Rattle.wkb_read.proofs.Prelude.{◌≡◌, ℕ, suc, ◌+◌, ◌-◌, ◌≤◌, ◌<◌, List, [], length, drop, false, ltb, refl, sym, ap}
 use Rattle.wkb_read.proofs.Prelude.{◌∙◌, arith, drop-drop, number, Item, Cost, ◌⊕◌, one_turn, Reading, costs, done}
-use Rattle.wkb_read.proofs.Prelude.{and_then, repeated, slots_of, collection_at, body_start, consumed, Layout, closing}
+use Rattle.wkb_read.proofs.Prelude.{and_then, repeated, slots_of, body_start, consumed, Layout, closing}
 use Rattle.wkb_read.proofs.Prelude.{list_item, collection_with, max_nesting, geometry_inside, after_member}
 use Rattle.wkb_read.proofs.Prelude.{collection_inside, Counts, Stops}
 use Rattle.wkb_geom.specs.declared.error.Cause.TheVariants.{NestingDepthExceeded as nesting_depth_exceeded}

@@ -19,9 +19,9 @@ use Rattle.wkb_geom.specs.Parts.{MultiPolygonMeans, CollectionMeans, RectMeans, 
 use Rattle.wkb_geom.specs.Parts.{TriangleMembers, LineMembers}
 use Rattle.wkb_view.specs.Fitted.{fitted_parts, fitted_members, fitted_geometry, fitted_geometries}
 use Rattle.wkb_view.specs.Fitted.{fitted_geometry-same}
-use Rattle.wkb_view.specs.Views.{point_seen, point_layout, point_value, seen_coordinate, line_string_seen}
-use Rattle.wkb_view.specs.Views.{line_string_layout, line_string_coordinates, multi_point_seen, multi_point_layout}
-use Rattle.wkb_view.specs.Views.{seen_points}
+use Rattle.wkb_view.specs.Views.{point_seen, point_dimension, point_value, seen_coordinate, line_string_seen}
+use Rattle.wkb_view.specs.Views.{line_string_dimension, line_string_coordinates, multi_point_seen}
+use Rattle.wkb_view.specs.Views.{multi_point_dimension, seen_points}
 use Rattle.wkb_view.proofs.Lawful.{point_is_lawful, line_string_is_lawful, multi_point_is_lawful}
 use Rattle.wkb_view.specs.declared.point.Point.{Point}
 use Rattle.wkb_view.specs.declared.line_string.LineString.{LineString}
@@ -76,16 +76,16 @@ pub part_seen : (g : Geometry) (v : Value) → geometry_of v ≡ g → IsGeometr
 part_seen g v e h = sym (fitted_geometry-same g h) ∙ ap fitted_geometry (sym e)
 
 point_means : (p : Point)
-    → point (as_dimensions (point_layout p).dimension) (seen_coordinate p) ≡ geometry_seen (point_seen p)
+    → point (as_dimensions (point_dimension p)) (seen_coordinate p) ≡ geometry_seen (point_seen p)
 point_means p = part_seen _ (point_seen p).value (ap geometry_of (point_value p)) (point_is_lawful p)
 
 line_string_means : (l : LineString)
-    → line_string (as_dimensions (line_string_layout l).dimension) (line_string_coordinates l)
+    → line_string (as_dimensions (line_string_dimension l)) (line_string_coordinates l)
     ≡ geometry_seen (line_string_seen l)
 line_string_means l = part_seen _ (line_string_seen l).value refl (line_string_is_lawful l)
 
 multi_point_means : (m : MultiPoint)
-    → multi_point (as_dimensions (multi_point_layout m).dimension) (seen_points m) ≡ geometry_seen (multi_point_seen m)
+    → multi_point (as_dimensions (multi_point_dimension m)) (seen_points m) ≡ geometry_seen (multi_point_seen m)
 multi_point_means m = part_seen _ (multi_point_seen m).value refl (multi_point_is_lawful m)
 
 -- ---- what a view that is the geometry's means is what the geometry means
@@ -98,7 +98,7 @@ Part R T N =
 
 module _ {R T N : Type 0} where
   pub point_told : (w : Item) (part : Part R T N) → IsViewOf w part
-      → PointMeans (record { dimensions = λ p. as_dimensions (point_layout p).dimension; coordinate = seen_coordinate })
+      → PointMeans (record { dimensions = λ p. as_dimensions (point_dimension p); coordinate = seen_coordinate })
       part (geometry_seen w)
   point_told w (handed.Point p) e = point_means p.now ∙ ap geometry_seen e
   point_told w _ e = tt
@@ -106,7 +106,7 @@ module _ {R T N : Type 0} where
   pub line_string_told : (w : Item) (part : Part R T N) → IsViewOf w part
       → LineStringMeans
       (record {
-        dimensions = λ l. as_dimensions (line_string_layout l).dimension;
+        dimensions = λ l. as_dimensions (line_string_dimension l);
         coordinates = line_string_coordinates;
       }) part (geometry_seen w)
   line_string_told w (handed.LineString l) e = line_string_means l.now ∙ ap geometry_seen e
@@ -123,7 +123,7 @@ module _ {R T N : Type 0} where
 
   pub multi_point_told : (w : Item) (part : Part R T N) → IsViewOf w part
       → MultiPointMeans
-      (record { dimensions = λ m. as_dimensions (multi_point_layout m).dimension; points = seen_points })
+      (record { dimensions = λ m. as_dimensions (multi_point_dimension m); points = seen_points })
       part (geometry_seen w)
   multi_point_told w (handed.MultiPoint m) e = multi_point_means m.now ∙ ap geometry_seen e
   multi_point_told w _ e = tt

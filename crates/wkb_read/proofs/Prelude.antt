@@ -37,4 +37,4 @@ pub use Rattle.wkb_read.specs.Reads.{CountsRefusal, CountsAtMost, AsksForNone, B
 pub use Rattle.wkb_read.specs.Reads.{TakesNoMemory}
 pub use Rattle.wkb_read.specs.Seen.{geometry_seen, members_seen, seen_as_it_is}
 pub use Rattle.wkb_read.specs.Stack.{geometry_inside, after_member, in_collection, outward, first_member, cost_of}
-pub use Rattle.wkb_read.specs.Stack.{next_turn, IsOpen, AreOpen, IsFinished, collection_inside, BeginsAs, ReadsAs}
+pub use Rattle.wkb_read.specs.Stack.{around, IsOpen, AreOpen, IsFinished, collection_inside, BeginsAs, ReadsAs}

@@ -5,8 +5,9 @@ use Rattle.wkb_read.proofs.Prelude.{◌∙◌, append_assoc, length-append, arit
 use Rattle.wkb_read.proofs.Prelude.{costs, done, and_then, repeated, consumed, Layout, BytesSpell, Refusal}
 use Rattle.wkb_read.proofs.Prelude.{Counts, Spent, AtMost, CanCount, Stops, Wkb, Open, Whole, Opened, IsCollectionIn}
 use Rattle.wkb_read.proofs.Prelude.{closing, list_item, collection_with, geometry_inside, after_member, in_collection}
-use Rattle.wkb_read.proofs.Prelude.{outward, first_member, cost_of, next_turn, IsOpen, AreOpen, IsFinished, BeginsAs}
+use Rattle.wkb_read.proofs.Prelude.{outward, first_member, cost_of, IsOpen, AreOpen, IsFinished, BeginsAs}
 use Rattle.wkb_read.proofs.Prelude.{ReadsAs, Result}
+use Rattle.wkb_view.specs.Outcome.{next_turn}
 use Rattle.wkb_read.proofs.Algebra.{cost_is, costs-costs, and_then-costs, and_then-assoc, and_then-same, and_then-least}
 use Rattle.wkb_read.proofs.Algebra.{done_then, repeated_more, repeated_none}
 use Rattle.wkb_read.proofs.Placed.{Closed, closed, one_more, part_read}
@@ -24,8 +25,8 @@ pub record Finishes (os : List Open) (m : Item) (rest : List ℕ) (spent : Count
   pub stand : AreOpen os (m.encoding ++ rest)
   pub part : IsFinished m
 
-turn_is : (c d : Cost) → d ≡ next_turn c → d ≡ c ⊕ one_turn
-turn_is c d e = e ∙ cost_is _ _ refl (omega arith)
+turn_is : (c d : Counts) → d ≡ next_turn c → cost_of d ≡ cost_of c ⊕ one_turn
+turn_is c d e = ap cost_of e ∙ cost_is _ _ refl (omega arith)
 
 -- ---- a part begins
 
@@ -40,14 +41,14 @@ moved os old new before after whole e so_far =
 pub enters : (o : Open) (os : List Open) (rest : Bor (List ℕ)) (bytes : List ℕ) (mid new after : Counts)
     (whole : Reading Item) → Reaches os bytes mid whole
     → BeginsAs geometry_inside (length os) bytes (Ok (Opened o rest)) mid new
-    → cost_of after ≡ next_turn (cost_of new)
+    → after ≡ next_turn new
     → Reaches (o ∷ os) rest.now after whole
 enters o os rest bytes mid new after whole r b turn =
     let member = geometry_inside (suc (length os)) rest.now in
     let inside = in_collection (length os) o in
     record {
       so_far =
-          ap (λ (c : Cost). costs c (and_then member (outward (o ∷ os)))) (turn_is (cost_of new) (cost_of after) turn)
+          ap (λ (c : Cost). costs c (and_then member (outward (o ∷ os)))) (turn_is new after turn)
           ∙ sym (costs-costs (cost_of new) one_turn (and_then member (outward (o ∷ os))))
           ∙ ap (λ (s : Reading Item). costs (cost_of new) s)
           (ap (λ (s : Reading Item). costs one_turn s) (sym (and_then-assoc member inside (outward os)))
@@ -86,10 +87,10 @@ can_begin os bytes old new whole r fits =
 -- what was counted before a turn is among the whole
 pub at_most_turn : (os : List Open) (bytes : List ℕ) (old new after : Counts) (whole : Reading Item)
     → Reaches os bytes after (costs (cost_of old) whole)
-    → cost_of after ≡ next_turn (cost_of new) → AtMost old new whole.0
+    → after ≡ next_turn new → AtMost old new whole.0
 at_most_turn os bytes old new after whole r turn = record {
-  turns = omega (arith, ap (λ (s : Reading Item). s.0.turns) r.so_far, ap (λ (c : Cost). c.turns) turn);
-  slots = omega (arith, ap (λ (s : Reading Item). s.0.slots) r.so_far, ap (λ (c : Cost). c.slots) turn);
+  turns = omega (arith, ap (λ (s : Reading Item). s.0.turns) r.so_far, ap (λ (c : Counts). c.turns) turn);
+  slots = omega (arith, ap (λ (s : Reading Item). s.0.slots) r.so_far, ap (λ (c : Counts). c.slots) turn);
 }
 
 -- a part's refusal is passed outward
@@ -195,13 +196,13 @@ more_open o next m rest n h part =
 -- the next member begins
 pub next_begins : (o next : Open) (os : List Open) (m : Item) (rest : List ℕ) (spent after : Counts)
     (whole : Reading Item) → IsNext o next m
-    → Finishes (o ∷ os) m rest spent whole → cost_of after ≡ next_turn (cost_of spent)
+    → Finishes (o ∷ os) m rest spent whole → after ≡ next_turn spent
     → Reaches (next ∷ os) rest after whole
 next_begins o next os m rest spent after whole n f turn =
     let r = and_then (geometry_inside (suc (length os)) rest) (outward (next ∷ os)) in
     record {
       so_far =
-          ap (λ (c : Cost). costs c r) (turn_is (cost_of spent) (cost_of after) turn)
+          ap (λ (c : Cost). costs c r) (turn_is spent after turn)
           ∙ sym (costs-costs (cost_of spent) one_turn r)
           ∙ ap (λ (s : Reading Item). costs (cost_of spent) s) (sym (goes_on o next os m rest n)) ∙ f.so_far;
       stand = (more_open o next m rest n f.stand.0 f.part, rw n.bytes f.stand.1);

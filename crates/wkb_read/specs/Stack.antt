@@ -1,6 +1,7 @@
 -- The collections that are open around what is read, and how reading goes on once it is read.
 use Rattle.std.specs.Prelude.{◌≡◌, ℕ, suc, ◌<◌, ◌+◌, ◌-◌, ◌*◌, ◌/◌, ◌≤◌, min, List, [], ◌∷◌, ◌++◌, length, drop, Result}
-use Rattle.std.specs.Prelude.{Ok, Err, Option, Some, None}
+use Rattle.std.specs.Prelude.{Ok, Err, Option, Some, None, Vec, reverse}
+use Rattle.std.specs.Global.{Global}
 use Rattle.std.specs.List.{AllByRecursion}
 use Rattle.wkb_read.specs.Prelude.{Refusal, Layout, max_nesting, number, Item, Cost, Reading, costs, one_turn, done}
 use Rattle.wkb_read.specs.Prelude.{and_then, repeated, collection_within, body_start, parts_start, geometry_at, Counts}
@@ -43,10 +44,6 @@ first_member depth o bytes = costs one_turn (and_then (geometry_inside (suc dept
 abbrev pub cost_of : Counts → Cost
 cost_of c = record { turns = c.turns; slots = c.slots }
 
--- one more turn
-abbrev pub next_turn : Cost → Cost
-next_turn c = record { turns = c.turns + 1; slots = c.slots }
-
 -- where the members of an open collection begin
 abbrev pub members_start : Open → ℕ
 members_start o = body_start o.layout.has_srid + 4
@@ -64,6 +61,10 @@ pub record IsOpen (o : Open) (here : List ℕ) : Type 0 where
   pub each : AllByRecursion BytesSpell (entries o.members)
   pub within : 9 * length (entries o.members) + length here + members_start o ≤ length o.bytes.now
   pub room : min (members_count o) ((length o.bytes.now - members_start o) / 9) ≤ capacity o.members
+
+-- the collections around what is read, the innermost first
+abbrev pub around : Vec Open Global → List Open
+around stack = reverse stack.items
 
 -- Each of these collections is open, the innermost first: its current member begins where the next inner one does, and
 -- that of the innermost with these bytes.
@@ -87,14 +88,13 @@ BeginsAs read depth bytes (Ok (Opened o rest)) old new =
     × (o.bytes.now ≡ bytes) × (depth < max_nesting) × IsOpen o rest.now
 BeginsAs read depth bytes (Err refusal) old new = Stops refusal (read depth bytes) old new
 
--- what is known of the open collections once a part in them is finished: all is read, or the next part begins
-abbrev pub Settles : List Open → List Open → Item → List ℕ → Option Item → Counts → Counts → Type 0
-Settles before after finished rest (Some w) old new =
-    (after ≡ []) × (costs (cost_of new) (done w rest) ≡ costs (cost_of old) (outward before finished rest))
-Settles before after finished rest None old new =
-    (costs (cost_of new) (and_then (geometry_inside (length after) rest) (outward after))
-    ≡ costs (cost_of old) (outward before finished rest))
-    × AreOpen after rest × (length after ≤ length before)
+-- what this reading comes to, with these collections open: all is read, or the next part begins
+abbrev pub Settles : Reading Item → List Open → List ℕ → Option Item → Counts → Counts → Type 0
+Settles whole os rest (Some w) old new =
+    (os ≡ []) × (costs (cost_of new) (done w rest) ≡ costs (cost_of old) whole)
+Settles whole os rest None old new =
+    (costs (cost_of new) (and_then (geometry_inside (length os) rest) (outward os)) ≡ costs (cost_of old) whole)
+    × AreOpen os rest
 
 -- the result is what this reading gives, and what it cost was counted
 abbrev pub ReadsAs : Reading Item → Result Wkb Refusal → Counts → Counts → Type 0

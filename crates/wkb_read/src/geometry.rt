@@ -190,7 +190,8 @@ impl Dimensioned for GeometryCollection<'_> {
 }
 
 impl<'a> GeometryCollectionTrait for GeometryCollection<'a> {
-    ghost use Rattle.std.specs.Prelude.{◌≡◌, map, option_map, slice_get};
+    ghost use Rattle.std.specs.Prelude.{◌≡◌, map, option_map};
+    ghost use Rattle.wkb_geom.specs.Found.{IsItemAt};
     ghost use Rattle.wkb_read.specs.Placed.{AreMembers, IsMemberAt};
 
     type GeometryType = Wkb<'a>;
@@ -217,8 +218,7 @@ impl<'a> GeometryCollectionTrait for GeometryCollection<'a> {
     #[tactic(auto, using(crate::proofs::Parts::member_means, crate::proofs::Parts::member_is))]
     #[inline]
     fn geometry(&self, i: usize) -> Option<&Wkb<'a>>
-        ensures member { option_map (λ g. geometry_seen g.now) result
-            ≡ slice_get (members_seen self.now.parts) i }
+        ensures member { IsItemAt (λ g. geometry_seen g.now) result (members_seen self.now.parts) i }
         ensures one { IsMemberAt self.now i (option_map (λ g. g.now) result) }
     {
         self.geometries().get(i)

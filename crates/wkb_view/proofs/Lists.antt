@@ -10,7 +10,7 @@ use Rattle.wkb_view.specs.Prelude.{multi_point_end, slots_asked, slots_of, consu
 use Rattle.wkb_view.specs.Prelude.{list_item, member_at, parts_body, multi_point_with, multi_polygon_with}
 use Rattle.wkb_view.specs.Prelude.{multi_point_at, multi_polygon_at}
 use Rattle.wkb_view.specs.declared.counts.Counts.{Counts}
-use Rattle.wkb_view.specs.Outcome.{Spent, CanCount, Stops}
+use Rattle.wkb_view.specs.Outcome.{Spent, next_turn, CanCount, Stops}
 use Rattle.wkb_view.specs.Members.{parts_behind}
 use Rattle.wkb_view.specs.Entries.{entries_asked, HasNoList}
 unfoldable use Rattle.wkb_geom.specs.Reading.{multi_point_told, multi_polygon_told}
@@ -31,10 +31,6 @@ pub record Loop {A : Type 0} (part : List ℕ → Reading A) (count i : ℕ) (fr
     (whole : Reading (List A)) : Type 0 where
   pub leads : Leads start now (goes_on front (repeated (count - i) part rest)) whole
 
--- one turn more
-abbrev pub begun : Counts → Counts
-begun c = record { turns = c.turns + 1; slots = c.slots }
-
 -- what costs nothing spends nothing
 pub freely : {A : Type 0} (r : Reading A) (p : Outcome A) (c : Counts) → r ≡ (free, p) → (r.1 ≡ p) × Spent c c r.0
 freely {A = A} r p c is = (ap (λ (q : Reading A). q.1) is, rw is (record { turns = omega arith; slots = omega arith }))
@@ -50,7 +46,7 @@ parts_begin part count rest c =
     let all : count - 0 ≡ count = omega arith in record { leads = rw all (begin_by c (repeated count part rest)) }
 
 module _ {A : Type 0} {start : Counts} {whole : Reading (List A)} where
-  next_by : (front : List A) (x : A) (c : Cost) (old new : Counts) (r : Reading (List A)) → Spent (begun old) new c
+  next_by : (front : List A) (x : A) (c : Cost) (old new : Counts) (r : Reading (List A)) → Spent (next_turn old) new c
       → Leads start old (goes_on front (costs one_turn (costs c (and_then r (λ xs after. done (x ∷ xs) after))))) whole
       → Leads start new (goes_on (front ++ x ∷ []) r) whole
   next_by front x c old new (k, Ok (xs, after)) spent leads = record {
@@ -83,7 +79,7 @@ module _ {A : Type 0} {start : Counts} {whole : Reading (List A)} where
       then_by (d, Err f) leads = (omega (arith, leads.turns_are), omega (arith, leads.slots_are))
 
   stops_by : (front : List A) (old new : Counts) (f : Cause) (r : Reading A) (s : List ℕ → Reading (List A))
-      → r.1 ≡ Err f → Spent (begun old) new r.0
+      → r.1 ≡ Err f → Spent (next_turn old) new r.0
       → Leads start old
       (goes_on front (costs one_turn (and_then r (λ x rest. and_then (s rest) (λ xs after. done (x ∷ xs) after)))))
       whole
@@ -107,7 +103,7 @@ module _ {A : Type 0} {start : Counts} {whole : Reading (List A)} where
 
     -- a part that was read
     pub next_part : (new : Counts) (x : A) (after : List ℕ) → i < count → Loop part count i front rest start old whole
-        → (part rest).1 ≡ Ok (x, after) → Spent (begun old) new (part rest).0
+        → (part rest).1 ≡ Ok (x, after) → Spent (next_turn old) new (part rest).0
         → Loop part count (i + 1) (front ++ x ∷ []) after start new whole
     unfolding repeated
     next_part new x after lt loop is spent =
@@ -121,7 +117,7 @@ module _ {A : Type 0} {start : Counts} {whole : Reading (List A)} where
 
     -- a part that stops
     pub part_stops : (e : Refusal) (new : Counts) → i < count → Loop part count i front rest start old whole
-        → Stops e (part rest) (begun old) new
+        → Stops e (part rest) (next_turn old) new
         → Stops e whole start new
     unfolding repeated
     part_stops (refusals.Cause f) new lt loop stops =

@@ -10,8 +10,8 @@ use Rattle.std.proofs.Math.Nat.{mul-add}
 use Rattle.wkb_view.specs.Prelude.{Reading, consumed, body_start, parts_start, repeated}
 use Rattle.wkb_view.specs.Pieces.{pieces, ArePieces, AreInOrder, IsPiece, Passed}
 use Rattle.wkb_view.specs.declared.counts.Counts.{Counts}
-use Rattle.wkb_view.specs.Outcome.{Spent}
-use Rattle.wkb_view.proofs.Lists.{begun, Loop, parts_begin, next_part, parts_end}
+use Rattle.wkb_view.specs.Outcome.{Spent, next_turn}
+use Rattle.wkb_view.proofs.Lists.{Loop, parts_begin, next_part, parts_end}
 
 -- ---- the part at an index
 
@@ -170,7 +170,7 @@ module _ {A : Type 0} {least : ℕ} {P : List ℕ → Type 0} {seen : List ℕ �
     {began old : Counts} {i : ℕ} {ends rest : List ℕ} {whole : Reading (List A)} where
   pub pieces_next : (after : List ℕ) (new : Counts) → 4 ≤ least → i < count
       → SoFar least P seen part start count i bytes ends rest began old whole
-      → (part rest).1 ≡ Ok (seen (consumed rest after), after) → Spent (begun old) new (part rest).0
+      → (part rest).1 ≡ Ok (seen (consumed rest after), after) → Spent (next_turn old) new (part rest).0
       → Passed least P rest after
       → SoFar least P seen part start count (i + 1) bytes
       (ends ++ (length bytes - length after) ∷ []) after began new whole

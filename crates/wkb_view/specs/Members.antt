@@ -2,6 +2,7 @@
 -- order, a code and an SRID of its own.
 use Rattle.std.specs.Prelude.{◌≡◌, ℕ, zero, suc, ◌+◌, ◌*◌, List, [], ◌∷◌, map, length, false, Result, Ok, Err}
 use Rattle.std.specs.Prelude.{if◌then◌else◌, ◌==◌}
+use Rattle.std.specs.List.{AllByRecursion}
 use Rattle.wkb_geom.specs.declared.header.TheConstants.{MIN_MEMBER_SIZE}
 use Rattle.wkb_geom.specs.Values.{polygon, multi_line_string, multi_polygon}
 use Rattle.wkb_view.specs.Prelude.{Layout, Dimension, BigEndian, Cause, Coordinate, width, point_end, line_string_end}
@@ -124,6 +125,10 @@ polygon_seen p = whole_of polygon p
 
 abbrev pub multi_line_string_seen : Listed (List (List Coordinate)) → Item
 multi_line_string_seen m = whole_of multi_line_string m
+
+-- each has this dimension
+abbrev pub HaveDimension : {A : Type 0} → Dimension → List (Listed A) → Type 0
+HaveDimension d members = AllByRecursion (λ p. p.dimension ≡ d) members
 
 -- the geometries of polygons
 abbrev pub polygon_items : List (Listed (List (List Coordinate))) → List Item

@@ -1,5 +1,5 @@
 -- How the result of a read agrees with reading.
-use Rattle.std.specs.Prelude.{◌≡◌, ℕ, ◌+◌, ◌≤◌, ◌<◌, ◌^◌, List, Result, Ok, Err}
+use Rattle.std.specs.Prelude.{◌≡◌, ℕ, ◌+◌, ◌≤◌, ◌<◌, ◌^◌, List, length, Result, Ok, Err}
 use Rattle.std.specs.Borrow.{Bor}
 use Rattle.wkb_view.specs.Prelude.{Cause, Refusal, Cost, Outcome, Reading}
 use Rattle.wkb_view.specs.Prelude.refusals
@@ -9,6 +9,10 @@ use Rattle.wkb_view.specs.declared.counts.Counts.{Counts}
 pub record Spent (old new : Counts) (cost : Cost) : Type 0 where
   pub turns : new.turns ≡ old.turns + cost.turns
   pub slots : new.slots ≡ old.slots + cost.slots
+
+-- one turn more
+abbrev pub next_turn : Counts → Counts
+next_turn c = record { turns = c.turns + 1; slots = c.slots }
 
 -- no more than this was counted between the two
 pub record AtMost (old new : Counts) (cost : Cost) : Type 0 where
@@ -56,6 +60,10 @@ CountsOrStops shown (Err refusal) reading old new = Stops refusal reading old ne
 abbrev pub IsReadOrStops : {X Y : Type 0} → (X → Y) → Result (X × Bor (List ℕ)) Refusal → Reading Y → Counts → Counts
     → Type 0
 IsReadOrStops seen result reading old new = CountsOrStops (seen_with_rest seen) result reading old new
+
+-- what was read has at least this many bytes: those after it are so many fewer
+abbrev pub TakesAtLeast : {X : Type 0} → ℕ → List ℕ → X × Bor (List ℕ) → Type 0
+TakesAtLeast least bytes x = length x.1.now + least ≤ length bytes
 
 -- the bytes are refused: no allocation failed
 abbrev pub IsCause : Refusal → Type 0

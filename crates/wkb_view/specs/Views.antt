@@ -1,6 +1,7 @@
 -- What the views of points, line strings and multi points mean.
 use Rattle.std.proofs.Common.{◌≡◌, ℕ, ◌+◌, ◌*◌, List, take, drop, Option, Bool, true, false, refl}
-use Rattle.wkb_view.specs.Prelude.{Layout, Coordinate, width, all_nan, Item, coordinate, point_item, point_item_of}
+use Rattle.wkb_view.specs.Prelude.{Layout, Dimension, Coordinate, width, all_nan, Item, coordinate, point_item}
+use Rattle.wkb_view.specs.Prelude.{point_item_of}
 use Rattle.wkb_view.specs.Prelude.{point_of, points_of, line_string_of, line_string_item, body_start, order_of}
 use Rattle.wkb_view.specs.Prelude.{Spelling, Endianness}
 use Rattle.wkb_geom.specs.Values.{point}
@@ -46,6 +47,16 @@ line_string_layout l = l.layout
 
 abbrev pub multi_point_layout : MultiPoint → Layout
 multi_point_layout m = m.layout
+
+-- its dimension
+abbrev pub point_dimension : Point → Dimension
+point_dimension p = p.layout.dimension
+
+abbrev pub line_string_dimension : LineString → Dimension
+line_string_dimension l = l.layout.dimension
+
+abbrev pub multi_point_dimension : MultiPoint → Dimension
+multi_point_dimension m = m.layout.dimension
 
 -- the coordinate of a point, and the points of a multi point
 abbrev pub seen_coordinate : Point → Option Coordinate
@@ -94,5 +105,5 @@ value_by l encoding words true = refl
 value_by l encoding words false = refl
 
 -- a point's value is that of its coordinate, if it has one
-pub point_value : (p : Point) → (point_seen p).value ≡ point (point_layout p).dimension (point_of (point_seen p).value)
+pub point_value : (p : Point) → (point_seen p).value ≡ point (point_dimension p) (point_of (point_seen p).value)
 point_value p = value_by p.layout p.buf.now (coordinate_in p) (all_nan (coordinate_in p))

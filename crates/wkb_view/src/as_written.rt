@@ -1,9 +1,8 @@
 //! Whether a geometry in memory is as it is written.
 
-ghost use Rattle.std.specs.Prelude.{◌≡◌, true, IsSome, MatchOption};
-ghost use Rattle.wkb_geom.specs.Encodings.{form_srid, form_with_flags};
+ghost use Rattle.std.specs.Prelude.{◌≡◌, true};
 ghost use Rattle.wkb_geom.specs.Reading.{Item};
-ghost use Rattle.wkb_view.specs.SpelledAsWritten.{IsSpelledAsWritten};
+ghost use Rattle.wkb_view.specs.SpelledAsWritten.{IsSpelledAsWritten, IsFlagsOf};
 
 use wkb_geom::{Endianness, Form};
 
@@ -23,8 +22,7 @@ pub trait AsWritten {
 /// Whether a form's codes have EWKB's flags; none if it has an SRID.
 #[inline(always)]
 pub fn flags_without_srid(form: Form) -> Option<bool>
-    ensures { MatchOption result (IsSome (form_srid form))
-        (λ has_flags. form ≡ form_with_flags has_flags) }
+    ensures { IsFlagsOf form result }
 {
     match form {
         Form::Iso => Some(false),

@@ -32,7 +32,7 @@ pub struct LineString<'a> {
 }
 
 impl<'a> LineString<'a> {
-    ghost use Rattle.std.specs.Prelude.{◌≡◌, ◌+◌, length, ◌≤◌, IfOk};
+    ghost use Rattle.std.specs.Prelude.{◌≡◌, length, ◌≤◌, IfOk};
     ghost use Rattle.wkb_geom.specs.Values as value;
     ghost use Rattle.wkb_geom.specs.declared.code.WkbType.TheVariants as kinds;
     ghost use Rattle.wkb_view.specs.Prelude.{line_string_at, line_string_item, consumed, BytesSpell};
@@ -40,9 +40,9 @@ impl<'a> LineString<'a> {
     ghost use Rattle.wkb_view.specs.Views.{line_string_seen, line_string_layout};
     ghost use Rattle.wkb_view.specs.Views.{line_string_offset, line_string_coordinates};
     ghost use Rattle.wkb_view.specs.Views.{line_string_order, line_string_ring_bytes};
-    ghost use Rattle.wkb_view.specs.Views.{line_string_coords_bytes};
+    ghost use Rattle.wkb_view.specs.Views.{line_string_coords_bytes, line_string_dimension};
     ghost use Rattle.wkb_view.specs.Headers.{HasHead};
-    ghost use Rattle.wkb_view.specs.Outcome.{IsRead};
+    ghost use Rattle.wkb_view.specs.Outcome.{IsRead, TakesAtLeast};
     ghost use Rattle.wkb_view.specs.Members.{IsEncoding, PassedEncoding};
 
     /// The number of its bytes.
@@ -100,7 +100,7 @@ impl<'a> LineString<'a> {
     fn as_ring(&self) -> LinearRing<'a>
         ensures encoding { ring_encoding result ≡ line_string_ring_bytes self.now }
         ensures order { ring_order result ≡ (line_string_layout self.now).order }
-        ensures dimension { ring_dimension result ≡ (line_string_layout self.now).dimension }
+        ensures dimension { ring_dimension result ≡ line_string_dimension self.now }
     {
         LinearRing {
             bytes: &self.buf[self.layout.header_length()..],
@@ -118,7 +118,7 @@ impl<'a> LineString<'a> {
         ensures item { IfOk result
             (λ x. line_string_seen x.0 ≡ line_string_item layout (consumed bytes.now x.1.now)) }
         ensures passed { IfOk result (λ x. PassedEncoding LINE_STRING layout bytes.now x.1.now) }
-        ensures shorter { IfOk result (λ x. length x.1.now + MIN_MEMBER_SIZE ≤ length bytes.now) }
+        ensures shorter { IfOk result (TakesAtLeast MIN_MEMBER_SIZE bytes.now) }
     {
         let (count, end) = layout.end_of_line_string(bytes)?;
         let (buf, rest) = bytes.split_at(end);
@@ -166,9 +166,9 @@ impl AsWritten for LineString<'_> {
 
 impl Dimensioned for LineString<'_> {
     ghost use Rattle.wkb_view.specs.Prelude.{as_dimensions};
-    ghost use Rattle.wkb_view.specs.Views.{line_string_layout};
+    ghost use Rattle.wkb_view.specs.Views.{line_string_dimension};
 
-    ghost dimensions = { λ g. as_dimensions (line_string_layout g).dimension };
+    ghost dimensions = { λ g. as_dimensions (line_string_dimension g) };
 
     #[inline]
     fn dim(&self) -> Dimensions {
@@ -177,14 +177,15 @@ impl Dimensioned for LineString<'_> {
 }
 
 impl<'a> LineStringTrait for LineString<'a> {
-    ghost use Rattle.std.specs.Prelude.{◌≡◌, length, option_map, IfSome, ◌<◌, Some, slice_get};
+    ghost use Rattle.std.specs.Prelude.{◌≡◌, length, IfSome, ◌<◌, Some, slice_get};
     ghost use Rattle.std.specs.Prelude.{IsSome, ◌↔◌};
     ghost use Rattle.std.specs.List.{flat_map};
     ghost use Rattle.wkb_geom.specs.Encodings.{words_encoding};
+    ghost use Rattle.wkb_geom.specs.Found.{IsItemAt};
     ghost use Rattle.wkb_view.specs.Coords.{words_seen, coord_order, coord_dimension};
     ghost use Rattle.wkb_view.specs.Coords.{coord_encoding};
     ghost use Rattle.wkb_view.specs.Ranges.{line_string_lawful};
-    ghost use Rattle.wkb_view.specs.Views.{line_string_layout, line_string_coordinates};
+    ghost use Rattle.wkb_view.specs.Views.{line_string_coordinates, line_string_dimension};
     ghost use Rattle.wkb_view.specs.Views.{line_string_order, line_string_coord_bytes};
 
     type CoordType = Coord<'a>;
@@ -214,9 +215,8 @@ impl<'a> LineStringTrait for LineString<'a> {
 
     #[inline]
     fn coord(&self, i: usize) -> Option<Coord<'a>>
-        ensures value { option_map words_seen result
-            ≡ slice_get (line_string_coordinates self.now) i }
-        ensures dimension { IfSome result (λ c. coord_dimension c ≡ (line_string_layout self.now).dimension) }
+        ensures value { IsItemAt words_seen result (line_string_coordinates self.now) i }
+        ensures dimension { IfSome result (λ c. coord_dimension c ≡ line_string_dimension self.now) }
         ensures order { IfSome result (λ c. coord_order c ≡ line_string_order self.now) }
         ensures bytes { IfSome result (λ c. coord_encoding c ≡ line_string_coord_bytes self.now i) }
     {
@@ -227,7 +227,7 @@ impl<'a> LineStringTrait for LineString<'a> {
     fn coord_at(&self, i: usize) -> Coord<'a>
         requires { i < length (line_string_coordinates self.now) }
         ensures value { slice_get (line_string_coordinates self.now) i ≡ Some (words_seen result) }
-        ensures dimension { coord_dimension result ≡ (line_string_layout self.now).dimension }
+        ensures dimension { coord_dimension result ≡ line_string_dimension self.now }
         ensures order { coord_order result ≡ line_string_order self.now }
         ensures bytes { coord_encoding result ≡ line_string_coord_bytes self.now i }
     {
@@ -241,7 +241,7 @@ impl<'a> GeometryTrait for LineString<'a> {
     ghost use Rattle.wkb_geom.specs.Geometries.{line_string};
     ghost use Rattle.wkb_view.specs.Prelude.{as_dimensions};
     ghost use Rattle.wkb_view.specs.Ranges.{line_string_lawful};
-    ghost use Rattle.wkb_view.specs.Views.{line_string_layout, line_string_coordinates};
+    ghost use Rattle.wkb_view.specs.Views.{line_string_coordinates, line_string_dimension};
 
     type PointType = Point<'a>;
 
@@ -261,7 +261,7 @@ impl<'a> GeometryTrait for LineString<'a> {
 
     type LineType = Line<'a>;
 
-    ghost geometry = { λ l. line_string (as_dimensions (line_string_layout l).dimension)
+    ghost geometry = { λ l. line_string (as_dimensions (line_string_dimension l))
         (line_string_coordinates l) };
 
     ghost one_dimension = { λ g. refl };

@@ -146,10 +146,11 @@ impl Dimensioned for LinearRing<'_> {
 }
 
 impl<'a> LineStringTrait for LinearRing<'a> {
-    ghost use Rattle.std.specs.Prelude.{◌≡◌, length, option_map, IfSome, ◌<◌, Some, slice_get};
+    ghost use Rattle.std.specs.Prelude.{◌≡◌, length, IfSome, ◌<◌, Some, slice_get};
     ghost use Rattle.std.specs.Prelude.{IsSome, ◌↔◌};
     ghost use Rattle.std.specs.List.{flat_map};
     ghost use Rattle.wkb_geom.specs.Encodings.{words_encoding};
+    ghost use Rattle.wkb_geom.specs.Found.{IsItemAt};
     ghost use Rattle.wkb_view.specs.Coords.{words_seen, coord_order, coord_dimension};
     ghost use Rattle.wkb_view.specs.Coords.{coord_encoding, ring_order, ring_dimension, ring_seen};
     ghost use Rattle.wkb_view.specs.Coords.{ring_coord_bytes};
@@ -182,7 +183,7 @@ impl<'a> LineStringTrait for LinearRing<'a> {
 
     #[inline]
     fn coord(&self, i: usize) -> Option<Coord<'a>>
-        ensures value { option_map words_seen result ≡ slice_get (ring_seen self.now) i }
+        ensures value { IsItemAt words_seen result (ring_seen self.now) i }
         ensures dimension { IfSome result (λ c. coord_dimension c ≡ ring_dimension self.now) }
         ensures order { IfSome result (λ c. coord_order c ≡ ring_order self.now) }
         ensures bytes { IfSome result (λ c. coord_encoding c ≡ ring_coord_bytes self.now i) }

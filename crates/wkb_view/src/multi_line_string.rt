@@ -47,15 +47,15 @@ impl<'a> Model for MultiLineString<'a> {
 }
 
 impl<'a> MultiLineString<'a> {
-    ghost use Rattle.std.specs.Prelude.{◌≡◌, length, option_map, IfSome, IfOk, IfErr, slice_get};
-    ghost use Rattle.std.specs.Prelude.{◌+◌, ◌≤◌};
+    ghost use Rattle.std.specs.Prelude.{◌≡◌, length, option_map, IfSome, IfOk, IfErr};
+    ghost use Rattle.wkb_geom.specs.Found.{IsItemAt};
     ghost use Rattle.wkb_geom.specs.declared.code.WkbType.TheVariants as kinds;
     ghost use Rattle.wkb_view.specs.Prelude.{multi_line_string_at, BytesSpell, spelling_at};
-    ghost use Rattle.wkb_view.specs.Views.{line_string_spelling, line_string_layout};
+    ghost use Rattle.wkb_view.specs.Views.{line_string_spelling, line_string_dimension};
     ghost use Rattle.wkb_view.specs.Views.{line_string_coordinates};
     ghost use Rattle.wkb_view.specs.Headers.{HasHead};
     ghost use Rattle.wkb_view.specs.Members.{multi_line_string_seen};
-    ghost use Rattle.wkb_view.specs.Outcome.{IsReadOrStops, CanCount, IsCause};
+    ghost use Rattle.wkb_view.specs.Outcome.{IsReadOrStops, TakesAtLeast, CanCount, IsCause};
 
     /// The number of its bytes.
     #[inline]
@@ -92,9 +92,8 @@ impl<'a> MultiLineString<'a> {
 
     /// The line string at an index, read again from the bytes between two ends, in its own order.
     pub(crate) fn member(&self, i: usize) -> Option<LineString<'a>>
-        ensures value { option_map line_string_coordinates result ≡ slice_get self.now.parts i }
-        ensures dimension { IfSome result
-            (λ l. (line_string_layout l).dimension ≡ self.now.dimension) }
+        ensures value { IsItemAt line_string_coordinates result self.now.parts i }
+        ensures dimension { IfSome result (λ l. line_string_dimension l ≡ self.now.dimension) }
         ensures spelled { option_map line_string_spelling result ≡ spelling_at self.now.spelled i }
     {
         let buf = part_at(
@@ -120,7 +119,7 @@ impl<'a> MultiLineString<'a> {
         requires head { HasHead (λ d. kinds.MultiLineString d) layout bytes.now }
         ensures answer { IsReadOrStops multi_line_string_seen
             result (multi_line_string_at layout bytes.now) counts.old counts.new }
-        ensures shorter { IfOk result (λ x. length x.1.now + MIN_MEMBER_SIZE ≤ length bytes.now) }
+        ensures shorter { IfOk result (TakesAtLeast MIN_MEMBER_SIZE bytes.now) }
         ensures no_memory { (multi_line_string_at layout bytes.now).0.slots ≡ 0
             → IfErr result IsCause }
     {
@@ -213,9 +212,10 @@ impl Dimensioned for MultiLineString<'_> {
 }
 
 impl<'a> MultiLineStringTrait for MultiLineString<'a> {
-    ghost use Rattle.std.specs.Prelude.{◌≡◌, option_map, IfSome, slice_get};
+    ghost use Rattle.std.specs.Prelude.{◌≡◌, option_map, IfSome};
+    ghost use Rattle.wkb_geom.specs.Found.{IsItemAt};
     ghost use Rattle.wkb_view.specs.Prelude.{as_dimensions, spelling_at};
-    ghost use Rattle.wkb_view.specs.Views.{line_string_spelling, line_string_layout};
+    ghost use Rattle.wkb_view.specs.Views.{line_string_spelling, line_string_dimension};
     ghost use Rattle.wkb_view.specs.Views.{line_string_coordinates};
     ghost use Rattle.wkb_view.specs.Fitted.{fitted_parts, line_strings_fit};
 
@@ -232,10 +232,9 @@ impl<'a> MultiLineStringTrait for MultiLineString<'a> {
 
     #[inline]
     fn line_string(&self, i: usize) -> Option<LineString<'a>>
-        ensures value { option_map line_string_coordinates result
-            ≡ slice_get (fitted_parts self.now) i }
-        ensures part { option_map line_string_coordinates result ≡ slice_get self.now.parts i }
-        ensures dimension { IfSome result (λ l. (line_string_layout l).dimension ≡ self.now.dimension) }
+        ensures value { IsItemAt line_string_coordinates result (fitted_parts self.now) i }
+        ensures part { IsItemAt line_string_coordinates result self.now.parts i }
+        ensures dimension { IfSome result (λ l. line_string_dimension l ≡ self.now.dimension) }
         ensures spelled { option_map line_string_spelling result ≡ spelling_at self.now.spelled i }
     {
         self.member(i)

@@ -34,13 +34,13 @@ pub struct MultiPoint<'a> {
 }
 
 impl<'a> MultiPoint<'a> {
-    ghost use Rattle.std.specs.Prelude.{◌≡◌, length, ◌≤◌, ◌+◌, IfOk};
+    ghost use Rattle.std.specs.Prelude.{◌≡◌, length, ◌≤◌, IfOk};
     ghost use Rattle.wkb_geom.specs.Values as value;
     ghost use Rattle.wkb_geom.specs.declared.code.WkbType.TheVariants as kinds;
     ghost use Rattle.wkb_view.specs.Prelude.{multi_point_at, BytesSpell};
     ghost use Rattle.wkb_view.specs.Views.{multi_point_seen, seen_points, multi_point_offset};
     ghost use Rattle.wkb_view.specs.Headers.{HasHead};
-    ghost use Rattle.wkb_view.specs.Outcome.{IsReadCounted, CanCount};
+    ghost use Rattle.wkb_view.specs.Outcome.{IsReadCounted, CanCount, TakesAtLeast};
 
     /// The number of its bytes.
     #[inline]
@@ -89,7 +89,7 @@ impl<'a> MultiPoint<'a> {
         requires fits { CanCount counts.old (multi_point_at layout bytes.now).0 }
         requires head { HasHead (λ d. kinds.MultiPoint d) layout bytes.now }
         ensures answer { IsReadCounted multi_point_seen result (multi_point_at layout bytes.now) counts.old counts.new }
-        ensures shorter { IfOk result (λ x. length x.1.now + MIN_MEMBER_SIZE ≤ length bytes.now) }
+        ensures shorter { IfOk result (TakesAtLeast MIN_MEMBER_SIZE bytes.now) }
     {
         let count = layout.count_of_points(bytes)?;
         let rest = pass_points(layout, bytes, count, counts)?;
@@ -168,9 +168,9 @@ impl AsWritten for MultiPoint<'_> {
 
 impl Dimensioned for MultiPoint<'_> {
     ghost use Rattle.wkb_view.specs.Prelude.{as_dimensions};
-    ghost use Rattle.wkb_view.specs.Views.{multi_point_layout};
+    ghost use Rattle.wkb_view.specs.Views.{multi_point_dimension};
 
-    ghost dimensions = { λ g. as_dimensions (multi_point_layout g).dimension };
+    ghost dimensions = { λ g. as_dimensions (multi_point_dimension g) };
 
     #[inline]
     fn dim(&self) -> Dimensions {
@@ -179,10 +179,11 @@ impl Dimensioned for MultiPoint<'_> {
 }
 
 impl<'a> MultiPointTrait for MultiPoint<'a> {
-    ghost use Rattle.std.specs.Prelude.{◌≡◌, option_map, IfSome, slice_get};
+    ghost use Rattle.std.specs.Prelude.{◌≡◌, option_map, IfSome};
+    ghost use Rattle.wkb_geom.specs.Found.{IsItemAt};
     ghost use Rattle.wkb_view.specs.Prelude.{spelling_at};
-    ghost use Rattle.wkb_view.specs.Views.{point_seen, seen_coordinate, point_layout};
-    ghost use Rattle.wkb_view.specs.Views.{multi_point_seen, seen_points, multi_point_layout};
+    ghost use Rattle.wkb_view.specs.Views.{point_seen, seen_coordinate, point_dimension};
+    ghost use Rattle.wkb_view.specs.Views.{multi_point_seen, seen_points, multi_point_dimension};
     ghost use Rattle.wkb_view.specs.Views.{point_spelling, multi_point_member_bytes};
     ghost use Rattle.wkb_view.specs.Ranges.{multi_point_lawful};
 
@@ -202,9 +203,9 @@ impl<'a> MultiPointTrait for MultiPoint<'a> {
     #[tactic(auto, using(crate::proofs::Members::points_counted, crate::proofs::Items::next_within))]
     #[inline]
     fn point(&self, i: usize) -> Option<Point<'a>>
-        ensures value { option_map seen_coordinate result ≡ slice_get (seen_points self.now) i }
+        ensures value { IsItemAt seen_coordinate result (seen_points self.now) i }
         ensures dimension { IfSome result
-            (λ p. (point_layout p).dimension ≡ (multi_point_layout self.now).dimension) }
+            (λ p. point_dimension p ≡ multi_point_dimension self.now) }
         ensures spelled { option_map point_spelling result
             ≡ spelling_at (multi_point_seen self.now).spelled i }
         ensures bytes { IfSome result
@@ -227,7 +228,7 @@ impl<'a> GeometryTrait for MultiPoint<'a> {
     ghost use Rattle.wkb_geom.specs.Geometries.{multi_point};
     ghost use Rattle.wkb_view.specs.Prelude.{as_dimensions};
     ghost use Rattle.wkb_view.specs.Ranges.{multi_point_lawful};
-    ghost use Rattle.wkb_view.specs.Views.{seen_points, multi_point_layout};
+    ghost use Rattle.wkb_view.specs.Views.{seen_points, multi_point_dimension};
 
     type PointType = Point<'a>;
 
@@ -247,7 +248,7 @@ impl<'a> GeometryTrait for MultiPoint<'a> {
 
     type LineType = Line<'a>;
 
-    ghost geometry = { λ m. multi_point (as_dimensions (multi_point_layout m).dimension)
+    ghost geometry = { λ m. multi_point (as_dimensions (multi_point_dimension m))
         (seen_points m) };
 
     ghost one_dimension = { λ g. refl };

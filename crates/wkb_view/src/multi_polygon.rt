@@ -1,10 +1,10 @@
 //! A multi polygon.
 
 ghost use Rattle.std.specs.Prelude.{◌≡◌, ◌+◌, length, ◌≤◌, IfOk, IfErr, []};
-ghost use Rattle.std.specs.List.{AllByRecursion};
-ghost use Rattle.wkb_view.specs.Prelude.{as_dimensions, body_start, member_at, parts_start};
-ghost use Rattle.wkb_view.specs.Outcome.{IsReadOrStops, CanCount, IsCause};
-ghost use Rattle.wkb_view.specs.Members.{members_behind, polygon_seen};
+ghost use Rattle.wkb_view.specs.Prelude.{as_dimensions, body_start, member_at};
+ghost use Rattle.wkb_view.specs.Outcome.{IsReadOrStops, TakesAtLeast, CanCount, IsCause};
+ghost use Rattle.wkb_view.specs.Members.{members_behind, polygon_seen, HaveDimension};
+ghost use Rattle.wkb_view.specs.Pieces.{IsAfterCount};
 ghost use Rattle.wkb_view.specs.Passing.{polygons_seen};
 ghost use Rattle.wkb_view.specs.Entries.{entries, capacity, HasSlots};
 
@@ -34,30 +34,29 @@ pub struct MultiPolygon<'a> {
 }
 
 impl<'a> Model for MultiPolygon<'a> {
-    ghost use Rattle.std.specs.Prelude.{◌≡◌, ◌+◌, length, ◌≤◌, List};
-    ghost use Rattle.std.specs.List.{AllByRecursion};
+    ghost use Rattle.std.specs.Prelude.{◌+◌, length, ◌≤◌, List};
     ghost use Rattle.wkb_geom.specs.Stored.{listed_code, polygons_code};
     ghost use Rattle.wkb_view.specs.Prelude.{body_start, Listed, Coordinate, BytesSpell};
-    ghost use Rattle.wkb_view.specs.Members.{polygons_laid, multi_polygon_seen};
+    ghost use Rattle.wkb_view.specs.Members.{polygons_laid, multi_polygon_seen, HaveDimension};
 
     ghost Value = { Listed (List (List (List Coordinate))) };
 
     ghost coded = { listed_code polygons_code };
 
     ghost invariant = { λ a. (body_start a.layout.has_srid + 4 ≤ length a.buf.now)
-        × AllByRecursion (λ p. p.dimension ≡ a.layout.dimension) a.members.items
+        × HaveDimension a.layout.dimension a.members.items
         × BytesSpell (multi_polygon_seen (polygons_laid a.layout a.members.items a.buf.now)) };
 
     ghost view = { λ a. polygons_laid a.layout a.members.items a.buf.now };
 }
 
 impl<'a> MultiPolygon<'a> {
-    ghost use Rattle.std.specs.Prelude.{◌≡◌, length, IfOk, IfErr, ◌+◌, ◌≤◌};
+    ghost use Rattle.std.specs.Prelude.{◌≡◌, length, IfOk, IfErr};
     ghost use Rattle.wkb_geom.specs.declared.code.WkbType.TheVariants as kinds;
     ghost use Rattle.wkb_view.specs.Prelude.{multi_polygon_at, BytesSpell};
     ghost use Rattle.wkb_view.specs.Headers.{HasHead};
     ghost use Rattle.wkb_view.specs.Members.{multi_polygon_seen};
-    ghost use Rattle.wkb_view.specs.Outcome.{IsReadOrStops, CanCount, IsCause};
+    ghost use Rattle.wkb_view.specs.Outcome.{IsReadOrStops, TakesAtLeast, CanCount, IsCause};
 
     /// The number of its bytes.
     #[inline]
@@ -97,7 +96,7 @@ impl<'a> MultiPolygon<'a> {
         requires head { HasHead (λ d. kinds.MultiPolygon d) layout bytes.now }
         ensures answer { IsReadOrStops multi_polygon_seen
             result (multi_polygon_at layout bytes.now) counts.old counts.new }
-        ensures shorter { IfOk result (λ x. length x.1.now + MIN_MEMBER_SIZE ≤ length bytes.now) }
+        ensures shorter { IfOk result (TakesAtLeast MIN_MEMBER_SIZE bytes.now) }
         ensures no_memory { (multi_polygon_at layout bytes.now).0.slots ≡ 0
             → IfErr result IsCause }
     {
@@ -122,7 +121,7 @@ fn read_member<'a>(
     requires fits { CanCount counts.old (member_at POLYGON dimension bytes.now).0 }
     ensures dimension { IfOk result (λ x. x.0.dimension ≡ dimension) }
     ensures answer { IsReadOrStops polygon_seen result (member_at POLYGON dimension bytes.now) counts.old counts.new }
-    ensures shorter { IfOk result (λ x. length x.1.now + MIN_MEMBER_SIZE ≤ length bytes.now) }
+    ensures shorter { IfOk result (TakesAtLeast MIN_MEMBER_SIZE bytes.now) }
     ensures no_memory { (member_at POLYGON dimension bytes.now).0.slots ≡ 0 → IfErr result IsCause }
 {
     let layout = Layout::of_member(WkbType::Polygon(dimension), bytes)?;
@@ -142,12 +141,10 @@ fn read_members<'a>(
     requires empty { entries members ≡ [] }
     requires room { HasSlots MIN_MEMBER_SIZE layout count bytes.now (capacity members) }
     requires fits { CanCount counts.old (members_behind POLYGON layout count bytes.now).0 }
-    ensures dimension { IfOk result
-        (λ x. AllByRecursion (λ p. p.dimension ≡ layout.dimension) (entries x.0)) }
+    ensures dimension { IfOk result (λ x. HaveDimension layout.dimension (entries x.0)) }
     ensures polygons { IsReadOrStops polygons_seen
         result (members_behind POLYGON layout count bytes.now) counts.old counts.new }
-    ensures shorter { IfOk result
-        (λ x. length x.1.now ≤ length (parts_start layout.has_srid bytes.now)) }
+    ensures shorter { IfOk result (λ x. IsAfterCount layout bytes.now x.1.now) }
     ensures no_memory { (members_behind POLYGON layout count bytes.now).0.slots ≡ 0
         → IfErr result IsCause }
 {
@@ -214,7 +211,8 @@ impl Dimensioned for MultiPolygon<'_> {
 }
 
 impl<'a> MultiPolygonTrait for MultiPolygon<'a> {
-    ghost use Rattle.std.specs.Prelude.{◌≡◌, option_map, IfSome, slice_get};
+    ghost use Rattle.std.specs.Prelude.{◌≡◌, option_map, IfSome};
+    ghost use Rattle.wkb_geom.specs.Found.{IsItemAt};
     ghost use Rattle.wkb_view.specs.Prelude.{as_dimensions, spelling_at};
     ghost use Rattle.wkb_view.specs.Fitted.{fitted_parts, fitted_members, polygons_fit};
 
@@ -231,9 +229,8 @@ impl<'a> MultiPolygonTrait for MultiPolygon<'a> {
 
     #[inline]
     fn polygon(&self, i: usize) -> Option<&Polygon<'a>>
-        ensures value { option_map (λ p. fitted_parts p.now) result
-            ≡ slice_get (fitted_members self.now) i }
-        ensures part { option_map (λ p. p.now.parts) result ≡ slice_get self.now.parts i }
+        ensures value { IsItemAt (λ p. fitted_parts p.now) result (fitted_members self.now) i }
+        ensures part { IsItemAt (λ p. p.now.parts) result self.now.parts i }
         ensures dimension { IfSome result (λ p. p.now.dimension ≡ self.now.dimension) }
         ensures spelled { option_map (λ p. p.now.spelled) result ≡ spelling_at self.now.spelled i }
     {

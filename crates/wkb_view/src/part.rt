@@ -1,7 +1,7 @@
 //! Parts of an encoding.
 
 ghost use Rattle.std.specs.Prelude.{◌≡◌, ◌+◌, ◌<◌, ◌≤◌, ◌∷◌, get_or, length, take, drop, IfSome};
-ghost use Rattle.std.specs.Prelude.{option_map, slice_get};
+ghost use Rattle.wkb_geom.specs.Found.{IsItemAt};
 ghost use Rattle.wkb_geom.specs.Numbers.{AreBytes};
 ghost use Rattle.wkb_view.specs.Pieces.{pieces, AreInOrder};
 
@@ -34,7 +34,7 @@ pub(crate) fn part_at<'a>(
     i: usize,
 ) -> Option<&'a [u8]>
     requires { AreInOrder first ends.now bytes.now }
-    ensures part { option_map (λ b. b.now) result ≡ slice_get (pieces first ends.now bytes.now) i }
+    ensures part { IsItemAt (λ b. b.now) result (pieces first ends.now bytes.now) i }
     ensures bytes { IfSome result (λ b. AreBytes b.now) }
 {
     if i >= ends.len() {

@@ -29,7 +29,7 @@ pub struct Point<'a> {
 }
 
 impl<'a> Point<'a> {
-    ghost use Rattle.std.specs.Prelude.{◌≡◌, length, is_none, ◌+◌, ◌≤◌, IfOk};
+    ghost use Rattle.std.specs.Prelude.{◌≡◌, length, is_none, IfOk};
     ghost use Rattle.wkb_geom.specs.Values as value;
     ghost use Rattle.wkb_geom.specs.declared.code.WkbType.TheVariants as kinds;
     ghost use Rattle.wkb_view.specs.Prelude.{point_at, point_item, consumed, BytesSpell};
@@ -37,9 +37,10 @@ impl<'a> Point<'a> {
     ghost use Rattle.wkb_view.specs.Coords.{coord_encoding};
     ghost use Rattle.wkb_view.specs.Views.{coordinate_in, point_seen, seen_coordinate, point_layout};
     ghost use Rattle.wkb_view.specs.Views.{point_order, point_coord_bytes, point_words_bytes};
+    ghost use Rattle.wkb_view.specs.Views.{point_dimension};
     ghost use Rattle.wkb_view.specs.Headers.{HasHead};
     ghost use Rattle.wkb_view.specs.Members.{IsEncoding, PassedEncoding};
-    ghost use Rattle.wkb_view.specs.Outcome.{IsRead};
+    ghost use Rattle.wkb_view.specs.Outcome.{IsRead, TakesAtLeast};
 
     /// The number of its bytes.
     #[inline]
@@ -96,7 +97,7 @@ impl<'a> Point<'a> {
     pub(crate) fn words(&self) -> Coord<'a>
         ensures words { words_seen result ≡ coordinate_in self.now }
         ensures order { coord_order result ≡ (point_layout self.now).order }
-        ensures dimension { coord_dimension result ≡ (point_layout self.now).dimension }
+        ensures dimension { coord_dimension result ≡ point_dimension self.now }
         ensures bytes { coord_encoding result ≡ point_coord_bytes self.now }
     {
         Coord {
@@ -118,7 +119,7 @@ impl<'a> Point<'a> {
         ensures item { IfOk result
             (λ x. point_seen x.0 ≡ point_item layout (consumed bytes.now x.1.now)) }
         ensures passed { IfOk result (λ x. PassedEncoding POINT layout bytes.now x.1.now) }
-        ensures shorter { IfOk result (λ x. length x.1.now + MIN_MEMBER_SIZE ≤ length bytes.now) }
+        ensures shorter { IfOk result (TakesAtLeast MIN_MEMBER_SIZE bytes.now) }
     {
         let end = layout.end_of_point(bytes)?;
         let (buf, rest) = bytes.split_at(end);
@@ -163,9 +164,9 @@ impl AsWritten for Point<'_> {
 
 impl Dimensioned for Point<'_> {
     ghost use Rattle.wkb_view.specs.Prelude.{as_dimensions};
-    ghost use Rattle.wkb_view.specs.Views.{point_layout};
+    ghost use Rattle.wkb_view.specs.Views.{point_dimension};
 
-    ghost dimensions = { λ g. as_dimensions (point_layout g).dimension };
+    ghost dimensions = { λ g. as_dimensions (point_dimension g) };
 
     #[inline]
     fn dim(&self) -> Dimensions {
@@ -178,7 +179,7 @@ impl<'a> PointTrait for Point<'a> {
     ghost use Rattle.wkb_view.specs.Ranges.{point_lawful};
     ghost use Rattle.wkb_view.specs.Coords.{words_seen, coord_order, coord_dimension};
     ghost use Rattle.wkb_view.specs.Coords.{coord_encoding};
-    ghost use Rattle.wkb_view.specs.Views.{seen_coordinate, point_layout, point_order};
+    ghost use Rattle.wkb_view.specs.Views.{seen_coordinate, point_order, point_dimension};
     ghost use Rattle.wkb_view.specs.Views.{point_coord_bytes};
 
     type CoordType = Coord<'a>;
@@ -190,7 +191,7 @@ impl<'a> PointTrait for Point<'a> {
     #[inline(always)]
     fn coord(&self) -> Option<Coord<'a>>
         ensures value { option_map words_seen result ≡ seen_coordinate self.now }
-        ensures dimension { IfSome result (λ c. coord_dimension c ≡ (point_layout self.now).dimension) }
+        ensures dimension { IfSome result (λ c. coord_dimension c ≡ point_dimension self.now) }
         ensures order { IfSome result (λ c. coord_order c ≡ point_order self.now) }
         ensures bytes { IfSome result (λ c. coord_encoding c ≡ point_coord_bytes self.now) }
     {
@@ -209,7 +210,7 @@ impl<'a> GeometryTrait for Point<'a> {
     ghost use Rattle.wkb_geom.specs.Geometries.{point};
     ghost use Rattle.wkb_view.specs.Prelude.{as_dimensions};
     ghost use Rattle.wkb_view.specs.Ranges.{point_lawful};
-    ghost use Rattle.wkb_view.specs.Views.{seen_coordinate, point_layout};
+    ghost use Rattle.wkb_view.specs.Views.{seen_coordinate, point_dimension};
 
     type PointType = Point<'a>;
 
@@ -229,7 +230,7 @@ impl<'a> GeometryTrait for Point<'a> {
 
     type LineType = Line<'a>;
 
-    ghost geometry = { λ p. point (as_dimensions (point_layout p).dimension) (seen_coordinate p) };
+    ghost geometry = { λ p. point (as_dimensions (point_dimension p)) (seen_coordinate p) };
 
     ghost one_dimension = { λ g. refl };
 

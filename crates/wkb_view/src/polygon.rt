@@ -47,14 +47,14 @@ impl<'a> Model for Polygon<'a> {
 }
 
 impl<'a> Polygon<'a> {
-    ghost use Rattle.std.specs.Prelude.{◌≡◌, length, option_map, IfSome, IfOk, IfErr, slice_get};
-    ghost use Rattle.std.specs.Prelude.{◌+◌, ◌≤◌};
+    ghost use Rattle.std.specs.Prelude.{◌≡◌, length, IfSome, IfOk, IfErr};
+    ghost use Rattle.wkb_geom.specs.Found.{IsItemAt};
     ghost use Rattle.wkb_geom.specs.declared.code.WkbType.TheVariants as kinds;
     ghost use Rattle.wkb_view.specs.Prelude.{polygon_at, BytesSpell, order_of};
     ghost use Rattle.wkb_view.specs.Coords.{ring_order, ring_dimension, ring_seen};
     ghost use Rattle.wkb_view.specs.Headers.{HasHead};
     ghost use Rattle.wkb_view.specs.Members.{polygon_seen};
-    ghost use Rattle.wkb_view.specs.Outcome.{IsReadOrStops, CanCount, IsCause};
+    ghost use Rattle.wkb_view.specs.Outcome.{IsReadOrStops, CanCount, IsCause, TakesAtLeast};
 
     /// The number of its bytes.
     #[inline]
@@ -84,14 +84,14 @@ impl<'a> Polygon<'a> {
     /// The number of rings.
     #[tactic(auto, using(crate::proofs::Pieces::parts_counted))]
     pub(crate) fn num_rings(&self) -> usize
-        ensures { result ≡ length (self.now.parts) }
+        ensures { result ≡ length self.now.parts }
     {
         self.ends.len()
     }
 
     /// The ring at an index, read again from the bytes between two ends.
     pub(crate) fn ring(&self, i: usize) -> Option<LinearRing<'a>>
-        ensures value { option_map ring_seen result ≡ slice_get (self.now.parts) i }
+        ensures value { IsItemAt ring_seen result self.now.parts i }
         ensures dimension { IfSome result (λ r. ring_dimension r ≡ self.now.dimension) }
         ensures order { IfSome result (λ r. ring_order r ≡ order_of self.now.spelled) }
     {
@@ -117,7 +117,7 @@ impl<'a> Polygon<'a> {
         requires head { HasHead (λ d. kinds.Polygon d) layout bytes.now }
         ensures dimension { IfOk result (λ x. x.0.dimension ≡ layout.dimension) }
         ensures answer { IsReadOrStops polygon_seen result (polygon_at layout bytes.now) counts.old counts.new }
-        ensures shorter { IfOk result (λ x. length x.1.now + MIN_MEMBER_SIZE ≤ length bytes.now) }
+        ensures shorter { IfOk result (TakesAtLeast MIN_MEMBER_SIZE bytes.now) }
         ensures no_memory { (polygon_at layout bytes.now).0.slots ≡ 0 → IfErr result IsCause }
     {
         let (ends, rest) = read_ends::<Rings>(alloc, layout, bytes, counts)?;
@@ -176,7 +176,8 @@ impl Dimensioned for Polygon<'_> {
 }
 
 impl<'a> PolygonTrait for Polygon<'a> {
-    ghost use Rattle.std.specs.Prelude.{◌≡◌, ◌+◌, option_map, IfSome, slice_get};
+    ghost use Rattle.std.specs.Prelude.{◌≡◌, ◌+◌, IfSome};
+    ghost use Rattle.wkb_geom.specs.Found.{IsItemAt};
     ghost use Rattle.wkb_view.specs.Prelude.{as_dimensions, order_of};
     ghost use Rattle.wkb_view.specs.Coords.{ring_order, ring_dimension, ring_seen};
     ghost use Rattle.wkb_view.specs.Fitted.{fitted_parts, line_strings_fit};
@@ -194,8 +195,8 @@ impl<'a> PolygonTrait for Polygon<'a> {
 
     #[inline]
     fn exterior(&self) -> Option<LinearRing<'a>>
-        ensures value { option_map ring_seen result ≡ slice_get (fitted_parts self.now) 0 }
-        ensures part { option_map ring_seen result ≡ slice_get self.now.parts 0 }
+        ensures value { IsItemAt ring_seen result (fitted_parts self.now) 0 }
+        ensures part { IsItemAt ring_seen result self.now.parts 0 }
         ensures dimension { IfSome result (λ r. ring_dimension r ≡ self.now.dimension) }
         ensures order { IfSome result (λ r. ring_order r ≡ order_of self.now.spelled) }
     {
@@ -205,8 +206,8 @@ impl<'a> PolygonTrait for Polygon<'a> {
     #[tactic(auto, using(std::proofs::lemmas::Option::slice_get_past))]
     #[inline]
     fn interior(&self, i: usize) -> Option<LinearRing<'a>>
-        ensures value { option_map ring_seen result ≡ slice_get (fitted_parts self.now) (i + 1) }
-        ensures part { option_map ring_seen result ≡ slice_get self.now.parts (i + 1) }
+        ensures value { IsItemAt ring_seen result (fitted_parts self.now) (i + 1) }
+        ensures part { IsItemAt ring_seen result self.now.parts (i + 1) }
         ensures dimension { IfSome result (λ r. ring_dimension r ≡ self.now.dimension) }
         ensures order { IfSome result (λ r. ring_order r ≡ order_of self.now.spelled) }
     {

@@ -10,7 +10,7 @@ use wkb_cases::spelled::{Spelled, bytes, digits_of};
 use wkb_cases::texts::{
     MEMBER_WITH_SRID, MIXED_DIMENSIONS, MULTI_LINE_TWO, POLYGON_HOLE, nested_in,
 };
-use wkb_command::arguments::{ArgumentFault, read_arguments};
+use wkb_command::arguments::{ArgumentFailure, read_arguments};
 use wkb_command::program::run;
 
 /// The most digits of an input that gives one a read: the last of 16777216 reads finds the end.
@@ -305,8 +305,8 @@ fn arguments(rt: HostRuntime) -> Result<(), Fail> {
     for (arguments, are_texts) in ARGUMENTS {
         match read_arguments(rt.alloc(), &Process { arguments }) {
             Ok(words) => assert!(rt; are_texts && are_arguments(words.as_slice(), arguments)),
-            Err(ArgumentFault::NoText) => assert!(rt; !are_texts),
-            Err(ArgumentFault::Memory) => return Err(Fail::new("out of memory")),
+            Err(ArgumentFailure::NoText) => assert!(rt; !are_texts),
+            Err(ArgumentFailure::Memory) => return Err(Fail::new("out of memory")),
         }
     }
     Ok(())

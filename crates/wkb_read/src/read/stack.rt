@@ -1,11 +1,11 @@
 //! Reading the members of collections, with an explicit stack of open ones (docs/DECISIONS.md, D3).
 
 ghost use Rattle.wkb_geom.specs.declared.code.WkbType.TheVariants as kinds;
-ghost use Rattle.std.specs.Prelude.{◌≡◌, ◌++◌, ◌∷◌, [], ◌+◌, ◌<◌, ◌^◌, length, reverse};
+ghost use Rattle.std.specs.Prelude.{◌≡◌, ◌++◌, ◌∷◌, [], ◌+◌, ◌<◌, ◌≤◌, ◌^◌, length};
 ghost use Rattle.std.specs.Prelude.{IfOk, IfErr};
-ghost use Rattle.wkb_read.specs.Prelude.{max_nesting, HasHead, CanCount};
+ghost use Rattle.wkb_read.specs.Prelude.{max_nesting, HasHead, CanCount, next_turn};
 ghost use Rattle.wkb_read.specs.Memory.{HasNoMembers, NeedsNone};
-ghost use Rattle.wkb_read.specs.Stack.{collection_inside, outward, first_member, cost_of, next_turn};
+ghost use Rattle.wkb_read.specs.Stack.{collection_inside, around, outward, first_member};
 ghost use Rattle.wkb_read.specs.Stack.{IsOpen, AreOpen, IsFinished, BeginsAs, Settles, ReadsAs};
 
 use crate::geometry::{GeometryCollection, View, Wkb};
@@ -82,7 +82,7 @@ pub(crate) fn push_collection<'a>(
     requires fits { counts.old.turns + 1 < 2 ^ 128 }
     ensures entered { IfOk result
         (λ done. stack.new.items ≡ stack.old.items ++ collection.entry ∷ []) }
-    ensures turn { IfOk result (λ done. cost_of counts.new ≡ next_turn (cost_of counts.old)) }
+    ensures turn { IfOk result (λ done. counts.new ≡ next_turn counts.old) }
     ensures stays { IfErr result (λ e. counts.new ≡ counts.old) }
 {
     stack.push(collection)?;
@@ -99,11 +99,11 @@ pub(crate) fn close_finished<'a>(
     counts: &mut Counts,
 ) -> Option<Wkb<'a>>
     requires part { IsFinished part }
-    requires stand { AreOpen (reverse stack.old.items) (part.encoding ++ rest.now) }
-    requires fits { counts.old.turns + (outward (reverse stack.old.items) part rest.now).0.turns
-        < 2 ^ 128 }
-    ensures { Settles (reverse stack.old.items) (reverse stack.new.items) part.entry rest.now
-        result counts.old counts.new }
+    requires stand { AreOpen (around stack.old) (part.encoding ++ rest.now) }
+    requires fits { counts.old.turns + (outward (around stack.old) part rest.now).0.turns < 2 ^ 128 }
+    ensures settles { Settles (outward (around stack.old) part.entry rest.now) (around stack.new)
+        rest.now result counts.old counts.new }
+    ensures fewer { length stack.new.items ≤ length stack.old.items }
 {
     let mut finished = part;
     loop {

@@ -9,6 +9,6 @@ returns-in-Ok c =
 
 pub returns-in-Err : goal.returns-in-Err
 returns-in-Err c =
-    reports_refusal (c.args.text.now ∷ []) (RewriteWithSrid c.args.order) c.in-Err.fault c.fault_report.result refl
+    reports_refusal (c.args.text.now ∷ []) (RewriteWithSrid c.args.order) c.in-Err.failure c.failure_report.result refl
     (λ is. cc)
-    c.in-Err.ensures.err c.fault_report.ensures
+    c.in-Err.ensures.err c.failure_report.ensures

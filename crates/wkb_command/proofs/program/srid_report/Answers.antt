@@ -18,5 +18,5 @@ returns-in-Ok-None c =
 
 pub returns-in-Err : goal.returns-in-Err
 returns-in-Err c =
-    reports_refusal (c.args.text.now ∷ []) Srid c.in-Err.fault c.fault_report.result refl
-    (λ is. cc) c.in-Err.ensures.err c.fault_report.ensures
+    reports_refusal (c.args.text.now ∷ []) Srid c.in-Err.failure c.failure_report.result refl
+    (λ is. cc) c.in-Err.ensures.err c.failure_report.ensures

@@ -10,7 +10,7 @@ overflow_add-counts g c =
     )
 
 pub returns-in_err-count-clause-slots : goal.returns-in_err-count-clause-slots
-returns-in_err-count-clause-slots g c = omega (arith, c.in_err-count.ensures.short.1, c.requires.least)
+returns-in_err-count-clause-slots g c = omega (arith, c.in_err-count.ensures.refused.1, c.requires.least)
 
 pub returns-clause-slots : goal.returns-clause-slots
 returns-clause-slots g c =

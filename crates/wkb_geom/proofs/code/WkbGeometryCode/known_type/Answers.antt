@@ -10,7 +10,7 @@ returns-then-not-is_in_table c =
 pub returns : goal.returns
 returns c =
     rw (← c.self.view_is)
-    (meaning_is c.self.inside.code c.without_flag-a.result c.without_flag-b.result c.without_flag-n.result c.of_thousands.result
-    c.dimension_with_flags-dimension.result c.of_kind.result
+    (meaning_is c.self.inside.code c.without_flag-a.result c.without_flag-b.result c.without_flag-n.result
+    c.of_thousands.result c.dimension_with_flags-dimension.result c.of_kind.result
     c.without_flag-a.ensures c.without_flag-b.ensures c.without_flag-n.ensures c.if-not-is_in_table.ensures
     c.of_thousands.ensures c.dimension_with_flags-dimension.ensures c.of_kind.ensures)

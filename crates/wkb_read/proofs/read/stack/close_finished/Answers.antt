@@ -1,9 +1,10 @@
-use Rattle.wkb_read.proofs.Prelude.{◌≡◌, ◌<◌, ◌+◌, ◌-◌, ℕ, ◌∷◌, [], ◌++◌, length, reverse, length-append}
-use Rattle.wkb_read.proofs.Prelude.{length-reverse, refl, sym, ap, ◌∙◌, arith, vec_len, List, slice_set, Item, Reading}
-use Rattle.wkb_read.proofs.Prelude.{costs, Open, cost_of, outward}
+use Rattle.wkb_read.proofs.Prelude.{◌≡◌, ◌<◌, ◌-◌, ℕ, ◌∷◌, [], ◌++◌, length, reverse, length-append}
+use Rattle.wkb_read.proofs.Prelude.{length-reverse, length-set, refl, sym, ap, ◌∙◌, arith, vec_len, List, slice_set}
+use Rattle.wkb_read.proofs.Prelude.{Item, Reading, costs, Open, cost_of, outward}
 use Rattle.std.proofs.Common.{length-take, true, false}
 use Rattle.std.proofs.lemmas.Bool.{false≢true}
 use Rattle.wkb_view.specs.Entries.{entries}
+use Rattle.wkb_view.specs.Outcome.{next_turn}
 use Rattle.wkb_read.proofs.LastItem.{Top, top, popped}
 use Rattle.wkb_read.proofs.Stacks.{Reaches, Finishes, Completes, next_begins, completes}
 use Rattle.wkb_read.proofs.read.stack.close_finished.Goals as goal
@@ -37,7 +38,7 @@ finishes c = rw (on_top c).is at c.loop-top.invariant.finishes
 
 begins : (c : After-push) → 0 < c.in-Some.top.now.left
     → Reaches (filled c (c.in-Some.top.now.left - 1) ∷ (on_top c).below) c.args.rest.now
-    (record { turns = c.loop-top.counts.turns + 1; slots = c.loop-top.counts.slots }) (whole c)
+    (next_turn c.loop-top.counts) (whole c)
 begins c more =
     let o = c.in-Some.top.now in
     next_begins o (filled c (o.left - 1)) (on_top c).below c.loop-top.finished c.args.rest.now c.loop-top.counts _
@@ -63,9 +64,12 @@ pub returns-then-top-gt0 : goal.returns-then-top-gt0
 returns-then-top-gt0 c =
     let p = (goal.at.returns-then-top-gt0 c).After-push in
     let r = begins p c.if-top-gt0.true in
-    let t = on_top p in
-    let lengths = length-reverse c.args.stack.now.items in
-    rw (t.set_is _) (r.so_far, r.stand, omega (arith, t.count, lengths, c.loop-top.invariant.fewer))
+    let top_left = filled p (c.in-Some.top.now.left - 1) in
+    let as_many = length-set c.loop-top.stack.items (vec_len c.loop-top.stack - 1) top_left in
+    record {
+      settles = rw ((on_top p).set_is _) (r.so_far, r.stand);
+      fewer = omega (arith, as_many, c.loop-top.invariant.fewer);
+    }
 
 -- what is taken off is the top, now with all its members
 taken_off : (c : After-push) (ys : List Open) (z : Open)
@@ -144,7 +148,7 @@ pub returns-in_default : goal.returns-in_default
 returns-in_default c =
     let s = c.loop-top.stack in
     let none = ap reverse (none_in s.items (vec_len s) (omega (arith, s.ok)) c.in_default.ensures.variant.1) in
-    (none, (rw none at c.loop-top.invariant.finishes).so_far)
+    record { settles = (none, (rw none at c.loop-top.invariant.finishes).so_far); fewer = c.loop-top.invariant.fewer }
 
 pub unreachable-requires : goal.unreachable-requires
 unreachable-requires c = false≢true (c.in_default-pop.ensures.variant.1 (c.in-Some.ensures.variant.0 refl))

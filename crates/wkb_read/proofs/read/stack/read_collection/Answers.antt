@@ -1,9 +1,10 @@
-use Rattle.wkb_read.proofs.Prelude.{◌≡◌, ◌+◌, length, reverse, [], ◌∷◌, refl, ap, ◌∙◌, length-append, reverse-append}
-use Rattle.wkb_read.proofs.Prelude.{length-reverse, arith, Item, Reading, costs, Counts, cost_of, next_turn}
+use Rattle.wkb_read.proofs.Prelude.{◌≡◌, length, reverse, [], ◌∷◌, refl, ap, ◌∙◌, length-append, reverse-append}
+use Rattle.wkb_read.proofs.Prelude.{length-reverse, arith, Item, Reading, costs, Counts, cost_of}
 use Rattle.wkb_read.proofs.Prelude.{first_member, outward}
 use Rattle.wkb_read.proofs.Stacks.{Reaches, Finishes, can_begin, at_most_turn, enters, finishes, stops_outward}
 use Rattle.wkb_read.proofs.Stacks.{all_read}
 use Rattle.std.proofs.lemmas.Result.{err_from_is_err_and}
+use Rattle.wkb_view.specs.Outcome.{next_turn}
 use Rattle.wkb_read.proofs.read.stack.read_collection.Goals as goal
 use Rattle.wkb_read.proofs.read.stack.read_collection.Goals.{After-len, In-Ok-Opened, In-Ok-Whole}
 
@@ -12,7 +13,7 @@ as_many c = omega (arith, length-reverse c.loop-collection.stack.items, c.loop-c
 
 -- the first member of a collection that was opened begins, and a turn is counted
 opened : (c : In-Ok-Opened) (after : Counts) → length (reverse c.loop-collection.stack.items) ≡ c.len.result
-    → cost_of after ≡ next_turn (cost_of c.read_front.new.counts)
+    → after ≡ next_turn c.read_front.new.counts
     → Reaches (c.in-Ok-Opened.collection ∷ reverse c.loop-collection.stack.items) c.in-Ok-Opened.rest.now after
     (costs (cost_of c.args.counts.now) (first_member 0 c.args.outermost c.args.members.now))
 opened c after around turn =
@@ -41,7 +42,7 @@ read_front-requires c =
 pub push_collection-requires-in-Ok-Opened : goal.push_collection-requires-in-Ok-Opened
 push_collection-requires-in-Ok-Opened c =
     let p = goal.at.push_collection-requires-in-Ok-Opened c in
-    let after : Counts = record { turns = c.read_front.new.counts.turns + 1; slots = c.read_front.new.counts.slots } in
+    let after : Counts = next_turn c.read_front.new.counts in
     record {
       fits = omega (
         arith,
@@ -53,7 +54,7 @@ push_collection-requires-in-Ok-Opened c =
 pub returns-in_err-push_collection-in-Ok-Opened : goal.returns-in_err-push_collection-in-Ok-Opened
 returns-in_err-push_collection-in-Ok-Opened c =
     let p = goal.at.returns-in_err-push_collection-in-Ok-Opened c in
-    let after : Counts = record { turns = c.read_front.new.counts.turns + 1; slots = c.read_front.new.counts.slots } in
+    let after : Counts = next_turn c.read_front.new.counts in
     let stopped =
     err_from_is_err_and c.from_residual-in_err-push_collection-in-Ok-Opened.result
     c.from_residual-in_err-push_collection-in-Ok-Opened.ensures.1 in
@@ -91,19 +92,19 @@ pub returns-in-Some : goal.returns-in-Some
 returns-in-Some c =
     let p = goal.at.returns-in-Some c in
     all_read c.in-Some.whole c.in-Ok-Whole.rest.now _ c.args.counts.now c.close_finished.new.counts
-    (c.in-Some.ensures.1 ∙ (part p.In-Ok-Whole (as_many p.After-len)).so_far)
+    (c.in-Some.ensures.settles.1 ∙ (part p.In-Ok-Whole (as_many p.After-len)).so_far)
 
 pub loop-collection-preserved : goal.loop-collection-preserved
 loop-collection-preserved c =
     let p = goal.at.loop-collection-preserved c in
-    let after = c.in_default.ensures in
+    let after = c.in_default.ensures.settles in
     let now = length-reverse c.close_finished.new.stack.items in
     record {
       reaches = record { so_far = after.0 ∙ (part p.In-Ok-Whole (as_many p.After-len)).so_far; stand = after.1 };
       shallow =
           omega (
             arith,
-            after.2,
+            c.in_default.ensures.fewer,
             now,
             length-reverse c.loop-collection.stack.items,
             c.loop-collection.invariant.shallow,

@@ -1,4 +1,4 @@
-use Rattle.wkb_view.specs.Views.{line_string_layout}
+use Rattle.wkb_view.specs.Views.{line_string_dimension}
 use Rattle.wkb_view.proofs.Lawful.{dimensions_told}
 use Rattle.wkb_view.proofs.multi_line_string.MultiLineStringMultiLineStringTrait.TheImpl.Goals as goal
 
@@ -6,5 +6,5 @@ pub line_string-tells : goal.line_string-tells
 line_string-tells g _ _ _ c =
     record {
       value = c.ensures.value;
-      dimensions = dimensions_told (λ l. (line_string_layout l).dimension) c.result _ c.ensures.dimension;
+      dimensions = dimensions_told line_string_dimension c.result _ c.ensures.dimension;
     }

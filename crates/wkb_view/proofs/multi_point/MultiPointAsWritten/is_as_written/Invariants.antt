@@ -1,10 +1,10 @@
 use Rattle.wkb_geom.specs.Values.{point}
-use Rattle.wkb_view.specs.Views.{multi_point_seen, seen_points, multi_point_layout}
+use Rattle.wkb_view.specs.Views.{multi_point_seen, seen_points, multi_point_dimension}
 use Rattle.wkb_view.proofs.Encoded.{AreWrittenBefore}
 use Rattle.wkb_view.proofs.multi_point.MultiPointAsWritten.is_as_written.Given as goal
 
 abbrev pub invariant-loop-i : goal.invariant-loop-i
 invariant-loop-i l = record {
-  so_far : AreWrittenBefore l.order l.has_flags point (multi_point_layout l.self).dimension l.i
+  so_far : AreWrittenBefore l.order l.has_flags point (multi_point_dimension l.self) l.i
       (multi_point_seen l.self).spelled (seen_points l.self);
 }

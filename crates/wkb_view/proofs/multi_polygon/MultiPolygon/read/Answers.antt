@@ -1,7 +1,7 @@
-use Rattle.std.specs.List.{AllByRecursion}
-use Rattle.std.proofs.Common.{◌≡◌, subst, sym, ◌-◌, length, length-take, arith}
+use Rattle.std.proofs.Common.{subst, sym, ◌-◌, length, length-take, arith}
 use Rattle.std.proofs.lemmas.Result.{err_from_is_err_and}
 use Rattle.wkb_view.specs.Prelude.{member_at, list_item, multi_polygon_with, multi_polygon_at}
+use Rattle.wkb_view.specs.Members.{HaveDimension}
 use Rattle.wkb_view.proofs.Lists.{IsList, parts_length, polygons_here, list_fits, list_costs, list_reads, list_stops}
 use Rattle.wkb_view.proofs.Lists.{polygons_within, polygons_refused}
 use Rattle.wkb_view.proofs.SpelledRead.{body_spelled}
@@ -32,11 +32,9 @@ invariant_of-multi_polygon c =
       omega (
         arith,
         e.shorter,
-        parts_length l.has_srid bytes,
-        c.in_ok-count.ensures.whole,
         length-take (length bytes - length c.in_ok-members.rest.now) bytes,
       ),
-      subst (AllByRecursion (λ p. p.dimension ≡ l.dimension)) (sym c.into_vec.ensures) e.dimension,
+      subst (HaveDimension l.dimension) (sym c.into_vec.ensures) e.dimension,
       rw c.into_vec.ensures (body_spelled bytes _ _ _ c.requires.head read.0),
     )
 
@@ -74,21 +72,14 @@ returns-in_err-count-clause-no_memory c = λ none.
     (c.in_err-count.ensures.no_memory (omega (arith, none, polygons_within c.args.layout c.args.bytes.now)))
 
 pub slice_bounds-multi_polygon-count : goal.slice_bounds-multi_polygon-count
-slice_bounds-multi_polygon-count c =
-    omega (arith, c.in_ok-members.ensures.shorter, parts_length c.args.layout.has_srid c.args.bytes.now)
+slice_bounds-multi_polygon-count c = omega (arith, c.in_ok-members.ensures.shorter)
 
 pub slice_bounds-multi_polygon-length : goal.slice_bounds-multi_polygon-length
 slice_bounds-multi_polygon-length c =
     omega (arith, length-take (length c.args.bytes.now - length c.in_ok-members.rest.now) c.args.bytes.now)
 
 pub returns-clause-shorter : goal.returns-clause-shorter
-returns-clause-shorter c =
-    omega (
-      arith,
-      c.in_ok-members.ensures.shorter,
-      c.in_ok-count.ensures.whole,
-      parts_length c.args.layout.has_srid c.args.bytes.now,
-    )
+returns-clause-shorter c = omega (arith, c.in_ok-members.ensures.shorter)
 
 pub returns-in_err-members-clause-no_memory : goal.returns-in_err-members-clause-no_memory
 returns-in_err-members-clause-no_memory c = λ none.

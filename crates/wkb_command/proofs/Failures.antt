@@ -1,4 +1,4 @@
--- The faults of the calls.
+-- The failures of the calls.
 use Rattle.std.proofs.Common.{◌≡◌, ℕ, List, [], ◌∷◌, Result, Ok, Err, ◌⊎◌, inl, inr, refl}
 use Rattle.std.specs.Prelude.{IfErr, IsErrAnd}
 use Rattle.hex.specs.Hex.{decode_of}
@@ -13,31 +13,31 @@ use Rattle.wkb_geom.specs.Spellings.{any}
 use Rattle.wkb.specs.Canonical.{IsAccepted, IsSize}
 use Rattle.wkb_geom.specs.declared.error.WkbError.{WkbError}
 use Rattle.wkb_geom.specs.declared.error.WkbError.TheVariants as errors
-use Rattle.wkb_command.specs.declared.calls.HexFault.{HexFault}
-use Rattle.wkb_command.specs.declared.calls.HexFault.TheVariants.{NotHex, Memory}
-use Rattle.wkb_command.specs.Calls.{IsHex, IsHexOf, AreHexOf, IsFaultOf, FirstRefusal, RefusedFirst, IsOversized}
+use Rattle.wkb_command.specs.declared.calls.HexFailure.{HexFailure}
+use Rattle.wkb_command.specs.declared.calls.HexFailure.TheVariants.{NotHex, Memory}
+use Rattle.wkb_command.specs.Calls.{IsHex, IsHexOf, AreHexOf, IsFailureOf, FirstRefusal, RefusedFirst, IsOversized}
 use Rattle.wkb_command.specs.Calls.{this_one, later_one}
-use Rattle.wkb_command.specs.Calls.{FaultOfError, FaultOfHexError}
+use Rattle.wkb_command.specs.Calls.{FailureOfError, FailureOfHexError}
 use Rattle.wkb_command.proofs.Hexes.{not_hex}
 
 pub IfErr-from : {T E : Type 0} (r : Result T E) (P Q : E → Type 0) → IsErrAnd r P → ((e : E) → P e → Q e) → IfErr r Q
 IfErr-from (Ok x) P Q h f = tt
 IfErr-from (Err e) P Q h f = f e h
 
-pub decode_fault : (text : List ℕ) (e : FromHexError) (fault : HexFault)
+pub decode_failure : (text : List ℕ) (e : FromHexError) (failure : HexFailure)
     → (e ≡ hex_errors.OutOfMemory) ⊎ (decode_of text ≡ Err e)
-    → FaultOfHexError e fault → (fault ≡ Memory) ⊎ ((fault ≡ NotHex) × ¬ IsHex text)
-decode_fault text hex_errors.OutOfMemory fault h is = inl is
-decode_fault text e fault (inl memory) is = absurd (cc)
-decode_fault text e fault (inr refused) is = inr (is, not_hex text e refused)
+    → FailureOfHexError e failure → (failure ≡ Memory) ⊎ ((failure ≡ NotHex) × ¬ IsHex text)
+decode_failure text hex_errors.OutOfMemory failure h is = inl is
+decode_failure text e failure (inl memory) is = absurd (cc)
+decode_failure text e failure (inr refused) is = inr (is, not_hex text e refused)
 
-pub call_fault : (texts : List (List ℕ)) (IsRefused : List (List ℕ) → WkbError → Type 0) (e : WkbError)
-    (fault : HexFault)
+pub call_failure : (texts : List (List ℕ)) (IsRefused : List (List ℕ) → WkbError → Type 0) (e : WkbError)
+    (failure : HexFailure)
     → IsMemory e ⊎ ((inputs : List (List ℕ)) × AreHexOf texts inputs × IsRefused inputs e)
-    → FaultOfError e fault → IsFaultOf texts IsRefused fault
-call_fault texts IsRefused (errors.Memory x) fault h is = rw is tt
-call_fault texts IsRefused e fault (inl memory) is = absurd memory
-call_fault texts IsRefused e fault (inr refused) is = rw is refused
+    → FailureOfError e failure → IsFailureOf texts IsRefused failure
+call_failure texts IsRefused (errors.Memory x) failure h is = rw is tt
+call_failure texts IsRefused e failure (inl memory) is = absurd memory
+call_failure texts IsRefused e failure (inr refused) is = rw is refused
 
 -- the only input is refused, and the error tells why
 pub refused_alone : (input : List ℕ) (e : WkbError) (cause : Cause) (turns slots : ℕ)
