@@ -1,6 +1,6 @@
 -- What the header and the count of a geometry say, and the pieces that follow one another.
-use Rattle.std.proofs.Common.{◌≡◌, ◌≢◌, ℕ, ◌+◌, ◌≤◌, List, ◌++◌, length, drop, is_some, Ok, refl, sym, ap, ◌∙◌}
-use Rattle.std.proofs.Common.{subst, arith, length-drop, Option, ◌⊎◌, ⊎_elim}
+use Rattle.std.proofs.Common.{◌≡◌, ◌≢◌, ℕ, ◌+◌, ◌≤◌, List, ◌++◌, length, drop, is_some, None, Ok, refl, sym, ap, ◌∙◌}
+use Rattle.std.proofs.Common.{subst, arith, length-drop, Option, Some, false, ◌⊎◌, ⊎_elim}
 use Rattle.std.proofs.lemmas.List.{drop-drop}
 use Rattle.wkb_laws.specs.Prelude.{Endianness, Dimension, Head, Layout, number, Begins, Value}
 use Rattle.wkb_laws.specs.Prelude.{point, line_string, polygon, multi_point, multi_line_string, multi_polygon}
@@ -8,13 +8,17 @@ use Rattle.wkb_laws.specs.Prelude.{collection}
 use Rattle.wkb_laws.specs.Prelude.{kind, dimension, Spelling, node, SpellsBody, Spells, type_of}
 use Rattle.wkb_laws.specs.Prelude.{type_dimension, body_start, layout_of}
 unfoldable use Rattle.wkb_laws.specs.Prelude.{head_at}
-use Rattle.wkb_geom.specs.Reading.{type_kind, srid_in}
+use Rattle.wkb_geom.specs.Reading.{type_kind, srid_in, meaning, meaning_of}
 use Rattle.wkb_geom.specs.Refusals.{srid_size}
+use Rattle.wkb_geom.specs.declared.common.Dimension.TheVariants.{Xy}
+use Rattle.wkb_geom.proofs.Meanings.{type_kind-type_of}
+use Rattle.wkb_geom.proofs.Heads.{iso_meant}
+use Rattle.wkb_geom.specs.Codes.{iso_code}
 use Rattle.wkb_geom.specs.Spellings.{header, Header}
 use Rattle.wkb_laws.proofs.Parts.{then_append, begins_number, drop_front, header_length}
 use Rattle.wkb_laws.proofs.Complete.{head_of}
 use Rattle.wkb_check.specs.Bounded.{HasGeometry}
-use Rattle.wkb_check.specs.Pieces.{count_of, leading, piece_of}
+use Rattle.wkb_check.specs.Pieces.{count_of, leading, piece_of, bare_head}
 use Rattle.wkb_check.specs.declared.pieces.Piece.{Piece}
 use Rattle.wkb_check.proofs.Public.{geometry_opens, one_head}
 use Rattle.wkb_check.proofs.Bodies.{rest_smaller}
@@ -42,16 +46,12 @@ counted order words (multi_polygon d polygons) x more h differs =
 counted order words (collection d ts) x more h differs =
     let r = begins_number order 4 _ (x ++ more) more (record { front = x; whole = refl; first = h.1 }) in (r.0, r.1)
 
-type_kind_is : (t : Value) → type_kind (type_of (kind t) (dimension t)) ≡ kind t
+-- the type of a value has its kind and its dimension
+pub type_kind_is : (t : Value) → type_kind (type_of (kind t) (dimension t)) ≡ kind t
 type_kind_is (point d c) = refl
-type_kind_is (line_string d cs) = refl
-type_kind_is (polygon d rings) = refl
-type_kind_is (multi_point d points) = refl
-type_kind_is (multi_line_string d lines) = refl
-type_kind_is (multi_polygon d polygons) = refl
-type_kind_is (collection d ts) = refl
+type_kind_is _ = refl
 
-type_dimension_is : (t : Value) → type_dimension (type_of (kind t) (dimension t)) ≡ dimension t
+pub type_dimension_is : (t : Value) → type_dimension (type_of (kind t) (dimension t)) ≡ dimension t
 type_dimension_is (point d c) = refl
 type_dimension_is _ = refl
 
@@ -168,3 +168,36 @@ read_piece bytes begin g h l head l-is k body srid k-is body-is srid-is n offset
     (ap (λ (m : Layout). m.dimension) l-is ∙ y.dimension_is)
     (ap (λ (m : Layout). m.order) l-is ∙ y.order_is)
     (srid-is ∙ (λ i. srid_in (l-is i).order (l-is i).has_srid (drop begin bytes)) ∙ y.srid_is) last.0 last.1
+
+-- the number of a kind is the code of that kind
+pub bare_meant : (k : ℕ) → 1 ≤ k → k ≤ 7 → meaning_of k ≡ Some (meaning (type_of k Xy) false)
+bare_meant k least most =
+    let type = type_kind-type_of k Xy least most in
+    let code : k ≡ iso_code (type_kind (type_of k Xy)) (type_dimension (type_of k Xy)) =
+    omega arith ∙ (λ i. iso_code (sym type.0 i) (sym type.1 i)) in
+    ap meaning_of code ∙ iso_meant (type_of k Xy)
+
+-- the piece of a geometry whose header is bare
+pub bare_piece : (bytes : List ℕ) (begin : ℕ) (g : HasGeometry (drop begin bytes)) (order : Endianness) (k : ℕ)
+    → head_at (drop begin bytes) ≡ Ok (bare_head order k) → 1 ≤ k → k ≤ 7 → (n offset : ℕ)
+    → ((k ≡ 1) × (n ≡ 1) × (offset ≡ begin + 5)
+    ⊎ (k ≢ 1) × (n ≡ number order 4 (drop (begin + 5) bytes)) × (offset ≡ begin + 5 + 4))
+    → ◌≡◌ {A = Piece}
+    (record { kind = k; dimension = Xy; order = order; srid = None; count = n; begin = begin; offset = offset })
+    (piece_of begin g.spelled g.value)
+bare_piece bytes begin g order k head least most n offset by =
+    let type = type_kind-type_of k Xy (omega (arith, least)) (omega (arith, most)) in
+    let h = bare_head order k in
+    subst (λ d. ◌≡◌ {A = Piece}
+    (record { kind = k; dimension = d; order = order; srid = None; count = n; begin = begin; offset = offset })
+    (piece_of begin g.spelled g.value)) type.1
+    (read_piece bytes begin g h (layout_of h) head refl k (begin + 5) None (sym type.0) (omega arith) refl n offset by)
+
+-- it has a count, unless it is a point
+pub bare_counted : (bytes : List ℕ) (begin : ℕ) → HasGeometry (drop begin bytes) → (order : Endianness) (k : ℕ)
+    → head_at (drop begin bytes) ≡ Ok (bare_head order k) → 1 ≤ k → k ≤ 7 → k ≢ 1 → begin + 9 ≤ length bytes
+bare_counted bytes begin g order k head least most other =
+    let type = type_kind-type_of k Xy (omega (arith, least)) (omega (arith, most)) in
+    let y = says (drop begin bytes) g.spelled g.value g.rest g.begins (bare_head order k) head in
+    let counted = y.counts (λ e. other (sym type.0 ∙ y.kind_is ∙ e)) in
+    omega (arith, counted.0, length-drop begin bytes)

@@ -17,7 +17,8 @@ use Rattle.wkb_check.specs.declared.walk.Walk.{Walk}
 use Rattle.wkb_check.specs.Passes.{Passes, tally}
 use Rattle.wkb_check.proofs.Leaves.{cond_image, refused_walked}
 use Rattle.wkb_check.specs.Walked.{Tally, walked, with_left, ring_coordinates, coordinates_by, number_of_member}
-use Rattle.wkb_check.specs.Walked.{item_coordinates}
+use Rattle.wkb_check.specs.Walked.{item_coordinates, rings_walked, polygon_walked, members_walked, multi_point_walked}
+use Rattle.wkb_check.specs.Walked.{multi_walked}
 unfoldable use Rattle.wkb_check.specs.Walked.{multi_told}
 use Rattle.wkb_check.specs.declared.skip.MemberKind.{MemberKind}
 use Rattle.wkb_check.specs.declared.skip.MemberKind.TheVariants as kinds
@@ -34,7 +35,7 @@ no_count many l bytes turns passed behind c none =
 -- a reading that is walked over as another one
 as_walked : {A B : Type 0} (f : A → ℕ) (g : B → ℕ) (p : ReadingOf (Cause × ℕ) A) (q : ReadingOf (Cause × ℕ) B)
     (r : Result (Bor (List ℕ)) Cause) (old new : Walk) → walked f p (tally old) ≡ walked g q (tally old)
-    → Passes r g q old new → Passes r f p old new
+    → Passes r (walked g q) old new → Passes r (walked f p) old new
 as_walked f g p q (Ok rest) old new same h = same ∙ h
 as_walked f g p q (Err c) old new same h = same ∙ h
 
@@ -75,8 +76,7 @@ mapped_ones g (a ∷ l) = omega (arith, mapped_ones g l, sum_by-cons (λ a. 1) a
 
 pub polygon_passes : (l : Layout) (bytes start : List ℕ) (n : ℕ) (r : Result (Bor (List ℕ)) Cause) (old new : Walk)
     → n ≡ count_in l bytes → body_start l.has_srid + 4 ≤ length bytes → start ≡ parts_start l.has_srid bytes
-    → Passes r (sum_by (ring_coordinates l)) (repeated n (ring_part_told with_left l) start) old new
-    → Passes r (coordinates_by 3) (polygon_told with_left l bytes) old new
+    → Passes r (rings_walked l n start) old new → Passes r (polygon_walked l bytes) old new
 unfolding polygon_told
 polygon_passes l bytes start n r old new counts long at h =
     as_walked (coordinates_by 3) (sum_by (ring_coordinates l)) (polygon_told with_left l bytes)
@@ -119,8 +119,7 @@ module _ (kind : MemberKind) (l : Layout) (bytes : List ℕ) where
 
   pub multi_passes : (start : List ℕ) (n : ℕ) (r : Result (Bor (List ℕ)) Cause) (old new : Walk) → n ≡ count_in l bytes
       → body_start l.has_srid + 4 ≤ length bytes → start ≡ parts_start l.has_srid bytes
-      → Passes r (sum_by (coordinates_by (number_of_member kind))) (repeated n member_part start) old new
-      → Passes r item_coordinates (multi_told kind l bytes) old new
+      → Passes r (members_walked kind l.dimension n start) old new → Passes r (multi_walked kind l bytes) old new
   multi_passes start n r old new counts long at h =
       let k = number_of_member kind in
       as_walked item_coordinates (sum_by (coordinates_by k)) (multi_told kind l bytes) (repeated n member_part start) r
@@ -150,8 +149,8 @@ module _ (l : Layout) (bytes : List ℕ) where
 
   pub points_pass : (start : List ℕ) (n : ℕ) (r : Result (Bor (List ℕ)) Cause) (old new : Walk)
       → points_counted l bytes ≡ Ok n → start ≡ parts_start l.has_srid bytes
-      → Passes r (sum_by (coordinates_by 1)) (repeated n (member_told with_left 1 l.dimension) start) old new
-      → Passes r item_coordinates (multi_point_told with_left l bytes) old new
+      → Passes r (members_walked kinds.Point l.dimension n start) old new
+      → Passes r (multi_point_walked l bytes) old new
   points_pass start n r old new counts at h =
       let part = member_told with_left 1 l.dimension in
       as_walked item_coordinates (sum_by (coordinates_by 1)) (multi_point_told with_left l bytes)

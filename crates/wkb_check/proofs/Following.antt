@@ -5,13 +5,14 @@ use Rattle.std.proofs.Common.{lt-ltb, le-ltb}
 use Rattle.std.proofs.lemmas.List.{drop-drop}
 use Rattle.wkb_laws.specs.Prelude.{Endianness, Dimension, number, Values, no_members, member, count}
 use Rattle.wkb_laws.specs.Prelude.{Spellings, no_spellings, spelling, SpellsEach, any, width, ring_end}
+use Rattle.wkb_geom.specs.Items.{length-items}
 use Rattle.wkb_geom.specs.Reading.{ring_in}
 use Rattle.wkb_check.specs.Bounded.{HasGeometry, HasGeometries, AreWhole, rings_in}
 use Rattle.wkb_check.specs.Pieces.{Ahead, own_end, ring_piece, piece_of, pieces_of, pieces_of_rings, pieces_of_each}
 use Rattle.wkb_check.specs.Pieces.{size_of_rings, size, sizes, IsInside}
 use Rattle.wkb_check.specs.declared.pieces.Piece.{Piece}
-use Rattle.wkb_check.proofs.Rings.{items_many}
 use Rattle.wkb_check.proofs.Scanning.{few_geometries, join_spellings, join_values, count_join, spelled_join}
+use Rattle.wkb_check.specs.Tables.{rings_from}
 use Rattle.wkb_check.proofs.Placing.{begun_at, behind_geometry, first_one, leaf_of, rings_inside, members_inside}
 use Rattle.wkb_check.proofs.Placing.{own_piece, First, geometry_inside}
 
@@ -65,7 +66,7 @@ ring_taken {buf = buf} {order = order} {d = d} {r = suc m} {geometries = geometr
     let bytes = drop at buf in
     let many : ℕ = number order 4 bytes in
     let cs = ring_in order d bytes in
-    let cs-many : length cs ≡ many = items_many (8 * width d) _ many (drop 4 bytes) in
+    let cs-many : length cs ≡ many = length-items (8 * width d) _ many (drop 4 bytes) in
     let moved : next ≡ at + ring_end d many = omega (arith, ends, ap own_end is) in
     let rest : drop (ring_end d many) bytes ≡ drop next buf = drop-drop (ring_end d many) at buf
     ∙ ap (λ k. drop k buf) (omega (arith, moved)) in
@@ -188,7 +189,7 @@ module _ {buf : List ℕ} {order : Endianness} {d : Dimension} {r n at : ℕ} {x
         let g = one.geometry in
         let o = one.others in
         let h = rings_inside buf at 0 g p (is g) three in
-        let rings = rings_in p.order p.dimension p.count (drop (own_end p) buf) in
+        let rings = rings_from buf p (own_end p) in
         let after : ℕ = own_end p + size_of_rings p.dimension rings in
         let behind = behind_geometry buf at after g h.long in
         subst (λ k. Taken buf p.order p.dimension p.count (n - 1) k xs p) (sym ends)

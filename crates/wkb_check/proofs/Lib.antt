@@ -3,7 +3,6 @@ pub mod Closing
 pub mod Counting
 pub mod Walking
 pub mod Leaves
-pub mod Heads
 pub mod Public
 pub mod Ranking
 pub mod Widening

@@ -1,6 +1,6 @@
--- The loop over the open collections: what is looked at, and what comes of it ahead_of.
+-- The loop over the open collections: what is looked at, and what is ahead of it.
 use Rattle.std.proofs.Common.{◌≡◌, ℕ, zero, suc, ◌+◌, ◌-◌, ◌<◌, ◌≤◌, List, [], ◌∷◌, length, take, slice_set, sum_by}
-use Rattle.std.proofs.Common.{Result, Ok, Err, refl, sym, ap, ◌∙◌, arith, length-take}
+use Rattle.std.proofs.Common.{Bor, Result, Ok, Err, refl, sym, ap, ◌∙◌, arith, length-take}
 use Rattle.std.proofs.lemmas.List.{length-reverse}
 use Rattle.std.proofs.lemmas.List.Sums.{sum_by-cons}
 use Rattle.wkb_geom.specs.declared.code.WkbType.{WkbType}
@@ -24,7 +24,10 @@ use Rattle.std.proofs.lemmas.Bool.{cond_both}
 use Rattle.std.proofs.Common.{Bool, true, false, nat_lt}
 unfoldable use Rattle.wkb_geom.specs.Reading.{repeated, collection_told}
 use Rattle.wkb_check.specs.Counted.{coordinate_count_each}
-use Rattle.wkb_check.specs.Passes.{open_counts, body_walked, inside_walked, IsFollowed}
+use Rattle.wkb_check.specs.declared.nested.OpenCounts.{OpenCounts}
+use Rattle.wkb_check.specs.declared.walk.Walk.{Walk}
+use Rattle.wkb_check.specs.Passes.{tally, open_counts, counts_of, IsFollowed, Passes, PassesOrOpens}
+use Rattle.wkb_check.specs.Walked.{type_walked, body_walked, inside_walked}
 use Rattle.wkb_check.specs.Walked.{Tally, Walked, walked, with_left, onward, item_coordinates, coordinates_by}
 use Rattle.wkb_check.specs.Walked.{inside_told, body_told, ahead_of}
 use Rattle.wkb_check.proofs.Counting.{no_count, list_walked}
@@ -130,6 +133,16 @@ module _ (depth : ℕ) (h : Head) (d : Dimension) (l : Layout) (bytes : List ℕ
   opens_none turns passed c none =
       behind (turns, passed) ∙ no_count item_coordinates l bytes turns passed
       (parts_body 7 l (inside_told (suc depth)) (list_item l collection_with) bytes) c none
+
+-- a geometry that is no collection is passed, and opens nothing
+pub passes_plain : (r : Result (Bor (List ℕ)) Cause) (h : Head) (l : Layout) (bytes : List ℕ) (o : OpenCounts)
+    (old new : Walk) → l ≡ layout_of h
+    → Passes r (type_walked (max_nesting - o.depth) h.wkb_type l bytes) old new
+    → PassesOrOpens r h bytes o o old new
+passes_plain (Ok rest) h l bytes o old new is p =
+    let passed : body_walked o.depth h bytes (tally old) ≡ Ok (tally new, rest.now) = rw (← is) p in
+    ap (λ w. onward w (ahead_of (counts_of o))) passed
+passes_plain (Err c) h l bytes o old new is p = rw (← is) p
 
 -- ---- the loop
 

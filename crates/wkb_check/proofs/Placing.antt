@@ -18,11 +18,12 @@ use Rattle.wkb_geom.specs.Spellings.{Header, member_part}
 use Rattle.wkb_laws.proofs.Parts.{then_length, then_append, drop_front, header_length}
 use Rattle.wkb_laws.proofs.Lengths.{coordinate_length, coordinates_length}
 use Rattle.wkb_laws.proofs.Lists.{count-each}
-use Rattle.wkb_check.specs.Bounded.{HasGeometry, HasGeometries, AreWhole, rings_in}
+use Rattle.wkb_check.specs.Bounded.{HasGeometry, HasGeometries}
 use Rattle.wkb_check.specs.Pieces.{count_of, leading, rings_of, size_of_rings, content_size, size, sizes, own_end}
 use Rattle.wkb_check.specs.Pieces.{piece_of}
 use Rattle.wkb_check.specs.Pieces.{pieces_of, pieces_of_rings, pieces_of_each, IsInside}
 use Rattle.wkb_check.specs.Tables.{entry_of, ring_entries, geometry_entries, member_entries, entry_count, entry_counts}
+use Rattle.wkb_check.specs.Tables.{rings_from, HasRingsFrom, size_of_rings_from, entries_of_rings_from}
 use Rattle.wkb_check.specs.declared.parts.Part.{Part}
 use Rattle.wkb_check.specs.declared.pieces.Piece.{Piece}
 use Rattle.wkb_check.proofs.Bodies.{RingsFirst, rings_first, wanted_by_any, rest_smaller}
@@ -292,15 +293,13 @@ leaf at index (node h words ss) _ e = absurd cc
 
 -- it has rings
 pub record HasRings (buf : List ℕ) (at index : ℕ) (s : Spelling) (t : Value) (p : Piece) : Type 0 where
-  pub whole : AreWhole p.order p.dimension p.count (drop (own_end p) buf)
-  pub are : rings_in p.order p.dimension p.count (drop (own_end p) buf) ≡ rings_of t
-  pub long : own_end p + size_of_rings p.dimension (rings_in p.order p.dimension p.count (drop (own_end p) buf))
-      ≡ at + size s t
+  pub whole : HasRingsFrom buf p (own_end p)
+  pub are : rings_from buf p (own_end p) ≡ rings_of t
+  pub long : own_end p + size_of_rings_from buf p (own_end p) ≡ at + size s t
   pub counts : entry_count s t ≡ 1 + p.count
-  pub entries : ring_entries p.dimension (order_byte p.order) (index + 1) (own_end p)
-      (rings_in p.order p.dimension p.count (drop (own_end p) buf)) ≡ inner_entries index at s t
-  pub pieces : pieces_of_rings p.order p.dimension (own_end p)
-      (rings_in p.order p.dimension p.count (drop (own_end p) buf)) ≡ inner_pieces at s t
+  pub entries : entries_of_rings_from buf p (record { index = index + 1; byte = own_end p })
+      ≡ inner_entries index at s t
+  pub pieces : pieces_of_rings p.order p.dimension (own_end p) (rings_from buf p (own_end p)) ≡ inner_pieces at s t
 
 pub has_rings : (buf : List ℕ) (at index : ℕ) (s : Spelling) (t : Value) (rest : List ℕ)
     → Begins (Spells s t) (drop at buf) rest → kind t ≡ 3

@@ -1,6 +1,6 @@
 -- Rings one after another, from their bytes into a table.
 use Rattle.std.proofs.Common.{◌≡◌, ℕ, zero, suc, ◌+◌, ◌*◌, ◌<◌, ◌≤◌, ◌^◌, List, length, drop}
-use Rattle.std.proofs.Common.{refl, sym, ap, ◌∙◌, subst, arith, set, length-drop, length-set, None}
+use Rattle.std.proofs.Common.{sym, ap, ◌∙◌, subst, arith, set, length-drop, length-set, None}
 use Rattle.std.proofs.lemmas.List.{drop-drop}
 use lib.Seq.{sets}
 use Rattle.wkb_geom.specs.declared.common.Dimension.{Dimension}
@@ -8,7 +8,8 @@ use Rattle.wkb_geom.specs.declared.common.Dimension.TheVariants.{Xy, Xyz, Xym, X
 use Rattle.wkb_geom.specs.declared.common.Endianness.{Endianness}
 use Rattle.wkb_geom.specs.Dimensions.{width}
 use Rattle.wkb_geom.specs.Numbers.{number, order_byte}
-use Rattle.wkb_geom.specs.Reading.{ring_in, items}
+use Rattle.wkb_geom.specs.Items.{length-items}
+use Rattle.wkb_geom.specs.Reading.{ring_in}
 use Rattle.wkb_geom.specs.Refusals.{ring_end}
 use Rattle.wkb_check.specs.declared.parts.Part.{Part}
 use Rattle.wkb_check.specs.Tables.{entry, entry_of, ring_place, ring_entries}
@@ -20,11 +21,6 @@ width_is_small Xy = omega arith
 width_is_small Xyz = omega arith
 width_is_small Xym = omega arith
 width_is_small Xyzm = omega arith
-
-pub items_many : {A : Type 0} (size : ℕ) (item : List ℕ → A) (n : ℕ) (input : List ℕ)
-    → length (items size item n input) ≡ n
-items_many size item zero input = refl
-items_many size item (suc n) input = ap suc (items_many size item n (drop size input))
 
 -- What is left to be put, at the next index and from the next byte on, makes of the table what all rings make of it.
 pub record RingsLeft (buf : List ℕ) (order : Endianness) (d : Dimension) (n index at : ℕ) (parts : List Part)
@@ -64,7 +60,7 @@ ring_next {buf = buf} {order = order} {d = d} {n = suc n} {m = m} {index = index
     let n-is : n ≡ m = omega (arith, e) in
     let many : ℕ = number order 4 bytes in
     let cs = ring_in order d bytes in
-    let cs-many : length cs ≡ many = items_many (8 * width d) _ many (drop 4 bytes) in
+    let cs-many : length cs ≡ many = length-items (8 * width d) _ many (drop 4 bytes) in
     let moved : next ≡ at + ring_end d many = omega (arith, ends) in
     let after : next ≡ at + ring_end d (length cs) = moved ∙ ap (λ k. at + ring_end d k) (sym cs-many) in
     let rest : drop (ring_end d many) bytes ≡ drop next buf = drop-drop (ring_end d many) at buf

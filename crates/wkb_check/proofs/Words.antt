@@ -1,9 +1,11 @@
 -- The words of a geometry's pieces: they widen a range as the words of its value do.
 use Rattle.std.proofs.Common.{◌≡◌, ℕ, zero, suc, ◌+◌, ◌*◌, List, [], ◌∷◌, ◌++◌, length, take, drop}
-use Rattle.std.proofs.Common.{Some, None, Option, true, false, Bool, is_some, nat_lt, if◌then◌else◌, refl, sym, ap, ◌∙◌}
-use Rattle.std.proofs.Common.{subst, arith, append-nil, append_assoc, ◌&&◌}
+use Rattle.std.proofs.Common.{Some, None, Option, true, false, is_some, nat_lt, if◌then◌else◌, refl, sym, ap, ◌∙◌}
+use Rattle.std.proofs.Common.{subst, arith, append-nil, append_assoc}
 use Rattle.std.proofs.lemmas.Bool.{cond-true, cond-false}
+use Rattle.std.specs.Cmp.{first_so, second_so}
 use Rattle.std.proofs.lemmas.List.{drop-drop}
+use Rattle.wkb_geom.specs.Items.{length-items}
 use Rattle.wkb_geom.specs.Numbers.{is_nan}
 use Rattle.wkb_geom.specs.Reading.{cause_alone}
 use Rattle.wkb_geom.specs.Refusals.{srid_size}
@@ -12,7 +14,7 @@ use Rattle.wkb_laws.specs.Prelude.{point, line_string, polygon, multi_point, mul
 use Rattle.wkb_laws.specs.Prelude.{collection}
 use Rattle.wkb_laws.specs.Prelude.{no_members, member, each, members, kind, dimension, Spelling, node, Spellings}
 use Rattle.wkb_laws.specs.Prelude.{no_spellings, spelling, SpellsBody, Spells, SpellsEach, Wanted, ring_end}
-use Rattle.wkb_laws.specs.Prelude.{coordinate, coordinates, ring_in, SpellsCoordinate, member_part}
+use Rattle.wkb_laws.specs.Prelude.{coordinates, ring_in, member_part}
 use Rattle.wkb_laws.proofs.Parts.{then_append, coordinate_read}
 use Rattle.wkb_laws.proofs.Complete.{ring_read}
 use Rattle.wkb_check.specs.declared.pieces.Piece.{Piece}
@@ -27,7 +29,6 @@ use Rattle.wkb_check.specs.Pieces.{leading, size, pieces_of, pieces_of_rings, pi
 use Rattle.wkb_check.specs.Pieces.{IsAhead, IsTaken}
 use Rattle.wkb_check.specs.declared.pieces.Pieces.{Pieces}
 use Rattle.wkb_check.proofs.Widening.{widened-append}
-use Rattle.wkb_check.proofs.Rings.{items_many}
 use Rattle.wkb_check.proofs.Placing.{cut, body_at, has_rings, own_piece, no_pieces, spelled_size}
 
 -- the words of a piece's own coordinates on an axis
@@ -62,7 +63,7 @@ ring_words a buf order d at (suc n) =
     let bytes = drop at buf in
     let many : ℕ = number order 4 bytes in
     let cs = ring_in order d bytes in
-    let cs-many : length cs ≡ many = items_many (8 * width d) _ many (drop 4 bytes) in
+    let cs-many : length cs ≡ many = length-items (8 * width d) _ many (drop 4 bytes) in
     let start : drop (at + 4) buf ≡ drop 4 bytes = ap (λ k. drop k buf) (omega arith) ∙ sym (drop-drop 4 at buf) in
     let next : ℕ = at + ring_end d (length cs) in
     let rest : drop next buf ≡ drop (ring_end d many) bytes =
@@ -75,15 +76,11 @@ ring_words a buf order d at (suc n) =
 
 -- ---- points
 
-both : (a b : Bool) → (a && b) ≡ true → (a ≡ true) × (b ≡ true)
-both true b e = (refl, e)
-both false b e = absurd cc
-
 no_number : (r : Range) (ws : List ℕ) (k : ℕ) → all_nan ws ≡ true → widened r (take 1 (drop k ws)) ≡ r
 no_number r [] zero e = refl
 no_number r [] (suc k) e = refl
-no_number r (w ∷ ws) zero e = cond-true (is_nan w) _ _ (both (is_nan w) (all_nan ws) e).0
-no_number r (w ∷ ws) (suc k) e = no_number r ws k (both (is_nan w) (all_nan ws) e).1
+no_number r (w ∷ ws) zero e = cond-true (is_nan w) _ _ (first_so (is_nan w) (all_nan ws) e)
+no_number r (w ∷ ws) (suc k) e = no_number r ws k (second_so (is_nan w) (all_nan ws) e)
 
 -- the words of an empty point widen no range
 empty_words : (r : Range) (p : Option ℕ) (ws : List ℕ) → all_nan ws ≡ true → widened r (word_at p ws) ≡ r

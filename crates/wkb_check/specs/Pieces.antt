@@ -1,9 +1,12 @@
 -- The pieces of a geometry in preorder: itself, and its rings and members at every level; where they are in its bytes,
 -- and what is still to come of them.
 use Rattle.std.specs.Prelude.{◌≡◌, ℕ, ◌+◌, ◌*◌, ◌<◌, ◌≤◌, List, [], ◌∷◌, ◌++◌, length, drop, Option, Some, None}
-use Rattle.std.specs.Prelude.{is_some}
+use Rattle.std.specs.Prelude.{is_some, false}
 use Rattle.std.specs.Prelude.{nat_lt, if◌then◌else◌}
 use Rattle.wkb_geom.specs.declared.common.Dimension.{Dimension}
+use Rattle.wkb_geom.specs.declared.common.Dimension.TheVariants.{Xy}
+use Rattle.wkb_geom.specs.declared.header.Head.{Head}
+use Rattle.wkb_geom.specs.Reading.{type_of}
 use Rattle.wkb_geom.specs.declared.common.Endianness.{Endianness}
 use Rattle.wkb_geom.specs.declared.code.TheConstants.{POLYGON}
 use Rattle.wkb_geom.specs.Dimensions.{width}
@@ -135,3 +138,7 @@ pub record IsInside (buf : List ℕ) (from to : ℕ) (p : Piece) : Type 0 where
 abbrev pub IsNext : Pieces → List Piece → Option Piece → Type 0
 IsNext now xs None = xs ≡ []
 IsNext now xs (Some p) = IsTaken now xs p
+
+-- the header of a geometry of this kind with an x and a y, whose code is the number of its kind and nothing else
+abbrev pub bare_head : Endianness → ℕ → Head
+bare_head order k = record { order = order; wkb_type = type_of k Xy; has_srid = false }

@@ -2,14 +2,18 @@
 use Rattle.std.specs.Prelude.{ℕ, suc, ◌+◌, ◌-◌, List, [], ◌∷◌, length, sum_by, Result, Ok, Err, ◌==◌, if◌then◌else◌}
 use Rattle.wkb_geom.specs.declared.code.WkbType.{WkbType}
 use Rattle.wkb_geom.specs.declared.error.Cause.{Cause}
+use Rattle.wkb_geom.specs.declared.common.Dimension.{Dimension}
+use Rattle.wkb_geom.specs.declared.header.Head.{Head}
 use Rattle.wkb_geom.specs.declared.header.Layout.{Layout}
 use Rattle.wkb_check.specs.declared.skip.MemberKind.{MemberKind}
 use Rattle.wkb_check.specs.declared.skip.MemberKind.TheVariants as members
 use Rattle.wkb_geom.specs.Fronts.{max_nesting}
 use Rattle.wkb_geom.specs.Reading.{ReadingOf, Item, ring_in, line_string_of, polygon_of, list_item, list_told}
 use Rattle.wkb_geom.specs.Reading.{multi_point_with, member_told, multi_line_string_told, multi_polygon_told}
-use Rattle.wkb_geom.specs.Reading.{kind_told, collection_within_told}
-unfoldable use Rattle.wkb_geom.specs.Reading.{repeated, geometry_told}
+use Rattle.wkb_geom.specs.Reading.{kind_told, collection_within_told, at_no_cost, ring_part_told, member_body_told}
+use Rattle.wkb_geom.specs.Reading.{type_kind, layout_of}
+unfoldable use Rattle.wkb_geom.specs.Reading.{repeated, geometry_told, point_told, line_string_told, polygon_told}
+unfoldable use Rattle.wkb_geom.specs.Reading.{multi_point_told}
 use Rattle.wkb_check.specs.Counted.{coordinate_count}
 
 -- parts that are begun, and coordinates that are passed
@@ -63,6 +67,44 @@ multi_told members.Point l bytes =
 multi_told members.LineString l bytes = multi_line_string_told with_left l bytes
 multi_told members.Polygon l bytes = multi_polygon_told with_left l bytes
 
+-- ---- walks, by what is passed
+
+abbrev pub point_walked : Layout → List ℕ → Tally → Walked
+point_walked l bytes = walked (coordinates_by 1) (at_no_cost (point_told with_left l bytes))
+
+abbrev pub line_string_walked : Layout → List ℕ → Tally → Walked
+line_string_walked l bytes = walked (coordinates_by 2) (line_string_told with_left l bytes)
+
+abbrev pub ring_walked : Layout → List ℕ → Tally → Walked
+ring_walked l bytes = walked (ring_coordinates l) (ring_part_told with_left l bytes)
+
+abbrev pub rings_walked : Layout → ℕ → List ℕ → Tally → Walked
+rings_walked l n bytes = walked (sum_by (ring_coordinates l)) (repeated n (ring_part_told with_left l) bytes)
+
+abbrev pub polygon_walked : Layout → List ℕ → Tally → Walked
+polygon_walked l bytes = walked (coordinates_by 3) (polygon_told with_left l bytes)
+
+-- a member of this kind behind its header, one with its header, and n of them
+abbrev pub member_body_walked : MemberKind → Layout → List ℕ → Tally → Walked
+member_body_walked kind l bytes =
+    let k = number_of_member kind in walked (coordinates_by k) (member_body_told with_left k l bytes)
+
+abbrev pub member_walked : MemberKind → Dimension → List ℕ → Tally → Walked
+member_walked kind d bytes =
+    let k = number_of_member kind in walked (coordinates_by k) (member_told with_left k d bytes)
+
+abbrev pub members_walked : MemberKind → Dimension → ℕ → List ℕ → Tally → Walked
+members_walked kind d n bytes =
+    let k = number_of_member kind in walked (sum_by (coordinates_by k)) (repeated n (member_told with_left k d) bytes)
+
+abbrev pub multi_point_walked : Layout → List ℕ → Tally → Walked
+multi_point_walked l bytes = walked item_coordinates (multi_point_told with_left l bytes)
+
+abbrev pub multi_walked : MemberKind → Layout → List ℕ → Tally → Walked
+multi_walked kind l bytes = walked item_coordinates (multi_told kind l bytes)
+
+-- ---- collections
+
 -- a geometry inside this many open collections
 abbrev pub inside_told : ℕ → List ℕ → ReadingOf (Cause × ℕ) Item
 inside_told around bytes = geometry_told with_left (max_nesting - around) bytes
@@ -70,6 +112,18 @@ inside_told around bytes = geometry_told with_left (max_nesting - around) bytes
 -- a geometry of this type, with room for this many open collections
 abbrev pub body_told : ℕ → WkbType → Layout → List ℕ → ReadingOf (Cause × ℕ) Item
 body_told room t l bytes = kind_told with_left (collection_within_told with_left room) t l bytes
+
+-- a geometry of this type behind its header, with room for this many open collections
+abbrev pub type_walked : ℕ → WkbType → Layout → List ℕ → Tally → Walked
+type_walked room t l bytes = walked (coordinates_by (type_kind t)) (body_told room t l bytes)
+
+-- a geometry behind its header, inside this many open collections
+abbrev pub body_walked : ℕ → Head → List ℕ → Tally → Walked
+body_walked around h bytes = type_walked (max_nesting - around) h.wkb_type (layout_of h) bytes
+
+-- the same with its header
+abbrev pub inside_walked : ℕ → List ℕ → Tally → Walked
+inside_walked around bytes = walked item_coordinates (inside_told around bytes)
 
 -- what follows a finished part: the members that the open collections still have, the innermost first
 abbrev pub ahead_of : List ℕ → Tally → List ℕ → Walked

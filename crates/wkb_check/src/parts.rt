@@ -1,13 +1,11 @@
 //! The table of a geometry's parts.
 
-ghost use Rattle.std.specs.Prelude.{◌≡◌, ◌+◌, ◌*◌, ◌≤◌, ◌<◌, ◌^◌, length, drop, List, ℕ};
+ghost use Rattle.std.specs.Prelude.{◌≡◌, ◌+◌, ◌≤◌, length, drop};
 ghost use lib.Seq.{sets};
 ghost use Rattle.wkb_geom.specs.Codes.{thousands};
 ghost use Rattle.wkb_geom.specs.Dimensions.{width};
-ghost use Rattle.wkb_geom.specs.Numbers.{order_byte};
-ghost use Rattle.wkb_check.specs.Bounded.{AreWhole, rings_in, HasGeometries};
-ghost use Rattle.wkb_check.specs.Pieces.{size_of_rings, sizes};
-ghost use Rattle.wkb_check.specs.Tables.{entry_of, ring_entries, member_entries, entry_counts, FitGeometries};
+ghost use Rattle.wkb_check.specs.Tables.{entry_of, HasRingsFrom, size_of_rings_from, entries_of_rings_from};
+ghost use Rattle.wkb_check.specs.Tables.{FitGeometries, OfGeometries, PutsGeometries};
 
 use crate::pieces::Piece;
 use wkb_geom::Dimension;
@@ -81,14 +79,11 @@ pub struct Place {
 
 /// Puts the entries of the rings of a polygon from this place on, and returns the place after them.
 pub fn put_rings(buf: &[u8], polygon: &Piece, parts: &mut [Part], start: Place) -> Place
-    requires whole { AreWhole polygon.now.order polygon.now.dimension polygon.now.count (drop start.byte buf.now) }
+    requires whole { HasRingsFrom buf.now polygon.now start.byte }
     requires room { start.index + polygon.now.count ≤ length parts.old }
-    ensures put { parts.new ≡ sets parts.old start.index
-        (ring_entries polygon.now.dimension (order_byte polygon.now.order) start.index start.byte
-        (rings_in polygon.now.order polygon.now.dimension polygon.now.count (drop start.byte buf.now))) }
+    ensures put { parts.new ≡ sets parts.old start.index (entries_of_rings_from buf.now polygon.now start) }
     ensures index { result.index ≡ start.index + polygon.now.count }
-    ensures byte { result.byte ≡ start.byte + size_of_rings polygon.now.dimension
-        (rings_in polygon.now.order polygon.now.dimension polygon.now.count (drop start.byte buf.now)) }
+    ensures byte { result.byte ≡ start.byte + size_of_rings_from buf.now polygon.now start.byte }
 {
     let mut at = start;
     for _ in 0..polygon.count {
@@ -107,12 +102,8 @@ pub fn put_rings(buf: &[u8], polygon: &Piece, parts: &mut [Part], start: Place) 
 #[cycle(table)]
 pub fn put_geometries(buf: &[u8], count: u32, parts: &mut [Part], start: Place) -> Place
     requires fit { FitGeometries count (drop start.byte buf.now) start.index (length parts.old) }
-    ensures put { (more : List ℕ) (all : HasGeometries count (drop start.byte buf.now) more) → parts.new
-        ≡ sets parts.old start.index (member_entries start.index start.byte all.spelled all.values) }
-    ensures index { (more : List ℕ) (all : HasGeometries count (drop start.byte buf.now) more)
-        → result.index ≡ start.index + entry_counts all.spelled all.values }
-    ensures byte { (more : List ℕ) (all : HasGeometries count (drop start.byte buf.now) more)
-        → result.byte ≡ start.byte + sizes all.spelled all.values }
+    ensures { OfGeometries count (drop start.byte buf.now)
+        (PutsGeometries parts.old parts.new start result) }
 {
     let mut at = start;
     for _ in 0..count {

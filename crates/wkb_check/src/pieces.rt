@@ -1,14 +1,17 @@
 //! The pieces of a geometry that is known to be there, in preorder: itself, and its rings and members at every level.
 
-ghost use Rattle.std.specs.Prelude.{◌≡◌, ◌+◌, ◌≤◌, ◌<◌, ◌^◌, length, drop, List, IfSome, nat_lt};
+ghost use Rattle.std.specs.Prelude.{◌≡◌, ◌+◌, ◌≤◌, ◌<◌, ◌^◌, length, drop, List, IfSome, None, Ok, nat_lt};
 ghost use Rattle.wkb_geom.specs.Numbers.{number};
 ghost use Rattle.wkb_check.specs.Bounded.{HasGeometry};
 ghost use Rattle.wkb_check.specs.Pieces.{own_end, piece_of, ring_piece, pieces_of, IsAhead, HasAhead, IsTaken, IsNext};
-ghost use Rattle.wkb_check.specs.Pieces.{IsInside};
+ghost use Rattle.wkb_check.specs.Pieces.{IsInside, bare_head};
+ghost use Rattle.wkb_geom.specs.Reading.{head_at};
+ghost use Rattle.wkb_geom.specs.declared.code.TheConstants.{POINT, GEOMETRY_COLLECTION};
 
-use crate::head::read;
+use crate::head::{bare_kind, read};
 use crate::range::rest_from;
 use wkb_geom::code::{POINT, POLYGON};
+use wkb_geom::header::MEMBER_HEADER_SIZE;
 use wkb_geom::words::{COUNT_SIZE, WORD_SIZE, u32_at};
 use wkb_geom::{Dimension, Endianness};
 
@@ -85,6 +88,32 @@ impl Piece {
         }
     }
 
+    /// The geometry that begins at this byte, whose header is bare, up to its rings or members.
+    #[inline(always)]
+    fn bare_at(bytes: &[u8], begin: usize, order: Endianness, kind: u32) -> Piece
+        requires here { HasGeometry (drop begin bytes.now) }
+        requires bare { head_at (drop begin bytes.now) ≡ Ok (bare_head order kind) }
+        requires least { POINT ≤ kind }
+        requires most { kind ≤ GEOMETRY_COLLECTION }
+        ensures { (g : HasGeometry (drop begin bytes.now)) → result ≡ piece_of begin g.spelled g.value }
+    {
+        let body = begin + MEMBER_HEADER_SIZE;
+        let (count, offset) = if kind == POINT {
+            (1, body)
+        } else {
+            (u32_at(bytes, body, order), body + COUNT_SIZE)
+        };
+        Piece {
+            kind,
+            dimension: Dimension::Xy,
+            order,
+            srid: None,
+            count,
+            begin,
+            offset,
+        }
+    }
+
     /// The ring that begins at this byte, of a polygon of this order and dimension.
     #[inline(always)]
     pub fn ring_at(bytes: &[u8], begin: usize, order: Endianness, dimension: Dimension) -> Piece
@@ -152,6 +181,29 @@ impl<'a> Pieces<'a> {
         piece
     }
 
+    /// Passes the geometry that comes next, up to its rings or members.
+    #[inline(always)]
+    fn pass_geometry(&mut self, piece: &Piece)
+        requires ahead { HasAhead self.old }
+        requires no_ring { self.old.rings ≡ 0 }
+        requires some { 0 < self.old.geometries }
+        requires piece { (g : HasGeometry (drop self.old.at self.old.bytes.now))
+            → piece.now ≡ piece_of self.old.at g.spelled g.value }
+        ensures steps { (xs : List Piece) → IsAhead self.old xs → IsTaken self.new xs piece.now }
+        ensures inside { IsInside self.old.bytes.now self.old.at self.new.at piece.now }
+        ensures same { self.new.bytes.now ≡ self.old.bytes.now }
+    {
+        self.geometries -= 1;
+        self.at = piece.end();
+        if piece.kind == POLYGON {
+            self.rings = piece.count;
+            self.order = piece.order;
+            self.dimension = piece.dimension;
+        } else if piece.kind > POLYGON {
+            self.geometries += piece.count as usize;
+        }
+    }
+
     /// The next piece, which is a geometry.
     #[inline(always)]
     fn next_geometry(&mut self) -> Piece
@@ -163,16 +215,29 @@ impl<'a> Pieces<'a> {
         ensures same { self.new.bytes.now ≡ self.old.bytes.now }
     {
         let piece = Piece::geometry_at(self.bytes, self.at);
-        self.geometries -= 1;
-        self.at = piece.end();
-        if piece.kind == POLYGON {
-            self.rings = piece.count;
-            self.order = piece.order;
-            self.dimension = piece.dimension;
-        } else if piece.kind > POLYGON {
-            self.geometries += piece.count as usize;
-        }
+        self.pass_geometry(&piece);
         piece
+    }
+
+    /// The next piece, if it is a geometry in this order whose code is the number of its kind and nothing else. `next`
+    /// takes it, too: this way is short where the order is a constant.
+    #[tactic(auto, using(crate::proofs::Placing::onward))]
+    #[inline(always)]
+    pub fn next_bare(&mut self, order: Endianness) -> Option<Piece>
+        requires ahead { HasAhead self.old }
+        ensures steps { IfSome result (λ p. (xs : List Piece) → IsAhead self.old xs → IsTaken self.new xs p) }
+        ensures inside { IfSome result (λ p. IsInside self.old.bytes.now self.old.at self.new.at p) }
+        ensures further { IfSome result (λ p. self.old.at < self.new.at) }
+        ensures same { self.new.bytes.now ≡ self.old.bytes.now }
+        ensures stays { result ≡ None → self.new ≡ self.old }
+    {
+        if self.rings > 0 || self.geometries == 0 {
+            return None;
+        }
+        let kind = bare_kind(rest_from(self.bytes, self.at), order)?;
+        let piece = Piece::bare_at(self.bytes, self.at, order, kind);
+        self.pass_geometry(&piece);
+        Some(piece)
     }
 
     /// The next piece, if one is to come.

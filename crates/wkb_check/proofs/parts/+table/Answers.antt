@@ -1,9 +1,6 @@
-use Rattle.std.proofs.Common.{◌+◌, drop, refl, sym, ap, ◌∙◌, arith}
+use Rattle.std.proofs.Common.{◌+◌, refl, sym, ap, ◌∙◌, arith}
 use lib.Seq.{sets}
-use Rattle.wkb_geom.specs.Numbers.{order_byte}
-use Rattle.wkb_check.specs.Bounded.{rings_in}
-use Rattle.wkb_check.specs.Pieces.{size_of_rings}
-use Rattle.wkb_check.specs.Tables.{ring_entries}
+use Rattle.wkb_check.specs.Tables.{entries_of_rings_from, size_of_rings_from}
 use Rattle.wkb_check.specs.declared.parts.Place.{Place}
 use Rattle.wkb_check.proofs.Filling.{left_first, left_next, here, none_left}
 use Rattle.wkb_check.proofs.Placing.{geometry_inside, onward, leaf_of, rings_inside}
@@ -98,8 +95,8 @@ loop-preserved t c = λ more all.
             put =
                 w.parts-is ∙ w.put_rings.ensures.put
                 ∙ (λ i. sets c.loop.parts (c.loop.at.index + 1)
-                (ring_entries q.dimension (order_byte q.order) (c.loop.at.index + 1) (c.end.ensures i)
-                (rings_in q.order q.dimension q.count (drop (c.end.ensures i) c.args.buf.now))))
+                (entries_of_rings_from c.args.buf.now q
+                (record { index = c.loop.at.index + 1; byte = c.end.ensures i })))
                 ∙ ap (sets c.loop.parts (c.loop.at.index + 1)) r.entries;
             next_is = omega (arith, ap (λ (p : Place). p.index) w.next-is, w.put_rings.ensures.index, r.counts);
             to_is =
@@ -109,8 +106,7 @@ loop-preserved t c = λ more all.
                   w.put_rings.ensures.byte,
                   r.long,
                   c.end.ensures,
-                  ap (λ k. size_of_rings q.dimension (rings_in q.order q.dimension q.count (drop k c.args.buf.now)))
-                      c.end.ensures,
+                  ap (size_of_rings_from c.args.buf.now q) c.end.ensures,
                 );
           }
       | else-has_coordinates+else-piece-eq-POLYGON w ↦
@@ -119,35 +115,30 @@ loop-preserved t c = λ more all.
           c.end.ensures
           (members_inside c.args.buf.now c.loop.at.byte c.loop.at.index g q is
           (sym c.has_coordinates.ensures ∙ w.if-has_coordinates.false) w.if-piece-eq-POLYGON.false) in
+          let puts = w.put_geometries.ensures g.rest m.all in
           record {
             put =
-                w.parts-is ∙ w.put_geometries.ensures.put g.rest m.all
+                w.parts-is ∙ puts.put
                 ∙ ap (sets c.loop.parts (c.loop.at.index + 1)) m.entries;
             next_is =
                 omega (
                   arith,
                   ap (λ (p : Place). p.index) w.next-is,
-                  w.put_geometries.ensures.index g.rest m.all,
+                  puts.index,
                   m.counts,
                 );
             to_is =
-                omega (arith, ap (λ (p : Place). p.byte) w.next-is, w.put_geometries.ensures.byte g.rest m.all, m.long);
+                omega (arith, ap (λ (p : Place). p.byte) w.next-is, puts.byte, m.long);
           }
     ])
     c.of.ensures)
 
-pub returns-clause-put : goal.returns-clause-put
-returns-clause-put t c = λ more all.
+pub returns : goal.returns
+returns t c = λ more all.
     let l = c.loop.invariant more all in
     let none = none_left _ _ _ l.to_come (omega (arith, c.loop-test.false)) in
-    ap (sets c.loop.parts c.loop.at.index) (sym (none.2 c.loop.at.index c.loop.at.byte)) ∙ l.put
-
-pub returns-clause-index : goal.returns-clause-index
-returns-clause-index t c = λ more all.
-    let l = c.loop.invariant more all in
-    omega (arith, l.indices, (none_left _ _ _ l.to_come (omega (arith, c.loop-test.false))).0)
-
-pub returns-clause-byte : goal.returns-clause-byte
-returns-clause-byte t c = λ more all.
-    let l = c.loop.invariant more all in
-    omega (arith, l.bytes, (none_left _ _ _ l.to_come (omega (arith, c.loop-test.false))).1)
+    record {
+      put = ap (sets c.loop.parts c.loop.at.index) (sym (none.2 c.loop.at.index c.loop.at.byte)) ∙ l.put;
+      index = omega (arith, l.indices, none.0);
+      byte = omega (arith, l.bytes, none.1);
+    }

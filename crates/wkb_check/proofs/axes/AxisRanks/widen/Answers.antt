@@ -2,7 +2,8 @@ use Rattle.std.proofs.Common.{arith, ap, ◌∙◌, refl, Some}
 use Rattle.wkb_geom.specs.Reading.{coordinates}
 use Rattle.wkb_check.specs.Ranges.{widened, range_by}
 use Rattle.wkb_check.specs.Ordinates.{x_axis, y_axis, z_axis, m_axis, words_of_each, word_at}
-use Rattle.wkb_check.proofs.Widening.{ordinates_are, two_words, few}
+use Rattle.wkb_laws.proofs.Lengths.{width-least}
+use Rattle.wkb_check.proofs.Widening.{ordinates_are, few}
 use Rattle.wkb_check.proofs.axes.AxisRanks.widen.Goals as goal
 
 pub widen_plane-requires-clause-room_of_x : goal.widen_plane-requires-clause-room_of_x
@@ -23,11 +24,11 @@ pub returns : goal.returns
 returns c x_axis =
     c.widen_plane.ensures.x
     ∙ ap (widened (range_by c.args.self.now.x)) (ordinates_are c.args.order c.args.dimension _ (Some 0) 0 c.args.count
-    c.args.bytes.now refl (omega (arith, two_words c.args.dimension)) c.width-size.ensures)
+    c.args.bytes.now refl (omega (arith, width-least c.args.dimension)) c.width-size.ensures)
 returns c y_axis =
     c.widen_plane.ensures.y
     ∙ ap (widened (range_by c.args.self.now.y)) (ordinates_are c.args.order c.args.dimension _ (Some 1) 1 c.args.count
-    c.args.bytes.now refl (omega (arith, two_words c.args.dimension)) c.width-size.ensures)
+    c.args.bytes.now refl (omega (arith, width-least c.args.dimension)) c.width-size.ensures)
 returns c z_axis =
     c.widen_at.ensures
     ∙ ap (λ p. widened (range_by c.args.self.now.z) (words_of_each (word_at p)
