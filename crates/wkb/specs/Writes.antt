@@ -4,6 +4,6 @@ pub use Rattle.wkb_write.specs.Answers.{WritesTo, IsInFront, OutgrowsSlice, IsVe
 pub use Rattle.wkb_write.specs.Measures.{Reports}
 pub use Rattle.wkb_sink.specs.Sinks.{FailsBy, TellsFailure, IsIOError, IsOwnError, IsWritten, IsBegun, Puts}
 pub use Rattle.wkb_sink.specs.declared.options.WriteOptions.{WriteOptions}
-pub use Rattle.wkb_sink.specs.Sinks.{put_fails, KnownOfFailure}
+pub use Rattle.wkb_sink.specs.Sinks.{put_fails, put_whole, KnownOfFailure, IsShortOfMemory}
 pub use Rattle.wkb_sink.specs.declared.sink.Sink.{Ghosts}
 pub use Rattle.wkb_sink.specs.Held.{Outward, Growing, Lent}

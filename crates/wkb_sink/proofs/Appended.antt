@@ -1,7 +1,9 @@
 -- Encodings that are appended to a sink one after another.
 use Rattle.wkb_sink.proofs.Prelude.{◌≡◌, ℕ, ◌≤◌, List, ◌++◌, length, take, drop, Option, sym, ap, ◌∙◌, append_assoc}
 use Rattle.wkb_sink.proofs.Prelude.{arith, length-drop, take_all, take-append-drop, ◌-◌, Appends, IsWritten}
-use Rattle.std.proofs.KnownBytes.{Appends-trans}
+use Rattle.std.proofs.KnownBytes.{Appends-trans, Appends-nil}
+
+pub ruleset nothing_appended = (Appends-nil)
 
 pub written_more : {a b c : Option (List ℕ)} {s : List ℕ} (t : List ℕ) → IsWritten a b s → Appends b c t
     → IsWritten a c (s ++ t)

@@ -1,6 +1,6 @@
 -- Encodings that follow one another in a block.
 use Rattle.wkb_sink.proofs.Prelude.{ℕ, List, [], ◌++◌, sym, ap, ◌∙◌, append_assoc, append-nil, ◌≡◌, ◌+◌, refl}
-use Rattle.wkb_sink.proofs.Prelude.{arith, length, length-append, subst, take}
+use Rattle.wkb_sink.proofs.Prelude.{arith, length-append, subst, take}
 use Rattle.wkb_sink.proofs.Prelude.{replicate, replicate_more, flat_map-append, Endianness, number_bytes}
 use Rattle.wkb_sink.proofs.Prelude.{words_encoding, LaysAt}
 

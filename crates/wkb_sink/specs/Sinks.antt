@@ -1,8 +1,8 @@
 -- What was appended to a sink, where it tells its bytes, and whether it has failed.
-use Rattle.std.specs.Prelude.{◌≡◌, ◌==◌, ◌&&◌, nat_lt, ℕ, ◌<◌, Bool, true, false, List, ◌++◌, length, Option, Result}
-use Rattle.std.specs.Prelude.{Some, None, Ok, Err, MatchResult}
+use Rattle.std.specs.Prelude.{◌≡◌, ◌==◌, ◌&&◌, nat_lt, ℕ, ◌<◌, Bool, true, false, List, [], ◌++◌, length, Option}
+use Rattle.std.specs.Prelude.{Some, None, Result, Ok, Err, MatchResult}
 use Rattle.std.specs.declared.io.Error.{Error}
-use Rattle.std.specs.declared.io.ErrorKind.TheVariants.{WriteZero}
+use Rattle.std.specs.declared.io.ErrorKind.TheVariants.{OutOfMemory, WriteZero}
 use Rattle.std.specs.IoError.{error_kind}
 use Rattle.std.specs.Io.KnownBytes.{Appends}
 use Rattle.wkb_geom.specs.declared.error.WkbError.{WkbError}
@@ -13,6 +13,11 @@ abbrev pub put_fails : {E : Type 0} → ℕ → Result ℕ E → Bool
 put_fails n (Ok k) = k == 0 && nat_lt 0 n
 put_fails n (Err e) = true
 
+-- what was appended of bytes that are put as a whole, or not at all
+abbrev pub put_whole : {E : Type 0} → Result Bool E → List ℕ → List ℕ
+put_whole (Ok true) whole = whole
+put_whole _ whole = []
+
 -- a put of n bytes failed by this error, or by none, as nothing was taken of some bytes
 abbrev pub FailsBy : ℕ → Result ℕ Error → Option Error → Type 0
 FailsBy n r (Some e) = r ≡ Err e
@@ -21,6 +26,10 @@ FailsBy n r None = (r ≡ Ok 0) × (0 < n)
 -- this is known of each error by which a put of n bytes failed
 abbrev pub KnownOfFailure : ℕ → Result ℕ Error → (Option Error → Type 0) → Type 0
 KnownOfFailure n r known = (failure : Option Error) → FailsBy n r failure → known failure
+
+-- this is known of each error that reports a failed allocation
+abbrev pub IsShortOfMemory : (Option Error → Type 0) → Type 0
+IsShortOfMemory known = (e : Error) → error_kind e ≡ OutOfMemory → known (Some e)
 
 -- the error reports how the sink failed: it is the sink's own, or says that nothing was taken
 abbrev pub TellsFailure : WkbError → Option Error → Type 0

@@ -14,5 +14,5 @@ mod store;
 
 pub use buffered::{Buffered, Stopped};
 pub use options::WriteOptions;
-pub use sink::{Out, Sink, SliceSink, VecSink};
+pub use sink::{LayWhole, MAX_IN_PLACE, Out, Sink, SliceSink, VecSink};
 pub use store::{store_word, store_words, u32_bytes};

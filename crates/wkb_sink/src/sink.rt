@@ -2,19 +2,38 @@
 
 ghost use Rattle.std.specs.Prelude.{◌≡◌, ◌||◌, ◌+◌, ◌≤◌, ◌-◌, min, ℕ, Bool, false, List, []};
 ghost use Rattle.std.specs.Prelude.{length, take, Option, None, Some, IsOk, IfOk, IsSomeAnd};
-ghost use Rattle.std.specs.Prelude.{vec_capacity, ⊤};
+ghost use Rattle.std.specs.Prelude.{vec_capacity, ⊤, true, is_err, IfErr};
 ghost use Rattle.std.specs.declared.io.Error.{Error};
 ghost use Rattle.std.specs.declared.io.ErrorKind.TheVariants.{OutOfMemory};
 ghost use Rattle.std.specs.IoError.{error_kind};
 ghost use Rattle.std.specs.Io.{WritesAtMost};
-ghost use Rattle.std.specs.Io.KnownBytes.{WriteAppends};
+ghost use Rattle.std.specs.Io.KnownBytes.{Appends, WriteAppends};
 ghost use Rattle.wkb_sink.specs.Held.{Outward, Growing, Lent};
-ghost use Rattle.wkb_sink.specs.Sinks.{put_fails, KnownOfFailure};
+ghost use Rattle.wkb_sink.specs.Sinks.{put_fails, put_whole, KnownOfFailure, IsShortOfMemory};
 
 use std::alloc::{AllocError, Global};
 use std::io;
 use std::io::Write;
 use std::marker::Model;
+
+/// The most bytes that a `VecSink` lays in place. Their place is zeroed first, and this takes longer than blocks do
+/// where it doesn't fit the processor's caches (docs/DECISIONS.md, D8).
+pub const MAX_IN_PLACE: usize = 1 << 18;
+
+/// Bytes that can be laid in a slice of their length, such as a geometry's encoding (`Sink::put_in_place`).
+pub trait LayWhole {
+    // The bytes.
+    ghost bytes: { Self → List ℕ };
+
+    /// How many there are.
+    fn size(&self) -> usize
+        ensures { result ≡ length (bytes self.now) };
+
+    /// Lays them in a slice of this size.
+    fn lay_whole(&self, slice: &mut [u8])
+        requires size { length slice.old ≡ length (bytes self.now) }
+        ensures bytes { slice.new ≡ bytes self.now };
+}
 
 /// A place for bytes, which may take a part of what it is given. This crate has three: `VecSink`, `SliceSink`, and
 /// `Out` over any `Write`.
@@ -27,7 +46,7 @@ use std::marker::Model;
 /// ```
 ///
 /// A type of your own says what `has_failed` is and meets the clauses of `put`. It may leave out `appended`, which then
-/// promises nothing of bytes, and `fails_by`, which then promises nothing of errors.
+/// promises nothing of bytes, `fails_by`, which then promises nothing of errors, and `put_in_place`.
 pub trait Sink {
     // The bytes that were appended, where the sink tells them.
     ghost appended: { Self → Option (List ℕ) } = { λ _. None };
@@ -46,6 +65,21 @@ pub trait Sink {
         ensures failure { has_failed self.new
             ≡ (has_failed self.old || put_fails (length bytes.now) result) }
         ensures cause { KnownOfFailure (length bytes.now) result (fails_by self.new) };
+
+    /// Appends all of the bytes by laying them in the sink's own memory: `Ok(true)`. By default, and where a sink has
+    /// no memory to lend, it appends nothing and stays as it was: `Ok(false)`. Writers then put block after block. An
+    /// error means that an allocation failed: then nothing was appended, and the sink has failed.
+    #[inline(always)]
+    #[tactic(auto, using(crate::proofs::Appended::nothing_appended))]
+    fn put_in_place<L: LayWhole>(&mut self, whole: &L) -> Result<bool, AllocError>
+        ensures bytes { Appends (appended self.old) (appended self.new)
+            (put_whole result (L.bytes whole.now)) }
+        ensures failure { has_failed self.new ≡ (has_failed self.old || is_err result) }
+        ensures cause { IfErr result (λ _. IsShortOfMemory (fails_by self.new)) }
+    {
+        let _ = whole;
+        Ok(false)
+    }
 
     /// Whether a put has failed. Then at most a prefix was appended.
     fn failed(&self) -> bool
@@ -190,6 +224,34 @@ impl Sink for VecSink {
         }
     }
 
+    #[inline(always)]
+    fn put_in_place<L: LayWhole>(&mut self, whole: &L) -> Result<bool, AllocError>
+        ensures bytes { Appends (Some self.old.bytes) (Some self.new.bytes)
+            (put_whole result (L.bytes whole.now)) }
+        ensures failure { self.new.failed ≡ (self.old.failed || is_err result) }
+        ensures whole { length (L.bytes whole.now) ≤ MAX_IN_PLACE
+            → IfOk result (λ laid. laid ≡ true) }
+        ensures room { length self.old.bytes + length (L.bytes whole.now) ≤ self.old.capacity
+            → IsOk result }
+        ensures capacity { self.old.capacity ≤ self.new.capacity }
+    {
+        let size = whole.size();
+        if size > MAX_IN_PLACE {
+            return Ok(false);
+        }
+        let len = self.bytes.len();
+        match self.bytes.resize(len + size, 0) {
+            Ok(()) => {
+                whole.lay_whole(&mut self.bytes[len..]);
+                Ok(true)
+            }
+            Err(e) => {
+                self.has_failed = true;
+                Err(e)
+            }
+        }
+    }
+
     fn failed(&self) -> bool {
         self.has_failed
     }
@@ -268,6 +330,27 @@ impl Sink for SliceSink<'_> {
         self.len += n;
         self.has_failed |= n == 0 && !bytes.is_empty();
         Ok(n)
+    }
+
+    #[inline(always)]
+    fn put_in_place<L: LayWhole>(&mut self, whole: &L) -> Result<bool, AllocError>
+        ensures bytes { Appends (Some self.old.bytes) (Some self.new.bytes)
+            (put_whole result (L.bytes whole.now)) }
+        ensures failure { self.new.failed ≡ (self.old.failed || is_err result) }
+        ensures cause { IfErr result (λ _. IsShortOfMemory (λ failure. failure ≡ None)) }
+        ensures ok { IsOk result }
+        ensures whole { length (L.bytes whole.now) ≤ self.old.room
+            → IfOk result (λ laid. laid ≡ true) }
+        ensures room { self.new.room
+            ≡ self.old.room - length (put_whole result (L.bytes whole.now)) }
+    {
+        let size = whole.size();
+        let fits = size <= self.slice.len() - self.len;
+        if fits {
+            whole.lay_whole(&mut self.slice[self.len..self.len + size]);
+            self.len += size;
+        }
+        Ok(fits)
     }
 
     fn failed(&self) -> bool {

@@ -13,7 +13,9 @@ use Rattle.wkb_write.proofs.Faults.{reports_first, reports_rest}
 use Rattle.wkb_write.proofs.Whole.{header_within}
 use Rattle.wkb_laws.proofs.EncodingSizes.{encoding_has_size_lem}
 use Rattle.wkb_write.specs.Answers.{IsSizeOf}
+use Rattle.wkb_write.specs.Measures.{IsMeasured}
 use Rattle.wkb_sink.proofs.Laid.{exits}
+use Rattle.wkb_sink.specs.Options.{header_length}
 use Rattle.wkb_geom.specs.declared.error.Fault.TheVariants as found
 
 reports_size : (n : ℕ) → 2 ^ 64 ≤ n → Finds found.Size (size_fault n)
@@ -25,7 +27,7 @@ unfolding size_fault
 size_without_fault n h = grind (arith, nat_tests)
 
 -- the encoding of a geometry without a fault is as long as measured, and four bytes longer where it has an SRID
-measured_length : (order : Endianness) (form : Form) (g : Geometry) → IsForm form → IsGeometry g → fault g ≡ None
+pub measured_length : (order : Endianness) (form : Form) (g : Geometry) → IsForm form → IsGeometry g → fault g ≡ None
     → length (encoding order form g) ≡ byte_size g + srid_size (is_some (form_srid form))
 measured_length order form g fits lawful none =
     encoding_has_size_lem order form g fits lawful none ∙ ap (λ n. byte_size g + n) (of_flag (is_some (form_srid form)))
@@ -44,27 +46,33 @@ no_room_for options g e r is short fits lawful none many =
     exits e r is (no_room _ short (omega (arith, many, long)))
 
 -- a fault is what the size refuses
-pub size_refused : (e : Fault) (form : Form) (g : Geometry) (r : Result ℕ Fault) → IsErrAnd r (λ y. y ≡ e)
-    → Finds e (fault g) → IsSized form g r
-size_refused e form g r exit told = λ order.
+pub size_refused : {read told : Result ℕ Fault} (e : Fault) (form : Form) (g : Geometry) (r : Result ℕ Fault)
+    → IsErrAnd r (λ y. y ≡ e) → IsMeasured g told → read ≡ told → read ≡ Err e → IsSized form g r
+unfolding IsMeasured
+size_refused e form g r exit measured same was = λ order.
     let p = err_from_is_err_and r exit in
     let P : Fault → Type 0 = λ y. Finds y (refusal order form g) in
-    rw p.1 (subst P (sym p.2) (reports_first e (fault g) _ told))
+    rw p.1 (subst P (sym p.2) (reports_first e (fault g) _ (rw (sym same ∙ was) at measured)))
 
 -- the size that was measured, with that of the header, is that of the encoding, or past `usize`
-module _ {s : ℕ} (form : Form) (g : Geometry) (srid_fits : IsForm form) (lawful : IsGeometry g)
-    (m : Measures (fault g) (bytes_behind_header g) (Ok s)) where
-  pub size_told : (total : ℕ) → total ≡ s + (5 + srid_size (is_some (form_srid form))) → total < 2 ^ 64
-      → IsSized form g (Ok total)
+module _ {s : ℕ} {read told : Result ℕ Fault} (form : Form) (g : Geometry) (srid_fits : IsForm form)
+    (lawful : IsGeometry g) (measured : IsMeasured g told) (same : read ≡ told) (was : read ≡ Ok s) where
+  m : Measures (fault g) (bytes_behind_header g) (Ok s)
+  unfolding IsMeasured
+  m = rw (sym same ∙ was) at measured
+
+  pub size_told : (total : ℕ) → total ≡ s + header_length form → total < 2 ^ 64 → IsSized form g (Ok total)
   size_told total sum fits = λ order.
       let whole = measured_length order form g srid_fits lawful m.0 in
       let exact : total ≡ length (encoding order form g) = omega (arith, m.1, sum, fits, whole, header_within g) in
       (none_both (fault g) _ m.0 (size_without_fault _ (subst (λ n. n < 2 ^ 64) exact fits)), exact)
 
-  pub size_past : 2 ^ 64 ≤ s + (5 + srid_size (is_some (form_srid form))) → IsSized form g (Err found.Size)
+  pub size_past : 2 ^ 64 ≤ s + header_length form → IsSized form g (Err found.Size)
   size_past past = λ order.
       let whole = measured_length order form g srid_fits lawful m.0 in
       reports_rest _ (fault g) _ m.0 (reports_size _ (omega (arith, m.1, past, whole, header_within g)))
+
+pub ruleset size_laws = (size_refused, size_past)
 
 -- the error reports the fault that was found
 pub size_answered : (form : Form) (g : Geometry) (f : Fault) (r : Result ℕ WkbError) → IsErrAnd r (λ e. TellsFault e f)

@@ -1,14 +1,17 @@
 -- What a writer returns, from what the size under its options returned.
 use Rattle.wkb_write.proofs.Prelude.{◌≡◌, ℕ, ◌<◌, ◌^◌, Bool, List, length, Option, None, Result, Ok, Err, subst, ◌⊎◌}
 use Rattle.wkb_write.proofs.Prelude.{IsErrAnd, Some, Form, WkbError, TellsFault, Geometry, IsGeometry, fault, IsForm}
-use Rattle.wkb_write.proofs.Prelude.{none_first, none_both, Fault, WriteOptions, encoding_of, IsSized}
+use Rattle.wkb_write.proofs.Prelude.{[], arith, refl, none_first, none_both, Fault, WriteOptions, encoding_of, IsSized}
 use Rattle.std.proofs.Common.{inr}
 use Rattle.std.specs.Prelude.{IfErr, IfOk, MatchResult}
 use Rattle.wkb_geom.specs.declared.common.Endianness.TheVariants.{LittleEndian}
 use Rattle.wkb_laws.proofs.Rewritings.{encoding_spells_lem}
-use Rattle.wkb_write.proofs.Sizes.{size_without_fault}
+use Rattle.wkb_write.proofs.Sizes.{measured_length, size_without_fault}
+use Rattle.wkb_write.proofs.Whole.{header_within}
 use Rattle.std.specs.declared.io.Error.{Error}
-use Rattle.wkb_sink.specs.Sinks.{IsIOError, IsOwnError, Puts, PutsOrStops, TellsFailure}
+use Rattle.std.proofs.KnownBytes.{Appends-trans}
+use Rattle.std.specs.Io.KnownBytes.{Appends}
+use Rattle.wkb_sink.specs.Sinks.{IsBegun, IsIOError, IsOwnError, Puts, PutsOrStops, TellsFailure}
 use Rattle.wkb_write.specs.Answers.{refusal_of, IsSpelledAs, OutgrowsSlice, Writes}
 use Rattle.wkb_write.specs.Measures.{Reports}
 use Rattle.wkb_geom.specs.declared.error.WkbError.TheVariants as errors
@@ -17,6 +20,14 @@ use Rattle.wkb_geom.specs.declared.error.WkbError.TheVariants as errors
 pub no_fault : (form : Form) (g : Geometry) (r : Result ℕ Fault) → IsSized form g r → IfOk r (λ n. fault g ≡ None)
 no_fault form g (Ok n) size = none_first (fault g) _ (size LittleEndian).0
 no_fault form g (Err e) size = tt
+
+-- an encoding has some bytes
+pub some_bytes : (form : Form) (g : Geometry) (r : Result ℕ Fault) → IsForm form → IsGeometry g → IsSized form g r
+    → IfOk r (λ n. 0 < n)
+some_bytes form g (Ok n) fits lawful size =
+    let long = measured_length LittleEndian form g fits lawful (none_first (fault g) _ (size LittleEndian).0) in
+    omega (arith, (size LittleEndian).1, long, header_within g)
+some_bytes form g (Err e) fits lawful size = tt
 
 -- what has a fault is refused, and nothing is put
 pub refusal_writes : {o : WriteOptions} {g : Geometry} {f : Fault} {r : Result (Unit {0}) WkbError} {untouched : Type 0}
@@ -54,6 +65,31 @@ pub encoding_outgrows : (o : WriteOptions) (g : Geometry) (bytes old : List ℕ)
 encoding_outgrows o g bytes old (Ok n) is none short taken = tt
 encoding_outgrows o g bytes old (Err e) is none short taken =
     inr (record { writable = none; short = subst (λ t. length old < length t) is short; taken = taken })
+
+-- what was put after nothing was appended
+pub puts_behind : (old mid new : Option (List ℕ)) (failed : Bool) (fails_by : Option Error → Type 0) (t : List ℕ)
+    (put : Result (Unit {0}) (Option Error)) → Appends old mid [] → PutsOrStops mid new failed fails_by t put
+    → PutsOrStops old new failed fails_by t put
+puts_behind old mid new failed fails_by t (Ok u) kept p =
+    (record { appended = Appends-trans _ _ _ _ _ kept p.0.appended }, p.1)
+puts_behind old mid new failed fails_by t (Err failure) kept p =
+    let begun = p.0 in (
+      record {
+        front = begun.front;
+        rest = begun.rest;
+        whole = begun.whole;
+        left = begun.left;
+        appended = Appends-trans _ _ _ _ _ kept begun.appended;
+      },
+      p.1,
+      p.2,
+    )
+
+-- nothing was put of some bytes
+pub puts_nothing : {old new : Option (List ℕ)} {t : List ℕ} → Appends old new [] → 0 < length t → IsBegun old new t
+puts_nothing {t = t} kept some = record { front = []; rest = t; whole = refl; left = some; appended = kept }
+
+pub ruleset put_laws = (puts_behind, puts_nothing)
 
 is_io : (e : WkbError) (failure : Option Error) → TellsFailure e failure → IsIOError e
 is_io e (Some own) is = rw is tt

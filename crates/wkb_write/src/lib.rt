@@ -8,9 +8,10 @@
 //! A file for each kind says what it means, how it is measured and put, and has its size and its writer. What they
 //! share: `writable` (the trait of kinds, and the way from it to a writer), `items` (the kinds of items after a count,
 //! and their two loops), `nested` (the recursion of collections, and the trait of what it knows of a geometry),
-//! `measure`, and `slice` (an encoding at the front of a slice).
+//! `measure`, `checked` (a measured geometry as bytes for a sink), and `slice` (an encoding at the front of a slice).
 #![tactic(auto)]
 
+mod checked;
 mod common;
 mod geometry;
 mod geometry_collection;
@@ -44,4 +45,4 @@ pub use polygon::{polygon_wkb_size, write_polygon};
 pub use polygons::{MadePolygons, made_polygons_wkb_size_with, write_made_polygons_to_slice};
 pub use rect::{rect_wkb_size, write_rect};
 pub use triangle::{triangle_wkb_size, write_triangle};
-pub use wkb_sink::{Out, Sink, SliceSink, VecSink, WriteOptions};
+pub use wkb_sink::{LayWhole, MAX_IN_PLACE, Out, Sink, SliceSink, VecSink, WriteOptions};

@@ -7,15 +7,17 @@ ghost use Rattle.wkb_write.specs.Prelude.{IsForm, IsMeasured, IsSized, IsSizeOf,
 ghost use Rattle.wkb_write.specs.Prelude.{Lays, WritesTo};
 ghost use Rattle.wkb_write.specs.Prelude.{PutsTo, TellsFailure, MIN_BLOCK, result_of};
 
+use crate::checked::Checked;
 use crate::measure::{Measured, form_fits, refuse, size_of, whole_size};
 use crate::{Sink, VecSink, WriteOptions};
 use std::alloc::{AllocError, Global};
 use std::io;
 use std::io::ErrorKind;
+use std::marker::PhantomData;
 use wkb_geom::{Fault, Form, WkbError, WkbResult};
 use wkb_sink::block::MIN_BLOCK;
 use wkb_sink::buffered::put_all;
-use wkb_sink::{Buffered, Stopped};
+use wkb_sink::{Buffered, MAX_IN_PLACE, Stopped};
 
 /// The result of putting: nothing, or the sink stopped.
 pub type Put = Result<(), Stopped>;
@@ -42,10 +44,6 @@ pub trait Writable<G> {
 // Zeroing a block takes time in proportion to its size, so short encodings get the smallest one
 // (docs/DECISIONS.md, D8).
 const LARGE_BLOCK: usize = 1024;
-
-// The longest encoding that is laid in its vector. The vector is zeroed first, and this takes longer than blocks do
-// where it doesn't fit the processor's caches.
-const MAX_IN_PLACE: usize = 1 << 18;
 
 // Puts a geometry through a block over these bytes, and then what still waits there.
 #[inline(always)]
@@ -96,8 +94,9 @@ fn put_through<S: Sink, G, K: Writable<G>>(
     }
 }
 
-/// Puts a geometry of this size through a block that suits the size.
+/// Puts a geometry of this size: in the sink's own memory, or through a block that suits the size.
 #[inline(always)]
+#[tactic(auto, using(crate::proofs::Writing::put_laws))]
 pub fn put_sized<S: Sink, G, K: Writable<G>>(
     writer: &mut S,
     size: usize,
@@ -105,14 +104,28 @@ pub fn put_sized<S: Sink, G, K: Writable<G>>(
     options: &WriteOptions,
 ) -> Result<(), Option<io::Error>>
     requires fault { fault (K.geometry geom.now) ≡ None }
+    requires size { size ≡ length (encoding_of options.now (K.geometry geom.now)) }
+    requires some { 0 < size }
     requires working { S.has_failed writer.old ≡ false }
     ensures { PutsTo S.Sink writer.old writer.new
         (encoding_of options.now (K.geometry geom.now)) result }
 {
-    if size <= MIN_BLOCK {
-        put_through::<S, G, K>(writer, &mut [0; MIN_BLOCK], geom, options)
-    } else {
-        put_through::<S, G, K>(writer, &mut [0; LARGE_BLOCK], geom, options)
+    let whole = Checked {
+        geom,
+        options,
+        size,
+        kind: PhantomData::<K>,
+    };
+    match writer.put_in_place(&whole) {
+        Ok(true) => Ok(()),
+        Ok(false) => {
+            if size <= MIN_BLOCK {
+                put_through::<S, G, K>(writer, &mut [0; MIN_BLOCK], geom, options)
+            } else {
+                put_through::<S, G, K>(writer, &mut [0; LARGE_BLOCK], geom, options)
+            }
+        }
+        Err(error) => Err(Some(io::Error::from(error))),
     }
 }
 
@@ -129,6 +142,7 @@ pub fn size_as<G, K: Writable<G>>(geom: &G, form: Form) -> WkbResult<usize>
 pub fn checked_size<G, K: Writable<G>>(geom: &G, form: Form) -> Result<usize, Fault>
     ensures size { IsSized form (K.geometry geom.now) result }
     ensures fault { IfOk result (λ _. fault (K.geometry geom.now) ≡ None) }
+    ensures some { IfOk result (λ size. 0 < size) }
     ensures fits { IsForm form }
     ensures lawful { IsGeometry (K.geometry geom.now) }
 {
@@ -192,6 +206,7 @@ pub fn vec_as<G, K: Writable<G>>(
         Err(fault) => return refuse(fault),
     };
     if size <= MAX_IN_PLACE {
+        // As `put_in_place` of a `VecSink`, with fewer instructions.
         let mut bytes = vec![in alloc; 0u8; size]?;
         lay_whole::<G, K>(&mut bytes, geom, options);
         return Ok(bytes);

@@ -1,5 +1,5 @@
 use Rattle.wkb_sink.proofs.Prelude.{arith}
-use Rattle.wkb_sink.proofs.Laid.{exits, no_room, laid_here, past_laid, past_cut}
+use Rattle.wkb_sink.proofs.Laid.{exits, no_room, past_laid, past_cut}
 use Rattle.wkb_sink.proofs.buffered.Buffered.put_past.Goals as goal
 
 pub returns-in_err-flush : goal.returns-in_err-flush
