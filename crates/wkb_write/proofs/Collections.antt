@@ -2,17 +2,19 @@
 use Rattle.wkb_write.proofs.Prelude.{◌≡◌, ℕ, ◌+◌, ◌*◌, ◌<◌, ◌^◌, List, [], ◌∷◌, ◌++◌, length, map, get_or, refl, sym}
 use Rattle.wkb_write.proofs.Prelude.{ap, ◌∙◌, arith, None, Result, Ok, Err, flat_map, Endianness, Form, Dimension}
 use Rattle.wkb_write.proofs.Prelude.{Dimensions, Stopped, Fault, Geometry, Progress, Advances, written_dimension}
-use Rattle.wkb_write.proofs.Prelude.{geometries, collection, encoding, encodings, fault, fault_each, first_fault}
+use Rattle.wkb_write.proofs.Prelude.{geometries, encoding, encodings, fault, fault_each, first_fault}
 use Rattle.wkb_write.proofs.Prelude.{or_else, counted, count_geometries, members_encoding, header_encoding}
 use Rattle.wkb_write.proofs.Prelude.{dimensions_fault, none_first, none_rest, count_below, slice_get_read, sum_by}
-use Rattle.wkb_write.proofs.Prelude.{sum_by-cons, count_fault, WriteOptions, encoding_of, bytes_behind_header, Finds}
-use Rattle.wkb_write.proofs.Prelude.{capped}
+use Rattle.wkb_write.proofs.Prelude.{sum_by-cons, count_fault, bytes_behind_header, Finds, capped, Bool, IsLaid, IsCut}
+use Rattle.wkb_write.proofs.Prelude.{number_bytes}
 use Rattle.wkb_geom.specs.Sizes.{byte_sizes}
-use Rattle.wkb_sink.specs.Options.{inner_options}
-use Rattle.wkb_write.specs.Bodies.{measure_after, member_measure}
+use Rattle.wkb_write.specs.Bodies.{collection_of, measure_after, member_measure}
 use Rattle.wkb_write.specs.Measures.{IsAdded, IsMeasured}
 use Rattle.wkb_write.proofs.Faults.{reports_first, reports_rest}
-use Rattle.wkb_write.proofs.Nodes.{node_count, node_counts, node_count-member}
+use Rattle.wkb_write.proofs.Loops.{HasLaid, all_laid, head_laid, head_cut}
+use Rattle.wkb_write.proofs.Nodes.{members_fall}
+use Rattle.wkb_geom.specs.Encodings.{inner, form_with_flags}
+use Rattle.wkb_write.specs.Answers.{member_encoding}
 use Rattle.wkb_write.proofs.Sums.{Ahead}
 use Rattle.wkb_write.proofs.Supported.{none_at}
 use Rattle.wkb_write.proofs.Whole.{header_within}
@@ -41,41 +43,59 @@ module _ {X : Type 0} (f : X → Geometry) where
 
   module _ (d : Dimensions) (xs : List X) where
     -- the encoding of a collection of these members, by the dimension that its header tells
-    pub collection_told : {named : Dimension} (options : WriteOptions) → named ≡ written_dimension d
-        → encoding_of options (collection d (geometries (map f xs)))
-        ≡ header_encoding options.endianness options.form 7 named
-        ++ counted options.endianness (λ x. encoding_of (inner_options options) (f x)) xs
+    told : {named : Dimension} {own : Form} (order : Endianness) (form : Form) → named ≡ written_dimension d
+        → inner form ≡ own → encoding order form (collection_of f d xs)
+        ≡ header_encoding order form 7 named ++ counted order (λ x. encoding order own (f x)) xs
     unfolding members_encoding counted
-    collection_told options name =
-        let own = inner_options options in
-        rw (count-geometries xs, encodings-geometries own.endianness own.form xs, ← name) refl
+    told order form name same =
+        rw (count-geometries xs, encodings-geometries order (inner form) xs, ← name, ← same) refl
+
+    -- its header and its count were laid, and with these all of it where it has no member; or they were cut
+    module _ {a b : Progress} {named : Dimension} (order : Endianness) (form : Form)
+        (name : named ≡ written_dimension d) where
+      pub collection_begun : (has_flags : Bool) → inner form ≡ form_with_flags has_flags
+          → IsLaid a b (header_encoding order form 7 named ++ number_bytes order 4 (length xs))
+          → HasLaid a b (encoding order form (collection_of f d xs)) (member_encoding f order has_flags) xs 0
+      unfolding member_encoding
+      collection_begun has_flags same p = head_laid order _ (told order form name same) refl p
+
+      pub collection_empty : length xs ≡ 0
+          → IsLaid a b (header_encoding order form 7 named ++ number_bytes order 4 (length xs))
+          → IsLaid a b (encoding order form (collection_of f d xs))
+      collection_empty none p = all_laid (head_laid order _ (told order form name refl) refl p) (omega arith)
+
+      pub collection_cut : IsCut a b (header_encoding order form 7 named ++ number_bytes order 4 (length xs))
+          → IsCut a b (encoding order form (collection_of f d xs))
+      collection_cut p = head_cut order _ _ xs (told order form name refl) refl p
 
     -- a collection without a fault has a count that four bytes hold
-    pub collection_count : fault (collection d (geometries (map f xs))) ≡ None → length xs < 2 ^ 32
+    pub collection_count : fault (collection_of f d xs) ≡ None → length xs < 2 ^ 32
     collection_count none =
         count_below (length xs) (rw count-geometries at (none_first _ _ (none_rest (dimensions_fault d) _ none)))
 
-    -- where a collection has no fault, a member has none, and no more nodes than all
-    pub member_ready : (i : ℕ) (x : X) → i < length xs → x ≡ get_or xs i x
-        → fault (collection d (geometries (map f xs))) ≡ None
-        → (fault (f x) ≡ None) × (2 * node_count (f x) < 2 * node_counts (geometries (map f xs)) + 1)
-    member_ready i x within is none =
+    -- where a collection has no fault, a member has none
+    pub member_ready : (i : ℕ) (x : X) → x ≡ get_or xs i x → i < length xs
+        → fault (collection_of f d xs) ≡ None → fault (f x) ≡ None
+    member_ready i x is within none =
         let fine = sym (faults-geometries xs) ∙ none_rest _ _ (none_rest (dimensions_fault d) _ none) in
-        let item = slice_get_read xs (length xs) i x refl within is in (
-          none_at (λ y. fault (f y)) xs i x fine item,
-          omega (arith, node_count-member f xs i x within, ap (λ y. node_count (f y)) is),
-        )
+        none_at (λ y. fault (f y)) xs i x fine (slice_get_read xs (length xs) i x refl within is)
 
-    -- the fault of its count
-    pub count_refused : {n : ℕ} (e : Fault) → dimensions_fault d ≡ None → n ≡ length xs → Finds e (count_fault n)
-        → Finds e (fault (collection d (geometries (map f xs))))
-    count_refused e supported is told =
-        reports_rest e _ _ supported (rw (count-geometries xs, ← is) (reports_first e _ _ told))
+    -- the fault of its dimensions, or of its count
+    pub dimensions_refused : {r : Result ℕ Fault} (before : ℕ) (e : Fault) → r ≡ Err e → Finds e (dimensions_fault d)
+        → IsAdded before (collection_of f d xs) r
+    unfolding IsAdded
+    dimensions_refused before e exit told = rw exit (reports_first e _ _ told)
+
+    pub count_refused : {n : ℕ} {r : Result ℕ Fault} (before : ℕ) (e : Fault) → r ≡ Err e → dimensions_fault d ≡ None
+        → n ≡ length xs → Finds e (count_fault n) → IsAdded before (collection_of f d xs) r
+    unfolding IsAdded
+    count_refused before e exit supported is told =
+        rw exit (reports_rest e _ _ supported (rw (count-geometries xs, ← is) (reports_first e _ _ told)))
 
     -- its members are measured as parts, after what is before it
     pub members_ahead : {n : ℕ} (before total : ℕ) → dimensions_fault d ≡ None
         → (count_fault (length xs) ≡ None) × (n ≡ length xs) → total ≡ capped (before + (4 + 5 * n))
-        → Ahead (λ x. member_measure (f x)) (measure_after before (collection d (geometries (map f xs)))) total xs 0
+        → Ahead (λ x. member_measure (f x)) (measure_after before (collection_of f d xs)) total xs 0
     unfolding or_else
     members_ahead before total supported counted sum = record {
       fault = rw (supported, count-geometries xs, counted.0) (faults-geometries xs);
@@ -84,23 +104,27 @@ module _ {X : Type 0} (f : X → Geometry) where
 
 -- a collection that a value is: where it has no fault, and where it was measured or put
 module _ {X : Type 0} {geo : Geometry} {read d : Dimensions} (f : X → Geometry) (xs : List X) (same : read ≡ d)
-    (is : collection d (geometries (map f xs)) ≡ geo) where
-  pub collection_ready : fault geo ≡ None → fault (collection read (geometries (map f xs))) ≡ None
+    (is : collection_of f d xs ≡ geo) where
+  pub collection_ready : fault geo ≡ None → fault (collection_of f read xs) ≡ None
   collection_ready none = rw same (ap fault is ∙ none)
 
   pub collection_added : (before : ℕ) (r : Result ℕ Fault)
-      → IsAdded before (collection read (geometries (map f xs))) r → IsAdded before geo r
+      → IsAdded before (collection_of f read xs) r → IsAdded before geo r
   collection_added before r added = rw (← is, ← same) added
 
-  pub lays_collection : (a b : Progress) (r : Result (Unit {0}) Stopped) (options : WriteOptions)
-      → Advances a b (encoding_of options (collection read (geometries (map f xs)))) r
-      → Advances a b (encoding_of options geo) r
-  lays_collection a b r options p = rw (← is, ← same) p
+  pub lays_collection : (a b : Progress) (r : Result (Unit {0}) Stopped) (order : Endianness) (form : Form)
+      → Advances a b (encoding order form (collection_of f read xs)) r
+      → Advances a b (encoding order form geo) r
+  lays_collection a b r order form p = rw (← is, ← same) p
 
 -- where nothing is before it
-pub added_alone : (g h : Geometry) (r s : Result ℕ Fault) → IsAdded 0 g r → s ≡ r → g ≡ h → IsMeasured h s
+pub added_alone : (g : Geometry) (r : Result ℕ Fault) → IsAdded 0 g r → IsMeasured g r
 unfolding IsAdded IsMeasured
-added_alone g h (Ok n) s added is same = rw (is, ← same) (added.0, omega (arith, added.1))
-added_alone g h (Err e) s added is same = rw (is, ← same) added
+added_alone g (Ok n) added = (added.0, omega (arith, added.1))
+added_alone g (Err e) added = added
 
 pub ruleset collection_laws = (collection_ready, lays_collection)
+
+pub ruleset begun_laws = (collection_begun, collection_empty, collection_cut, collection_count)
+
+pub ruleset added_laws = (added_alone, collection_added, dimensions_refused, count_refused, members_fall)

@@ -1,7 +1,6 @@
 -- The item of a list at an index, and the first one.
 use Rattle.wkb_write.proofs.Prelude.{◌≡◌, ℕ, zero, suc, ◌+◌, ◌-◌, ◌<◌, List, [], ◌∷◌, length, Option, Some, None, refl}
-use Rattle.wkb_write.proofs.Prelude.{arith, slice_get, get_or, drop, sym, ap, ◌∙◌, add-one}
-use Rattle.std.proofs.lemmas.List.{drop_more}
+use Rattle.wkb_write.proofs.Prelude.{arith, slice_get, get_or, drop, add-one, slice_get_read}
 use Rattle.std.specs.Prelude.{IfSome, IsSome}
 use Rattle.std.specs.Option.{option_map}
 
@@ -39,10 +38,7 @@ item_at (x ∷ xs) (suc i) within told =
     record { item = next.item; rest = rw add-one (rw add-one at next.rest); told = next.told }
 
 -- as a loop reads it
-pub item_read : {X : Type 0} {P : X → Type 0} (xs : List X) (i : ℕ) (x : X) → i < length xs → x ≡ get_or xs i x → P x
-    → ItemAt xs i P
-item_read xs i x within is told = record {
-  item = x;
-  rest = drop_more xs i x within ∙ ap (λ y. y ∷ drop (i + 1) xs) (sym is);
-  told = told;
-}
+pub item_read : {X : Type 0} {P : X → Type 0} {j : ℕ} (xs : List X) (i : ℕ) (x : X) → x ≡ get_or xs j x → j ≡ i
+    → i < length xs → P x → ItemAt xs i P
+item_read xs i x is here within told =
+    item_at xs i within (rw (slice_get_read xs (length xs) i x refl within (rw here at is)) told)

@@ -4,11 +4,13 @@ use Rattle.wkb_write.proofs.Prelude.{sym, subst, ap, ◌∙◌, append_assoc, ap
 use Rattle.wkb_write.proofs.Prelude.{Result, Ok, Err, arith, flat_map, flat_map-append, Stopped, Endianness, Form}
 use Rattle.wkb_write.proofs.Prelude.{Dimension, Dimensions, number_bytes, words_encoding, header_encoding}
 use Rattle.wkb_write.proofs.Prelude.{members_encoding, counted, polygon_encoding, coordinates_encoding, Progress}
-use Rattle.wkb_write.proofs.Prelude.{IsLaid, IsCut, Advances, get_or, Geometry, encoding, size, no_room, IsShort}
+use Rattle.wkb_write.proofs.Prelude.{IsLaid, IsCut, Advances, get_or, Geometry, encoding, size, no_room, IsShort, Bool}
 use Rattle.std.proofs.Common.{length-append}
 use Rattle.std.proofs.Math.Nat.{mul-le-mul_left}
 use Rattle.std.proofs.lemmas.List.{drop-append-le, length-take-le}
 use Rattle.wkb_geom.specs.Geometries.{AreCoordinates}
+use Rattle.wkb_geom.specs.Encodings.{form_with_flags}
+unfoldable use Rattle.wkb_write.specs.Answers.{member_encoding}
 use Rattle.wkb_geom.specs.Values.{Coordinate}
 use Rattle.wkb_sink.proofs.Laid.{laid_then, cut_then, cut_first, lays_then}
 use Rattle.wkb_sink.proofs.Turned.{words_length}
@@ -64,6 +66,11 @@ pub head_cut : {X : Type 0} {a b : Progress} {whole : List ℕ} {n : ℕ} (order
 unfolding counted
 head_cut order header f xs is count p = rw (is, ← count, ← append_assoc) (cut_first _ p)
 
+-- all items were laid
+pub all_laid : {X : Type 0} {a b : Progress} {whole : List ℕ} {f : X → List ℕ} {xs : List X} {i : ℕ}
+    → HasLaid a b whole f xs i → length xs ≤ i → IsLaid a b whole
+all_laid {xs = xs} {i = i} laid past = rw (laid.is, drop_all i xs past, append-nil) laid.laid
+
 module _ {X : Type 0} {a b : Progress} {whole : List ℕ} {f : X → List ℕ} {xs : List X} {i : ℕ}
     (laid : HasLaid a b whole f xs i) where
   -- one more item was laid
@@ -78,15 +85,18 @@ module _ {X : Type 0} {a b : Progress} {whole : List ℕ} {f : X → List ℕ} {
   pub next_cut : {c : Progress} → ItemAt xs i (λ x. IsCut b c (f x)) → IsCut a c whole
   next_cut at = rw (laid.is, at.rest) (cut_then laid.laid (cut_first _ at.told))
 
-  -- all items were laid
-  pub all_laid : length xs ≤ i → IsLaid a b whole
-  all_laid past = rw (laid.is, drop_all i xs past, append-nil) laid.laid
+  -- the same of an item as a loop reads it
+  module _ (c : Progress) {j : ℕ} (x : X) (is : x ≡ get_or xs j x) (here : j ≡ i) where
+    pub read_laid : i < length xs → IsLaid b c (f x) → HasLaid a c whole f xs (i + 1)
+    read_laid within p = next_laid (item_read xs i x is here within p)
 
-  -- the last item's result is that of the whole
-  pub last_laid : (c : Progress) (r : Result (Unit {0}) Stopped) → ItemAt xs i (λ x. Advances b c (f x) r)
-      → length xs ≤ i + 1 → Advances a c whole r
-  last_laid c (Ok x) at end = rw (laid.is, at.rest, drop_all (i + 1) xs end, append-nil) (laid_then laid.laid at.told)
-  last_laid c (Err e) at end = next_cut at
+    pub read_cut : i < length xs → IsCut b c (f x) → IsCut a c whole
+    read_cut within p = next_cut (item_read xs i x is here within p)
+
+    -- the last item's result is that of the whole
+    pub last_laid : (r : Result (Unit {0}) Stopped) → j + 1 ≡ length xs → Advances b c (f x) r → Advances a c whole r
+    last_laid (Ok u) end p = all_laid (read_laid (omega arith) p) (omega arith)
+    last_laid (Err e) end p = read_cut (omega arith) p
 
   -- of coordinates a run was laid, up to another index
   pub run_laid : {c : Progress} {j : ℕ} → i ≤ j → j ≤ length xs → IsLaid b c (flat_map f (drop i (take j xs)))
@@ -122,14 +132,12 @@ run_cut {cs = cs} {i = i} order d p lawful more is q =
 pub one_of_run : (k n : ℕ) → 0 < n → k ≤ k * n
 one_of_run k n some = let most = mul-le-mul_left k some in omega (arith, most)
 
--- a member that was put in its form, which is given by a flag, at its place among all
-pub member_put : {X : Type 0} {own told : Form} {j : ℕ} {x : X} (b c : Progress) (order : Endianness)
-    (meant : X → Geometry) (xs : List X) (i : ℕ) (r : Result (Unit {0}) Stopped) → own ≡ told → i < length xs → j ≡ i
-    → x ≡ get_or xs j x → Advances b c (encoding order told (meant x)) r
-    → ItemAt xs i (λ y. Advances b c (encoding order own (meant y)) r)
-member_put {x = x} b c order meant xs i r same within here is laid =
-    item_read xs i x within (subst (λ k. x ≡ get_or xs k x) here is)
-    (subst (λ k. Advances b c (encoding order k (meant x)) r) (sym same) laid)
+-- a member that was put in the form that the flag tells
+pub lays_member : {X : Type 0} {form : Form} (a b : Progress) (meant : X → Geometry) (order : Endianness)
+    (has_flags : Bool) (x : X) (r : Result (Unit {0}) Stopped) → form ≡ form_with_flags has_flags
+    → Advances a b (encoding order form (meant x)) r → Advances a b (member_encoding meant order has_flags x) r
+unfolding member_encoding
+lays_member a b meant order has_flags x r same laid = rw same at laid
 
 -- bytes that are the encoding were laid
 pub lays_lent : (a b : Progress) {s t : List ℕ} (r : Result (Unit {0}) Stopped) → Advances a b s r → s ≡ t

@@ -25,9 +25,9 @@ pub members_fall : (d : Dimensions) (gs : Geometries) (geo : Geometry) (t : ℕ)
     → 2 * node_count geo ≡ t → 2 * node_counts gs + 1 < t
 members_fall d gs geo t is measure = let whole = ap node_count is in omega (arith, whole)
 
-pub member_falls : {X : Type 0} (f : X → Geometry) (xs : List X) (i : ℕ) (x : X) (t : ℕ) → i < length xs
-    → x ≡ get_or xs i x → 2 * node_counts (geometries (map f xs)) + 1 ≡ t → 2 * node_count (f x) < t
-member_falls f xs i x t within item measure =
+pub member_falls : {X : Type 0} (f : X → Geometry) (xs : List X) (i : ℕ) (x : X) (t : ℕ) → x ≡ get_or xs i x
+    → i < length xs → 2 * node_counts (geometries (map f xs)) + 1 ≡ t → 2 * node_count (f x) < t
+member_falls f xs i x t item within measure =
     let member = node_count-member f xs i x within in
     let here = ap (λ y. node_count (f y)) item in
     omega (arith, member, here)

@@ -14,7 +14,8 @@ pub use Rattle.wkb_geom.specs.declared.common.Dimensions.{Dimensions}
 pub use Rattle.wkb_geom.specs.declared.common.Endianness.{Endianness}
 pub use Rattle.wkb_geom.specs.declared.common.Form.{Form}
 pub use Rattle.wkb_geom.specs.Dimensions.{written_dimension, size}
-pub use Rattle.wkb_geom.specs.Geometries.{Geometry, geometries, collection, IsGeometry}
+pub use Rattle.wkb_geom.specs.Geometries.{Geometry, geometries, collection, IsGeometry, point, line, rectangle}
+pub use Rattle.wkb_geom.specs.Geometries.{triangle}
 pub use Rattle.wkb_geom.specs.Numbers.{number_bytes}
 pub use Rattle.wkb_geom.specs.Encodings.{encoding, encodings, fault, fault_each, count_geometries, IsForm}
 unfoldable pub use Rattle.wkb_geom.specs.Encodings.{words_encoding, first_fault, or_else, members_encoding}

@@ -1,9 +1,10 @@
 -- What has no fault: an item of a list, and a dimension, of which a coordinate can be laid.
 use Rattle.wkb_write.proofs.Prelude.{◌≡◌, ℕ, zero, suc, ◌≤◌, List, [], ◌∷◌, Option, Some, None, ap, ◌∙◌, arith}
 use Rattle.wkb_write.proofs.Prelude.{slice_get, Dimensions, none_first, none_rest, size, Fault, first_fault}
-use Rattle.wkb_write.proofs.Prelude.{dimensions_fault, Dimension, written_dimension, sym, nat_tests, Unknown}
+use Rattle.wkb_write.proofs.Prelude.{dimensions_fault, Dimension, written_dimension, sym}
 use Rattle.wkb_geom.specs.Dimensions.{width}
 use Rattle.wkb_geom.specs.declared.common.Dimension.TheVariants.{Xy}
+use Rattle.wkb_laws.proofs.Lengths.{width-least}
 use Rattle.wkb_laws.proofs.Values.{width-written_dimension}
 use Rattle.wkb_sink.specs.Runs.{FitsCoordinate}
 
@@ -16,25 +17,17 @@ none_at f (y ∷ ys) zero x h is = let same : x ≡ y = cc in ap f same ∙ none
 none_at f (y ∷ ys) (suc i) x h is = none_at f ys i x (none_rest (f y) (first_fault f ys) h) is
 
 -- a dimension with a name has two to four words
+pub width_most : (d : Dimension) → width d ≤ 4
+width_most Xy = omega arith
+width_most _ = omega arith
+
 pub supported_at_least : (d : Dimensions) → dimensions_fault d ≡ None → 2 ≤ size d
-unfolding dimensions_fault
-supported_at_least (Unknown n) h = grind (arith, nat_tests)
-supported_at_least d h = omega arith
+supported_at_least d none = omega (arith, width-written_dimension d none, width-least (written_dimension d))
 
 pub supported_at_most : (d : Dimensions) → dimensions_fault d ≡ None → size d ≤ 4
-unfolding dimensions_fault
-supported_at_most (Unknown n) h = grind (arith, nat_tests)
-supported_at_most d h = omega arith
+supported_at_most d none = omega (arith, width-written_dimension d none, width_most (written_dimension d))
 
-pub width_least : (d : Dimension) (n : ℕ) → n ≡ width d → 2 ≤ n
-width_least Xy n is = omega arith
-width_least _ n is = omega arith
-
-pub width_most : (d : Dimension) (n : ℕ) → n ≡ width d → n ≤ 4
-width_most Xy n is = omega arith
-width_most _ n is = omega arith
-
-pub ruleset width_laws = (width_least, width_most)
+pub ruleset width_laws = (width-least, width_most)
 
 -- the words of a coordinate that is written
 pub words_are : {d of : Dimensions} {told : Dimension} {words : ℕ} → words ≡ width told → told ≡ written_dimension of
@@ -45,10 +38,10 @@ words_are {d = d} is name same none =
 -- so its coordinates can be laid
 pub has_width : {d of : Dimensions} {told : Dimension} {words : ℕ} → told ≡ written_dimension d → of ≡ d
     → dimensions_fault d ≡ None → words ≡ width told → FitsCoordinate of words
-has_width {d = d} name same none is =
+has_width {d = d} {told = told} name same none is =
     let wide = is ∙ ap width name ∙ width-written_dimension d none in
     record {
       is = wide ∙ ap size (sym same);
-      least = omega (arith, wide, supported_at_least d none);
-      most = omega (arith, wide, supported_at_most d none);
+      least = omega (arith, is, width-least told);
+      most = omega (arith, is, width_most told);
     }

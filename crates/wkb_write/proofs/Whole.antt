@@ -10,7 +10,8 @@ use Rattle.wkb_geom.specs.Sizes.{ring_size, line_string_size, polygon_size}
 use Rattle.wkb_write.specs.Bodies.{coordinate_words, ring_bytes, ring_measure, point_measure, polygon_measure}
 use Rattle.wkb_write.specs.Bodies.{body_fault, size_by_parts}
 use Rattle.wkb_write.specs.Counted.{HasMeasures, ItemList}
-use Rattle.wkb_write.proofs.Faults.{reports_first, reports_rest, supported_words}
+use Rattle.wkb_write.proofs.Faults.{reports_first, reports_rest}
+use Rattle.wkb_write.proofs.Supported.{supported_at_most}
 
 -- the sizes of a list's items, each as a part behind a header
 sizes_of : {X : Type 0} (header : ℕ) (part : X → Measure) (s : X → ℕ) (xs : List X)
@@ -89,7 +90,7 @@ pub whole_measured : (g : Geometry) (dims : Dimensions) (r : Result ℕ Fault) �
     → Measures (fault g) (bytes_behind_header g) r
 whole_measured g dims (Ok n) is supported h =
     let fine = ap dimensions_fault (sym is) ∙ supported in
-    let whole = size_by_body g (supported_words (dimensions_of g) fine) in
+    let whole = size_by_body g (omega (arith, supported_at_most (dimensions_of g) fine)) in
     (fault_by_body g ∙ none_both _ _ fine h.0, omega (arith, h.1, whole))
 whole_measured g dims (Err e) is supported h =
     subst (Finds e) (sym (fault_by_body g)) (reports_rest e _ _ (ap dimensions_fault (sym is) ∙ supported) h)

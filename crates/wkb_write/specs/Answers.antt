@@ -10,7 +10,7 @@ use Rattle.wkb_geom.specs.Errors.{IsMemory, TellsFault}
 use Rattle.wkb_geom.specs.Geometries.{Geometry, normal}
 use Rattle.wkb_geom.specs.Values.{Value}
 use Rattle.wkb_geom.specs.Spellings.{Spelling, Spells}
-use Rattle.wkb_geom.specs.Encodings.{refusal, encoding}
+use Rattle.wkb_geom.specs.Encodings.{refusal, encoding, form_with_flags}
 use Rattle.wkb_laws.specs.Written.{HasOptions}
 use Rattle.wkb_write.specs.Measures.{Reports, Finds}
 use Rattle.wkb_geom.specs.declared.error.Fault.{Fault}
@@ -21,6 +21,10 @@ use Rattle.wkb_sink.specs.declared.options.WriteOptions.{WriteOptions}
 -- a geometry's one encoding under some options
 abbrev pub encoding_of : WriteOptions → Geometry → List ℕ
 encoding_of options g = encoding options.endianness options.form g
+
+-- the encoding of a member: in the codes of EWKB or in those of ISO, and without an SRID
+unfoldable pub member_encoding : {X : Type 0} → (X → Geometry) → Endianness → Bool → X → List ℕ
+member_encoding meant order has_flags x = encoding order (form_with_flags has_flags) (meant x)
 
 -- why there is none: the first fault, else the size
 abbrev pub refusal_of : WriteOptions → Geometry → Option Fault

@@ -1,6 +1,7 @@
 -- A geometry's first fault after its header, and the size of the bytes there, by its parts.
 use Rattle.wkb_geom.specs.declared.error.Fault.{Fault}
-use Rattle.std.specs.Prelude.{ℕ, ◌+◌, ◌-◌, ◌*◌, min, List, length, map, Option, None}
+use Rattle.std.specs.Prelude.{◌≡◌, ℕ, ◌+◌, ◌-◌, ◌*◌, min, List, length, map, Option, None, MatchOption}
+use Rattle.std.specs.Borrow.{Bor}
 use Rattle.std.specs.List.{sum_by}
 use Rattle.wkb_geom.specs.declared.common.Dimensions.{Dimensions}
 use Rattle.wkb_geom.specs.Dimensions.{size}
@@ -64,6 +65,10 @@ collection_of meant d xs = collection d (geometries (map meant xs))
 abbrev pub IsLeaf : Geometry → Type 0
 IsLeaf (collection d gs) = ⊥
 IsLeaf g = Unit {0}
+
+-- the members of a geometry of these dimensions, by what each means; none of a leaf
+abbrev pub AreMembersOf : {X : Type 0} → Geometry → (X → Geometry) → Dimensions → Option (Bor (List X)) → Type 0
+AreMembersOf g meant d members = MatchOption members (IsLeaf g) (λ xs. collection_of meant d xs.now ≡ g)
 
 -- the first fault after the header
 abbrev pub body_fault : Geometry → Option Fault

@@ -1,14 +1,16 @@
 -- What makes a geometry impossible to write, and its size.
 use Rattle.std.specs.Prelude.{◌≡◌, ℕ, ◌+◌, ◌-◌, ◌^◌, min, Option, Some, None, Result, Ok, Err, MatchResult}
+use Rattle.std.specs.Prelude.{MatchOption}
+use Rattle.wkb_geom.specs.declared.common.Dimensions.{Dimensions}
 use Rattle.wkb_geom.specs.declared.error.WkbError.{WkbError}
 use Rattle.wkb_geom.specs.Errors.{TellsFault}
-use Rattle.wkb_geom.specs.Geometries.{Geometry, IsGeometry}
-use Rattle.wkb_geom.specs.Encodings.{fault}
+use Rattle.wkb_geom.specs.Geometries.{Geometry, IsGeometry, dimensions_of}
+use Rattle.wkb_geom.specs.Encodings.{fault, count_fault, dimensions_fault}
 use Rattle.wkb_geom.specs.declared.error.Fault.{Fault}
 use Rattle.wkb_geom.specs.declared.error.Fault.TheVariants as fault
 use Rattle.wkb_write.specs.declared.measure.Measured.{Measured}
 use Rattle.wkb_write.specs.declared.measure.Measured.TheVariants as measured
-use Rattle.wkb_write.specs.Bodies.{Measure, bytes_behind_header}
+use Rattle.wkb_write.specs.Bodies.{Measure, bytes_behind_header, body_fault, size_by_parts}
 
 -- what was measured, as a result
 abbrev pub result_of : Measured → Result ℕ Fault
@@ -27,6 +29,17 @@ pub record Reports (e : WkbError) (f : Option Fault) : Type 0 where
 pub record Finds (e : Fault) (f : Option Fault) : Type 0 where
   pub is : f ≡ Some e
 
+-- the words of the dimension, where it can't be written and this is the fault; none where it has no fault
+abbrev pub FindsUnsupported : Dimensions → Option ℕ → Type 0
+FindsUnsupported dim found =
+    MatchOption found (dimensions_fault dim ≡ None)
+    (λ n. Finds (fault.UnsupportedDimensions n) (dimensions_fault dim))
+
+-- the count, which has no fault; none where the count is the fault
+abbrev pub IsCountToWrite : ℕ → Option ℕ → Type 0
+IsCountToWrite n count =
+    MatchOption count (Finds fault.Count (count_fault n)) (λ m. (count_fault n ≡ None) × (m ≡ n))
+
 -- the number, or the greatest `usize` where the number is greater
 abbrev pub capped : ℕ → ℕ
 capped n = min n (2 ^ 64 - 1)
@@ -42,6 +55,12 @@ IsMeasureOf part measured = Measures part.fault part.size (result_of measured)
 -- the result is the geometry's first fault, or its size without the header
 unfoldable pub IsMeasured : Geometry → Result ℕ Fault → Type 0
 IsMeasured g r = Measures (fault g) (bytes_behind_header g) r
+
+-- where the body was measured of a geometry of these dimensions, this was measured of the geometry
+abbrev pub IsMeasuredBehindHeader : Dimensions → Measured → Measured → Type 0
+IsMeasuredBehindHeader dim body measured =
+    (g : Geometry) → dim ≡ dimensions_of g → Measures (body_fault g) (size_by_parts g) (result_of body)
+    → IsMeasured g (result_of measured)
 
 -- this is so of each geometry of which that was measured
 abbrev pub OfMeasured : Measured → (Geometry → Type 0) → Type 0

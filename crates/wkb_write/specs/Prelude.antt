@@ -2,13 +2,13 @@
 pub use Rattle.wkb_geom.specs.Errors.{IsMemory, TellsFault}
 pub use Rattle.wkb_geom.specs.Geometries.{Geometry, IsGeometry, IsPoint, collection, geometries, line, line_string}
 pub use Rattle.wkb_geom.specs.Geometries.{multi_line_string, multi_point, multi_polygon, point, polygon, rectangle}
-pub use Rattle.wkb_geom.specs.Geometries.{triangle, dimensions_of}
+pub use Rattle.wkb_geom.specs.Geometries.{triangle}
 pub use Rattle.wkb_geom.specs.Parts.{point_meant, line_string_meant, polygon_meant, multi_point_meant}
 pub use Rattle.wkb_geom.specs.Parts.{multi_line_string_meant, multi_polygon_meant, collection_meant, rect_meant}
 pub use Rattle.wkb_geom.specs.Parts.{triangle_meant, line_meant}
 pub use Rattle.wkb_geom.specs.Refusals.{srid_size}
-pub use Rattle.wkb_geom.specs.Encodings.{coordinates_fault, coordinates_encoding, count_fault, dimensions_fault, fault}
-pub use Rattle.wkb_geom.specs.Encodings.{encoding, inner, form_with_flags, words_encoding, form_srid, IsForm}
+pub use Rattle.wkb_geom.specs.Encodings.{coordinates_fault, coordinates_encoding, dimensions_fault, fault}
+pub use Rattle.wkb_geom.specs.Encodings.{inner, form_with_flags, words_encoding, form_srid, IsForm}
 pub use Rattle.wkb_geom.specs.declared.common.Endianness.{Endianness}
 pub use Rattle.wkb_geom.specs.declared.common.Form.TheVariants.{Iso}
 pub use Rattle.wkb_sink.specs.Options.{header_of, inner_options}
@@ -19,8 +19,9 @@ pub use Rattle.wkb_sink.specs.declared.block.TheConstants.{MIN_BLOCK}
 pub use Rattle.wkb_sink.specs.declared.options.WriteOptions.{WriteOptions}
 pub use Rattle.wkb_write.specs.Answers.{encoding_of, refusal_of, IsInFront, IsSized, IsSizeOf, IsSliceError, IsVecError}
 pub use Rattle.wkb_write.specs.Answers.{OutgrowsSlice, WritesTo}
+unfoldable pub use Rattle.wkb_write.specs.Answers.{member_encoding}
 pub use Rattle.wkb_write.specs.Bodies.{parts_measure, point_measure, polygon_measure, ring_measure, collection_of}
-pub use Rattle.wkb_write.specs.Bodies.{coordinate_words, body_fault, size_by_parts, IsLeaf}
+pub use Rattle.wkb_write.specs.Bodies.{coordinate_words, AreMembersOf, IsLeaf}
 pub use Rattle.wkb_write.specs.Counted.{HasMeasures, ItemList, ListsItems, OfItem, member_list, ring_list}
-pub use Rattle.wkb_write.specs.Measures.{Finds, IsAdded, IsMeasured, IsMeasureOf, Measures, OfMeasured, Reports}
-pub use Rattle.wkb_write.specs.Measures.{result_of}
+pub use Rattle.wkb_write.specs.Measures.{IsAdded, IsMeasured, IsMeasureOf, OfMeasured, Reports}
+pub use Rattle.wkb_write.specs.Measures.{FindsUnsupported, IsCountToWrite, IsMeasuredBehindHeader, result_of}

@@ -3,15 +3,11 @@
 //! Faults are found in preorder: a geometry's dimensions, its count, then its items. Only the bytes after the header
 //! are measured. `usize::MAX` means that size or any greater one: with a header none of them fits.
 
-ghost use Rattle.std.specs.Prelude.{◌≡◌, ◌*◌, ◌^◌, ◌<◌, ◌≤◌, None, Err, IsErrAnd};
+ghost use Rattle.std.specs.Prelude.{◌≡◌, ◌*◌, ◌^◌, ◌<◌, ◌≤◌, Err, IsErrAnd};
 ghost use Rattle.wkb_geom.specs.Dimensions.{width};
-ghost use Rattle.std.specs.Prelude.{MatchOption};
-ghost use Rattle.wkb_write.specs.Prelude.{Geometry, IsForm, dimensions_of};
-ghost use Rattle.wkb_write.specs.Prelude.{dimensions_fault, count_fault, body_fault, Finds};
-ghost use Rattle.wkb_write.specs.Prelude.{coordinate_words, size_by_parts, result_of};
-ghost use Rattle.wkb_write.specs.Prelude.{OfMeasured, IsMeasured, Measures, IsSized, IsSizeOf};
-ghost use Rattle.wkb_write.specs.Prelude.{TellsFault};
-ghost use Rattle.wkb_geom.specs.declared.error.Fault.TheVariants.{Count, UnsupportedDimensions};
+ghost use Rattle.wkb_write.specs.Prelude.{IsForm, coordinate_words, result_of, TellsFault};
+ghost use Rattle.wkb_write.specs.Prelude.{FindsUnsupported, IsCountToWrite};
+ghost use Rattle.wkb_write.specs.Prelude.{IsMeasuredBehindHeader, OfMeasured, IsSized, IsSizeOf};
 
 use wkb_geom::{Dimension, Dimensions, Fault, Form, WkbError, WkbResult};
 use wkb_sink::options::length_of_header;
@@ -58,8 +54,7 @@ fn as_result(measured: Measured) -> Result<usize, Fault>
 #[inline(always)]
 #[tactic(auto, using(crate::proofs::Faults::fault_laws), unfolding(wkb_geom::specs::Encodings::dimensions_fault))]
 pub fn unsupported_dimension(dim: Dimensions) -> Option<usize>
-    ensures { MatchOption result (dimensions_fault dim ≡ None)
-        (λ n. Finds (UnsupportedDimensions n) (dimensions_fault dim)) }
+    ensures { FindsUnsupported dim result }
 {
     match dim {
         Dimensions::Unknown(n) if n < 2 || 4 < n => Some(n),
@@ -70,8 +65,7 @@ pub fn unsupported_dimension(dim: Dimensions) -> Option<usize>
 /// A count, where four bytes hold it.
 #[tactic(auto, using(crate::proofs::Faults::fault_laws))]
 pub fn count_to_write(n: u128) -> Option<u32>
-    ensures { MatchOption result (Finds Count (count_fault n))
-        (λ m. (count_fault n ≡ None) × (m ≡ n)) }
+    ensures { IsCountToWrite n result }
 {
     u32::try_from(n).ok()
 }
@@ -89,9 +83,7 @@ pub fn words_size(dim: Dimensions, n: u32) -> usize
 #[inline(always)]
 #[tactic(auto, using(crate::proofs::Whole::header_laws), unfolding(crate::specs::Measures::IsMeasured))]
 pub fn behind_header(dim: Dimensions, body: Measured) -> Measured
-    ensures { (g : Geometry) → dim ≡ dimensions_of g
-        → Measures (body_fault g) (size_by_parts g) (result_of body)
-        → IsMeasured g (result_of result) }
+    ensures { IsMeasuredBehindHeader dim body result }
 {
     match unsupported_dimension(dim) {
         None => body,
@@ -120,6 +112,7 @@ pub fn form_fits(form: Form)
 
 /// The size that was measured and that of the header, where `usize` holds their sum.
 #[inline]
+#[tactic(auto, using(crate::proofs::Sizes::size_laws))]
 pub fn whole_size(measured: Measured, form: Form) -> Result<usize, Fault>
     ensures size { OfMeasured measured (λ g. IsSized form g result) }
     ensures fits { IsForm form }

@@ -2,10 +2,10 @@
 //!
 //! A *leaf* is a geometry of any kind but a collection. The recursion ends there.
 
-ghost use Rattle.std.specs.Prelude.{◌≡◌, None, false, MatchOption};
-ghost use Rattle.wkb_write.specs.Prelude.{Geometry, IsGeometry, collection_of, fault, encoding};
+ghost use Rattle.std.specs.Prelude.{◌≡◌, None, false};
+ghost use Rattle.wkb_write.specs.Prelude.{Geometry, IsGeometry, AreMembersOf, collection_of, fault};
 ghost use Rattle.wkb_write.specs.Prelude.{encoding_of, form_with_flags, inner, Lays, IsAdded, IsLeaf};
-ghost use Rattle.wkb_write.specs.Prelude.{IsMeasured, result_of};
+ghost use Rattle.wkb_write.specs.Prelude.{IsMeasured, member_encoding, result_of};
 
 use crate::common::*;
 use crate::measure::{count_to_write, unsupported_dimension};
@@ -19,9 +19,7 @@ pub trait Nested<G: Dimensioned> {
 
     /// The members of a collection; none of a leaf.
     fn members_of(geom: &G) -> Option<&[G]>
-        ensures { MatchOption result (IsLeaf (geometry geom.now))
-            (λ members. collection_of geometry (G.dimensions geom.now) members.now
-            ≡ geometry geom.now) };
+        ensures { AreMembersOf (geometry geom.now) geometry (G.dimensions geom.now) result };
 
     /// The size of a leaf without its header, or its first fault.
     fn measure_leaf(geom: &G) -> Measured
@@ -65,6 +63,7 @@ impl<G: Dimensioned, K: Nested<G>> Writable<G> for Node<K> {
 // collection, the last call adds it. The compiler makes it a jump, so that the stack stays flat along a chain of
 // collections.
 #[cycle(measure)]
+#[tactic(auto, using(crate::proofs::Collections::added_laws))]
 pub fn add_members<G: Dimensioned, K: Nested<G>>(
     before: usize,
     dim: Dimensions,
@@ -97,6 +96,7 @@ pub fn add_members<G: Dimensioned, K: Nested<G>>(
 
 // The size of a geometry without its header, or its first fault. `usize::MAX` means that size or any greater one.
 #[cycle(measure)]
+#[tactic(auto, using(crate::proofs::Collections::added_laws))]
 #[inline(always)]
 pub fn measure_geometry<G: Dimensioned, K: Nested<G>>(geom: &G) -> Measured
     ensures measured { IsMeasured (K.geometry geom.now) (result_of result) }
@@ -134,6 +134,7 @@ fn member_form(has_flags: bool) -> Form
 // down a chain of collections in registers, without a load at each level.
 #[cycle(put)]
 #[inline(never)]
+#[tactic(auto, using(crate::proofs::Steps::member_laws))]
 fn put_member<S: Sink, G: Dimensioned, K: Nested<G>>(
     out: &mut Buffered<'_, S>,
     geom: &G,
@@ -143,7 +144,7 @@ fn put_member<S: Sink, G: Dimensioned, K: Nested<G>>(
     requires fault { fault (K.geometry geom.now) ≡ None }
     requires working { S.has_failed out.old.sink.now ≡ false }
     ensures { Lays S.Sink out.old out.new
-        (encoding order (form_with_flags has_flags) (K.geometry geom.now)) result }
+        (member_encoding K.geometry order has_flags geom.now) result }
 {
     let options = WriteOptions {
         endianness: order,
@@ -159,7 +160,7 @@ fn put_member<S: Sink, G: Dimensioned, K: Nested<G>>(
 // it a jump, so that the stack stays flat along a chain of collections.
 #[cycle(put)]
 #[inline(always)]
-#[tactic(auto, using(crate::proofs::Steps::node_laws))]
+#[tactic(auto, using(crate::proofs::Steps::members_laws))]
 pub fn put_members<S: Sink, G: Dimensioned, K: Nested<G>>(
     out: &mut Buffered<'_, S>,
     dim: Dimensions,

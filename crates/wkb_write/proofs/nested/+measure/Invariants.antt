@@ -1,5 +1,5 @@
-use Rattle.wkb_write.proofs.Prelude.{◌+◌, ◌*◌, ◌^◌, ◌<◌, map, collection, geometries}
-use Rattle.wkb_write.specs.Bodies.{measure_after, member_measure}
+use Rattle.wkb_write.proofs.Prelude.{◌+◌, ◌*◌, ◌^◌, ◌<◌, map, geometries}
+use Rattle.wkb_write.specs.Bodies.{collection_of, measure_after, member_measure}
 use Rattle.wkb_write.proofs.Nodes.{node_count, node_counts}
 use Rattle.wkb_write.proofs.Sums.{Ahead}
 use Rattle.wkb_write.proofs.nested.+measure.Given as goal
@@ -12,7 +12,7 @@ decreases-add_members g l = 2 * node_counts (geometries (map g.K.Nested.geometry
 
 abbrev pub invariant-add_members-loop-i : goal.invariant-add_members-loop-i
 invariant-add_members-loop-i g l =
-    let whole = collection l.fn.dim (geometries (map g.K.Nested.geometry l.members)) in
+    let whole = collection_of g.K.Nested.geometry l.fn.dim l.members in
     record {
       ahead : Ahead (λ m. member_measure (g.K.Nested.geometry m)) (measure_after l.before whole) l.total l.members l.i;
       fits : l.total < 2 ^ 64;

@@ -1,5 +1,4 @@
-use Rattle.wkb_write.proofs.Prelude.{arith}
-use Rattle.wkb_geom.specs.Geometries.{line}
+use Rattle.wkb_write.proofs.Prelude.{arith, line}
 use Rattle.wkb_write.proofs.Sizes.{no_room_for}
 use Rattle.wkb_write.proofs.Supported.{words_are}
 use Rattle.wkb_write.proofs.line.LineKindWritable.put.Goals as goal

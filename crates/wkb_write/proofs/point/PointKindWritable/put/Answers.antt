@@ -1,5 +1,4 @@
-use Rattle.wkb_write.proofs.Prelude.{arith, ◌∙◌, point_encoding, point_words}
-use Rattle.wkb_geom.specs.Geometries.{point}
+use Rattle.wkb_write.proofs.Prelude.{arith, ◌∙◌, point, point_encoding, point_words}
 use Rattle.wkb_write.proofs.Sizes.{no_room_for}
 use Rattle.wkb_sink.proofs.Behind.{behind}
 use Rattle.wkb_sink.proofs.Laid.{laid_here}

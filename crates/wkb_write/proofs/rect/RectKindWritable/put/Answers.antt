@@ -1,5 +1,4 @@
-use Rattle.wkb_write.proofs.Prelude.{arith}
-use Rattle.wkb_geom.specs.Geometries.{rectangle}
+use Rattle.wkb_write.proofs.Prelude.{arith, rectangle}
 use Rattle.wkb_write.proofs.Sizes.{no_room_for}
 use Rattle.wkb_write.proofs.rect.RectKindWritable.put.Goals as goal
 
