@@ -1,5 +1,5 @@
 -- What the check finds in an input is what is rewritten and compared; what it refuses is what the reader refuses.
-use Rattle.std.proofs.Common.{◌≡◌, ◌≢◌, ℕ, ◌+◌, ◌≤◌, ◌⊎◌, inl, inr, List, ◌++◌, length, Bool, true, false}
+use Rattle.std.proofs.Common.{◌≡◌, ℕ, List, ◌++◌, length, Bool, true, false}
 use Rattle.std.proofs.Common.{refl, sym, ap, ◌∙◌}
 use Rattle.std.proofs.Common.{take, drop, ◌↔◌, IsTrue, MatchBool, subst, arith, append-nil}
 use Rattle.std.proofs.Math.Seq.{take-append_seam}
@@ -8,18 +8,15 @@ use Rattle.std.proofs.lemmas.List.Edits.{sets, sets-eq}
 use Rattle.wkb_geom.specs.declared.common.Endianness.{Endianness}
 use Rattle.wkb_geom.specs.declared.common.Form.{Form}
 use Rattle.wkb_geom.specs.declared.common.Form.TheVariants.{Iso, Ewkb}
-use Rattle.wkb_geom.specs.declared.error.Cause.{Cause}
 use Rattle.wkb_geom.specs.declared.error.WkbError.{WkbError}
-use Rattle.wkb_geom.specs.declared.error.WkbError.TheVariants as errors
 use Rattle.wkb_geom.specs.Encodings.{encoding, IsRewriting, IsRewritingWithSrid}
-use Rattle.wkb_geom.specs.Errors.{IsMemory, Tells}
+use Rattle.wkb_geom.specs.Errors.{Tells}
 use Rattle.wkb_geom.specs.Fronts.{Front}
 use Rattle.wkb_geom.specs.Geometries.{geometry_of}
 use Rattle.wkb_check.specs.Bounded.{HasGeometry}
 use Rattle.wkb_check.specs.Public.{DescribesFront, DescribesOnlyFront, IsRefusedFor}
 use Rattle.wkb_check.specs.declared.answer.Refused.{Refused}
 use Rattle.wkb_check.specs.declared.answer.Summary.{Summary}
-use Rattle.wkb_read.specs.Memory.{IsNotMemory}
 use Rattle.wkb_read.specs.Reads.{IsRefusal}
 use Rattle.wkb_rewrite.specs.Rewritings.{IsLong}
 use Rattle.wkb.specs.Canonical.{IsAccepted, HaveOneValue, HaveTwoValues, OverflowsWithSrid}

@@ -17,7 +17,8 @@ pub use Rattle.wkb_view.specs.Coords.{words_seen, ring_seen, coordinate_encoding
 pub use Rattle.wkb_view.specs.Coords.{coord_encoding, ring_order, ring_dimension, ring_encoding, ring_offset}
 pub use Rattle.wkb_view.specs.Coords.{ring_coord_bytes, CoordBytesSpell, RingBytesSpell}
 pub use Rattle.wkb_view.specs.Views.{point_seen, line_string_seen, multi_point_seen, point_layout, line_string_layout}
-pub use Rattle.wkb_view.specs.Views.{multi_point_layout, point_order, point_spelling, line_string_order}
+pub use Rattle.wkb_view.specs.Views.{multi_point_layout, point_dimension, line_string_dimension}
+pub use Rattle.wkb_view.specs.Views.{multi_point_dimension, point_order, point_spelling, line_string_order}
 pub use Rattle.wkb_view.specs.Views.{line_string_spelling, line_string_coordinates, coordinate_in, line_string_offset}
 pub use Rattle.wkb_view.specs.Views.{multi_point_offset, point_value, seen_coordinate, seen_points, point_coord_bytes}
 pub use Rattle.wkb_view.specs.Views.{point_words_bytes, line_string_coord_bytes, line_string_coords_bytes}

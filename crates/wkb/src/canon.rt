@@ -1,20 +1,22 @@
 //! The canonical form: the one encoding of the value at the front of an input. Inputs are checked, and then rewritten
 //! and compared where they are.
 
-ghost use Rattle.std.specs.Prelude.{◌⊎◌, IfOk, IfErr, MatchBool};
+ghost use Rattle.std.specs.Prelude.{◌≡◌, ◌⊎◌, IfOk, IfErr, MatchBool};
 ghost use Rattle.wkb_geom.specs.Errors.{IsMemory};
 ghost use Rattle.wkb_read.specs.Memory.{IsNotMemory};
 ghost use Rattle.wkb_geom.specs.Encodings.{IsRewriting, IsRewritingWithSrid};
 ghost use Rattle.wkb_read.specs.Reads.{IsRefusal};
 ghost use Rattle.wkb_check.specs.Public.{DescribesFront, DescribesOnlyFront};
+ghost use Rattle.wkb_rewrite.specs.Copies.{copied_encoding};
 ghost use Rattle.wkb.specs.Canonical.{IsRewritingUnder, IsRefusedUnder, IsPairRefusal};
 ghost use Rattle.wkb.specs.Canonical.{IsAccepted, HaveOneValue, HaveTwoValues};
 
 use std::alloc::Global;
 use wkb_check::{Summary, check};
 use wkb_geom::error::{WkbError, WkbResult};
+use wkb_geom::header::MAX_HEADER_SIZE;
 use wkb_geom::{Endianness, Form};
-use wkb_rewrite::{Target, encoded_size, have_one_value, put_encoding};
+use wkb_rewrite::{Copied, Target, encoded_size, have_one_value, put_pieces};
 use wkb_write::WriteOptions;
 
 /// The encoding under the options of the geometry at the front of the bytes.
@@ -86,6 +88,19 @@ fn summary_or_error(buf: &[u8]) -> WkbResult<Summary>
     }
 }
 
+/// The encoding whose parts these are.
+fn copied_to_vec(alloc: Global, copied: &Copied) -> WkbResult<Vec<u8>>
+    ensures ok { IfOk result (λ encoding. encoding.items ≡ copied_encoding copied.now) }
+    ensures err { IfErr result IsMemory }
+{
+    let mut header = [0; MAX_HEADER_SIZE];
+    let end = copied.put_header(&mut header);
+    let mut encoding = Vec::with_capacity(alloc, end + copied.rest.len())?;
+    encoding.extend_from_slice(&header[..end])?;
+    encoding.extend_from_slice(copied.rest)?;
+    Ok(encoding)
+}
+
 /// The encoding of the geometry in which the check found this.
 fn rewritten(alloc: Global, buf: &[u8], found: &Summary, target: Target) -> WkbResult<Vec<u8>>
     requires { DescribesFront buf.now found.now }
@@ -93,7 +108,10 @@ fn rewritten(alloc: Global, buf: &[u8], found: &Summary, target: Target) -> WkbR
         (λ encoding. IsRewriting target.order target.form buf.now encoding.items) }
     ensures err { IfErr result IsMemory }
 {
+    if let Some(copied) = Copied::of(buf, found.bytes, target) {
+        return copied_to_vec(alloc, &copied);
+    }
     let mut encoding = vec![in alloc; 0; encoded_size(buf, found.bytes, target.form)]?;
-    put_encoding(buf, target, encoding.as_mut_slice());
+    put_pieces(buf, target, encoding.as_mut_slice());
     Ok(encoding)
 }

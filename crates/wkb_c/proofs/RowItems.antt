@@ -1,5 +1,5 @@
 -- Rows that write their items one after another.
-use Rattle.wkb_c.proofs.Common.{◌≡◌, ◌≢◌, ℕ, zero, suc, ◌+◌, ◌≤◌, ◌<◌, ◌^◌, ◌⊎◌, inl, inr, List, [], ◌∷◌, ◌++◌}
+use Rattle.wkb_c.proofs.Common.{◌≡◌, ◌≢◌, ℕ, zero, suc, ◌+◌, ◌≤◌, ◌<◌, ◌^◌, ◌⊎◌, inl, inr, List, [], ◌++◌}
 use Rattle.wkb_c.proofs.Common.{length, drop, slice_index, refl, ap, sym, ◌∙◌, arith, append_assoc, append-nil}
 use Rattle.wkb_c.proofs.Common.{length-append, drop-drop}
 use Rattle.std.specs.Prelude.{take, ◌-◌, min, slice_range}

@@ -1,15 +1,15 @@
 -- What the C library reports of a result of the check.
-use Rattle.wkb_c.proofs.Common.{◌≡◌, ◌≢◌, ℕ, List, refl, arith, sym, subst, is_some, kind, dimension, Value, point}
+use Rattle.wkb_c.proofs.Common.{◌≡◌, ◌≢◌, ℕ, List, refl, arith, sym, subst, is_some, kind, dimension, Value}
 use Rattle.wkb_c.proofs.Common.{header, Spelling, Spells}
 use Rattle.wkb_geom.specs.Fronts.{Front}
 use Rattle.wkb_geom.specs.Grammar.{Begins}
-use Rattle.wkb_geom.specs.Reading.{type_of, type_kind, type_dimension}
 use Rattle.wkb_geom.specs.declared.error.Cause.TheVariants.{EndOfInput as end_of_input, General as general}
 use Rattle.wkb_geom.specs.declared.error.General.{General as Bad}
 use Rattle.wkb_geom.specs.declared.error.General.TheVariants.{InvalidByteOrder, CodeOutOfRange, UnsupportedDimensions}
 use Rattle.wkb_laws.proofs.Complete.{head_of}
 use Rattle.wkb_check.proofs.Ahead.{Says, says}
 use Rattle.wkb_check.proofs.Public.{geometry_opens}
+use Rattle.wkb_rewrite.specs.Rewritings.{IsLong}
 use Rattle.wkb_check.specs.Bounded.{HasGeometry}
 use Rattle.wkb_check.specs.Public.{DescribesFront}
 use Rattle.wkb_check.specs.declared.answer.Summary.{Summary}
@@ -52,15 +52,6 @@ abbrev pub found_has_parts : (buf : List ℕ) (f : Summary) → DescribesFront b
 found_has_parts buf f d =
     record { s = d.spelled; t = d.value; rest = d.rest; front = d.front; many_are = omega (arith, d.described.parts) }
 
--- the kind and the dimension that the type of a value has
-pub kind_kept : (t : Value) → type_kind (type_of (kind t) (dimension t)) ≡ kind t
-kind_kept (point d c) = refl
-kind_kept _ = refl
-
-pub dimension_kept : (t : Value) → type_dimension (type_of (kind t) (dimension t)) ≡ dimension t
-dimension_kept (point d c) = refl
-dimension_kept _ = refl
-
 -- the bytes of what is in front
 abbrev pub begins : (buf : List ℕ) (s : Spelling) (t : Value) (rest : List ℕ) → Front buf s t rest
     → Begins (Spells s t) buf rest
@@ -78,6 +69,10 @@ count_said buf f d =
 abbrev pub there_is : (buf : List ℕ) (f : Summary) → DescribesFront buf f → HasGeometry buf
 there_is buf f d =
     record { spelled = d.spelled; value = d.value; rest = d.rest; begins = begins buf d.spelled d.value d.rest d.front }
+
+-- and as long as it says
+abbrev pub there_long : (buf : List ℕ) (f : Summary) → DescribesFront buf f → IsLong buf f.bytes
+there_long buf f d = record { geometry = there_is buf f d; long = d.described.bytes_are }
 
 -- the geometry that is accepted
 abbrev pub accepted_there : (buf : List ℕ) → IsAccepted buf → HasGeometry buf

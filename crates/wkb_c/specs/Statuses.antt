@@ -10,9 +10,8 @@ use Rattle.wkb_geom.specs.declared.error.Cause.{Cause}
 use Rattle.wkb_geom.specs.declared.error.Cause.TheVariants.{EndOfInput as end_of_input, General as general}
 use Rattle.wkb_geom.specs.declared.error.Cause.TheVariants.{IncorrectType as incorrect_type}
 use Rattle.wkb_geom.specs.declared.error.Cause.TheVariants.{NestingDepthExceeded as nesting_depth_exceeded}
-use Rattle.wkb_geom.specs.Refusals.{Refuses}
+use Rattle.wkb_geom.specs.Refusals.{Refuses, left_in}
 use Rattle.wkb_rewrite.specs.Inputs.{IsAccepted, HaveOneValue, HaveTwoValues}
-use Rattle.wkb_check.specs.Counted.{left_in}
 use Rattle.wkb_c.specs.Classes.{IsRefusalStatus}
 use Rattle.wkb_c.specs.declared.status.TheConstants.{OK, NO_ROOM, UNKNOWN_OPTION}
 use Rattle.wkb_c.specs.declared.status.TheConstants.{SHORT_HEADER, INVALID_BYTE_ORDER, CODE_OUT_OF_RANGE}
@@ -75,7 +74,7 @@ pub record IsFault (input : List ℕ) (status : ℕ) (fault : WkbFault) : Type 0
   pub offset : ℕ
   pub status_is : status ≡ cause_status cause
   pub fault_is : fault ≡ cause_fault turns offset cause
-  pub begins : offset + left_in refuses ≡ length input
+  pub begins : offset + length (left_in refuses) ≡ length input
 
 -- the first input is refused, or it begins with a geometry and the second is refused; the status and the fault tell
 -- why, and `which` the input

@@ -53,6 +53,6 @@ pub fn write_requested(
             return NO_ROOM;
         }
     }
-    *size = put_encoding(buf, target, out) as u64;
+    *size = put_encoding(buf, found.bytes, target, out) as u64;
     OK
 }

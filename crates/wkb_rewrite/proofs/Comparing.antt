@@ -1,8 +1,7 @@
 -- Values are equal exactly where their shares are.
 use Rattle.std.proofs.Common.{◌≡◌, ◌↔◌, ℕ, ◌&&◌, ◌==◌, List, ◌∷◌, replicate, refl, sym, ap, ◌∙◌, subst, true, false}
 use Rattle.std.proofs.Common.{Bool}
-use Rattle.std.proofs.Common.{zero, suc, ◌*◌, nat_lt, if◌then◌else◌, not}
-use mathlib.Core.Bool.{beq}
+use Rattle.std.proofs.Common.{zero, suc, ◌*◌, nat_lt, if◌then◌else◌}
 use Rattle.wkb_laws.specs.Prelude.{LittleEndian, Iso, AreBytes, Spells}
 use Rattle.wkb_laws.specs.Prelude.{all_nan, empty_word, width}
 use Rattle.wkb_laws.proofs.Values.{AreBytes-front, spelled_good}
@@ -83,15 +82,3 @@ empty_told a x b y k e =
 pub words_as_many : (x y : Piece) → x.kind ≡ y.kind → x.dimension ≡ y.dimension → x.count ≡ y.count
     → word_count x ≡ word_count y
 words_as_many x y k d n = λ i. if nat_lt (k i) 3 then width (d i) * n i else 0
-
-pub bools_differ : (x y : Bool) → not (beq x y) ≡ true → x ≡ y → ⊥
-bools_differ true true e same = cc
-bools_differ true false e same = cc
-bools_differ false true e same = cc
-bools_differ false false e same = cc
-
-pub bools_same : (x y : Bool) → not (beq x y) ≡ false → x ≡ y
-bools_same true true e = refl
-bools_same true false e = absurd cc
-bools_same false true e = absurd cc
-bools_same false false e = refl

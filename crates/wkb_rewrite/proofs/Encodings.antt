@@ -1,5 +1,5 @@
 -- The encoding of a value is that of its shares.
-use Rattle.std.proofs.Common.{◌≡◌, ℕ, ◌+◌, List, [], ◌∷◌, ◌++◌, length, map, refl, sym, ap, ◌∙◌, append-nil}
+use Rattle.std.proofs.Common.{◌≡◌, ℕ, List, [], ◌∷◌, ◌++◌, length, map, refl, sym, ap, ◌∙◌, append-nil}
 use Rattle.std.proofs.Common.{append_assoc}
 use Rattle.std.specs.List.{flat_map, concat}
 use Rattle.wkb_laws.specs.Prelude.{Endianness, Dimension, Form, Iso, Ewkb, Coordinate, Value, Values, no_members}
@@ -25,7 +25,7 @@ abbrev pub shares_encoding : Endianness → Form → List Share → List ℕ
 shares_encoding order form [] = []
 shares_encoding order form (x ∷ xs) = share_encoding order form x ++ shares_encoding order (inner form) xs
 
-inner_twice : (form : Form) → inner (inner form) ≡ inner form
+pub inner_twice : (form : Form) → inner (inner form) ≡ inner form
 inner_twice Iso = refl
 inner_twice (Ewkb srid) = refl
 

@@ -1,5 +1,6 @@
 -- Bytes that hold words.
-use Rattle.std.proofs.Common.{◌≡◌, ℕ, zero, suc, ◌+◌, ◌*◌, ◌≤◌, ◌<◌, List, [], ◌∷◌, ◌++◌, length, take, drop}
+use Rattle.std.proofs.Common.{◌≡◌, ℕ, zero, suc, ◌+◌, ◌*◌, ◌^◌, ◌≤◌, ◌<◌, List, [], ◌∷◌, ◌++◌, length, take}
+use Rattle.std.proofs.Common.{drop}
 use Rattle.std.proofs.Common.{refl, sym, ap, ◌∙◌, subst, arith, length-drop, take-append-drop, take-add, nat_lt, Bool}
 use Rattle.std.proofs.Common.{true, false}
 use Rattle.std.proofs.Common.{◌-◌, ◌/◌, ◌↔◌, if◌then◌else◌, slice_get, Some, append-nil, IsTrue, replicate}
@@ -26,23 +27,23 @@ use Rattle.wkb_check.specs.Pieces.{own_end}
 use Rattle.wkb_sink.specs.Runs.{other}
 use Rattle.wkb_rewrite.specs.Shares.{Holds, own_words, word_count, written_words, is_empty}
 
-taken_bytes : (n : ℕ) (z : List ℕ) → AreBytes z → AreBytes (take n z) × AreBytes (drop n z)
+pub taken_bytes : (n : ℕ) (z : List ℕ) → AreBytes z → AreBytes (take n z) × AreBytes (drop n z)
 taken_bytes n z b =
     let both : AreBytes (take n z ++ drop n z) = subst AreBytes (sym (take-append-drop n z)) b in
     (AreBytes-front (take n z) (drop n z) both, AreBytes-rest (take n z) (drop n z) both)
 
--- eight bytes are those of the word that they hold
-word_held : (order : Endianness) (z : List ℕ) → AreBytes z → 8 ≤ length z
-    → IsWord (number order 8 z) × (take 8 z ≡ number_bytes order 8 (number order 8 z))
-word_held order z b long =
-    let v = number order 8 z in
-    let field = field_taken order 8 z long in
-    let bytes = (taken_bytes 8 z b).0 in
-    let small = number-lt order 8 v (take 8 z) field bytes in (
+-- n bytes are those of the number that they hold
+pub number_held : (order : Endianness) (n : ℕ) (z : List ℕ) → AreBytes z → n ≤ length z
+    → (number order n z < 256 ^ n) × (take n z ≡ number_bytes order n (number order n z))
+number_held order n z b long =
+    let v = number order n z in
+    let field = field_taken order n z long in
+    let bytes = (taken_bytes n z b).0 in
+    let small = number-lt order n v (take n z) field bytes in (
       small,
-      (number_fixed order 8 v).same (take 8 z) (number_bytes order 8 v) field
-          (IsNumber-number_bytes order 8 v small) bytes
-          (number_is_bytes order 8 v),
+      (number_fixed order n v).same (take n z) (number_bytes order n v) field
+          (IsNumber-number_bytes order n v small) bytes
+          (number_is_bytes order n v),
     )
 
 -- the words of n times eight bytes are held by these
@@ -51,7 +52,7 @@ pub words_held : (order : Endianness) (n : ℕ) (z : List ℕ) → AreBytes z �
 unfolding words_encoding
 words_held order zero z b long = record { fit = tt; is = refl }
 words_held order (suc n) z b long =
-    let first = word_held order z b (omega (arith, long)) in
+    let first = number_held order 8 z b (omega (arith, long)) in
     let others = words_held order n (drop 8 z) (taken_bytes 8 z b).1 (omega (arith, long, length-drop 8 z)) in
     record {
       fit = (first.0, others.fit);
@@ -59,19 +60,23 @@ words_held order (suc n) z b long =
           ∙ (λ i. first.1 i ++ others.is i);
     }
 
--- the words of a piece are held by its bytes
-pub own_held : (buf : List ℕ) (p : Piece) → AreBytes buf → own_end p ≤ length buf
-    → Holds p.order (own_words buf p) (take (own_end p - p.offset) (drop p.offset buf))
-own_held buf p b inside =
-    let long : own_end p ≡ p.offset + 8 * word_count p = cases (nat_lt p.kind 3) in
-    subst (λ k. Holds p.order (own_words buf p) (take k (drop p.offset buf))) (omega (arith, long))
-    (words_held p.order (word_count p) (drop p.offset buf) (taken_bytes p.offset buf b).1
-    (omega (arith, long, inside, length-drop p.offset buf)))
+-- a piece's own words end where it does
+pub own_end_is : (p : Piece) → own_end p ≡ p.offset + 8 * word_count p
+own_end_is p = cases (nat_lt p.kind 3)
   where
     cases : (low : Bool) → (if low then p.offset + 8 * width p.dimension * p.count else p.offset)
         ≡ p.offset + 8 * (if low then width p.dimension * p.count else 0)
     cases true = omega arith
     cases false = omega arith
+
+-- the words of a piece are held by its bytes
+pub own_held : (buf : List ℕ) (p : Piece) → AreBytes buf → own_end p ≤ length buf
+    → Holds p.order (own_words buf p) (take (own_end p - p.offset) (drop p.offset buf))
+own_held buf p b inside =
+    let long = own_end_is p in
+    subst (λ k. Holds p.order (own_words buf p) (take k (drop p.offset buf))) (omega (arith, long))
+    (words_held p.order (word_count p) (drop p.offset buf) (taken_bytes p.offset buf b).1
+    (omega (arith, long, inside, length-drop p.offset buf)))
 
 -- as many bytes, and each word where it stands
 pub held_long : (order : Endianness) (words bytes : List ℕ) → Holds order words bytes → length bytes ≡ 8 * length words

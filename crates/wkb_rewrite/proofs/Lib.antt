@@ -7,3 +7,5 @@ mod Walks
 mod Comparing
 pub mod Measured
 mod Encoded
+mod Standing
+mod Copying

@@ -3,16 +3,18 @@ use Rattle.std.proofs.Common.{◌≡◌, ℕ, ◌+◌, ◌*◌, ◌≤◌, List,
 use Rattle.std.proofs.Common.{refl, sym, ap, ◌∙◌, arith, length-append}
 use Rattle.wkb_laws.specs.Prelude.{Endianness, Dimension, Form, Coordinate, AreBytes, Value, Values, no_members, member}
 use Rattle.wkb_laws.specs.Prelude.{dimension, members, Spelling, node, Spellings, no_spellings, spelling, Spells}
-use Rattle.wkb_laws.specs.Prelude.{SpellsEach}
+use Rattle.wkb_laws.specs.Prelude.{SpellsEach, kind, point, line_string, polygon, multi_point, part}
 use Rattle.wkb_laws.specs.Prelude.{Wanted, srid_count, srid_count_each, srid_size, ring_end, form_srid, IsForm}
 use Rattle.wkb_laws.specs.Prelude.{geometry_of, encoding}
 use Rattle.wkb_laws.proofs.Lengths.{spelled_length, encoding_length, value_size, srid_size_is}
 use Rattle.wkb_laws.proofs.OneFront.{one_spelling}
 use Rattle.wkb_laws.proofs.Values.{spelled_good, normal-geometry_of, lawful-geometry_of}
+use Rattle.wkb_geom.specs.Spellings.{Header}
 use Rattle.wkb_check.specs.declared.pieces.Piece.{Piece}
 use Rattle.wkb_check.specs.declared.pieces.Pieces.{Pieces}
 use Rattle.wkb_check.specs.Bounded.{HasGeometry}
-use Rattle.wkb_check.specs.Pieces.{leading, rings_of, size, pieces_of, pieces_of_rings, pieces_of_each, IsAhead}
+use Rattle.wkb_check.specs.Pieces.{leading, rings_of, size, piece_of, pieces_of, pieces_of_rings, pieces_of_each}
+use Rattle.wkb_check.specs.Pieces.{IsAhead}
 use Rattle.wkb_rewrite.specs.Rewritings.{IsLong}
 use Rattle.wkb_rewrite.proofs.Comparing.{geometry_bytes}
 
@@ -58,6 +60,47 @@ mutual
         srids_counted at s t a.front a.first.0,
         each_counted (at + size s t) w ss ts a.rest a.second,
       )
+
+no_member_spelled : (w : Wanted) (ss : Spellings) (x : List ℕ) → SpellsEach w ss no_members x → srid_count_each ss ≡ 0
+no_member_spelled w no_spellings x a = refl
+no_member_spelled w (spelling s ss) x a = absurd a
+
+-- the points of a multi point have none
+points_have_none : (d : Dimension) (ss : Spellings) (ts : Values) (x : List ℕ) → SpellsEach (part 1 d) ss ts x
+    → srid_count_each ss ≡ 0
+points_have_none d no_spellings ts x a = refl
+points_have_none d (spelling s ss) no_members x a = absurd a
+points_have_none d (spelling (node h words us) ss) (member (point e c) ts) x a =
+    omega (
+      arith,
+      ap (λ (some : Bool). srid_size some) (a.first.1.2 refl),
+      srid_size_is (is_some h.srid),
+      no_member_spelled _ us _ a.first.0.second.second,
+      points_have_none d ss ts a.rest a.second,
+    )
+points_have_none d (spelling s ss) (member t ts) x a = absurd (omega (arith, a.first.1.0))
+
+-- up to multi points only the outermost geometry can have one
+none_inside : (h : Header) (words : List ℕ) (ss : Spellings) (t : Value) (x : List ℕ) → Spells (node h words ss) t x
+    → kind t ≤ 4
+    → srid_count_each ss ≡ 0
+none_inside h words ss (multi_point d l) x a low = points_have_none d ss _ a.second.rest a.second.second
+none_inside h words ss (point d c) x a low = no_member_spelled _ ss a.second.rest a.second.second
+none_inside h words ss (line_string d cs) x a low = no_member_spelled _ ss a.second.rest a.second.second
+none_inside h words ss (polygon d rings) x a low = no_member_spelled _ ss a.second.rest a.second.second
+none_inside h words ss _ x a low = absurd (omega (arith, low))
+
+pub own_srid_alone : (at : ℕ) (s : Spelling) (t : Value) (x : List ℕ) → Spells s t x → (p : Piece) → p ≡ piece_of at s t
+    → p.kind ≤ 4
+    → srid_sizes (pieces_of at s t) ≡ srid_size (is_some p.srid)
+own_srid_alone at (node h words ss) t x a p is low =
+    omega (
+      arith,
+      srids_counted at (node h words ss) t x a,
+      none_inside h words ss t x a (omega (arith, low, ap (λ (q : Piece). q.kind) is)),
+      ap (λ (q : Piece). srid_size (is_some q.srid)) is,
+      srid_size_is (is_some h.srid),
+    )
 
 -- whichever geometry is there, it has as many bytes
 pub long_of : (buf : List ℕ) (bytes : ℕ) → IsLong buf bytes → (g : HasGeometry buf) → bytes ≡ length g.begins.front

@@ -13,7 +13,8 @@ use borrow.Rule.Slice.PartMut.{put_mid}
 use Rattle.wkb_check.proofs.Placing.{sets_after}
 use Rattle.wkb_sink.specs.Blocks.{LaysAt}
 use Rattle.wkb_sink.proofs.Lengths.{length-number}
-use Rattle.wkb_rewrite.specs.Shares.{IsPut, header_part, count_part}
+use Rattle.wkb_geom.specs.declared.code.WkbType.{WkbType}
+use Rattle.wkb_rewrite.specs.Shares.{IsPut, type_header, header_part, count_part}
 
 -- a part of a slice that was borrowed
 pub put_part : (all part bytes : List ℕ) (at k : ℕ) → at + k ≤ length all → length bytes ≡ k → part ≡ bytes
@@ -37,15 +38,16 @@ put_length a b i j xs p = ap length p.put ∙ length-sets a i xs
 -- ---- headers
 
 -- a header's three parts, as they are put
-pub header_is : (order : Endianness) (form : Form) (k : ℕ) (d : Dimension) (byte code : ℕ) (srid : Option ℕ) → k ≢ 0
-    → byte ≡ order_byte order → code ≡ code_of form (type_kind (type_of k d)) (type_dimension (type_of k d))
-    → srid ≡ form_srid form
-    → byte ∷ (number_bytes order 4 code ++ srid_encoding order srid) ≡ header_part order form k d
+pub header_is : (order : Endianness) (form : Form) (t : WkbType) (byte code : ℕ) (srid : Option ℕ)
+    → byte ≡ order_byte order → code ≡ code_of form (type_kind t) (type_dimension t) → srid ≡ form_srid form
+    → byte ∷ (number_bytes order 4 code ++ srid_encoding order srid) ≡ type_header order form t
 unfolding header_encoding
-header_is order form k d byte code srid some b c s =
-    (λ i. b i ∷ (number_bytes order 4 (c i) ++ srid_encoding order (s i)))
-    ∙ sym (ap (λ t. if t then []
-    else header_encoding order form (type_kind (type_of k d)) (type_dimension (type_of k d))) (ne_eqb k 0 some))
+header_is order form t byte code srid b c s = λ i. b i ∷ (number_bytes order 4 (c i) ++ srid_encoding order (s i))
+
+-- a piece that is no ring has its type's
+pub piece_header : (order : Endianness) (form : Form) (k : ℕ) (d : Dimension) → k ≢ 0
+    → header_part order form k d ≡ type_header order form (type_of k d)
+piece_header order form k d some = ap (λ t. if t then [] else type_header order form (type_of k d)) (ne_eqb k 0 some)
 
 pub header_long : (order : Endianness) (byte code : ℕ) (srid : Option ℕ)
     → length (byte ∷ (number_bytes order 4 code ++ srid_encoding order srid)) ≡ 5 + length (srid_encoding order srid)

@@ -1,3 +1,4 @@
 pub mod Shares
 pub mod Rewritings
+pub mod Copies
 pub mod Inputs

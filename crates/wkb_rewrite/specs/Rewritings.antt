@@ -1,8 +1,33 @@
 -- What is known of a geometry that is to be rewritten.
-use Rattle.std.specs.Prelude.{◌≡◌, ℕ, List, length}
+use Rattle.std.specs.Prelude.{◌≡◌, ◌≢◌, ℕ, ◌+◌, List, length, drop, None, false, true, Bool}
+use Rattle.wkb_geom.specs.declared.common.Endianness.{Endianness}
+use Rattle.wkb_geom.specs.declared.common.Form.{Form}
+use Rattle.wkb_geom.specs.Encodings.{type_code}
+use Rattle.wkb_geom.specs.Numbers.{number}
+use Rattle.wkb_geom.specs.Reading.{type_of}
 use Rattle.wkb_check.specs.Bounded.{HasGeometry}
+use Rattle.wkb_check.specs.Pieces.{IsAhead, IsTaken, IsInside}
+use Rattle.wkb_check.specs.declared.pieces.Piece.{Piece}
+use Rattle.wkb_check.specs.declared.pieces.Pieces.{Pieces}
+use Rattle.wkb_check.specs.declared.pieces.TheConstants.{RING}
+use Rattle.wkb_rewrite.specs.Shares.{is_empty}
 
 -- a geometry of so many bytes is at the front of these bytes
 pub record IsLong (buf : List ℕ) (bytes : ℕ) : Type 0 where
   pub geometry : HasGeometry buf
   pub long : bytes ≡ length geometry.begins.front
+
+-- a piece has the order and the code that are written of it under a form without an SRID, and is no empty point
+pub record StandsAsWritten (order : Endianness) (form : Form) (buf : List ℕ) (p : Piece) : Type 0 where
+  pub order_is : p.order ≡ order
+  pub plain : p.srid ≡ None
+  pub code : p.kind ≢ RING → number order 4 (drop (p.begin + 1) buf) ≡ type_code form (type_of p.kind p.dimension)
+  pub some : is_empty buf p ≡ false
+
+-- the walk passed the next piece, and these are told apart: one that stands as it is written, and one that may not
+pub record HasPassed (order : Endianness) (form : Form) (buf : List ℕ) (old new : Pieces) (stands : Bool) : Type 0 where
+  pub piece : Piece
+  pub steps : (xs : List Piece) → IsAhead old xs → IsTaken new xs piece
+  pub inside : IsInside old.bytes.now old.at new.at piece
+  pub same : new.bytes.now ≡ old.bytes.now
+  pub is : stands ≡ true → StandsAsWritten order form buf piece

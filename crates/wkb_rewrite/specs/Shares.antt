@@ -7,6 +7,7 @@ use Rattle.wkb_geom.specs.declared.common.Dimension.{Dimension}
 use Rattle.wkb_geom.specs.declared.common.Endianness.{Endianness}
 use Rattle.wkb_geom.specs.declared.common.Form.{Form}
 use Rattle.wkb_geom.specs.declared.code.TheConstants.{POINT, POLYGON}
+use Rattle.wkb_geom.specs.declared.code.WkbType.{WkbType}
 use Rattle.wkb_geom.specs.Dimensions.{width}
 use Rattle.wkb_geom.specs.Encodings.{header_encoding, words_encoding}
 use Rattle.wkb_geom.specs.Numbers.{IsWord, number, number_bytes, all_nan, empty_word}
@@ -46,10 +47,13 @@ abbrev pub share_in : List ℕ → Piece → Share
 share_in buf p =
     record { kind = p.kind; dimension = p.dimension; count = p.count; words = written_words buf p }
 
+-- the header of a geometry of this type
+abbrev pub type_header : Endianness → Form → WkbType → List ℕ
+type_header order form t = header_encoding order form (type_kind t) (type_dimension t)
+
 -- its encoding has three parts: a ring has no header, and a point no count
 abbrev pub header_part : Endianness → Form → ℕ → Dimension → List ℕ
-header_part order form k d =
-    if k == RING then [] else header_encoding order form (type_kind (type_of k d)) (type_dimension (type_of k d))
+header_part order form k d = if k == RING then [] else type_header order form (type_of k d)
 
 abbrev pub count_part : Endianness → ℕ → ℕ → List ℕ
 count_part order k n = if k == POINT then [] else number_bytes order 4 n

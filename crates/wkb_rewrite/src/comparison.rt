@@ -18,11 +18,8 @@ fn have_same_words(a: &[u8], x: &Piece, b: &[u8], y: &Piece) -> bool
     requires count { x.now.count ≡ y.now.count }
     ensures { IsTrue result ↔ (written_words a.now x.now ≡ written_words b.now y.now) }
 {
-    let (x_is_empty, y_is_empty) = (is_empty_point(a, x), is_empty_point(b, y));
-    if x_is_empty != y_is_empty {
-        return false;
-    }
-    x_is_empty || hold_same_words(own_bytes(a, x), x.order, own_bytes(b, y), y.order)
+    hold_same_words(own_bytes(a, x), x.order, own_bytes(b, y), y.order)
+        || (is_empty_point(a, x) && is_empty_point(b, y))
 }
 
 /// Whether two pieces say the same of their values.

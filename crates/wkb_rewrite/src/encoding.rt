@@ -1,19 +1,21 @@
 //! The encoding of a geometry that is known to be there, piece by piece.
 
-ghost use Rattle.std.specs.Prelude.{◌≡◌, ◌+◌, ◌≤◌, length, is_some, Option};
+ghost use Rattle.std.specs.Prelude.{◌≡◌, ◌+◌, ◌≤◌, length};
 ghost use lib.Seq.{sets};
 ghost use Rattle.wkb_geom.specs.declared.common.Endianness.{Endianness};
 ghost use Rattle.wkb_geom.specs.declared.words.TheConstants.{COUNT_SIZE};
 ghost use Rattle.wkb_geom.specs.Encodings.{encoding, IsForm, form_srid};
 ghost use Rattle.wkb_geom.specs.Geometries.{geometry_of};
-ghost use Rattle.wkb_geom.specs.Refusals.{srid_size as size_of_srid};
 ghost use Rattle.wkb_check.specs.Bounded.{HasGeometry};
 ghost use Rattle.wkb_rewrite.specs.Rewritings.{IsLong};
 
+use crate::copied::Copied;
+use crate::own::srid_size;
 use crate::put::put_piece;
 use crate::target::Target;
-use wkb_check::Pieces;
+use wkb_check::{Piece, Pieces};
 use wkb_geom::Form;
+use wkb_geom::code::MULTI_POINT;
 use wkb_geom::words::COUNT_SIZE;
 
 /// The SRID that is written under a form.
@@ -28,14 +30,6 @@ fn srid_of(form: Form) -> Option<u32>
     }
 }
 
-/// The size of an SRID, where there is one.
-#[inline(always)]
-fn srid_size(srid: Option<u32>) -> usize
-    ensures { result ≡ size_of_srid (is_some srid) }
-{
-    if srid.is_some() { COUNT_SIZE } else { 0 }
-}
-
 /// The size of the encoding under a form of a geometry that is known to be at the front of these bytes, and to have so
 /// many of them itself. Any order gives this size.
 pub fn encoded_size(buf: &[u8], bytes: usize, form: Form) -> usize
@@ -46,6 +40,11 @@ pub fn encoded_size(buf: &[u8], bytes: usize, form: Form) -> usize
 {
     // Only SRIDs make an encoding longer or shorter.
     let mut size = bytes + srid_size(srid_of(form));
+    let first = Piece::geometry_at(buf, 0);
+    if first.kind <= MULTI_POINT {
+        // Rings and the points of a multi point have none.
+        return size - srid_size(first.srid);
+    }
     let mut pieces = Pieces::of(buf);
     while let Some(piece) = pieces.next() {
         size -= srid_size(piece.srid);
@@ -55,7 +54,7 @@ pub fn encoded_size(buf: &[u8], bytes: usize, form: Form) -> usize
 
 /// Puts the encoding of a geometry that is known to be at the front of these bytes at the front of a slice, which has
 /// room for it, and returns its size. What comes after it in the slice stays as it was.
-pub fn put_encoding(buf: &[u8], target: Target, out: &mut [u8]) -> usize
+pub fn put_pieces(buf: &[u8], target: Target, out: &mut [u8]) -> usize
     requires here { HasGeometry buf.now }
     requires room { (g : HasGeometry buf.now)
         → length (encoding target.order target.form (geometry_of g.value)) ≤ length out.old }
@@ -73,4 +72,21 @@ pub fn put_encoding(buf: &[u8], target: Target, out: &mut [u8]) -> usize
         form = form.inner();
     }
     at
+}
+
+/// As `put_pieces`, for a geometry that is known to have so many bytes itself. Where all that follows its header stands
+/// as it is written, it is copied at once.
+pub fn put_encoding(buf: &[u8], bytes: usize, target: Target, out: &mut [u8]) -> usize
+    requires here { IsLong buf.now bytes }
+    requires room { (g : HasGeometry buf.now)
+        → length (encoding target.order target.form (geometry_of g.value)) ≤ length out.old }
+    ensures size { (g : HasGeometry buf.now)
+        → result ≡ length (encoding target.order target.form (geometry_of g.value)) }
+    ensures put { (g : HasGeometry buf.now)
+        → out.new ≡ sets out.old 0 (encoding target.order target.form (geometry_of g.value)) }
+{
+    match Copied::of(buf, bytes, target) {
+        Some(copied) => copied.put(out),
+        None => put_pieces(buf, target, out),
+    }
 }

@@ -1,5 +1,6 @@
 //! Geometries over columns of coordinates, as GeoArrow has them: the words of all coordinates in one slice, and for
-//! each level where its items end. A row has singles, a single has rings, a ring has coordinates. They allocate nothing.
+//! each level where its items end. A row has singles, a single has rings, a ring has coordinates. They allocate
+//! nothing.
 //!
 //! A column's rows are asked for in turn, with one `Place` that says how far the rows before reach:
 //!

@@ -1,5 +1,15 @@
+use Rattle.std.proofs.Common.{sym, ◌∙◌}
+use Rattle.std.proofs.lemmas.Result.{IfOk-weaker}
 use Rattle.wkb.proofs.Rewritten.{here, as_long, filled, made}
 use Rattle.wkb.proofs.canon.rewritten.Goals as goal
+
+pub of-requires : goal.of-requires
+of-requires c = as_long c.requires
+
+pub returns-in-Some-clause-ok : goal.returns-in-Some-clause-ok
+returns-in-Some-clause-ok c =
+    IfOk-weaker c.copied_to_vec.result _ _
+    (λ encoding is. made c.requires (is ∙ sym (c.in-Some.ensures (here c.requires)))) c.copied_to_vec.ensures.ok
 
 pub encoded_size-requires : goal.encoded_size-requires
 encoded_size-requires c = as_long c.requires
@@ -7,8 +17,8 @@ encoded_size-requires c = as_long c.requires
 pub returns-clause-ok : goal.returns-clause-ok
 returns-clause-ok c =
     let found = here c.requires in
-    let put = c.put_encoding.ensures.put found in
+    let put = c.put_pieces.ensures.put found in
     made c.requires
-    (filled _ c.as_mut_slice.result.now c.put_encoding.new.out c.in_ok-encoding.encoding.items
+    (filled _ c.as_mut_slice.result.now c.put_pieces.new.out c.in_ok-encoding.encoding.items
     c.in_ok-encoding.encoding.len c.encoded_size.result c.as_mut_slice.ensures.len c.in_ok-encoding.ensures.len
     (c.encoded_size.ensures.size c.args.target.order found) put)

@@ -4,14 +4,12 @@ use Rattle.wkb_geom.specs.Geometries.{geometry_of}
 use Rattle.wkb_check.specs.Bounded.{HasGeometry}
 use Rattle.wkb_rewrite.proofs.Measured.{at_most}
 use Rattle.wkb_c.proofs.Encodings.{handed_out, finds_no_room}
-use Rattle.wkb_c.proofs.Telling.{there_is}
+use Rattle.wkb_c.proofs.Telling.{there_is, there_long}
 use Rattle.wkb_c.proofs.encoding.write_requested.Goals as goal
 use Rattle.wkb_c.proofs.encoding.write_requested.Goals.{Joined-out-buf, then-out-buf+else-out-wanted, else-out-buf}
 
 pub encoded_size-wanted-requires : goal.encoded_size-wanted-requires
-encoded_size-wanted-requires c =
-    let d = c.requires in
-    record { geometry = there_is c.args.buf.now c.args.found.now d; long = d.described.bytes_are }
+encoded_size-wanted-requires c = there_long c.args.buf.now c.args.found.now c.requires
 
 pub returns-then-out-wanted-clause-no_room : goal.returns-then-out-wanted-clause-no_room
 returns-then-out-wanted-clause-no_room c = λ told.
@@ -37,6 +35,9 @@ fits c g =
         w.if-out-buf.false,
       )
     ]
+
+pub put_encoding-requires-clause-here : goal.put_encoding-requires-clause-here
+put_encoding-requires-clause-here c = there_long c.args.buf.now c.args.found.now c.requires
 
 pub put_encoding-requires-clause-room : goal.put_encoding-requires-clause-room
 put_encoding-requires-clause-room c = fits (goal.at.put_encoding-requires-clause-room c).Joined-out-buf

@@ -1,6 +1,7 @@
 use Rattle.wkb_c.proofs.Common.{◌≡◌, ◌∙◌, ap, sym, number, drop, is_some, header}
 use Rattle.wkb_geom.specs.Reading.{type_kind, body_start}
-use Rattle.wkb_c.proofs.Telling.{count_said, kind_kept}
+use Rattle.wkb_check.proofs.Ahead.{type_kind_is}
+use Rattle.wkb_c.proofs.Telling.{count_said}
 use Rattle.wkb_c.proofs.found.content_of.Goals.{then-is_some, else-is_some}
 use Rattle.wkb_c.proofs.found.content_of.Goals as goal
 
@@ -14,4 +15,4 @@ returns-else-kind-eq-POINT-clause-count c = λ d.
     let said = count_said c.args.buf.now c.args.summary.now d in
     c.u32_at.ensures ∙ (λ i. number (d.described.order i) 4 (drop (body i) c.args.buf.now))
     ∙ (said.counts (λ e. c.if-kind-eq-POINT.false
-    (c.kind.ensures ∙ ap type_kind d.described.wkb_type ∙ kind_kept d.value ∙ e))).1
+    (c.kind.ensures ∙ ap type_kind d.described.wkb_type ∙ type_kind_is d.value ∙ e))).1

@@ -2,14 +2,14 @@ use Rattle.wkb_c.proofs.Common.{ap, ◌∙◌, arith, Option, ℕ, is_some, unwr
 use mir.Val.{bool_byte as from_bool}
 use Rattle.wkb_geom.specs.Codes.{thousands}
 use Rattle.wkb_geom.specs.Reading.{type_kind, type_dimension}
-use Rattle.wkb_c.proofs.Telling.{kind_kept, dimension_kept}
+use Rattle.wkb_check.proofs.Ahead.{type_kind_is, type_dimension_is}
 use Rattle.wkb_c.proofs.found.found_of.Goals as goal
 
 pub returns : goal.returns
 returns c =
     let d = c.requires in
     let same = d.described.wkb_type in
-    let dimension_same = c.dimension-dimension.ensures ∙ ap type_dimension same ∙ dimension_kept d.value in
+    let dimension_same = c.dimension-dimension.ensures ∙ ap type_dimension same ∙ type_dimension_is d.value in
     let srid = d.described.srid in
     record {
       s = d.spelled;
@@ -21,7 +21,7 @@ returns c =
       coordinates_are = d.described.coordinates;
       offset_is = c.content_of-offset.ensures.offset d;
       count_is = c.content_of-offset.ensures.count d;
-      kind_is = c.kind.ensures ∙ ap type_kind same ∙ kind_kept d.value;
+      kind_is = c.kind.ensures ∙ ap type_kind same ∙ type_kind_is d.value;
       dimension_is = c.dimension_number.ensures ∙ ap thousands dimension_same;
       width_is = c.width_number.ensures ∙ ap width dimension_same;
       has_srid_is = c.from.ensures ∙ ap from_bool (c.is_some.ensures ∙ ap is_some srid);

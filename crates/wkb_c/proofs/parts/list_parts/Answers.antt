@@ -21,4 +21,4 @@ returns-clause-listed c = λ ok.
     let f = c.found_of-whole.ensures in
     table_put c.args.buf.now c.found_of-whole.result.parts c.args.parts.now c.put_geometries.new.parts
     (parts_found c.args.buf.now c.found_of-whole.result f) (omega (arith, c.if-parts-whole.false))
-    (c.put_geometries.ensures.put f.rest (one_geometry c.args.buf.now f.s f.t f.rest f.front))
+    (c.put_geometries.ensures f.rest (one_geometry c.args.buf.now f.s f.t f.rest f.front)).put

@@ -2,9 +2,9 @@ use Rattle.std.proofs.Common.{◌≡◌, ◌+◌, arith, ap, length, ◌∙◌, 
 use Rattle.wkb_laws.specs.Prelude.{AreBytes, Endianness, LittleEndian, srid_size, form_srid, encoding, geometry_of}
 use Rattle.wkb_check.specs.Bounded.{HasGeometry}
 use Rattle.wkb_rewrite.proofs.Walks.{nothing_ahead}
-use Rattle.wkb_rewrite.proofs.Measured.{srid_sizes, long_of, measured, most_srid}
+use Rattle.wkb_rewrite.proofs.Measured.{srid_sizes, long_of, measured, most_srid, own_srid_alone}
 use Rattle.wkb_rewrite.proofs.encoding.encoded_size.Goals as goal
-use Rattle.wkb_rewrite.proofs.encoding.encoded_size.Goals.{In_default}
+use Rattle.wkb_rewrite.proofs.encoding.encoded_size.Goals.{In_default, Then-first-le-MULTI_POINT}
 
 pub overflow_add-size : goal.overflow_add-size
 overflow_add-size c =
@@ -17,6 +17,35 @@ overflow_add-size c =
       ap length g.begins.whole,
       length-append g.begins.front g.rest,
     )
+
+-- where only the outermost geometry can have an SRID
+alone : (c : Then-first-le-MULTI_POINT) (order : Endianness) (g : HasGeometry c.args.buf.now)
+    → c.args.bytes + c.srid_size.result
+    ≡ length (encoding order c.args.form (geometry_of g.value)) + srid_size (is_some c.geometry_at-first.result.srid)
+alone c order g =
+    omega (
+      arith,
+      c.srid_size.ensures,
+      ap (λ o. srid_size (is_some o)) c.srid_of.ensures.is,
+      measured order c.args.form c.args.buf.now c.args.bytes g (λ i. (c.type_inv.buf i).fits) c.srid_of.ensures.form
+          (long_of c.args.buf.now c.args.bytes c.requires g),
+      own_srid_alone 0 g.spelled g.value g.begins.front g.begins.first c.geometry_at-first.result
+          (c.geometry_at-first.ensures g) c.if-first-le-MULTI_POINT.true,
+    )
+
+pub overflow_sub-result : goal.overflow_sub-result
+overflow_sub-result c =
+    let step = (goal.at.overflow_sub-result c).Then-first-le-MULTI_POINT in
+    omega (
+      arith,
+      alone step LittleEndian c.requires.geometry,
+      c.srid_size-then-first-le-MULTI_POINT.ensures,
+    )
+
+pub returns-then-first-le-MULTI_POINT-clause-size : goal.returns-then-first-le-MULTI_POINT-clause-size
+returns-then-first-le-MULTI_POINT-clause-size c = λ order g.
+    let step = (goal.at.returns-then-first-le-MULTI_POINT-clause-size c).Then-first-le-MULTI_POINT in
+    omega (arith, alone step order g, c.srid_size-then-first-le-MULTI_POINT.ensures)
 
 pub loop-piece-init : goal.loop-piece-init
 loop-piece-init c = λ order g. record {

@@ -2,7 +2,7 @@ use Rattle.std.proofs.Common.{◌-◌, length}
 use Rattle.wkb_laws.specs.Prelude.{geometry_of, encoding}
 use Rattle.wkb_check.specs.Bounded.{HasGeometry}
 use Rattle.wkb_rewrite.proofs.Encoded.{Left}
-use Rattle.wkb_rewrite.proofs.encoding.put_encoding.Given as goal
+use Rattle.wkb_rewrite.proofs.encoding.put_pieces.Given as goal
 
 abbrev pub decreases-loop-piece : goal.decreases-loop-piece
 decreases-loop-piece l = length l.pieces.bytes.now - l.pieces.at

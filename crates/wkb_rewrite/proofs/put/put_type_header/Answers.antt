@@ -1,22 +1,19 @@
-use Rattle.std.proofs.Common.{◌≡◌, ◌≤◌, ◌+◌, ◌∷◌, ◌++◌, [], arith, length, subst, ap, ◌∙◌, length-set, List, ℕ}
-use Rattle.wkb_laws.specs.Prelude.{number_bytes, srid_encoding, code_of, type_kind, type_dimension}
-use Rattle.wkb_rewrite.specs.Shares.{IsPut, header_part}
+use Rattle.std.proofs.Common.{◌≡◌, ◌≤◌, ◌+◌, ◌∷◌, ◌++◌, [], arith, length, subst, ap, length-set, List, ℕ}
+use Rattle.wkb_laws.specs.Prelude.{number_bytes, srid_encoding}
+use Rattle.wkb_rewrite.specs.Shares.{IsPut, type_header}
 use Rattle.wkb_rewrite.proofs.Putting.{header_is, header_long, byte_put, put_on, put_length, put_end}
-use Rattle.wkb_rewrite.proofs.put.put_header.Goals as goal
-use Rattle.wkb_rewrite.proofs.put.put_header.Goals.{After-byte}
+use Rattle.wkb_rewrite.proofs.put.put_type_header.Goals as goal
+use Rattle.wkb_rewrite.proofs.put.put_type_header.Goals.{After-byte}
 
 -- what is put is the header
 whole : (c : After-byte)
     → ◌≡◌ {A = List ℕ} (c.byte.result
     ∷ (number_bytes c.args.target.order 4 c.code_and_srid-code.result.0
     ++ srid_encoding c.args.target.order c.code_and_srid-code.result.1))
-    (header_part c.args.target.order c.args.target.form c.args.piece.now.kind c.args.piece.now.dimension)
+    (type_header c.args.target.order c.args.target.form c.args.wkb_type)
 whole c =
-    header_is c.args.target.order c.args.target.form c.args.piece.now.kind c.args.piece.now.dimension c.byte.result
-    c.code_and_srid-code.result.0 c.code_and_srid-code.result.1 c.if-piece-eq-RING.false c.byte.ensures
-    (c.code_and_srid-code.ensures.code
-    ∙ (λ i. code_of c.args.target.form (type_kind (c.of_kind.ensures i)) (type_dimension (c.of_kind.ensures i))))
-    c.code_and_srid-code.ensures.srid
+    header_is c.args.target.order c.args.target.form c.args.wkb_type c.byte.result c.code_and_srid-code.result.0
+    c.code_and_srid-code.result.1 c.byte.ensures c.code_and_srid-code.ensures.code c.code_and_srid-code.ensures.srid
 
 room : (c : After-byte)
     → c.args.at + (5 + length (srid_encoding c.args.target.order c.code_and_srid-code.result.1)) ≤ length c.args.out.now

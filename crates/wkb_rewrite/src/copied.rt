@@ -1,0 +1,171 @@
+//! Encodings that stand in the input but for their headers, so that a copy makes them.
+
+ghost use Rattle.std.specs.Prelude.{◌≡◌, ◌≢◌, ◌+◌, ◌-◌, ◌≤◌, ◌<◌, List, length, take, drop, IfSome, None, []};
+ghost use Rattle.std.specs.Prelude.{true, false};
+ghost use Rattle.wkb_geom.specs.declared.header.TheConstants.{MEMBER_HEADER_SIZE, MAX_HEADER_SIZE};
+ghost use Rattle.wkb_geom.specs.Encodings.{encoding, type_code};
+ghost use Rattle.wkb_geom.specs.Geometries.{geometry_of};
+ghost use Rattle.wkb_geom.specs.Numbers.{number};
+ghost use Rattle.wkb_geom.specs.Reading.{type_of};
+ghost use Rattle.wkb_check.specs.Bounded.{HasGeometry};
+ghost use Rattle.wkb_check.specs.Pieces.{own_end, IsAhead, HasAhead};
+ghost use Rattle.wkb_check.specs.declared.pieces.TheConstants.{RING};
+ghost use Rattle.wkb_rewrite.specs.Shares.{IsPut, is_empty};
+ghost use Rattle.wkb_rewrite.specs.Rewritings.{IsLong, StandsAsWritten, HasPassed};
+ghost use Rattle.wkb_rewrite.specs.Copies.{copied_header, copied_encoding};
+
+use crate::own::{is_empty_point, srid_size};
+use crate::put::put_type_header;
+use crate::target::{Target, inner_form};
+use wkb_check::{Piece, Pieces, RING};
+use wkb_geom::code::{WkbType, of_kind};
+use wkb_geom::header::MEMBER_HEADER_SIZE;
+use wkb_geom::words::u32_at;
+use wkb_geom::{Endianness, Form};
+use wkb_sink::block::code_and_srid;
+
+/// An encoding in two parts: a header, and bytes that stand in the input as they are written.
+#[derive(Drop)]
+pub struct Copied<'a> {
+    pub target: Target,
+    pub wkb_type: WkbType,
+    /// What follows the header.
+    pub rest: &'a [u8],
+}
+
+/// Whether the words of a piece stand as they are written in an order.
+#[inline(always)]
+fn has_written_words(buf: &[u8], piece: &Piece, order: Endianness) -> bool
+    requires { own_end piece.now ≤ length buf.now }
+    ensures order { result ≡ true → piece.now.order ≡ order }
+    ensures some { result ≡ true → is_empty buf.now piece.now ≡ false }
+{
+    piece.order == order && !is_empty_point(buf, piece)
+}
+
+/// Whether a geometry has the code that is written of it under a form without an SRID; a ring has none.
+#[inline(always)]
+fn has_written_code(buf: &[u8], piece: &Piece, order: Endianness, form: Form) -> bool
+    requires { piece.now.kind ≢ RING → piece.now.begin + MEMBER_HEADER_SIZE ≤ length buf.now }
+    ensures { result ≡ true → piece.now.kind ≢ RING
+        → number order 4 (drop (piece.now.begin + 1) buf.now)
+        ≡ type_code form (type_of piece.now.kind piece.now.dimension) }
+{
+    if piece.kind == RING {
+        return true;
+    }
+    let (code, _) = code_and_srid(form, of_kind(piece.kind, piece.dimension));
+    u32_at(buf, piece.begin + 1, order) == code
+}
+
+/// Whether a piece stands as it is written inside a geometry.
+#[inline(always)]
+fn stands_as_written(buf: &[u8], piece: &Piece, order: Endianness, form: Form) -> bool
+    requires header { piece.now.kind ≢ RING
+        → piece.now.begin + MEMBER_HEADER_SIZE ≤ length buf.now }
+    requires inside { own_end piece.now ≤ length buf.now }
+    ensures { result ≡ true → StandsAsWritten order form buf.now piece.now }
+{
+    has_written_words(buf, piece, order)
+        && piece.srid.is_none()
+        && has_written_code(buf, piece, order, form)
+}
+
+/// Passes the next piece, if one is to come, and tells whether it stands as it is written inside a geometry.
+#[inline(always)]
+fn pass_next(buf: &[u8], pieces: &mut Pieces<'_>, order: Endianness, form: Form) -> Option<bool>
+    requires ahead { HasAhead pieces.old }
+    requires here { pieces.old.bytes.now ≡ buf.now }
+    ensures none { result ≡ None → (xs : List Piece) → IsAhead pieces.old xs → xs ≡ [] }
+    ensures passed { IfSome result (HasPassed order form buf.now pieces.old pieces.new) }
+    ensures further { IfSome result (λ _. pieces.old.at < pieces.new.at) }
+    ensures same { pieces.new.bytes.now ≡ pieces.old.bytes.now }
+{
+    // Most pieces are bare, and the test of these is short.
+    if let Some(piece) = pieces.next_bare(order) {
+        return Some(stands_as_written(buf, &piece, order, form));
+    }
+    let piece = pieces.next()?;
+    Some(stands_as_written(buf, &piece, order, form))
+}
+
+/// The bytes from one index to another.
+#[inline(always)]
+fn between(buf: &[u8], start: usize, end: usize) -> &[u8]
+    requires rise { start ≤ end }
+    requires inside { end ≤ length buf.now }
+    ensures { result.now ≡ take (end - start) (drop start buf.now) }
+{
+    &buf[start..end]
+}
+
+impl<'a> Copied<'a> {
+    /// The encoding of a geometry that is known to be at the front of these bytes, and to have so many of them itself,
+    /// where all that follows its header stands as it is written.
+    pub fn of(buf: &'a [u8], bytes: usize, target: Target) -> Option<Copied<'a>>
+        requires { IsLong buf.now bytes }
+        ensures { IfSome result (λ c. (g : HasGeometry buf.now)
+            → encoding target.order target.form (geometry_of g.value) ≡ copied_encoding c) }
+    {
+        let form = target.form;
+        // In each arm the order is a constant, for which the walk is compiled.
+        match target.order {
+            Endianness::BigEndian => {
+                let order = Endianness::BigEndian;
+                Copied::by_walk(buf, bytes, Target { order, form })
+            }
+            Endianness::LittleEndian => {
+                let order = Endianness::LittleEndian;
+                Copied::by_walk(buf, bytes, Target { order, form })
+            }
+        }
+    }
+
+    #[inline(always)]
+    fn by_walk(buf: &'a [u8], bytes: usize, target: Target) -> Option<Copied<'a>>
+        requires { IsLong buf.now bytes }
+        ensures { IfSome result (λ c. (g : HasGeometry buf.now)
+            → encoding target.order target.form (geometry_of g.value) ≡ copied_encoding c) }
+    {
+        let mut pieces = Pieces::of(buf);
+        let Some(first) = pieces.next() else {
+            return None;
+        };
+        if !has_written_words(buf, &first, target.order) {
+            return None;
+        }
+        let form = inner_form(target.form);
+        while let Some(stands) = pass_next(buf, &mut pieces, target.order, form) {
+            if !stands {
+                return None;
+            }
+        }
+        let start = MEMBER_HEADER_SIZE + srid_size(first.srid);
+        Some(Copied {
+            target,
+            wkb_type: of_kind(first.kind, first.dimension),
+            rest: between(buf, start, bytes),
+        })
+    }
+
+    /// Puts its header at the front of a slice that is as long as any header, and returns the index after it.
+    #[inline(always)]
+    pub fn put_header(&self, out: &mut [u8]) -> usize
+        requires { MAX_HEADER_SIZE ≤ length out.old }
+        ensures header { take result out.new ≡ copied_header self.now }
+        ensures inside { result ≤ length out.new }
+    {
+        put_type_header(self.wkb_type, self.target, out, 0)
+    }
+
+    /// Puts the encoding at the front of a slice, and returns the index after it.
+    pub fn put(&self, out: &mut [u8]) -> usize
+        requires { length (copied_encoding self.now) ≤ length out.old }
+        ensures { IsPut out.old out.new 0 result (copied_encoding self.now) }
+    {
+        let start = put_type_header(self.wkb_type, self.target, out, 0);
+        let end = start + self.rest.len();
+        out[start..end].copy_from_slice(self.rest);
+        end
+    }
+}
