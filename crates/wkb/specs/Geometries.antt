@@ -5,7 +5,7 @@ pub use Rattle.wkb_geom.specs.Geometries.{no_geometries, geometry, geometries, I
 pub use Rattle.wkb_geom.specs.Geometries.{IsGeometry, AreGeometries, rectangle_ring, triangle_ring, normal_point}
 pub use Rattle.wkb_geom.specs.Geometries.{normal, normal_each, geometry_of, geometries_of, dimensions_of}
 pub use Rattle.wkb_geom.specs.Found.{IsItemAt, HasDimensions}
-pub use Rattle.wkb_geom.specs.Sizes.{byte_size, byte_sizes}
+pub use Rattle.wkb_geom.specs.Sizes.{byte_size, byte_sizes, rings_size}
 pub use Rattle.wkb_geom.specs.Parts.{PointMembers, LineStringMembers, PolygonMembers, MultiPointMembers}
 pub use Rattle.wkb_geom.specs.Parts.{MultiLineStringMembers, MultiPolygonMembers, CollectionMembers, RectMembers}
 pub use Rattle.wkb_geom.specs.Parts.{TriangleMembers, LineMembers, point_meant, line_string_meant, polygon_meant}

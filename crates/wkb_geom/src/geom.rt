@@ -9,8 +9,9 @@ ghost use Rattle.std.specs.List.{AllByRecursion, flat_map, concat};
 ghost use Rattle.wkb_geom.specs.declared.common.Dimensions.{Dimensions};
 ghost use Rattle.wkb_geom.specs.Dimensions.{size};
 ghost use Rattle.wkb_geom.specs.Found.{IsItemAt, HasDimensions};
-ghost use Rattle.wkb_geom.specs.Geometries.{Geometry, dimensions_of, geometries, IsCoordinate};
+ghost use Rattle.wkb_geom.specs.Geometries.{Geometry, dimensions_of, geometries, polygon, IsCoordinate};
 ghost use Rattle.wkb_geom.specs.Geometries.{IsPoint, AreCoordinates, IsGeometry, AreGeometries};
+ghost use Rattle.wkb_geom.specs.Sizes.{rings_size};
 ghost use Rattle.wkb_geom.specs.Parts.{PointMeans, LineStringMeans, PolygonMeans, MultiPointMeans};
 ghost use Rattle.wkb_geom.specs.Parts.{MultiLineStringMeans, MultiPolygonMeans, CollectionMeans};
 ghost use Rattle.wkb_geom.specs.Parts.{RectMeans, TriangleMeans, LineMeans};
@@ -161,6 +162,18 @@ pub trait PolygonTrait: Dimensioned {
     fn interior(&self, i: usize) -> Option<Self::RingType>
         ensures value { IsItemAt Self.RingType.coordinates result (rings self.now) (i + 1) }
         ensures dimensions { HasDimensions Self.RingType.dimensions result (Self.dimensions self.now) };
+
+    /// The size of the encoding without its header, in bytes, if it is known without a look at each ring.
+    ///
+    /// None, too, where the polygon can't be written. An implementation may leave this method out: the writer then
+    /// measures each ring.
+    #[inline]
+    fn rings_size(&self) -> Option<usize>
+        ensures size { IfSome result (λ n. n ≡ rings_size (Self.dimensions self.now) (rings self.now)) }
+        ensures writable { IfSome result (λ _. fault (polygon (Self.dimensions self.now) (rings self.now)) ≡ None) }
+    {
+        None
+    }
 
     ghost lawful: { (p : Self) → AllByRecursion (AreCoordinates (Self.dimensions p)) (rings p) };
 }

@@ -104,7 +104,7 @@ impl Head {
 
 impl Layout {
     ghost use Rattle.std.specs.Prelude.{◌≡◌, ◌+◌, ◌≤◌, Ok, IsOk, IfOk, IfErr, length, true, false};
-    ghost use Rattle.std.specs.Prelude.{None};
+    ghost use Rattle.std.specs.Prelude.{◌-◌, None};
     ghost use Rattle.wkb_geom.specs.Numbers.{AreBytes};
     ghost use Rattle.wkb_geom.specs.Reading.{body_start, member_layout, parts_start, srid_in, code_in};
     ghost use Rattle.wkb_geom.specs.Reading.{type_kind, type_dimension};
@@ -195,6 +195,16 @@ impl Layout {
         } else {
             MEMBER_HEADER_SIZE
         }
+    }
+
+    /// The number of bytes after the header.
+    #[inline]
+    pub fn length_after_header(self, bytes: &[u8]) -> usize
+        requires { body_start self.has_srid ≤ length bytes.now }
+        ensures size { result ≡ length bytes.now - body_start self.has_srid }
+        ensures bytes { AreBytes bytes.now }
+    {
+        bytes.len() - self.header_length()
     }
 
     /// The SRID in the bytes of a geometry of this layout, if it has one.

@@ -9,3 +9,4 @@ pub mod Hex
 pub mod Asked
 mod CoordsAsWritten
 pub mod Encoded
+pub mod Sized

@@ -176,8 +176,11 @@ impl Dimensioned for Polygon<'_> {
 }
 
 impl<'a> PolygonTrait for Polygon<'a> {
-    ghost use Rattle.std.specs.Prelude.{◌≡◌, ◌+◌, IfSome};
+    ghost use Rattle.std.specs.Prelude.{◌≡◌, ◌+◌, Some, None, IfSome};
+    ghost use Rattle.wkb_geom.specs.Encodings.{fault};
     ghost use Rattle.wkb_geom.specs.Found.{IsItemAt};
+    ghost use Rattle.wkb_geom.specs.Geometries.{polygon};
+    ghost use Rattle.wkb_geom.specs.Sizes.{rings_size};
     ghost use Rattle.wkb_view.specs.Prelude.{as_dimensions, order_of};
     ghost use Rattle.wkb_view.specs.Coords.{ring_order, ring_dimension, ring_seen};
     ghost use Rattle.wkb_view.specs.Fitted.{fitted_parts, line_strings_fit};
@@ -216,6 +219,15 @@ impl<'a> PolygonTrait for Polygon<'a> {
         } else {
             None
         }
+    }
+
+    #[tactic(auto, using(crate::proofs::Sized::sized_laws))]
+    #[inline]
+    fn rings_size(&self) -> Option<usize>
+        ensures size { result ≡ Some (rings_size (as_dimensions self.now.dimension) (fitted_parts self.now)) }
+        ensures writable { fault (polygon (as_dimensions self.now.dimension) (fitted_parts self.now)) ≡ None }
+    {
+        Some(self.layout.length_after_header(self.buf))
     }
 }
 

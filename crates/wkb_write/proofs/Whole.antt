@@ -84,6 +84,16 @@ size_by_body (line d start end) is = omega (arith, is)
 size_by_body (rectangle d least greatest) is = refl
 size_by_body (triangle d first second third) is = omega (arith, is)
 
+-- a size that is known of a geometry without a fault is what was measured of its parts
+pub known_measured : {g : Geometry} {d : Dimensions} {header : ℕ} {items : ItemList} → HasMeasures g d header items
+    → fault g ≡ None → (n : ℕ) → n < 2 ^ 64 → n ≡ bytes_behind_header g
+    → Measures (parts_fault items.measure items.list) (parts_size header items.measure items.list) (Ok n)
+known_measured {g = g} h none n fits is =
+    let both = sym (fault_by_body g) ∙ none in
+    let most = supported_at_most (dimensions_of g) (none_first _ (body_fault g) both) in
+    let whole = size_by_body g (omega (arith, most)) in
+    (sym h.fault ∙ none_rest (dimensions_fault (dimensions_of g)) _ both, omega (arith, fits, is, whole, h.size))
+
 -- what was measured of a header and a body is measured of the geometry
 pub whole_measured : (g : Geometry) (dims : Dimensions) (r : Result ℕ Fault) → dims ≡ dimensions_of g
     → dimensions_fault dims ≡ None → Measures (body_fault g) (size_by_parts g) r

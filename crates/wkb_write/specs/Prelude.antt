@@ -21,7 +21,7 @@ pub use Rattle.wkb_write.specs.Answers.{encoding_of, refusal_of, IsInFront, IsSi
 pub use Rattle.wkb_write.specs.Answers.{OutgrowsSlice, WritesTo}
 unfoldable pub use Rattle.wkb_write.specs.Answers.{member_encoding}
 pub use Rattle.wkb_write.specs.Bodies.{parts_measure, point_measure, polygon_measure, ring_measure, collection_of}
-pub use Rattle.wkb_write.specs.Bodies.{coordinate_words, AreMembersOf, IsLeaf}
+pub use Rattle.wkb_write.specs.Bodies.{bytes_behind_header, coordinate_words, AreMembersOf, IsLeaf}
 pub use Rattle.wkb_write.specs.Counted.{HasMeasures, ItemList, ListsItems, OfItem, member_list, ring_list}
 pub use Rattle.wkb_write.specs.Measures.{IsAdded, IsMeasured, IsMeasureOf, OfMeasured, Reports}
 pub use Rattle.wkb_write.specs.Measures.{FindsUnsupported, IsCountToWrite, IsMeasuredBehindHeader, result_of}

@@ -1,8 +1,8 @@
 //! Items after a count: the rings of a polygon, the members of a multi geometry.
 
-ghost use Rattle.std.specs.Prelude.{◌≡◌, ◌<◌, ℕ, None, false, length};
+ghost use Rattle.std.specs.Prelude.{◌≡◌, ◌<◌, ℕ, None, false, length, IfSome};
 ghost use Rattle.wkb_write.specs.Prelude.{Geometry, IsGeometry, ItemList, ListsItems, OfItem, fault};
-ghost use Rattle.wkb_write.specs.Prelude.{IsMeasureOf, parts_measure, HasMeasures, Lays};
+ghost use Rattle.wkb_write.specs.Prelude.{IsMeasureOf, parts_measure, bytes_behind_header, HasMeasures, Lays};
 
 use crate::common::*;
 use crate::measure::count_to_write;
@@ -27,6 +27,15 @@ pub trait Items<G: Dimensioned> {
     /// The number of items after the count.
     fn count(geom: &G) -> u128
         ensures { result ≡ length (items geom.now).list };
+
+    /// The size of a geometry without its header, where it is known without a look at each item.
+    #[inline(always)]
+    fn known_size(geom: &G) -> Option<usize>
+        ensures size { IfSome result (λ n. n ≡ bytes_behind_header (geometry geom.now)) }
+        ensures writable { IfSome result (λ _. fault (geometry geom.now) ≡ None) }
+    {
+        None
+    }
 
     /// The fault of the item at an index, or its size without its header.
     fn measure_item(geom: &G, i: usize) -> Measured
@@ -81,9 +90,21 @@ impl<G: Dimensioned, I: Items<G>> Writable<G> for Counted<I> {
     }
 }
 
+/// Measures the count and the items, each with its header: by the size that is known, else one by one.
+#[inline(always)]
+pub fn measure_items<G: Dimensioned, I: Items<G>>(geom: &G) -> Measured
+    ensures { IsMeasureOf (parts_measure I.ITEM_HEADER (I.items geom.now).measure
+        (I.items geom.now).list) result }
+{
+    match I::known_size(geom) {
+        Some(size) => Measured::Bytes(size),
+        None => measure_each::<G, I>(geom),
+    }
+}
+
 /// Measures the count and the items in order, each with its header.
 #[tactic(auto, using(crate::proofs::Sums::measured_laws))]
-pub fn measure_items<G: Dimensioned, I: Items<G>>(geom: &G) -> Measured
+fn measure_each<G: Dimensioned, I: Items<G>>(geom: &G) -> Measured
     ensures { IsMeasureOf (parts_measure I.ITEM_HEADER (I.items geom.now).measure
         (I.items geom.now).list) result }
 {

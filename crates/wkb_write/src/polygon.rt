@@ -58,6 +58,11 @@ impl<P: PolygonTrait> Items<P> for PolygonKind {
         ring_count(geom)
     }
 
+    #[inline(always)]
+    fn known_size(geom: &P) -> Option<usize> {
+        geom.rings_size()
+    }
+
     fn measure_item(geom: &P, i: usize) -> Measured {
         measure_coordinates(&nth_ring(geom, i))
     }

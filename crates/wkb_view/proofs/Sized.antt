@@ -1,0 +1,45 @@
+-- How many bytes of a view come after its header.
+use Rattle.std.proofs.Common.{◌≡◌, ℕ, ◌-◌, ◌*◌, List, length, None, refl, arith, is_some, Bool, true, false}
+use Rattle.std.proofs.Common.{if◌then◌else◌}
+use Rattle.wkb_geom.specs.Geometries.{polygon}
+use Rattle.wkb_geom.specs.Sizes.{rings_size}
+use Rattle.wkb_geom.specs.Encodings.{fault}
+use Rattle.wkb_geom.specs.Refusals.{srid_size}
+use Rattle.wkb_laws.proofs.Spelled.{in_full_lem, size_of_spelled_lem}
+use Rattle.wkb_laws.proofs.Values.{Good, spelled_good, lawful-geometry_of}
+use Rattle.wkb_view.specs.Prelude.{Endianness, AreBytes, Layout, Coordinate, Listed, body_start, srid_in, as_dimensions}
+use Rattle.wkb_view.specs.Prelude.{BytesSpell}
+use Rattle.wkb_view.specs.Fitted.{fitted_parts, line_strings_fit}
+use Rattle.wkb_view.specs.Members.{polygon_laid, polygon_seen}
+
+srid_counted : (order : Endianness) (has_srid : Bool) (bytes : List ℕ)
+    → 4 * (if is_some (srid_in order has_srid bytes) then 1 else 0) ≡ srid_size has_srid
+srid_counted order true bytes = refl
+srid_counted order false bytes = refl
+
+-- a polygon, by what its view means
+module _ (l : Layout) (ends bytes : List ℕ) (p : Listed (List (List Coordinate))) (view : polygon_laid l ends bytes ≡ p)
+    (fine : AreBytes bytes) (spells : BytesSpell (polygon_seen (polygon_laid l ends bytes))) where
+  good : Good (polygon_seen (polygon_laid l ends bytes)).value
+  good =
+      let seen = polygon_seen (polygon_laid l ends bytes) in
+      spelled_good seen.spelled seen.value bytes fine (in_full_lem seen.spelled seen.value bytes spells)
+
+  rings_same : fitted_parts (polygon_laid l ends bytes) ≡ (polygon_laid l ends bytes).parts
+  rings_same =
+      (line_strings_fit (as_dimensions l.dimension) (polygon_laid l ends bytes).parts).same
+      (lawful-geometry_of (polygon_seen (polygon_laid l ends bytes)).value good.0)
+
+  -- its rings with their count take all bytes after the header
+  pub polygon_size : (n : ℕ) → n ≡ length bytes - body_start l.has_srid
+      → n ≡ rings_size (as_dimensions p.dimension) (fitted_parts p)
+  polygon_size n is =
+      let seen = polygon_seen (polygon_laid l ends bytes) in
+      let long = size_of_spelled_lem seen.spelled seen.value bytes (in_full_lem seen.spelled seen.value bytes spells) in
+      rw (← view, rings_same) (omega (arith, is, long, srid_counted l.order l.has_srid bytes))
+
+  -- it has no fault
+  pub polygon_writable : fault (polygon (as_dimensions p.dimension) (fitted_parts p)) ≡ None
+  polygon_writable = rw (← view, rings_same) good.1
+
+pub ruleset sized_laws = (polygon_size, polygon_writable)
