@@ -18,21 +18,8 @@ use Rattle.wkb_check.specs.Public.{DescribesFront, DescribesOnlyFront, IsRefused
 use Rattle.wkb_check.specs.declared.answer.Refused.{Refused}
 use Rattle.wkb_check.specs.declared.answer.Summary.{Summary}
 use Rattle.wkb_read.specs.Reads.{IsRefusal}
-use Rattle.wkb_rewrite.specs.Rewritings.{IsLong}
+use Rattle.wkb_rewrite.proofs.Measured.{here}
 use Rattle.wkb.specs.Canonical.{IsAccepted, HaveOneValue, HaveTwoValues, OverflowsWithSrid}
-
--- what was found is at the front of the bytes
-abbrev pub here : {buf : List ℕ} {found : Summary} → DescribesFront buf found → HasGeometry buf
-here d = record {
-  spelled = d.spelled;
-  value = d.value;
-  rest = d.rest;
-  begins = record { front = d.front.front; whole = d.front.whole; first = d.front.spelled };
-}
-
--- and as long as it says
-pub as_long : {buf : List ℕ} {found : Summary} → DescribesFront buf found → IsLong buf found.bytes
-as_long d = record { geometry = here d; long = d.described.bytes_are }
 
 -- what was put into a list of as many bytes is all that it then holds
 pub filled : (x old new items : List ℕ) (len n : ℕ) → length old ≡ len → len ≡ n → n ≡ length x → new ≡ sets old 0 x

@@ -108,10 +108,10 @@ fn rewritten(alloc: Global, buf: &[u8], found: &Summary, target: Target) -> WkbR
         (λ encoding. IsRewriting target.order target.form buf.now encoding.items) }
     ensures err { IfErr result IsMemory }
 {
-    if let Some(copied) = Copied::of(buf, found.bytes, target) {
+    if let Some(copied) = Copied::of(buf, found, target) {
         return copied_to_vec(alloc, &copied);
     }
-    let mut encoding = vec![in alloc; 0; encoded_size(buf, found.bytes, target.form)]?;
+    let mut encoding = vec![in alloc; 0; encoded_size(buf, found, target.form)]?;
     put_pieces(buf, target, encoding.as_mut_slice());
     Ok(encoding)
 }

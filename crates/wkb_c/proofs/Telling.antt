@@ -9,7 +9,6 @@ use Rattle.wkb_geom.specs.declared.error.General.TheVariants.{InvalidByteOrder, 
 use Rattle.wkb_laws.proofs.Complete.{head_of}
 use Rattle.wkb_check.proofs.Ahead.{Says, says}
 use Rattle.wkb_check.proofs.Public.{geometry_opens}
-use Rattle.wkb_rewrite.specs.Rewritings.{IsLong}
 use Rattle.wkb_check.specs.Bounded.{HasGeometry}
 use Rattle.wkb_check.specs.Public.{DescribesFront}
 use Rattle.wkb_check.specs.declared.answer.Summary.{Summary}
@@ -64,15 +63,6 @@ pub count_said : (buf : List ℕ) (f : Summary) → (d : DescribesFront buf f)
 count_said buf f d =
     let here = begins buf d.spelled d.value d.rest d.front in
     says buf d.spelled d.value d.rest here _ (geometry_opens buf d.spelled d.value d.rest here).head
-
--- the geometry that is described
-abbrev pub there_is : (buf : List ℕ) (f : Summary) → DescribesFront buf f → HasGeometry buf
-there_is buf f d =
-    record { spelled = d.spelled; value = d.value; rest = d.rest; begins = begins buf d.spelled d.value d.rest d.front }
-
--- and as long as it says
-abbrev pub there_long : (buf : List ℕ) (f : Summary) → DescribesFront buf f → IsLong buf f.bytes
-there_long buf f d = record { geometry = there_is buf f d; long = d.described.bytes_are }
 
 -- the geometry that is accepted
 abbrev pub accepted_there : (buf : List ℕ) → IsAccepted buf → HasGeometry buf

@@ -47,12 +47,12 @@ pub fn write_requested(
     let target = target_of(request, found.srid);
     // An encoding is at most four bytes longer than its input, so its size is only asked for where there is less room.
     if out.len() < buf.len() + COUNT_SIZE {
-        let wanted = encoded_size(buf, found.bytes, target.form);
+        let wanted = encoded_size(buf, found, target.form);
         if out.len() < wanted {
             *size = wanted as u64;
             return NO_ROOM;
         }
     }
-    *size = put_encoding(buf, found.bytes, target, out) as u64;
+    *size = put_encoding(buf, found, target, out) as u64;
     OK
 }

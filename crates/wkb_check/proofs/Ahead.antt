@@ -18,7 +18,7 @@ use Rattle.wkb_geom.specs.Spellings.{header, Header}
 use Rattle.wkb_laws.proofs.Parts.{then_append, begins_number, drop_front, header_length}
 use Rattle.wkb_laws.proofs.Complete.{head_of}
 use Rattle.wkb_check.specs.Bounded.{HasGeometry}
-use Rattle.wkb_check.specs.Pieces.{count_of, leading, piece_of, bare_head}
+use Rattle.wkb_check.specs.Pieces.{count_of, leading, piece_of, bare_head, HeaderIs}
 use Rattle.wkb_check.specs.declared.pieces.Piece.{Piece}
 use Rattle.wkb_check.proofs.Public.{geometry_opens, one_head}
 use Rattle.wkb_check.proofs.Bodies.{rest_smaller}
@@ -124,51 +124,6 @@ piece_is at (node h words ss) t k d order srid n offset ke de oe se ne fe = λ i
   offset = fe i;
 }
 
--- the piece of a geometry, as it is read
-pub read_piece : (bytes : List ℕ) (begin : ℕ) (g : HasGeometry (drop begin bytes)) (h : Head) (l : Layout)
-    → head_at (drop begin bytes) ≡ Ok h
-    → l ≡ layout_of h → (k body : ℕ) (srid : Option ℕ) → k ≡ type_kind h.wkb_type
-    → body ≡ begin + body_start l.has_srid
-    → srid ≡ srid_in l.order l.has_srid (drop begin bytes) → (n offset : ℕ)
-    → ((k ≡ 1) × (n ≡ 1) × (offset ≡ body)
-    ⊎ (k ≢ 1) × (n ≡ number l.order 4 (drop body bytes)) × (offset ≡ body + 4))
-    → ◌≡◌ {A = Piece}
-    (record {
-      kind = k;
-      dimension = l.dimension;
-      order = l.order;
-      srid = srid;
-      count = n;
-      begin = begin;
-      offset = offset;
-    })
-    (piece_of begin g.spelled g.value)
-read_piece bytes begin g h l head l-is k body srid k-is body-is srid-is n offset by =
-    let y = says (drop begin bytes) g.spelled g.value g.rest g.begins h head in
-    let kind_is : k ≡ kind g.value = k-is ∙ y.kind_is in
-    let long : body_start l.has_srid ≡ 5 + srid_size (is_some (header g.spelled).srid) =
-    ap (λ (m : Layout). body_start m.has_srid) l-is ∙ y.start_is in
-    let counted_by : (k ≡ 1) × (n ≡ 1) × (offset ≡ body)
-    ⊎ (k ≢ 1) × (n ≡ number l.order 4 (drop body bytes)) × (offset ≡ body + 4)
-    → (n ≡ count_of g.value) × (offset ≡ begin + leading (header g.spelled) g.value)
-    = λ x. ⊎_elim
-    (λ a. let p = point_counts (header g.spelled) g.value (sym kind_is ∙ a.0) in
-    (a.1 ∙ sym p.0, omega (arith, a.2, body-is, long, p.1)))
-    (λ a. let differs : kind g.value ≢ 1 = λ e. a.0 (kind_is ∙ e) in (
-      a.1 ∙ (λ i. number (l-is i).order 4 (drop (body-is i) bytes))
-          ∙ ap (number h.order 4)
-          (ap (λ j. drop j bytes) (omega (arith, ap (λ (m : Layout). body_start m.has_srid) l-is))
-          ∙ sym (drop-drop (body_start h.has_srid) begin bytes))
-          ∙ (y.counts differs).1,
-      omega (arith, a.2, body-is, long, other_leads (header g.spelled) g.value differs),
-    ))
-    x in
-    let last = counted_by by in
-    piece_is begin g.spelled g.value k l.dimension l.order srid n offset kind_is
-    (ap (λ (m : Layout). m.dimension) l-is ∙ y.dimension_is)
-    (ap (λ (m : Layout). m.order) l-is ∙ y.order_is)
-    (srid-is ∙ (λ i. srid_in (l-is i).order (l-is i).has_srid (drop begin bytes)) ∙ y.srid_is) last.0 last.1
-
 -- the number of a kind is the code of that kind
 pub bare_meant : (k : ℕ) → 1 ≤ k → k ≤ 7 → meaning_of k ≡ Some (meaning (type_of k Xy) false)
 bare_meant k least most =
@@ -177,27 +132,78 @@ bare_meant k least most =
     omega arith ∙ (λ i. iso_code (sym type.0 i) (sym type.1 i)) in
     ap meaning_of code ∙ iso_meant (type_of k Xy)
 
--- the piece of a geometry whose header is bare
-pub bare_piece : (bytes : List ℕ) (begin : ℕ) (g : HasGeometry (drop begin bytes)) (order : Endianness) (k : ℕ)
-    → head_at (drop begin bytes) ≡ Ok (bare_head order k) → 1 ≤ k → k ≤ 7 → (n offset : ℕ)
-    → ((k ≡ 1) × (n ≡ 1) × (offset ≡ begin + 5)
-    ⊎ (k ≢ 1) × (n ≡ number order 4 (drop (begin + 5) bytes)) × (offset ≡ begin + 5 + 4))
-    → ◌≡◌ {A = Piece}
-    (record { kind = k; dimension = Xy; order = order; srid = None; count = n; begin = begin; offset = offset })
-    (piece_of begin g.spelled g.value)
-bare_piece bytes begin g order k head least most n offset by =
-    let type = type_kind-type_of k Xy (omega (arith, least)) (omega (arith, most)) in
-    let h = bare_head order k in
-    subst (λ d. ◌≡◌ {A = Piece}
-    (record { kind = k; dimension = d; order = order; srid = None; count = n; begin = begin; offset = offset })
-    (piece_of begin g.spelled g.value)) type.1
-    (read_piece bytes begin g h (layout_of h) head refl k (begin + 5) None (sym type.0) (omega arith) refl n offset by)
+-- what the header that a geometry was spelled with says
+module _ (bytes : List ℕ) (begin : ℕ) (g : HasGeometry (drop begin bytes)) where
+  pub own_says : Says (drop begin bytes) g.spelled g.value
+      (head_of (header g.spelled).order (kind g.value) (dimension g.value) (is_some (header g.spelled).srid))
+  own_says =
+      says (drop begin bytes) g.spelled g.value g.rest g.begins _
+      (geometry_opens (drop begin bytes) g.spelled g.value g.rest g.begins).head
 
--- it has a count, unless it is a point
-pub bare_counted : (bytes : List ℕ) (begin : ℕ) → HasGeometry (drop begin bytes) → (order : Endianness) (k : ℕ)
-    → head_at (drop begin bytes) ≡ Ok (bare_head order k) → 1 ≤ k → k ≤ 7 → k ≢ 1 → begin + 9 ≤ length bytes
-bare_counted bytes begin g order k head least most other =
-    let type = type_kind-type_of k Xy (omega (arith, least)) (omega (arith, most)) in
-    let y = says (drop begin bytes) g.spelled g.value g.rest g.begins (bare_head order k) head in
-    let counted = y.counts (λ e. other (sym type.0 ∙ y.kind_is ∙ e)) in
-    omega (arith, counted.0, length-drop begin bytes)
+  -- what a header says that was read
+  pub read_header : (h : Head) → head_at (drop begin bytes) ≡ Ok h
+      → HeaderIs g.spelled g.value (type_kind h.wkb_type) (type_dimension h.wkb_type) h.order
+      (srid_in h.order h.has_srid (drop begin bytes))
+  read_header h head =
+      let y = says (drop begin bytes) g.spelled g.value g.rest g.begins h head in
+      record { kind_is = y.kind_is; dimension_is = y.dimension_is; order_is = y.order_is; srid_is = y.srid_is }
+
+  -- what a header says whose code is the number of its kind
+  pub bare_header : (order : Endianness) (k : ℕ) → head_at (drop begin bytes) ≡ Ok (bare_head order k) → 1 ≤ k → k ≤ 7
+      → HeaderIs g.spelled g.value k Xy order None
+  bare_header order k head least most =
+      let type = type_kind-type_of k Xy (omega (arith, least)) (omega (arith, most)) in
+      let read = read_header (bare_head order k) head in
+      record {
+        kind_is = sym type.0 ∙ read.kind_is;
+        dimension_is = sym type.1 ∙ read.dimension_is;
+        order_is = read.order_is;
+        srid_is = read.srid_is;
+      }
+
+  module _ (k : ℕ) (d : Dimension) (order : Endianness) (srid : Option ℕ)
+      (is : HeaderIs g.spelled g.value k d order srid) where
+    srid_long : srid_size (is_some srid) ≡ srid_size (is_some (header g.spelled).srid)
+    srid_long = ap (λ s. srid_size (is_some s)) is.srid_is
+
+    -- the header is inside the bytes
+    pub header_inside : begin + 5 + srid_size (is_some srid) ≤ length bytes
+    header_inside =
+        omega (arith, own_says.long, own_says.start_is, srid_long, length-drop begin bytes, begins_inside bytes begin g)
+
+    -- and the count, of all but a point
+    pub count_inside : k ≢ 1 → begin + 9 + srid_size (is_some srid) ≤ length bytes
+    count_inside other =
+        omega (
+          arith,
+          (own_says.counts (λ e. other (is.kind_is ∙ e))).0,
+          own_says.start_is,
+          srid_long,
+          length-drop begin bytes,
+          begins_inside bytes begin g,
+        )
+
+    -- the piece, by its header and its count
+    pub counted_piece : (n offset : ℕ)
+        → ((k ≡ 1) × (n ≡ 1) × (offset ≡ begin + 5 + srid_size (is_some srid))
+        ⊎ (k ≢ 1) × (n ≡ number order 4 (drop (begin + 5 + srid_size (is_some srid)) bytes))
+        × (offset ≡ begin + 9 + srid_size (is_some srid)))
+        → ◌≡◌ {A = Piece}
+        (record { kind = k; dimension = d; order = order; srid = srid; count = n; begin = begin; offset = offset })
+        (piece_of begin g.spelled g.value)
+    counted_piece n offset by =
+        let ends : (n ≡ count_of g.value) × (offset ≡ begin + leading (header g.spelled) g.value) =
+        ⊎_elim
+        (λ a. let p = point_counts (header g.spelled) g.value (sym is.kind_is ∙ a.0) in
+        (a.1 ∙ sym p.0, omega (arith, a.2, srid_long, p.1)))
+        (λ a. let other : kind g.value ≢ 1 = λ e. a.0 (is.kind_is ∙ e) in (
+          a.1 ∙ (λ i. number (is.order_is i) 4 (drop (begin + 5 + srid_size (is_some srid)) bytes))
+              ∙ ap (number (header g.spelled).order 4)
+              (ap (λ j. drop j bytes) (omega (arith, srid_long, own_says.start_is))
+              ∙ sym (drop-drop (body_start (is_some (header g.spelled).srid)) begin bytes))
+              ∙ (own_says.counts other).1,
+          omega (arith, a.2, srid_long, other_leads (header g.spelled) g.value other),
+        ))
+        by in
+        piece_is begin g.spelled g.value k d order srid n offset is.kind_is is.dimension_is is.order_is is.srid_is ends.0
+        ends.1

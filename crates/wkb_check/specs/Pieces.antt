@@ -11,7 +11,7 @@ use Rattle.wkb_geom.specs.declared.common.Endianness.{Endianness}
 use Rattle.wkb_geom.specs.declared.code.TheConstants.{POLYGON}
 use Rattle.wkb_geom.specs.Dimensions.{width}
 use Rattle.wkb_geom.specs.Refusals.{srid_size, ring_end}
-use Rattle.wkb_geom.specs.Spellings.{Header, Spelling, node, Spellings, no_spellings, spelling}
+use Rattle.wkb_geom.specs.Spellings.{Header, header, Spelling, node, Spellings, no_spellings, spelling}
 use Rattle.wkb_geom.specs.Values.{Coordinate, Value, Values, point, line_string, polygon, multi_point}
 use Rattle.wkb_geom.specs.Values.{multi_line_string, multi_polygon, collection, no_members, member, kind, dimension}
 use Rattle.wkb_geom.specs.Values.{members, count}
@@ -76,6 +76,14 @@ piece_of at (node h words ss) t = record {
   begin = at;
   offset = at + leading h t;
 }
+
+-- the kind, the dimension, the order and the SRID are those of the header of a geometry
+pub record HeaderIs (s : Spelling) (t : Value) (k : ℕ) (d : Dimension) (order : Endianness) (srid : Option ℕ)
+    : Type 0 where
+  pub kind_is : k ≡ kind t
+  pub dimension_is : d ≡ dimension t
+  pub order_is : order ≡ (header s).order
+  pub srid_is : srid ≡ (header s).srid
 
 -- the piece of a ring of n coordinates that begins at this byte
 abbrev pub ring_piece : Endianness → Dimension → ℕ → ℕ → Piece

@@ -16,6 +16,7 @@ mod skip;
 mod walk;
 
 pub use answer::{Refused, Summary, check, check_plain};
+pub use head::srid_size;
 pub use parts::{Part, Place, dimension_number, put_geometries, width_number};
 pub use pieces::{Piece, Pieces, RING};
 pub use range::{Bounds, Range};

@@ -1,14 +1,14 @@
 //! The pieces of a geometry that is known to be there, in preorder: itself, and its rings and members at every level.
 
-ghost use Rattle.std.specs.Prelude.{◌≡◌, ◌+◌, ◌≤◌, ◌<◌, ◌^◌, length, drop, List, IfSome, None, Ok, nat_lt};
+ghost use Rattle.std.specs.Prelude.{◌≡◌, ◌+◌, ◌≤◌, ◌<◌, ◌^◌, length, drop, List, IfSome, None, nat_lt};
 ghost use Rattle.wkb_geom.specs.Numbers.{number};
 ghost use Rattle.wkb_check.specs.Bounded.{HasGeometry};
 ghost use Rattle.wkb_check.specs.Pieces.{own_end, piece_of, ring_piece, pieces_of, IsAhead, HasAhead, IsTaken, IsNext};
-ghost use Rattle.wkb_check.specs.Pieces.{IsInside, bare_head};
-ghost use Rattle.wkb_geom.specs.Reading.{head_at};
-ghost use Rattle.wkb_geom.specs.declared.code.TheConstants.{POINT, GEOMETRY_COLLECTION};
+ghost use Rattle.wkb_check.specs.Pieces.{IsInside, HeaderIs};
+ghost use Rattle.wkb_check.specs.Public.{DescribesFront};
 
-use crate::head::{bare_kind, read};
+use crate::answer::Summary;
+use crate::head::{bare_kind, read, srid_size};
 use crate::range::rest_from;
 use wkb_geom::code::{POINT, POLYGON};
 use wkb_geom::header::MEMBER_HEADER_SIZE;
@@ -58,6 +58,38 @@ impl Piece {
         }
     }
 
+    /// The geometry that begins at this byte and has this header, up to its rings or members.
+    #[inline(always)]
+    fn behind_header(
+        bytes: &[u8],
+        begin: usize,
+        kind: u32,
+        dimension: Dimension,
+        order: Endianness,
+        srid: Option<u32>,
+    ) -> Piece
+        requires here { HasGeometry (drop begin bytes.now) }
+        requires header { (g : HasGeometry (drop begin bytes.now))
+            → HeaderIs g.spelled g.value kind dimension order srid }
+        ensures { (g : HasGeometry (drop begin bytes.now)) → result ≡ piece_of begin g.spelled g.value }
+    {
+        let body = begin + MEMBER_HEADER_SIZE + srid_size(srid);
+        let (count, offset) = if kind == POINT {
+            (1, body)
+        } else {
+            (u32_at(bytes, body, order), body + COUNT_SIZE)
+        };
+        Piece {
+            kind,
+            dimension,
+            order,
+            srid,
+            count,
+            begin,
+            offset,
+        }
+    }
+
     /// The geometry that begins at this byte, up to its rings or members.
     #[inline(always)]
     pub fn geometry_at(bytes: &[u8], begin: usize) -> Piece
@@ -69,49 +101,21 @@ impl Piece {
             Ok(header) => header,
             Err(_) => unreachable!(),
         };
-        let layout = header.layout();
         let kind = header.wkb_type.kind();
-        let body = begin + layout.header_length();
-        let (count, offset) = if kind == POINT {
-            (1, body)
-        } else {
-            (u32_at(bytes, body, layout.order), body + COUNT_SIZE)
-        };
-        Piece {
-            kind,
-            dimension: layout.dimension,
-            order: layout.order,
-            srid: layout.srid(from),
-            count,
-            begin,
-            offset,
-        }
+        let layout = header.layout();
+        let srid = layout.srid(from);
+        Piece::behind_header(bytes, begin, kind, layout.dimension, layout.order, srid)
     }
 
-    /// The geometry that begins at this byte, whose header is bare, up to its rings or members.
+    /// The geometry at the front of the bytes in which the check found this, up to its rings or members.
     #[inline(always)]
-    fn bare_at(bytes: &[u8], begin: usize, order: Endianness, kind: u32) -> Piece
-        requires here { HasGeometry (drop begin bytes.now) }
-        requires bare { head_at (drop begin bytes.now) ≡ Ok (bare_head order kind) }
-        requires least { POINT ≤ kind }
-        requires most { kind ≤ GEOMETRY_COLLECTION }
-        ensures { (g : HasGeometry (drop begin bytes.now)) → result ≡ piece_of begin g.spelled g.value }
+    pub fn outermost(bytes: &[u8], found: &Summary) -> Piece
+        requires { DescribesFront bytes.now found.now }
+        ensures { (g : HasGeometry bytes.now) → result ≡ piece_of 0 g.spelled g.value }
     {
-        let body = begin + MEMBER_HEADER_SIZE;
-        let (count, offset) = if kind == POINT {
-            (1, body)
-        } else {
-            (u32_at(bytes, body, order), body + COUNT_SIZE)
-        };
-        Piece {
-            kind,
-            dimension: Dimension::Xy,
-            order,
-            srid: None,
-            count,
-            begin,
-            offset,
-        }
+        let kind = found.wkb_type.kind();
+        let dimension = found.wkb_type.dimension();
+        Piece::behind_header(bytes, 0, kind, dimension, found.order, found.srid)
     }
 
     /// The ring that begins at this byte, of a polygon of this order and dimension.
@@ -154,6 +158,8 @@ impl<'a> Pieces<'a> {
         requires here { HasGeometry bytes.now }
         ensures ahead { (g : HasGeometry bytes.now) → IsAhead result (pieces_of 0 g.spelled g.value) }
         ensures begins { result.at ≡ 0 }
+        ensures rings { result.rings ≡ 0 }
+        ensures geometries { result.geometries ≡ 1 }
         ensures same { result.bytes.now ≡ bytes.now }
     {
         Pieces {
@@ -164,6 +170,21 @@ impl<'a> Pieces<'a> {
             order: Endianness::LittleEndian,
             dimension: Dimension::Xy,
         }
+    }
+
+    /// All pieces but the first one of the geometry at the front of the bytes.
+    #[inline(always)]
+    pub fn behind(bytes: &'a [u8], first: &Piece) -> Pieces<'a>
+        requires here { HasGeometry bytes.now }
+        requires first { (g : HasGeometry bytes.now) → first.now ≡ piece_of 0 g.spelled g.value }
+        ensures steps { (g : HasGeometry bytes.now)
+            → IsTaken result (pieces_of 0 g.spelled g.value) first.now }
+        ensures inside { IsInside bytes.now 0 result.at first.now }
+        ensures same { result.bytes.now ≡ bytes.now }
+    {
+        let mut pieces = Pieces::of(bytes);
+        pieces.pass_geometry(first);
+        pieces
     }
 
     /// The next piece, which is a ring.
@@ -235,7 +256,7 @@ impl<'a> Pieces<'a> {
             return None;
         }
         let kind = bare_kind(rest_from(self.bytes, self.at), order)?;
-        let piece = Piece::bare_at(self.bytes, self.at, order, kind);
+        let piece = Piece::behind_header(self.bytes, self.at, kind, Dimension::Xy, order, None);
         self.pass_geometry(&piece);
         Some(piece)
     }

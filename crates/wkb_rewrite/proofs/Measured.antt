@@ -12,10 +12,11 @@ use Rattle.wkb_laws.proofs.Values.{spelled_good, normal-geometry_of, lawful-geom
 use Rattle.wkb_geom.specs.Spellings.{Header}
 use Rattle.wkb_check.specs.declared.pieces.Piece.{Piece}
 use Rattle.wkb_check.specs.declared.pieces.Pieces.{Pieces}
+use Rattle.wkb_check.specs.declared.answer.Summary.{Summary}
 use Rattle.wkb_check.specs.Bounded.{HasGeometry}
+use Rattle.wkb_check.specs.Public.{DescribesFront}
 use Rattle.wkb_check.specs.Pieces.{leading, rings_of, size, piece_of, pieces_of, pieces_of_rings, pieces_of_each}
 use Rattle.wkb_check.specs.Pieces.{IsAhead}
-use Rattle.wkb_rewrite.specs.Rewritings.{IsLong}
 use Rattle.wkb_rewrite.proofs.Comparing.{geometry_bytes}
 
 -- the bytes of the SRIDs of pieces
@@ -102,12 +103,21 @@ own_srid_alone at (node h words ss) t x a p is low =
       srid_size_is (is_some h.srid),
     )
 
+-- what was found is at the front of the bytes
+abbrev pub here : {buf : List ℕ} {found : Summary} → DescribesFront buf found → HasGeometry buf
+here d = record {
+  spelled = d.spelled;
+  value = d.value;
+  rest = d.rest;
+  begins = record { front = d.front.front; whole = d.front.whole; first = d.front.spelled };
+}
+
 -- whichever geometry is there, it has as many bytes
-pub long_of : (buf : List ℕ) (bytes : ℕ) → IsLong buf bytes → (g : HasGeometry buf) → bytes ≡ length g.begins.front
-long_of buf bytes l g =
-    let h = l.geometry in
-    l.long ∙ ap length (one_spelling h.spelled g.spelled h.value g.value h.begins.front g.begins.front h.rest g.rest
-    h.begins.first g.begins.first (sym h.begins.whole ∙ g.begins.whole)).encoding
+pub long_of : {buf : List ℕ} {found : Summary} → DescribesFront buf found → (g : HasGeometry buf)
+    → found.bytes ≡ length g.begins.front
+long_of d g =
+    d.described.bytes_are ∙ ap length (one_spelling d.spelled g.spelled d.value g.value d.front.front g.begins.front d.rest
+    g.rest d.front.spelled g.begins.first (sym d.front.whole ∙ g.begins.whole)).encoding
 
 -- the encoding has the form's SRID, and not those that the pieces have
 pub measured : (order : Endianness) (form : Form) (buf : List ℕ) (bytes : ℕ) (g : HasGeometry buf) → AreBytes buf

@@ -1,21 +1,15 @@
 -- What is known of a geometry that is to be rewritten.
-use Rattle.std.specs.Prelude.{◌≡◌, ◌≢◌, ℕ, ◌+◌, List, length, drop, None, false, true, Bool}
+use Rattle.std.specs.Prelude.{◌≡◌, ◌≢◌, ℕ, ◌+◌, List, drop, None, false, true, Bool}
 use Rattle.wkb_geom.specs.declared.common.Endianness.{Endianness}
 use Rattle.wkb_geom.specs.declared.common.Form.{Form}
 use Rattle.wkb_geom.specs.Encodings.{type_code}
 use Rattle.wkb_geom.specs.Numbers.{number}
 use Rattle.wkb_geom.specs.Reading.{type_of}
-use Rattle.wkb_check.specs.Bounded.{HasGeometry}
 use Rattle.wkb_check.specs.Pieces.{IsAhead, IsTaken, IsInside}
 use Rattle.wkb_check.specs.declared.pieces.Piece.{Piece}
 use Rattle.wkb_check.specs.declared.pieces.Pieces.{Pieces}
 use Rattle.wkb_check.specs.declared.pieces.TheConstants.{RING}
 use Rattle.wkb_rewrite.specs.Shares.{is_empty}
-
--- a geometry of so many bytes is at the front of these bytes
-pub record IsLong (buf : List ℕ) (bytes : ℕ) : Type 0 where
-  pub geometry : HasGeometry buf
-  pub long : bytes ≡ length geometry.begins.front
 
 -- a piece has the order and the code that are written of it under a form without an SRID, and is no empty point
 pub record StandsAsWritten (order : Endianness) (form : Form) (buf : List ℕ) (p : Piece) : Type 0 where

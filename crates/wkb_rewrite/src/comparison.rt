@@ -35,10 +35,9 @@ fn are_alike(a: &[u8], x: &Piece, b: &[u8], y: &Piece) -> bool
         && have_same_words(a, x, b, y)
 }
 
-/// Whether the values of two geometries are equal, which are known to be at the front of these bytes.
-///
-/// It looks at no order, no code and no SRID, and ends at the first difference.
-pub fn have_one_value(a: &[u8], b: &[u8]) -> bool
+/// Whether the pieces of two geometries are alike, one after another. It looks at no order, no code and no SRID, and
+/// ends at the first difference.
+fn have_like_pieces(a: &[u8], b: &[u8]) -> bool
     requires first { HasGeometry a.now }
     requires second { HasGeometry b.now }
     ensures { (g : HasGeometry a.now) (h : HasGeometry b.now)
@@ -55,4 +54,14 @@ pub fn have_one_value(a: &[u8], b: &[u8]) -> bool
         }
     }
     seconds.next().is_none()
+}
+
+/// Whether the values of two geometries are equal, which are known to be at the front of these bytes.
+pub fn have_one_value(a: &[u8], b: &[u8]) -> bool
+    requires first { HasGeometry a.now }
+    requires second { HasGeometry b.now }
+    ensures { (g : HasGeometry a.now) (h : HasGeometry b.now)
+        → IsTrue result ↔ (g.value ≡ h.value) }
+{
+    a == b || have_like_pieces(a, b)
 }

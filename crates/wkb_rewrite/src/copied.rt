@@ -9,15 +9,16 @@ ghost use Rattle.wkb_geom.specs.Numbers.{number};
 ghost use Rattle.wkb_geom.specs.Reading.{type_of};
 ghost use Rattle.wkb_check.specs.Bounded.{HasGeometry};
 ghost use Rattle.wkb_check.specs.Pieces.{own_end, IsAhead, HasAhead};
+ghost use Rattle.wkb_check.specs.Public.{DescribesFront};
 ghost use Rattle.wkb_check.specs.declared.pieces.TheConstants.{RING};
 ghost use Rattle.wkb_rewrite.specs.Shares.{IsPut, is_empty};
-ghost use Rattle.wkb_rewrite.specs.Rewritings.{IsLong, StandsAsWritten, HasPassed};
+ghost use Rattle.wkb_rewrite.specs.Rewritings.{StandsAsWritten, HasPassed};
 ghost use Rattle.wkb_rewrite.specs.Copies.{copied_header, copied_encoding};
 
-use crate::own::{is_empty_point, srid_size};
+use crate::own::is_empty_point;
 use crate::put::put_type_header;
 use crate::target::{Target, inner_form};
-use wkb_check::{Piece, Pieces, RING};
+use wkb_check::{Piece, Pieces, RING, Summary, srid_size};
 use wkb_geom::code::{WkbType, of_kind};
 use wkb_geom::header::MEMBER_HEADER_SIZE;
 use wkb_geom::words::u32_at;
@@ -100,10 +101,10 @@ fn between(buf: &[u8], start: usize, end: usize) -> &[u8]
 }
 
 impl<'a> Copied<'a> {
-    /// The encoding of a geometry that is known to be at the front of these bytes, and to have so many of them itself,
-    /// where all that follows its header stands as it is written.
-    pub fn of(buf: &'a [u8], bytes: usize, target: Target) -> Option<Copied<'a>>
-        requires { IsLong buf.now bytes }
+    /// The encoding of the geometry in which the check found this, where all that follows its header stands as it is
+    /// written.
+    pub fn of(buf: &'a [u8], found: &Summary, target: Target) -> Option<Copied<'a>>
+        requires { DescribesFront buf.now found.now }
         ensures { IfSome result (λ c. (g : HasGeometry buf.now)
             → encoding target.order target.form (geometry_of g.value) ≡ copied_encoding c) }
     {
@@ -112,25 +113,23 @@ impl<'a> Copied<'a> {
         match target.order {
             Endianness::BigEndian => {
                 let order = Endianness::BigEndian;
-                Copied::by_walk(buf, bytes, Target { order, form })
+                Copied::by_walk(buf, found, Target { order, form })
             }
             Endianness::LittleEndian => {
                 let order = Endianness::LittleEndian;
-                Copied::by_walk(buf, bytes, Target { order, form })
+                Copied::by_walk(buf, found, Target { order, form })
             }
         }
     }
 
     #[inline(always)]
-    fn by_walk(buf: &'a [u8], bytes: usize, target: Target) -> Option<Copied<'a>>
-        requires { IsLong buf.now bytes }
+    fn by_walk(buf: &'a [u8], found: &Summary, target: Target) -> Option<Copied<'a>>
+        requires { DescribesFront buf.now found.now }
         ensures { IfSome result (λ c. (g : HasGeometry buf.now)
             → encoding target.order target.form (geometry_of g.value) ≡ copied_encoding c) }
     {
-        let mut pieces = Pieces::of(buf);
-        let Some(first) = pieces.next() else {
-            return None;
-        };
+        let first = Piece::outermost(buf, found);
+        let mut pieces = Pieces::behind(buf, &first);
         if !has_written_words(buf, &first, target.order) {
             return None;
         }
@@ -144,7 +143,7 @@ impl<'a> Copied<'a> {
         Some(Copied {
             target,
             wkb_type: of_kind(first.kind, first.dimension),
-            rest: between(buf, start, bytes),
+            rest: between(buf, start, found.bytes),
         })
     }
 

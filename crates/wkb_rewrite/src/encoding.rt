@@ -7,13 +7,12 @@ ghost use Rattle.wkb_geom.specs.declared.words.TheConstants.{COUNT_SIZE};
 ghost use Rattle.wkb_geom.specs.Encodings.{encoding, IsForm, form_srid};
 ghost use Rattle.wkb_geom.specs.Geometries.{geometry_of};
 ghost use Rattle.wkb_check.specs.Bounded.{HasGeometry};
-ghost use Rattle.wkb_rewrite.specs.Rewritings.{IsLong};
+ghost use Rattle.wkb_check.specs.Public.{DescribesFront};
 
 use crate::copied::Copied;
-use crate::own::srid_size;
 use crate::put::put_piece;
 use crate::target::Target;
-use wkb_check::{Piece, Pieces};
+use wkb_check::{Piece, Pieces, Summary, srid_size};
 use wkb_geom::Form;
 use wkb_geom::code::MULTI_POINT;
 use wkb_geom::words::COUNT_SIZE;
@@ -30,17 +29,16 @@ fn srid_of(form: Form) -> Option<u32>
     }
 }
 
-/// The size of the encoding under a form of a geometry that is known to be at the front of these bytes, and to have so
-/// many of them itself. Any order gives this size.
-pub fn encoded_size(buf: &[u8], bytes: usize, form: Form) -> usize
-    requires { IsLong buf.now bytes }
+/// The size of the encoding under a form of the geometry in which the check found this. Any order gives this size.
+pub fn encoded_size(buf: &[u8], found: &Summary, form: Form) -> usize
+    requires { DescribesFront buf.now found.now }
     ensures size { (order : Endianness) (g : HasGeometry buf.now)
         → result ≡ length (encoding order form (geometry_of g.value)) }
-    ensures bound { result ≤ bytes + COUNT_SIZE }
+    ensures bound { result ≤ found.now.bytes + COUNT_SIZE }
 {
     // Only SRIDs make an encoding longer or shorter.
-    let mut size = bytes + srid_size(srid_of(form));
-    let first = Piece::geometry_at(buf, 0);
+    let mut size = found.bytes + srid_size(srid_of(form));
+    let first = Piece::outermost(buf, found);
     if first.kind <= MULTI_POINT {
         // Rings and the points of a multi point have none.
         return size - srid_size(first.srid);
@@ -74,10 +72,10 @@ pub fn put_pieces(buf: &[u8], target: Target, out: &mut [u8]) -> usize
     at
 }
 
-/// As `put_pieces`, for a geometry that is known to have so many bytes itself. Where all that follows its header stands
-/// as it is written, it is copied at once.
-pub fn put_encoding(buf: &[u8], bytes: usize, target: Target, out: &mut [u8]) -> usize
-    requires here { IsLong buf.now bytes }
+/// As `put_pieces`, for the geometry in which the check found this. Where all that follows its header stands as it is
+/// written, it is copied at once.
+pub fn put_encoding(buf: &[u8], found: &Summary, target: Target, out: &mut [u8]) -> usize
+    requires here { DescribesFront buf.now found.now }
     requires room { (g : HasGeometry buf.now)
         → length (encoding target.order target.form (geometry_of g.value)) ≤ length out.old }
     ensures size { (g : HasGeometry buf.now)
@@ -85,7 +83,7 @@ pub fn put_encoding(buf: &[u8], bytes: usize, target: Target, out: &mut [u8]) ->
     ensures put { (g : HasGeometry buf.now)
         → out.new ≡ sets out.old 0 (encoding target.order target.form (geometry_of g.value)) }
 {
-    match Copied::of(buf, bytes, target) {
+    match Copied::of(buf, found, target) {
         Some(copied) => copied.put(out),
         None => put_pieces(buf, target, out),
     }

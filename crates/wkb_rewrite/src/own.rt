@@ -1,23 +1,14 @@
 //! What a piece itself has: its words, in its order.
 
-ghost use Rattle.std.specs.Prelude.{◌≡◌, ◌≤◌, ◌↔◌, ℕ, List, length, IsTrue, is_some};
+ghost use Rattle.std.specs.Prelude.{◌≡◌, ◌≤◌, ◌↔◌, ℕ, List, length, IsTrue};
 ghost use Rattle.wkb_geom.specs.Numbers.{all_nan};
-ghost use Rattle.wkb_geom.specs.Refusals.{srid_size as size_of_srid};
 ghost use Rattle.wkb_check.specs.Pieces.{own_end};
 ghost use Rattle.wkb_rewrite.specs.Shares.{Holds, own_words, is_empty};
 
 use wkb_check::Piece;
 use wkb_geom::Endianness;
 use wkb_geom::code::POINT;
-use wkb_geom::words::{COUNT_SIZE, WORD_SIZE, is_nan, u64_at};
-
-/// The size of an SRID, where there is one.
-#[inline(always)]
-pub fn srid_size(srid: Option<u32>) -> usize
-    ensures { result ≡ size_of_srid (is_some srid) }
-{
-    if srid.is_some() { COUNT_SIZE } else { 0 }
-}
+use wkb_geom::words::{WORD_SIZE, is_nan, u64_at};
 
 /// The bytes of a piece's own words.
 #[inline(always)]

@@ -79,11 +79,11 @@ impl<'a, S: Sink> Buffered<'a, S> {
         }
     }
 
-    // `flush` by a call, which also stops where the block is too small. The steps before the last one mostly have room,
-    // so it isn't inlined into each.
-    #[inline(never)]
+    // `flush`, which also stops where the block is too small. Where there is no sink behind the block it is inlined, and
+    // then a block and an error that no call borrows need no memory.
+    #[inline]
     #[tactic(auto, using(crate::proofs::Steps::room_laws))]
-    fn flush_apart(&mut self, n: usize) -> Result<(), Stopped>
+    fn flush_for(&mut self, n: usize) -> Result<(), Stopped>
         requires fits { n ≤ MIN_BLOCK }
         requires short { (held self.old).room < n }
         requires working { S.has_failed self.old.sink.now ≡ false }
@@ -107,7 +107,7 @@ impl<'a, S: Sink> Buffered<'a, S> {
         ensures room { IfOk result (λ _. n ≤ (held self.new).room) }
     {
         if self.room() < n {
-            self.flush_apart(n)
+            self.flush_for(n)
         } else {
             Ok(())
         }

@@ -160,9 +160,11 @@ pub fn write_as<S: Sink, G, K: Writable<G>>(
     requires { S.has_failed writer.old ≡ false }
     ensures { WritesTo S.Sink writer.old writer.new options.now (K.geometry geom.now) result }
 {
+    // A copy, which no byte that is laid can change: so it is read once.
+    let options = *options;
     // A refusal leaves the sink untouched (docs/DECISIONS.md, D6).
     match checked_size::<G, K>(geom, options.form) {
-        Ok(size) => wkb_result(put_sized::<S, G, K>(writer, size, geom, options)),
+        Ok(size) => wkb_result(put_sized::<S, G, K>(writer, size, geom, &options)),
         Err(fault) => refuse(fault),
     }
 }

@@ -1,18 +1,13 @@
 use Rattle.std.proofs.Common.{sym, ◌∙◌}
 use Rattle.std.proofs.lemmas.Result.{IfOk-weaker}
-use Rattle.wkb.proofs.Rewritten.{here, as_long, filled, made}
+use Rattle.wkb_rewrite.proofs.Measured.{here}
+use Rattle.wkb.proofs.Rewritten.{filled, made}
 use Rattle.wkb.proofs.canon.rewritten.Goals as goal
-
-pub of-requires : goal.of-requires
-of-requires c = as_long c.requires
 
 pub returns-in-Some-clause-ok : goal.returns-in-Some-clause-ok
 returns-in-Some-clause-ok c =
     IfOk-weaker c.copied_to_vec.result _ _
     (λ encoding is. made c.requires (is ∙ sym (c.in-Some.ensures (here c.requires)))) c.copied_to_vec.ensures.ok
-
-pub encoded_size-requires : goal.encoded_size-requires
-encoded_size-requires c = as_long c.requires
 
 pub returns-clause-ok : goal.returns-clause-ok
 returns-clause-ok c =

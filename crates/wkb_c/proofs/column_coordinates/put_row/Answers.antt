@@ -1,7 +1,7 @@
 use Rattle.wkb_c.proofs.Common.{refl, sym, ◌∙◌}
 use Rattle.wkb_c.specs.Coordinates.{handed, failed, unknown, refused, written, no_room}
 use Rattle.wkb_c.specs.Subjects.{subjects}
-use Rattle.wkb_c.proofs.Telling.{there_is}
+use Rattle.wkb_rewrite.proofs.Measured.{here}
 use Rattle.wkb_c.proofs.Rooms.{has_coordinates}
 use Rattle.wkb_c.proofs.column_coordinates.put_row.Goals as goal
 
@@ -22,7 +22,7 @@ returns-then-not-has_room-clause-put c =
     let d = c.in_default-check_row.ensures.accepted in
     handed c.in-Some.asked (subjects d.spelled d.value)
     (has_coordinates row c.in-Ok.ensures.row (sym c.in-Some.ensures) _ d)
-    (no_room refl (c.after.ensures (there_is row _ d)) (c.if-not-has_room.ensures.no refl) refl)
+    (no_room refl (c.after.ensures (here d)) (c.if-not-has_room.ensures.no refl) refl)
 
 pub returns-clause-put : goal.returns-clause-put
 returns-clause-put c =
@@ -30,5 +30,5 @@ returns-clause-put c =
     let d = c.in_default-check_row.ensures.accepted in
     handed c.in-Some.asked (subjects d.spelled d.value)
     (has_coordinates row c.in-Ok.ensures.row (sym c.in-Some.ensures) _ d)
-    (written refl (c.after.ensures (there_is row _ d)) (c.if-not-has_room.ensures.yes refl)
-    (c.put_levels.ensures.levels (there_is row _ d)))
+    (written refl (c.after.ensures (here d)) (c.if-not-has_room.ensures.yes refl)
+    (c.put_levels.ensures.levels (here d)))

@@ -2,21 +2,17 @@ use Rattle.wkb_c.proofs.Common.{arith, length, ◌≤◌}
 use Rattle.wkb_geom.specs.Encodings.{encoding}
 use Rattle.wkb_geom.specs.Geometries.{geometry_of}
 use Rattle.wkb_check.specs.Bounded.{HasGeometry}
-use Rattle.wkb_rewrite.proofs.Measured.{at_most}
+use Rattle.wkb_rewrite.proofs.Measured.{at_most, here}
 use Rattle.wkb_c.proofs.Encodings.{handed_out, finds_no_room}
-use Rattle.wkb_c.proofs.Telling.{there_is, there_long}
 use Rattle.wkb_c.proofs.encoding.write_requested.Goals as goal
 use Rattle.wkb_c.proofs.encoding.write_requested.Goals.{Joined-out-buf, then-out-buf+else-out-wanted, else-out-buf}
-
-pub encoded_size-wanted-requires : goal.encoded_size-wanted-requires
-encoded_size-wanted-requires c = there_long c.args.buf.now c.args.found.now c.requires
 
 pub returns-then-out-wanted-clause-no_room : goal.returns-then-out-wanted-clause-no_room
 returns-then-out-wanted-clause-no_room c = λ told.
     let target = c.target_of-target in
     finds_no_room c.args.request c.args.buf.now c.args.found.now c.requires target.result target.ensures.is
     c.args.out.now c.encoded_size-wanted.result
-    (c.encoded_size-wanted.ensures.size target.result.order (there_is c.args.buf.now c.args.found.now c.requires))
+    (c.encoded_size-wanted.ensures.size target.result.order (here c.requires))
     (omega (arith, c.if-out-wanted.true))
 
 -- there is room for the encoding where it is put
@@ -36,16 +32,13 @@ fits c g =
       )
     ]
 
-pub put_encoding-requires-clause-here : goal.put_encoding-requires-clause-here
-put_encoding-requires-clause-here c = there_long c.args.buf.now c.args.found.now c.requires
-
 pub put_encoding-requires-clause-room : goal.put_encoding-requires-clause-room
 put_encoding-requires-clause-room c = fits (goal.at.put_encoding-requires-clause-room c).Joined-out-buf
 
 pub returns-clause-written : goal.returns-clause-written
 returns-clause-written c = λ told.
     let target = c.target_of-target in
-    let there = there_is c.args.buf.now c.args.found.now c.requires in
+    let there = here c.requires in
     let size_is = c.put_encoding.ensures.size there in
     handed_out c.args.request c.args.buf.now c.args.found.now c.requires target.result target.ensures.is c.args.out.now
     c.put_encoding.new.out c.put_encoding.result size_is
@@ -54,7 +47,7 @@ returns-clause-written c = λ told.
 
 pub returns-clause-bound : goal.returns-clause-bound
 returns-clause-bound c =
-    let there = there_is c.args.buf.now c.args.found.now c.requires in
+    let there = here c.requires in
     let target = c.target_of-target in
     omega (
       arith,

@@ -2,16 +2,16 @@ use Rattle.std.proofs.Common.{◌≡◌, ◌+◌, arith, ap, length, ◌∙◌, 
 use Rattle.wkb_laws.specs.Prelude.{AreBytes, Endianness, LittleEndian, srid_size, form_srid, encoding, geometry_of}
 use Rattle.wkb_check.specs.Bounded.{HasGeometry}
 use Rattle.wkb_rewrite.proofs.Walks.{nothing_ahead}
-use Rattle.wkb_rewrite.proofs.Measured.{srid_sizes, long_of, measured, most_srid, own_srid_alone}
+use Rattle.wkb_rewrite.proofs.Measured.{srid_sizes, here, long_of, measured, most_srid, own_srid_alone}
 use Rattle.wkb_rewrite.proofs.encoding.encoded_size.Goals as goal
 use Rattle.wkb_rewrite.proofs.encoding.encoded_size.Goals.{In_default, Then-first-le-MULTI_POINT}
 
 pub overflow_add-size : goal.overflow_add-size
 overflow_add-size c =
-    let g = c.requires.geometry in
+    let g = here c.requires in
     omega (
       arith,
-      c.requires.long,
+      c.requires.described.bytes_are,
       c.srid_size.ensures,
       most_srid (is_some c.srid_of.result),
       ap length g.begins.whole,
@@ -20,17 +20,17 @@ overflow_add-size c =
 
 -- where only the outermost geometry can have an SRID
 alone : (c : Then-first-le-MULTI_POINT) (order : Endianness) (g : HasGeometry c.args.buf.now)
-    → c.args.bytes + c.srid_size.result
-    ≡ length (encoding order c.args.form (geometry_of g.value)) + srid_size (is_some c.geometry_at-first.result.srid)
+    → c.args.found.now.bytes + c.srid_size.result
+    ≡ length (encoding order c.args.form (geometry_of g.value)) + srid_size (is_some c.outermost-first.result.srid)
 alone c order g =
     omega (
       arith,
       c.srid_size.ensures,
       ap (λ o. srid_size (is_some o)) c.srid_of.ensures.is,
-      measured order c.args.form c.args.buf.now c.args.bytes g (λ i. (c.type_inv.buf i).fits) c.srid_of.ensures.form
-          (long_of c.args.buf.now c.args.bytes c.requires g),
-      own_srid_alone 0 g.spelled g.value g.begins.front g.begins.first c.geometry_at-first.result
-          (c.geometry_at-first.ensures g) c.if-first-le-MULTI_POINT.true,
+      measured order c.args.form c.args.buf.now c.args.found.now.bytes g (λ i. (c.type_inv.buf i).fits) c.srid_of.ensures.form
+          (long_of c.requires g),
+      own_srid_alone 0 g.spelled g.value g.begins.front g.begins.first c.outermost-first.result
+          (c.outermost-first.ensures g) c.if-first-le-MULTI_POINT.true,
     )
 
 pub overflow_sub-result : goal.overflow_sub-result
@@ -38,7 +38,7 @@ overflow_sub-result c =
     let step = (goal.at.overflow_sub-result c).Then-first-le-MULTI_POINT in
     omega (
       arith,
-      alone step LittleEndian c.requires.geometry,
+      alone step LittleEndian (here c.requires),
       c.srid_size-then-first-le-MULTI_POINT.ensures,
     )
 
@@ -51,19 +51,19 @@ pub loop-piece-init : goal.loop-piece-init
 loop-piece-init c = λ order g. record {
   pieces = _;
   ahead = c.of-pieces.ensures.ahead g;
-  over = ap (λ n. c.args.bytes + n) (c.srid_size.ensures ∙ ap (λ o. srid_size (is_some o)) c.srid_of.ensures.is)
-      ∙ measured order c.args.form c.args.buf.now c.args.bytes g (λ i. (c.type_inv.buf i).fits) c.srid_of.ensures.form
-      (long_of c.args.buf.now c.args.bytes c.requires g);
+  over = ap (λ n. c.args.found.now.bytes + n) (c.srid_size.ensures ∙ ap (λ o. srid_size (is_some o)) c.srid_of.ensures.is)
+      ∙ measured order c.args.form c.args.buf.now c.args.found.now.bytes g (λ i. (c.type_inv.buf i).fits) c.srid_of.ensures.form
+      (long_of c.requires g);
 }
 
 pub next-requires : goal.next-requires
 next-requires c =
-    let l = c.loop-piece.invariant LittleEndian c.requires.geometry in
+    let l = c.loop-piece.invariant LittleEndian (here c.requires) in
     record { ahead = record { pieces = l.pieces; are = l.ahead } }
 
 pub overflow_sub-size : goal.overflow_sub-size
 overflow_sub-size c =
-    let l = c.loop-piece.invariant LittleEndian c.requires.geometry in
+    let l = c.loop-piece.invariant LittleEndian (here c.requires) in
     let x = c.in-Some.ensures.steps l.pieces l.ahead in
     omega (arith, l.over, ap srid_sizes x.first, c.srid_size-size.ensures)
 
@@ -101,11 +101,11 @@ returns-clause-size c = whole c
 
 pub returns-clause-bound : goal.returns-clause-bound
 returns-clause-bound c =
-    let g = c.requires.geometry in
+    let g = here c.requires in
     let bytes : AreBytes c.args.buf.now = λ i. (c.type_inv.buf i).fits in
     omega (
       arith,
       whole c LittleEndian g,
       most_srid (is_some (form_srid c.args.form)),
-      measured LittleEndian c.args.form c.args.buf.now c.args.bytes g bytes c.srid_of.ensures.form c.requires.long,
+      measured LittleEndian c.args.form c.args.buf.now c.args.found.now.bytes g bytes c.srid_of.ensures.form c.requires.described.bytes_are,
     )

@@ -1,6 +1,6 @@
 use Rattle.std.proofs.Common.{◌∙◌, sym, ap, arith}
 use Rattle.wkb_geom.specs.Reading.{head_at}
-use Rattle.wkb_check.proofs.Ahead.{begins_inside}
+use Rattle.wkb_check.proofs.Ahead.{begins_inside, bare_header}
 use Rattle.wkb_check.proofs.Following.{geometry_there}
 use Rattle.wkb_check.proofs.pieces.Pieces.next_bare.Goals as goal
 
@@ -10,6 +10,11 @@ rest_from-requires c =
     (omega (arith, c.if-self-eq0.false)) in
     omega (arith, begins_inside c.args.self.now.bytes.now c.args.self.now.at there)
 
-pub bare_at-piece-requires-clause-here : goal.bare_at-piece-requires-clause-here
-bare_at-piece-requires-clause-here c =
+pub behind_header-piece-requires-clause-here : goal.behind_header-piece-requires-clause-here
+behind_header-piece-requires-clause-here c =
     geometry_there c.requires.ahead.are (omega (arith, c.if-self-gt0.false)) (omega (arith, c.if-self-eq0.false))
+
+pub behind_header-piece-requires-clause-header : goal.behind_header-piece-requires-clause-header
+behind_header-piece-requires-clause-header c = λ g.
+    bare_header c.args.self.now.bytes.now c.args.self.now.at g c.args.order c.in_ok-kind.kind
+    (ap head_at (sym c.rest_from.ensures) ∙ c.in_ok-kind.ensures.head) c.in_ok-kind.ensures.least c.in_ok-kind.ensures.most

@@ -1,7 +1,7 @@
 use Rattle.std.proofs.Common.{◌-◌, length}
 use Rattle.wkb_check.specs.Bounded.{HasGeometry}
 use Rattle.wkb_rewrite.proofs.Comparing.{shares_at, Compared}
-use Rattle.wkb_rewrite.proofs.comparison.have_one_value.Given as goal
+use Rattle.wkb_rewrite.proofs.comparison.have_like_pieces.Given as goal
 
 abbrev pub decreases-loop-x : goal.decreases-loop-x
 decreases-loop-x l = length l.firsts.bytes.now - l.firsts.at
