@@ -16,10 +16,11 @@ pub use Rattle.wkb_levels.specs.declared.write.Written.{Written}
 pub use Rattle.wkb_levels.specs.declared.write.Written.TheVariants as written
 pub use Rattle.wkb_levels.specs.Cuts.{start_at, AreEnds, AreOnes, pieces_from, only, and_then, only_each}
 pub use Rattle.wkb_levels.specs.EndLists.{start_of, ends_of, begin_of, AreEndsWithin}
-pub use Rattle.wkb_levels.specs.RingLists.{rings_in, rings_dimensions, rings_rings}
+pub use Rattle.wkb_levels.specs.RingLists.{rings_in, rings_dimensions, rings_rings, FitWords, FitRings}
 pub use Rattle.wkb_levels.specs.PointLists.{points_dimensions, points_points}
-pub use Rattle.wkb_levels.specs.PolygonLists.{polygons_dimensions, polygons_polygons}
+pub use Rattle.wkb_levels.specs.PolygonLists.{polygons_of, polygons_dimensions, polygons_polygons}
 pub use Rattle.wkb_levels.specs.Columns.{column_rings, column_singles, row_begin, row_end, singles_of, AreEndsBetween}
 pub use Rattle.wkb_levels.specs.Columns.{AreRowLevels, place_at, IsUpTo, furthest, EndUpTo, IsFloor}
 pub use Rattle.wkb_levels.specs.Meant.{single_dimensions, single_meant, row_meant, rings_meant, kind_meant, IsLevelRow}
+pub use Rattle.wkb_levels.specs.Meant.{HasNoLevelRow, FindsRow}
 pub use Rattle.wkb_levels.specs.RowWrites.{HasRowEncoding, IsRowWrite}

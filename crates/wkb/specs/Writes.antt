@@ -1,9 +1,19 @@
 -- What sizes and writers promise, and what becomes of a sink.
+use Rattle.std.specs.Prelude.{◌≡◌, ℕ, Result, IfOk, Vec}
+use Rattle.std.specs.Global.{Global}
+use Rattle.wkb_geom.specs.declared.error.WkbError.{WkbError}
+use Rattle.wkb_geom.specs.Geometries.{Geometry}
+use Rattle.wkb_write.specs.Answers.{encoding_of}
 pub use Rattle.wkb_write.specs.Answers.{IsSizeOf, IsRefusedAs, IsWrittenAs, IsSpelled, IsSpelledAs, IsFailedAs, Writes}
 pub use Rattle.wkb_write.specs.Answers.{WritesTo, IsInFront, OutgrowsSlice, IsVecError, IsSliceError}
 pub use Rattle.wkb_write.specs.Measures.{Reports}
-pub use Rattle.wkb_sink.specs.Sinks.{FailsBy, TellsFailure, IsIOError, IsOwnError, IsWritten, IsBegun, Puts}
+pub use Rattle.wkb_sink.specs.Sinks.{FailsBy, TellsFailure, IsOutOfMemory, IsIOError, IsOwnError, IsWritten, IsBegun}
+pub use Rattle.wkb_sink.specs.Sinks.{Puts}
 pub use Rattle.wkb_sink.specs.declared.options.WriteOptions.{WriteOptions}
 pub use Rattle.wkb_sink.specs.Sinks.{put_fails, put_whole, KnownOfFailure, IsShortOfMemory}
 pub use Rattle.wkb_sink.specs.declared.sink.Sink.{Ghosts}
 pub use Rattle.wkb_sink.specs.Held.{Outward, Growing, Lent}
+
+-- the bytes that are returned at Ok are the geometry's encoding under the options
+abbrev pub IsEncodingOf : WriteOptions → Geometry → Result (Vec ℕ Global) WkbError → Type 0
+IsEncodingOf options g r = IfOk r (λ bytes. bytes.items ≡ encoding_of options g)

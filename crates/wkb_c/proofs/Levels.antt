@@ -20,7 +20,7 @@ use Rattle.wkb_check.proofs.Placing.{sets_after}
 use Rattle.wkb_c.specs.Coordinates.{words_asked, words_in, ring_counts, single_counts, ends, totals_after, with_levels}
 use Rattle.wkb_c.specs.Coordinates.{Levels, HasRoomUpTo}
 use Rattle.wkb_c.specs.declared.coordinates.Totals.{Totals}
-use Rattle.wkb_c.specs.PieceLevels.{ring_sizes, single_sizes, piece_words}
+use Rattle.wkb_c.specs.PieceLevels.{ring_sizes, single_sizes, piece_words, with_words, with_ring_end, with_single_end}
 use Rattle.wkb_c.specs.RowItems.{end_of}
 use Rattle.wkb_c.specs.Subjects.{Subject, whole, ring, subjects, subjects_of_rings, subjects_of_each, dimension_in}
 use Rattle.wkb_c.specs.Subjects.{coordinates_in}
@@ -449,9 +449,9 @@ module _ {asked : Dimension} {input : List ℕ} {w : Pieces} {from : Totals} {al
   module _ (to : Totals) (new : Levels) (coordinates_is : to.coordinates ≡ end_of at.coordinates (sum (ring_sizes p)))
       (rings_is : to.rings ≡ end_of at.rings (length (ring_sizes p)))
       (singles_is : to.singles ≡ end_of at.singles (length (single_sizes p)))
-      (words_is : new.words ≡ sets out.words (width asked * at.coordinates) (piece_words asked input p))
-      (ring_ends_is : new.ring_ends ≡ sets out.ring_ends at.rings (ends at.coordinates (ring_sizes p)))
-      (single_ends_is : new.single_ends ≡ sets out.single_ends at.singles (ends at.rings (single_sizes p))) where
+      (words_is : new.words ≡ with_words asked input p at out.words)
+      (ring_ends_is : new.ring_ends ≡ with_ring_end p at out.ring_ends)
+      (single_ends_is : new.single_ends ≡ with_single_end p at out.single_ends) where
     coordinates_to : to.coordinates ≡ at.coordinates + sum (ring_sizes p)
     coordinates_to =
         omega (

@@ -12,7 +12,7 @@ use Rattle.wkb_geom.specs.Spellings.{Spelling}
 use Rattle.wkb_geom.specs.Values.{Coordinate, Value, point, line_string, polygon}
 use Rattle.wkb_c.specs.Columns.{IsRow, LacksRow, IsRefusedWith}
 use Rattle.wkb_c.specs.declared.column.Column.{Column}
-use Rattle.wkb_c.specs.RowItems.{end_of, rows_of}
+use Rattle.wkb_c.specs.RowItems.{end_of}
 use Rattle.wkb_c.specs.Subjects.{Subject, whole, ring, dimension_in, coordinates_in, subjects}
 use Rattle.wkb_c.specs.declared.coordinates.Totals.{Totals}
 use Rattle.wkb_c.specs.declared.status.TheConstants.{OK, NO_ROOM, UNKNOWN_OPTION}
@@ -146,11 +146,6 @@ AreColumnCoordinates c dimension statuses row_ends out (suc i) at now =
     (from : Totals) × ((before : Levels) × (AreColumnCoordinates c dimension statuses row_ends out i from before
     × IsCoordinatesRow c dimension i (slice_index statuses i) from at before now
     × (slice_index row_ends i ≡ at.singles)))
-
--- so it is of all rows
-abbrev pub AreLevels : Column → ℕ → List ℕ → List ℕ → Totals → Levels → Levels → Type 0
-AreLevels c dimension statuses row_ends at before now =
-    AreColumnCoordinates c dimension statuses row_ends before (rows_of statuses row_ends) at now
 
 -- with room up to here in the dimension of this number none of the rows below a number lacks room
 abbrev pub NoneLacksRoom : ℕ → Levels → Totals → ℕ → List ℕ → Type 0

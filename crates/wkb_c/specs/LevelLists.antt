@@ -1,7 +1,14 @@
 -- The slices that the levels are written to, as the code has them.
-use Rattle.std.specs.Prelude.{◌≡◌}
-use Rattle.wkb_c.specs.Coordinates.{Levels, levels}
+use Rattle.std.specs.Prelude.{◌≡◌, ℕ, List}
+use Rattle.wkb_geom.specs.declared.common.Dimension.{Dimension}
+use Rattle.wkb_check.specs.Bounded.{HasGeometry}
+use Rattle.wkb_c.specs.Coordinates.{Levels, levels, HasRoomUpTo, totals_after, with_levels, IsCoordinatesRow}
+use Rattle.wkb_c.specs.Coordinates.{AreColumnCoordinates, NoneLacksRoom}
+use Rattle.wkb_c.specs.RowItems.{rows_of}
+use Rattle.wkb_c.specs.Subjects.{subjects}
+use Rattle.wkb_c.specs.declared.column.Column.{Column}
 use Rattle.wkb_c.specs.declared.coordinates.LevelSlices.{LevelSlices}
+use Rattle.wkb_c.specs.declared.coordinates.Totals.{Totals}
 
 -- what they hold
 abbrev pub levels_of : LevelSlices → Levels
@@ -12,3 +19,28 @@ pub record AreSameSlices (before after : LevelSlices) : Type 0 where
   pub words_stay : after.words.ghost_name ≡ before.words.ghost_name
   pub ring_ends_stay : after.ring_ends.ghost_name ≡ before.ring_ends.ghost_name
   pub single_ends_stay : after.single_ends.ghost_name ≡ before.single_ends.ghost_name
+
+-- they have room for the levels, which begin here, of the geometry that a row begins with
+abbrev pub HasRoomFor : Dimension → List ℕ → Totals → LevelSlices → Type 0
+HasRoomFor asked row from out =
+    (g : HasGeometry row) → HasRoomUpTo asked (levels_of out) (totals_after from (subjects g.spelled g.value))
+
+-- these levels are written to them
+abbrev pub PutsLevels : Dimension → List ℕ → Totals → LevelSlices → LevelSlices → Type 0
+PutsLevels asked row from before after =
+    (g : HasGeometry row) → levels_of after ≡ with_levels asked (subjects g.spelled g.value) from (levels_of before)
+
+-- the status of row i, where its levels begin and end, and what becomes of the slices
+abbrev pub PutsRow : Column → ℕ → ℕ → ℕ → Totals → Totals → LevelSlices → LevelSlices → Type 0
+PutsRow c dimension i status from to before after =
+    IsCoordinatesRow c dimension i status from to (levels_of before) (levels_of after)
+
+-- so it is of all rows
+abbrev pub AreLevels : Column → ℕ → List ℕ → List ℕ → Totals → LevelSlices → LevelSlices → Type 0
+AreLevels c dimension statuses row_ends at before now =
+    AreColumnCoordinates c dimension statuses row_ends (levels_of before) (rows_of statuses row_ends) at (levels_of now)
+
+-- with room up to here in the dimension of this number no row lacks room
+abbrev pub NoRowLacksRoom : ℕ → LevelSlices → Totals → List ℕ → List ℕ → Type 0
+NoRowLacksRoom dimension out to statuses row_ends =
+    NoneLacksRoom dimension (levels_of out) to (rows_of statuses row_ends) statuses

@@ -4,7 +4,7 @@ use Rattle.wkb_levels.specs.EndLists.{ends_of}
 use Rattle.wkb_levels.specs.RowWrites.{HasRowEncoding}
 use Rattle.wkb_c.specs.Columns.{is_unset_bit}
 use Rattle.wkb_c.specs.LevelTargets.{levels_in, target_asked}
-use Rattle.wkb_c.specs.RowItems.{rows_of, AreRowAnswers}
+use Rattle.wkb_c.specs.RowItems.{rows_of, AreRowAnswers, IsRowStep}
 use Rattle.wkb_c.specs.declared.from_coordinates.LevelColumn.{LevelColumn}
 use Rattle.wkb_c.specs.declared.from_coordinates.LevelTarget.{LevelTarget}
 use Rattle.wkb_c.specs.declared.options.Options.{Options}
@@ -26,6 +26,11 @@ pub data LacksLevels (c : LevelColumn) (asked : Option LevelTarget) (i status : 
   unfit : is_unset_bit c.validity.now (c.validity_offset + i) ≡ false → (t : LevelTarget) → asked ≡ Some t
       → ((bytes : List ℕ) → HasRowEncoding (levels_in c) t.kind t.dim t.options i bytes → ⊥) → status ≡ BAD_LEVELS
       → LacksLevels c asked i status
+
+-- the status of row i and the length of its encoding, which is put behind those before it if there is room
+abbrev pub IsLevelStep : LevelColumn → Option LevelTarget → ℕ → ℕ × ℕ → ℕ → List ℕ → List ℕ → Type 0
+IsLevelStep c asked i told start before after =
+    IsRowStep (HasLevelEncoding c asked) (LacksLevels c asked) i told.0 told.1 start before after
 
 -- as many rows as the column and both of these lists have entries for
 abbrev pub level_rows : LevelColumn → List ℕ → List ℕ → ℕ

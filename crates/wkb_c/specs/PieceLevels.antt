@@ -1,9 +1,15 @@
 -- What one piece of a geometry gives each level: the code's step.
-use Rattle.std.specs.Prelude.{ℕ, List, [], ◌∷◌, drop, flat_map, nat_lt, ◌&&◌, if◌then◌else◌}
+use Rattle.std.specs.Prelude.{ℕ, ◌+◌, ◌*◌, ◌≤◌, List, [], ◌∷◌, length, drop, flat_map, nat_lt, ◌&&◌, IsTrue}
+use Rattle.std.specs.Prelude.{if◌then◌else◌}
+use lib.Seq.{sets}
+use Rattle.wkb_geom.specs.declared.common.Endianness.{Endianness}
 use Rattle.wkb_geom.specs.declared.common.Dimension.{Dimension}
+use Rattle.wkb_geom.specs.declared.code.TheConstants.{POLYGON}
+use Rattle.wkb_geom.specs.Dimensions.{width}
 use Rattle.wkb_geom.specs.Reading.{coordinates}
 use Rattle.wkb_check.specs.declared.pieces.Piece.{Piece}
-use Rattle.wkb_c.specs.Coordinates.{words_asked}
+use Rattle.wkb_c.specs.Coordinates.{words_asked, ends}
+use Rattle.wkb_c.specs.declared.coordinates.Totals.{Totals}
 
 -- how many coordinates it has, if it is a ring
 abbrev pub ring_sizes : Piece → List ℕ
@@ -13,11 +19,42 @@ ring_sizes p = if nat_lt p.kind 3 then p.count ∷ [] else []
 abbrev pub single_sizes : Piece → List ℕ
 single_sizes p = if nat_lt 0 p.kind && nat_lt p.kind 4 then (if nat_lt p.kind 3 then 1 else p.count) ∷ [] else []
 
+-- its coordinates are inside the row, where they have this dimension
+abbrev pub AreInside : List ℕ → Dimension → Piece → Type 0
+AreInside row own p = p.offset + 8 * width own * p.count ≤ length row
+
+-- its own coordinates are, if it is a ring
+abbrev pub IsRingInside : List ℕ → Piece → Type 0
+IsRingInside row p = IsTrue (nat_lt p.kind POLYGON) → AreInside row p.dimension p
+
+-- its coordinates in the row, where they have this order and dimension
+abbrev pub coordinates_as : Endianness → Dimension → List ℕ → Piece → List (List ℕ)
+coordinates_as order own row p = coordinates order own p.count (drop p.offset row)
+
+-- the words that are asked for of these
+abbrev pub words_as : Dimension → Endianness → Dimension → List ℕ → Piece → List ℕ
+words_as asked order own row p = flat_map (words_asked asked own) (coordinates_as order own row p)
+
+-- those in its own order and dimension
+abbrev pub words_asked_of : Dimension → List ℕ → Piece → List ℕ
+words_asked_of asked row p = words_as asked p.order p.dimension row p
+
 -- its coordinates, if it is a ring
 abbrev pub piece_coordinates : List ℕ → Piece → List (List ℕ)
-piece_coordinates row p =
-    if nat_lt p.kind 3 then coordinates p.order p.dimension p.count (drop p.offset row) else []
+piece_coordinates row p = if nat_lt p.kind 3 then coordinates_as p.order p.dimension row p else []
 
 -- the words that are asked for of these
 abbrev pub piece_words : Dimension → List ℕ → Piece → List ℕ
 piece_words asked row p = flat_map (words_asked asked p.dimension) (piece_coordinates row p)
+
+-- the list of words with its own, which begin here
+abbrev pub with_words : Dimension → List ℕ → Piece → Totals → List ℕ → List ℕ
+with_words asked row p at words = sets words (width asked * at.coordinates) (piece_words asked row p)
+
+-- the list of ring ends with its own, if it is a ring
+abbrev pub with_ring_end : Piece → Totals → List ℕ → List ℕ
+with_ring_end p at ring_ends = sets ring_ends at.rings (ends at.coordinates (ring_sizes p))
+
+-- the list of single ends with its own, if it is a single
+abbrev pub with_single_end : Piece → Totals → List ℕ → List ℕ
+with_single_end p at single_ends = sets single_ends at.singles (ends at.rings (single_sizes p))

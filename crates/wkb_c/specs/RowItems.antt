@@ -78,3 +78,13 @@ pub data IsRowStep {A : Type 0} (Has : ℕ → List A → Type 0) (Fails : ℕ �
       → length before < start + count → after ≡ before
       → IsRowStep Has Fails i status count start before after
   nothing : Fails i status → count ≡ 0 → after ≡ before → IsRowStep Has Fails i status count start before after
+
+-- so it is of the table of row i
+abbrev pub IsTableStep : Column → ℕ → ℕ × ℕ → ℕ → List Part → List Part → Type 0
+IsTableStep c i told start before after =
+    IsRowStep (RowHas HasTable c) (RowFails IsRefusedWith c) i told.0 told.1 start before after
+
+-- so it is of its encoding
+abbrev pub IsEncodingStep : Options → Column → ℕ → ℕ × ℕ → ℕ → List ℕ → List ℕ → Type 0
+IsEncodingStep o c i told start before after =
+    IsRowStep (RowHas (HasEncoding o) c) (RowFails (FailsToWrite o) c) i told.0 told.1 start before after

@@ -3,8 +3,7 @@
 ghost use Rattle.std.specs.Prelude.{◌≡◌, ◌+◌, ◌<◌, ◌^◌, length};
 ghost use Rattle.wkb_c.specs.Classes.{FitsByte};
 ghost use Rattle.wkb_c.specs.Columns.{Reach};
-ghost use Rattle.wkb_c.specs.Coordinates.{IsCoordinatesRow, AreLevels, NoneLacksRoom};
-ghost use Rattle.wkb_c.specs.LevelLists.{levels_of, AreSameSlices};
+ghost use Rattle.wkb_c.specs.LevelLists.{PutsRow, AreLevels, NoRowLacksRoom, AreSameSlices};
 ghost use Rattle.wkb_c.specs.RowItems.{KeepsFrom, rows_of};
 
 use crate::column::{Column, check_row};
@@ -24,8 +23,7 @@ fn put_row(
     requires small { i < 2 ^ 63 }
     requires before { Reach column.now i reach.old }
     ensures reach { Reach column.now (i + 1) reach.new }
-    ensures put { IsCoordinatesRow column.now dimension i result at.old at.new
-        (levels_of out.old) (levels_of out.new) }
+    ensures put { PutsRow column.now dimension i result at.old at.new out.old out.new }
     ensures same_slices { AreSameSlices out.old out.new }
     ensures known { FitsByte result }
 {
@@ -61,10 +59,8 @@ pub extern "C" fn wkb_raw_column_coordinates(
     totals: &mut Totals,
     statuses: &mut [u8],
 )
-    ensures each { AreLevels column.now dimension statuses.new row_ends.new totals.new
-        (levels_of out.old) (levels_of out.new) }
-    ensures room { NoneLacksRoom dimension (levels_of out.old) totals.new
-        (rows_of statuses.old row_ends.old) statuses.new }
+    ensures each { AreLevels column.now dimension statuses.new row_ends.new totals.new out.old out.new }
+    ensures room { NoRowLacksRoom dimension out.old totals.new statuses.new row_ends.new }
     ensures same_slices { AreSameSlices out.old out.new }
     ensures statuses_kept { KeepsFrom (rows_of statuses.old row_ends.old) statuses.old statuses.new }
     ensures row_ends_kept { KeepsFrom (rows_of statuses.old row_ends.old) row_ends.old row_ends.new }

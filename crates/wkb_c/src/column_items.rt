@@ -2,11 +2,9 @@
 
 ghost use Rattle.std.specs.Prelude.{◌≡◌, ◌+◌, ◌<◌, ◌^◌, length};
 ghost use Rattle.wkb_c.specs.Classes.{FitsByte};
-ghost use Rattle.wkb_c.specs.Columns.{IsRefusedWith, Reach};
-ghost use Rattle.wkb_c.specs.RowItems.{AreTables, AreEncodings, IsRowStep, KeepsAfter, KeepsFrom};
-ghost use Rattle.wkb_c.specs.RowItems.{rows_of, RowHas, RowFails};
-ghost use Rattle.wkb_c.specs.Subjects.{HasTable};
-ghost use Rattle.wkb_c.specs.Writings.{HasEncoding, FailsToWrite};
+ghost use Rattle.wkb_c.specs.Columns.{Reach};
+ghost use Rattle.wkb_c.specs.RowItems.{rows_of, AreTables, AreEncodings, IsTableStep, IsEncodingStep};
+ghost use Rattle.wkb_c.specs.RowItems.{KeepsAfter, KeepsFrom};
 
 use crate::column::{Column, check_row};
 use crate::encoding::write_requested;
@@ -26,8 +24,7 @@ fn list_row(
     requires small { i < 2 ^ 63 }
     requires before { Reach column.now i reach.old }
     ensures reach { Reach column.now (i + 1) reach.new }
-    ensures step { IsRowStep (RowHas HasTable column.now) (RowFails IsRefusedWith column.now)
-        i result.0 result.1 start parts.old parts.new }
+    ensures step { IsTableStep column.now i result start parts.old parts.new }
     ensures known { FitsByte result.0 }
 {
     let row = match column.row(i, reach) {
@@ -56,8 +53,7 @@ fn write_row(
     requires small { i < 2 ^ 63 }
     requires before { Reach column.now i reach.old }
     ensures reach { Reach column.now (i + 1) reach.new }
-    ensures step { IsRowStep (RowHas (HasEncoding options.now) column.now)
-        (RowFails (FailsToWrite options.now) column.now) i result.0 result.1 start out.old out.new }
+    ensures step { IsEncodingStep options.now column.now i result start out.old out.new }
     ensures known { FitsByte result.0 }
 {
     let row = match column.row(i, reach) {

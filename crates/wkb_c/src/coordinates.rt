@@ -1,15 +1,16 @@
 //! The coordinates of a geometry, in levels: it has singles, a single has rings, a ring has coordinates.
 
-ghost use Rattle.std.specs.Prelude.{◌≡◌, ◌+◌, ◌*◌, ◌^◌, ◌<◌, ◌≤◌, ◌&&◌, length, drop, flat_map, nat_lt, sum};
+ghost use Rattle.std.specs.Prelude.{◌≡◌, ◌+◌, ◌*◌, ◌^◌, ◌<◌, ◌≤◌, ◌&&◌, length, drop, nat_lt, sum};
 ghost use Rattle.std.specs.Prelude.{IsTrue, false};
 ghost use lib.Seq.{sets};
 ghost use Rattle.wkb_geom.specs.Dimensions.{width};
-ghost use Rattle.wkb_geom.specs.Reading.{coordinate, coordinates};
+ghost use Rattle.wkb_geom.specs.Reading.{coordinate};
 ghost use Rattle.wkb_check.specs.Bounded.{HasGeometry};
 ghost use Rattle.wkb_c.specs.Coordinates.{dimension_named, z_of, m_of, words_asked, HasRoomUpTo};
-ghost use Rattle.wkb_c.specs.Coordinates.{totals_after, with_levels, ends};
-ghost use Rattle.wkb_c.specs.LevelLists.{levels_of, AreSameSlices};
-ghost use Rattle.wkb_c.specs.PieceLevels.{ring_sizes, single_sizes, piece_words};
+ghost use Rattle.wkb_c.specs.Coordinates.{totals_after};
+ghost use Rattle.wkb_c.specs.LevelLists.{levels_of, AreSameSlices, HasRoomFor, PutsLevels};
+ghost use Rattle.wkb_c.specs.PieceLevels.{ring_sizes, single_sizes, AreInside, IsRingInside, words_as};
+ghost use Rattle.wkb_c.specs.PieceLevels.{words_asked_of, with_words, with_ring_end, with_single_end};
 ghost use Rattle.wkb_c.specs.RowItems.{end_of};
 ghost use Rattle.wkb_c.specs.Subjects.{subjects};
 
@@ -117,10 +118,9 @@ fn put_ordered(
     out: &mut [u64],
     start: usize,
 )
-    requires inside { piece.now.offset + 8 * width own * piece.now.count ≤ length row.now }
+    requires inside { AreInside row.now own piece.now }
     requires room { start + width asked * piece.now.count ≤ length out.old }
-    ensures { out.new ≡ sets out.old start (flat_map (words_asked asked own)
-        (coordinates order own piece.now.count (drop piece.now.offset row.now))) }
+    ensures { out.new ≡ sets out.old start (words_as asked order own row.now piece.now) }
 {
     let mut from = piece.offset;
     let mut at = start;
@@ -134,10 +134,9 @@ fn put_ordered(
 /// Writes the words that are asked for of the coordinates of a piece. The order is a constant in each loop, and where x
 /// and y alone are there and asked for, the dimensions are, too.
 fn put_coordinates(row: &[u8], piece: &Piece, asked: Dimension, out: &mut [u64], start: usize)
-    requires inside { piece.now.offset + 8 * width piece.now.dimension * piece.now.count ≤ length row.now }
+    requires inside { AreInside row.now piece.now.dimension piece.now }
     requires room { start + width asked * piece.now.count ≤ length out.old }
-    ensures { out.new ≡ sets out.old start (flat_map (words_asked asked piece.now.dimension)
-        (coordinates piece.now.order piece.now.dimension piece.now.count (drop piece.now.offset row.now))) }
+    ensures { out.new ≡ sets out.old start (words_asked_of asked row.now piece.now) }
 {
     use Dimension::Xy;
     use Endianness::{BigEndian, LittleEndian};
@@ -211,13 +210,11 @@ fn put_ring(
     words: &mut [u64],
     ring_ends: &mut [u64],
 )
-    requires inside { IsTrue (nat_lt piece.now.kind POLYGON)
-        → piece.now.offset + 8 * width piece.now.dimension * piece.now.count ≤ length row.now }
+    requires inside { IsRingInside row.now piece.now }
     requires words_fit { width asked * (at.coordinates + sum (ring_sizes piece.now)) ≤ length words.old }
     requires ends_fit { at.rings + length (ring_sizes piece.now) ≤ length ring_ends.old }
-    ensures words { words.new
-        ≡ sets words.old (width asked * at.coordinates) (piece_words asked row.now piece.now) }
-    ensures ends { ring_ends.new ≡ sets ring_ends.old at.rings (ends at.coordinates (ring_sizes piece.now)) }
+    ensures words { words.new ≡ with_words asked row.now piece.now at words.old }
+    ensures ends { ring_ends.new ≡ with_ring_end piece.now at ring_ends.old }
 {
     if !piece.has_coordinates() {
         return;
@@ -231,7 +228,7 @@ fn put_ring(
 fn put_single(piece: &Piece, at: Totals, single_ends: &mut [u64])
     requires small { at.rings < 2 ^ 63 }
     requires fits { at.singles + length (single_sizes piece.now) ≤ length single_ends.old }
-    ensures { single_ends.new ≡ sets single_ends.old at.singles (ends at.rings (single_sizes piece.now)) }
+    ensures { single_ends.new ≡ with_single_end piece.now at single_ends.old }
 {
     if !is_single(piece) {
         return;
@@ -247,10 +244,8 @@ fn put_single(piece: &Piece, at: Totals, single_ends: &mut [u64])
 /// Writes the levels of a row from the totals on, for which there is room.
 pub fn put_levels(row: &[u8], from: Totals, asked: Dimension, out: &mut LevelSlices<'_>)
     requires here { HasGeometry row.now }
-    requires room { (g : HasGeometry row.now)
-        → HasRoomUpTo asked (levels_of out.old) (totals_after from (subjects g.spelled g.value)) }
-    ensures levels { (g : HasGeometry row.now)
-        → levels_of out.new ≡ with_levels asked (subjects g.spelled g.value) from (levels_of out.old) }
+    requires room { HasRoomFor asked row.now from out.old }
+    ensures levels { PutsLevels asked row.now from out.old out.new }
     ensures same_slices { AreSameSlices out.old out.new }
 {
     let mut at = from;

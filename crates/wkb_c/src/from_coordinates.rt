@@ -2,9 +2,9 @@
 
 ghost use Rattle.std.specs.Prelude.{◌≡◌, ◌+◌, ◌<◌, ◌==◌, length, Some, None, if◌then◌else◌};
 ghost use Rattle.wkb_c.specs.Classes.{FitsByte};
-ghost use Rattle.wkb_c.specs.LevelRows.{HasLevelEncoding, LacksLevels, AreLevelEncodings, level_rows};
+ghost use Rattle.wkb_c.specs.LevelRows.{AreLevelEncodings, IsLevelStep, level_rows};
 ghost use Rattle.wkb_c.specs.LevelTargets.{kind_named, levels_in, target_asked, options_of, Ready};
-ghost use Rattle.wkb_c.specs.RowItems.{IsRowStep, KeepsAfter, KeepsFrom};
+ghost use Rattle.wkb_c.specs.RowItems.{KeepsAfter, KeepsFrom};
 ghost use Rattle.wkb_levels.specs.declared.ends.Ends.TheVariants.{Each, At};
 ghost use Rattle.wkb_levels.specs.EndLists.{ends_of};
 
@@ -125,8 +125,7 @@ fn write_level_row(
     requires index { i < length (ends_of (levels_in column.now).row_ends) }
     requires before { Ready column.now target.now i floor.old }
     ensures ready { Ready column.now target.now (i + 1) floor.new }
-    ensures step { IsRowStep (HasLevelEncoding column.now target.now) (LacksLevels column.now target.now)
-        i result.0 result.1 start out.old out.new }
+    ensures step { IsLevelStep column.now target.now i result start out.old out.new }
     ensures known { FitsByte result.0 }
 {
     let null = is_unset(column.validity, column.validity_offset, i);

@@ -1,9 +1,9 @@
 //! A type of one's own that is written, as the README shows it.
 
-ghost use Rattle.std.specs.Prelude.{◌≡◌, ◌<◌, ◌^◌, ◌∷◌, [], Some, IfOk};
+ghost use Rattle.std.specs.Prelude.{◌<◌, ◌^◌, Some};
 ghost use Rattle.wkb.specs.Prelude.traits.{Xy};
-ghost use Rattle.wkb.specs.Geometries.{point};
-ghost use Rattle.wkb.specs.Encodings.{encoding_of};
+ghost use Rattle.wkb.specs.Writes.{IsEncodingOf};
+ghost use Rattle.wkb_cases.specs.Points.{point_at};
 
 use std::alloc::Global;
 use wkb::error::WkbResult;
@@ -79,8 +79,7 @@ impl PointTrait for Place {
 
 /// A place as a point, under the options.
 pub fn written(alloc: Global, place: &Place, options: &WriteOptions) -> WkbResult<Vec<u8>>
-    ensures { IfOk result (λ bytes. bytes.items ≡ encoding_of options.now
-        (point Xy (Some (place.now.longitude ∷ place.now.latitude ∷ [])))) }
+    ensures { IsEncodingOf options.now (point_at place.now.longitude place.now.latitude) result }
 {
     let mut sink = VecSink::new(alloc);
     match write_point(&mut sink, place, options) {

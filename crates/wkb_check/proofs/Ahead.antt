@@ -2,11 +2,11 @@
 use Rattle.std.proofs.Common.{◌≡◌, ◌≢◌, ℕ, ◌+◌, ◌≤◌, List, ◌++◌, length, drop, is_some, None, Ok, refl, sym, ap, ◌∙◌}
 use Rattle.std.proofs.Common.{subst, arith, length-drop, Option, Some, false, ◌⊎◌, ⊎_elim}
 use Rattle.std.proofs.lemmas.List.{drop-drop}
-use Rattle.wkb_laws.specs.Prelude.{Endianness, Dimension, Head, Layout, number, Begins, Value}
+use Rattle.wkb_laws.specs.Prelude.{Endianness, Dimension, Head, number, Begins, Value}
 use Rattle.wkb_laws.specs.Prelude.{point, line_string, polygon, multi_point, multi_line_string, multi_polygon}
 use Rattle.wkb_laws.specs.Prelude.{collection}
 use Rattle.wkb_laws.specs.Prelude.{kind, dimension, Spelling, node, SpellsBody, Spells, type_of}
-use Rattle.wkb_laws.specs.Prelude.{type_dimension, body_start, layout_of}
+use Rattle.wkb_laws.specs.Prelude.{type_dimension, body_start}
 unfoldable use Rattle.wkb_laws.specs.Prelude.{head_at}
 use Rattle.wkb_geom.specs.Reading.{type_kind, srid_in, meaning, meaning_of}
 use Rattle.wkb_geom.specs.Refusals.{srid_size}
@@ -205,5 +205,5 @@ module _ (bytes : List ℕ) (begin : ℕ) (g : HasGeometry (drop begin bytes)) w
           omega (arith, a.2, srid_long, other_leads (header g.spelled) g.value other),
         ))
         by in
-        piece_is begin g.spelled g.value k d order srid n offset is.kind_is is.dimension_is is.order_is is.srid_is ends.0
-        ends.1
+        piece_is begin g.spelled g.value k d order srid n offset is.kind_is is.dimension_is is.order_is is.srid_is
+        ends.0 ends.1

@@ -15,7 +15,7 @@ use Rattle.wkb_geom.specs.Spellings.{Header, header, Spelling, node, Spellings, 
 use Rattle.wkb_geom.specs.Values.{Coordinate, Value, Values, point, line_string, polygon, multi_point}
 use Rattle.wkb_geom.specs.Values.{multi_line_string, multi_polygon, collection, no_members, member, kind, dimension}
 use Rattle.wkb_geom.specs.Values.{members, count}
-use Rattle.wkb_check.specs.Bounded.{HasGeometries, AreWhole, rings_in}
+use Rattle.wkb_check.specs.Bounded.{HasGeometry, HasGeometries, AreWhole, rings_in}
 use Rattle.wkb_check.specs.declared.pieces.Piece.{Piece}
 use Rattle.wkb_check.specs.declared.pieces.Pieces.{Pieces}
 
@@ -77,6 +77,10 @@ piece_of at (node h words ss) t = record {
   offset = at + leading h t;
 }
 
+-- whatever geometry begins at this byte, this is its piece
+abbrev pub IsPieceAt : List ℕ → ℕ → Piece → Type 0
+IsPieceAt buf at p = (g : HasGeometry (drop at buf)) → p ≡ piece_of at g.spelled g.value
+
 -- the kind, the dimension, the order and the SRID are those of the header of a geometry
 pub record HeaderIs (s : Spelling) (t : Value) (k : ℕ) (d : Dimension) (order : Endianness) (srid : Option ℕ)
     : Type 0 where
@@ -84,6 +88,10 @@ pub record HeaderIs (s : Spelling) (t : Value) (k : ℕ) (d : Dimension) (order 
   pub dimension_is : d ≡ dimension t
   pub order_is : order ≡ (header s).order
   pub srid_is : srid ≡ (header s).srid
+
+-- whatever geometry begins at this byte, they are those of its header
+abbrev pub IsHeaderAt : List ℕ → ℕ → ℕ → Dimension → Endianness → Option ℕ → Type 0
+IsHeaderAt buf at k d order srid = (g : HasGeometry (drop at buf)) → HeaderIs g.spelled g.value k d order srid
 
 -- the piece of a ring of n coordinates that begins at this byte
 abbrev pub ring_piece : Endianness → Dimension → ℕ → ℕ → Piece

@@ -3,8 +3,8 @@
 ghost use Rattle.std.specs.Prelude.{◌≡◌, ◌+◌, ◌≤◌, ◌<◌, ◌^◌, length, drop, List, IfSome, None, nat_lt};
 ghost use Rattle.wkb_geom.specs.Numbers.{number};
 ghost use Rattle.wkb_check.specs.Bounded.{HasGeometry};
-ghost use Rattle.wkb_check.specs.Pieces.{own_end, piece_of, ring_piece, pieces_of, IsAhead, HasAhead, IsTaken, IsNext};
-ghost use Rattle.wkb_check.specs.Pieces.{IsInside, HeaderIs};
+ghost use Rattle.wkb_check.specs.Pieces.{own_end, ring_piece, pieces_of, IsPieceAt, IsHeaderAt, IsAhead, HasAhead};
+ghost use Rattle.wkb_check.specs.Pieces.{IsTaken, IsNext, IsInside};
 ghost use Rattle.wkb_check.specs.Public.{DescribesFront};
 
 use crate::answer::Summary;
@@ -60,7 +60,7 @@ impl Piece {
 
     /// The geometry that begins at this byte and has this header, up to its rings or members.
     #[inline(always)]
-    fn behind_header(
+    fn of_header(
         bytes: &[u8],
         begin: usize,
         kind: u32,
@@ -69,9 +69,8 @@ impl Piece {
         srid: Option<u32>,
     ) -> Piece
         requires here { HasGeometry (drop begin bytes.now) }
-        requires header { (g : HasGeometry (drop begin bytes.now))
-            → HeaderIs g.spelled g.value kind dimension order srid }
-        ensures { (g : HasGeometry (drop begin bytes.now)) → result ≡ piece_of begin g.spelled g.value }
+        requires header { IsHeaderAt bytes.now begin kind dimension order srid }
+        ensures { IsPieceAt bytes.now begin result }
     {
         let body = begin + MEMBER_HEADER_SIZE + srid_size(srid);
         let (count, offset) = if kind == POINT {
@@ -94,7 +93,7 @@ impl Piece {
     #[inline(always)]
     pub fn geometry_at(bytes: &[u8], begin: usize) -> Piece
         requires here { HasGeometry (drop begin bytes.now) }
-        ensures { (g : HasGeometry (drop begin bytes.now)) → result ≡ piece_of begin g.spelled g.value }
+        ensures { IsPieceAt bytes.now begin result }
     {
         let from = rest_from(bytes, begin);
         let header = match read(from) {
@@ -104,18 +103,18 @@ impl Piece {
         let kind = header.wkb_type.kind();
         let layout = header.layout();
         let srid = layout.srid(from);
-        Piece::behind_header(bytes, begin, kind, layout.dimension, layout.order, srid)
+        Piece::of_header(bytes, begin, kind, layout.dimension, layout.order, srid)
     }
 
     /// The geometry at the front of the bytes in which the check found this, up to its rings or members.
     #[inline(always)]
     pub fn outermost(bytes: &[u8], found: &Summary) -> Piece
         requires { DescribesFront bytes.now found.now }
-        ensures { (g : HasGeometry bytes.now) → result ≡ piece_of 0 g.spelled g.value }
+        ensures { IsPieceAt bytes.now 0 result }
     {
         let kind = found.wkb_type.kind();
         let dimension = found.wkb_type.dimension();
-        Piece::behind_header(bytes, 0, kind, dimension, found.order, found.srid)
+        Piece::of_header(bytes, 0, kind, dimension, found.order, found.srid)
     }
 
     /// The ring that begins at this byte, of a polygon of this order and dimension.
@@ -176,7 +175,7 @@ impl<'a> Pieces<'a> {
     #[inline(always)]
     pub fn behind(bytes: &'a [u8], first: &Piece) -> Pieces<'a>
         requires here { HasGeometry bytes.now }
-        requires first { (g : HasGeometry bytes.now) → first.now ≡ piece_of 0 g.spelled g.value }
+        requires first { IsPieceAt bytes.now 0 first.now }
         ensures steps { (g : HasGeometry bytes.now)
             → IsTaken result (pieces_of 0 g.spelled g.value) first.now }
         ensures inside { IsInside bytes.now 0 result.at first.now }
@@ -208,8 +207,7 @@ impl<'a> Pieces<'a> {
         requires ahead { HasAhead self.old }
         requires no_ring { self.old.rings ≡ 0 }
         requires some { 0 < self.old.geometries }
-        requires piece { (g : HasGeometry (drop self.old.at self.old.bytes.now))
-            → piece.now ≡ piece_of self.old.at g.spelled g.value }
+        requires piece { IsPieceAt self.old.bytes.now self.old.at piece.now }
         ensures steps { (xs : List Piece) → IsAhead self.old xs → IsTaken self.new xs piece.now }
         ensures inside { IsInside self.old.bytes.now self.old.at self.new.at piece.now }
         ensures same { self.new.bytes.now ≡ self.old.bytes.now }
@@ -256,7 +254,7 @@ impl<'a> Pieces<'a> {
             return None;
         }
         let kind = bare_kind(rest_from(self.bytes, self.at), order)?;
-        let piece = Piece::behind_header(self.bytes, self.at, kind, Dimension::Xy, order, None);
+        let piece = Piece::of_header(self.bytes, self.at, kind, Dimension::Xy, order, None);
         self.pass_geometry(&piece);
         Some(piece)
     }

@@ -3,8 +3,8 @@
 ghost use Rattle.std.specs.Prelude.{◌≡◌, ◌+◌, ◌*◌, ◌<◌, ◌≤◌, ◌^◌, length, IfSome};
 ghost use Rattle.wkb_geom.specs.Dimensions.{width};
 ghost use Rattle.wkb_geom.specs.Reading.{coordinates};
-ghost use Rattle.wkb_check.specs.Ranges.{rank as rank_of, word_of as word_by, range_by, with_word, widened};
-ghost use Rattle.wkb_check.specs.Ordinates.{column_words, words_of_each, word_at};
+ghost use Rattle.wkb_check.specs.Ranges.{rank as rank_of, word_of as word_by, range_by, with_word, WidensRange};
+ghost use Rattle.wkb_check.specs.Ordinates.{column_words, words_at};
 
 use crate::range::{Range, rest_from};
 use wkb_geom::words::{WORD_SIZE, is_nan, u64_at};
@@ -92,7 +92,7 @@ impl Ranks {
         requires inside { at + 8 ≤ size }
         requires whole { size * count ≤ length bytes.now }
         requires room { self.old.count + count < 2 ^ 64 }
-        ensures { range_by self.new ≡ widened (range_by self.old) (column_words order size at count bytes.now) }
+        ensures { WidensRange self.old self.new (column_words order size at count bytes.now) }
     {
         let mut ranks = *self;
         let mut rest = bytes;
@@ -109,7 +109,7 @@ impl Ranks {
         requires inside { at + 8 ≤ size }
         requires whole { size * count ≤ length bytes.now }
         requires room { self.old.count + count < 2 ^ 64 }
-        ensures { range_by self.new ≡ widened (range_by self.old) (column_words order size at count bytes.now) }
+        ensures { WidensRange self.old self.new (column_words order size at count bytes.now) }
     {
         match order {
             Endianness::BigEndian => self.widen_in(Endianness::BigEndian, size, at, count, bytes),
@@ -132,8 +132,8 @@ impl Ranks {
         requires place { IfSome place (λ k. k < width dimension) }
         requires whole { 8 * width dimension * count ≤ length bytes.now }
         requires room { self.old.count + length bytes.now < 2 ^ 64 }
-        ensures { range_by self.new ≡ widened (range_by self.old)
-            (words_of_each (word_at place) (coordinates order dimension count bytes.now)) }
+        ensures { WidensRange self.old self.new
+            (words_at place (coordinates order dimension count bytes.now)) }
     {
         if let Some(word) = place {
             let size = WORD_SIZE * dimension.width();

@@ -2,13 +2,11 @@
 use Rattle.std.specs.Prelude.{◌≡◌, List, [], ◌∷◌, map, Some, refl}
 use Rattle.std.proofs.Common.{ap, ◌∙◌, sym, subst}
 use Rattle.wkb.specs.Prelude.traits.{Xy}
-use Rattle.wkb.specs.Geometries.{Geometry, point, line_string, polygon, multi_point, multi_line_string, multi_polygon}
-use Rattle.wkb.specs.Geometries.{collection, rectangle, triangle, line, dimensions_of, geometries, IsGeometry}
-use Rattle.wkb.specs.Geometries.{AreGeometries}
+use Rattle.wkb.specs.Geometries.{Geometry, point, collection, dimensions_of, geometries, IsGeometry, AreGeometries}
 use Rattle.wkb_cases.specs.Places.{place_words, place_lawful}
-use Rattle.wkb_clients.specs.Shapes.{path_words, path_lawful, spots_words, spots_lawful, area_rings, area_lawful}
-use Rattle.wkb_clients.specs.Shapes.{network_words, network_lawful, region_rings, region_lawful}
-use Rattle.wkb_clients.specs.Corners.{leg_lawful, sheet_lawful, facet_lawful}
+use Rattle.wkb_clients.specs.Shapes.{path_meant, path_lawful, spots_meant, spots_lawful, area_meant, area_lawful}
+use Rattle.wkb_clients.specs.Shapes.{network_meant, network_lawful, region_meant, region_lawful}
+use Rattle.wkb_clients.specs.Corners.{leg_meant, leg_lawful, sheet_meant, sheet_lawful, facet_meant, facet_lawful}
 use Rattle.wkb_clients.specs.declared.features.Feature.{Feature}
 use Rattle.wkb_clients.specs.declared.features.Feature.TheOpen.{Feature-F, Place, Path, Area, Spots, Network, Region}
 use Rattle.wkb_clients.specs.declared.features.Feature.TheOpen.{Together, Sheet, Facet, Leg}
@@ -20,15 +18,15 @@ use Rattle.wkb_clients.specs.declared.features.Layer.{Layer}
 -- one level, with what each member means in its place
 abbrev pub level_meant : Feature-F Geometry → Geometry
 level_meant (Place p) = point Xy (Some (place_words p))
-level_meant (Path p) = line_string Xy (path_words p)
-level_meant (Area a) = polygon Xy (area_rings a)
-level_meant (Spots s) = multi_point Xy (spots_words s)
-level_meant (Network n) = multi_line_string Xy (network_words n)
-level_meant (Region r) = multi_polygon Xy (region_rings r)
+level_meant (Path p) = path_meant p
+level_meant (Area a) = area_meant a
+level_meant (Spots s) = spots_meant s
+level_meant (Network n) = network_meant n
+level_meant (Region r) = region_meant r
 level_meant (Together ms) = collection Xy (geometries ms.now)
-level_meant (Sheet e) = rectangle Xy (place_words e.south_west) (place_words e.north_east)
-level_meant (Facet f) = triangle Xy (place_words f.first) (place_words f.second) (place_words f.third)
-level_meant (Leg l) = line Xy (place_words l.from) (place_words l.to)
+level_meant (Sheet e) = sheet_meant e
+level_meant (Facet f) = facet_meant f
+level_meant (Leg l) = leg_meant l
 
 -- what a shape means
 abbrev pub feature_meant : Feature → Geometry
@@ -84,6 +82,10 @@ feature_lawful =
 -- what each shape of a layer means
 abbrev pub layer_members : Layer → List Geometry
 layer_members layer = map feature_meant layer.features.now
+
+-- a layer is a collection of these
+abbrev pub layer_meant : Layer → Geometry
+layer_meant layer = collection Xy (geometries (layer_members layer))
 
 features_lawful : (features : List Feature) → AreGeometries (geometries (map feature_meant features))
 features_lawful [] = tt

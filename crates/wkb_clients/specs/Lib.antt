@@ -1,3 +1,4 @@
+pub mod Columns
 pub mod Common
 pub mod Framed
 pub mod Keys

@@ -1,10 +1,10 @@
 //! Rows of a column of coordinates, as GeoArrow has them.
 
-ghost use Rattle.std.specs.Prelude.{◌≡◌, ◌<◌, ◌+◌, length, IfOk, MatchOption};
+ghost use Rattle.std.specs.Prelude.{◌<◌, ◌+◌, length, IfOk};
 ghost use Rattle.wkb.specs.Prelude.traits.{Xy};
-ghost use Rattle.wkb.specs.Geometries.{Geometry};
-ghost use Rattle.wkb.specs.Levels.{ends_of, IsFloor, IsLevelRow, HasRowEncoding};
+ghost use Rattle.wkb.specs.Levels.{ends_of, IsFloor};
 ghost use Rattle.wkb.specs.Levels.column_kinds.{Polygon};
+ghost use Rattle.wkb_clients.specs.Columns.{FindsRowEncoding};
 
 use std::alloc::Global;
 use wkb::error::WkbResult;
@@ -25,9 +25,7 @@ pub fn polygon_of_row(
 ) -> WkbResult<Option<Vec<u8>>>
     requires index { i < length (ends_of levels.now.row_ends) }
     requires reach { IsFloor levels.now Xy i reach.old }
-    ensures row { IfOk result (λ found. MatchOption found
-        ((g : Geometry) → IsLevelRow levels.now Polygon Xy i g → ⊥)
-        (λ bytes. HasRowEncoding levels.now Polygon Xy options.now i bytes.items)) }
+    ensures row { IfOk result (FindsRowEncoding levels.now Polygon Xy options.now i) }
     ensures reach { IsFloor levels.now Xy (i + 1) reach.new }
 {
     match levels.row(Kind::Polygon, Dimensions::Xy, i, reach) {

@@ -1,15 +1,10 @@
 //! The encodings of a map's shapes, each by the writer of its kind, and the size of any of them.
 
-ghost use Rattle.std.specs.Prelude.{◌≡◌, IfOk};
 ghost use Rattle.wkb.specs.Prelude.{Iso};
-ghost use Rattle.wkb.specs.Prelude.traits.{Xy};
-ghost use Rattle.wkb.specs.Encodings.{encoding_of};
-ghost use Rattle.wkb.specs.Geometries.{geometries, line_string, polygon, multi_point, multi_line_string};
-ghost use Rattle.wkb.specs.Geometries.{multi_polygon, collection, line, rectangle, triangle};
-ghost use Rattle.wkb.specs.Writes.{IsSizeOf};
-ghost use Rattle.wkb_cases.specs.Places.{place_words};
-ghost use Rattle.wkb_clients.specs.Features.{feature_meant, layer_members};
-ghost use Rattle.wkb_clients.specs.Shapes.{path_words, spots_words, area_rings, network_words, region_rings};
+ghost use Rattle.wkb.specs.Writes.{IsSizeOf, IsEncodingOf};
+ghost use Rattle.wkb_clients.specs.Corners.{leg_meant, sheet_meant, facet_meant};
+ghost use Rattle.wkb_clients.specs.Features.{feature_meant, layer_meant};
+ghost use Rattle.wkb_clients.specs.Shapes.{path_meant, spots_meant, area_meant, network_meant, region_meant};
 
 use crate::corners::{Facet, Leg, Sheet};
 use crate::features::{Feature, Layer};
@@ -31,16 +26,14 @@ pub fn feature_size(feature: &Feature) -> WkbResult<usize>
 
 /// The encoding of a feature.
 pub fn feature(alloc: Global, feature: &Feature, options: &WriteOptions) -> WkbResult<Vec<u8>>
-    ensures { IfOk result
-        (λ bytes. bytes.items ≡ encoding_of options.now (feature_meant feature.now)) }
+    ensures { IsEncodingOf options.now (feature_meant feature.now) result }
 {
     to_vec(alloc, feature, options)
 }
 
 /// The encoding of a path.
 pub fn path(alloc: Global, path: &Path, options: &WriteOptions) -> WkbResult<Vec<u8>>
-    ensures { IfOk result (λ bytes. bytes.items ≡ encoding_of options.now
-        (line_string Xy (path_words path.now))) }
+    ensures { IsEncodingOf options.now (path_meant path.now) result }
 {
     let mut sink = VecSink::new(alloc);
     match write_line_string(&mut sink, path, options) {
@@ -51,8 +44,7 @@ pub fn path(alloc: Global, path: &Path, options: &WriteOptions) -> WkbResult<Vec
 
 /// The encoding of single places.
 pub fn spots(alloc: Global, spots: &Spots, options: &WriteOptions) -> WkbResult<Vec<u8>>
-    ensures { IfOk result (λ bytes. bytes.items ≡ encoding_of options.now
-        (multi_point Xy (spots_words spots.now))) }
+    ensures { IsEncodingOf options.now (spots_meant spots.now) result }
 {
     let mut sink = VecSink::new(alloc);
     match write_multi_point(&mut sink, spots, options) {
@@ -63,8 +55,7 @@ pub fn spots(alloc: Global, spots: &Spots, options: &WriteOptions) -> WkbResult<
 
 /// The encoding of an area.
 pub fn area(alloc: Global, area: &Area, options: &WriteOptions) -> WkbResult<Vec<u8>>
-    ensures { IfOk result (λ bytes. bytes.items ≡ encoding_of options.now
-        (polygon Xy (area_rings area.now))) }
+    ensures { IsEncodingOf options.now (area_meant area.now) result }
 {
     let mut sink = VecSink::new(alloc);
     match write_polygon(&mut sink, area, options) {
@@ -75,8 +66,7 @@ pub fn area(alloc: Global, area: &Area, options: &WriteOptions) -> WkbResult<Vec
 
 /// The encoding of a network.
 pub fn network(alloc: Global, network: &Network, options: &WriteOptions) -> WkbResult<Vec<u8>>
-    ensures { IfOk result (λ bytes. bytes.items ≡ encoding_of options.now
-        (multi_line_string Xy (network_words network.now))) }
+    ensures { IsEncodingOf options.now (network_meant network.now) result }
 {
     let mut sink = VecSink::new(alloc);
     match write_multi_line_string(&mut sink, network, options) {
@@ -87,8 +77,7 @@ pub fn network(alloc: Global, network: &Network, options: &WriteOptions) -> WkbR
 
 /// The encoding of a region.
 pub fn region(alloc: Global, region: &Region, options: &WriteOptions) -> WkbResult<Vec<u8>>
-    ensures { IfOk result (λ bytes. bytes.items ≡ encoding_of options.now
-        (multi_polygon Xy (region_rings region.now))) }
+    ensures { IsEncodingOf options.now (region_meant region.now) result }
 {
     let mut sink = VecSink::new(alloc);
     match write_multi_polygon(&mut sink, region, options) {
@@ -99,8 +88,7 @@ pub fn region(alloc: Global, region: &Region, options: &WriteOptions) -> WkbResu
 
 /// The encoding of a layer.
 pub fn layer(alloc: Global, layer: &Layer, options: &WriteOptions) -> WkbResult<Vec<u8>>
-    ensures { IfOk result (λ bytes. bytes.items ≡ encoding_of options.now
-        (collection Xy (geometries (layer_members layer.now)))) }
+    ensures { IsEncodingOf options.now (layer_meant layer.now) result }
 {
     let mut sink = VecSink::new(alloc);
     match write_geometry_collection(&mut sink, layer, options) {
@@ -111,8 +99,7 @@ pub fn layer(alloc: Global, layer: &Layer, options: &WriteOptions) -> WkbResult<
 
 /// The encoding of a leg.
 pub fn leg(alloc: Global, leg: &Leg, options: &WriteOptions) -> WkbResult<Vec<u8>>
-    ensures { IfOk result (λ bytes. bytes.items ≡ encoding_of options.now
-        (line Xy (place_words leg.now.from) (place_words leg.now.to))) }
+    ensures { IsEncodingOf options.now (leg_meant leg.now) result }
 {
     let mut sink = VecSink::new(alloc);
     match write_line(&mut sink, leg, options) {
@@ -123,8 +110,7 @@ pub fn leg(alloc: Global, leg: &Leg, options: &WriteOptions) -> WkbResult<Vec<u8
 
 /// The encoding of a sheet, which is written as a polygon.
 pub fn sheet(alloc: Global, sheet: &Sheet, options: &WriteOptions) -> WkbResult<Vec<u8>>
-    ensures { IfOk result (λ bytes. bytes.items ≡ encoding_of options.now
-        (rectangle Xy (place_words sheet.now.south_west) (place_words sheet.now.north_east))) }
+    ensures { IsEncodingOf options.now (sheet_meant sheet.now) result }
 {
     let mut sink = VecSink::new(alloc);
     match write_rect(&mut sink, sheet, options) {
@@ -135,9 +121,7 @@ pub fn sheet(alloc: Global, sheet: &Sheet, options: &WriteOptions) -> WkbResult<
 
 /// The encoding of a facet, which is written as a polygon.
 pub fn facet(alloc: Global, facet: &Facet, options: &WriteOptions) -> WkbResult<Vec<u8>>
-    ensures { IfOk result (λ bytes. bytes.items ≡ encoding_of options.now
-        (triangle Xy (place_words facet.now.first) (place_words facet.now.second)
-        (place_words facet.now.third))) }
+    ensures { IsEncodingOf options.now (facet_meant facet.now) result }
 {
     let mut sink = VecSink::new(alloc);
     match write_triangle(&mut sink, facet, options) {

@@ -1,8 +1,8 @@
 //! Encodings before bytes of the user's own, as a format has them that frames WKB.
 
-ghost use Rattle.std.specs.Prelude.{◌∷◌, [], IfOk, IfErr};
+ghost use Rattle.std.specs.Prelude.{◌∷◌, [], IfErr};
 ghost use Rattle.wkb.specs.Writes.{IsVecError};
-ghost use Rattle.wkb_clients.specs.Framed.{IsReadBefore};
+ghost use Rattle.wkb_clients.specs.Framed.{IsFramed};
 
 use std::alloc::Global;
 use wkb::error::WkbResult;
@@ -19,8 +19,7 @@ pub fn marked<G: GeometryTrait>(
     options: &WriteOptions,
     mark: u8,
 ) -> WkbResult<Vec<u8>>
-    ensures read { IfOk result
-        (λ bytes. IsReadBefore (mark ∷ []) options.now (G.geometry geom.now) bytes.items) }
+    ensures read { IsFramed (mark ∷ []) options.now (G.geometry geom.now) result }
     ensures err { IfErr result (λ e. IsVecError options.now (G.geometry geom.now) e) }
 {
     writable_is_read();
@@ -40,8 +39,7 @@ pub fn with_trailer<G: GeometryTrait>(
     options: &WriteOptions,
     trailer: &[u8],
 ) -> WkbResult<Vec<u8>>
-    ensures { IfOk result
-        (λ bytes. IsReadBefore trailer.now options.now (G.geometry geom.now) bytes.items) }
+    ensures { IsFramed trailer.now options.now (G.geometry geom.now) result }
 {
     let mut sink = VecSink::new(alloc);
     match write_geometry(&mut sink, geom, options) {

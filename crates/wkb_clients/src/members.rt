@@ -114,8 +114,7 @@ pub fn corner_word(
     coordinate: usize,
     word: usize,
 ) -> Option<u64>
-    ensures { IfSome result
-        (λ w. IsCornerWord (multi_polygon_seen multi.now) member coordinate word w) }
+    ensures { IfSome result (IsCornerWord (multi_polygon_seen multi.now) member coordinate word) }
 {
     members_in_place();
     rings_in_place();

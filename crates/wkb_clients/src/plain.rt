@@ -1,12 +1,12 @@
 //! Plain geometries over words of the user's own.
 
-ghost use Rattle.std.specs.Prelude.{◌≡◌, ◌%◌, ◌↔◌, length, is_none, IfOk, IfSome, IsSome};
+ghost use Rattle.std.specs.Prelude.{◌≡◌, ◌%◌, ◌↔◌, length, is_none, IfSome, IsSome};
 ghost use Rattle.wkb.specs.Geometries.{HasDimensions};
 ghost use Rattle.wkb.specs.Prelude.traits.{Xy};
 ghost use Rattle.wkb.specs.Plain.{point_coordinate, coordinates_in};
 ghost use Rattle.wkb.specs.Plain.{line_string_dimensions, line_string_coordinates};
 ghost use Rattle.wkb.specs.Plain.{plain_dimensions, plain_geometry};
-ghost use Rattle.wkb.specs.Encodings.{encoding_of};
+ghost use Rattle.wkb.specs.Writes.{IsEncodingOf};
 
 use std::alloc::Global;
 use wkb::error::WkbResult;
@@ -42,8 +42,7 @@ pub fn dim_of(geometry: &Geometry) -> Dimensions
 
 /// The encoding of a plain geometry of any kind.
 pub fn encoded(alloc: Global, geometry: &Geometry, options: &WriteOptions) -> WkbResult<Vec<u8>>
-    ensures { IfOk result
-        (λ bytes. bytes.items ≡ encoding_of options.now (plain_geometry geometry.now)) }
+    ensures { IsEncodingOf options.now (plain_geometry geometry.now) result }
 {
     to_vec(alloc, geometry, options)
 }

@@ -1,7 +1,10 @@
 -- The program: the line that it writes and the status that it ends with, for its arguments and its input.
 use Rattle.std.specs.Prelude.{◌≡◌, ◌≢◌, ℕ, ◌==◌, if◌then◌else◌, codes, Option, Some, None, MatchOption}
-use Rattle.std.specs.Prelude.{List, [], ◌∷◌, ◌++◌, length, EachIndex, slice_index}
+use Rattle.std.specs.Prelude.{List, [], ◌∷◌, ◌++◌, length, map, EachIndex, slice_index, String, string_bytes}
 use Rattle.std.specs.Borrow.{Bor}
+use Rattle.std.specs.Global.{Global}
+use Rattle.std.specs.declared.io.Read.{Ghosts as ReaderOf}
+use Rattle.std.specs.declared.io.Write.{Ghosts as WriterOf}
 use Rattle.std.specs.Fmt.{decimal}
 use Rattle.std.specs.Io.{StartsWith}
 use Rattle.std.specs.Io.KnownBytes.{Appends}
@@ -215,6 +218,8 @@ abbrev pub OfReported : Option (List ℕ) → (List ℕ → Type 0) → Type 0
 OfReported (Some bytes) P = P bytes
 OfReported None P = (bytes : List ℕ) × P bytes
 
--- the run of the program with these arguments on this input
-abbrev pub IsRunOf : List (List ℕ) → Option (List ℕ) → Option (List ℕ) → ℕ → List ℕ → Type 0
-IsRunOf arguments old new status input = RunEnds old new (Answers arguments input) status
+-- the run of the program with these arguments, on what remains of this reader's input, to this writer
+abbrev pub IsRunOf : {R W : Type 0} → ReaderOf R → WriterOf W → List (String Global) → R → W → W → ℕ → Type 0
+IsRunOf reader writer arguments input old new status =
+    OfReported (reader.remaining input)
+    (λ bytes. RunEnds (writer.contents old) (writer.contents new) (Answers (map string_bytes arguments) bytes) status)

@@ -5,7 +5,7 @@ ghost use Rattle.std.specs.Prelude.{IfOk};
 ghost use Rattle.wkb_command.specs.Program.{IsCommandNamed, IsCommandOf, AreNoCommand};
 ghost use Rattle.wkb_command.specs.Program.{without_last_feed, lines, IsOnlyLine, AreTwoLines};
 ghost use Rattle.wkb_command.specs.Program.{IsOneLine, status_misused, status_refused, TellsError};
-ghost use Rattle.wkb_command.specs.Program.{TellsHexFailure, counts, RunEnds, OfReported, IsRunOf};
+ghost use Rattle.wkb_command.specs.Program.{TellsHexFailure, counts, RunEnds, IsRunOf};
 ghost use Rattle.wkb_command.specs.Reports.{line_of, IsReport, IsReportOn, IsLineOf};
 ghost use Rattle.wkb_command.specs.Transfer.{WroteBeginning};
 
@@ -327,8 +327,7 @@ fn tell<W: Write>(report: Result<Report, AllocError>, out: &mut W) -> u8
 /// other arguments, and 3 where an allocation, a read or a write failed. The arguments are looked at
 /// before the input is read. At most 16777216 reads are made, and no read or write is tried again.
 pub fn run<R: Read, W: Write>(alloc: Global, arguments: &[String], input: &mut R, out: &mut W) -> u8
-    ensures ends { OfReported (R.remaining input.old)
-        (IsRunOf (map string_bytes arguments.now) (W.contents out.old) (W.contents out.new) result) }
+    ensures ends { IsRunOf R.Read W.Write arguments.now input.old out.old out.new result }
     ensures arguments_first { AreNoCommand (map string_bytes arguments.now)
         → input.new ≡ input.old }
 {

@@ -1,11 +1,13 @@
 -- What a row means, and what the levels of a row mean.
-use Rattle.std.specs.Prelude.{◌≡◌, ℕ, List, map, Option, Some, None, refl}
+use Rattle.std.specs.Prelude.{◌≡◌, ℕ, List, map, Option, Some, None, MatchOption, refl}
 use Rattle.std.specs.Option.{option_map}
 use Rattle.wkb_geom.specs.declared.common.Dimensions.{Dimensions}
 use Rattle.wkb_geom.specs.Geometries.{Geometry, point, line_string, polygon, multi_point, multi_line_string}
 use Rattle.wkb_geom.specs.Geometries.{multi_polygon, dimensions_of, IsGeometry}
 use Rattle.wkb_plain.specs.Kinds.{point_dimensions, point_coordinate, point_lawful, line_string_dimensions}
 use Rattle.wkb_plain.specs.Kinds.{line_string_coordinates, line_string_lawful}
+use Rattle.wkb_levels.specs.declared.polygons.Polygons.{Polygons}
+use Rattle.wkb_levels.specs.declared.rings.Rings.{Rings}
 use Rattle.wkb_levels.specs.declared.single.Single.{Single}
 use Rattle.wkb_levels.specs.declared.single.Single.TheVariants as singles
 use Rattle.wkb_levels.specs.declared.row.Row.{Row}
@@ -76,6 +78,14 @@ kind_meant kinds.MultiPoint d s = and_then (rings_meant kinds.MultiPoint d) (onl
 kind_meant kinds.MultiLineString d s = and_then (rings_meant kinds.MultiLineString d) (only_each s)
 kind_meant kinds.MultiPolygon d s = Some (multi_polygon d s)
 
+-- these rings as a geometry of this kind, if they fit it
+abbrev pub rings_as : Kind → Rings → Option Geometry
+rings_as kind r = rings_meant kind (rings_dimensions r) (rings_rings r)
+
+-- these singles as a geometry of this kind, if they fit it
+abbrev pub singles_as : Kind → Polygons → Option Geometry
+singles_as kind s = kind_meant kind (polygons_dimensions s) (polygons_polygons s)
+
 -- ---- a row of a column
 
 -- the levels of row i are in order, none begins before an earlier row's end, and they mean this geometry of this kind
@@ -83,3 +93,11 @@ pub record IsLevelRow (l : Levels) (kind : Kind) (d : Dimensions) (i : ℕ) (g :
   pub levels : AreRowLevels l d i
   pub follows : EndUpTo l d i (place_at l (row_begin l i))
   pub meant : kind_meant kind d (singles_of l d i) ≡ Some g
+
+-- row i means no geometry of this kind
+abbrev pub HasNoLevelRow : Levels → Kind → Dimensions → ℕ → Type 0
+HasNoLevelRow l kind d i = (g : Geometry) → IsLevelRow l kind d i g → ⊥
+
+-- what is found is row i as a geometry of this kind, or nothing where it means none
+abbrev pub FindsRow : Levels → Kind → Dimensions → ℕ → Option Row → Type 0
+FindsRow l kind d i found = MatchOption found (HasNoLevelRow l kind d i) (λ r. IsLevelRow l kind d i (row_meant r))

@@ -4,16 +4,22 @@ use Rattle.std.specs.List.{AllByRecursion}
 use Rattle.std.proofs.lemmas.List.Elements.{All-from_recursion}
 use Rattle.wkb_geom.specs.declared.common.Dimensions.{Dimensions}
 use Rattle.wkb_geom.specs.Geometries.{AreCoordinates}
+use Rattle.wkb_levels.specs.declared.ends.Ends.{Ends}
 use Rattle.wkb_levels.specs.declared.polygons.Polygons.{Polygons}
+use Rattle.wkb_levels.specs.declared.rings.Rings.{Rings}
 use Rattle.wkb_levels.specs.Cuts.{pieces_from, pieces-all}
 use Rattle.wkb_levels.specs.EndLists.{start_of, ends_of}
 use Rattle.wkb_levels.specs.RingLists.{rings_dimensions, rings_rings, rings_lawful}
+
+-- the polygons of these rings that end here; the first begins with the first ring
+abbrev pub polygons_of : Rings → Ends → List (List (List (List ℕ)))
+polygons_of rings e = pieces_from (start_of e) (rings_rings rings) (start_of e) (ends_of e)
 
 abbrev pub polygons_dimensions : Polygons → Dimensions
 polygons_dimensions p = rings_dimensions p.rings
 
 abbrev pub polygons_polygons : Polygons → List (List (List (List ℕ)))
-polygons_polygons p = pieces_from (start_of p.ends) (rings_rings p.rings) (start_of p.ends) (ends_of p.ends)
+polygons_polygons p = polygons_of p.rings p.ends
 
 pub polygons_lawful : (p : Polygons)
     → AllByRecursion (AllByRecursion (AreCoordinates (polygons_dimensions p))) (polygons_polygons p)

@@ -3,9 +3,9 @@
 ghost use Rattle.std.specs.Prelude.{◌≡◌, ◌+◌, ◌<◌, ◌^◌, ◌↔◌, length, IfSome, IsSome, Some, slice_get};
 ghost use Rattle.std.specs.Option.{option_map};
 ghost use Rattle.wkb_geom.specs.Found.{HasDimensions};
-ghost use Rattle.wkb_levels.specs.Cuts.{pieces_from, only, only_each};
-ghost use Rattle.wkb_levels.specs.EndLists.{start_of, ends_of, AreEndsWithin};
-ghost use Rattle.wkb_levels.specs.RingLists.{rings_dimensions, rings_rings};
+ghost use Rattle.wkb_levels.specs.Cuts.{only, only_each};
+ghost use Rattle.wkb_levels.specs.EndLists.{start_of};
+ghost use Rattle.wkb_levels.specs.RingLists.{rings_dimensions, rings_rings, FitRings};
 
 use crate::ends::Ends;
 use crate::rings::Rings;
@@ -18,22 +18,20 @@ use wkb_write::MadePolygons;
 pub struct Polygons<'w> {
     rings: Rings<'w>,
     ends: Ends<'w>,
-    ghost fit: { AreEndsWithin (start_of ends + length (rings_rings rings)) ends },
+    ghost fit: { FitRings rings ends },
 }
 
 #[tactic(auto, using(crate::proofs::Pieces::piece_laws))]
 impl<'w> Polygons<'w> {
-    ghost use Rattle.wkb_levels.specs.PolygonLists.{polygons_dimensions, polygons_polygons};
+    ghost use Rattle.wkb_levels.specs.PolygonLists.{polygons_of, polygons_dimensions, polygons_polygons};
 
     /// The polygons of these rings that end here. None where the ends fall or pass the rings.
     pub fn new(rings: Rings<'w>, ends: Ends<'w>) -> Option<Polygons<'w>>
         requires { start_of ends + length (rings_rings rings) < 2 ^ 64 }
-        ensures some { IsSome result
-            ↔ AreEndsWithin (start_of ends.entry + length (rings_rings rings.entry)) ends.entry }
+        ensures some { IsSome result ↔ FitRings rings.entry ends.entry }
         ensures dimensions { HasDimensions polygons_dimensions result (rings_dimensions rings.entry) }
-        ensures polygons { IfSome result (λ p. polygons_polygons p
-            ≡ pieces_from (start_of ends.entry) (rings_rings rings.entry) (start_of ends.entry)
-            (ends_of ends.entry)) }
+        ensures polygons { IfSome result
+            (λ p. polygons_polygons p ≡ polygons_of rings.entry ends.entry) }
     {
         if !ends.are_within(ends.start() as usize + rings.len()) {
             return None;

@@ -27,12 +27,11 @@ pub struct Rings<'w> {
 
 #[tactic(auto, using(crate::proofs::Pieces::piece_laws))]
 impl<'w> Rings<'w> {
-    ghost use Rattle.wkb_levels.specs.RingLists.{rings_dimensions, rings_rings, rings_in};
+    ghost use Rattle.wkb_levels.specs.RingLists.{rings_dimensions, rings_rings, rings_in, FitWords};
 
     /// The rings that end here. None where the dimension has no words, or the ends fall or pass the words.
     pub fn new(dim: Dimensions, words: &'w [u64], ends: Ends<'w>) -> Option<Rings<'w>>
-        ensures some { IsSome result
-            ↔ ((0 < size dim) × AreEndsWithin (length words.now / size dim) ends.entry) }
+        ensures some { IsSome result ↔ FitWords dim words.now ends.entry }
         ensures dimensions { HasDimensions rings_dimensions result dim }
         ensures rings { IfSome result (λ r. rings_rings r ≡ rings_in dim words.now ends.entry) }
     {

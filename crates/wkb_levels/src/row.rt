@@ -1,18 +1,15 @@
 //! A row of a column, as a geometry of the column's kind.
 
-ghost use Rattle.std.specs.Prelude.{◌≡◌, ◌<◌, ◌+◌, length, None, IfOk, IfErr, MatchOption};
+ghost use Rattle.std.specs.Prelude.{◌≡◌, ◌<◌, ◌+◌, length, None, IfOk, IfErr};
 ghost use Rattle.std.specs.Option.{option_map};
 ghost use Rattle.wkb_geom.specs.Found.{HasDimensions};
-ghost use Rattle.wkb_geom.specs.Geometries.{Geometry};
 ghost use Rattle.wkb_plain.specs.Kinds.{line_string_coordinates, coord_words, coord_dimensions};
 ghost use Rattle.wkb_plain.specs.Kinds.{line_string_dimensions};
 ghost use Rattle.wkb_write.specs.Prelude.{encoding_of, refusal_of, IsSizeOf, IsInFront, IsSliceError};
 ghost use Rattle.wkb_levels.specs.Columns.{IsFloor};
 ghost use Rattle.wkb_levels.specs.Cuts.{only};
 ghost use Rattle.wkb_levels.specs.EndLists.{ends_of};
-ghost use Rattle.wkb_levels.specs.Meant.{row_meant, kind_meant, rings_meant, single_meant, IsLevelRow};
-ghost use Rattle.wkb_levels.specs.PolygonLists.{polygons_dimensions, polygons_polygons};
-ghost use Rattle.wkb_levels.specs.RingLists.{rings_dimensions, rings_rings};
+ghost use Rattle.wkb_levels.specs.Meant.{row_meant, single_meant, rings_as, singles_as, FindsRow};
 
 use crate::levels::{Levels, Place};
 use crate::points::Points;
@@ -81,8 +78,7 @@ impl<'w> Levels<'w> {
     pub fn row(&self, kind: Kind, dim: Dimensions, i: usize, floor: &mut Place) -> Option<Row<'w>>
         requires index { i < length (ends_of self.now.row_ends) }
         requires floor { IsFloor self.now dim i floor.old }
-        ensures row { MatchOption result ((g : Geometry) → IsLevelRow self.now kind dim i g → ⊥)
-            (λ r. IsLevelRow self.now kind dim i (row_meant r)) }
+        ensures row { FindsRow self.now kind dim i result }
         ensures floor { IsFloor self.now dim (i + 1) floor.new }
     {
         let singles = self.singles(dim, i)?;
@@ -109,8 +105,7 @@ impl<'w> Levels<'w> {
 
 /// Singles as a row of this kind, if they fit it.
 fn row_of_singles<'w>(singles: &Polygons<'w>, kind: Kind) -> Option<Row<'w>>
-    ensures { option_map row_meant result
-        ≡ kind_meant kind (polygons_dimensions singles.now) (polygons_polygons singles.now) }
+    ensures { option_map row_meant result ≡ singles_as kind singles.now }
 {
     match kind {
         Kind::MultiPolygon => Some(Row::MultiPolygon(*singles)),
@@ -130,8 +125,7 @@ fn row_of_singles<'w>(singles: &Polygons<'w>, kind: Kind) -> Option<Row<'w>>
 
 /// Rings, each of a single of its own, as a row of this kind, if they fit it.
 fn row_of_rings<'w>(rings: &Rings<'w>, kind: Kind) -> Option<Single<'w>>
-    ensures { option_map single_meant result
-        ≡ rings_meant kind (rings_dimensions rings.now) (rings_rings rings.now) }
+    ensures { option_map single_meant result ≡ rings_as kind rings.now }
 {
     match kind {
         Kind::MultiLineString => Some(Single::MultiLineString(*rings)),

@@ -1,5 +1,5 @@
 -- What each plain kind but the collection shows: its dimensions and its words.
-use Rattle.std.specs.Prelude.{◌≡◌, ℕ, ◌<◌, List, All, map, Option}
+use Rattle.std.specs.Prelude.{◌≡◌, ℕ, ◌<◌, List, All, map, Option, IfSome}
 use Rattle.std.specs.List.{AllByRecursion}
 use Rattle.std.specs.Option.{option_map}
 use Rattle.wkb_plain.specs.declared.coord.Coord.{Coord}
@@ -21,6 +21,10 @@ use Rattle.wkb_plain.specs.Runs.{coordinates_in, coordinates_in-lawful}
 -- all parts have these dimensions, which have words
 abbrev pub HaveDimensions : {A : Type 0} → (A → Dimensions) → Dimensions → List A → Type 0
 HaveDimensions dimensions dims parts = (0 < size dims) × All (λ a. dimensions a ≡ dims) parts
+
+-- a geometry that is there has these parts, in order, by what each shows
+abbrev pub ShowsParts : {A B C : Type 0} → (A → List C) → Option A → (B → C) → List B → Type 0
+ShowsParts parts found shown list = IfSome found (λ a. parts a ≡ map shown list)
 
 -- a coordinate
 abbrev pub coord_dimensions : Coord → Dimensions

@@ -1,6 +1,6 @@
 //! Line strings of one dimension.
 
-ghost use Rattle.std.specs.Prelude.{◌≡◌, ◌↔◌, map, IfSome, IsSome, All};
+ghost use Rattle.std.specs.Prelude.{◌≡◌, ◌↔◌, IsSome, All};
 ghost use Rattle.wkb_geom.specs.Found.{HasDimensions};
 
 use crate::line_string::LineString;
@@ -16,7 +16,7 @@ pub struct MultiLineString<'w> {
 }
 
 impl<'w> MultiLineString<'w> {
-    ghost use Rattle.wkb_plain.specs.Kinds.{HaveDimensions, line_string_dimensions};
+    ghost use Rattle.wkb_plain.specs.Kinds.{HaveDimensions, ShowsParts, line_string_dimensions};
     ghost use Rattle.wkb_plain.specs.Kinds.{line_string_coordinates, multi_line_string_dimensions};
     ghost use Rattle.wkb_plain.specs.Kinds.{multi_line_string_line_strings};
 
@@ -25,8 +25,8 @@ impl<'w> MultiLineString<'w> {
     pub fn new(dim: Dimensions, line_strings: &'w [LineString<'w>]) -> Option<MultiLineString<'w>>
         ensures some { IsSome result ↔ HaveDimensions line_string_dimensions dim line_strings.now }
         ensures dimensions { HasDimensions multi_line_string_dimensions result dim }
-        ensures line_strings { IfSome result (λ m. multi_line_string_line_strings m
-            ≡ map line_string_coordinates line_strings.now) }
+        ensures line_strings { ShowsParts multi_line_string_line_strings result
+            line_string_coordinates line_strings.now }
     {
         if dim.size() == 0 || !all_have(line_strings, dim) {
             return None;

@@ -1,6 +1,6 @@
 //! Points of one dimension.
 
-ghost use Rattle.std.specs.Prelude.{◌≡◌, ◌↔◌, map, IfSome, IsSome, All};
+ghost use Rattle.std.specs.Prelude.{◌≡◌, ◌↔◌, IsSome, All};
 ghost use Rattle.wkb_geom.specs.Found.{HasDimensions};
 
 use crate::parts::all_have;
@@ -16,7 +16,7 @@ pub struct MultiPoint<'w> {
 }
 
 impl<'w> MultiPoint<'w> {
-    ghost use Rattle.wkb_plain.specs.Kinds.{HaveDimensions, point_dimensions, point_coordinate};
+    ghost use Rattle.wkb_plain.specs.Kinds.{HaveDimensions, ShowsParts, point_dimensions, point_coordinate};
     ghost use Rattle.wkb_plain.specs.Kinds.{multi_point_dimensions, multi_point_points};
 
     /// These points, in order. None where the dimension has no words, or a point has another
@@ -24,8 +24,7 @@ impl<'w> MultiPoint<'w> {
     pub fn new(dim: Dimensions, points: &'w [Point<'w>]) -> Option<MultiPoint<'w>>
         ensures some { IsSome result ↔ HaveDimensions point_dimensions dim points.now }
         ensures dimensions { HasDimensions multi_point_dimensions result dim }
-        ensures points { IfSome result
-            (λ m. multi_point_points m ≡ map point_coordinate points.now) }
+        ensures points { ShowsParts multi_point_points result point_coordinate points.now }
     {
         if dim.size() == 0 || !all_have(points, dim) {
             return None;

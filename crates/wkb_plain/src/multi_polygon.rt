@@ -1,6 +1,6 @@
 //! Polygons of one dimension.
 
-ghost use Rattle.std.specs.Prelude.{◌≡◌, ◌↔◌, map, IfSome, IsSome, All};
+ghost use Rattle.std.specs.Prelude.{◌≡◌, ◌↔◌, IsSome, All};
 ghost use Rattle.wkb_geom.specs.Found.{HasDimensions};
 
 use crate::parts::all_have;
@@ -16,7 +16,7 @@ pub struct MultiPolygon<'w> {
 }
 
 impl<'w> MultiPolygon<'w> {
-    ghost use Rattle.wkb_plain.specs.Kinds.{HaveDimensions, polygon_dimensions, polygon_rings};
+    ghost use Rattle.wkb_plain.specs.Kinds.{HaveDimensions, ShowsParts, polygon_dimensions, polygon_rings};
     ghost use Rattle.wkb_plain.specs.Kinds.{multi_polygon_dimensions, multi_polygon_polygons};
 
     /// These polygons, in order. None where the dimension has no words, or a polygon has another
@@ -24,8 +24,7 @@ impl<'w> MultiPolygon<'w> {
     pub fn new(dim: Dimensions, polygons: &'w [Polygon<'w>]) -> Option<MultiPolygon<'w>>
         ensures some { IsSome result ↔ HaveDimensions polygon_dimensions dim polygons.now }
         ensures dimensions { HasDimensions multi_polygon_dimensions result dim }
-        ensures polygons { IfSome result
-            (λ m. multi_polygon_polygons m ≡ map polygon_rings polygons.now) }
+        ensures polygons { ShowsParts multi_polygon_polygons result polygon_rings polygons.now }
     {
         if dim.size() == 0 || !all_have(polygons, dim) {
             return None;

@@ -1,6 +1,6 @@
 //! Polygons, which borrow their rings.
 
-ghost use Rattle.std.specs.Prelude.{◌≡◌, ◌↔◌, map, IfSome, IsSome, All};
+ghost use Rattle.std.specs.Prelude.{◌≡◌, ◌↔◌, IsSome, All};
 ghost use Rattle.wkb_geom.specs.Found.{HasDimensions};
 
 use crate::line_string::LineString;
@@ -16,7 +16,7 @@ pub struct Polygon<'w> {
 }
 
 impl<'w> Polygon<'w> {
-    ghost use Rattle.wkb_plain.specs.Kinds.{HaveDimensions};
+    ghost use Rattle.wkb_plain.specs.Kinds.{HaveDimensions, ShowsParts};
     ghost use Rattle.wkb_plain.specs.Kinds.{line_string_dimensions, line_string_coordinates};
     ghost use Rattle.wkb_plain.specs.Kinds.{polygon_dimensions, polygon_rings};
 
@@ -25,8 +25,7 @@ impl<'w> Polygon<'w> {
     pub fn new(dim: Dimensions, rings: &'w [LineString<'w>]) -> Option<Polygon<'w>>
         ensures some { IsSome result ↔ HaveDimensions line_string_dimensions dim rings.now }
         ensures dimensions { HasDimensions polygon_dimensions result dim }
-        ensures rings { IfSome result
-            (λ p. polygon_rings p ≡ map line_string_coordinates rings.now) }
+        ensures rings { ShowsParts polygon_rings result line_string_coordinates rings.now }
     {
         if dim.size() == 0 || !all_have(rings, dim) {
             return None;

@@ -88,12 +88,14 @@ BeginsAs read depth bytes (Ok (Opened o rest)) old new =
     × (o.bytes.now ≡ bytes) × (depth < max_nesting) × IsOpen o rest.now
 BeginsAs read depth bytes (Err refusal) old new = Stops refusal (read depth bytes) old new
 
--- what this reading comes to, with these collections open: all is read, or the next part begins
-abbrev pub Settles : Reading Item → List Open → List ℕ → Option Item → Counts → Counts → Type 0
-Settles whole os rest (Some w) old new =
-    (os ≡ []) × (costs (cost_of new) (done w rest) ≡ costs (cost_of old) whole)
-Settles whole os rest None old new =
-    (costs (cost_of new) (and_then (geometry_inside (length os) rest) (outward os)) ≡ costs (cost_of old) whole)
+-- a part was read inside the open collections `before`, and these are open after it: all is read, or the next part
+-- begins
+abbrev pub Settles : List Open → Item → List Open → List ℕ → Option Item → Counts → Counts → Type 0
+Settles before part os rest (Some w) old new =
+    (os ≡ []) × (costs (cost_of new) (done w rest) ≡ costs (cost_of old) (outward before part rest))
+Settles before part os rest None old new =
+    (costs (cost_of new) (and_then (geometry_inside (length os) rest) (outward os))
+    ≡ costs (cost_of old) (outward before part rest))
     × AreOpen os rest
 
 -- the result is what this reading gives, and what it cost was counted

@@ -104,3 +104,19 @@ fn ring_as_a_geometry(rt: HostRuntime) -> Result<(), Fail> {
     assert!(rt; encoding.as_slice() == expected.as_slice());
     Ok(())
 }
+
+/// The size that a polygon tells of its rings.
+fn size_of_rings(alloc: Global, text: &str) -> Result<Option<usize>, Fail> {
+    let input = bytes(text)?;
+    let wkb = read(alloc, input.as_slice())?;
+    Ok(as_polygon(&wkb)?.rings_size())
+}
+
+// Behind a header without an SRID and behind one with it.
+#[test]
+fn sizes_of_rings(rt: HostRuntime) -> Result<(), Fail> {
+    assert_eq!(rt; size_of_rings(rt.alloc(), POLYGON_HOLE)?, Some(28));
+    let with_srid = "01 03000020 e6100000 01000000 01000000 P";
+    assert_eq!(rt; size_of_rings(rt.alloc(), with_srid)?, Some(24));
+    Ok(())
+}

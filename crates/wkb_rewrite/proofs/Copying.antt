@@ -175,7 +175,7 @@ all_stand buf order form inside w first bytes start g b is_form inside_is long l
     omega (
       arith,
       start_is,
-      measured order form buf bytes g b is_form long,
+      measured order form buf g b is_form long,
       ap srid_sizes l.all,
       l.srids,
       ap srid_sizes none,

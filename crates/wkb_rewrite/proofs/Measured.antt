@@ -116,15 +116,16 @@ here d = record {
 pub long_of : {buf : List ℕ} {found : Summary} → DescribesFront buf found → (g : HasGeometry buf)
     → found.bytes ≡ length g.begins.front
 long_of d g =
-    d.described.bytes_are ∙ ap length (one_spelling d.spelled g.spelled d.value g.value d.front.front g.begins.front d.rest
-    g.rest d.front.spelled g.begins.first (sym d.front.whole ∙ g.begins.whole)).encoding
+    d.described.bytes_are
+    ∙ ap length (one_spelling d.spelled g.spelled d.value g.value d.front.front g.begins.front d.rest g.rest
+    d.front.spelled g.begins.first (sym d.front.whole ∙ g.begins.whole)).encoding
 
 -- the encoding has the form's SRID, and not those that the pieces have
-pub measured : (order : Endianness) (form : Form) (buf : List ℕ) (bytes : ℕ) (g : HasGeometry buf) → AreBytes buf
+pub measured : (order : Endianness) (form : Form) (buf : List ℕ) {bytes : ℕ} (g : HasGeometry buf) → AreBytes buf
     → IsForm form → bytes ≡ length g.begins.front
     → bytes + srid_size (is_some (form_srid form))
     ≡ length (encoding order form (geometry_of g.value)) + srid_sizes (pieces_of 0 g.spelled g.value)
-measured order form buf bytes g b h long =
+measured order form buf g b h long =
     let good = spelled_good g.spelled g.value g.begins.front (geometry_bytes buf g b) g.begins.first in
     omega (
       arith,
@@ -142,7 +143,7 @@ pub at_most : (order : Endianness) (form : Form) (buf : List ℕ) (g : HasGeomet
 at_most order form buf g b h =
     omega (
       arith,
-      measured order form buf (length g.begins.front) g b h refl,
+      measured order form buf g b h refl,
       most_srid (is_some (form_srid form)),
       ap length g.begins.whole,
       length-append g.begins.front g.rest,

@@ -1,4 +1,5 @@
 pub mod Shares
+pub mod Targets
 pub mod Rewritings
 pub mod Copies
 pub mod Inputs

@@ -11,11 +11,16 @@ use Rattle.wkb_check.specs.declared.pieces.Pieces.{Pieces}
 use Rattle.wkb_check.specs.declared.pieces.TheConstants.{RING}
 use Rattle.wkb_rewrite.specs.Shares.{is_empty}
 
+-- a geometry has the code that is written of it under this form; a ring has none
+abbrev pub CodeStands : Endianness → Form → List ℕ → Piece → Type 0
+CodeStands order form buf p =
+    p.kind ≢ RING → number order 4 (drop (p.begin + 1) buf) ≡ type_code form (type_of p.kind p.dimension)
+
 -- a piece has the order and the code that are written of it under a form without an SRID, and is no empty point
 pub record StandsAsWritten (order : Endianness) (form : Form) (buf : List ℕ) (p : Piece) : Type 0 where
   pub order_is : p.order ≡ order
   pub plain : p.srid ≡ None
-  pub code : p.kind ≢ RING → number order 4 (drop (p.begin + 1) buf) ≡ type_code form (type_of p.kind p.dimension)
+  pub code : CodeStands order form buf p
   pub some : is_empty buf p ≡ false
 
 -- the walk passed the next piece, and these are told apart: one that stands as it is written, and one that may not

@@ -1,6 +1,6 @@
 -- What each piece of a geometry says of its value, and how that is encoded.
 use Rattle.std.specs.Prelude.{◌≡◌, ℕ, ◌+◌, ◌*◌, List, [], ◌++◌, length, drop, replicate, Bool}
-use Rattle.std.specs.Prelude.{nat_lt, ◌&&◌, ◌==◌, if◌then◌else◌}
+use Rattle.std.specs.Prelude.{IsTrue, ◌↔◌, nat_lt, ◌&&◌, ◌==◌, if◌then◌else◌}
 use Rattle.std.specs.List.{AllByRecursion}
 use lib.Seq.{sets}
 use Rattle.wkb_geom.specs.declared.common.Dimension.{Dimension}
@@ -19,6 +19,11 @@ use Rattle.wkb_check.specs.declared.pieces.TheConstants.{RING}
 pub record Holds (order : Endianness) (words bytes : List ℕ) : Type 0 where
   pub fit : AllByRecursion IsWord words
   pub is : bytes ≡ words_encoding order words
+
+-- whether the words are the same that these bytes hold, one in each order
+abbrev pub TellsSameWords : Bool → Endianness → List ℕ → Endianness → List ℕ → Type 0
+TellsSameWords same a_order a b_order b =
+    (first second : List ℕ) → Holds a_order first a → Holds b_order second b → IsTrue same ↔ (first ≡ second)
 
 -- how many words a piece itself has
 abbrev pub word_count : Piece → ℕ

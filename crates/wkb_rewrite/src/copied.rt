@@ -3,17 +3,13 @@
 ghost use Rattle.std.specs.Prelude.{◌≡◌, ◌≢◌, ◌+◌, ◌-◌, ◌≤◌, ◌<◌, List, length, take, drop, IfSome, None, []};
 ghost use Rattle.std.specs.Prelude.{true, false};
 ghost use Rattle.wkb_geom.specs.declared.header.TheConstants.{MEMBER_HEADER_SIZE, MAX_HEADER_SIZE};
-ghost use Rattle.wkb_geom.specs.Encodings.{encoding, type_code};
-ghost use Rattle.wkb_geom.specs.Geometries.{geometry_of};
-ghost use Rattle.wkb_geom.specs.Numbers.{number};
-ghost use Rattle.wkb_geom.specs.Reading.{type_of};
-ghost use Rattle.wkb_check.specs.Bounded.{HasGeometry};
 ghost use Rattle.wkb_check.specs.Pieces.{own_end, IsAhead, HasAhead};
 ghost use Rattle.wkb_check.specs.Public.{DescribesFront};
 ghost use Rattle.wkb_check.specs.declared.pieces.TheConstants.{RING};
 ghost use Rattle.wkb_rewrite.specs.Shares.{IsPut, is_empty};
-ghost use Rattle.wkb_rewrite.specs.Rewritings.{StandsAsWritten, HasPassed};
+ghost use Rattle.wkb_rewrite.specs.Rewritings.{CodeStands, StandsAsWritten, HasPassed};
 ghost use Rattle.wkb_rewrite.specs.Copies.{copied_header, copied_encoding};
+ghost use Rattle.wkb_rewrite.specs.Targets.{IsFrontEncoding};
 
 use crate::own::is_empty_point;
 use crate::put::put_type_header;
@@ -48,9 +44,7 @@ fn has_written_words(buf: &[u8], piece: &Piece, order: Endianness) -> bool
 #[inline(always)]
 fn has_written_code(buf: &[u8], piece: &Piece, order: Endianness, form: Form) -> bool
     requires { piece.now.kind ≢ RING → piece.now.begin + MEMBER_HEADER_SIZE ≤ length buf.now }
-    ensures { result ≡ true → piece.now.kind ≢ RING
-        → number order 4 (drop (piece.now.begin + 1) buf.now)
-        ≡ type_code form (type_of piece.now.kind piece.now.dimension) }
+    ensures { result ≡ true → CodeStands order form buf.now piece.now }
 {
     if piece.kind == RING {
         return true;
@@ -105,8 +99,7 @@ impl<'a> Copied<'a> {
     /// written.
     pub fn of(buf: &'a [u8], found: &Summary, target: Target) -> Option<Copied<'a>>
         requires { DescribesFront buf.now found.now }
-        ensures { IfSome result (λ c. (g : HasGeometry buf.now)
-            → encoding target.order target.form (geometry_of g.value) ≡ copied_encoding c) }
+        ensures { IfSome result (λ c. IsFrontEncoding buf.now target (copied_encoding c)) }
     {
         let form = target.form;
         // In each arm the order is a constant, for which the walk is compiled.
@@ -125,8 +118,7 @@ impl<'a> Copied<'a> {
     #[inline(always)]
     fn by_walk(buf: &'a [u8], found: &Summary, target: Target) -> Option<Copied<'a>>
         requires { DescribesFront buf.now found.now }
-        ensures { IfSome result (λ c. (g : HasGeometry buf.now)
-            → encoding target.order target.form (geometry_of g.value) ≡ copied_encoding c) }
+        ensures { IfSome result (λ c. IsFrontEncoding buf.now target (copied_encoding c)) }
     {
         let first = Piece::outermost(buf, found);
         let mut pieces = Pieces::behind(buf, &first);

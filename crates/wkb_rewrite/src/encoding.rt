@@ -1,13 +1,12 @@
 //! The encoding of a geometry that is known to be there, piece by piece.
 
-ghost use Rattle.std.specs.Prelude.{◌≡◌, ◌+◌, ◌≤◌, length};
-ghost use lib.Seq.{sets};
+ghost use Rattle.std.specs.Prelude.{◌≡◌, ◌+◌, ◌≤◌};
 ghost use Rattle.wkb_geom.specs.declared.common.Endianness.{Endianness};
 ghost use Rattle.wkb_geom.specs.declared.words.TheConstants.{COUNT_SIZE};
-ghost use Rattle.wkb_geom.specs.Encodings.{encoding, IsForm, form_srid};
-ghost use Rattle.wkb_geom.specs.Geometries.{geometry_of};
+ghost use Rattle.wkb_geom.specs.Encodings.{IsForm, form_srid};
 ghost use Rattle.wkb_check.specs.Bounded.{HasGeometry};
 ghost use Rattle.wkb_check.specs.Public.{DescribesFront};
+ghost use Rattle.wkb_rewrite.specs.Targets.{IsFrontSize, FrontFits, PutsFront};
 
 use crate::copied::Copied;
 use crate::put::put_piece;
@@ -32,8 +31,7 @@ fn srid_of(form: Form) -> Option<u32>
 /// The size of the encoding under a form of the geometry in which the check found this. Any order gives this size.
 pub fn encoded_size(buf: &[u8], found: &Summary, form: Form) -> usize
     requires { DescribesFront buf.now found.now }
-    ensures size { (order : Endianness) (g : HasGeometry buf.now)
-        → result ≡ length (encoding order form (geometry_of g.value)) }
+    ensures size { (order : Endianness) → IsFrontSize buf.now order form result }
     ensures bound { result ≤ found.now.bytes + COUNT_SIZE }
 {
     // Only SRIDs make an encoding longer or shorter.
@@ -54,12 +52,9 @@ pub fn encoded_size(buf: &[u8], found: &Summary, form: Form) -> usize
 /// room for it, and returns its size. What comes after it in the slice stays as it was.
 pub fn put_pieces(buf: &[u8], target: Target, out: &mut [u8]) -> usize
     requires here { HasGeometry buf.now }
-    requires room { (g : HasGeometry buf.now)
-        → length (encoding target.order target.form (geometry_of g.value)) ≤ length out.old }
-    ensures size { (g : HasGeometry buf.now)
-        → result ≡ length (encoding target.order target.form (geometry_of g.value)) }
-    ensures put { (g : HasGeometry buf.now)
-        → out.new ≡ sets out.old 0 (encoding target.order target.form (geometry_of g.value)) }
+    requires room { FrontFits buf.now target out.old }
+    ensures size { IsFrontSize buf.now target.order target.form result }
+    ensures put { PutsFront buf.now target out.old out.new }
 {
     let mut at = 0;
     let mut form = target.form;
@@ -76,12 +71,9 @@ pub fn put_pieces(buf: &[u8], target: Target, out: &mut [u8]) -> usize
 /// written, it is copied at once.
 pub fn put_encoding(buf: &[u8], found: &Summary, target: Target, out: &mut [u8]) -> usize
     requires here { DescribesFront buf.now found.now }
-    requires room { (g : HasGeometry buf.now)
-        → length (encoding target.order target.form (geometry_of g.value)) ≤ length out.old }
-    ensures size { (g : HasGeometry buf.now)
-        → result ≡ length (encoding target.order target.form (geometry_of g.value)) }
-    ensures put { (g : HasGeometry buf.now)
-        → out.new ≡ sets out.old 0 (encoding target.order target.form (geometry_of g.value)) }
+    requires room { FrontFits buf.now target out.old }
+    ensures size { IsFrontSize buf.now target.order target.form result }
+    ensures put { PutsFront buf.now target out.old out.new }
 {
     match Copied::of(buf, found, target) {
         Some(copied) => copied.put(out),

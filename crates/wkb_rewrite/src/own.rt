@@ -1,9 +1,9 @@
 //! What a piece itself has: its words, in its order.
 
-ghost use Rattle.std.specs.Prelude.{◌≡◌, ◌≤◌, ◌↔◌, ℕ, List, length, IsTrue};
+ghost use Rattle.std.specs.Prelude.{◌≡◌, ◌≤◌, ℕ, List, length};
 ghost use Rattle.wkb_geom.specs.Numbers.{all_nan};
 ghost use Rattle.wkb_check.specs.Pieces.{own_end};
-ghost use Rattle.wkb_rewrite.specs.Shares.{Holds, own_words, is_empty};
+ghost use Rattle.wkb_rewrite.specs.Shares.{Holds, TellsSameWords, own_words, is_empty};
 
 use wkb_check::Piece;
 use wkb_geom::Endianness;
@@ -45,8 +45,7 @@ pub fn is_empty_point(buf: &[u8], piece: &Piece) -> bool
 #[inline(always)]
 pub fn hold_same_words(a: &[u8], a_order: Endianness, b: &[u8], b_order: Endianness) -> bool
     requires { length a.now ≡ length b.now }
-    ensures { (first second : List ℕ) → Holds a_order first a.now → Holds b_order second b.now
-        → IsTrue result ↔ (first ≡ second) }
+    ensures { TellsSameWords result a_order a.now b_order b.now }
 {
     if a_order == b_order {
         return a == b;

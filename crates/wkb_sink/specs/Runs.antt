@@ -1,12 +1,12 @@
 -- Coordinates, and runs of them: those of a line from an index up to another one.
-use Rattle.std.specs.Prelude.{◌≡◌, ℕ, ◌≤◌, ◌-◌, ◌*◌, List, length, take, drop}
+use Rattle.std.specs.Prelude.{◌≡◌, ℕ, ◌≤◌, ◌-◌, ◌*◌, List, ◌++◌, length, take, drop, slice_index}
 use Rattle.std.specs.List.{AllByRecursion, flat_map}
 use Rattle.wkb_geom.specs.declared.common.Dimensions.{Dimensions}
 use Rattle.wkb_geom.specs.declared.common.Endianness.{Endianness}
 use Rattle.wkb_geom.specs.declared.common.Endianness.TheVariants.{BigEndian, LittleEndian}
 use Rattle.wkb_geom.specs.Dimensions.{size}
 use Rattle.wkb_geom.specs.Encodings.{words_encoding}
-use Rattle.wkb_geom.specs.Numbers.{IsWord}
+use Rattle.wkb_geom.specs.Numbers.{IsWord, number_bytes}
 use Rattle.wkb_geom.specs.Values.{Coordinate}
 
 -- a coordinate of this dimension has as many words, and can be written
@@ -14,6 +14,10 @@ pub record FitsCoordinate (d : Dimensions) (words : ℕ) : Type 0 where
   pub is : words ≡ size d
   pub least : 2 ≤ words
   pub most : words ≤ 4
+
+-- the first two words of a coordinate
+abbrev pub x_y_encoding : Endianness → Coordinate → List ℕ
+x_y_encoding order c = number_bytes order 8 (slice_index c 0) ++ number_bytes order 8 (slice_index c 1)
 
 -- the two indices are a run's, and the dimension can be written
 pub record IsRun (d : Dimensions) (cs : List Coordinate) (from to : ℕ) : Type 0 where

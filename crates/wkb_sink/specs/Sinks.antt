@@ -1,6 +1,6 @@
 -- What was appended to a sink, where it tells its bytes, and whether it has failed.
 use Rattle.std.specs.Prelude.{◌≡◌, ◌==◌, ◌&&◌, nat_lt, ℕ, ◌<◌, Bool, true, false, List, [], ◌++◌, length, Option}
-use Rattle.std.specs.Prelude.{Some, None, Result, Ok, Err, MatchResult}
+use Rattle.std.specs.Prelude.{Some, None, IsSomeAnd, Result, Ok, Err, MatchResult}
 use Rattle.std.specs.declared.io.Error.{Error}
 use Rattle.std.specs.declared.io.ErrorKind.TheVariants.{OutOfMemory, WriteZero}
 use Rattle.std.specs.IoError.{error_kind}
@@ -26,6 +26,10 @@ FailsBy n r None = (r ≡ Ok 0) × (0 < n)
 -- this is known of each error by which a put of n bytes failed
 abbrev pub KnownOfFailure : ℕ → Result ℕ Error → (Option Error → Type 0) → Type 0
 KnownOfFailure n r known = (failure : Option Error) → FailsBy n r failure → known failure
+
+-- a put failed by an error that reports a failed allocation
+abbrev pub IsOutOfMemory : Option Error → Type 0
+IsOutOfMemory failure = IsSomeAnd failure (λ e. error_kind e ≡ OutOfMemory)
 
 -- this is known of each error that reports a failed allocation
 abbrev pub IsShortOfMemory : (Option Error → Type 0) → Type 0

@@ -79,8 +79,8 @@ impl<'a, S: Sink> Buffered<'a, S> {
         }
     }
 
-    // `flush`, which also stops where the block is too small. Where there is no sink behind the block it is inlined, and
-    // then a block and an error that no call borrows need no memory.
+    // `flush`, which also stops where the block is too small. It may be inlined: where no sink is behind the block, no
+    // call then borrows the block and the error, and they need no memory.
     #[inline]
     #[tactic(auto, using(crate::proofs::Steps::room_laws))]
     fn flush_for(&mut self, n: usize) -> Result<(), Stopped>

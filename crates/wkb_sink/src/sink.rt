@@ -1,15 +1,13 @@
 //! Where bytes are written to.
 
 ghost use Rattle.std.specs.Prelude.{◌≡◌, ◌||◌, ◌+◌, ◌≤◌, ◌-◌, min, ℕ, Bool, false, List, []};
-ghost use Rattle.std.specs.Prelude.{length, take, Option, None, Some, IsOk, IfOk, IsSomeAnd};
+ghost use Rattle.std.specs.Prelude.{length, take, Option, None, Some, IsOk, IfOk};
 ghost use Rattle.std.specs.Prelude.{vec_capacity, ⊤, true, is_err, IfErr};
 ghost use Rattle.std.specs.declared.io.Error.{Error};
-ghost use Rattle.std.specs.declared.io.ErrorKind.TheVariants.{OutOfMemory};
-ghost use Rattle.std.specs.IoError.{error_kind};
 ghost use Rattle.std.specs.Io.{WritesAtMost};
 ghost use Rattle.std.specs.Io.KnownBytes.{Appends, WriteAppends};
 ghost use Rattle.wkb_sink.specs.Held.{Outward, Growing, Lent};
-ghost use Rattle.wkb_sink.specs.Sinks.{put_fails, put_whole, KnownOfFailure, IsShortOfMemory};
+ghost use Rattle.wkb_sink.specs.Sinks.{put_fails, put_whole, KnownOfFailure, IsOutOfMemory, IsShortOfMemory};
 
 use std::alloc::{AllocError, Global};
 use std::io;
@@ -201,7 +199,7 @@ impl Sink for VecSink {
 
     ghost has_failed = { λ s. s.failed };
 
-    ghost fails_by = { λ _ failure. IsSomeAnd failure (λ e. error_kind e ≡ OutOfMemory) };
+    ghost fails_by = { λ _ failure. IsOutOfMemory failure };
 
     #[inline(always)]
     fn put(&mut self, bytes: &[u8]) -> io::Result<usize>
@@ -209,8 +207,7 @@ impl Sink for VecSink {
         ensures bytes { WriteAppends (Some self.old.bytes) (Some self.new.bytes) result bytes.now }
         ensures failure { self.new.failed
             ≡ (self.old.failed || put_fails (length bytes.now) result) }
-        ensures cause { KnownOfFailure (length bytes.now) result
-            (λ failure. IsSomeAnd failure (λ e. error_kind e ≡ OutOfMemory)) }
+        ensures cause { KnownOfFailure (length bytes.now) result IsOutOfMemory }
         ensures whole { IfOk result (λ n. n ≡ length bytes.now) }
         ensures room { length self.old.bytes + length bytes.now ≤ self.old.capacity → IsOk result }
         ensures capacity { self.old.capacity ≤ self.new.capacity }

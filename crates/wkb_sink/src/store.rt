@@ -1,11 +1,10 @@
 //! Numbers and coordinates into the bytes of a slice.
 
 ghost use Rattle.std.specs.Prelude.{◌≡◌, ◌-◌, ◌*◌, ◌≤◌, ◌++◌, length, drop, take};
-ghost use Rattle.std.specs.Prelude.{slice_index};
 ghost use Rattle.wkb_geom.specs.Dimensions.{size};
 ghost use Rattle.wkb_geom.specs.Numbers.{number_bytes};
 ghost use Rattle.wkb_geom.specs.Encodings.{words_encoding};
-ghost use Rattle.wkb_sink.specs.Runs.{IsRun, Turns, run_size, run_encoding, other as the_other};
+ghost use Rattle.wkb_sink.specs.Runs.{IsRun, Turns, x_y_encoding, run_size, run_encoding, other as the_other};
 
 use byteorder::{BigEndian, ByteOrder, LittleEndian};
 use wkb_geom::words::{WORD_SIZE, u64_at};
@@ -52,8 +51,7 @@ fn store_two(bytes: &mut [u8], order: Endianness, first: u64, second: u64)
 fn store_x_y<C: CoordTrait>(bytes: &mut [u8], order: Endianness, coord: &C)
     requires least { 2 ≤ size (C.dimensions coord.now) }
     requires room { 16 ≤ length bytes.old }
-    ensures { take 16 bytes.new ≡ number_bytes order 8 (slice_index (C.words coord.now) 0)
-        ++ number_bytes order 8 (slice_index (C.words coord.now) 1) }
+    ensures { take 16 bytes.new ≡ x_y_encoding order (C.words coord.now) }
 {
     store_two(bytes, order, coord.x(), coord.y());
 }

@@ -7,10 +7,10 @@ use Rattle.wkb_geom.specs.declared.common.Endianness.{Endianness}
 use Rattle.wkb_geom.specs.declared.common.Form.{Form}
 use Rattle.wkb_geom.specs.declared.error.WkbError.{WkbError}
 use Rattle.wkb_geom.specs.Errors.{IsMemory, TellsFault}
-use Rattle.wkb_geom.specs.Geometries.{Geometry, normal}
+use Rattle.wkb_geom.specs.Geometries.{Geometry, IsGeometry, normal}
 use Rattle.wkb_geom.specs.Values.{Value}
 use Rattle.wkb_geom.specs.Spellings.{Spelling, Spells}
-use Rattle.wkb_geom.specs.Encodings.{refusal, encoding, form_with_flags}
+use Rattle.wkb_geom.specs.Encodings.{fault, refusal, encoding, form_with_flags}
 use Rattle.wkb_laws.specs.Written.{HasOptions}
 use Rattle.wkb_write.specs.Measures.{Reports, Finds}
 use Rattle.wkb_geom.specs.declared.error.Fault.{Fault}
@@ -83,6 +83,10 @@ pub record Writes (options : WriteOptions) (g : Geometry) (r : Result (Unit {0})
   pub spelled : IsSpelledAs options g r old new
   pub own : IsFailedAs options g r fails_by
 
+-- this is so of each geometry without a fault that has this encoding
+abbrev pub OfEncoding : WriteOptions → List ℕ → (Geometry → Type 0) → Type 0
+OfEncoding options bytes P = (g : Geometry) → IsGeometry g → fault g ≡ None → bytes ≡ encoding_of options g → P g
+
 -- what a writer promises, by the sink's ghost members
 abbrev pub WritesTo : {S : Type 0} → Ghosts S → S → S → WriteOptions → Geometry → Result (Unit {0}) WkbError → Type 0
 WritesTo sink old new options g r =
@@ -92,6 +96,10 @@ WritesTo sink old new options g r =
 pub record IsInFront (old new encoding : List ℕ) (n : ℕ) : Type 0 where
   pub len : n ≡ length encoding
   pub whole : new ≡ encoding ++ drop n old
+
+-- at Ok the slice begins with the geometry's encoding, whose size is the result
+abbrev pub IsWrittenInFront : WriteOptions → Geometry → List ℕ → List ℕ → Result ℕ WkbError → Type 0
+IsWrittenInFront options g old new r = IfOk r (IsInFront old new (encoding_of options g))
 
 -- what isn't refused is longer than the slice, and the error says that nothing was taken
 pub record OutgrowsSlice (options : WriteOptions) (g : Geometry) (old : List ℕ) (e : WkbError) : Type 0 where

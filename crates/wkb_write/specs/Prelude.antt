@@ -18,7 +18,7 @@ pub use Rattle.wkb_sink.specs.Sinks.{TellsFailure}
 pub use Rattle.wkb_sink.specs.declared.block.TheConstants.{MIN_BLOCK}
 pub use Rattle.wkb_sink.specs.declared.options.WriteOptions.{WriteOptions}
 pub use Rattle.wkb_write.specs.Answers.{encoding_of, refusal_of, IsInFront, IsSized, IsSizeOf, IsSliceError, IsVecError}
-pub use Rattle.wkb_write.specs.Answers.{OutgrowsSlice, WritesTo}
+pub use Rattle.wkb_write.specs.Answers.{IsWrittenInFront, OfEncoding, OutgrowsSlice, WritesTo}
 unfoldable pub use Rattle.wkb_write.specs.Answers.{member_encoding}
 pub use Rattle.wkb_write.specs.Bodies.{parts_measure, point_measure, polygon_measure, ring_measure, collection_of}
 pub use Rattle.wkb_write.specs.Bodies.{bytes_behind_header, coordinate_words, AreMembersOf, IsLeaf}

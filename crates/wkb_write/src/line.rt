@@ -1,11 +1,11 @@
 //! A line, which is written as a line string of its two ends.
 
-ghost use Rattle.std.specs.Prelude.{◌≡◌, ◌+◌, ◌*◌, ◌≤◌, ◌∷◌, [], false, length};
+ghost use Rattle.std.specs.Prelude.{◌≡◌, ◌+◌, ◌*◌, ◌≤◌, false, length};
 ghost use Rattle.wkb_geom.specs.Dimensions.{width};
-ghost use Rattle.wkb_geom.specs.Encodings.{line_string_encoding};
 ghost use Rattle.wkb_sink.specs.Blocks.{LaysAt};
 ghost use Rattle.wkb_sink.specs.Options.{header_length};
 ghost use Rattle.wkb_sink.specs.Runs.{FitsCoordinate};
+ghost use Rattle.wkb_write.specs.Outlines.{ends_encoding};
 ghost use Rattle.wkb_write.specs.Prelude.{Iso, line_meant, IsSizeOf, WritesTo};
 
 use crate::common::*;
@@ -54,8 +54,7 @@ fn lay_ends<C: CoordTrait>(
         ≤ length bytes.old }
     ensures end { result ≡ at + (header_length options.now.form + (4 + 2 * (8 * width dim))) }
     ensures bytes { LaysAt at result bytes.old bytes.new
-        (line_string_encoding options.now.endianness options.now.form dim
-        (C.words start.now ∷ C.words end.now ∷ [])) }
+        (ends_encoding C.CoordTrait options.now dim start.now end.now) }
 {
     let order = options.endianness;
     let words = words_of(dim);

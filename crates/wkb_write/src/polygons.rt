@@ -6,8 +6,8 @@ ghost use Rattle.std.specs.Prelude.{◌≡◌, ◌<◌, ℕ, List, IfOk, IfErr, 
 ghost use Rattle.std.specs.Prelude.{slice_get};
 ghost use Rattle.std.specs.List.{AllByRecursion};
 ghost use Rattle.wkb_geom.specs.Geometries.{AreCoordinates};
-ghost use Rattle.wkb_write.specs.Prelude.{Geometry, multi_polygon, polygon, encoding_of, refusal_of};
-ghost use Rattle.wkb_write.specs.Prelude.{IsSizeOf, IsInFront, IsSliceError, polygon_measure};
+ghost use Rattle.wkb_write.specs.Prelude.{Geometry, multi_polygon, multi_polygon_meant, polygon, refusal_of};
+ghost use Rattle.wkb_write.specs.Prelude.{IsSizeOf, IsWrittenInFront, IsSliceError, polygon_measure};
 ghost use Rattle.wkb_write.specs.Prelude.{member_list};
 
 use crate::common::*;
@@ -83,7 +83,7 @@ pub fn made_polygons_wkb_size_with<M: MadePolygons>(
     options: &WriteOptions,
 ) -> WkbResult<usize>
     ensures size { IsSizeOf options.now.form
-        (multi_polygon (M.dimensions geom.now) (M.polygons geom.now)) result }
+        (multi_polygon_meant M.MadePolygons geom.now) result }
 {
     size_as::<M, Counted<MadePolygonsKind>>(geom, options.form)
 }
@@ -94,12 +94,12 @@ pub fn write_made_polygons_to_slice<M: MadePolygons>(
     options: &WriteOptions,
     out: &mut [u8],
 ) -> WkbResult<usize>
-    ensures ok { IfOk result (IsInFront out.old out.new
-        (encoding_of options.now (multi_polygon (M.dimensions geom.now) (M.polygons geom.now)))) }
+    ensures ok { IsWrittenInFront options.now (multi_polygon_meant M.MadePolygons geom.now)
+        out.old out.new result }
     ensures writable { IfOk result (λ _. refusal_of options.now
-        (multi_polygon (M.dimensions geom.now) (M.polygons geom.now)) ≡ None) }
+        (multi_polygon_meant M.MadePolygons geom.now) ≡ None) }
     ensures err { IfErr result (IsSliceError options.now
-        (multi_polygon (M.dimensions geom.now) (M.polygons geom.now)) out.old) }
+        (multi_polygon_meant M.MadePolygons geom.now) out.old) }
     ensures kept { IfErr result (λ _. out.new ≡ out.old) }
 {
     slice_as::<M, Counted<MadePolygonsKind>>(geom, options, out)

@@ -1,12 +1,10 @@
 //! A rectangle, which is written as a polygon of one ring, with only x and y.
 
-ghost use Rattle.std.specs.Prelude.{◌≡◌, ◌+◌, ◌≤◌, ◌∷◌, [], false, length};
-ghost use Rattle.wkb_geom.specs.Encodings.{polygon_encoding};
-ghost use Rattle.wkb_geom.specs.Geometries.{rectangle_ring};
-ghost use Rattle.wkb_geom.specs.declared.common.Dimension.TheVariants as dimensions;
+ghost use Rattle.std.specs.Prelude.{◌≡◌, ◌+◌, ◌≤◌, false, length};
 ghost use Rattle.wkb_sink.specs.Blocks.{LaysAt};
 ghost use Rattle.wkb_sink.specs.Options.{header_length};
 ghost use Rattle.wkb_write.specs.declared.rect.TheConstants.{BODY_SIZE};
+ghost use Rattle.wkb_write.specs.Outlines.{corners_encoding};
 ghost use Rattle.wkb_write.specs.Prelude.{Iso, rect_meant, IsSizeOf, WritesTo};
 
 use crate::common::*;
@@ -51,8 +49,7 @@ fn lay_corners(
     requires { at + (header_length options.now.form + BODY_SIZE) ≤ length bytes.old }
     ensures end { result ≡ at + (header_length options.now.form + BODY_SIZE) }
     ensures bytes { LaysAt at result bytes.old bytes.new
-        (polygon_encoding options.now.endianness options.now.form dimensions.Xy
-        (rectangle_ring (min.0 ∷ min.1 ∷ []) (max.0 ∷ max.1 ∷ []) ∷ [])) }
+        (corners_encoding options.now min max) }
 {
     let order = options.endianness;
     let (x0, y0) = min;

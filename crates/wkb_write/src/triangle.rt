@@ -1,12 +1,11 @@
 //! A triangle, which is written as a polygon of one ring that ends as it begins.
 
-ghost use Rattle.std.specs.Prelude.{◌≡◌, ◌+◌, ◌*◌, ◌≤◌, ◌∷◌, [], false, length};
+ghost use Rattle.std.specs.Prelude.{◌≡◌, ◌+◌, ◌*◌, ◌≤◌, false, length};
 ghost use Rattle.wkb_geom.specs.Dimensions.{width};
-ghost use Rattle.wkb_geom.specs.Encodings.{polygon_encoding};
-ghost use Rattle.wkb_geom.specs.Geometries.{triangle_ring};
 ghost use Rattle.wkb_sink.specs.Blocks.{LaysAt};
 ghost use Rattle.wkb_sink.specs.Options.{header_length};
 ghost use Rattle.wkb_sink.specs.Runs.{FitsCoordinate};
+ghost use Rattle.wkb_write.specs.Outlines.{vertices_encoding};
 ghost use Rattle.wkb_write.specs.Prelude.{Iso, triangle_meant, IsSizeOf, WritesTo};
 
 use crate::common::*;
@@ -57,8 +56,7 @@ fn lay_vertices<C: CoordTrait>(
         ≤ length bytes.old }
     ensures end { result ≡ at + (header_length options.now.form + (8 + 4 * (8 * width dim))) }
     ensures bytes { LaysAt at result bytes.old bytes.new
-        (polygon_encoding options.now.endianness options.now.form dim
-        (triangle_ring (C.words first.now) (C.words second.now) (C.words third.now) ∷ [])) }
+        (vertices_encoding C.CoordTrait options.now dim first.now second.now third.now) }
 {
     let order = options.endianness;
     let words = words_of(dim);

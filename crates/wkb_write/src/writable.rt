@@ -4,7 +4,7 @@ ghost use Rattle.std.specs.Prelude.{◌≡◌, ◌≤◌, ◌<◌, ◌^◌, fals
 ghost use Rattle.std.specs.Prelude.{IsErrAnd, MatchResult};
 ghost use Rattle.wkb_write.specs.Prelude.{Geometry, IsGeometry, fault, encoding_of, refusal_of};
 ghost use Rattle.wkb_write.specs.Prelude.{IsForm, IsMeasured, IsSized, IsSizeOf, IsMemory, IsVecError};
-ghost use Rattle.wkb_write.specs.Prelude.{Lays, WritesTo};
+ghost use Rattle.wkb_write.specs.Prelude.{Lays, OfEncoding, WritesTo};
 ghost use Rattle.wkb_write.specs.Prelude.{PutsTo, TellsFailure, MIN_BLOCK, result_of};
 
 use crate::checked::Checked;
@@ -293,8 +293,8 @@ pub fn write_encoding<S: Sink>(
     options: &WriteOptions,
 ) -> WkbResult<()>
     requires working { S.has_failed writer.old ≡ false }
-    ensures { (g : Geometry) → IsGeometry g → fault g ≡ None → bytes.now ≡ encoding_of options.now g
-        → WritesTo S.Sink writer.old writer.new options.now g result }
+    ensures { OfEncoding options.now bytes.now
+        (λ g. WritesTo S.Sink writer.old writer.new options.now g result) }
 {
     form_fits(options.form);
     length_fits(bytes);

@@ -101,7 +101,7 @@ pub(crate) fn close_finished<'a>(
     requires part { IsFinished part }
     requires stand { AreOpen (around stack.old) (part.encoding ++ rest.now) }
     requires fits { counts.old.turns + (outward (around stack.old) part rest.now).0.turns < 2 ^ 128 }
-    ensures settles { Settles (outward (around stack.old) part.entry rest.now) (around stack.new)
+    ensures settles { Settles (around stack.old) part.entry (around stack.new)
         rest.now result counts.old counts.new }
     ensures fewer { length stack.new.items ≤ length stack.old.items }
 {

@@ -1,6 +1,6 @@
 use Rattle.std.proofs.Common.{refl, [], map, string_bytes}
 use Rattle.std.proofs.KnownBytes.{Appends-nil}
-use Rattle.wkb_command.specs.Program.{IsRunOf, out_of_memory, misused}
+use Rattle.wkb_command.specs.Program.{RunEnds, Answers, out_of_memory, misused}
 use Rattle.wkb_command.proofs.Runs.{of_any, of_read, RunEnds-from, fixed_answer, said_answer}
 use Rattle.wkb_command.proofs.program.run.Goals as goal
 
@@ -16,14 +16,16 @@ returns-in-Err-Memory-clause-ends g c =
 pub returns-in-Err-Unreadable-clause-ends : goal.returns-in-Err-Unreadable-clause-ends
 returns-in-Err-Unreadable-clause-ends g c =
     let old = g.W.Write.contents c.args.out.now in
-    of_any _ (IsRunOf (map string_bytes c.args.arguments.now) old old 3)
+    let arguments = map string_bytes c.args.arguments.now in
+    of_any _ (λ text. RunEnds old old (Answers arguments text) 3)
     (λ text. record { written = []; appended = Appends-nil _; ends = out_of_memory refl })
 
 pub returns-clause-ends : goal.returns-clause-ends
 returns-clause-ends g c =
     let old = g.W.Write.contents c.args.out.now in
     let new = g.W.Write.contents c.tell-2.new.out in
-    of_read _ (IsRunOf (map string_bytes c.args.arguments.now) old new c.tell-2.result) c.in-Ok.bytes.items
+    let arguments = map string_bytes c.args.arguments.now in
+    of_read _ (λ text. RunEnds old new (Answers arguments text) c.tell-2.result) c.in-Ok.bytes.items
     c.in-Ok.ensures
     (RunEnds-from _ _ _ _ _ c.tell-2.ensures
     (said_answer _ _ c.in-Some.command _ c.in-Some.ensures (rw c.as_slice.ensures.value at c.report_on_input.ensures)))

@@ -29,9 +29,9 @@ srid-srid-requires c =
       ap length c.rest_from-from.ensures,
     )
 
-pub behind_header-requires-clause-header : goal.behind_header-requires-clause-header
-behind_header-requires-clause-header c = λ g.
-    let head = head_is (goal.at.behind_header-requires-clause-header c).After-layout-layout in
+pub of_header-requires-clause-header : goal.of_header-requires-clause-header
+of_header-requires-clause-header c = λ g.
+    let head = head_is (goal.at.of_header-requires-clause-header c).After-layout-layout in
     let read = read_header c.args.bytes.now c.args.begin g c.in-Ok.header head in
     let layout_is = c.layout-layout.ensures in
     record {

@@ -6,11 +6,11 @@ use Rattle.wkb_geom.specs.Spellings.{header}
 use Rattle.wkb_check.proofs.Ahead.{type_kind_is, type_dimension_is}
 use Rattle.wkb_check.proofs.pieces.Piece.outermost.Goals as goal
 
-pub behind_header-requires-clause-header : goal.behind_header-requires-clause-header
-behind_header-requires-clause-header c = λ g.
+pub of_header-requires-clause-header : goal.of_header-requires-clause-header
+of_header-requires-clause-header c = λ g.
     let d = c.requires in
-    let same = one_spelling d.spelled g.spelled d.value g.value d.front.front g.begins.front d.rest g.rest d.front.spelled
-    g.begins.first (sym d.front.whole ∙ g.begins.whole) in
+    let same = one_spelling d.spelled g.spelled d.value g.value d.front.front g.begins.front d.rest g.rest
+    d.front.spelled g.begins.first (sym d.front.whole ∙ g.begins.whole) in
     let type_is = d.described.wkb_type in
     record {
       kind_is = c.kind-kind.ensures ∙ ap type_kind type_is ∙ type_kind_is d.value ∙ ap kind same.value;

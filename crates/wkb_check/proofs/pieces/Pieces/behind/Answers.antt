@@ -8,7 +8,9 @@ pass_geometry-requires-clause-ahead c = record { pieces = _; are = c.of-pieces.e
 
 pub pass_geometry-requires-clause-piece : goal.pass_geometry-requires-clause-piece
 pass_geometry-requires-clause-piece c =
-    subst (λ k. (g : HasGeometry (drop k c.of-pieces.result.bytes.now)) → c.args.first.now ≡ piece_of k g.spelled g.value)
+    let first = c.args.first.now in
+    let bytes = c.of-pieces.result.bytes.now in
+    subst (λ k. (g : HasGeometry (drop k bytes)) → first ≡ piece_of k g.spelled g.value)
     (sym c.of-pieces.ensures.begins)
-    (subst (λ z. (g : HasGeometry z) → c.args.first.now ≡ piece_of 0 g.spelled g.value) (sym c.of-pieces.ensures.same)
+    (subst (λ z. (g : HasGeometry z) → first ≡ piece_of 0 g.spelled g.value) (sym c.of-pieces.ensures.same)
     c.requires.first)

@@ -10,11 +10,12 @@ rest_from-requires c =
     (omega (arith, c.if-self-eq0.false)) in
     omega (arith, begins_inside c.args.self.now.bytes.now c.args.self.now.at there)
 
-pub behind_header-piece-requires-clause-here : goal.behind_header-piece-requires-clause-here
-behind_header-piece-requires-clause-here c =
+pub of_header-piece-requires-clause-here : goal.of_header-piece-requires-clause-here
+of_header-piece-requires-clause-here c =
     geometry_there c.requires.ahead.are (omega (arith, c.if-self-gt0.false)) (omega (arith, c.if-self-eq0.false))
 
-pub behind_header-piece-requires-clause-header : goal.behind_header-piece-requires-clause-header
-behind_header-piece-requires-clause-header c = λ g.
+pub of_header-piece-requires-clause-header : goal.of_header-piece-requires-clause-header
+of_header-piece-requires-clause-header c = λ g.
+    let bare = c.in_ok-kind.ensures in
     bare_header c.args.self.now.bytes.now c.args.self.now.at g c.args.order c.in_ok-kind.kind
-    (ap head_at (sym c.rest_from.ensures) ∙ c.in_ok-kind.ensures.head) c.in_ok-kind.ensures.least c.in_ok-kind.ensures.most
+    (ap head_at (sym c.rest_from.ensures) ∙ bare.head) bare.least bare.most

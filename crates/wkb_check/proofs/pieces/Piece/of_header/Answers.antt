@@ -1,7 +1,7 @@
 use Rattle.std.proofs.Common.{◌+◌, drop, ap, ◌∙◌, arith, inr}
 use Rattle.wkb_geom.specs.Numbers.{number}
 use Rattle.wkb_check.proofs.Ahead.{header_inside, count_inside, counted_piece}
-use Rattle.wkb_check.proofs.pieces.Piece.behind_header.Goals as goal
+use Rattle.wkb_check.proofs.pieces.Piece.of_header.Goals as goal
 
 pub overflow_add-body : goal.overflow_add-body
 overflow_add-body c =
