@@ -12,7 +12,7 @@ use Rattle.wkb_write.specs.Bodies.{collection_of, measure_after, member_measure}
 use Rattle.wkb_write.specs.Measures.{IsAdded, IsMeasured}
 use Rattle.wkb_write.proofs.Faults.{reports_first, reports_rest}
 use Rattle.wkb_write.proofs.Loops.{HasLaid, all_laid, head_laid, head_cut}
-use Rattle.wkb_write.proofs.Nodes.{members_fall}
+use Rattle.wkb_write.proofs.Falls.{members_fall}
 use Rattle.wkb_geom.specs.Encodings.{inner, form_with_flags}
 use Rattle.wkb_write.specs.Answers.{member_encoding}
 use Rattle.wkb_write.proofs.Sums.{Ahead}

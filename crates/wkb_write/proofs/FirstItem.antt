@@ -1,6 +1,7 @@
 -- The item of a list at an index, and the first one.
 use Rattle.wkb_write.proofs.Prelude.{◌≡◌, ℕ, zero, suc, ◌+◌, ◌-◌, ◌<◌, List, [], ◌∷◌, length, Option, Some, None, refl}
 use Rattle.wkb_write.proofs.Prelude.{arith, slice_get, get_or, drop, add-one, slice_get_read}
+use Rattle.std.proofs.lemmas.Option.{slice_get-get_or}
 use Rattle.std.specs.Prelude.{IfSome, IsSome}
 use Rattle.std.specs.Option.{option_map}
 
@@ -17,8 +18,7 @@ pub some_below : {X Y : Type 0} (f : Y → X) (o : Option Y) (xs : List X) (i : 
     → i < length xs → IsSome o
 some_below f (Some y) xs i h k = refl
 some_below f None [] i h k = absurd (omega arith)
-some_below f None (x ∷ xs) zero h k = cc
-some_below f None (x ∷ xs) (suc i) h k = some_below f None xs i h (omega arith)
+some_below f None (x ∷ xs) i h k = let there = slice_get-get_or (x ∷ xs) i x k in cc
 
 pub ruleset ring_laws = (length-none_first, length-some_first, some_below)
 

@@ -1,8 +1,8 @@
 pub mod Collections
+pub mod Falls
 pub mod Faults
 pub mod FirstItem
 pub mod Loops
-pub mod Nodes
 pub mod Prelude
 pub mod Sizes
 pub mod Steps

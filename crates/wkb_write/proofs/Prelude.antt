@@ -1,9 +1,9 @@
 -- The words that the proofs of this crate share, passed on from one place. Declares nothing.
 pub use Rattle.wkb_geom.specs.declared.error.Fault.{Fault}
 pub use Rattle.std.proofs.Common.{◌≡◌, ℕ, ◌≤◌, List, [], ◌++◌, length, take, drop, Option, Some, None, sym, subst, ap}
-pub use Rattle.std.proofs.Common.{◌∙◌, append_assoc, append-nil, arith, take-append-drop, ◌-◌, ◌+◌, refl, ◌*◌, ◌<◌, ◌∷◌}
-pub use Rattle.std.proofs.Common.{map, get_or, ◌^◌, Result, zero, suc, slice_get, Ok, Err, add-one, rules, Bool, true}
-pub use Rattle.std.proofs.Common.{◌⊎◌}
+pub use Rattle.std.proofs.Common.{◌∙◌, append_assoc, append-nil, arith, take-append-drop, ◌-◌, ◌+◌, refl, ◌*◌, ◌<◌}
+pub use Rattle.std.proofs.Common.{◌∷◌, map, get_or, ◌^◌, Result, zero, suc, slice_get, Ok, Err, add-one, rules, Bool}
+pub use Rattle.std.proofs.Common.{true, ◌⊎◌}
 pub use Rattle.std.proofs.lemmas.List.{drop_all}
 pub use Rattle.std.proofs.lemmas.List.Sums.{sum_by-cons}
 pub use Rattle.std.proofs.lemmas.List.Concat.{flat_map-append}
@@ -14,14 +14,13 @@ pub use Rattle.wkb_geom.specs.declared.common.Dimensions.{Dimensions}
 pub use Rattle.wkb_geom.specs.declared.common.Endianness.{Endianness}
 pub use Rattle.wkb_geom.specs.declared.common.Form.{Form}
 pub use Rattle.wkb_geom.specs.Dimensions.{written_dimension, size}
-pub use Rattle.wkb_geom.specs.Geometries.{Geometry, geometries, collection, IsGeometry, point, line, rectangle}
-pub use Rattle.wkb_geom.specs.Geometries.{triangle}
+pub use Rattle.wkb_geom.specs.Geometries.{Geometry, geometries, collection, IsGeometry}
 pub use Rattle.wkb_geom.specs.Numbers.{number_bytes}
 pub use Rattle.wkb_geom.specs.Encodings.{encoding, encodings, fault, fault_each, count_geometries, IsForm}
 unfoldable pub use Rattle.wkb_geom.specs.Encodings.{words_encoding, first_fault, or_else, members_encoding}
 unfoldable pub use Rattle.wkb_geom.specs.Encodings.{header_encoding, dimensions_fault, coordinates_encoding}
-unfoldable pub use Rattle.wkb_geom.specs.Encodings.{line_string_encoding, point_encoding, point_words, polygon_encoding}
-unfoldable pub use Rattle.wkb_geom.specs.Encodings.{count_fault}
+unfoldable pub use Rattle.wkb_geom.specs.Encodings.{line_string_encoding, point_encoding, point_words}
+unfoldable pub use Rattle.wkb_geom.specs.Encodings.{polygon_encoding, count_fault}
 pub use Rattle.wkb_geom.proofs.Faults.{none_first, none_rest, none_both, count_below}
 unfoldable pub use Rattle.wkb_write.specs.Counted.{counted}
 pub use Rattle.wkb_sink.specs.Progress.{Progress, Advances, IsLaid, IsCut, progress, IsShort}

@@ -10,7 +10,8 @@ use Rattle.std.proofs.lemmas.Result.{err_from_is_err_and}
 use Rattle.wkb_geom.specs.Refusals.{srid_size}
 use Rattle.wkb_geom.specs.Encodings.{refusal, size_fault, form_srid}
 use Rattle.wkb_write.proofs.Faults.{reports_first, reports_rest}
-use Rattle.wkb_write.proofs.Whole.{header_within}
+use Rattle.wkb_write.proofs.Whole.{header_within, size_of_parts}
+use Rattle.wkb_write.specs.Bodies.{size_by_parts}
 use Rattle.wkb_laws.proofs.EncodingSizes.{encoding_has_size_lem}
 use Rattle.wkb_write.specs.Answers.{IsSizeOf}
 use Rattle.wkb_write.specs.Measures.{IsMeasured}
@@ -36,14 +37,13 @@ measured_length order form g fits lawful none =
     of_flag true = refl
     of_flag false = refl
 
--- what the exit of a `?` returns where there was no room for an encoding of this size
+-- what the exit of a `?` returns where there was no room for the header and what is behind it
 pub no_room_for : {a b : Progress} {n : ℕ} (options : WriteOptions) (g : Geometry) (e : Stopped)
     (r : Result (Unit {0}) Stopped) → IsErrAnd r (λ y. y ≡ e) → IsShort a b n → IsForm options.form → IsGeometry g
-    → fault g ≡ None → n ≤ byte_size g + srid_size (is_some (form_srid options.form))
-    → Advances a b (encoding_of options g) r
+    → fault g ≡ None → n ≤ header_length options.form + size_by_parts g → Advances a b (encoding_of options g) r
 no_room_for options g e r is short fits lawful none many =
     let long = measured_length options.endianness options.form g fits lawful none in
-    exits e r is (no_room _ short (omega (arith, many, long)))
+    exits e r is (no_room _ short (omega (arith, many, long, size_of_parts g none)))
 
 -- a fault is what the size refuses
 pub size_refused : {read told : Result ℕ Fault} (e : Fault) (form : Form) (g : Geometry) (r : Result ℕ Fault)

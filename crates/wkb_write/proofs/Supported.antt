@@ -7,6 +7,7 @@ use Rattle.wkb_geom.specs.declared.common.Dimension.TheVariants.{Xy}
 use Rattle.wkb_laws.proofs.Lengths.{width-least}
 use Rattle.wkb_laws.proofs.Values.{width-written_dimension}
 use Rattle.wkb_sink.specs.Runs.{FitsCoordinate}
+use Rattle.wkb_write.specs.Bodies.{coordinate_words}
 
 -- where no item has a fault, the item at i has none
 pub none_at : {X : Type 0} (f : X → Option Fault) (xs : List X) (i : ℕ) (x : X) → first_fault f xs ≡ None
@@ -27,13 +28,11 @@ supported_at_least d none = omega (arith, width-written_dimension d none, width-
 pub supported_at_most : (d : Dimensions) → dimensions_fault d ≡ None → size d ≤ 4
 supported_at_most d none = omega (arith, width-written_dimension d none, width_most (written_dimension d))
 
-pub ruleset width_laws = (width-least, width_most)
+-- and as many as the name of a supported dimension
+pub named_words : (d : Dimensions) → dimensions_fault d ≡ None → width (written_dimension d) ≡ coordinate_words d
+named_words d none = omega (arith, width-written_dimension d none, supported_at_most d none)
 
--- the words of a coordinate that is written
-pub words_are : {d of : Dimensions} {told : Dimension} {words : ℕ} → words ≡ width told → told ≡ written_dimension of
-    → of ≡ d → dimensions_fault d ≡ None → words ≡ size d
-words_are {d = d} is name same none =
-    is ∙ ap width name ∙ ap (λ e. width (written_dimension e)) same ∙ width-written_dimension d none
+pub ruleset width_laws = (width-least, width_most, named_words)
 
 -- so its coordinates can be laid
 pub has_width : {d of : Dimensions} {told : Dimension} {words : ℕ} → told ≡ written_dimension d → of ≡ d

@@ -84,15 +84,19 @@ size_by_body (line d start end) is = omega (arith, is)
 size_by_body (rectangle d least greatest) is = refl
 size_by_body (triangle d first second third) is = omega (arith, is)
 
+-- a geometry without a fault takes its header and its parts
+pub size_of_parts : (g : Geometry) → fault g ≡ None → byte_size g ≡ 5 + size_by_parts g
+size_of_parts g none =
+    let fine = none_first _ (body_fault g) (sym (fault_by_body g) ∙ none) in
+    size_by_body g (omega (arith, supported_at_most (dimensions_of g) fine))
+
 -- a size that is known of a geometry without a fault is what was measured of its parts
 pub known_measured : {g : Geometry} {d : Dimensions} {header : ℕ} {items : ItemList} → HasMeasures g d header items
     → fault g ≡ None → (n : ℕ) → n < 2 ^ 64 → n ≡ bytes_behind_header g
     → Measures (parts_fault items.measure items.list) (parts_size header items.measure items.list) (Ok n)
 known_measured {g = g} h none n fits is =
-    let both = sym (fault_by_body g) ∙ none in
-    let most = supported_at_most (dimensions_of g) (none_first _ (body_fault g) both) in
-    let whole = size_by_body g (omega (arith, most)) in
-    (sym h.fault ∙ none_rest (dimensions_fault (dimensions_of g)) _ both, omega (arith, fits, is, whole, h.size))
+    let body = none_rest (dimensions_fault (dimensions_of g)) _ (sym (fault_by_body g) ∙ none) in
+    (sym h.fault ∙ body, omega (arith, fits, is, size_of_parts g none, h.size))
 
 -- what was measured of a header and a body is measured of the geometry
 pub whole_measured : (g : Geometry) (dims : Dimensions) (r : Result ℕ Fault) → dims ≡ dimensions_of g
@@ -100,8 +104,8 @@ pub whole_measured : (g : Geometry) (dims : Dimensions) (r : Result ℕ Fault) �
     → Measures (fault g) (bytes_behind_header g) r
 whole_measured g dims (Ok n) is supported h =
     let fine = ap dimensions_fault (sym is) ∙ supported in
-    let whole = size_by_body g (omega (arith, supported_at_most (dimensions_of g) fine)) in
-    (fault_by_body g ∙ none_both _ _ fine h.0, omega (arith, h.1, whole))
+    let none = fault_by_body g ∙ none_both _ _ fine h.0 in
+    (none, omega (arith, h.1, size_of_parts g none))
 whole_measured g dims (Err e) is supported h =
     subst (Finds e) (sym (fault_by_body g)) (reports_rest e _ _ (ap dimensions_fault (sym is) ∙ supported) h)
 

@@ -1,5 +1,5 @@
 -- A count, and that many items: how they are measured and encoded.
-use Rattle.std.specs.Prelude.{◌≡◌, ℕ, List, ◌++◌, length, slice_get, IfSome}
+use Rattle.std.specs.Prelude.{◌≡◌, ℕ, List, ◌++◌, None, length, slice_get, IfSome}
 use Rattle.std.specs.List.{flat_map}
 use Rattle.wkb_geom.specs.declared.common.Dimensions.{Dimensions}
 use Rattle.wkb_geom.specs.declared.common.Endianness.{Endianness}
@@ -58,3 +58,8 @@ pub record HasMeasures (g : Geometry) (d : Dimensions) (header : ℕ) (items : I
   pub dimensions : d ≡ dimensions_of g
   pub fault : body_fault g ≡ parts_fault items.measure items.list
   pub size : size_by_parts g ≡ parts_size header items.measure items.list
+
+-- a geometry of this dimension has no fault but that of the dimension
+pub record HasFaultlessBody (g : Geometry) (d : Dimensions) : Type 0 where
+  pub dimensions : d ≡ dimensions_of g
+  pub fault : body_fault g ≡ None

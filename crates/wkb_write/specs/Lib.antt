@@ -2,5 +2,4 @@ pub mod Answers
 pub mod Bodies
 pub mod Counted
 pub mod Measures
-pub mod Outlines
 pub mod Prelude

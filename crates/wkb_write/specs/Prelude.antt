@@ -1,27 +1,21 @@
 -- The names in the clauses of all kinds, passed on from one place. Declares nothing.
 pub use Rattle.wkb_geom.specs.Errors.{IsMemory, TellsFault}
-pub use Rattle.wkb_geom.specs.Geometries.{Geometry, IsGeometry, IsPoint, collection, geometries, line, line_string}
-pub use Rattle.wkb_geom.specs.Geometries.{multi_line_string, multi_point, multi_polygon, point, polygon, rectangle}
-pub use Rattle.wkb_geom.specs.Geometries.{triangle}
+pub use Rattle.wkb_geom.specs.Geometries.{Geometry, IsGeometry, IsPoint, line_string, multi_polygon, point, polygon}
 pub use Rattle.wkb_geom.specs.Parts.{point_meant, line_string_meant, polygon_meant, multi_point_meant}
 pub use Rattle.wkb_geom.specs.Parts.{multi_line_string_meant, multi_polygon_meant, collection_meant, rect_meant}
 pub use Rattle.wkb_geom.specs.Parts.{triangle_meant, line_meant}
-pub use Rattle.wkb_geom.specs.Refusals.{srid_size}
-pub use Rattle.wkb_geom.specs.Encodings.{coordinates_fault, coordinates_encoding, dimensions_fault, fault}
-pub use Rattle.wkb_geom.specs.Encodings.{inner, form_with_flags, words_encoding, form_srid, IsForm}
-pub use Rattle.wkb_geom.specs.declared.common.Endianness.{Endianness}
+pub use Rattle.wkb_geom.specs.Encodings.{dimensions_fault, fault, inner, form_with_flags, words_encoding, IsForm}
 pub use Rattle.wkb_geom.specs.declared.common.Form.TheVariants.{Iso}
-pub use Rattle.wkb_sink.specs.Options.{header_of, inner_options}
 pub use Rattle.wkb_sink.specs.Progress.{Lays}
 pub use Rattle.wkb_sink.specs.Puts.{PutsTo}
 pub use Rattle.wkb_sink.specs.Sinks.{TellsFailure}
 pub use Rattle.wkb_sink.specs.declared.block.TheConstants.{MIN_BLOCK}
-pub use Rattle.wkb_sink.specs.declared.options.WriteOptions.{WriteOptions}
-pub use Rattle.wkb_write.specs.Answers.{encoding_of, refusal_of, IsInFront, IsSized, IsSizeOf, IsSliceError, IsVecError}
-pub use Rattle.wkb_write.specs.Answers.{IsWrittenInFront, OfEncoding, OutgrowsSlice, WritesTo}
+pub use Rattle.wkb_write.specs.Answers.{encoding_of, refusal_of, IsInFront, IsSized, IsSizeOf, IsSliceError}
+pub use Rattle.wkb_write.specs.Answers.{IsVecError, IsWrittenInFront, OfEncoding, WritesTo}
 unfoldable pub use Rattle.wkb_write.specs.Answers.{member_encoding}
 pub use Rattle.wkb_write.specs.Bodies.{parts_measure, point_measure, polygon_measure, ring_measure, collection_of}
-pub use Rattle.wkb_write.specs.Bodies.{bytes_behind_header, coordinate_words, AreMembersOf, IsLeaf}
-pub use Rattle.wkb_write.specs.Counted.{HasMeasures, ItemList, ListsItems, OfItem, member_list, ring_list}
-pub use Rattle.wkb_write.specs.Measures.{IsAdded, IsMeasured, IsMeasureOf, OfMeasured, Reports}
-pub use Rattle.wkb_write.specs.Measures.{FindsUnsupported, IsCountToWrite, IsMeasuredBehindHeader, result_of}
+pub use Rattle.wkb_write.specs.Bodies.{bytes_behind_header, coordinate_words, size_by_parts, AreMembersOf, IsLeaf}
+pub use Rattle.wkb_write.specs.Counted.{HasFaultlessBody, HasMeasures, ItemList, ListsItems, OfItem, member_list}
+pub use Rattle.wkb_write.specs.Counted.{ring_list}
+pub use Rattle.wkb_write.specs.Measures.{IsAdded, IsMeasured, IsMeasureOf, OfMeasured, Reports, FindsUnsupported}
+pub use Rattle.wkb_write.specs.Measures.{IsCountToWrite, IsMeasuredBehindHeader, result_of}

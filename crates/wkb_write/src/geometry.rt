@@ -5,6 +5,7 @@ ghost use Rattle.wkb_write.specs.Prelude.{encoding_of, refusal_of, Iso, IsInFron
 ghost use Rattle.wkb_write.specs.Prelude.{IsSliceError, IsVecError, WritesTo};
 
 use crate::common::*;
+use crate::fixed::AtOnce;
 use crate::items::Counted;
 use crate::line::LineKind;
 use crate::line_string::{LineStringKind, write_line_string};
@@ -40,15 +41,15 @@ impl<G: GeometryTrait> Nested<G> for GeometryKind {
     #[inline(always)]
     fn measure_leaf(geom: &G) -> Measured {
         match geom.as_type() {
-            GeometryType::Point(p) => PointKind::measure(p),
+            GeometryType::Point(p) => AtOnce::<PointKind>::measure(p),
             GeometryType::LineString(l) => LineStringKind::measure(l),
             GeometryType::Polygon(p) => Counted::<PolygonKind>::measure(p),
             GeometryType::MultiPoint(m) => Counted::<MultiPointKind>::measure(m),
             GeometryType::MultiLineString(m) => Counted::<MultiLineStringKind>::measure(m),
             GeometryType::MultiPolygon(m) => Counted::<MultiPolygonKind>::measure(m),
-            GeometryType::Line(l) => LineKind::measure(l),
-            GeometryType::Rect(r) => RectKind::measure(r),
-            GeometryType::Triangle(t) => TriangleKind::measure(t),
+            GeometryType::Line(l) => AtOnce::<LineKind>::measure(l),
+            GeometryType::Rect(r) => AtOnce::<RectKind>::measure(r),
+            GeometryType::Triangle(t) => AtOnce::<TriangleKind>::measure(t),
             GeometryType::GeometryCollection(_) => unreachable!(),
         }
     }
@@ -56,7 +57,7 @@ impl<G: GeometryTrait> Nested<G> for GeometryKind {
     #[inline(always)]
     fn put_leaf<S: Sink>(out: &mut Buffered<'_, S>, geom: &G, options: &WriteOptions) -> Put {
         match geom.as_type() {
-            GeometryType::Point(p) => PointKind::put(out, p, options),
+            GeometryType::Point(p) => AtOnce::<PointKind>::put(out, p, options),
             GeometryType::LineString(l) => LineStringKind::put(out, l, options),
             GeometryType::Polygon(p) => Counted::<PolygonKind>::put(out, p, options),
             GeometryType::MultiPoint(m) => Counted::<MultiPointKind>::put(out, m, options),
@@ -64,9 +65,9 @@ impl<G: GeometryTrait> Nested<G> for GeometryKind {
                 out, m, options,
             ),
             GeometryType::MultiPolygon(m) => Counted::<MultiPolygonKind>::put(out, m, options),
-            GeometryType::Rect(r) => RectKind::put(out, r, options),
-            GeometryType::Triangle(t) => TriangleKind::put(out, t, options),
-            GeometryType::Line(l) => LineKind::put(out, l, options),
+            GeometryType::Rect(r) => AtOnce::<RectKind>::put(out, r, options),
+            GeometryType::Triangle(t) => AtOnce::<TriangleKind>::put(out, t, options),
+            GeometryType::Line(l) => AtOnce::<LineKind>::put(out, l, options),
             GeometryType::GeometryCollection(_) => unreachable!(),
         }
     }
@@ -156,7 +157,7 @@ pub fn to_vec<G: GeometryTrait>(
     }
     match geom.as_type() {
         // A point by itself needs no call.
-        GeometryType::Point(p) => vec_as::<G::PointType, PointKind>(alloc, p, options),
+        GeometryType::Point(p) => vec_as::<G::PointType, AtOnce<PointKind>>(alloc, p, options),
         _ => vec_as::<G, Node<GeometryKind>>(alloc, geom, options),
     }
 }

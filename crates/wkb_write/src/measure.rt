@@ -3,13 +3,14 @@
 //! Faults are found in preorder: a geometry's dimensions, its count, then its items. Only the bytes after the header
 //! are measured. `usize::MAX` means that size or any greater one: with a header none of them fits.
 
-ghost use Rattle.std.specs.Prelude.{◌≡◌, ◌*◌, ◌^◌, ◌<◌, ◌≤◌, Err, IsErrAnd};
-ghost use Rattle.wkb_geom.specs.Dimensions.{width};
-ghost use Rattle.wkb_write.specs.Prelude.{IsForm, coordinate_words, result_of, TellsFault};
+ghost use Rattle.std.specs.Prelude.{◌≡◌, ◌*◌, ◌^◌, ◌<◌, ◌≤◌, Err, None, IsErrAnd};
+ghost use Rattle.wkb_geom.specs.Dimensions.{width, written_dimension};
+ghost use Rattle.wkb_write.specs.Prelude.{IsForm, coordinate_words, dimensions_fault, result_of, TellsFault};
 ghost use Rattle.wkb_write.specs.Prelude.{FindsUnsupported, IsCountToWrite};
 ghost use Rattle.wkb_write.specs.Prelude.{IsMeasuredBehindHeader, OfMeasured, IsSized, IsSizeOf};
 
 use wkb_geom::{Dimension, Dimensions, Fault, Form, WkbError, WkbResult};
+use wkb_sink::block::dimension_to_write;
 use wkb_sink::options::length_of_header;
 
 /// A size, or the fault, in two words: a call returns these in registers. A `Result` of the two takes three words, and
@@ -89,6 +90,17 @@ pub fn behind_header(dim: Dimensions, body: Measured) -> Measured
         None => body,
         Some(n) => Measured::UnsupportedDimensions(n),
     }
+}
+
+/// The dimension of a geometry that can be written.
+#[inline(always)]
+#[tactic(auto, using(crate::proofs::Supported::width_laws))]
+pub fn supported_dimension(dim: Dimensions) -> Dimension
+    requires { dimensions_fault dim ≡ None }
+    ensures named { result ≡ written_dimension dim }
+    ensures words { width result ≡ coordinate_words dim }
+{
+    dimension_to_write(dim)
 }
 
 /// The number of words of a coordinate that is written.

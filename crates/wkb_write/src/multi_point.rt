@@ -5,6 +5,7 @@ ghost use Rattle.wkb_write.specs.Prelude.{Iso, multi_point_meant, point, member_
 ghost use Rattle.wkb_write.specs.Prelude.{WritesTo, point_measure};
 
 use crate::common::*;
+use crate::fixed::AtOnce;
 use crate::items::{Counted, Items};
 use crate::point::PointKind;
 use wkb_geom::MultiPointTrait;
@@ -47,7 +48,7 @@ impl<M: MultiPointTrait> Items<M> for MultiPointKind {
         i: usize,
         options: &WriteOptions,
     ) -> Put {
-        PointKind::put(out, &geom.point(i).unwrap(), options)
+        AtOnce::<PointKind>::put(out, &geom.point(i).unwrap(), options)
     }
 }
 

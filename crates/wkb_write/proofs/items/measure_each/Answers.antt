@@ -13,16 +13,13 @@ loop-i-init g c =
 
 pub returns-in_default-measure_item : goal.returns-in_default-measure_item
 returns-in_default-measure_item g c =
-    let list = (g.I.Items.items c.args.geom.now).list in
-    let within : c.loop-i.i < length list = omega (arith, c.in-Some.ensures.1, c.count.ensures, c.loop-i-test.true) in
-    part_refused c.loop-i.invariant.ahead _ (item_at list c.loop-i.i within c.measure_item.ensures)
+    part_refused c.loop-i.invariant.ahead _
+    (item_at _ c.loop-i.i (omega (arith, c.in-Some.ensures.1, c.count.ensures)) c.measure_item.ensures)
     c.in_default-measure_item.not-Bytes
 
 pub loop-i-preserved : goal.loop-i-preserved
 loop-i-preserved g c =
-    let list = (g.I.Items.items c.args.geom.now).list in
-    let within : c.loop-i.i < length list = omega (arith, c.in-Some.ensures.1, c.count.ensures, c.loop-i-test.true) in
-    let here = item_at list c.loop-i.i within c.in-Bytes.ensures in
+    let here = item_at _ c.loop-i.i (omega (arith, c.in-Some.ensures.1, c.count.ensures)) c.in-Bytes.ensures in
     record {
       ahead = part_step c.loop-i.invariant.ahead here refl;
       fits = omega (arith, c.loop-i.invariant.fits, here.told.1);

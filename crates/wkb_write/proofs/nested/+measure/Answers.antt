@@ -2,7 +2,7 @@ use Rattle.wkb_write.proofs.Prelude.{arith, refl}
 use Rattle.wkb_write.specs.Measures.{IsAdded, IsMeasured, result_of}
 use Rattle.wkb_write.proofs.Collections.{collection_added, members_ahead}
 use Rattle.wkb_write.proofs.FirstItem.{item_read}
-use Rattle.wkb_write.proofs.Nodes.{members_fall, member_falls}
+use Rattle.wkb_write.proofs.Falls.{members_fall, member_falls}
 use Rattle.wkb_write.proofs.Sums.{part_step, part_refused, last_part, all_parts, saturated}
 use Rattle.wkb_write.proofs.nested.+measure.Goals as goal
 

@@ -1,14 +1,14 @@
-use Rattle.wkb_write.proofs.Prelude.{◌+◌, ◌*◌, ◌^◌, ◌<◌, map, geometries}
+use Rattle.wkb_write.proofs.Prelude.{◌+◌, ◌^◌, ◌<◌, map, geometries}
 use Rattle.wkb_write.specs.Bodies.{collection_of, measure_after, member_measure}
-use Rattle.wkb_write.proofs.Nodes.{node_count, node_counts}
+use Rattle.wkb_geom.specs.Sizes.{byte_size, byte_sizes}
 use Rattle.wkb_write.proofs.Sums.{Ahead}
 use Rattle.wkb_write.proofs.nested.+measure.Given as goal
 
 abbrev pub decreases-measure_geometry : goal.decreases-measure_geometry
-decreases-measure_geometry g l = 2 * node_count (g.K.Nested.geometry l.geom.now)
+decreases-measure_geometry g l = byte_size (g.K.Nested.geometry l.geom.now)
 
 abbrev pub decreases-add_members : goal.decreases-add_members
-decreases-add_members g l = 2 * node_counts (geometries (map g.K.Nested.geometry l.members.now)) + 1
+decreases-add_members g l = byte_sizes (geometries (map g.K.Nested.geometry l.members.now)) + 1
 
 abbrev pub invariant-add_members-loop-i : goal.invariant-add_members-loop-i
 invariant-add_members-loop-i g l =

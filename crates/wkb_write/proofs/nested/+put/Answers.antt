@@ -2,7 +2,7 @@ use Rattle.wkb_write.proofs.Prelude.{arith, refl}
 use Rattle.wkb_sink.proofs.Laid.{exits}
 use Rattle.wkb_write.proofs.Collections.{member_ready}
 use Rattle.wkb_write.proofs.Loops.{last_laid, read_cut}
-use Rattle.wkb_write.proofs.Nodes.{member_falls}
+use Rattle.wkb_write.proofs.Falls.{member_falls}
 use Rattle.wkb_write.proofs.nested.+put.Goals as goal
 
 pub put_members-put_member-requires : goal.put_members-put_member-requires

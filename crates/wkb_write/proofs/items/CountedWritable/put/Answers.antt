@@ -11,13 +11,11 @@ returns-in_err-put_head g c =
 
 pub loop-i-preserved : goal.loop-i-preserved
 loop-i-preserved g c =
-    let list = (g.I.Items.items c.args.geom.now).list in
-    next_laid c.loop-i.invariant (item_at list c.loop-i.i (omega (arith, c.count-count.ensures))
+    next_laid c.loop-i.invariant (item_at _ c.loop-i.i (omega (arith, c.count-count.ensures))
     (rw c.inner-inner.ensures at c.in_ok-put_item.ensures))
 
 pub returns-in_err-put_item : goal.returns-in_err-put_item
 returns-in_err-put_item g c =
-    let list = (g.I.Items.items c.args.geom.now).list in
     exits _ _ c.from_residual-in_err-put_item.ensures.1
-    (next_cut c.loop-i.invariant (item_at list c.loop-i.i (omega (arith, c.count-count.ensures))
+    (next_cut c.loop-i.invariant (item_at _ c.loop-i.i (omega (arith, c.count-count.ensures))
     (rw c.inner-inner.ensures at c.in_err-put_item.ensures)))

@@ -1,0 +1,59 @@
+//! Kinds of a fixed size: the dimensions alone tell how long an encoding is, and it is laid at once.
+
+ghost use Rattle.std.specs.Prelude.{◌≡◌, ◌+◌, ◌≤◌, None, false, length};
+ghost use Rattle.wkb_geom.specs.declared.header.TheConstants.{MAX_HEADER_SIZE};
+ghost use Rattle.wkb_sink.specs.Blocks.{LaysAt};
+ghost use Rattle.wkb_sink.specs.Options.{header_length};
+ghost use Rattle.wkb_write.specs.Prelude.{Geometry, IsGeometry, encoding_of, fault};
+ghost use Rattle.wkb_write.specs.Prelude.{HasFaultlessBody, MIN_BLOCK, size_by_parts};
+
+use crate::common::*;
+
+/// A kind whose geometries have one size for each dimension.
+pub trait Fixed<G: Dimensioned> {
+    // What a geometry means.
+    ghost geometry: { G → Geometry };
+
+    /// The size without the header.
+    fn size(geom: &G) -> usize
+        ensures size { result ≡ size_by_parts (geometry geom.now) }
+        ensures most { MAX_HEADER_SIZE + result ≤ MIN_BLOCK };
+
+    /// Lays a geometry that has no fault.
+    fn lay(bytes: &mut [u8], at: usize, geom: &G, options: &WriteOptions) -> usize
+        requires fault { fault (geometry geom.now) ≡ None }
+        requires room { at + (header_length options.now.form + size_by_parts (geometry geom.now))
+            ≤ length bytes.old }
+        ensures end { result
+            ≡ at + (header_length options.now.form + size_by_parts (geometry geom.now)) }
+        ensures bytes { LaysAt at result bytes.old bytes.new
+            (encoding_of options.now (geometry geom.now)) };
+
+    // Only the dimensions can have a fault.
+    ghost body: { (g : G) → HasFaultlessBody (geometry g) (G.dimensions g) };
+
+    // Every coordinate fits the dimension.
+    ghost lawful: { (g : G) → IsGeometry (geometry g) };
+}
+
+/// The geometries of a kind of a fixed size.
+pub struct AtOnce<F>(F);
+
+#[tactic(auto, using(crate::proofs::Steps::step_laws))]
+impl<G: Dimensioned, F: Fixed<G>> Writable<G> for AtOnce<F> {
+    ghost geometry = { λ g. F.geometry g };
+
+    ghost lawful = { λ g. F.lawful g };
+
+    #[inline(always)]
+    fn measure(geom: &G) -> Measured {
+        behind_header(geom.dim(), Measured::Bytes(F::size(geom)))
+    }
+
+    #[inline(always)]
+    fn put<S: Sink>(out: &mut Buffered<'_, S>, geom: &G, options: &WriteOptions) -> Put {
+        out.make_room(length_of_header(options.form) + F::size(geom))?;
+        out.len = F::lay(out.bytes, out.len, geom, options);
+        Ok(())
+    }
+}
