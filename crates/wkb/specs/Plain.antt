@@ -13,7 +13,7 @@ pub use Rattle.wkb_plain.specs.declared.rect.Rect.{Rect}
 pub use Rattle.wkb_plain.specs.declared.triangle.Triangle.{Triangle}
 pub use Rattle.wkb_plain.specs.declared.line.Line.{Line}
 pub use Rattle.wkb_plain.specs.Runs.{runs, coordinates_in}
-pub use Rattle.wkb_plain.specs.Kinds.{HaveDimensions, HaveOneDimension, ShowsParts, coord_dimensions, coord_words}
+pub use Rattle.wkb_plain.specs.Kinds.{ArePartsFor, HaveOneDimension, ShowsParts, coord_dimensions, coord_words}
 pub use Rattle.wkb_plain.specs.Kinds.{point_dimensions}
 pub use Rattle.wkb_plain.specs.Kinds.{point_coordinate, line_string_dimensions, line_string_coordinates}
 pub use Rattle.wkb_plain.specs.Kinds.{polygon_dimensions, polygon_rings, multi_point_dimensions, multi_point_points}

@@ -19,8 +19,8 @@ use Rattle.wkb_geom.specs.Lawful.{lawful_coordinate, lawful_point, each_part, at
 use Rattle.wkb_plain.specs.Runs.{coordinates_in, coordinates_in-lawful}
 
 -- all parts have these dimensions, which have words
-abbrev pub HaveDimensions : {A : Type 0} → (A → Dimensions) → Dimensions → List A → Type 0
-HaveDimensions dimensions dims parts = (0 < size dims) × All (λ a. dimensions a ≡ dims) parts
+abbrev pub ArePartsFor : {A : Type 0} → (A → Dimensions) → Dimensions → List A → Type 0
+ArePartsFor dimensions dims parts = (0 < size dims) × All (λ a. dimensions a ≡ dims) parts
 
 -- a geometry that is there has these parts, in order, by what each shows
 abbrev pub ShowsParts : {A B C : Type 0} → (A → List C) → Option A → (B → C) → List B → Type 0

@@ -16,13 +16,13 @@ pub struct MultiPolygon<'w> {
 }
 
 impl<'w> MultiPolygon<'w> {
-    ghost use Rattle.wkb_plain.specs.Kinds.{HaveDimensions, ShowsParts, polygon_dimensions, polygon_rings};
+    ghost use Rattle.wkb_plain.specs.Kinds.{ArePartsFor, ShowsParts, polygon_dimensions, polygon_rings};
     ghost use Rattle.wkb_plain.specs.Kinds.{multi_polygon_dimensions, multi_polygon_polygons};
 
     /// These polygons, in order. None where the dimension has no words, or a polygon has another
     /// dimension.
     pub fn new(dim: Dimensions, polygons: &'w [Polygon<'w>]) -> Option<MultiPolygon<'w>>
-        ensures some { IsSome result ↔ HaveDimensions polygon_dimensions dim polygons.now }
+        ensures some { IsSome result ↔ ArePartsFor polygon_dimensions dim polygons.now }
         ensures dimensions { HasDimensions multi_polygon_dimensions result dim }
         ensures polygons { ShowsParts multi_polygon_polygons result polygon_rings polygons.now }
     {

@@ -16,14 +16,14 @@ pub struct Polygon<'w> {
 }
 
 impl<'w> Polygon<'w> {
-    ghost use Rattle.wkb_plain.specs.Kinds.{HaveDimensions, ShowsParts};
+    ghost use Rattle.wkb_plain.specs.Kinds.{ArePartsFor, ShowsParts};
     ghost use Rattle.wkb_plain.specs.Kinds.{line_string_dimensions, line_string_coordinates};
     ghost use Rattle.wkb_plain.specs.Kinds.{polygon_dimensions, polygon_rings};
 
     /// The polygon of these rings, the exterior first. None where the dimension has no words, or a
     /// ring has another dimension.
     pub fn new(dim: Dimensions, rings: &'w [LineString<'w>]) -> Option<Polygon<'w>>
-        ensures some { IsSome result ↔ HaveDimensions line_string_dimensions dim rings.now }
+        ensures some { IsSome result ↔ ArePartsFor line_string_dimensions dim rings.now }
         ensures dimensions { HasDimensions polygon_dimensions result dim }
         ensures rings { ShowsParts polygon_rings result line_string_coordinates rings.now }
     {

@@ -127,8 +127,8 @@ abbrev pub multi_line_string_seen : Listed (List (List Coordinate)) → Item
 multi_line_string_seen m = whole_of multi_line_string m
 
 -- each has this dimension
-abbrev pub HaveDimension : {A : Type 0} → Dimension → List (Listed A) → Type 0
-HaveDimension d members = AllByRecursion (λ p. p.dimension ≡ d) members
+abbrev pub AreOfDimension : {A : Type 0} → Dimension → List (Listed A) → Type 0
+AreOfDimension d members = AllByRecursion (λ p. p.dimension ≡ d) members
 
 -- the geometries of polygons
 abbrev pub polygon_items : List (Listed (List (List Coordinate))) → List Item

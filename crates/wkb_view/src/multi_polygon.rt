@@ -3,7 +3,7 @@
 ghost use Rattle.std.specs.Prelude.{◌≡◌, ◌+◌, length, ◌≤◌, IfOk, IfErr, []};
 ghost use Rattle.wkb_view.specs.Prelude.{as_dimensions, body_start, member_at};
 ghost use Rattle.wkb_view.specs.Outcome.{IsReadOrStops, TakesAtLeast, CanCount, IsCause};
-ghost use Rattle.wkb_view.specs.Members.{members_behind, polygon_seen, HaveDimension};
+ghost use Rattle.wkb_view.specs.Members.{members_behind, polygon_seen, AreOfDimension};
 ghost use Rattle.wkb_view.specs.Pieces.{IsAfterCount};
 ghost use Rattle.wkb_view.specs.Passing.{polygons_seen};
 ghost use Rattle.wkb_view.specs.Entries.{entries, capacity, HasSlots};
@@ -37,14 +37,14 @@ impl<'a> Model for MultiPolygon<'a> {
     ghost use Rattle.std.specs.Prelude.{◌+◌, length, ◌≤◌, List};
     ghost use Rattle.wkb_geom.specs.Stored.{listed_code, polygons_code};
     ghost use Rattle.wkb_view.specs.Prelude.{body_start, Listed, Coordinate, BytesSpell};
-    ghost use Rattle.wkb_view.specs.Members.{polygons_laid, multi_polygon_seen, HaveDimension};
+    ghost use Rattle.wkb_view.specs.Members.{polygons_laid, multi_polygon_seen, AreOfDimension};
 
     ghost Value = { Listed (List (List (List Coordinate))) };
 
     ghost coded = { listed_code polygons_code };
 
     ghost invariant = { λ a. (body_start a.layout.has_srid + 4 ≤ length a.buf.now)
-        × HaveDimension a.layout.dimension a.members.items
+        × AreOfDimension a.layout.dimension a.members.items
         × BytesSpell (multi_polygon_seen (polygons_laid a.layout a.members.items a.buf.now)) };
 
     ghost view = { λ a. polygons_laid a.layout a.members.items a.buf.now };
@@ -141,7 +141,7 @@ fn read_members<'a>(
     requires empty { entries members ≡ [] }
     requires room { HasSlots MIN_MEMBER_SIZE layout count bytes.now (capacity members) }
     requires fits { CanCount counts.old (members_behind POLYGON layout count bytes.now).0 }
-    ensures dimension { IfOk result (λ x. HaveDimension layout.dimension (entries x.0)) }
+    ensures dimension { IfOk result (λ x. AreOfDimension layout.dimension (entries x.0)) }
     ensures polygons { IsReadOrStops polygons_seen
         result (members_behind POLYGON layout count bytes.now) counts.old counts.new }
     ensures shorter { IfOk result (λ x. IsAfterCount layout bytes.now x.1.now) }

@@ -2,7 +2,7 @@ use Rattle.std.proofs.Common.{length, length-append, [], ◌∷◌, sym, ap, sub
 use Rattle.std.proofs.lemmas.List.{map-append}
 use Rattle.std.proofs.lemmas.Result.{err_from_is_err_and}
 use Rattle.wkb_view.specs.Entries.{entries}
-use Rattle.wkb_view.specs.Members.{HaveDimension}
+use Rattle.wkb_view.specs.Members.{AreOfDimension}
 use Rattle.wkb_view.proofs.Lists.{part_costs, next_part, part_stops, parts_end, parts_length}
 use Rattle.wkb_view.proofs.Members.{all_more}
 use Rattle.wkb_view.proofs.multi_polygon.read_members.Goals as goal
@@ -51,7 +51,7 @@ loop-preserved c =
             c.in_ok-polygon.ensures.shorter,
           );
       grows = omega (arith, spent.slots, c.loop.invariant.grows);
-      same = subst (HaveDimension c.args.layout.dimension) (sym c.push.ensures.entries)
+      same = subst (AreOfDimension c.args.layout.dimension) (sym c.push.ensures.entries)
           (all_more _ _ _ c.loop.invariant.same c.in_ok-polygon.ensures.dimension);
       as_many = omega (arith, ap length c.push.ensures.entries, more, c.loop.invariant.as_many);
     }

@@ -1,7 +1,7 @@
 use Rattle.std.proofs.Common.{◌≡◌, ◌+◌, ◌*◌, ◌/◌, ◌≤◌, min, length}
 use Rattle.wkb_view.specs.Prelude.{parts_start, member_at}
 use Rattle.wkb_view.specs.Entries.{entries, capacity}
-use Rattle.wkb_view.specs.Members.{members_behind, polygon_items, HaveDimension}
+use Rattle.wkb_view.specs.Members.{members_behind, polygon_items, AreOfDimension}
 use Rattle.wkb_view.proofs.Lists.{Loop}
 use Rattle.wkb_view.proofs.multi_polygon.read_members.Given as goal
 
@@ -13,6 +13,6 @@ invariant-loop l = record {
   room : min l.count (length (parts_start l.layout.has_srid l.bytes) / 9) ≤ capacity l.members;
   taken_in_all : 9 * length (entries l.members) + length l.rest ≤ length (parts_start l.layout.has_srid l.bytes);
   grows : l.fn.counts.slots ≤ l.counts.slots;
-  same : HaveDimension l.layout.dimension (entries l.members);
+  same : AreOfDimension l.layout.dimension (entries l.members);
   as_many : length (entries l.members) ≡ l.counter;
 }

@@ -1,7 +1,7 @@
 use Rattle.std.proofs.Common.{subst, sym, ◌-◌, length, length-take, arith}
 use Rattle.std.proofs.lemmas.Result.{err_from_is_err_and}
 use Rattle.wkb_view.specs.Prelude.{member_at, list_item, multi_polygon_with, multi_polygon_at}
-use Rattle.wkb_view.specs.Members.{HaveDimension}
+use Rattle.wkb_view.specs.Members.{AreOfDimension}
 use Rattle.wkb_view.proofs.Lists.{IsList, parts_length, polygons_here, list_fits, list_costs, list_reads, list_stops}
 use Rattle.wkb_view.proofs.Lists.{polygons_within, polygons_refused}
 use Rattle.wkb_view.proofs.SpelledRead.{body_spelled}
@@ -34,7 +34,7 @@ invariant_of-multi_polygon c =
         e.shorter,
         length-take (length bytes - length c.in_ok-members.rest.now) bytes,
       ),
-      subst (HaveDimension l.dimension) (sym c.into_vec.ensures) e.dimension,
+      subst (AreOfDimension l.dimension) (sym c.into_vec.ensures) e.dimension,
       rw c.into_vec.ensures (body_spelled bytes _ _ _ c.requires.head read.0),
     )
 
