@@ -11,7 +11,7 @@ ghost use Rattle.wkb_geom.specs.Dimensions.{size};
 ghost use Rattle.wkb_geom.specs.Found.{IsItemAt, HasDimensions};
 ghost use Rattle.wkb_geom.specs.Geometries.{Geometry, dimensions_of, geometries, polygon, IsCoordinate};
 ghost use Rattle.wkb_geom.specs.Geometries.{IsPoint, AreCoordinates, IsGeometry, AreGeometries};
-ghost use Rattle.wkb_geom.specs.Sizes.{rings_size};
+ghost use Rattle.wkb_geom.specs.Sizes.{byte_size, rings_size};
 ghost use Rattle.wkb_geom.specs.Parts.{PointMeans, LineStringMeans, PolygonMeans, MultiPointMeans};
 ghost use Rattle.wkb_geom.specs.Parts.{MultiLineStringMeans, MultiPolygonMeans, CollectionMeans};
 ghost use Rattle.wkb_geom.specs.Parts.{RectMeans, TriangleMeans, LineMeans};
@@ -415,6 +415,18 @@ pub trait GeometryTrait: Dimensioned + Sized {
     #[inline]
     fn as_written(&self, order: Endianness, form: Form) -> Option<&[u8]>
         ensures encoding { IfSome result (λ b. b.now ≡ encoding order form (geometry self.now)) }
+        ensures writable { IfSome result (λ _. fault (geometry self.now) ≡ None) }
+    {
+        None
+    }
+
+    /// The size of the encoding in ISO codes, in bytes, if it is known without a look at each part.
+    ///
+    /// None, too, where the geometry can't be written. An implementation may leave this method out: the writer then
+    /// measures each part.
+    #[inline]
+    fn byte_size(&self) -> Option<usize>
+        ensures size { IfSome result (λ n. n ≡ byte_size (geometry self.now)) }
         ensures writable { IfSome result (λ _. fault (geometry self.now) ≡ None) }
     {
         None

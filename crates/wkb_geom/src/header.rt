@@ -12,7 +12,7 @@ const ORDER_SIZE: usize = 1;
 const CODE_SIZE: usize = 4;
 
 /// The size of an SRID.
-const SRID_SIZE: usize = 4;
+pub const SRID_SIZE: usize = 4;
 
 /// The size of a header without an SRID, as each member's is written.
 pub const MEMBER_HEADER_SIZE: usize = ORDER_SIZE + CODE_SIZE;

@@ -4,6 +4,7 @@ pub mod AsWritten
 pub mod Bodies
 pub mod LastItem
 pub mod NoMemory
+pub mod NoSrids
 pub mod Opens
 pub mod Parts
 pub mod Placed

@@ -6,6 +6,7 @@ pub mod Nodes
 pub mod Placed
 pub mod Views
 pub mod Reads
+pub mod NoSrids
 pub mod Stack
 pub mod Types
 pub mod Seen

@@ -6,6 +6,7 @@ ghost use Rattle.wkb_read.specs.Seen.{one_dimension_seen};
 
 use crate::geometry_type::GeometryType as TypeName;
 use crate::read::read_wkb;
+use crate::srids::size_without_srid;
 use std::alloc::{AllocError, Global};
 use std::marker::Model;
 use wkb_geom::code::WkbType;
@@ -31,6 +32,8 @@ use wkb_view::polygon::Polygon;
 pub struct GeometryCollection<'a> {
     pub(crate) buf: &'a [u8],
     pub(crate) layout: Layout,
+    // How many members may have an SRID. Its place is that of a line string's count, so that no geometry gets longer.
+    pub(crate) with_srids: u32,
     pub(crate) members: Vec<Wkb<'a>>,
 }
 
@@ -67,13 +70,16 @@ impl Drop for Wkb<'_> {
 impl<'a> Model for GeometryCollection<'a> {
     ghost use Rattle.wkb_read.specs.Prelude.{Values, Listed, listed_code, values_code};
     ghost use Rattle.wkb_read.specs.Nodes.{size_inside, members_fall};
+    ghost use Rattle.std.specs.Prelude.{◌≡◌};
     ghost use Rattle.wkb_read.specs.Placed.{IsCollectionIn, parts_in};
+    ghost use Rattle.wkb_read.specs.NoSrids.{HaveNoSrids};
 
     ghost Value = { Listed Values };
 
     ghost coded = { listed_code values_code };
 
-    ghost invariant = { λ a. IsCollectionIn a.layout a.members.items a.buf.now };
+    ghost invariant = { λ a. IsCollectionIn a.layout a.members.items a.buf.now
+        × (a.with_srids ≡ 0 → HaveNoSrids a.members.items) };
 
     ghost view = { λ a. parts_in a.layout a.members.items a.buf.now };
 
@@ -176,6 +182,7 @@ impl<'a> GeometryCollection<'a> {
             buf: self.buf,
             layout: self.layout,
             members,
+            with_srids: self.with_srids,
         })
     }
 }
@@ -387,6 +394,10 @@ impl Dimensioned for Wkb<'_> {
 }
 
 impl<'a> GeometryTrait for Wkb<'a> {
+    ghost use Rattle.std.specs.Prelude.{◌≡◌, true, None, IfSome, IsSome, nat_lt};
+    ghost use Rattle.wkb_geom.specs.Encodings.{fault};
+    ghost use Rattle.wkb_geom.specs.Sizes.{byte_size};
+    ghost use Rattle.wkb_geom.specs.Values.{kind};
     ghost use Rattle.wkb_read.specs.Views.{IsViewOf};
 
     type PointType = Point<'a>;
@@ -424,6 +435,19 @@ impl<'a> GeometryTrait for Wkb<'a> {
             Form::Ewkb { srid: None } => self.as_written_without_srid(order, true),
             Form::Ewkb { srid: Some(_) } => None,
         }
+    }
+
+    /// The number of its bytes without those of its own SRID, where no member has one.
+    #[inline]
+    fn byte_size(&self) -> Option<usize>
+        ensures size { IfSome result (λ n. n ≡ byte_size (geometry_seen self.now)) }
+        ensures writable { IfSome result (λ _. fault (geometry_seen self.now) ≡ None) }
+        ensures some { nat_lt (kind self.now.value) 5 ≡ true → IsSome result }
+    {
+        if self.may_hold_srids() {
+            return None;
+        }
+        Some(size_without_srid(self.buf(), self.srid()))
     }
 
     /// The view of its kind.

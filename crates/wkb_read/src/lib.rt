@@ -4,3 +4,4 @@
 pub mod geometry;
 pub mod geometry_type;
 pub mod read;
+mod srids;

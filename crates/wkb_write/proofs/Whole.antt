@@ -10,6 +10,7 @@ use Rattle.wkb_geom.specs.Sizes.{ring_size, line_string_size, polygon_size}
 use Rattle.wkb_write.specs.Bodies.{coordinate_words, ring_bytes, ring_measure, point_measure, polygon_measure}
 use Rattle.wkb_write.specs.Bodies.{body_fault, size_by_parts}
 use Rattle.wkb_write.specs.Counted.{HasMeasures, ItemList}
+use Rattle.wkb_write.specs.Measures.{IsMeasured}
 use Rattle.wkb_write.proofs.Faults.{reports_first, reports_rest}
 use Rattle.wkb_write.proofs.Supported.{supported_at_most}
 
@@ -97,6 +98,12 @@ pub known_measured : {g : Geometry} {d : Dimensions} {header : ℕ} {items : Ite
 known_measured {g = g} h none n fits is =
     let body = none_rest (dimensions_fault (dimensions_of g)) _ (sym (fault_by_body g) ∙ none) in
     (sym h.fault ∙ body, omega (arith, fits, is, size_of_parts g none, h.size))
+
+-- and what is measured of the geometry
+pub known_is_measured : (g : Geometry) (n : ℕ) → fault g ≡ None → n < 2 ^ 64 → n ≡ bytes_behind_header g
+    → IsMeasured g (Ok n)
+unfolding IsMeasured
+known_is_measured g n none fits is = (none, omega (arith, fits, is))
 
 -- what was measured of a header and a body is measured of the geometry
 pub whole_measured : (g : Geometry) (dims : Dimensions) (r : Result ℕ Fault) → dims ≡ dimensions_of g

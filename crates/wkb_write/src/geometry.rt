@@ -38,6 +38,12 @@ impl<G: GeometryTrait> Nested<G> for GeometryKind {
         }
     }
 
+    #[tactic(auto, using(crate::proofs::Whole::header_within))]
+    #[inline(always)]
+    fn known_size(geom: &G) -> Option<usize> {
+        Some(geom.byte_size()? - MEMBER_HEADER_SIZE)
+    }
+
     #[inline(always)]
     fn measure_leaf(geom: &G) -> Measured {
         match geom.as_type() {

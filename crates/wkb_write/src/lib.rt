@@ -6,10 +6,10 @@
 //! and fails as `write_geometry`, where the docs of one don't say otherwise.
 //!
 //! A file for each kind says what it means, how it is measured and put, and has its size and its writer. What they
-//! share: `writable` (the trait of kinds, and the way from it to a writer), `fixed` (the kinds that are laid at once),
-//! `items` (the kinds of items after a count, and their two loops), `nested` (the recursion of collections, and the
-//! trait of what it knows of a geometry),
-//! `measure`, `checked` (a measured geometry as bytes for a sink), and `slice` (an encoding at the front of a slice).
+//! share: `writable` (the trait of kinds, and the way from it to a writer), `fixed` (the kinds that are laid at
+//! once), `items` (the kinds of items after a count, and their two loops), `nested` (the recursion of collections,
+//! and the trait of what it knows of a geometry), `measure`, `checked` (a measured geometry as bytes for a sink), and
+//! `slice` (an encoding at the front of a slice).
 #![tactic(auto)]
 
 mod checked;

@@ -2,10 +2,10 @@
 //!
 //! A *leaf* is a geometry of any kind but a collection. The recursion ends there.
 
-ghost use Rattle.std.specs.Prelude.{◌≡◌, None, false};
+ghost use Rattle.std.specs.Prelude.{◌≡◌, None, IfSome, false};
 ghost use Rattle.wkb_write.specs.Prelude.{Geometry, IsGeometry, AreMembersOf, collection_of, fault};
-ghost use Rattle.wkb_write.specs.Prelude.{encoding_of, form_with_flags, inner, Lays, IsAdded, IsLeaf};
-ghost use Rattle.wkb_write.specs.Prelude.{IsMeasured, member_encoding, result_of};
+ghost use Rattle.wkb_write.specs.Prelude.{bytes_behind_header, encoding_of, form_with_flags, inner};
+ghost use Rattle.wkb_write.specs.Prelude.{IsAdded, IsLeaf, IsMeasured, Lays, member_encoding, result_of};
 
 use crate::common::*;
 use crate::measure::{count_to_write, unsupported_dimension};
@@ -20,6 +20,11 @@ pub trait Nested<G: Dimensioned> {
     /// The members of a collection; none of a leaf.
     fn members_of(geom: &G) -> Option<&[G]>
         ensures { AreMembersOf (geometry geom.now) geometry (G.dimensions geom.now) result };
+
+    /// The size of a geometry without its header, where it is known without a look at each part.
+    fn known_size(geom: &G) -> Option<usize>
+        ensures size { IfSome result (λ n. n ≡ bytes_behind_header (geometry geom.now)) }
+        ensures writable { IfSome result (λ _. fault (geometry geom.now) ≡ None) };
 
     /// The size of a leaf without its header, or its first fault.
     fn measure_leaf(geom: &G) -> Measured
@@ -40,7 +45,7 @@ pub trait Nested<G: Dimensioned> {
 /// The geometries of a kind, each a leaf or a collection.
 pub struct Node<K>(K);
 
-#[tactic(auto, using(crate::proofs::Collections::collection_laws))]
+#[tactic(auto, using(crate::proofs::Collections::collection_laws, crate::proofs::Whole::known_is_measured))]
 impl<G: Dimensioned, K: Nested<G>> Writable<G> for Node<K> {
     ghost geometry = { λ g. K.geometry g };
 
@@ -48,7 +53,10 @@ impl<G: Dimensioned, K: Nested<G>> Writable<G> for Node<K> {
 
     #[inline(always)]
     fn measure(geom: &G) -> Measured {
-        measure_geometry::<G, K>(geom)
+        match K::known_size(geom) {
+            Some(size) => Measured::Bytes(size),
+            None => measure_geometry::<G, K>(geom),
+        }
     }
 
     fn put<S: Sink>(out: &mut Buffered<'_, S>, geom: &G, options: &WriteOptions) -> Put {

@@ -10,6 +10,7 @@ ghost use Rattle.wkb_read.specs.Stack.{IsOpen, AreOpen, IsFinished, BeginsAs, Se
 
 use crate::geometry::{GeometryCollection, View, Wkb};
 use crate::read::{MAX_WKB_NESTING_DEPTH, read_front};
+use crate::srids::count_with_srids;
 use std::alloc::{AllocError, Global};
 use wkb_geom::header::MIN_MEMBER_SIZE;
 use wkb_geom::words::COUNT_SIZE;
@@ -60,6 +61,7 @@ pub(crate) fn begin_collection<'a>(
                 buf,
                 layout,
                 members: members.into_vec(),
+                with_srids: 0,
             }),
         };
         return Ok(Begun::Whole(whole, rest));
@@ -125,11 +127,14 @@ pub(crate) fn close_finished<'a>(
             left: _,
             members,
         } = collection;
+        let members = members.into_vec();
+        let with_srids = count_with_srids(&members);
         finished = Wkb {
             kind: View::GeometryCollection(GeometryCollection {
                 buf: &bytes[..bytes.len() - rest.len()],
                 layout,
-                members: members.into_vec(),
+                members,
+                with_srids,
             }),
         };
     }

@@ -60,10 +60,12 @@ invariant_of-whole c =
     let front =
     front_taken (start + 4) bytes _ _ c.in_ok-count.ensures.whole
     (rw c.header_length.ensures at c.split_at.ensures.front) back in
-    rw (c.into_vec.ensures ∙ c.in_ok-count.ensures.empty, front)
-    (closed c.args.layout bytes [] _ c.requires.head
-    (sym c.in_ok-count.ensures.count ∙ c.if-count-eq0.true) c.in_ok-count.ensures.whole
-    (drop-drop 4 start bytes ∙ sym back) tt).collection
+    rw (c.into_vec.ensures ∙ c.in_ok-count.ensures.empty, front) (
+      (closed c.args.layout bytes [] _ c.requires.head
+          (sym c.in_ok-count.ensures.count ∙ c.if-count-eq0.true) c.in_ok-count.ensures.whole
+          (drop-drop 4 start bytes ∙ sym back) tt).collection,
+      λ _. tt,
+    )
 
 pub returns-then-depth-ge-MAX_WKB_NESTING_DEPTH-clause-begins :
     goal.returns-then-depth-ge-MAX_WKB_NESTING_DEPTH-clause-begins

@@ -96,14 +96,15 @@ pub invariant_of-finished : goal.invariant_of-finished
 invariant_of-finished c =
     let p = (goal.at.invariant_of-finished c).After-push in
     let same = (taken_off p _ _ c.in-Some-pop.ensures.items).0 in
-    rw (sym same) (all_in p _ _ same c.into_vec.ensures (omega (arith, c.if-top-gt0.false))).collection
+    let all = all_in p _ _ same c.into_vec-members.ensures (omega (arith, c.if-top-gt0.false)) in
+    (rw (sym same) all.collection, rw c.deref.ensures.value at c.count_with_srids-with_srids.ensures)
 
 pub loop-top-preserved : goal.loop-top-preserved
 loop-top-preserved c =
     let p = (goal.at.loop-top-preserved c).After-push in
     let off = taken_off p _ _ c.in-Some-pop.ensures.items in
     rw (sym off.0, sym off.1) (record {
-      finishes = (all_in p _ _ off.0 c.into_vec.ensures (omega (arith, c.if-top-gt0.false))).finishes;
+      finishes = (all_in p _ _ off.0 c.into_vec-members.ensures (omega (arith, c.if-top-gt0.false))).finishes;
       fewer =
           omega (
             arith,

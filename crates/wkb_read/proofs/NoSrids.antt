@@ -1,0 +1,86 @@
+-- Geometries that have no SRID but their own.
+use Rattle.wkb_read.proofs.Prelude.{◌≡◌, ℕ, ◌+◌, ◌-◌, ◌*◌, ◌≤◌, List, [], ◌∷◌, length, Bool, true, false, None, refl}
+use Rattle.wkb_read.proofs.Prelude.{arith, geometry_of, AllByRecursion, Item, Values, spellings, BytesSpell}
+use Rattle.wkb_read.proofs.Prelude.{geometry_seen, Listed, Coordinate, seen_as_it_is}
+use Rattle.std.proofs.Common.{is_some, if◌then◌else◌}
+use Rattle.wkb_geom.specs.declared.common.Dimension.{Dimension}
+use Rattle.wkb_geom.specs.Encodings.{fault}
+use Rattle.wkb_geom.specs.Numbers.{AreBytes}
+use Rattle.wkb_geom.specs.Refusals.{srid_size}
+use Rattle.wkb_geom.specs.Sizes.{byte_size}
+use Rattle.wkb_geom.specs.Spellings.{Spelling, Spellings, no_spellings, spelling, node, Spells, SpellsEach, Wanted}
+use Rattle.wkb_geom.specs.Spellings.{part, srid_count, srid_count_each}
+use Rattle.wkb_geom.specs.Values as value
+use Rattle.wkb_laws.proofs.Spelled.{in_full_lem, size_of_spelled_lem}
+use Rattle.wkb_laws.proofs.Values.{Good, spelled_good, lawful-geometry_of}
+use Rattle.wkb_read.specs.Prelude.{members_spelled, srid_of, polygon_seen, multi_point_seen}
+use Rattle.wkb_read.specs.NoSrids.{HoldsNoSrid, HaveNoSrids}
+use Rattle.wkb_view.specs.declared.multi_point.MultiPoint.{MultiPoint}
+
+none_inside : (w : Wanted) (ss : Spellings) (x : List ℕ) → SpellsEach w ss value.no_members x → srid_count_each ss ≡ 0
+none_inside w no_spellings x h = refl
+none_inside w (spelling s ss) x h = absurd h
+
+-- the members of a multi point have none
+none_in_points : (d : Dimension) (ss : Spellings) (ts : Values) (x : List ℕ) → SpellsEach (part 1 d) ss ts x
+    → srid_count_each ss ≡ 0
+none_in_points d no_spellings ts x h = refl
+none_in_points d (spelling (node h own inner) ss) (value.member (value.point e c) ts) x a =
+    let own_srid : 4 * (if is_some h.srid then 1 else 0) ≡ 0 = rw (a.first.1.2 refl) refl in
+    let inside = none_inside _ inner _ a.first.0.second.second in
+    omega (arith, own_srid, inside, none_in_points d ss ts a.rest a.second)
+none_in_points d (spelling s ss) (value.member t ts) x a = absurd (cc)
+none_in_points d (spelling s ss) value.no_members x a = absurd a
+
+-- the rings of a polygon have none
+pub polygon_holds_none : (p : Listed (List (List Coordinate))) → HoldsNoSrid (polygon_seen p)
+polygon_holds_none p spells = inside p.spelled (in_full_lem _ _ _ spells)
+  where
+    inside : (s : Spelling) → Spells s (value.polygon p.dimension p.parts) p.encoding
+        → srid_count_each (members_spelled s) ≡ 0
+    inside (node h own ss) a = none_inside _ ss _ a.second.second
+
+pub multi_point_holds_none : (m : MultiPoint) → HoldsNoSrid (multi_point_seen m)
+multi_point_holds_none m spells =
+    let w = multi_point_seen m in inside w.spelled (in_full_lem w.spelled w.value w.encoding spells)
+  where
+    inside : (s : Spelling) → Spells s (multi_point_seen m).value (multi_point_seen m).encoding
+        → srid_count_each (members_spelled s) ≡ 0
+    inside (node h own ss) a = none_in_points _ ss _ _ a.second.second
+
+-- nor have the members of a collection, where they have none
+pub none_in_members : (members : List Item) → HaveNoSrids members → AllByRecursion BytesSpell members
+    → srid_count_each (spellings members) ≡ 0
+none_in_members [] none each = refl
+none_in_members (m ∷ ms) none each = omega (arith, none.0 each.0, none_in_members ms none.1 each.1)
+
+own_and_inside : (s : Spelling)
+    → 4 * srid_count s ≡ srid_size (is_some (srid_of s)) + 4 * srid_count_each (members_spelled s)
+own_and_inside (node h own ss) = omega (arith, counted (is_some h.srid))
+  where
+    counted : (own : Bool) → 4 * (if own then 1 else 0) ≡ srid_size own
+    counted true = refl
+    counted false = refl
+
+-- the bytes of a geometry that holds no SRID, without its own
+module _ (w : Item) (spells : BytesSpell w) (none : HoldsNoSrid w) where
+  long : length w.encoding ≡ byte_size (geometry_of w.value) + srid_size (is_some (srid_of w.spelled))
+  long =
+      let whole = size_of_spelled_lem w.spelled w.value w.encoding (in_full_lem w.spelled w.value w.encoding spells) in
+      omega (arith, whole, own_and_inside w.spelled, none spells)
+
+  pub srid_within : srid_size (is_some (srid_of w.spelled)) ≤ length w.encoding
+  srid_within = omega (arith, long)
+
+  module _ (fine : AreBytes w.encoding) where
+    good : Good w.value
+    good = spelled_good w.spelled w.value w.encoding fine (in_full_lem w.spelled w.value w.encoding spells)
+
+    means : geometry_seen w ≡ geometry_of w.value
+    means = seen_as_it_is w (lawful-geometry_of w.value good.0)
+
+    pub size_known : length w.encoding - srid_size (is_some (srid_of w.spelled)) ≡ byte_size (geometry_seen w)
+    size_known = rw means (omega (arith, long))
+
+    pub writable : fault (geometry_seen w) ≡ None
+    writable = rw means good.1

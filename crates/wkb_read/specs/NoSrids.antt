@@ -1,0 +1,13 @@
+-- Which geometries have no SRID, or none but their own.
+use Rattle.std.specs.Prelude.{◌≡◌, List}
+use Rattle.std.specs.List.{AllByRecursion}
+use Rattle.wkb_read.specs.Prelude.{Item, BytesSpell, members_spelled}
+use Rattle.wkb_geom.specs.Spellings.{srid_count, srid_count_each}
+
+-- no member of the geometry has an SRID
+abbrev pub HoldsNoSrid : Item → Type 0
+HoldsNoSrid w = BytesSpell w → srid_count_each (members_spelled w.spelled) ≡ 0
+
+-- of these geometries none has an SRID, and no member of theirs
+abbrev pub HaveNoSrids : List Item → Type 0
+HaveNoSrids = AllByRecursion (λ w. BytesSpell w → srid_count w.spelled ≡ 0)
