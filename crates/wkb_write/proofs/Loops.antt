@@ -6,7 +6,6 @@ use Rattle.wkb_write.proofs.Prelude.{Dimension, Dimensions, number_bytes, words_
 use Rattle.wkb_write.proofs.Prelude.{members_encoding, counted, polygon_encoding, coordinates_encoding, Progress}
 use Rattle.wkb_write.proofs.Prelude.{IsLaid, IsCut, Advances, get_or, Geometry, encoding, size, no_room, IsShort, Bool}
 use Rattle.std.proofs.Common.{length-append}
-use Rattle.std.proofs.Math.Nat.{mul-le-mul_left}
 use Rattle.std.proofs.lemmas.List.{drop-append-le, length-take-le}
 use Rattle.wkb_geom.specs.Geometries.{AreCoordinates}
 use Rattle.wkb_geom.specs.Encodings.{form_with_flags}
@@ -127,10 +126,6 @@ pub run_cut : {a b c : Progress} {whole : List ℕ} {cs : List (List ℕ)} {i n 
 run_cut {cs = cs} {i = i} order d p lawful more is q =
     let next = coordinate_left order d cs i lawful more in
     rw p.is (cut_then p.laid (no_room _ q (omega (arith, is, next))))
-
--- a run of some items has room for one
-pub one_of_run : (k n : ℕ) → 0 < n → k ≤ k * n
-one_of_run k n some = let most = mul-le-mul_left k some in omega (arith, most)
 
 -- a member that was put in the form that the flag tells
 pub lays_member : {X : Type 0} {form : Form} (a b : Progress) (meant : X → Geometry) (order : Endianness)

@@ -84,8 +84,4 @@ module _ {X : Type 0} (header total i : ℕ) (part : X → Measure) (xs : List X
   pub parts_sized : (size : ℕ) → size ≡ capped total → size ≡ capped (parts_size header part xs)
   parts_sized size is = is ∙ (all_parts ahead past).1
 
--- a sum that stops at the greatest `usize`
-pub saturated : {sum : ℕ} (n : ℕ) → sum ≡ capped n → capped sum ≡ capped n
-saturated n is = omega (arith, is)
-
 pub ruleset measured_laws = (count_found, parts_faultless, parts_sized)

@@ -9,7 +9,7 @@ use Rattle.wkb_geom.specs.Geometries.{rectangle, triangle, line, dimensions_of}
 use Rattle.wkb_geom.specs.Sizes.{ring_size, line_string_size, polygon_size}
 use Rattle.wkb_write.specs.Bodies.{coordinate_words, ring_bytes, ring_measure, point_measure, polygon_measure}
 use Rattle.wkb_write.specs.Bodies.{body_fault, size_by_parts}
-use Rattle.wkb_write.specs.Counted.{HasMeasures, ItemList}
+use Rattle.wkb_write.specs.Counted.{HasFaultlessBody, HasMeasures, ItemList}
 use Rattle.wkb_write.specs.Measures.{IsMeasured}
 use Rattle.wkb_write.proofs.Faults.{reports_first, reports_rest}
 use Rattle.wkb_write.proofs.Supported.{supported_at_most}
@@ -90,6 +90,10 @@ pub size_of_parts : (g : Geometry) → fault g ≡ None → byte_size g ≡ 5 + 
 size_of_parts g none =
     let fine = none_first _ (body_fault g) (sym (fault_by_body g) ∙ none) in
     size_by_body g (omega (arith, supported_at_most (dimensions_of g) fine))
+
+pub supported_body : {g : Geometry} {d : Dimensions} → HasFaultlessBody g d → fault g ≡ None → dimensions_fault d ≡ None
+supported_body {g = g} h none =
+    ap dimensions_fault h.dimensions ∙ none_first _ (body_fault g) (sym (fault_by_body g) ∙ none)
 
 -- a size that is known of a geometry without a fault is what was measured of its parts
 pub known_measured : {g : Geometry} {d : Dimensions} {header : ℕ} {items : ItemList} → HasMeasures g d header items

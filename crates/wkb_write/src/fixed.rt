@@ -1,27 +1,34 @@
 //! Kinds of a fixed size: the dimensions alone tell how long an encoding is, and it is laid at once.
 
 ghost use Rattle.std.specs.Prelude.{◌≡◌, ◌+◌, ◌≤◌, None, false, length};
+ghost use Rattle.wkb_geom.specs.Dimensions.{width, written_dimension};
 ghost use Rattle.wkb_geom.specs.declared.header.TheConstants.{MAX_HEADER_SIZE};
 ghost use Rattle.wkb_sink.specs.Blocks.{LaysAt};
 ghost use Rattle.wkb_sink.specs.Options.{header_length};
 ghost use Rattle.wkb_write.specs.Prelude.{Geometry, IsGeometry, encoding_of, fault};
-ghost use Rattle.wkb_write.specs.Prelude.{HasFaultlessBody, MIN_BLOCK, size_by_parts};
+ghost use Rattle.wkb_write.specs.Prelude.{HasFaultlessBody, MIN_BLOCK, coordinate_words, size_by_parts};
 
 use crate::common::*;
+use crate::measure::words_to_measure;
+use wkb_geom::Dimension;
 
 /// A kind whose geometries have one size for each dimension.
 pub trait Fixed<G: Dimensioned> {
     // What a geometry means.
     ghost geometry: { G → Geometry };
 
-    /// The size without the header.
-    fn size(geom: &G) -> usize
-        ensures size { result ≡ size_by_parts (geometry geom.now) }
+    /// The size without the header, by the number of words of a coordinate.
+    fn size(words: usize) -> usize
+        requires { words ≤ 4 }
+        ensures size { (g : G) → coordinate_words (G.dimensions g) ≡ words
+            → result ≡ size_by_parts (geometry g) }
         ensures most { MAX_HEADER_SIZE + result ≤ MIN_BLOCK };
 
-    /// Lays a geometry that has no fault.
-    fn lay(bytes: &mut [u8], at: usize, geom: &G, options: &WriteOptions) -> usize
+    /// Lays a geometry that has no fault, by the dimension that its header tells.
+    fn lay(bytes: &mut [u8], at: usize, geom: &G, dim: Dimension, options: &WriteOptions) -> usize
         requires fault { fault (geometry geom.now) ≡ None }
+        requires dimension { dim ≡ written_dimension (G.dimensions geom.now) }
+        requires words { width dim ≡ coordinate_words (G.dimensions geom.now) }
         requires room { at + (header_length options.now.form + size_by_parts (geometry geom.now))
             ≤ length bytes.old }
         ensures end { result
@@ -47,13 +54,15 @@ impl<G: Dimensioned, F: Fixed<G>> Writable<G> for AtOnce<F> {
 
     #[inline(always)]
     fn measure(geom: &G) -> Measured {
-        behind_header(geom.dim(), Measured::Bytes(F::size(geom)))
+        let dim = geom.dim();
+        behind_header(dim, Measured::Bytes(F::size(words_to_measure(dim))))
     }
 
     #[inline(always)]
     fn put<S: Sink>(out: &mut Buffered<'_, S>, geom: &G, options: &WriteOptions) -> Put {
-        out.make_room(length_of_header(options.form) + F::size(geom))?;
-        out.len = F::lay(out.bytes, out.len, geom, options);
+        let dim = supported_dimension(geom.dim());
+        out.make_room(length_of_header(options.form) + F::size(words_of(dim)))?;
+        out.len = F::lay(out.bytes, out.len, geom, dim, options);
         Ok(())
     }
 }

@@ -5,7 +5,7 @@ ghost use Rattle.wkb_write.specs.Prelude.{Iso, line_meant, IsSizeOf, WritesTo};
 
 use crate::common::*;
 use crate::fixed::{AtOnce, Fixed};
-use wkb_geom::LineTrait;
+use wkb_geom::{Dimension, LineTrait};
 use wkb_sink::block::lay_vertex;
 
 /// A line, which is laid as a line string of its two ends.
@@ -20,13 +20,12 @@ impl<L: LineTrait> Fixed<L> for LineKind {
     ghost lawful = { λ l. L.lawful l };
 
     #[inline(always)]
-    fn size(geom: &L) -> usize {
-        COUNT_SIZE + words_size(geom.dim(), 2)
+    fn size(words: usize) -> usize {
+        COUNT_SIZE + 2 * (WORD_SIZE * words)
     }
 
-    fn lay(bytes: &mut [u8], at: usize, geom: &L, options: &WriteOptions) -> usize {
+    fn lay(bytes: &mut [u8], at: usize, geom: &L, dim: Dimension, options: &WriteOptions) -> usize {
         let order = options.endianness;
-        let dim = supported_dimension(geom.dim());
         let words = words_of(dim);
         let at = lay_header(bytes, at, options, WkbType::LineString(dim));
         let at = lay_count(bytes, at, order, 2);

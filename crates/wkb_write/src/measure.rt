@@ -71,13 +71,21 @@ pub fn count_to_write(n: u128) -> Option<u32>
     u32::try_from(n).ok()
 }
 
-/// The size of `n` coordinates. No dimension that can be written has more than four words.
+/// The number of words of a coordinate that is measured. No dimension that can be written has more than four.
+#[inline(always)]
+pub fn words_to_measure(dim: Dimensions) -> usize
+    ensures { result ≡ coordinate_words dim }
+{
+    dim.size().min(4)
+}
+
+/// The size of `n` coordinates.
 #[inline(always)]
 pub fn words_size(dim: Dimensions, n: u32) -> usize
     ensures sum { result ≡ 8 * coordinate_words dim * n }
     ensures bound { result < 2 ^ 40 }
 {
-    8 * dim.size().min(4) * n as usize
+    8 * words_to_measure(dim) * n as usize
 }
 
 /// A geometry of these dimensions, by what was measured of its body.

@@ -6,7 +6,7 @@ ghost use Rattle.wkb_write.specs.Prelude.{Iso, point_meant, point, IsPoint, IsSi
 use crate::common::*;
 use crate::fixed::{AtOnce, Fixed};
 use crate::measure::size_of;
-use wkb_geom::{Dimensions, PointTrait};
+use wkb_geom::{Dimension, Dimensions, PointTrait};
 use wkb_sink::block::{lay_coordinate, lay_empty};
 
 /// A point, empty or not.
@@ -21,14 +21,13 @@ impl<P: PointTrait> Fixed<P> for PointKind {
     ghost lawful = { λ p. P.lawful p };
 
     #[inline(always)]
-    fn size(geom: &P) -> usize {
-        words_size(geom.dim(), 1)
+    fn size(words: usize) -> usize {
+        WORD_SIZE * words
     }
 
     #[inline(always)]
-    fn lay(bytes: &mut [u8], at: usize, geom: &P, options: &WriteOptions) -> usize {
+    fn lay(bytes: &mut [u8], at: usize, geom: &P, dim: Dimension, options: &WriteOptions) -> usize {
         let order = options.endianness;
-        let dim = supported_dimension(geom.dim());
         let words = words_of(dim);
         let at = lay_header(bytes, at, options, WkbType::Point(dim));
         match geom.coord() {

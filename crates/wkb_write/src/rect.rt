@@ -20,11 +20,17 @@ impl<R: RectTrait> Fixed<R> for RectKind {
     ghost lawful = { λ r. R.lawful r };
 
     #[inline(always)]
-    fn size(_geom: &R) -> usize {
+    fn size(_words: usize) -> usize {
         2 * COUNT_SIZE + 5 * CORNER_SIZE
     }
 
-    fn lay(bytes: &mut [u8], at: usize, geom: &R, options: &WriteOptions) -> usize {
+    fn lay(
+        bytes: &mut [u8],
+        at: usize,
+        geom: &R,
+        _dim: Dimension,
+        options: &WriteOptions,
+    ) -> usize {
         let order = options.endianness;
         let (x0, y0) = geom.min().x_y();
         let (x1, y1) = geom.max().x_y();

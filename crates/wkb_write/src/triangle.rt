@@ -5,7 +5,7 @@ ghost use Rattle.wkb_write.specs.Prelude.{Iso, triangle_meant, IsSizeOf, WritesT
 
 use crate::common::*;
 use crate::fixed::{AtOnce, Fixed};
-use wkb_geom::TriangleTrait;
+use wkb_geom::{Dimension, TriangleTrait};
 use wkb_sink::block::lay_vertex;
 
 /// A triangle, which is laid as a polygon of one ring that ends as it begins.
@@ -20,13 +20,12 @@ impl<T: TriangleTrait> Fixed<T> for TriangleKind {
     ghost lawful = { λ t. T.lawful t };
 
     #[inline(always)]
-    fn size(geom: &T) -> usize {
-        2 * COUNT_SIZE + words_size(geom.dim(), 4)
+    fn size(words: usize) -> usize {
+        2 * COUNT_SIZE + 4 * (WORD_SIZE * words)
     }
 
-    fn lay(bytes: &mut [u8], at: usize, geom: &T, options: &WriteOptions) -> usize {
+    fn lay(bytes: &mut [u8], at: usize, geom: &T, dim: Dimension, options: &WriteOptions) -> usize {
         let order = options.endianness;
-        let dim = supported_dimension(geom.dim());
         let words = words_of(dim);
         let first = geom.first();
         let at = lay_header(bytes, at, options, WkbType::Polygon(dim));

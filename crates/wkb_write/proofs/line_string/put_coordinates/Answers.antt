@@ -1,6 +1,7 @@
-use Rattle.wkb_write.proofs.Prelude.{arith, ap, refl, [], ◌∙◌, ◌*◌, ◌-◌, size}
+use Rattle.wkb_write.proofs.Prelude.{arith, ap, refl, [], ◌∙◌, ◌*◌, ◌-◌, ◌≤◌, size}
+use Rattle.std.proofs.Math.Nat.{mul-le-mul_left}
 use Rattle.wkb_sink.proofs.Laid.{exits, laid_none, laid_here}
-use Rattle.wkb_write.proofs.Loops.{run_laid, run_cut, one_of_run}
+use Rattle.wkb_write.proofs.Loops.{run_laid, run_cut}
 use Rattle.wkb_write.proofs.line_string.put_coordinates.Goals as goal
 
 pub loop-done-init : goal.loop-done-init
@@ -19,7 +20,8 @@ pub loop-done-preserved : goal.loop-done-preserved
 loop-done-preserved g c =
     let wide = ap (λ n. 8 * n) (c.size-size.ensures ∙ ap size c.dim.ensures) in
     let bytes = 8 * size (g.L.Dimensioned.dimensions c.args.line.now) in
-    let one = one_of_run bytes (c.end_of_run-next.result - c.loop-done.done) (omega arith) in
+    let some : 1 ≤ c.end_of_run-next.result - c.loop-done.done = omega arith in
+    let one = mul-le-mul_left bytes some in
     record {
       within = omega arith;
       laid = run_laid c.loop-done.invariant.laid (omega arith) (omega arith)

@@ -3,14 +3,12 @@ use Rattle.wkb_write.specs.Measures.{IsAdded, IsMeasured, result_of}
 use Rattle.wkb_write.proofs.Collections.{collection_added, members_ahead}
 use Rattle.wkb_write.proofs.FirstItem.{item_read}
 use Rattle.wkb_write.proofs.Falls.{members_fall, member_falls}
-use Rattle.wkb_write.proofs.Sums.{part_step, part_refused, last_part, all_parts, saturated}
+use Rattle.wkb_write.proofs.Sums.{part_step, part_refused, last_part, all_parts}
 use Rattle.wkb_write.proofs.nested.+measure.Goals as goal
 
 pub add_members-loop-i-init : goal.add_members-loop-i-init
 add_members-loop-i-init g t c = record {
-  ahead =
-      members_ahead g.K.Nested.geometry _ c.args.members.now _ _ c.in_default.ensures c.in-Some-count_to_write.ensures
-      c.saturating_add-total.ensures;
+  ahead = members_ahead _ _ _ _ _ c.in_default.ensures c.in-Some-count_to_write.ensures c.saturating_add-total.ensures;
   fits = omega (arith, c.saturating_add-total.ensures);
 }
 
@@ -36,7 +34,7 @@ add_members-loop-i-preserved g t c = record {
   ahead =
       part_step c.loop-i.invariant.ahead
       (item_read c.args.members.now _ _ c.index-members-i.is refl c.loop-i-test.true c.in-Bytes.ensures.measured)
-      (saturated _ c.saturating_add-total-in-loop-i.ensures);
+      (omega (arith, c.saturating_add-total-in-loop-i.ensures));
   fits = omega (arith, c.saturating_add-total-in-loop-i.ensures);
 }
 

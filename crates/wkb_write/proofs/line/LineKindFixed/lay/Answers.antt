@@ -5,5 +5,5 @@ use Rattle.wkb_write.proofs.line.LineKindFixed.lay.Goals as goal
 pub returns-clause-bytes : goal.returns-clause-bytes
 unfolding line_string_encoding coordinates_encoding
 returns-clause-bytes g c =
-    rw (← c.dim.ensures, ← c.supported_dimension-dim.ensures.named, ← c.start.ensures.value, ← c.end.ensures.value)
+    rw (← c.requires.dimension, ← c.start.ensures.value, ← c.end.ensures.value)
     (search (rules, behind_laws) depth 8)

@@ -5,12 +5,12 @@ use Rattle.wkb_write.proofs.point.PointKindFixed.lay.Goals as goal
 pub returns-in-Some-clause-bytes : goal.returns-in-Some-clause-bytes
 unfolding point_encoding point_words
 returns-in-Some-clause-bytes g c =
-    rw (← c.dim.ensures, ← c.supported_dimension-dim.ensures.named, ← c.in-Some.ensures.value)
+    rw (← c.requires.dimension, ← c.in-Some.ensures.value)
     (behind c.lay_header-at.ensures.bytes c.lay_coordinate.ensures.bytes)
 
 pub returns-in-None-clause-bytes : goal.returns-in-None-clause-bytes
 unfolding point_encoding point_words
 returns-in-None-clause-bytes g c =
     let words = rw c.words_of-words.ensures.words at c.lay_empty.ensures.bytes in
-    rw (← c.dim.ensures, ← c.supported_dimension-dim.ensures.named, ← c.in-None.ensures.value)
+    rw (← c.requires.dimension, ← c.in-None.ensures.value)
     (behind c.lay_header-at.ensures.bytes words)

@@ -6,4 +6,4 @@ pub returns-clause-bytes : goal.returns-clause-bytes
 unfolding polygon_encoding coordinates_encoding
 returns-clause-bytes g c =
     rw (← c.first-first.ensures.value, ← c.second.ensures.value, ← c.third.ensures.value)
-    (rw (← c.dim.ensures, ← c.supported_dimension-dim.ensures.named) (search (rules, behind_laws) depth 8))
+    (rw (← c.requires.dimension) (search (rules, behind_laws) depth 8))
