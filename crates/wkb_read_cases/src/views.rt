@@ -132,7 +132,10 @@ fn size_told(alloc: Global, text: &str) -> Result<Option<usize>, Fail> {
 fn sizes_of_geometries(rt: HostRuntime) -> Result<(), Fail> {
     let alloc = rt.alloc();
     assert_eq!(rt; size_told(alloc, "01 01000020 e6100000 P")?, Some(21));
-    assert_eq!(rt; size_told(alloc, "01 04000000 01000000 01 01000000 P")?, Some(30));
+    assert_eq!(rt;
+        size_told(alloc, "01 04000000 01000000 01 01000000 P")?,
+        Some(30)
+    );
     let two_members = "01 07000020 e6100000 02000000 01 01000000 P 01 07000000 00000000";
     assert_eq!(rt; size_told(alloc, two_members)?, Some(39));
     let srid_inside = "01 07000000 01000000 01 07000000 01000000 01 01000020 e6100000 P";
