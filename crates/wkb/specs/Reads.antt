@@ -44,6 +44,7 @@ pub use Rattle.wkb_geom.specs.declared.geom.GeometryType.TheVariants as handed
 pub use Rattle.wkb_geom.specs.declared.header.Layout.{Layout}
 pub use Rattle.wkb_geom.specs.Reading.{Reading, Cost}
 pub use Rattle.wkb_read.specs.Memory.{IsNotMemory}
+pub use Rattle.wkb_read.specs.NoSrids.{tells_size}
 pub use Rattle.wkb_read.specs.Types.{geometry_type_of, IsListed}
 pub use Rattle.wkb_read.specs.declared.geometry_type.GeometryType.{GeometryType as GeometryKind}
 pub use Rattle.wkb_read.specs.declared.geometry_type.GeometryType.TheVariants as kinds

@@ -1,5 +1,5 @@
 -- Geometries that have no SRID but their own.
-use Rattle.wkb_read.proofs.Prelude.{◌≡◌, ℕ, ◌+◌, ◌-◌, ◌*◌, ◌≤◌, List, [], ◌∷◌, length, Bool, true, false, None, refl}
+use Rattle.wkb_read.proofs.Prelude.{◌≡◌, ℕ, ◌+◌, ◌-◌, ◌*◌, ◌≤◌, List, [], ◌∷◌, length, None, refl}
 use Rattle.wkb_read.proofs.Prelude.{arith, geometry_of, AllByRecursion, Item, Values, spellings, BytesSpell}
 use Rattle.wkb_read.proofs.Prelude.{geometry_seen, Listed, Coordinate, seen_as_it_is}
 use Rattle.std.proofs.Common.{is_some, if◌then◌else◌}
@@ -11,6 +11,7 @@ use Rattle.wkb_geom.specs.Sizes.{byte_size}
 use Rattle.wkb_geom.specs.Spellings.{Spelling, Spellings, no_spellings, spelling, node, Spells, SpellsEach, Wanted}
 use Rattle.wkb_geom.specs.Spellings.{part, srid_count, srid_count_each}
 use Rattle.wkb_geom.specs.Values as value
+use Rattle.wkb_laws.proofs.Lengths.{srid_size_is}
 use Rattle.wkb_laws.proofs.Spelled.{in_full_lem, size_of_spelled_lem}
 use Rattle.wkb_laws.proofs.Values.{Good, spelled_good, lawful-geometry_of}
 use Rattle.wkb_read.specs.Prelude.{members_spelled, srid_of, polygon_seen, multi_point_seen}
@@ -56,11 +57,7 @@ none_in_members (m ∷ ms) none each = omega (arith, none.0 each.0, none_in_memb
 
 own_and_inside : (s : Spelling)
     → 4 * srid_count s ≡ srid_size (is_some (srid_of s)) + 4 * srid_count_each (members_spelled s)
-own_and_inside (node h own ss) = omega (arith, counted (is_some h.srid))
-  where
-    counted : (own : Bool) → 4 * (if own then 1 else 0) ≡ srid_size own
-    counted true = refl
-    counted false = refl
+own_and_inside (node h own ss) = omega (arith, srid_size_is (is_some h.srid))
 
 -- the bytes of a geometry that holds no SRID, without its own
 module _ (w : Item) (spells : BytesSpell w) (none : HoldsNoSrid w) where

@@ -1,8 +1,13 @@
 -- Which geometries have no SRID, or none but their own.
-use Rattle.std.specs.Prelude.{◌≡◌, List}
+use Rattle.std.specs.Prelude.{◌≡◌, List, Bool, nat_lt}
 use Rattle.std.specs.List.{AllByRecursion}
-use Rattle.wkb_read.specs.Prelude.{Item, BytesSpell, members_spelled}
+use Rattle.wkb_read.specs.Prelude.{Item, Value, BytesSpell, members_spelled}
 use Rattle.wkb_geom.specs.Spellings.{srid_count, srid_count_each}
+use Rattle.wkb_geom.specs.Values.{kind}
+
+-- whether it is a point, a line string, a polygon or a multi point: no member of these has an SRID
+abbrev pub tells_size : Value → Bool
+tells_size t = nat_lt (kind t) 5
 
 -- no member of the geometry has an SRID
 abbrev pub HoldsNoSrid : Item → Type 0

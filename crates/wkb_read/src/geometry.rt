@@ -394,10 +394,10 @@ impl Dimensioned for Wkb<'_> {
 }
 
 impl<'a> GeometryTrait for Wkb<'a> {
-    ghost use Rattle.std.specs.Prelude.{◌≡◌, true, None, IfSome, IsSome, nat_lt};
+    ghost use Rattle.std.specs.Prelude.{◌≡◌, true, None, IfSome, IsSome};
     ghost use Rattle.wkb_geom.specs.Encodings.{fault};
     ghost use Rattle.wkb_geom.specs.Sizes.{byte_size};
-    ghost use Rattle.wkb_geom.specs.Values.{kind};
+    ghost use Rattle.wkb_read.specs.NoSrids.{tells_size};
     ghost use Rattle.wkb_read.specs.Views.{IsViewOf};
 
     type PointType = Point<'a>;
@@ -437,12 +437,15 @@ impl<'a> GeometryTrait for Wkb<'a> {
         }
     }
 
-    /// The number of its bytes without those of its own SRID, where no member has one.
+    /// The number of its bytes without those of its own SRID.
+    ///
+    /// None where a member has an SRID, and of each multi line string, each multi polygon, and each collection with one
+    /// of these inside: what their parts have isn't kept.
     #[inline]
     fn byte_size(&self) -> Option<usize>
         ensures size { IfSome result (λ n. n ≡ byte_size (geometry_seen self.now)) }
         ensures writable { IfSome result (λ _. fault (geometry_seen self.now) ≡ None) }
-        ensures some { nat_lt (kind self.now.value) 5 ≡ true → IsSome result }
+        ensures some { tells_size self.now.value ≡ true → IsSome result }
     {
         if self.may_hold_srids() {
             return None;

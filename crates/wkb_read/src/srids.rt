@@ -35,15 +35,14 @@ pub(crate) fn count_with_srids(members: &[Wkb<'_>]) -> u32
 }
 
 impl Wkb<'_> {
-    ghost use Rattle.std.specs.Prelude.{◌≡◌, true, false, nat_lt};
-    ghost use Rattle.wkb_geom.specs.Values.{kind};
-    ghost use Rattle.wkb_read.specs.NoSrids.{HoldsNoSrid};
+    ghost use Rattle.std.specs.Prelude.{◌≡◌, true, false};
+    ghost use Rattle.wkb_read.specs.NoSrids.{HoldsNoSrid, tells_size};
 
     /// Whether it is of a kind whose members, if it has any, have no SRIDs.
     #[tactic(auto, using(crate::proofs::NoSrids::polygon_holds_none, crate::proofs::NoSrids::multi_point_holds_none))]
     #[inline(always)]
     fn is_without_srids(&self) -> bool
-        ensures kind { result ≡ nat_lt (kind self.now.value) 5 }
+        ensures kind { result ≡ tells_size self.now.value }
         ensures none { result ≡ true → HoldsNoSrid self.now }
     {
         match &self.kind {
@@ -60,7 +59,7 @@ impl Wkb<'_> {
     /// Most geometries are of the kinds that are looked for first, by one comparison.
     #[inline(always)]
     pub(crate) fn may_hold_srids(&self) -> bool
-        ensures kind { nat_lt (kind self.now.value) 5 ≡ true → result ≡ false }
+        ensures kind { tells_size self.now.value ≡ true → result ≡ false }
         ensures none { result ≡ false → HoldsNoSrid self.now }
     {
         if self.is_without_srids() {
