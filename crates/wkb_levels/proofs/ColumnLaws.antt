@@ -194,16 +194,6 @@ module _ (l : Levels) (d : Dimensions) (i : ℕ) (s : Ends)
               (start_of s) (begin_of s (length (ends_of s))) (omega (arith, spans.order, spans.within))
               ∙ ap (slice_range (column_rings l d) (start_of s)) (sym last)
 
--- its last single ends within the rings
-pub end_within : (l : Levels) (d : Dimensions) (i k : ℕ) → k ≡ row_end l i → AreRowLevels l d i
-    → begin_of l.single_ends k ≤ length (ends_of l.ring_ends)
-end_within l d i k at are =
-    let part = slice_range (ends_of l.single_ends) (row_begin l i) (row_end l i) in
-    rw at (subst (λ n. n ≤ length (ends_of l.ring_ends))
-    (last_of_part (start_of l.single_ends) (ends_of l.single_ends) (row_begin l i) (row_end l i) are.order are.within)
-    (start_within (length (ends_of l.ring_ends)) (begin_of l.single_ends (row_begin l i)) part (length part) are.singles
-    (omega arith)))
-
 -- ---- what follows from an option
 
 pub none_exactly : {A P : Type 0} (o : Option A) → o ≡ None → (P → ⊥) → IsSome o ↔ P

@@ -1,5 +1,5 @@
 -- What the levels of a column mean.
-use Rattle.std.specs.Prelude.{ℕ, ◌<◌, ◌/◌, ◌≤◌, max, List, length, slice_index, slice_range}
+use Rattle.std.specs.Prelude.{ℕ, ◌<◌, ◌/◌, ◌≤◌, List, length, slice_index, slice_range}
 use Rattle.wkb_geom.specs.declared.common.Dimensions.{Dimensions}
 use Rattle.wkb_geom.specs.Dimensions.{size}
 use Rattle.wkb_levels.specs.declared.ends.Ends.{Ends}
@@ -40,35 +40,57 @@ pub record AreRowLevels (l : Levels) (d : Dimensions) (i : ℕ) : Type 0 where
   pub rings : AreEndsBetween (length l.words.now / size d) l.ring_ends
       (begin_of l.single_ends (row_begin l i)) (begin_of l.single_ends (row_end l i))
 
--- the place in front of single k
-abbrev pub place_at : Levels → ℕ → Place
-place_at l k =
-    record {
-      singles = k;
-      rings = begin_of l.single_ends k;
-      coordinates = begin_of l.ring_ends (begin_of l.single_ends k);
-    }
+-- ---- how far rows reach
 
--- a place is no further than another, at any level
-pub record IsUpTo (place other : Place) : Type 0 where
-  pub singles : place.singles ≤ other.singles
-  pub rings : place.rings ≤ other.rings
-  pub coordinates : place.coordinates ≤ other.coordinates
+-- where row i begins and ends in rings, and in coordinates
+abbrev pub rings_begin : Levels → ℕ → ℕ
+rings_begin l i = begin_of l.single_ends (row_begin l i)
 
--- the further of two places, at each level
-abbrev pub furthest : Place → Place → Place
-furthest a b =
-    record {
-      singles = max a.singles b.singles;
-      rings = max a.rings b.rings;
-      coordinates = max a.coordinates b.coordinates;
-    }
+abbrev pub rings_end : Levels → ℕ → ℕ
+rings_end l i = begin_of l.single_ends (row_end l i)
 
--- each row before row i whose levels are in order ends at this place, or before it
-abbrev pub EndUpTo : Levels → Dimensions → ℕ → Place → Type 0
-EndUpTo l d i place = (j : ℕ) → j < i → AreRowLevels l d j → IsUpTo (place_at l (row_end l j)) place
+abbrev pub coordinates_begin : Levels → ℕ → ℕ
+coordinates_begin l i = begin_of l.ring_ends (rings_begin l i)
 
--- how far the rows before row i reach: none ends later, and no place before this one is as much
+abbrev pub coordinates_end : Levels → ℕ → ℕ
+coordinates_end l i = begin_of l.ring_ends (rings_end l i)
+
+-- items from one number up to another don't fall, nor pass so many
+pub record AreItems (count from to : ℕ) : Type 0 where
+  pub order : from ≤ to
+  pub within : to ≤ count
+
+-- row i spans singles; and rings; and coordinates: at that level and those above it, its end is not before its begin,
+-- nor past the level's end
+abbrev pub SpansSingles : Levels → ℕ → Type 0
+SpansSingles l i = AreItems (length (ends_of l.single_ends)) (row_begin l i) (row_end l i)
+
+abbrev pub SpansRings : Levels → ℕ → Type 0
+SpansRings l i = SpansSingles l i × AreItems (length (ends_of l.ring_ends)) (rings_begin l i) (rings_end l i)
+
+pub record SpansCoordinates (l : Levels) (d : Dimensions) (i : ℕ) : Type 0 where
+  pub rings : SpansRings l i
+  pub some_words : 0 < size d
+  pub coordinates : AreItems (length l.words.now / size d) (coordinates_begin l i) (coordinates_end l i)
+
+-- at a level, each row before row i that spans items there ends at this number, or before it
+abbrev pub EndUpTo : (ℕ → Type 0) → (ℕ → ℕ) → ℕ → ℕ → Type 0
+EndUpTo Spans end i n = (j : ℕ) → j < i → Spans j → end j ≤ n
+
+-- row i spans items of each level, and begins at none before the end of an earlier row that spans items there
+pub record IsClear (l : Levels) (d : Dimensions) (i : ℕ) : Type 0 where
+  pub spans : SpansCoordinates l d i
+  pub singles : EndUpTo (SpansSingles l) (row_end l) i (row_begin l i)
+  pub rings : EndUpTo (SpansRings l) (rings_end l) i (rings_begin l i)
+  pub coordinates : EndUpTo (SpansCoordinates l d) (coordinates_end l) i (coordinates_begin l i)
+
+-- how far the rows before row i reach at a level: none ends later there, and no lower number is as much
+pub record IsLevelReach (Spans : ℕ → Type 0) (end : ℕ → ℕ) (i reach : ℕ) : Type 0 where
+  pub enough : EndUpTo Spans end i reach
+  pub least : (n : ℕ) → EndUpTo Spans end i n → reach ≤ n
+
+-- how far the rows before row i reach
 pub record IsFloor (l : Levels) (d : Dimensions) (i : ℕ) (floor : Place) : Type 0 where
-  pub enough : EndUpTo l d i floor
-  pub least : (place : Place) → EndUpTo l d i place → IsUpTo floor place
+  pub singles : IsLevelReach (SpansSingles l) (row_end l) i floor.singles
+  pub rings : IsLevelReach (SpansRings l) (rings_end l) i floor.rings
+  pub coordinates : IsLevelReach (SpansCoordinates l d) (coordinates_end l) i floor.coordinates

@@ -6,3 +6,5 @@ pub mod PolygonLists
 pub mod Columns
 pub mod Meant
 pub mod RowWrites
+pub mod RowsLeft
+pub mod Scans

@@ -15,7 +15,7 @@ use Rattle.wkb_levels.specs.declared.row.Row.TheVariants as rows
 use Rattle.wkb_levels.specs.declared.row.Kind.{Kind}
 use Rattle.wkb_levels.specs.declared.row.Kind.TheVariants as kinds
 use Rattle.wkb_levels.specs.declared.levels.Levels.{Levels}
-use Rattle.wkb_levels.specs.Columns.{AreRowLevels, EndUpTo, place_at, row_begin, singles_of}
+use Rattle.wkb_levels.specs.Columns.{AreRowLevels, IsClear, singles_of}
 use Rattle.wkb_levels.specs.Cuts.{only, and_then, only_each}
 use Rattle.wkb_levels.specs.RingLists.{rings_dimensions, rings_rings, rings_lawful}
 use Rattle.wkb_levels.specs.PointLists.{points_dimensions, points_points, points_lawful}
@@ -88,10 +88,11 @@ singles_as kind s = kind_meant kind (polygons_dimensions s) (polygons_polygons s
 
 -- ---- a row of a column
 
--- the levels of row i are in order, none begins before an earlier row's end, and they mean this geometry of this kind
+-- the levels of row i are in order, at none it begins before the end of an earlier row that spans items there, and they
+-- mean this geometry of this kind
 pub record IsLevelRow (l : Levels) (kind : Kind) (d : Dimensions) (i : ℕ) (g : Geometry) : Type 0 where
   pub levels : AreRowLevels l d i
-  pub follows : EndUpTo l d i (place_at l (row_begin l i))
+  pub clear : IsClear l d i
   pub meant : kind_meant kind d (singles_of l d i) ≡ Some g
 
 -- row i means no geometry of this kind

@@ -1,9 +1,10 @@
 //! The levels of a column.
 
-ghost use Rattle.std.specs.Prelude.{◌≡◌, ◌≤◌, ◌<◌, ◌↔◌, length, IfSome, IsSome, IsTrue, slice_index};
+ghost use Rattle.std.specs.Prelude.{◌≡◌, ◌<◌, ◌+◌, ◌↔◌, length, IfSome, IsSome, IsTrue};
 ghost use Rattle.wkb_geom.specs.Found.{HasDimensions};
 ghost use Rattle.wkb_geom.specs.declared.common.Dimensions.{Dimensions};
-ghost use Rattle.wkb_levels.specs.EndLists.{ends_of, begin_of};
+ghost use Rattle.wkb_levels.specs.Columns.{AreItems};
+ghost use Rattle.wkb_levels.specs.EndLists.{ends_of};
 ghost use Rattle.wkb_levels.specs.PolygonLists.{polygons_dimensions, polygons_polygons};
 
 use crate::ends::Ends;
@@ -21,7 +22,7 @@ pub struct Levels<'w> {
     pub row_ends: Ends<'w>,
 }
 
-/// A place between singles: how many singles, rings and coordinates stand before it.
+/// How far rows reach: behind how many singles, rings and coordinates.
 #[derive(Debug, Clone, Copy)]
 pub struct Place {
     pub singles: u64,
@@ -31,7 +32,7 @@ pub struct Place {
 
 #[tactic(auto, using(crate::proofs::Floors::floor_laws))]
 impl Place {
-    ghost use Rattle.wkb_levels.specs.Columns.{IsUpTo, IsFloor, furthest};
+    ghost use Rattle.wkb_levels.specs.Columns.{IsFloor};
 
     /// The place in front of all rows.
     pub fn front() -> Place
@@ -43,49 +44,59 @@ impl Place {
             coordinates: 0,
         }
     }
-
-    /// Whether it is no further than another, at any level.
-    pub fn is_up_to(&self, other: &Place) -> bool
-        ensures { IsTrue result ↔ IsUpTo self.now other.now }
-    {
-        self.singles <= other.singles
-            && self.rings <= other.rings
-            && self.coordinates <= other.coordinates
-    }
-
-    /// The further of two places, at each level.
-    pub fn furthest(&self, other: &Place) -> Place
-        ensures { result ≡ furthest self.now other.now }
-    {
-        Place {
-            singles: self.singles.max(other.singles),
-            rings: self.rings.max(other.rings),
-            coordinates: self.coordinates.max(other.coordinates),
-        }
-    }
 }
 
-impl<'w> Levels<'w> {
-    ghost use Rattle.wkb_levels.specs.Columns.{AreRowLevels, singles_of, place_at};
+/// Whether items from one number up to another don't fall, nor pass so many.
+fn are_items(from: u64, to: u64, count: usize) -> bool
+    ensures { IsTrue result ↔ AreItems count from to }
+{
+    from <= to && to <= count as u64
+}
 
-    /// The place in front of single k.
-    pub fn place(&self, k: u64) -> Place
-        requires singles { k ≤ length (ends_of self.now.single_ends) }
-        requires rings { begin_of self.now.single_ends k ≤ length (ends_of self.now.ring_ends) }
-        ensures { result ≡ place_at self.now k }
+#[tactic(auto, using(crate::proofs::Floors::floor_laws))]
+impl<'w> Levels<'w> {
+    ghost use Rattle.wkb_levels.specs.Columns.{AreRowLevels, IsClear, IsFloor, singles_of};
+
+    /// Moves the floor on past row i, as `row` does, where the row itself isn't asked for: a null row. Says whether the
+    /// row is clear: it spans items of each level, and begins at none before the floor. It looks at six ends, however
+    /// long the row is.
+    pub fn pass(&self, dim: Dimensions, i: usize, floor: &mut Place) -> bool
+        requires index { i < length (ends_of self.now.row_ends) }
+        requires floor { IsFloor self.now dim i floor.old }
+        ensures clear { IsTrue result ↔ IsClear self.now dim i }
+        ensures floor { IsFloor self.now dim (i + 1) floor.new }
     {
-        let rings = self.single_ends.begin(k as usize);
-        Place {
-            singles: k,
-            rings,
-            coordinates: self.ring_ends.begin(rings as usize),
+        let single = self.row_ends.begin(i);
+        let singles_end = self.row_ends.end(i);
+        if !are_items(single, singles_end, self.single_ends.len()) {
+            return false;
         }
+        let ring = self.single_ends.begin(single as usize);
+        let rings_end = self.single_ends.begin(singles_end as usize);
+        let singles_clear = floor.singles <= single;
+        floor.singles = floor.singles.max(singles_end);
+        if !are_items(ring, rings_end, self.ring_ends.len()) {
+            return false;
+        }
+        let coordinate = self.ring_ends.begin(ring as usize);
+        let coordinates_end = self.ring_ends.begin(rings_end as usize);
+        let rings_clear = floor.rings <= ring;
+        floor.rings = floor.rings.max(rings_end);
+        let width = dim.size();
+        if width == 0 || !are_items(coordinate, coordinates_end, self.words.len() / width) {
+            return false;
+        }
+        let coordinates_clear = floor.coordinates <= coordinate;
+        floor.coordinates = floor.coordinates.max(coordinates_end);
+        singles_clear && rings_clear && coordinates_clear
     }
 
     /// The singles of row i, as polygons are. None where its levels fall, or pass the next level's end, or the
-    /// dimension has no words.
-    pub fn singles(&self, dim: Dimensions, i: usize) -> Option<Polygons<'w>>
-        requires { i < length (ends_of self.now.row_ends) }
+    /// dimension has no words. It looks at the end of each single and ring that the row spans. So only a row is asked
+    /// for that spans none that an earlier row does.
+    pub(crate) fn singles(&self, dim: Dimensions, i: usize) -> Option<Polygons<'w>>
+        requires index { i < length (ends_of self.now.row_ends) }
+        requires clear { IsClear self.now dim i }
         ensures some { IsSome result ↔ AreRowLevels self.now dim i }
         ensures dimensions { HasDimensions polygons_dimensions result dim }
         ensures polygons { IfSome result (λ p. polygons_polygons p ≡ singles_of self.now dim i) }

@@ -10,6 +10,7 @@ mod points;
 mod polygons;
 mod rings;
 mod row;
+mod rows;
 mod single;
 mod write;
 
@@ -19,5 +20,6 @@ pub use points::Points;
 pub use polygons::Polygons;
 pub use rings::Rings;
 pub use row::{Kind, Row};
+pub use rows::Rows;
 pub use single::Single;
 pub use write::Written;

@@ -74,32 +74,20 @@ impl<'w> Levels<'w> {
     /// single of another kind than a polygon has one ring, and a point's ring has one coordinate.
     ///
     /// The floor is how far the rows before it reach, and then how far it reaches too. So rows are asked for in turn,
-    /// from `Place::front` on. A row whose own levels fall, or pass the next level's end, reaches nowhere.
+    /// from `Place::front` on; `rows` does it. A row that at a level ends before it begins, or past the level's end,
+    /// reaches nowhere there and below. The ends between a row's first and last are looked at only where the row begins
+    /// at no level before the floor, so those of a column are looked at once, whatever they say.
     pub fn row(&self, kind: Kind, dim: Dimensions, i: usize, floor: &mut Place) -> Option<Row<'w>>
         requires index { i < length (ends_of self.now.row_ends) }
         requires floor { IsFloor self.now dim i floor.old }
         ensures row { FindsRow self.now kind dim i result }
         ensures floor { IsFloor self.now dim (i + 1) floor.new }
     {
-        let singles = self.singles(dim, i)?;
-        let follows = floor.is_up_to(&self.place(self.row_ends.begin(i)));
-        *floor = floor.furthest(&self.place(self.row_ends.end(i)));
-        if !follows {
+        if !self.pass(dim, i, floor) {
             return None;
         }
+        let singles = self.singles(dim, i)?;
         row_of_singles(&singles, kind)
-    }
-
-    /// Moves the floor on past row i, as `row` does, where the row itself isn't asked for: a null row.
-    pub fn pass(&self, dim: Dimensions, i: usize, floor: &mut Place)
-        requires index { i < length (ends_of self.now.row_ends) }
-        requires floor { IsFloor self.now dim i floor.old }
-        ensures { IsFloor self.now dim (i + 1) floor.new }
-    {
-        let Some(_) = self.singles(dim, i) else {
-            return;
-        };
-        *floor = floor.furthest(&self.place(self.row_ends.end(i)));
     }
 }
 

@@ -2,6 +2,7 @@
 use Rattle.wkb_sink.proofs.Prelude.{◌≡◌, ℕ, zero, suc, ◌+◌, ◌-◌, ◌*◌, ◌<◌, ◌≤◌, List, [], ◌∷◌, ◌++◌, length, take, drop}
 use Rattle.wkb_sink.proofs.Prelude.{Some, refl, sym, ap, ◌∙◌, arith, slice_get, slice_index, length-append, flat_map}
 use Rattle.wkb_sink.proofs.Prelude.{flat_map-append, length-drop, length-take-le, Endianness, words_encoding}
+use Rattle.wkb_sink.proofs.Prelude.{take_all, append_assoc, subst}
 use Rattle.std.proofs.Math.Nat.{mul-add}
 use Rattle.std.specs.List.{AllByRecursion, concat}
 use Rattle.std.proofs.lemmas.List.Concat.{concat_is}
@@ -58,27 +59,91 @@ one_word_more order words all part i k word behind item stored fits part_fits =
     rw next (stored_next _ _ _ _ (8 * i) 8 _ behind fits stored part_fits)
     ∙ sym (flat_map_step (number_bytes order 8) words i word item)
 
+-- two words more are stored
+two_words_more : (order : Endianness) (words all part : List ℕ) (i k first second : ℕ)
+    → take (16 * i) all ≡ words_encoding order (take (2 * i) words)
+    → slice_get words (2 * i) ≡ Some first → slice_get words (2 * i + 1) ≡ Some second
+    → take 16 part ≡ number_bytes order 8 first ++ number_bytes order 8 second
+    → 16 * i ≤ length all → 16 ≤ length part
+    → take (16 * (i + 1)) (put_mid (16 * i) k all part) ≡ words_encoding order (take (2 * (i + 1)) words)
+unfolding words_encoding
+two_words_more order words all part i k first second behind one two stored fits part_fits =
+    let next : 16 * (i + 1) ≡ 16 * i + 16 = omega arith in
+    let both : 2 * (i + 1) ≡ 2 * i + 1 + 1 = omega arith in
+    let each = number_bytes order 8 in
+    rw (next, both) (stored_next _ _ _ _ (16 * i) 16 _ behind fits stored part_fits
+    ∙ sym (append_assoc (flat_map each (take (2 * i) words)) (each first) (each second))
+    ∙ ap (λ l. l ++ each second) (sym (flat_map_step each words (2 * i) first one))
+    ∙ sym (flat_map_step each words (2 * i + 1) second two))
+
+-- what the pairs leave behind, by the number of the words
+pub behind_pairs : (order : Endianness) (words all : List ℕ) (pair i : ℕ)
+    → take (16 * pair) all ≡ words_encoding order (take (2 * pair) words) → 2 * pair ≡ i
+    → take (8 * i) all ≡ words_encoding order (take i words)
+behind_pairs order words all pair i behind many =
+    let place : 8 * (2 * pair) ≡ 16 * pair = omega arith in
+    subst (λ n. take (8 * n) all ≡ words_encoding order (take n words)) many
+    (ap (λ k. take k all) place ∙ behind)
+
 -- of words at hand
-pub stored_more : (order : Endianness) (words all part : List ℕ) (i k : ℕ)
+pub stored_two_more : (order : Endianness) (words all part : List ℕ) (i k : ℕ)
+    → take (16 * i) all ≡ words_encoding order (take (2 * i) words)
+    → take 16 part
+    ≡ number_bytes order 8 (slice_index words (2 * i)) ++ number_bytes order 8 (slice_index words (2 * i + 1))
+    → 2 * i + 1 < length words → 16 * i ≤ length all → 16 ≤ length part
+    → take (16 * (i + 1)) (put_mid (16 * i) k all part) ≡ words_encoding order (take (2 * (i + 1)) words)
+stored_two_more order words all part i k behind stored more fits part_fits =
+    two_words_more order words all part i k _ _ behind (slice_get-get_or words (2 * i) 0 (omega (arith, more)))
+    (slice_get-get_or words (2 * i + 1) 0 more) stored fits part_fits
+
+-- the last of an odd number of them
+pub stored_last : (order : Endianness) (words all part : List ℕ) (i k : ℕ)
     → take (8 * i) all ≡ words_encoding order (take i words)
     → take 8 part ≡ number_bytes order 8 (slice_index words i)
-    → i < length words → 8 * i ≤ length all → 8 ≤ length part
-    → take (8 * (i + 1)) (put_mid (8 * i) k all part) ≡ words_encoding order (take (i + 1) words)
-stored_more order words all part i k behind stored more fits part_fits =
-    one_word_more order words all part i k _ behind (slice_get-get_or words i 0 more) stored fits part_fits
+    → i + 1 ≡ length words → 8 * i ≤ length all → 8 ≤ length part
+    → take (8 * length words) (put_mid (8 * i) k all part) ≡ words_encoding order words
+stored_last order words all part i k behind stored last fits part_fits =
+    subst (λ n. take (8 * n) (put_mid (8 * i) k all part) ≡ words_encoding order (take n words)) last
+    (one_word_more order words all part i k _ behind (slice_get-get_or words i 0 (omega (arith, last))) stored fits
+    part_fits)
+    ∙ ap (words_encoding order) (take_all (length words) words (omega arith))
+
+-- the word at an index of those that the bytes hold in this order
+word_held : (held : Endianness) (words lent : List ℕ) (at i word : ℕ) → AllByRecursion IsWord words
+    → lent ≡ words_encoding held words → at ≡ 8 * i → word ≡ number held 8 (drop at lent) → i < length words
+    → slice_get words i ≡ Some word
+word_held held words lent at i word fit is place read more =
+    word_at held words i fit more
+    ∙ ap Some ((λ j. number held 8 (drop (sym place j) (sym is j))) ∙ sym read)
 
 -- of words that are read in one order, and stored in another
-pub turned_more : (held order : Endianness) (words lent all part : List ℕ) (i k word : ℕ) → AllByRecursion IsWord words
+pub turned_two_more : (held order : Endianness) (words lent all part : List ℕ) (i k first second : ℕ)
+    → AllByRecursion IsWord words
+    → lent ≡ words_encoding held words
+    → take (16 * i) all ≡ words_encoding order (take (2 * i) words)
+    → first ≡ number held 8 (drop (16 * i) lent)
+    → second ≡ number held 8 (drop (16 * i + 8) lent)
+    → take 16 part ≡ number_bytes order 8 first ++ number_bytes order 8 second
+    → 2 * i + 1 < length words → 16 * i ≤ length all → 16 ≤ length part
+    → take (16 * (i + 1)) (put_mid (16 * i) k all part) ≡ words_encoding order (take (2 * (i + 1)) words)
+turned_two_more held order words lent all part i k first second fit is behind one two stored more fits part_fits =
+    two_words_more order words all part i k first second behind
+    (word_held held words lent (16 * i) (2 * i) first fit is (omega arith) one (omega (arith, more)))
+    (word_held held words lent (16 * i + 8) (2 * i + 1) second fit is (omega arith) two more) stored fits part_fits
+
+-- the last of an odd number of them
+pub turned_last : (held order : Endianness) (words lent all part : List ℕ) (i k word : ℕ) → AllByRecursion IsWord words
     → lent ≡ words_encoding held words
     → take (8 * i) all ≡ words_encoding order (take i words)
     → word ≡ number held 8 (drop (8 * i) lent)
     → take 8 part ≡ number_bytes order 8 word
-    → i < length words → 8 * i ≤ length all → 8 ≤ length part
-    → take (8 * (i + 1)) (put_mid (8 * i) k all part) ≡ words_encoding order (take (i + 1) words)
-turned_more held order words lent all part i k word fit is behind read stored more fits part_fits =
-    let item : slice_get words i ≡ Some word =
-    word_at held words i fit more ∙ ap (λ l. Some (number held 8 (drop (8 * i) l))) (sym is) ∙ ap Some (sym read) in
-    one_word_more order words all part i k word behind item stored fits part_fits
+    → i + 1 ≡ length words → 8 * i ≤ length all → 8 ≤ length part
+    → take (length lent) (put_mid (8 * i) k all part) ≡ words_encoding order words
+turned_last held order words lent all part i k word fit is behind read stored last fits part_fits =
+    let whole : length lent ≡ 8 * (i + 1) = omega (arith, ap length is, words_length held words, last) in
+    rw whole (one_word_more order words all part i k word behind
+    (word_held held words lent (8 * i) i word fit is refl read (omega (arith, last))) stored fits part_fits
+    ∙ ap (words_encoding order) (take_all (i + 1) words (omega (arith, last))))
 
 -- a run of items of k bytes each
 run_front : {X : Type 0} (f : X → List ℕ) (k : ℕ) (xs : List X) (to : ℕ) → AllByRecursion (λ x. length (f x) ≡ k) xs

@@ -110,26 +110,40 @@ fn items_between<T>(all: &[T], size: usize, from: usize, to: usize) -> &[T]
 
 /// Stores words in one order out of bytes that hold them in another.
 #[inline(always)]
-#[tactic(auto, using(crate::proofs::Turned::turned_more, crate::proofs::Turned::words_length))]
+#[tactic(auto, using(crate::proofs::Turned::turned_two_more, crate::proofs::Turned::words_length))]
 pub fn store_words(bytes: &mut [u8], lent: &[u8], held: Endianness, order: Endianness)
     requires { length lent.now ≤ length bytes.old }
     ensures { Turns held order lent.now (take (length lent.now) bytes.new) }
 {
-    for i in 0..lent.len() / WORD_SIZE {
-        let word = u64_at(lent, WORD_SIZE * i, held);
-        store_word(&mut bytes[WORD_SIZE * i..], order, word);
+    // Two words a turn: these become one instruction where a processor has one that turns both.
+    let words = lent.len() / WORD_SIZE;
+    for pair in 0..words / 2 {
+        let at = 2 * WORD_SIZE * pair;
+        let first = u64_at(lent, at, held);
+        let second = u64_at(lent, at + WORD_SIZE, held);
+        store_two(&mut bytes[at..], order, first, second);
+    }
+    if words % 2 == 1 {
+        let at = WORD_SIZE * (words - 1);
+        let last = u64_at(lent, at, held);
+        store_word(&mut bytes[at..], order, last);
     }
 }
 
 /// Stores words one after another.
 #[inline(always)]
-#[tactic(auto, using(crate::proofs::Turned::stored_more))]
+#[tactic(auto, using(crate::proofs::Turned::stored_two_more))]
 fn store_each(bytes: &mut [u8], words: &[u64], order: Endianness)
     requires { 8 * length words.now ≤ length bytes.old }
     ensures { take (8 * length words.now) bytes.new ≡ words_encoding order words.now }
 {
-    for i in 0..words.len() {
-        store_word(&mut bytes[WORD_SIZE * i..], order, words[i]);
+    for pair in 0..words.len() / 2 {
+        let (first, second) = (words[2 * pair], words[2 * pair + 1]);
+        store_two(&mut bytes[2 * WORD_SIZE * pair..], order, first, second);
+    }
+    if words.len() % 2 == 1 {
+        let last = words.len() - 1;
+        store_word(&mut bytes[WORD_SIZE * last..], order, words[last]);
     }
 }
 

@@ -1,13 +1,14 @@
-use Rattle.wkb_sink.proofs.Prelude.{◌≡◌, ◌∙◌, length, take, refl, ap, arith, take_all, words_encoding}
+use Rattle.wkb_sink.proofs.Prelude.{◌-◌, length, refl, arith, words_encoding}
+use Rattle.wkb_sink.proofs.Turned.{behind_pairs, stored_last}
 use Rattle.wkb_sink.proofs.store.store_each.Goals as goal
 
-pub loop-i-init : goal.loop-i-init
+pub loop-pair-init : goal.loop-pair-init
 unfolding words_encoding
-loop-i-init c = refl
+loop-pair-init c = refl
 
-pub returns : goal.returns
-returns c =
+pub returns-then-words-eq1 : goal.returns-then-words-eq1
+returns-then-words-eq1 c =
     let words = c.args.words.now in
-    let all : length words ≡ c.loop-i.i = omega arith in
-    let last : take c.loop-i.i words ≡ words = take_all c.loop-i.i words (omega (arith, all)) in
-    rw all (c.loop-i.invariant ∙ ap (words_encoding c.args.order) last)
+    stored_last c.args.order words c.loop-pair.bytes c.store_word.new.bytes (length words - 1) _
+    (behind_pairs c.args.order words c.loop-pair.bytes c.loop-pair.pair _ c.loop-pair.invariant (omega arith))
+    c.store_word.ensures (omega arith) (omega arith) (omega arith)

@@ -1,5 +1,5 @@
 use Rattle.wkb_sink.proofs.Prelude.{◌≡◌, ◌*◌, take, words_encoding}
 use Rattle.wkb_sink.proofs.store.store_each.Given as goal
 
-abbrev pub invariant-loop-i : goal.invariant-loop-i
-invariant-loop-i l = take (8 * l.i) l.bytes ≡ words_encoding l.order (take l.i l.words)
+abbrev pub invariant-loop-pair : goal.invariant-loop-pair
+invariant-loop-pair l = take (16 * l.pair) l.bytes ≡ words_encoding l.order (take (2 * l.pair) l.words)

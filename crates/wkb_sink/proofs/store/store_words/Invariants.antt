@@ -3,7 +3,7 @@ use Rattle.std.specs.List.{AllByRecursion}
 use Rattle.wkb_geom.specs.Numbers.{IsWord}
 use Rattle.wkb_sink.proofs.store.store_words.Given as goal
 
-abbrev pub invariant-loop-i : goal.invariant-loop-i
-invariant-loop-i l =
+abbrev pub invariant-loop-pair : goal.invariant-loop-pair
+invariant-loop-pair l =
     (words : List ℕ) → AllByRecursion IsWord words → l.lent ≡ words_encoding l.held words
-    → take (8 * l.i) l.bytes ≡ words_encoding l.order (take l.i words)
+    → take (16 * l.pair) l.bytes ≡ words_encoding l.order (take (2 * l.pair) words)

@@ -1,21 +1,56 @@
-use Rattle.std.proofs.Common.{refl, ap, ◌∙◌}
-use Rattle.std.proofs.lemmas.Bool.{false≢true}
-use Rattle.wkb_levels.specs.Columns.{furthest}
-use Rattle.wkb_levels.proofs.ColumnLaws.{end_within}
-use Rattle.wkb_levels.proofs.Floors.{floor_kept, floor_moved}
+use Rattle.std.proofs.Common.{rules}
+use Rattle.wkb_levels.specs.Columns.{SpansSingles, SpansRings, SpansCoordinates}
+use Rattle.wkb_levels.proofs.Floors.{reach_kept, reach_moved}
 use Rattle.wkb_levels.proofs.levels.Levels.pass.Goals as goal
 
-pub place-requires-clause-rings : goal.place-requires-clause-rings
-place-requires-clause-rings c =
-    end_within c.args.self.now c.args.dim c.args.i _ c.end.ensures (c.in-Some.ensures.some.0 refl)
+pub returns-then-not-are_items-clause-floor : goal.returns-then-not-are_items-clause-floor
+returns-then-not-are_items-clause-floor c =
+    let no : SpansSingles c.args.self.now c.args.i → ⊥ = λ spans. search rules in
+    record {
+      singles = reach_kept c.requires.floor.singles no;
+      rings = reach_kept c.requires.floor.rings (λ spans. no spans.0);
+      coordinates = reach_kept c.requires.floor.coordinates (λ spans. no spans.rings.0);
+    }
 
-pub returns : goal.returns
-returns c =
-    floor_moved c.args.self.now c.args.dim c.args.i c.end.result c.args.floor.now c.furthest.result c.requires.floor
-    (c.in-Some.ensures.some.0 refl) c.end.ensures
-    (c.furthest.ensures ∙ ap (furthest c.args.floor.now) c.place.ensures)
+pub returns-then-not-are_items-2-clause-floor : goal.returns-then-not-are_items-2-clause-floor
+returns-then-not-are_items-2-clause-floor c =
+    let some : SpansSingles c.args.self.now c.args.i = search rules in
+    let no : SpansRings c.args.self.now c.args.i → ⊥ = λ spans. search rules in
+    record {
+      singles = reach_moved c.requires.floor.singles some _ (search rules);
+      rings = reach_kept c.requires.floor.rings no;
+      coordinates = reach_kept c.requires.floor.coordinates (λ spans. no spans.rings);
+    }
 
-pub returns-in_default : goal.returns-in_default
-returns-in_default c =
-    floor_kept c.args.self.now c.args.dim c.args.i c.args.floor.now c.requires.floor
-    (λ are. false≢true (c.in_default.ensures.some.1 are))
+pub returns-then-width-eq0-clause-floor : goal.returns-then-width-eq0-clause-floor
+returns-then-width-eq0-clause-floor c =
+    let some : SpansSingles c.args.self.now c.args.i = search rules in
+    let spans : SpansRings c.args.self.now c.args.i = search rules in
+    let no : SpansCoordinates c.args.self.now c.args.dim c.args.i → ⊥ = λ spans. search rules in
+    record {
+      singles = reach_moved c.requires.floor.singles some _ (search rules);
+      rings = reach_moved c.requires.floor.rings spans _ (search rules);
+      coordinates = reach_kept c.requires.floor.coordinates no;
+    }
+
+pub returns-then-rings_clear-clause-floor : goal.returns-then-rings_clear-clause-floor
+returns-then-rings_clear-clause-floor c =
+    let some : SpansSingles c.args.self.now c.args.i = search rules in
+    let spans : SpansRings c.args.self.now c.args.i = search rules in
+    let whole : SpansCoordinates c.args.self.now c.args.dim c.args.i = search rules in
+    record {
+      singles = reach_moved c.requires.floor.singles some _ (search rules);
+      rings = reach_moved c.requires.floor.rings spans _ (search rules);
+      coordinates = reach_moved c.requires.floor.coordinates whole _ (search rules);
+    }
+
+pub returns-else-rings_clear-clause-floor : goal.returns-else-rings_clear-clause-floor
+returns-else-rings_clear-clause-floor c =
+    let some : SpansSingles c.args.self.now c.args.i = search rules in
+    let spans : SpansRings c.args.self.now c.args.i = search rules in
+    let whole : SpansCoordinates c.args.self.now c.args.dim c.args.i = search rules in
+    record {
+      singles = reach_moved c.requires.floor.singles some _ (search rules);
+      rings = reach_moved c.requires.floor.rings spans _ (search rules);
+      coordinates = reach_moved c.requires.floor.coordinates whole _ (search rules);
+    }
