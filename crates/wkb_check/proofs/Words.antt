@@ -29,7 +29,7 @@ use Rattle.wkb_check.specs.Pieces.{leading, size, pieces_of, pieces_of_rings, pi
 use Rattle.wkb_check.specs.Pieces.{IsAhead, IsTaken}
 use Rattle.wkb_check.specs.declared.pieces.Pieces.{Pieces}
 use Rattle.wkb_check.proofs.Widening.{widened-append}
-use Rattle.wkb_check.proofs.Placing.{cut, body_at, has_rings, own_piece, no_pieces, spelled_size}
+use Rattle.wkb_check.proofs.Placing.{cut, body_at, has_rings, leaf_of, own_piece, no_pieces, spelled_size}
 
 -- the words of a piece's own coordinates on an axis
 abbrev pub piece_words : Axis → List ℕ → Piece → List ℕ
@@ -174,6 +174,17 @@ mutual
   members_words a buf at w no_spellings (member t ts) x rest e h r = absurd h
   members_words a buf at w (spelling s ss) no_members x rest e h r = absurd h
 
+-- a geometry with coordinates is one piece, and its words are that piece's
+pub one_words : (a : Axis) (buf : List ℕ) (g : HasGeometry buf) (p : Piece) → p ≡ piece_of 0 g.spelled g.value
+    → nat_lt p.kind 3 ≡ true
+    → widened no_numbers (words_in a p.dimension (coordinates p.order p.dimension p.count (drop p.offset buf)))
+    ≡ range_of (words_on a g.value)
+one_words a buf g p is low =
+    ap (widened no_numbers) (sym (leaf_words a buf p low) ∙ sym (append-nil (piece_words a buf p)))
+    ∙ ap (λ ps. widened no_numbers (words_of_each (piece_words a buf) ps))
+    (sym (own_piece 0 g.spelled g.value ∙ (λ i. sym is i ∷ (leaf_of buf 0 0 g p is low).3 i)))
+    ∙ geometry_words a buf 0 g.spelled g.value g.rest g.begins no_numbers
+
 -- ---- the loop over the pieces
 
 -- with the words of the pieces that are to come, the bounds are those of the value
@@ -183,7 +194,7 @@ pub record Comes (buf : List ℕ) (w : Pieces) (now : Bounds) (t : Value) : Type
   pub widens : (a : Axis)
       → widened (on a now) (words_of_each (piece_words a buf) pieces) ≡ range_of (words_on a t)
 
-on_nothing : (a : Axis) → on a nothing ≡ no_numbers
+pub on_nothing : (a : Axis) → on a nothing ≡ no_numbers
 on_nothing x_axis = refl
 on_nothing y_axis = refl
 on_nothing z_axis = refl

@@ -8,12 +8,12 @@ ghost use Rattle.wkb_check.specs.Pieces.{IsTaken, IsNext, IsInside};
 ghost use Rattle.wkb_check.specs.Public.{DescribesFront};
 
 use crate::answer::Summary;
-use crate::head::{bare_kind, read, srid_size};
+use crate::head::{bare_kind, srid_size};
 use crate::range::rest_from;
 use wkb_geom::code::{POINT, POLYGON};
 use wkb_geom::header::MEMBER_HEADER_SIZE;
 use wkb_geom::words::{COUNT_SIZE, WORD_SIZE, u32_at};
-use wkb_geom::{Dimension, Endianness};
+use wkb_geom::{Dimension, Endianness, Head};
 
 /// The number of a ring among the kinds.
 pub const RING: u32 = 0;
@@ -96,7 +96,7 @@ impl Piece {
         ensures { IsPieceAt bytes.now begin result }
     {
         let from = rest_from(bytes, begin);
-        let header = match read(from) {
+        let header = match Head::read(from) {
             Ok(header) => header,
             Err(_) => unreachable!(),
         };

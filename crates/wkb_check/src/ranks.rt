@@ -18,11 +18,9 @@ const SIGN: u64 = 0x8000_0000_0000_0000;
 fn rank(word: u64) -> u64
     ensures { result ≡ rank_of word }
 {
-    if word < SIGN {
-        word + SIGN
-    } else {
-        u64::MAX - word
-    }
+    // One exclusive or with a mask takes fewer steps than a sum and a difference to choose from.
+    let mask = if word < SIGN { SIGN } else { u64::MAX };
+    word ^ mask
 }
 
 /// The word of a rank.
@@ -30,11 +28,8 @@ fn rank(word: u64) -> u64
 fn word_of(rank: u64) -> u64
     ensures { result ≡ word_by rank }
 {
-    if rank < SIGN {
-        u64::MAX - rank
-    } else {
-        rank - SIGN
-    }
+    let mask = if rank < SIGN { u64::MAX } else { SIGN };
+    rank ^ mask
 }
 
 /// A range by the ranks of its words, which are compared as they stand.

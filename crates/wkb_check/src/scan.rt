@@ -1,13 +1,61 @@
 //! The bounds of a geometry, by one walk over its pieces.
 
-ghost use Rattle.std.specs.Prelude.{◌≡◌, Err, IfOk, IfErr};
+ghost use Rattle.std.specs.Prelude.{◌≡◌, nat_lt, true, Err, IfOk, IfErr, IfSome};
+ghost use Rattle.wkb_geom.specs.declared.code.TheConstants.{POLYGON};
 ghost use Rattle.wkb_check.specs.Bounded.{HasGeometry, AreBounds, BoundsFront, BoundsOnlyFront, FindsBounds};
-ghost use Rattle.wkb_check.specs.Public.{Checks};
+ghost use Rattle.wkb_check.specs.Pieces.{IsPieceAt};
+ghost use Rattle.wkb_check.specs.Public.{Checks, DescribesFront};
 
-use crate::answer::{Refused, check, check_plain};
+use crate::answer::{Refused, Summary, check, check_plain};
 use crate::axes::AxisRanks;
-use crate::pieces::Pieces;
+use crate::pieces::{Piece, Pieces};
 use crate::range::{Bounds, rest_from};
+use wkb_geom::code::POLYGON;
+
+/// The bounds of a geometry that has coordinates, and so is this piece alone.
+#[inline(always)]
+fn bounds_of_piece(buf: &[u8], only: &Piece) -> Bounds
+    requires here { HasGeometry buf.now }
+    requires only { IsPieceAt buf.now 0 only.now }
+    requires low { nat_lt only.now.kind POLYGON ≡ true }
+    ensures { (g : HasGeometry buf.now) → AreBounds result g.value }
+{
+    let mut ranks = AxisRanks::empty();
+    let bytes = rest_from(buf, only.offset);
+    ranks.widen(only.order, only.dimension, only.count, bytes);
+    ranks.bounds()
+}
+
+/// The first piece of a geometry that has coordinates, and so is this piece alone. Of another none is made, since the
+/// walk finds it again.
+#[inline(always)]
+fn only_piece(buf: &[u8], found: &Summary) -> Option<Piece>
+    requires { DescribesFront buf.now found.now }
+    ensures here { IfSome result (IsPieceAt buf.now 0) }
+    ensures low { IfSome result (λ p. nat_lt p.kind POLYGON ≡ true) }
+{
+    if found.wkb_type.kind() >= POLYGON {
+        return None;
+    }
+    let first = Piece::outermost(buf, found);
+    if first.has_coordinates() {
+        Some(first)
+    } else {
+        None
+    }
+}
+
+/// Puts the bounds of the geometry at the front of bytes in which the check found this.
+#[inline(always)]
+fn put_bounds_found(buf: &[u8], found: &Summary, bounds: &mut Bounds)
+    requires { DescribesFront buf.now found.now }
+    ensures { (g : HasGeometry buf.now) → AreBounds bounds.new g.value }
+{
+    match only_piece(buf, found) {
+        Some(only) => *bounds = bounds_of_piece(buf, &only),
+        None => put_bounds_of_front(buf, bounds),
+    }
+}
 
 /// Puts the bounds of the geometry at the front of the bytes, which is known to be there.
 fn put_bounds_of_front(buf: &[u8], bounds: &mut Bounds)
@@ -33,9 +81,11 @@ pub fn put_bounds(buf: &[u8], bounds: &mut Bounds) -> Result<(), Refused>
     ensures refused { IfErr result (λ e. Checks buf.now (Err e)) }
     ensures kept { IfErr result (λ _. bounds.new ≡ bounds.old) }
 {
-    if check_plain(buf).is_none() {
-        check(buf)?;
+    if let Some(found) = check_plain(buf) {
+        put_bounds_found(buf, &found, bounds);
+        return Ok(());
     }
+    check(buf)?;
     put_bounds_of_front(buf, bounds);
     Ok(())
 }

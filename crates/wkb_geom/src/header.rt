@@ -1,6 +1,13 @@
 //! What comes before a body: order, code and SRID; and the count after them.
 
-use crate::code::{WkbGeometryCode, WkbType};
+ghost use Rattle.std.specs.Prelude.{◌≡◌, ◌+◌, IfSome, Some, true, false};
+ghost use Rattle.wkb_geom.specs.Codes.{srid_flag};
+ghost use Rattle.wkb_geom.specs.Reading.{meaning, meaning_of};
+
+use crate::code::{
+    GEOMETRY_COLLECTION, LINE_STRING, MULTI_LINE_STRING, MULTI_POINT, MULTI_POLYGON, POINT,
+    POLYGON, SRID_FLAG, WkbGeometryCode, WkbType,
+};
 use crate::common::{Dimension, Endianness};
 use crate::error::{Cause, General};
 use crate::words::{COUNT_SIZE, WORD_SIZE, u32_at};
@@ -39,14 +46,64 @@ pub struct Layout {
     pub has_srid: bool,
 }
 
+/// The type of a code that is the number of a kind and nothing else.
+#[tactic(auto, unfolding(crate::specs::Reading::meaning_of))]
+#[inline(always)]
+fn type_of_bare(code: u32) -> Option<WkbType>
+    ensures alone { IfSome result (λ t. meaning_of code ≡ Some (meaning t false)) }
+    ensures flagged { IfSome result (λ t. meaning_of (srid_flag + code) ≡ Some (meaning t true)) }
+{
+    match code {
+        POINT => Some(WkbType::Point(Dimension::Xy)),
+        LINE_STRING => Some(WkbType::LineString(Dimension::Xy)),
+        POLYGON => Some(WkbType::Polygon(Dimension::Xy)),
+        MULTI_POINT => Some(WkbType::MultiPoint(Dimension::Xy)),
+        MULTI_LINE_STRING => Some(WkbType::MultiLineString(Dimension::Xy)),
+        MULTI_POLYGON => Some(WkbType::MultiPolygon(Dimension::Xy)),
+        GEOMETRY_COLLECTION => Some(WkbType::GeometryCollection(Dimension::Xy)),
+        _ => None,
+    }
+}
+
 impl Head {
     ghost use Rattle.std.specs.Prelude.{◌≡◌, IfSome, Ok};
     ghost use Rattle.wkb_geom.specs.Reading.{head_at, layout_of};
 
-    /// The header at the front of the bytes.
+    /// The header at the front of the bytes, or why there is none. Its geometry may follow.
+    #[inline(always)]
+    pub fn read(bytes: &[u8]) -> Result<Head, Cause>
+        ensures { head_at bytes.now ≡ result }
+    {
+        match Head::read_bare(bytes) {
+            Some(header) => Ok(header),
+            None => Head::read_any(bytes),
+        }
+    }
+
+    /// The same by the shortest way for the most frequent codes: those that are the number of a kind, with or without
+    /// the SRID flag.
+    #[inline(always)]
+    fn read_bare(bytes: &[u8]) -> Option<Head>
+        ensures { IfSome result (λ header. head_at bytes.now ≡ Ok header) }
+    {
+        if bytes.len() < MEMBER_HEADER_SIZE {
+            return None;
+        }
+        let order = Endianness::of_byte(bytes[0])?;
+        let code = u32_at(bytes, ORDER_SIZE, order);
+        let has_srid = SRID_FLAG <= code;
+        let wkb_type = type_of_bare(if has_srid { code - SRID_FLAG } else { code })?;
+        Some(Head {
+            order,
+            wkb_type,
+            has_srid,
+        })
+    }
+
+    /// The same for any code.
     #[tactic(auto, unfolding(crate::specs::Reading::head_at))]
     #[inline]
-    pub fn read(bytes: &[u8]) -> Result<Head, Cause>
+    fn read_any(bytes: &[u8]) -> Result<Head, Cause>
         ensures { head_at bytes.now ≡ result }
     {
         let Some(first) = bytes.first() else {
@@ -121,7 +178,7 @@ impl Layout {
         // Most members have the code that ISO writes.
         let header = match Head::read_iso(wanted, bytes) {
             Some(header) => header,
-            None => Head::read(bytes)?,
+            None => Head::read_any(bytes)?,
         };
         // By numbers: `==` of the seven kinds makes a proof of many cases (docs/PROVING.md).
         let found = header.wkb_type;
