@@ -1,12 +1,16 @@
 -- The encoding is put piece by piece.
-use Rattle.std.proofs.Common.{◌≡◌, ℕ, ◌+◌, ◌≤◌, List, [], ◌++◌, length, sym, ap, ◌∙◌, arith, length-append}
+use Rattle.std.proofs.Common.{◌≡◌, ℕ, ◌+◌, ◌≤◌, List, [], ◌∷◌, ◌++◌, length, sym, ap, ◌∙◌, arith, length-append}
+use Rattle.std.proofs.Common.{nat_lt, true, map, append-nil}
 use lib.Seq.{sets}
-use Rattle.wkb_laws.specs.Prelude.{Endianness, Form, inner}
+use Rattle.wkb_laws.specs.Prelude.{Endianness, Form, inner, encoding, geometry_of}
 use Rattle.wkb_check.specs.declared.pieces.Piece.{Piece}
 use Rattle.wkb_check.specs.declared.pieces.Pieces.{Pieces}
-use Rattle.wkb_check.proofs.Placing.{sets_after}
+use Rattle.wkb_check.specs.Bounded.{HasGeometry}
+use Rattle.wkb_check.specs.Pieces.{piece_of}
+use Rattle.wkb_check.proofs.Placing.{sets_after, own_piece, leaf_of}
 use Rattle.wkb_rewrite.specs.Shares.{Share, share_in, share_encoding, IsPut}
-use Rattle.wkb_rewrite.proofs.Encodings.{shares_encoding}
+use Rattle.wkb_rewrite.proofs.Encodings.{shares_encoding, shares_encoded}
+use Rattle.wkb_rewrite.proofs.Spelled.{pieces_say}
 use Rattle.wkb_rewrite.proofs.Walks.{Rest, Next}
 use Rattle.wkb_rewrite.proofs.Putting.{put_length}
 
@@ -60,3 +64,15 @@ left_none buf order form w at out before whole l none =
       omega (arith, l.size, ap length nothing),
       ap (sets out at) (sym nothing) ∙ l.put,
     )
+
+-- a geometry with coordinates is one piece, and its encoding is that piece's
+pub one_encoded : (order : Endianness) (form : Form) (buf : List ℕ) (g : HasGeometry buf) (p : Piece)
+    → p ≡ piece_of 0 g.spelled g.value → nat_lt p.kind 3 ≡ true
+    → encoding order form (geometry_of g.value) ≡ share_encoding order form (share_in buf p)
+one_encoded order form buf g p is low =
+    let own = share_encoding order form (share_in buf p) in
+    sym (shares_encoded order form g.spelled g.value g.begins.front g.begins.first)
+    ∙ ap (shares_encoding order form) (sym (pieces_say buf 0 g.spelled g.value g.rest g.begins)
+    ∙ ap (map (share_in buf)) (own_piece 0 g.spelled g.value
+    ∙ (λ i. sym is i ∷ (leaf_of buf 0 0 g p is low).3 i)))
+    ∙ append-nil own

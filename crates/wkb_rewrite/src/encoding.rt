@@ -75,6 +75,11 @@ pub fn put_encoding(buf: &[u8], found: &Summary, target: Target, out: &mut [u8])
     ensures size { IsFrontSize buf.now target.order target.form result }
     ensures put { PutsFront buf.now target out.old out.new }
 {
+    let first = Piece::outermost(buf, found);
+    if first.has_coordinates() {
+        // It is the only piece.
+        return put_piece(buf, &first, target, out, 0);
+    }
     match Copied::of(buf, found, target) {
         Some(copied) => copied.put(out),
         None => put_pieces(buf, target, out),
