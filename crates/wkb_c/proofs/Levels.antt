@@ -13,10 +13,10 @@ use Rattle.wkb_geom.specs.declared.common.Endianness.{Endianness}
 use Rattle.wkb_geom.specs.Reading.{items, coordinate, coordinates}
 use Rattle.wkb_laws.proofs.Lengths.{width-least}
 use Rattle.wkb_check.specs.Bounded.{HasGeometry}
-use Rattle.wkb_check.specs.Pieces.{rings_of, pieces_of, IsAhead, IsTaken}
+use Rattle.wkb_check.specs.Pieces.{rings_of, pieces_of, IsAhead, IsTaken, IsPieceAt}
 use Rattle.wkb_check.specs.declared.pieces.Pieces.{Pieces}
 use Rattle.wkb_check.specs.declared.pieces.Piece.{Piece}
-use Rattle.wkb_check.proofs.Placing.{sets_after}
+use Rattle.wkb_check.proofs.Placing.{sets_after, own_piece, leaf_of}
 use Rattle.wkb_c.specs.Coordinates.{words_asked, words_in, ring_counts, single_counts, ends, totals_after, with_levels}
 use Rattle.wkb_c.specs.Coordinates.{Levels, HasRoomUpTo}
 use Rattle.wkb_c.specs.declared.coordinates.Totals.{Totals}
@@ -109,7 +109,7 @@ pub ends_length : (start : ℕ) (ns : List ℕ) → length (ends start ns) ≡ l
 ends_length start [] = refl
 ends_length start (n ∷ ns) = ap suc (ends_length (start + n) ns)
 
-sum-first : (n : ℕ) (ns : List ℕ) → sum (n ∷ ns) ≡ n + sum ns
+pub sum-first : (n : ℕ) (ns : List ℕ) → sum (n ∷ ns) ≡ n + sum ns
 sum-first n ns = grind (arith, common_steps)
 
 ends_append : (start to : ℕ) (ns ms : List ℕ) → to ≡ start + sum ns
@@ -118,7 +118,7 @@ ends_append start to [] ms is = ap (λ k. ends k ms) (omega (arith, is))
 ends_append start to (n ∷ ns) ms is =
     ap (λ z. (start + n) ∷ z) (ends_append (start + n) to ns ms (omega (arith, is, sum-first n ns)))
 
-sum_append : (ns ms : List ℕ) → sum (ns ++ ms) ≡ sum ns + sum ms
+pub sum_append : (ns ms : List ℕ) → sum (ns ++ ms) ≡ sum ns + sum ms
 sum_append [] ms = omega arith
 sum_append (n ∷ ns) ms = omega (arith, sum-first n (ns ++ ms), sum-first n ns, sum_append ns ms)
 
@@ -132,11 +132,11 @@ record FirstPiece (input : List ℕ) (p : Piece) (ps : List Piece) (xs : List Su
   pub piece : IsPieceOf input p x
   pub pieces : ArePiecesOf input ps others
 
-first_piece : {now : Pieces} {p : Piece} (input : List ℕ) (ps : List Piece) (xs : List Subject)
-    → ArePiecesOf input ps xs → (taken : IsTaken now ps p) → FirstPiece input p taken.rest xs
-first_piece {p = p} input ps xs are taken =
-    first xs (subst (λ ps. ArePiecesOf input ps xs) taken.first are) where
-      first : (xs : List Subject) → ArePiecesOf input (p ∷ taken.rest) xs → FirstPiece input p taken.rest xs
+first_piece : {p : Piece} {ps rest : List Piece} (input : List ℕ) (xs : List Subject) → ArePiecesOf input ps xs
+    → ps ≡ p ∷ rest → FirstPiece input p rest xs
+first_piece {p} {rest = rest} input xs are is =
+    first xs (subst (λ ps. ArePiecesOf input ps xs) is are) where
+      first : (xs : List Subject) → ArePiecesOf input (p ∷ rest) xs → FirstPiece input p rest xs
       first [] are = absurd are
       first (x ∷ xs) are = record { x = x; others = xs; first = refl; piece = are.0; pieces = are.1 }
 
@@ -185,34 +185,35 @@ none_added at small =
     let s : at.singles ≡ end_of at.singles 0 = omega (arith, small.singles) in
     λ i. record { coordinates = c i; rings = r i; singles = s i }
 
--- these subjects are still to be counted
-pub record TotalsLeft (input : List ℕ) (w : Pieces) (from : Totals) (all : List Subject) (to : Totals) : Type 0 where
+-- the pieces that are to come, and what is known of them
+pub record Coming (w : Pieces) (P : List Piece → Type 0) : Type 0 where
   pub ps : List Piece
-  pub xs : List Subject
   pub ahead : IsAhead w ps
+  pub left : P ps
+
+-- the subjects of these pieces are still to be counted
+pub record TotalsLeft (input : List ℕ) (from : Totals) (all : List Subject) (to : Totals) (ps : List Piece)
+    : Type 0 where
+  pub xs : List Subject
   pub match_is : ArePiecesOf input ps xs
   pub small : AreSmall to
   pub total : totals_after to xs ≡ totals_after from all
 
-pub totals_first : (input : List ℕ) (w : Pieces) (from : Totals) (g : HasGeometry input)
-    → IsAhead w (pieces_of 0 g.spelled g.value) → AreSmall from
-    → TotalsLeft input w from (subjects g.spelled g.value) from
-totals_first input w from g ahead small = record {
-  ps = pieces_of 0 g.spelled g.value;
+pub totals_first : (input : List ℕ) (from : Totals) (g : HasGeometry input) → AreSmall from
+    → TotalsLeft input from (subjects g.spelled g.value) from (pieces_of 0 g.spelled g.value)
+totals_first input from g small = record {
   xs = subjects g.spelled g.value;
-  ahead = ahead;
   match_is = pieces_match g.spelled g.value g.begins;
   small = small;
   total = refl;
 }
 
-pub totals_next : {input : List ℕ} {w now : Pieces} {from at : Totals} {all : List Subject} {p : Piece} (to : Totals)
-    → TotalsLeft input w from all at → ((ps : List Piece) → IsAhead w ps → IsTaken now ps p)
+pub totals_next : {input : List ℕ} {now : Pieces} {from at : Totals} {all : List Subject} {ps : List Piece} {p : Piece}
+    (to : Totals) → TotalsLeft input from all at ps → IsTaken now ps p
     → to.coordinates ≡ end_of at.coordinates (sum (ring_sizes p)) → to.rings ≡ end_of at.rings (length (ring_sizes p))
-    → to.singles ≡ end_of at.singles (length (single_sizes p)) → TotalsLeft input now from all to
-totals_next {input} {at = at} {p = p} to left steps coordinates_is rings_is singles_is =
-    let taken = steps left.ps left.ahead in
-    let f = first_piece input left.ps left.xs left.match_is taken in
+    → to.singles ≡ end_of at.singles (length (single_sizes p)) → Coming now (TotalsLeft input from all to)
+totals_next {input} {at = at} to left taken coordinates_is rings_is singles_is =
+    let f = first_piece input left.xs left.match_is taken.first in
     let c : end_of to.coordinates (sum (flat_map ring_counts f.others))
     ≡ end_of at.coordinates (sum (flat_map ring_counts left.xs)) = omega (arith, coordinates_is, rings_sum f) in
     let r : end_of to.rings (length (flat_map ring_counts f.others))
@@ -221,22 +222,25 @@ totals_next {input} {at = at} {p = p} to left steps coordinates_is rings_is sing
     ≡ end_of at.singles (length (flat_map single_counts left.xs)) = omega (arith, singles_is, singles_many f) in
     record {
       ps = taken.rest;
-      xs = f.others;
       ahead = taken.ahead;
-      match_is = f.pieces;
-      small = record {
-        coordinates = omega (arith, coordinates_is);
-        rings = omega (arith, rings_is);
-        singles = omega (arith, singles_is);
+      left = record {
+        xs = f.others;
+        match_is = f.pieces;
+        small = record {
+          coordinates = omega (arith, coordinates_is);
+          rings = omega (arith, rings_is);
+          singles = omega (arith, singles_is);
+        };
+        total = (λ i. record { coordinates = c i; rings = r i; singles = s i }) ∙ left.total;
       };
-      total = (λ i. record { coordinates = c i; rings = r i; singles = s i }) ∙ left.total;
     }
 
 pub totals_last : {input : List ℕ} {w : Pieces} {from : Totals} {all : List Subject} {at : Totals}
-    → TotalsLeft input w from all at → ((ps : List Piece) → IsAhead w ps → ps ≡ []) → at ≡ totals_after from all
-totals_last {input} {at = at} left none =
-    none_added at left.small
-    ∙ ap (totals_after at) (sym (no_piece input left.ps left.xs (none left.ps left.ahead) left.match_is)) ∙ left.total
+    → Coming w (TotalsLeft input from all at) → ((ps : List Piece) → IsAhead w ps → ps ≡ [])
+    → at ≡ totals_after from all
+totals_last {input} {at = at} c none =
+    none_added at c.left.small
+    ∙ ap (totals_after at) (sym (no_piece input c.ps c.left.xs (none c.ps c.ahead) c.left.match_is)) ∙ c.left.total
 
 -- ---- paces
 
@@ -349,11 +353,9 @@ items_last : {out : List ℕ} {at : ℕ} {items all : List ℕ} → ItemsLeft ou
 items_last {out} {at} left none = ap (sets out at) (sym none) ∙ left.written
 
 -- these subjects are still to be written, where so many rings of an open polygon come first
-pub record LevelsLeft (asked : Dimension) (input : List ℕ) (w : Pieces) (from : Totals) (all : List Subject)
-    (before : Levels) (at : Totals) (out : Levels) : Type 0 where
-  pub ps : List Piece
+pub record LevelsLeft (asked : Dimension) (input : List ℕ) (from : Totals) (all : List Subject) (before : Levels)
+    (at : Totals) (out : Levels) (ps : List Piece) : Type 0 where
   pub xs : List Subject
-  pub ahead : IsAhead w ps
   pub match_is : ArePiecesOf input ps xs
   pub rings_left : ℕ
   pub paced : Paced rings_left xs
@@ -364,12 +366,12 @@ pub record LevelsLeft (asked : Dimension) (input : List ℕ) (w : Pieces) (from 
   pub single_ends : ItemsLeft out.single_ends at.singles (ends (at.rings + rings_left) (flat_map single_counts xs))
       (with_levels asked all from before).single_ends
 
-pub levels_first : (asked : Dimension) (input : List ℕ) (w : Pieces) (from : Totals) (out : Levels)
-    (g : HasGeometry input) → IsAhead w (pieces_of 0 g.spelled g.value) → length out.words < 2 ^ 63
+pub levels_first : (asked : Dimension) (input : List ℕ) (from : Totals) (out : Levels) (g : HasGeometry input)
+    → length out.words < 2 ^ 63
     → length out.ring_ends < 2 ^ 63 → length out.single_ends < 2 ^ 63
     → HasRoomUpTo asked out (totals_after from (subjects g.spelled g.value))
-    → LevelsLeft asked input w from (subjects g.spelled g.value) out from out
-levels_first asked input w from out g ahead short short' short'' room =
+    → LevelsLeft asked input from (subjects g.spelled g.value) out from out (pieces_of 0 g.spelled g.value)
+levels_first asked input from out g short short' short'' room =
     let xs = subjects g.spelled g.value in
     let rings = flat_map ring_counts xs in
     let singles = flat_map single_counts xs in
@@ -377,9 +379,7 @@ levels_first asked input w from out g ahead short short' short'' room =
     omega (arith, room.words_fit, wide_enough asked (end_of from.coordinates (sum rings)), short) in
     let none : from.rings + 0 ≡ from.rings = omega arith in
     record {
-      ps = pieces_of 0 g.spelled g.value;
       xs = xs;
-      ahead = ahead;
       match_is = pieces_match g.spelled g.value g.begins;
       rings_left = 0;
       paced =
@@ -401,14 +401,11 @@ levels_first asked input w from out g ahead short short' short'' room =
       };
     }
 
-module _ {asked : Dimension} {input : List ℕ} {w : Pieces} {from : Totals} {all : List Subject} {before : Levels}
-    {at : Totals} {out : Levels} {now : Pieces} {p : Piece} (left : LevelsLeft asked input w from all before at out)
-    (steps : (ps : List Piece) → IsAhead w ps → IsTaken now ps p) where
-  taken : IsTaken now left.ps p
-  taken = steps left.ps left.ahead
-
-  this : FirstPiece input p taken.rest left.xs
-  this = first_piece input left.ps left.xs left.match_is taken
+module _ {asked : Dimension} {input : List ℕ} {from : Totals} {all : List Subject} {before : Levels} {at : Totals}
+    {out : Levels} {ps rest : List Piece} {p : Piece}
+    (left : LevelsLeft asked input from all before at out ps) (first : ps ≡ p ∷ rest) where
+  this : FirstPiece input p rest left.xs
+  this = first_piece input left.xs left.match_is first
 
   pub piece_inside : nat_lt p.kind 3 ≡ true → p.offset + 8 * width p.dimension * p.count ≤ length input
   piece_inside = this.piece.inside
@@ -483,11 +480,9 @@ module _ {asked : Dimension} {input : List ℕ} {w : Pieces} {from : Totals} {al
     from_here (inr none) =
         let same : at.rings ≡ at.rings + left.rings_left = omega (arith, none) in ap (λ k. ends k (single_sizes p)) same
 
-    pub levels_next : LevelsLeft asked input now from all before to new
-    levels_next = record {
-      ps = taken.rest;
+    pub levels_behind : LevelsLeft asked input from all before to new rest
+    levels_behind = record {
       xs = this.others;
-      ahead = taken.ahead;
       match_is = this.pieces;
       rings_left = paces.now;
       paced = paces.paced;
@@ -511,11 +506,14 @@ module _ {asked : Dimension} {input : List ℕ} {w : Pieces} {from : Totals} {al
           (single_ends_is ∙ ap (sets out.single_ends at.singles) (from_here paces.single_or_none));
     }
 
-pub levels_last : {asked : Dimension} {input : List ℕ} {w : Pieces} {from at : Totals} {all : List Subject}
-    {before out : Levels} → LevelsLeft asked input w from all before at out
-    → ((ps : List Piece) → IsAhead w ps → ps ≡ []) → out ≡ with_levels asked all from before
-levels_last {asked} {input} {at = at} left none =
-    let empty = no_piece input left.ps left.xs (none left.ps left.ahead) left.match_is in
+    pub levels_next : {now : Pieces} → IsAhead now rest → Coming now (LevelsLeft asked input from all before to new)
+    levels_next ahead = record { ps = rest; ahead = ahead; left = levels_behind }
+
+pub levels_end : {asked : Dimension} {input : List ℕ} {from at : Totals} {all : List Subject} {before out : Levels}
+    {ps : List Piece} → LevelsLeft asked input from all before at out ps → ps ≡ []
+    → out ≡ with_levels asked all from before
+levels_end {asked} {input} {at = at} {ps = ps} left none =
+    let empty = no_piece input ps left.xs none left.match_is in
     λ i. record {
       words = items_last left.words (ap (flat_map (words_in asked)) empty) i;
       ring_ends = items_last left.ring_ends (ap (λ xs. ends at.coordinates (flat_map ring_counts xs)) empty) i;
@@ -523,3 +521,14 @@ levels_last {asked} {input} {at = at} left none =
           items_last left.single_ends
           (ap (λ xs. ends (at.rings + left.rings_left) (flat_map single_counts xs)) empty) i;
     }
+
+pub levels_last : {asked : Dimension} {input : List ℕ} {w : Pieces} {from at : Totals} {all : List Subject}
+    {before out : Levels} → Coming w (LevelsLeft asked input from all before at out)
+    → ((ps : List Piece) → IsAhead w ps → ps ≡ []) → out ≡ with_levels asked all from before
+levels_last c none = levels_end c.left (none c.ps c.ahead)
+
+-- a geometry with coordinates of its own is its only piece
+pub only_piece : (input : List ℕ) (g : HasGeometry input) (p : Piece) → IsPieceAt input 0 p → nat_lt p.kind 3 ≡ true
+    → pieces_of 0 g.spelled g.value ≡ p ∷ []
+only_piece input g p at low =
+    own_piece 0 g.spelled g.value ∙ (λ i. sym (at g) i ∷ (leaf_of input 0 0 g p (at g) low).3 i)

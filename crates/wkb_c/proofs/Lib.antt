@@ -9,5 +9,6 @@ mod Called
 mod Encodings
 mod LevelRows
 mod Levels
+mod KindTotals
 mod Rooms
 mod InTurn

@@ -1,10 +1,11 @@
 -- How far the rows of a column reach, so that no two of them overlap.
-use Rattle.wkb_c.proofs.Common.{◌≡◌, ℕ, zero, suc, ◌+◌, ◌<◌, ◌≤◌, ◌⊎◌, inl, inr, List, [], length, ap, sym, ◌∙◌, arith}
+use Rattle.wkb_c.proofs.Common.{◌≡◌, ℕ, zero, suc, ◌+◌, ◌<◌, ◌≤◌, ◌⊎◌, inl, inr, List, [], length}
+use Rattle.wkb_c.proofs.Common.{ap, sym, subst, ◌∙◌, arith}
 use Rattle.std.specs.Prelude.{max, ◌-◌, drop}
 use Rattle.std.proofs.lemmas.List.{length-take}
 use Rattle.wkb_c.proofs.Rows.{below_more}
 use Rattle.wkb_c.specs.declared.column.Column.{Column}
-use Rattle.wkb_c.specs.Columns.{IsOffset, IsSpan, HasNoSpan, EndBy, IsReach, IsRow}
+use Rattle.wkb_c.specs.Columns.{IsOffset, IsSpan, HasNoSpan, HasNoSlice, EndBy, IsReach, Reach, IsRow}
 use Rattle.wkb_c.specs.Columns.{RowsFollow, RowsFit, total_length}
 
 -- an offset is one number
@@ -32,6 +33,18 @@ module _ (bytes offsets : List ℕ) (size : ℕ) where
         (λ j above s e is. r.enough j s e above is) (λ s e is. absurd (none s e is)) j below s e is;
     least = λ limit by. r.least limit (fewer i limit by);
   }
+
+-- so far the rows reach with a row that has bytes, where the greater end is told
+pub reached : {i reach start end to : ℕ} (c : Column) → to ≡ max reach end → Reach c i reach
+    → IsSpan c.bytes.now c.offsets.now c.offset_size i start end → Reach c (i + 1) to
+reached {i} {reach} {start} {end} c to_is r own =
+    subst (Reach c (i + 1)) (sym to_is)
+    (reach_more c.bytes.now c.offsets.now c.offset_size i reach start end r own)
+
+-- without a span there is no slice
+pub no_span : {i : ℕ} (c : Column) → HasNoSpan c.bytes.now c.offsets.now c.offset_size i
+    → HasNoSlice c.bytes.now c.offsets.now c.offset_size i
+no_span c none = λ row is. none is.start is.end is.span
 
 pub rows_follow : RowsFollow
 rows_follow c i j row later below a b = b.slice.after i a.slice.start a.slice.end below a.slice.span

@@ -72,6 +72,12 @@ ends start (n ∷ ns) = (start + n) ∷ ends (start + n) ns
 abbrev pub no_totals : Totals
 no_totals = record { coordinates = 0; rings = 0; singles = 0 }
 
+-- these subjects have so many coordinates, rings and singles
+pub record AreTotals (own : Totals) (xs : List Subject) : Type 0 where
+  pub coordinates_are : own.coordinates ≡ sum (flat_map ring_counts xs)
+  pub rings_are : own.rings ≡ length (flat_map ring_counts xs)
+  pub singles_are : own.singles ≡ length (flat_map single_counts xs)
+
 -- where the coordinates, rings and singles of these subjects end that begin here
 abbrev pub totals_after : Totals → List Subject → Totals
 totals_after from xs = record {

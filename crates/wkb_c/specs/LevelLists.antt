@@ -2,8 +2,10 @@
 use Rattle.std.specs.Prelude.{◌≡◌, ℕ, List}
 use Rattle.wkb_geom.specs.declared.common.Dimension.{Dimension}
 use Rattle.wkb_check.specs.Bounded.{HasGeometry}
+use Rattle.wkb_check.specs.Public.{DescribesFront}
+use Rattle.wkb_check.specs.declared.answer.Summary.{Summary}
 use Rattle.wkb_c.specs.Coordinates.{Levels, levels, HasRoomUpTo, totals_after, with_levels, IsCoordinatesRow}
-use Rattle.wkb_c.specs.Coordinates.{AreColumnCoordinates, NoneLacksRoom}
+use Rattle.wkb_c.specs.Coordinates.{ArePut, AreColumnCoordinates, NoneLacksRoom}
 use Rattle.wkb_c.specs.RowItems.{rows_of}
 use Rattle.wkb_c.specs.Subjects.{subjects}
 use Rattle.wkb_c.specs.declared.column.Column.{Column}
@@ -29,6 +31,12 @@ HasRoomFor asked row from out =
 abbrev pub PutsLevels : Dimension → List ℕ → Totals → LevelSlices → LevelSlices → Type 0
 PutsLevels asked row from before after =
     (g : HasGeometry row) → levels_of after ≡ with_levels asked (subjects g.spelled g.value) from (levels_of before)
+
+-- the levels of a row in which the check found this, where they begin and end, and what becomes of the slices
+abbrev pub PutsFound : Dimension → List ℕ → Summary → ℕ → Totals → Totals → LevelSlices → LevelSlices → Type 0
+PutsFound asked row found status from to before after =
+    (d : DescribesFront row found)
+    → ArePut asked (subjects d.spelled d.value) status from to (levels_of before) (levels_of after)
 
 -- the status of row i, where its levels begin and end, and what becomes of the slices
 abbrev pub PutsRow : Column → ℕ → ℕ → ℕ → Totals → Totals → LevelSlices → LevelSlices → Type 0

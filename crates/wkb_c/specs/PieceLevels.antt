@@ -1,5 +1,5 @@
 -- What one piece of a geometry gives each level: the code's step.
-use Rattle.std.specs.Prelude.{ℕ, ◌+◌, ◌*◌, ◌≤◌, List, [], ◌∷◌, length, drop, flat_map, nat_lt, ◌&&◌, IsTrue}
+use Rattle.std.specs.Prelude.{ℕ, ◌+◌, ◌-◌, ◌*◌, ◌≤◌, List, [], ◌∷◌, length, drop, flat_map, nat_lt, ◌&&◌, IsTrue}
 use Rattle.std.specs.Prelude.{if◌then◌else◌}
 use lib.Seq.{sets}
 use Rattle.wkb_geom.specs.declared.common.Endianness.{Endianness}
@@ -18,6 +18,14 @@ ring_sizes p = if nat_lt p.kind 3 then p.count ∷ [] else []
 -- how many rings it has, if it is a single
 abbrev pub single_sizes : Piece → List ℕ
 single_sizes p = if nat_lt 0 p.kind && nat_lt p.kind 4 then (if nat_lt p.kind 3 then 1 else p.count) ∷ [] else []
+
+-- how many rings a geometry has that is no collection and has so many parts, by its first piece
+abbrev pub ring_number : Piece → ℕ → ℕ
+ring_number p parts = if nat_lt p.kind 3 then 1 else (if nat_lt p.kind 6 then p.count else parts - (1 + p.count))
+
+-- how many singles it has
+abbrev pub single_number : Piece → ℕ
+single_number p = if nat_lt p.kind 4 then 1 else p.count
 
 -- its coordinates are inside the row, where they have this dimension
 abbrev pub AreInside : List ℕ → Dimension → Piece → Type 0

@@ -4,8 +4,8 @@ ghost use Rattle.std.specs.Prelude.{◌≡◌, ◌+◌, ◌<◌, ◌≤◌, ◌^
 ghost use Rattle.wkb_check.specs.Public.{DescribesFront};
 ghost use Rattle.wkb_c.specs.Classes.{IsRowStatus, FitsByte};
 ghost use Rattle.wkb_c.specs.Columns.{is_unset_bit, is_null_row, IsOffset, HasNoOffset};
-ghost use Rattle.wkb_c.specs.Columns.{IsSpan, HasNoSpan, IsReach, Reach, RowsFollow, RowsFit};
-ghost use Rattle.wkb_c.specs.Columns.{IsRowSlice, HasNoSlice, IsRow, LacksRow};
+ghost use Rattle.wkb_c.specs.Columns.{IsSpan, HasNoSpan, Reach, RowsFollow, RowsFit};
+ghost use Rattle.wkb_c.specs.Columns.{IsRow, LacksRow};
 ghost use Rattle.wkb_c.specs.Columns.{IsRefusedWith, IsStatusOf, IsStatusOfRow, AreStatuses};
 
 use crate::fault::{NO_FAULT, check_input};
@@ -42,28 +42,19 @@ impl<'a> Column<'a> {
         ensures none { IfErr result (λ status. LacksRow self.now i status) }
         ensures known { IfErr result IsRowStatus }
     {
-        let row = slice_of_row(self.bytes, self.offsets, self.offset_size, i, *reach);
-        *reach = self.reach_with(i, *reach);
-        if is_unset(self.validity, self.validity_offset, i) {
+        let null = is_unset(self.validity, self.validity_offset, i);
+        let Some((start, end)) = span_of_row(self.bytes, self.offsets, self.offset_size, i) else {
+            return Err(if null { NULL_ROW } else { BAD_OFFSETS });
+        };
+        let before = *reach;
+        *reach = before.max(end);
+        if null {
             return Err(NULL_ROW);
         }
-        match row {
-            Some(row) => Ok(row),
-            None => Err(BAD_OFFSETS),
+        if start < before {
+            return Err(BAD_OFFSETS);
         }
-    }
-
-    /// How far the rows up to and with row i reach, where those before it reach this far.
-    #[inline(always)]
-    fn reach_with(&self, i: usize, reach: u64) -> u64
-        requires small { i < 2 ^ 63 }
-        requires before { Reach self.now i reach }
-        ensures { Reach self.now (i + 1) result }
-    {
-        match span_of_row(self.bytes, self.offsets, self.offset_size, i) {
-            Some((_start, end)) => reach.max(end),
-            None => reach,
-        }
+        Ok(&self.bytes[start as usize..end as usize])
     }
 }
 
@@ -147,28 +138,10 @@ fn span_of_row(bytes: &[u8], offsets: &[u8], size: usize, i: usize) -> Option<(u
     Some((start, end))
 }
 
-/// The bytes from offset i up to the next one, if these are good and no row before it ends after the first.
-#[inline(always)]
-fn slice_of_row<'a>(
-    bytes: &'a [u8],
-    offsets: &[u8],
-    size: usize,
-    i: usize,
-    reach: u64,
-) -> Option<&'a [u8]>
-    requires small { i < 2 ^ 63 }
-    requires before { IsReach bytes.now offsets.now size i reach }
-    ensures some { IfSome result (λ row. IsRowSlice bytes.now offsets.now size i row.now) }
-    ensures none { IfNone result (HasNoSlice bytes.now offsets.now size i) }
-{
-    let (start, end) = span_of_row(bytes, offsets, size, i)?;
-    if start < reach {
-        return None;
-    }
-    Some(&bytes[start as usize..end as usize])
-}
-
 /// The geometry at the front of a row, or the status of its refusal.
+///
+/// It isn't inlined, so that rows that take the short way don't pay for its frame.
+#[inline(never)]
 pub fn check_row(row: &[u8]) -> Result<Summary, u32>
     ensures accepted { IfOk result (λ found. DescribesFront row.now found) }
     ensures refused { IfErr result (λ status. IsRefusedWith row.now status) }

@@ -3,12 +3,40 @@
 ghost use Rattle.std.specs.Prelude.{◌≡◌, ◌+◌, ◌<◌, ◌^◌, length};
 ghost use Rattle.wkb_c.specs.Classes.{FitsByte};
 ghost use Rattle.wkb_c.specs.Columns.{Reach};
-ghost use Rattle.wkb_c.specs.LevelLists.{PutsRow, AreLevels, NoRowLacksRoom, AreSameSlices};
+ghost use Rattle.wkb_check.specs.Public.{DescribesFront};
+ghost use Rattle.wkb_c.specs.LevelLists.{PutsFound, PutsRow, AreLevels, NoRowLacksRoom, AreSameSlices};
 ghost use Rattle.wkb_c.specs.RowItems.{KeepsFrom, rows_of};
 
 use crate::column::{Column, check_row};
 use crate::coordinates::{LevelSlices, Totals, dimension_of_number, has_room, put_levels};
 use crate::status::{NO_ROOM, OK, UNKNOWN_OPTION};
+use wkb_check::{Piece, Summary, check_plain};
+use wkb_geom::Dimension;
+
+/// Writes the levels of a row in which the check found this from the totals on, and moves the totals to their end.
+/// Without room it only moves the totals. Returns the row's status.
+#[inline(always)]
+fn put_found(
+    row: &[u8],
+    found: &Summary,
+    asked: Dimension,
+    at: &mut Totals,
+    out: &mut LevelSlices<'_>,
+) -> u32
+    requires { DescribesFront row.now found.now }
+    ensures put { PutsFound asked row.now found.now result at.old at.new out.old out.new }
+    ensures same_slices { AreSameSlices out.old out.new }
+    ensures known { FitsByte result }
+{
+    let first = Piece::outermost(row, found);
+    let from = *at;
+    *at = from.after(row, found, &first);
+    if !has_room(at, asked, out) {
+        return NO_ROOM;
+    }
+    put_levels(row, &first, from, asked, out);
+    OK
+}
 
 /// Writes the levels of row i from the totals on, and moves the totals to their end. Without room it only moves the
 /// totals. Returns the row's status.
@@ -34,16 +62,13 @@ fn put_row(
     let Some(asked) = dimension_of_number(dimension) else {
         return UNKNOWN_OPTION;
     };
-    if let Err(status) = check_row(row) {
-        return status;
+    if let Some(found) = check_plain(row) {
+        return put_found(row, &found, asked, at, out);
     }
-    let from = *at;
-    *at = from.after(row);
-    if !has_room(at, asked, out) {
-        return NO_ROOM;
+    match check_row(row) {
+        Ok(found) => put_found(row, &found, asked, at, out),
+        Err(status) => status,
     }
-    put_levels(row, from, asked, out);
-    OK
 }
 
 /// Writes the coordinates of each row of a column after those of the rows before it, as far as there is room, in

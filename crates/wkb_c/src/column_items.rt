@@ -11,7 +11,7 @@ use crate::encoding::write_requested;
 use crate::options::{Options, request_of};
 use crate::parts::list_parts;
 use crate::status::UNKNOWN_OPTION;
-use wkb_check::Part;
+use wkb_check::{Part, check_plain};
 
 /// Lists the parts of row i from an index on. Returns its status, and how many parts it has.
 fn list_row(
@@ -31,12 +31,16 @@ fn list_row(
         Ok(row) => row,
         Err(status) => return (status, 0),
     };
+    let at = start.min(parts.len() as u64) as usize;
+    let mut count = 0;
+    if let Some(plain) = check_plain(row) {
+        let status = list_parts(row, &plain, &mut parts[at..], &mut count);
+        return (status, count);
+    }
     let found = match check_row(row) {
         Ok(found) => found,
         Err(status) => return (status, 0),
     };
-    let at = start.min(parts.len() as u64) as usize;
-    let mut count = 0;
     let status = list_parts(row, &found, &mut parts[at..], &mut count);
     (status, count)
 }
@@ -63,12 +67,16 @@ fn write_row(
     let Some(request) = request_of(options) else {
         return (UNKNOWN_OPTION, 0);
     };
+    let at = start.min(out.len() as u64) as usize;
+    let mut size = 0;
+    if let Some(plain) = check_plain(row) {
+        let status = write_requested(row, &plain, request, &mut out[at..], &mut size);
+        return (status, size);
+    }
     let found = match check_row(row) {
         Ok(found) => found,
         Err(status) => return (status, 0),
     };
-    let at = start.min(out.len() as u64) as usize;
-    let mut size = 0;
     let status = write_requested(row, &found, request, &mut out[at..], &mut size);
     (status, size)
 }

@@ -1,21 +1,25 @@
 //! The coordinates of a geometry, in levels: it has singles, a single has rings, a ring has coordinates.
 
 ghost use Rattle.std.specs.Prelude.{◌≡◌, ◌+◌, ◌*◌, ◌^◌, ◌<◌, ◌≤◌, ◌&&◌, length, drop, nat_lt, sum};
-ghost use Rattle.std.specs.Prelude.{IsTrue, false};
+ghost use Rattle.std.specs.Prelude.{IsTrue, true, false, IfSome, List, ℕ};
+ghost use Rattle.wkb_geom.specs.declared.code.TheConstants.{POLYGON};
 ghost use lib.Seq.{sets};
 ghost use Rattle.wkb_geom.specs.Dimensions.{width};
 ghost use Rattle.wkb_geom.specs.Reading.{coordinate};
 ghost use Rattle.wkb_check.specs.Bounded.{HasGeometry};
+ghost use Rattle.wkb_check.specs.Pieces.{IsPieceAt};
+ghost use Rattle.wkb_check.specs.Public.{DescribesFront};
 ghost use Rattle.wkb_c.specs.Coordinates.{dimension_named, z_of, m_of, words_asked, HasRoomUpTo};
-ghost use Rattle.wkb_c.specs.Coordinates.{totals_after};
+ghost use Rattle.wkb_c.specs.Coordinates.{totals_after, AreTotals};
 ghost use Rattle.wkb_c.specs.LevelLists.{levels_of, AreSameSlices, HasRoomFor, PutsLevels};
 ghost use Rattle.wkb_c.specs.PieceLevels.{ring_sizes, single_sizes, AreInside, IsRingInside, words_as};
 ghost use Rattle.wkb_c.specs.PieceLevels.{words_asked_of, with_words, with_ring_end, with_single_end};
+ghost use Rattle.wkb_c.specs.PieceLevels.{ring_number, single_number};
 ghost use Rattle.wkb_c.specs.RowItems.{end_of};
 ghost use Rattle.wkb_c.specs.Subjects.{subjects};
 
-use wkb_check::{Piece, Pieces, RING};
-use wkb_geom::code::POLYGON;
+use wkb_check::{Piece, Pieces, RING, Summary};
+use wkb_geom::code::{GEOMETRY_COLLECTION, MULTI_POINT, MULTI_POLYGON, POLYGON};
 use wkb_geom::words::{EMPTY_WORD, WORD_SIZE, u64_at};
 use wkb_geom::{Dimension, Endianness};
 
@@ -94,8 +98,11 @@ fn put_coordinate(
     requires room { at + width asked ≤ length out.old }
     ensures { out.new ≡ sets out.old at (words_asked asked own (coordinate order own (drop from row.now))) }
 {
-    out[at] = u64_at(row, from, order);
-    out[at + 1] = u64_at(row, from + WORD_SIZE, order);
+    // Both are read before the first is stored, so that they are moved at once.
+    let x = u64_at(row, from, order);
+    let y = u64_at(row, from + WORD_SIZE, order);
+    out[at] = x;
+    out[at + 1] = y;
     match asked {
         Dimension::Xy => {}
         Dimension::Xyz => out[at + 2] = z_word(row, from, order, own),
@@ -156,6 +163,34 @@ fn is_single(piece: &Piece) -> bool
     RING < piece.kind && piece.kind <= POLYGON
 }
 
+/// How many rings a geometry has that is no collection, by its first piece and how many parts it has. All parts of a
+/// multi polygon but itself and its polygons are rings.
+#[inline(always)]
+fn rings_by_kind(first: &Piece, parts: u64) -> u64
+    ensures { result ≡ ring_number first.now parts }
+{
+    let count = first.count as u64;
+    if first.has_coordinates() {
+        1
+    } else if first.kind < MULTI_POLYGON {
+        count
+    } else {
+        parts.saturating_sub(1 + count)
+    }
+}
+
+/// How many singles it has.
+#[inline(always)]
+fn singles_by_kind(first: &Piece) -> u64
+    ensures { result ≡ single_number first.now }
+{
+    if first.kind < MULTI_POINT {
+        1
+    } else {
+        first.count as u64
+    }
+}
+
 impl Totals {
     /// These totals and a piece more.
     #[inline(always)]
@@ -173,13 +208,59 @@ impl Totals {
         }
     }
 
-    /// Where the levels of a row end that begin here.
-    pub fn after(self, row: &[u8]) -> Totals
-        requires here { HasGeometry row.now }
+    /// These totals and others.
+    #[inline(always)]
+    fn and(self, own: Totals) -> Totals
+        ensures coordinates { result.coordinates ≡ end_of self.coordinates own.coordinates }
+        ensures rings { result.rings ≡ end_of self.rings own.rings }
+        ensures singles { result.singles ≡ end_of self.singles own.singles }
+    {
+        Totals {
+            coordinates: self.coordinates.saturating_add(own.coordinates),
+            rings: self.rings.saturating_add(own.rings),
+            singles: self.singles.saturating_add(own.singles),
+        }
+    }
+
+    /// The totals of a geometry that is no collection, by what the check found of it and its first piece.
+    #[inline(always)]
+    fn of_plain(found: &Summary, first: &Piece) -> Option<Totals>
+        ensures { IfSome result (λ own. (input : List ℕ) → DescribesFront input found.now
+            → IsPieceAt input 0 first.now → (g : HasGeometry input) → AreTotals own (subjects g.spelled g.value)) }
+    {
+        if first.kind >= GEOMETRY_COLLECTION {
+            return None;
+        }
+        Some(Totals {
+            coordinates: found.coordinates as u64,
+            rings: rings_by_kind(first, found.parts as u64),
+            singles: singles_by_kind(first),
+        })
+    }
+
+    /// Where the levels of a row end that begin here, by what the check found of it and its first piece. Only a
+    /// collection is walked.
+    #[inline(always)]
+    pub fn after(self, row: &[u8], found: &Summary, first: &Piece) -> Totals
+        requires found { DescribesFront row.now found.now }
+        requires first { IsPieceAt row.now 0 first.now }
         ensures { (g : HasGeometry row.now) → result ≡ totals_after self (subjects g.spelled g.value) }
     {
-        let mut to = self;
-        let mut pieces = Pieces::of(row);
+        match Totals::of_plain(found, first) {
+            Some(own) => self.and(own),
+            None => self.after_walk(row, first),
+        }
+    }
+
+    /// The same, by its first piece and those behind it.
+    #[inline(never)]
+    fn after_walk(self, row: &[u8], first: &Piece) -> Totals
+        requires here { HasGeometry row.now }
+        requires first { IsPieceAt row.now 0 first.now }
+        ensures { (g : HasGeometry row.now) → result ≡ totals_after self (subjects g.spelled g.value) }
+    {
+        let mut to = self.with(first);
+        let mut pieces = Pieces::behind(row, first);
         while let Some(piece) = pieces.next() {
             to = to.with(&piece);
         }
@@ -192,8 +273,9 @@ pub fn has_room(to: &Totals, asked: Dimension, out: &LevelSlices<'_>) -> bool
     ensures yes { IsTrue result → HasRoomUpTo asked (levels_of out.now) to.now }
     ensures no { result ≡ false → HasRoomUpTo asked (levels_of out.now) to.now → ⊥ }
 {
-    if ((out.words.len() / asked.width()) as u64) < to.coordinates {
-        return false;
+    match to.coordinates.checked_mul(asked.width() as u64) {
+        Some(words) if words <= out.words.len() as u64 => {}
+        _ => return false,
     }
     if (out.ring_ends.len() as u64) < to.rings {
         return false;
@@ -202,6 +284,7 @@ pub fn has_room(to: &Totals, asked: Dimension, out: &LevelSlices<'_>) -> bool
 }
 
 /// Writes the words of a piece and where it ends, if it is a ring.
+#[inline(always)]
 fn put_ring(
     row: &[u8],
     piece: &Piece,
@@ -225,6 +308,7 @@ fn put_ring(
 }
 
 /// Writes where a piece ends, if it is a single.
+#[inline(always)]
 fn put_single(piece: &Piece, at: Totals, single_ends: &mut [u64])
     requires small { at.rings < 2 ^ 63 }
     requires fits { at.singles + length (single_sizes piece.now) ≤ length single_ends.old }
@@ -241,15 +325,55 @@ fn put_single(piece: &Piece, at: Totals, single_ends: &mut [u64])
     single_ends[at.singles as usize] = at.rings + rings;
 }
 
-/// Writes the levels of a row from the totals on, for which there is room.
-pub fn put_levels(row: &[u8], from: Totals, asked: Dimension, out: &mut LevelSlices<'_>)
+/// Writes the levels of a row that is a point or a line string.
+#[inline(always)]
+fn put_alone(row: &[u8], only: &Piece, from: Totals, asked: Dimension, out: &mut LevelSlices<'_>)
     requires here { HasGeometry row.now }
+    requires only { IsPieceAt row.now 0 only.now }
+    requires low { nat_lt only.now.kind POLYGON ≡ true }
     requires room { HasRoomFor asked row.now from out.old }
     ensures levels { PutsLevels asked row.now from out.old out.new }
     ensures same_slices { AreSameSlices out.old out.new }
 {
-    let mut at = from;
-    let mut pieces = Pieces::of(row);
+    put_ring(row, only, asked, from, out.words, out.ring_ends);
+    put_single(only, from, out.single_ends);
+}
+
+/// Writes the levels of a row from the totals on, for which there is room, by its first piece.
+#[inline(always)]
+pub fn put_levels(
+    row: &[u8],
+    first: &Piece,
+    from: Totals,
+    asked: Dimension,
+    out: &mut LevelSlices<'_>,
+)
+    requires here { HasGeometry row.now }
+    requires first { IsPieceAt row.now 0 first.now }
+    requires room { HasRoomFor asked row.now from out.old }
+    ensures levels { PutsLevels asked row.now from out.old out.new }
+    ensures same_slices { AreSameSlices out.old out.new }
+{
+    if first.has_coordinates() {
+        put_alone(row, first, from, asked, out);
+    } else {
+        put_walked(row, first, from, asked, out);
+    }
+}
+
+/// The same, by its first piece and those behind it.
+#[inline(never)]
+fn put_walked(row: &[u8], first: &Piece, from: Totals, asked: Dimension, out: &mut LevelSlices<'_>)
+    requires here { HasGeometry row.now }
+    requires first { IsPieceAt row.now 0 first.now }
+    requires room { HasRoomFor asked row.now from out.old }
+    ensures levels { PutsLevels asked row.now from out.old out.new }
+    ensures same_slices { AreSameSlices out.old out.new }
+{
+    let mut pieces = Pieces::behind(row, first);
+    put_ring(row, first, asked, from, out.words, out.ring_ends);
+    put_single(first, from, out.single_ends);
+    let mut at = from.with(first);
     while let Some(piece) = pieces.next() {
         put_ring(row, &piece, asked, at, out.words, out.ring_ends);
         put_single(&piece, at, out.single_ends);

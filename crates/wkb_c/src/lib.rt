@@ -29,7 +29,7 @@ ghost use Rattle.wkb_c.specs.Subjects.{IsTable, LacksEntries};
 ghost use Rattle.wkb_c.specs.Writings.{WritesEncoding, WantsRoom};
 
 use encoding::write_requested;
-use fault::{WkbFault, check_input, refuse};
+use fault::{WkbFault, check_input, refuse, status_of_refusal};
 use found::{Found, found_of};
 use inputs::{FIRST, SECOND, compare};
 use options::{Options, request_of};
@@ -119,6 +119,9 @@ pub extern "C" fn wkb_raw_write(
     let Some(request) = request_of(options) else {
         return UNKNOWN_OPTION;
     };
+    if let Some(found) = check_plain(buf) {
+        return write_requested(buf, &found, request, out, size);
+    }
     match check_input(buf, fault) {
         Ok(found) => write_requested(buf, &found, request, out, size),
         Err(status) => status,
@@ -143,11 +146,11 @@ pub extern "C" fn wkb_raw_same(
     ensures fault_kept { result ≡ OK → fault.new ≡ fault.old }
     ensures which_kept { result ≡ OK → which.new ≡ which.old }
 {
-    if let Err(status) = check_input(a, fault) {
+    if let Some(status) = status_of_refusal(a, fault) {
         *which = FIRST;
         return status;
     }
-    if let Err(status) = check_input(b, fault) {
+    if let Some(status) = status_of_refusal(b, fault) {
         *which = SECOND;
         return status;
     }
@@ -173,9 +176,11 @@ pub extern "C" fn wkb_raw_parts(
     ensures count_kept { result ≢ OK → result ≢ NO_ROOM → count.new ≡ count.old }
     ensures fault_kept { IsNoRefusal result → fault.new ≡ fault.old }
 {
-    let found = match check_input(buf, fault) {
-        Ok(found) => found,
-        Err(status) => return status,
-    };
-    list_parts(buf, &found, parts, count)
+    if let Some(found) = check_plain(buf) {
+        return list_parts(buf, &found, parts, count);
+    }
+    match check_input(buf, fault) {
+        Ok(found) => list_parts(buf, &found, parts, count),
+        Err(status) => status,
+    }
 }

@@ -1,7 +1,6 @@
 use Rattle.wkb_c.proofs.Common.{refl, sym, ◌∙◌}
-use Rattle.wkb_c.specs.Coordinates.{handed, failed, unknown, refused, written, no_room}
+use Rattle.wkb_c.specs.Coordinates.{handed, failed, unknown, refused}
 use Rattle.wkb_c.specs.Subjects.{subjects}
-use Rattle.wkb_rewrite.proofs.Measured.{here}
 use Rattle.wkb_c.proofs.Rooms.{has_coordinates}
 use Rattle.wkb_c.proofs.column_coordinates.put_row.Goals as goal
 
@@ -16,19 +15,15 @@ returns-in-Err-check_row-clause-put c =
     (refused c.in-Ok.row.now c.in-Some.asked c.in-Ok.ensures.row (sym c.in-Some.ensures)
     c.in-Err-check_row.ensures.refused) refl refl
 
-pub returns-then-not-has_room-clause-put : goal.returns-then-not-has_room-clause-put
-returns-then-not-has_room-clause-put c =
-    let row = c.in-Ok.row.now in
-    let d = c.in_default-check_row.ensures.accepted in
+pub returns-in-Some-check_plain-clause-put : goal.returns-in-Some-check_plain-clause-put
+returns-in-Some-check_plain-clause-put c =
+    let d = c.in-Some-check_plain.ensures.checks.front in
     handed c.in-Some.asked (subjects d.spelled d.value)
-    (has_coordinates row c.in-Ok.ensures.row (sym c.in-Some.ensures) _ d)
-    (no_room refl (c.after.ensures (here d)) (c.if-not-has_room.ensures.no refl) refl)
+    (has_coordinates c.in-Ok.row.now c.in-Ok.ensures.row (sym c.in-Some.ensures) _ d) (c.put_found.ensures.put d)
 
-pub returns-clause-put : goal.returns-clause-put
-returns-clause-put c =
-    let row = c.in-Ok.row.now in
-    let d = c.in_default-check_row.ensures.accepted in
+pub returns-in-Ok-check_row-clause-put : goal.returns-in-Ok-check_row-clause-put
+returns-in-Ok-check_row-clause-put c =
+    let d = c.in-Ok-check_row.ensures.accepted in
     handed c.in-Some.asked (subjects d.spelled d.value)
-    (has_coordinates row c.in-Ok.ensures.row (sym c.in-Some.ensures) _ d)
-    (written refl (c.after.ensures (here d)) (c.if-not-has_room.ensures.yes refl)
-    (c.put_levels.ensures.levels (here d)))
+    (has_coordinates c.in-Ok.row.now c.in-Ok.ensures.row (sym c.in-Some.ensures) _ d)
+    (c.put_found-in-Ok-check_row.ensures.put d)

@@ -13,6 +13,14 @@ returns-in-Err-check_row-clause-step c =
 
 pub returns-clause-step : goal.returns-clause-step
 returns-clause-step c =
+    let called = c.list_parts-status-2 in
+    let e = called.ensures in
+    list_step c.in-Ok.row.now c.in-Ok.ensures.row
+    (lent_rest c.args.parts.now called.new.parts c.min-at.result c.min-at.ensures e.long) e.listed e.no_room
+    e.parts_kept e.known
+
+pub returns-in-Some-clause-step : goal.returns-in-Some-clause-step
+returns-in-Some-clause-step c =
     let called = c.list_parts-status in
     let e = called.ensures in
     list_step c.in-Ok.row.now c.in-Ok.ensures.row

@@ -1,28 +1,8 @@
-use Rattle.wkb_c.proofs.Common.{arith, ap, ◌∙◌, length}
-use Rattle.wkb_c.proofs.Levels.{totals_first, totals_next, totals_last}
+use Rattle.wkb_c.proofs.KindTotals.{totals_and}
 use Rattle.wkb_c.proofs.coordinates.Totals.after.Goals as goal
 
-pub loop-piece-init : goal.loop-piece-init
-loop-piece-init c = record {
-  left = λ g. totals_first c.args.row.now c.of-pieces.result c.args.self g (c.of-pieces.ensures.ahead g)
-      (record { coordinates = omega arith; rings = omega arith; singles = omega arith });
-  same = c.of-pieces.ensures.same;
-  inside = omega (arith, c.of-pieces.ensures.begins);
-}
-
-pub next-requires : goal.next-requires
-next-requires c =
-    let left = c.loop-piece.invariant.left c.requires.here in
-    record { ahead = record { pieces = left.ps; are = left.ahead } }
-
-pub loop-piece-preserved : goal.loop-piece-preserved
-loop-piece-preserved c =
-    let more = c.with-to.ensures in record {
-      left = λ g. totals_next c.with-to.result (c.loop-piece.invariant.left g) c.in-Some.ensures.steps more.coordinates
-          more.rings more.singles;
-      same = c.next.ensures.same ∙ c.loop-piece.invariant.same;
-      inside = omega (arith, c.in-Some.ensures.inside.inside, ap length c.loop-piece.invariant.same);
-    }
-
-pub returns : goal.returns
-returns c = λ g. totals_last (c.loop-piece.invariant.left g) c.in_default.ensures.steps
+pub returns-in-Some : goal.returns-in-Some
+returns-in-Some c = λ g.
+    let sums = c.and.ensures in
+    totals_and c.args.self (c.in-Some.ensures c.args.row.now c.requires.found c.requires.first g) sums.coordinates
+    sums.rings sums.singles

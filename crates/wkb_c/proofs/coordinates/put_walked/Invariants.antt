@@ -2,15 +2,15 @@ use Rattle.std.specs.Prelude.{◌≡◌, ◌≤◌, ◌-◌, length}
 use Rattle.wkb_check.specs.Bounded.{HasGeometry}
 use Rattle.wkb_c.specs.LevelLists.{levels_of, AreSameSlices}
 use Rattle.wkb_c.specs.Subjects.{subjects}
-use Rattle.wkb_c.proofs.Levels.{LevelsLeft}
-use Rattle.wkb_c.proofs.coordinates.put_levels.Given as goal
+use Rattle.wkb_c.proofs.Levels.{Coming, LevelsLeft}
+use Rattle.wkb_c.proofs.coordinates.put_walked.Given as goal
 
 abbrev pub invariant-loop-piece : goal.invariant-loop-piece
 invariant-loop-piece l = record {
   same_slices : AreSameSlices l.initial.out l.out;
   left : (g : HasGeometry l.row)
-      → LevelsLeft l.asked l.row l.pieces l.fn.from (subjects g.spelled g.value) (levels_of l.initial.out) l.at
-      (levels_of l.out);
+      → Coming l.pieces (LevelsLeft l.asked l.row l.fn.from (subjects g.spelled g.value) (levels_of l.fn.out) l.at
+      (levels_of l.out));
   same : l.pieces.bytes.now ≡ l.row;
   inside : l.pieces.at ≤ length l.row;
 }

@@ -1,12 +1,12 @@
 use Rattle.std.specs.Prelude.{◌≡◌, ◌≤◌, ◌-◌, length}
 use Rattle.wkb_check.specs.Bounded.{HasGeometry}
 use Rattle.wkb_c.specs.Subjects.{subjects}
-use Rattle.wkb_c.proofs.Levels.{TotalsLeft}
-use Rattle.wkb_c.proofs.coordinates.Totals.after.Given as goal
+use Rattle.wkb_c.proofs.Levels.{Coming, TotalsLeft}
+use Rattle.wkb_c.proofs.coordinates.Totals.after_walk.Given as goal
 
 abbrev pub invariant-loop-piece : goal.invariant-loop-piece
 invariant-loop-piece l = record {
-  left : (g : HasGeometry l.row) → TotalsLeft l.row l.pieces l.fn.self (subjects g.spelled g.value) l.to;
+  left : (g : HasGeometry l.row) → Coming l.pieces (TotalsLeft l.row l.fn.self (subjects g.spelled g.value) l.to);
   same : l.pieces.bytes.now ≡ l.row;
   inside : l.pieces.at ≤ length l.row;
 }

@@ -1,0 +1,12 @@
+use Rattle.wkb_c.proofs.Common.{refl}
+use Rattle.wkb_c.specs.Coordinates.{written, no_room}
+use Rattle.wkb_rewrite.proofs.Measured.{here}
+use Rattle.wkb_c.proofs.column_coordinates.put_found.Goals as goal
+
+pub returns-then-not-has_room-clause-put : goal.returns-then-not-has_room-clause-put
+returns-then-not-has_room-clause-put c = λ d.
+    no_room refl (c.after.ensures (here d)) (c.if-not-has_room.ensures.no refl) refl
+
+pub returns-clause-put : goal.returns-clause-put
+returns-clause-put c = λ d.
+    written refl (c.after.ensures (here d)) (c.if-not-has_room.ensures.yes refl) (c.put_levels.ensures.levels (here d))
