@@ -1,4 +1,7 @@
 -- What plain geometries mean: the geometries over a caller's own words.
+--
+-- The variants of `Geometry` can't be passed on from here: no crate hands on what it declares itself. Users write
+-- use Rattle.wkb.specs.declared.geom.geometry.Geometry.TheVariants as plain
 pub use Rattle.wkb_plain.specs.declared.coord.Coord.{Coord}
 pub use Rattle.wkb_plain.specs.declared.point.Point.{Point}
 pub use Rattle.wkb_plain.specs.declared.line_string.LineString.{LineString}
@@ -6,9 +9,8 @@ pub use Rattle.wkb_plain.specs.declared.polygon.Polygon.{Polygon}
 pub use Rattle.wkb_plain.specs.declared.multi_point.MultiPoint.{MultiPoint}
 pub use Rattle.wkb_plain.specs.declared.multi_line_string.MultiLineString.{MultiLineString}
 pub use Rattle.wkb_plain.specs.declared.multi_polygon.MultiPolygon.{MultiPolygon}
-pub use Rattle.wkb.specs.declared.geom.geometry.GeometryCollection.{GeometryCollection}
-pub use Rattle.wkb.specs.declared.geom.geometry.Geometry.{Geometry}
-pub use Rattle.wkb.specs.declared.geom.geometry.Geometry.TheVariants as plain
+use Rattle.wkb.specs.declared.geom.geometry.GeometryCollection.{GeometryCollection as TheCollection}
+use Rattle.wkb.specs.declared.geom.geometry.Geometry.{Geometry as TheGeometry}
 pub use Rattle.wkb_plain.specs.declared.rect.Rect.{Rect}
 pub use Rattle.wkb_plain.specs.declared.triangle.Triangle.{Triangle}
 pub use Rattle.wkb_plain.specs.declared.line.Line.{Line}
@@ -23,3 +25,11 @@ pub use Rattle.wkb_plain.specs.Kinds.{line_end, rect_dimensions, rect_min, rect_
 pub use Rattle.wkb_plain.specs.Kinds.{triangle_first, triangle_second, triangle_third}
 pub use Rattle.wkb.specs.PlainGeometry.{plain_geometry, plain_dimensions, collection_dimensions}
 pub use Rattle.wkb.specs.PlainGeometry.{collection_members}
+
+-- a plain geometry of any kind
+abbrev pub Geometry : Type 0
+Geometry = TheGeometry
+
+-- plain geometries of any kinds and dimensions
+abbrev pub GeometryCollection : Type 0
+GeometryCollection = TheCollection

@@ -2,6 +2,7 @@
 //! `wkb` return for them.
 #![tactic(auto)]
 
+pub mod columns;
 pub mod example;
 pub mod ordinates;
 pub mod places;

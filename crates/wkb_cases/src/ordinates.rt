@@ -1,4 +1,4 @@
-//! Ordinates as numbers, as the README shows it.
+//! Ordinates as numbers.
 
 use std::alloc::Global;
 use wkb::error::WkbResult;

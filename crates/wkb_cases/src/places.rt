@@ -1,4 +1,4 @@
-//! A type of one's own that is written, as the README shows it.
+//! A type of one's own that is written, as docs/PROVING_ABOVE.md shows it.
 
 ghost use Rattle.std.specs.Prelude.{◌<◌, ◌^◌, Some};
 ghost use Rattle.wkb.specs.Prelude.traits.{Xy};

@@ -1,4 +1,4 @@
-//! A geometry that is read and written with an SRID, as the README shows it.
+//! A geometry that is read and written with an SRID.
 
 use std::alloc::Global;
 use wkb::Endianness;

@@ -10,3 +10,4 @@ pub mod Shapes
 pub mod Corners
 pub mod Features
 pub mod Places
+pub mod Plain

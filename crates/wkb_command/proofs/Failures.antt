@@ -13,8 +13,8 @@ use Rattle.wkb_geom.specs.Spellings.{any}
 use Rattle.wkb.specs.Canonical.{IsAccepted, IsSize}
 use Rattle.wkb_geom.specs.declared.error.WkbError.{WkbError}
 use Rattle.wkb_geom.specs.declared.error.WkbError.TheVariants as errors
-use Rattle.wkb_command.specs.declared.calls.HexFailure.{HexFailure}
-use Rattle.wkb_command.specs.declared.calls.HexFailure.TheVariants.{NotHex, Memory}
+use Rattle.wkb_command.specs.declared.calls.HexFault.{HexFault}
+use Rattle.wkb_command.specs.declared.calls.HexFault.TheVariants.{NotHex, Memory}
 use Rattle.wkb_command.specs.Calls.{IsHex, IsHexOf, AreHexOf, IsFailureOf, FirstRefusal, RefusedFirst, IsOversized}
 use Rattle.wkb_command.specs.Calls.{this_one, later_one}
 use Rattle.wkb_command.specs.Calls.{FailureOfError, FailureOfHexError}
@@ -24,7 +24,7 @@ pub IfErr-from : {T E : Type 0} (r : Result T E) (P Q : E → Type 0) → IsErrA
 IfErr-from (Ok x) P Q h f = tt
 IfErr-from (Err e) P Q h f = f e h
 
-pub decode_failure : (text : List ℕ) (e : FromHexError) (failure : HexFailure)
+pub decode_failure : (text : List ℕ) (e : FromHexError) (failure : HexFault)
     → (e ≡ hex_errors.OutOfMemory) ⊎ (decode_of text ≡ Err e)
     → FailureOfHexError e failure → (failure ≡ Memory) ⊎ ((failure ≡ NotHex) × ¬ IsHex text)
 decode_failure text hex_errors.OutOfMemory failure h is = inl is
@@ -32,7 +32,7 @@ decode_failure text e failure (inl memory) is = absurd (cc)
 decode_failure text e failure (inr refused) is = inr (is, not_hex text e refused)
 
 pub call_failure : (texts : List (List ℕ)) (IsRefused : List (List ℕ) → WkbError → Type 0) (e : WkbError)
-    (failure : HexFailure)
+    (failure : HexFault)
     → IsMemory e ⊎ ((inputs : List (List ℕ)) × AreHexOf texts inputs × IsRefused inputs e)
     → FailureOfError e failure → IsFailureOf texts IsRefused failure
 call_failure texts IsRefused (errors.Memory x) failure h is = rw is tt

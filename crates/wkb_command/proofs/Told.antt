@@ -19,16 +19,16 @@ use Rattle.wkb.specs.Canonical.{OverflowsWithSrid}
 use Rattle.wkb_command.specs.Readings.{HasSrid}
 use Rattle.wkb_geom.specs.declared.error.WkbError.{WkbError}
 use Rattle.wkb_geom.specs.declared.error.WkbError.TheVariants as errors
-use Rattle.wkb_command.specs.declared.calls.HexFailure.{HexFailure}
-use Rattle.wkb_command.specs.declared.calls.HexFailure.TheVariants.{NotHex, Wkb, Memory}
+use Rattle.wkb_command.specs.declared.calls.HexFault.{HexFault}
+use Rattle.wkb_command.specs.declared.calls.HexFault.TheVariants.{NotHex, Wkb, Memory}
 use Rattle.wkb_command.specs.declared.program.Command.{Command}
 use Rattle.wkb_command.specs.declared.program.Command.TheVariants.{Rewrite, RewriteWithSrid, Same, Cost, Srid}
-use Rattle.wkb_command.specs.declared.calls.Verdict.{Verdict}
-use Rattle.wkb_command.specs.Calls.{AreHex, AreHexOf, IsHexOf, OfHex, IsVerdict, IsFailureOf, RefusedFirst, IsOversized}
+use Rattle.wkb_command.specs.declared.calls.Cost.{Cost as HexCost}
+use Rattle.wkb_command.specs.Calls.{AreHex, AreHexOf, IsHexOf, OfHex, IsCost, IsFailureOf, RefusedFirst, IsOversized}
 use Rattle.wkb_command.specs.Calls.{OfTwoHexes, AreCompared}
 use Rattle.wkb_command.specs.Program.{Says, rewritten, rewritten_with_srid, accepted, counted_refusal, srid, refused}
 use Rattle.wkb_command.specs.Program.{same, different, not_hex, IsOneLine, IsNotSingle, IsNotPair, hex_line}
-use Rattle.wkb_command.specs.Program.{wanted_lines, Gives, counts, TellsCause, TellsError, TellsHexFailure}
+use Rattle.wkb_command.specs.Program.{wanted_lines, Gives, counts, TellsCause, TellsError, TellsHexFault}
 use Rattle.wkb.proofs.Rewritten.{iso_fits}
 use Rattle.wkb_command.proofs.Hexes.{AreHex-from, AreHexOf-length}
 
@@ -60,11 +60,11 @@ says_not_hex command texts line status h is two =
 
 -- the line for a failure, where the line for an error is known
 pub says_failure : (command : Command) (texts : List (List ℕ)) (IsRefused : List (List ℕ) → WkbError → Type 0)
-    (failure : HexFailure) (line : List ℕ) (status : ℕ)
+    (failure : HexFault) (line : List ℕ) (status : ℕ)
     → length texts ≡ wanted_lines command
     → ((inputs : List (List ℕ)) (e : WkbError) → Gives command texts inputs → IsRefused inputs e → TellsError e line
     → Says texts command line 1)
-    → IsFailureOf texts IsRefused failure → TellsHexFailure failure line status → Says texts command line status
+    → IsFailureOf texts IsRefused failure → TellsHexFault failure line status → Says texts command line status
 says_failure command texts IsRefused NotHex line status wanted f h told =
     says_not_hex command texts line status h told.0 told.1
 says_failure command texts IsRefused (Wkb e) line status wanted f h told =
@@ -93,23 +93,23 @@ reports_line texts command line status r h says =
 
 -- a failure
 pub reports_failure : (texts : List (List ℕ)) (command : Command) (IsRefused : List (List ℕ) → WkbError → Type 0)
-    (failure : HexFailure) (r : Result Report AllocError)
+    (failure : HexFault) (r : Result Report AllocError)
     → length texts ≡ wanted_lines command
     → ((line : List ℕ) (inputs : List (List ℕ)) (e : WkbError) → Gives command texts inputs → IsRefused inputs e
     → TellsError e line
     → Says texts command line 1)
     → IsFailureOf texts IsRefused failure
-    → IfOk r (λ report. TellsHexFailure failure (line_of report.output) report.status)
+    → IfOk r (λ report. TellsHexFault failure (line_of report.output) report.status)
     → IfOk r (IsReportOn texts command)
 reports_failure texts command IsRefused failure r wanted f h told =
     IfOk-from r _ _ told
     (λ report is. says_failure command texts IsRefused failure (line_of report.output) report.status wanted
     (f (line_of report.output)) h is)
 
-pub reports_refusal : (texts : List (List ℕ)) (command : Command) (failure : HexFailure) (r : Result Report AllocError)
+pub reports_refusal : (texts : List (List ℕ)) (command : Command) (failure : HexFault) (r : Result Report AllocError)
     → length texts ≡ wanted_lines command → command ≢ Cost
     → IsFailureOf texts RefusedFirst failure
-    → IfOk r (λ report. TellsHexFailure failure (line_of report.output) report.status)
+    → IfOk r (λ report. TellsHexFault failure (line_of report.output) report.status)
     → IfOk r (IsReportOn texts command)
 reports_refusal texts command failure r wanted ne h told =
     reports_failure texts command RefusedFirst failure r wanted (λ line. says_refused command texts line ne) h told
@@ -195,13 +195,13 @@ pub counts_line : (verdict line : List ℕ) (turns slots : ℕ)
     → line ≡ counts verdict turns slots
 counts_line verdict line turns slots is = is ∙ simp append_assoc
 
-pub says_accepted : (text : List ℕ) (verdict : Verdict) → verdict.accepted ≡ true → OfHex text (IsVerdict verdict)
-    → Says (text ∷ []) Cost (counts (codes "accepted") verdict.counts.turns verdict.counts.slots) 0
-says_accepted text verdict is h = accepted (one_input Cost text h.0 refl h.1) (when_true _ _ _ is h.2)
+pub says_accepted : (text : List ℕ) (cost : HexCost) → cost.accepted ≡ true → OfHex text (IsCost cost)
+    → Says (text ∷ []) Cost (counts (codes "accepted") cost.counts.turns cost.counts.slots) 0
+says_accepted text cost is h = accepted (one_input Cost text h.0 refl h.1) (when_true _ _ _ is h.2)
 
-pub says_counted : (text : List ℕ) (verdict : Verdict) → verdict.accepted ≡ false → OfHex text (IsVerdict verdict)
-    → Says (text ∷ []) Cost (counts (codes "refused") verdict.counts.turns verdict.counts.slots) 1
-says_counted text verdict is h =
+pub says_counted : (text : List ℕ) (cost : HexCost) → cost.accepted ≡ false → OfHex text (IsCost cost)
+    → Says (text ∷ []) Cost (counts (codes "refused") cost.counts.turns cost.counts.slots) 1
+says_counted text cost is h =
     let refusal = when_false _ _ _ is h.2 in
     counted_refusal (one_input Cost text h.0 refl h.1) refusal.1
 

@@ -9,11 +9,11 @@ use Rattle.wkb_geom.specs.Errors.{Tells}
 use Rattle.wkb.specs.Writes.{WriteOptions}
 use Rattle.wkb.specs.Canonical.{IsAccepted, IsSize, OverflowsWithSrid, HaveOneValue, HaveTwoValues}
 use Rattle.wkb_command.specs.Readings.{Accepts, IsRefused}
-use Rattle.wkb_command.specs.declared.calls.Verdict.{Verdict}
+use Rattle.wkb_command.specs.declared.calls.Cost.{Cost}
 use Rattle.wkb_geom.specs.declared.error.WkbError.{WkbError}
 use Rattle.wkb_geom.specs.declared.error.WkbError.TheVariants as errors
-use Rattle.wkb_command.specs.declared.calls.HexFailure.{HexFailure}
-use Rattle.wkb_command.specs.declared.calls.HexFailure.TheVariants.{NotHex, Wkb, Memory}
+use Rattle.wkb_command.specs.declared.calls.HexFault.{HexFault}
+use Rattle.wkb_command.specs.declared.calls.HexFault.TheVariants.{NotHex, Wkb, Memory}
 
 -- hex digits in either case, two for each byte
 pub record IsHex (text : List ℕ) : Type 0 where
@@ -37,10 +37,10 @@ abbrev pub AreCompared : Bool → List ℕ → List ℕ → Type 0
 AreCompared equal a b = MatchBool equal (HaveOneValue a b) (HaveTwoValues a b)
 
 -- whether an input is accepted, after so many turns and slots
-abbrev pub IsVerdict : Verdict → List ℕ → Type 0
-IsVerdict verdict bytes =
-    MatchBool verdict.accepted (Accepts bytes verdict.counts.turns verdict.counts.slots)
-    ((cause : Cause) × IsRefused bytes cause verdict.counts.turns verdict.counts.slots)
+abbrev pub IsCost : Cost → List ℕ → Type 0
+IsCost cost bytes =
+    MatchBool cost.accepted (Accepts bytes cost.counts.turns cost.counts.slots)
+    ((cause : Cause) × IsRefused bytes cause cost.counts.turns cost.counts.slots)
 
 -- each text is hex
 abbrev pub AreHex : List (List ℕ) → Type 0
@@ -79,21 +79,21 @@ RefusedOrOversized options inputs e =
     RefusedFirst inputs e ⊎ IsOversized (OverflowsWithSrid options.endianness options.form) inputs e
 
 -- an allocation failed, or the text isn't hex
-abbrev pub IsDecodingFailure : List ℕ → HexFailure → Type 0
+abbrev pub IsDecodingFailure : List ℕ → HexFault → Type 0
 IsDecodingFailure text failure = (failure ≡ Memory) ⊎ ((failure ≡ NotHex) × ¬ IsHex text)
 
 -- A failure of a call on these texts, other than a failed allocation: one of them isn't hex, or all of them are and
 -- what they spell is refused.
-abbrev pub IsFailureOf : List (List ℕ) → (List (List ℕ) → WkbError → Type 0) → HexFailure → Type 0
+abbrev pub IsFailureOf : List (List ℕ) → (List (List ℕ) → WkbError → Type 0) → HexFault → Type 0
 IsFailureOf texts IsRefused NotHex = ¬ AreHex texts
 IsFailureOf texts IsRefused (Wkb e) = (inputs : List (List ℕ)) × AreHexOf texts inputs × IsRefused inputs e
 IsFailureOf texts IsRefused Memory = Unit {0}
 
 -- a failed allocation is always `Memory`
-abbrev pub FailureOfError : WkbError → HexFailure → Type 0
+abbrev pub FailureOfError : WkbError → HexFault → Type 0
 FailureOfError (errors.Memory e) failure = failure ≡ Memory
 FailureOfError e failure = failure ≡ Wkb e
 
-abbrev pub FailureOfHexError : FromHexError → HexFailure → Type 0
+abbrev pub FailureOfHexError : FromHexError → HexFault → Type 0
 FailureOfHexError OutOfMemory failure = failure ≡ Memory
 FailureOfHexError _ failure = failure ≡ NotHex

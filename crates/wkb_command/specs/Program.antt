@@ -20,8 +20,8 @@ use Rattle.wkb_command.specs.Readings.{Accepts, IsRefused, HasSrid}
 use Rattle.wkb_command.specs.Calls.{AreHexOf, FirstRefusal}
 use Rattle.wkb_geom.specs.declared.error.WkbError.{WkbError}
 use Rattle.wkb_geom.specs.declared.error.WkbError.TheVariants as errors
-use Rattle.wkb_command.specs.declared.calls.HexFailure.{HexFailure}
-use Rattle.wkb_command.specs.declared.calls.HexFailure.TheVariants.{NotHex, Wkb, Memory}
+use Rattle.wkb_command.specs.declared.calls.HexFault.{HexFault}
+use Rattle.wkb_command.specs.declared.calls.HexFault.TheVariants.{NotHex, Wkb, Memory}
 use Rattle.wkb_command.specs.declared.program.Command.{Command}
 use Rattle.wkb_command.specs.declared.program.Command.TheVariants.{Rewrite, RewriteWithSrid, Same, Cost, Srid}
 
@@ -147,10 +147,10 @@ TellsError (errors.IOError e) line = line ≡ codes "refused: end of input\n"
 TellsError _ line = IsRefusalLine line
 
 -- the line and the status for a failure
-abbrev pub TellsHexFailure : HexFailure → List ℕ → ℕ → Type 0
-TellsHexFailure NotHex line status = (line ≡ codes "not hex\n") × (status ≡ status_misused)
-TellsHexFailure (Wkb e) line status = TellsError e line × (status ≡ status_refused)
-TellsHexFailure Memory line status = ⊥
+abbrev pub TellsHexFault : HexFault → List ℕ → ℕ → Type 0
+TellsHexFault NotHex line status = (line ≡ codes "not hex\n") × (status ≡ status_misused)
+TellsHexFault (Wkb e) line status = TellsError e line × (status ≡ status_refused)
+TellsHexFault Memory line status = ⊥
 
 -- the line of `cost`
 abbrev pub counts : List ℕ → ℕ → ℕ → List ℕ

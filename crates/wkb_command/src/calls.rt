@@ -1,13 +1,13 @@
 //! The calls on hex texts: each decodes its texts and asks for what they spell.
 //!
-//! A text is hex digits in either case, two for each byte. A failed allocation is always `HexFailure::Memory`.
+//! A text is hex digits in either case, two for each byte. A failed allocation is always `HexFault::Memory`.
 
 ghost use Rattle.std.specs.Prelude.{◌∷◌, [], IfOk, IfErr};
 ghost use Rattle.wkb_geom.specs.Encodings.{IsRewritingWithSrid};
 ghost use Rattle.wkb.specs.Canonical.{IsRewritingUnder};
 ghost use Rattle.wkb_command.specs.Readings.{HasSrid};
 ghost use Rattle.wkb_command.specs.Calls.{IsHexOf, OfHex, OfTwoHexes, IsFailureOf, IsDecodingFailure};
-ghost use Rattle.wkb_command.specs.Calls.{AreCompared, IsVerdict, RefusedFirst};
+ghost use Rattle.wkb_command.specs.Calls.{AreCompared, IsCost, RefusedFirst};
 ghost use Rattle.wkb_command.specs.Calls.{RefusedOrOversized, FailureOfError, FailureOfHexError};
 
 use hex::FromHexError;
@@ -20,7 +20,7 @@ use wkb::writer::WriteOptions;
 
 /// Why a call on hex texts fails.
 #[derive(Debug, Drop)]
-pub enum HexFailure {
+pub enum HexFault {
     /// A character is no hex digit, or the digits are odd in number.
     NotHex,
     /// The bytes that the text spells are refused.
@@ -31,37 +31,37 @@ pub enum HexFailure {
 
 /// Whether an input is accepted, and what reading it cost.
 #[derive(Debug, Clone, Copy, PartialEq)]
-pub struct Verdict {
+pub struct Cost {
     /// Whether the reader returned a geometry.
     pub accepted: bool,
     /// Parts begun and list entries asked for, up to the end or to the refusal.
     pub counts: Counts,
 }
 
-impl From<WkbError> for HexFailure {
+impl From<WkbError> for HexFault {
     ghost from_gives = { FailureOfError };
 
-    fn from(error: WkbError) -> HexFailure {
+    fn from(error: WkbError) -> HexFault {
         match error {
-            WkbError::Memory(_) => HexFailure::Memory,
-            other => HexFailure::Wkb(other),
+            WkbError::Memory(_) => HexFault::Memory,
+            other => HexFault::Wkb(other),
         }
     }
 }
 
-impl From<FromHexError> for HexFailure {
+impl From<FromHexError> for HexFault {
     ghost from_gives = { FailureOfHexError };
 
-    fn from(error: FromHexError) -> HexFailure {
+    fn from(error: FromHexError) -> HexFault {
         match error {
-            FromHexError::OutOfMemory => HexFailure::Memory,
-            _ => HexFailure::NotHex,
+            FromHexError::OutOfMemory => HexFault::Memory,
+            _ => HexFault::NotHex,
         }
     }
 }
 
 /// The bytes that a text spells.
-fn bytes_of_hex(alloc: Global, text: &str) -> Result<Vec<u8>, HexFailure>
+fn bytes_of_hex(alloc: Global, text: &str) -> Result<Vec<u8>, HexFault>
     ensures ok { IfOk result (λ bytes. IsHexOf text.now bytes.items) }
     ensures err { IfErr result (IsDecodingFailure text.now) }
 {
@@ -72,7 +72,7 @@ fn bytes_of_hex(alloc: Global, text: &str) -> Result<Vec<u8>, HexFailure>
 ///
 /// `Wkb` is the reader's error, or `OverflowError(Size)` where the SRID of the options makes the
 /// rewriting longer than `usize`.
-pub fn rewrite_hex(alloc: Global, text: &str, options: &WriteOptions) -> Result<Vec<u8>, HexFailure>
+pub fn rewrite_hex(alloc: Global, text: &str, options: &WriteOptions) -> Result<Vec<u8>, HexFault>
     ensures ok { IfOk result
         (λ it. OfHex text.now (λ b. IsRewritingUnder options.now b it.items)) }
     ensures err { IfErr result (IsFailureOf (text.now ∷ []) (RefusedOrOversized options.now)) }
@@ -88,7 +88,7 @@ pub fn rewrite_hex_with_srid(
     alloc: Global,
     text: &str,
     order: Endianness,
-) -> Result<Vec<u8>, HexFailure>
+) -> Result<Vec<u8>, HexFault>
     ensures ok { IfOk result
         (λ it. OfHex text.now (λ b. IsRewritingWithSrid order b it.items)) }
     ensures err { IfErr result (IsFailureOf (text.now ∷ []) RefusedFirst) }
@@ -101,7 +101,7 @@ pub fn rewrite_hex_with_srid(
 ///
 /// Both texts are decoded before a byte is read, the first text first. `Wkb` is the reader's
 /// error for the first, or else for the second.
-pub fn same_hex(alloc: Global, first: &str, second: &str) -> Result<bool, HexFailure>
+pub fn same_hex(alloc: Global, first: &str, second: &str) -> Result<bool, HexFault>
     ensures ok { IfOk result (λ equal. OfTwoHexes first.now second.now (AreCompared equal)) }
     ensures err { IfErr result (IsFailureOf (first.now ∷ second.now ∷ []) RefusedFirst) }
 {
@@ -114,19 +114,19 @@ pub fn same_hex(alloc: Global, first: &str, second: &str) -> Result<bool, HexFai
 ///
 /// A refusal is a result here, and no failure.
 #[tactic(auto, using(crate::proofs::Costs::refused_cost))]
-pub fn cost_hex(alloc: Global, text: &str) -> Result<Verdict, HexFailure>
-    ensures ok { IfOk result (λ verdict. OfHex text.now (IsVerdict verdict)) }
+pub fn cost_hex(alloc: Global, text: &str) -> Result<Cost, HexFault>
+    ensures ok { IfOk result (λ cost. OfHex text.now (IsCost cost)) }
     ensures err { IfErr result (IsFailureOf (text.now ∷ []) (λ inputs e. ⊥)) }
 {
     let bytes = bytes_of_hex(alloc, text)?;
     let (read, counts) = read_wkb_counted(alloc, bytes.as_slice());
     match read.err() {
-        None => Ok(Verdict {
+        None => Ok(Cost {
             accepted: true,
             counts,
         }),
-        Some(WkbError::Memory(_)) => Err(HexFailure::Memory),
-        Some(_) => Ok(Verdict {
+        Some(WkbError::Memory(_)) => Err(HexFault::Memory),
+        Some(_) => Ok(Cost {
             accepted: false,
             counts,
         }),
@@ -134,7 +134,7 @@ pub fn cost_hex(alloc: Global, text: &str) -> Result<Verdict, HexFailure>
 }
 
 /// The SRID of the outermost geometry that a hex text spells, where it has one.
-pub fn srid_hex(alloc: Global, text: &str) -> Result<Option<u32>, HexFailure>
+pub fn srid_hex(alloc: Global, text: &str) -> Result<Option<u32>, HexFault>
     ensures ok { IfOk result (λ srid. OfHex text.now (λ bytes. HasSrid bytes srid)) }
     ensures err { IfErr result (IsFailureOf (text.now ∷ []) RefusedFirst) }
 {

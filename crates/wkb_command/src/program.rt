@@ -5,11 +5,11 @@ ghost use Rattle.std.specs.Prelude.{IfOk};
 ghost use Rattle.wkb_command.specs.Program.{IsCommandNamed, IsCommandOf, AreNoCommand};
 ghost use Rattle.wkb_command.specs.Program.{without_last_feed, lines, IsOnlyLine, AreTwoLines};
 ghost use Rattle.wkb_command.specs.Program.{IsOneLine, status_misused, status_refused, TellsError};
-ghost use Rattle.wkb_command.specs.Program.{TellsHexFailure, counts, RunEnds, IsRunOf};
+ghost use Rattle.wkb_command.specs.Program.{TellsHexFault, counts, RunEnds, IsRunOf};
 ghost use Rattle.wkb_command.specs.Reports.{line_of, IsReport, IsReportOn, IsLineOf};
 ghost use Rattle.wkb_command.specs.Transfer.{WroteBeginning};
 
-use crate::calls::{HexFailure, cost_hex, rewrite_hex, rewrite_hex_with_srid, same_hex, srid_hex};
+use crate::calls::{HexFault, cost_hex, rewrite_hex, rewrite_hex_with_srid, same_hex, srid_hex};
 use crate::transfer::{ReadFailure, WriteFailure, read_to_end, write_hex_line, write_whole};
 use std::alloc::{AllocError, Global};
 use std::io::{Read, Write};
@@ -139,13 +139,13 @@ fn error_report(alloc: Global, error: &WkbError) -> Result<Report, AllocError>
 }
 
 /// The report on a failure, other than a failed allocation.
-fn failure_report(alloc: Global, failure: HexFailure) -> Result<Report, AllocError>
-    ensures { IfOk result (λ report. TellsHexFailure failure (line_of report.output) report.status) }
+fn failure_report(alloc: Global, failure: HexFault) -> Result<Report, AllocError>
+    ensures { IfOk result (λ report. TellsHexFault failure (line_of report.output) report.status) }
 {
     match failure {
-        HexFailure::NotHex => Report::not_hex(alloc),
-        HexFailure::Wkb(error) => error_report(alloc, &error),
-        HexFailure::Memory => Err(AllocError),
+        HexFault::NotHex => Report::not_hex(alloc),
+        HexFault::Wkb(error) => error_report(alloc, &error),
+        HexFault::Memory => Err(AllocError),
     }
 }
 

@@ -8,10 +8,10 @@ use wkb::Endianness;
 use wkb_cases::spelled::{Spelled, bytes, digits_of};
 use wkb_cases::support::iso;
 use wkb_command::calls::{
-    HexFailure, cost_hex, rewrite_hex, rewrite_hex_with_srid, same_hex, srid_hex,
+    HexFault, cost_hex, rewrite_hex, rewrite_hex_with_srid, same_hex, srid_hex,
 };
 
-fn is_iso(alloc: Global, text: &str, case: &Case) -> Result<bool, HexFailure> {
+fn is_iso(alloc: Global, text: &str, case: &Case) -> Result<bool, HexFault> {
     let encoding = rewrite_hex(alloc, text, &iso(Endianness::LittleEndian))?;
     Ok(encoding.as_slice() == case.iso.as_slice())
 }
@@ -21,18 +21,18 @@ fn is_ewkb(
     text: &str,
     order: Endianness,
     expected: &Spelled,
-) -> Result<bool, HexFailure> {
+) -> Result<bool, HexFault> {
     let encoding = rewrite_hex_with_srid(alloc, text, order)?;
     Ok(encoding.as_slice() == expected.as_slice())
 }
 
-fn is_counted(alloc: Global, text: &str, case: &Case) -> Result<bool, HexFailure> {
+fn is_counted(alloc: Global, text: &str, case: &Case) -> Result<bool, HexFault> {
     let cost = cost_hex(alloc, text)?;
     let counts = cost.counts;
     Ok(cost.accepted && counts.turns == case.turns && counts.slots == case.turns)
 }
 
-fn is_answered(alloc: Global, text: &str, case: &Case) -> Result<bool, HexFailure> {
+fn is_answered(alloc: Global, text: &str, case: &Case) -> Result<bool, HexFault> {
     Ok(
         is_iso(alloc, text, case)?
             && is_ewkb(alloc, text, Endianness::LittleEndian, &case.ewkb)?
@@ -61,7 +61,7 @@ fn hex_calls(rt: HostRuntime) -> Result<(), Fail> {
 const POINT: &str = "01e9030020e6100000000000000000f03f00000000000000400000000000000840";
 
 // Whether its SRID is found, and goes into this encoding under EWKB.
-fn has_srid(alloc: Global, expected: &Spelled) -> Result<bool, HexFailure> {
+fn has_srid(alloc: Global, expected: &Spelled) -> Result<bool, HexFault> {
     Ok(
         srid_hex(alloc, POINT)? == Some(4326)
             && is_ewkb(alloc, POINT, Endianness::BigEndian, expected)?,

@@ -9,7 +9,7 @@ ghost use Rattle.wkb_geom.specs.declared.error.WkbError.TheVariants.{IOError};
 use std::hash::{DefaultHasher, Hash, Hasher};
 use std::io;
 use wkb::reader::{Counts, GeometryType};
-use wkb_command::calls::Verdict;
+use wkb_command::calls::Cost;
 use wkb_geom::code::WkbType;
 use wkb_geom::words::is_nan;
 use wkb_geom::{Dimension, Dimensions, EMPTY_WORD, Endianness, Form, General, Overflow, WkbResult};
@@ -107,8 +107,8 @@ fn are_counts(a: Counts, b: Counts) -> bool
     a == b
 }
 
-// Two verdicts are compared as their values are.
-fn is_verdict(a: Verdict, b: Verdict) -> bool
+// Two costs are compared as their values are.
+fn is_cost(a: Cost, b: Cost) -> bool
     ensures { IsTrue result ↔ (a ≡ b) }
 {
     a == b

@@ -3,6 +3,7 @@
 use std::test::Fail;
 use wkb::Endianness;
 use wkb::geom::ordinate;
+use wkb_cases::columns::write_polygons;
 use wkb_cases::example::corners;
 use wkb_cases::ordinates::greatest_x;
 use wkb_cases::places::{Place, written};
@@ -44,5 +45,20 @@ fn places(rt: HostRuntime) -> Result<(), Fail> {
     let point = written(rt.alloc(), &place, &iso(Endianness::LittleEndian))?;
     let expected = bytes("01 01000000 P")?;
     assert!(rt; point.as_slice() == expected.as_slice());
+    Ok(())
+}
+
+#[test]
+fn columns(rt: HostRuntime) -> Result<(), Fail> {
+    let words = [
+        ONE, TWO, ONE, TWO, ONE, TWO, ONE, TWO, ONE, TWO, ONE, TWO, ONE, TWO, ONE, TWO, ONE, TWO,
+        ONE, TWO, ONE, TWO, ONE, TWO, ONE, TWO,
+    ];
+    let mut out = [0; 240];
+    let written = write_polygons(&words, &iso(Endianness::LittleEndian), &mut out)?;
+    let expected = bytes(
+        "01 03000000 01000000 04000000 P P P P 01 03000000 02000000 05000000 P P P P P 04000000 P P P P",
+    )?;
+    assert!(rt; out.get(..written) == Some(expected.as_slice()));
     Ok(())
 }

@@ -2,20 +2,30 @@
 //! each level where its items end. A row has singles, a single has rings, a ring has coordinates. They allocate
 //! nothing.
 //!
-//! A column's rows are asked for in turn, with one `Place` that says how far the rows before reach:
+//! A column's rows are asked for one after another. One that means nothing of the column's kind is none:
 //!
 //! ```
 //! // Two polygons: a ring of four coordinates; a ring of five, and a hole of four.
 //! let levels = Levels {
 //!     words,
-//!     ring_ends: Ends::At { start: 0, ends: &[4, 9, 13] },
-//!     single_ends: Ends::At { start: 0, ends: &[1, 3] },
+//!     ring_ends: Ends::At {
+//!         start: 0,
+//!         ends: &[4, 9, 13],
+//!     },
+//!     single_ends: Ends::At {
+//!         start: 0,
+//!         ends: &[1, 3],
+//!     },
 //!     row_ends: Ends::Each { from: 0, to: 2 },
 //! };
-//! let mut reach = Place::front();
-//! for i in 0..levels.row_ends.len() {
-//!     let written = levels.write_row(Kind::Polygon, Dimensions::Xy, &options, i, &mut reach, out);
+//! let mut written = 0;
+//! for row in levels.rows(Kind::Polygon, Dimensions::Xy) {
+//!     if let Some(polygon) = row {
+//!         written += polygon.write(options, &mut out[written..])?;
+//!     }
 //! }
 //! ```
 
-pub use wkb_levels::{Ends, Kind, Levels, Place, Points, Polygons, Rings, Row, Single, Written};
+pub use wkb_levels::{
+    Ends, Kind, Levels, Place, Points, Polygons, Rings, Row, Rows, Single, Written,
+};

@@ -1,0 +1,14 @@
+pub mod Canonical
+pub mod Checks
+pub mod Prelude
+pub mod Values
+pub mod Spellings
+pub mod Refusals
+pub mod Geometries
+pub mod Plain
+pub mod Levels
+pub mod Encodings
+pub mod Reads
+pub mod Writes
+pub mod Laws
+pub mod Bridges

@@ -1,0 +1,29 @@
+//! Names each word for contracts that `wkb` hands to its users: the check fails where one can't be named.
+//!
+//! `tools/public_words --write` makes this crate.
+#![tactic(auto)]
+
+ghost use Rattle.std.specs.Prelude.{◌≡◌, ◌+◌};
+ghost use Rattle.wkb_words.specs.Canonical.{canonical_words};
+ghost use Rattle.wkb_words.specs.Checks.{checks_words};
+ghost use Rattle.wkb_words.specs.Prelude.{prelude_words};
+ghost use Rattle.wkb_words.specs.Values.{values_words};
+ghost use Rattle.wkb_words.specs.Spellings.{spellings_words};
+ghost use Rattle.wkb_words.specs.Refusals.{refusals_words};
+ghost use Rattle.wkb_words.specs.Geometries.{geometries_words};
+ghost use Rattle.wkb_words.specs.Plain.{plain_words};
+ghost use Rattle.wkb_words.specs.Levels.{levels_words};
+ghost use Rattle.wkb_words.specs.Encodings.{encodings_words};
+ghost use Rattle.wkb_words.specs.Reads.{reads_words};
+ghost use Rattle.wkb_words.specs.Writes.{writes_words};
+ghost use Rattle.wkb_words.specs.Laws.{laws_words};
+ghost use Rattle.wkb_words.specs.Bridges.{bridges_words};
+
+/// How many words there are.
+pub fn number_of_words() -> usize
+    ensures { result ≡ canonical_words + checks_words + prelude_words + values_words +
+        spellings_words + refusals_words + geometries_words + plain_words + levels_words +
+        encodings_words + reads_words + writes_words + laws_words + bridges_words }
+{
+    649
+}
