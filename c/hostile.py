@@ -27,6 +27,12 @@ SEEDS = [bytes.fromhex(it) for it in (
     "01040000000200000001010000000000000000000840000000000000f0bf00000000013ff00000000000004000000000000000",
     "0107000000020000000102000000000000000107000000010000000101000000000000000000f87f000000000000f87f",
     "01b90b0000000000000000f03f000000000000004000000000000008400000000000001040",
+    # Multi geometries with z, by codes of ISO. A member that has the flag for z besides is EWKB.
+    "01ec0300000200000001e9030000000000000000f03f00000000000000400000000000000840"
+    "00000003e93ff000000000000040000000000000004008000000000000",
+    "01ed0300000200000000000003ea0000000001ea03000000000000",
+    "01ee0300000100000001eb03000000000000",
+    "01070000000100000000000003ee0000000100000003eb00000000",
 )]
 ENVELOPES = [0, 32, 48, 48, 64]
 SIDES = [(axis, end) for axis in "xyzm" for end in ("min", "max")]
@@ -119,6 +125,8 @@ def try_sqlite(extension):
     count, database = 0, sqlite3.connect(":memory:")
     database.enable_load_extension(True)
     database.load_extension(os.fspath(extension))
+    # Python's call has no entry point before 3.12.
+    database.execute("select load_extension(?, 'sqlite3_wkbst_init')", (os.fspath(extension),))
     for data in inputs():
         for header, srs_id in [(b"", None), *headers()]:
             returned = database.execute(f"{QUERY}, {GEOPACKAGE}", (header + data, SEEDS[0])).fetchone()

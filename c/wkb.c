@@ -2,6 +2,25 @@
  * and calls its proved wkb_raw_ call. The texts, the version and wkb_words have no such call. */
 #include "wkb_raw.h"
 
+/* What the proved calls take for granted of the compiler and its options: structs as they were proved, pointers of 64
+ * bits, little endian. */
+#define IS_LAID(TYPE, SIZE, LAST, AT) \
+  _Static_assert(sizeof(TYPE) == (SIZE) && offsetof(TYPE, LAST) == (AT), "another layout of " #TYPE)
+_Static_assert(sizeof(void *) == 8 && sizeof(size_t) == 8, "another size of pointers");
+_Static_assert(sizeof(wkb_status) == 4, "another size of a status");
+IS_LAID(wkb_found, 64, order, 60);
+IS_LAID(wkb_fault, 40, status, 36);
+IS_LAID(wkb_options, 12, srid, 8);
+IS_LAID(wkb_part, 64, order, 60);
+IS_LAID(wkb_box, 96, m, 72);
+IS_LAID(wkb_raw_column, 64, validity_offset, 56);
+IS_LAID(wkb_raw_level_column, 112, validity_offset, 104);
+IS_LAID(wkb_raw_level_slices, 48, single_room, 40);
+IS_LAID(wkb_raw_totals, 24, singles, 16);
+#if defined __BYTE_ORDER__ && __BYTE_ORDER__ != __ORDER_LITTLE_ENDIAN__
+#error "the proved calls are for little endian"
+#endif
+
 /* What an empty slice points to, for any type of its items. */
 static const uint64_t NOTHING[1] = {0};
 
@@ -18,7 +37,8 @@ const char *wkb_status_text(uint32_t status) {
     case WKB_STATUS_NO_ROOM: return "the output doesn't fit its room";
     case WKB_STATUS_UNKNOWN_OPTION: return "unknown byte order, form, kind or dimension";
     case WKB_STATUS_NULL_ROW: return "the row is null";
-    case WKB_STATUS_BAD_OFFSETS: return "the row's offsets decrease, pass the end of the data, or overlap a row";
+    case WKB_STATUS_BAD_OFFSETS:
+      return "the row's offsets are negative, decrease or pass the end of the data, or it begins before a row ends";
     case WKB_STATUS_BAD_LEVELS: return "the row's levels don't fit its kind or each other";
     case WKB_STATUS_SHORT_HEADER: return "the input ends inside a header or before a count";
     case WKB_STATUS_INVALID_BYTE_ORDER: return "a byte order is neither 0 nor 1";

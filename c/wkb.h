@@ -2,7 +2,9 @@
  * ends in (tested) is tested only, and so are wkb_words, wkb_word, wkb_whole, the texts and wkb_status_is_refusal.
  *
  * BUF may hold any bytes. A call returns, and keeps nothing. It reads the bytes that it is given and no others, and
- * writes only through its other pointers (tested). Output buffers must not overlap each other or any input.
+ * writes only through its other pointers (tested). Output buffers must not overlap each other or any input. The input,
+ * offsets, validity and levels must not change during a call, by another thread or by another process. Otherwise
+ * nothing is promised, not even where a call writes. So copy a mapped file that others may write before the call.
  *
  * A pointer may be null where its length, room or number of rows is 0. FOUND, FAULT, BOX, SIZE, COUNT, EQUAL and WHICH
  * may be null where the caller doesn't want that result (tested). No other pointer may be null. What a call doesn't
@@ -10,8 +12,8 @@
  *
  * No call asks for memory: none returns WKB_STATUS_NO_MEMORY, whose number stays free, and all may be called from a
  * signal handler, in a forked child and on a thread with a small stack: wkb_parts and wkb_column_parts take at most
- * 20 KB of it, any other call 2 KB (tested). Calls may run at the same time: there is no static data (tested). Numbers
- * in BUF may have either byte order and any alignment; numbers in the structs have the machine's.
+ * 20 KB of it (28 KB on Windows), any other call 2 KB (tested). Calls may run at the same time: there is no static data
+ * (tested). Numbers in BUF may have either byte order and any alignment; numbers in the structs have the machine's.
  *
  * Structs, numbers and names don't change within version 1. Later versions add calls, and statuses inside the classes
  * that wkb_status names. */
@@ -45,8 +47,8 @@ typedef enum wkb_status {
   WKB_STATUS_NO_ROOM = 2,                  /* a room is too small; *SIZE, *COUNT or the ends say what is needed */
   WKB_STATUS_UNKNOWN_OPTION = 3,           /* the options name no order, form, kind or dimension */
   WKB_STATUS_NULL_ROW = 16,                /* the row's validity bit is 0 */
-  WKB_STATUS_BAD_OFFSETS = 17,             /* the row's offsets decrease, pass the end of the data, or begin before an
-                                              earlier row ends */
+  WKB_STATUS_BAD_OFFSETS = 17,             /* the row's offsets are negative, decrease or pass the end of the data, or
+                                              the row begins before an earlier one ends whose offsets do none of this */
   WKB_STATUS_BAD_LEVELS = 18,              /* the row's levels don't fit its kind or each other */
   WKB_STATUS_SHORT_HEADER = 32,            /* the input ends inside a header or before a count */
   WKB_STATUS_INVALID_BYTE_ORDER = 33,      /* an order byte is neither 0 nor 1 */
@@ -206,10 +208,10 @@ wkb_status wkb_same(const void *a, size_t a_len, const void *b, size_t b_len, ui
  */
 wkb_status wkb_parts(const void *buf, size_t len, wkb_part *parts, size_t room, uint64_t *count, wkb_fault *fault);
 
-/* What wkb_check returns for each row, a byte a row in STATUSES. A null row is WKB_STATUS_NULL_ROW. A row whose offsets
- * decrease or pass the end of the data is WKB_STATUS_BAD_OFFSETS. So is a row that begins before the end of an earlier
- * one, where the earlier one, null or not, has offsets that do neither; and so is each row that is not null where
- * OFFSET_SIZE is neither 4 nor 8. None of these rows is read. No row stops the others. */
+/* What wkb_check returns for each row, a byte a row in STATUSES. A null row is WKB_STATUS_NULL_ROW. Any other row is
+ * WKB_STATUS_BAD_OFFSETS if its offsets are negative, decrease or pass the end of the data, or if it begins before the
+ * end of an earlier row, null or not, whose offsets do none of this; and so is each where OFFSET_SIZE is neither 4 nor
+ * 8. None of these rows is read. No row stops the others. */
 void wkb_column_check(const wkb_column *column, uint8_t *statuses);
 
 /* What wkb_bounds returns for each row, and its bounds: BOXES has one a row. The box of a row without bounds is that of
@@ -217,10 +219,10 @@ void wkb_column_check(const wkb_column *column, uint8_t *statuses);
 void wkb_column_bounds(const wkb_column *column, wkb_box *boxes, uint8_t *statuses);
 
 /* What wkb_parts returns for each row, the tables one after another in PARTS: that of row i ends at ends[i], and begins
- * at ends[i - 1], or at 0 where i is 0. Offsets in it are counted from the row's own front. STATUSES has a byte a row,
- * ENDS a number a row. A row without a table ends where it begins. WKB_STATUS_NO_ROOM: the table would end at ends[i],
- * which is more than ROOM. Returns the last end, or 0 without rows: with that much room, no row lacks room. PARTS is
- * unchanged after the last table that was written. */
+ * at ends[i - 1], or at 0 where i is 0. In it OFFSET, BEGIN and END are counted from the row's own front, and NEXT from
+ * the first entry of its own table. STATUSES has a byte a row, ENDS a number a row. A row without a table ends where it
+ * begins. WKB_STATUS_NO_ROOM: the table would end at ends[i], which is more than ROOM. Returns the last end, or 0
+ * without rows: with that much room, no row lacks room. PARTS is unchanged after the last table that was written. */
 uint64_t wkb_column_parts(const wkb_column *column, wkb_part *parts, size_t room, uint64_t *ends, uint8_t *statuses);
 
 /* What wkb_write returns for each row under the options, the encodings one after another in OUT, with ends, statuses
@@ -274,9 +276,11 @@ typedef struct wkb_levels {
  * them. A point, a line string and a polygon is one single. A single that is no polygon has one ring, a point's ring
  * one coordinate; an empty point is a coordinate of not-a-numbers. All words are written as they are, so an empty point
  * is as wkb_column_write has it only where each is 7ff8000000000000. WKB_STATUS_BAD_LEVELS: the row doesn't fit its
- * kind, its ends decrease or pass the next level, it needs a count of 2^32, or it begins before the end of an earlier
- * row, null or not, whose own ends do neither. WKB_STATUS_UNKNOWN_OPTION: the row isn't null, and the kind, the
- * dimension or the options have no meaning. WKB_FORM_EWKB_OWN_SRID writes no SRID. No row stops the others. */
+ * kind, it needs a count of 2^32, its ends decrease, it begins or ends past the end of a level, or at some level it
+ * begins before the end of an earlier row, null or not, that neither there nor above ends before it begins or past the
+ * level's end. WKB_STATUS_UNKNOWN_OPTION: the row isn't null, and the kind, the dimension or the options have no
+ * meaning. WKB_FORM_EWKB_OWN_SRID writes no SRID. No row stops the others. The work is proportional to the rows,
+ * singles, rings and coordinates together at most, whatever the levels say. */
 uint64_t wkb_column_from_coordinates(const wkb_levels *levels, uint32_t kind, uint32_t dimension,
                                      const wkb_options *options, void *out, size_t room, uint64_t *ends,
                                      uint8_t *statuses);

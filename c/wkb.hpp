@@ -1,12 +1,20 @@
 // A C++20 wrapper of wkb.h: spans, optionals, exceptions, and ranges over the parts of a geometry. Header only. Nothing
-// in it is proved. Nothing is copied but words on demand. Only vectors ask for memory. A refused input is an exception,
-// or for the calls whose names begin with try_ and for check an empty optional or false, which costs a hundredth of it.
+// in it is proved. Nothing is copied but words on demand. A refused input is an exception, or for the calls whose names
+// begin with try_ and for check an empty optional or false, which costs a hundredth of it.
+//
+// What a call reads must not change during the call, by another thread or another process either: copy a mapped file
+// that others may write before the call. What a call writes must not overlap what it reads.
+//
+// Only vectors and exceptions allocate. Where one gets no memory, the call throws std::bad_alloc: a reader's table is
+// then empty, and all else is as it was. Without exceptions (-fno-exceptions) the program ends there, as with any
+// vector, and the calls that throw refused are not declared. These allocate nothing: check, try_bounds, try_same,
+// try_write and try_read into spans, column, and each call of a part but words.
 #ifndef WKB_HPP
 #define WKB_HPP
 
 #if __cplusplus <= 201703L
 #error "wkb.hpp needs C++20 (-std=c++20); wkb.h is for C and for any C++"
-#endif
+#else
 
 #include "wkb.h"
 
@@ -18,14 +26,86 @@
 #include <optional>
 #include <ranges>
 #include <span>
+#include <vector>
+#ifdef __cpp_exceptions
 #include <stdexcept>
 #include <string>
-#include <vector>
+#endif
 
 namespace wkb {
 
 // The bytes of an input. For a vector of another byte type this is std::as_bytes(std::span(vector)).
 using bytes = std::span<const std::byte>;
+
+namespace detail {
+
+// Whether a call did what it promises. If not, FAULT becomes what was FOUND, unless it is null: the fault of a refusal,
+// or else zeros, and the status.
+inline bool accepted(wkb_status status, wkb_fault &found, wkb_fault *fault) noexcept {
+  if (status == WKB_STATUS_OK) return true;
+  found.status = status;
+  if (fault != nullptr) *fault = found;
+  return false;
+}
+
+}  // namespace detail
+
+// What is at the front of the input, or nothing where it is refused. FAULT then says why, unless it is null.
+inline std::optional<wkb_found> check(bytes input, wkb_fault *fault = nullptr) noexcept {
+  wkb_found found;
+  if (wkb_check(input.data(), input.size(), &found, fault) != WKB_STATUS_OK) return std::nullopt;
+  return found;
+}
+
+// The bounds of the input's geometry, or nothing where it is refused. FAULT then says why, unless it is null.
+inline std::optional<wkb_box> try_bounds(bytes input, wkb_fault *fault = nullptr) noexcept {
+  wkb_box box;
+  if (wkb_bounds(input.data(), input.size(), &box, fault) != WKB_STATUS_OK) return std::nullopt;
+  return box;
+}
+
+// Writes the encoding of the input's geometry under the options to the front of OUT, and returns its length. Where the
+// input is refused, the options are unknown or OUT is too small, it returns nothing, OUT is unchanged, and FAULT says
+// why, unless it is null. An OUT that is four bytes longer than the input is never too small.
+inline std::optional<std::size_t> try_write(bytes input, const wkb_options &options, std::span<std::byte> out,
+                                            wkb_fault *fault = nullptr) noexcept {
+  std::uint64_t size = 0;
+  wkb_fault found{};
+  const wkb_status status =
+      wkb_write(input.data(), input.size(), &options, out.data(), out.size(), &size, &found);
+  if (!detail::accepted(status, found, fault)) return std::nullopt;
+  return size;
+}
+
+// Replaces what OUT holds by the encoding of the input's geometry under the options, and returns true. Where the input
+// is refused or the options are unknown, it returns false, OUT is unchanged, and FAULT says why, unless it is null. It
+// allocates nothing where OUT has memory for four bytes more than the input.
+inline bool try_write(bytes input, const wkb_options &options, std::vector<std::byte> &out,
+                      wkb_fault *fault = nullptr) {
+  // No encoding is longer than its geometry and an SRID. Of a long input the geometry may be a small part.
+  constexpr std::size_t LONG = 1 << 16, SRID_SIZE = 4;
+  const std::size_t before = out.size();
+  std::size_t most = input.size();
+  if (most > LONG) {
+    const auto found = check(input);
+    most = found ? found->size : 0;
+  }
+  out.resize(std::max(before, most + SRID_SIZE));
+  const auto size = try_write(input, options, std::span(out), fault);
+  out.resize(size.value_or(before));
+  return size.has_value();
+}
+
+// Whether both inputs begin with geometries of one value, or nothing where one is refused. FAULT then says why, and
+// WHICH is 1 for the first input, 2 for the second, unless they are null.
+inline std::optional<bool> try_same(bytes a, bytes b, wkb_fault *fault = nullptr,
+                                    std::uint32_t *which = nullptr) noexcept {
+  std::uint32_t equal = 0;
+  if (wkb_same(a.data(), a.size(), b.data(), b.size(), &equal, fault, which) != WKB_STATUS_OK) return std::nullopt;
+  return equal != 0;
+}
+
+#ifdef __cpp_exceptions
 
 // A refused input: why, and which part of it.
 class refused : public std::runtime_error {
@@ -56,38 +136,6 @@ class refused_of_two : public refused {
   std::uint32_t which_;
 };
 
-namespace detail {
-
-// Throws the exception for a status other than WKB_STATUS_OK.
-[[noreturn]] inline void fail(wkb_status status, const wkb_fault &fault) {
-  if (wkb_status_is_refusal(status)) throw refused(fault);
-  throw std::invalid_argument(wkb_status_text(status));
-}
-
-// Whether a call did what it promises. A refusal is told; any other status throws.
-inline bool accepted(wkb_status status, const wkb_fault &found, wkb_fault *fault) {
-  if (status == WKB_STATUS_OK) return true;
-  if (!wkb_status_is_refusal(status)) fail(status, found);
-  if (fault != nullptr) *fault = found;
-  return false;
-}
-
-}  // namespace detail
-
-// What is at the front of the input, or nothing where it is refused. FAULT then says why, unless it is null.
-inline std::optional<wkb_found> check(bytes input, wkb_fault *fault = nullptr) noexcept {
-  wkb_found found;
-  if (wkb_check(input.data(), input.size(), &found, fault) != WKB_STATUS_OK) return std::nullopt;
-  return found;
-}
-
-// The bounds of the input's geometry, or nothing where it is refused. FAULT then says why, unless it is null.
-inline std::optional<wkb_box> try_bounds(bytes input, wkb_fault *fault = nullptr) noexcept {
-  wkb_box box;
-  if (wkb_bounds(input.data(), input.size(), &box, fault) != WKB_STATUS_OK) return std::nullopt;
-  return box;
-}
-
 // The bounds of the input's geometry. Throws refused.
 inline wkb_box bounds(bytes input) {
   wkb_fault fault;
@@ -96,32 +144,13 @@ inline wkb_box bounds(bytes input) {
   return *box;
 }
 
-// Replaces what OUT holds by the encoding of the input's geometry under the options, in the memory that OUT has if that
-// is enough for it and four bytes. Returns whether the input is accepted. If it isn't, OUT is unchanged, and FAULT says
-// why, unless it is null. Throws std::invalid_argument for unknown options; OUT is then unchanged.
-inline bool try_write(bytes input, const wkb_options &options, std::vector<std::byte> &out,
-                      wkb_fault *fault = nullptr) {
-  // No encoding is longer than its geometry and an SRID. Of a long input only the front may be the geometry.
-  constexpr std::size_t LONG = 1 << 16, SRID_SIZE = 4;
-  const std::size_t before = out.size();
-  std::size_t most = input.size();
-  if (most > LONG) {
-    const auto found = check(input);
-    most = found ? found->size : 0;
-  }
-  out.resize(std::max(before, most + SRID_SIZE));
-  std::uint64_t size = 0;
-  wkb_fault found;
-  const wkb_status status =
-      wkb_write(input.data(), input.size(), &options, out.data(), out.size(), &size, &found);
-  out.resize(status == WKB_STATUS_OK ? size : before);
-  return detail::accepted(status, found, fault);
-}
-
-// The same. Throws refused, and std::invalid_argument for unknown options; OUT is then unchanged.
+// Replaces what OUT holds by the encoding of the input's geometry under the options, as try_write does. Throws refused,
+// and std::invalid_argument for unknown options; OUT is then unchanged.
 inline void write(bytes input, const wkb_options &options, std::vector<std::byte> &out) {
   wkb_fault fault;
-  if (!try_write(input, options, out, &fault)) throw refused(fault);
+  if (try_write(input, options, out, &fault)) return;
+  if (!wkb_status_is_refusal(fault.status)) throw std::invalid_argument(wkb_status_text(fault.status));
+  throw refused(fault);
 }
 
 // The encoding of the input's geometry under the options. Throws as the call above.
@@ -129,16 +158,6 @@ inline std::vector<std::byte> write(bytes input, const wkb_options &options) {
   std::vector<std::byte> out;
   write(input, options, out);
   return out;
-}
-
-// Whether both inputs begin with geometries of one value, or nothing where one is refused. FAULT then says why, and
-// WHICH is 1 for the first input, 2 for the second, unless they are null.
-inline std::optional<bool> try_same(bytes a, bytes b, wkb_fault *fault = nullptr, std::uint32_t *which = nullptr) {
-  std::uint32_t equal = 0;
-  wkb_fault found;
-  const wkb_status status = wkb_same(a.data(), a.size(), b.data(), b.size(), &equal, &found, which);
-  if (!detail::accepted(status, found, fault)) return std::nullopt;
-  return equal != 0;
 }
 
 // Whether both inputs begin with geometries of one value. Throws refused_of_two.
@@ -150,8 +169,10 @@ inline bool same(bytes a, bytes b) {
   return *equal;
 }
 
-// A geometry, or a ring of a polygon; a range of its own rings or members. It is valid as long as the input, and until
-// the reader that returned it reads again.
+#endif  // __cpp_exceptions
+
+// A geometry, or a ring of a polygon; a range of its own rings or members. It is valid as long as its input and its
+// table are there and unchanged: the table of a reader until that reads again.
 class part {
  public:
   class iterator;
@@ -196,6 +217,7 @@ class part {
 
  private:
   friend class reader;
+  friend std::optional<part> try_read(bytes input, std::span<wkb_part> table, wkb_fault *fault) noexcept;
   part(const std::byte *input, const wkb_part *table, const wkb_part *entry) noexcept
       : input_(input), table_(table), entry_(entry) {}
 
@@ -240,22 +262,38 @@ class part::iterator {
 inline part::iterator part::begin() const noexcept { return {input_, table_, entry_ + 1}; }
 inline part::iterator part::end() const noexcept { return {input_, table_, table_ + entry_->next}; }
 
+// Reads the input's geometry into the front of TABLE, which takes as many entries as check finds parts. Where the input
+// is refused or TABLE is too small, it returns nothing, TABLE is unchanged, and FAULT says why, unless it is null.
+inline std::optional<part> try_read(bytes input, std::span<wkb_part> table, wkb_fault *fault = nullptr) noexcept {
+  std::uint64_t count = 0;
+  wkb_fault found{};
+  const wkb_status status = wkb_parts(input.data(), input.size(), table.data(), table.size(), &count, &found);
+  if (!detail::accepted(status, found, fault)) return std::nullopt;
+  return part(input.data(), table.data(), table.data());
+}
+
 // Reads one input after another into one table, so that a scan stops allocating once the table has grown.
 class reader {
  public:
   // The input's geometry, or nothing where it is refused. FAULT then says why, unless it is null.
   std::optional<part> try_read(bytes input, wkb_fault *fault = nullptr) {
-    wkb_fault found;
-    wkb_status status = wkb_parts(input.data(), input.size(), table_.data(), table_.size(), &count_, &found);
+    count_ = 0;
+    std::uint64_t count = 0;
+    wkb_fault found{};
+    const auto fill = [&] {
+      return wkb_parts(input.data(), input.size(), table_.data(), table_.size(), &count, &found);
+    };
+    wkb_status status = fill();
     if (status == WKB_STATUS_NO_ROOM) {
-      table_.resize(count_);
-      status = wkb_parts(input.data(), input.size(), table_.data(), table_.size(), &count_, &found);
+      table_.resize(count);
+      status = fill();
     }
-    if (status != WKB_STATUS_OK) count_ = 0;
     if (!detail::accepted(status, found, fault)) return std::nullopt;
+    count_ = count;
     return part(input.data(), table_.data(), table_.data());
   }
 
+#ifdef __cpp_exceptions
   // The input's geometry. Throws refused.
   part read(bytes input) {
     wkb_fault fault;
@@ -263,9 +301,12 @@ class reader {
     if (!whole) throw refused(fault);
     return *whole;
   }
+#endif
 
-  // The table of the input that was read last, in preorder.
-  std::span<const wkb_part> table() const noexcept { return {table_.data(), count_}; }
+  // The table of the input that was read last, in preorder; empty where that was refused, and in a reader moved from.
+  std::span<const wkb_part> table() const noexcept {
+    return {table_.data(), std::min<std::size_t>(count_, table_.size())};
+  }
 
  private:
   std::vector<wkb_part> table_;
@@ -396,4 +437,5 @@ inline row_encodings rows_from_coordinates(const levels &from, wkb_kind kind, wk
 template <>
 inline constexpr bool std::ranges::enable_borrowed_range<wkb::part> = true;
 
+#endif  // C++20
 #endif

@@ -1,27 +1,12 @@
 // Tries wkb.hpp. It prints nothing, and what is wrong where something is.
-#include "wkb.hpp"
+#include "test/hpp.h"
 
-#include <cstdio>
-#include <cstdlib>
 #include <cstring>
+#include <utility>
 
 static_assert(std::forward_iterator<wkb::part::iterator>);
 static_assert(std::ranges::forward_range<wkb::part>);
 static_assert(std::ranges::borrowed_range<wkb::part>);
-
-static void expect(bool holds, const char *what) {
-  if (holds) return;
-  std::printf("wrong: %s\n", what);
-  std::exit(1);
-}
-
-// The bytes that a text spells in hex.
-static std::vector<std::byte> spelled(const std::string &text) {
-  std::vector<std::byte> bytes;
-  for (std::size_t i = 0; i + 1 < text.size(); i += 2)
-    bytes.push_back(static_cast<std::byte>(std::stoul(text.substr(i, 2), nullptr, 16)));
-  return bytes;
-}
 
 static const std::string ONE_AND_TWO = "000000000000f03f0000000000000040";
 static const auto POINT = spelled("0101000020e6100000" + ONE_AND_TWO);
@@ -47,6 +32,13 @@ static void bounds_and_refusals() {
   } catch (const wkb::refused &refusal) {
     expect(refusal.status() == WKB_STATUS_SHORT_POINT && refusal.fault().end == 25, "the fault of bounds");
     expect(std::strcmp(refusal.what(), "the input ends inside a point (part 0, byte 0)") == 0, "the text of bounds");
+  }
+  const auto short_ring = spelled("01030000000100000004000000" + ONE_AND_TWO);
+  try {
+    wkb::bounds(short_ring);
+    expect(false, "a short ring is refused");
+  } catch (const wkb::refused &refusal) {
+    expect(std::strcmp(refusal.what(), "the input ends inside a ring (part 1, byte 9)") == 0, "the text for a ring");
   }
 }
 
@@ -95,11 +87,11 @@ static void reads() {
   expect(point.begin() == point.end() && point.size() == 1, "a point has no parts");
   wkb::part whole = reader.read(POLYGONS);
   expect(reader.table().size() == 5 && whole.size() == 2 && whole.order() == WKB_ORDER_BIG, "a longer table");
-  expect(std::ranges::distance(whole) == 2 && !whole.srid() && !whole.has_coordinates(), "two polygons");
+  expect(std::distance(whole.begin(), whole.end()) == 2 && !whole.srid() && !whole.has_coordinates(), "two polygons");
   auto polygon = whole.begin();
   expect((*polygon).empty() && (*polygon).begin() == (*polygon).end(), "a polygon without rings");
   wkb::part second = *++polygon;
-  expect(second.encoding().size() == 33 && std::ranges::distance(second) == 2, "a polygon with rings");
+  expect(second.encoding().size() == 33 && std::distance(second.begin(), second.end()) == 2, "a polygon with rings");
   wkb::part ring = *second.begin();
   double out[5] = {7, 7, 7, 7, 7};
   expect(ring.copy(std::span(out, 1)) == 0 && ring.copy(out, 1) == 0 && out[0] == 7, "no room, no coordinate");
@@ -112,6 +104,19 @@ static void reads() {
   } catch (const wkb::refused &) {
     expect(reader.table().empty(), "no table of a refused input");
   }
+}
+
+// A reader that was copied or moved, and one that was moved from.
+static void reader_moves() {
+  wkb::reader reader;
+  const wkb::part whole = reader.read(POLYGONS);
+  const wkb::reader copy = reader, moved = std::move(reader);
+  expect(copy.table().size() == 5 && moved.table().size() == 5, "tables that were copied and moved");
+  expect(moved.table().data() == &whole.entry() && copy.table().data() != &whole.entry(), "whose parts they are");
+  expect(reader.table().empty(), "no table of a reader that was moved from");
+  expect(reader.read(POINT).size() == 1 && reader.table().size() == 1, "a reader that was moved from reads again");
+  reader = wkb::reader(copy);
+  expect(reader.table().size() == 5, "a table that was assigned");
 }
 
 // The calls that don't throw tell of a refusal what the others throw.
@@ -127,6 +132,8 @@ static void refusals_without_exceptions() {
   expect(!wkb::try_write({}, iso, out, &fault) && fault.status == WKB_STATUS_SHORT_HEADER, "not written");
   expect(!wkb::try_write({}, iso, out) && out == before, "what a refusal leaves");
   expect(wkb::try_write(POINT, iso, out) && out.size() == 21, "written");
+  expect(!wkb::try_write(POINT, {WKB_ORDER_BIG, 4, 0}, out, &fault) && out.size() == 21, "an unknown form");
+  expect(fault.status == WKB_STATUS_UNKNOWN_OPTION && fault.end == 0, "why it is not written");
   fault = {};
   expect(!wkb::try_same(POINT, {}, &fault, &which) && which == 2 && fault.status == WKB_STATUS_SHORT_HEADER, "same");
   wkb::reader reader;
@@ -144,6 +151,12 @@ static void long_inputs() {
   input.resize(100000);
   expect(!wkb::try_write(input, {WKB_ORDER_BIG, WKB_FORM_ISO, 0}, out), "a long input that is cut off");
   expect(out.size() == 13 + 16 * 65535, "what it leaves");
+  std::vector<std::byte> little;
+  expect(!wkb::try_write(input, {WKB_ORDER_BIG, WKB_FORM_ISO, 0}, little), "the same for an output without memory");
+  input = POINT;
+  input.resize(70000);
+  expect(wkb::try_write(input, {WKB_ORDER_LITTLE, WKB_FORM_EWKB_OWN_SRID, 0}, little), "a point and much behind it");
+  expect(little == POINT && little.capacity() < 100, "no more memory than these take");
 }
 
 // A column of the two inputs, a null row and one without bytes.
@@ -205,6 +218,7 @@ int main() {
   writes();
   compares();
   reads();
+  reader_moves();
   refusals_without_exceptions();
   long_inputs();
   columns();

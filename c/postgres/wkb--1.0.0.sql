@@ -27,12 +27,12 @@ comment on function wkb_srid(bytea) is
 create function wkb_canonical(bytea) returns bytea
   as 'MODULE_PATHNAME', 'wkb_canonical_sql' language c immutable strict parallel safe cost 100;
 comment on function wkb_canonical(bytea) is
-  'The key: the same bytes for each value, whatever the byte orders and SRIDs are.';
+  'The key: the same bytes for each value, whatever the byte orders and SRIDs are. 0 and -0 are two values.';
 
 create function wkb_ewkb(bytea) returns bytea
   as 'MODULE_PATHNAME', 'wkb_ewkb_sql' language c immutable strict parallel safe cost 100;
 comment on function wkb_ewkb(bytea) is
-  'The key as EWKB, with the geometry''s own SRID.';
+  'The key as EWKB, with the geometry''s own SRID. Members have none.';
 
 create function wkb_ewkb(bytea, srid bigint) returns bytea
   as 'MODULE_PATHNAME', 'wkb_ewkb_with_srid_sql' language c immutable strict parallel safe cost 100;

@@ -1,7 +1,8 @@
 /* load_test EXTENSION: lets loads of the extension fail, and sees that each says why, that the connection goes on, that
  * the next load succeeds, that all memory is freed, and that no byte past an allocation is written. A load fails where
  * SQLite lacks memory, each of its allocations in turn, and where a statement is open while a function of the same name
- * is there. Of the names that begin with ST_ a load replaces none. */
+ * is there. Names that begin with ST_ are defined by their own entry point alone: a load replaces none of them, and any
+ * of them can be defined for one argument later, also while a statement is open. */
 #include <sqlite3.h>
 #include <stdbool.h>
 #include <stdio.h>
@@ -84,7 +85,8 @@ static bool holds(sqlite3 *db, const char *text) {
 static bool answers(sqlite3 *db) {
   return holds(db,
                "select wkb_well_formed(g) and wkb_fault(b) is not null and wkb_fault(g) is null"
-               " and wkb_kind(p) = 'point' and wkb_srid(g) = 4326 and wkb_canonical(p) = p and wkb_canonical(b) is null and wkb_ewkb(p) = p"
+               " and wkb_kind(p) = 'point' and wkb_srid(g) = 4326 and wkb_canonical(p) = p and wkb_canonical(b) is null"
+               " and wkb_ewkb(p) = p"
                " and length(wkb_ewkb(p, 3857)) = 25 and wkb_gpkg(g) <> g and length(wkb_gpkg(p, 3857)) = 29"
                " and wkb_same(p, p) and wkb_xmin(g) = 1.0 and wkb_mmax(p) is null and ST_MinX(p) = 1.0"
                " and ST_MaxY(p) = 2.0 and not ST_IsEmpty(p) from (select x'01' as b,"
@@ -92,10 +94,12 @@ static bool answers(sqlite3 *db) {
                " x'47500001e61000000107000000010000000101000000000000000000f03f0000000000000040' as g)");
 }
 
-/* Loads the extension and returns the status; where this fails, the text says why, if there is memory for it. */
+/* Loads the extension by both entry points and returns the status; where this fails, the text says why, if there is
+ * memory for it. */
 static int load(sqlite3 *db, char **text) {
   *text = NULL;
-  return sqlite3_load_extension(db, extension, NULL, text);
+  int status = sqlite3_load_extension(db, extension, NULL, text);
+  return status == SQLITE_OK ? sqlite3_load_extension(db, extension, "sqlite3_wkbst_init", text) : status;
 }
 
 /* After a load that failed: the functions that are there may be called, the next load succeeds if there is one, and the
@@ -163,12 +167,44 @@ static void try_beside(int n) {
   expect(sqlite3_memory_used() == 0, "memory is not freed", n);
 }
 
+/* Another extension is loaded by a query, so that a statement is open while it makes its function. */
+static void try_before(const char *name) {
+  char *text, query[100];
+  sqlite3_stmt *open;
+  sqlite3 *db = opened();
+  sqlite3_snprintf(sizeof query, query, "select %s(x'0101000000000000000000f03f0000000000000040') is null", name);
+  expect(load(db, &text) == SQLITE_OK && !holds(db, query), "the function doesn't answer", 0);
+  sqlite3_prepare_v2(db, "select 1 union all select 2", -1, &open, NULL);
+  sqlite3_step(open);
+  expect(sqlite3_create_function(db, name, 1, SQLITE_UTF8, NULL, nothing, NULL, NULL) == SQLITE_OK, name, 0);
+  sqlite3_finalize(open);
+  expect(holds(db, query), "the function of another extension is not called", 0);
+  expect(sqlite3_close(db) == SQLITE_OK, "the connection is not closed", 0);
+  expect(sqlite3_memory_used() == 0, "memory is not freed", 0);
+}
+
+/* The default entry point defines no name that begins with ST_. */
+static void try_default_alone(void) {
+  sqlite3 *db = opened();
+  expect(sqlite3_load_extension(db, extension, NULL, NULL) == SQLITE_OK, "the default entry point fails", 0);
+  expect(holds(db, "select count(*) > 0 from pragma_function_list where name like 'wkb@_%' escape '@'") &&
+             holds(db, "select count(*) = 0 from pragma_function_list where name like 'st@_%' escape '@'"),
+         "the default entry point defines other names than those with wkb_", 0);
+  expect(sqlite3_close(db) == SQLITE_OK, "the connection is not closed", 0);
+}
+
 int main(int count, char **words) {
   int refused = 0;
   if (count != 2) return 2;
   extension = words[1];
   install_memory();
   for (int n = -1; n <= 2; n += n == -1 ? 2 : 1) try_beside(n);
+  try_default_alone();
+  try_before("ST_IsEmpty");
+  try_before("ST_MinX");
+  try_before("ST_MaxX");
+  try_before("ST_MinY");
+  try_before("ST_MaxY");
   for (int again = 0; again <= 1; again++) {
     try_with_statement("wkb_same", 2, again);
     try_with_statement("wkb_well_formed", 1, again);

@@ -61,6 +61,13 @@ create temp table places (
 );
 insert or ignore into places (wkb) select wkb from rows where wkb_well_formed(wkb);
 select count(*) from places;
+-- POINT(0 0) and POINT(-0 0) are two values. An empty line string in a collection is one, with an SRID and without.
+insert into places (wkb) values
+  (x'010100000000000000000000000000000000000000'), (x'010100000000000000000000800000000000000000');
+select count(*) from places;
+insert or ignore into places (wkb) values
+  (x'010700000001000000010200000000000000'), (x'0107000000010000000102000020e610000000000000');
+select count(*) from places;
 -- A hundred thousand points in turn in either byte order, and each read back as what it was made of.
 create temp table many (n integer primary key, wkb blob);
 insert into many with recursive c(n) as (select 0 union all select n + 1 from c where n < 99999)
@@ -82,8 +89,8 @@ insert into ends select value, cast(x'010200000038010000' || replace(hex(zeroblo
     (select 1 as value, x'00000000000010400000000000000040' as last
      union all select 2, x'00000000000014400000000000000040');
 select n, length(wkb), wkb_xmin(wkb), wkb_xmax(wkb), wkb_ymin(wkb), wkb_ymax(wkb) from ends;
--- Each of the 23 functions is deterministic (800 in hex) and innocuous (200000), so that a schema that isn't trusted may
--- call it.
+-- Each of the 23 functions is deterministic (800 in hex) and innocuous (200000), so that a schema that isn't trusted
+-- may call it.
 select count(*), sum(flags & 0x200800 = 0x200800) from pragma_function_list
   where name like 'wkb\_%' escape '\' or name like 'st\_%' escape '\';
 pragma trusted_schema = off;
@@ -97,7 +104,8 @@ select id, hex(wkb_gpkg(wkb)) from rows where id in (1, 3, 4, 5, 6);
 select hex(wkb_gpkg(wkb, -1)), hex(wkb_gpkg(wkb, 2147483647)), wkb_gpkg(wkb, null) from rows where id = 1;
 select id, hex(wkb_gpkg(geom)) from packages where id in (3, 8, 9);
 -- EWKB is not what a GeoPackage holds: with an SRID, or with a flag for z; a member; one after others. The first byte
--- of a ring's x, where a geometry has the highest of its code, is no flag.
+-- of a ring's x, where a geometry has the highest of its code, is no flag. Then members of multi geometries: with a
+-- flag for z, an SRID, an SRID, a big endian one with a flag for m after one by ISO; and one three levels down.
 create temp table flagged (id integer primary key, wkb blob);
 insert into flagged (wkb) values
   (x'0101000020e6100000000000000000f03f0000000000000040'),
@@ -106,7 +114,12 @@ insert into flagged (wkb) values
   (x'010700000001000000010200008000000000'),
   (x'01070000000300000001030000000100000000000000010200000000000000004000000200000000'),
   (x'01070000000100000001020000000000000000'),
-  (cast(x'010700000001000000' || x'010300000001000000' || x'01000000' || x'e0000000000000000000000000000040' as blob));
+  (cast(x'010700000001000000' || x'010300000001000000' || x'01000000' || x'e0000000000000000000000000000040' as blob)),
+  (cast(x'01ec03000001000000' || x'0101000080' || zeroblob(24) as blob)),
+  (x'0105000000010000000102000020e610000000000000'),
+  (x'0106000000010000000103000020e610000000000000'),
+  (cast(x'01d407000002000000' || x'01d1070000' || zeroblob(24) || x'0040000001' || zeroblob(24) as blob)),
+  (x'0107000000010000000107000000010000000105000000010000000102000020e610000000000000');
 select id, wkb_well_formed(wkb), wkb_well_formed(geom), wkb_kind(geom), wkb_fault(geom)
   from (select id, wkb, cast(x'47500001e6100000' || wkb as blob) as geom from flagged);
 -- A layer of a GeoPackage, its R-tree, and the triggers that keep it, as OGR writes them.
@@ -156,3 +169,35 @@ update towns set fid = 90 where fid = 2;
 update towns set fid = 91 where fid = 1;
 delete from towns where fid = 3;
 select * from rtree_towns_geom;
+-- Rows with ordinates of every magnitude: zeros, the least and the greatest number, 1e-200, 1e200, the infinities and a
+-- not-a-number, as points and as lines, before 1,000 ordinary points. Each is inserted, those with x and y into the
+-- R-tree too, and a search by the R-tree finds what one of the table finds.
+create temp table ordinates (word blob);
+insert into ordinates values (x'0000000000000000'), (x'0000000000000080'), (x'0100000000000000'), (x'0100000000000080'),
+  (x'ffffffffffffef7f'), (x'ffffffffffffefff'), (x'acf74e15927e6816'), (x'acf74e15927e6896'), (x'5a62d7d718e77469'),
+  (x'5a62d7d718e774e9'), (x'000000000000f07f'), (x'000000000000f0ff'), (x'000000000000f87f');
+create temp table ordinary (word blob);
+insert into ordinary values (x'000000000000f03f'), (x'0000000000000040'), (x'0000000000000840'), (x'0000000000001040'),
+  (x'0000000000001440'), (x'0000000000001840'), (x'0000000000001c40'), (x'0000000000002040'), (x'0000000000002240'),
+  (x'0000000000002440');
+delete from towns;
+insert into towns (geom)
+  select wkb_gpkg(cast(x'0101000000' || a.word || b.word as blob)) from ordinates a, ordinates b union all
+  select wkb_gpkg(cast(x'010200000002000000' || a.word || b.word || b.word || a.word as blob))
+    from ordinates a, ordinates b;
+insert into towns (geom)
+  select wkb_gpkg(cast(x'0101000000' || a.word || b.word as blob)) from ordinary a, ordinary b, ordinary;
+select (select count(*) from towns), (select count(*) from rtree_towns_geom), rtreecheck('rtree_towns_geom');
+create temp table sides (low real, high real);
+insert into sides values (-0.5, 0.5), (0.5, 3.5), (3.5, 3.75), (-1000.0, 9.5), (11.0, 1e30);
+create temp view found as
+  select x.low as x, y.low as y, fid from sides x, sides y, towns
+    where ST_MinX(geom) <= x.high and ST_MaxX(geom) >= x.low and ST_MinY(geom) <= y.high and ST_MaxY(geom) >= y.low;
+create temp view found_by_tree as
+  select x.low as x, y.low as y, id from sides x, sides y, rtree_towns_geom
+    where minx <= x.high and maxx >= x.low and miny <= y.high and maxy >= y.low;
+select count(*) > 1000, (select count(*) from (select * from found except select * from found_by_tree)),
+  (select count(*) from (select * from found_by_tree except select * from found)) from found;
+-- This sees that the tree lacks a point, which four of the searches find.
+delete from rtree_towns_geom where id = (select max(fid) from towns where (ST_MaxX(geom), ST_MaxY(geom)) = (1.0, 1.0));
+select count(*) from (select * from found except select * from found_by_tree);

@@ -12,27 +12,35 @@
  *   wkb_xmin(b), wkb_xmax(b), and likewise for y, z and m
  *                          the bounds; NULL where no coordinate has such a number
  *
+ * A key has no SRID, neither the geometry's own nor one of a member, and wkb_ewkb adds only the geometry's own. 0 and
+ * -0 are two values, so that POINT(0 0) and POINT(-0 0) have two keys.
+ *
  * These are for GeoPackages, and for SQLite alone:
  *
  *   wkb_gpkg(b)            the key behind the header of a GeoPackage, with the SRID that it has, or 0
  *   wkb_gpkg(b, srs_id)    the key behind the header of a GeoPackage, with this SRID
+ *
+ * These are what the triggers of a GeoPackage's R-tree call. Other extensions, such as SpatiaLite, have functions of
+ * the same names, so that these have an entry point of their own: `.load ./wkb sqlite3_wkbst_init`, or, in SQL,
+ * `select load_extension('./wkb', 'sqlite3_wkbst_init')`.
+ *
  *   ST_IsEmpty(b)          1 or 0: whether it has no bounds in x or in y
  *   ST_MinX(b), ST_MaxX(b), ST_MinY(b), ST_MaxY(b)
  *                          the bounds, as the triggers of an R-tree ask for them
  *
- * A name that begins with ST_ is defined only where the connection has no function of this name for one argument: an
- * extension that was loaded before keeps its own, and one that is loaded later replaces ours.
+ * That entry point defines a name only where the connection has no function of this name for one argument. One that is
+ * defined for one argument later is called instead of ours, except by statements that were prepared before.
  *
- * All are deterministic and innocuous, so that indexes, CHECK constraints and generated columns take them. Of NULL all
- * return NULL. All but the first two read the geometry at the front of the blob, whatever comes after it. They return
- * NULL where there is none: wkb_fault tells why, also of each argument of wkb_same. An SRID that is not an integer from
+ * All are deterministic and innocuous, so that indexes, CHECK constraints and generated columns take them. Each
+ * returns NULL for NULL. All but the first two read the geometry at the front of the blob, whatever comes after it. They return
+ * NULL where there is none: wkb_fault says why, also of each argument of wkb_same. An SRID that is not an integer from
  * 0 to 4294967295 is an error, and so is a srs_id that is not an integer of 32 bits.
  *
  * A blob that begins with "GP" is one of a GeoPackage. Its SRID is the srs_id of its header: wkb_srid returns it also
  * where it is 0 or -1, for "undefined", and wkb_ewkb writes it where it is above 0. A GeoPackage holds ISO WKB, so that
- * EWKB behind such a header is not well formed. The bounds are those of the coordinates: what the header says of them,
- * and whether it says "empty", is not looked at. wkb_gpkg writes bounds into the header unless the geometry is a point
- * or ST_IsEmpty, and the flag "empty" where it is ST_IsEmpty. */
+ * EWKB behind such a header, of a member too, is not well formed. The bounds are those of the coordinates: what the
+ * header says of them, and whether it says "empty", is not looked at. wkb_gpkg writes bounds into the header unless the
+ * geometry is a point or ST_IsEmpty, and the flag "empty" where it is ST_IsEmpty. */
 #include "wkb.h"
 #include <stdbool.h>
 #include <sqlite3ext.h>
@@ -330,7 +338,8 @@ static void release(void *data) {
 /* The bounds of a value, or NULL. */
 static const wkb_box *box_of(sqlite3_context *context, int n, sqlite3_value **values, wkb_box *box) {
   last_bounds *last = sqlite3_user_data(context);
-  if (has_null(n, values)) return NULL;
+  if (n != 1) sqlite3_result_error(context, "wrong number of arguments: it takes one", -1);
+  if (n != 1 || has_null(n, values)) return NULL;
   input in = input_of(values[0]);
   if (in.fault != NULL) return NULL;
   if (in.size > 0 && in.size == last->size && memcmp(in.data, last->bytes, in.size) == 0) return &last->box;
@@ -389,25 +398,26 @@ static const call CALLS[] = {{"wkb_well_formed", 1, well_formed},
                              {"wkb_xmax", 1, xmax},
                              {"wkb_ymax", 1, ymax},
                              {"wkb_zmax", 1, zmax},
-                             {"wkb_mmax", 1, mmax},
-                             {"ST_IsEmpty", 1, st_is_empty},
-                             {"ST_MinX", 1, xmin},
-                             {"ST_MaxX", 1, xmax},
-                             {"ST_MinY", 1, ymin},
-                             {"ST_MaxY", 1, ymax}};
+                             {"wkb_mmax", 1, mmax}};
+
+/* To SQLite these take any number of arguments: a function that is defined for one argument later comes before them.
+ * While a statement runs, as a load in a query does, SQLite replaces no function. */
+static const call TRIGGER_CALLS[] = {{"ST_IsEmpty", -1, st_is_empty},
+                                     {"ST_MinX", -1, xmin},
+                                     {"ST_MaxX", -1, xmax},
+                                     {"ST_MinY", -1, ymin},
+                                     {"ST_MaxY", -1, ymax}};
 
 /* Versions of SQLite before this flag leave it aside, and log what isn't there. */
 #ifndef SQLITE_PREPARE_DONT_LOG
 #define SQLITE_PREPARE_DONT_LOG 0x10
 #endif
 
-/* Whether a name may be defined: those of triggers only where a query of them fails. SQLITE_OK or SQLITE_ERROR says
- * whether the connection has one, and anything else why this isn't known. A query without a table doesn't read the
- * database, which may be locked. */
+/* SQLITE_OK or SQLITE_ERROR says whether the connection has a function of this name for one argument, and anything else
+ * why this isn't known. A query without a table doesn't read the database, which may be locked. */
 static int look_up(sqlite3 *db, const char *name) {
   char text[64];
   sqlite3_stmt *query = NULL;
-  if (strncmp(name, "ST_", 3) != 0) return SQLITE_ERROR;
   sqlite3_snprintf(sizeof text, text, "select %s(null)", name);
   int status = sqlite3_prepare_v3(db, text, -1, SQLITE_PREPARE_DONT_LOG, &query, NULL);
   sqlite3_finalize(query);
@@ -415,31 +425,50 @@ static int look_up(sqlite3 *db, const char *name) {
 }
 
 static int define(sqlite3 *db, const call *it, last_bounds *last) {
-  int flags = SQLITE_UTF8 | SQLITE_DETERMINISTIC | SQLITE_INNOCUOUS, status = look_up(db, it->name);
-  if (status != SQLITE_ERROR) return status;
+  int flags = SQLITE_UTF8 | SQLITE_DETERMINISTIC | SQLITE_INNOCUOUS;
   last->users++;
   return sqlite3_create_function_v2(db, it->name, it->n, flags, last, it->function, NULL, NULL, release);
 }
 
-/* SQLite unloads an extension that returns an error here, while the functions that were made before it stay with
- * their connection. So the linker marks the library as one that stays (-z nodelete), and the extension can be loaded
- * again. */
-#ifdef _WIN32
-__declspec(dllexport)
-#endif
-int sqlite3_wkb_init(sqlite3 *db, char **error, const sqlite3_api_routines *api) {
-  SQLITE_EXTENSION_INIT2(api);
+static int define_where_none_is(sqlite3 *db, const call *it, last_bounds *last) {
+  int status = look_up(db, it->name);
+  return status == SQLITE_ERROR ? define(db, it, last) : status;
+}
+
+/* Defines functions that share the bounds that were found last. */
+static int define_all(sqlite3 *db, char **error, const call *calls, size_t count,
+                      int (*define_one)(sqlite3 *, const call *, last_bounds *)) {
+  int status = SQLITE_OK;
   last_bounds *last = sqlite3_malloc(sizeof *last);
   if (last == NULL) {
     if (error != NULL) *error = sqlite3_mprintf("out of memory");
     return SQLITE_NOMEM;
   }
-  int status = SQLITE_OK;
   last->users = 1, last->size = 0;
-  for (size_t i = 0; i < sizeof CALLS / sizeof CALLS[0] && status == SQLITE_OK; i++) {
-    status = define(db, &CALLS[i], last);
-    if (status != SQLITE_OK && error != NULL) *error = sqlite3_mprintf("%s: %s", CALLS[i].name, sqlite3_errmsg(db));
+  for (size_t i = 0; i < count && status == SQLITE_OK; i++) {
+    status = define_one(db, &calls[i], last);
+    if (status != SQLITE_OK && error != NULL) *error = sqlite3_mprintf("%s: %s", calls[i].name, sqlite3_errmsg(db));
   }
   release(last);
   return status;
+}
+
+#define COUNT(calls) (sizeof calls / sizeof calls[0])
+#ifdef _WIN32
+#define ENTRY_POINT __declspec(dllexport)
+#else
+#define ENTRY_POINT
+#endif
+
+/* SQLite unloads an extension that returns an error here, while the functions that were made before it stay with
+ * their connection. So the linker marks the library as one that stays (-z nodelete), and the extension can be loaded
+ * again. */
+ENTRY_POINT int sqlite3_wkb_init(sqlite3 *db, char **error, const sqlite3_api_routines *api) {
+  SQLITE_EXTENSION_INIT2(api);
+  return define_all(db, error, CALLS, COUNT(CALLS), define);
+}
+
+ENTRY_POINT int sqlite3_wkbst_init(sqlite3 *db, char **error, const sqlite3_api_routines *api) {
+  SQLITE_EXTENSION_INIT2(api);
+  return define_all(db, error, TRIGGER_CALLS, COUNT(TRIGGER_CALLS), define_where_none_is);
 }

@@ -3,7 +3,6 @@
 #define _GNU_SOURCE
 #include "shared.h"
 #include <math.h>
-#include <sys/mman.h>
 
 enum { PART_ROOM = 64, BYTE_ROOM = 2048 };
 
@@ -65,7 +64,9 @@ static const struct {
     {{0, 21, 42, 21, 42, 63}, 0xff, {GOOD, GOOD, BAD, BAD, GOOD}}, /* what is behind all rows is read */
     {{0, 42, 21, 63, 42, 63}, 0xff, {GOOD, BAD, BAD, BAD, BAD}},   /* a row that overlaps one ends after it */
     {{0, 42, 0, 21, 42, 63}, 0xfe, {WKB_STATUS_NULL_ROW, BAD, BAD, BAD, GOOD}},      /* a null row ends too */
-    {{0, 64, 0, 21, 21, 42}, 0xff, {BAD, BAD, GOOD, WKB_STATUS_SHORT_HEADER, GOOD}}, /* a bad row doesn't */
+    {{0, 64, 0, 21, 21, 42}, 0xff, {BAD, BAD, GOOD, WKB_STATUS_SHORT_HEADER, GOOD}}, /* a row past the end doesn't */
+    {{-5, 42, 0, 21, 42, 63}, 0xff, {BAD, BAD, GOOD, GOOD, GOOD}},                   /* nor a row before the front */
+    {{-5, -3, 0, 21, 42, 63}, 0xff, {BAD, BAD, GOOD, GOOD, GOOD}},
 };
 
 /* A row that begins before an earlier one ends is not read, so that no byte is read for two rows. */
@@ -96,14 +97,13 @@ static void overlapping_rows_are_refused(void) {
 static void offsets_have_a_sign(void) {
   static const int32_t NEGATIVE[] = {-64, -43};
   const size_t size = (size_t)1 << 32;
-  uint8_t *data = mmap(NULL, size, PROT_READ | PROT_WRITE, MAP_PRIVATE | MAP_ANONYMOUS | MAP_NORESERVE, -1, 0);
-  expect(data != MAP_FAILED, "four gigabytes of addresses", "");
+  uint8_t *data = addresses(size);
   spelled("01 01000000 P", data + size - 64);
   wkb_column column = {data, size, NEGATIVE, sizeof NEGATIVE[0], NULL, 0, 1};
   uint8_t status = 0x5a;
   wkb_column_check(&column, &status);
   expect(status == BAD, "a negative offset", "four bytes");
-  munmap(data, size);
+  release(data, size);
 }
 
 /* The same rows by offsets of four bytes, at any address, return the same. */

@@ -43,6 +43,11 @@ static const worked WORKED[] = {
     {"WXYZ ZYXW", WKB_KIND_MULTI_POLYGON, WKB_DIM_XYZM, 2, 2, 4, ENDS(1, 2), ENDS(1, 2), ENDS(2, 0, 1, 2),
      {"01 be0b0000 02000000 01 bb0b0000 01000000 01000000 WXYZ 01 bb0b0000 01000000 01000000 ZYXW", NULL, NULL, NULL},
      {OK, BAD, BAD, BAD}},
+    /* The ends of row 0's singles fall, but its last is behind its first, so that row 2 begins before row 0 ends. */
+    {"WX YZ ZW", WKB_KIND_MULTI_POLYGON, WKB_DIM_XY, 3, 3, 4, ENDS(1, 2, 3), ENDS(2, 1, 3), ENDS(3, 0, 1, 3),
+     {NULL, NULL, NULL, NULL}, {BAD, BAD, BAD, BAD}},
+    /* Row 0 ends past the rings, and row 1, which has no single, begins there. */
+    {"WX YZ", WKB_KIND_MULTI_POLYGON, WKB_DIM_XY, 2, 1, 2, ENDS(1, 2), ENDS(5), ENDS(1, 1), {NULL, NULL}, {BAD, BAD}},
 };
 static const size_t WIDTHS[4] = {2, 3, 3, 4};
 

@@ -1,6 +1,7 @@
 /* Tries each call on worked cases, and what no proof of the library sees: that no byte after the input is read, that a
  * refusal leaves its outputs, that null may be given for what is empty or unwanted, and that calls may run at the same
- * time, take little stack and ask for no memory. c/run compares what this prints with expected. */
+ * time, in handlers of signals and in forked children, take little stack and ask for no memory. c/run compares what
+ * this prints with expected. */
 #include "shared.h"
 
 int main(void) {
@@ -22,5 +23,9 @@ int main(void) {
   printf("calls take little stack\n");
   calls_run_at_the_same_time();
   printf("calls run at the same time\n");
+#ifndef _WIN32
+  calls_run_anywhere();
+  printf("calls run in handlers of signals and in forked children\n");
+#endif
   return 0;
 }

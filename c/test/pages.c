@@ -1,9 +1,6 @@
 /* Inputs at the end of a page that nothing may be read after, and calls from several threads. */
-#define _GNU_SOURCE
 #include "shared.h"
 #include <pthread.h>
-#include <sys/mman.h>
-#include <unistd.h>
 
 /* An input that is cut off, so that it ends where the page does, is refused by all calls alike. */
 static void cut_is_refused(const answer *a, const uint8_t *bytes, size_t len, uint8_t *page_end, size_t cut) {
@@ -45,14 +42,6 @@ static void column_ends_at_page(const answer *a, uint8_t *page_end, uint8_t *oth
   wkb_column column = {page_end - len, len, offsets, 8, other_end - 1, 7, 1};
   wkb_column_check(&column, &status);
   expect(status == a->status, "validity at the end of a page", a->input);
-}
-
-/* Two pages, of which the second may not be read. */
-static uint8_t *end_of_a_page(void) {
-  size_t page = (size_t)sysconf(_SC_PAGESIZE);
-  uint8_t *pages = mmap(NULL, 2 * page, PROT_READ | PROT_WRITE, MAP_PRIVATE | MAP_ANONYMOUS, -1, 0);
-  expect(pages != MAP_FAILED && mprotect(pages + page, page, PROT_NONE) == 0, "two pages", "");
-  return pages + page;
 }
 
 void nothing_is_read_after_the_input(void) {

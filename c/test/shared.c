@@ -1,8 +1,19 @@
 /* The inputs of the tests, worked out by hand from docs/FORMAT.md, and malloc as the tests count it. */
+#define _GNU_SOURCE
 #include "shared.h"
+#ifdef _WIN32
+#include <windows.h>
+#else
+#include <sys/mman.h>
+#include <unistd.h>
+#ifndef MAP_NORESERVE /* FreeBSD takes memory when it is used */
+#define MAP_NORESERVE 0
+#endif
+#endif
 
-__thread size_t asks = 0;
+_Atomic size_t asks = 0;
 
+#ifndef NO_WRAP
 /* The linker puts these in the place of the C library's. */
 void *__real_malloc(size_t size);
 void *__real_realloc(void *block, size_t size);
@@ -22,6 +33,46 @@ void *__wrap_realloc(void *block, size_t size) {
 }
 
 void __wrap_free(void *block) { __real_free(block); }
+#endif
+
+#ifdef _WIN32
+uint8_t *end_of_a_page(void) {
+  SYSTEM_INFO info;
+  DWORD before;
+  GetSystemInfo(&info);
+  uint8_t *pages = VirtualAlloc(NULL, 2 * info.dwPageSize, MEM_RESERVE | MEM_COMMIT, PAGE_READWRITE);
+  expect(pages && VirtualProtect(pages + info.dwPageSize, info.dwPageSize, PAGE_NOACCESS, &before), "two pages", "");
+  return pages + info.dwPageSize;
+}
+
+/* Only the last 64 KB can be used, since Windows counts all that could be. */
+uint8_t *addresses(size_t size) {
+  const size_t used = 1 << 16;
+  uint8_t *taken = VirtualAlloc(NULL, size, MEM_RESERVE, PAGE_READWRITE);
+  expect(taken && VirtualAlloc(taken + size - used, used, MEM_COMMIT, PAGE_READWRITE), "addresses", "");
+  return taken;
+}
+
+void release(uint8_t *taken, size_t size) {
+  (void)size;
+  VirtualFree(taken, 0, MEM_RELEASE);
+}
+#else
+uint8_t *end_of_a_page(void) {
+  size_t page = (size_t)sysconf(_SC_PAGESIZE);
+  uint8_t *pages = addresses(2 * page);
+  expect(mprotect(pages + page, page, PROT_NONE) == 0, "two pages", "");
+  return pages + page;
+}
+
+uint8_t *addresses(size_t size) {
+  uint8_t *taken = mmap(NULL, size, PROT_READ | PROT_WRITE, MAP_PRIVATE | MAP_ANON | MAP_NORESERVE, -1, 0);
+  expect(taken != MAP_FAILED, "addresses", "");
+  return taken;
+}
+
+void release(uint8_t *taken, size_t size) { munmap(taken, size); }
+#endif
 
 void expect(bool holds, const char *what, const char *where) {
   if (holds) return;

@@ -7,8 +7,8 @@
 #include <stdio.h>
 #include <stdlib.h>
 
-/* How often a thread has called malloc or realloc. */
-extern __thread size_t asks;
+/* How often malloc or realloc was called; always 0 where NO_WRAP says that the linker puts nothing in their place. */
+extern _Atomic size_t asks;
 
 /* Prints what is wrong, and ends. */
 void expect(bool holds, const char *what, const char *where);
@@ -45,6 +45,13 @@ void fill(filled *f);
 /* The status of a row of this column where its items fit the room, or don't. */
 wkb_status status_of(size_t row, bool has_room);
 
+/* The end of a page that may be read and written, before one that may not. */
+uint8_t *end_of_a_page(void);
+
+/* So many bytes of addresses that may be read and written, all of them 0; memory is taken for those that are used. */
+uint8_t *addresses(size_t size);
+void release(uint8_t *taken, size_t size);
+
 /* The tests, by their files. Each group ends the program where something is wrong. */
 void calls_are_right(void);
 void bounds_are_right(void);
@@ -60,5 +67,6 @@ void nothing_is_read_after_the_input(void);
 void no_memory_is_asked_for(void);
 void little_stack_is_taken(void);
 void calls_run_at_the_same_time(void);
+void calls_run_anywhere(void);
 
 #endif

@@ -3,10 +3,14 @@
 #define _GNU_SOURCE
 #include "shared.h"
 #include <pthread.h>
-#include <sys/mman.h>
 
 /* What wkb.h says of calls that return parts, and of the others. */
-enum { PARTS_MOST = 20 << 10, OTHERS_MOST = 2 << 10 };
+#ifndef _WIN32
+enum { PARTS_MOST = 20 << 10 };
+#else
+enum { PARTS_MOST = 28 << 10 };
+#endif
+enum { OTHERS_MOST = 2 << 10 };
 enum { DEPTH = 128, STACK_SIZE = 1 << 18, PAINT = 0xa5, ROOM = 1024 };
 
 static uint8_t bytes[8192], out[8192];
@@ -78,6 +82,34 @@ static const tried TRIED[] = {{"wkb_check", check, OTHERS_MOST, false},
                               {"wkb_column_coordinates", coordinates_of_rows, OTHERS_MOST, false},
                               {"wkb_column_from_coordinates", rows_of_coordinates, OTHERS_MOST, true}};
 
+#ifdef _WIN32
+/* Windows gives each thread a stack of its own choice, so a thread paints what is below its frame itself. */
+static uintptr_t painted;
+static size_t taken;
+
+__attribute__((noinline)) static void paint(void) {
+  volatile uint8_t room[STACK_SIZE];
+  for (size_t i = STACK_SIZE; i-- > 0;) room[i] = PAINT;
+  painted = (uintptr_t)room;
+}
+
+static void *run(void *it) {
+  size_t untouched = 0;
+  paint();
+  ((const tried *)it)->call();
+  while (untouched < STACK_SIZE && ((volatile uint8_t *)painted)[untouched] == PAINT) untouched++;
+  taken = STACK_SIZE - untouched;
+  return NULL;
+}
+
+static size_t stack_of(const tried *it, uint8_t *stack) {
+  pthread_t thread;
+  (void)stack;
+  expect(pthread_create(&thread, NULL, run, (void *)it) == 0, "a thread", it->name);
+  expect(pthread_join(thread, NULL) == 0, "a thread's end", it->name);
+  return taken;
+}
+#else
 static void *run(void *it) {
   ((const tried *)it)->call();
   return NULL;
@@ -97,6 +129,7 @@ static size_t stack_of(const tried *it, uint8_t *stack) {
   while (untouched < STACK_SIZE && stack[untouched] == PAINT) untouched++;
   return STACK_SIZE - untouched;
 }
+#endif
 
 /* All calls over the input, whose status is known. */
 static void all_take_little(wkb_status expected, size_t without, uint8_t *stack) {
@@ -109,8 +142,7 @@ static void all_take_little(wkb_status expected, size_t without, uint8_t *stack)
 }
 
 void little_stack_is_taken(void) {
-  uint8_t *stack = mmap(NULL, STACK_SIZE, PROT_READ | PROT_WRITE, MAP_PRIVATE | MAP_ANONYMOUS, -1, 0);
-  expect(stack != MAP_FAILED, "memory for a stack", "");
+  uint8_t *stack = addresses(STACK_SIZE);
   stack_of(&NOTHING, stack); /* a program's first thread takes more */
   size_t without = stack_of(&NOTHING, stack);
   nest();
@@ -121,5 +153,5 @@ void little_stack_is_taken(void) {
     len = spelled(ANSWERS[i].input, bytes);
     all_take_little(ANSWERS[i].status, without, stack);
   }
-  munmap(stack, STACK_SIZE);
+  release(stack, STACK_SIZE);
 }

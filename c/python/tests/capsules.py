@@ -26,28 +26,34 @@ RELEASE = ctypes.CFUNCTYPE(None, ctypes.c_void_p)
 FILL = ctypes.CFUNCTYPE(ctypes.c_int, ctypes.c_void_p, ctypes.c_void_p)
 TEXT = ctypes.CFUNCTYPE(ctypes.c_void_p, ctypes.c_void_p)
 DESTRUCTOR = ctypes.PYFUNCTYPE(None, ctypes.c_void_p)
-new_capsule = ctypes.pythonapi["PyCapsule_New"]
-new_capsule.argtypes, new_capsule.restype = [ctypes.c_void_p, ctypes.c_char_p, ctypes.c_void_p], ctypes.py_object
-address_of = ctypes.pythonapi["PyCapsule_GetPointer"]
-address_of.argtypes, address_of.restype = [ctypes.c_void_p, ctypes.c_char_p], ctypes.c_void_p
+NAMED = ctypes.c_void_p, ctypes.c_char_p  # a capsule or what it holds, and its name
+new_capsule = ctypes.PYFUNCTYPE(ctypes.py_object, *NAMED, ctypes.c_void_p)(("PyCapsule_New", ctypes.pythonapi))
+address_of = ctypes.PYFUNCTYPE(ctypes.c_void_p, *NAMED)(("PyCapsule_GetPointer", ctypes.pythonapi))
+is_valid = ctypes.PYFUNCTYPE(ctypes.c_int, *NAMED)(("PyCapsule_IsValid", ctypes.pythonapi))
 
 
 def pointer(callback):
     return ctypes.cast(callback, ctypes.c_void_p)
 
 
+def memory_of(data):
+    """Memory with these bytes."""
+    return ctypes.create_string_buffer(data, len(data))
+
+
 def pointers(addresses):
     """An array of pointers, as Arrow has it."""
-    return ctypes.cast((ctypes.c_void_p * len(addresses))(*addresses), POINTERS)
+    return ctypes.cast(memory_of(struct.pack(f"={len(addresses)}Q", *(it or 0 for it in addresses))), POINTERS)
+
+
+KEPT = []  # what a capsule names lives by the array or the stream here, and by itself in true ones
 
 
 class Held:
     """A schema and an array whose releases are counted. A struct may be moved: a copy of it is released then."""
 
-    KEPT = []  # what a capsule names lives by the array here, and by itself in true ones
-
     def hold(self, schema, array):
-        self.KEPT.append(self)
+        KEPT.append(self)
         self.released, self.schema, self.array = [], schema, array
         self.callbacks = [RELEASE(lambda address: self.release("schema", Schema.from_address(address))),
                           RELEASE(lambda address: self.release("array", Array.from_address(address))),
@@ -66,7 +72,7 @@ class Held:
     def on_destroy(self, capsule):
         """What a capsule's end does: its struct is released."""
         for name, it in ((b"arrow_schema", self.schema), (b"arrow_array", self.array)):
-            if ctypes.pythonapi.PyCapsule_IsValid(ctypes.c_void_p(capsule), name) and it.release:
+            if is_valid(capsule, name) and it.release:
                 RELEASE(it.release)(address_of(capsule, name))
 
     def __arrow_c_array__(self, requested_schema=None):
@@ -87,7 +93,7 @@ class Arrow(Held):
             ends.append(ends[-1] + len(row or b""))
         bits = sum((row is not None) << i for i, row in enumerate(rows)).to_bytes(len(rows) // 8 + 1, "little")
         memory = [bits, struct.pack(f"={len(ends)}{code}", *ends), b"".join(row or b"" for row in rows)]
-        self.memory = [ctypes.create_string_buffer(it, len(it)) for it in memory]
+        self.memory = [memory_of(it) for it in memory]
         addresses = [ctypes.addressof(it) if len(it) else None for it in self.memory]
         if None not in rows:
             addresses[0] = None
@@ -123,7 +129,7 @@ class Views(Held):
                 data[place] += row
         bits = sum((row is not None) << i for i, row in enumerate(rows)).to_bytes(len(rows) // 8 + 1, "little")
         memory = [bits, views, *data, struct.pack(f"={count}q", *map(len, data))]
-        self.memory = [ctypes.create_string_buffer(it, len(it)) for it in memory]
+        self.memory = [memory_of(it) for it in memory]
         addresses = [ctypes.addressof(it) if len(it) else None for it in self.memory]
         length = len(rows) - offset if length is None else length
         self.hold(Schema(format=b"vz"), Array(length=length, null_count=-1, offset=offset, n_buffers=len(memory),
@@ -153,6 +159,7 @@ class Stream:
     """Arrays one after another. A stream that has a fault ends with it."""
 
     def __init__(self, schema, arrays, fault=None):
+        KEPT.append(self)
         self.source, self.arrays, self.fault, self.released = schema, iter(arrays), fault, 0
         self.callbacks = [FILL(self.get_schema), FILL(self.get_next), TEXT(self.get_last_error),
                           RELEASE(self.release), DESTRUCTOR(self.on_destroy)]

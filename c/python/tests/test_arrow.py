@@ -1,11 +1,12 @@
 """Columns of Arrow's arrays and streams: those of capsules.py, and OGR's where its bindings are."""
 import gc
+import itertools
 import pickle
 import struct
 import unittest
 
 from capsules import SHORT, Arrow, Records, Stream, Views, new_capsule
-from samples import BIG_POINT, ISO_POLYGON, POINT, ROWS, STATUSES
+from samples import BIG_POINT, ISO_POLYGON, POINT, POLYGON, ROWS, STATUSES
 from wkb import Column, Dimension, Status
 
 try:
@@ -50,6 +51,30 @@ class FromArrow(unittest.TestCase):
         self.assertEqual(source.released, ["schema", "array"])
         self.assertEqual(list(again.check()), STATUSES)
 
+    def test_pickled_slices(self):
+        """A slice is pickled with the bytes, the offsets and the bits of its own rows."""
+        rows = [POINT, None, b"\2", POLYGON] * 250
+        whole = len(pickle.dumps(Column.from_arrow(Arrow(b"Z", rows))))
+        self.assertGreater(whole, 20_000)
+        for kind in (b"z", b"Z"):
+            for first in range(0, 1000, 90):
+                for length in (0, 1, 10):
+                    column = Column.from_arrow(Arrow(kind, rows, first, length))
+                    pickled = pickle.dumps(column)
+                    self.assertLess(len(pickled), 1000)
+                    again = pickle.loads(pickled)
+                    self.assertEqual(statuses(again), statuses(column))
+                    self.assertEqual(bytes(again.write().data), bytes(column.write().data))
+
+    def test_pickled_hostile_offsets(self):
+        """What is pickled has the same rows, whatever the offsets are."""
+        lowest, highest = -(2**31), 2**31 - 1
+        for ends in itertools.product((lowest, -1, 0, 7, 21, 42, highest), repeat=3):
+            source = Arrow(rows=[BIG_POINT, POINT, POINT], offset=1, length=2)
+            source.memory[1][4:] = struct.pack("=3i", *ends[:2], min(ends[2], 63))
+            column = Column.from_arrow(source)
+            self.assertEqual(statuses(pickle.loads(pickle.dumps(column))), statuses(column), ends)
+
     def test_no_rows(self):
         for source in (Arrow(rows=[]), Arrow(rows=[], buffers=[None] * 3), Arrow(offset=5), Arrow(length=0)):
             column = Column.from_arrow(source)
@@ -67,6 +92,14 @@ class FromArrow(unittest.TestCase):
         self.assertRaisesRegex(TypeError, "chunks_from_arrow takes", Column.from_arrow, chunked)
         wrong = type("Wrong", (), {"__arrow_c_array__": lambda self: Arrow().__arrow_c_array__()[::-1]})()
         self.assertRaises(ValueError, Column.from_arrow, wrong)
+
+    def test_refused_and_released(self):
+        """A struct that is refused is released like another, and no struct twice."""
+        for take in (Column.from_arrow, lambda it: list(Column.chunks_from_arrow(Stream(it, [it])))):
+            for wrong in (Arrow(n_buffers=2), Arrow(offset=-1), Arrow(n_children=1), Arrow(buffers=[None] * 3)):
+                self.assertRaises(ValueError, take, wrong)
+                gc.collect()
+                self.assertEqual(wrong.released, ["schema", "array"])
 
     def test_hostile_offsets(self):
         """Offsets that decrease or are negative. No byte past the last one is read."""

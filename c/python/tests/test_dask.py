@@ -1,7 +1,9 @@
-"""The example of a column in many files, in two processes: beside calls for each row, with damaged files, and cut off.
+"""The example of a column in many files, in two processes: beside calls for each row, with damaged files, cut off, and
+with processes that are killed or never start.
 """
 import contextlib
 import csv
+import json
 import os
 import pathlib
 import re
@@ -24,6 +26,23 @@ except ImportError:
 
 EXAMPLES = pathlib.Path(__file__).resolve().parents[3] / "examples"
 ROWS, FILES = 3_000, 4
+# Each Python process runs this when it starts, where it finds it. A process of Dask is killed where the rest says so.
+DYING = """
+import os, pathlib, signal
+
+def exists(name):
+    return os.path.exists(os.path.join(os.path.dirname(__file__), name))
+
+def is_first():
+    try:
+        os.mkdir(os.path.join(os.path.dirname(__file__), "first"))
+        return True
+    except FileExistsError:
+        return False
+
+if b"spawn_main" in pathlib.Path("/proc/self/cmdline").read_bytes() and {}:
+    os.kill(os.getpid(), signal.SIGKILL)
+"""
 
 
 def table(path):
@@ -34,7 +53,8 @@ def table(path):
 def run_example(name, *arguments, **options):
     """The exit status of an example, what it prints, and what it says of its progress."""
     command = [sys.executable, EXAMPLES / name, *map(str, arguments)]
-    ran = subprocess.run(command, stdout=subprocess.PIPE, stderr=subprocess.PIPE, universal_newlines=True, **options)
+    ran = subprocess.run(command, stdout=subprocess.PIPE, stderr=subprocess.PIPE, universal_newlines=True, timeout=300,
+                         **options)
     return ran.returncode, ran.stdout, ran.stderr
 
 
@@ -138,14 +158,15 @@ class ManyFiles(unittest.TestCase):
         kept = len(list(self.out.glob("*.npz")))
         self.is_clean(run_example(*self.arguments), kept)
 
-    def start(self):
+    def start(self, *arguments, **options):
         """A run that waits for a partition, a pipe in which there is nothing, when it has done the others."""
         (self.rows / "0002.npz").unlink()
         os.mkfifo(self.rows / "0002.npz")
-        command = [sys.executable, EXAMPLES / self.arguments[0], *map(str, self.arguments[1:])]
+        command = [sys.executable, EXAMPLES / self.arguments[0], *map(str, [*self.arguments[1:], *arguments])]
         process = subprocess.Popen(command, start_new_session=True, stdout=subprocess.PIPE, stderr=subprocess.PIPE,
-                                   universal_newlines=True)
+                                   universal_newlines=True, **options)
         self.addCleanup(process.wait)
+        self.addCleanup(process.kill)
         until(lambda: len(list(self.out.glob("*.npz"))) == FILES - 1 or process.poll() is not None)
         return process
 
@@ -163,10 +184,8 @@ class ManyFiles(unittest.TestCase):
         self.mend()
         self.is_clean(run_example(*self.arguments), FILES - 2)
 
-    @unittest.skipUnless(os.path.exists("/proc/self/cmdline"), "there is no /proc")
-    def test_killed_workers(self):
-        process = self.start()
-        self.mend()
+    def kill_workers(self, process):
+        """Kills the processes of a run, and counts them."""
         killed = 0
         for folder in pathlib.Path("/proc").glob("[0-9]*"):
             with contextlib.suppress(OSError):
@@ -174,9 +193,83 @@ class ManyFiles(unittest.TestCase):
                 if int(parent) == process.pid and b"spawn_main" in (folder / "cmdline").read_bytes():
                     os.kill(int(folder.name), signal.SIGKILL)
                     killed += 1
+        return killed
+
+    @unittest.skipUnless(os.path.exists("/proc/self/cmdline"), "there is no /proc")
+    def test_killed_workers(self):
+        process = self.start()
+        self.mend()
+        killed = self.kill_workers(process)
         printed, said = process.communicate()
         self.assertEqual(killed, 2, said)
         self.is_clean((process.returncode, printed, said), 0)
+
+    def dying(self, condition):
+        """The environment of a run whose processes die while they start, where a condition holds."""
+        folder = self.rows.parent / "dying"
+        folder.mkdir()
+        (folder / "sitecustomize.py").write_text(DYING.format(condition))
+        paths = [str(folder), os.environ.get("PYTHONPATH")]
+        return dict(os.environ, PYTHONPATH=os.pathsep.join(filter(None, paths)))
+
+    def gives_up(self, ran, seconds=3):
+        """A run has ended since no process works, and has said so."""
+        self.assertEqual(ran[:2], (3, ""), ran)
+        self.assertIn(f"no process has worked for {seconds} seconds; the same command takes up what is done\n", ran[2])
+
+    @unittest.skipUnless(os.path.exists("/proc/self/cmdline"), "there is no /proc")
+    def test_workers_that_never_start(self):
+        self.gives_up(run_example(*self.arguments, "--timeout", 3, env=self.dying("True")))
+        self.is_clean(run_example(*self.arguments), 0)
+
+    @unittest.skipUnless(os.path.exists("/proc/self/cmdline"), "there is no /proc")
+    def test_one_worker_that_never_starts(self):
+        self.gives_up(run_example(*self.arguments, "--timeout", 3, env=self.dying("not is_first()")))
+
+    @unittest.skipUnless(os.path.exists("/proc/self/cmdline"), "there is no /proc")
+    def test_worker_that_dies_once(self):
+        """Dask may wait for it for ever, although another one has taken its place."""
+        ran = run_example(*self.arguments, "--timeout", 3, env=self.dying("is_first()"))
+        self.is_clean(ran, 0) if ran[0] == 0 else self.gives_up(ran)
+
+    @unittest.skipUnless(os.path.exists("/proc/self/cmdline"), "there is no /proc")
+    def test_workers_that_never_start_again(self):
+        process = self.start("--timeout", 15, env=self.dying("exists('killed')"))
+        (self.rows.parent / "dying" / "killed").mkdir()
+        self.assertEqual(self.kill_workers(process), 2)
+        self.mend()
+        printed, said = process.communicate(timeout=300)
+        self.gives_up((process.returncode, printed, said), 15)
+        self.is_clean(run_example(*self.arguments), FILES - 1)
+
+    def started(self, *command):
+        """A process of Dask's own, which is killed after the test."""
+        process = subprocess.Popen([sys.executable, "-m", *map(str, command)], stderr=subprocess.DEVNULL)
+        self.addCleanup(process.wait)
+        self.addCleanup(process.kill)
+        return process
+
+    def scheduler(self):
+        """A scheduler without workers, and its address."""
+        file = self.rows.parent / "scheduler.json"
+        scheduler = self.started(
+            "distributed.cli.dask_scheduler", "--port", 0, "--no-dashboard", "--scheduler-file", file)
+        until(lambda: file.exists() and file.read_text().endswith("}"))
+        return scheduler, json.loads(file.read_text())["address"]
+
+    def test_scheduler_without_workers(self):
+        _, address = self.scheduler()
+        self.gives_up(run_example(*self.arguments[:3], "--scheduler", address, "--timeout", 3))
+
+    def test_killed_scheduler(self):
+        scheduler, address = self.scheduler()
+        self.started("distributed.cli.dask_worker", address, "--no-dashboard", "--nthreads", 2)
+        self.arguments = *self.arguments[:3], "--scheduler", address
+        process = self.start(env=dict(os.environ, DASK_DISTRIBUTED__COMM__TIMEOUTS__CONNECT="3s"))
+        scheduler.kill()
+        printed, said = process.communicate(timeout=300)
+        self.assertEqual((process.returncode, printed), (3, ""), said)
+        self.assertIn("; the same command takes up what is done\n", said)
 
     def partition_is_right(self, name, rows, results, refused, duplicates, firsts):
         """Compares what is kept of a partition, and adds what the tables have to say of it."""

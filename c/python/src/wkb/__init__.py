@@ -34,8 +34,9 @@ ColumnEncodings and ColumnCoordinates. Refused is a ValueError with `status` and
 
 A blob is anything with the buffer protocol. A call holds its buffer until it returns or raises, and no longer; only
 view returns an array over the blob's memory. Calls don't hold the interpreter's lock: those of several threads run
-side by side, and no thread may change a blob during a call. Sizes and offsets are in bytes. Functions, results, columns
-and Refused can be pickled, for other processes.
+side by side. The input may not change during a call, by other threads or processes either: of a mapped file that
+others write, such as a numpy.memmap, pass a copy, bytes(it). Sizes and offsets are in bytes. Functions, results,
+columns and Refused can be pickled, for other processes.
 
 The shared library is beside this package; load(path) or the environment variable WKB_LIBRARY names another, and
 version() is that of its wkb.h. help(wkb.write), and so on, says more of each name.

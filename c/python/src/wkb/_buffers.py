@@ -42,11 +42,13 @@ class _PyBuffer(ctypes.Structure):
     ]
 
 
-_get_buffer = ctypes.pythonapi.PyObject_GetBuffer
-_get_buffer.argtypes = [ctypes.py_object, ctypes.POINTER(_PyBuffer), ctypes.c_int]
-_release_buffer = ctypes.pythonapi.PyBuffer_Release
-_release_buffer.argtypes = [ctypes.POINTER(_PyBuffer)]
-_release_buffer.restype = None
+def python_call(name: str, result: Any, *arguments: Any) -> Any:
+    """A function of Python's own C interface. Its types are ours: those of ctypes.pythonapi belong to all packages."""
+    return ctypes.PYFUNCTYPE(result, *arguments)((name, ctypes.pythonapi))
+
+
+_get_buffer = python_call("PyObject_GetBuffer", ctypes.c_int, ctypes.py_object, ctypes.POINTER(_PyBuffer), ctypes.c_int)
+_release_buffer = python_call("PyBuffer_Release", None, ctypes.POINTER(_PyBuffer))
 
 
 def view_of(data: Buffer) -> memoryview:
@@ -81,3 +83,13 @@ def new_numbers(kind: str, count: int) -> Tuple[Numbers, int]:
         return numbers, numbers.ctypes.data
     items: Any = array.array(CODES[kind], [0]) * count
     return items, items.buffer_info()[0]
+
+
+def less_the_least(offsets: memoryview) -> Tuple[bytes, int]:
+    """Offsets less the least of them, and this one; as they are, and 0, where one is negative."""
+    if has_numpy:
+        numbers = numpy.asarray(offsets)
+        least = max(int(numbers.min()), 0)
+        return (numbers - numbers.dtype.type(least)).tobytes(), least
+    least = max(min(offsets), 0)
+    return array.array(offsets.format, [offset - least for offset in offsets]).tobytes(), least

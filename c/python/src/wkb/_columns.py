@@ -6,7 +6,7 @@ import sys
 from typing import Any, Dict, Iterable, Iterator, NamedTuple, Optional
 
 from ._arrow import ArrowArray, ArrowStream, chunks_of_arrow, pieces_of_arrow
-from ._buffers import Buffer, Bytes, Numbers, has_numpy, new_numbers, view_of
+from ._buffers import Buffer, Bytes, Numbers, has_numpy, less_the_least, new_numbers, view_of
 from ._calls import SRID_SIZE, make_options
 from ._enums import Dimension, Form, Order
 from ._library import ColumnArguments, CoordinatesArguments, library
@@ -134,8 +134,12 @@ class Column:
         """A column of an Arrow array of type binary, large binary or binary view, or of a slice of one.
 
         The array is any object with the method `__arrow_c_array__`, such as an array of pyarrow. Of a batch of records
-        `name` picks the column. Nothing is copied but views: the array's memory lives as long as the column. It is
-        taken to be as Arrow's format says, with as many offsets or views as rows need.
+        `name` picks the column. Nothing is copied but views: the array's memory lives as long as the column.
+
+        Raises `TypeError` for an array of another type, and `ValueError` where Arrow's structs can't be right: counts
+        that don't fit together, a buffer that is missing, a view that points out of its buffer. So it does where views
+        share bytes, and copies of all rows would be more than 16 times as long as the array. The structs don't say how
+        long buffers are: they are taken to be as long as lengths, offsets and counts need, and pointers to be right.
         """
         return cls._of_pieces(pieces_of_arrow(array, name))
 
@@ -145,7 +149,7 @@ class Column:
 
         The stream is any object with the method `__arrow_c_stream__`, such as a chunked array of pyarrow; of a table or
         another stream of records `name` picks the column. Each chunk is an array as `from_arrow` takes it, and is asked
-        for when its column is. Raises `OSError` where the stream fails.
+        for when its column is. Raises what `from_arrow` raises, and `OSError` where the stream fails.
         """
         return map(cls._of_pieces, chunks_of_arrow(stream, name))
 
@@ -156,12 +160,20 @@ class Column:
         return column
 
     def __getstate__(self) -> Dict[str, Any]:
-        """What is pickled: of memory that is someone else's, a copy."""
-        state = dict(self.__dict__)
-        if state.pop("_owner") is not None:
-            for name in ("_data", "_offsets", "_validity"):
-                state[name] = None if state[name] is None else bytes(state[name])
-        return dict(state, _owner=None)
+        """What is pickled: of memory that is someone else's, a copy of what the rows have there."""
+        state = dict(self.__dict__, _owner=None)
+        if self._owner is not None and self._rows:
+            state.update(self._copied())
+        return state
+
+    def _copied(self) -> Dict[str, Any]:
+        """The rows by themselves, and up to seven before them, since a byte of validity has the bits of eight."""
+        size, before = self._offset_size, self._first % 8
+        begin, end = self._first - before, self._first + self._rows
+        offsets = view_of(self._offsets).cast("B")[begin * size : (end + 1) * size].cast("i" if size == 4 else "q")
+        lowered, least = less_the_least(offsets)
+        bits = None if self._validity is None else bytes(view_of(self._validity)[begin // 8 : (end + 7) // 8])
+        return {"_data": bytes(view_of(self._data)[least:]), "_offsets": lowered, "_validity": bits, "_first": before}
 
     def __len__(self) -> int:
         return self._rows

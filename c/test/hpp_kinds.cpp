@@ -1,0 +1,124 @@
+// Tries each call of wkb.hpp for one input over each kind, dimension and byte order. It prints nothing, and what is
+// wrong where something is.
+#include "hpp_shapes.h"
+
+#include <algorithm>
+
+namespace {
+
+// What check finds, and that no cut of the input is accepted.
+void check_finds(const sample &s) {
+  const auto found = wkb::check(s.bytes);
+  s.expect(found->size == s.bytes.size() && found->parts == s.it.parts.size(), "the size and the parts of check");
+  s.expect(found->coordinates == s.it.coordinates && found->count == s.it.parts[0].count, "the counts of check");
+  s.expect(found->kind == s.it.parts[0].kind && found->dimension == s.dimension, "the kind of check");
+  s.expect(found->width == s.width && found->order == s.order && found->has_srid == 0, "the rest of check");
+  for (std::size_t size = 0; size < s.bytes.size(); size++)
+    s.expect(!wkb::check(wkb::bytes(s.bytes).first(size)), "check of a cut");
+}
+
+// The words of a part with coordinates, the first of which is FIRST, by each call that returns words.
+void has_words(const sample &s, const wkb::part &part, double first) {
+  const auto words = ordinates(first, s.width * part.size());
+  s.expect(part.words() == words, "words");
+  for (std::size_t i = 0; i < part.size(); i++)
+    for (unsigned n = 0; n < s.width; n++) s.expect(part.word(i, n) == words[s.width * i + n], "a word");
+  for (std::size_t from = 0; from <= part.size() + 1; from++) {
+    for (std::size_t room = 0; room <= words.size() + 1; room++) {
+      std::vector<double> out(room, -1);
+      const std::size_t there = from < part.size() ? part.size() - from : 0, copied = std::min(there, room / s.width);
+      s.expect(part.copy(out, from) == copied, "how many coordinates are copied");
+      for (std::size_t k = 0; k < room; k++)
+        s.expect(out[k] == (k < s.width * copied ? words[s.width * from + k] : -1), "a word that is copied");
+    }
+  }
+}
+
+// A part and what it has, as listed from AT on. AT and the ordinate that is next go on to what follows.
+void is_listed(const sample &s, const wkb::part &part, std::size_t &at, double &next) {
+  const listed &it = s.it.parts[at++];
+  const std::size_t begin = part.entry().begin, size = part.encoding().size();
+  s.expect(part.kind() == it.kind && part.size() == it.count && part.empty() == (it.count == 0), "a part");
+  s.expect(part.dimension() == s.dimension && part.order() == s.order && part.width() == s.width, "its dimension");
+  s.expect(!part.srid() && part.encoding().data() == s.bytes.data() + begin, "its bytes");
+  s.expect(part.has_coordinates() == has_coordinates(it.kind), "whether it has coordinates");
+  if (it.kind == WKB_KIND_RING) s.expect(size == 4 + 8 * s.width * it.count, "the bytes of a ring");
+  else s.expect(wkb::check(part.encoding())->size == size, "its bytes are a geometry");
+  if (part.has_coordinates()) {
+    has_words(s, part, next);
+    next += static_cast<double>(s.width * part.size());
+    s.expect(part.begin() == part.end(), "coordinates are no parts");
+    return;
+  }
+  std::size_t members = 0;
+  for (const wkb::part member : part) is_listed(s, member, at, next), members++;
+  s.expect(members == it.count && part.entry().next == at, "how many parts it has");
+}
+
+// Both calls that read.
+void reads(const sample &s) {
+  wkb::reader reader;
+  std::vector<wkb_part> table(s.it.parts.size());
+  for (const auto &whole : {reader.try_read(s.bytes), wkb::try_read(s.bytes, table)}) {
+    std::size_t at = 0;
+    double next = 1;
+    is_listed(s, *whole, at, next);
+    s.expect(at == s.it.parts.size(), "all parts are read");
+  }
+  s.expect(reader.table().size() == table.size() && reader.table().back().end == table.back().end, "the tables");
+}
+
+// Each form and each order that it is written in, with SRIDs of its own and of the options.
+void writes(const sample &s) {
+  const std::vector<std::byte> own = speller{s.order, s.dimension, true, 7}.spell(s.it);
+  for (const wkb_order order : ORDERS) {
+    const std::array<std::vector<std::byte>, 4> expected{
+        iso(s.it, order, s.dimension), speller{order, s.dimension, true, 7}.spell(s.it),
+        speller{order, s.dimension, true, 4326}.spell(s.it), speller{order, s.dimension, true}.spell(s.it)};
+    for (std::uint32_t form = WKB_FORM_ISO; form <= WKB_FORM_EWKB_WITHOUT_SRID; form++) {
+      const wkb_options options{order, form, 4326};
+      std::vector<std::byte> room(own.size() + 4), vector;
+      const auto size = wkb::try_write(own, options, std::span(room));
+      room.resize(size.value());
+      s.expect(room == expected[form], "try_write into a span");
+      s.expect(wkb::try_write(own, options, vector) && vector == expected[form], "try_write");
+      s.expect(wkb::write(own, options) == expected[form], "write");
+    }
+    s.expect(wkb::write(s.bytes, {order, WKB_FORM_EWKB_OWN_SRID, 0}) == expected[3], "no SRID of its own");
+  }
+  wkb::reader reader;
+  s.expect(reader.read(own).srid() == 7u && wkb::check(own)->srid == 7, "an SRID of its own");
+}
+
+// A geometry is the same as itself in the other order and with an SRID, and as no other, nor after a change of its end.
+void compares(const sample &s) {
+  const wkb_order other_order = s.order == WKB_ORDER_BIG ? WKB_ORDER_LITTLE : WKB_ORDER_BIG;
+  for (const shape &it : SHAPES) {
+    for (const wkb_dim dimension : DIMENSIONS) {
+      const auto other = speller{other_order, dimension, true, 7}.spell(it);
+      const bool same = &it == &s.it && dimension == s.dimension;
+      s.expect(wkb::try_same(s.bytes, other) == same && wkb::same(other, s.bytes) == same, "a comparison");
+    }
+  }
+  auto changed = s.bytes;
+  changed.back() ^= std::byte{1};
+  s.expect(!wkb::same(s.bytes, changed), "another last word");
+}
+
+}  // namespace
+
+int main() {
+  for (const shape &it : SHAPES) {
+    for (const wkb_dim dimension : DIMENSIONS) {
+      for (const wkb_order order : ORDERS) {
+        const sample s{it, order, dimension};
+        check_finds(s);
+        is_box(s, *wkb::try_bounds(s.bytes), "try_bounds");
+        is_box(s, wkb::bounds(s.bytes), "bounds");
+        reads(s);
+        writes(s);
+        compares(s);
+      }
+    }
+  }
+}
