@@ -1,4 +1,4 @@
-"""inputs.py FOLDER: makes the files that are timed, always the same ones.
+"""inputs.py FOLDER [PART]: makes the files that are timed, always the same ones; with a PART of 20 a twentieth of each.
 
 An item is a length, as four bytes in little endian, and the bytes of a geometry in ISO codes. Rings are closed, so that a program
 which looks at validity takes them.
@@ -60,7 +60,7 @@ def between(low, high):
     return numbers.randint(low, high)
 
 
-def all_items():
+def all_items(part):
     """The name of each file, with a maker of its items and their number."""
     little, big, with_z = Writer(), Writer(is_big=True), Writer(has_z=True)
     return {
@@ -76,18 +76,18 @@ def all_items():
         "collections_wide": (lambda: little.mixed(1_500), 25),
         "collections_deep": (lambda: little.nested(100), 3_000),
         "collections_bushy": (lambda: little.bushy(9), 50),
-        "long_line": (lambda: little.line(1_000_000), 1),
-        "long_line_big": (lambda: big.line(1_000_000), 1),
+        "long_line": (lambda: little.line(1_000_000 // part), 1),
+        "long_line_big": (lambda: big.line(1_000_000 // part), 1),
     }
 
 
-def main(folder):
+def main(folder, part=1):
     folder.mkdir(parents=True, exist_ok=True)
-    for name, (make, count) in all_items().items():
+    for name, (make, count) in all_items(part).items():
         with open(folder / name, "wb") as file:
-            for _ in range(count):
+            for _ in range(max(count // part, 1)):
                 item = make()
                 file.write(struct.pack("<I", len(item)) + item)
 
 
-main(pathlib.Path(sys.argv[1]))
+main(pathlib.Path(sys.argv[1]), *map(int, sys.argv[2:]))

@@ -1,4 +1,4 @@
-"""table.py TIMES ROUNDS: ours as a part of the others' time, by the shortest pass of all rounds.
+"""table.py TIMES ROUNDS: ours as a part of the others' time, by the shortest pass of all rounds, as a table in Markdown.
 
 A line of TIMES is a file, and what a program prints of it: who, what, the items, nanoseconds, what was computed. Besides the
 table, TIMES.all gets the nanoseconds for each geometry of each file.
@@ -43,6 +43,14 @@ def read_times(path):
     return best, answers
 
 
+def print_table(lines):
+    """A table in Markdown; the first line is its head."""
+    widths = [max(map(len, cells)) for cells in zip(*lines)]
+    lines.insert(1, ["-" * widths[0], *("-" * (width - 1) + ":" for width in widths[1:])])
+    for first, *cells in lines:
+        print(f"| {first:{widths[0]}} |" + "".join(f" {it:>{width}} |" for it, width in zip(cells, widths[1:])))
+
+
 def main(path, rounds):
     best, answers = read_times(path)
     files = list(dict.fromkeys(file for _, _, file in best))
@@ -57,18 +65,18 @@ def main(path, rounds):
         pairs = [(time_of("ours", what, file), time_of(who, what, file), file) for file in fair]
         return [(ours / other, file) for ours, other, file in pairs if ours and other]
 
-    head = "".join(f"{NAMES[who]:>10}" + (f"{'worst file':>24}" if who in WORST else "") for who in peers)
-    print(f"{'our time / theirs':38}{head}")
+    lines = [["our time / theirs"]]
+    for who in peers:
+        lines[0] += [NAMES[who], f"{NAMES[who]}, worst file"] if who in WORST else [NAMES[who]]
     for what, name in ROWS.items():
-        cells = ""
+        lines.append([name])
         for who in peers:
             parts = parts_of(who, what)
-            cells += f"{mean([part for part, _ in parts]):10.2f}" if parts else f"{'-':>10}"
+            lines[-1].append(f"{mean([part for part, _ in parts]):.2f}" if parts else "")
             if who in WORST:
-                part, file = max(parts, default=(0, "-"))
-                cells += f"{file + f' {part:.2f}':>24}"
-        print(f"{name:38}{cells}")
-    print(f"Means over {len(files)} files (read: without {', '.join(UNEQUAL)}), {rounds} rounds; below 1 ours is faster.")
+                lines[-1].append("{1} {0:.2f}".format(*max(parts)) if parts else "")
+    print_table(lines)
+    print(f"\nMeans over {len(files)} files (read: without {', '.join(UNEQUAL)}), {rounds} rounds; below 1 ours is faster.")
 
     with open(f"{path}.all", "w") as out:
         print(f"{'nanoseconds a geometry':30}" + "".join(f"{it:>12}" for it in ["ours", *(NAMES[w] for w in peers)]), file=out)
