@@ -26,9 +26,11 @@ partition as it is now.
 
 The work is done by processes on this machine (--workers, by default one for each processor), or by those of a Dask
 cluster (--scheduler ADDRESS), which see both folders and have the packages numpy, distributed and wkb. A process that
-dies is replaced, and its work done again.
+dies is replaced, and its work done again. The exit status is 3 too where no process has worked for a minute (--timeout
+SECONDS), since each dies while it starts or the cluster has none, and where the scheduler is gone.
 """
 import argparse
+import concurrent.futures
 import contextlib
 import csv
 import hashlib
@@ -37,6 +39,7 @@ import operator
 import os
 import pathlib
 import sys
+import threading
 import time
 
 import distributed
@@ -225,6 +228,29 @@ def run(client, folder, out, seconds):
     return sum(rows), refused - len(why), duplicates, len(why)
 
 
+class Watch(threading.Thread):
+    """Ends the program where no process has worked for so many seconds. Dask itself waits for one for ever, already
+    when a client is made."""
+
+    def __init__(self, seconds):
+        super().__init__(daemon=True)
+        self.seconds, self.client = seconds, None
+
+    def has_workers(self):
+        """Whether the client is made, and its scheduler has workers."""
+        with contextlib.suppress(Exception):  # of any type, where the client or its scheduler is going
+            return self.client is not None and bool(self.client.scheduler_info()["workers"])
+
+    def run(self):
+        last = time.monotonic()
+        while time.monotonic() - last < self.seconds:
+            time.sleep(0.5)
+            if self.has_workers():
+                last = time.monotonic()
+        say(f"no process has worked for {self.seconds:g} seconds; the same command takes up what is done")
+        os._exit(3)
+
+
 def take_up(folder, out):
     """Tells what an earlier run has left, and removes what it has not finished."""
     for aside in out.glob("*.part"):
@@ -242,6 +268,7 @@ def arguments_of(parser):
     parser.add_argument("--workers", type=int, help="processes on this machine")
     parser.add_argument("--scheduler", help="the address of a Dask cluster")
     parser.add_argument("--progress", type=float, default=5, help="seconds between two lines that tell how far it is")
+    parser.add_argument("--timeout", type=float, default=60, help="seconds to wait where no process works")
     arguments = parser.parse_args()
     arguments.folder, arguments.out = arguments.folder.resolve(), arguments.out.resolve()
     if arguments.folder == arguments.out or not any(arguments.folder.glob("*.npz")):
@@ -256,12 +283,18 @@ def main():
     try:
         it.out.mkdir(parents=True, exist_ok=True)
         take_up(it.folder, it.out)
+        watch = Watch(it.timeout)
+        watch.start()
         with distributed.Client(it.scheduler, **({} if it.scheduler else here)) as client:
+            watch.client = client
             begin = time.monotonic()
             rows, refused, duplicates, bad = run(client, it.folder, it.out, it.progress)
             seconds = time.monotonic() - begin
     except OSError as error:
         say(f"{error}; the same command takes up what is done")
+        return 3
+    except concurrent.futures.CancelledError:
+        say("the scheduler is gone; the same command takes up what is done")
         return 3
     print(f"{rows} rows, {refused} refused, {duplicates} duplicates")
     print(f"{seconds:.1f} seconds, {rows / seconds:.0f} rows a second")

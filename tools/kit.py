@@ -1,14 +1,15 @@
 #!/usr/bin/env python3
 """The crates as the Rattle kit's command `rt` knows them, for scripts that call the prover over the libraries built.
 
-    tools/kit.py archive NAME FILE [TOOLCHAIN TARGET CPU]
+    tools/kit.py archive NAME FILE [TOOLCHAIN TARGET CPU KEPT]
                                        proves crates/NAME, a static library, and builds it into FILE
     tools/kit.py program NAME FILE     proves crates/NAME, a program, and builds it into FILE
     tools/kit.py built NAME            prints the libraries below crates/NAME that are built
 
 `archive` and `program` first prove and build each library below the crate that is not built, or is older than its
 sources, and those above it; as many side by side as RT_JOBS says. TOOLCHAIN stands for the kit's folder of that name;
-TARGET and CPU are a target and a processor of its prover's `build`.
+TARGET and CPU are a target and a processor of its prover's `build`. What is proved for one target is kept in the
+folder KEPT for the next.
 
 The command is a program and no library, so another kit may have other names inside. BORROWED lists each name that is
 used here, and a name that is missing ends the script with 2 before anything is tried.
@@ -63,6 +64,9 @@ def load():
     return module
 
 
+if __name__ == "__main__" and "--help" in sys.argv[1:]:
+    print(__doc__)
+    sys.exit(0)
 rt = load()
 
 
@@ -131,13 +135,15 @@ def prove(verb, crate, flags, folder):
     return subprocess.run([*rt.rtlib.guarded(), rt.rtlib.RATTLE, verb, *words], **how)
 
 
-def archive(name, file, toolchain=f"{rt.KIT}/toolchain", target="x86_64-unknown-linux-gnu", cpu="x86-64"):
+def archive(name, file, *build):
     """Proves a static library, and builds it into the file. Returns the status."""
     begin()
     library = crate(name)
     if not prove_below(library):
         return 1
-    flags = ["--jobs", str(min(4, processors())), "--toolchain", toolchain, "--target", target, "--cpu", cpu]
+    words = ("--toolchain", "--target", "--cpu", "--incremental")
+    given = zip(words, build or (f"{rt.KIT}/toolchain", "x86_64-unknown-linux-gnu", "x86-64"))
+    flags = ["--jobs", str(min(4, processors())), *(it for pair in given for it in pair)]
     ran = prove("build", library, [*flags, "--backend", "llvm", "-o", os.path.abspath(file)], library.folder)
     print(ran.stdout, end="")
     return ran.returncode
@@ -192,11 +198,8 @@ def built(name):
 
 
 if __name__ == "__main__":
-    verbs = {("built", 3): built, ("archive", 4): archive, ("archive", 7): archive, ("program", 4): program}
+    verbs = {("built", 3): built, ("archive", 4): archive, ("archive", 8): archive, ("program", 4): program}
     verb = verbs.get(("".join(sys.argv[1:2]), len(sys.argv)))
-    if sys.argv[1:] == ["--help"]:
-        print(__doc__)
-        sys.exit(0)
     if verb is None:
         stop(__doc__)
     sys.exit(verb(*sys.argv[2:]))

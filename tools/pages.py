@@ -1,18 +1,59 @@
-"""What scripts share that read the pages."""
+"""What the scripts share that judge pages and sources."""
 import pathlib
 import re
+import shutil
 import subprocess
+import sys
 
 ROOT = pathlib.Path(__file__).resolve().parent.parent
 PAGES = [str(it.relative_to(ROOT)) for it in [*sorted(ROOT.glob("*.md")), *sorted(ROOT.glob("docs/*.md")), ROOT / "c/package.md"]]
 # What a build makes, and what a checkout keeps beside its files.
-NOT_OURS = {".git", "out", "build", "__pycache__"}
+NOT_OURS = {".git", "out", "build", "__pycache__", "wkb.so", "wkb_postgres.o"}
 SPAN = re.compile(r"`([^`\n]+)`")
+# What a command without `$ ` may begin with, besides a file.
+TOOLS = "cd cc ldconfig rt make printf python3 pip".split()
+
+
+# The texts that files have in a control, in place of their own.
+PLANTED = {}
 
 
 def text_of(path):
-    """The text of a file, by its path in the repository."""
-    return (ROOT / path).read_text(encoding="utf-8")
+    """The text of a file, by its path in the repository; in a control the text that is planted there."""
+    return PLANTED[str(path)] if str(path) in PLANTED else (ROOT / path).read_text(encoding="utf-8")
+
+
+def texts(*patterns):
+    """The text of each file that fits one of the patterns, by its path in the repository."""
+    paths = [str(it.relative_to(ROOT)) for pattern in patterns for it in sorted(ROOT.glob(pattern))]
+    return {path: text_of(path) for path in paths}
+
+
+def judged(judge, *controls):
+    """What a judge finds wrong. For each control it is asked once more, and has to find more: else it has gone blind.
+
+    A control is (file, old, new, said): in the file `new` is planted in the place of `old`, or in front where that is
+    empty, and of what is found then something new holds the text `said`.
+    """
+    found = [*judge()]
+    # A judge that finds something isn't blind, and a control may want to change what is wrong.
+    for path, old, new, said in () if found else controls:
+        text = text_of(path)
+        if old not in text:
+            sys.exit(f"{sys.argv[0]}: a control wants to change {old!r} in {path}, which has no such text")
+        PLANTED[path] = text.replace(old, new, 1)
+        more = {*judge()} - {*found}
+        del PLANTED[path]
+        if not any(said in it for it in more):
+            sys.exit(f"{sys.argv[0]}: it is blind: with {new!r} in {path} it doesn't say {said!r}")
+    return found
+
+
+def ended(found, summary):
+    """Prints what was found wrong, each once, and what there is in all. Returns the status to end with."""
+    for it in [*dict.fromkeys(found), summary]:
+        print(it)
+    return 1 if found else 0
 
 
 def lines_of(page):
@@ -31,6 +72,22 @@ def shown(page):
         fenced ^= line.startswith("```")
         if not fenced and line.startswith("    "):
             yield number, line[4:]
+
+
+def commands(page):
+    """The commands of a page, each with its line's number and what it has to print, or None where it has no `$ `."""
+    command, before = None, 0
+    for number, line in [*shown(page), (0, "")]:
+        if command and (number != before + 1 or line.startswith("$ ") or not line):
+            yield command
+            command = None
+        if line.startswith("$ "):
+            command = number, line[2:], []
+        elif command:
+            command[2].append(line)
+        elif re.match(rf"\(?({'|'.join(TOOLS)})( |$)|\.?[\w./]+/[\w.]+( |$)", line):
+            yield number, re.split(r" +# ", line)[0].rstrip(), None
+        before = number
 
 
 def cells(line):
@@ -66,3 +123,11 @@ def files():
     else:
         found = [it for it in ROOT.rglob("*") if not NOT_OURS & {*it.relative_to(ROOT).parts}]
     return [it for it in found if it.is_file()]
+
+
+def copy_files(to):
+    """Copies the files of the repository into a folder."""
+    for file in files():
+        copy = to / file.relative_to(ROOT)
+        copy.parent.mkdir(parents=True, exist_ok=True)
+        shutil.copy2(file, copy)

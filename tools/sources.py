@@ -8,11 +8,11 @@ def bare(text):
     return re.sub(r"//[^\n]*", "", text)
 
 
-def closing(text, start):
-    """The index of the brace that closes the one at `start`."""
+def closing(text, start, pair="{}"):
+    """The index of the brace that closes the one at `start`, or of the bracket."""
     depth = 0
     for i in range(start, len(text)):
-        depth += {"{": 1, "}": -1}.get(text[i], 0)
+        depth += {pair[0]: 1, pair[1]: -1}.get(text[i], 0)
         if depth == 0:
             return i
     raise ValueError("a brace is not closed")

@@ -1,9 +1,9 @@
 """The files of specs/: what each passes on from another, and what it defines."""
 
-import pathlib
 import re
 
-ROOT = pathlib.Path(__file__).resolve().parent.parent
+from pages import ROOT, text_of
+
 CRATES = ROOT / "crates"
 
 # Calls that a user's code reaches through an exported type, though they are no part of the API: their clauses may name
@@ -18,6 +18,9 @@ NO_API = {
     "WriteOptions::inner",
     "Form::inner",
 }
+
+# Modules of specs/ whose words another one passes on.
+PASSED_ON = {"PlainGeometry"}
 
 USE = re.compile(r"^(?:unfoldable )?(?:pub )?(?:unfoldable )?(?:ghost )?use\s+(.*)$", re.S)
 
@@ -51,7 +54,7 @@ class Specs:
         self.passed = {}
         for path in CRATES.glob("*/specs/**/*.antt"):
             parts = path.relative_to(CRATES).with_suffix("").parts
-            self.passed["Rattle." + ".".join(parts)] = list(self.uses(path.read_text(encoding="utf-8")))
+            self.passed["Rattle." + ".".join(parts)] = list(self.uses(text_of(path.relative_to(ROOT))))
 
     @staticmethod
     def uses(text):
@@ -75,6 +78,19 @@ class Specs:
             if module.startswith(f"Rattle.{crate}.specs."):
                 for source, name, local in passed:
                     yield module, local, self.origin(source, name) if name else (source, None)
+
+    def words(self, crate):
+        """(module, its words) of each module that a crate's specs hand to other crates. A word is its name there, and the
+        module and the name where it stands; the last is None of a whole module. A comment names what users import from
+        where it stands, since it can't be passed on."""
+        folder = CRATES / crate / "specs"
+        for name in re.findall(r"pub mod (\w+)", (folder / "Lib.antt").read_text(encoding="utf-8")):
+            module, text = f"Rattle.{crate}.specs.{name}", (folder / f"{name}.antt").read_text(encoding="utf-8")
+            passed = [(local, *(self.origin(source, it) if it else (source, it))) for source, it, local in self.passed[module]]
+            passed += [(local, source, None) for source, local in re.findall(r"(?m)^-- use (\S+) as (\w+)$", text)]
+            own = [it for it in defined(text) if re.search(rf"\bpub (?:record |data )?{re.escape(it)}\b", text)]
+            if name not in PASSED_ON:
+                yield name, passed + [(it, module, it) for it in own]
 
 
 WORDS = re.compile(r"(?:(?:unfoldable|abbrev|pub|private|record|data)\s+)*")
