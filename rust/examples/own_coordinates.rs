@@ -1,0 +1,28 @@
+//! Encodes coordinates of one's own: a point, a column of line strings, and a polygon with a hole.
+use porchsorrel_wkb::{encode_point, Dimension, Kind, Levels, Options};
+
+fn print(what: &str, encoding: &[u8]) {
+    let hex: String = encoding.iter().map(|byte| format!("{byte:02x}")).collect();
+    println!("{what}: {hex}");
+}
+
+fn main() {
+    let options = Options::default();
+    print("point", &encode_point(&[1.0, 2.0], Dimension::Xy, &options));
+
+    // Two line strings of two coordinates each: each ends where the next one begins.
+    let words = [0.0, 0.0, 1.0, 1.0, 5.0, 5.0, 6.0, 6.0];
+    let lines = Levels { words: &words, ring_ends: Some(&[2, 4]), ..Levels::default() };
+    let rows = lines.encode(Kind::LineString, Dimension::Xy, &options);
+    for row in 0..rows.ends.len() {
+        match rows.row(row) {
+            Some(encoding) => print("line string", encoding),
+            None => println!("{}", rows.statuses[row]),
+        }
+    }
+
+    // One polygon of two rings, the exterior of five coordinates and the interior of four.
+    let words = [0., 0., 9., 0., 9., 9., 0., 9., 0., 0., 1., 1., 2., 2., 1., 2., 1., 1.];
+    let polygon = Levels { words: &words, ring_ends: Some(&[5, 9]), single_ends: Some(&[2]), ..Levels::default() };
+    print("polygon", &polygon.encode(Kind::Polygon, Dimension::Xy, &options).data);
+}

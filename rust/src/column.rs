@@ -1,0 +1,198 @@
+//! Columns of encodings, as Arrow has them.
+use crate::{raw, Bounds, Dimension, Options, Status};
+use std::ptr;
+
+/// The offsets of a column: one more than there are rows, of 32 bits (binary) or 64 (large binary).
+#[derive(Clone, Copy, Debug)]
+enum Offsets<'a> {
+    Small(&'a [i32]),
+    Large(&'a [i64]),
+}
+
+/// A column as Arrow has it: row i has the bytes of the data from offset i up to offset i + 1. Offsets and validity may
+/// be anything: a row with bad offsets is [`Status::BAD_OFFSETS`], and no row stops the others.
+#[derive(Clone, Copy, Debug)]
+pub struct Column<'a> {
+    data: &'a [u8],
+    offsets: Offsets<'a>,
+    validity: Option<(&'a [u8], usize)>,
+}
+
+/// The encodings of rows, one after another. A row without one ends where it begins, and its status says why.
+#[derive(Clone, Debug, Default, PartialEq)]
+pub struct Encodings {
+    pub data: Vec<u8>,
+    /// Where each row ends in the data.
+    pub ends: Vec<u64>,
+    pub statuses: Vec<Status>,
+}
+
+impl Encodings {
+    /// The encoding of a row, where it has one.
+    pub fn row(&self, row: usize) -> Option<&[u8]> {
+        let begin = if row == 0 { 0 } else { self.ends[row - 1] };
+        self.statuses[row].is_ok().then(|| &self.data[begin as usize..self.ends[row] as usize])
+    }
+}
+
+/// The coordinates of rows, in levels as GeoArrow has them: a row has singles (points, line strings and polygons), a
+/// single has rings, a ring has coordinates. Each end counts from the front of the column. GeoArrow's offsets are a 0
+/// and then the ends.
+#[derive(Clone, Debug, Default, PartialEq)]
+pub struct Coordinates {
+    /// One coordinate after another.
+    pub words: Vec<f64>,
+    /// For each ring, its end in coordinates.
+    pub ring_ends: Vec<u64>,
+    /// For each single, its end in rings.
+    pub single_ends: Vec<u64>,
+    /// For each row, its end in singles.
+    pub row_ends: Vec<u64>,
+    pub statuses: Vec<Status>,
+}
+
+impl<'a> Column<'a> {
+    fn new(data: &'a [u8], offsets: Offsets<'a>) -> Self {
+        Column { data, offsets, validity: None }
+    }
+
+    /// A column with offsets of 32 bits. There is a row less than there are offsets.
+    pub fn binary(data: &'a [u8], offsets: &'a [i32]) -> Self {
+        Column::new(data, Offsets::Small(offsets))
+    }
+
+    /// A column with offsets of 64 bits.
+    pub fn large_binary(data: &'a [u8], offsets: &'a [i64]) -> Self {
+        Column::new(data, Offsets::Large(offsets))
+    }
+
+    /// The same column with a bit a row, from the lowest of a byte on, 0 for a null row. The first row's bit is `first`.
+    /// None where there are fewer bits than rows.
+    pub fn with_validity(self, bits: &'a [u8], first: usize) -> Option<Self> {
+        let needed = first.checked_add(self.rows())?;
+        (needed <= bits.len().saturating_mul(8)).then_some(Column { validity: Some((bits, first)), ..self })
+    }
+
+    pub fn rows(&self) -> usize {
+        match self.offsets {
+            Offsets::Small(offsets) => offsets.len().saturating_sub(1),
+            Offsets::Large(offsets) => offsets.len().saturating_sub(1),
+        }
+    }
+
+    fn raw(&self) -> raw::Column {
+        let (offsets, offset_size) = match self.offsets {
+            Offsets::Small(offsets) => (offsets.as_ptr().cast(), 4),
+            Offsets::Large(offsets) => (offsets.as_ptr().cast(), 8),
+        };
+        let (validity, validity_offset) =
+            self.validity.map_or((ptr::null(), 0), |(bits, first)| (bits.as_ptr(), first));
+        raw::Column {
+            data: self.data.as_ptr().cast(),
+            size: self.data.len(),
+            offsets,
+            offset_size,
+            validity: validity.cast(),
+            validity_offset,
+            rows: self.rows(),
+        }
+    }
+
+    /// What [`check`](crate::check) finds of each row.
+    pub fn check(&self) -> Vec<Status> {
+        let mut statuses = vec![0; self.rows()];
+        // SAFETY: the column has its slices' lengths, and there is a status for each row.
+        unsafe { raw::wkb_column_check(&self.raw(), statuses.as_mut_ptr()) };
+        Status::all(statuses)
+    }
+
+    /// What [`bounds`](crate::bounds) finds of each row: those of no coordinate where it has none.
+    pub fn bounds(&self) -> (Vec<Bounds>, Vec<Status>) {
+        let (mut bounds, mut statuses) = (vec![Bounds::EMPTY; self.rows()], vec![0; self.rows()]);
+        // SAFETY: the column has its slices' lengths, and there are bounds and a status for each row.
+        unsafe { raw::wkb_column_bounds(&self.raw(), bounds.as_mut_ptr(), statuses.as_mut_ptr()) };
+        (bounds, Status::all(statuses))
+    }
+
+    /// What [`write`](crate::write) makes of each row.
+    pub fn write(&self, options: &Options) -> Encodings {
+        // Rows that are read don't overlap, and an encoding is at most four bytes longer than its row.
+        let mut data = vec![0; self.data.len() + 4 * self.rows()];
+        let (mut ends, mut statuses) = (vec![0; self.rows()], vec![0; self.rows()]);
+        let (out, room) = (data.as_mut_ptr().cast(), data.len());
+        let (column, options) = (self.raw(), options.raw());
+        // SAFETY: the column has its slices' lengths, and there are an end and a status for each row.
+        let end =
+            unsafe { raw::wkb_column_write(&column, &options, out, room, ends.as_mut_ptr(), statuses.as_mut_ptr()) };
+        data.truncate(end);
+        Encodings { data, ends, statuses: Status::all(statuses) }
+    }
+
+    /// The coordinates of each row. Words that the dimension doesn't name are left out, and a word that a geometry
+    /// doesn't have is a not-a-number.
+    pub fn coordinates(&self, dimension: Dimension) -> Coordinates {
+        let (mut row_ends, mut statuses) = (vec![0; self.rows()], vec![0; self.rows()]);
+        let column = self.raw();
+        let mut out = raw::Coordinates {
+            words: ptr::null_mut(),
+            words_room: 0,
+            ring_ends: ptr::null_mut(),
+            ring_room: 0,
+            single_ends: ptr::null_mut(),
+            single_room: 0,
+            row_ends: row_ends.as_mut_ptr(),
+            coordinates: 0,
+            rings: 0,
+            singles: 0,
+        };
+        // SAFETY: the column has its slices' lengths, there are an end and a status for each row, and no room else.
+        unsafe { raw::wkb_column_coordinates(&column, dimension as u32, &mut out, statuses.as_mut_ptr()) };
+        let mut words = vec![0.0; dimension.width() * out.coordinates as usize];
+        let mut ring_ends = vec![0; out.rings as usize];
+        let mut single_ends = vec![0; out.singles as usize];
+        (out.words, out.words_room) = (words.as_mut_ptr(), words.len());
+        (out.ring_ends, out.ring_room) = (ring_ends.as_mut_ptr(), ring_ends.len());
+        (out.single_ends, out.single_room) = (single_ends.as_mut_ptr(), single_ends.len());
+        // SAFETY: the same, and each list has the room that is said.
+        unsafe { raw::wkb_column_coordinates(&column, dimension as u32, &mut out, statuses.as_mut_ptr()) };
+        Coordinates { words, ring_ends, single_ends, row_ends, statuses: Status::all(statuses) }
+    }
+}
+
+/// Rows of one's own, as a column takes them.
+///
+/// ```
+/// use porchsorrel_wkb::{Rows, Status};
+///
+/// let point = [1, 1, 0, 0, 0, 0, 0, 0, 0, 0, 0, 0xf0, 0x3f, 0, 0, 0, 0, 0, 0, 0, 0x40];
+/// let rows = Rows::of([Some(&point[..]), None, Some(&point[..20])]);
+/// assert_eq!(rows.column().check(), [Status::OK, Status::NULL_ROW, Status::SHORT_POINT]);
+/// ```
+#[derive(Clone, Debug)]
+pub struct Rows {
+    data: Vec<u8>,
+    offsets: Vec<i64>,
+    validity: Vec<u8>,
+}
+
+impl Rows {
+    /// A copy of the rows; None is a null row.
+    pub fn of<R: AsRef<[u8]>>(rows: impl IntoIterator<Item = Option<R>>) -> Rows {
+        let mut made = Rows { data: Vec::new(), offsets: vec![0], validity: Vec::new() };
+        for (row, bytes) in rows.into_iter().enumerate() {
+            if row % 8 == 0 {
+                made.validity.push(0);
+            }
+            if let Some(bytes) = bytes {
+                made.data.extend_from_slice(bytes.as_ref());
+                made.validity[row / 8] |= 1 << (row % 8);
+            }
+            made.offsets.push(made.data.len() as i64);
+        }
+        made
+    }
+
+    pub fn column(&self) -> Column<'_> {
+        Column { validity: Some((&self.validity, 0)), ..Column::large_binary(&self.data, &self.offsets) }
+    }
+}

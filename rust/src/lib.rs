@@ -1,0 +1,160 @@
+//! Reads and writes Well-Known Binary (WKB) and EWKB, by the C library of Porchsorrel, whose calls are proved correct
+//! for every input. What this crate adds to them is tested, and not proved: it passes slices, and makes results.
+//!
+//! An input may hold any bytes; those after its geometry are not looked at. No call copies it.
+//!
+//! ```
+//! use porchsorrel_wkb::{check, write, Form, Kind, Options, Order};
+//!
+//! let point = [1, 1, 0, 0, 0, 0, 0, 0, 0, 0, 0, 0xf0, 0x3f, 0, 0, 0, 0, 0, 0, 0, 0x40];
+//! let found = check(&point)?;
+//! assert_eq!((found.kind, found.size, found.srid), (Kind::Point, 21, None));
+//!
+//! let options = Options { order: Order::BigEndian, form: Form::EwkbWithSrid(4326) };
+//! assert_eq!(write(&point, &options)?[..9], [0, 0x20, 0, 0, 1, 0, 0, 0x10, 0xe6]);
+//!
+//! let refused = check(&point[..20]).unwrap_err();
+//! assert_eq!(refused.to_string(), "the input ends inside a point, in part 0 at byte 0, which would end at 21 of 20");
+//! # Ok::<(), porchsorrel_wkb::Refused>(())
+//! ```
+mod column;
+mod geometry;
+mod levels;
+mod raw;
+mod status;
+mod types;
+
+pub use column::{Column, Coordinates, Encodings, Rows};
+pub use geometry::{Geometry, Part, Reader, Words};
+pub use levels::{encode_point, Levels};
+pub use status::{Refused, Status};
+pub use types::{Bounds, Dimension, Form, Kind, Options, Order, Range};
+
+/// The geometry at the front of an input.
+#[derive(Clone, Copy, Debug, Eq, PartialEq)]
+pub struct Found {
+    /// How many bytes it has; those after them were not looked at.
+    pub size: usize,
+    /// How many parts: itself, and its rings and members at every level.
+    pub parts: usize,
+    /// How many coordinates these have; each point has one, an empty point one of not-a-numbers.
+    pub coordinates: usize,
+    /// Where its own coordinates, rings or members begin.
+    pub offset: usize,
+    /// How many of these it has.
+    pub count: usize,
+    /// Its own SRID.
+    pub srid: Option<u32>,
+    pub kind: Kind,
+    pub dimension: Dimension,
+    /// The order of its own numbers.
+    pub order: Order,
+}
+
+impl Found {
+    fn of(found: &raw::Found) -> Found {
+        Found {
+            size: found.size as usize,
+            parts: found.parts as usize,
+            coordinates: found.coordinates as usize,
+            offset: found.offset as usize,
+            count: found.count as usize,
+            srid: (found.has_srid == 1).then_some(found.srid),
+            kind: Kind::of(found.kind),
+            dimension: Dimension::of(found.dimension),
+            order: Order::of(found.order),
+        }
+    }
+}
+
+/// The version of the C library: a million times the major one, a thousand times the minor one, and the patch.
+pub fn version() -> u32 {
+    // SAFETY: the call takes nothing.
+    unsafe { raw::wkb_version() }
+}
+
+/// Whether a geometry of the grammar is at the front of the input, with at most 128 collections inside one another.
+/// Nothing is allocated.
+pub fn check(bytes: &[u8]) -> Result<Found, Refused> {
+    let (mut found, mut fault) = (raw::Found::default(), raw::Fault::default());
+    // SAFETY: the input is `bytes`.
+    let status = unsafe { raw::wkb_check(bytes.as_ptr().cast(), bytes.len(), &mut found, &mut fault) };
+    if status == 0 {
+        Ok(Found::of(&found))
+    } else {
+        Err(Refused::of(fault))
+    }
+}
+
+/// The bounds of the input's geometry. Nothing is allocated.
+pub fn bounds(bytes: &[u8]) -> Result<Bounds, Refused> {
+    let (mut bounds, mut fault) = (Bounds::EMPTY, raw::Fault::default());
+    // SAFETY: the input is `bytes`.
+    let status = unsafe { raw::wkb_bounds(bytes.as_ptr().cast(), bytes.len(), &mut bounds, &mut fault) };
+    if status == 0 {
+        Ok(bounds)
+    } else {
+        Err(Refused::of(fault))
+    }
+}
+
+/// The one encoding of the input's geometry under the options.
+pub fn write(bytes: &[u8], options: &Options) -> Result<Vec<u8>, Refused> {
+    let mut out = Vec::new();
+    write_into(bytes, options, &mut out)?;
+    Ok(out)
+}
+
+/// The same in a vector that keeps its memory. Of a refused input nothing is left in it.
+pub fn write_into(bytes: &[u8], options: &Options, out: &mut Vec<u8>) -> Result<(), Refused> {
+    out.clear();
+    // An encoding is at most four bytes longer than its input.
+    out.reserve(bytes.len() + 4);
+    let (mut size, mut fault) = (0, raw::Fault::default());
+    let (room, memory) = (out.capacity(), out.as_mut_ptr().cast());
+    let (input, options) = (bytes.as_ptr().cast(), options.raw());
+    // SAFETY: the input is `bytes`, and the vector has room for so many bytes.
+    match unsafe { raw::wkb_write(input, bytes.len(), &options, memory, room, &mut size, &mut fault) } {
+        0 => {
+            // SAFETY: the call has written so many.
+            unsafe { out.set_len(size) };
+            Ok(())
+        }
+        status => {
+            assert!(Status::of(status).is_refusal(), "there is room, and the options mean something");
+            Err(Refused::of(fault))
+        }
+    }
+}
+
+/// Which input of [`same`] is refused, and why.
+#[derive(Clone, Copy, Debug, Eq, PartialEq)]
+pub enum RefusedInput {
+    First(Refused),
+    Second(Refused),
+}
+
+impl std::fmt::Display for RefusedInput {
+    fn fmt(&self, f: &mut std::fmt::Formatter<'_>) -> std::fmt::Result {
+        match self {
+            RefusedInput::First(why) => write!(f, "the first input: {why}"),
+            RefusedInput::Second(why) => write!(f, "the second input: {why}"),
+        }
+    }
+}
+
+impl std::error::Error for RefusedInput {}
+
+/// Whether both inputs begin with geometries of one value: the same kinds, dimensions and coordinates, bit for bit,
+/// whatever their SRIDs and byte orders are. Nothing is allocated.
+pub fn same(a: &[u8], b: &[u8]) -> Result<bool, RefusedInput> {
+    let (mut equal, mut which, mut fault) = (0, 0, raw::Fault::default());
+    let (first, second) = (a.as_ptr().cast(), b.as_ptr().cast());
+    // SAFETY: the inputs are `a` and `b`.
+    let status = unsafe { raw::wkb_same(first, a.len(), second, b.len(), &mut equal, &mut fault, &mut which) };
+    match (status, which) {
+        (0, _) => Ok(equal == 1),
+        (_, 1) => Err(RefusedInput::First(Refused::of(fault))),
+        _ => Err(RefusedInput::Second(Refused::of(fault))),
+    }
+}

@@ -1,0 +1,102 @@
+//! The calls on columns.
+use porchsorrel_wkb::*;
+
+fn point(x: f64, y: f64, order: Order) -> Vec<u8> {
+    encode_point(&[x, y], Dimension::Xy, &Options { order, form: Form::Iso })
+}
+
+/// Points in both orders, one of them cut, and a null row.
+fn rows() -> Rows {
+    let (little, big) = (point(1.0, 2.0, Order::LittleEndian), point(3.0, -4.0, Order::BigEndian));
+    Rows::of([Some(little.clone()), None, Some(big), Some(little[..20].to_vec())])
+}
+
+const STATUSES: [Status; 4] = [Status::OK, Status::NULL_ROW, Status::OK, Status::SHORT_POINT];
+
+#[test]
+fn checked() {
+    assert_eq!(rows().column().check(), STATUSES);
+    let (bounds, statuses) = rows().column().bounds();
+    assert_eq!(statuses, STATUSES);
+    assert_eq!((bounds[2].y.least, bounds[1], bounds[3]), (-4.0, Bounds::EMPTY, Bounds::EMPTY));
+}
+
+#[test]
+fn offsets_and_validity() {
+    let data = point(1.0, 2.0, Order::LittleEndian).repeat(3);
+    let column = Column::binary(&data, &[0, 21, 42, 63]);
+    assert_eq!(column.check(), [Status::OK; 3]);
+    assert_eq!(Column::large_binary(&data, &[0, 21, 42, 63]).check(), [Status::OK; 3]);
+    assert_eq!((Column::binary(&data, &[]).check(), Column::binary(&data, &[5]).rows()), (vec![], 0));
+    let hostile = [0, 21, -1, 42, i64::MIN, i64::MAX, 0];
+    let statuses = Column::large_binary(&data, &hostile).check();
+    assert_eq!(
+        statuses,
+        [
+            Status::OK,
+            Status::BAD_OFFSETS,
+            Status::BAD_OFFSETS,
+            Status::BAD_OFFSETS,
+            Status::BAD_OFFSETS,
+            Status::BAD_OFFSETS
+        ]
+    );
+    let nulls = column.with_validity(&[0b1010_0000, 0b1], 6).map(|it| it.check());
+    assert_eq!(nulls, Some(vec![Status::NULL_ROW, Status::OK, Status::OK]));
+    assert!(column.with_validity(&[0xff], 6).is_none() && column.with_validity(&[0xff], usize::MAX).is_none());
+}
+
+#[test]
+fn written() {
+    let big = Options { order: Order::BigEndian, form: Form::EwkbWithSrid(4326) };
+    let encodings = rows().column().write(&big);
+    assert_eq!((&encodings.statuses[..], &encodings.ends[..]), (&STATUSES[..], &[25, 25, 50, 50][..]));
+    assert_eq!((encodings.data.len(), encodings.row(1), encodings.row(3)), (50, None, None));
+    let expected = write(&point(1.0, 2.0, Order::LittleEndian), &big).unwrap();
+    assert_eq!(encodings.row(0), Some(&expected[..]));
+}
+
+#[test]
+fn coordinates_out_and_in() {
+    let out = rows().column().coordinates(Dimension::Xy);
+    assert_eq!((&out.words[..], &out.row_ends[..]), (&[1.0, 2.0, 3.0, -4.0][..], &[1, 1, 2, 2][..]));
+    assert_eq!(
+        (&out.ring_ends[..], &out.single_ends[..], &out.statuses[..]),
+        (&[1, 2][..], &[1, 2][..], &STATUSES[..])
+    );
+    let wide = rows().column().coordinates(Dimension::Xyz);
+    assert_eq!((wide.words.len(), wide.words[2].is_nan()), (6, true));
+
+    // A line of two coordinates, one of none, and one whose ends decrease.
+    let words = [1.0, 2.0, 3.0, 4.0, 5.0, 6.0];
+    let levels = Levels { words: &words, ring_ends: Some(&[2, 2, 1]), ..Levels::default() };
+    let lines = levels.encode(Kind::LineString, Dimension::Xy, &Options::default());
+    assert_eq!(lines.statuses, [Status::OK, Status::OK, Status::BAD_LEVELS]);
+    assert_eq!((lines.row(0).map(<[u8]>::len), lines.row(1).map(<[u8]>::len), lines.row(2)), (Some(41), Some(9), None));
+    let read = Rows::of([lines.row(0)]).column().coordinates(Dimension::Xy);
+    assert_eq!(read.words, words[..4]);
+}
+
+#[test]
+fn multi_polygons() {
+    // Two rows: one of two polygons with a ring each, one without polygons.
+    let words: Vec<f64> = (0..16).map(f64::from).collect();
+    let levels =
+        Levels { words: &words, ring_ends: Some(&[4, 8]), single_ends: Some(&[1, 2]), row_ends: Some(&[2, 2]) };
+    let rows = levels.encode(Kind::MultiPolygon, Dimension::Xy, &Options::default());
+    let whole = check(rows.row(0).unwrap()).unwrap();
+    assert_eq!((whole.kind, whole.parts, whole.coordinates), (Kind::MultiPolygon, 5, 8));
+    assert_eq!(rows.row(1).map(<[u8]>::len), Some(9));
+}
+
+#[test]
+#[should_panic(expected = "rows of a GeometryCollection")]
+fn rows_are_no_collections() {
+    Levels::default().encode(Kind::GeometryCollection, Dimension::Xy, &Options::default());
+}
+
+#[test]
+#[should_panic(expected = "the words of a point")]
+fn a_point_has_the_words_of_its_dimension() {
+    encode_point(&[1.0], Dimension::Xy, &Options::default());
+}
