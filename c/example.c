@@ -26,14 +26,16 @@ int main(void) {
 
   uint8_t out[sizeof line + 4];
   wkb_options options = {WKB_ORDER_LITTLE, WKB_FORM_ISO, 0};
-  uint64_t size;
+  size_t size;
   status = wkb_write(line, sizeof line, &options, out, sizeof out, &size, &fault);
   if (status != WKB_STATUS_OK) return 1;
-  for (uint64_t i = 0; i < size; i++) printf("%02x", out[i]);
+  for (size_t i = 0; i < size; i++) printf("%02x", out[i]);
   printf("\n");
 
   status = wkb_check(line, sizeof line - 8, NULL, &fault);
-  printf("%s: part %d, at %d, would end after %d bytes of %d\n", wkb_status_text(status), (int)fault.part,
-         (int)fault.offset, (int)fault.end, (int)fault.len);
+  char text[WKB_FAULT_TEXT_ROOM];
+  if (!wkb_status_is_refusal(status)) return 1;
+  wkb_fault_text(&fault, text, sizeof text);
+  printf("%s\n", text);
   return 0;
 }

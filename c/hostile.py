@@ -60,6 +60,15 @@ def place(text, part, offset):
     return f"{text}, in part {part} at byte {offset}"
 
 
+def refusal_of(refused, before):
+    """What is wrong with bytes that are refused, with so many bytes before them."""
+    fault, text = refused.fault, refused.text
+    if refused.status == Status.CODE_OUT_OF_RANGE:
+        text += f" {fault.code}"
+    end = f", which would end at {fault.end} of {fault.len}" if fault.end else ""
+    return place(text, fault.part, before + fault.offset) + end
+
+
 def fault_of(data, found, header):
     """What is wrong with bytes that begin with a geometry: EWKB behind a header, or bytes after it."""
     for index, part in enumerate(wkb.parts(data) if header else ()):
@@ -74,10 +83,7 @@ def results(data, header=b"", srs_id=None):
     try:
         found = wkb.check(data)
     except Refused as refused:
-        text = refused.text
-        if refused.status == Status.CODE_OUT_OF_RANGE:
-            text += f" {refused.fault.code}"
-        return (0, place(text, refused.fault.part, len(header) + refused.fault.offset)) + (None,) * (8 + len(SIDES))
+        return (0, refusal_of(refused, len(header))) + (None,) * (8 + len(SIDES))
     fault = fault_of(data, found, header)
     srid = found.srid if srs_id is None else srs_id
     form = Form.EWKB_WITH_SRID if srid is not None and (srid > 0 or srs_id is None) else Form.EWKB_WITHOUT_SRID

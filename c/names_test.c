@@ -92,12 +92,12 @@ IS(WKB_FORM_ISO, 0);
 IS(WKB_FORM_EWKB_OWN_SRID, 1);
 IS(WKB_FORM_EWKB_WITH_SRID, 2);
 IS(WKB_FORM_EWKB_WITHOUT_SRID, 3);
-/* Numbers that later versions or other programs bring are in the enums' ranges. */
-IS((wkb_status)255, 255);
-IS((wkb_kind)17, 17);
-IS((wkb_dim)4, 4);
-IS((wkb_order)2, 2);
-IS((wkb_form)4, 4);
+IS(WKB_FAULT_TEXT_ROOM, 256);
+IS(sizeof(wkb_status), 4);
+IS(sizeof(wkb_kind), 4);
+IS(sizeof(wkb_dim), 4);
+IS(sizeof(wkb_order), 4);
+IS(sizeof(wkb_form), 4);
 IS(WKB_ISO, 1);
 IS(WKB_POINT, 1);
 

@@ -7,7 +7,7 @@
 #include <windows.h>
 
 static int faults, deepest;
-static uint64_t size;
+static size_t size;
 static uint32_t equal;
 static wkb_box box;
 static wkb_part parts[256];

@@ -1,5 +1,5 @@
 /* The part of the library that isn't proved: each call of wkb.h replaces null pointers, unpacks the structs of columns
- * and calls its proved wkb_raw_ call. The texts, the version and wkb_words have no such call. */
+ * and calls its proved wkb_raw_ call. The texts, the version, the class of refusals and wkb_words have no such call. */
 #include "wkb_raw.h"
 
 /* What the proved calls take for granted of the compiler and its options: structs as they were proved, pointers of 64
@@ -7,7 +7,6 @@
 #define IS_LAID(TYPE, SIZE, LAST, AT) \
   _Static_assert(sizeof(TYPE) == (SIZE) && offsetof(TYPE, LAST) == (AT), "another layout of " #TYPE)
 _Static_assert(sizeof(void *) == 8 && sizeof(size_t) == 8, "another size of pointers");
-_Static_assert(sizeof(wkb_status) == 4, "another size of a status");
 IS_LAID(wkb_found, 64, order, 60);
 IS_LAID(wkb_fault, 40, status, 36);
 IS_LAID(wkb_options, 12, srid, 8);
@@ -30,7 +29,7 @@ static const uint8_t *bytes_of(const void *bytes, size_t len) {
 
 unsigned wkb_version(void) { return WKB_VERSION; }
 
-const char *wkb_status_text(uint32_t status) {
+const char *wkb_status_text(wkb_status status) {
   switch (status) {
     case WKB_STATUS_OK: return "ok";
     case WKB_STATUS_NO_MEMORY: return "out of memory";
@@ -50,10 +49,66 @@ const char *wkb_status_text(uint32_t status) {
     case WKB_STATUS_SHORT_MULTI_POINT: return "the input ends inside a multi point";
     case WKB_STATUS_SHORT_LINEAR_RING: return "the input ends inside a ring";
   }
-  return "unknown status";
+  if (wkb_status_is_early_end(status)) return "the input ends too early";
+  if (wkb_status_is_refusal(status)) return "the input is refused";
+  if (wkb_status_is_of_row(status)) return "something is wrong with the row";
+  return "the call couldn't do what it was asked for";
 }
 
-int wkb_status_is_refusal(uint32_t status) { return status >= 32; }
+int wkb_status_is_refusal(wkb_status status) { return status >= 32; }
+
+const char *wkb_kind_text(wkb_kind kind) {
+  switch (kind) {
+    case WKB_KIND_RING: return "ring";
+    case WKB_KIND_POINT: return "point";
+    case WKB_KIND_LINE_STRING: return "linestring";
+    case WKB_KIND_POLYGON: return "polygon";
+    case WKB_KIND_MULTI_POINT: return "multipoint";
+    case WKB_KIND_MULTI_LINE_STRING: return "multilinestring";
+    case WKB_KIND_MULTI_POLYGON: return "multipolygon";
+    case WKB_KIND_GEOMETRY_COLLECTION: return "geometrycollection";
+  }
+  return "unknown kind";
+}
+
+/* A text that grows in a room. What doesn't fit is only counted. */
+typedef struct growing {
+  char *out;
+  size_t room;
+  size_t length;
+} growing;
+
+static void add(growing *text, const char *words) {
+  for (; *words != 0; words++, text->length++)
+    if (text->room > text->length + 1) text->out[text->length] = *words;
+}
+
+/* No function of the system writes the number, since a call may come from a signal handler. */
+static void add_number(growing *text, const char *before, uint64_t number) {
+  char digits[21];
+  char *first = digits + sizeof digits - 1;
+  *first = 0;
+  for (; number >= 10; number /= 10) *--first = (char)('0' + number % 10);
+  *--first = (char)('0' + number);
+  add(text, before);
+  add(text, first);
+}
+
+size_t wkb_fault_text(const wkb_fault *fault, char *out, size_t room) {
+  growing text = {out, room, 0};
+  add(&text, wkb_status_text(fault->status));
+  if (fault->status == WKB_STATUS_CODE_OUT_OF_RANGE) add_number(&text, " ", fault->code);
+  if (wkb_status_is_refusal(fault->status)) {
+    add_number(&text, ", in part ", fault->part);
+    add_number(&text, " at byte ", fault->offset);
+  }
+  if (wkb_status_is_early_end(fault->status)) {
+    add_number(&text, ", which would end at ", fault->end);
+    add_number(&text, " of ", fault->len);
+  }
+  if (room > 0) out[text.length < room ? text.length : room - 1] = 0;
+  return text.length;
+}
 
 wkb_status wkb_check(const void *buf, size_t len, wkb_found *found, wkb_fault *fault) {
   wkb_found found_here;
@@ -67,10 +122,10 @@ wkb_status wkb_bounds(const void *buf, size_t len, wkb_box *box, wkb_fault *faul
   return wkb_raw_bounds(bytes_of(buf, len), len, box ? box : &box_here, fault ? fault : &fault_here);
 }
 
-wkb_status wkb_write(const void *buf, size_t len, const wkb_options *options, void *out, size_t room, uint64_t *size,
+wkb_status wkb_write(const void *buf, size_t len, const wkb_options *options, void *out, size_t room, size_t *size,
                      wkb_fault *fault) {
   uint8_t out_here;
-  uint64_t size_here;
+  size_t size_here;
   wkb_fault fault_here;
   return wkb_raw_write(bytes_of(buf, len), len, options, room == 0 ? &out_here : (uint8_t *)out, room,
                        size ? size : &size_here, fault ? fault : &fault_here);
@@ -85,9 +140,9 @@ wkb_status wkb_same(const void *a, size_t a_len, const void *b, size_t b_len, ui
                       fault ? fault : &fault_here, which ? which : &which_here);
 }
 
-wkb_status wkb_parts(const void *buf, size_t len, wkb_part *parts, size_t room, uint64_t *count, wkb_fault *fault) {
+wkb_status wkb_parts(const void *buf, size_t len, wkb_part *parts, size_t room, size_t *count, wkb_fault *fault) {
   wkb_part part_here;
-  uint64_t count_here;
+  size_t count_here;
   wkb_fault fault_here;
   return wkb_raw_parts(bytes_of(buf, len), len, room == 0 ? &part_here : parts, room, count ? count : &count_here,
                        fault ? fault : &fault_here);
@@ -136,7 +191,7 @@ void wkb_column_bounds(const wkb_column *column, wkb_box *boxes, uint8_t *status
   wkb_raw_column_bounds(&raw, boxes, column->rows, statuses, column->rows);
 }
 
-uint64_t wkb_column_parts(const wkb_column *column, wkb_part *parts, size_t room, uint64_t *ends, uint8_t *statuses) {
+size_t wkb_column_parts(const wkb_column *column, wkb_part *parts, size_t room, uint64_t *ends, uint8_t *statuses) {
   wkb_part part_here;
   size_t rows = column->rows;
   if (rows == 0) return 0;
@@ -145,8 +200,8 @@ uint64_t wkb_column_parts(const wkb_column *column, wkb_part *parts, size_t room
   return ends[rows - 1];
 }
 
-uint64_t wkb_column_write(const wkb_column *column, const wkb_options *options, void *out, size_t room, uint64_t *ends,
-                          uint8_t *statuses) {
+size_t wkb_column_write(const wkb_column *column, const wkb_options *options, void *out, size_t room, uint64_t *ends,
+                        uint8_t *statuses) {
   uint8_t out_here;
   size_t rows = column->rows;
   if (rows == 0) return 0;
@@ -155,7 +210,7 @@ uint64_t wkb_column_write(const wkb_column *column, const wkb_options *options, 
   return ends[rows - 1];
 }
 
-void wkb_column_coordinates(const wkb_column *column, uint32_t dimension, wkb_coordinates *out, uint8_t *statuses) {
+void wkb_column_coordinates(const wkb_column *column, wkb_dim dimension, wkb_coordinates *out, uint8_t *statuses) {
   double word_here;
   uint64_t ring_end_here, single_end_here;
   wkb_raw_totals totals = {0, 0, 0};
@@ -201,9 +256,9 @@ static wkb_raw_level_column unpacked_levels(const wkb_levels *levels) {
   return raw;
 }
 
-uint64_t wkb_column_from_coordinates(const wkb_levels *levels, uint32_t kind, uint32_t dimension,
-                                     const wkb_options *options, void *out, size_t room, uint64_t *ends,
-                                     uint8_t *statuses) {
+size_t wkb_column_from_coordinates(const wkb_levels *levels, wkb_kind kind, wkb_dim dimension,
+                                   const wkb_options *options, void *out, size_t room, uint64_t *ends,
+                                   uint8_t *statuses) {
   uint8_t out_here;
   size_t rows = levels->rows;
   if (rows == 0) return 0;

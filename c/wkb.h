@@ -1,5 +1,5 @@
 /* Well-Known Binary for C and C++: a reader and a writer that are proved to do what this header says. A sentence that
- * ends in (tested) is tested only, and so are wkb_words, wkb_word, wkb_whole, the texts and wkb_status_is_refusal.
+ * ends in (tested) is tested only, and so are wkb_words, wkb_word, wkb_whole, the texts and the classes of statuses.
  *
  * BUF may hold any bytes. A call returns, and keeps nothing. It reads the bytes that it is given and no others, and
  * writes only through its other pointers (tested). Output buffers must not overlap each other or any input. The input,
@@ -16,7 +16,7 @@
  * (tested). Numbers in BUF may have either byte order and any alignment; numbers in the structs have the machine's.
  *
  * Structs, numbers and names don't change within version 1. Later versions add calls, and statuses inside the classes
- * that wkb_status names. */
+ * that wkb_status names. All calls below are there since 1.0. */
 #ifndef WKB_H
 #define WKB_H
 
@@ -34,14 +34,21 @@ extern "C" {
 #define WKB_VERSION_PATCH 0
 #define WKB_VERSION (WKB_VERSION_MAJOR * 1000000 + WKB_VERSION_MINOR * 1000 + WKB_VERSION_PATCH)
 
+/* Within version 1 every text of wkb_fault_text fits this room, with the 0 after it (tested). */
+#define WKB_FAULT_TEXT_ROOM 256
+
+/* A wkb_status, wkb_kind, wkb_dim, wkb_order or wkb_form is a number that need not have one of the names below: it may
+ * be a status of a later version, or an option without a meaning. So none of these types is an enum. */
+
 /* What a call returns, and what became of a row of a column, which fits a byte. Each number belongs to a class, and
  * later versions add statuses inside the classes, so ask for the class where the number isn't known:
  *
- *      1 to 15    what the call couldn't do
- *     16 to 31    what is wrong with a row of a column
- *     32 to 255   the input is refused: the first fault from its front on, and FAULT is written
- *     48 to 255   so it is because it ends too early: `end` and `len` of FAULT are told */
-typedef enum wkb_status {
+ *      1 to 15    wkb_status_is_failure     what the call couldn't do
+ *     16 to 31    wkb_status_is_of_row      what is wrong with a row of a column
+ *     32 to 255   wkb_status_is_refusal     the input is refused: the first fault from its front on; FAULT is written
+ *     48 to 255   wkb_status_is_early_end   it is because it ends too early: `end` and `len` of FAULT are told */
+typedef uint32_t wkb_status;
+enum {
   WKB_STATUS_OK = 0,
   WKB_STATUS_NO_MEMORY = 1,                /* no call of this version returns it */
   WKB_STATUS_NO_ROOM = 2,                  /* a room is too small; *SIZE, *COUNT or the ends say what is needed */
@@ -59,12 +66,12 @@ typedef enum wkb_status {
   WKB_STATUS_SHORT_POINT = 48,             /* the input ends before its coordinates do: end, len */
   WKB_STATUS_SHORT_LINE_STRING = 49,
   WKB_STATUS_SHORT_MULTI_POINT = 50,
-  WKB_STATUS_SHORT_LINEAR_RING = 51,
-  WKB_STATUS_MAX_ENUM = 0x7fffffff         /* no status; the enum holds all numbers up to it */
-} wkb_status;
+  WKB_STATUS_SHORT_LINEAR_RING = 51
+};
 
 /* The kinds, by their numbers in the codes. A ring is a part of a polygon. */
-typedef enum wkb_kind {
+typedef uint32_t wkb_kind;
+enum {
   WKB_KIND_RING = 0,
   WKB_KIND_POINT = 1,
   WKB_KIND_LINE_STRING = 2,
@@ -72,30 +79,25 @@ typedef enum wkb_kind {
   WKB_KIND_MULTI_POINT = 4,
   WKB_KIND_MULTI_LINE_STRING = 5,
   WKB_KIND_MULTI_POLYGON = 6,
-  WKB_KIND_GEOMETRY_COLLECTION = 7,
-  WKB_KIND_MAX_ENUM = 0x7fffffff
-} wkb_kind;
+  WKB_KIND_GEOMETRY_COLLECTION = 7
+};
 
 /* The dimensions, by the thousands of ISO codes. */
-typedef enum wkb_dim {
-  WKB_DIM_XY = 0,
-  WKB_DIM_XYZ = 1,
-  WKB_DIM_XYM = 2,
-  WKB_DIM_XYZM = 3,
-  WKB_DIM_MAX_ENUM = 0x7fffffff
-} wkb_dim;
+typedef uint32_t wkb_dim;
+enum { WKB_DIM_XY = 0, WKB_DIM_XYZ = 1, WKB_DIM_XYM = 2, WKB_DIM_XYZM = 3 };
 
 /* The byte orders, by their bytes. */
-typedef enum wkb_order { WKB_ORDER_BIG = 0, WKB_ORDER_LITTLE = 1, WKB_ORDER_MAX_ENUM = 0x7fffffff } wkb_order;
+typedef uint32_t wkb_order;
+enum { WKB_ORDER_BIG = 0, WKB_ORDER_LITTLE = 1 };
 
 /* What is written besides the geometry itself. Only the outermost geometry's SRID is ever written. */
-typedef enum wkb_form {
+typedef uint32_t wkb_form;
+enum {
   WKB_FORM_ISO = 0,                /* ISO codes, no SRID */
   WKB_FORM_EWKB_OWN_SRID = 1,      /* EWKB, with the SRID of the input's geometry if it has one */
   WKB_FORM_EWKB_WITH_SRID = 2,     /* EWKB, with the SRID of the options */
-  WKB_FORM_EWKB_WITHOUT_SRID = 3,  /* EWKB, without an SRID */
-  WKB_FORM_MAX_ENUM = 0x7fffffff
-} wkb_form;
+  WKB_FORM_EWKB_WITHOUT_SRID = 3   /* EWKB, without an SRID */
+};
 
 /* The geometry at the front of the input. */
 typedef struct wkb_found {
@@ -122,8 +124,8 @@ typedef struct wkb_fault {
   uint32_t status;  /* the wkb_status that the call returns */
 } wkb_fault;
 
-/* The byte order and the form that are written. A member may be any number, since C lets any number into an enum: one
- * without a meaning is WKB_STATUS_UNKNOWN_OPTION. */
+/* The byte order and the form that are written. A member may be any number: an order or a form without a meaning is
+ * WKB_STATUS_UNKNOWN_OPTION. */
 typedef struct wkb_options {
   uint32_t order;  /* a wkb_order */
   uint32_t form;   /* a wkb_form */
@@ -175,11 +177,29 @@ typedef struct wkb_column {
 /* The version of the library: its WKB_VERSION. */
 unsigned wkb_version(void);
 
-/* The text of a status, in one line: a static string, for any number. */
-const char *wkb_status_text(uint32_t status);
+/* The text of a status, in one line: a static string, for any number. A number without a name has the text of its
+ * class. */
+const char *wkb_status_text(wkb_status status);
+
+/* The name of a kind in lower case, such as "linestring": a static string, for any number. */
+const char *wkb_kind_text(wkb_kind kind);
+
+/* Writes to OUT what FAULT tells, in one line: the text of its status, the code, which part is refused and where it
+ * begins and would end. If the status is no refusal, only its text is written. Returns how many characters there are:
+ * at most ROOM - 1 of these are written, and a 0 after them. Nothing is cut off where ROOM is WKB_FAULT_TEXT_ROOM. */
+size_t wkb_fault_text(const wkb_fault *fault, char *out, size_t room);
 
 /* Whether a status says that the input is refused, so that FAULT is written: 1 from 32 on, else 0. */
-int wkb_status_is_refusal(uint32_t status);
+int wkb_status_is_refusal(wkb_status status);
+
+/* Whether the input is refused because it ends too early: 1 from 48 on, else 0. */
+static inline int wkb_status_is_early_end(wkb_status status) { return status >= 48; }
+
+/* Whether something is wrong with a row of a column, whatever its bytes are: 1 from 16 to 31, else 0. */
+static inline int wkb_status_is_of_row(wkb_status status) { return status >= 16 && status < 32; }
+
+/* Whether a status says what the call couldn't do: 1 from 1 to 15, else 0. */
+static inline int wkb_status_is_failure(wkb_status status) { return status >= 1 && status < 16; }
 
 /* Whether a geometry of the grammar is at the front of the input, with at most 128 collections inside one another.
  * WKB_STATUS_OK writes FOUND, a refusal writes FAULT. */
@@ -192,7 +212,7 @@ wkb_status wkb_bounds(const void *buf, size_t len, wkb_box *box, wkb_fault *faul
  * its length, which is never more than LEN + 4. WKB_STATUS_NO_ROOM: *SIZE is its length, which is more than ROOM, and
  * nothing was written. WKB_STATUS_UNKNOWN_OPTION: the options have no meaning, whatever the input is. A refusal writes
  * FAULT. Any other status leaves *SIZE and FAULT unchanged, and any but WKB_STATUS_OK leaves OUT unchanged. */
-wkb_status wkb_write(const void *buf, size_t len, const wkb_options *options, void *out, size_t room, uint64_t *size,
+wkb_status wkb_write(const void *buf, size_t len, const wkb_options *options, void *out, size_t room, size_t *size,
                      wkb_fault *fault);
 
 /* Whether both inputs begin with geometries of one value: the same kinds, dimensions and coordinates, bit for bit,
@@ -206,7 +226,7 @@ wkb_status wkb_same(const void *a, size_t a_len, const void *b, size_t b_len, ui
  * its length, which is wkb_found.parts. WKB_STATUS_NO_ROOM: *COUNT is its length, which is more than ROOM. A refusal
  * writes FAULT. Any other status leaves *COUNT and FAULT unchanged, and any but WKB_STATUS_OK leaves PARTS unchanged.
  */
-wkb_status wkb_parts(const void *buf, size_t len, wkb_part *parts, size_t room, uint64_t *count, wkb_fault *fault);
+wkb_status wkb_parts(const void *buf, size_t len, wkb_part *parts, size_t room, size_t *count, wkb_fault *fault);
 
 /* What wkb_check returns for each row, a byte a row in STATUSES. A null row is WKB_STATUS_NULL_ROW. Any other row is
  * WKB_STATUS_BAD_OFFSETS if its offsets are negative, decrease or pass the end of the data, or if it begins before the
@@ -223,13 +243,13 @@ void wkb_column_bounds(const wkb_column *column, wkb_box *boxes, uint8_t *status
  * the first entry of its own table. STATUSES has a byte a row, ENDS a number a row. A row without a table ends where it
  * begins. WKB_STATUS_NO_ROOM: the table would end at ends[i], which is more than ROOM. Returns the last end, or 0
  * without rows: with that much room, no row lacks room. PARTS is unchanged after the last table that was written. */
-uint64_t wkb_column_parts(const wkb_column *column, wkb_part *parts, size_t room, uint64_t *ends, uint8_t *statuses);
+size_t wkb_column_parts(const wkb_column *column, wkb_part *parts, size_t room, uint64_t *ends, uint8_t *statuses);
 
 /* What wkb_write returns for each row under the options, the encodings one after another in OUT, with ends, statuses
  * and the result as wkb_column_parts has them. Where the options have no meaning, each row that is not null and whose
  * offsets are good is WKB_STATUS_UNKNOWN_OPTION. */
-uint64_t wkb_column_write(const wkb_column *column, const wkb_options *options, void *out, size_t room, uint64_t *ends,
-                          uint8_t *statuses);
+size_t wkb_column_write(const wkb_column *column, const wkb_options *options, void *out, size_t room, uint64_t *ends,
+                        uint8_t *statuses);
 
 /* The coordinates of a column, in levels as GeoArrow has them: a row has singles, a single has rings, a ring has
  * coordinates, a coordinate has as many words as the dimension that is asked for. A single is a point, a line string or
@@ -254,7 +274,7 @@ typedef struct wkb_coordinates {
  * small for the row, which would end at row_ends[i]; nothing of it is written. WKB_STATUS_UNKNOWN_OPTION as in
  * wkb_column_write, where DIMENSION is none. COORDINATES, RINGS and SINGLES are what all rows need: with that much room
  * (in words: COORDINATES times the width of DIMENSION) no row lacks room. No row stops the others. */
-void wkb_column_coordinates(const wkb_column *column, uint32_t dimension, wkb_coordinates *out, uint8_t *statuses);
+void wkb_column_coordinates(const wkb_column *column, wkb_dim dimension, wkb_coordinates *out, uint8_t *statuses);
 
 /* Levels to read, as wkb_coordinates has them. Where the ends of a level are null, item i has item i of the next level,
  * as the points of GeoArrow have no ends. */
@@ -281,9 +301,9 @@ typedef struct wkb_levels {
  * level's end. WKB_STATUS_UNKNOWN_OPTION: the row isn't null, and the kind, the dimension or the options have no
  * meaning. WKB_FORM_EWKB_OWN_SRID writes no SRID. No row stops the others. The work is proportional to the rows,
  * singles, rings and coordinates together at most, whatever the levels say. */
-uint64_t wkb_column_from_coordinates(const wkb_levels *levels, uint32_t kind, uint32_t dimension,
-                                     const wkb_options *options, void *out, size_t room, uint64_t *ends,
-                                     uint8_t *statuses);
+size_t wkb_column_from_coordinates(const wkb_levels *levels, wkb_kind kind, wkb_dim dimension,
+                                   const wkb_options *options, void *out, size_t room, uint64_t *ends,
+                                   uint8_t *statuses);
 
 /* The first entry of the table of wkb_parts, made of what wkb_check finds: all that a point or a line string needs. */
 static inline wkb_part wkb_whole(const wkb_found *found) {

@@ -69,7 +69,7 @@ inline std::optional<wkb_box> try_bounds(bytes input, wkb_fault *fault = nullptr
 // why, unless it is null. An OUT that is four bytes longer than the input is never too small.
 inline std::optional<std::size_t> try_write(bytes input, const wkb_options &options, std::span<std::byte> out,
                                             wkb_fault *fault = nullptr) noexcept {
-  std::uint64_t size = 0;
+  std::size_t size = 0;
   wkb_fault found{};
   const wkb_status status =
       wkb_write(input.data(), input.size(), &options, out.data(), out.size(), &size, &found);
@@ -112,13 +112,14 @@ class refused : public std::runtime_error {
  public:
   explicit refused(const wkb_fault &fault) : std::runtime_error(text_of(fault)), fault_(fault) {}
 
-  wkb_status status() const noexcept { return static_cast<wkb_status>(fault_.status); }
+  wkb_status status() const noexcept { return fault_.status; }
   const wkb_fault &fault() const noexcept { return fault_; }
 
  private:
   static std::string text_of(const wkb_fault &fault) {
-    return std::string(wkb_status_text(fault.status)) + " (part " + std::to_string(fault.part) + ", byte " +
-           std::to_string(fault.offset) + ")";
+    char text[WKB_FAULT_TEXT_ROOM];
+    wkb_fault_text(&fault, text, sizeof text);
+    return text;
   }
 
   wkb_fault fault_;
@@ -177,9 +178,9 @@ class part {
  public:
   class iterator;
 
-  wkb_kind kind() const noexcept { return static_cast<wkb_kind>(entry_->kind); }
-  wkb_dim dimension() const noexcept { return static_cast<wkb_dim>(entry_->dimension); }
-  wkb_order order() const noexcept { return static_cast<wkb_order>(entry_->order); }
+  wkb_kind kind() const noexcept { return entry_->kind; }
+  wkb_dim dimension() const noexcept { return entry_->dimension; }
+  wkb_order order() const noexcept { return entry_->order; }
   // The words of a coordinate: 2, 3 or 4.
   unsigned width() const noexcept { return entry_->width; }
   // How many coordinates, rings or members it has.
@@ -265,7 +266,7 @@ inline part::iterator part::end() const noexcept { return {input_, table_, table
 // Reads the input's geometry into the front of TABLE, which takes as many entries as check finds parts. Where the input
 // is refused or TABLE is too small, it returns nothing, TABLE is unchanged, and FAULT says why, unless it is null.
 inline std::optional<part> try_read(bytes input, std::span<wkb_part> table, wkb_fault *fault = nullptr) noexcept {
-  std::uint64_t count = 0;
+  std::size_t count = 0;
   wkb_fault found{};
   const wkb_status status = wkb_parts(input.data(), input.size(), table.data(), table.size(), &count, &found);
   if (!detail::accepted(status, found, fault)) return std::nullopt;
@@ -278,7 +279,7 @@ class reader {
   // The input's geometry, or nothing where it is refused. FAULT then says why, unless it is null.
   std::optional<part> try_read(bytes input, wkb_fault *fault = nullptr) {
     count_ = 0;
-    std::uint64_t count = 0;
+    std::size_t count = 0;
     wkb_fault found{};
     const auto fill = [&] {
       return wkb_parts(input.data(), input.size(), table_.data(), table_.size(), &count, &found);
@@ -305,12 +306,12 @@ class reader {
 
   // The table of the input that was read last, in preorder; empty where that was refused, and in a reader moved from.
   std::span<const wkb_part> table() const noexcept {
-    return {table_.data(), std::min<std::size_t>(count_, table_.size())};
+    return {table_.data(), std::min(count_, table_.size())};
   }
 
  private:
   std::vector<wkb_part> table_;
-  std::uint64_t count_ = 0;
+  std::size_t count_ = 0;
 };
 
 // A column as Arrow has it, with an offset more than it has rows. Null VALIDITY is that of a column without null rows.

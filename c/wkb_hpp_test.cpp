@@ -24,6 +24,8 @@ static void checks() {
   expect(!wkb::check({}), "nothing is refused without a fault");
 }
 
+static bool says(const wkb::refused &refusal, const char *text) { return std::strcmp(refusal.what(), text) == 0; }
+
 static void bounds_and_refusals() {
   expect(wkb::bounds(POLYGONS).y.greatest == 2 && wkb::bounds(POLYGONS).x.count == 1, "bounds");
   try {
@@ -31,14 +33,14 @@ static void bounds_and_refusals() {
     expect(false, "a short point is refused");
   } catch (const wkb::refused &refusal) {
     expect(refusal.status() == WKB_STATUS_SHORT_POINT && refusal.fault().end == 25, "the fault of bounds");
-    expect(std::strcmp(refusal.what(), "the input ends inside a point (part 0, byte 0)") == 0, "the text of bounds");
+    expect(says(refusal, "the input ends inside a point, in part 0 at byte 0, which would end at 25 of 20"), "point");
   }
   const auto short_ring = spelled("01030000000100000004000000" + ONE_AND_TWO);
   try {
     wkb::bounds(short_ring);
     expect(false, "a short ring is refused");
   } catch (const wkb::refused &refusal) {
-    expect(std::strcmp(refusal.what(), "the input ends inside a ring (part 1, byte 9)") == 0, "the text for a ring");
+    expect(says(refusal, "the input ends inside a ring, in part 1 at byte 9, which would end at 68 of 20"), "ring");
   }
 }
 

@@ -14,16 +14,11 @@ PG_MODULE_MAGIC;
 
 #define BYTES(v) VARDATA_ANY(v), VARSIZE_ANY_EXHDR(v)
 
-static const char *const KINDS[] = {"ring",       "point",           "linestring",   "polygon",
-                                    "multipoint", "multilinestring", "multipolygon", "geometrycollection"};
-
-/* What is refused, as a text: why, in which part, and where. */
+/* What is refused, as a text. */
 static const char *text_of(const wkb_fault *fault) {
-  const char *text = wkb_status_text(fault->status);
-  unsigned long long part = fault->part, offset = fault->offset;
-  if (fault->status == WKB_STATUS_CODE_OUT_OF_RANGE)
-    return psprintf("%s %u, in part %llu at byte %llu", text, (unsigned)fault->code, part, offset);
-  return psprintf("%s, in part %llu at byte %llu", text, part, offset);
+  char *text = palloc(WKB_FAULT_TEXT_ROOM);
+  wkb_fault_text(fault, text, WKB_FAULT_TEXT_ROOM);
+  return text;
 }
 
 /* Raises an error unless a call succeeded: PLACE is an input among several, or empty. */
@@ -81,7 +76,7 @@ Datum wkb_fault_sql(PG_FUNCTION_ARGS) {
 }
 
 PG_FUNCTION_INFO_V1(wkb_kind_sql);
-Datum wkb_kind_sql(PG_FUNCTION_ARGS) { PG_RETURN_TEXT_P(cstring_to_text(KINDS[found_in(fcinfo).kind])); }
+Datum wkb_kind_sql(PG_FUNCTION_ARGS) { PG_RETURN_TEXT_P(cstring_to_text(wkb_kind_text(found_in(fcinfo).kind))); }
 
 PG_FUNCTION_INFO_V1(wkb_srid_sql);
 Datum wkb_srid_sql(PG_FUNCTION_ARGS) {
@@ -95,7 +90,7 @@ static Datum rewritten(FunctionCallInfo fcinfo, const wkb_options *options) {
   bytea *v = argument(fcinfo, 0);
   size_t room = Min(VARSIZE_ANY_EXHDR(v) + 4, MaxAllocSize - VARHDRSZ);
   bytea *out = palloc(VARHDRSZ + room);
-  uint64_t size = 0;
+  size_t size = 0;
   wkb_fault fault;
   accept(wkb_write(BYTES(v), options, VARDATA(out), room, &size, &fault), "", &fault);
   PG_FREE_IF_COPY(v, 0);

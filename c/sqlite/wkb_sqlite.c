@@ -46,9 +46,6 @@
 #include <sqlite3ext.h>
 SQLITE_EXTENSION_INIT1
 
-static const char *const KINDS[] = {"ring",       "point",           "linestring",   "polygon",
-                                    "multipoint", "multilinestring", "multipolygon", "geometrycollection"};
-
 /* The geometry of a blob. */
 typedef struct input {
   const uint8_t *data;
@@ -129,7 +126,7 @@ static bool is_ewkb(const uint8_t *geometry) {
 /* Looks for EWKB in the geometry of a GeoPackage. Returns SQLITE_OK where there is none, SQLITE_MISMATCH and which part
  * is the first, or SQLITE_NOMEM. */
 static int look_for_ewkb(const input *in, const wkb_found *found, wkb_fault *where) {
-  uint64_t count = 0, i = 1;
+  size_t count = 0, i = 1;
   where->part = where->offset = 0;
   if (!in->has_srs_id) return SQLITE_OK;
   if (is_ewkb(in->data)) return SQLITE_MISMATCH;
@@ -158,12 +155,12 @@ static void well_formed(sqlite3_context *context, int n, sqlite3_value **values)
 
 /* Why the input has no geometry, as a text to be freed. Its offset is counted from the front of the blob. */
 static char *refusal_of(const input *in, const wkb_fault *fault) {
+  char text[WKB_FAULT_TEXT_ROOM];
   if (in->fault != NULL) return sqlite3_mprintf("%s", in->fault);
-  unsigned long long part = fault->part, offset = in->header + fault->offset;
-  const char *text = wkb_status_text(fault->status);
-  if (fault->status == WKB_STATUS_CODE_OUT_OF_RANGE)
-    return sqlite3_mprintf("%s %u, in part %llu at byte %llu", text, (unsigned)fault->code, part, offset);
-  return sqlite3_mprintf("%s, in part %llu at byte %llu", text, part, offset);
+  wkb_fault of_blob = *fault;
+  of_blob.offset += in->header;
+  wkb_fault_text(&of_blob, text, sizeof text);
+  return sqlite3_mprintf("%s", text);
 }
 
 /* What is wrong with an input that begins with a geometry, likewise; NULL where nothing is, or there is no memory. */
@@ -198,7 +195,7 @@ static void kind(sqlite3_context *context, int n, sqlite3_value **values) {
   wkb_found found;
   if (has_null(n, values)) return;
   input in = input_of(values[0]);
-  if (has_geometry(&in, &found)) sqlite3_result_text(context, KINDS[found.kind], -1, SQLITE_STATIC);
+  if (has_geometry(&in, &found)) sqlite3_result_text(context, wkb_kind_text(found.kind), -1, SQLITE_STATIC);
 }
 
 static void srid(sqlite3_context *context, int n, sqlite3_value **values) {
@@ -215,7 +212,7 @@ static void srid(sqlite3_context *context, int n, sqlite3_value **values) {
 /* Returns the input's encoding under the options, behind a header. */
 static void written_behind(sqlite3_context *context, const input *in, const wkb_options *options,
                            const uint8_t *header, size_t length) {
-  uint64_t size = 0;
+  size_t size = 0;
   if (in->fault != NULL) return;
   uint8_t *out = sqlite3_malloc64(length + in->size + 4);
   if (out == NULL) {

@@ -1,5 +1,5 @@
-/* wkb_check, wkb_write, wkb_same and wkb_parts on worked cases, with their outputs and null; the texts, the version,
- * and the structs as the library lays them out. */
+/* wkb_check, wkb_write, wkb_same and wkb_parts on worked cases, with their outputs and null, and the structs as the
+ * library lays them out. */
 #include "shared.h"
 
 /* The offset in bytes of a member, which ends where the next begins. */
@@ -42,10 +42,10 @@ void check_is_as_expected(const answer *a, const uint8_t *bytes, size_t len) {
 }
 
 /* The entries of a table fit each other and the slices of the input. */
-static void table_is_consistent(const answer *a, const uint8_t *bytes, const wkb_part *parts, uint64_t count) {
+static void table_is_consistent(const answer *a, const uint8_t *bytes, const wkb_part *parts, size_t count) {
   wkb_part whole = wkb_whole(&a->found);
   expect(memcmp(&whole, &parts[0], sizeof whole) == 0, "the whole", a->input);
-  for (uint64_t i = 0; i < count; i++) {
+  for (size_t i = 0; i < count; i++) {
     expect(parts[i].begin < parts[i].offset && parts[i].offset <= parts[i].end, "where a part is", a->input);
     for (uint64_t k = i + 1; k < parts[i].next; k = parts[k].next)
       expect(parts[k].next <= parts[i].next && parts[k].end <= parts[i].end, "a part of a part", a->input);
@@ -62,7 +62,7 @@ static void table_is_consistent(const answer *a, const uint8_t *bytes, const wkb
 void parts_are_as_expected(const answer *a, const uint8_t *bytes, size_t len) {
   wkb_part parts[8], before[8];
   wkb_fault fault = {0, 0, 0, 0, 0, 0};
-  uint64_t count = 77, wanted = a->found.parts;
+  size_t count = 77, wanted = a->found.parts;
   memset(parts, 0x5a, sizeof parts), memset(before, 0x5a, sizeof before);
   if (a->status != WKB_STATUS_OK) {
     expect(wkb_parts(bytes, len, parts, 8, &count, &fault) == a->status && count == 77, "not listed", a->input);
@@ -85,7 +85,7 @@ void parts_are_as_expected(const answer *a, const uint8_t *bytes, size_t len) {
 /* A refusal leaves the bytes, the size and the truth value, and fills the fault. */
 void refusal_leaves_outputs(const answer *a, const uint8_t *bytes, size_t len) {
   uint8_t out[64], before[64];
-  uint64_t size = 77;
+  size_t size = 77;
   uint32_t equal = 77, which = 77;
   wkb_fault fault = {0, 0, 0, 0, 0, 0}, other = fault;
   memset(out, 0x5a, sizeof out), memset(before, 0x5a, sizeof before);
@@ -153,7 +153,7 @@ static void encodings_are_written(void) {
   for (int i = 0; i < WRITING_COUNT; i++) {
     const writing *w = &WRITINGS[i];
     uint8_t bytes[64], encoding[64], out[64], before[64];
-    uint64_t size = 77;
+    size_t size = 77;
     size_t len = spelled(w->input, bytes), wanted = spelled(w->encoding, encoding);
     memset(out, 0x5a, sizeof out), memset(before, 0x5a, sizeof before);
     wkb_status status = wkb_write(bytes, len, &w->options, out, wanted - 1, &size, NULL);
@@ -175,7 +175,7 @@ static void options_are_unknown(void) {
   static const wkb_options UNKNOWN[] = {{2, WKB_FORM_ISO, 4326}, {BIG, 4, 4326}, {UINT32_MAX, UINT32_MAX, 0}};
   for (int i = 0; i < 3; i++) {
     uint8_t bytes[64], out[64], before[64];
-    uint64_t size = 77;
+    size_t size = 77;
     size_t len = spelled("01 01000000 P", bytes);
     memset(out, 0x5a, sizeof out), memset(before, 0x5a, sizeof before);
     wkb_status wanted = WKB_STATUS_UNKNOWN_OPTION;
@@ -222,7 +222,7 @@ static void values_are_compared(void) {
 /* The table of one input's parts. */
 typedef struct listing {
   const char *input;
-  uint64_t count;
+  size_t count;
   wkb_part parts[5];
 } listing;
 
@@ -249,12 +249,12 @@ static void parts_are_listed(void) {
     const listing *l = &LISTINGS[i];
     uint8_t bytes[128];
     wkb_part parts[5];
-    uint64_t count = 77;
+    size_t count = 77;
     size_t len = spelled(l->input, bytes);
     wkb_status status = wkb_parts(bytes, len, parts, l->count, &count, NULL);
     expect(status == WKB_STATUS_OK && count == l->count, "the parts", l->input);
     expect(memcmp(parts, l->parts, count * sizeof parts[0]) == 0, "a part", l->input);
-    for (uint64_t k = 0; k < count; k++) {
+    for (size_t k = 0; k < count; k++) {
       if (parts[k].kind > WKB_KIND_LINE_STRING) continue;
       expect(wkb_word(bytes, &parts[k], 0, 0) == 1.0 && wkb_word(bytes, &parts[k], 0, 1) == 2.0, "words", l->input);
     }
@@ -276,32 +276,6 @@ static void nesting_is_bounded(void) {
   expect(found.parts == 128 && found.size == 1152, "128 parts", "");
 }
 
-static bool is_known(uint32_t status) { return strcmp(wkb_status_text(status), "unknown status") != 0; }
-
-/* Each status has a text of its own, other numbers have one text, and the version is the header's. */
-static void texts_and_version(void) {
-  int known = 0;
-  expect(strcmp(wkb_status_text(WKB_STATUS_OK), "ok") == 0, "a text", "ok");
-  expect(!is_known(UINT32_MAX) && !is_known(WKB_STATUS_MAX_ENUM), "a text", "the last");
-  for (uint32_t i = 0; i < 256; i++) {
-    if (is_known(i)) known++;
-    for (uint32_t k = 0; k < i && is_known(i); k++)
-      expect(strcmp(wkb_status_text(i), wkb_status_text(k)) != 0, "a status's text", wkb_status_text(i));
-  }
-  expect(known == 16, "as many texts as statuses", "");
-  expect(wkb_version() == 1000000 && WKB_VERSION == 1000000, "the version", "");
-}
-
-/* The statuses that refuse an input are a class, also those that no version has yet. */
-static void refusals_are_a_class(void) {
-  for (uint32_t i = 0; i < 256; i++) expect(wkb_status_is_refusal(i) == (i >= 32), "a class", wkb_status_text(i));
-  for (int i = 0; i < ANSWER_COUNT; i++) {
-    const answer *a = &ANSWERS[i];
-    expect(wkb_status_is_refusal(a->status) == (a->status != WKB_STATUS_OK), "a refusal", a->input);
-    expect((a->status >= 48) == (a->fault.end != 0), "an input that ends too early", a->input);
-  }
-}
-
 void calls_are_right(void) {
   for (int i = 0; i < ANSWER_COUNT; i++) {
     uint8_t bytes[128];
@@ -316,6 +290,4 @@ void calls_are_right(void) {
   parts_are_listed();
   nesting_is_bounded();
   null_is_allowed();
-  texts_and_version();
-  refusals_are_a_class();
 }

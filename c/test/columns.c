@@ -114,7 +114,7 @@ static void narrow_offsets_are_the_same(void) {
   uint64_t ends[COLUMN_ROWS], wide_ends[COLUMN_ROWS];
   uint8_t statuses[COLUMN_ROWS];
   fill(&f);
-  uint64_t all = wkb_column_parts(&f.column, wide, PART_ROOM, wide_ends, statuses);
+  size_t all = wkb_column_parts(&f.column, wide, PART_ROOM, wide_ends, statuses);
   for (size_t i = 0; i <= COLUMN_ROWS; i++) {
     int32_t offset = (int32_t)f.offsets[i];
     memcpy(bytes + 1 + 4 * i, &offset, sizeof offset);
@@ -215,11 +215,11 @@ static void columns_are_listed(void) {
   for (size_t i = 0; i < ANSWER_COUNT; i++) total += ANSWERS[i].found.parts;
   for (size_t room = 0; room <= total + 1; room++) {
     memset(parts, 0x5a, sizeof parts), memset(before, 0x5a, sizeof before);
-    uint64_t all = wkb_column_parts(&f.column, room ? parts : NULL, room, ends, statuses);
+    size_t all = wkb_column_parts(&f.column, room ? parts : NULL, room, ends, statuses);
     expect(all == total && ends[COLUMN_ROWS - 1] == total, "all parts", "");
     uint64_t start = 0, put = 0;
     for (size_t i = 0; i < COLUMN_ROWS; i++) {
-      uint64_t count = i < ANSWER_COUNT ? ANSWERS[i].found.parts : 0, own_count = 0;
+      size_t count = i < ANSWER_COUNT ? ANSWERS[i].found.parts : 0, own_count = 0;
       expect(statuses[i] == status_of(i, start + count <= room), "the status of a table", input_of(i));
       expect(ends[i] == start + count, "the end of a table", input_of(i));
       if (statuses[i] == WKB_STATUS_OK) {
@@ -245,7 +245,7 @@ static void columns_are_written(void) {
   uint8_t statuses[COLUMN_ROWS];
   fill(&f);
   memset(before, 0x5a, sizeof before);
-  uint64_t total = wkb_column_write(&f.column, &WITH_SRID, NULL, 0, ends, statuses);
+  size_t total = wkb_column_write(&f.column, &WITH_SRID, NULL, 0, ends, statuses);
   for (size_t room = 0; room <= total + 1; room++) {
     memset(out, 0x5a, sizeof out);
     expect(wkb_column_write(&f.column, &WITH_SRID, out, room, ends, statuses) == total, "all bytes", "");
@@ -256,8 +256,7 @@ static void columns_are_written(void) {
       expect(has_size ? ends[i] > start : ends[i] == start, "the end of an encoding", input_of(i));
       if (statuses[i] == WKB_STATUS_OK) {
         uint8_t own[128];
-        uint64_t own_size = 0;
-        size_t len = (size_t)(f.offsets[i + 1] - f.offsets[i]);
+        size_t own_size = 0, len = (size_t)(f.offsets[i + 1] - f.offsets[i]);
         wkb_status status = wkb_write(f.data + f.offsets[i], len, &WITH_SRID, own, sizeof own, &own_size, NULL);
         expect(status == WKB_STATUS_OK && own_size == ends[i] - start, "a row's own encoding", input_of(i));
         expect(memcmp(out + start, own, own_size) == 0, "a row's encoding", input_of(i));

@@ -20,8 +20,10 @@ typedef struct results {
   wkb_box box, boxes[COLUMN_ROWS];
   wkb_part parts[ROOM], row_parts[ROOM];
   double own_words[4], words[ROOM];
-  uint64_t size, count, ends[3][COLUMN_ROWS], ring_ends[ROOM], single_ends[ROOM], row_ends[COLUMN_ROWS];
+  size_t size, count;
+  uint64_t ends[3][COLUMN_ROWS], ring_ends[ROOM], single_ends[ROOM], row_ends[COLUMN_ROWS];
   uint32_t equal, which;
+  char texts[5][WKB_FAULT_TEXT_ROOM];
   uint8_t out[BYTES], row_out[BYTES], level_out[BYTES], statuses[6][COLUMN_ROWS];
 } results;
 
@@ -34,6 +36,7 @@ static void call_for_one(results *r, const uint8_t *bytes, size_t len) {
   wkb_same(bytes, len, bytes, len, &r->equal, &r->faults[3], &r->which);
   wkb_status status = wkb_parts(bytes, len, r->parts, ROOM, &r->count, &r->faults[4]);
   if (status == WKB_STATUS_OK && r->parts[0].kind == WKB_KIND_POINT) wkb_words(bytes, r->parts, 0, 1, r->own_words);
+  for (int i = 0; i < 5; i++) wkb_fault_text(&r->faults[i], r->texts[i], WKB_FAULT_TEXT_ROOM);
 }
 
 /* Over the inputs from one on. */

@@ -58,14 +58,14 @@ static wkb_levels levels_of(const worked *w, double *words) {
 }
 
 /* A call with this much room, under options that write little endian. Returns what all rows need. */
-static uint64_t rows_are_written(const worked *w, size_t room) {
+static size_t rows_are_written(const worked *w, size_t room) {
   double words[32];
   uint8_t out[OUT_MOST + 1], statuses[ROWS_MOST + 1], wanted[OUT_MOST];
   uint64_t ends[ROWS_MOST + 1], start = 0, last = 0;
   memset(out, ALIKE, sizeof out), memset(statuses, ALIKE, sizeof statuses), memset(ends, ALIKE, sizeof ends);
   wkb_levels levels = levels_of(w, words);
-  uint64_t total = wkb_column_from_coordinates(&levels, w->kind, w->dimension, &LITTLE_ISO, room ? out : NULL, room,
-                                               ends, statuses);
+  size_t total = wkb_column_from_coordinates(&levels, w->kind, w->dimension, &LITTLE_ISO, room ? out : NULL, room,
+                                             ends, statuses);
   for (size_t i = 0; i < w->rows; i++) {
     size_t size = w->encodings[i] ? spelled(w->encodings[i], wanted) : 0;
     wkb_status status = w->statuses[i] == OK && start + size > room ? WKB_STATUS_NO_ROOM : w->statuses[i];
@@ -131,8 +131,8 @@ static void no_meaning_is_reported(void) {
   for (size_t i = 0; i < 4; i++) {
     uint8_t out[64], statuses[2];
     uint64_t ends[2];
-    uint64_t total = wkb_column_from_coordinates(&levels, WITHOUT[i].kind, WITHOUT[i].dimension, WITHOUT[i].options,
-                                                 out, 64, ends, statuses);
+    size_t total = wkb_column_from_coordinates(&levels, WITHOUT[i].kind, WITHOUT[i].dimension, WITHOUT[i].options,
+                                               out, 64, ends, statuses);
     expect(statuses[0] == WKB_STATUS_UNKNOWN_OPTION, "no meaning", "levels");
     expect(statuses[1] == WKB_STATUS_NULL_ROW, "a null row without a meaning", "levels");
     expect(total == 0 && ends[0] == 0 && ends[1] == 0, "the ends without a meaning", "levels");
@@ -164,7 +164,7 @@ static void no_rows_are_written(void) {
 
 void levels_are_right(void) {
   for (size_t i = 0; i < sizeof WORKED / sizeof WORKED[0]; i++) {
-    uint64_t total = rows_are_written(&WORKED[i], OUT_MOST);
+    size_t total = rows_are_written(&WORKED[i], OUT_MOST);
     for (size_t room = 0; room <= total; room++) rows_are_written(&WORKED[i], room);
     levels_come_back(&WORKED[i]);
   }

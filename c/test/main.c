@@ -7,6 +7,8 @@
 int main(void) {
   calls_are_right();
   printf("the calls return what they must\n");
+  texts_are_right();
+  printf("texts, classes and the version are right\n");
   bounds_are_right();
   words_are_right();
   printf("bounds and words are right\n");

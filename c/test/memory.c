@@ -13,7 +13,8 @@ static void all_calls(size_t len, const char *what) {
   const int64_t offsets[2] = {0, (int64_t)len};
   const wkb_column column = {bytes, len, offsets, sizeof offsets[0], NULL, 0, 1};
   wkb_coordinates levels = {words, 4 * PART_COUNT, ring_ends, 3 * PART_COUNT, single_ends, PART_COUNT, NULL, 0, 0, 0};
-  uint64_t size, count, end;
+  size_t size, count;
+  uint64_t end;
   uint32_t equal = 0;
   uint8_t status;
   wkb_box box;

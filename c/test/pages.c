@@ -8,7 +8,7 @@ static void cut_is_refused(const answer *a, const uint8_t *bytes, size_t len, ui
   wkb_fault fault, again[4];
   wkb_part parts[8];
   wkb_box box;
-  uint64_t size, count;
+  size_t size, count;
   uint32_t equal, which = 0;
   memcpy(start, bytes, cut);
   wkb_status status = wkb_check(start, cut, NULL, &fault);

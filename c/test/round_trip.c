@@ -123,15 +123,15 @@ static void round_trip(uint32_t kind, uint32_t dimension, const wkb_options *opt
   static const uint32_t WIDTHS[4] = {2, 3, 3, 4};
   static written first, again;
   wkb_column column = random_column(kind, dimension, has_nulls);
-  uint64_t size = wkb_column_write(&column, options, first.data, SIZE, first.offsets + 1, first.statuses);
+  size_t size = wkb_column_write(&column, options, first.data, SIZE, first.offsets + 1, first.statuses);
   for (size_t i = 0; i < ROWS; i++) {
     bool is_null = has_nulls && !(made.validity[(SHIFT + i) / 8] >> (SHIFT + i) % 8 & 1);
     expect(first.statuses[i] == (is_null ? WKB_STATUS_NULL_ROW : WKB_STATUS_OK), "a random row", "a round trip");
   }
   wkb_coordinates found = coordinates_of(&column, dimension, &first);
   wkb_levels levels = levels_of(&found, kind, WIDTHS[dimension], &column);
-  uint64_t size_again = wkb_column_from_coordinates(&levels, kind, dimension, options, again.data, SIZE,
-                                                    again.offsets + 1, again.statuses);
+  size_t size_again = wkb_column_from_coordinates(&levels, kind, dimension, options, again.data, SIZE,
+                                                  again.offsets + 1, again.statuses);
   expect(size_again == size && memcmp(again.data, first.data, size) == 0, "encodings", "a round trip");
   expect(memcmp(again.offsets, first.offsets, sizeof first.offsets) == 0, "ends of encodings", "a round trip");
   expect(memcmp(again.statuses, first.statuses, ROWS) == 0, "statuses", "a round trip");

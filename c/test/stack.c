@@ -34,7 +34,7 @@ static void nest(void) {
 static wkb_status status;
 static uint8_t row_status;
 static wkb_box box;
-static uint64_t size;
+static size_t size;
 
 static void nothing(void) {}
 static void check(void) { status = wkb_check(bytes, len, NULL, NULL); }
@@ -42,6 +42,14 @@ static void bounds(void) { status = wkb_bounds(bytes, len, &box, NULL); }
 static void encode(void) { status = wkb_write(bytes, len, &LITTLE_ISO, out, sizeof out, &size, NULL); }
 static void same(void) { status = wkb_same(bytes, len, bytes, len, NULL, NULL, NULL); }
 static void list(void) { status = wkb_parts(bytes, len, parts, ROOM, &size, NULL); }
+static void tell(void) {
+  static const wkb_fault FAULT = {UINT64_MAX, UINT64_MAX, UINT64_MAX, UINT64_MAX, 0, WKB_STATUS_SHORT_MULTI_POINT};
+  wkb_fault_text(&FAULT, (char *)out, WKB_FAULT_TEXT_ROOM);
+}
+static void copy(void) {
+  static const wkb_part POINT = {0, 21, 5, 1, 1, 0, 0, WKB_KIND_POINT, WKB_DIM_XY, 2, WKB_ORDER_BIG};
+  wkb_words(bytes, &POINT, 0, 1, words);
+}
 static void check_rows(void) { wkb_column_check(&column, &row_status), status = row_status; }
 static void bounds_of_rows(void) { wkb_column_bounds(&column, &box, &row_status), status = row_status; }
 static void parts_of_rows(void) {
@@ -80,7 +88,9 @@ static const tried TRIED[] = {{"wkb_check", check, OTHERS_MOST, false},
                               {"wkb_column_parts", parts_of_rows, PARTS_MOST, false},
                               {"wkb_column_write", write_rows, OTHERS_MOST, false},
                               {"wkb_column_coordinates", coordinates_of_rows, OTHERS_MOST, false},
-                              {"wkb_column_from_coordinates", rows_of_coordinates, OTHERS_MOST, true}};
+                              {"wkb_column_from_coordinates", rows_of_coordinates, OTHERS_MOST, true},
+                              {"wkb_words", copy, OTHERS_MOST, true},
+                              {"wkb_fault_text", tell, OTHERS_MOST, true}};
 
 #ifdef _WIN32
 /* Windows gives each thread a stack of its own choice, so a thread paints what is below its frame itself. */
