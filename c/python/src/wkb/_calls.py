@@ -87,7 +87,7 @@ def write(data: Buffer, order: Order = Order.LITTLE, form: Form = Form.ISO, srid
     The SRID is that of `Form.EWKB_WITH_SRID`, which needs one; no other form takes one. With the default options, two
     geometries of one value have the same encoding, whatever their byte orders and SRIDs are.
     """
-    options, size, fault = make_options(order, form, srid), ctypes.c_uint64(), FAULT()
+    options, size, fault = make_options(order, form, srid), ctypes.c_size_t(), FAULT()
     with Bytes(data) as it:
         room = (it.size if it.size < LONG else _check(it).size) + SRID_SIZE
         out = ctypes.create_string_buffer(room)

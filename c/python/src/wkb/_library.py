@@ -63,7 +63,7 @@ class LevelsArguments(ctypes.Structure):
 
 def _declare(library: ctypes.CDLL) -> None:
     """Declares the types of all calls."""
-    status, size, memory, number = ctypes.c_uint, ctypes.c_size_t, ctypes.c_void_p, ctypes.POINTER(ctypes.c_uint64)
+    status, size, memory, number = ctypes.c_uint, ctypes.c_size_t, ctypes.c_void_p, ctypes.POINTER(ctypes.c_size_t)
     flag, options = ctypes.POINTER(ctypes.c_uint32), ctypes.POINTER(Options)
     column, table = ctypes.POINTER(ColumnArguments), [memory, size, memory, memory]
     levels = ctypes.POINTER(LevelsArguments)
@@ -78,10 +78,10 @@ def _declare(library: ctypes.CDLL) -> None:
         ("parts", status, memory, size, memory, size, number, memory),
         ("column_check", None, column, memory),
         ("column_bounds", None, column, memory, memory),
-        ("column_parts", ctypes.c_uint64, column, *table),
-        ("column_write", ctypes.c_uint64, column, options, *table),
+        ("column_parts", size, column, *table),
+        ("column_write", size, column, options, *table),
         ("column_coordinates", None, column, ctypes.c_uint, ctypes.POINTER(CoordinatesArguments), memory),
-        ("column_from_coordinates", ctypes.c_uint64, levels, ctypes.c_uint, ctypes.c_uint, options, *table),
+        ("column_from_coordinates", size, levels, ctypes.c_uint, ctypes.c_uint, options, *table),
     ):
         call = getattr(library, f"wkb_{name}")
         call.restype, call.argtypes = result, arguments
