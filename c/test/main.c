@@ -17,6 +17,7 @@ int main(void) {
   levels_are_right();
   levels_come_back_from_rows();
   printf("columns return what they must\n");
+  what_lasts_is_as_it_was();
   nothing_is_read_after_the_input();
   printf("no byte after the input is read, and refusals leave their outputs\n");
   no_memory_is_asked_for();

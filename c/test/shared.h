@@ -69,5 +69,6 @@ void no_memory_is_asked_for(void);
 void little_stack_is_taken(void);
 void calls_run_at_the_same_time(void);
 void calls_run_anywhere(void);
+void what_lasts_is_as_it_was(void);
 
 #endif
