@@ -4,7 +4,12 @@
  * this prints with expected. */
 #include "shared.h"
 
-int main(void) {
+int main(int count, char **words) {
+  if (count == 3) {
+    /* With a seed and a number of random inputs it prints their answers alone. */
+    print_answers(strtoull(words[1], NULL, 10), strtoull(words[2], NULL, 10));
+    return 0;
+  }
   calls_are_right();
   printf("the calls return what they must\n");
   texts_are_right();
@@ -18,6 +23,7 @@ int main(void) {
   levels_come_back_from_rows();
   printf("columns return what they must\n");
   what_lasts_is_as_it_was();
+  printf("10000 random inputs have the answers %016llx\n", (unsigned long long)answers_over(0, 10000));
   nothing_is_read_after_the_input();
   printf("no byte after the input is read, and refusals leave their outputs\n");
   no_memory_is_asked_for();
