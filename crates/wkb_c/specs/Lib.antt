@@ -4,6 +4,7 @@ pub mod Classes
 pub mod Columns
 pub mod Coordinates
 pub mod EnumNumbers
+pub mod Layouts
 pub mod LevelLists
 pub mod LevelRows
 pub mod LevelTargets

@@ -13,6 +13,7 @@ mod fault;
 mod found;
 mod from_coordinates;
 mod inputs;
+mod layouts;
 mod numbers;
 mod options;
 mod parts;
