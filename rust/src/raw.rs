@@ -76,6 +76,9 @@ pub struct Levels {
     pub validity_offset: usize,
 }
 
+/// `WKB_FAULT_TEXT_ROOM`.
+pub const FAULT_TEXT_ROOM: usize = 256;
+
 const _: () = assert!(size_of::<usize>() == 8, "the library is for pointers of 64 bits");
 const _: () = assert!(size_of::<Found>() == 64 && size_of::<Fault>() == 40 && size_of::<Options>() == 12);
 const _: () = assert!(size_of::<crate::Part>() == 64 && size_of::<crate::Bounds>() == 96);
@@ -84,6 +87,7 @@ const _: () = assert!(size_of::<Column>() == 56 && size_of::<Coordinates>() == 8
 extern "C" {
     pub fn wkb_version() -> u32;
     pub fn wkb_status_text(status: u32) -> *const c_char;
+    pub fn wkb_fault_text(fault: *const Fault, out: *mut c_char, room: usize) -> usize;
     pub fn wkb_check(buf: *const c_void, len: usize, found: *mut Found, fault: *mut Fault) -> u32;
     pub fn wkb_bounds(buf: *const c_void, len: usize, bounds: *mut crate::Bounds, fault: *mut Fault) -> u32;
     pub fn wkb_write(

@@ -103,19 +103,20 @@ impl Refused {
             code: (status == Status::CODE_OUT_OF_RANGE).then_some(fault.code),
         }
     }
+
+    fn fault(&self) -> raw::Fault {
+        let (end, len) = self.ends.unwrap_or_default();
+        let (code, status) = (self.code.unwrap_or_default(), self.status.0.into());
+        raw::Fault { part: self.part, offset: self.offset as u64, end, len, code, status }
+    }
 }
 
 impl fmt::Display for Refused {
     fn fmt(&self, f: &mut fmt::Formatter<'_>) -> fmt::Result {
-        f.write_str(self.status.text())?;
-        if let Some(code) = self.code {
-            write!(f, " {code}")?;
-        }
-        write!(f, ", in part {} at byte {}", self.part, self.offset)?;
-        if let Some((end, len)) = self.ends {
-            write!(f, ", which would end at {end} of {len}")?;
-        }
-        Ok(())
+        let mut out = [0u8; raw::FAULT_TEXT_ROOM];
+        // SAFETY: `out` has so much room.
+        let len = unsafe { raw::wkb_fault_text(&self.fault(), out.as_mut_ptr().cast(), out.len()) };
+        f.write_str(out.get(..len).and_then(|text| std::str::from_utf8(text).ok()).unwrap_or_default())
     }
 }
 
