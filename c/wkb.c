@@ -78,20 +78,21 @@ typedef struct growing {
   size_t length;
 } growing;
 
-static void add(growing *text, const char *words) {
-  for (; *words != 0; words++, text->length++)
-    if (text->room > text->length + 1) text->out[text->length] = *words;
+static void add_letter(growing *text, char letter) {
+  if (text->room > text->length + 1) text->out[text->length] = letter;
+  text->length++;
 }
 
-/* No function of the system writes the number, since a call may come from a signal handler. */
+static void add(growing *text, const char *words) {
+  for (; *words != 0; words++) add_letter(text, *words);
+}
+
+/* No function of the system writes the digits, since a call may come from a signal handler. */
 static void add_number(growing *text, const char *before, uint64_t number) {
-  char digits[21];
-  char *first = digits + sizeof digits - 1;
-  *first = 0;
-  for (; number >= 10; number /= 10) *--first = (char)('0' + number % 10);
-  *--first = (char)('0' + number);
+  uint64_t power = 1;
   add(text, before);
-  add(text, first);
+  while (number / power >= 10) power *= 10;
+  for (; power > 0; power /= 10) add_letter(text, (char)('0' + number / power % 10));
 }
 
 size_t wkb_fault_text(const wkb_fault *fault, char *out, size_t room) {
