@@ -15,8 +15,11 @@
  * 20 KB of it (28 KB on Windows), any other call 2 KB (tested). Calls may run at the same time: there is no static data
  * (tested). Numbers in BUF may have either byte order and any alignment; numbers in the structs have the machine's.
  *
- * Structs, numbers and names don't change within version 1. Later versions add calls, and statuses inside the classes
- * that wkb_status names. All calls below are there since 1.0. */
+ * Within version 1 these stay as they are: names, numbers and structs; which inputs are accepted, those of the grammar
+ * with its seven kinds and at most 128 collections inside one another; and every byte that is written for an input and
+ * options. So a key that is stored stays what it is. What is refused stays refused, but a later version may give it
+ * another status of the same class. Texts may change. Later versions add calls, and statuses inside the classes that
+ * wkb_status names, each with "since 1.N". What has no such words is there since 1.0. */
 #ifndef WKB_H
 #define WKB_H
 
