@@ -257,7 +257,9 @@ size_t wkb_column_write(const wkb_column *column, const wkb_options *options, vo
 /* The coordinates of a column, in levels as GeoArrow has them: a row has singles, a single has rings, a ring has
  * coordinates, a coordinate has as many words as the dimension that is asked for. A single is a point, a line string or
  * a polygon, by itself or inside a multi geometry or a collection. A point or a line string has one ring. Each end
- * counts from the front of the column, and item i of a level begins where item i - 1 ends. */
+ * counts from the front of the column, and item i of a level begins where item i - 1 ends. Written at offsets + 1, with
+ * 0 at offsets[0], the ends are GeoArrow's offsets of 64 bits (large lists), and the words its interleaved coordinates
+ * (tested). Offsets of 32 bits and separated words take a pass over these. */
 typedef struct wkb_coordinates {
   double   *words;        /* one coordinate after another, in the machine's byte order */
   size_t    words_room;

@@ -140,6 +140,21 @@ static void narrow_offsets_are_the_same(void) {
   expect(memcmp(r.words, wanted, spelled(WORDS[WKB_DIM_XYZM], wanted)) == 0, "the words", "narrow offsets");
 }
 
+/* Behind a 0 the ends are offsets as GeoArrow has them: what a row has lies from an offset up to the next one. */
+static void ends_become_offsets(void) {
+  static double words[2 * COORDINATES];
+  uint64_t rings[RINGS + 1] = {0}, singles[SINGLES + 1] = {0}, rows[ROWS + 1] = {0};
+  uint8_t statuses[ROWS], wanted[8 * WIDTH_MOST * COORDINATES];
+  wkb_column column = column_of_inputs();
+  wkb_coordinates out = {words, 2 * COORDINATES, rings + 1, RINGS, singles + 1, SINGLES, rows + 1, 0, 0, 0};
+  wkb_column_coordinates(&column, WKB_DIM_XY, &out, statuses);
+  for (size_t i = 0; i < ROWS; i++) {
+    uint64_t from = rings[singles[rows[i]]], to = rings[singles[rows[i + 1]]];
+    expect(from == (i ? ENDS[i - 1].coordinates : 0) && to == ENDS[i].coordinates, "offsets of GeoArrow", INPUTS[0]);
+  }
+  expect(memcmp(words, wanted, spelled(WORDS[WKB_DIM_XY], wanted)) == 0, "interleaved coordinates", "");
+}
+
 void coordinates_are_right(void) {
   for (uint32_t dimension = WKB_DIM_XY; dimension <= WKB_DIM_XYZM; dimension++) {
     size_t words = WIDTHS[dimension] * COORDINATES;
@@ -151,4 +166,5 @@ void coordinates_are_right(void) {
   no_dimension_is_reported();
   no_rows_have_none();
   narrow_offsets_are_the_same();
+  ends_become_offsets();
 }
