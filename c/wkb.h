@@ -1,19 +1,23 @@
 /* Well-Known Binary for C and C++: a reader and a writer that are proved to do what this header says. A sentence that
- * ends in (tested) is tested only, and so are wkb_words, wkb_word, wkb_whole, the texts and the classes of statuses.
+ * ends in (tested) is tested only. So are wkb_version, wkb_words, wkb_word, wkb_whole, wkb_little_word, wkb_big_word,
+ * the texts and the classes of statuses, and what a call does around the proved one: it replaces null pointers, passes
+ * structs on, and returns what it has found.
  *
- * BUF may hold any bytes. A call returns, and keeps nothing. It reads the bytes that it is given and no others, and
- * writes only through its other pointers (tested). Output buffers must not overlap each other or any input. The input,
- * offsets, validity and levels must not change during a call, by another thread or by another process. Otherwise
- * nothing is promised, not even where a call writes. So copy a mapped file that others may write before the call.
+ * BUF may hold any bytes. A call returns, and keeps nothing (tested). It reads the bytes that it is given and no
+ * others, and writes only through its other pointers (tested). Output buffers must not overlap each other or any input.
+ * The input, offsets, validity and levels must not change during a call, by another thread or by another process.
+ * Otherwise nothing is promised, not even where a call writes. So copy a mapped file that others may write before the
+ * call.
  *
- * A pointer may be null where its length, room or number of rows is 0. FOUND, FAULT, BOX, SIZE, COUNT, EQUAL and WHICH
- * may be null where the caller doesn't want that result (tested). No other pointer may be null. What a call doesn't
- * write is unchanged.
+ * A pointer may be null where its length, room or number of rows is 0 (tested). FOUND, FAULT, BOX, SIZE, COUNT, EQUAL
+ * and WHICH may be null where the caller doesn't want that result (tested). No other pointer may be null. What a call
+ * doesn't write is unchanged.
  *
- * No call asks for memory: none returns WKB_STATUS_NO_MEMORY, whose number stays free, and all may be called from a
+ * No call returns WKB_STATUS_NO_MEMORY, whose number stays free. No call asks for memory, and all may be called from a
  * signal handler, in a forked child and on a thread with a small stack: wkb_parts and wkb_column_parts take at most
  * 20 KB of it (28 KB on Windows), any other call 2 KB (tested). Calls may run at the same time: there is no static data
- * (tested). Numbers in BUF may have either byte order and any alignment; numbers in the structs have the machine's.
+ * (tested). Numbers in BUF may have either byte order. They may have any alignment (tested). Numbers in the structs
+ * have the machine's byte order and alignment.
  *
  * Within version 1 these stay as they are: names, numbers and structs; which inputs are accepted, those of the grammar
  * with its seven kinds and at most 128 collections inside one another; and every byte that is written for an input and
@@ -104,7 +108,7 @@ enum {
 
 /* The geometry at the front of the input. */
 typedef struct wkb_found {
-  uint64_t size;         /* how many bytes it has; the bytes after them were not looked at */
+  uint64_t size;         /* how many bytes it has; others may follow them */
   uint64_t parts;        /* itself, and its rings and members at every level */
   uint64_t coordinates;  /* how many these have; each point has one, an empty point one of not-a-numbers */
   uint64_t offset;       /* where its own coordinates, rings or members begin */
@@ -159,8 +163,8 @@ typedef struct wkb_range {
   uint64_t count;     /* how many numbers there are */
 } wkb_range;
 
-/* The bounds of a geometry: z of coordinates that have a z, m of those that have an m. They are over all its rings;
- * PostGIS, GEOS and OGR take the exterior of a polygon alone. */
+/* The bounds of a geometry: z of coordinates that have a z, m of those that have an m. They are over all rings of a
+ * polygon, the interior ones too. */
 typedef struct wkb_box {
   wkb_range x, y, z, m;
 } wkb_box;
@@ -234,7 +238,7 @@ wkb_status wkb_parts(const void *buf, size_t len, wkb_part *parts, size_t room, 
 /* What wkb_check returns for each row, a byte a row in STATUSES. A null row is WKB_STATUS_NULL_ROW. Any other row is
  * WKB_STATUS_BAD_OFFSETS if its offsets are negative, decrease or pass the end of the data, or if it begins before the
  * end of an earlier row, null or not, whose offsets do none of this; and so is each where OFFSET_SIZE is neither 4 nor
- * 8. None of these rows is read. No row stops the others. */
+ * 8. None of these rows is read (tested). No row stops the others. */
 void wkb_column_check(const wkb_column *column, uint8_t *statuses);
 
 /* What wkb_bounds returns for each row, and its bounds: BOXES has one a row. The box of a row without bounds is that of
@@ -245,7 +249,8 @@ void wkb_column_bounds(const wkb_column *column, wkb_box *boxes, uint8_t *status
  * at ends[i - 1], or at 0 where i is 0. In it OFFSET, BEGIN and END are counted from the row's own front, and NEXT from
  * the first entry of its own table. STATUSES has a byte a row, ENDS a number a row. A row without a table ends where it
  * begins. WKB_STATUS_NO_ROOM: the table would end at ends[i], which is more than ROOM. Returns the last end, or 0
- * without rows: with that much room, no row lacks room. PARTS is unchanged after the last table that was written. */
+ * without rows (tested). With that much room, no row lacks room. PARTS is unchanged after the last table that was
+ * written. */
 size_t wkb_column_parts(const wkb_column *column, wkb_part *parts, size_t room, uint64_t *ends, uint8_t *statuses);
 
 /* What wkb_write returns for each row under the options, the encodings one after another in OUT, with ends, statuses
@@ -305,7 +310,7 @@ typedef struct wkb_levels {
  * begins before the end of an earlier row, null or not, that neither there nor above ends before it begins or past the
  * level's end. WKB_STATUS_UNKNOWN_OPTION: the row isn't null, and the kind, the dimension or the options have no
  * meaning. WKB_FORM_EWKB_OWN_SRID writes no SRID. No row stops the others. The work is proportional to the rows,
- * singles, rings and coordinates together at most, whatever the levels say. */
+ * singles, rings and coordinates together at most, whatever the levels say (tested). */
 size_t wkb_column_from_coordinates(const wkb_levels *levels, wkb_kind kind, wkb_dim dimension,
                                    const wkb_options *options, void *out, size_t room, uint64_t *ends,
                                    uint8_t *statuses);
@@ -321,7 +326,7 @@ static inline wkb_part wkb_whole(const wkb_found *found) {
  * byte order. FIRST + COUNT is at most the part's count, and OUT has room for COUNT * width words. */
 void wkb_words(const void *buf, const wkb_part *part, uint64_t first, uint64_t count, double *out);
 
-/* The little endian and the big endian number in eight bytes; compilers make one load of each. */
+/* The little endian and the big endian number in eight bytes. */
 static inline uint64_t wkb_little_word(const uint8_t *b) {
   uint64_t b0 = b[0], b1 = b[1], b2 = b[2], b3 = b[3], b4 = b[4], b5 = b[5], b6 = b[6], b7 = b[7];
   return b0 | b1 << 8 | b2 << 16 | b3 << 24 | b4 << 32 | b5 << 40 | b6 << 48 | b7 << 56;

@@ -276,14 +276,19 @@ static void nesting_is_bounded(void) {
   expect(found.parts == 128 && found.size == 1152, "128 parts", "");
 }
 
-void calls_are_right(void) {
-  for (int i = 0; i < ANSWER_COUNT; i++) {
-    uint8_t bytes[128];
-    size_t len = spelled(ANSWERS[i].input, bytes);
-    check_is_as_expected(&ANSWERS[i], bytes, len);
-    parts_are_as_expected(&ANSWERS[i], bytes, len);
-    refusal_leaves_outputs(&ANSWERS[i], bytes, len);
+/* Wherever an input begins, the calls return the same. */
+static void any_alignment_is_taken(const answer *a) {
+  for (size_t shift = 0; shift < 8; shift++) {
+    uint8_t bytes[128 + 8];
+    size_t len = spelled(a->input, bytes + shift);
+    check_is_as_expected(a, bytes + shift, len);
+    parts_are_as_expected(a, bytes + shift, len);
+    refusal_leaves_outputs(a, bytes + shift, len);
   }
+}
+
+void calls_are_right(void) {
+  for (int i = 0; i < ANSWER_COUNT; i++) any_alignment_is_taken(&ANSWERS[i]);
   encodings_are_written();
   options_are_unknown();
   values_are_compared();

@@ -44,8 +44,30 @@ static void column_ends_at_page(const answer *a, uint8_t *page_end, uint8_t *oth
   expect(status == a->status, "validity at the end of a page", a->input);
 }
 
+/* Null rows, and rows whose offsets are bad, over data that can't be read: no call reads them. */
+static void rows_without_bytes_are_not_read(const uint8_t *unreadable) {
+  enum { ROWS = 4, ROOM = 8 };
+  static const int32_t OFFSETS[ROWS + 1] = {0, 21, -1, 42, 21};
+  static const uint8_t VALIDITY = 0x0e;
+  const wkb_column column = {unreadable, 42, OFFSETS, 4, &VALIDITY, 0, ROWS};
+  uint8_t statuses[5][ROWS], out[ROOM];
+  uint64_t ends[ROWS], rings[ROOM], singles[ROOM];
+  double words[ROOM];
+  wkb_part parts[ROOM];
+  wkb_box boxes[ROWS];
+  wkb_coordinates to = {words, ROOM, rings, ROOM, singles, ROOM, ends, 0, 0, 0};
+  wkb_column_check(&column, statuses[0]);
+  wkb_column_bounds(&column, boxes, statuses[1]);
+  wkb_column_parts(&column, parts, ROOM, ends, statuses[2]);
+  wkb_column_write(&column, &LITTLE_ISO, out, ROOM, ends, statuses[3]);
+  wkb_column_coordinates(&column, WKB_DIM_XY, &to, statuses[4]);
+  for (int i = 0; i < 5 * ROWS; i++)
+    expect(statuses[i / ROWS][i % ROWS] == (i % ROWS ? WKB_STATUS_BAD_OFFSETS : WKB_STATUS_NULL_ROW), "a row", "");
+}
+
 void nothing_is_read_after_the_input(void) {
   uint8_t *end = end_of_a_page(), *other_end = end_of_a_page();
+  rows_without_bytes_are_not_read(end);
   for (int i = 0; i < ANSWER_COUNT; i++) {
     uint8_t bytes[128];
     size_t len = spelled(ANSWERS[i].input, bytes);

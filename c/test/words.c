@@ -46,6 +46,7 @@ void words_are_right(void) {
   part.order = WKB_ORDER_LITTLE;
   wkb_words(worked, &part, 0, 1, xyz);
   expect(xyz[0] == 1 && xyz[1] == 2 && xyz[2] == 3, "worked words", "little endian");
+  expect(wkb_little_word(worked) == 0x3ff0000000000000 && wkb_big_word(worked) == 0xf03f, "the number in a word", "");
   wkb_words(NULL, &part, 0, 0, NULL);
   for (size_t i = 0; i < sizeof bytes; i++) bytes[i] = (uint8_t)(i * 37 + 11);
   for (uint64_t shift = 0; shift < 8; shift++)
