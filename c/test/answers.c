@@ -257,30 +257,40 @@ static void split_columns(const wkb_column *it, uint32_t kind, uint32_t dimensio
   write_levels(&levels, is_rare(20) ? (uint32_t)random_bits() : kind, asked);
 }
 
-/* Each call over the inputs of a column, and over the column. */
-static void answer_column(uint64_t seed) {
-  static generated it;
+/* Each call over a column of inputs: of all, or of some in any order. */
+static void answer_column(const generated *inputs, uint32_t kind, uint32_t dimension, bool is_of_all) {
   uint64_t ends[COLUMN_INPUTS];
+  column.size = 0;
+  for (size_t i = 0; i < COLUMN_INPUTS; i++) {
+    const generated *it = &inputs[is_of_all ? i : random_below(COLUMN_INPUTS)];
+    memcpy(column.data + column.size, it->bytes, it->len), column.size += it->len, ends[i] = column.size;
+  }
+  wkb_column it = random_column(ends);
+  wkb_options options = random_options();
+  check_columns(&it), list_columns(&it), write_columns(&it, &options), split_columns(&it, kind, dimension);
+}
+
+/* Each call over some inputs, and over columns of them. */
+static void answer_inputs(uint64_t seed) {
+  static generated inputs[COLUMN_INPUTS];
   begin_numbers(seed << 32);
   bool is_of_one_kind = is_rare(2), is_of_one_dimension = is_rare(2);
   uint32_t kind = 1 + random_below(7), dimension = random_below(4);
-  column.size = before_len = 0;
+  before_len = 0;
   for (size_t i = 0; i < COLUMN_INPUTS; i++) {
+    generated *it = &inputs[i];
     if (!is_of_one_kind) kind = 1 + random_below(7);
     if (!is_of_one_dimension) dimension = random_below(4);
-    generate(&it, kind, dimension);
-    check_and_bounds(&it), write_in_all_forms(&it), compare_values(&it), list_parts(&it);
-    memcpy(column.data + column.size, it.bytes, it.len), column.size += it.len, ends[i] = column.size;
+    generate(it, kind, dimension);
+    check_and_bounds(it), write_in_all_forms(it), compare_values(it), list_parts(it);
   }
-  wkb_column all = random_column(ends);
-  wkb_options options = random_options();
-  check_columns(&all), list_columns(&all), write_columns(&all, &options), split_columns(&all, kind, dimension);
+  for (int i = 0; i < 4; i++) answer_column(inputs, kind, dimension, i == 0);
 }
 
 uint64_t answers_over(uint64_t seed, uint64_t inputs) {
   uint64_t sum = 0;
   memset(sums, 0, sizeof sums);
-  for (uint64_t i = 0; i < inputs / COLUMN_INPUTS; i++) answer_column(seed + i);
+  for (uint64_t i = 0; i < inputs / COLUMN_INPUTS; i++) answer_inputs(seed + i);
   for (int call = 0; call < CALLS; call++) sum = (sum ^ sums[call]) * 0x9e3779b97f4a7c15, sum ^= sum >> 29;
   return sum;
 }
