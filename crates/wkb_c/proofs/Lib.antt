@@ -10,5 +10,7 @@ mod Encodings
 mod LevelRows
 mod Levels
 mod KindTotals
+mod Reasons
+mod LastEnds
 mod Rooms
 mod InTurn

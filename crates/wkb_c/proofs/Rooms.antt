@@ -7,17 +7,17 @@ use lib.Seq.{get_or-set_same, get_or-set_other, length-sets}
 use Rattle.wkb_geom.specs.declared.common.Dimension.TheVariants.{Xy}
 use Rattle.wkb_check.specs.Public.{DescribesFront}
 use Rattle.wkb_check.specs.declared.answer.Summary.{Summary}
-use Rattle.wkb_c.specs.Columns.{IsRow, LacksRow, null_row, bad_offsets}
+use Rattle.wkb_c.specs.Columns.{IsRow}
 use Rattle.wkb_c.specs.declared.column.Column.{Column}
-use Rattle.wkb_c.specs.Coordinates.{Levels, HasRoomUpTo, NoneLacksRoom, written, no_room, LacksCoordinates, no_row}
-use Rattle.wkb_c.specs.Coordinates.{unknown, refused, IsCoordinatesRow, HasCoordinates, handed, failed, dimension_named}
+use Rattle.wkb_c.specs.Coordinates.{Levels, HasRoomUpTo, LevelsSuffice, written, no_room, LacksCoordinates}
+use Rattle.wkb_c.specs.Coordinates.{IsCoordinatesRow, HasCoordinates, handed, failed, dimension_named}
 use Rattle.wkb_c.specs.Coordinates.{totals_after, with_levels, ring_counts, single_counts, ends, words_in}
 use Rattle.wkb_c.specs.declared.coordinates.Totals.{Totals}
 use Rattle.wkb_c.specs.declared.status.TheConstants.{NO_ROOM}
 use Rattle.wkb_c.specs.Subjects.{Subject, subjects}
 use Rattle.wkb_c.proofs.Levels.{AreSmall, none_added}
+use Rattle.wkb_c.proofs.Reasons.{coordinates_tell_other}
 use Rattle.wkb_c.proofs.Rows.{below_more}
-use Rattle.wkb_c.proofs.Telling.{refusals}
 
 -- what was checked has coordinates
 pub has_coordinates : {c : Column} {dimension i : ℕ} {asked : Dimension} (row : List ℕ) → IsRow c i row
@@ -88,15 +88,6 @@ put_long asked xs from out = record {
   single_ends = length-sets out.single_ends from.singles (ends from.rings (flat_map single_counts xs));
 }
 
-no_room_missing : {c : Column} {i status : ℕ} → LacksRow c i status → status ≡ NO_ROOM → ⊥
-no_room_missing (null_row none is) told = omega (arith, is, told)
-no_room_missing (bad_offsets some none is) told = omega (arith, is, told)
-
-no_room_lacking : {c : Column} {dimension i status : ℕ} → LacksCoordinates c dimension i status → status ≡ NO_ROOM → ⊥
-no_room_lacking (no_row why) told = no_room_missing why told
-no_room_lacking (unknown row is none is_status) told = omega (arith, is_status, told)
-no_room_lacking (refused row asked is asked_is why) told = omega (arith, why.1.status_is, told, refusals why.1.cause)
-
 one_dimension : (n : ℕ) (a b : Dimension) → dimension_named n ≡ Some a → dimension_named n ≡ Some b → a ≡ b
 one_dimension n a b f g = let same : Some a ≡ Some b = sym f ∙ g in cc
 
@@ -129,9 +120,9 @@ row_says {dimension = dimension} {to = to} {before = before} (handed asked xs ha
     says xs _ is same small (same_long before)
     (λ other named room told.
     short (subst (λ d. HasRoomUpTo d before to) (one_dimension dimension other asked named has.asked_is) room))
-row_says {from = from} {before = before} (failed why is same) small =
+row_says {c = c} {dimension = dimension} {i = i} {from = from} {before = before} (failed why is same) small =
     says [] _ (is ∙ none_added from small) same small (same_long before)
-    (λ other named room told. no_room_lacking why told)
+    (λ other named room told. coordinates_tell_other c dimension i (subst (LacksCoordinates c dimension i) told why))
 
 pub long_more : {out before after : Levels} → AreAsLong after before → AreAsLong before out → AreAsLong after out
 long_more more long = record {
@@ -142,8 +133,8 @@ long_more more long = record {
 
 module _ {dimension status i : ℕ} {from to : Totals} {out before after : Levels} (statuses : List ℕ)
     (row : RowSays dimension status from to before after) (long : AreAsLong before out)
-    (done : NoneLacksRoom dimension out from i statuses) (there : i < length statuses) where
-  pub room_more : NoneLacksRoom dimension out to (i + 1) (set statuses i status)
+    (done : LevelsSuffice dimension out from i statuses) (there : i < length statuses) where
+  pub room_more : LevelsSuffice dimension out to (i + 1) (set statuses i status)
   room_more asked named room =
       below_more (λ j. slice_index (set statuses i status) j ≡ NO_ROOM → ⊥) i
       (λ j above told. done asked named (room_before asked out from to row.far room) j above

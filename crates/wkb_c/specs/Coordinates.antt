@@ -1,6 +1,6 @@
 -- The coordinates of a column's rows, in levels (GeoArrow: a geometry has parts, a part has rings, a ring has
 -- coordinates). A single is a point, a line string or a polygon; a point and a line string are one ring.
-use Rattle.std.specs.Prelude.{◌≡◌, ℕ, zero, suc, ◌+◌, ◌*◌, ◌<◌, ◌≤◌, List, [], ◌∷◌, length, sum, flat_map}
+use Rattle.std.specs.Prelude.{◌≡◌, ℕ, zero, suc, ◌+◌, ◌*◌, ◌≤◌, List, [], ◌∷◌, length, sum, flat_map}
 use Rattle.std.specs.Prelude.{Option, Some, None, ◌==◌, if◌then◌else◌, slice_index}
 use lib.Seq.{sets}
 use Rattle.wkb_geom.specs.declared.common.Dimension.{Dimension}
@@ -12,7 +12,7 @@ use Rattle.wkb_geom.specs.Spellings.{Spelling}
 use Rattle.wkb_geom.specs.Values.{Coordinate, Value, point, line_string, polygon}
 use Rattle.wkb_c.specs.Columns.{IsRow, LacksRow, IsRefusedWith}
 use Rattle.wkb_c.specs.declared.column.Column.{Column}
-use Rattle.wkb_c.specs.RowItems.{end_of}
+use Rattle.wkb_c.specs.RowItems.{end_of, NoneLacksRoom}
 use Rattle.wkb_c.specs.Subjects.{Subject, whole, ring, dimension_in, coordinates_in, subjects}
 use Rattle.wkb_c.specs.declared.coordinates.Totals.{Totals}
 use Rattle.wkb_c.specs.declared.status.TheConstants.{OK, NO_ROOM, UNKNOWN_OPTION}
@@ -154,7 +154,7 @@ AreColumnCoordinates c dimension statuses row_ends out (suc i) at now =
     × (slice_index row_ends i ≡ at.singles)))
 
 -- with room up to here in the dimension of this number none of the rows below a number lacks room
-abbrev pub NoneLacksRoom : ℕ → Levels → Totals → ℕ → List ℕ → Type 0
-NoneLacksRoom dimension out to rows statuses =
-    (asked : Dimension) → dimension_named dimension ≡ Some asked → HasRoomUpTo asked out to
-    → (i : ℕ) → i < rows → slice_index statuses i ≡ NO_ROOM → ⊥
+abbrev pub LevelsSuffice : ℕ → Levels → Totals → ℕ → List ℕ → Type 0
+LevelsSuffice dimension out to rows statuses =
+    (asked : Dimension) → dimension_named dimension ≡ Some asked
+    → NoneLacksRoom (HasRoomUpTo asked out to) rows statuses

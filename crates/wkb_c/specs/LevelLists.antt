@@ -5,7 +5,7 @@ use Rattle.wkb_check.specs.Bounded.{HasGeometry}
 use Rattle.wkb_check.specs.Public.{DescribesFront}
 use Rattle.wkb_check.specs.declared.answer.Summary.{Summary}
 use Rattle.wkb_c.specs.Coordinates.{Levels, levels, HasRoomUpTo, totals_after, with_levels, IsCoordinatesRow}
-use Rattle.wkb_c.specs.Coordinates.{ArePut, AreColumnCoordinates, NoneLacksRoom}
+use Rattle.wkb_c.specs.Coordinates.{ArePut, AreColumnCoordinates, LevelsSuffice}
 use Rattle.wkb_c.specs.RowItems.{rows_of}
 use Rattle.wkb_c.specs.Subjects.{subjects}
 use Rattle.wkb_c.specs.declared.column.Column.{Column}
@@ -49,6 +49,6 @@ AreLevels c dimension statuses row_ends at before now =
     AreColumnCoordinates c dimension statuses row_ends (levels_of before) (rows_of statuses row_ends) at (levels_of now)
 
 -- with room up to here in the dimension of this number no row lacks room
-abbrev pub NoRowLacksRoom : ℕ → LevelSlices → Totals → List ℕ → List ℕ → Type 0
-NoRowLacksRoom dimension out to statuses row_ends =
-    NoneLacksRoom dimension (levels_of out) to (rows_of statuses row_ends) statuses
+abbrev pub TotalsSuffice : ℕ → LevelSlices → Totals → List ℕ → List ℕ → Type 0
+TotalsSuffice dimension out to statuses row_ends =
+    LevelsSuffice dimension (levels_of out) to (rows_of statuses row_ends) statuses

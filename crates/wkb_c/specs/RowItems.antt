@@ -63,6 +63,14 @@ abbrev pub KeepsAfter : {A : Type 0} → ℕ → List ℕ → List ℕ → List 
 KeepsAfter rows statuses ends before after =
     (k : ℕ) → ((i : ℕ) → i < rows → slice_index statuses i ≡ OK → slice_index ends i ≤ k) → drop k after ≡ drop k before
 
+-- with this room none of the rows below this number lacks room
+abbrev pub NoneLacksRoom : Type 0 → ℕ → List ℕ → Type 0
+NoneLacksRoom Room rows statuses = Room → (i : ℕ) → i < rows → slice_index statuses i ≡ NO_ROOM → ⊥
+
+-- with room up to the end of the last of these rows none of them lacks room
+abbrev pub LastEndSuffices : {A : Type 0} → ℕ → List ℕ → List ℕ → List A → Type 0
+LastEndSuffices rows statuses ends out = NoneLacksRoom (start_at 0 ends rows ≤ length out) rows statuses
+
 -- from this index on nothing has changed
 abbrev pub KeepsFrom : {A : Type 0} → ℕ → List A → List A → Type 0
 KeepsFrom n before after = drop n after ≡ drop n before

@@ -4,7 +4,7 @@ ghost use Rattle.std.specs.Prelude.{◌≡◌, ◌+◌, ◌<◌, ◌^◌, length
 ghost use Rattle.wkb_c.specs.Classes.{FitsByte};
 ghost use Rattle.wkb_c.specs.Columns.{Reach};
 ghost use Rattle.wkb_check.specs.Public.{DescribesFront};
-ghost use Rattle.wkb_c.specs.LevelLists.{PutsFound, PutsRow, AreLevels, NoRowLacksRoom, AreSameSlices};
+ghost use Rattle.wkb_c.specs.LevelLists.{PutsFound, PutsRow, AreLevels, TotalsSuffice, AreSameSlices};
 ghost use Rattle.wkb_c.specs.RowItems.{KeepsFrom, rows_of};
 
 use crate::column::{Column, check_row};
@@ -85,7 +85,7 @@ pub extern "C" fn wkb_raw_column_coordinates(
     statuses: &mut [u8],
 )
     ensures each { AreLevels column.now dimension statuses.new row_ends.new totals.new out.old out.new }
-    ensures room { NoRowLacksRoom dimension out.old totals.new statuses.new row_ends.new }
+    ensures room { TotalsSuffice dimension out.old totals.new statuses.new row_ends.new }
     ensures same_slices { AreSameSlices out.old out.new }
     ensures statuses_kept { KeepsFrom (rows_of statuses.old row_ends.old) statuses.old statuses.new }
     ensures row_ends_kept { KeepsFrom (rows_of statuses.old row_ends.old) row_ends.old row_ends.new }

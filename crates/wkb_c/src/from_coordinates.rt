@@ -4,7 +4,7 @@ ghost use Rattle.std.specs.Prelude.{◌≡◌, ◌+◌, ◌<◌, ◌==◌, lengt
 ghost use Rattle.wkb_c.specs.Classes.{FitsByte};
 ghost use Rattle.wkb_c.specs.LevelRows.{AreLevelEncodings, IsLevelStep, level_rows};
 ghost use Rattle.wkb_c.specs.LevelTargets.{kind_named, levels_in, target_asked, options_of, Ready};
-ghost use Rattle.wkb_c.specs.RowItems.{KeepsAfter, KeepsFrom};
+ghost use Rattle.wkb_c.specs.RowItems.{KeepsAfter, KeepsFrom, LastEndSuffices};
 ghost use Rattle.wkb_levels.specs.declared.ends.Ends.TheVariants.{Each, At};
 ghost use Rattle.wkb_levels.specs.EndLists.{ends_of};
 
@@ -161,6 +161,7 @@ pub extern "C" fn wkb_raw_column_from_coordinates(
     statuses: &mut [u8],
 )
     ensures each { AreLevelEncodings kind dimension options.now column.now statuses.new ends.new out.new }
+    ensures room { LastEndSuffices (level_rows column.now statuses.old ends.old) statuses.new ends.new out.old }
     ensures out_kept { KeepsAfter (level_rows column.now statuses.old ends.old) statuses.new ends.new
         out.old out.new }
     ensures statuses_kept { KeepsFrom (level_rows column.now statuses.old ends.old) statuses.old statuses.new }

@@ -1,5 +1,5 @@
 use Rattle.wkb_c.specs.Columns.{Reach}
-use Rattle.wkb_c.specs.Coordinates.{AreColumnCoordinates, NoneLacksRoom}
+use Rattle.wkb_c.specs.Coordinates.{AreColumnCoordinates, LevelsSuffice}
 use Rattle.wkb_c.specs.LevelLists.{levels_of, AreSameSlices}
 use Rattle.wkb_c.proofs.RowItems.{AreSet}
 use Rattle.wkb_c.proofs.Levels.{AreSmall}
@@ -12,7 +12,7 @@ invariant-loop-i l = record {
   lists : AreSet l.i-end l.initial.statuses l.statuses l.initial.row_ends l.row_ends;
   done : AreColumnCoordinates l.column l.dimension l.statuses l.row_ends
       (levels_of l.initial.out) l.i l.at (levels_of l.out);
-  room : NoneLacksRoom l.dimension (levels_of l.initial.out) l.at l.i l.statuses;
+  room : LevelsSuffice l.dimension (levels_of l.initial.out) l.at l.i l.statuses;
   small : AreSmall l.at;
   long : AreAsLong (levels_of l.out) (levels_of l.initial.out);
   same_slices : AreSameSlices l.initial.out l.out;

@@ -1,4 +1,6 @@
 use Rattle.wkb_c.proofs.Common.{arith}
+use Rattle.wkb_c.proofs.LastEnds.{last_end_suffices}
+use Rattle.wkb_c.proofs.Reasons.{tables_tell_other}
 use Rattle.wkb_c.proofs.RowItems.{row_done, set_more}
 use Rattle.wkb_c.proofs.column_items.wkb_raw_column_parts.Goals as goal
 
@@ -20,3 +22,9 @@ pub returns-clause-each : goal.returns-clause-each
 returns-clause-each c =
     let l = c.loop-i in λ i below.
     l.invariant.done.each i (omega (arith, below, c.loop-i-test.false, c.min-i-end.ensures, l.invariant.lists))
+
+pub returns-clause-room : goal.returns-clause-room
+returns-clause-room c =
+    let l = c.loop-i in
+    last_end_suffices (tables_tell_other c.args.column.now) l.invariant.done
+    (omega (arith, c.loop-i-test.false, c.min-i-end.ensures)) (omega arith)

@@ -3,7 +3,9 @@ use Rattle.wkb_levels.specs.Cuts.{start_at}
 use Rattle.wkb_levels.specs.EndLists.{ends_of}
 use Rattle.wkb_c.specs.LevelRows.{HasLevelEncoding, LacksLevels}
 use Rattle.wkb_c.specs.RowItems.{IsRowAnswer}
+use Rattle.wkb_c.proofs.LastEnds.{last_end_suffices}
 use Rattle.wkb_c.proofs.LevelRows.{ready_first}
+use Rattle.wkb_c.proofs.Reasons.{levels_tell_other}
 use Rattle.wkb_c.proofs.RowItems.{set_first, set_more, rows_first, row_done}
 use Rattle.wkb_c.proofs.from_coordinates.wkb_raw_column_from_coordinates.Goals as goal
 
@@ -44,3 +46,15 @@ returns-clause-each c =
       c.len-rows.ensures ∙ ap (λ levels. length (ends_of levels.row_ends)) c.levels_of_column.ensures,
       l.invariant.lists,
     )))
+
+pub returns-clause-room : goal.returns-clause-room
+returns-clause-room c =
+    let l = c.loop-i in
+    last_end_suffices (levels_tell_other c.args.column.now c.target_of_numbers-target.result) l.invariant.done
+    (omega (
+      arith,
+      c.loop-i-test.false,
+      c.min.ensures,
+      c.min-i-end.ensures,
+      c.len-rows.ensures ∙ ap (λ levels. length (ends_of levels.row_ends)) c.levels_of_column.ensures,
+    )) (omega arith)
