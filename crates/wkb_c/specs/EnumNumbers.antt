@@ -1,7 +1,16 @@
 -- The numbers of the enums of wkb.h, which programs are compiled with.
-use Rattle.std.specs.Prelude.{◌≡◌, ℕ}
+use Rattle.std.specs.Prelude.{◌≡◌, ℕ, List, Option, Some}
+use Rattle.wkb_check.specs.declared.pieces.TheConstants.{RING}
+use Rattle.wkb_geom.specs.Codes.{thousands}
+use Rattle.wkb_geom.specs.Numbers.{order_byte}
+use Rattle.wkb_geom.specs.Values.{Coordinate, Values, kind, point, line_string, polygon, multi_point, multi_line_string}
+use Rattle.wkb_geom.specs.Values.{multi_polygon, collection}
+use Rattle.wkb_geom.specs.declared.common.Dimension.{Dimension}
+use Rattle.wkb_geom.specs.declared.common.Dimension.TheVariants.{Xy, Xyz, Xym, Xyzm}
+use Rattle.wkb_geom.specs.declared.common.Endianness.TheVariants.{BigEndian, LittleEndian}
 use Rattle.wkb_geom.specs.declared.error.Cause.{Cause}
 use Rattle.wkb_c.specs.Classes.{IsRefusalStatus, IsShortStatus}
+use Rattle.wkb_c.specs.Coordinates.{dimension_named}
 use Rattle.wkb_c.specs.Statuses.{cause_status, cause_fault}
 use Rattle.wkb_c.specs.declared.inputs.TheConstants.{FIRST, SECOND, DIFFERENT, EQUAL}
 use Rattle.wkb_c.specs.declared.options.TheConstants.{BIG_ENDIAN, LITTLE_ENDIAN, ISO, EWKB_OWN_SRID, EWKB_WITH_SRID}
@@ -18,7 +27,7 @@ pub record HaveStatusNumbers : Type 0 where
   pub no_room : NO_ROOM ≡ 2
   pub unknown_option : UNKNOWN_OPTION ≡ 3
   pub null_row : NULL_ROW ≡ 16
-  pub bad_offsets : BAD_OFFSETS ≡ 17
+  pub bad_offsemembers : BAD_OFFSETS ≡ 17
   pub bad_levels : BAD_LEVELS ≡ 18
   pub short_header : SHORT_HEADER ≡ 32
   pub invalid_byte_order : INVALID_BYTE_ORDER ≡ 33
@@ -38,6 +47,30 @@ pub record HaveOptionNumbers : Type 0 where
   pub ewkb_own_srid : EWKB_OWN_SRID ≡ 1
   pub ewkb_with_srid : EWKB_WITH_SRID ≡ 2
   pub ewkb_without_srid : EWKB_WITHOUT_SRID ≡ 3
+
+-- the kinds of parts
+pub record HaveKindNumbers : Type 0 where
+  pub ring : RING ≡ 0
+  pub point_is : (d : Dimension) (c : Option Coordinate) → kind (point d c) ≡ 1
+  pub line_string_is : (d : Dimension) (cs : List Coordinate) → kind (line_string d cs) ≡ 2
+  pub polygon_is : (d : Dimension) (rings : List (List Coordinate)) → kind (polygon d rings) ≡ 3
+  pub multi_point_is : (d : Dimension) (members : List (Option Coordinate)) → kind (multi_point d members) ≡ 4
+  pub multi_line_string_is : (d : Dimension) (members : List (List Coordinate)) → kind (multi_line_string d members) ≡ 5
+  pub multi_polygon_is : (d : Dimension) (members : List (List (List Coordinate))) → kind (multi_polygon d members) ≡ 6
+  pub collection_is : (d : Dimension) (members : Values) → kind (collection d members) ≡ 7
+
+-- their dimensions, whether reported or asked for
+pub record HaveDimensionNumbers : Type 0 where
+  pub xy : thousands Xy ≡ 0
+  pub xyz : thousands Xyz ≡ 1
+  pub xym : thousands Xym ≡ 2
+  pub xyzm : thousands Xyzm ≡ 3
+  pub named : (d : Dimension) → dimension_named (thousands d) ≡ Some d
+
+-- their byte orders
+pub record HaveOrderNumbers : Type 0 where
+  pub big : order_byte BigEndian ≡ BIG_ENDIAN
+  pub little : order_byte LittleEndian ≡ LITTLE_ENDIAN
 
 -- which of two inputs is refused, and whether they have one value
 pub record HaveInputNumbers : Type 0 where

@@ -1,14 +1,19 @@
 //! The numbers that C programs are compiled with.
 
 ghost use Rattle.wkb_c.specs.EnumNumbers.{HaveStatusNumbers, HaveOptionNumbers, HaveInputNumbers};
+ghost use Rattle.wkb_c.specs.EnumNumbers.{HaveKindNumbers, HaveDimensionNumbers, HaveOrderNumbers};
 ghost use Rattle.wkb_c.specs.EnumNumbers.{AreRefusals, OthersTellNoEnd};
 
-/// The constants have the numbers of `c/wkb.h`, and the statuses of refusals their classes.
+/// The constants, kinds, dimensions and byte orders have the numbers of `c/wkb.h`, and the statuses of refusals their
+/// classes.
 #[tactic(auto, using(crate::proofs::Telling::refusals, crate::proofs::Telling::others_tell_no_end))]
 pub fn numbers()
     ensures statuses { HaveStatusNumbers }
     ensures options { HaveOptionNumbers }
     ensures inputs { HaveInputNumbers }
+    ensures kinds { HaveKindNumbers }
+    ensures dimensions { HaveDimensionNumbers }
+    ensures orders { HaveOrderNumbers }
     ensures refusals { AreRefusals }
     ensures others_tell_no_end { OthersTellNoEnd }
 {}
