@@ -1,7 +1,7 @@
 //! The coordinates of a geometry, in levels: it has singles, a single has rings, a ring has coordinates.
 
 ghost use Rattle.std.specs.Prelude.{◌≡◌, ◌+◌, ◌*◌, ◌^◌, ◌<◌, ◌≤◌, ◌&&◌, length, drop, nat_lt, sum};
-ghost use Rattle.std.specs.Prelude.{IsTrue, true, false, IfSome, List, ℕ};
+ghost use Rattle.std.specs.Prelude.{IsTrue, true, false, IfSome, is_some, List, ℕ};
 ghost use Rattle.wkb_geom.specs.declared.code.TheConstants.{POLYGON};
 ghost use lib.Seq.{sets};
 ghost use Rattle.wkb_geom.specs.Dimensions.{width};
@@ -225,7 +225,8 @@ impl Totals {
     /// The totals of a geometry that is no collection, by what the check found of it and its first piece.
     #[inline(always)]
     fn of_plain(found: &Summary, first: &Piece) -> Option<Totals>
-        ensures { IfSome result (λ own. (input : List ℕ) → DescribesFront input found.now
+        ensures some { is_some result ≡ nat_lt first.now.kind GEOMETRY_COLLECTION }
+        ensures totals { IfSome result (λ own. (input : List ℕ) → DescribesFront input found.now
             → IsPieceAt input 0 first.now → (g : HasGeometry input) → AreTotals own (subjects g.spelled g.value)) }
     {
         if first.kind >= GEOMETRY_COLLECTION {
