@@ -16,7 +16,7 @@ fn main() {
     let rows = lines.encode(Kind::LineString, Dimension::Xy, &options);
     for row in 0..rows.ends.len() {
         match rows.row(row) {
-            Some(encoding) => print("line string", encoding),
+            Some(encoding) => print("linestring", encoding),
             None => println!("{}", rows.statuses[row]),
         }
     }
