@@ -4,18 +4,37 @@
 
 /* What the proved calls take for granted of the compiler and its options: structs as they were proved, pointers of 64
  * bits, little endian. */
-#define IS_LAID(TYPE, SIZE, LAST, AT) \
-  _Static_assert(sizeof(TYPE) == (SIZE) && offsetof(TYPE, LAST) == (AT), "another layout of " #TYPE)
+#define IS_LAID(TYPE, SIZE, PLACES) _Static_assert(sizeof(TYPE) == (SIZE) && (PLACES), "another layout of " #TYPE)
+#define AT(TYPE, OFFSET, MEMBER) (offsetof(TYPE, MEMBER) == (OFFSET))
 _Static_assert(sizeof(void *) == 8 && sizeof(size_t) == 8, "another size of pointers");
-IS_LAID(wkb_found, 64, order, 60);
-IS_LAID(wkb_fault, 40, status, 36);
-IS_LAID(wkb_options, 12, srid, 8);
-IS_LAID(wkb_part, 64, order, 60);
-IS_LAID(wkb_box, 96, m, 72);
-IS_LAID(wkb_raw_column, 64, validity_offset, 56);
-IS_LAID(wkb_raw_level_column, 112, validity_offset, 104);
-IS_LAID(wkb_raw_level_slices, 48, single_room, 40);
-IS_LAID(wkb_raw_totals, 24, singles, 16);
+IS_LAID(wkb_found, 64, AT(wkb_found, 0, size) && AT(wkb_found, 8, parts) && AT(wkb_found, 16, coordinates) &&
+        AT(wkb_found, 24, offset) && AT(wkb_found, 32, count) && AT(wkb_found, 40, srid) &&
+        AT(wkb_found, 44, has_srid) && AT(wkb_found, 48, kind) && AT(wkb_found, 52, dimension) &&
+        AT(wkb_found, 56, width) && AT(wkb_found, 60, order));
+IS_LAID(wkb_fault, 40, AT(wkb_fault, 0, part) && AT(wkb_fault, 8, offset) && AT(wkb_fault, 16, end) &&
+        AT(wkb_fault, 24, len) && AT(wkb_fault, 32, code) && AT(wkb_fault, 36, status));
+IS_LAID(wkb_options, 12, AT(wkb_options, 0, order) && AT(wkb_options, 4, form) && AT(wkb_options, 8, srid));
+IS_LAID(wkb_part, 64, AT(wkb_part, 0, begin) && AT(wkb_part, 8, end) && AT(wkb_part, 16, offset) &&
+        AT(wkb_part, 24, count) && AT(wkb_part, 32, next) && AT(wkb_part, 40, srid) && AT(wkb_part, 44, has_srid) &&
+        AT(wkb_part, 48, kind) && AT(wkb_part, 52, dimension) && AT(wkb_part, 56, width) && AT(wkb_part, 60, order));
+IS_LAID(wkb_range, 24, AT(wkb_range, 0, least) && AT(wkb_range, 8, greatest) && AT(wkb_range, 16, count));
+IS_LAID(wkb_box, 96, AT(wkb_box, 0, x) && AT(wkb_box, 24, y) && AT(wkb_box, 48, z) && AT(wkb_box, 72, m));
+IS_LAID(wkb_raw_column, 64, AT(wkb_raw_column, 0, bytes) && AT(wkb_raw_column, 8, bytes_len) &&
+        AT(wkb_raw_column, 16, offsets) && AT(wkb_raw_column, 24, offsets_len) && AT(wkb_raw_column, 32, offset_size)
+        && AT(wkb_raw_column, 40, validity) && AT(wkb_raw_column, 48, validity_len) &&
+        AT(wkb_raw_column, 56, validity_offset));
+IS_LAID(wkb_raw_level_column, 112, AT(wkb_raw_level_column, 0, words) && AT(wkb_raw_level_column, 8, word_count) &&
+        AT(wkb_raw_level_column, 16, ring_ends) && AT(wkb_raw_level_column, 24, ring_end_count) &&
+        AT(wkb_raw_level_column, 32, rings) && AT(wkb_raw_level_column, 40, single_ends) &&
+        AT(wkb_raw_level_column, 48, single_end_count) && AT(wkb_raw_level_column, 56, singles) &&
+        AT(wkb_raw_level_column, 64, row_ends) && AT(wkb_raw_level_column, 72, row_end_count) &&
+        AT(wkb_raw_level_column, 80, rows) && AT(wkb_raw_level_column, 88, validity) &&
+        AT(wkb_raw_level_column, 96, validity_len) && AT(wkb_raw_level_column, 104, validity_offset));
+IS_LAID(wkb_raw_level_slices, 48, AT(wkb_raw_level_slices, 0, words) && AT(wkb_raw_level_slices, 8, words_room) &&
+        AT(wkb_raw_level_slices, 16, ring_ends) && AT(wkb_raw_level_slices, 24, ring_room) &&
+        AT(wkb_raw_level_slices, 32, single_ends) && AT(wkb_raw_level_slices, 40, single_room));
+IS_LAID(wkb_raw_totals, 24, AT(wkb_raw_totals, 0, coordinates) && AT(wkb_raw_totals, 8, rings) &&
+        AT(wkb_raw_totals, 16, singles));
 #if defined __BYTE_ORDER__ && __BYTE_ORDER__ != __ORDER_LITTLE_ENDIAN__
 #error "the proved calls are for little endian"
 #endif

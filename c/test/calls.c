@@ -1,29 +1,5 @@
-/* wkb_check, wkb_write, wkb_same and wkb_parts on worked cases, with their outputs and null, and the structs as the
- * library lays them out. */
+/* wkb_check, wkb_write, wkb_same and wkb_parts on worked cases, with their outputs and null. */
 #include "shared.h"
-
-/* The offset in bytes of a member, which ends where the next begins. */
-#define IS_AT(type, member, offset) (offsetof(type, member) == (offset))
-_Static_assert(sizeof(wkb_found) == 64 && IS_AT(wkb_found, size, 0) && IS_AT(wkb_found, parts, 8) &&
-                   IS_AT(wkb_found, coordinates, 16) && IS_AT(wkb_found, offset, 24) && IS_AT(wkb_found, count, 32) &&
-                   IS_AT(wkb_found, srid, 40) && IS_AT(wkb_found, has_srid, 44) && IS_AT(wkb_found, kind, 48) &&
-                   IS_AT(wkb_found, dimension, 52) && IS_AT(wkb_found, width, 56) && IS_AT(wkb_found, order, 60),
-               "wkb_found");
-_Static_assert(sizeof(wkb_fault) == 40 && IS_AT(wkb_fault, part, 0) && IS_AT(wkb_fault, offset, 8) &&
-                   IS_AT(wkb_fault, end, 16) && IS_AT(wkb_fault, len, 24) && IS_AT(wkb_fault, code, 32) &&
-                   IS_AT(wkb_fault, status, 36), "wkb_fault");
-_Static_assert(sizeof(wkb_options) == 12 && IS_AT(wkb_options, order, 0) && IS_AT(wkb_options, form, 4) &&
-                   IS_AT(wkb_options, srid, 8), "wkb_options");
-_Static_assert(sizeof(wkb_part) == 64 && IS_AT(wkb_part, begin, 0) && IS_AT(wkb_part, end, 8) &&
-                   IS_AT(wkb_part, offset, 16) && IS_AT(wkb_part, count, 24) && IS_AT(wkb_part, next, 32) &&
-                   IS_AT(wkb_part, srid, 40) && IS_AT(wkb_part, has_srid, 44) && IS_AT(wkb_part, kind, 48) &&
-                   IS_AT(wkb_part, dimension, 52) && IS_AT(wkb_part, width, 56) && IS_AT(wkb_part, order, 60),
-               "wkb_part");
-_Static_assert(sizeof(wkb_range) == 24 && IS_AT(wkb_range, least, 0) && IS_AT(wkb_range, greatest, 8) &&
-                   IS_AT(wkb_range, count, 16), "wkb_range");
-_Static_assert(sizeof(wkb_box) == 96 && IS_AT(wkb_box, x, 0) && IS_AT(wkb_box, y, 24) && IS_AT(wkb_box, z, 48) &&
-                   IS_AT(wkb_box, m, 72), "wkb_box");
-_Static_assert(sizeof(wkb_status) == 4 && sizeof(size_t) == 8, "statuses and sizes");
 
 /* An input returns what it must, and nothing else is written. */
 void check_is_as_expected(const answer *a, const uint8_t *bytes, size_t len) {
