@@ -4,7 +4,8 @@ ghost use Rattle.std.specs.Prelude.{◌≡◌, ◌+◌, ◌<◌, ◌==◌, lengt
 ghost use Rattle.wkb_c.specs.Classes.{FitsByte};
 ghost use Rattle.wkb_c.specs.LevelRows.{AreLevelEncodings, IsLevelStep, level_rows};
 ghost use Rattle.wkb_c.specs.LevelTargets.{kind_named, levels_in, target_asked, options_of, Ready};
-ghost use Rattle.wkb_c.specs.RowItems.{KeepsAfter, KeepsFrom, LastEndSuffices};
+ghost use Rattle.wkb_c.specs.RowItems.{KeepsAfter, KeepsFrom};
+ghost use Rattle.wkb_c.specs.RowItems.{LastEndSuffices};
 ghost use Rattle.wkb_levels.specs.declared.ends.Ends.TheVariants.{Each, At};
 ghost use Rattle.wkb_levels.specs.EndLists.{ends_of};
 
