@@ -117,12 +117,14 @@ fn target_of_numbers(kind: u32, dimension: u32, options: &Options) -> Option<Lev
 /// Writes row i from an index on. Returns its status, and how long its encoding is. The floor is as of `Levels::row`.
 fn write_level_row(
     column: &LevelColumn<'_>,
+    levels: &Levels<'_>,
     target: &Option<LevelTarget>,
     i: usize,
     floor: &mut Place,
     out: &mut [u8],
     start: u64,
 ) -> (u32, u64)
+    requires levels { levels.now ≡ levels_in column.now }
     requires index { i < length (ends_of (levels_in column.now).row_ends) }
     requires before { Ready column.now target.now i floor.old }
     ensures ready { Ready column.now target.now (i + 1) floor.new }
@@ -133,7 +135,6 @@ fn write_level_row(
     let Some(target) = target else {
         return (if null { NULL_ROW } else { UNKNOWN_OPTION }, 0);
     };
-    let levels = levels_of_column(column);
     if null {
         levels.pass(target.dim, i, floor);
         return (NULL_ROW, 0);
@@ -171,11 +172,12 @@ pub extern "C" fn wkb_raw_column_from_coordinates(
     ensures as_many_ends { length ends.new ≡ length ends.old }
 {
     let target = target_of_numbers(kind, dimension, options);
-    let rows = levels_of_column(column).row_ends.len();
+    let levels = levels_of_column(column);
+    let rows = levels.row_ends.len();
     let mut at = 0;
     let mut floor = Place::front();
     for i in 0..statuses.len().min(ends.len()).min(rows) {
-        let (status, size) = write_level_row(column, &target, i, &mut floor, out, at);
+        let (status, size) = write_level_row(column, &levels, &target, i, &mut floor, out, at);
         at = at.saturating_add(size);
         statuses[i] = status as u8;
         ends[i] = at;

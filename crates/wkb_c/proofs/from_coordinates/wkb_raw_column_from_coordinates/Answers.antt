@@ -43,7 +43,7 @@ returns-clause-each c =
       c.loop-i-test.false,
       c.min.ensures,
       c.min-i-end.ensures,
-      c.len-rows.ensures ∙ ap (λ levels. length (ends_of levels.row_ends)) c.levels_of_column.ensures,
+      c.len-rows.ensures ∙ ap (λ levels. length (ends_of levels.row_ends)) c.levels_of_column-levels.ensures,
       l.invariant.lists,
     )))
 
@@ -56,5 +56,5 @@ returns-clause-room c =
       c.loop-i-test.false,
       c.min.ensures,
       c.min-i-end.ensures,
-      c.len-rows.ensures ∙ ap (λ levels. length (ends_of levels.row_ends)) c.levels_of_column.ensures,
+      c.len-rows.ensures ∙ ap (λ levels. length (ends_of levels.row_ends)) c.levels_of_column-levels.ensures,
     )) (omega arith)

@@ -7,20 +7,20 @@ use Rattle.wkb_c.proofs.from_coordinates.write_level_row.Goals as goal
 pub returns-in-Whole-clause-step : goal.returns-in-Whole-clause-step
 returns-in-Whole-clause-step c =
     written_step c.in-Some.target c.in-Some.is (sym c.is_unset-null.ensures ∙ c.if-null-2.false) _
-    c.levels_of_column-levels.ensures (Whole c.in-Whole.size)
+    c.requires.levels (Whole c.in-Whole.size)
     (lent_rest c.args.out.now c.write_row.new.out c.min-at.result c.min-at.ensures c.write_row.auto.out)
     c.in-Whole.ensures.written
 
 pub returns-in-LacksRoom-clause-step : goal.returns-in-LacksRoom-clause-step
 returns-in-LacksRoom-clause-step c =
     written_step c.in-Some.target c.in-Some.is (sym c.is_unset-null.ensures ∙ c.if-null-2.false) _
-    c.levels_of_column-levels.ensures (LacksRoom c.in-LacksRoom.size)
+    c.requires.levels (LacksRoom c.in-LacksRoom.size)
     (lent_rest c.args.out.now c.write_row.new.out c.min-at.result c.min-at.ensures c.write_row.auto.out)
     c.in-LacksRoom.ensures.written
 
 pub returns-in-Unfit-clause-step : goal.returns-in-Unfit-clause-step
 returns-in-Unfit-clause-step c =
     written_step c.in-Some.target c.in-Some.is (sym c.is_unset-null.ensures ∙ c.if-null-2.false) _
-    c.levels_of_column-levels.ensures Unfit
+    c.requires.levels Unfit
     (lent_rest c.args.out.now c.write_row.new.out c.min-at.result c.min-at.ensures c.write_row.auto.out)
     c.in-Unfit.ensures.written
