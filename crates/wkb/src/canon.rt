@@ -4,7 +4,7 @@
 ghost use Rattle.std.specs.Prelude.{◌≡◌, ◌⊎◌, IfOk, IfErr, MatchBool};
 ghost use Rattle.wkb_geom.specs.Errors.{IsMemory};
 ghost use Rattle.wkb_read.specs.Memory.{IsNotMemory};
-ghost use Rattle.wkb_geom.specs.Encodings.{IsRewriting, IsRewritingWithSrid};
+ghost use Rattle.wkb_geom.specs.Encodings.{IsRewritingWithSrid};
 ghost use Rattle.wkb_read.specs.Reads.{IsRefusal};
 ghost use Rattle.wkb_check.specs.Public.{DescribesFront, DescribesOnlyFront};
 ghost use Rattle.wkb_rewrite.specs.Copies.{copied_encoding};
@@ -16,7 +16,7 @@ use wkb_check::{Summary, check};
 use wkb_geom::error::{WkbError, WkbResult};
 use wkb_geom::header::MAX_HEADER_SIZE;
 use wkb_geom::{Endianness, Form};
-use wkb_rewrite::{Copied, Target, encoded_size, have_one_value, put_pieces};
+use wkb_rewrite::{Copied, encoded_size, have_one_value, put_pieces};
 use wkb_write::WriteOptions;
 
 /// The encoding under the options of the geometry at the front of the bytes.
@@ -33,12 +33,8 @@ pub fn canonical(alloc: Global, buf: &[u8], options: &WriteOptions) -> WkbResult
     ensures err { IfErr result (λ e. IsMemory e ⊎ IsRefusedUnder options.now buf.now e) }
     ensures memory { IfErr result (λ e. IsMemory e → IsAccepted buf.now) }
 {
-    let target = Target {
-        order: options.endianness,
-        form: options.form,
-    };
-    let found = summary_or_error(buf)?;
-    rewritten(alloc, buf, &found, target)
+    let summary = summary_or_error(buf)?;
+    rewritten(alloc, buf, &summary, *options)
 }
 
 /// The encoding under EWKB with the geometry's own SRID, where it has one.
@@ -50,8 +46,11 @@ pub fn canonical_with_srid(alloc: Global, buf: &[u8], order: Endianness) -> WkbR
     ensures memory { IfErr result (λ e. IsMemory e → IsAccepted buf.now) }
 {
     let found = summary_or_error(buf)?;
-    let form = Form::Ewkb { srid: found.srid };
-    rewritten(alloc, buf, &found, Target { order, form })
+    let options = WriteOptions {
+        endianness: order,
+        form: Form::Ewkb { srid: found.srid },
+    };
+    rewritten(alloc, buf, &found, options)
 }
 
 /// Whether two inputs begin with geometries of the same value, SRIDs aside.
@@ -102,16 +101,21 @@ fn copied_to_vec(alloc: Global, copied: &Copied) -> WkbResult<Vec<u8>>
 }
 
 /// The encoding of the geometry in which the check found this.
-fn rewritten(alloc: Global, buf: &[u8], found: &Summary, target: Target) -> WkbResult<Vec<u8>>
+fn rewritten(
+    alloc: Global,
+    buf: &[u8],
+    found: &Summary,
+    options: WriteOptions,
+) -> WkbResult<Vec<u8>>
     requires { DescribesFront buf.now found.now }
     ensures ok { IfOk result
-        (λ encoding. IsRewriting target.order target.form buf.now encoding.items) }
+        (λ encoding. IsRewritingUnder options buf.now encoding.items) }
     ensures err { IfErr result IsMemory }
 {
-    if let Some(copied) = Copied::of(buf, found, target) {
+    if let Some(copied) = Copied::of(buf, found, options) {
         return copied_to_vec(alloc, &copied);
     }
-    let mut encoding = vec![in alloc; 0; encoded_size(buf, found, target.form)]?;
-    put_pieces(buf, target, encoding.as_mut_slice());
+    let mut encoding = vec![in alloc; 0; encoded_size(buf, found, options.form)]?;
+    put_pieces(buf, options, encoding.as_mut_slice());
     Ok(encoding)
 }

@@ -10,10 +10,10 @@ use Rattle.wkb_geom.specs.Encodings.{polygon_encoding, members_encoding}
 use Rattle.wkb_geom.specs.Geometries.{geometry_of, Geometry, point}
 use Rattle.wkb_check.specs.Public.{DescribesFront}
 use Rattle.wkb_check.specs.declared.answer.Summary.{Summary}
-use Rattle.wkb_rewrite.specs.declared.target.Target.{Target}
+use Rattle.wkb_sink.specs.declared.options.WriteOptions.{WriteOptions}
 use Rattle.wkb_c.specs.Columns.{IsRow}
 use Rattle.wkb_c.specs.declared.column.Column.{Column}
-use Rattle.wkb_c.specs.Requests.{IsRequested, request_of, target_for}
+use Rattle.wkb_c.specs.Requests.{IsRequested, request_of, options_for}
 use Rattle.wkb_c.specs.RowItems.{IsRowStep, RowHas, RowFails}
 use Rattle.wkb_c.specs.Writings.{IsHandedOut, FindsNoRoom, HasEncoding, FailsToWrite}
 use Rattle.wkb_c.specs.declared.options.Options.{Options}
@@ -30,7 +30,7 @@ some_encoding order form _ = omega arith
 
 some_requested : (request : Request) (input out : List ℕ) → IsRequested request input out → 0 < length out
 some_requested (Encoding o) input out h =
-    omega (arith, ap length h.written, some_encoding o.order o.form (geometry_of h.t))
+    omega (arith, ap length h.written, some_encoding o.endianness o.form (geometry_of h.t))
 some_requested (OwnSrid order) input out h =
     omega (arith, ap length h.written, some_encoding order (Ewkb (header h.s).srid) (geometry_of h.t))
 
@@ -38,18 +38,18 @@ some_requested (OwnSrid order) input out h =
 pub is_asked : (o : Options) (request : Request) → request_of o ≡ Some request → request_of o ≢ None
 is_asked o request asked none = let never : Some request ≡ None = sym asked ∙ none in absurd (cc)
 
--- the encoding of a target is what is asked for
-module _ (request : Request) (input : List ℕ) (found : Summary) (d : DescribesFront input found) (target : Target)
-    (target_is : target ≡ target_for request found.srid) where
+-- the encoding under the options of a request is what is asked for
+module _ (request : Request) (input : List ℕ) (found : Summary) (d : DescribesFront input found)
+    (options : WriteOptions) (options_are : options ≡ options_for request found.srid) where
   abbrev bytes : List ℕ
-  bytes = encoding target.order target.form (geometry_of d.value)
+  bytes = encoding options.endianness options.form (geometry_of d.value)
 
-  requested_of : (request : Request) → target ≡ target_for request found.srid → IsRequested request input bytes
+  requested_of : (request : Request) → options ≡ options_for request found.srid → IsRequested request input bytes
   requested_of (Encoding own) is =
-      let written = ap (λ z. encoding z.order z.form (geometry_of d.value)) is in
+      let written = ap (λ z. encoding z.endianness z.form (geometry_of d.value)) is in
       record { s = d.spelled; t = d.value; rest = d.rest; front = d.front; written = written }
   requested_of (OwnSrid order) is =
-      let written = ap (λ z. encoding z.order z.form (geometry_of d.value)) is
+      let written = ap (λ z. encoding z.endianness z.form (geometry_of d.value)) is
       ∙ ap (λ z. encoding order (Ewkb z) (geometry_of d.value)) d.described.srid in
       record { s = d.spelled; t = d.value; rest = d.rest; front = d.front; written = written }
 
@@ -57,7 +57,7 @@ module _ (request : Request) (input : List ℕ) (found : Summary) (d : Describes
       → IsHandedOut request input out new size
   handed_out out new size size_is fit put = record {
     encoding = bytes;
-    is_requested = requested_of request target_is;
+    is_requested = requested_of request options_are;
     held = record {
       count_is = size_is;
       whole =
@@ -69,7 +69,7 @@ module _ (request : Request) (input : List ℕ) (found : Summary) (d : Describes
       → FindsNoRoom request input out size
   finds_no_room out size size_is short = record {
     encoding = bytes;
-    is_requested = requested_of request target_is;
+    is_requested = requested_of request options_are;
     lacks = record { count_is = size_is; short = omega (arith, short, size_is) };
   }
 

@@ -4,7 +4,6 @@ use Rattle.wkb_geom.specs.declared.common.Dimension.{Dimension}
 use Rattle.wkb_geom.specs.declared.code.TheConstants.{POINT, LINE_STRING, POLYGON, MULTI_POINT, MULTI_LINE_STRING}
 use Rattle.wkb_geom.specs.declared.code.TheConstants.{MULTI_POLYGON}
 use Rattle.wkb_geom.specs.Dimensions.{as_dimensions}
-use Rattle.wkb_sink.specs.declared.options.WriteOptions.{WriteOptions}
 use Rattle.wkb_levels.specs.declared.ends.Ends.TheVariants.{Each, At}
 use Rattle.wkb_levels.specs.declared.levels.Levels.{Levels}
 use Rattle.wkb_levels.specs.declared.levels.Place.{Place}
@@ -16,7 +15,7 @@ use Rattle.wkb_c.specs.declared.from_coordinates.LevelTarget.{LevelTarget}
 use Rattle.wkb_c.specs.declared.options.Options.{Options}
 use Rattle.wkb_c.specs.declared.options.Request.{Request}
 use Rattle.wkb_c.specs.Coordinates.{dimension_named}
-use Rattle.wkb_c.specs.Requests.{request_of, target_for}
+use Rattle.wkb_c.specs.Requests.{request_of, options_for}
 
 -- the levels of a column; a level without ends has one item of the next level each
 abbrev pub levels_in : LevelColumn → Levels
@@ -36,15 +35,10 @@ kind_named n =
     (if n == MULTI_LINE_STRING then Some kinds.MultiLineString else
     (if n == MULTI_POLYGON then Some kinds.MultiPolygon else None)))))
 
--- the options of a request for a geometry that has no SRID of its own
-abbrev pub options_of : Request → WriteOptions
-options_of request =
-    record { endianness = (target_for request None).order; form = (target_for request None).form }
-
--- what a kind, a dimension and a request ask for together
+-- what a kind, a dimension and a request ask for together; levels have no SRID of their own
 abbrev pub target_with : Option Kind → Option Dimension → Option Request → Option LevelTarget
 target_with (Some kind) (Some d) (Some request) =
-    Some (record { kind = kind; dim = as_dimensions d; options = options_of request })
+    Some (record { kind = kind; dim = as_dimensions d; options = options_for request None })
 target_with (Some kind) (Some d) None = None
 target_with (Some kind) None request = None
 target_with None d request = None

@@ -4,7 +4,7 @@ use Rattle.wkb_geom.specs.declared.common.Endianness.{Endianness}
 use Rattle.wkb_geom.specs.declared.common.Endianness.TheVariants.{BigEndian, LittleEndian}
 use Rattle.wkb_geom.specs.declared.common.Form.TheVariants.{Iso, Ewkb}
 use Rattle.wkb_geom.specs.Encodings.{IsRewriting, IsRewritingWithSrid}
-use Rattle.wkb_rewrite.specs.declared.target.Target.{Target}
+use Rattle.wkb_sink.specs.declared.options.WriteOptions.{WriteOptions}
 use Rattle.wkb_c.specs.declared.options.TheConstants.{BIG_ENDIAN, LITTLE_ENDIAN, ISO, EWKB_OWN_SRID, EWKB_WITH_SRID}
 use Rattle.wkb_c.specs.declared.options.TheConstants.{EWKB_WITHOUT_SRID}
 use Rattle.wkb_c.specs.declared.options.Options.{Options}
@@ -18,11 +18,11 @@ order_asked n = if n == BIG_ENDIAN then Some BigEndian else (if n == LITTLE_ENDI
 -- what the options ask for in this order
 abbrev pub form_asked : Options → Endianness → Option Request
 form_asked o order =
-    if o.form == ISO then Some (Encoding (record { order = order; form = Iso }))
+    if o.form == ISO then Some (Encoding (record { endianness = order; form = Iso }))
     else (if o.form == EWKB_OWN_SRID then Some (OwnSrid order)
-    else (if o.form == EWKB_WITH_SRID then Some (Encoding (record { order = order; form = Ewkb (Some o.srid) }))
+    else (if o.form == EWKB_WITH_SRID then Some (Encoding (record { endianness = order; form = Ewkb (Some o.srid) }))
     else (if o.form == EWKB_WITHOUT_SRID then Some
-    (Encoding (record { order = order; form = Ewkb None })) else None)))
+    (Encoding (record { endianness = order; form = Ewkb None })) else None)))
 
 -- what the options ask for, where their numbers mean something
 abbrev pub request_in : Options → Option Endianness → Option Request
@@ -34,10 +34,10 @@ request_of o = request_in o (order_asked o.order)
 
 -- the encoding that is asked for of the geometry at the front of the input
 abbrev pub IsRequested : Request → List ℕ → List ℕ → Type 0
-IsRequested (Encoding o) input encoding = IsRewriting o.order o.form input encoding
+IsRequested (Encoding o) input encoding = IsRewriting o.endianness o.form input encoding
 IsRequested (OwnSrid order) input encoding = IsRewritingWithSrid order input encoding
 
--- the target of a request, for a geometry that has this SRID of its own
-abbrev pub target_for : Request → Option ℕ → Target
-target_for (Encoding o) srid = o
-target_for (OwnSrid order) srid = record { order = order; form = Ewkb srid }
+-- the options of a request, for a geometry that has this SRID of its own
+abbrev pub options_for : Request → Option ℕ → WriteOptions
+options_for (Encoding o) srid = o
+options_for (OwnSrid order) srid = record { endianness = order; form = Ewkb srid }

@@ -1,9 +1,8 @@
 //! The encoding that is asked for of what was checked.
 
 ghost use Rattle.std.specs.Prelude.{◌≡◌, ◌≢◌, ◌⊎◌, ◌≤◌, ◌+◌, length};
-ghost use Rattle.wkb_geom.specs.Encodings.{IsForm};
 ghost use Rattle.wkb_check.specs.Public.{DescribesFront};
-ghost use Rattle.wkb_c.specs.Requests.{target_for};
+ghost use Rattle.wkb_c.specs.Requests.{options_for};
 ghost use Rattle.wkb_c.specs.Writings.{IsHandedOut, FindsNoRoom};
 
 use crate::options::Request;
@@ -11,17 +10,17 @@ use crate::status::{NO_ROOM, OK};
 use wkb_check::Summary;
 use wkb_geom::Form;
 use wkb_geom::words::COUNT_SIZE;
-use wkb_rewrite::{Target, encoded_size, put_encoding};
+use wkb_rewrite::{encoded_size, put_encoding};
+use wkb_sink::WriteOptions;
 
-/// The target of a request, for a geometry that has this SRID of its own.
-pub fn target_of(request: Request, srid: Option<u32>) -> Target
-    ensures is { result ≡ target_for request srid }
-    ensures form { IsForm result.form }
+/// The options of a request, for a geometry that has this SRID of its own.
+pub fn options_for(request: Request, srid: Option<u32>) -> WriteOptions
+    ensures { result ≡ options_for request srid }
 {
     match request {
-        Request::Encoding(target) => target,
-        Request::OwnSrid(order) => Target {
-            order,
+        Request::Encoding(options) => options,
+        Request::OwnSrid(endianness) => WriteOptions {
+            endianness,
             form: Form::Ewkb { srid },
         },
     }
@@ -44,15 +43,15 @@ pub fn write_requested(
     ensures long { length out.new ≡ length out.old }
     ensures out_kept { result ≢ OK → out.new ≡ out.old }
 {
-    let target = target_of(request, found.srid);
+    let options = options_for(request, found.srid);
     // An encoding is at most four bytes longer than its input, so its size is only asked for where there is less room.
     if out.len() < buf.len() + COUNT_SIZE {
-        let wanted = encoded_size(buf, found, target.form);
+        let wanted = encoded_size(buf, found, options.form);
         if out.len() < wanted {
             *size = wanted as u64;
             return NO_ROOM;
         }
     }
-    *size = put_encoding(buf, found, target, out) as u64;
+    *size = put_encoding(buf, found, options, out) as u64;
     OK
 }

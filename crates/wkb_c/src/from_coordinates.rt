@@ -3,7 +3,7 @@
 ghost use Rattle.std.specs.Prelude.{◌≡◌, ◌+◌, ◌<◌, ◌==◌, length, Some, None, if◌then◌else◌};
 ghost use Rattle.wkb_c.specs.Classes.{FitsByte};
 ghost use Rattle.wkb_c.specs.LevelRows.{AreLevelEncodings, IsLevelStep, level_rows};
-ghost use Rattle.wkb_c.specs.LevelTargets.{kind_named, levels_in, target_asked, options_of, Ready};
+ghost use Rattle.wkb_c.specs.LevelTargets.{kind_named, levels_in, target_asked, Ready};
 ghost use Rattle.wkb_c.specs.RowItems.{KeepsAfter, KeepsFrom};
 ghost use Rattle.wkb_c.specs.RowItems.{LastEndSuffices};
 ghost use Rattle.wkb_levels.specs.declared.ends.Ends.TheVariants.{Each, At};
@@ -11,7 +11,7 @@ ghost use Rattle.wkb_levels.specs.EndLists.{ends_of};
 
 use crate::column::is_unset;
 use crate::coordinates::dimension_of_number;
-use crate::encoding::target_of;
+use crate::encoding::options_for;
 use crate::options::{Options, Request, request_of};
 use crate::status::{BAD_LEVELS, NO_ROOM, NULL_ROW, OK, UNKNOWN_OPTION};
 use wkb_geom::Dimensions;
@@ -89,17 +89,6 @@ fn kind_of_number(number: u32) -> Option<Kind>
     }
 }
 
-/// The options of a request. Levels have no SRID of their own.
-fn write_options(request: Request) -> WriteOptions
-    ensures { result ≡ options_of request }
-{
-    let target = target_of(request, None);
-    WriteOptions {
-        endianness: target.order,
-        form: target.form,
-    }
-}
-
 /// What the numbers ask for, if they mean something.
 fn target_of_numbers(kind: u32, dimension: u32, options: &Options) -> Option<LevelTarget>
     ensures { result ≡ target_asked kind dimension options.now }
@@ -110,7 +99,8 @@ fn target_of_numbers(kind: u32, dimension: u32, options: &Options) -> Option<Lev
     Some(LevelTarget {
         kind,
         dim: Dimensions::from(dimension),
-        options: write_options(request),
+        // Levels have no SRID of their own.
+        options: options_for(request, None),
     })
 }
 

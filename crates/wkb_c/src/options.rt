@@ -4,7 +4,7 @@ ghost use Rattle.std.specs.Prelude.{◌≡◌};
 ghost use Rattle.wkb_c.specs.Requests.{order_asked, request_of};
 
 use wkb_geom::{Endianness, Form};
-use wkb_rewrite::Target;
+use wkb_sink::WriteOptions;
 
 /// The number of big endian in `Options`.
 pub const BIG_ENDIAN: u32 = 0;
@@ -38,7 +38,7 @@ pub struct Options {
 #[derive(Clone, Copy)]
 pub enum Request {
     /// The encoding under these options.
-    Encoding(Target),
+    Encoding(WriteOptions),
     /// The encoding under EWKB with the geometry's own SRID.
     OwnSrid(Endianness),
 }
@@ -58,15 +58,15 @@ fn order_of_number(number: u32) -> Option<Endianness>
 pub fn request_of(options: &Options) -> Option<Request>
     ensures { result ≡ request_of options.now }
 {
-    let order = order_of_number(options.order)?;
+    let endianness = order_of_number(options.order)?;
     let form = match options.form {
         ISO => Form::Iso,
-        EWKB_OWN_SRID => return Some(Request::OwnSrid(order)),
+        EWKB_OWN_SRID => return Some(Request::OwnSrid(endianness)),
         EWKB_WITH_SRID => Form::Ewkb {
             srid: Some(options.srid),
         },
         EWKB_WITHOUT_SRID => Form::Ewkb { srid: None },
         _ => return None,
     };
-    Some(Request::Encoding(Target { order, form }))
+    Some(Request::Encoding(WriteOptions { endianness, form }))
 }

@@ -2,7 +2,7 @@
 use Rattle.std.proofs.Common.{◌≡◌, ℕ, ◌+◌, ◌-◌, ◌≤◌, List, [], ◌∷◌, ◌++◌, length, take, drop, map, is_some, None}
 use Rattle.std.proofs.Common.{refl, sym, ap, ◌∙◌, subst, arith, append_assoc, append-nil, length-append, false, ◌≢◌}
 use Rattle.wkb_laws.specs.Prelude.{Endianness, Form, AreBytes, Iso, Ewkb, Spelling, node, Spells, Begins, form_srid}
-use Rattle.wkb_laws.specs.Prelude.{inner, IsForm, encoding, geometry_of, words_encoding, type_of, type_dimension}
+use Rattle.wkb_laws.specs.Prelude.{inner, encoding, geometry_of, words_encoding, type_of, type_dimension}
 use Rattle.wkb_geom.specs.Reading.{type_kind}
 use Rattle.wkb_laws.proofs.Parts.{take_front}
 use Rattle.wkb_geom.specs.Refusals.{srid_size}
@@ -142,11 +142,11 @@ pub record IsCopied (buf : List ℕ) (order : Endianness) (form : Form) (first :
       ≡ type_header order form (type_of first.kind first.dimension) ++ take (bytes - start) (drop start buf)
 
 pub all_stand : (buf : List ℕ) (order : Endianness) (form inside : Form) (w : Pieces) (first : Piece) (bytes start : ℕ)
-    (g : HasGeometry buf) → AreBytes buf → IsForm form → inside ≡ inner form → bytes ≡ length g.begins.front
+    (g : HasGeometry buf) → AreBytes buf → inside ≡ inner form → bytes ≡ length g.begins.front
     → (l : StandSoFar buf order inside w first g) → l.left ≡ [] → first.order ≡ order → is_empty buf first ≡ false
     → own_end first ≤ length buf → start ≡ 5 + srid_size (is_some first.srid)
     → IsCopied buf order form first bytes start (encoding order form (geometry_of g.value))
-all_stand buf order form inside w first bytes start g b is_form inside_is long l none order_is some fits start_is =
+all_stand buf order form inside w first bytes start g b inside_is long l none order_is some fits start_is =
     let s = g.spelled in
     let t = g.value in
     let opened : first ∷ l.others ≡ piece_of 0 s t ∷ inner_pieces 0 s t = sym l.all ∙ own_piece 0 s t in
@@ -175,7 +175,7 @@ all_stand buf order form inside w first bytes start g b is_form inside_is long l
     omega (
       arith,
       start_is,
-      measured order form buf g b is_form long,
+      measured order form buf g b long,
       ap srid_sizes l.all,
       l.srids,
       ap srid_sizes none,

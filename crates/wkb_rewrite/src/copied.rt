@@ -13,18 +13,18 @@ ghost use Rattle.wkb_rewrite.specs.Targets.{IsFrontEncoding};
 
 use crate::own::is_empty_point;
 use crate::put::put_type_header;
-use crate::target::{Target, inner_form};
 use wkb_check::{Piece, Pieces, RING, Summary, srid_size};
 use wkb_geom::code::{WkbType, of_kind};
 use wkb_geom::header::MEMBER_HEADER_SIZE;
 use wkb_geom::words::u32_at;
 use wkb_geom::{Endianness, Form};
+use wkb_sink::WriteOptions;
 use wkb_sink::block::code_and_srid;
 
 /// An encoding in two parts: a header, and bytes that stand in the input as they are written.
 #[derive(Drop)]
 pub struct Copied<'a> {
-    pub target: Target,
+    pub options: WriteOptions,
     pub wkb_type: WkbType,
     /// What follows the header.
     pub rest: &'a [u8],
@@ -97,43 +97,43 @@ fn between(buf: &[u8], start: usize, end: usize) -> &[u8]
 impl<'a> Copied<'a> {
     /// The encoding of the geometry in which the check found this, where all that follows its header stands as it is
     /// written.
-    pub fn of(buf: &'a [u8], found: &Summary, target: Target) -> Option<Copied<'a>>
+    pub fn of(buf: &'a [u8], found: &Summary, options: WriteOptions) -> Option<Copied<'a>>
         requires { DescribesFront buf.now found.now }
-        ensures { IfSome result (λ c. IsFrontEncoding buf.now target (copied_encoding c)) }
+        ensures { IfSome result (λ c. IsFrontEncoding buf.now options (copied_encoding c)) }
     {
-        let form = target.form;
+        let form = options.form;
         // In each arm the order is a constant, for which the walk is compiled.
-        match target.order {
+        match options.endianness {
             Endianness::BigEndian => {
-                let order = Endianness::BigEndian;
-                Copied::by_walk(buf, found, Target { order, form })
+                let endianness = Endianness::BigEndian;
+                Copied::by_walk(buf, found, WriteOptions { endianness, form })
             }
             Endianness::LittleEndian => {
-                let order = Endianness::LittleEndian;
-                Copied::by_walk(buf, found, Target { order, form })
+                let endianness = Endianness::LittleEndian;
+                Copied::by_walk(buf, found, WriteOptions { endianness, form })
             }
         }
     }
 
     #[inline(always)]
-    fn by_walk(buf: &'a [u8], found: &Summary, target: Target) -> Option<Copied<'a>>
+    fn by_walk(buf: &'a [u8], found: &Summary, options: WriteOptions) -> Option<Copied<'a>>
         requires { DescribesFront buf.now found.now }
-        ensures { IfSome result (λ c. IsFrontEncoding buf.now target (copied_encoding c)) }
+        ensures { IfSome result (λ c. IsFrontEncoding buf.now options (copied_encoding c)) }
     {
         let first = Piece::outermost(buf, found);
         let mut pieces = Pieces::behind(buf, &first);
-        if !has_written_words(buf, &first, target.order) {
+        if !has_written_words(buf, &first, options.endianness) {
             return None;
         }
-        let form = inner_form(target.form);
-        while let Some(stands) = pass_next(buf, &mut pieces, target.order, form) {
+        let form = options.form.inner();
+        while let Some(stands) = pass_next(buf, &mut pieces, options.endianness, form) {
             if !stands {
                 return None;
             }
         }
         let start = MEMBER_HEADER_SIZE + srid_size(first.srid);
         Some(Copied {
-            target,
+            options,
             wkb_type: of_kind(first.kind, first.dimension),
             rest: between(buf, start, found.bytes),
         })
@@ -146,7 +146,7 @@ impl<'a> Copied<'a> {
         ensures header { take result out.new ≡ copied_header self.now }
         ensures inside { result ≤ length out.new }
     {
-        put_type_header(self.wkb_type, self.target, out, 0)
+        put_type_header(self.wkb_type, self.options, out, 0)
     }
 
     /// Puts the encoding at the front of a slice, and returns the index after it.
@@ -154,7 +154,7 @@ impl<'a> Copied<'a> {
         requires { length (copied_encoding self.now) ≤ length out.old }
         ensures { IsPut out.old out.new 0 result (copied_encoding self.now) }
     {
-        let start = put_type_header(self.wkb_type, self.target, out, 0);
+        let start = put_type_header(self.wkb_type, self.options, out, 0);
         let end = start + self.rest.len();
         out[start..end].copy_from_slice(self.rest);
         end

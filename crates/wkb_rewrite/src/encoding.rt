@@ -3,24 +3,23 @@
 ghost use Rattle.std.specs.Prelude.{◌≡◌, ◌+◌, ◌≤◌};
 ghost use Rattle.wkb_geom.specs.declared.common.Endianness.{Endianness};
 ghost use Rattle.wkb_geom.specs.declared.words.TheConstants.{COUNT_SIZE};
-ghost use Rattle.wkb_geom.specs.Encodings.{IsForm, form_srid};
+ghost use Rattle.wkb_geom.specs.Encodings.{form_srid};
 ghost use Rattle.wkb_check.specs.Bounded.{HasGeometry};
 ghost use Rattle.wkb_check.specs.Public.{DescribesFront};
 ghost use Rattle.wkb_rewrite.specs.Targets.{IsFrontSize, FrontFits, PutsFront};
 
 use crate::copied::Copied;
 use crate::put::put_piece;
-use crate::target::Target;
 use wkb_check::{Piece, Pieces, Summary, srid_size};
 use wkb_geom::Form;
 use wkb_geom::code::MULTI_POINT;
 use wkb_geom::words::COUNT_SIZE;
+use wkb_sink::WriteOptions;
 
 /// The SRID that is written under a form.
 #[inline(always)]
 fn srid_of(form: Form) -> Option<u32>
-    ensures is { result ≡ form_srid form }
-    ensures form { IsForm form }
+    ensures { result ≡ form_srid form }
 {
     match form {
         Form::Iso => None,
@@ -50,18 +49,18 @@ pub fn encoded_size(buf: &[u8], found: &Summary, form: Form) -> usize
 
 /// Puts the encoding of a geometry that is known to be at the front of these bytes at the front of a slice, which has
 /// room for it, and returns its size. What comes after it in the slice stays as it was.
-pub fn put_pieces(buf: &[u8], target: Target, out: &mut [u8]) -> usize
+pub fn put_pieces(buf: &[u8], options: WriteOptions, out: &mut [u8]) -> usize
     requires here { HasGeometry buf.now }
-    requires room { FrontFits buf.now target out.old }
-    ensures size { IsFrontSize buf.now target.order target.form result }
-    ensures put { PutsFront buf.now target out.old out.new }
+    requires room { FrontFits buf.now options out.old }
+    ensures size { IsFrontSize buf.now options.endianness options.form result }
+    ensures put { PutsFront buf.now options out.old out.new }
 {
     let mut at = 0;
-    let mut form = target.form;
+    let endianness = options.endianness;
+    let mut form = options.form;
     let mut pieces = Pieces::of(buf);
     while let Some(piece) = pieces.next() {
-        let order = target.order;
-        at = put_piece(buf, &piece, Target { order, form }, out, at);
+        at = put_piece(buf, &piece, WriteOptions { endianness, form }, out, at);
         form = form.inner();
     }
     at
@@ -69,19 +68,19 @@ pub fn put_pieces(buf: &[u8], target: Target, out: &mut [u8]) -> usize
 
 /// As `put_pieces`, for the geometry in which the check found this. Where all that follows its header stands as it is
 /// written, it is copied at once.
-pub fn put_encoding(buf: &[u8], found: &Summary, target: Target, out: &mut [u8]) -> usize
+pub fn put_encoding(buf: &[u8], found: &Summary, options: WriteOptions, out: &mut [u8]) -> usize
     requires here { DescribesFront buf.now found.now }
-    requires room { FrontFits buf.now target out.old }
-    ensures size { IsFrontSize buf.now target.order target.form result }
-    ensures put { PutsFront buf.now target out.old out.new }
+    requires room { FrontFits buf.now options out.old }
+    ensures size { IsFrontSize buf.now options.endianness options.form result }
+    ensures put { PutsFront buf.now options out.old out.new }
 {
     let first = Piece::outermost(buf, found);
     if first.has_coordinates() {
         // It is the only piece.
-        return put_piece(buf, &first, target, out, 0);
+        return put_piece(buf, &first, options, out, 0);
     }
-    match Copied::of(buf, found, target) {
+    match Copied::of(buf, found, options) {
         Some(copied) => copied.put(out),
-        None => put_pieces(buf, target, out),
+        None => put_pieces(buf, options, out),
     }
 }

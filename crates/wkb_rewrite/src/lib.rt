@@ -7,9 +7,7 @@ mod copied;
 mod encoding;
 mod own;
 mod put;
-mod target;
 
 pub use comparison::have_one_value;
 pub use copied::Copied;
 pub use encoding::{encoded_size, put_encoding, put_pieces};
-pub use target::Target;

@@ -5,18 +5,18 @@ ghost use Rattle.wkb_geom.specs.declared.words.TheConstants.{COUNT_SIZE, WORD_SI
 ghost use Rattle.wkb_geom.specs.Encodings.{srid_encoding, words_encoding};
 ghost use Rattle.wkb_geom.specs.Numbers.{number_bytes, empty_word};
 ghost use Rattle.wkb_check.specs.Pieces.{own_end};
+ghost use Rattle.wkb_sink.specs.Options.{header_of};
 ghost use Rattle.wkb_sink.specs.Runs.{other};
-ghost use Rattle.wkb_rewrite.specs.Shares.{Holds, type_header, header_part, count_part, word_count};
+ghost use Rattle.wkb_rewrite.specs.Shares.{Holds, header_part, count_part, word_count};
 ghost use Rattle.wkb_rewrite.specs.Shares.{written_words, share_in, share_encoding, IsPut};
 
 use crate::own::{is_empty_point, own_bytes};
-use crate::target::Target;
 use wkb_check::{Piece, RING};
 use wkb_geom::Endianness;
 use wkb_geom::code::{POINT, WkbType, of_kind};
 use wkb_geom::words::{COUNT_SIZE, WORD_SIZE};
 use wkb_sink::block::{code_and_srid, lay_empty};
-use wkb_sink::{store_words, u32_bytes};
+use wkb_sink::{WriteOptions, store_words, u32_bytes};
 
 /// Puts a number of four bytes, and returns the index after it.
 #[inline(always)]
@@ -43,28 +43,32 @@ fn put_srid(srid: Option<u32>, order: Endianness, out: &mut [u8], at: usize) -> 
 
 /// Puts the header of a geometry of this type, and returns the index after it.
 #[inline(always)]
-pub fn put_type_header(wkb_type: WkbType, target: Target, out: &mut [u8], at: usize) -> usize
-    requires { at + length (type_header target.order target.form wkb_type) ≤ length out.old }
-    ensures { IsPut out.old out.new at result (type_header target.order target.form wkb_type) }
+pub fn put_type_header(wkb_type: WkbType, options: WriteOptions, out: &mut [u8], at: usize) -> usize
+    requires { at + length (header_of options wkb_type) ≤ length out.old }
+    ensures { IsPut out.old out.new at result (header_of options wkb_type) }
 {
-    let (code, srid) = code_and_srid(target.form, wkb_type);
-    out[at] = target.order.byte();
-    let end = put_number(code, target.order, out, at + 1);
-    put_srid(srid, target.order, out, end)
+    let WriteOptions {
+        endianness: order,
+        form,
+    } = options;
+    let (code, srid) = code_and_srid(form, wkb_type);
+    out[at] = order.byte();
+    let end = put_number(code, order, out, at + 1);
+    put_srid(srid, order, out, end)
 }
 
 /// Puts the header of a piece, of a ring nothing, and returns the index after it.
 #[inline(always)]
-fn put_piece_header(piece: &Piece, target: Target, out: &mut [u8], at: usize) -> usize
-    requires { at + length (header_part target.order target.form piece.now.kind piece.now.dimension)
+fn put_piece_header(piece: &Piece, options: WriteOptions, out: &mut [u8], at: usize) -> usize
+    requires { at + length (header_part options.endianness options.form piece.now.kind piece.now.dimension)
         ≤ length out.old }
     ensures { IsPut out.old out.new at result
-        (header_part target.order target.form piece.now.kind piece.now.dimension) }
+        (header_part options.endianness options.form piece.now.kind piece.now.dimension) }
 {
     if piece.kind == RING {
         return at;
     }
-    put_type_header(of_kind(piece.kind, piece.dimension), target, out, at)
+    put_type_header(of_kind(piece.kind, piece.dimension), options, out, at)
 }
 
 /// Puts the count of a piece, and of a point nothing, and returns the index after it.
@@ -141,15 +145,22 @@ fn put_words(buf: &[u8], piece: &Piece, order: Endianness, out: &mut [u8], at: u
 
 /// Puts the encoding of a piece up to its rings or members, and returns the index after it.
 #[inline(always)]
-pub fn put_piece(buf: &[u8], piece: &Piece, target: Target, out: &mut [u8], start: usize) -> usize
+pub fn put_piece(
+    buf: &[u8],
+    piece: &Piece,
+    options: WriteOptions,
+    out: &mut [u8],
+    start: usize,
+) -> usize
     requires inside { own_end piece.now ≤ length buf.now }
     requires room { start
-        + length (share_encoding target.order target.form (share_in buf.now piece.now))
+        + length (share_encoding options.endianness options.form (share_in buf.now piece.now))
         ≤ length out.old }
     ensures { IsPut out.old out.new start result
-        (share_encoding target.order target.form (share_in buf.now piece.now)) }
+        (share_encoding options.endianness options.form (share_in buf.now piece.now)) }
 {
-    let count_at = put_piece_header(piece, target, out, start);
-    let words_at = put_count(piece, target.order, out, count_at);
-    put_words(buf, piece, target.order, out, words_at)
+    let order = options.endianness;
+    let count_at = put_piece_header(piece, options, out, start);
+    let words_at = put_count(piece, order, out, count_at);
+    put_words(buf, piece, order, out, words_at)
 }

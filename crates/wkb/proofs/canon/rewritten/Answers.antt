@@ -16,4 +16,4 @@ returns-clause-ok c =
     made c.requires
     (filled _ c.as_mut_slice.result.now c.put_pieces.new.out c.in_ok-encoding.encoding.items
     c.in_ok-encoding.encoding.len c.encoded_size.result c.as_mut_slice.ensures.len c.in_ok-encoding.ensures.len
-    (c.encoded_size.ensures.size c.args.target.order found) put)
+    (c.encoded_size.ensures.size c.args.options.endianness found) put)

@@ -9,25 +9,24 @@ use Rattle.wkb_c.proofs.encoding.write_requested.Goals.{Joined-out-buf, then-out
 
 pub returns-then-out-wanted-clause-no_room : goal.returns-then-out-wanted-clause-no_room
 returns-then-out-wanted-clause-no_room c = λ told.
-    let target = c.target_of-target in
-    finds_no_room c.args.request c.args.buf.now c.args.found.now c.requires target.result target.ensures.is
+    let options = c.options_for-options in
+    finds_no_room c.args.request c.args.buf.now c.args.found.now c.requires options.result options.ensures
     c.args.out.now c.encoded_size-wanted.result
-    (c.encoded_size-wanted.ensures.size target.result.order (here c.requires))
+    (c.encoded_size-wanted.ensures.size options.result.endianness (here c.requires))
     (omega (arith, c.if-out-wanted.true))
 
 -- there is room for the encoding where it is put
 fits : (c : Joined-out-buf) → (g : HasGeometry c.args.buf.now)
-    → length (encoding c.target_of-target.result.order c.target_of-target.result.form (geometry_of g.value))
+    → length (encoding c.options_for-options.result.endianness c.options_for-options.result.form (geometry_of g.value))
     ≤ length c.args.out.now
 fits c g =
-    let target = c.target_of-target in
+    let options = c.options_for-options in
     elim c.if-out-buf.branch [
       | then-out-buf+else-out-wanted w ↦
-          omega (arith, w.encoded_size-wanted.ensures.size target.result.order g, w.if-out-wanted.false)
+          omega (arith, w.encoded_size-wanted.ensures.size options.result.endianness g, w.if-out-wanted.false)
       | else-out-buf w ↦ omega (
         arith,
-        at_most target.result.order target.result.form c.args.buf.now g (λ i. (c.type_inv.buf i).fits)
-            target.ensures.form,
+        at_most options.result.endianness options.result.form c.args.buf.now g (λ i. (c.type_inv.buf i).fits),
         w.if-out-buf.false,
       )
     ]
@@ -37,10 +36,10 @@ put_encoding-requires-clause-room c = fits (goal.at.put_encoding-requires-clause
 
 pub returns-clause-written : goal.returns-clause-written
 returns-clause-written c = λ told.
-    let target = c.target_of-target in
+    let options = c.options_for-options in
     let there = here c.requires in
     let size_is = c.put_encoding.ensures.size there in
-    handed_out c.args.request c.args.buf.now c.args.found.now c.requires target.result target.ensures.is c.args.out.now
+    handed_out c.args.request c.args.buf.now c.args.found.now c.requires options.result options.ensures c.args.out.now
     c.put_encoding.new.out c.put_encoding.result size_is
     (omega (arith, size_is, fits (goal.at.returns-clause-written c).Joined-out-buf there))
     (c.put_encoding.ensures.put there)
@@ -48,10 +47,9 @@ returns-clause-written c = λ told.
 pub returns-clause-bound : goal.returns-clause-bound
 returns-clause-bound c =
     let there = here c.requires in
-    let target = c.target_of-target in
+    let options = c.options_for-options in
     omega (
       arith,
       c.put_encoding.ensures.size there,
-      at_most target.result.order target.result.form c.args.buf.now there (λ i. (c.type_inv.buf i).fits)
-          target.ensures.form,
+      at_most options.result.endianness options.result.form c.args.buf.now there (λ i. (c.type_inv.buf i).fits),
     )

@@ -26,9 +26,8 @@ alone c order g =
     omega (
       arith,
       c.srid_size.ensures,
-      ap (λ o. srid_size (is_some o)) c.srid_of.ensures.is,
-      measured order c.args.form c.args.buf.now g (λ i. (c.type_inv.buf i).fits) c.srid_of.ensures.form
-          (long_of c.requires g),
+      ap (λ o. srid_size (is_some o)) c.srid_of.ensures,
+      measured order c.args.form c.args.buf.now g (λ i. (c.type_inv.buf i).fits) (long_of c.requires g),
       own_srid_alone 0 g.spelled g.value g.begins.front g.begins.first c.outermost-first.result
           (c.outermost-first.ensures g) c.if-first-le-MULTI_POINT.true,
     )
@@ -52,8 +51,8 @@ loop-piece-init c = λ order g. record {
   pieces = _;
   ahead = c.of-pieces.ensures.ahead g;
   over = ap (λ n. c.args.found.now.bytes + n)
-      (c.srid_size.ensures ∙ ap (λ o. srid_size (is_some o)) c.srid_of.ensures.is)
-      ∙ measured order c.args.form c.args.buf.now g (λ i. (c.type_inv.buf i).fits) c.srid_of.ensures.form
+      (c.srid_size.ensures ∙ ap (λ o. srid_size (is_some o)) c.srid_of.ensures)
+      ∙ measured order c.args.form c.args.buf.now g (λ i. (c.type_inv.buf i).fits)
       (long_of c.requires g);
 }
 
@@ -108,5 +107,5 @@ returns-clause-bound c =
       arith,
       whole c LittleEndian g,
       most_srid (is_some (form_srid c.args.form)),
-      measured LittleEndian c.args.form c.args.buf.now g bytes c.srid_of.ensures.form c.requires.described.bytes_are,
+      measured LittleEndian c.args.form c.args.buf.now g bytes c.requires.described.bytes_are,
     )

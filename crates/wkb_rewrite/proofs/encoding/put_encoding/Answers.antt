@@ -16,7 +16,7 @@ put_piece-requires-clause-room c =
     omega (
       arith,
       c.requires.room g,
-      ap length (one_encoded c.args.target.order c.args.target.form c.args.buf.now g c.outermost-first.result
+      ap length (one_encoded c.args.options.endianness c.args.options.form c.args.buf.now g c.outermost-first.result
           (c.outermost-first.ensures g) (sym c.has_coordinates.ensures ∙ c.if-has_coordinates.true)),
     )
 
@@ -25,15 +25,16 @@ returns-then-has_coordinates-clause-size c = λ g.
     omega (
       arith,
       c.put_piece.ensures.end_is,
-      ap length (one_encoded c.args.target.order c.args.target.form c.args.buf.now g c.outermost-first.result
+      ap length (one_encoded c.args.options.endianness c.args.options.form c.args.buf.now g c.outermost-first.result
           (c.outermost-first.ensures g) (sym c.has_coordinates.ensures ∙ c.if-has_coordinates.true)),
     )
 
 pub returns-then-has_coordinates-clause-put : goal.returns-then-has_coordinates-clause-put
 returns-then-has_coordinates-clause-put c = λ g.
     c.put_piece.ensures.put
-    ∙ ap (sets c.args.out.now 0) (sym (one_encoded c.args.target.order c.args.target.form c.args.buf.now g
-    c.outermost-first.result (c.outermost-first.ensures g) (sym c.has_coordinates.ensures ∙ c.if-has_coordinates.true)))
+    ∙ ap (sets c.args.out.now 0) (sym (one_encoded c.args.options.endianness c.args.options.form c.args.buf.now g
+    c.outermost-first.result (c.outermost-first.ensures g)
+    (sym c.has_coordinates.ensures ∙ c.if-has_coordinates.true)))
 
 pub put-requires : goal.put-requires
 put-requires c =

@@ -9,7 +9,8 @@ use Rattle.wkb_rewrite.proofs.encoding.put_pieces.Goals as goal
 
 pub loop-piece-init : goal.loop-piece-init
 loop-piece-init c = λ g.
-    let all = shares_encoded c.args.target.order c.args.target.form g.spelled g.value g.begins.front g.begins.first in
+    let all = shares_encoded c.args.options.endianness c.args.options.form g.spelled g.value g.begins.front
+        g.begins.first in
     record {
       shares = shares_of g.spelled g.value;
       rest = all_to_come c.args.buf.now g _ (c.of-pieces.ensures.ahead g) c.of-pieces.ensures.same;
@@ -32,7 +33,8 @@ put_piece-at-requires-clause-room c =
     let l = c.loop-piece.invariant c.requires.here in
     let next = next_taken c.args.buf.now _ _ l.shares c.in-Some.piece l.rest c.in-Some.ensures.steps
     c.in-Some.ensures.inside c.in-Some.ensures.same in
-    left_room c.args.buf.now c.args.target.order c.loop-piece.form _ _ c.loop-piece.at c.loop-piece.out c.args.out.now _
+    left_room c.args.buf.now c.args.options.endianness c.loop-piece.form _ _ c.loop-piece.at c.loop-piece.out
+    c.args.out.now _
     c.in-Some.piece l next (c.requires.room c.requires.here)
 
 pub loop-piece-smaller : goal.loop-piece-smaller
@@ -50,9 +52,10 @@ loop-piece-preserved c = λ g.
     let l = c.loop-piece.invariant g in
     let next = next_taken c.args.buf.now _ _ l.shares c.in-Some.piece l.rest c.in-Some.ensures.steps
     c.in-Some.ensures.inside c.in-Some.ensures.same in
-    subst (λ f. Left c.args.buf.now c.args.target.order f c.next.new.self c.put_piece-at.result c.put_piece-at.new.out
-    c.args.out.now (encoding c.args.target.order c.args.target.form (geometry_of g.value))) (sym c.inner-form.ensures)
-    (left_next c.args.buf.now c.args.target.order c.loop-piece.form _ _ c.loop-piece.at _ c.loop-piece.out _
+    subst (λ f. Left c.args.buf.now c.args.options.endianness f c.next.new.self c.put_piece-at.result
+    c.put_piece-at.new.out c.args.out.now
+    (encoding c.args.options.endianness c.args.options.form (geometry_of g.value))) (sym c.inner-form.ensures)
+    (left_next c.args.buf.now c.args.options.endianness c.loop-piece.form _ _ c.loop-piece.at _ c.loop-piece.out _
     c.args.out.now _ c.in-Some.piece l next c.put_piece-at.ensures)
 
 pub returns-clause-size : goal.returns-clause-size

@@ -9,5 +9,5 @@ decreases-loop-piece l = length l.pieces.bytes.now - l.pieces.at
 
 abbrev pub invariant-loop-piece : goal.invariant-loop-piece
 invariant-loop-piece l = (g : HasGeometry l.buf)
-    → Left l.buf l.target.order l.form l.pieces l.at l.out l.initial.out
-    (encoding l.target.order l.fn.target.form (geometry_of g.value))
+    → Left l.buf l.fn.options.endianness l.form l.pieces l.at l.out l.initial.out
+    (encoding l.fn.options.endianness l.fn.options.form (geometry_of g.value))

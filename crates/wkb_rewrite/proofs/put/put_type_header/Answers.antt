@@ -8,21 +8,22 @@ use Rattle.wkb_rewrite.proofs.put.put_type_header.Goals.{After-byte}
 -- what is put is the header
 whole : (c : After-byte)
     → ◌≡◌ {A = List ℕ} (c.byte.result
-    ∷ (number_bytes c.args.target.order 4 c.code_and_srid-code.result.0
-    ++ srid_encoding c.args.target.order c.code_and_srid-code.result.1))
-    (type_header c.args.target.order c.args.target.form c.args.wkb_type)
+    ∷ (number_bytes c.args.options.endianness 4 c.code_and_srid-code.result.0
+    ++ srid_encoding c.args.options.endianness c.code_and_srid-code.result.1))
+    (type_header c.args.options.endianness c.args.options.form c.args.wkb_type)
 whole c =
-    header_is c.args.target.order c.args.target.form c.args.wkb_type c.byte.result c.code_and_srid-code.result.0
+    header_is c.args.options.endianness c.args.options.form c.args.wkb_type c.byte.result c.code_and_srid-code.result.0
     c.code_and_srid-code.result.1 c.byte.ensures c.code_and_srid-code.ensures.code c.code_and_srid-code.ensures.srid
 
 room : (c : After-byte)
-    → c.args.at + (5 + length (srid_encoding c.args.target.order c.code_and_srid-code.result.1)) ≤ length c.args.out.now
+    → c.args.at + (5 + length (srid_encoding c.args.options.endianness c.code_and_srid-code.result.1)) ≤ length
+        c.args.out.now
 room c =
     omega (
       arith,
       c.requires,
       ap length (whole c),
-      header_long c.args.target.order c.byte.result c.code_and_srid-code.result.0 c.code_and_srid-code.result.1,
+      header_long c.args.options.endianness c.byte.result c.code_and_srid-code.result.0 c.code_and_srid-code.result.1,
     )
 
 pub bounds-out-at : goal.bounds-out-at
@@ -43,7 +44,7 @@ put_srid-requires c =
       room (goal.at.put_srid-requires c).After-byte,
       length-set c.args.out.now c.args.at c.byte.result,
       put_length _ _ _ _ _ c.put_number-end.ensures,
-      put_end c.args.target.order c.code_and_srid-code.result.0 _ _ _ _ c.put_number-end.ensures,
+      put_end c.args.options.endianness c.code_and_srid-code.result.0 _ _ _ _ c.put_number-end.ensures,
     )
 
 pub returns : goal.returns

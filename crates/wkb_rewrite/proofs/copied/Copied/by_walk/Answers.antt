@@ -24,19 +24,20 @@ pub loop-stands-preserved : goal.loop-stands-preserved
 loop-stands-preserved c = λ g.
     let l = c.loop-stands.invariant g in
     let p = c.in-Some.ensures.passed in
-    one_more_stands _ _ c.outermost-first.result p.piece g (λ i. (c.type_inv.buf i).fits) c.args.target.form
-    c.inner_form-form.ensures.is l (p.steps l.left l.ahead) p.inside p.same (p.is c.if-not-stands.false)
+    one_more_stands _ _ c.outermost-first.result p.piece g (λ i. (c.type_inv.buf i).fits) c.args.options.form
+    c.inner-form.ensures l (p.steps l.left l.ahead) p.inside p.same (p.is c.if-not-stands.false)
 
 -- the parts, where no piece is left
 copied : (c : After-srid_size-start) → (g : HasGeometry c.args.buf.now)
-    → IsCopied c.args.buf.now c.args.target.order c.args.target.form c.outermost-first.result c.args.found.now.bytes
-    (5 + c.srid_size-start.result) (encoding c.args.target.order c.args.target.form (geometry_of g.value))
+    → IsCopied c.args.buf.now c.args.options.endianness c.args.options.form c.outermost-first.result
+        c.args.found.now.bytes
+    (5 + c.srid_size-start.result) (encoding c.args.options.endianness c.args.options.form (geometry_of g.value))
 copied c g =
     let l = c.loop-stands.invariant g in
     let inside = c.behind-pieces.ensures.inside in
-    all_stand c.args.buf.now c.args.target.order c.args.target.form c.inner_form-form.result c.loop-stands.pieces
+    all_stand c.args.buf.now c.args.options.endianness c.args.options.form c.inner-form.result c.loop-stands.pieces
     c.outermost-first.result c.args.found.now.bytes (5 + c.srid_size-start.result) g (λ i. (c.type_inv.buf i).fits)
-    c.inner_form-form.ensures.form c.inner_form-form.ensures.is (long_of c.requires g) l
+    c.inner-form.ensures (long_of c.requires g) l
     (c.pass_next.ensures.none c.in_default.is l.left l.ahead)
     (c.has_written_words.ensures.order c.if-not-has_written_words.false)
     (c.has_written_words.ensures.some c.if-not-has_written_words.false)
@@ -55,4 +56,5 @@ between-requires-clause-inside c =
 pub returns : goal.returns
 returns c = λ g.
     (copied (goal.at.returns c).After-srid_size-start g).is
-    ∙ (λ i. type_header c.args.target.order c.args.target.form (sym c.of_kind.ensures i) ++ sym c.between.ensures i)
+    ∙ (λ i. type_header c.args.options.endianness c.args.options.form (sym c.of_kind.ensures i)
+        ++ sym c.between.ensures i)

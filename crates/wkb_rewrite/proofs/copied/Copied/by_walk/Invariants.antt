@@ -7,4 +7,4 @@ abbrev pub decreases-loop-stands : goal.decreases-loop-stands
 decreases-loop-stands l = length l.pieces.bytes.now - l.pieces.at
 
 abbrev pub invariant-loop-stands : goal.invariant-loop-stands
-invariant-loop-stands l = (g : HasGeometry l.buf) → StandSoFar l.buf l.target.order l.form l.pieces l.first g
+invariant-loop-stands l = (g : HasGeometry l.buf) → StandSoFar l.buf l.options.endianness l.form l.pieces l.first g

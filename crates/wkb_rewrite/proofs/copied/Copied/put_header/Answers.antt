@@ -12,10 +12,10 @@ use Rattle.wkb_rewrite.proofs.copied.Copied.put_header.Goals as goal
 
 short : (c : Copied) → length (copied_header c) ≤ 9
 short c =
-    let form = c.target.form in
+    let form = c.options.form in
     omega (
       arith,
-      length-header c.target.order form (type_kind c.wkb_type) (type_dimension c.wkb_type),
+      length-header c.options.endianness form (type_kind c.wkb_type) (type_dimension c.wkb_type),
       most_srid (is_some (form_srid form)),
     )
 
