@@ -133,7 +133,7 @@ fn put_ordered(
     let mut at = start;
     for _ in 0..piece.count {
         put_coordinate(row, from, order, own, asked, out, at);
-        from += WORD_SIZE * own.width();
+        from += own.coordinate_size();
         at += asked.width();
     }
 }

@@ -141,7 +141,7 @@ impl AxisRanks {
         ensures { Adds (bounds_by self.old) (bounds_by self.new) dimension
             (coordinates order dimension count bytes.now) }
     {
-        let size = WORD_SIZE * dimension.width();
+        let size = dimension.coordinate_size();
         widen_plane(&mut self.x, &mut self.y, order, size, count, bytes);
         let z = place_of_z(dimension);
         self.z.widen_at(z, order, dimension, count, bytes);

@@ -12,7 +12,7 @@ use crate::head::{bare_kind, srid_size};
 use crate::range::rest_from;
 use wkb_geom::code::{POINT, POLYGON};
 use wkb_geom::header::MEMBER_HEADER_SIZE;
-use wkb_geom::words::{COUNT_SIZE, WORD_SIZE, u32_at};
+use wkb_geom::words::{COUNT_SIZE, u32_at};
 use wkb_geom::{Dimension, Endianness, Head};
 
 /// The number of a ring among the kinds.
@@ -52,7 +52,7 @@ impl Piece {
         ensures { result ≡ own_end self.now }
     {
         if self.has_coordinates() {
-            self.offset + WORD_SIZE * self.dimension.width() * self.count as usize
+            self.offset + self.dimension.coordinate_size() * self.count as usize
         } else {
             self.offset
         }

@@ -131,7 +131,7 @@ impl Ranks {
             (words_at place (coordinates order dimension count bytes.now)) }
     {
         if let Some(word) = place {
-            let size = WORD_SIZE * dimension.width();
+            let size = dimension.coordinate_size();
             self.widen(order, size, WORD_SIZE * word, count, bytes);
         }
     }

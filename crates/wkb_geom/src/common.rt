@@ -1,13 +1,15 @@
 //! Byte orders, dimensions and the two written forms.
 
-ghost use Rattle.std.specs.Prelude.{◌≡◌};
+ghost use Rattle.std.specs.Prelude.{◌≡◌, ◌*◌};
 ghost use Rattle.wkb_geom.specs.Dimensions.{size, width, has_z, has_m, as_dimensions};
 ghost use Rattle.wkb_geom.specs.Meanings.{HasOrder, IsNamed};
 ghost use Rattle.wkb_geom.specs.Numbers.{order_byte};
 ghost use Rattle.wkb_geom.specs.Reading.{order_of_byte};
 ghost use Rattle.wkb_geom.specs.Encodings.{inner};
+ghost use Rattle.wkb_geom.specs.declared.words.TheConstants.{WORD_SIZE};
 
 use crate::error::{General, WkbError};
+use crate::words::WORD_SIZE;
 
 /// The order of the bytes of a number.
 #[derive(Debug, Clone, Copy, Default, PartialEq)]
@@ -63,6 +65,14 @@ impl Dimension {
             Dimension::Xyz | Dimension::Xym => 3,
             Dimension::Xyzm => 4,
         }
+    }
+
+    /// The size of a coordinate.
+    #[inline]
+    pub fn coordinate_size(self) -> usize
+        ensures { result ≡ WORD_SIZE * width self }
+    {
+        WORD_SIZE * self.width()
     }
 
     /// Whether there is a z.

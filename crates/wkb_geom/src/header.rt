@@ -10,7 +10,7 @@ use crate::code::{
 };
 use crate::common::{Dimension, Endianness};
 use crate::error::{Cause, General};
-use crate::words::{COUNT_SIZE, WORD_SIZE, u32_at};
+use crate::words::{COUNT_SIZE, u32_at};
 
 /// The size of an order byte.
 const ORDER_SIZE: usize = 1;
@@ -317,7 +317,7 @@ impl Layout {
         ensures end { IfOk result (λ end. end ≡ point_end self.dimension self.has_srid) }
         ensures whole { IfOk result (λ end. end ≤ length bytes.now) }
     {
-        let end = self.header_length() + WORD_SIZE * self.dimension.width();
+        let end = self.header_length() + self.dimension.coordinate_size();
         if bytes.len() < end {
             return Err(Cause::General(General::ShortPoint {
                 end: end as u64,
@@ -338,7 +338,7 @@ impl Layout {
     {
         let count = self.count(bytes)?;
         let start = self.header_length() + COUNT_SIZE;
-        let end = start as u64 + (WORD_SIZE * self.dimension.width()) as u64 * count as u64;
+        let end = start as u64 + self.dimension.coordinate_size() as u64 * count as u64;
         if (bytes.len() as u64) < end {
             return Err(Cause::General(General::ShortLineString {
                 end,
@@ -362,7 +362,7 @@ impl Layout {
             return Err(Cause::EndOfInput);
         }
         let count = u32_at(bytes, 0, self.order);
-        let end = COUNT_SIZE as u64 + (WORD_SIZE * self.dimension.width()) as u64 * count as u64;
+        let end = COUNT_SIZE as u64 + self.dimension.coordinate_size() as u64 * count as u64;
         if (bytes.len() as u64) < end {
             return Err(Cause::General(General::ShortLinearRing {
                 end,
@@ -384,7 +384,7 @@ impl Layout {
     {
         let count = self.count(bytes)?;
         let start = self.header_length() + COUNT_SIZE;
-        let member = MEMBER_HEADER_SIZE + WORD_SIZE * self.dimension.width();
+        let member = MEMBER_HEADER_SIZE + self.dimension.coordinate_size();
         let end = start as u64 + member as u64 * count as u64;
         if (bytes.len() as u64) < end {
             return Err(Cause::General(General::ShortMultiPoint {

@@ -9,7 +9,7 @@ use Rattle.wkb_laws.specs.Prelude.{Coordinate, Value, point, line_string, polygo
 use Rattle.wkb_laws.specs.Prelude.{multi_point, multi_line_string, multi_polygon, collection, Values, no_members}
 use Rattle.wkb_laws.specs.Prelude.{member, kind, dimension, members, header}
 use Rattle.wkb_laws.specs.Prelude.{Spelling, node, Spellings, no_spellings, spelling, SpellsCoordinate}
-use Rattle.wkb_laws.specs.Prelude.{SpellsCoordinates, SpellsBody, Wanted, member_part, Spells}
+use Rattle.wkb_laws.specs.Prelude.{SpellsCoordinates, SpellsBody, Wanted, part, member_part, Spells}
 use Rattle.wkb_laws.specs.Prelude.{SpellsEach, srid_count, srid_count_each, Front, srid_size, Geometry, IsGeometry}
 use Rattle.wkb_laws.specs.Prelude.{normal, geometry_of, or_else, size_fault}
 use Rattle.wkb_laws.specs.Prelude.{form_srid, inner, encoding, fault, refusal, IsForm, IsWritable}
@@ -107,6 +107,27 @@ body_length order own _ x h = (h.1).len
 pub srid_size_is : (b : Bool) → srid_size b ≡ 4 * (if b then 1 else 0)
 srid_size_is true = refl
 srid_size_is false = refl
+
+-- without members there is no SRID inside a geometry
+pub none_without_members : (w : Wanted) (ss : Spellings) (x : List ℕ) → SpellsEach w ss no_members x
+    → srid_count_each ss ≡ 0
+none_without_members w no_spellings x h = refl
+none_without_members w (spelling s ss) x h = absurd h
+
+-- the points of a multi point have none
+pub none_in_points : (d : Dimension) (ss : Spellings) (ts : Values) (x : List ℕ) → SpellsEach (part 1 d) ss ts x
+    → srid_count_each ss ≡ 0
+none_in_points d no_spellings ts x h = refl
+none_in_points d (spelling s ss) no_members x h = absurd h
+none_in_points d (spelling (node h own inside) ss) (member (point e c) ts) x a =
+    omega (
+      arith,
+      ap (λ (some : Bool). srid_size some) (a.first.1.2 refl),
+      srid_size_is (is_some h.srid),
+      none_without_members _ inside _ a.first.0.second.second,
+      none_in_points d ss ts a.rest a.second,
+    )
+none_in_points d (spelling s ss) (member t ts) x a = absurd (omega (arith, a.first.1.0))
 
 -- an encoding is as long as its value asks for, and four bytes for each SRID
 mutual

@@ -1,37 +1,21 @@
 -- Geometries that have no SRID but their own.
-use Rattle.wkb_read.proofs.Prelude.{◌≡◌, ℕ, ◌+◌, ◌-◌, ◌*◌, ◌≤◌, List, [], ◌∷◌, length, None, refl}
-use Rattle.wkb_read.proofs.Prelude.{arith, geometry_of, AllByRecursion, Item, Values, spellings, BytesSpell}
+use Rattle.wkb_read.proofs.Prelude.{◌≡◌, ◌+◌, ◌-◌, ◌*◌, ◌≤◌, List, [], ◌∷◌, length, None, refl}
+use Rattle.wkb_read.proofs.Prelude.{arith, geometry_of, AllByRecursion, Item, spellings, BytesSpell}
 use Rattle.wkb_read.proofs.Prelude.{geometry_seen, Listed, Coordinate, seen_as_it_is}
-use Rattle.std.proofs.Common.{is_some, if◌then◌else◌}
-use Rattle.wkb_geom.specs.declared.common.Dimension.{Dimension}
+use Rattle.std.proofs.Common.{is_some}
 use Rattle.wkb_geom.specs.Encodings.{fault}
 use Rattle.wkb_geom.specs.Numbers.{AreBytes}
 use Rattle.wkb_geom.specs.Refusals.{srid_size}
 use Rattle.wkb_geom.specs.Sizes.{byte_size}
-use Rattle.wkb_geom.specs.Spellings.{Spelling, Spellings, no_spellings, spelling, node, Spells, SpellsEach, Wanted}
-use Rattle.wkb_geom.specs.Spellings.{part, srid_count, srid_count_each}
+use Rattle.wkb_geom.specs.Spellings.{Spelling, node, Spells}
+use Rattle.wkb_geom.specs.Spellings.{srid_count, srid_count_each}
 use Rattle.wkb_geom.specs.Values as value
-use Rattle.wkb_laws.proofs.Lengths.{srid_size_is}
+use Rattle.wkb_laws.proofs.Lengths.{srid_size_is, none_without_members, none_in_points}
 use Rattle.wkb_laws.proofs.Spelled.{in_full_lem, size_of_spelled_lem}
 use Rattle.wkb_laws.proofs.Values.{Good, spelled_good, lawful-geometry_of}
 use Rattle.wkb_read.specs.Prelude.{members_spelled, srid_of, polygon_seen, multi_point_seen}
 use Rattle.wkb_read.specs.NoSrids.{HoldsNoSrid, HaveNoSrids}
 use Rattle.wkb_view.specs.declared.multi_point.MultiPoint.{MultiPoint}
-
-none_inside : (w : Wanted) (ss : Spellings) (x : List ℕ) → SpellsEach w ss value.no_members x → srid_count_each ss ≡ 0
-none_inside w no_spellings x h = refl
-none_inside w (spelling s ss) x h = absurd h
-
--- the members of a multi point have none
-none_in_points : (d : Dimension) (ss : Spellings) (ts : Values) (x : List ℕ) → SpellsEach (part 1 d) ss ts x
-    → srid_count_each ss ≡ 0
-none_in_points d no_spellings ts x h = refl
-none_in_points d (spelling (node h own inner) ss) (value.member (value.point e c) ts) x a =
-    let own_srid : 4 * (if is_some h.srid then 1 else 0) ≡ 0 = rw (a.first.1.2 refl) refl in
-    let inside = none_inside _ inner _ a.first.0.second.second in
-    omega (arith, own_srid, inside, none_in_points d ss ts a.rest a.second)
-none_in_points d (spelling s ss) (value.member t ts) x a = absurd (cc)
-none_in_points d (spelling s ss) value.no_members x a = absurd a
 
 -- the rings of a polygon have none
 pub polygon_holds_none : (p : Listed (List (List Coordinate))) → HoldsNoSrid (polygon_seen p)
@@ -39,7 +23,7 @@ polygon_holds_none p spells = inside p.spelled (in_full_lem _ _ _ spells)
   where
     inside : (s : Spelling) → Spells s (value.polygon p.dimension p.parts) p.encoding
         → srid_count_each (members_spelled s) ≡ 0
-    inside (node h own ss) a = none_inside _ ss _ a.second.second
+    inside (node h own ss) a = none_without_members _ ss _ a.second.second
 
 pub multi_point_holds_none : (m : MultiPoint) → HoldsNoSrid (multi_point_seen m)
 multi_point_holds_none m spells =

@@ -14,7 +14,8 @@ use Rattle.wkb_geom.specs.Encodings.{point_encoding, line_string_encoding, polyg
 use Rattle.wkb_geom.specs.Geometries.{Geometry}
 use Rattle.wkb_geom.specs.Geometries as geometries
 use Rattle.wkb_sink.proofs.Lengths.{length-header}
-use Rattle.wkb_laws.proofs.Lengths.{spelled_length, encoding_length, value_size, srid_size_is}
+use Rattle.wkb_laws.proofs.Lengths.{spelled_length, encoding_length, value_size, srid_size_is, none_without_members}
+use Rattle.wkb_laws.proofs.Lengths.{none_in_points}
 use Rattle.wkb_laws.proofs.OneFront.{one_spelling}
 use Rattle.wkb_laws.proofs.Values.{spelled_good, normal-geometry_of, lawful-geometry_of}
 use Rattle.wkb_geom.specs.Spellings.{Header}
@@ -70,33 +71,14 @@ mutual
         each_counted (at + size s t) w ss ts a.rest a.second,
       )
 
-no_member_spelled : (w : Wanted) (ss : Spellings) (x : List ℕ) → SpellsEach w ss no_members x → srid_count_each ss ≡ 0
-no_member_spelled w no_spellings x a = refl
-no_member_spelled w (spelling s ss) x a = absurd a
-
--- the points of a multi point have none
-points_have_none : (d : Dimension) (ss : Spellings) (ts : Values) (x : List ℕ) → SpellsEach (part 1 d) ss ts x
-    → srid_count_each ss ≡ 0
-points_have_none d no_spellings ts x a = refl
-points_have_none d (spelling s ss) no_members x a = absurd a
-points_have_none d (spelling (node h words us) ss) (member (point e c) ts) x a =
-    omega (
-      arith,
-      ap (λ (some : Bool). srid_size some) (a.first.1.2 refl),
-      srid_size_is (is_some h.srid),
-      no_member_spelled _ us _ a.first.0.second.second,
-      points_have_none d ss ts a.rest a.second,
-    )
-points_have_none d (spelling s ss) (member t ts) x a = absurd (omega (arith, a.first.1.0))
-
 -- up to multi points only the outermost geometry can have one
 none_inside : (h : Header) (words : List ℕ) (ss : Spellings) (t : Value) (x : List ℕ) → Spells (node h words ss) t x
     → kind t ≤ 4
     → srid_count_each ss ≡ 0
-none_inside h words ss (multi_point d l) x a low = points_have_none d ss _ a.second.rest a.second.second
-none_inside h words ss (point d c) x a low = no_member_spelled _ ss a.second.rest a.second.second
-none_inside h words ss (line_string d cs) x a low = no_member_spelled _ ss a.second.rest a.second.second
-none_inside h words ss (polygon d rings) x a low = no_member_spelled _ ss a.second.rest a.second.second
+none_inside h words ss (multi_point d l) x a low = none_in_points d ss _ a.second.rest a.second.second
+none_inside h words ss (point d c) x a low = none_without_members _ ss a.second.rest a.second.second
+none_inside h words ss (line_string d cs) x a low = none_without_members _ ss a.second.rest a.second.second
+none_inside h words ss (polygon d rings) x a low = none_without_members _ ss a.second.rest a.second.second
 none_inside h words ss _ x a low = absurd (omega (arith, low))
 
 pub own_srid_alone : (at : ℕ) (s : Spelling) (t : Value) (x : List ℕ) → Spells s t x → (p : Piece) → p ≡ piece_of at s t

@@ -19,10 +19,10 @@ use wkb_geom::words::{COUNT_SIZE, WORD_SIZE};
 use wkb_geom::{CoordTrait, Dimension, Dimensions, EMPTY_WORD, Endianness, Form, LineStringTrait};
 
 /// The size of a corner: x and y.
-pub const CORNER_SIZE: usize = 16;
+pub const CORNER_SIZE: usize = 2 * WORD_SIZE;
 
 /// The size of the longest coordinate, which has four words.
-pub const MAX_COORDINATE_SIZE: usize = 32;
+pub const MAX_COORDINATE_SIZE: usize = 4 * WORD_SIZE;
 
 /// The least that a block before a sink holds: the most that is laid in one piece, which is a triangle.
 pub const MIN_BLOCK: usize = MAX_HEADER_SIZE + 2 * COUNT_SIZE + 4 * MAX_COORDINATE_SIZE;
@@ -68,7 +68,7 @@ pub fn lay_word(bytes: &mut [u8], at: usize, order: Endianness, word: u64) -> us
     ensures bytes { LaysAt at result bytes.old bytes.new (number_bytes order 8 word) }
 {
     store_word(&mut bytes[at..], order, word);
-    at + 8
+    at + WORD_SIZE
 }
 
 /// Lays a coordinate of two, three or four words.

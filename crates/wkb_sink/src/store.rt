@@ -6,6 +6,7 @@ ghost use Rattle.wkb_geom.specs.Numbers.{number_bytes};
 ghost use Rattle.wkb_geom.specs.Encodings.{words_encoding};
 ghost use Rattle.wkb_sink.specs.Runs.{IsRun, Turns, x_y_encoding, run_size, run_encoding, other as the_other};
 
+use crate::block::CORNER_SIZE;
 use byteorder::{BigEndian, ByteOrder, LittleEndian};
 use wkb_geom::words::{WORD_SIZE, u64_at};
 use wkb_geom::{CoordTrait, Endianness, LineStringTrait};
@@ -44,7 +45,7 @@ fn store_two(bytes: &mut [u8], order: Endianness, first: u64, second: u64)
     ensures { take 16 bytes.new ≡ number_bytes order 8 first ++ number_bytes order 8 second }
 {
     store_word(bytes, order, first);
-    store_word(&mut bytes[8..], order, second);
+    store_word(&mut bytes[WORD_SIZE..], order, second);
 }
 
 #[inline]
@@ -68,8 +69,8 @@ pub fn store_coordinate<C: CoordTrait>(bytes: &mut [u8], coord: &C, width: usize
     store_x_y(bytes, order, coord);
     match width {
         2 => {}
-        3 => store_word(&mut bytes[16..], order, coord.at(2)),
-        _ => store_two(&mut bytes[16..], order, coord.at(2), coord.at(3)),
+        3 => store_word(&mut bytes[CORNER_SIZE..], order, coord.at(2)),
+        _ => store_two(&mut bytes[CORNER_SIZE..], order, coord.at(2), coord.at(3)),
     }
 }
 
@@ -93,7 +94,7 @@ fn store_run<L: LineStringTrait>(
     let mut at = 0;
     for i in from..to {
         store_coordinate(&mut bytes[at..], &line.coord_at(i), width, order);
-        at += 8 * width;
+        at += WORD_SIZE * width;
     }
     at
 }

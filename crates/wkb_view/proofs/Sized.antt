@@ -1,21 +1,17 @@
 -- How many bytes of a view come after its header.
-use Rattle.std.proofs.Common.{◌≡◌, ℕ, ◌-◌, ◌*◌, List, length, None, refl, arith, is_some, Bool, true, false}
-use Rattle.std.proofs.Common.{if◌then◌else◌}
+use Rattle.std.proofs.Common.{◌≡◌, ℕ, ◌-◌, ap, List, length, None, arith, is_some}
 use Rattle.wkb_geom.specs.Geometries.{polygon}
 use Rattle.wkb_geom.specs.Sizes.{rings_size}
 use Rattle.wkb_geom.specs.Encodings.{fault}
 use Rattle.wkb_geom.specs.Refusals.{srid_size}
+use Rattle.wkb_laws.proofs.Heads.{has_srid_in}
+use Rattle.wkb_laws.proofs.Lengths.{srid_size_is}
 use Rattle.wkb_laws.proofs.Spelled.{in_full_lem, size_of_spelled_lem}
 use Rattle.wkb_laws.proofs.Values.{Good, spelled_good, lawful-geometry_of}
-use Rattle.wkb_view.specs.Prelude.{Endianness, AreBytes, Layout, Coordinate, Listed, body_start, srid_in, as_dimensions}
+use Rattle.wkb_view.specs.Prelude.{AreBytes, Layout, Coordinate, Listed, body_start, srid_in, as_dimensions}
 use Rattle.wkb_view.specs.Prelude.{BytesSpell}
 use Rattle.wkb_view.specs.Fitted.{fitted_parts, line_strings_fit}
 use Rattle.wkb_view.specs.Members.{polygon_laid, polygon_seen}
-
-srid_counted : (order : Endianness) (has_srid : Bool) (bytes : List ℕ)
-    → 4 * (if is_some (srid_in order has_srid bytes) then 1 else 0) ≡ srid_size has_srid
-srid_counted order true bytes = refl
-srid_counted order false bytes = refl
 
 -- a polygon, by what its view means
 module _ (l : Layout) (ends bytes : List ℕ) (p : Listed (List (List Coordinate))) (view : polygon_laid l ends bytes ≡ p)
@@ -36,7 +32,9 @@ module _ (l : Layout) (ends bytes : List ℕ) (p : Listed (List (List Coordinate
   polygon_size n is =
       let seen = polygon_seen (polygon_laid l ends bytes) in
       let long = size_of_spelled_lem seen.spelled seen.value bytes (in_full_lem seen.spelled seen.value bytes spells) in
-      rw (← view, rings_same) (omega (arith, is, long, srid_counted l.order l.has_srid bytes))
+      let srid = has_srid_in l.order l.has_srid bytes in
+      rw (← view, rings_same)
+      (omega (arith, is, long, srid_size_is (is_some (srid_in l.order l.has_srid bytes)), ap srid_size srid))
 
   -- it has no fault
   pub polygon_writable : fault (polygon (as_dimensions p.dimension) (fitted_parts p)) ≡ None

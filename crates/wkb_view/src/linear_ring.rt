@@ -69,7 +69,7 @@ impl<'a> LinearRing<'a> {
         requires { i ≤ length (ring_seen self.now) }
         ensures { result ≡ ring_offset self.now i }
     {
-        COUNT_SIZE as u64 + (WORD_SIZE * self.dimension.width()) as u64 * i
+        COUNT_SIZE as u64 + self.dimension.coordinate_size() as u64 * i
     }
 
     /// Its dimension.
@@ -107,9 +107,9 @@ fn count_of_size(dimension: Dimension, size: usize) -> usize
     ensures { (count : ℕ) → size ≡ ring_end dimension count → result ≡ count }
 {
     match dimension {
-        Dimension::Xy => (size - COUNT_SIZE) / 16,
-        Dimension::Xyz | Dimension::Xym => (size - COUNT_SIZE) / 24,
-        Dimension::Xyzm => (size - COUNT_SIZE) / 32,
+        Dimension::Xy => (size - COUNT_SIZE) / (2 * WORD_SIZE),
+        Dimension::Xyz | Dimension::Xym => (size - COUNT_SIZE) / (3 * WORD_SIZE),
+        Dimension::Xyzm => (size - COUNT_SIZE) / (4 * WORD_SIZE),
     }
 }
 
@@ -206,7 +206,7 @@ impl<'a> LineStringTrait for LinearRing<'a> {
     {
         let start = self.coord_offset(i as u64) as usize;
         Coord {
-            bytes: subslice(self.bytes, start, WORD_SIZE * self.dimension.width()),
+            bytes: subslice(self.bytes, start, self.dimension.coordinate_size()),
             order: self.order,
             dimension: self.dimension,
         }

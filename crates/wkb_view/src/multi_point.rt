@@ -15,7 +15,7 @@ use crate::own_srid::OwnSrid;
 use crate::part::subslice;
 use wkb_geom::code::{POINT, WkbType};
 use wkb_geom::header::{MEMBER_HEADER_SIZE, MIN_MEMBER_SIZE};
-use wkb_geom::words::{COUNT_SIZE, WORD_SIZE};
+use wkb_geom::words::COUNT_SIZE;
 use wkb_geom::{
     Cause, Dimension, Dimensioned, Dimensions, Endianness, Form, General, GeometryTrait,
     GeometryType, Layout, MultiPointTrait,
@@ -58,7 +58,7 @@ impl<'a> MultiPoint<'a> {
         ensures { result ≡ multi_point_offset self.now i }
     {
         let start = self.layout.header_length() + COUNT_SIZE;
-        let member = MEMBER_HEADER_SIZE + WORD_SIZE * self.layout.dimension.width();
+        let member = MEMBER_HEADER_SIZE + self.layout.dimension.coordinate_size();
         start as u64 + member as u64 * i
     }
 
@@ -215,7 +215,7 @@ impl<'a> MultiPointTrait for MultiPoint<'a> {
             return None;
         }
         let start = self.point_offset(i as u64) as usize;
-        let member = MEMBER_HEADER_SIZE + WORD_SIZE * self.layout.dimension.width();
+        let member = MEMBER_HEADER_SIZE + self.layout.dimension.coordinate_size();
         let buf = subslice(self.buf, start, member);
         let layout = Layout::of_known_member(WkbType::Point(self.layout.dimension), buf);
         Some(Point::of_encoding(layout, buf))

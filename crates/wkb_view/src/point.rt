@@ -12,7 +12,6 @@ use crate::own_srid::OwnSrid;
 use crate::part::subslice;
 use wkb_geom::code::{POINT, WkbType};
 use wkb_geom::header::MIN_MEMBER_SIZE;
-use wkb_geom::words::WORD_SIZE;
 use wkb_geom::{
     Cause, Dimension, Dimensioned, Dimensions, Endianness, Form, General, GeometryTrait,
     GeometryType, Layout, PointTrait,
@@ -104,7 +103,7 @@ impl<'a> Point<'a> {
             bytes: subslice(
                 self.buf,
                 self.layout.header_length(),
-                WORD_SIZE * self.layout.dimension.width(),
+                self.layout.dimension.coordinate_size(),
             ),
             order: self.layout.order,
             dimension: self.layout.dimension,

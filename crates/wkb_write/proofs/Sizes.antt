@@ -13,6 +13,7 @@ use Rattle.wkb_write.proofs.Faults.{reports_first, reports_rest}
 use Rattle.wkb_write.proofs.Whole.{header_within, size_of_parts}
 use Rattle.wkb_write.specs.Bodies.{size_by_parts}
 use Rattle.wkb_laws.proofs.EncodingSizes.{encoding_has_size_lem}
+use Rattle.wkb_laws.proofs.Lengths.{srid_size_is}
 use Rattle.wkb_write.specs.Answers.{IsSizeOf}
 use Rattle.wkb_write.specs.Measures.{IsMeasured}
 use Rattle.wkb_sink.proofs.Laid.{exits}
@@ -31,11 +32,8 @@ size_without_fault n h = grind (arith, nat_tests)
 pub measured_length : (order : Endianness) (form : Form) (g : Geometry) → IsForm form → IsGeometry g → fault g ≡ None
     → length (encoding order form g) ≡ byte_size g + srid_size (is_some (form_srid form))
 measured_length order form g fits lawful none =
-    encoding_has_size_lem order form g fits lawful none ∙ ap (λ n. byte_size g + n) (of_flag (is_some (form_srid form)))
-  where
-    of_flag : (srid : Bool) → 4 * (if srid then 1 else 0) ≡ srid_size srid
-    of_flag true = refl
-    of_flag false = refl
+    encoding_has_size_lem order form g fits lawful none
+        ∙ ap (λ n. byte_size g + n) (sym (srid_size_is (is_some (form_srid form))))
 
 -- what the exit of a `?` returns where there was no room for the header and what is behind it
 pub no_room_for : {a b : Progress} {n : ℕ} (options : WriteOptions) (g : Geometry) (e : Stopped)

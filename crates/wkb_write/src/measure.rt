@@ -9,6 +9,7 @@ ghost use Rattle.wkb_write.specs.Prelude.{IsForm, coordinate_words, dimensions_f
 ghost use Rattle.wkb_write.specs.Prelude.{FindsUnsupported, IsCountToWrite};
 ghost use Rattle.wkb_write.specs.Prelude.{IsMeasuredBehindHeader, OfMeasured, IsSized, IsSizeOf};
 
+use wkb_geom::words::WORD_SIZE;
 use wkb_geom::{Dimension, Dimensions, Fault, Form, WkbError, WkbResult};
 use wkb_sink::block::dimension_to_write;
 use wkb_sink::options::length_of_header;
@@ -85,7 +86,7 @@ pub fn words_size(dim: Dimensions, n: u32) -> usize
     ensures sum { result ≡ 8 * coordinate_words dim * n }
     ensures bound { result < 2 ^ 40 }
 {
-    8 * words_to_measure(dim) * n as usize
+    WORD_SIZE * words_to_measure(dim) * n as usize
 }
 
 /// A geometry of these dimensions, by what was measured of its body.

@@ -1,4 +1,4 @@
-use Rattle.wkb_c.proofs.Common.{arith, ap, ◌∙◌, ◌+◌, ◌*◌, length, drop}
+use Rattle.wkb_c.proofs.Common.{arith, ap, ◌∙◌, ◌+◌, length, drop}
 use Rattle.std.specs.Prelude.{◌-◌}
 use lib.Seq.{length-sets}
 use Rattle.wkb_geom.specs.Reading.{coordinate}
@@ -12,6 +12,6 @@ loop-preserved c =
     let a = c.args in
     let long = length-sets l.out l.at (words_asked a.asked a.own (coordinate a.order a.own (drop l.from a.row.now))) in
     words_next l.invariant (a.piece.now.count - (l.counter + 1)) (omega (arith, c.loop-test.true))
-    (l.from + 8 * c.width.result) (l.at + c.width-at.result) c.put_coordinate.new.out
+    (l.from + c.coordinate_size-from.result) (l.at + c.width-at.result) c.put_coordinate.new.out
     (ap length c.put_coordinate.ensures ∙ long)
-    (omega (arith, c.width.ensures)) (omega (arith, c.width-at.ensures)) c.put_coordinate.ensures
+    (omega (arith, c.coordinate_size-from.ensures)) (omega (arith, c.width-at.ensures)) c.put_coordinate.ensures

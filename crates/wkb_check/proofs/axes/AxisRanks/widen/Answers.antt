@@ -24,11 +24,11 @@ pub returns : goal.returns
 returns c x_axis =
     c.widen_plane.ensures.x
     ∙ ap (widened (range_by c.args.self.now.x)) (ordinates_are c.args.order c.args.dimension _ (Some 0) 0 c.args.count
-    c.args.bytes.now refl (omega (arith, width-least c.args.dimension)) c.width-size.ensures)
+    c.args.bytes.now refl (omega (arith, width-least c.args.dimension)) c.coordinate_size-size.ensures)
 returns c y_axis =
     c.widen_plane.ensures.y
     ∙ ap (widened (range_by c.args.self.now.y)) (ordinates_are c.args.order c.args.dimension _ (Some 1) 1 c.args.count
-    c.args.bytes.now refl (omega (arith, width-least c.args.dimension)) c.width-size.ensures)
+    c.args.bytes.now refl (omega (arith, width-least c.args.dimension)) c.coordinate_size-size.ensures)
 returns c z_axis =
     c.widen_at.ensures
     ∙ ap (λ p. widened (range_by c.args.self.now.z) (words_of_each (word_at p)

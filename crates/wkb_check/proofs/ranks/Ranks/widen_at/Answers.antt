@@ -6,10 +6,11 @@ use Rattle.wkb_check.proofs.ranks.Ranks.widen_at.Goals as goal
 
 pub widen-requires-clause-inside : goal.widen-requires-clause-inside
 widen-requires-clause-inside c =
-    omega (arith, place_is c.args.dimension c.args.place _ c.in-Some.is c.requires.place, c.width-size.ensures)
+    omega (arith, place_is c.args.dimension c.args.place _ c.in-Some.is c.requires.place,
+        c.coordinate_size-size.ensures)
 
 pub widen-requires-clause-whole : goal.widen-requires-clause-whole
-widen-requires-clause-whole c = rw c.width-size.ensures c.requires.whole
+widen-requires-clause-whole c = rw c.coordinate_size-size.ensures c.requires.whole
 
 pub widen-requires-clause-room : goal.widen-requires-clause-room
 widen-requires-clause-room c =
@@ -19,7 +20,7 @@ pub returns-in-Some : goal.returns-in-Some
 returns-in-Some c =
     c.widen.ensures
     ∙ ap (widened (range_by c.args.self.now)) (ordinates_are c.args.order c.args.dimension _ c.args.place _ c.args.count
-    c.args.bytes.now c.in-Some.is c.requires.place c.width-size.ensures)
+    c.args.bytes.now c.in-Some.is c.requires.place c.coordinate_size-size.ensures)
 
 pub returns-in_default : goal.returns-in_default
 returns-in_default c =

@@ -6,13 +6,13 @@ use Rattle.wkb_view.proofs.multi_point.MultiPoint.point_offset.Goals as goal
 pub overflow_mul-result : goal.overflow_mul-result
 overflow_mul-result c =
     let m = c.args.self.now in
-    rw c.width.ensures
+    rw c.coordinate_size-member.ensures
     (omega (arith, few_bytes m.layout.dimension c.args.i, points_counted m.layout m.count m.buf.now, c.requires))
 
 pub overflow_add-result : goal.overflow_add-result
 overflow_add-result c =
     let m = c.args.self.now in
-    rw (c.header_length-start.ensures, c.width.ensures)
+    rw (c.header_length-start.ensures, c.coordinate_size-member.ensures)
     (omega (
       arith,
       start-within m.layout.has_srid,
@@ -22,4 +22,4 @@ overflow_add-result c =
     ))
 
 pub returns : goal.returns
-returns c = rw (c.header_length-start.ensures, c.width.ensures) refl
+returns c = rw (c.header_length-start.ensures, c.coordinate_size-member.ensures) refl

@@ -27,7 +27,7 @@ of_known_member-layout-requires c =
     let m = c.args.self.now in
     let encoding =
     point_encoding m.layout m.count c.args.i m.buf.now _ _ c.if-i-self.false c.point_offset-start.ensures
-    (rw c.width.ensures at c.subslice-buf.ensures) in
+    (rw c.coordinate_size-member.ensures at c.subslice-buf.ensures) in
     ∥∥₁_elim m.each (hlevel props)
     (λ each. member_there 1 m.layout (point_ends m.layout m.count) m.buf.now c.args.i _ each encoding)
 
@@ -37,7 +37,7 @@ of_encoding-requires c =
     let known = c.of_known_member-layout.ensures in
     let encoding =
     point_encoding m.layout m.count c.args.i m.buf.now _ _ c.if-i-self.false c.point_offset-start.ensures
-    (rw c.width.ensures at c.subslice-buf.ensures) in
+    (rw c.coordinate_size-member.ensures at c.subslice-buf.ensures) in
     ∥∥₁_elim m.each (hlevel props)
     (λ each. member_encoding 1 m.layout (point_ends m.layout m.count) m.buf.now c.args.i _ _ each encoding known)
 
@@ -47,7 +47,7 @@ returns-clause-value c =
     let known = c.of_known_member-layout.ensures in
     let encoding =
     point_encoding m.layout m.count c.args.i m.buf.now _ _ c.if-i-self.false c.point_offset-start.ensures
-    (rw c.width.ensures at c.subslice-buf.ensures) in
+    (rw c.coordinate_size-member.ensures at c.subslice-buf.ensures) in
     ap (λ (p : Item). Some (point_of p.value)) (c.of_encoding.ensures.item ∙ member_seen 1 m.layout.dimension _ _ known)
     ∙ members_seen 1 m.layout (point_ends m.layout m.count) m.buf.now c.args.i (λ p. point_of p.value) _ encoding
 
@@ -57,7 +57,7 @@ returns-clause-spelled c =
     let known = c.of_known_member-layout.ensures in
     let encoding =
     point_encoding m.layout m.count c.args.i m.buf.now _ _ c.if-i-self.false c.point_offset-start.ensures
-    (rw c.width.ensures at c.subslice-buf.ensures) in
+    (rw c.coordinate_size-member.ensures at c.subslice-buf.ensures) in
     ap (λ (p : Item). Some p.spelled) (c.of_encoding.ensures.item ∙ member_seen 1 m.layout.dimension _ _ known)
     ∙ spelling_seen 1 m.layout (point_ends m.layout m.count) m.buf.now c.args.i _ encoding
 
@@ -71,7 +71,7 @@ pub returns-clause-bytes : goal.returns-clause-bytes
 returns-clause-bytes c =
     let m = c.args.self.now in
     ap (λ (p : Item). p.encoding) c.of_encoding.ensures.item ∙ point_encoding_is _ _
-    ∙ (rw c.width.ensures at c.subslice-buf.ensures)
+    ∙ (rw c.coordinate_size-member.ensures at c.subslice-buf.ensures)
     ∙ ap (λ n. take (stride m.layout.dimension) (drop n m.buf.now)) c.point_offset-start.ensures
 
 pub point_offset-start-requires : goal.point_offset-start-requires
@@ -81,7 +81,7 @@ point_offset-start-requires c =
 pub subslice-buf-requires : goal.subslice-buf-requires
 subslice-buf-requires c =
     let m = c.args.self.now in
-    rw c.width.ensures (omega (
+    rw c.coordinate_size-member.ensures (omega (
       arith,
       next_within (stride m.layout.dimension) c.args.i m.count c.if-i-self.false,
       m.whole,
