@@ -43,6 +43,6 @@ mutual
       omega (arith, sizes_of_normal gs (or_else_parts _ _ e).1, size_of_normal g (or_else_parts _ _ e).0)
 
 pub encoding_has_size_lem : EncodingHasSize
-encoding_has_size_lem order form g h lawful fine =
-    encoding_length order form g h lawful fine
+encoding_has_size_lem order form g _ lawful fine =
+    encoding_length order form g lawful fine
     ∙ ap (λ n. n + 4 * (if is_some (form_srid form) then 1 else 0)) (size_of_normal g fine)

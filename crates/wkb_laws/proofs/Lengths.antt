@@ -1,9 +1,15 @@
 -- How long an encoding is.
-use Rattle.std.proofs.Common.{◌≡◌, ℕ, ◌+◌, ◌*◌, ◌<◌, ◌≤◌, ◌^◌, List, [], ◌∷◌, length, Some, None, Bool, true, false}
+use Rattle.std.proofs.Common.{◌≡◌, ℕ, ◌+◌, ◌*◌, ◌<◌, ◌≤◌, ◌^◌, List, [], ◌∷◌, ◌++◌, length, Some, None, Bool, true}
+use Rattle.std.proofs.Common.{false}
 use Rattle.std.proofs.Common.{refl, sym, ap, ◌∙◌, arith, length-append}
 use Rattle.std.proofs.Common.{sum_by, is_some, if◌then◌else◌, nat_lt, lt-ltb}
 use Rattle.std.proofs.lemmas.List.Sums.{sum_by-cons}
 use Rattle.std.proofs.lemmas.Bool.{cond-true}
+use Rattle.byteorder.specs.Numbers.{length-bytes_high_first, length-bytes_low_first}
+use Rattle.wkb_geom.specs.declared.common.Endianness.TheVariants.{BigEndian, LittleEndian}
+use Rattle.wkb_geom.specs.Dimensions.{written_dimension}
+use Rattle.wkb_geom.specs.Encodings.{point_encoding, line_string_encoding, polygon_encoding, members_encoding}
+use Rattle.wkb_geom.specs.Geometries as geometries
 use Rattle.wkb_laws.specs.Prelude.{Endianness, Dimension, Xy, Form, Iso, Ewkb, AreBytes, IsNumber, width, IsEach}
 use Rattle.wkb_laws.specs.Prelude.{Coordinate, Value, point, line_string, polygon}
 use Rattle.wkb_laws.specs.Prelude.{multi_point, multi_line_string, multi_polygon, collection, Values, no_members}
@@ -12,6 +18,7 @@ use Rattle.wkb_laws.specs.Prelude.{Spelling, node, Spellings, no_spellings, spel
 use Rattle.wkb_laws.specs.Prelude.{SpellsCoordinates, SpellsBody, Wanted, part, member_part, Spells}
 use Rattle.wkb_laws.specs.Prelude.{SpellsEach, srid_count, srid_count_each, Front, srid_size, Geometry, IsGeometry}
 use Rattle.wkb_laws.specs.Prelude.{normal, geometry_of, or_else, size_fault}
+use Rattle.wkb_laws.specs.Prelude.{number_bytes, code_of, srid_encoding, header_encoding}
 use Rattle.wkb_laws.specs.Prelude.{form_srid, inner, encoding, fault, refusal, IsForm, IsWritable}
 use Rattle.wkb_laws.specs.Written.{written, HasOptions, AllHaveOptions}
 use Rattle.wkb_laws.specs.Encodings.{IsRewritable, SpelledIsWritable}
@@ -163,9 +170,9 @@ mutual
       ap (λ z. if is_some z then 1 else 0) k.1 in
       omega (arith, no_srids order (inner form) ss (inner_fits form).1 k.2)
 
-pub encoding_length : (order : Endianness) (form : Form) (g : Geometry) → IsForm form → IsGeometry g → fault g ≡ None
+form_length : (order : Endianness) (form : Form) (g : Geometry) → IsForm form → IsGeometry g → fault g ≡ None
     → length (encoding order form g) ≡ value_size (normal g) + 4 * (if is_some (form_srid form) then 1 else 0)
-encoding_length order form g h lawful fine =
+form_length order form g h lawful fine =
     let one = srid_counted order form (written order form g) (written_has_options order form g) in
     omega (
       arith,
@@ -173,9 +180,56 @@ encoding_length order form g h lawful fine =
           (encoding_spells order form g h lawful fine),
     )
 
+-- an encoding is as long with any SRID, also with one that doesn't fit
+four_long : (order : Endianness) (n : ℕ) → length (number_bytes order 4 n) ≡ 4
+unfolding number_bytes
+four_long BigEndian n = length-bytes_high_first 4 n
+four_long LittleEndian n = length-bytes_low_first 0 4 n
+
+header_long : (order : Endianness) (n k : ℕ) (d : Dimension) (rest : List ℕ)
+    → length (header_encoding order (Ewkb (Some n)) k d ++ rest) ≡ 9 + length rest
+unfolding header_encoding srid_encoding
+header_long order n k d rest =
+    let code : List ℕ = number_bytes order 4 (code_of (Ewkb (Some n)) k d) in
+    let srid : List ℕ = srid_encoding order (form_srid (Ewkb (Some n))) in
+    let srid_long : length srid ≡ 4 = four_long order n in
+    omega (
+      arith,
+      length-append (code ++ srid) rest,
+      length-append code srid,
+      four_long order (code_of (Ewkb (Some n)) k d),
+      srid_long,
+    )
+
+any_header : (order : Endianness) (n k : ℕ) (d : Dimension) (rest : List ℕ)
+    → length (header_encoding order (Ewkb (Some n)) k d ++ rest)
+    ≡ length (header_encoding order (Ewkb (Some 0)) k d ++ rest)
+any_header order n k d rest = header_long order n k d rest ∙ sym (header_long order 0 k d rest)
+
+any_srid : (order : Endianness) (n : ℕ) (g : Geometry)
+    → length (encoding order (Ewkb (Some n)) g) ≡ length (encoding order (Ewkb (Some 0)) g)
+unfolding point_encoding line_string_encoding polygon_encoding members_encoding
+any_srid order n (geometries.point dims c) = any_header order n 1 (written_dimension dims) _
+any_srid order n (geometries.line_string dims cs) = any_header order n 2 (written_dimension dims) _
+any_srid order n (geometries.polygon dims rings) = any_header order n 3 (written_dimension dims) _
+any_srid order n (geometries.multi_point dims ps) = any_header order n 4 (written_dimension dims) _
+any_srid order n (geometries.multi_line_string dims ls) = any_header order n 5 (written_dimension dims) _
+any_srid order n (geometries.multi_polygon dims ps) = any_header order n 6 (written_dimension dims) _
+any_srid order n (geometries.collection dims gs) = any_header order n 7 (written_dimension dims) _
+any_srid order n (geometries.line dims start end) = any_header order n 2 (written_dimension dims) _
+any_srid order n (geometries.rectangle dims least greatest) = any_header order n 3 Xy _
+any_srid order n (geometries.triangle dims a b c) = any_header order n 3 (written_dimension dims) _
+
+pub encoding_length : (order : Endianness) (form : Form) (g : Geometry) → IsGeometry g → fault g ≡ None
+    → length (encoding order form g) ≡ value_size (normal g) + 4 * (if is_some (form_srid form) then 1 else 0)
+encoding_length order Iso g lawful fine = form_length order Iso g tt lawful fine
+encoding_length order (Ewkb None) g lawful fine = form_length order (Ewkb None) g tt lawful fine
+encoding_length order (Ewkb (Some n)) g lawful fine =
+    any_srid order n g ∙ form_length order (Ewkb (Some 0)) g (omega arith) lawful fine
+
 pub length_of_encoding_lem : LengthOfEncoding
-length_of_encoding_lem order other form g h lawful fine =
-    omega (arith, encoding_length order form g h lawful fine, encoding_length other Iso g tt lawful fine)
+length_of_encoding_lem order other form g _ lawful fine =
+    omega (arith, encoding_length order form g lawful fine, encoding_length other Iso g lawful fine)
 
 -- what bytes spell is written in as many, less four for each SRID
 spelled_written : (order : Endianness) (s : Spelling) (t : Value) (x : List ℕ) → AreBytes x → Spells s t x
@@ -183,7 +237,7 @@ spelled_written : (order : Endianness) (s : Spelling) (t : Value) (x : List ℕ)
 spelled_written order s t x b h =
     let good = spelled_good s t x b h in
     let written : length (encoding order Iso (geometry_of t)) ≡ value_size (normal (geometry_of t)) + 0 =
-    encoding_length order Iso (geometry_of t) tt (lawful-geometry_of t good.0) good.1 in
+    encoding_length order Iso (geometry_of t) (lawful-geometry_of t good.0) good.1 in
     omega (arith, spelled_length s t x h, ap value_size (normal-geometry_of t good.0))
 
 pub length_of_front_lem : LengthOfFront
@@ -201,13 +255,13 @@ size_is_refused_lem order form input s t rest b f = size_refused order form t (f
 
 -- a value is written in no more bytes than spell it where the form has no SRID that the spelling hasn't
 fits : (order : Endianness) (form : Form) (s : Spelling) (t : Value) (x : List ℕ) → AreBytes x → length x < 2 ^ 64
-    → Spells s t x → IsForm form → ◌≤◌ (if is_some (form_srid form) then 1 else 0) (srid_count s)
+    → Spells s t x → ◌≤◌ (if is_some (form_srid form) then 1 else 0) (srid_count s)
     → IsWritable order form (geometry_of t)
 unfolding size_fault
-fits order form s t x b small h form_is fewer =
+fits order form s t x b small h fewer =
     let good = spelled_good s t x b h in
     let long = spelled_length s t x h in
-    let len = encoding_length order form (geometry_of t) form_is (lawful-geometry_of t good.0) good.1 in
+    let len = encoding_length order form (geometry_of t) (lawful-geometry_of t good.0) good.1 in
     let same : value_size (normal (geometry_of t)) ≡ value_size t = ap value_size (normal-geometry_of t good.0) in
     size_refused order form t good
     ∙ cond-true (nat_lt (length (encoding order form (geometry_of t))) (2 ^ 64)) _ _ (lt-ltb _ _ (omega arith))
@@ -222,11 +276,11 @@ spelled_is_writable_lem s t x b small h =
     record {
       lawful = lawful-geometry_of t good.0;
       normal_is = normal-geometry_of t good.0;
-      iso = λ order. fits order Iso s t x b small h tt (omega arith);
+      iso = λ order. fits order Iso s t x b small h (omega arith);
       size = λ order. spelled_written order s t x b h;
-      ewkb = λ order. fits order (Ewkb None) s t x b small h tt (omega arith);
+      ewkb = λ order. fits order (Ewkb None) s t x b small h (omega arith);
       own_form = srid;
-      own_srid = λ order. fits order (Ewkb (header s).srid) s t x b small h srid (outer_counted s);
+      own_srid = λ order. fits order (Ewkb (header s).srid) s t x b small h (outer_counted s);
     }
 
 -- so is what an input begins with

@@ -1,19 +1,11 @@
 -- How long an encoding is, by the SRIDs of the pieces.
-use Rattle.std.proofs.Common.{◌≡◌, ℕ, ◌+◌, ◌*◌, ◌≤◌, List, [], ◌∷◌, ◌++◌, length, is_some, Bool, true, false, Some}
-use Rattle.std.proofs.Common.{None, if◌then◌else◌}
+use Rattle.std.proofs.Common.{◌≡◌, ℕ, ◌+◌, ◌*◌, ◌≤◌, List, [], ◌∷◌, ◌++◌, length, is_some, Bool, true, false}
 use Rattle.std.proofs.Common.{refl, sym, ap, ◌∙◌, arith, length-append}
 use Rattle.wkb_laws.specs.Prelude.{Endianness, Dimension, Form, Coordinate, AreBytes, Value, Values, no_members, member}
 use Rattle.wkb_laws.specs.Prelude.{dimension, members, Spelling, node, Spellings, no_spellings, spelling, Spells}
 use Rattle.wkb_laws.specs.Prelude.{SpellsEach, kind, point, line_string, polygon, multi_point, part}
-use Rattle.wkb_laws.specs.Prelude.{Wanted, srid_count, srid_count_each, srid_size, ring_end, form_srid, header_encoding}
-use Rattle.wkb_laws.specs.Prelude.{IsGeometry, normal, fault, Iso, Ewkb}
+use Rattle.wkb_laws.specs.Prelude.{Wanted, srid_count, srid_count_each, srid_size, ring_end, form_srid}
 use Rattle.wkb_laws.specs.Prelude.{geometry_of, encoding}
-use Rattle.wkb_geom.specs.declared.common.Dimension.TheVariants.{Xy}
-use Rattle.wkb_geom.specs.Dimensions.{written_dimension}
-use Rattle.wkb_geom.specs.Encodings.{point_encoding, line_string_encoding, polygon_encoding, members_encoding}
-use Rattle.wkb_geom.specs.Geometries.{Geometry}
-use Rattle.wkb_geom.specs.Geometries as geometries
-use Rattle.wkb_sink.proofs.Lengths.{length-header}
 use Rattle.wkb_laws.proofs.Lengths.{spelled_length, encoding_length, value_size, srid_size_is, none_without_members}
 use Rattle.wkb_laws.proofs.Lengths.{none_in_points}
 use Rattle.wkb_laws.proofs.OneFront.{one_spelling}
@@ -110,42 +102,6 @@ long_of d g =
     ∙ ap length (one_spelling d.spelled g.spelled d.value g.value d.front.front g.begins.front d.rest g.rest
     d.front.spelled g.begins.first (sym d.front.whole ∙ g.begins.whole)).encoding
 
--- An encoding is as long with any SRID.
-any_header : (order : Endianness) (n k : ℕ) (d : Dimension) (rest : List ℕ)
-    → length (header_encoding order (Ewkb (Some n)) k d ++ rest)
-    ≡ length (header_encoding order (Ewkb (Some 0)) k d ++ rest)
-any_header order n k d rest =
-    let one = header_encoding order (Ewkb (Some n)) k d in
-    let other = header_encoding order (Ewkb (Some 0)) k d in
-    omega (
-      arith,
-      length-append one rest,
-      length-append other rest,
-      length-header order (Ewkb (Some n)) k d,
-      length-header order (Ewkb (Some 0)) k d,
-    )
-
-any_srid : (order : Endianness) (n : ℕ) (g : Geometry)
-    → length (encoding order (Ewkb (Some n)) g) ≡ length (encoding order (Ewkb (Some 0)) g)
-unfolding point_encoding line_string_encoding polygon_encoding members_encoding
-any_srid order n (geometries.point dims c) = any_header order n 1 (written_dimension dims) _
-any_srid order n (geometries.line_string dims cs) = any_header order n 2 (written_dimension dims) _
-any_srid order n (geometries.polygon dims rings) = any_header order n 3 (written_dimension dims) _
-any_srid order n (geometries.multi_point dims ps) = any_header order n 4 (written_dimension dims) _
-any_srid order n (geometries.multi_line_string dims ls) = any_header order n 5 (written_dimension dims) _
-any_srid order n (geometries.multi_polygon dims ps) = any_header order n 6 (written_dimension dims) _
-any_srid order n (geometries.collection dims gs) = any_header order n 7 (written_dimension dims) _
-any_srid order n (geometries.line dims start end) = any_header order n 2 (written_dimension dims) _
-any_srid order n (geometries.rectangle dims least greatest) = any_header order n 3 Xy _
-any_srid order n (geometries.triangle dims a b c) = any_header order n 3 (written_dimension dims) _
-
-encoding_long : (order : Endianness) (form : Form) (g : Geometry) → IsGeometry g → fault g ≡ None
-    → length (encoding order form g) ≡ value_size (normal g) + 4 * (if is_some (form_srid form) then 1 else 0)
-encoding_long order Iso g lawful fine = encoding_length order Iso g tt lawful fine
-encoding_long order (Ewkb None) g lawful fine = encoding_length order (Ewkb None) g tt lawful fine
-encoding_long order (Ewkb (Some n)) g lawful fine =
-    any_srid order n g ∙ encoding_length order (Ewkb (Some 0)) g (omega arith) lawful fine
-
 -- the encoding has the form's SRID, and not those that the pieces have
 pub measured : (order : Endianness) (form : Form) (buf : List ℕ) {bytes : ℕ} (g : HasGeometry buf) → AreBytes buf
     → bytes ≡ length g.begins.front
@@ -159,7 +115,7 @@ measured order form buf g b long =
       srid_size_is (is_some (form_srid form)),
       srids_counted 0 g.spelled g.value g.begins.front g.begins.first,
       spelled_length g.spelled g.value g.begins.front g.begins.first,
-      encoding_long order form (geometry_of g.value) (lawful-geometry_of g.value good.0) good.1,
+      encoding_length order form (geometry_of g.value) (lawful-geometry_of g.value good.0) good.1,
       ap value_size (normal-geometry_of g.value good.0),
     )
 
