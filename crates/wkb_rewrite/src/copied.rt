@@ -84,16 +84,6 @@ fn pass_next(buf: &[u8], pieces: &mut Pieces<'_>, order: Endianness, form: Form)
     Some(stands_as_written(buf, &piece, order, form))
 }
 
-/// The bytes from one index to another.
-#[inline(always)]
-fn between(buf: &[u8], start: usize, end: usize) -> &[u8]
-    requires rise { start ≤ end }
-    requires inside { end ≤ length buf.now }
-    ensures { result.now ≡ take (end - start) (drop start buf.now) }
-{
-    &buf[start..end]
-}
-
 impl<'a> Copied<'a> {
     /// The encoding of the geometry in which the check found this, where all that follows its header stands as it is
     /// written.
@@ -135,7 +125,7 @@ impl<'a> Copied<'a> {
         Some(Copied {
             options,
             wkb_type: of_kind(first.kind, first.dimension),
-            rest: between(buf, start, found.bytes),
+            rest: &buf[start..found.bytes],
         })
     }
 

@@ -1,6 +1,6 @@
 //! What the files of all kinds use.
 
-pub use crate::measure::{Measured, behind_header, supported_dimension, words_of, words_size};
+pub use crate::measure::{Measured, behind_header, supported_dimension, words_size};
 pub use crate::writable::{Put, Writable, size_as, write_as};
 pub use crate::{Sink, WriteOptions};
 pub use wkb_geom::code::WkbType;

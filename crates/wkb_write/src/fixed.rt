@@ -46,7 +46,7 @@ pub trait Fixed<G: Dimensioned> {
 /// The geometries of a kind of a fixed size.
 pub struct AtOnce<F>(F);
 
-#[tactic(auto, using(crate::proofs::Steps::step_laws))]
+#[tactic(auto, using(crate::proofs::Steps::step_laws, crate::proofs::Supported::width_laws))]
 impl<G: Dimensioned, F: Fixed<G>> Writable<G> for AtOnce<F> {
     ghost geometry = { λ g. F.geometry g };
 
@@ -61,7 +61,7 @@ impl<G: Dimensioned, F: Fixed<G>> Writable<G> for AtOnce<F> {
     #[inline(always)]
     fn put<S: Sink>(out: &mut Buffered<'_, S>, geom: &G, options: &WriteOptions) -> Put {
         let dim = supported_dimension(geom.dim());
-        out.make_room(length_of_header(options.form) + F::size(words_of(dim)))?;
+        out.make_room(length_of_header(options.form) + F::size(dim.width()))?;
         out.len = F::lay(out.bytes, out.len, geom, dim, options);
         Ok(())
     }

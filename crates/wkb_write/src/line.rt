@@ -11,7 +11,7 @@ use wkb_sink::block::lay_vertex;
 /// A line, which is laid as a line string of its two ends.
 pub struct LineKind;
 
-#[tactic(auto, using(crate::proofs::Steps::fixed_laws))]
+#[tactic(auto, using(crate::proofs::Steps::fixed_laws, crate::proofs::Supported::width_laws))]
 impl<L: LineTrait> Fixed<L> for LineKind {
     ghost geometry = { line_meant L.LineTrait };
 
@@ -26,7 +26,7 @@ impl<L: LineTrait> Fixed<L> for LineKind {
 
     fn lay(bytes: &mut [u8], at: usize, geom: &L, dim: Dimension, options: &WriteOptions) -> usize {
         let order = options.endianness;
-        let words = words_of(dim);
+        let words = dim.width();
         let at = lay_header(bytes, at, options, WkbType::LineString(dim));
         let at = lay_count(bytes, at, order, 2);
         let at = lay_vertex(bytes, at, order, &geom.start(), words);

@@ -112,17 +112,6 @@ pub fn supported_dimension(dim: Dimensions) -> Dimension
     dimension_to_write(dim)
 }
 
-/// The number of words of a coordinate that is written.
-#[inline(always)]
-#[tactic(auto, using(crate::proofs::Supported::width_laws))]
-pub fn words_of(dim: Dimension) -> usize
-    ensures words { result ≡ width dim }
-    ensures least { 2 ≤ result }
-    ensures most { result ≤ 4 }
-{
-    dim.width()
-}
-
 /// The form's SRID, if it has one, fits four bytes.
 #[inline(always)]
 pub fn form_fits(form: Form)

@@ -12,7 +12,7 @@ use wkb_sink::block::{lay_coordinate, lay_empty};
 /// A point, empty or not.
 pub struct PointKind;
 
-#[tactic(auto, using(crate::proofs::Steps::fixed_laws))]
+#[tactic(auto, using(crate::proofs::Steps::fixed_laws, crate::proofs::Supported::width_laws))]
 impl<P: PointTrait> Fixed<P> for PointKind {
     ghost geometry = { point_meant P.PointTrait };
 
@@ -28,7 +28,7 @@ impl<P: PointTrait> Fixed<P> for PointKind {
     #[inline(always)]
     fn lay(bytes: &mut [u8], at: usize, geom: &P, dim: Dimension, options: &WriteOptions) -> usize {
         let order = options.endianness;
-        let words = words_of(dim);
+        let words = dim.width();
         let at = lay_header(bytes, at, options, WkbType::Point(dim));
         match geom.coord() {
             Some(coord) => lay_coordinate(bytes, at, order, &coord, words),

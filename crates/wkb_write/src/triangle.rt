@@ -11,7 +11,7 @@ use wkb_sink::block::lay_vertex;
 /// A triangle, which is laid as a polygon of one ring that ends as it begins.
 pub struct TriangleKind;
 
-#[tactic(auto, using(crate::proofs::Steps::fixed_laws))]
+#[tactic(auto, using(crate::proofs::Steps::fixed_laws, crate::proofs::Supported::width_laws))]
 impl<T: TriangleTrait> Fixed<T> for TriangleKind {
     ghost geometry = { triangle_meant T.TriangleTrait };
 
@@ -26,7 +26,7 @@ impl<T: TriangleTrait> Fixed<T> for TriangleKind {
 
     fn lay(bytes: &mut [u8], at: usize, geom: &T, dim: Dimension, options: &WriteOptions) -> usize {
         let order = options.endianness;
-        let words = words_of(dim);
+        let words = dim.width();
         let first = geom.first();
         let at = lay_header(bytes, at, options, WkbType::Polygon(dim));
         let at = lay_count(bytes, at, order, 1);

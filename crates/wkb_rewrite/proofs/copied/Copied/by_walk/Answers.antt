@@ -1,4 +1,4 @@
-use Rattle.std.proofs.Common.{◌+◌, ◌++◌, ap, sym, ◌∙◌, arith, length, length-append}
+use Rattle.std.proofs.Common.{◌+◌, ◌-◌, ◌++◌, ℕ, take, drop, ap, sym, ◌∙◌, arith, length, length-append}
 use Rattle.wkb_laws.specs.Prelude.{encoding, geometry_of}
 use Rattle.wkb_check.specs.Bounded.{HasGeometry}
 use Rattle.wkb_rewrite.specs.Shares.{type_header}
@@ -44,17 +44,22 @@ copied c g =
     (omega (arith, inside.ends, inside.inside))
     (ap (λ n. 5 + n) c.srid_size-start.ensures)
 
-pub between-requires-clause-rise : goal.between-requires-clause-rise
-between-requires-clause-rise c =
-    (copied (goal.at.between-requires-clause-rise c).After-srid_size-start (here c.requires)).inside
+pub slice_bounds-result-count : goal.slice_bounds-result-count
+slice_bounds-result-count c =
+    (copied (goal.at.slice_bounds-result-count c).After-srid_size-start (here c.requires)).inside
 
-pub between-requires-clause-inside : goal.between-requires-clause-inside
-between-requires-clause-inside c =
+pub slice_bounds-result-start : goal.slice_bounds-result-start
+slice_bounds-result-start c =
+    (copied (goal.at.slice_bounds-result-start c).After-srid_size-start (here c.requires)).inside
+
+pub slice_bounds-result-end : goal.slice_bounds-result-end
+slice_bounds-result-end c =
     let g = here c.requires in
     omega (arith, c.requires.described.bytes_are, ap length g.begins.whole, length-append g.begins.front g.rest)
 
 pub returns : goal.returns
 returns c = λ g.
+    let start : ℕ = 5 + c.srid_size-start.result in
     (copied (goal.at.returns c).After-srid_size-start g).is
-    ∙ (λ i. type_header c.args.options.endianness c.args.options.form (sym c.of_kind.ensures i)
-        ++ sym c.between.ensures i)
+    ∙ ap (λ t. type_header c.args.options.endianness c.args.options.form t
+    ++ take (c.args.found.now.bytes - start) (drop start c.args.buf.now)) (sym c.of_kind.ensures)

@@ -11,6 +11,6 @@ returns-in-Some-clause-bytes g c =
 pub returns-in-None-clause-bytes : goal.returns-in-None-clause-bytes
 unfolding point_encoding point_words
 returns-in-None-clause-bytes g c =
-    let words = rw c.words_of-words.ensures.words at c.lay_empty.ensures.bytes in
+    let words = rw c.width-words.ensures at c.lay_empty.ensures.bytes in
     rw (← c.requires.dimension, ← c.in-None.ensures.value)
     (behind c.lay_header-at.ensures.bytes words)
