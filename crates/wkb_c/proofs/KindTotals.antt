@@ -20,7 +20,7 @@ use Rattle.wkb_c.specs.Coordinates.{ring_counts, single_counts, totals_after, Ar
 use Rattle.wkb_c.specs.declared.coordinates.Totals.{Totals}
 use Rattle.wkb_c.specs.PieceLevels.{ring_number, single_number, ring_sizes, single_sizes}
 use Rattle.wkb_c.specs.RowItems.{end_of}
-use Rattle.wkb_c.specs.Subjects.{Subject, whole, ring, subjects, subjects_of_rings, subjects_of_each}
+use Rattle.wkb_check.specs.Subjects.{Subject, whole, ring, subjects, subjects_of_rings, subjects_of_each}
 use Rattle.wkb_c.proofs.Levels.{sum-first, sum_append}
 
 -- these subjects have so many coordinates, rings and singles

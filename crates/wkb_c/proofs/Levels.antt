@@ -4,7 +4,7 @@ use Rattle.wkb_c.proofs.Common.{drop, Some, None, slice_index, refl, ap, sym, su
 use Rattle.wkb_c.proofs.Common.{append-nil, length-append, drop-drop, Dimension, width, number, Coordinate, Spelling}
 use Rattle.wkb_c.proofs.Common.{node, Spellings, no_spellings, spelling, Value, Values, point, line_string, polygon}
 use Rattle.wkb_c.proofs.Common.{no_members, member, members, dimension}
-use Rattle.std.specs.Prelude.{sum, flat_map, true, nat_lt}
+use Rattle.std.specs.Prelude.{sum, flat_map, true, nat_lt, ◌&&◌, if◌then◌else◌}
 use Rattle.std.proofs.Common.{set}
 use Rattle.std.proofs.lemmas.Grind.{common_steps}
 use lib.Seq.{sets, length-sets}
@@ -22,9 +22,9 @@ use Rattle.wkb_c.specs.Coordinates.{Levels, HasRoomUpTo}
 use Rattle.wkb_c.specs.declared.coordinates.Totals.{Totals}
 use Rattle.wkb_c.specs.PieceLevels.{ring_sizes, single_sizes, piece_words, with_words, with_ring_end, with_single_end}
 use Rattle.wkb_c.specs.RowItems.{end_of}
-use Rattle.wkb_c.specs.Subjects.{Subject, whole, ring, subjects, subjects_of_rings, subjects_of_each, dimension_in}
-use Rattle.wkb_c.specs.Subjects.{coordinates_in}
-use Rattle.wkb_c.proofs.Words.{IsPieceOf, ArePiecesOf, pieces_match}
+use Rattle.wkb_check.proofs.Subjects.{IsPieceOf, ArePiecesOf, kind_in, count_in, pieces_match}
+use Rattle.wkb_check.specs.Subjects.{Subject, whole, ring, subjects, subjects_of_rings, subjects_of_each, dimension_in}
+use Rattle.wkb_check.specs.Subjects.{coordinates_in}
 
 -- ---- words
 
@@ -145,16 +145,40 @@ no_piece input [] [] none are = refl
 no_piece input [] (x ∷ xs) none are = absurd are
 no_piece input (p ∷ ps) xs none are = absurd (cc)
 
+-- the sizes of its rings and singles, by its kind and its count
+abbrev rings_of_kind : ℕ → ℕ → List ℕ
+rings_of_kind k n = if nat_lt k 3 then n ∷ [] else []
+
+abbrev singles_of_kind : ℕ → ℕ → List ℕ
+singles_of_kind k n = if nat_lt 0 k && nat_lt k 4 then (if nat_lt k 3 then 1 else n) ∷ [] else []
+
+rings_by_kind : (x : Subject) → ring_counts x ≡ rings_of_kind (kind_in x) (count_in x)
+rings_by_kind (whole s (point d c)) = refl
+rings_by_kind (whole s _) = refl
+rings_by_kind (ring order d cs) = refl
+
+singles_by_kind : (x : Subject) → single_counts x ≡ singles_of_kind (kind_in x) (count_in x)
+singles_by_kind (whole s (point d c)) = refl
+singles_by_kind (whole s _) = refl
+singles_by_kind (ring order d cs) = refl
+
 -- it is the first on each level
 module _ {input : List ℕ} {p : Piece} {ps : List Piece} {xs : List Subject} (f : FirstPiece input p ps xs) where
+  own_rings : ring_counts f.x ≡ ring_sizes p
+  own_rings = rings_by_kind f.x ∙ (λ i. rings_of_kind (sym f.piece.kind_is i) (sym f.piece.count_is i))
+
+  own_singles : single_counts f.x ≡ single_sizes p
+  own_singles = singles_by_kind f.x ∙ (λ i. singles_of_kind (sym f.piece.kind_is i) (sym f.piece.count_is i))
+
   rings_are : flat_map ring_counts xs ≡ ring_sizes p ++ flat_map ring_counts f.others
-  rings_are = ap (flat_map ring_counts) f.first ∙ ap (λ ns. ns ++ flat_map ring_counts f.others) f.piece.rings
+  rings_are = ap (flat_map ring_counts) f.first ∙ ap (λ ns. ns ++ flat_map ring_counts f.others) own_rings
 
   singles_are : flat_map single_counts xs ≡ single_sizes p ++ flat_map single_counts f.others
-  singles_are = ap (flat_map single_counts) f.first ∙ ap (λ ns. ns ++ flat_map single_counts f.others) f.piece.singles
+  singles_are = ap (flat_map single_counts) f.first ∙ ap (λ ns. ns ++ flat_map single_counts f.others) own_singles
 
   first_words : (asked : Dimension) → words_in asked f.x ≡ piece_words asked input p
-  first_words asked = λ i. flat_map (words_asked asked (f.piece.dimension_is i)) (f.piece.words i)
+  first_words asked =
+      λ i. flat_map (words_asked asked (sym f.piece.dimension_is i)) (sym f.piece.coordinates_are i)
 
   words_are : (asked : Dimension)
       → flat_map (words_in asked) xs ≡ piece_words asked input p ++ flat_map (words_in asked) f.others
@@ -203,7 +227,7 @@ pub totals_first : (input : List ℕ) (from : Totals) (g : HasGeometry input) �
     → TotalsLeft input from (subjects g.spelled g.value) from (pieces_of 0 g.spelled g.value)
 totals_first input from g small = record {
   xs = subjects g.spelled g.value;
-  match_is = pieces_match g.spelled g.value g.begins;
+  match_is = pieces_match input 0 g.spelled g.value g.begins;
   small = small;
   total = refl;
 }
@@ -380,7 +404,7 @@ levels_first asked input from out g short short' short'' room =
     let none : from.rings + 0 ≡ from.rings = omega arith in
     record {
       xs = xs;
-      match_is = pieces_match g.spelled g.value g.begins;
+      match_is = pieces_match input 0 g.spelled g.value g.begins;
       rings_left = 0;
       paced =
           subst (Paced 0) (append-nil xs) (geometry_paced g.spelled g.value [] tt);
@@ -413,7 +437,7 @@ module _ {asked : Dimension} {input : List ℕ} {from : Totals} {all : List Subj
   piece_length : length (piece_words asked input p) ≡ width asked * sum (ring_sizes p)
   piece_length =
       sym (ap length (first_words this asked)) ∙ subject_words asked this.x
-      ∙ ap (λ ns. width asked * sum ns) this.piece.rings
+      ∙ ap (λ ns. width asked * sum ns) (own_rings this)
 
   pub ring_words_fit : width asked * (at.coordinates + sum (ring_sizes p)) ≤ length out.words
   ring_words_fit =
@@ -469,13 +493,13 @@ module _ {asked : Dimension} {input : List ℕ} {from : Totals} {all : List Subj
     paces = pace left.rings_left this.x this.others (subst (Paced left.rings_left) this.first left.paced)
 
     open_to : to.rings + paces.now ≡ at.rings + left.rings_left + sum (single_sizes p)
-    open_to = omega (arith, rings_to, paces.counts, ap length this.piece.rings, ap sum this.piece.singles)
+    open_to = omega (arith, rings_to, paces.counts, ap length (own_rings this), ap sum (own_singles this))
 
     -- where a single ends, no ring is to come
     from_here : (single_counts this.x ≡ []) ⊎ (left.rings_left ≡ 0)
         → ends at.rings (single_sizes p) ≡ ends (at.rings + left.rings_left) (single_sizes p)
     from_here (inl none) =
-        let is : single_sizes p ≡ [] = sym this.piece.singles ∙ none in
+        let is : single_sizes p ≡ [] = sym (own_singles this) ∙ none in
         ap (ends at.rings) is ∙ ap (ends (at.rings + left.rings_left)) (sym is)
     from_here (inr none) =
         let same : at.rings ≡ at.rings + left.rings_left = omega (arith, none) in ap (λ k. ends k (single_sizes p)) same

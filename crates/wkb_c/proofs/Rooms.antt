@@ -14,7 +14,7 @@ use Rattle.wkb_c.specs.Coordinates.{IsCoordinatesRow, HasCoordinates, handed, fa
 use Rattle.wkb_c.specs.Coordinates.{totals_after, with_levels, ring_counts, single_counts, ends, words_in}
 use Rattle.wkb_c.specs.declared.coordinates.Totals.{Totals}
 use Rattle.wkb_c.specs.declared.status.TheConstants.{NO_ROOM}
-use Rattle.wkb_c.specs.Subjects.{Subject, subjects}
+use Rattle.wkb_check.specs.Subjects.{Subject, subjects}
 use Rattle.wkb_c.proofs.Levels.{AreSmall, none_added}
 use Rattle.wkb_c.proofs.Reasons.{coordinates_tell_other}
 use Rattle.wkb_c.proofs.Rows.{below_more}

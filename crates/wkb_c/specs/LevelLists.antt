@@ -7,7 +7,7 @@ use Rattle.wkb_check.specs.declared.answer.Summary.{Summary}
 use Rattle.wkb_c.specs.Coordinates.{Levels, levels, HasRoomUpTo, totals_after, with_levels, IsCoordinatesRow}
 use Rattle.wkb_c.specs.Coordinates.{ArePut, AreColumnCoordinates, LevelsSuffice}
 use Rattle.wkb_c.specs.RowItems.{rows_of}
-use Rattle.wkb_c.specs.Subjects.{subjects}
+use Rattle.wkb_check.specs.Subjects.{subjects}
 use Rattle.wkb_c.specs.declared.column.Column.{Column}
 use Rattle.wkb_c.specs.declared.coordinates.LevelSlices.{LevelSlices}
 use Rattle.wkb_c.specs.declared.coordinates.Totals.{Totals}

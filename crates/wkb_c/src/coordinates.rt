@@ -16,7 +16,7 @@ ghost use Rattle.wkb_c.specs.PieceLevels.{ring_sizes, single_sizes, AreInside, I
 ghost use Rattle.wkb_c.specs.PieceLevels.{words_asked_of, with_words, with_ring_end, with_single_end};
 ghost use Rattle.wkb_c.specs.PieceLevels.{ring_number, single_number};
 ghost use Rattle.wkb_c.specs.RowItems.{end_of};
-ghost use Rattle.wkb_c.specs.Subjects.{subjects};
+ghost use Rattle.wkb_check.specs.Subjects.{subjects};
 
 use wkb_check::{Piece, Pieces, RING, Summary};
 use wkb_geom::code::{GEOMETRY_COLLECTION, MULTI_POINT, MULTI_POLYGON, POLYGON};

@@ -9,12 +9,15 @@ use Rattle.wkb_geom.specs.Items.{length-items}
 use Rattle.wkb_geom.specs.Reading.{ring_in}
 use Rattle.wkb_check.specs.Bounded.{HasGeometry, HasGeometries, AreWhole, rings_in}
 use Rattle.wkb_check.specs.Pieces.{Ahead, own_end, ring_piece, piece_of, pieces_of, pieces_of_rings, pieces_of_each}
-use Rattle.wkb_check.specs.Pieces.{size_of_rings, size, sizes, IsInside}
+use Rattle.wkb_check.specs.Pieces.{size_of_rings, size, sizes, IsInside, IsAhead, HasAhead, IsTaken, Steps, bytes_left}
+use Rattle.wkb_check.specs.declared.pieces.Pieces.{Pieces}
+use Rattle.std.specs.Prelude.{Some, None}
+use Rattle.std.specs.Iterator.{MakesProgress, Yields, at_most}
 use Rattle.wkb_check.specs.declared.pieces.Piece.{Piece}
 use Rattle.wkb_check.proofs.Scanning.{few_geometries, join_spellings, join_values, count_join, spelled_join}
 use Rattle.wkb_check.specs.Tables.{rings_from}
 use Rattle.wkb_check.proofs.Placing.{begun_at, behind_geometry, first_one, leaf_of, rings_inside, members_inside}
-use Rattle.wkb_check.proofs.Placing.{own_piece, First, geometry_inside}
+use Rattle.wkb_check.proofs.Placing.{own_piece, First, geometry_inside, onward}
 
 pub ahead_first : (buf : List ℕ) (order : Endianness) (d : Dimension) (g : HasGeometry buf)
     → Ahead buf order d 0 1 0 (pieces_of 0 g.spelled g.value)
@@ -253,3 +256,34 @@ module _ {buf : List ℕ} {order : Endianness} {d : Dimension} {r n at : ℕ} {x
     members_few high other =
         let q = members_taken high other in
         omega (arith, few_geometries _ _ _ q.ahead.all, length-drop q.ahead.after buf)
+
+-- ---- the iterator
+
+-- after a piece, others may be taken, and fewer bytes are left
+pub goes : (w now : Pieces) (p : Piece) → HasAhead w → ((xs : List Piece) → IsAhead w xs → IsTaken now xs p)
+    → IsInside w.bytes.now w.at now.at p → now.bytes.now ≡ w.bytes.now
+    → MakesProgress HasAhead (λ v. at_most (bytes_left v)) w (Some p) now
+goes w now p h steps inside same =
+    let x = steps h.pieces h.are in
+    let can : HasAhead now = record { pieces = x.rest; are = x.ahead } in
+    record {
+      on = λ f. (can, f, omega (arith, ap length same, inside.inside, onward w.bytes.now w.at now.at p inside));
+      keeps = can;
+      rests = λ f. tt;
+    }
+
+-- what calls of `next` gave, and what is to come after them, are the pieces that were to come
+pub given : (w now : Pieces) (ps xs : List Piece) → IsAhead w ps → Yields Steps w xs now
+    → (rest : List Piece) × IsAhead now rest × (ps ≡ xs ++ rest)
+given w now ps [] a y = (ps, subst (λ v. IsAhead v ps) y a, refl)
+given w now ps (x ∷ xs) a y =
+    let t = y.1.steps ps a in
+    let k = given y.0 now t.rest xs t.ahead y.2 in
+    (k.0, k.1, t.first ∙ ap (λ l. x ∷ l) k.2)
+
+-- where none is left, they are all
+pub all_given : (w now end : Pieces) (ps xs : List Piece) → IsAhead w ps → Yields Steps w xs now → Steps now None end
+    → ps ≡ xs
+all_given w now end ps xs a y s =
+    let k = given w now ps xs a y in
+    k.2 ∙ ap (λ l. xs ++ l) (s.steps k.0 k.1) ∙ append-nil xs

@@ -8,6 +8,7 @@ pub mod Ranking
 pub mod Widening
 pub mod Bodies
 pub mod Scanning
+pub mod Subjects
 pub mod Ahead
 pub mod Rings
 pub mod Placing

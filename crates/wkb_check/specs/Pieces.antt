@@ -1,7 +1,7 @@
 -- The pieces of a geometry in preorder: itself, and its rings and members at every level; where they are in its bytes,
 -- and what is still to come of them.
 use Rattle.std.specs.Prelude.{◌≡◌, ℕ, ◌+◌, ◌*◌, ◌<◌, ◌≤◌, List, [], ◌∷◌, ◌++◌, length, drop, Option, Some, None}
-use Rattle.std.specs.Prelude.{is_some, false}
+use Rattle.std.specs.Prelude.{is_some, false, IfSome, ◌-◌}
 use Rattle.std.specs.Prelude.{nat_lt, if◌then◌else◌}
 use Rattle.wkb_geom.specs.declared.common.Dimension.{Dimension}
 use Rattle.wkb_geom.specs.declared.common.Dimension.TheVariants.{Xy}
@@ -154,6 +154,17 @@ pub record IsInside (buf : List ℕ) (from to : ℕ) (p : Piece) : Type 0 where
 abbrev pub IsNext : Pieces → List Piece → Option Piece → Type 0
 IsNext now xs None = xs ≡ []
 IsNext now xs (Some p) = IsTaken now xs p
+
+-- a call of `next`: the next of these pieces was taken, if there is one, and the bytes are the same
+pub record Steps (w : Pieces) (result : Option Piece) (now : Pieces) : Type 0 where
+  pub steps : (xs : List Piece) → IsAhead w xs → IsNext now xs result
+  pub inside : IfSome result (λ p. IsInside w.bytes.now w.at now.at p)
+  pub further : IfSome result (λ p. w.at < now.at)
+  pub same : now.bytes.now ≡ w.bytes.now
+
+-- the bytes that are not behind it
+abbrev pub bytes_left : Pieces → ℕ
+bytes_left w = length w.bytes.now - w.at
 
 -- the header of a geometry of this kind with an x and a y, whose code is the number of its kind and nothing else
 abbrev pub bare_head : Endianness → ℕ → Head

@@ -1,10 +1,11 @@
 //! The pieces of a geometry that is known to be there, in preorder: itself, and its rings and members at every level.
 
 ghost use Rattle.std.specs.Prelude.{◌≡◌, ◌+◌, ◌≤◌, ◌<◌, ◌^◌, length, drop, List, IfSome, None, nat_lt};
+ghost use Rattle.std.specs.Iterator.{at_most};
 ghost use Rattle.wkb_geom.specs.Numbers.{number};
 ghost use Rattle.wkb_check.specs.Bounded.{HasGeometry};
 ghost use Rattle.wkb_check.specs.Pieces.{own_end, ring_piece, pieces_of, IsPieceAt, IsHeaderAt, IsAhead, HasAhead};
-ghost use Rattle.wkb_check.specs.Pieces.{IsTaken, IsNext, IsInside};
+ghost use Rattle.wkb_check.specs.Pieces.{IsTaken, IsInside, Steps, bytes_left};
 ghost use Rattle.wkb_check.specs.Public.{DescribesFront};
 
 use crate::answer::Summary;
@@ -258,17 +259,20 @@ impl<'a> Pieces<'a> {
         self.pass_geometry(&piece);
         Some(piece)
     }
+}
 
-    /// The next piece, if one is to come.
+impl<'a> Iterator for Pieces<'a> {
+    type Item = Piece;
+
+    ghost can_next = { HasAhead };
+
+    ghost next_gives = { Steps };
+
+    ghost remaining = { λ w. at_most (bytes_left w) };
+
     #[tactic(auto, using(crate::proofs::Placing::onward))]
     #[inline(always)]
-    pub fn next(&mut self) -> Option<Piece>
-        requires ahead { HasAhead self.old }
-        ensures steps { (xs : List Piece) → IsAhead self.old xs → IsNext self.new xs result }
-        ensures inside { IfSome result (λ p. IsInside self.old.bytes.now self.old.at self.new.at p) }
-        ensures further { IfSome result (λ p. self.old.at < self.new.at) }
-        ensures same { self.new.bytes.now ≡ self.old.bytes.now }
-    {
+    fn next(&mut self) -> Option<Piece> {
         if self.rings > 0 {
             Some(self.next_ring())
         } else if self.geometries > 0 {

@@ -63,8 +63,7 @@ fn put_bounds_of_front(buf: &[u8], bounds: &mut Bounds)
     ensures { (g : HasGeometry buf.now) → AreBounds bounds.new g.value }
 {
     let mut ranks = AxisRanks::empty();
-    let mut pieces = Pieces::of(buf);
-    while let Some(piece) = pieces.next() {
+    for piece in Pieces::of(buf) {
         if piece.has_coordinates() {
             let bytes = rest_from(buf, piece.offset);
             ranks.widen(piece.order, piece.dimension, piece.count, bytes);

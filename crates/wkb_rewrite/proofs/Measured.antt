@@ -12,12 +12,10 @@ use Rattle.wkb_laws.proofs.OneFront.{one_spelling}
 use Rattle.wkb_laws.proofs.Values.{spelled_good, normal-geometry_of, lawful-geometry_of}
 use Rattle.wkb_geom.specs.Spellings.{Header}
 use Rattle.wkb_check.specs.declared.pieces.Piece.{Piece}
-use Rattle.wkb_check.specs.declared.pieces.Pieces.{Pieces}
 use Rattle.wkb_check.specs.declared.answer.Summary.{Summary}
 use Rattle.wkb_check.specs.Bounded.{HasGeometry}
 use Rattle.wkb_check.specs.Public.{DescribesFront}
 use Rattle.wkb_check.specs.Pieces.{leading, rings_of, size, piece_of, pieces_of, pieces_of_rings, pieces_of_each}
-use Rattle.wkb_check.specs.Pieces.{IsAhead}
 use Rattle.wkb_rewrite.proofs.Comparing.{geometry_bytes}
 
 -- the bytes of the SRIDs of pieces
@@ -25,7 +23,7 @@ abbrev pub srid_sizes : List Piece → ℕ
 srid_sizes [] = 0
 srid_sizes (p ∷ ps) = srid_size (is_some p.srid) + srid_sizes ps
 
-sizes_append : (ps qs : List Piece) → srid_sizes (ps ++ qs) ≡ srid_sizes ps + srid_sizes qs
+pub sizes_append : (ps qs : List Piece) → srid_sizes (ps ++ qs) ≡ srid_sizes ps + srid_sizes qs
 sizes_append [] qs = omega arith
 sizes_append (p ∷ ps) qs = omega (arith, sizes_append ps qs)
 
@@ -130,9 +128,3 @@ at_most order form buf g b =
       ap length g.begins.whole,
       length-append g.begins.front g.rest,
     )
-
--- the size so far is too much by the SRIDs of the pieces to come
-pub record Sized (w : Pieces) (size whole : ℕ) : Type 0 where
-  pub pieces : List Piece
-  pub ahead : IsAhead w pieces
-  pub over : size ≡ whole + srid_sizes pieces

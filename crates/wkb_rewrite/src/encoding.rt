@@ -40,8 +40,7 @@ pub fn encoded_size(buf: &[u8], found: &Summary, form: Form) -> usize
         // Rings and the points of a multi point have none.
         return size - srid_size(first.srid);
     }
-    let mut pieces = Pieces::of(buf);
-    while let Some(piece) = pieces.next() {
+    for piece in Pieces::of(buf) {
         size -= srid_size(piece.srid);
     }
     size

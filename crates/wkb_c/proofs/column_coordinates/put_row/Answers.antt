@@ -1,6 +1,6 @@
 use Rattle.wkb_c.proofs.Common.{refl, sym, ◌∙◌}
 use Rattle.wkb_c.specs.Coordinates.{handed, failed, unknown, refused}
-use Rattle.wkb_c.specs.Subjects.{subjects}
+use Rattle.wkb_check.specs.Subjects.{subjects}
 use Rattle.wkb_c.proofs.Rooms.{has_coordinates}
 use Rattle.wkb_c.proofs.column_coordinates.put_row.Goals as goal
 

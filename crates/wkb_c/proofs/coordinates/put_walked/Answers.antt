@@ -2,7 +2,7 @@ use Rattle.wkb_c.proofs.Common.{arith, ap, ◌∙◌, refl, length}
 use Rattle.wkb_check.specs.Bounded.{HasGeometry}
 use Rattle.wkb_check.specs.Pieces.{pieces_of}
 use Rattle.wkb_c.specs.LevelLists.{levels_of}
-use Rattle.wkb_c.specs.Subjects.{subjects}
+use Rattle.wkb_check.specs.Subjects.{subjects}
 use Rattle.wkb_c.proofs.Levels.{LevelsLeft, levels_first, levels_next, levels_last, piece_inside, ring_words_fit}
 use Rattle.wkb_c.proofs.Levels.{ring_end_fits, single_end_fits}
 use Rattle.wkb_c.proofs.coordinates.put_walked.Goals as goal
@@ -41,6 +41,9 @@ put_single-requires-clause-fits c =
     single_end_fits (begun (goal.at.put_single-requires-clause-fits c).After-behind-pieces c.requires.here)
     (c.behind-pieces.ensures.steps c.requires.here).first
 
+pub loop-piece-init-derived : goal.loop-piece-init-derived
+loop-piece-init-derived c = (record { pieces = _; are = (c.behind-pieces.ensures.steps c.requires.here).ahead }, tt)
+
 pub loop-piece-init : goal.loop-piece-init
 loop-piece-init c =
     let behind = c.behind-pieces.ensures in
@@ -57,22 +60,22 @@ loop-piece-init c =
 pub next-requires : goal.next-requires
 next-requires c =
     let left = c.loop-piece.invariant.left c.requires.here in
-    record { ahead = record { pieces = left.ps; are = left.ahead } }
+    record { pieces = left.ps; are = left.ahead }
 
 pub put_ring-requires-in-Some-clause-inside : goal.put_ring-requires-in-Some-clause-inside
 put_ring-requires-in-Some-clause-inside c =
     let l = c.loop-piece.invariant.left c.requires.here in
-    piece_inside l.left (c.in-Some.ensures.steps l.ps l.ahead).first
+    piece_inside l.left (c.in-Some.ensures.steps.steps l.ps l.ahead).first
 
 pub put_ring-requires-in-Some-clause-words_fit : goal.put_ring-requires-in-Some-clause-words_fit
 put_ring-requires-in-Some-clause-words_fit c =
     let l = c.loop-piece.invariant.left c.requires.here in
-    ring_words_fit l.left (c.in-Some.ensures.steps l.ps l.ahead).first
+    ring_words_fit l.left (c.in-Some.ensures.steps.steps l.ps l.ahead).first
 
 pub put_ring-requires-in-Some-clause-ends_fit : goal.put_ring-requires-in-Some-clause-ends_fit
 put_ring-requires-in-Some-clause-ends_fit c =
     let l = c.loop-piece.invariant.left c.requires.here in
-    ring_end_fits l.left (c.in-Some.ensures.steps l.ps l.ahead).first
+    ring_end_fits l.left (c.in-Some.ensures.steps.steps l.ps l.ahead).first
 
 pub put_single-requires-in-Some-clause-small : goal.put_single-requires-in-Some-clause-small
 put_single-requires-in-Some-clause-small c =
@@ -81,7 +84,7 @@ put_single-requires-in-Some-clause-small c =
 pub put_single-requires-in-Some-clause-fits : goal.put_single-requires-in-Some-clause-fits
 put_single-requires-in-Some-clause-fits c =
     let l = c.loop-piece.invariant.left c.requires.here in
-    single_end_fits l.left (c.in-Some.ensures.steps l.ps l.ahead).first
+    single_end_fits l.left (c.in-Some.ensures.steps.steps l.ps l.ahead).first
 
 pub loop-piece-preserved : goal.loop-piece-preserved
 loop-piece-preserved c =
@@ -95,12 +98,12 @@ loop-piece-preserved c =
       };
       left = λ g.
           let l = c.loop-piece.invariant.left g in
-          let taken = c.in-Some.ensures.steps l.ps l.ahead in
+          let taken = c.in-Some.ensures.steps.steps l.ps l.ahead in
           levels_next l.left taken.first c.with-at-in-Some.result _ more.coordinates more.rings more.singles put.words
           put.ends c.put_single-in-Some.ensures taken.ahead;
-      same = c.next.ensures.same ∙ c.loop-piece.invariant.same;
-      inside = omega (arith, c.in-Some.ensures.inside.inside, ap length c.loop-piece.invariant.same);
+      same = c.next.ensures.steps.same ∙ c.loop-piece.invariant.same;
+      inside = omega (arith, c.in-Some.ensures.steps.inside.inside, ap length c.loop-piece.invariant.same);
     }
 
 pub returns-clause-levels : goal.returns-clause-levels
-returns-clause-levels c = λ g. levels_last (c.loop-piece.invariant.left g) c.in_default.ensures.steps
+returns-clause-levels c = λ g. levels_last (c.loop-piece.invariant.left g) c.in_default.ensures.steps.steps

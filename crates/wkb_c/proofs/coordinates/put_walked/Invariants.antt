@@ -1,7 +1,7 @@
 use Rattle.std.specs.Prelude.{◌≡◌, ◌≤◌, ◌-◌, length}
 use Rattle.wkb_check.specs.Bounded.{HasGeometry}
 use Rattle.wkb_c.specs.LevelLists.{levels_of, AreSameSlices}
-use Rattle.wkb_c.specs.Subjects.{subjects}
+use Rattle.wkb_check.specs.Subjects.{subjects}
 use Rattle.wkb_c.proofs.Levels.{Coming, LevelsLeft}
 use Rattle.wkb_c.proofs.coordinates.put_walked.Given as goal
 

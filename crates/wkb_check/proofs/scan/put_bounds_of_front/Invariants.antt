@@ -1,18 +1,17 @@
-use Rattle.std.proofs.Common.{◌≡◌, ◌≤◌, ◌-◌, length}
-use Rattle.wkb_check.specs.Bounded.{HasGeometry, on, bounds_by}
-use Rattle.wkb_check.specs.Ordinates.{Axis}
-use Rattle.wkb_check.specs.Pieces.{HasAhead}
-use Rattle.wkb_check.proofs.Words.{Comes}
+use Rattle.std.proofs.Common.{◌≡◌, ◌≤◌, length}
+use Rattle.wkb_check.specs.Bounded.{on, nothing, bounds_by}
+use Rattle.wkb_check.specs.Ordinates.{Axis, words_of_each}
+use Rattle.wkb_check.specs.Ranges.{widened}
+use Rattle.wkb_check.proofs.Words.{piece_words}
 use Rattle.wkb_check.proofs.scan.put_bounds_of_front.Given as goal
 
 abbrev pub invariant-loop-piece : goal.invariant-loop-piece
 invariant-loop-piece l = record {
-  comes : (g : HasGeometry l.buf) → Comes l.buf l.pieces (bounds_by l.ranks) g.value;
-  ahead : HasAhead l.pieces;
-  same : l.pieces.bytes.now ≡ l.buf;
-  few : (a : Axis) → (on a (bounds_by l.ranks)).count ≤ l.pieces.at;
-  inside : l.pieces.at ≤ length l.buf;
+  can : (goal.iterator-loop-piece).can_next l.piece-iterator;
+  finite : (goal.iterator-loop-piece).is_finite l.piece-iterator;
+  widened : (a : Axis)
+      → on a (bounds_by l.ranks) ≡ widened (on a nothing) (words_of_each (piece_words a l.buf) l.yielded);
+  same : l.piece-iterator.bytes.now ≡ l.buf;
+  few : (a : Axis) → (on a (bounds_by l.ranks)).count ≤ l.piece-iterator.at;
+  inside : l.piece-iterator.at ≤ length l.buf;
 }
-
-abbrev pub decreases-loop-piece : goal.decreases-loop-piece
-decreases-loop-piece l = length l.buf - l.pieces.at

@@ -15,9 +15,9 @@ stands_as_written-requires-2-clause-header c =
     let ahead = c.requires.ahead in
     let still = subst (λ w. IsAhead w ahead.pieces) (sym (c.next_bare.ensures.stays c.in_default.is)) ahead.are in
     taken_header c.next_bare.new.self _ ahead.pieces _ (c.next_bare.ensures.same ∙ c.requires.here) still
-    (c.in_ok-piece.ensures.steps ahead.pieces still)
+    (c.in_ok-piece.ensures.steps.steps ahead.pieces still)
 
 pub returns-in_err-piece-clause-none : goal.returns-in_err-piece-clause-none
 returns-in_err-piece-clause-none c = λ _ xs are.
     let still = subst (λ w. IsAhead w xs) (sym (c.next_bare.ensures.stays c.in_default.is)) are in
-    nothing_ahead c.next_bare.new.self _ xs _ still c.in_err-piece.was c.next.ensures.steps
+    nothing_ahead c.next_bare.new.self _ xs _ still c.in_err-piece.was c.next.ensures.steps.steps

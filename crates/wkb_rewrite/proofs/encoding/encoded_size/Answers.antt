@@ -1,10 +1,11 @@
-use Rattle.std.proofs.Common.{◌≡◌, ◌+◌, arith, ap, length, ◌∙◌, is_some, length-append}
-use Rattle.wkb_laws.specs.Prelude.{AreBytes, Endianness, LittleEndian, srid_size, form_srid, encoding, geometry_of}
+use Rattle.std.proofs.Common.{◌≡◌, ◌+◌, ◌∷◌, [], arith, ap, sym, subst, length, is_some, length-append}
+use Rattle.wkb_laws.specs.Prelude.{Endianness, LittleEndian, srid_size, encoding, geometry_of}
 use Rattle.wkb_check.specs.Bounded.{HasGeometry}
-use Rattle.wkb_rewrite.proofs.Walks.{nothing_ahead}
-use Rattle.wkb_rewrite.proofs.Measured.{srid_sizes, here, long_of, measured, most_srid, own_srid_alone}
+use Rattle.wkb_check.specs.Pieces.{IsAhead, pieces_of}
+use Rattle.wkb_check.proofs.Following.{given, all_given}
+use Rattle.wkb_rewrite.proofs.Measured.{srid_sizes, sizes_append, here, long_of, measured, most_srid, own_srid_alone}
 use Rattle.wkb_rewrite.proofs.encoding.encoded_size.Goals as goal
-use Rattle.wkb_rewrite.proofs.encoding.encoded_size.Goals.{In_default, Then-first-le-MULTI_POINT}
+use Rattle.wkb_rewrite.proofs.encoding.encoded_size.Goals.{Then-first-le-MULTI_POINT, After-into_iter-piece-iterator}
 
 pub overflow_add-size : goal.overflow_add-size
 overflow_add-size c =
@@ -46,66 +47,66 @@ returns-then-first-le-MULTI_POINT-clause-size c = λ order g.
     let step = (goal.at.returns-then-first-le-MULTI_POINT-clause-size c).Then-first-le-MULTI_POINT in
     omega (arith, alone step order g, c.srid_size-then-first-le-MULTI_POINT.ensures)
 
-pub loop-piece-init : goal.loop-piece-init
-loop-piece-init c = λ order g. record {
-  pieces = _;
-  ahead = c.of-pieces.ensures.ahead g;
-  over = ap (λ n. c.args.found.now.bytes + n)
-      (c.srid_size.ensures ∙ ap (λ o. srid_size (is_some o)) c.srid_of.ensures)
-      ∙ measured order c.args.form c.args.buf.now g (λ i. (c.type_inv.buf i).fits)
-      (long_of c.requires g);
-}
+-- the loop goes over the pieces of the geometry, and the first size is too much by their SRIDs
+ahead : (c : After-into_iter-piece-iterator) (g : HasGeometry c.args.buf.now)
+    → IsAhead c.into_iter-piece-iterator.result (pieces_of 0 g.spelled g.value)
+ahead c g =
+    subst (λ w. IsAhead w (pieces_of 0 g.spelled g.value)) (sym c.into_iter-piece-iterator.ensures.into_iter_gives)
+    (c.of-piece-items.ensures.ahead g)
 
-pub next-requires : goal.next-requires
-next-requires c =
-    let l = c.loop-piece.invariant LittleEndian (here c.requires) in
-    record { ahead = record { pieces = l.pieces; are = l.ahead } }
+over : (c : After-into_iter-piece-iterator) (order : Endianness) (g : HasGeometry c.args.buf.now)
+    → c.args.found.now.bytes + c.srid_size.result
+    ≡ length (encoding order c.args.form (geometry_of g.value)) + srid_sizes (pieces_of 0 g.spelled g.value)
+over c order g =
+    omega (
+      arith,
+      c.srid_size.ensures,
+      ap (λ o. srid_size (is_some o)) c.srid_of.ensures,
+      measured order c.args.form c.args.buf.now g (λ i. (c.type_inv.buf i).fits) (long_of c.requires g),
+    )
+
+pub loop-piece-init-derived : goal.loop-piece-init-derived
+loop-piece-init-derived c = (record { pieces = _; are = ahead c (here c.requires) }, tt)
+
+pub loop-piece-init : goal.loop-piece-init
+loop-piece-init c = record { can = (loop-piece-init-derived c).0; finite = tt; less = omega arith }
 
 pub overflow_sub-size : goal.overflow_sub-size
 overflow_sub-size c =
-    let l = c.loop-piece.invariant LittleEndian (here c.requires) in
-    let x = c.in-Some.ensures.steps l.pieces l.ahead in
-    omega (arith, l.over, ap srid_sizes x.first, c.srid_size-size.ensures)
-
-pub loop-piece-smaller : goal.loop-piece-smaller
-loop-piece-smaller c =
+    let g = here c.requires in
+    let before = (goal.at.overflow_sub-size c).After-into_iter-piece-iterator in
+    let k = given _ _ _ _ (ahead before g) c.loop-piece.yielded_by in
+    let x = c.in-Some.ensures.steps.steps k.0 k.1 in
     omega (
       arith,
-      c.in-Some.ensures.further,
-      c.in-Some.ensures.inside.ends,
-      c.in-Some.ensures.inside.inside,
-      ap length c.in-Some.ensures.same,
+      c.loop-piece.invariant.less,
+      over before LittleEndian g,
+      ap srid_sizes k.2,
+      sizes_append c.loop-piece.yielded k.0,
+      ap srid_sizes x.first,
+      c.srid_size-size.ensures,
     )
 
 pub loop-piece-preserved : goal.loop-piece-preserved
-loop-piece-preserved c = λ order g.
-    let l = c.loop-piece.invariant order g in
-    let x = c.in-Some.ensures.steps l.pieces l.ahead in
-    record {
-      pieces = x.rest;
-      ahead = x.ahead;
-      over = omega (arith, l.over, ap srid_sizes x.first, c.srid_size-size.ensures);
-    }
-
--- what is left when no piece is to come
-whole : (c : In_default) → (order : Endianness) (g : HasGeometry c.args.buf.now)
-    → c.loop-piece.size ≡ length (encoding order c.args.form (geometry_of g.value))
-whole c order g =
-    let l = c.loop-piece.invariant order g in
-    let none = nothing_ahead c.loop-piece.pieces c.next.new.self l.pieces _ l.ahead c.in_default.is c.next.ensures.steps
-    in
-    omega (arith, l.over, ap srid_sizes none)
+loop-piece-preserved c = record {
+  can = c.in-Some.ensures.goes.keeps;
+  finite = tt;
+  less =
+      omega (
+        arith,
+        c.loop-piece.invariant.less,
+        c.srid_size-size.ensures,
+        sizes_append c.loop-piece.yielded (c.in-Some.piece ∷ []),
+        overflow_sub-size c,
+      );
+}
 
 pub returns-clause-size : goal.returns-clause-size
-returns-clause-size c = whole c
-
-pub returns-clause-bound : goal.returns-clause-bound
-returns-clause-bound c =
-    let g = here c.requires in
-    let bytes : AreBytes c.args.buf.now = λ i. (c.type_inv.buf i).fits in
+returns-clause-size c = λ order g.
+    let before = (goal.at.returns-clause-size c).After-into_iter-piece-iterator in
     omega (
       arith,
-      whole c LittleEndian g,
-      most_srid (is_some (form_srid c.args.form)),
-      measured LittleEndian c.args.form c.args.buf.now g bytes c.requires.described.bytes_are,
+      c.loop-piece.invariant.less,
+      over before order g,
+      ap srid_sizes (all_given _ _ _ _ _ (ahead before g) c.loop-piece.yielded_by c.in-None.ensures.steps),
     )

@@ -1,12 +1,10 @@
-use Rattle.std.proofs.Common.{◌-◌, length}
-use Rattle.wkb_laws.specs.Prelude.{Endianness, geometry_of, encoding}
-use Rattle.wkb_check.specs.Bounded.{HasGeometry}
-use Rattle.wkb_rewrite.proofs.Measured.{Sized}
+use Rattle.std.proofs.Common.{◌≡◌, ◌+◌}
+use Rattle.wkb_rewrite.proofs.Measured.{srid_sizes}
 use Rattle.wkb_rewrite.proofs.encoding.encoded_size.Given as goal
 
-abbrev pub decreases-loop-piece : goal.decreases-loop-piece
-decreases-loop-piece l = length l.pieces.bytes.now - l.pieces.at
-
 abbrev pub invariant-loop-piece : goal.invariant-loop-piece
-invariant-loop-piece l = (order : Endianness) (g : HasGeometry l.buf)
-    → Sized l.pieces l.size (length (encoding order l.fn.form (geometry_of g.value)))
+invariant-loop-piece l = record {
+  can : (goal.iterator-loop-piece).can_next l.piece-iterator;
+  finite : (goal.iterator-loop-piece).is_finite l.piece-iterator;
+  less : l.size + srid_sizes l.yielded ≡ l.initial.size;
+}

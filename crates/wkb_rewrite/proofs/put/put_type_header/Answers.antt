@@ -17,7 +17,7 @@ whole c =
 
 room : (c : After-byte)
     → c.args.at + (5 + length (srid_encoding c.args.options.endianness c.code_and_srid-code.result.1)) ≤ length
-        c.args.out.now
+    c.args.out.now
 room c =
     omega (
       arith,

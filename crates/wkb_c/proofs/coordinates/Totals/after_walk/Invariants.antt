@@ -1,6 +1,6 @@
 use Rattle.std.specs.Prelude.{◌≡◌, ◌≤◌, ◌-◌, length}
 use Rattle.wkb_check.specs.Bounded.{HasGeometry}
-use Rattle.wkb_c.specs.Subjects.{subjects}
+use Rattle.wkb_check.specs.Subjects.{subjects}
 use Rattle.wkb_c.proofs.Levels.{Coming, TotalsLeft}
 use Rattle.wkb_c.proofs.coordinates.Totals.after_walk.Given as goal
 

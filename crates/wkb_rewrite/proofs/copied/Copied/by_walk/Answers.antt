@@ -30,7 +30,7 @@ loop-stands-preserved c = λ g.
 -- the parts, where no piece is left
 copied : (c : After-srid_size-start) → (g : HasGeometry c.args.buf.now)
     → IsCopied c.args.buf.now c.args.options.endianness c.args.options.form c.outermost-first.result
-        c.args.found.now.bytes
+    c.args.found.now.bytes
     (5 + c.srid_size-start.result) (encoding c.args.options.endianness c.args.options.form (geometry_of g.value))
 copied c g =
     let l = c.loop-stands.invariant g in

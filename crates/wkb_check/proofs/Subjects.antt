@@ -1,0 +1,324 @@
+-- Where the subjects of a geometry stand in its bytes, and what its pieces and entries say of them.
+use Rattle.std.proofs.Common.{◌≡◌, ℕ, ◌+◌, ◌*◌, ◌≤◌, List, [], ◌∷◌, ◌++◌, length, drop, Some, None}
+use Rattle.std.proofs.Common.{refl, sym, ap, subst, ◌∙◌, arith, append_assoc, append-nil, length-append, drop-drop}
+use Rattle.std.proofs.Common.{length-drop, is_some, nat_lt, if◌then◌else◌, true, false}
+use Rattle.std.proofs.lemmas.Bool.{cond-true}
+use Rattle.wkb_laws.specs.Prelude.{Endianness, Dimension, width, ring_end, Coordinate, Value, Values, point}
+use Rattle.wkb_laws.specs.Prelude.{line_string}
+use Rattle.wkb_laws.specs.Prelude.{polygon, no_members, member, members, kind, dimension, Spelling, node, Spellings}
+use Rattle.wkb_laws.specs.Prelude.{no_spellings, spelling, Spells, SpellsBody, SpellsCoordinate, SpellsCoordinates}
+use Rattle.wkb_laws.specs.Prelude.{SpellsEach, Wanted, Begins, coordinates, all_nan}
+use Rattle.wkb_geom.specs.Spellings.{Header, IsHeader}
+use Rattle.wkb_geom.specs.Grammar.{Then, IsEach}
+use Rattle.wkb_geom.specs.Numbers.{order_byte}
+use Rattle.wkb_geom.specs.Reading.{coordinate}
+use Rattle.wkb_geom.specs.Refusals.{srid_size}
+use Rattle.wkb_laws.proofs.Lengths.{coordinate_length, coordinates_length}
+use Rattle.wkb_laws.proofs.Parts.{drop_front, header_length, items_read, each_len, coordinate_read}
+use Rattle.wkb_check.specs.declared.parts.Part.{Part}
+use Rattle.wkb_check.specs.declared.pieces.Piece.{Piece}
+use Rattle.wkb_check.specs.Pieces.{leading, count_of, rings_of, size, piece_of, ring_piece, pieces_of, pieces_of_rings}
+use Rattle.wkb_check.specs.Pieces.{pieces_of_each}
+use Rattle.wkb_check.specs.Subjects.{Subject, whole, ring, dimension_in, coordinates_in, SpellsSubject, subjects}
+use Rattle.wkb_check.specs.Subjects.{subjects_of_rings, subjects_of_each}
+use Rattle.wkb_check.specs.Tables.{entry, place, ring_place, entry_count, geometry_entries, ring_entries}
+use Rattle.wkb_check.specs.Tables.{member_entries}
+use Rattle.wkb_check.proofs.Placing.{spelled_size}
+
+-- these bytes stand here in the input, and the rest of it behind them
+pub record Stands (input : List ℕ) (at : ℕ) (bytes rest : List ℕ) : Type 0 where
+  pub is : drop at input ≡ bytes ++ rest
+  pub inside : at + length bytes ≤ length input
+
+-- then the first of two parts does too, and the second behind it
+module _ {input : List ℕ} {at : ℕ} {bytes rest : List ℕ} {P Q : List ℕ → Type 0}
+    (stands : Stands input at bytes rest) (both : Then P Q bytes) where
+  long : length bytes ≡ length both.front + length both.rest
+  long = ap length both.whole ∙ length-append both.front both.rest
+
+  front_stands : Stands input at both.front (both.rest ++ rest)
+  front_stands = record {
+    is = stands.is ∙ ap (λ (x : List ℕ). x ++ rest) both.whole ∙ append_assoc both.front both.rest rest;
+    inside = omega (arith, stands.inside, long);
+  }
+
+  rest_stands : (to : ℕ) → at + length both.front ≡ to → Stands input to both.rest rest
+  rest_stands to to_is = record {
+    is =
+        ap (λ k. drop k input) (sym to_is) ∙ sym (drop-drop (length both.front) at input)
+        ∙ ap (drop (length both.front)) front_stands.is
+        ∙ drop_front (length both.front) both.front (both.rest ++ rest) refl;
+    inside = omega (arith, stands.inside, long, to_is);
+  }
+
+-- where the body of a geometry begins that begins here, and what follows its count
+abbrev body_at : Header → ℕ → ℕ
+body_at h at = at + (5 + srid_size (is_some h.srid))
+
+abbrev counted_at : Header → ℕ → ℕ
+counted_at h at = at + (9 + srid_size (is_some h.srid))
+
+body_stands : {input : List ℕ} {at : ℕ} {bytes rest : List ℕ} {Q : List ℕ → Type 0} (h : Header) (t : Value)
+    → Stands input at bytes rest → (sp : Then (IsHeader h (kind t) (dimension t)) Q bytes)
+    → Stands input (body_at h at) sp.rest rest
+body_stands {at = at} h t stands sp =
+    rest_stands stands sp (body_at h at) (omega (arith, header_length h (kind t) (dimension t) sp.front sp.first))
+
+-- the entry of a subject that has this index and begins at this byte
+abbrev pub entry_at : ℕ → ℕ → Subject → Part
+entry_at index at (whole (node h words ss) t) =
+    entry (kind t) (dimension t) h.srid (order_byte h.order) (place index at h (node h words ss) t) (count_of t)
+entry_at index at (ring order d cs) =
+    entry 0 d None (order_byte order) (ring_place d index at (length cs)) (length cs)
+
+-- the piece of one that begins at this byte
+abbrev pub piece_at : ℕ → Subject → Piece
+piece_at at (whole s t) = piece_of at s t
+piece_at at (ring order d cs) = ring_piece order d at (length cs)
+
+-- ---- subjects one after another
+
+-- the bytes of the subject stand somewhere, and its entry and its piece say where
+pub record IsPlaced (input : List ℕ) (e : Part) (p : Piece) (x : Subject) : Type 0 where
+  pub index : ℕ
+  pub at : ℕ
+  pub bytes : List ℕ
+  pub rest : List ℕ
+  pub stands : Stands input at bytes rest
+  pub spell : SpellsSubject x bytes
+  pub entry_is : e ≡ entry_at index at x
+  pub piece_is : p ≡ piece_at at x
+
+is_placed : {input : List ℕ} {at : ℕ} {bytes rest : List ℕ} (index : ℕ) (x : Subject) → Stands input at bytes rest
+    → SpellsSubject x bytes → IsPlaced input (entry_at index at x) (piece_at at x) x
+is_placed {at = at} {bytes = bytes} {rest = rest} index x stands sp = record {
+  index = index;
+  at = at;
+  bytes = bytes;
+  rest = rest;
+  stands = stands;
+  spell = sp;
+  entry_is = refl;
+  piece_is = refl;
+}
+
+-- so do those of each, and there are as many entries and pieces as subjects
+abbrev pub ArePlaced : List ℕ → List Part → List Piece → List Subject → Type 0
+ArePlaced input [] [] [] = Unit {0}
+ArePlaced input (e ∷ es) (p ∷ ps) (x ∷ xs) = IsPlaced input e p x × ArePlaced input es ps xs
+ArePlaced input _ _ _ = ⊥
+
+placed_append : (input : List ℕ) (es fs : List Part) (ps qs : List Piece) (xs ys : List Subject)
+    → ArePlaced input es ps xs → ArePlaced input fs qs ys → ArePlaced input (es ++ fs) (ps ++ qs) (xs ++ ys)
+placed_append input [] fs [] qs [] ys f g = g
+placed_append input (e ∷ es) fs (p ∷ ps) qs (x ∷ xs) ys f g = (f.0, placed_append input es fs ps qs xs ys f.1 g)
+placed_append input _ fs _ qs _ ys f g = absurd f
+
+rings_placed : {input : List ℕ} (order : Endianness) (d : Dimension) (rings : List (List Coordinate)) (index : ℕ)
+    {at : ℕ} {bytes rest : List ℕ} → Stands input at bytes rest
+    → IsEach (SpellsCoordinates order d) rings bytes
+    → ArePlaced input (ring_entries d (order_byte order) index at rings) (pieces_of_rings order d at rings)
+    (subjects_of_rings order d rings)
+rings_placed order d [] index stands h = tt
+rings_placed order d (cs ∷ rings) index {at} stands h = (
+  is_placed index (ring order d cs) (front_stands stands h) h.first,
+  rings_placed order d rings (index + 1)
+      (rest_stands stands h (at + ring_end d (length cs))
+      (omega (arith, coordinates_length order d cs h.front h.first))) h.second,
+)
+
+own_rings_placed : {input : List ℕ} {bytes rest : List ℕ} (h : Header) (words : List ℕ) (t : Value)
+    (index at : ℕ) → Stands input (body_at h at) bytes rest → SpellsBody h.order words t bytes
+    → ArePlaced input (ring_entries (dimension t) (order_byte h.order) index (at + leading h t) (rings_of t))
+    (pieces_of_rings h.order (dimension t) (at + leading h t) (rings_of t))
+    (subjects_of_rings h.order (dimension t) (rings_of t))
+own_rings_placed h words (polygon d rings) index at stands b =
+    rings_placed h.order d rings index (rest_stands stands b.1 (counted_at h at) (omega (arith, b.1.first.len)))
+    b.1.second
+own_rings_placed h words _ index at stands b = tt
+
+abbrev MembersPlaced : List ℕ → Header → Spellings → Value → ℕ → ℕ → Type 0
+MembersPlaced input h ss t index at =
+    ArePlaced input (member_entries index (at + leading h t) ss (members t))
+    (pieces_of_each (at + leading h t) ss (members t)) (subjects_of_each ss (members t))
+
+none_placed : (input : List ℕ) (index at : ℕ) (ss : Spellings)
+    → ArePlaced input (member_entries index at ss no_members) (pieces_of_each at ss no_members)
+    (subjects_of_each ss no_members)
+none_placed input index at no_spellings = tt
+none_placed input index at (spelling s ss) = tt
+
+-- the members follow a count
+own_members_placed : {input : List ℕ} {bytes rest : List ℕ} {Q : List ℕ → Type 0} (h : Header)
+    (words : List ℕ) (ss : Spellings) (t : Value) (index at : ℕ) → Stands input (body_at h at) bytes rest
+    → (both : Then (SpellsBody h.order words t) Q bytes)
+    → (Stands input (at + leading h t) both.rest rest → MembersPlaced input h ss t index at)
+    → MembersPlaced input h ss t index at
+own_members_placed {input} h words ss (point d c) index at stands both each = none_placed input index _ ss
+own_members_placed {input} h words ss (line_string d cs) index at stands both each = none_placed input index _ ss
+own_members_placed {input} h words ss (polygon d rings) index at stands both each = none_placed input index _ ss
+own_members_placed h words ss _ index at stands both each =
+    each (rest_stands stands both (counted_at h at) (omega (arith, both.first.1.len)))
+
+mutual
+  placed : {input : List ℕ} (s : Spelling) (t : Value) (index : ℕ) {at : ℕ} {bytes rest : List ℕ}
+      → Stands input at bytes rest → Spells s t bytes
+      → ArePlaced input (geometry_entries index at s t) (pieces_of at s t) (subjects s t)
+  placed {input} (node h words ss) t index {at} stands sp =
+      let body = body_stands h t stands sp in (
+        is_placed index (whole (node h words ss) t) stands sp,
+        placed_append input _ _ _ _ _ _
+            (own_rings_placed h words t (index + 1) at (front_stands body sp.second) sp.second.first)
+            (own_members_placed h words ss t (index + 1) at body sp.second
+            (λ there. each_placed _ ss (members t) (index + 1) there sp.second.second)),
+      )
+
+  each_placed : {input : List ℕ} (w : Wanted) (ss : Spellings) (ts : Values) (index : ℕ) {at : ℕ} {bytes rest : List ℕ}
+      → Stands input at bytes rest → SpellsEach w ss ts bytes
+      → ArePlaced input (member_entries index at ss ts) (pieces_of_each at ss ts) (subjects_of_each ss ts)
+  each_placed w no_spellings ts index stands sp = tt
+  each_placed w (spelling s ss) no_members index stands sp = tt
+  each_placed {input} w (spelling s ss) (member t ts) index {at} stands sp =
+      placed_append input _ _ _ _ _ _ (placed s t index (front_stands stands sp) sp.first.0)
+      (each_placed w ss ts (index + entry_count s t)
+      (rest_stands stands sp (at + size s t) (omega (arith, spelled_size s t sp.front sp.first.0))) sp.second)
+
+-- a geometry that begins here stands there
+some_leading : (h : Header) (t : Value) → 5 ≤ leading h t
+some_leading h (point d c) = omega arith
+some_leading h _ = omega arith
+
+pub all_placed : (input : List ℕ) (at : ℕ) {rest : List ℕ} (s : Spelling) (t : Value)
+    → Begins (Spells s t) (drop at input) rest
+    → ArePlaced input (geometry_entries 0 at s t) (pieces_of at s t) (subjects s t)
+all_placed input at {rest} (node h words ss) t g =
+    let inside : at + length g.front ≤ length input =
+    omega (
+      arith,
+      spelled_size (node h words ss) t g.front g.first,
+      some_leading h t,
+      ap length g.whole,
+      length-append g.front rest,
+      length-drop at input,
+    ) in
+    placed (node h words ss) t 0 (record { is = g.whole; inside = inside }) g.first
+
+-- ---- what a piece says of its subject
+
+abbrev pub kind_in : Subject → ℕ
+kind_in (whole s t) = kind t
+kind_in (ring order d cs) = 0
+
+abbrev pub count_in : Subject → ℕ
+count_in (whole s t) = count_of t
+count_in (ring order d cs) = length cs
+
+-- of a point: whether its words are all not-a-numbers
+abbrev pub PointIs : Subject → Type 0
+PointIs (whole (node h words ss) (point d None)) = all_nan words ≡ true
+PointIs (whole (node h words ss) (point d (Some c))) = all_nan c ≡ false
+PointIs _ = Unit {0}
+
+-- the coordinates that are read where it says
+abbrev pub piece_coordinates : List ℕ → Piece → List Coordinate
+piece_coordinates input p =
+    if nat_lt p.kind 3 then coordinates p.order p.dimension p.count (drop p.offset input) else []
+
+pub record IsPieceOf (input : List ℕ) (p : Piece) (x : Subject) : Type 0 where
+  pub kind_is : p.kind ≡ kind_in x
+  pub dimension_is : p.dimension ≡ dimension_in x
+  pub count_is : p.count ≡ count_in x
+  pub coordinates_are : piece_coordinates input p ≡ coordinates_in x
+  pub point_is : PointIs x
+  pub inside : nat_lt p.kind 3 ≡ true → p.offset + 8 * width p.dimension * p.count ≤ length input
+
+-- the coordinates that are read at this place, and that they are inside the input
+record AreRead (input : List ℕ) (order : Endianness) (d : Dimension) (offset n : ℕ) (cs : List Coordinate)
+    : Type 0 where
+  pub read : coordinates order d n (drop offset input) ≡ cs
+  pub inside : offset + 8 * width d * n ≤ length input
+
+coordinates_read : {input : List ℕ} {offset : ℕ} {bytes rest : List ℕ} (order : Endianness) (d : Dimension)
+    (cs : List Coordinate) → Stands input offset bytes rest → IsEach (SpellsCoordinate order d) cs bytes
+    → AreRead input order d offset (length cs) cs
+coordinates_read {bytes = bytes} {rest = rest} order d cs stands h = record {
+  read =
+      ap (coordinates order d (length cs)) stands.is
+      ∙ items_read (SpellsCoordinate order d) (8 * width d) (coordinate order d)
+      (λ c x y is. (coordinate_length order d c x is, coordinate_read order d c x y is)) cs bytes rest h;
+  inside =
+      omega (
+        arith,
+        stands.inside,
+        each_len (SpellsCoordinate order d) (8 * width d) (λ c x is. coordinate_length order d c x is) cs bytes h,
+      );
+}
+
+one_read : {input : List ℕ} {offset : ℕ} {bytes rest : List ℕ} (order : Endianness) (d : Dimension) (c : Coordinate)
+    → Stands input offset bytes rest → SpellsCoordinate order d c bytes → AreRead input order d offset 1 (c ∷ [])
+one_read {bytes = bytes} order d c stands h =
+    coordinates_read order d (c ∷ []) stands
+    (record { front = bytes; rest = []; whole = sym (append-nil bytes); first = h; second = refl })
+
+-- a piece of a point, a line string or a ring, whose coordinates are read where it says
+with_coordinates : {input : List ℕ} (p : Piece) (x : Subject) → p.kind ≡ kind_in x → p.dimension ≡ dimension_in x
+    → p.count ≡ count_in x → nat_lt p.kind 3 ≡ true
+    → AreRead input p.order p.dimension p.offset p.count (coordinates_in x) → PointIs x → IsPieceOf input p x
+with_coordinates {input} p x kind_is dimension_is count_is low r point_is = record {
+  kind_is = kind_is;
+  dimension_is = dimension_is;
+  count_is = count_is;
+  coordinates_are = cond-true (nat_lt p.kind 3) _ _ low ∙ r.read;
+  point_is = point_is;
+  inside = λ _. r.inside;
+}
+
+body_says : {input : List ℕ} (at : ℕ) {body rest : List ℕ} (h : Header) (own : List ℕ) (ss : Spellings) (t : Value)
+    → Stands input (body_at h at) body rest → SpellsBody h.order own t body
+    → IsPieceOf input (piece_of at (node h own ss) t) (whole (node h own ss) t)
+body_says at h own ss (point d None) stands b =
+    with_coordinates (piece_of at (node h own ss) (point d None)) (whole (node h own ss) (point d None)) refl refl refl
+    refl (one_read h.order d own stands b.1) b.0
+body_says at h own ss (point d (Some c)) stands b =
+    with_coordinates (piece_of at (node h own ss) (point d (Some c))) (whole (node h own ss) (point d (Some c))) refl
+    refl refl refl (one_read h.order d c stands b.2) b.1
+body_says at h own ss (line_string d cs) stands b =
+    with_coordinates (piece_of at (node h own ss) (line_string d cs)) (whole (node h own ss) (line_string d cs)) refl
+    refl refl refl
+    (coordinates_read h.order d cs (rest_stands stands b.1 (counted_at h at) (omega (arith, b.1.first.len)))
+    b.1.second) tt
+body_says at h own ss _ stands b = record {
+  kind_is = refl;
+  dimension_is = refl;
+  count_is = refl;
+  coordinates_are = refl;
+  point_is = tt;
+  inside = λ low. absurd (cc);
+}
+
+pub says : {input : List ℕ} {at : ℕ} {bytes rest : List ℕ} (x : Subject) → Stands input at bytes rest
+    → SpellsSubject x bytes → IsPieceOf input (piece_at at x) x
+says {at = at} (whole (node h words ss) t) stands sp =
+    body_says at h words ss t (front_stands (body_stands h t stands sp) sp.second) sp.second.first
+says {at = at} (ring order d cs) stands sp =
+    with_coordinates (ring_piece order d at (length cs)) (ring order d cs) refl refl refl refl
+    (coordinates_read order d cs (rest_stands stands sp (at + 4) (omega (arith, sp.first.len))) sp.second) tt
+
+-- these are the pieces of the subjects, one for one
+abbrev pub ArePiecesOf : List ℕ → List Piece → List Subject → Type 0
+ArePiecesOf input [] [] = Unit {0}
+ArePiecesOf input (p ∷ ps) (x ∷ xs) = IsPieceOf input p x × ArePiecesOf input ps xs
+ArePiecesOf input _ _ = ⊥
+
+each_says : (input : List ℕ) (es : List Part) (ps : List Piece) (xs : List Subject) → ArePlaced input es ps xs
+    → ArePiecesOf input ps xs
+each_says input [] [] [] f = tt
+each_says input (e ∷ es) (p ∷ ps) (x ∷ xs) f = (
+  subst (λ p. IsPieceOf input p x) (sym f.0.piece_is) (says x f.0.stands f.0.spell),
+  each_says input es ps xs f.1,
+)
+each_says input _ _ _ f = absurd f
+
+pub pieces_match : (input : List ℕ) (at : ℕ) {rest : List ℕ} (s : Spelling) (t : Value)
+    → Begins (Spells s t) (drop at input) rest → ArePiecesOf input (pieces_of at s t) (subjects s t)
+pieces_match input at s t g = each_says input (geometry_entries 0 at s t) _ _ (all_placed input at s t g)
