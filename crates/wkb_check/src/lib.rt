@@ -14,6 +14,7 @@ mod ranks;
 mod scan;
 mod skip;
 mod walk;
+mod widen;
 
 pub use answer::{Refused, Summary, check, check_plain};
 pub use head::srid_size;

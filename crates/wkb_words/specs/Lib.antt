@@ -12,3 +12,10 @@ pub mod Reads
 pub mod Writes
 pub mod Laws
 pub mod Bridges
+pub mod Handed
+pub mod Lawful
+pub mod Lent
+pub mod Members
+pub mod Offsets
+pub mod Ranges
+pub mod ReadBack

@@ -18,12 +18,20 @@ ghost use Rattle.wkb_words.specs.Reads.{reads_words};
 ghost use Rattle.wkb_words.specs.Writes.{writes_words};
 ghost use Rattle.wkb_words.specs.Laws.{laws_words};
 ghost use Rattle.wkb_words.specs.Bridges.{bridges_words};
+ghost use Rattle.wkb_words.specs.Handed.{handed_words};
+ghost use Rattle.wkb_words.specs.Lawful.{lawful_words};
+ghost use Rattle.wkb_words.specs.Lent.{lent_words};
+ghost use Rattle.wkb_words.specs.Members.{members_words};
+ghost use Rattle.wkb_words.specs.Offsets.{offsets_words};
+ghost use Rattle.wkb_words.specs.Ranges.{ranges_words};
+ghost use Rattle.wkb_words.specs.ReadBack.{readback_words};
 
 /// How many words there are.
 pub fn number_of_words() -> usize
     ensures { result ≡ canonical_words + checks_words + prelude_words + values_words +
         spellings_words + refusals_words + geometries_words + plain_words + levels_words +
-        encodings_words + reads_words + writes_words + laws_words + bridges_words }
+        encodings_words + reads_words + writes_words + laws_words + bridges_words + handed_words +
+        lawful_words + lent_words + members_words + offsets_words + ranges_words + readback_words }
 {
-    649
+    722
 }

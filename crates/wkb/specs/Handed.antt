@@ -1,0 +1,85 @@
+-- Which kind of view `as_type` of a geometry that was read hands out.
+use Rattle.std.proofs.Common.{◌≡◌, ℕ, List, refl, sym, ap, ◌∙◌, arith}
+use Rattle.std.specs.Borrow.{Bor}
+use Rattle.wkb_geom.specs.declared.geom.GeometryType.{GeometryType}
+use Rattle.wkb_geom.specs.declared.geom.GeometryType.TheVariants.{Point, LineString, Polygon, MultiPoint}
+use Rattle.wkb_geom.specs.declared.geom.GeometryType.TheVariants.{MultiLineString, MultiPolygon, GeometryCollection}
+use Rattle.wkb_geom.specs.declared.geom.GeometryType.TheVariants.{Rect, Triangle, Line}
+use Rattle.wkb_view.specs.declared.point.Point as points
+use Rattle.wkb_view.specs.declared.line_string.LineString as lines
+use Rattle.wkb_view.specs.declared.multi_point.MultiPoint as multi_points
+use Rattle.wkb.specs.Values.{Coordinate, kind}
+use Rattle.wkb.specs.Reads.{Item, Listed, IsViewOf, point_value}
+
+-- What `as_type` of a geometry of any kind hands out.
+abbrev pub Handed : Type 0 → Type 0 → Type 0 → Type 0
+Handed R T N =
+    GeometryType points.Point lines.LineString (Listed (List (List Coordinate))) multi_points.MultiPoint
+    (Listed (List (List Coordinate)))
+    (Listed (List (List (List Coordinate)))) Item R T N
+
+-- The kind of what was handed out, from 1 for a point; the last three of the type are never handed out.
+abbrev pub handed_kind : {R T N : Type 0} → Handed R T N → ℕ
+handed_kind (Point p) = 1
+handed_kind (LineString l) = 2
+handed_kind (Polygon p) = 3
+handed_kind (MultiPoint m) = 4
+handed_kind (MultiLineString m) = 5
+handed_kind (MultiPolygon m) = 6
+handed_kind (GeometryCollection gs) = 7
+handed_kind _ = 0
+
+-- The kind that was handed out is that of the geometry's value.
+pub kind_handed : {R T N : Type 0} (w : Item) (r : Handed R T N) → IsViewOf w r → kind w.value ≡ handed_kind r
+kind_handed w (Point p) view = sym (ap (λ (v : Item). kind v.value) view) ∙ ap kind (point_value p.now)
+kind_handed w (LineString l) view = sym (ap (λ (v : Item). kind v.value) view)
+kind_handed w (Polygon p) view = sym (ap (λ (v : Item). kind v.value) view)
+kind_handed w (MultiPoint m) view = sym (ap (λ (v : Item). kind v.value) view)
+kind_handed w (MultiLineString m) view = sym (ap (λ (v : Item). kind v.value) view)
+kind_handed w (MultiPolygon m) view = sym (ap (λ (v : Item). kind v.value) view)
+kind_handed w (GeometryCollection gs) view = sym (ap (λ (v : Item). kind v.value) view.is)
+kind_handed w (Rect r) view = absurd view
+kind_handed w (Triangle t) view = absurd view
+kind_handed w (Line l) view = absurd view
+
+-- Where `as_type` handed out no point, the value is no point's.
+pub not_point : {R T N : Type 0} (w : Item) (r : Handed R T N) → IsViewOf w r
+    → ((p : Bor points.Point) → r ≡ Point p → ⊥) → kind w.value ≡ 1 → ⊥
+not_point w (Point p) view none one = none p refl
+not_point w r view none one = absurd (omega (arith, kind_handed w r view, one))
+
+-- Where it handed out no line string, the value is no line string's.
+pub not_line_string : {R T N : Type 0} (w : Item) (r : Handed R T N) → IsViewOf w r
+    → ((l : Bor lines.LineString) → r ≡ LineString l → ⊥) → kind w.value ≡ 2 → ⊥
+not_line_string w (LineString l) view none two = none l refl
+not_line_string w r view none two = absurd (omega (arith, kind_handed w r view, two))
+
+-- Where it handed out no polygon, the value is no polygon's.
+pub not_polygon : {R T N : Type 0} (w : Item) (r : Handed R T N) → IsViewOf w r
+    → ((p : Bor (Listed (List (List Coordinate)))) → r ≡ Polygon p → ⊥) → kind w.value ≡ 3 → ⊥
+not_polygon w (Polygon p) view none three = none p refl
+not_polygon w r view none three = absurd (omega (arith, kind_handed w r view, three))
+
+-- Where it handed out no multi point, the value is no multi point's.
+pub not_multi_point : {R T N : Type 0} (w : Item) (r : Handed R T N) → IsViewOf w r
+    → ((m : Bor multi_points.MultiPoint) → r ≡ MultiPoint m → ⊥) → kind w.value ≡ 4 → ⊥
+not_multi_point w (MultiPoint m) view none four = none m refl
+not_multi_point w r view none four = absurd (omega (arith, kind_handed w r view, four))
+
+-- Where it handed out no multi line string, the value is no multi line string's.
+pub not_multi_line_string : {R T N : Type 0} (w : Item) (r : Handed R T N) → IsViewOf w r
+    → ((m : Bor (Listed (List (List Coordinate)))) → r ≡ MultiLineString m → ⊥) → kind w.value ≡ 5 → ⊥
+not_multi_line_string w (MultiLineString m) view none five = none m refl
+not_multi_line_string w r view none five = absurd (omega (arith, kind_handed w r view, five))
+
+-- Where it handed out no multi polygon, the value is no multi polygon's.
+pub not_multi_polygon : {R T N : Type 0} (w : Item) (r : Handed R T N) → IsViewOf w r
+    → ((m : Bor (Listed (List (List (List Coordinate))))) → r ≡ MultiPolygon m → ⊥) → kind w.value ≡ 6 → ⊥
+not_multi_polygon w (MultiPolygon m) view none six = none m refl
+not_multi_polygon w r view none six = absurd (omega (arith, kind_handed w r view, six))
+
+-- Where it handed out no members, the value is no collection's.
+pub not_collection : {R T N : Type 0} (w : Item) (r : Handed R T N) → IsViewOf w r
+    → ((gs : Bor (List Item)) → r ≡ GeometryCollection gs → ⊥) → kind w.value ≡ 7 → ⊥
+not_collection w (GeometryCollection gs) view none seven = none gs refl
+not_collection w r view none seven = absurd (omega (arith, kind_handed w r view, seven))

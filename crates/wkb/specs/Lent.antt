@@ -1,0 +1,127 @@
+-- Where the bytes are that views lend: a member's in those of the whole, a ring's in those of its polygon.
+use Rattle.std.proofs.Common.{◌≡◌, ℕ, suc, ◌+◌, ◌*◌, ◌≤◌, List, length, drop, Some, refl, sym, ap, subst, ◌∙◌}
+use Rattle.std.proofs.Common.{slice_get, drop-drop, length-append, arith}
+use Rattle.wkb.specs.Prelude.{width, AreBytes, number}
+use Rattle.wkb.specs.Values.{Coordinate, point, line_string, polygon, multi_line_string, multi_polygon}
+use Rattle.wkb.specs.Spellings.{SpellsCoordinates}
+use Rattle.wkb.specs.Reads.{Listed, Item, whole_of, BytesSpell, spelling_at, order_of, Point, LineString, MultiPoint}
+use Rattle.wkb.specs.Reads.{LinearRing, point_seen, point_dimension, seen_coordinate, point_value, multi_point_seen}
+use Rattle.wkb.specs.Reads.{multi_point_dimension, seen_points, line_string_seen, line_string_dimension}
+use Rattle.wkb.specs.Reads.{line_string_coordinates, ring_seen, ring_encoding, ring_order, ring_dimension}
+use Rattle.wkb.specs.Laws.{IsMember, SpelledInFull, MembersInPlace, RingsInPlace, WordsStand, IsWordOf, StandsAt}
+use Rattle.wkb.specs.Laws.{member_start, ring_start, NextStart, SizeOfSpelled}
+use Rattle.wkb.specs.Bridges.{part_is_member, rest_stands, stands_within, begins_there}
+
+-- What `buf` and `are_bytes` say of the bytes that a view lends: they are the geometry's, and spell it.
+pub record Lends (w : Item) (lent : List ℕ) : Type 0 where
+  pub bytes : AreBytes lent
+  pub encoding : lent ≡ w.encoding
+  pub spells : BytesSpell w
+
+-- The point of a multi point at an index is its member of this number.
+pub point_is_member : (m : MultiPoint) (k : ℕ) (p : Point) → point_dimension p ≡ multi_point_dimension m
+    → Some (point_seen p).spelled ≡ spelling_at (multi_point_seen m).spelled k
+    → Some (seen_coordinate p) ≡ slice_get (seen_points m) k
+    → IsMember k (multi_point_seen m).spelled (multi_point_seen m).value (point_seen p).spelled (point_seen p).value
+point_is_member m k p same spelled of =
+    subst (IsMember k (multi_point_seen m).spelled (multi_point_seen m).value (point_seen p).spelled)
+    (sym (point_value p ∙ ap (λ d. point d (seen_coordinate p)) same))
+    (part_is_member (point (multi_point_dimension m)) (multi_point_seen m).spelled (multi_point_seen m).value
+    (seen_points m) k (point_seen p).spelled (seen_coordinate p) refl spelled of)
+
+-- The line string of a multi line string at an index is its member of this number.
+pub line_string_is_member : (m : Listed (List (List Coordinate))) (k : ℕ) (l : LineString)
+    → line_string_dimension l ≡ m.dimension → Some (line_string_seen l).spelled ≡ spelling_at m.spelled k
+    → Some (line_string_coordinates l) ≡ slice_get m.parts k
+    → IsMember k m.spelled (multi_line_string m.dimension m.parts) (line_string_seen l).spelled
+    (line_string_seen l).value
+line_string_is_member m k l same spelled of =
+    subst (λ d. IsMember k m.spelled (multi_line_string m.dimension m.parts) (line_string_seen l).spelled
+    (line_string d (line_string_coordinates l)))
+    (sym same)
+    (part_is_member (line_string m.dimension) m.spelled (multi_line_string m.dimension m.parts) m.parts k
+    (line_string_seen l).spelled (line_string_coordinates l) refl spelled of)
+
+-- The polygon of a multi polygon at an index is its member of this number.
+pub polygon_is_member : (m : Listed (List (List (List Coordinate)))) (k : ℕ) (p : Listed (List (List Coordinate)))
+    → p.dimension ≡ m.dimension → Some p.spelled ≡ spelling_at m.spelled k → Some p.parts ≡ slice_get m.parts k
+    → IsMember k m.spelled (multi_polygon m.dimension m.parts) p.spelled (polygon p.dimension p.parts)
+polygon_is_member m k p same spelled of =
+    subst (λ d. IsMember k m.spelled (multi_polygon m.dimension m.parts) p.spelled (polygon d p.parts))
+    (sym same)
+    (part_is_member (polygon m.dimension) m.spelled
+    (multi_polygon m.dimension m.parts) m.parts k p.spelled p.parts refl spelled of)
+
+-- The bytes of a member are those of the whole at the member's place.
+pub member_stands : SpelledInFull → MembersInPlace → (whole : Item) (k : ℕ) (part : Item) {outer inner : List ℕ}
+    → IsMember k whole.spelled whole.value part.spelled part.value → Lends whole outer → Lends part inner
+    → StandsAt (member_start k whole.spelled whole.value) inner whole.encoding
+member_stands full place whole k part is out own =
+    subst (λ b. StandsAt (member_start k whole.spelled whole.value) b whole.encoding) (sym own.encoding)
+    (place whole k part (subst AreBytes out.encoding out.bytes) (subst AreBytes own.encoding own.bytes)
+    (full whole.spelled whole.value whole.encoding out.spells)
+    (full part.spelled part.value part.encoding own.spells) is)
+
+-- What is at the place of the next member begins where the bytes of a member end.
+pub next_member_stands : SpelledInFull → NextStart → SizeOfSpelled → (whole : Item) (k n : ℕ) (part : Item)
+    {lent next : List ℕ} → n ≡ suc k
+    → IsMember k whole.spelled whole.value part.spelled part.value → Lends part lent
+    → StandsAt (member_start n whole.spelled whole.value) next whole.encoding
+    → StandsAt (member_start k whole.spelled whole.value + length lent) next whole.encoding
+next_member_stands full next_start size whole k n part {lent = lent} {next = next} is member own stands =
+    let start = member_start k whole.spelled whole.value in
+    let spells = full part.spelled part.value part.encoding own.spells in
+    let long : length lent ≡ _ = ap length own.encoding ∙ size part.spelled part.value part.encoding spells in
+    let ends = next_start k whole.spelled whole.value part.spelled part.value member ∙ ap (λ l. start + l) (sym long) in
+    subst (λ m. StandsAt m next whole.encoding)
+    (ap (λ m. member_start m whole.spelled whole.value) is ∙ ends) stands
+
+-- A ring of a polygon, by what its view lends: the ring's bytes spell its coordinates in the polygon's order and
+-- dimension, and are the polygon's at the ring's place.
+pub record IsRingAt (p : Listed (List (List Coordinate))) (j : ℕ) (r : LinearRing) : Type 0 where
+  pub spelled : SpellsCoordinates (order_of p.spelled) p.dimension (ring_seen r) (ring_encoding r)
+  pub stands : StandsAt (ring_start j p.spelled p.dimension p.parts) (ring_encoding r) p.encoding
+  pub at : Some (ring_seen r) ≡ slice_get p.parts j
+
+-- So is the ring that `exterior` or `interior` returns.
+pub ring_stands : SpelledInFull → RingsInPlace → (p : Listed (List (List Coordinate))) (j : ℕ) (r : LinearRing)
+    {lent : List ℕ} → Lends (whole_of polygon p) lent
+    → SpellsCoordinates (ring_order r) (ring_dimension r) (ring_seen r) (ring_encoding r)
+    → AreBytes (ring_encoding r)
+    → ring_order r ≡ order_of p.spelled → ring_dimension r ≡ p.dimension
+    → Some (ring_seen r) ≡ slice_get p.parts j → IsRingAt p j r
+ring_stands full place p j r out coordinates bytes order same at =
+    let here = subst (λ e. SpellsCoordinates e p.dimension (ring_seen r) (ring_encoding r)) order
+    (subst (λ d. SpellsCoordinates (ring_order r) d (ring_seen r) (ring_encoding r)) same coordinates) in
+    let whole = full p.spelled (polygon p.dimension p.parts) p.encoding out.spells in
+    record {
+      spelled = here;
+      stands =
+          place (whole_of polygon p) p.dimension p.parts j (ring_seen r) (ring_encoding r)
+          (subst AreBytes out.encoding out.bytes) bytes whole here refl (sym at);
+      at = at;
+    }
+
+-- The bytes of the ring's coordinates come after the four of its count.
+pub ring_coordinates_stand : (p : Listed (List (List Coordinate))) (j : ℕ) (r : LinearRing) (lent : List ℕ)
+    → IsRingAt p j r → lent ≡ drop 4 (ring_encoding r)
+    → StandsAt (ring_start j p.spelled p.dimension p.parts + 4) lent p.encoding
+ring_coordinates_stand p j r lent h is =
+    let c = h.spelled in
+    let long : 4 ≤ length (ring_encoding r) =
+    omega (arith, c.first.len, ap length c.whole, length-append c.front c.rest) in
+    subst (λ b. StandsAt (ring_start j p.spelled p.dimension p.parts + 4) b p.encoding) (sym is)
+    (stands_within (rest_stands 4 (ring_encoding r) long) h.stands)
+
+-- A word of a ring's coordinate is in bytes around the polygon, as many words after the ring's count.
+pub ring_word_stands : WordsStand → (p : Listed (List (List Coordinate))) (j i n w : ℕ) (r : LinearRing) (start : ℕ)
+    (outer : List ℕ) → StandsAt start p.encoding outer → IsRingAt p j r → IsWordOf (ring_seen r) i n w
+    → number (order_of p.spelled) 8
+    (drop (start + ring_start j p.spelled p.dimension p.parts + (4 + 8 * (width p.dimension * i + n))) outer) ≡ w
+ring_word_stands words p j i n w r start outer stands ring word =
+    let at = start + ring_start j p.spelled p.dimension p.parts in
+    let here = 4 + 8 * (width p.dimension * i + n) in
+    let rest = drop (length (ring_encoding r)) (drop at outer) in
+    ap (number (order_of p.spelled) 8)
+    (sym (drop-drop here at outer) ∙ ap (drop here) (begins_there (stands_within ring.stands stands)))
+    ∙ words (order_of p.spelled) p.dimension (ring_seen r) (ring_encoding r) rest i n w ring.spelled word

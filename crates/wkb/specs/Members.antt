@@ -1,0 +1,79 @@
+-- Members by their index: of a list, of a geometry that bytes spell, and of a collection that `as_type` hands out.
+use Rattle.std.proofs.Common.{◌≡◌, ℕ, zero, suc, List, [], ◌∷◌, length, map, Some, None, true}
+use Rattle.std.proofs.Common.{false, nat_lt, sym, ap, subst}
+use Rattle.std.proofs.Common.{◌∙◌, slice_get}
+use Rattle.std.specs.Prelude.{slice_index_or}
+use Rattle.std.proofs.lemmas.Bool.{ltb-true, ltb-false}
+use Rattle.std.proofs.lemmas.Option.{slice_get-get_or, slice_get_past}
+use Rattle.wkb.specs.Prelude.{Dimension}
+use Rattle.wkb.specs.Values.{Value, Values, collection, members, no_members, member}
+use Rattle.wkb.specs.Spellings.{Spelling, node, Spellings, no_spellings, spelling}
+use Rattle.wkb.specs.Geometries.{AreGeometries, geometries}
+use Rattle.wkb.specs.Reads.{Item, spellings, values, IsCollectionOf, members_spelled, geometry_seen, geometry_lawful}
+use Rattle.wkb.specs.Laws.{IsOneOf, IsMember}
+
+-- What `get` of a slice finds is the item of this number.
+pub item_found : {A : Type 0} (xs : List A) (i : ℕ) (a : A) → true ≡ nat_lt i (length xs) → a ≡ slice_index_or xs i a
+    → slice_get xs i ≡ Some a
+item_found xs i a inside is = slice_get-get_or xs i a (ltb-true i (length xs) (sym inside)) ∙ ap Some (sym is)
+
+-- Where it finds none, there is no item of this number.
+pub item_missing : {A : Type 0} (xs : List A) (i : ℕ) → false ≡ nat_lt i (length xs) → slice_get xs i ≡ None
+item_missing xs i past = slice_get_past xs i (ltb-false i (length xs) (sym past))
+
+-- A list that ends before this number has no member of it.
+pub no_member_listed : (ms : List Item) (k : ℕ) (s : Spelling) (t : Value) → slice_get ms k ≡ None
+    → IsOneOf k (spellings ms) (values ms) s t → ⊥
+no_member_listed [] zero s t is h = h
+no_member_listed [] (suc k) s t is h = h
+no_member_listed (x ∷ ms) zero s t is h = absurd (cc)
+no_member_listed (x ∷ ms) (suc k) s t is h = no_member_listed ms k s t is h
+
+-- The member of this number in a list has the value of what is listed there.
+pub listed_value : (ms : List Item) (k : ℕ) (s : Spelling) (t : Value) (m : Item) → slice_get ms k ≡ Some m
+    → IsOneOf k (spellings ms) (values ms) s t → t ≡ m.value
+listed_value [] zero s t m is h = absurd h
+listed_value [] (suc k) s t m is h = absurd h
+listed_value (x ∷ ms) zero s t m is h =
+    let same : x ≡ m = cc in
+    h.1 ∙ ap (λ (i : Item). i.value) same
+listed_value (x ∷ ms) (suc k) s t m is h = listed_value ms k s t m is h
+
+among_members : (u : Spelling) (d : Dimension) (vs : Values) (k : ℕ) (s : Spelling) (t : Value)
+    → IsMember k u (collection d vs) s t
+    → IsOneOf k (members_spelled u) vs s t
+among_members (node g ws ss) d vs k s t h = h
+
+-- A member of a collection is one of those that `as_type` hands out.
+pub member_listed : (w : Item) (ms : List Item) (k : ℕ) (s : Spelling) (t : Value) → IsCollectionOf w ms
+    → IsMember k w.spelled w.value s t
+    → IsOneOf k (spellings ms) (values ms) s t
+member_listed w ms k s t c h =
+    let inside =
+    among_members c.whole.spelled c.whole.dimension c.whole.parts k s t
+    (subst (λ (v : Item). IsMember k v.spelled v.value s t) (sym c.is) h) in
+    subst (λ vs. IsOneOf k (spellings ms) vs s t) (sym c.all.value)
+    (subst (λ ss. IsOneOf k ss c.whole.parts s t) (sym c.all.spelled) inside)
+
+one_of_number : (k : ℕ) (ss : Spellings) (vs : Values) (s u : Spelling) (t v : Value) → IsOneOf k ss vs s t
+    → IsOneOf k ss vs u v → t ≡ v
+one_of_number zero (spelling a ss) (member b vs) s u t v h g = h.1 ∙ sym g.1
+one_of_number (suc k) (spelling a ss) (member b vs) s u t v h g = one_of_number k ss vs s u t v h g
+one_of_number zero no_spellings vs s u t v h g = absurd h
+one_of_number (suc k) no_spellings vs s u t v h g = absurd h
+one_of_number zero (spelling a ss) no_members s u t v h g = absurd h
+one_of_number (suc k) (spelling a ss) no_members s u t v h g = absurd h
+
+value_by_node : (y : Spelling) (z : Value) (k : ℕ) (s u : Spelling) (t v : Value) → IsMember k y z s t
+    → IsMember k y z u v → t ≡ v
+value_by_node (node a ws ss) z k s u t v h g = one_of_number k ss (members z) s u t v h g
+
+-- The member of one number has one value.
+pub one_member : (w : Item) (k : ℕ) (s u : Spelling) (t v : Value) → IsMember k w.spelled w.value s t
+    → IsMember k w.spelled w.value u v → t ≡ v
+one_member w k s u t v h g = value_by_node w.spelled w.value k s u t v h g
+
+-- Geometries that were read are lawful members of a collection.
+pub items_lawful : (ws : List Item) → AreGeometries (geometries (map geometry_seen ws))
+items_lawful [] = tt
+items_lawful (w ∷ ws) = (geometry_lawful w, items_lawful ws)

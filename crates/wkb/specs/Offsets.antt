@@ -1,0 +1,50 @@
+-- What the reader's clauses say of the geometry at an offset in a blob, and of its words.
+use Rattle.std.proofs.Common.{◌≡◌, ℕ, List, drop, ◌⊎◌, Some, None, Err, ap, subst, ◌∙◌, slice_get}
+use Rattle.wkb.specs.Prelude.{WkbError, IsMemory}
+use Rattle.wkb.specs.Values.{Coordinate}
+use Rattle.wkb.specs.Reads.{Item, IsFront, IsOnlyFront, HasNoFront, IfRefused}
+use Rattle.wkb.specs.Laws.{IsWordOf}
+use Rattle.wkb.specs.Bridges.{memory_or}
+
+-- The geometry at an offset in a blob: the bytes there spell it, and no other is there.
+pub record BeginsAt (blob : List ℕ) (offset : ℕ) (w : Item) : Type 0 where
+  pub front : IsFront (drop offset blob) w
+  pub only : IsOnlyFront (drop offset blob) w
+
+-- There is one where the reader accepts the bytes from the offset on.
+pub begins_at : (blob : List ℕ) (offset : ℕ) (behind : List ℕ) (w : Item) → behind ≡ drop offset blob
+    → IsFront behind w → IsOnlyFront behind w → BeginsAt blob offset w
+begins_at blob offset behind w same front only =
+    record { front = subst (λ b. IsFront b w) same front; only = subst (λ b. IsOnlyFront b w) same only }
+
+-- There is none where the reader refuses these bytes for a cause other than memory.
+pub none_begins_at : (blob : List ℕ) (offset : ℕ) (behind : List ℕ) (e : WkbError) → behind ≡ drop offset blob
+    → IfRefused (Err e) (λ _. HasNoFront behind)
+    → IsMemory e ⊎ HasNoFront (drop offset blob)
+none_begins_at blob offset behind e same h =
+    subst (λ b. IsMemory e ⊎ HasNoFront b) same (memory_or (λ _. HasNoFront behind) e h)
+
+-- What is said to be there has its value.
+pub value_there : (blob : List ℕ) (offset : ℕ) (w v : Item) → BeginsAt blob offset w → IsFront (drop offset blob) v
+    → v.value ≡ w.value
+value_there blob offset w v there f = (there.only v.spelled v.value f.rest f.front).2
+
+-- What is said to be there has its spelling.
+pub spelling_there : (blob : List ℕ) (offset : ℕ) (w v : Item) → BeginsAt blob offset w
+    → IsFront (drop offset blob) v → v.spelled ≡ w.spelled
+spelling_there blob offset w v there f = (there.only v.spelled v.value f.rest f.front).1
+
+-- A coordinate that is there and too short has no such word.
+pub no_word : (cs : List Coordinate) (c : Coordinate) (i n x : ℕ) → Some c ≡ slice_get cs i → None ≡ slice_get c n
+    → IsWordOf cs i n x → ⊥
+no_word cs c i n x here none of =
+    let some : Some c ≡ Some of.coordinate = here ∙ of.coordinate_is in
+    let same : c ≡ of.coordinate = cc in
+    let word : None ≡ Some x = none ∙ ap (λ (l : List ℕ). slice_get l n) same ∙ of.word_is in
+    absurd (cc)
+
+-- Where there is no such coordinate there is no word of it.
+pub no_word_there : (cs : List Coordinate) (i n x : ℕ) → None ≡ slice_get cs i → IsWordOf cs i n x → ⊥
+no_word_there cs i n x none of =
+    let word : None ≡ Some of.coordinate = none ∙ of.coordinate_is in
+    absurd (cc)

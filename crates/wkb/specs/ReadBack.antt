@@ -1,0 +1,51 @@
+-- What is read of an encoding that was written.
+use Rattle.std.proofs.Common.{◌≡◌, ℕ, ◌≤◌, List, Some, None, Bool, true, false, if◌then◌else◌, refl, sym, ap, subst}
+use Rattle.std.proofs.Common.{◌∙◌, ◌++◌}
+use Rattle.wkb.specs.Prelude.{Dimension, all_nan}
+use Rattle.wkb.specs.Values.{Coordinate, Value, point, nest}
+use Rattle.wkb.specs.Spellings.{Spelling, Front, max_nesting, HasOptions}
+use Rattle.wkb.specs.Geometries.{Geometry, IsGeometry, normal, normal_point}
+use Rattle.wkb.specs.Encodings.{IsForm, encoding_of, refusal_of}
+use Rattle.wkb.specs.Writes.{WriteOptions}
+use Rattle.wkb.specs.Reads.{Item, IsOnlyFront, point_of}
+use Rattle.wkb.specs.Laws.{WritableIsRead}
+
+-- Within the deepest nesting the bytes begin with a geometry in the options' order, with their SRID, of the value that
+-- the geometry stands for. These bytes follow it.
+abbrev pub IsReadBefore : List ℕ → WriteOptions → Geometry → List ℕ → Type 0
+IsReadBefore rest options g bytes =
+    nest (normal g) ≤ max_nesting
+    → (s : Spelling) × Front bytes s (normal g) rest × HasOptions options.endianness options.form s
+
+-- An encoding that other bytes follow is read before them.
+pub encoding_is_read : (rest : List ℕ) (options : WriteOptions) (g : Geometry) (encoding bytes : List ℕ)
+    → WritableIsRead → IsForm options.form → IsGeometry g → encoding ≡ encoding_of options g
+    → refusal_of options g ≡ None → bytes ≡ encoding ++ rest → IsReadBefore rest options g bytes
+encoding_is_read rest options g encoding bytes law fits lawful is fine whole shallow =
+    let read = law options.endianness options.form g rest fits lawful fine shallow in
+    let same = whole ∙ ap (λ l. l ++ rest) is in
+    (read.0, subst (λ b. Front b read.0 (normal g) rest) (sym same) read.1, read.2)
+
+-- What the reader returns of such bytes has the value that they begin with.
+pub value_is_read : (bytes : List ℕ) (s : Spelling) (t : Value) (rest input : List ℕ) (w : Item) → Front bytes s t rest
+    → input ≡ bytes → IsOnlyFront input w → t ≡ w.value
+value_is_read bytes s t rest input w front same only =
+    (only s t rest (subst (λ b. Front b s t rest) (sym same) front)).2
+
+empty_by : (b : Bool) (words : Coordinate) → None ≡ (if b then None else Some words) → b ≡ true
+empty_by true words h = refl
+empty_by false words h = absurd (cc)
+
+words_by : (b : Bool) (words read : Coordinate) → Some read ≡ (if b then None else Some words) → read ≡ words
+words_by true words read h = absurd (cc)
+words_by false words read h = cc
+
+-- A point that is read as the empty one was written with not-a-numbers alone.
+pub empty_point_read : (d : Dimension) (words : Coordinate) (t : Value) → point d (normal_point (Some words)) ≡ t
+    → None ≡ point_of t → all_nan words ≡ true
+empty_point_read d words t same none = empty_by (all_nan words) words (none ∙ ap point_of (sym same))
+
+-- A point that is read with words was written with these.
+pub point_read : (d : Dimension) (words read : Coordinate) (t : Value) → point d (normal_point (Some words)) ≡ t
+    → Some read ≡ point_of t → read ≡ words
+point_read d words read t same some = words_by (all_nan words) words read (some ∙ ap point_of (sym same))
