@@ -1,9 +1,5 @@
 pub mod Equal
-pub mod Fronts
 pub mod KeysFound
-pub mod KindsHanded
-pub mod Lent
-pub mod PointRead
-pub mod ReadBefore
 pub mod Rings
 pub mod Words
+pub mod BoxesHold

@@ -1,70 +1,20 @@
 -- Rings of polygons in a collection, and their words.
-use Rattle.std.proofs.Common.{◌≡◌, ℕ, zero, suc, ◌+◌, ◌*◌, List, [], ◌∷◌, ◌++◌, length, drop, Option, Some, None, ◌⊎◌}
+use Rattle.std.proofs.Common.{◌≡◌, ℕ, ◌+◌, ◌*◌, List, [], ◌++◌, length, drop, Option, Some, None, ◌⊎◌}
 use Rattle.std.proofs.Common.{inl, inr, refl, sym, ap, subst, ◌∙◌, append_assoc, length-append, arith, slice_get}
 use Rattle.std.specs.Prelude.{option_map, MatchOption}
 use Rattle.std.proofs.lemmas.List.{drop-drop}
-use Rattle.wkb_clients.specs.Common.{Dimension, WkbError, number, width, IsMemory, Coordinate, Value, Values, polygon}
-use Rattle.wkb_clients.specs.Common.{collection, no_members, member, members, kind, Spelling, node, Spellings}
-use Rattle.wkb_clients.specs.Common.{no_spellings, spelling, header, Spells, Listed, whole_of, Item, spellings, values}
-use Rattle.wkb_clients.specs.Common.{IsOneOf, IsMember, IsWordOf, MembersStand, RingsStand, WordsStand, members_spelled}
+use Rattle.wkb_clients.specs.Common.{WkbError, number, width, IsMemory, Coordinate, Value, polygon}
+use Rattle.wkb_clients.specs.Common.{members, kind}
+use Rattle.wkb_clients.specs.Common.{header, Spells, Listed, whole_of, Item}
+use Rattle.wkb_clients.specs.Common.{IsMember, IsWordOf, MembersStand, RingsStand, WordsStand}
 use Rattle.wkb_clients.specs.Common.{HasNoFront}
 use Rattle.std.proofs.Math.Seq.{drop-append_seam}
 use Rattle.wkb.specs.Reads.{ring_seen, LinearRing, IsCollectionOf}
 use Rattle.wkb.specs.Bridges.{member_of}
 use Rattle.wkb_clients.specs.Rings.{IsRingOf, HasNoRing}
 use Rattle.wkb_clients.specs.Words.{IsRingWordAt, HasNoRingWordAt}
-use Rattle.wkb_clients.proofs.Fronts.{Stands, one_value, one_spelling, no_word, no_word_there}
-
--- ---- members by their index
-
-none_of : (ms : List Item) (k : ℕ) (s : Spelling) (t : Value) → slice_get ms k ≡ None
-    → IsOneOf k (spellings ms) (values ms) s t → ⊥
-none_of [] zero s t is h = h
-none_of [] (suc k) s t is h = h
-none_of (x ∷ ms) zero s t is h = absurd (cc)
-none_of (x ∷ ms) (suc k) s t is h = none_of ms k s t is h
-
-same_value : (ms : List Item) (k : ℕ) (s : Spelling) (t : Value) (m : Item) → slice_get ms k ≡ Some m
-    → IsOneOf k (spellings ms) (values ms) s t → t ≡ m.value
-same_value [] zero s t m is h = absurd h
-same_value [] (suc k) s t m is h = absurd h
-same_value (x ∷ ms) zero s t m is h =
-    let same : x ≡ m = cc in
-    h.1 ∙ ap (λ (i : Item). i.value) same
-same_value (x ∷ ms) (suc k) s t m is h = same_value ms k s t m is h
-
-listed : (u : Spelling) (d : Dimension) (vs : Values) (k : ℕ) (s : Spelling) (t : Value)
-    → IsMember k u (collection d vs) s t
-    → IsOneOf k (members_spelled u) vs s t
-listed (node g ws ss) d vs k s t h = h
-
--- a member of a collection is one of those that were handed out
-member_in : (w : Item) (ms : List Item) (k : ℕ) (s : Spelling) (t : Value) → IsCollectionOf w ms
-    → IsMember k w.spelled w.value s t
-    → IsOneOf k (spellings ms) (values ms) s t
-member_in w ms k s t c h =
-    let inside =
-    listed c.whole.spelled c.whole.dimension c.whole.parts k s t
-    (subst (λ (v : Item). IsMember k v.spelled v.value s t) (sym c.is) h) in
-    subst (λ vs. IsOneOf k (spellings ms) vs s t) (sym c.all.value)
-    (subst (λ ss. IsOneOf k ss c.whole.parts s t) (sym c.all.spelled) inside)
-
--- a member has one value
-same_one : (k : ℕ) (ss : Spellings) (vs : Values) (s u : Spelling) (t v : Value) → IsOneOf k ss vs s t
-    → IsOneOf k ss vs u v → t ≡ v
-same_one zero (spelling a ss) (member b vs) s u t v h g = h.1 ∙ sym g.1
-same_one (suc k) (spelling a ss) (member b vs) s u t v h g = same_one k ss vs s u t v h g
-same_one zero no_spellings vs s u t v h g = absurd h
-same_one (suc k) no_spellings vs s u t v h g = absurd h
-same_one zero (spelling a ss) no_members s u t v h g = absurd h
-same_one (suc k) (spelling a ss) no_members s u t v h g = absurd h
-
-one_member : (w : Item) (k : ℕ) (s u : Spelling) (t v : Value) → IsMember k w.spelled w.value s t
-    → IsMember k w.spelled w.value u v → t ≡ v
-one_member w k s u t v h g = by w.spelled w.value h g
-  where
-    by : (y : Spelling) (z : Value) → IsMember k y z s t → IsMember k y z u v → t ≡ v
-    by (node a ws ss) z h g = same_one k ss (members z) s u t v h g
+use Rattle.wkb.specs.Members.{no_member_listed, listed_value, member_listed, one_member}
+use Rattle.wkb.specs.Offsets.{BeginsAt, value_there, spelling_there, no_word, no_word_there}
 
 -- ---- rings
 
@@ -75,15 +25,15 @@ rings_of _ = []
 -- a collection that has no such member has no such ring
 pub no_member : (w : Item) (ms : List Item) (k j : ℕ) → IsCollectionOf w ms → slice_get ms k ≡ None → HasNoRing w k j
 no_member w ms k j c none =
-    λ ring h. none_of ms k h.spelled (polygon h.of_polygon h.rings) none
-    (member_in w ms k h.spelled (polygon h.of_polygon h.rings) c h.is_member)
+    λ ring h. no_member_listed ms k h.spelled (polygon h.of_polygon h.rings) none
+    (member_listed w ms k h.spelled (polygon h.of_polygon h.rings) c h.is_member)
 
 -- nor has one whose member is no polygon
 pub no_polygon : (w : Item) (ms : List Item) (k j : ℕ) (m : Item) → IsCollectionOf w ms → slice_get ms k ≡ Some m
     → (kind m.value ≡ 3 → ⊥) → HasNoRing w k j
 no_polygon w ms k j m c is other =
-    λ ring h. other (ap kind (sym (same_value ms k h.spelled (polygon h.of_polygon h.rings) m is
-    (member_in w ms k h.spelled (polygon h.of_polygon h.rings) c h.is_member))))
+    λ ring h. other (ap kind (sym (listed_value ms k h.spelled (polygon h.of_polygon h.rings) m is
+    (member_listed w ms k h.spelled (polygon h.of_polygon h.rings) c h.is_member))))
 
 -- a polygon's ring is found, or there is none
 pub ring_or_none : (w : Item) (ms : List Item) (k j : ℕ) (m : Item) (p : Listed (List (List Coordinate)))
@@ -103,8 +53,8 @@ ring_or_none w ms k j m p (Some r) c is view found =
       is = sym found;
     }
 ring_or_none w ms k j m p None c is view found =
-    λ ring h. let same = same_value ms k h.spelled (polygon h.of_polygon h.rings) m is
-    (member_in w ms k h.spelled (polygon h.of_polygon h.rings) c h.is_member) in
+    λ ring h. let same = listed_value ms k h.spelled (polygon h.of_polygon h.rings) m is
+    (member_listed w ms k h.spelled (polygon h.of_polygon h.rings) c h.is_member) in
     let rings : h.rings ≡ p.parts = ap rings_of (same ∙ ap (λ (i : Item). i.value) (sym view)) in
     let none : None ≡ Some ring = found ∙ ap (λ (l : List (List Coordinate)). slice_get l j) (sym rings) ∙ h.is in
     absurd (cc)
@@ -127,7 +77,7 @@ behind_part encoding rest head before part after start is at =
 
 ring_word_at : MembersStand → RingsStand → WordsStand
     → (blob : List ℕ) (offset k j i n x : ℕ) (w : Item) (ring : List Coordinate)
-    → Stands blob offset w → IsRingOf w k j ring → IsWordOf ring i n x → IsRingWordAt blob offset k j i n x
+    → BeginsAt blob offset w → IsRingOf w k j ring → IsWordOf ring i n x → IsRingWordAt blob offset k j i n x
 ring_word_at members rings words blob offset k j i n x w ring there of word =
     let f = there.front in
     let spells = subst (λ t. Spells w.spelled w.value t) f.encoding_is f.front.spelled in
@@ -166,11 +116,11 @@ ring_word_at members rings words blob offset k j i n x w ring there of word =
     }
 
 -- what is said to be such a word is one of a ring of the collection that is there
-ring_of : (blob : List ℕ) (offset k j i n x : ℕ) (w : Item) → Stands blob offset w
+ring_of : (blob : List ℕ) (offset k j i n x : ℕ) (w : Item) → BeginsAt blob offset w
     → (h : IsRingWordAt blob offset k j i n x) → IsRingOf w k j h.ring
 ring_of blob offset k j i n x w there h =
-    let value = one_value blob offset w h.whole there h.front in
-    let spelled = one_spelling blob offset w h.whole there h.front in
+    let value = value_there blob offset w h.whole there h.front in
+    let spelled = spelling_there blob offset w h.whole there h.front in
     let p = h.of_polygon in
     record {
       dimension = h.dimension;
@@ -198,7 +148,7 @@ one_ring w k j a b h g =
 -- the coordinate of a ring was found, and its word or none
 pub ring_word_or_none : MembersStand → RingsStand → WordsStand
     → (blob : List ℕ) (offset k j i n : ℕ) (w : Item) (ring : List Coordinate) (c : Coordinate) (found : Option ℕ)
-    → Stands blob offset w → IsRingOf w k j ring → Some c ≡ slice_get ring i → found ≡ slice_get c n
+    → BeginsAt blob offset w → IsRingOf w k j ring → Some c ≡ slice_get ring i → found ≡ slice_get c n
     → MatchOption found (HasNoRingWordAt blob offset k j i n) (λ x. IsRingWordAt blob offset k j i n x)
 ring_word_or_none members rings words blob offset k j i n w ring c (Some x) there of here found =
     ring_word_at members rings words blob offset k j i n x w ring there of
@@ -207,7 +157,8 @@ ring_word_or_none members rings words blob offset k j i n w ring c None there of
     λ x h. no_word ring c i n x here found
     (subst (λ l. IsWordOf l i n x) (one_ring w k j h.ring ring (ring_of blob offset k j i n x w there h) of) h.word)
 
-pub no_ring_coordinate : (blob : List ℕ) (offset k j i n : ℕ) (w : Item) (ring : List Coordinate) → Stands blob offset w
+pub no_ring_coordinate : (blob : List ℕ) (offset k j i n : ℕ) (w : Item) (ring : List Coordinate)
+    → BeginsAt blob offset w
     → IsRingOf w k j ring
     → None ≡ slice_get ring i
     → HasNoRingWordAt blob offset k j i n
@@ -215,7 +166,7 @@ no_ring_coordinate blob offset k j i n w ring there of none =
     λ x h. no_word_there ring i n x none
     (subst (λ l. IsWordOf l i n x) (one_ring w k j h.ring ring (ring_of blob offset k j i n x w there h) of) h.word)
 
-pub no_ring_there : (blob : List ℕ) (offset k j i n : ℕ) (w : Item) → Stands blob offset w → HasNoRing w k j
+pub no_ring_there : (blob : List ℕ) (offset k j i n : ℕ) (w : Item) → BeginsAt blob offset w → HasNoRing w k j
     → HasNoRingWordAt blob offset k j i n
 no_ring_there blob offset k j i n w there none = λ x h. none h.ring (ring_of blob offset k j i n x w there h)
 

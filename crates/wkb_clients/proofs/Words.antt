@@ -6,7 +6,7 @@ use Rattle.std.proofs.lemmas.List.{drop-drop}
 use Rattle.wkb_clients.specs.Common.{Dimension, number, width, Coordinate, Value, line_string, kind, WkbError, IsMemory}
 use Rattle.wkb_clients.specs.Common.{header, Spells, HasNoFront, Item, behind_count, IsWordOf, LineStringWordsStand}
 use Rattle.wkb_clients.specs.Words.{IsWordAt, HasNoWordAt}
-use Rattle.wkb_clients.proofs.Fronts.{Stands, one_value, no_word, no_word_there}
+use Rattle.wkb.specs.Offsets.{BeginsAt, value_there, no_word, no_word_there}
 
 -- the coordinates of a line string
 abbrev line_string_coordinates : Value → List Coordinate
@@ -15,7 +15,7 @@ line_string_coordinates _ = []
 
 -- a word of the line string that is there
 word_at : LineStringWordsStand → (blob : List ℕ) (offset i n x : ℕ) (w : Item) (d : Dimension) (cs : List Coordinate)
-    → Stands blob offset w → w.value ≡ line_string d cs → IsWordOf cs i n x → IsWordAt blob offset i n x
+    → BeginsAt blob offset w → w.value ≡ line_string d cs → IsWordOf cs i n x → IsWordAt blob offset i n x
 word_at law blob offset i n x w d cs there is word =
     let f = there.front in
     let start = behind_count w.spelled + 8 * (width d * i + n) in
@@ -35,18 +35,18 @@ word_at law blob offset i n x w d cs there is word =
     }
 
 -- what is said to be a word there is one of the line string that is there
-word_of : (blob : List ℕ) (offset i n x : ℕ) (w : Item) (d : Dimension) (cs : List Coordinate) → Stands blob offset w
+word_of : (blob : List ℕ) (offset i n x : ℕ) (w : Item) (d : Dimension) (cs : List Coordinate) → BeginsAt blob offset w
     → w.value ≡ line_string d cs
     → IsWordAt blob offset i n x → IsWordOf cs i n x
 word_of blob offset i n x w d cs there is h =
-    let same = one_value blob offset w h.whole there h.front in
+    let same = value_there blob offset w h.whole there h.front in
     subst (λ l. IsWordOf l i n x) (ap line_string_coordinates (sym h.value_is ∙ same ∙ is)) h.word
 
 -- the coordinate was found, and its word or none
 pub word_or_none : LineStringWordsStand
     → (blob : List ℕ) (offset i n : ℕ) (w : Item) (d : Dimension) (cs : List Coordinate) (c : Coordinate)
     (found : Option ℕ)
-    → Stands blob offset w → w.value ≡ line_string d cs → Some c ≡ slice_get cs i → found ≡ slice_get c n
+    → BeginsAt blob offset w → w.value ≡ line_string d cs → Some c ≡ slice_get cs i → found ≡ slice_get c n
     → MatchOption found (HasNoWordAt blob offset i n) (λ x. IsWordAt blob offset i n x)
 word_or_none law blob offset i n w d cs c (Some x) there is here found =
     word_at law blob offset i n x w d cs there is
@@ -56,15 +56,15 @@ word_or_none law blob offset i n w d cs c None there is here found =
 
 -- there is no such coordinate
 pub no_coordinate : (blob : List ℕ) (offset i n : ℕ) (w : Item) (d : Dimension) (cs : List Coordinate)
-    → Stands blob offset w → w.value ≡ line_string d cs → None ≡ slice_get cs i → HasNoWordAt blob offset i n
+    → BeginsAt blob offset w → w.value ≡ line_string d cs → None ≡ slice_get cs i → HasNoWordAt blob offset i n
 no_coordinate blob offset i n w d cs there is none =
     λ x h. no_word_there cs i n x none (word_of blob offset i n x w d cs there is h)
 
 -- another geometry is there, or none
-pub no_line_string : (blob : List ℕ) (offset i n : ℕ) (w : Item) → Stands blob offset w → (kind w.value ≡ 2 → ⊥)
+pub no_line_string : (blob : List ℕ) (offset i n : ℕ) (w : Item) → BeginsAt blob offset w → (kind w.value ≡ 2 → ⊥)
     → HasNoWordAt blob offset i n
 no_line_string blob offset i n w there other =
-    λ x h. other (ap kind (sym (one_value blob offset w h.whole there h.front) ∙ h.value_is))
+    λ x h. other (ap kind (sym (value_there blob offset w h.whole there h.front) ∙ h.value_is))
 
 pub no_geometry : (blob : List ℕ) (offset i n : ℕ) (e : WkbError) → IsMemory e ⊎ HasNoFront (drop offset blob)
     → IsMemory e ⊎ HasNoWordAt blob offset i n

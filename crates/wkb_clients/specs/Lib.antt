@@ -11,3 +11,6 @@ pub mod Corners
 pub mod Features
 pub mod Places
 pub mod Plain
+pub mod Boxes
+pub mod Gathered
+pub mod Sites

@@ -1,6 +1,7 @@
 //! Clients: what a user of the library proves of their own code, from its public clauses and laws only.
 #![tactic(auto)]
 
+pub mod boxes;
 pub mod clones;
 pub mod collections;
 pub mod columns;
@@ -9,6 +10,7 @@ pub mod counts;
 pub mod drawn;
 pub mod features;
 pub mod framed;
+pub mod gathered;
 pub mod keys;
 pub mod members;
 pub mod orders;
@@ -16,4 +18,5 @@ pub mod package;
 pub mod places;
 pub mod plain;
 pub mod shapes;
+pub mod sites;
 pub mod written;

@@ -1,8 +1,8 @@
-use Rattle.std.proofs.Common.{◌≡◌, ◌+◌, Some, ap, sym, subst, ◌∙◌, arith}
-use Rattle.std.proofs.lemmas.Bool.{ltb-true}
-use Rattle.std.proofs.lemmas.Option.{slice_get-get_or}
-use Rattle.wkb_clients.specs.Common.{AreBytes, StandsAt, member_start}
+use Rattle.std.proofs.Common.{◌≡◌, ◌+◌, subst, arith}
 use Rattle.wkb.specs.Bridges.{member_of, front_stands, stands_within}
+use Rattle.wkb.specs.Lent.{member_stands}
+use Rattle.wkb.specs.Members.{item_found}
+use Rattle.wkb_clients.specs.Common.{StandsAt, member_start}
 use Rattle.wkb_clients.proofs.collections.member_bytes.Goals as goal
 
 pub returns : goal.returns
@@ -11,18 +11,19 @@ returns c =
     let members = c.in-GeometryCollection.members.now in
     let m = c.in-Some.found.now in
     let start = member_start c.args.index w.spelled w.value in
-    let here = c.members_in_place.ensures w c.args.index m (subst AreBytes c.buf.ensures.encoding c.are_bytes.ensures)
-    (subst AreBytes c.buf-bytes.ensures.encoding c.are_bytes-2.ensures)
-    (c.spelled_in_full.ensures w.spelled w.value w.encoding c.buf.ensures.spells)
-    (c.spelled_in_full.ensures m.spelled m.value m.encoding c.buf-bytes.ensures.spells)
-    (member_of w members c.args.index m c.in-GeometryCollection.ensures.view
-    (slice_get-get_or members c.args.index _ (ltb-true _ _ (sym c.in-Some.ensures.lookup.0))
-    ∙ ap Some (sym c.in-Some.ensures.lookup.1))) in
+    let b = c.buf.ensures in
+    let bytes = c.buf-bytes.ensures in
+    let is =
+    member_of w members c.args.index m c.in-GeometryCollection.ensures.view
+    (item_found members c.args.index _ c.in-Some.ensures.lookup.0 c.in-Some.ensures.lookup.1) in
+    let here =
+    member_stands c.spelled_in_full.ensures c.members_in_place.ensures w c.args.index m is
+    (record { bytes = c.are_bytes.ensures; encoding = b.encoding; spells = b.spells })
+    (record { bytes = c.are_bytes-2.ensures; encoding = bytes.encoding; spells = bytes.spells }) in
     let zero : 0 + start ≡ start = omega arith in
     record {
       whole = w;
       front = c.in-Ok.ensures.front;
       stands = subst (λ n. StandsAt n c.buf-bytes.result.now c.args.input.now) zero
-          (subst (λ t. StandsAt (0 + start) t c.args.input.now) (sym c.buf-bytes.ensures.encoding)
-          (stands_within here (front_stands c.in-Ok.ensures.front)));
+          (stands_within here (front_stands c.in-Ok.ensures.front));
     }

@@ -1,4 +1,4 @@
-use Rattle.wkb_clients.proofs.Fronts.{stands, refused}
+use Rattle.wkb.specs.Offsets.{begins_at, none_begins_at}
 use Rattle.wkb_clients.proofs.Rings.{ring_word_or_none, no_ring_coordinate, no_ring_there, no_collection_there}
 use Rattle.wkb_clients.proofs.collections.ring_word.Goals as goal
 
@@ -6,7 +6,7 @@ pub returns-in-Err : goal.returns-in-Err
 returns-in-Err c =
     let at = c.args.at in
     no_collection_there c.args.blob.now c.args.offset at.member at.ring at.coordinate at.word c.in-Err.e
-    (refused c.args.blob.now c.args.offset c.from_offset.result.now c.in-Err.e c.from_offset.ensures
+    (none_begins_at c.args.blob.now c.args.offset c.from_offset.result.now c.in-Err.e c.from_offset.ensures
     c.in-Err.ensures.no_front)
 
 pub returns-in-Some-coord : goal.returns-in-Some-coord
@@ -14,7 +14,7 @@ returns-in-Some-coord c =
     let at = c.args.at in
     let w = c.in-Ok.geometry in
     let there =
-    stands c.args.blob.now c.args.offset c.from_offset.result.now w c.from_offset.ensures c.in-Ok.ensures.front
+    begins_at c.args.blob.now c.args.offset c.from_offset.result.now w c.from_offset.ensures c.in-Ok.ensures.front
     c.in-Ok.ensures.one_front in
     ring_word_or_none c.members_stand.ensures c.rings_stand.ensures c.words_stand.ensures.ring c.args.blob.now
     c.args.offset at.member at.ring at.coordinate
@@ -26,7 +26,7 @@ returns-in-Some c =
     let at = c.args.at in
     let w = c.in-Ok.geometry in
     let there =
-    stands c.args.blob.now c.args.offset c.from_offset.result.now w c.from_offset.ensures c.in-Ok.ensures.front
+    begins_at c.args.blob.now c.args.offset c.from_offset.result.now w c.from_offset.ensures c.in-Ok.ensures.front
     c.in-Ok.ensures.one_front in
     no_ring_coordinate c.args.blob.now c.args.offset at.member at.ring at.coordinate at.word w _ there c.in-Some.ensures
     c.in-None-coord.ensures.value
@@ -36,6 +36,6 @@ returns c =
     let at = c.args.at in
     let w = c.in-Ok.geometry in
     let there =
-    stands c.args.blob.now c.args.offset c.from_offset.result.now w c.from_offset.ensures c.in-Ok.ensures.front
+    begins_at c.args.blob.now c.args.offset c.from_offset.result.now w c.from_offset.ensures c.in-Ok.ensures.front
     c.in-Ok.ensures.one_front in
     no_ring_there c.args.blob.now c.args.offset at.member at.ring at.coordinate at.word w there c.in-None.ensures

@@ -1,9 +1,9 @@
 use Rattle.std.proofs.Common.{◌≡◌, slice_index, sym, ap, ◌∙◌, arith}
 use Rattle.wkb.specs.Bridges.{read_again}
-use Rattle.wkb_clients.specs.Common.{kind, words_seen, point_seen}
+use Rattle.wkb.specs.Handed.{not_point}
+use Rattle.wkb.specs.ReadBack.{value_is_read, empty_point_read, point_read}
+use Rattle.wkb_clients.specs.Common.{Xy, kind, words_seen, point_seen}
 use Rattle.wkb_cases.specs.Places.{place_words}
-use Rattle.wkb_clients.proofs.KindsHanded.{not_point}
-use Rattle.wkb_clients.proofs.PointRead.{value_read, empty_is, words_are}
 use Rattle.wkb_clients.proofs.places.round_trip.Goals as goal
 
 pub returns-in_default : goal.returns-in_default
@@ -11,9 +11,7 @@ returns-in_default c =
     let again = read_again c.new-sink.ensures.bytes c.write_point.ensures c.in-Ok.is (omega arith) in
     let input = c.as_slice.ensures.value ∙ c.into_vec-bytes.ensures in
     let value =
-    value_read
-    (place_words c.args.place.now) again.0 _ _ c.in-Ok-read_wkb.geometry again.1 input
-    c.in-Ok-read_wkb.ensures.one_front in
+    value_is_read _ again.0 _ _ _ c.in-Ok-read_wkb.geometry again.1 input c.in-Ok-read_wkb.ensures.one_front in
     absurd (not_point c.in-Ok-read_wkb.geometry c.as_type.result c.as_type.ensures.view c.in_default.not-Point
     (ap kind (sym value)))
 
@@ -22,11 +20,9 @@ returns-in-Some c =
     let again = read_again c.new-sink.ensures.bytes c.write_point.ensures c.in-Ok.is (omega arith) in
     let input = c.as_slice.ensures.value ∙ c.into_vec-bytes.ensures in
     let value =
-    value_read
-    (place_words c.args.place.now) again.0 _ _ c.in-Ok-read_wkb.geometry again.1 input
-    c.in-Ok-read_wkb.ensures.one_front in
+    value_is_read _ again.0 _ _ _ c.in-Ok-read_wkb.geometry again.1 input c.in-Ok-read_wkb.ensures.one_front in
     let words =
-    words_are (place_words c.args.place.now) (words_seen c.in-Some.coord) (point_seen c.in-Point.point.now).value
+    point_read Xy (place_words c.args.place.now) (words_seen c.in-Some.coord) (point_seen c.in-Point.point.now).value
     (value ∙ ap (λ v. v.value) (sym c.in-Point.ensures.view)) c.in-Some.ensures.value in
     let x : c.x_y.result.0 ≡ c.args.place.now.longitude = c.x_y.ensures.x ∙ ap (λ l. slice_index l 0) words in
     let y : c.x_y.result.1 ≡ c.args.place.now.latitude = c.x_y.ensures.y ∙ ap (λ l. slice_index l 1) words in
@@ -37,8 +33,6 @@ returns c =
     let again = read_again c.new-sink.ensures.bytes c.write_point.ensures c.in-Ok.is (omega arith) in
     let input = c.as_slice.ensures.value ∙ c.into_vec-bytes.ensures in
     let value =
-    value_read
-    (place_words c.args.place.now) again.0 _ _ c.in-Ok-read_wkb.geometry again.1 input
-    c.in-Ok-read_wkb.ensures.one_front in
-    empty_is (place_words c.args.place.now) (point_seen c.in-Point.point.now).value
+    value_is_read _ again.0 _ _ _ c.in-Ok-read_wkb.geometry again.1 input c.in-Ok-read_wkb.ensures.one_front in
+    empty_point_read Xy (place_words c.args.place.now) (point_seen c.in-Point.point.now).value
     (value ∙ ap (λ v. v.value) (sym c.in-Point.ensures.view)) c.in-None.ensures.value
