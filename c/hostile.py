@@ -1,18 +1,17 @@
 """The extensions of SQLite and PostgreSQL beside the Python package, over geometries with each byte changed, and cut at
 each byte.
 
-    python3 hostile.py sqlite LIBRARY EXTENSION    # tries all functions, also over the blobs of GeoPackages
-    python3 hostile.py rows LIBRARY                # prints what the functions have to return, for c/postgres/run
+    python3 hostile.py sqlite PACKAGE EXTENSION    # tries all functions, also over the blobs of GeoPackages
+    python3 hostile.py rows PACKAGE                # prints what the functions have to return, for c/postgres/run
 
-The results have to be those of the library in Python for the same bytes.
+The results have to be those of the Python package, which is in the folder PACKAGE, for the same bytes.
 """
 import os
-import pathlib
 import sqlite3
 import struct
 import sys
 
-sys.path.insert(0, os.fspath(pathlib.Path(__file__).parent / "python" / "src"))
+sys.path.insert(0, sys.argv[2])
 
 import wkb
 from wkb import Form, Kind, Refused, Status
@@ -157,7 +156,6 @@ def print_rows():
 
 
 def main():
-    wkb.load(sys.argv[2])
     if sys.argv[1] == "sqlite":
         try_sqlite(sys.argv[3])
     else:

@@ -1,9 +1,11 @@
 """The C library for scripts that compare pages with it: built first, in c/out, and called by the Python package."""
 import functools
 import os
+import pathlib
 import shutil
 import subprocess
 import sys
+import sysconfig
 
 from pages import ROOT
 
@@ -19,9 +21,10 @@ def wkb():
     for program in (compiler, "make", "objcopy"):
         if not shutil.which(program):
             raise Absent(f"there is no {program}")
-    subprocess.run(["make", "-s", "-C", ROOT / "c", f"CC={compiler}"], check=True)
-    os.environ["WKB_LIBRARY"] = str(ROOT / "c/out/libwkb.so")
-    sys.path.insert(0, str(ROOT / "c/python/src"))
+    if not pathlib.Path(sysconfig.get_path("include"), "Python.h").exists():
+        raise Absent(f"there is no Python.h of {sys.executable}")
+    subprocess.run(["make", "-s", "-C", ROOT / "c", f"CC={compiler}", f"PYTHON={sys.executable}", "python"], check=True)
+    sys.path.insert(0, str(ROOT / "c/out/package"))
     import wkb as package
 
     return package

@@ -1,27 +1,34 @@
-"""Puts the shared library beside the package. It is the one that WKB_LIBRARY names, or that `make` has built."""
+"""Puts the extension `_wkb` into the package: the one that WKB_EXTENSION names, or else one that `make` builds here, in
+`native` of the source package, or one folder up in the repository."""
 import os
 import pathlib
 import re
+import shutil
 import struct
 import subprocess
 import sys
 
-from setuptools import Distribution, setup
-from setuptools.command.build_py import build_py
-from wheel.bdist_wheel import bdist_wheel
+from setuptools import Extension, setup
+from setuptools.command.build_ext import build_ext
 
-LIBRARY = os.environ.get("WKB_LIBRARY") or pathlib.Path(__file__).resolve().parent.parent / "out" / "libwkb.so"
+try:
+    from setuptools.command.bdist_wheel import bdist_wheel
+except ImportError:
+    from wheel.bdist_wheel import bdist_wheel
+
+HERE = pathlib.Path(__file__).resolve().parent
 # The processors by their numbers in the head of an ELF file.
 MACHINES = {62: "x86_64", 183: "aarch64"}
-# The tags of wheels by the C library that the shared library asks for: manylinux_2_17 is any Linux with glibc 2.17 or
-# later, musllinux_1_1 any with musl 1.1 or later.
+# The tags of wheels by the C library that the extension asks for: manylinux_2_17 is any Linux with glibc 2.17 or later,
+# musllinux_1_1 any with musl 1.1 or later.
 TAGS = {"libc.so.6": "manylinux_2_17_{0}.manylinux2014_{0}", "libc.so": "musllinux_1_1_{0}"}
 
 
-def of_any_linux(machine):
-    """The tag where the library asks for one of these and no other library, and for nothing newer; or None."""
+def of_any_linux(extension, machine):
+    """The tag where the extension asks for one of these and no other library, and for nothing newer; or None."""
     try:
-        told = subprocess.run(["readelf", "-dVW", LIBRARY], check=True, stdout=subprocess.PIPE, encoding="utf-8").stdout
+        command = ["readelf", "-dVW", extension]
+        told = subprocess.run(command, check=True, stdout=subprocess.PIPE, encoding="utf-8").stdout
     except (OSError, subprocess.CalledProcessError):
         return None
     needed = [re.sub(r"musl-.*\.so\.1$", "so", it) for it in re.findall(r"\(NEEDED\).*\[(.*)\]", told)]
@@ -33,37 +40,52 @@ def of_any_linux(machine):
     return None
 
 
-def platform(own):
-    """The tag of the systems that the library runs on; that of this system is `own`."""
-    with open(LIBRARY, "rb") as library, open(sys.executable, "rb") as python:
-        head, head_here = library.read(20), python.read(20)
+def platform(extension, own):
+    """The tag of the systems that the extension runs on; that of this system is `own`."""
+    with open(extension, "rb") as built, open(sys.executable, "rb") as python:
+        head, head_here = built.read(20), python.read(20)
     machine = MACHINES.get(struct.unpack("<18xH", head)[0]) if head.startswith(b"\x7fELF") else None
-    tag = of_any_linux(machine) if machine else None
+    tag = of_any_linux(extension, machine) if machine else None
     if tag is None and (head[:8], head[18:]) != (head_here[:8], head_here[18:]):
-        raise SystemExit(f"{LIBRARY} is for another system, and makes no wheel here")
+        raise SystemExit(f"{extension} is for another system, and makes no wheel here")
     return tag or own
 
 
-class ForPlatform(Distribution):
-    """A package that is not pure Python."""
+def made(folder):
+    """The extension that `make` builds in a folder."""
+    native = HERE / "native" if (HERE / "native").exists() else HERE.parent
+    place = pathlib.Path(folder).resolve() / "package" / "wkb" / "_wkb.abi3.so"
+    own = [f"BUILD={place.parents[2]}", f"PACKAGE={HERE}", f"PYTHON={sys.executable}"]
+    subprocess.run(["make", "-s", "-C", os.fspath(native), *own, "extension"], check=True)
+    return place
 
-    def has_ext_modules(self):
-        return True
 
+class Build(build_ext):
+    """Copies the extension beside the Python code of the package."""
 
-class Build(build_py):
-    """Copies the shared library beside the sources."""
-
-    def run(self):
-        super().run()
-        self.copy_file(os.fspath(LIBRARY), os.path.join(self.build_lib, "wkb", "libwkb.so"))
+    def build_extension(self, ext):
+        extension = os.environ.get("WKB_EXTENSION") or made(self.build_temp)
+        place = pathlib.Path(self.get_ext_fullpath(ext.name))
+        place.parent.mkdir(parents=True, exist_ok=True)
+        shutil.copy(extension, place)
+        self.distribution.wkb_extension = extension
 
 
 class Wheel(bdist_wheel):
-    """A wheel for this platform and any Python 3: ctypes calls the library, which knows nothing of Python."""
+    """A wheel for CPython 3.11 and all later ones, on each system that the extension runs on."""
+
+    def finalize_options(self):
+        self.py_limited_api = "cp311"
+        super().finalize_options()
 
     def get_tag(self):
-        return "py3", "none", platform(super().get_tag()[2])
+        *python, own = super().get_tag()
+        built = getattr(self.distribution, "wkb_extension", None)
+        return (*python, platform(built, own) if built else own)
 
 
-setup(distclass=ForPlatform, cmdclass={"build_py": Build, "bdist_wheel": Wheel})
+sources = [os.fspath(it.relative_to(HERE)) for it in sorted(HERE.glob("src/extension/*.c"))]
+setup(
+    ext_modules=[Extension("wkb._wkb", sources, py_limited_api=True)],
+    cmdclass={"build_ext": Build, "bdist_wheel": Wheel},
+)

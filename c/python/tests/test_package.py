@@ -1,4 +1,4 @@
-"""The package beside wkb.h, the shared library, other processes, and the example of the pages."""
+"""The package beside wkb.h, its extension, other processes, and the example of the pages."""
 import concurrent.futures
 import ctypes
 import inspect
@@ -14,7 +14,7 @@ import unittest
 
 import wkb
 from samples import ISO_POLYGON, POINT, POLYGON
-from wkb import Status, _library, _records
+from wkb import Status, _records, _wkb
 
 C = pathlib.Path(__file__).resolve().parents[2]
 
@@ -37,15 +37,6 @@ class Header(unittest.TestCase):
             fields = list(self.fields(f"wkb_{record.__name__.lower()}", types))
             self.assertEqual(fields, record.FIELDS)
             self.assertEqual(_records.layout(fields).size, sum(8 if it[-1] == "8" else 4 for it in _flat(fields)))
-
-    def test_arguments(self):
-        types = {"uint64_t": ctypes.c_uint64, "uint32_t": ctypes.c_uint32, "size_t": ctypes.c_size_t}
-        types["*"] = ctypes.c_void_p
-        for struct, name in (
-            (_library.Options, "options"), (_library.ColumnArguments, "column"),
-            (_library.CoordinatesArguments, "coordinates"), (_library.LevelsArguments, "levels"),
-        ):
-            self.assertEqual(list(self.fields(f"wkb_{name}", types)), struct._fields_)
 
     def test_numbers(self):
         for numbers in (Status, wkb.Kind, wkb.Dimension, wkb.Order, wkb.Form):
@@ -86,41 +77,31 @@ class Names(unittest.TestCase):
         self.assertEqual(wkb.__version__, written.group(1))
 
 
-class Finding(unittest.TestCase):
-    """The library is found by its path, by the environment, or beside the package."""
+class Inside(unittest.TestCase):
+    """The library is inside the extension, and no other library is looked for."""
 
-    def loads(self, package, *paths, library=None):
-        """Whether a new process loads the library: with these paths, where WKB_LIBRARY names that library."""
-        environment = dict(os.environ, PYTHONPATH=os.fspath(package))
-        environment.pop("WKB_LIBRARY", None)
-        if library:
-            environment["WKB_LIBRARY"] = os.fspath(library)
-        program = "import sys, wkb; wkb.load(*sys.argv[1:]); print(wkb.__file__, wkb.version())"
-        ran = subprocess.run([sys.executable, "-c", program, *map(os.fspath, paths)], env=environment,
-                             stdout=subprocess.PIPE, stderr=subprocess.PIPE, universal_newlines=True)
-        self.assertIn("OSError" if ran.returncode else f"{package}/wkb/__init__.py (1, 0, 0)", ran.stdout + ran.stderr)
-        return ran.returncode == 0
-
-    def test_places(self):
-        loaded = pathlib.Path(_library.library()._name)
-        with tempfile.TemporaryDirectory() as folder:
-            package = pathlib.Path(folder, "package")
-            shutil.copytree(pathlib.Path(wkb.__file__).parent, package / "wkb",
-                            ignore=shutil.ignore_patterns("libwkb.so", "__pycache__"))
-            other, none = shutil.copy(loaded, f"{folder}/other.so"), f"{folder}/none.so"
-            self.assertFalse(self.loads(package))
-            self.assertTrue(self.loads(package, other))
-            self.assertTrue(self.loads(package, library=other))
-            self.assertTrue(self.loads(package, pathlib.Path(other), library=none))
-            shutil.copy(loaded, package / "wkb" / "libwkb.so")
-            self.assertTrue(self.loads(package))
-            self.assertFalse(self.loads(package, library=none))
-            self.assertFalse(self.loads(package, none))
-
-    def test_other_library(self):
-        """A library without the calls of wkb.h is not taken, and the one before stays."""
-        self.assertRaises(OSError, wkb.load, "libc.so.6")
+    def test_load(self):
+        self.assertIsNone(wkb.load())
+        for path in ("libc.so.6", pathlib.Path("none.so")):
+            self.assertRaisesRegex(OSError, f"{path} can't take its place", wkb.load, path)
         self.assertEqual(wkb.check(POINT).size, 21)
+
+    def test_environment(self):
+        """The package works anywhere, whatever WKB_LIBRARY names."""
+        with tempfile.TemporaryDirectory() as folder:
+            shutil.copytree(pathlib.Path(wkb.__file__).parent, f"{folder}/wkb",
+                            ignore=shutil.ignore_patterns("__pycache__"))
+            environment = dict(os.environ, PYTHONPATH=folder, WKB_LIBRARY=f"{folder}/none.so")
+            program = "import wkb; print(wkb.__file__, wkb.version())"
+            ran = subprocess.run([sys.executable, "-c", program], env=environment, stdout=subprocess.PIPE, check=True)
+            self.assertEqual(ran.stdout.decode(), f"{folder}/wkb/__init__.py (1, 0, 0)\n")
+
+    def test_names(self):
+        """The extension shows its first function alone, so that a program may have another such library."""
+        extension = ctypes.CDLL(_wkb.__file__)
+        self.assertTrue(extension.PyInit__wkb)
+        for name in ("wkb_check", "wkb_version", "wkb_raw_check"):
+            self.assertFalse(hasattr(extension, name))
 
 
 class OtherProcesses(unittest.TestCase):

@@ -1,11 +1,9 @@
 """Columns over Arrow's memory, as other packages hand it out in capsules."""
-import ctypes
 import struct
 import sys
-import weakref
 from typing import Any, Iterator, NamedTuple, Optional, Protocol, Tuple
 
-from ._buffers import python_call
+from . import _wkb
 from ._rows import Pieces, pieces_of
 
 
@@ -21,51 +19,44 @@ class ArrowStream(Protocol):
     def __arrow_c_stream__(self, requested_schema: Any = None) -> Any: ...
 
 
-class _Schema(ctypes.Structure):
-    """Arrow's `ArrowSchema`."""
+class _Schema(NamedTuple):
+    """The fields of Arrow's `ArrowSchema`, in the capsule that owns it."""
 
-    _fields_ = [
-        ("format", ctypes.c_char_p),
-        ("name", ctypes.c_void_p),
-        ("metadata", ctypes.c_void_p),
-        ("flags", ctypes.c_int64),
-        ("n_children", ctypes.c_int64),
-        ("children", ctypes.POINTER(ctypes.c_void_p)),
-        ("dictionary", ctypes.c_void_p),
-        ("release", ctypes.c_void_p),
-        ("private_data", ctypes.c_void_p),
-    ]
+    format: Optional[bytes]
+    n_children: int
+    dictionary: bool  # whether it has one
+    release: bool  # whether it isn't released
+    capsule: Any
 
 
-class _Array(ctypes.Structure):
-    """Arrow's `ArrowArray`."""
+class _Array(NamedTuple):
+    """The fields of Arrow's `ArrowArray`, in the capsule that owns it."""
 
-    _fields_ = [
-        ("length", ctypes.c_int64),
-        ("null_count", ctypes.c_int64),
-        ("offset", ctypes.c_int64),
-        ("n_buffers", ctypes.c_int64),
-        ("n_children", ctypes.c_int64),
-        ("buffers", ctypes.POINTER(ctypes.c_void_p)),
-        ("children", ctypes.POINTER(ctypes.c_void_p)),
-        ("dictionary", ctypes.c_void_p),
-        ("release", ctypes.c_void_p),
-        ("private_data", ctypes.c_void_p),
-    ]
+    length: int
+    null_count: int
+    offset: int
+    n_buffers: int
+    n_children: int
+    buffers: bool  # whether it has a list of them
+    dictionary: bool
+    release: bool
+    capsule: Any
 
-
-class _Stream(ctypes.Structure):
-    """Arrow's `ArrowArrayStream`."""
-
-    _fields_ = [(name, ctypes.c_void_p) for name in ("get_schema", "get_next", "get_last_error", "release", "data")]
+    def buffer(self, place: int, size: int) -> Any:
+        """So many bytes of a buffer, which keep the array; None where there is none."""
+        return _wkb.array_buffer(self.capsule, place, size)
 
 
-_pointer_of = python_call("PyCapsule_GetPointer", ctypes.c_void_p, ctypes.py_object, ctypes.c_char_p)
-_length_of = ctypes.CFUNCTYPE(ctypes.c_size_t, ctypes.c_void_p, ctypes.c_size_t)(("strnlen", ctypes.CDLL(None)))
-_FILL = ctypes.CFUNCTYPE(ctypes.c_int, ctypes.c_void_p, ctypes.c_void_p)
-_TEXT = ctypes.CFUNCTYPE(ctypes.c_char_p, ctypes.c_void_p)
-_RELEASE = ctypes.CFUNCTYPE(None, ctypes.c_void_p)
+def _schema(capsule: Any) -> _Schema:
+    return _Schema(*_wkb.schema_fields(capsule), capsule)
 
+
+def _array(capsule: Any) -> _Array:
+    return _Array(*_wkb.array_fields(capsule), capsule)
+
+
+# The kinds of structs of `_wkb`.
+SCHEMA, ARRAY = range(2)
 # The types of rows, and the bytes of an offset: those of binary views have none.
 OFFSET_SIZES = {b"z": 4, b"Z": 8, b"vz": 0}
 # A view has so many bytes. A row of up to SHORT bytes is in the view itself; of a longer one it says where it is.
@@ -111,21 +102,29 @@ def _check_array(it: _Array, children: int, buffers: range) -> None:
     _expect(it.offset >= 0 and it.length >= 0 and it.offset + it.length <= MOST_ROWS,
             f"array can't have {it.length} rows from row {it.offset} on")
     _expect(-1 <= it.null_count <= it.length, f"array can't have {it.null_count} null rows of {it.length}")
-    _expect(it.null_count <= 0 or it.buffers[0], "array has null rows, and no validity")
+    _expect(it.null_count <= 0 or _has_validity(it), "array has null rows, and no validity")
     _expect(not it.dictionary, "array has a dictionary, and its schema has none")
 
 
-def _child(of: Any, number: int) -> Any:
-    """A child of a schema or of an array."""
-    _expect(of.children and of.children[number], f"array has no child {number}")
-    return type(of).from_address(of.children[number])
+def _has_validity(it: _Array) -> bool:
+    return it.buffer(0, 0) is not None
+
+
+def _schema_child(of: _Schema, number: int) -> _Schema:
+    child = _wkb.schema_child(of.capsule, number)
+    _expect(child is not None, f"array has no child {number}")
+    return _schema(child)
+
+
+def _array_child(of: _Array, number: int) -> _Array:
+    child = _wkb.array_child(of.capsule, number)
+    _expect(child is not None, f"array has no child {number}")
+    return _array(child)
 
 
 def _name_of(schema: _Schema, most: int) -> str:
     """The name of a column, of a longer one so many bytes."""
-    if not schema.name:
-        return ""
-    return ctypes.string_at(schema.name, _length_of(schema.name, most)).decode(errors="replace")
+    return _wkb.schema_name(schema.capsule, most).decode(errors="replace")
 
 
 def _number_of(name: str, schema: _Schema) -> int:
@@ -133,7 +132,7 @@ def _number_of(name: str, schema: _Schema) -> int:
     names, most = [], max(4 * len(name) + 1, SHOWN)  # a character has at most four bytes
     if schema.format == b"+s" and not schema.dictionary:
         for number in range(schema.n_children):
-            found = _name_of(_child(schema, number), most)
+            found = _name_of(_schema_child(schema, number), most)
             if found == name:
                 return number
             if number < SHOWN:
@@ -145,9 +144,10 @@ def _number_of(name: str, schema: _Schema) -> int:
 def _offset_size_of(schema: _Schema) -> int:
     """The bytes of an offset of a column with this schema."""
     _check_schema(schema)
-    size = OFFSET_SIZES.get(schema.format)
+    form = schema.format or b""
+    size = OFFSET_SIZES.get(form)
     if size is None or schema.dictionary:
-        kind = "dictionary" if schema.dictionary else schema.format.decode(errors="replace")
+        kind = "dictionary" if schema.dictionary else form.decode(errors="replace")
         hint = "; name= picks a column of records" if kind == "+s" else ""
         raise TypeError(f"an Arrow array of format {kind!r} is not binary ('z', 'Z' or 'vz'){hint}")
     _expect(schema.n_children == 0, f"array has {schema.n_children} children, and its type none")
@@ -159,48 +159,48 @@ def _column_of(schema: _Schema, name: Optional[str]) -> _Column:
     if name is None:
         return _Column(None, 0, _offset_size_of(schema))
     child = _number_of(name, schema)
-    return _Column(child, schema.n_children, _offset_size_of(_child(schema, child)))
+    return _Column(child, schema.n_children, _offset_size_of(_schema_child(schema, child)))
 
 
-def _borrowed(address: Optional[int], size: int) -> Any:
-    """So many bytes of someone else's memory."""
+def _borrowed(it: _Array, place: int, size: int) -> Any:
+    """So many bytes of a buffer."""
     if size == 0:
         return b""
-    if not address or not 0 < size <= sys.maxsize - address:
+    memory = it.buffer(place, size) if 0 < size <= sys.maxsize else None
+    if memory is None:
         raise ValueError(f"the Arrow array lacks a buffer of {size} bytes")
-    return (ctypes.c_char * size).from_address(address)
+    return memory
 
 
-def _pieces_in(it: _Array, column: _Column, owner: Any) -> Pieces:
-    """The memory of the column in an array, which the owner keeps."""
+def _pieces_in(it: _Array, column: _Column) -> Pieces:
+    """The memory of the column in an array, which the pieces keep."""
     first, rows, size = it.offset, it.length, column.offset_size
     if column.child is not None:
         _check_array(it, column.children, OF_RECORDS)
-        if it.null_count and it.buffers[0]:
+        if it.null_count and _has_validity(it):
             raise ValueError("records of the Arrow array are null as a whole")
-        it = _child(it, column.child)
+        it = _array_child(it, column.child)
         _expect(first + rows <= it.length, f"array has records of which a column has {it.length} rows only")
         first += it.offset
     _check_array(it, 0, OF_OFFSETS if size else OF_VIEWS)
     if size == 0:
         return pieces_of(_rows_in_views(it, first, rows))
     if rows == 0:
-        return Pieces(b"", b"", None, offset_size=size, owner=owner)
+        return Pieces(b"", b"", None, offset_size=size, owner=it)
     end = first + rows
-    validity, offsets, data = it.buffers[:3]
-    ends = _borrowed(offsets, (end + 1) * size)
-    used = int.from_bytes(bytes(ends[-size:]), sys.byteorder, signed=True)
-    bits = _borrowed(validity, (end + 7) // 8) if validity else None
-    return Pieces(_borrowed(data, max(used, 0)), ends, bits, first, rows, size, owner)
+    ends = _borrowed(it, 1, (end + 1) * size)
+    used = int.from_bytes(memoryview(ends)[-size:], sys.byteorder, signed=True)
+    bits = _borrowed(it, 0, (end + 7) // 8) if _has_validity(it) else None
+    return Pieces(_borrowed(it, 2, max(used, 0)), ends, bits, first, rows, size, it)
 
 
 def _rows_in_views(it: _Array, first: int, rows: int) -> Iterator[Optional[bytes]]:
     """Copies of the rows of an array of binary views."""
-    validity, views, *data = it.buffers[: it.n_buffers - 1]
-    sizes = struct.unpack(f"={len(data)}q", bytes(_borrowed(it.buffers[it.n_buffers - 1], 8 * len(data))))
-    buffers = [memoryview(_borrowed(*place)).cast("B") for place in zip(data, sizes)]
-    bits = bytes(_borrowed(validity + first // 8, (first % 8 + rows + 7) // 8)) if validity else b""
-    held = bytes(_borrowed(views and views + VIEW_SIZE * first, VIEW_SIZE * rows))
+    count = it.n_buffers - 3
+    sizes = struct.unpack(f"={count}q", _borrowed(it, it.n_buffers - 1, 8 * count))
+    buffers = [memoryview(_borrowed(it, 2 + i, size)) for i, size in enumerate(sizes)]
+    bits = bytes(memoryview(_borrowed(it, 0, (first + rows + 7) // 8))[first // 8 :]) if _has_validity(it) else b""
+    held = bytes(memoryview(_borrowed(it, 1, VIEW_SIZE * (first + rows)))[VIEW_SIZE * first :])
     left = MOST_COPIES * (len(held) + sum(sizes))
     for i, (length, _, buffer, offset) in enumerate(struct.iter_unpack("=4i", held)):
         bit = first % 8 + i
@@ -208,7 +208,7 @@ def _rows_in_views(it: _Array, first: int, rows: int) -> Iterator[Optional[bytes
             yield None
         elif length <= SHORT:
             yield held[VIEW_SIZE * i + 4 : VIEW_SIZE * i + 4 + max(length, 0)]
-        elif 0 <= buffer < len(data) and 0 <= offset <= sizes[buffer] - length:
+        elif 0 <= buffer < count and 0 <= offset <= sizes[buffer] - length:
             left -= length
             _expect(left >= 0, f"array's views share bytes: copied, they are more than {MOST_COPIES} times the array")
             yield bytes(buffers[buffer][offset : offset + length])
@@ -222,10 +222,9 @@ def pieces_of_arrow(array: ArrowArray, name: Optional[str]) -> Pieces:
         hint = "; chunks_from_arrow takes what has chunks" if hasattr(array, "__arrow_c_stream__") else ""
         raise TypeError(f"{type(array).__name__} has no method __arrow_c_array__{hint}")
     schema_capsule, capsule = array.__arrow_c_array__()
-    schema = _Schema.from_address(_pointer_of(schema_capsule, b"arrow_schema"))
-    it = _Array.from_address(_pointer_of(capsule, b"arrow_array"))
+    schema, it = _schema(_wkb.take(schema_capsule)), _array(_wkb.take(capsule))
     _expect(schema.n_children == it.n_children, "array has other children than its schema")
-    return _pieces_in(it, _column_of(schema, name), capsule)
+    return _pieces_in(it, _column_of(schema, name))
 
 
 def chunks_of_arrow(stream: ArrowStream, name: Optional[str]) -> Iterator[Pieces]:
@@ -233,51 +232,16 @@ def chunks_of_arrow(stream: ArrowStream, name: Optional[str]) -> Iterator[Pieces
     if not hasattr(stream, "__arrow_c_stream__"):
         hint = "; from_arrow takes one array" if hasattr(stream, "__arrow_c_array__") else ""
         raise TypeError(f"{type(stream).__name__} has no method __arrow_c_stream__{hint}")
-    capsule = stream.__arrow_c_stream__()
-    it = _Stream.from_address(_pointer_of(capsule, b"arrow_array_stream"))
-    _expect(it.release, "stream is released already")
-    schema = _Schema()
-    _fill(it, it.get_schema, schema)
-    try:
-        column = _column_of(schema, name)
-    finally:
-        _release(schema)
-    return _chunks(capsule, it, column)
+    capsule = _wkb.take(stream.__arrow_c_stream__())
+    return _chunks(capsule, _column_of(_schema(_wkb.stream_next(capsule, SCHEMA)), name))
 
 
-def _chunks(capsule: Any, stream: _Stream, column: _Column) -> Iterator[Pieces]:
+def _chunks(capsule: Any, column: _Column) -> Iterator[Pieces]:
     """The arrays of a stream, which lives as long as its capsule."""
     while True:
-        array = _Array()
-        _fill(stream, stream.get_next, array)
+        array = _array(_wkb.stream_next(capsule, ARRAY))
         if not array.release:
             return
-        yield _pieces_in(array, column, _owner_of(array))
-
-
-class _Owner:
-    """What an array of a stream lives by."""
-
-
-def _owner_of(array: _Array) -> _Owner:
-    """An object that releases the array when it goes."""
-    owner = _Owner()
-    weakref.finalize(owner, _release, array)
-    return owner
-
-
-def _fill(stream: _Stream, call: Optional[int], out: Any) -> None:
-    """Has a stream fill a schema or an array."""
-    if not call:
-        raise ValueError("the Arrow stream lacks a function")
-    address = ctypes.addressof(stream)
-    code = _FILL(call)(address, ctypes.addressof(out))
-    if code:
-        text = _TEXT(stream.get_last_error)(address) if stream.get_last_error else None
-        raise OSError(code, (text or b"the Arrow stream failed").decode(errors="replace"))
-
-
-def _release(it: Any) -> None:
-    """Releases a schema or an array that is owned here."""
-    if it.release:
-        _RELEASE(it.release)(ctypes.addressof(it))
+        pieces = [_pieces_in(array, column)]
+        del array
+        yield pieces.pop()  # which nothing here keeps while the next array is not asked for

@@ -1,6 +1,5 @@
-"""Where the bytes of a caller's buffer are, and memory for results."""
+"""Callers' buffers, and memory for results."""
 import array
-import ctypes
 from typing import TYPE_CHECKING, Any, Dict, Tuple, Union
 
 try:
@@ -31,58 +30,24 @@ else:
 CODES = {"u1": "B", "u4": "I", "i8": "q", "f8": "d"}
 
 
-class _PyBuffer(ctypes.Structure):
-    """CPython's `Py_buffer`: where the bytes are, how many there are, and what isn't needed here."""
-
-    _fields_ = [
-        ("address", ctypes.c_void_p),
-        ("owner", ctypes.c_void_p),
-        ("size", ctypes.c_ssize_t),
-        ("rest", ctypes.c_void_p * 8),
-    ]
-
-
-def python_call(name: str, result: Any, *arguments: Any) -> Any:
-    """A function of Python's own C interface. Its types are ours: those of ctypes.pythonapi belong to all packages."""
-    return ctypes.PYFUNCTYPE(result, *arguments)((name, ctypes.pythonapi))
-
-
-_get_buffer = python_call("PyObject_GetBuffer", ctypes.c_int, ctypes.py_object, ctypes.POINTER(_PyBuffer), ctypes.c_int)
-_release_buffer = python_call("PyBuffer_Release", None, ctypes.POINTER(_PyBuffer))
-
-
 def view_of(data: Buffer) -> memoryview:
     """The buffer as Python has it."""
     buffer: Any = data
     return memoryview(buffer)
 
 
-class Bytes:
-    """The address and the size of a buffer's bytes while a `with` lasts; of a copy where they aren't in one piece."""
-
-    def __init__(self, data: Buffer):
-        self._data, self._buffer = data, _PyBuffer()
-
-    def __enter__(self) -> "Bytes":
-        try:
-            _get_buffer(self._data, self._buffer, 0)
-        except (BufferError, ValueError):  # ValueError is numpy's
-            _get_buffer(view_of(self._data).tobytes(), self._buffer, 0)
-        self.address: int = self._buffer.address
-        self.size: int = self._buffer.size
-        return self
-
-    def __exit__(self, *_: Any) -> None:
-        _release_buffer(self._buffer)
+def new_numbers(kind: str, count: int) -> Numbers:
+    """An array of `count` numbers of this type of numpy's."""
+    made: Any = numpy.empty(count, kind) if has_numpy else array.array(CODES[kind], [0]) * count
+    numbers: Numbers = made
+    return numbers
 
 
-def new_numbers(kind: str, count: int) -> Tuple[Numbers, int]:
-    """An array of `count` numbers of this type of numpy's, and its address."""
-    if has_numpy:
-        numbers = numpy.empty(count, kind)
-        return numbers, numbers.ctypes.data
-    items: Any = array.array(CODES[kind], [0]) * count
-    return items, items.buffer_info()[0]
+def new_offsets(count: int) -> Numbers:
+    """An array of offset 0 and `count` ends."""
+    offsets = new_numbers("i8", count + 1)
+    offsets[0] = 0
+    return offsets
 
 
 def less_the_least(offsets: memoryview) -> Tuple[bytes, int]:

@@ -1,32 +1,25 @@
 """The calls for one geometry."""
-import ctypes
 import operator
 import struct
-from typing import Any, List, Optional, Tuple, Union
+from typing import List, Optional, Tuple, Union
 
-from ._buffers import Buffer, Bytes, Numbers, new_numbers, view_of
-from ._enums import Form, Kind, Order, Status, is_refusal
-from ._library import Options, library, status_text
-from ._records import Box, Fault, Found, Part, Table
+from . import _wkb
+from ._buffers import Buffer, Numbers, view_of
+from ._enums import Dimension, Form, Kind, Order, Status
+from ._records import Box, Fault, Found, Part, Range, Table
 
-# Memory for a result.
-FOUND = ctypes.c_char * Found.LAYOUT.size
-FAULT = ctypes.c_char * Fault.LAYOUT.size
-BOX = ctypes.c_char * Box.LAYOUT.size
-# An encoding may be four bytes longer than the input: an SRID.
-SRID_SIZE = 4
-# Of input that is longer only the front may be the geometry, so its size is asked for before there is room for it.
-LONG = 1 << 16
+LITTLE = Order.LITTLE
 
 
 class Refused(ValueError):
     """Some bytes are refused. It can be pickled."""
 
-    def __init__(self, fault: Fault, which: int, text: str):
-        super().__init__(fault, which, text)
+    def __init__(self, fault: Fault, which: int, text: str, hint: str = ""):
+        super().__init__(fault, which, text, hint)
         self.fault = fault
         self.which = which  # the input, 1 or 2
         self.text = text  # what the status says
+        self._hint = hint
 
     @property
     def status(self) -> Status:
@@ -38,79 +31,56 @@ class Refused(ValueError):
         code = f" {fault.code}" if fault.status == Status.CODE_OUT_OF_RANGE else ""
         second = " of the second" if self.which == 2 else ""
         end = f", which would end at {fault.end} of {fault.len}" if fault.end else ""
-        return f"{self.text}{code}, in part {fault.part} at byte {fault.offset}{second}{end}"
+        return f"{self.text}{code}, in part {fault.part} at byte {fault.offset}{second}{end}{self._hint}"
 
 
-def _accept(status: int, fault: Any, which: int = 1) -> None:
-    """Raises what a status reports, if it reports a failure."""
-    if status == Status.OK:
-        return
-    text = status_text(status)
-    if is_refusal(status):
-        raise Refused(Fault._read(fault), which, text)
-    raise ValueError(text)
-
-
-def _check(it: Bytes) -> Found:
-    found, fault = FOUND(), FAULT()
-    _accept(library().wkb_check(it.address, it.size, found, fault), fault)
-    return Found._read(found)
+_wkb.give(Found, Fault, Part, Range, Box, Refused, Status, tuple(Kind), tuple(Dimension), tuple(Order))
 
 
 def check(data: Buffer) -> Found:
     """What is at the front of the bytes. Raises `Refused` if it isn't a geometry."""
-    with Bytes(data) as it:
-        return _check(it)
+    return _wkb.check(data)
 
 
 def bounds(data: Buffer) -> Box:
     """The bounds of the geometry at the front of the bytes."""
-    box, fault = BOX(), FAULT()
-    with Bytes(data) as it:
-        _accept(library().wkb_bounds(it.address, it.size, box, fault), fault)
-    return Box._read(box)
+    return _wkb.bounds(data)
 
 
-def make_options(order: Order, form: Form, srid: Optional[int]) -> Options:
-    """The options, if they have a meaning. An SRID is tested here, since ctypes would cut it to its low bits."""
+def make_options(order: Order, form: Optional[Form], srid: Optional[int]) -> Tuple[int, int, int]:
+    """The options, if they have a meaning. Without a form it is that of an SRID where there is one."""
+    if form is None:
+        form = Form.ISO if srid is None else Form.EWKB_WITH_SRID
     if (srid is not None) != (form == Form.EWKB_WITH_SRID):
         raise ValueError("an SRID is written in Form.EWKB_WITH_SRID, and in no other form")
     number = operator.index(srid or 0)
     if not 0 <= number < 2**32:
         raise ValueError(f"SRID {number} is not from 0 to 4294967295")
-    return Options(Order(order), Form(form), number)
+    return Order(order), Form(form), number
 
 
-def write(data: Buffer, order: Order = Order.LITTLE, form: Form = Form.ISO, srid: Optional[int] = None) -> bytes:
+def write(
+    data: Buffer, order: Order = Order.LITTLE, form: Optional[Form] = None, srid: Optional[int] = None
+) -> bytes:
     """The one encoding of the geometry at the front of the bytes, in this order and form.
 
-    The SRID is that of `Form.EWKB_WITH_SRID`, which needs one; no other form takes one. With the default options, two
-    geometries of one value have the same encoding, whatever their byte orders and SRIDs are.
+    Without a form it is ISO, or with an SRID EWKB. The SRID is that of `Form.EWKB_WITH_SRID`, which needs one; no other
+    form takes one. With the default options, two geometries of one value have the same encoding, whatever their byte
+    orders and SRIDs are.
     """
-    options, size, fault = make_options(order, form, srid), ctypes.c_size_t(), FAULT()
-    with Bytes(data) as it:
-        room = (it.size if it.size < LONG else _check(it).size) + SRID_SIZE
-        out = ctypes.create_string_buffer(room)
-        _accept(library().wkb_write(it.address, it.size, options, out, room, size, fault), fault)
-    return ctypes.string_at(out, size.value)
+    if order is LITTLE and form is None and srid is None:
+        return _wkb.write(data, 1, 0, 0)
+    return _wkb.write(data, *make_options(order, form, srid))
 
 
 def same(first: Buffer, second: Buffer) -> bool:
     """Whether both begin with geometries of one value: byte orders and SRIDs aside, and coordinates by their bits."""
-    equal, which, fault = ctypes.c_uint32(), ctypes.c_uint32(), FAULT()
-    with Bytes(first) as a, Bytes(second) as b:
-        _accept(library().wkb_same(a.address, a.size, b.address, b.size, equal, fault, which), fault, which.value)
-    return equal.value == 1
+    return _wkb.same(first, second)
 
 
 def parts(data: Buffer) -> Table[Part]:
     """The parts of the geometry at the front of the bytes, in preorder: itself, and its rings and members."""
-    fault = FAULT()
-    with Bytes(data) as it:
-        count = _check(it).parts
-        memory, address = new_numbers("u1", count * Part.LAYOUT.size)
-        _accept(library().wkb_parts(it.address, it.size, address, count, None, fault), fault)
-    return Table(Part, memory)
+    return Table(Part, _wkb.parts(data))
 
 
 def _is_there(view: memoryview, part: Union[Part, Found]) -> bool:
@@ -122,8 +92,7 @@ def _is_there(view: memoryview, part: Union[Part, Found]) -> bool:
         count = part.count.to_bytes(4, "big" if part.order == Order.BIG else "little")
         size = 8 * part.dimension.width * part.count
         return begin == part.offset - 4 and view[begin : part.offset] == count and part.offset + size <= len(view)
-    with Bytes(view[begin:]) as it:
-        found = _check(it)
+    found = _wkb.check(view[begin:])
     alike = (found.kind, found.dimension, found.order, found.srid, found.count)
     return begin + found.offset == part.offset and alike == (
         part.kind, part.dimension, part.order, part.srid, part.count

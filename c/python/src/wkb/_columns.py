@@ -1,17 +1,21 @@
 """The calls for columns of geometries."""
-import contextlib
-import ctypes
 import operator
 import sys
-from typing import Any, Dict, Iterable, Iterator, NamedTuple, Optional
+from typing import Any, Dict, Iterable, Iterator, NamedTuple, Optional, Tuple
 
+from . import _wkb
 from ._arrow import ArrowArray, ArrowStream, chunks_of_arrow, pieces_of_arrow
-from ._buffers import Buffer, Bytes, Numbers, has_numpy, less_the_least, new_numbers, view_of
-from ._calls import SRID_SIZE, make_options
+from ._buffers import Buffer, Numbers, has_numpy, less_the_least, new_numbers, new_offsets, view_of
+from ._calls import make_options
 from ._enums import Dimension, Form, Order
-from ._library import ColumnArguments, CoordinatesArguments, library
 from ._records import Box, Part, Table
 from ._rows import Pieces, pieces_of
+
+# The calls of `_wkb.column`.
+CHECK, BOUNDS, PARTS, WRITE, ROOM, KINDS = range(6)
+NO_OPTIONS, NO_RESULTS = (0, 0, 0), (None, None, None)
+# An encoding may be four bytes longer than its row: an SRID.
+SRID_SIZE = 4
 
 
 class ColumnBounds(NamedTuple):
@@ -117,8 +121,9 @@ class Column:
         if self._first + self._rows > held_rows:
             raise ValueError(f"{held} offsets have {held_rows} rows: not {self._rows} from row {self._first} on")
         self._owner: Any = None
-        with self._arguments():
-            pass
+        if validity is not None:
+            check_validity(validity, self._first + self._rows)
+        self._room()
 
     @classmethod
     def of(cls, rows: Iterable[Optional[Buffer]]) -> "Column":
@@ -181,97 +186,63 @@ class Column:
     def __repr__(self) -> str:
         return f"<column of {self._rows} rows>"
 
-    @contextlib.contextmanager
-    def _arguments(self) -> Iterator[ColumnArguments]:
-        """The column as the library takes it while a `with` lasts."""
-        with contextlib.ExitStack() as stack:
-            data, offsets = (stack.enter_context(Bytes(it)) for it in (self._data, self._offsets))
-            size, end, validity = self._offset_size, self._first + self._rows, None
-            if end and offsets.size < (end + 1) * size:
-                raise ValueError(f"{offsets.size // size} offsets are left, too few for {end} rows")
-            if self._validity is not None:
-                check_validity(self._validity, end)
-                validity = stack.enter_context(Bytes(self._validity)).address
-            first = (offsets.address or 0) + self._first * size
-            yield ColumnArguments(data.address, data.size, first, size, validity, self._first, self._rows)
+    def _arguments(self) -> Tuple[Buffer, Buffer, Optional[Buffer], int, int, int]:
+        """The column as `_wkb` takes it."""
+        return self._data, self._offsets, self._validity, self._offset_size, self._first, self._rows
+
+    def _room(self) -> int:
+        """How many bytes the rows have at most. The buffers are tested, as each call tests them."""
+        return _wkb.column(ROOM, self._arguments(), NO_OPTIONS, NO_RESULTS)
 
     def check(self) -> Numbers:
         """The status of each row."""
-        statuses, address = new_numbers("u1", self._rows)
-        with self._arguments() as column:
-            library().wkb_column_check(column, address)
+        statuses = new_numbers("u1", self._rows)
+        _wkb.column(CHECK, self._arguments(), NO_OPTIONS, (None, None, statuses))
         return statuses
 
     def bounds(self) -> ColumnBounds:
         """The bounds of each row."""
-        statuses, address = new_numbers("u1", self._rows)
-        memory, boxes = new_numbers("u1", self._rows * Box.LAYOUT.size)
-        with self._arguments() as column:
-            library().wkb_column_bounds(column, boxes, address)
-        return ColumnBounds(statuses, Table(Box, memory))
+        statuses, boxes = new_numbers("u1", self._rows), new_numbers("u1", self._rows * Box.LAYOUT.size)
+        _wkb.column(BOUNDS, self._arguments(), NO_OPTIONS, (boxes, None, statuses))
+        return ColumnBounds(statuses, Table(Box, boxes))
 
     def parts(self) -> ColumnParts:
         """The parts of each row in preorder."""
-        statuses, address = new_numbers("u1", self._rows)
-        offsets, ends = new_offsets(self._rows)
-        with self._arguments() as column:
-            count = library().wkb_column_parts(column, None, 0, ends, address)
-            memory, table = new_numbers("u1", count * Part.LAYOUT.size)
-            expect_same(library().wkb_column_parts(column, table, count, ends, address) == count)
-        return ColumnParts(statuses, offsets, Table(Part, memory))
+        statuses, offsets = new_numbers("u1", self._rows), new_offsets(self._rows)
+        count = _wkb.column(PARTS, self._arguments(), NO_OPTIONS, (None, offsets, statuses))
+        table = new_numbers("u1", count * Part.LAYOUT.size)
+        again = _wkb.column(PARTS, self._arguments(), NO_OPTIONS, (table, offsets, statuses))
+        expect_same(again == count)
+        return ColumnParts(statuses, offsets, Table(Part, table))
 
-    def write(self, order: Order = Order.LITTLE, form: Form = Form.ISO, srid: Optional[int] = None) -> ColumnEncodings:
+    def write(
+        self, order: Order = Order.LITTLE, form: Optional[Form] = None, srid: Optional[int] = None
+    ) -> ColumnEncodings:
         """The one encoding of each row in this order and form, as `wkb.write` has it."""
         options = make_options(order, form, srid)
-        statuses, address = new_numbers("u1", self._rows)
-        offsets, ends = new_offsets(self._rows)
-        with self._arguments() as column:
-            needed = _bytes_of(column) + SRID_SIZE * self._rows
-            room = -1
-            while room < needed:
-                room = needed
-                data, out = new_numbers("u1", room)
-                needed = library().wkb_column_write(column, options, out, room, ends, address)
+        statuses, offsets = new_numbers("u1", self._rows), new_offsets(self._rows)
+        needed, room = self._room() + SRID_SIZE * self._rows, -1
+        while room < needed:
+            room = needed
+            data = new_numbers("u1", room)
+            needed = _wkb.column(WRITE, self._arguments(), options, (data, offsets, statuses))
         return ColumnEncodings(statuses, offsets, data[: offsets[-1]])
 
     def coordinates(self, dimension: Dimension = Dimension.XY) -> ColumnCoordinates:
         """The coordinates of all rows in this dimension, with a NaN for each number that a geometry doesn't have."""
         dimension = Dimension(dimension)
-        statuses, address = new_numbers("u1", self._rows)
-        row_offsets, row_ends = new_offsets(self._rows)
-        with self._arguments() as column:
-            out = CoordinatesArguments(row_ends=row_ends)
-            library().wkb_column_coordinates(column, dimension, out, address)
-            out.ring_room, out.single_room, out.words_room = out.rings, out.singles, out.coordinates * dimension.width
-            ring_offsets, out.ring_ends = new_offsets(out.ring_room)
-            single_offsets, out.single_ends = new_offsets(out.single_room)
-            words, out.words = new_numbers("f8", out.words_room)
-            needed = out.coordinates, out.rings, out.singles
-            library().wkb_column_coordinates(column, dimension, out, address)
-            expect_same((out.coordinates, out.rings, out.singles) == needed)
-        coordinates = words.reshape(-1, dimension.width) if has_numpy else words
-        return ColumnCoordinates(statuses, row_offsets, single_offsets, ring_offsets, coordinates)
+        statuses, row_offsets = new_numbers("u1", self._rows), new_offsets(self._rows)
+        needed = _wkb.column_coordinates(self._arguments(), dimension, (None, None, None, row_offsets, statuses))
+        coordinates, rings, singles = needed
+        words, ring_offsets = new_numbers("f8", coordinates * dimension.width), new_offsets(rings)
+        single_offsets = new_offsets(singles)
+        results = words, ring_offsets, single_offsets, row_offsets, statuses
+        expect_same(_wkb.column_coordinates(self._arguments(), dimension, results) == needed)
+        rows = words.reshape(-1, dimension.width) if has_numpy else words
+        return ColumnCoordinates(statuses, row_offsets, single_offsets, ring_offsets, rows)
 
 
 def expect_same(holds: bool) -> None:
     """Raises an error if a second call needs another room than the first one said: not all of it is written then."""
     if not holds:
         raise RuntimeError("the rows have changed during the call")
-
-
-def new_offsets(count: int) -> Any:
-    """An array of offset 0 and `count` ends, and the address of the first end."""
-    offsets, address = new_numbers("i8", count + 1)
-    offsets[0] = 0
-    return offsets, address + 8
-
-
-def _bytes_of(column: ColumnArguments) -> int:
-    """How many bytes are from the first offset up to the last; at most those of the data, whatever the offsets are."""
-    if not column.rows:
-        return 0
-    size: int = column.offset_size
-    places = column.offsets, column.offsets + column.rows * size
-    first, last = (int.from_bytes(ctypes.string_at(at, size), sys.byteorder, signed=True) for at in places)
-    held: int = column.size
-    return min(max(last - first, 0), held)

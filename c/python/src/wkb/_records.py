@@ -1,9 +1,10 @@
 """The structs of wkb.h as Python has them, and tables of them."""
 from dataclasses import dataclass
 from struct import Struct
-from typing import Any, ClassVar, Iterator, List, Optional, Sequence, Tuple, Type, TypeVar, Union, overload
+from typing import Any, ClassVar, Dict, Iterator, List, Optional, Sequence, Tuple, Type, TypeVar, Union, overload
 
-from ._buffers import CODES, Numbers
+from . import _wkb
+from ._buffers import CODES, Buffer
 from ._enums import Dimension, Kind, Order, Status
 
 # The fields of a struct with their types as numpy has them. numpy computes with signed numbers only, and no count or
@@ -21,24 +22,38 @@ def layout(of: Fields) -> Struct:
     return Struct("=" + "".join(CODES[kind] if isinstance(kind, str) else layout(kind).format[1:] for _, kind in of))
 
 
-KINDS, DIMENSIONS, ORDERS = tuple(Kind), tuple(Dimension), tuple(Order)
 TYPE = fields("u4", "srid has_srid kind dimension width order")
 RANGE = fields("f8", "least greatest") + fields("i8", "count")
 
 
-Made = TypeVar("Made")
+Self = TypeVar("Self")
 
 
-def made(record: Type[Made], **values: Any) -> Made:
-    """A frozen record of these values. Its own `__init__` takes three times as long, by a setter for each."""
-    it = object.__new__(record)
-    it.__dict__.update(values)
-    return it
+class _Values:
+    """What frozen dataclasses share whose values are in C, at fixed places of an object."""
+
+    __slots__ = ()
+    __match_args__: ClassVar[Tuple[str, ...]]
+
+    @property
+    def __dict__(self) -> Dict[str, Any]:  # type: ignore[override]
+        return {name: getattr(self, name) for name in self.__match_args__}
+
+    def __reduce__(self) -> Any:
+        return type(self), tuple(getattr(self, name) for name in self.__match_args__)
+
+    @classmethod
+    def _read(cls: Type[Self], memory: Buffer) -> Self:
+        """The struct at the front of the memory."""
+        record: Self = _wkb.read_record(cls, memory, 0)
+        return record
 
 
 @dataclass(frozen=True)
-class Found:
+class Found(_wkb.FoundValues, _Values):
     """The geometry at the front of some bytes."""
+
+    __slots__ = ()
 
     size: int  # how many bytes it has; the bytes after them were not looked at
     parts: int  # itself, and its rings and members at every level
@@ -53,20 +68,12 @@ class Found:
     FIELDS: ClassVar[Fields] = fields("i8", "size parts coordinates offset count") + TYPE
     LAYOUT: ClassVar[Struct] = layout(FIELDS)
 
-    @classmethod
-    def _read(cls, memory: Any) -> "Found":
-        """The struct at the front of the memory."""
-        *numbers, srid, has_srid, kind, dimension, _, order = cls.LAYOUT.unpack_from(memory)
-        size, parts, coordinates, offset, count = numbers
-        return made(
-            cls, size=size, parts=parts, coordinates=coordinates, offset=offset, count=count,
-            srid=srid if has_srid else None, kind=KINDS[kind], dimension=DIMENSIONS[dimension], order=ORDERS[order],
-        )
-
 
 @dataclass(frozen=True)
-class Fault:
+class Fault(_wkb.FaultValues, _Values):
     """The part that is refused, and why."""
+
+    __slots__ = ()
 
     part: int  # how many parts come before it, in preorder: 0 is the whole geometry
     offset: int  # the byte where it begins, counted from the front of the input
@@ -78,16 +85,12 @@ class Fault:
     FIELDS: ClassVar[Fields] = fields("i8", "part offset end len") + fields("u4", "code status")
     LAYOUT: ClassVar[Struct] = layout(FIELDS)
 
-    @classmethod
-    def _read(cls, memory: Any) -> "Fault":
-        """The struct at the front of the memory."""
-        part, offset, end, size, code, status = cls.LAYOUT.unpack_from(memory)
-        return cls(part, offset, end, size, code, Status(status))
-
 
 @dataclass(frozen=True)
-class Part:
+class Part(_wkb.PartValues, _Values):
     """A geometry, or a ring of a polygon. Its rings or members follow it in the table, each followed by its own."""
+
+    __slots__ = ()
 
     begin: int  # its first byte, counted from the front of the input
     end: int  # one past its last byte
@@ -102,19 +105,12 @@ class Part:
     FIELDS: ClassVar[Fields] = fields("i8", "begin end offset count next") + TYPE
     LAYOUT: ClassVar[Struct] = layout(FIELDS)
 
-    @classmethod
-    def _read(cls, memory: Any) -> "Part":
-        """The struct at the front of the memory."""
-        begin, end, offset, count, after, srid, has_srid, kind, dimension, _, order = cls.LAYOUT.unpack_from(memory)
-        return made(
-            cls, begin=begin, end=end, offset=offset, count=count, next=after,
-            srid=srid if has_srid else None, kind=KINDS[kind], dimension=DIMENSIONS[dimension], order=ORDERS[order],
-        )
-
 
 @dataclass(frozen=True)
-class Range:
+class Range(_wkb.RangeValues, _Values):
     """The range of an ordinate over all coordinates that have one. Not-a-numbers are left out."""
+
+    __slots__ = ()
 
     least: float  # infinity where the count is 0
     greatest: float  # minus infinity where the count is 0
@@ -124,8 +120,10 @@ class Range:
 
 
 @dataclass(frozen=True)
-class Box:
+class Box(_wkb.BoxValues, _Values):
     """The bounds of a geometry: z of coordinates that have a z, m of those that have an m."""
+
+    __slots__ = ()
 
     x: Range
     y: Range
@@ -134,13 +132,6 @@ class Box:
 
     FIELDS: ClassVar[Fields] = [(axis, RANGE) for axis in "xyzm"]
     LAYOUT: ClassVar[Struct] = layout([field for _ in "xyzm" for field in RANGE])
-
-    @classmethod
-    def _read(cls, memory: Any) -> "Box":
-        """The struct at the front of the memory."""
-        numbers = iter(cls.LAYOUT.unpack_from(memory))
-        ranges = (made(Range, least=a, greatest=b, count=n) for a, b, n in zip(numbers, numbers, numbers))
-        return made(cls, **dict(zip("xyzm", ranges)))
 
 
 Record = TypeVar("Record", Part, Box)
@@ -153,7 +144,7 @@ class Table(Sequence[Record]):
     wkb.h.
     """
 
-    def __init__(self, record: Type[Record], memory: Numbers):
+    def __init__(self, record: Type[Record], memory: Buffer):
         buffer: Any = memory
         self._record: Any = record
         self._memory, self._size = memoryview(buffer), record.LAYOUT.size
@@ -175,7 +166,7 @@ class Table(Sequence[Record]):
         return map(self._at, range(len(self)))
 
     def _at(self, index: int) -> Record:
-        record: Record = self._record._read(self._memory[index * self._size :])
+        record: Record = _wkb.read_record(self._record, self._memory, index)
         return record
 
     def __array__(self, dtype: Any = None, copy: Optional[bool] = None) -> Any:

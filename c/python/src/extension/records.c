@@ -1,0 +1,182 @@
+/* Records: objects with a few values at fixed places, which the package's frozen dataclasses inherit. They hold
+ * numbers, members of enums and other such records, so the collector of cycles doesn't look at them. */
+#include "extension.h"
+
+#include <string.h>
+#include <structmember.h>
+
+enum { MOST_VALUES = 9 };
+typedef struct {
+  PyObject_HEAD PyObject *value[MOST_VALUES];
+} record;
+
+static const struct {
+  const char *name, *fields[MOST_VALUES + 1];
+} RECORD[] = {
+    [FOUND] = {"wkb._wkb.FoundValues",
+               {"size", "parts", "coordinates", "offset", "count", "srid", "kind", "dimension", "order"}},
+    [FAULT] = {"wkb._wkb.FaultValues", {"part", "offset", "end", "len", "code", "status"}},
+    [PART] = {"wkb._wkb.PartValues",
+              {"begin", "end", "offset", "count", "next", "srid", "kind", "dimension", "order"}},
+    [RANGE] = {"wkb._wkb.RangeValues", {"least", "greatest", "count"}},
+    [BOX] = {"wkb._wkb.BoxValues", {"x", "y", "z", "m"}},
+};
+
+static void dealloc_record(PyObject *self) {
+  for (int i = 0; i < MOST_VALUES; i++) Py_XDECREF(((record *)self)->value[i]);
+  free_object(self);
+}
+
+/* Adds the type with the values of a record. The members are copied, but for their names. */
+static int add_record(PyObject *module, int which) {
+  PyMemberDef members[MOST_VALUES + 1] = {{NULL, 0, 0, 0, NULL}};
+  for (int i = 0; RECORD[which].fields[i] != NULL; i++) {
+    members[i].name = RECORD[which].fields[i];
+    members[i].type = T_OBJECT_EX;
+    members[i].offset = (Py_ssize_t)(offsetof(record, value) + (size_t)i * sizeof(PyObject *));
+  }
+  PyType_Slot slots[] = {{Py_tp_dealloc, (void *)dealloc_record}, {Py_tp_members, members}, {0, NULL}};
+  PyType_Spec spec = {RECORD[which].name, sizeof(record), 0, Py_TPFLAGS_DEFAULT | Py_TPFLAGS_BASETYPE, slots};
+  PyObject *type = PyType_FromModuleAndSpec(module, &spec, NULL);
+  if (type == NULL) return -1;
+  int result = PyModule_AddType(module, (PyTypeObject *)type);
+  Py_DECREF(type);
+  return result;
+}
+
+int add_records(PyObject *module) {
+  for (int i = 0; i <= BOX; i++)
+    if (add_record(module, i) < 0) return -1;
+  return 0;
+}
+
+static record *new_record(state *s, int which) {
+  PyObject *type = s->it[which];
+  if (type != NULL) return (record *)PyType_GenericAlloc((PyTypeObject *)type, 0);
+  PyErr_SetString(PyExc_RuntimeError, "the package has not given its types");
+  return NULL;
+}
+
+/* The record if it has its values, of which there are so many; else null, with the error of one that it lacks. */
+static PyObject *whole(record *it, int count) {
+  for (int i = 0; i < count; i++) {
+    if (it->value[i] != NULL) continue;
+    Py_DECREF(it);
+    return NULL;
+  }
+  return (PyObject *)it;
+}
+
+/* A member of an enum of the package, by its number; an IndexError where there is none. */
+static PyObject *member_of(state *s, int which, uint32_t number) {
+  PyObject *member = PyTuple_GetItem(s->it[which], number);
+  Py_XINCREF(member);
+  return member;
+}
+
+/* What a wkb_found and a wkb_part have alike: five numbers, and the type of a geometry. */
+typedef struct {
+  uint64_t numbers[5];
+  uint32_t srid, has_srid, kind, dimension, width, order;
+} geometry;
+_Static_assert(sizeof(geometry) == sizeof(wkb_found) && sizeof(geometry) == sizeof(wkb_part), "other structs");
+_Static_assert(offsetof(geometry, order) == offsetof(wkb_found, order), "another wkb_found");
+_Static_assert(offsetof(geometry, order) == offsetof(wkb_part, order), "another wkb_part");
+
+static PyObject *geometry_of(state *s, int which, const void *from) {
+  geometry g;
+  memcpy(&g, from, sizeof g);
+  record *it = new_record(s, which);
+  if (it == NULL) return NULL;
+  for (int i = 0; i < 5; i++) it->value[i] = PyLong_FromLongLong((int64_t)g.numbers[i]);
+  it->value[5] = g.has_srid ? PyLong_FromUnsignedLong(g.srid) : Py_NewRef(Py_None);
+  it->value[6] = member_of(s, KINDS, g.kind);
+  it->value[7] = member_of(s, DIMENSIONS, g.dimension);
+  it->value[8] = member_of(s, ORDERS, g.order);
+  return whole(it, 9);
+}
+
+PyObject *found_of(state *s, const wkb_found *found) { return geometry_of(s, FOUND, found); }
+
+static PyObject *range_of(state *s, const wkb_range *r) {
+  record *it = new_record(s, RANGE);
+  if (it == NULL) return NULL;
+  it->value[0] = PyFloat_FromDouble(r->least);
+  it->value[1] = PyFloat_FromDouble(r->greatest);
+  it->value[2] = PyLong_FromLongLong((int64_t)r->count);
+  return whole(it, 3);
+}
+
+PyObject *box_of(state *s, const wkb_box *box) {
+  record *it = new_record(s, BOX);
+  if (it == NULL) return NULL;
+  it->value[0] = range_of(s, &box->x);
+  it->value[1] = range_of(s, &box->y);
+  it->value[2] = range_of(s, &box->z);
+  it->value[3] = range_of(s, &box->m);
+  return whole(it, 4);
+}
+
+static PyObject *fault_of(state *s, const wkb_fault *f) {
+  const uint64_t numbers[] = {f->part, f->offset, f->end, f->len, f->code};
+  record *it = new_record(s, FAULT);
+  if (it == NULL) return NULL;
+  for (int i = 0; i < 5; i++) it->value[i] = PyLong_FromLongLong((int64_t)numbers[i]);
+  it->value[5] = PyObject_CallFunction(s->it[STATUS], "I", f->status);
+  return whole(it, 6);
+}
+
+/* Whether bytes are a geometry in hexadecimal text: a byte order and a code at least. */
+static int is_hexadecimal(span input) {
+  if (input.size < 10 || input.at[0] != '0' || (input.at[1] != '0' && input.at[1] != '1')) return 0;
+  for (int i = 0; i < 10; i++)
+    if (input.at[i] == 0 || strchr("0123456789abcdefABCDEF", input.at[i]) == NULL) return 0;
+  return 1;
+}
+
+/* Raises what a status reports of an input, the first or the second one. */
+PyObject *refuse(state *s, uint32_t status, const wkb_fault *fault, uint32_t which, span input) {
+  const char *text = wkb_status_text(status);
+  if (!wkb_status_is_refusal(status)) {
+    PyErr_SetString(PyExc_ValueError, text);
+    return NULL;
+  }
+  int is_text = status == WKB_STATUS_INVALID_BYTE_ORDER && fault->offset == 0 && is_hexadecimal(input);
+  const char *hint = is_text ? "; bytes.fromhex(data.decode()) are the bytes of this hexadecimal text" : "";
+  PyObject *it = fault_of(s, fault);
+  PyObject *error = it == NULL ? NULL : PyObject_CallFunction(s->it[REFUSED], "OIss", it, which, text, hint);
+  Py_XDECREF(it);
+  if (error != NULL) PyErr_SetObject(s->it[REFUSED], error);
+  Py_XDECREF(error);
+  return NULL;
+}
+
+static PyObject *record_of(state *s, int which, const uint8_t *at) {
+  wkb_box box;
+  wkb_fault fault;
+  switch (which) {
+    case BOX: return box_of(s, memcpy(&box, at, sizeof box));
+    case FAULT: return fault_of(s, memcpy(&fault, at, sizeof fault));
+    default: return geometry_of(s, which, at);
+  }
+}
+
+/* read_record(type, memory, index): a record of a table. */
+PyObject *read_record(PyObject *module, PyObject *args) {
+  static const size_t SIZES[] = {sizeof(wkb_found), sizeof(wkb_fault), sizeof(wkb_part), SIZE_MAX,
+                                        sizeof(wkb_box)};
+  state *s = state_of(module);
+  PyObject *type, *memory, *result = NULL;
+  Py_ssize_t index;
+  holds h;
+  span input;
+  int which = 0;
+  h.count = 0;
+  if (!PyArg_ParseTuple(args, "OOn", &type, &memory, &index) || hold_input(&h, memory, &input) < 0) return NULL;
+  while (which <= BOX && s->it[which] != type) which++;
+  if (which > BOX || index < 0 || (size_t)index >= input.size / SIZES[which])
+    PyErr_SetString(PyExc_IndexError, "there is no such record");
+  else result = record_of(s, which, input.at + (size_t)index * SIZES[which]);
+  let(&h);
+  return result;
+}
