@@ -1,11 +1,12 @@
 """Columns of Arrow's arrays and streams: those of capsules.py, and OGR's where its bindings are."""
+import ctypes
 import gc
 import itertools
 import pickle
 import struct
 import unittest
 
-from capsules import SHORT, Arrow, Records, Stream, Views, new_capsule
+from capsules import SHORT, Arrow, Records, Stream, Views, memory_of, new_capsule
 from samples import BIG_POINT, ISO_POLYGON, POINT, POLYGON, ROWS, STATUSES
 from wkb import Column, Dimension, Status
 
@@ -160,7 +161,9 @@ class FromRecords(unittest.TestCase):
         self.assertRaisesRegex(TypeError, "'[+]s' is not binary .*; name= picks", Column.from_arrow, batch())
         self.assertRaisesRegex(ValueError, r"no column 'x', but \['other', 'shape'\]", Column.from_arrow, batch(), "x")
         self.assertRaisesRegex(ValueError, r"no column 'x', but \[\]", Column.from_arrow, Arrow(), "x")
-        self.assertRaisesRegex(ValueError, "null as a whole", Column.from_arrow, batch(length=1, validity=8), "shape")
+        bits = memory_of(b"\xfe")
+        null = batch(length=1, validity=ctypes.addressof(bits))
+        self.assertRaisesRegex(ValueError, "null as a whole", Column.from_arrow, null, "shape")
         text = Records(Arrow(name=b"name", format=b"u"))
         self.assertRaisesRegex(TypeError, "'u' is not binary", Column.from_arrow, text, "name")
 

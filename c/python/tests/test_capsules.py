@@ -96,6 +96,16 @@ def with_child(source):
     source.array.children = pointers([ctypes.addressof(child.array)])
 
 
+def with_null(source, bits=0b11011):
+    """Gives records validity."""
+    validity = guarded(bytes([bits]))
+    source.array.buffers[0] = ctypes.addressof(validity)
+
+
+def without_null(source):
+    with_null(source, 0b11111)
+
+
 def nested(source):
     """Makes a column of records records inside records, 1,000 deep."""
     inner = Arrow()
@@ -155,7 +165,8 @@ OF_RECORDS = OF_ANY + [
     *fields("array", "length", len(ROWS) + 1),
     *fields("array", "offset", 1),
     *fields("array", "null_count", 1),
-    both(*fields("array", "null_count", -1), place("array", "buffers", 0, 8)),
+    both(*fields("array", "null_count", -1), Change("a record is null", with_null, WRONG)),
+    both(*fields("array", "null_count", -1), Change("no record is null", without_null, STATUSES), expected=STATUSES),
     *fields("array", "n_children", 0, 3),
     *fields("array", "children", None),
     place("array", "children", 0, expected=STATUSES),

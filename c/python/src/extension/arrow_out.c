@@ -52,11 +52,12 @@ static inside *new_inside(PyObject *node) {
 /* Fills a schema from (format, name, metadata, flags, ..., child), of which metadata and child may be None. On failure
  * there is nothing to release. */
 static int fill_schema(PyObject *node, struct ArrowSchema *out) {
-  PyObject *rest[3], *child;
-  const char *format, *name, *metadata;
+  PyObject *rest[3], *told, *child;
+  const char *format, *name;
   long long flags;
-  if (!PyArg_ParseTuple(node, "yyzLOOOO", &format, &name, &metadata, &flags, &rest[0], &rest[1], &rest[2], &child))
-    return -1;
+  if (!PyArg_ParseTuple(node, "yyOLOOOO", &format, &name, &told, &flags, &rest[0], &rest[1], &rest[2], &child)) return -1;
+  char *metadata = told == Py_None ? NULL : PyBytes_AsString(told);
+  if (metadata == NULL && told != Py_None) return -1;
   inside *own = new_inside(node);
   if (own == NULL) return -1;
   *out = (struct ArrowSchema){.format = format, .name = name, .metadata = metadata, .flags = flags,

@@ -1,6 +1,6 @@
-"""Well-Known Binary: a proved reader and writer, called through ctypes.
+"""Well-Known Binary: a proved reader and writer.
 
-The package itself is tested, and not proved. It needs CPython 3.8 or later.
+The package itself is tested, and not proved. It needs CPython 3.11 or later.
 
 One geometry, at the front of a blob:
 
@@ -21,7 +21,8 @@ A column of geometries, in one piece of memory as Arrow has it:
     column.check(), .bounds(), .write([order, form, srid]), .parts(), .coordinates([dimension])
                                     results for all rows, and a Status for each; no row stops a call
     column_from_coordinates(kind, coordinates[, ring_offsets, single_offsets, row_offsets])
-                                    the encodings of rows of one kind, from coordinates of your own
+                                    the encodings of rows of one kind, from coordinates of your own, or of an
+                                    array of GeoArrow in their place
 
 What the numbers mean, as enums of integers:
 
@@ -30,16 +31,17 @@ What the numbers mean, as enums of integers:
 
 Records are Found, Fault, Part, Range and Box: frozen, compared by value, good as keys. Table is a sequence of Part or
 Box, and becomes a structured array by numpy.asarray. The column calls return ColumnBounds, ColumnParts,
-ColumnEncodings and ColumnCoordinates. Refused is a ValueError with `status` and `fault`, the part that is refused.
+ColumnEncodings and ColumnCoordinates. The last two are arrays for packages of Arrow, and `rows` of ColumnEncodings is a
+sequence of bytes and None. Refused is a ValueError with `status` and `fault`, the part that is refused.
 
 A blob is anything with the buffer protocol. A call holds its buffer until it returns or raises, and no longer; only
-view returns an array over the blob's memory. Calls don't hold the interpreter's lock: those of several threads run
-side by side. The input may not change during a call, by other threads or processes either: of a mapped file that
+view returns an array over the blob's memory. Calls over a column, or over a blob of 16 KB or more, don't hold the
+interpreter's lock: those of several threads run side by side. The input may not change during a call, by other threads or processes either: of a mapped file that
 others write, such as a numpy.memmap, pass a copy, bytes(it). Sizes and offsets are in bytes. Functions, results,
 columns and Refused can be pickled, for other processes.
 
-The shared library is beside this package; load(path) or the environment variable WKB_LIBRARY names another, and
-version() is that of its wkb.h. help(wkb.write), and so on, says more of each name.
+The library is inside this package: load() needs to load nothing, and version() is that of its wkb.h. help(wkb.write),
+and so on, says more of each name.
 """
 # There is no __all__: help(wkb) would list all classes with what they inherit, in thousands of lines.
 from ._calls import Refused as Refused
@@ -51,10 +53,6 @@ from ._calls import same as same
 from ._calls import view as view
 from ._calls import write as write
 from ._columns import Column as Column
-from ._columns import ColumnBounds as ColumnBounds
-from ._columns import ColumnCoordinates as ColumnCoordinates
-from ._columns import ColumnEncodings as ColumnEncodings
-from ._columns import ColumnParts as ColumnParts
 from ._enums import Dimension as Dimension
 from ._enums import Form as Form
 from ._enums import Kind as Kind
@@ -71,5 +69,9 @@ from ._records import Found as Found
 from ._records import Part as Part
 from ._records import Range as Range
 from ._records import Table as Table
+from ._results import ColumnBounds as ColumnBounds
+from ._results import ColumnCoordinates as ColumnCoordinates
+from ._results import ColumnEncodings as ColumnEncodings
+from ._results import ColumnParts as ColumnParts
 
 __version__ = "0.1.0"

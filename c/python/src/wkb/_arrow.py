@@ -19,7 +19,7 @@ class ArrowStream(Protocol):
     def __arrow_c_stream__(self, requested_schema: Any = None) -> Any: ...
 
 
-class _Schema(NamedTuple):
+class Schema(NamedTuple):
     """The fields of Arrow's `ArrowSchema`, in the capsule that owns it."""
 
     format: Optional[bytes]
@@ -28,8 +28,12 @@ class _Schema(NamedTuple):
     release: bool  # whether it isn't released
     capsule: Any
 
+    def name(self, most: int) -> str:
+        """The name, of a longer one so many bytes."""
+        return _wkb.schema_name(self.capsule, most).decode(errors="replace")
 
-class _Array(NamedTuple):
+
+class Array(NamedTuple):
     """The fields of Arrow's `ArrowArray`, in the capsule that owns it."""
 
     length: int
@@ -47,12 +51,12 @@ class _Array(NamedTuple):
         return _wkb.array_buffer(self.capsule, place, size)
 
 
-def _schema(capsule: Any) -> _Schema:
-    return _Schema(*_wkb.schema_fields(capsule), capsule)
+def schema_of(capsule: Any) -> Schema:
+    return Schema(*_wkb.schema_fields(capsule), capsule)
 
 
-def _array(capsule: Any) -> _Array:
-    return _Array(*_wkb.array_fields(capsule), capsule)
+def array_of(capsule: Any) -> Array:
+    return Array(*_wkb.array_fields(capsule), capsule)
 
 
 # The kinds of structs of `_wkb`.
@@ -81,58 +85,59 @@ class _Column(NamedTuple):
     offset_size: int
 
 
-def _expect(holds: Any, text: str) -> None:
+def expect(holds: Any, text: str) -> None:
     """Raises an error if a struct can't be right."""
     if not holds:
         raise ValueError(f"the Arrow {text}")
 
 
-def _check_schema(it: _Schema) -> None:
-    _expect(it.release, "array is released already")
-    _expect(it.format is not None, "array has no format")
-    _expect(0 <= it.n_children <= MOST_PARTS, f"array can't have {it.n_children} children")
+def check_schema(it: Schema) -> None:
+    expect(it.release, "array is released already")
+    expect(it.format is not None, "array has no format")
+    expect(0 <= it.n_children <= MOST_PARTS, f"array can't have {it.n_children} children")
 
 
-def _check_array(it: _Array, children: int, buffers: range) -> None:
+def check_array(it: Array, children: int, buffers: range) -> None:
     """Raises an error unless the counts are those of an array with so many children and buffers, and fit together."""
-    _expect(it.release, "array is released already")
-    _expect(it.n_children == children, f"array has {it.n_children} children, and its schema {children}")
-    _expect(it.n_buffers in buffers, f"array can't have {it.n_buffers} buffers")
-    _expect(it.buffers, "array has no list of buffers")
-    _expect(it.offset >= 0 and it.length >= 0 and it.offset + it.length <= MOST_ROWS,
+    expect(it.release, "array is released already")
+    expect(it.n_children == children, f"array has {it.n_children} children, and its schema {children}")
+    expect(it.n_buffers in buffers, f"array can't have {it.n_buffers} buffers")
+    expect(it.buffers, "array has no list of buffers")
+    expect(it.offset >= 0 and it.length >= 0 and it.offset + it.length <= MOST_ROWS,
             f"array can't have {it.length} rows from row {it.offset} on")
-    _expect(-1 <= it.null_count <= it.length, f"array can't have {it.null_count} null rows of {it.length}")
-    _expect(it.null_count <= 0 or _has_validity(it), "array has null rows, and no validity")
-    _expect(not it.dictionary, "array has a dictionary, and its schema has none")
+    expect(-1 <= it.null_count <= it.length, f"array can't have {it.null_count} null rows of {it.length}")
+    expect(it.null_count <= 0 or has_validity(it), "array has null rows, and no validity")
+    expect(not it.dictionary, "array has a dictionary, and its schema has none")
 
 
-def _has_validity(it: _Array) -> bool:
+def has_validity(it: Array) -> bool:
     return it.buffer(0, 0) is not None
 
 
-def _schema_child(of: _Schema, number: int) -> _Schema:
+def is_all_set(it: Array, first: int, count: int) -> bool:
+    """Whether the bits of these items, in the validity that the array has, say that none is null."""
+    bits = int.from_bytes(memoryview(borrowed(it, 0, (first + count + 7) // 8))[first // 8 :], "little")
+    return (bits >> first % 8) + 1 & (1 << count) - 1 == 0
+
+
+def schema_child(of: Schema, number: int) -> Schema:
     child = _wkb.schema_child(of.capsule, number)
-    _expect(child is not None, f"array has no child {number}")
-    return _schema(child)
+    expect(child is not None, f"array has no child {number}")
+    return schema_of(child)
 
 
-def _array_child(of: _Array, number: int) -> _Array:
+def array_child(of: Array, number: int) -> Array:
     child = _wkb.array_child(of.capsule, number)
-    _expect(child is not None, f"array has no child {number}")
-    return _array(child)
+    expect(child is not None, f"array has no child {number}")
+    return array_of(child)
 
 
-def _name_of(schema: _Schema, most: int) -> str:
-    """The name of a column, of a longer one so many bytes."""
-    return _wkb.schema_name(schema.capsule, most).decode(errors="replace")
-
-
-def _number_of(name: str, schema: _Schema) -> int:
+def _number_of(name: str, schema: Schema) -> int:
     """Which child of records has this name. None is looked at that comes after it."""
     names, most = [], max(4 * len(name) + 1, SHOWN)  # a character has at most four bytes
     if schema.format == b"+s" and not schema.dictionary:
         for number in range(schema.n_children):
-            found = _name_of(_schema_child(schema, number), most)
+            found = schema_child(schema, number).name(most)
             if found == name:
                 return number
             if number < SHOWN:
@@ -141,28 +146,28 @@ def _number_of(name: str, schema: _Schema) -> int:
     raise ValueError(f"the Arrow array has no column {name!r}, but {names}{more}")
 
 
-def _offset_size_of(schema: _Schema) -> int:
+def _offset_size_of(schema: Schema) -> int:
     """The bytes of an offset of a column with this schema."""
-    _check_schema(schema)
+    check_schema(schema)
     form = schema.format or b""
     size = OFFSET_SIZES.get(form)
     if size is None or schema.dictionary:
         kind = "dictionary" if schema.dictionary else form.decode(errors="replace")
         hint = "; name= picks a column of records" if kind == "+s" else ""
         raise TypeError(f"an Arrow array of format {kind!r} is not binary ('z', 'Z' or 'vz'){hint}")
-    _expect(schema.n_children == 0, f"array has {schema.n_children} children, and its type none")
+    expect(schema.n_children == 0, f"array has {schema.n_children} children, and its type none")
     return size
 
 
-def _column_of(schema: _Schema, name: Optional[str]) -> _Column:
-    _check_schema(schema)
+def _column_of(schema: Schema, name: Optional[str]) -> _Column:
+    check_schema(schema)
     if name is None:
         return _Column(None, 0, _offset_size_of(schema))
     child = _number_of(name, schema)
-    return _Column(child, schema.n_children, _offset_size_of(_schema_child(schema, child)))
+    return _Column(child, schema.n_children, _offset_size_of(schema_child(schema, child)))
 
 
-def _borrowed(it: _Array, place: int, size: int) -> Any:
+def borrowed(it: Array, place: int, size: int) -> Any:
     """So many bytes of a buffer."""
     if size == 0:
         return b""
@@ -172,35 +177,35 @@ def _borrowed(it: _Array, place: int, size: int) -> Any:
     return memory
 
 
-def _pieces_in(it: _Array, column: _Column) -> Pieces:
+def _pieces_in(it: Array, column: _Column) -> Pieces:
     """The memory of the column in an array, which the pieces keep."""
     first, rows, size = it.offset, it.length, column.offset_size
     if column.child is not None:
-        _check_array(it, column.children, OF_RECORDS)
-        if it.null_count and _has_validity(it):
+        check_array(it, column.children, OF_RECORDS)
+        if it.null_count and has_validity(it) and not is_all_set(it, first, rows):
             raise ValueError("records of the Arrow array are null as a whole")
-        it = _array_child(it, column.child)
-        _expect(first + rows <= it.length, f"array has records of which a column has {it.length} rows only")
+        it = array_child(it, column.child)
+        expect(first + rows <= it.length, f"array has records of which a column has {it.length} rows only")
         first += it.offset
-    _check_array(it, 0, OF_OFFSETS if size else OF_VIEWS)
+    check_array(it, 0, OF_OFFSETS if size else OF_VIEWS)
     if size == 0:
         return pieces_of(_rows_in_views(it, first, rows))
     if rows == 0:
         return Pieces(b"", b"", None, offset_size=size, owner=it)
     end = first + rows
-    ends = _borrowed(it, 1, (end + 1) * size)
+    ends = borrowed(it, 1, (end + 1) * size)
     used = int.from_bytes(memoryview(ends)[-size:], sys.byteorder, signed=True)
-    bits = _borrowed(it, 0, (end + 7) // 8) if _has_validity(it) else None
-    return Pieces(_borrowed(it, 2, max(used, 0)), ends, bits, first, rows, size, it)
+    bits = borrowed(it, 0, (end + 7) // 8) if has_validity(it) else None
+    return Pieces(borrowed(it, 2, max(used, 0)), ends, bits, first, rows, size, it)
 
 
-def _rows_in_views(it: _Array, first: int, rows: int) -> Iterator[Optional[bytes]]:
+def _rows_in_views(it: Array, first: int, rows: int) -> Iterator[Optional[bytes]]:
     """Copies of the rows of an array of binary views."""
     count = it.n_buffers - 3
-    sizes = struct.unpack(f"={count}q", _borrowed(it, it.n_buffers - 1, 8 * count))
-    buffers = [memoryview(_borrowed(it, 2 + i, size)) for i, size in enumerate(sizes)]
-    bits = bytes(memoryview(_borrowed(it, 0, (first + rows + 7) // 8))[first // 8 :]) if _has_validity(it) else b""
-    held = bytes(memoryview(_borrowed(it, 1, VIEW_SIZE * (first + rows)))[VIEW_SIZE * first :])
+    sizes = struct.unpack(f"={count}q", borrowed(it, it.n_buffers - 1, 8 * count))
+    buffers = [memoryview(borrowed(it, 2 + i, size)) for i, size in enumerate(sizes)]
+    bits = bytes(memoryview(borrowed(it, 0, (first + rows + 7) // 8))[first // 8 :]) if has_validity(it) else b""
+    held = bytes(memoryview(borrowed(it, 1, VIEW_SIZE * (first + rows)))[VIEW_SIZE * first :])
     left = MOST_COPIES * (len(held) + sum(sizes))
     for i, (length, _, buffer, offset) in enumerate(struct.iter_unpack("=4i", held)):
         bit = first % 8 + i
@@ -210,7 +215,7 @@ def _rows_in_views(it: _Array, first: int, rows: int) -> Iterator[Optional[bytes
             yield held[VIEW_SIZE * i + 4 : VIEW_SIZE * i + 4 + max(length, 0)]
         elif 0 <= buffer < count and 0 <= offset <= sizes[buffer] - length:
             left -= length
-            _expect(left >= 0, f"array's views share bytes: copied, they are more than {MOST_COPIES} times the array")
+            expect(left >= 0, f"array's views share bytes: copied, they are more than {MOST_COPIES} times the array")
             yield bytes(buffers[buffer][offset : offset + length])
         else:
             raise ValueError(f"row {i} of the Arrow array is not where its view says")
@@ -218,13 +223,19 @@ def _rows_in_views(it: _Array, first: int, rows: int) -> Iterator[Optional[bytes
 
 def pieces_of_arrow(array: ArrowArray, name: Optional[str]) -> Pieces:
     """The memory of an Arrow array, or of a column of records. Its capsule owns it, and releases it when it goes."""
+    schema, it = taken(array)
+    return _pieces_in(it, _column_of(schema, name))
+
+
+def taken(array: ArrowArray) -> Tuple[Schema, Array]:
+    """The structs of an array, which its capsules own no longer."""
     if not hasattr(array, "__arrow_c_array__"):
         hint = "; chunks_from_arrow takes what has chunks" if hasattr(array, "__arrow_c_stream__") else ""
         raise TypeError(f"{type(array).__name__} has no method __arrow_c_array__{hint}")
     schema_capsule, capsule = array.__arrow_c_array__()
-    schema, it = _schema(_wkb.take(schema_capsule)), _array(_wkb.take(capsule))
-    _expect(schema.n_children == it.n_children, "array has other children than its schema")
-    return _pieces_in(it, _column_of(schema, name))
+    schema, it = schema_of(_wkb.take(schema_capsule)), array_of(_wkb.take(capsule))
+    expect(schema.n_children == it.n_children, "array has other children than its schema")
+    return schema, it
 
 
 def chunks_of_arrow(stream: ArrowStream, name: Optional[str]) -> Iterator[Pieces]:
@@ -233,13 +244,13 @@ def chunks_of_arrow(stream: ArrowStream, name: Optional[str]) -> Iterator[Pieces
         hint = "; from_arrow takes one array" if hasattr(stream, "__arrow_c_array__") else ""
         raise TypeError(f"{type(stream).__name__} has no method __arrow_c_stream__{hint}")
     capsule = _wkb.take(stream.__arrow_c_stream__())
-    return _chunks(capsule, _column_of(_schema(_wkb.stream_next(capsule, SCHEMA)), name))
+    return _chunks(capsule, _column_of(schema_of(_wkb.stream_next(capsule, SCHEMA)), name))
 
 
 def _chunks(capsule: Any, column: _Column) -> Iterator[Pieces]:
     """The arrays of a stream, which lives as long as its capsule."""
     while True:
-        array = _array(_wkb.stream_next(capsule, ARRAY))
+        array = array_of(_wkb.stream_next(capsule, ARRAY))
         if not array.release:
             return
         pieces = [_pieces_in(array, column)]

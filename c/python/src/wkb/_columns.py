@@ -1,7 +1,7 @@
 """The calls for columns of geometries."""
 import operator
 import sys
-from typing import Any, Dict, Iterable, Iterator, NamedTuple, Optional, Tuple
+from typing import Any, Dict, Iterable, Iterator, Optional, Tuple
 
 from . import _wkb
 from ._arrow import ArrowArray, ArrowStream, chunks_of_arrow, pieces_of_arrow
@@ -9,6 +9,7 @@ from ._buffers import Buffer, Numbers, has_numpy, less_the_least, new_numbers, n
 from ._calls import make_options
 from ._enums import Dimension, Form, Order
 from ._records import Box, Part, Table
+from ._results import ColumnBounds, ColumnCoordinates, ColumnEncodings, ColumnParts
 from ._rows import Pieces, pieces_of
 
 # The calls of `_wkb.column`.
@@ -16,41 +17,6 @@ CHECK, BOUNDS, PARTS, WRITE, ROOM, KINDS = range(6)
 NO_OPTIONS, NO_RESULTS = (0, 0, 0), (None, None, None)
 # An encoding may be four bytes longer than its row: an SRID.
 SRID_SIZE = 4
-
-
-class ColumnBounds(NamedTuple):
-    """The bounds of each row; those of a row that is refused have no numbers."""
-
-    statuses: Numbers  # a `Status` for each row
-    boxes: Table[Box]
-
-
-class ColumnParts(NamedTuple):
-    """The parts of all rows, those of row i from offsets[i] up to offsets[i + 1]."""
-
-    statuses: Numbers  # a `Status` for each row
-    offsets: Numbers  # in parts; one more than there are rows
-    parts: Table[Part]  # each with bytes counted from the front of its row
-
-
-class ColumnEncodings(NamedTuple):
-    """The encodings of all rows, that of row i from offsets[i] up to offsets[i + 1]; none where the row is refused."""
-
-    statuses: Numbers  # a `Status` for each row
-    offsets: Numbers  # in bytes; one more than there are rows
-    data: Numbers
-
-
-class ColumnCoordinates(NamedTuple):
-    """The coordinates of all rows, in levels as GeoArrow has them: rows, singles (points, line strings and polygons, by
-    themselves or inside others), rings, and coordinates. The offsets of a level begin with 0, and have one more for
-    each item. With numpy, ring_offsets[single_offsets[row_offsets]] are the offsets of the rows in coordinates."""
-
-    statuses: Numbers  # a `Status` for each row
-    row_offsets: Numbers  # in singles
-    single_offsets: Numbers  # in rings; a point or a line string is one
-    ring_offsets: Numbers  # in coordinates
-    coordinates: Numbers  # a numpy array with a row for each; without numpy one number after another
 
 
 def code_of(view: memoryview) -> str:
@@ -226,7 +192,7 @@ class Column:
             room = needed
             data = new_numbers("u1", room)
             needed = _wkb.column(WRITE, self._arguments(), options, (data, offsets, statuses))
-        return ColumnEncodings(statuses, offsets, data[: offsets[-1]])
+        return ColumnEncodings._of_form(options[1], statuses, offsets, data[: offsets[-1]])
 
     def coordinates(self, dimension: Dimension = Dimension.XY) -> ColumnCoordinates:
         """The coordinates of all rows in this dimension, with a NaN for each number that a geometry doesn't have."""
@@ -239,7 +205,8 @@ class Column:
         results = words, ring_offsets, single_offsets, row_offsets, statuses
         expect_same(_wkb.column_coordinates(self._arguments(), dimension, results) == needed)
         rows = words.reshape(-1, dimension.width) if has_numpy else words
-        return ColumnCoordinates(statuses, row_offsets, single_offsets, ring_offsets, rows)
+        kinds = _wkb.column(KINDS, self._arguments(), NO_OPTIONS, (None, None, statuses))
+        return ColumnCoordinates._of_kinds(kinds, dimension, statuses, row_offsets, single_offsets, ring_offsets, rows)
 
 
 def expect_same(holds: bool) -> None:

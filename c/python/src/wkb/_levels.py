@@ -1,13 +1,16 @@
 """Rows that are written from coordinates in levels."""
 import array
 import operator
-from typing import Any, Optional
+from typing import Optional, Tuple, Union
 
 from . import _wkb
+from ._arrow import ArrowArray
 from ._buffers import Buffer, has_numpy, new_numbers, new_offsets, view_of
 from ._calls import make_options
-from ._columns import ColumnEncodings, check_validity, code_of, expect_same, size_of_offsets
+from ._columns import check_validity, code_of, expect_same, size_of_offsets
 from ._enums import Dimension, Form, Kind, Order
+from ._geoarrow import Levels, levels_of_arrow
+from ._results import ColumnEncodings
 
 # The bytes of a word, and of an end as the library takes it.
 WORD_SIZE = 8
@@ -54,14 +57,30 @@ def _count(coordinates: Buffer, dimension: Dimension) -> int:
     return count
 
 
+def _write(kind: Kind, options: Tuple[int, int, int], it: Levels) -> ColumnEncodings:
+    """The encodings of rows in levels."""
+    rows = _count(it.coordinates, it.dimension)
+    for level in it.offsets:
+        rows = _items(level, rows)
+    if it.validity is not None:
+        check_validity(it.validity, it.first + rows)
+    given = (it.coordinates, *it.offsets, it.validity, it.first)
+    statuses, offsets = new_numbers("u1", rows), new_offsets(rows)
+    size = _wkb.column_from_coordinates(given, kind, it.dimension, options, (None, offsets, statuses))
+    data = new_numbers("u1", size)
+    again = _wkb.column_from_coordinates(given, kind, it.dimension, options, (data, offsets, statuses))
+    expect_same(again == size)
+    return ColumnEncodings._of_form(options[1], statuses, offsets, data)
+
+
 def column_from_coordinates(
     kind: Kind,
-    coordinates: Buffer,
+    coordinates: Union[Buffer, ArrowArray],
     ring_offsets: Optional[Buffer] = None,
     single_offsets: Optional[Buffer] = None,
     row_offsets: Optional[Buffer] = None,
     *,
-    dimension: Dimension = Dimension.XY,
+    dimension: Optional[Dimension] = None,
     order: Order = Order.LITTLE,
     form: Form = Form.ISO,
     srid: Optional[int] = None,
@@ -75,26 +94,28 @@ def column_from_coordinates(
     offsets, line strings `ring_offsets`, polygons `single_offsets` too, and multi geometries `row_offsets`. Offsets are
     32-bit or 64-bit numbers that begin with 0; where they are raw bytes, `offset_size` says how many bytes one has.
     `coordinates` has 64-bit floats, `dimension.width` for each; an empty point is one of NaNs. `validity` has a bit for
-    each row, as for `Column`, that of the first row at `validity_offset`.
+    each row, as for `Column`, that of the first row at `validity_offset`. Without a `dimension` it is XY.
+
+    In the place of all these, `coordinates` may be an Arrow array of GeoArrow's type for the kind, or a slice of one:
+    any object with the method `__arrow_c_array__`. Coordinates that are interleaved are not copied, nor are offsets of
+    64 bits that begin with 0. It is refused as `Column.from_arrow` refuses arrays.
 
     No row stops the call: where the offsets don't fit the kind or each other, the row is BAD_LEVELS and has no bytes.
     `Column(it.data, it.offsets, validity)` is a column of the result. It has no SRIDs but `srid`.
     """
-    kind, dimension, first_bit = Kind(kind), Dimension(dimension), operator.index(validity_offset)
+    kind, first_bit = Kind(kind), operator.index(validity_offset)
     if kind in (Kind.RING, Kind.GEOMETRY_COLLECTION):
         raise ValueError(f"no row of kind {kind.name} is written from coordinates")
     if first_bit < 0:
         raise ValueError(f"validity_offset={first_bit} can't be negative")
-    options, rows = make_options(order, form, srid), _count(coordinates, dimension)
-    levels = tuple(_level(it, offset_size) for it in (ring_offsets, single_offsets, row_offsets))
-    for level in levels:
-        rows = _items(level, rows)
-    if validity is not None:
-        check_validity(validity, first_bit + rows)
-    given: Any = (coordinates, *levels, validity, first_bit)
-    statuses, offsets = new_numbers("u1", rows), new_offsets(rows)
-    size = _wkb.column_from_coordinates(given, kind, dimension, options, (None, offsets, statuses))
-    data = new_numbers("u1", size)
-    again = _wkb.column_from_coordinates(given, kind, dimension, options, (data, offsets, statuses))
-    expect_same(again == size)
-    return ColumnEncodings(statuses, offsets, data)
+    given, options = (ring_offsets, single_offsets, row_offsets), make_options(order, form, srid)
+    if hasattr(coordinates, "__arrow_c_array__"):
+        if any(it is not None for it in (*given, validity, offset_size)):
+            raise TypeError("an Arrow array has its own offsets and validity: no others are taken")
+        levels = levels_of_arrow(coordinates, kind)
+        if dimension not in (None, levels.dimension):
+            raise ValueError(f"the Arrow array has coordinates of {levels.dimension.name}, and not {dimension!r}")
+        return _write(kind, options, levels)
+    rings, singles, rows = (_level(it, offset_size) for it in given)
+    dimension = Dimension(dimension or Dimension.XY)
+    return _write(kind, options, Levels(coordinates, (rings, singles, rows), validity, first_bit, dimension))

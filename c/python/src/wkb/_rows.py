@@ -24,10 +24,11 @@ def _bytes_of_row(i: int, row: Any) -> bytes:
     try:
         return bytes(view_of(row))
     except TypeError:
-        raise TypeError(f"row {i} is of type {type(row).__name__}, and neither bytes nor None") from None
+        hint = "; bytes.fromhex(text) makes bytes of hexadecimal text" if isinstance(row, str) else ""
+        raise TypeError(f"row {i} is of type {type(row).__name__}, and neither bytes nor None{hint}") from None
 
 
-def _bits(flags: List[bool]) -> Optional[bytes]:
+def bits_of(flags: List[bool]) -> Optional[bytes]:
     """A bit for each flag, from the lowest of a byte on; None where all are set."""
     if all(flags):
         return None
@@ -51,4 +52,4 @@ def pieces_of(rows: Iterable[Optional[Buffer]]) -> Pieces:
         items = [None if is_missing else row for row, is_missing in zip(items, column.isna())]
     blobs = [row if isinstance(row, bytes) else _bytes_of_row(i, row) for i, row in enumerate(items)]
     offsets = array.array("q", itertools.accumulate(map(len, blobs), initial=0))
-    return Pieces(b"".join(blobs), offsets, _bits([row is not None for row in items]), rows=len(items))
+    return Pieces(b"".join(blobs), offsets, bits_of([row is not None for row in items]), rows=len(items))

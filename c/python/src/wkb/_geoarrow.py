@@ -1,0 +1,131 @@
+"""Levels of coordinates in arrays of GeoArrow, as other packages hand them out in capsules."""
+import array
+from typing import Any, List, NamedTuple, Optional, Tuple
+
+from ._arrow import (
+    Array, Schema, array_child, borrowed, check_array, check_schema, expect, has_validity, is_all_set,
+    schema_child, taken,
+)
+from ._buffers import Buffer, Numbers, has_numpy, new_numbers
+from ._enums import Dimension, Kind
+
+# The level of each list of a kind, from the outermost on: 0 has the ends of rings, 1 of singles, 2 of rows.
+LEVELS = {
+    Kind.POINT: (), Kind.LINE_STRING: (0,), Kind.POLYGON: (1, 0), Kind.MULTI_POINT: (2,),
+    Kind.MULTI_LINE_STRING: (2, 0), Kind.MULTI_POLYGON: (2, 1, 0),
+}
+# The bytes of an offset, by the formats of lists.
+LIST_SIZES = {b"+l": 4, b"+L": 8}
+# How many buffers an array has: validity; validity and offsets, or numbers.
+VALIDITY, WITH_ONE = range(1, 2), range(2, 3)
+WORD_SIZE = 8
+
+
+class Levels(NamedTuple):
+    """Coordinates in levels."""
+
+    coordinates: Any
+    offsets: Tuple[Optional[Buffer], Optional[Buffer], Optional[Buffer]]  # of rings, of singles and of rows
+    validity: Any
+    first: int  # the bit of the first row
+    dimension: Dimension
+
+
+class _Window(NamedTuple):
+    """Some items of an array."""
+
+    schema: Schema
+    array: Array
+    first: int
+    rows: int
+
+
+def _check(it: _Window, children: int, buffers: range, depth: int) -> None:
+    """Raises an error unless the counts fit, and no item inside a row is null."""
+    check_schema(it.schema)
+    check_array(it.array, children, buffers)
+    expect(it.schema.n_children == children and not it.schema.dictionary, "array has other children than its type")
+    expect(it.first + it.rows <= it.array.offset + it.array.length, "array has fewer items than its lists say")
+    if depth and it.array.null_count and has_validity(it.array):
+        expect(is_all_set(it.array, it.first, it.rows), "array has items inside rows that are null")
+
+
+def _inner(it: _Window, number: int, first: int, count: int) -> _Window:
+    """Some items of a child, counted from its first."""
+    child = array_child(it.array, number)
+    expect(child.offset >= 0, f"array can't begin with item {child.offset}")
+    return _Window(schema_child(it.schema, number), child, child.offset + first, count)
+
+
+def _less(offsets: memoryview, least: int) -> Numbers:
+    """Offsets less the first of them."""
+    if has_numpy:
+        import numpy
+
+        return numpy.asarray(offsets).astype("i8") - least
+    items: Any = array.array("q", (it - least for it in offsets))
+    numbers: Numbers = items
+    return numbers
+
+
+def _opened(it: _Window, depth: int) -> Tuple[Numbers, _Window]:
+    """The offsets of a list, from 0 on, and the items in it."""
+    size = LIST_SIZES.get(it.schema.format or b"")
+    if size is None:
+        raise TypeError(f"an Arrow array of format {_format(it)} is not a list, where this kind has one")
+    _check(it, 1, WITH_ONE, depth)
+    if it.rows == 0:
+        return _less(memoryview(bytes(8)).cast("q"), 0), _inner(it, 0, 0, 0)
+    end = it.first + it.rows + 1
+    offsets = memoryview(borrowed(it.array, 1, end * size)).cast("i" if size == 4 else "q")[it.first :]
+    least, most = offsets[0], offsets[-1]
+    expect(0 <= least <= most, f"array has lists from item {least} to {most}")
+    return _less(offsets, least), _inner(it, 0, least, most - least)
+
+
+def _format(it: _Window) -> str:
+    return repr((it.schema.format or b"").decode(errors="replace"))
+
+
+def _words(it: _Window, number: int, first: int, count: int) -> Any:
+    """Some doubles of a child."""
+    words = _inner(it, number, first, count)
+    if words.schema.format != b"g":
+        raise TypeError(f"coordinates of format {_format(words)} are not 64-bit floats ('g')")
+    _check(words, 0, WITH_ONE, 1)
+    held = memoryview(borrowed(words.array, 1, WORD_SIZE * (words.first + count))).cast("B")
+    return held[WORD_SIZE * words.first :].cast("d")
+
+
+def _coordinates(it: _Window, depth: int) -> Tuple[Any, str]:
+    """The coordinates one after another, and the name of their dimension: no copy is made of interleaved ones."""
+    form = it.schema.format or b""
+    if form in (b"+w:2", b"+w:3", b"+w:4"):
+        _check(it, 1, VALIDITY, depth)
+        width = int(form[3:])
+        name = schema_child(it.schema, 0).name(8)
+        return _words(it, 0, width * it.first, width * it.rows), name if len(name) == width else "xyzm"[:width]
+    if form == b"+s" and 2 <= it.schema.n_children <= 4:
+        width = it.schema.n_children
+        _check(it, width, VALIDITY, depth)
+        words, held = new_numbers("f8", width * it.rows), ""
+        for i in range(width):
+            numbers = _words(it, i, it.first, it.rows)
+            words[i::width] = numbers if has_numpy else array.array("d", numbers)
+            held += schema_child(it.schema, i).name(8)
+        return words, held
+    raise TypeError(f"an Arrow array of format {_format(it)} has no coordinates: lists of 2 to 4, or records of them")
+
+
+def levels_of_arrow(of: Any, kind: Kind) -> Levels:
+    """The levels of an array of rows of this kind."""
+    schema, top = taken(of)
+    it = _Window(schema, top, top.offset, top.length)
+    offsets: List[Optional[Numbers]] = [None, None, None]
+    for depth, level in enumerate(LEVELS[kind]):
+        offsets[level], it = _opened(it, depth)
+    words, name = _coordinates(it, len(LEVELS[kind]))
+    if name.upper() not in Dimension.__members__:
+        raise TypeError(f"coordinates of {name!r} are not of xy, xyz, xym or xyzm")
+    validity = borrowed(top, 0, (top.offset + top.length + 7) // 8) if has_validity(top) else None
+    return Levels(words, (offsets[0], offsets[1], offsets[2]), validity, top.offset, Dimension[name.upper()])

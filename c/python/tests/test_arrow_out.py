@@ -1,0 +1,455 @@
+"""The ways out of a column's results, rows and arrays of Arrow, and coordinates from arrays of GeoArrow."""
+import array
+import ctypes
+import gc
+import itertools
+import math
+import pickle
+import struct
+import sys
+import threading
+import unittest
+
+import wkb
+from capsules import Arrow, Array, Held, Schema, address_of, memory_of, pointers
+from samples import BIG_POINT, EMPTY_POINT, ISO_POLYGON, POINT, POLYGON, ROWS, STATUSES
+from wkb import Column, Dimension, Form, Kind, Order, Status, column_from_coordinates
+
+try:
+    import numpy
+    import pandas
+except ImportError:
+    numpy = pandas = None
+try:
+    import shapely
+    import shapely.wkb
+except ImportError:
+    shapely = None
+
+
+def structs_of(capsules):
+    """The structs of a pair of capsules."""
+    schema, held = capsules
+    return (Schema.from_address(address_of(id(schema), b"arrow_schema")),
+            Array.from_address(address_of(id(held), b"arrow_array")))
+
+
+def child_of(it, number=0):
+    return type(it).from_address(it.children[number])
+
+
+def numbers_at(address, kind, count):
+    return struct.unpack(f"={count}{kind}", ctypes.string_at(address, count * struct.calcsize(kind)) if count else b"")
+
+
+def items_of(schema, it):
+    """The values of an array, read as Arrow's format says."""
+    end, form = it.offset + it.length, schema.format.decode()
+    if form == "g":
+        return list(numbers_at(it.buffers[1], "d", end)[it.offset :])
+    bits = ctypes.string_at(it.buffers[0], (end + 7) // 8) if it.buffers[0] else b"\xff" * (end + 1)
+    present = [bits[i // 8] >> i % 8 & 1 for i in range(it.offset, end)]
+    assert present.count(0) == it.null_count
+    if form in ("z", "Z"):
+        ends = numbers_at(it.buffers[1], {"z": "i", "Z": "q"}[form], end + 1)
+        data = ctypes.string_at(it.buffers[2], ends[-1]) if ends[-1] else b""
+        found = [data[a:b] for a, b in zip(ends, ends[1:])]
+    else:
+        inner = items_of(child_of(schema), child_of(it))
+        width = int(form[3:]) if form.startswith("+w:") else 0
+        code = {"+l": "i", "+L": "q"}.get(form)
+        ends = numbers_at(it.buffers[1], code, end + 1) if code else range(0, width * (end + 1), width)
+        found = [inner[a:b] for a, b in zip(ends, ends[1:])]
+    return [item if is_there else None for item, is_there in zip(found[it.offset :], present)]
+
+
+def extension_of(schema):
+    """The name of an extension in a type's metadata; None where it has none."""
+    at = ctypes.c_void_p.from_address(ctypes.addressof(schema) + Schema.metadata.offset).value
+    if not at:
+        return None
+    (count,), texts, at = numbers_at(at, "i", 1), [], at + 4
+    for _ in range(2 * count):
+        (size,) = numbers_at(at, "i", 1)
+        texts.append(ctypes.string_at(at + 4, size).decode())
+        at += 4 + size
+    assert dict(zip(texts[::2], texts[1::2])).keys() == {"ARROW:extension:name", "ARROW:extension:metadata"}
+    return texts[1]
+
+
+def read(of, asked=None):
+    """The values of an array that is handed out, and its type: formats, names and the extension's name."""
+    capsules = of.__arrow_c_array__(asked)
+    schema, it = structs_of(capsules)
+    values, names, at = items_of(schema, it), [], schema
+    while True:
+        names.append((at.format.decode(), at.name.decode()))
+        if not at.n_children:
+            return values, names, extension_of(schema)
+        at = child_of(at)
+
+
+def asked_for(form):
+    """A capsule of a schema with this format, as a consumer asks for it."""
+    return Arrow(format=form).__arrow_c_array__()[0]
+
+
+class RowsOfBytes(unittest.TestCase):
+    def setUp(self):
+        self.rows = Column.of(ROWS).write().rows
+        self.expected = [POINT, None, None, ISO_POLYGON, None]
+
+    def test_sequence(self):
+        self.assertEqual((len(self.rows), list(self.rows), repr(self.rows)), (5, self.expected, "<5 encodings>"))
+        bounds = (None, *range(-6, 7))
+        for i in range(-5, 5):
+            self.assertEqual(self.rows[i], self.expected[i])
+        for begin, end, step in itertools.product(bounds, bounds, (None, 1, 2, -1, -3)):
+            self.assertEqual(self.rows[begin:end:step], self.expected[begin:end:step])
+        for index in (5, -6):
+            self.assertRaises(IndexError, lambda: self.rows[index])
+        self.assertRaises(TypeError, lambda: self.rows["0"])
+        self.assertEqual((self.rows.index(ISO_POLYGON), None in self.rows), (3, True))
+        self.assertEqual(list(Column.of([]).write().rows), [])
+
+    def test_many(self):
+        """More rows than are made at a time."""
+        rows = [None if i % 7 == 3 else POINT for i in range(9000)]
+        self.assertEqual(list(Column.of(rows).write().rows), rows)
+        self.assertEqual(Column.of(rows).write(Order.BIG).rows[4090:4100],
+                         [row and BIG_POINT for row in rows[4090:4100]])
+
+    def test_from_coordinates(self):
+        it = column_from_coordinates(Kind.POINT, array.array("d", [1, 2, 5, 5]), validity=b"\1")
+        self.assertEqual(list(it.rows), [POINT, None])
+
+    @unittest.skipUnless(pandas, "pandas or numpy is not here")
+    def test_pandas(self):
+        frame = pandas.DataFrame({"wkb": ROWS})
+        frame["wkb"] = list(Column.of(frame.wkb).write().rows)
+        self.assertEqual(frame.wkb.tolist(), self.expected)
+        self.assertEqual(frame.wkb.isna().tolist(), [False, True, True, False, True])
+
+    @unittest.skipUnless(shapely and numpy, "shapely or numpy is not here")
+    def test_shapely(self):
+        loads = getattr(shapely, "from_wkb", lambda rows: [row and shapely.wkb.loads(row) for row in rows])
+        found = loads(Column.of([POINT, None, b"", LINE, b"\2"]).write().rows)
+        self.assertEqual([it and it.geom_type for it in found], ["Point", None, None, "LineString", None])
+        self.assertEqual(found[0].coords[0], (1.0, 2.0))
+
+
+class Encodings(unittest.TestCase):
+    def test_rows(self):
+        """Null and refused rows are null, and the offsets have the size that is asked for."""
+        for asked, form in ((None, "Z"), (b"Z", "Z"), (b"z", "z"), (b"u", "Z")):
+            for rows, expected in (([POINT, b"", None, POLYGON], [POINT, None, None, ISO_POLYGON]),
+                                   ([POINT, POINT], [POINT, POINT]), ([], []), ([None] * 9, [None] * 9)):
+                found = read(Column.of(rows).write(), asked and asked_for(asked))
+                self.assertEqual(found, (expected, [(form, "")], "geoarrow.wkb"))
+
+    def test_forms(self):
+        """GeoArrow's type has no SRIDs, so that EWKB is binary alone."""
+        for form in Form:
+            it = Column.of([POLYGON]).write(form=form, srid=7 if form == Form.EWKB_WITH_SRID else None)
+            self.assertEqual(read(it)[2], "geoarrow.wkb" if form == Form.ISO else None)
+
+    def test_there_and_back(self):
+        written = Column.of(ROWS).write()
+        again = Column.from_arrow(written)
+        self.assertEqual(list(again.check()), [Status.NULL_ROW if it else 0 for it in STATUSES])
+        self.assertEqual(list(again.write().rows), list(written.rows))
+        self.assertEqual(list(pickle.loads(pickle.dumps(written)).rows), list(written.rows))
+        column = Column.from_arrow(Column.of(500 * [POINT]).write())
+        gc.collect()
+        self.assertEqual(bytes(column.check()), bytes(500))
+
+
+class Released(unittest.TestCase):
+    """What is handed out keeps what it shows, and lets it go once."""
+
+    def setUp(self):
+        self.data = bytearray(POINT)
+        self.it = wkb.ColumnEncodings(array.array("B", [0]), array.array("q", [0, 21]), self.data)
+
+    def is_held(self):
+        try:
+            self.data.append(1)
+        except BufferError:
+            return True
+        del self.data[-1]
+        return False
+
+    def test_capsules(self):
+        capsules = self.it.__arrow_c_array__()
+        self.assertTrue(self.is_held())
+        del capsules
+        self.assertFalse(self.is_held())
+
+    def test_moved(self):
+        """A consumer moves the structs, and releases them after the capsules' end, from any thread."""
+        capsules = self.it.__arrow_c_array__()
+        moved = [type(it).from_buffer_copy(it) for it in structs_of(capsules)]
+        for it in structs_of(capsules):
+            it.release = None
+        del capsules
+        self.assertTrue(self.is_held())
+        self.assertEqual(items_of(*moved), [POINT])
+        for it in moved:
+            release = ctypes.CFUNCTYPE(None, ctypes.c_void_p)(it.release)
+            thread = threading.Thread(target=release, args=(ctypes.addressof(it),))
+            thread.start()
+            thread.join()
+            self.assertIsNone(it.release)
+        self.assertFalse(self.is_held())
+
+    def test_moved_child(self):
+        """A child that is moved lives on when its parent is released."""
+        levels = Column.of([ISO_POLYGON]).coordinates()
+        capsules = levels.__arrow_c_array__()
+        inner = [child_of(it) for it in structs_of(capsules)]
+        moved = [type(it).from_buffer_copy(it) for it in inner]
+        for it in inner:
+            it.release = None
+        del capsules, inner, levels
+        gc.collect()
+        self.assertEqual(items_of(*moved), [[[1.0, 2.0]]])
+        for it in moved:
+            ctypes.CFUNCTYPE(None, ctypes.c_void_p)(it.release)(ctypes.addressof(it))
+
+    def test_taken_twice(self):
+        pair = self.it.__arrow_c_array__()
+        once = type("Once", (), {"__arrow_c_array__": lambda self: pair})()
+        self.assertEqual(list(Column.from_arrow(once).check()), [0])
+        self.assertRaisesRegex(ValueError, "is released already", Column.from_arrow, once)
+
+
+def part(code, *parts):
+    body = b"".join(it if isinstance(it, bytes) else struct.pack("<I", len(it)) + b"".join(it) for it in parts)
+    return struct.pack("<BI", 1, code) + body
+
+
+def pairs(*numbers):
+    return [struct.pack("<2d", x, y) for x, y in zip(numbers[::2], numbers[1::2])]
+
+
+LINE, OTHER = part(2, pairs(1, 2, 3, 4)), part(2, pairs(5, 6))
+SQUARE = part(3, [struct.pack("<I", 2) + b"".join(pairs(1, 2, 3, 4)), struct.pack("<I", 0)])
+# Of each kind rows, their values in GeoArrow, and its lists.
+KINDS = {
+    Kind.POINT: ([POINT, POINT], [[1.0, 2.0]] * 2, []),
+    Kind.LINE_STRING: ([LINE, part(2, [])], [[[1.0, 2.0], [3.0, 4.0]], []], ["vertices"]),
+    Kind.POLYGON: ([SQUARE, part(3, [])], [[[[1.0, 2.0], [3.0, 4.0]], []], []], ["rings", "vertices"]),
+    Kind.MULTI_POINT: ([part(4, [POINT, POINT]), part(4, [])], [[[1.0, 2.0]] * 2, []], ["points"]),
+    Kind.MULTI_LINE_STRING: ([part(5, [LINE, OTHER]), part(5, [])],
+                             [[[[1.0, 2.0], [3.0, 4.0]], [[5.0, 6.0]]], []], ["linestrings", "vertices"]),
+    Kind.MULTI_POLYGON: ([part(6, [SQUARE, SQUARE]), part(6, [])],
+                         [[[[[1.0, 2.0], [3.0, 4.0]], []]] * 2, []], ["polygons", "rings", "vertices"]),
+}
+
+
+class Coordinates(unittest.TestCase):
+    def test_each_kind(self):
+        for kind, (rows, expected, lists) in KINDS.items():
+            for asked, sign in ((None, "+l"), (b"+l", "+l"), (b"+L", "+L"), (b"+w:2", "+l")):
+                found = read(Column.of(rows).coordinates(), asked and asked_for(asked))
+                names = list(zip([sign] * len(lists) + ["+w:2", "g"], ["", *lists, "xy"]))
+                self.assertEqual(found, (expected, names, f"geoarrow.{kind.name.lower().replace('_', '')}"))
+
+    def test_null_rows(self):
+        for kind, (rows, expected, _) in KINDS.items():
+            values, _, _ = read(Column.of([None, rows[0], b"", rows[1], None]).coordinates())
+            self.assertEqual(values, [None, expected[0], None, expected[1], None])
+            self.assertEqual(read(Column.of([None]).coordinates())[0], [None])
+
+    def test_several_kinds(self):
+        """Rows of several kinds, or of collections, are lists without a name."""
+        for rows in ([POINT, LINE], [part(7, [POINT, LINE])], [SQUARE, part(6, [SQUARE])], []):
+            capsules = Column.of(rows).coordinates().__arrow_c_array__()
+            schema, it = structs_of(capsules)
+            self.assertIsNone(extension_of(schema))
+            self.assertEqual((schema.format, len(items_of(schema, it))), (b"+l", len(rows)))
+
+    def test_dimensions(self):
+        for dimension in Dimension:
+            rows = Column.of([POINT, EMPTY_POINT]).coordinates(dimension)
+            (first, empty), names, _ = read(rows)
+            self.assertEqual(names, [(f"+w:{dimension.width}", ""), ("g", dimension.name.lower())])
+            self.assertEqual((first[:2], len(first), all(map(math.isnan, empty))), ([1.0, 2.0], dimension.width, True))
+            self.assertEqual(list(column_from_coordinates(Kind.POINT, rows).statuses), [0, 0])
+
+
+class Lists(Held):
+    """An array of GeoArrow's: lists in one another over interleaved or separate coordinates, each with its offset."""
+
+    def __init__(self, levels, words, names=("xy",), offset=0, length=None, form=b"+l", **changes):
+        words = [memory_of(struct.pack(f"={len(it)}d", *it)) for it in words]
+        self.memory, inner = [*words], [self.leaf(name, it) for name, it in zip(names, words)]
+        width = len(names[0]) if len(names) == 1 else len(names)
+        count = len(words[0]) // (8 * width if len(names) == 1 else 8)
+        self.make(b"+s" if len(names) > 1 else b"+w:%d" % width, inner, count, [None])
+        for ends in reversed(levels):
+            self.memory.append(memory_of(struct.pack(f"={len(ends)}{'i' if form == b'+l' else 'q'}", *ends)))
+            self.make(form, [self.top], len(ends) - 1, [None, ctypes.addressof(self.memory[-1])])
+        self.array.offset = offset
+        self.array.length = self.array.length - offset if length is None else length
+        for name, value in changes.items():
+            setattr(self.array, name, value)
+
+    def leaf(self, name, words):
+        return self.struct(b"g", name.encode(), [], len(words) // 8, [None, ctypes.addressof(words)])
+
+    def struct(self, form, name, inner, length, buffers):
+        schema = Schema(format=form, name=name, n_children=len(inner),
+                        children=pointers([ctypes.addressof(it[0]) for it in inner]))
+        it = Array(length=length, n_buffers=len(buffers), n_children=len(inner), buffers=pointers(buffers),
+                   children=pointers([ctypes.addressof(it[1]) for it in inner]))
+        schema.release = it.release = ctypes.cast(self.NOTHING, ctypes.c_void_p)
+        return schema, it, inner
+
+    NOTHING = ctypes.CFUNCTYPE(None, ctypes.c_void_p)(lambda address: None)
+
+    def make(self, form, inner, length, buffers):
+        self.top = self.struct(form, b"", inner, length, buffers)
+        self.hold(*self.top[:2])
+
+    def deep(self, depth):
+        """The array so many levels down."""
+        it = self.top
+        for _ in range(depth):
+            it = it[2][0]
+        return it[1]
+
+
+class FromGeoArrow(unittest.TestCase):
+    def test_round_trip(self):
+        """What is handed out is taken, with its null rows, and whatever the offsets' size is."""
+        for kind, (rows, _, _) in KINDS.items():
+            rows = [None, *rows, None, rows[0], b"\2", *10 * [rows[1]]]
+            for asked in (None, asked_for(b"+L")):
+                levels = Column.of(rows).coordinates()
+                capsules = levels.__arrow_c_array__(asked)
+                once = type("Once", (), {"__arrow_c_array__": lambda self: capsules})()
+                it = column_from_coordinates(kind, once)
+                self.assertEqual(list(it.rows), [None if row == b"\2" else row for row in rows])
+                self.assertEqual(list(it.statuses), [0 if row else Status.NULL_ROW for row in it.rows])
+
+    def test_slices(self):
+        for form in (b"+l", b"+L"):
+            for offset in range(4):
+                for length in range(4 - offset):
+                    it = Lists([(0, 1, 1, 3)], [(1, 2, 3, 4, 5, 6)], offset=offset, length=length, form=form)
+                    lines = [part(2, pairs(1, 2)), part(2, []), part(2, pairs(3, 4, 5, 6))]
+                    written = column_from_coordinates(Kind.LINE_STRING, it)
+                    self.assertEqual(list(written.rows), lines[offset : offset + length])
+        it = Lists([(0, 1, 3), (0, 2, 3, 3)], [(1, 2, 3, 4, 5, 6)], offset=1)
+        (row,) = column_from_coordinates(Kind.MULTI_LINE_STRING, it).rows
+        self.assertEqual(row, part(5, [OTHER, part(2, [])]))
+
+    def test_separate(self):
+        """Coordinates whose x, y, z and m are in arrays of their own."""
+        for names in ("xy", "xyz", "xym", "xyzm"):
+            it = Lists([], [(1.0, 5.0), (2.0, 6.0), (3.0, 7.0), (4.0, 8.0)][: len(names)], names, offset=1)
+            written = column_from_coordinates(Kind.POINT, it, order=Order.BIG)
+            (found,) = Column.of(written.rows).parts().parts
+            self.assertEqual((found.dimension.name, found.order), (names.upper(), Order.BIG))
+            expected = tuple(float(i) for i in range(5, 5 + len(names)))
+            self.assertEqual(wkb.coordinates(written.rows[0], found), [expected])
+
+    def test_lifetime(self):
+        it = Lists([(0, 1)], [(1.0, 2.0)])
+        column_from_coordinates(Kind.LINE_STRING, it)
+        gc.collect()
+        self.assertEqual(sorted(it.released), ["array", "schema"])
+
+    def test_refused(self):
+        words, line = [(1.0, 2.0, 3.0, 4.0)], Kind.LINE_STRING
+        for error, text, kind, source in (
+            (TypeError, "'[+]w:2' is not a list", line, Lists([], words)),
+            (TypeError, "'[+]l' has no coordinates", Kind.POINT, Lists([(0, 1)], words)),
+            (TypeError, "'z' is not a list", line, Arrow()),
+            (TypeError, "'Z' has no coordinates", Kind.POINT, Arrow(b"Z")),
+            (TypeError, "coordinates of 'yx'", Kind.POINT, Lists([], [(1.0,), (2.0,)], "yx")),
+            (ValueError, "lists from item 0 to -1", line, Lists([(0, -1)], words)),
+            (ValueError, "lists from item -1 to 1", line, Lists([(-1, 1)], words)),
+            (ValueError, "lists from item 2 to 1", line, Lists([(2, 1)], words)),
+            (ValueError, "fewer items", line, Lists([(0, 3)], words)),
+            (ValueError, "fewer items", Kind.POLYGON, Lists([(0, 2), (0, 1)], words)),
+            (ValueError, "fewer items", Kind.POINT, Lists([], words, ["xyz"], length=2)),
+            (ValueError, "can't have 1 buffers", line, Lists([(0, 2)], words, n_buffers=1)),
+            (ValueError, "can't have -9 rows", line, Lists([(0, 2)], words, length=-9)),
+            (ValueError, "other children", line, Lists([(0, 2)], words, n_children=2)),
+            (ValueError, "no list of buffers", line, Lists([(0, 2)], words, buffers=None)),
+        ):
+            with self.assertRaisesRegex(error, text):
+                column_from_coordinates(kind, source)
+            gc.collect()
+            self.assertEqual(sorted(source.released), ["array", "schema"])
+
+    def test_refused_inside(self):
+        for depth, name, value, text in (
+            (1, "length", 1, "fewer items"), (1, "offset", -1, "can't begin"), (2, "length", 3, "fewer items"),
+            (2, "n_buffers", 3, "can't have 3 buffers"), (2, "offset", -1, "can't begin"),
+            (1, "release", None, "released"), (1, "null_count", 1, "no validity"), (1, "n_children", 0, "children"), (2, "buffers", None, "no list"),
+        ):
+            source = Lists([(0, 2)], [(1.0, 2.0, 3.0, 4.0)])
+            setattr(source.deep(depth), name, value)
+            with self.subTest((depth, name)), self.assertRaisesRegex(ValueError, text):
+                column_from_coordinates(Kind.LINE_STRING, source)
+
+    def test_nulls_inside(self):
+        """Items inside rows may have validity, where it says that all are there."""
+        for bits, is_right in ((b"\x07", True), (b"\xff", True), (b"\x05", False)):
+            source, validity = Lists([(0, 3)], [(1.0, 2.0, 3.0, 4.0, 5.0, 6.0)]), memory_of(bits)
+            source.deep(1).buffers[0], source.deep(1).null_count = ctypes.addressof(validity), -1
+            if is_right:
+                self.assertEqual(list(column_from_coordinates(Kind.LINE_STRING, source).statuses), [0])
+            else:
+                self.assertRaisesRegex(ValueError, "null", column_from_coordinates, Kind.LINE_STRING, source)
+
+    def test_arguments(self):
+        make = lambda: Lists([(0, 2)], [(1.0, 2.0, 3.0, 4.0)])
+        for given in ({"ring_offsets": array.array("q", [0])}, {"validity": b"\1"}, {"offset_size": 4}):
+            with self.assertRaisesRegex(TypeError, "has its own offsets"):
+                column_from_coordinates(Kind.LINE_STRING, make(), **given)
+        self.assertRaisesRegex(ValueError, "coordinates of XY, and not <Dimension.XYZ", column_from_coordinates,
+                               Kind.LINE_STRING, make(), dimension=Dimension.XYZ)
+        it = column_from_coordinates(Kind.LINE_STRING, make(), dimension=Dimension.XY, form=Form.EWKB_WITH_SRID, srid=7)
+        self.assertEqual(wkb.check(it.rows[0]).srid, 7)
+
+
+class Tried(unittest.TestCase):
+    """What people try first."""
+
+    def test_srid(self):
+        """An SRID without a form is one of EWKB."""
+        with_srid = wkb.write(POINT, form=Form.EWKB_WITH_SRID, srid=4326)
+        self.assertEqual(wkb.write(POINT, srid=4326), with_srid)
+        self.assertEqual(wkb.write(POINT, Order.BIG, srid=4326), wkb.write(BIG_POINT, Order.BIG, srid=4326))
+        self.assertEqual(Column.of([POINT]).write(srid=4326).rows[0], with_srid)
+        self.assertRaisesRegex(ValueError, "from 0 to 4294967295", wkb.write, POINT, srid=-1)
+
+    def test_hexadecimal(self):
+        """PostGIS's text is refused by errors that say what to call."""
+        for text in (POINT.hex(), POLYGON.hex().upper()):
+            for call in (wkb.check, wkb.bounds, wkb.write, wkb.parts, lambda it: wkb.same(POINT, it)):
+                self.assertRaisesRegex(TypeError, "bytes.fromhex", call, text)
+                with self.assertRaisesRegex(wkb.Refused, "bytes.fromhex") as raised:
+                    call(text.encode())
+                self.assertEqual(raised.exception.text, wkb.status_text(Status.INVALID_BYTE_ORDER))
+                again = pickle.loads(pickle.dumps(raised.exception))
+                self.assertEqual(str(again), str(raised.exception))
+            self.assertRaisesRegex(TypeError, "row 0 is of type str.*bytes.fromhex", Column.of, [text])
+        for other in (b"0101", b"01x1000000", b"2101000000", b"01 1000000", b"01\x001000000"):
+            with self.assertRaises(wkb.Refused) as raised:
+                wkb.check(other)
+            self.assertNotIn("fromhex", str(raised.exception))
+
+    def test_ones(self):
+        """Validity of ones is no null row, whether the nulls are counted or not."""
+        for count in (-1, 0):
+            validity = memory_of(b"\xff")
+            source = Arrow(rows=[POINT, POLYGON], null_count=count)
+            source.array.buffers[0] = ctypes.addressof(validity)
+            self.assertEqual(list(Column.from_arrow(source).check()), [0, 0])
+
+
