@@ -51,17 +51,12 @@ int hold_aligned(holds *h, PyObject *data, span *out) {
 }
 
 /* The memory of so many results, of which each may be None. */
-int hold_outputs(holds *h, PyObject *given, Py_ssize_t count, span *out) {
-  if (!PyTuple_Check(given) || PyTuple_Size(given) != count) {
-    PyErr_Format(PyExc_TypeError, "%zd results are expected", count);
-    return -1;
-  }
-  for (Py_ssize_t i = 0; i < count; i++) {
-    PyObject *data = PyTuple_GetItem(given, i);
+int hold_outputs(holds *h, PyObject *const *given, int count, span *out) {
+  for (int i = 0; i < count; i++) {
     Py_buffer *view = &h->view[h->count];
     out[i] = (span){NULL, 0};
-    if (data == Py_None) continue;
-    if (PyObject_GetBuffer(data, view, PyBUF_WRITABLE) < 0) return -1;
+    if (given[i] == Py_None) continue;
+    if (PyObject_GetBuffer(given[i], view, PyBUF_WRITABLE) < 0) return -1;
     h->count++;
     out[i] = (span){view->buf, (size_t)view->len};
   }

@@ -63,16 +63,16 @@ static size_t room_of(const wkb_column *column) {
   return room < column->size ? room : column->size;
 }
 
-/* The kinds of the rows that the statuses of an earlier call say are well formed, a bit for each. */
+/* The kinds of the rows that the statuses of an earlier call say are well formed, a bit for each. In the two low bytes
+ * of a code they are below the thousands of the dimension. */
 static size_t kinds_of(const wkb_column *column, const uint8_t *statuses) {
   size_t kinds = 0;
   for (size_t i = 0; i < column->rows; i++) {
     int64_t begin = statuses[i] == WKB_STATUS_OK ? offset_at(column, i) : -1;
     if (begin < 0 || (uint64_t)begin + 5 > column->size) continue; /* it was another row when it was read */
     const uint8_t *b = (const uint8_t *)column->data + begin;
-    uint32_t little = b[1] | (uint32_t)b[2] << 8 | (uint32_t)b[3] << 16 | (uint32_t)b[4] << 24;
-    uint32_t big = b[4] | (uint32_t)b[3] << 8 | (uint32_t)b[2] << 16 | (uint32_t)b[1] << 24;
-    kinds |= (size_t)1 << ((b[0] == WKB_ORDER_LITTLE ? little : big) & 0x1fffffff) % 1000 % 32;
+    uint32_t code = b[0] == WKB_ORDER_LITTLE ? b[1] | (uint32_t)b[2] << 8 : b[4] | (uint32_t)b[3] << 8;
+    kinds |= (size_t)1 << code % 1000 % 32;
   }
   return kinds;
 }
@@ -96,19 +96,18 @@ static size_t run(int call, const wkb_column *column, const wkb_options *options
 /* column(call, column, (order, form, srid), (result, offsets, statuses)): the size of the whole result, where the call
  * returns it. */
 static PyObject *column_call(PyObject *module, PyObject *args) {
-  PyObject *given, *results, *size = NULL;
+  PyObject *given, *to[3], *size = NULL;
   holds h;
   wkb_column column;
   wkb_options options;
   span out[3];
   int call;
-  (void)module;
   h.count = 0;
-  if (!PyArg_ParseTuple(args, "iO!(III)O", &call, &PyTuple_Type, &given, &options.order, &options.form, &options.srid,
-                        &results))
+  if (!PyArg_ParseTuple(args, "iO!(III)(OOO)", &call, &PyTuple_Type, &given, &options.order, &options.form,
+                        &options.srid, &to[0], &to[1], &to[2]))
     return NULL;
   int has_ends = call == PARTS || call == WRITE;
-  if (hold_column(&h, given, &column) == 0 && hold_outputs(&h, results, 3, out) == 0 &&
+  if (hold_column(&h, given, &column) == 0 && hold_outputs(&h, to, 3, out) == 0 &&
       expect("bytes of boxes", out[0].size, call == BOUNDS ? column.rows * sizeof(wkb_box) : 0, column.rows) == 0 &&
       expect("bytes of ends", out[1].size, has_ends ? 8 * (column.rows + 1) : 0, column.rows) == 0 &&
       expect("statuses", out[2].size, call == ROOM ? 0 : column.rows, column.rows) == 0) {
@@ -130,16 +129,17 @@ static uint64_t *ends_in(span offsets, size_t *room) {
 /* column_coordinates(column, dimension, (words, ring_offsets, single_offsets, row_offsets, statuses)): how many
  * coordinates, rings and singles there are. */
 static PyObject *column_coordinates(PyObject *module, PyObject *args) {
-  PyObject *given, *results, *sizes = NULL;
+  PyObject *given, *results[5], *sizes = NULL;
   holds h;
   wkb_column column;
   wkb_coordinates to;
   span out[5];
   unsigned dimension;
   size_t room;
-  (void)module;
   h.count = 0;
-  if (!PyArg_ParseTuple(args, "O!IO", &PyTuple_Type, &given, &dimension, &results)) return NULL;
+  if (!PyArg_ParseTuple(args, "O!I(OOOOO)", &PyTuple_Type, &given, &dimension, &results[0], &results[1], &results[2],
+                        &results[3], &results[4]))
+    return NULL;
   if (hold_column(&h, given, &column) == 0 && hold_outputs(&h, results, 5, out) == 0 &&
       expect("bytes of ends", out[3].size, 8 * (column.rows + 1), column.rows) == 0 &&
       expect("statuses", out[4].size, column.rows, column.rows) == 0) {
@@ -165,9 +165,9 @@ static int hold_level(holds *h, PyObject *given, size_t below, const uint64_t **
   if (given == Py_None) return 0;
   if (hold_aligned(h, given, &offsets) < 0) return -1;
   *ends = ends_in(offsets, items);
-  if (offsets.size < 8 || *(int64_t *)(void *)offsets.at == 0) return 0;
-  long long first = *(int64_t *)(void *)offsets.at;
-  PyErr_Format(PyExc_ValueError, "the offsets of a level begin with 0, and not with %lld", first);
+  int64_t first = offsets.size < 8 ? 0 : *(int64_t *)(void *)offsets.at;
+  if (first == 0) return 0;
+  PyErr_Format(PyExc_ValueError, "the offsets of a level begin with 0, and not with %lld", (long long)first);
   return -1;
 }
 
@@ -183,34 +183,33 @@ static int hold_levels(holds *h, PyObject *given, uint32_t dimension, wkb_levels
   out->words = (const double *)(void *)words.at;
   out->word_count = words.size / sizeof(double);
   out->validity_offset = (size_t)first;
-  return hold_level(h, levels[0], out->word_count / width, &out->ring_ends, &out->rings) < 0 ||
-                 hold_level(h, levels[1], out->rings, &out->single_ends, &out->singles) < 0 ||
-                 hold_level(h, levels[2], out->singles, &out->row_ends, &out->rows) < 0
-             ? -1
-             : hold_validity(h, validity, first, out->rows, &out->validity);
+  if (hold_level(h, levels[0], out->word_count / width, &out->ring_ends, &out->rings) < 0 ||
+      hold_level(h, levels[1], out->rings, &out->single_ends, &out->singles) < 0 ||
+      hold_level(h, levels[2], out->singles, &out->row_ends, &out->rows) < 0)
+    return -1;
+  return hold_validity(h, validity, first, out->rows, &out->validity);
 }
 
 /* column_from_coordinates(levels, kind, dimension, (order, form, srid), (result, offsets, statuses)): how many bytes
  * the encodings have. */
 static PyObject *column_from_coordinates(PyObject *module, PyObject *args) {
-  PyObject *given, *results, *size = NULL;
+  PyObject *given, *to[3], *size = NULL;
   holds h;
   wkb_levels levels;
   wkb_options options;
   span out[3];
   unsigned kind, dimension;
-  (void)module;
   h.count = 0;
-  if (!PyArg_ParseTuple(args, "O!II(III)O", &PyTuple_Type, &given, &kind, &dimension, &options.order, &options.form,
-                        &options.srid, &results))
+  if (!PyArg_ParseTuple(args, "O!II(III)(OOO)", &PyTuple_Type, &given, &kind, &dimension, &options.order, &options.form,
+                        &options.srid, &to[0], &to[1], &to[2]))
     return NULL;
-  if (hold_levels(&h, given, dimension, &levels) == 0 && hold_outputs(&h, results, 3, out) == 0 &&
+  if (hold_levels(&h, given, dimension, &levels) == 0 && hold_outputs(&h, to, 3, out) == 0 &&
       expect("bytes of ends", out[1].size, 8 * (levels.rows + 1), levels.rows) == 0 &&
       expect("statuses", out[2].size, levels.rows, levels.rows) == 0) {
     uint64_t *ends = (uint64_t *)(void *)out[1].at + 1;
     PyThreadState *unlocked = PyEval_SaveThread();
-    size_t needed = wkb_column_from_coordinates(&levels, kind, dimension, &options, out[0].at, out[0].size, ends,
-                                                out[2].at);
+    size_t needed =
+        wkb_column_from_coordinates(&levels, kind, dimension, &options, out[0].at, out[0].size, ends, out[2].at);
     PyEval_RestoreThread(unlocked);
     size = PyLong_FromSize_t(needed);
   }

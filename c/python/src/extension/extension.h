@@ -1,9 +1,7 @@
 /* What the parts of the extension `wkb._wkb` share. It is private to the package `wkb`, whose Python code says what
- * each call means, makes the memory of results, and tests arguments before they come here. Here buffers are held while
- * a call lasts, and no byte is read or written beyond them.
- *
- * It keeps to the limited API of CPython 3.11, the first with the buffer protocol, so that one file serves every later
- * version. No input is copied that lies in one piece of memory. */
+ * each call means, makes the memory of results, and tests arguments. Here buffers are held while a call lasts, and no
+ * byte is read or written beyond them. It keeps to the limited API of CPython 3.11, the first with the buffer protocol,
+ * so that one file serves every later version. No input is copied that lies in one piece of memory. */
 #ifndef WKB_EXTENSION_H
 #define WKB_EXTENSION_H
 
@@ -15,10 +13,10 @@
 
 _Static_assert(sizeof(size_t) == 8, "sizes and offsets are numbers of 64 bits");
 
-/* What `give` gets of the package, and after it a type that is made here. */
-enum { FOUND, FAULT, PART, RANGE, BOX, REFUSED, STATUS, KINDS, DIMENSIONS, ORDERS, GIVEN, LENT = GIVEN, KEPT };
+/* What `give` gets of the package. */
+enum { FOUND, FAULT, PART, RANGE, BOX, REFUSED, STATUS, KINDS, DIMENSIONS, ORDERS, GIVEN };
 typedef struct {
-  PyObject *it[KEPT];
+  PyObject *it[GIVEN];
 } state;
 
 /* Some bytes. */
@@ -38,31 +36,21 @@ typedef struct {
 int hold_input(holds *h, PyObject *data, span *out);
 int hold_optional(holds *h, PyObject *data, span *out);
 int hold_aligned(holds *h, PyObject *data, span *out);
-int hold_outputs(holds *h, PyObject *given, Py_ssize_t count, span *out);
+int hold_outputs(holds *h, PyObject *const *given, int count, span *out);
 void let(holds *h);
 PyThreadState *unlock(size_t size);
 void lock(PyThreadState *unlocked);
 
 /* records.c */
 int add_records(PyObject *module);
-PyObject *found_of(state *s, const wkb_found *found);
+PyObject *geometry_of(state *s, int which, const void *from);
 PyObject *box_of(state *s, const wkb_box *box);
 PyObject *refuse(state *s, uint32_t status, const wkb_fault *fault, uint32_t which, span input);
 PyObject *read_record(PyObject *module, PyObject *args);
 
-/* The methods of calls.c, columns.c, arrow_in.c and arrow_out.c. */
-extern PyMethodDef CALLS[], COLUMN_CALLS[], ARROW_IN_CALLS[], ARROW_OUT_CALLS[];
-
-/* arrow_in.c */
-int add_lent(PyObject *module);
+/* The methods of calls.c, columns.c and arrow.c. */
+extern PyMethodDef CALLS[], COLUMN_CALLS[], ARROW_CALLS[];
 
 static inline state *state_of(PyObject *module) { return PyModule_GetState(module); }
-
-/* The memory of an object of a heap type goes, and with it the reference to the type. */
-static inline void free_object(PyObject *self) {
-  PyTypeObject *type = Py_TYPE(self);
-  ((freefunc)PyType_GetSlot(type, Py_tp_free))(self);
-  Py_DECREF(type);
-}
 
 #endif

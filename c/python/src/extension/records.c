@@ -16,37 +16,33 @@ static const struct {
     [FOUND] = {"wkb._wkb.FoundValues",
                {"size", "parts", "coordinates", "offset", "count", "srid", "kind", "dimension", "order"}},
     [FAULT] = {"wkb._wkb.FaultValues", {"part", "offset", "end", "len", "code", "status"}},
-    [PART] = {"wkb._wkb.PartValues",
-              {"begin", "end", "offset", "count", "next", "srid", "kind", "dimension", "order"}},
+    [PART] = {"wkb._wkb.PartValues", {"begin", "end", "offset", "count", "next", "srid", "kind", "dimension", "order"}},
     [RANGE] = {"wkb._wkb.RangeValues", {"least", "greatest", "count"}},
     [BOX] = {"wkb._wkb.BoxValues", {"x", "y", "z", "m"}},
 };
 
 static void dealloc_record(PyObject *self) {
   for (int i = 0; i < MOST_VALUES; i++) Py_XDECREF(((record *)self)->value[i]);
-  free_object(self);
-}
-
-/* Adds the type with the values of a record. The members are copied, but for their names. */
-static int add_record(PyObject *module, int which) {
-  PyMemberDef members[MOST_VALUES + 1] = {{NULL, 0, 0, 0, NULL}};
-  for (int i = 0; RECORD[which].fields[i] != NULL; i++) {
-    members[i].name = RECORD[which].fields[i];
-    members[i].type = T_OBJECT_EX;
-    members[i].offset = (Py_ssize_t)(offsetof(record, value) + (size_t)i * sizeof(PyObject *));
-  }
-  PyType_Slot slots[] = {{Py_tp_dealloc, (void *)dealloc_record}, {Py_tp_members, members}, {0, NULL}};
-  PyType_Spec spec = {RECORD[which].name, sizeof(record), 0, Py_TPFLAGS_DEFAULT | Py_TPFLAGS_BASETYPE, slots};
-  PyObject *type = PyType_FromModuleAndSpec(module, &spec, NULL);
-  if (type == NULL) return -1;
-  int result = PyModule_AddType(module, (PyTypeObject *)type);
+  PyTypeObject *type = Py_TYPE(self); /* a heap type, of which each object has a reference */
+  ((freefunc)PyType_GetSlot(type, Py_tp_free))(self);
   Py_DECREF(type);
-  return result;
 }
 
+/* Adds the types with the values of records. Members are copied, but for their names. */
 int add_records(PyObject *module) {
-  for (int i = 0; i <= BOX; i++)
-    if (add_record(module, i) < 0) return -1;
+  for (int which = FOUND; which <= BOX; which++) {
+    PyMemberDef members[MOST_VALUES + 1] = {{NULL, 0, 0, 0, NULL}};
+    for (int i = 0; RECORD[which].fields[i] != NULL; i++) {
+      Py_ssize_t place = (Py_ssize_t)(offsetof(record, value) + (size_t)i * sizeof(PyObject *));
+      members[i] = (PyMemberDef){RECORD[which].fields[i], T_OBJECT_EX, place, 0, NULL};
+    }
+    PyType_Slot slots[] = {{Py_tp_dealloc, (void *)dealloc_record}, {Py_tp_members, members}, {0, NULL}};
+    PyType_Spec spec = {RECORD[which].name, sizeof(record), 0, Py_TPFLAGS_DEFAULT | Py_TPFLAGS_BASETYPE, slots};
+    PyObject *type = PyType_FromModuleAndSpec(module, &spec, NULL);
+    int result = type == NULL ? -1 : PyModule_AddType(module, (PyTypeObject *)type);
+    Py_XDECREF(type);
+    if (result < 0) return -1;
+  }
   return 0;
 }
 
@@ -67,13 +63,6 @@ static PyObject *whole(record *it, int count) {
   return (PyObject *)it;
 }
 
-/* A member of an enum of the package, by its number; an IndexError where there is none. */
-static PyObject *member_of(state *s, int which, uint32_t number) {
-  PyObject *member = PyTuple_GetItem(s->it[which], number);
-  Py_XINCREF(member);
-  return member;
-}
-
 /* What a wkb_found and a wkb_part have alike: five numbers, and the type of a geometry. */
 typedef struct {
   uint64_t numbers[5];
@@ -83,20 +72,19 @@ _Static_assert(sizeof(geometry) == sizeof(wkb_found) && sizeof(geometry) == size
 _Static_assert(offsetof(geometry, order) == offsetof(wkb_found, order), "another wkb_found");
 _Static_assert(offsetof(geometry, order) == offsetof(wkb_part, order), "another wkb_part");
 
-static PyObject *geometry_of(state *s, int which, const void *from) {
+PyObject *geometry_of(state *s, int which, const void *from) {
   geometry g;
   memcpy(&g, from, sizeof g);
   record *it = new_record(s, which);
   if (it == NULL) return NULL;
   for (int i = 0; i < 5; i++) it->value[i] = PyLong_FromLongLong((int64_t)g.numbers[i]);
   it->value[5] = g.has_srid ? PyLong_FromUnsignedLong(g.srid) : Py_NewRef(Py_None);
-  it->value[6] = member_of(s, KINDS, g.kind);
-  it->value[7] = member_of(s, DIMENSIONS, g.dimension);
-  it->value[8] = member_of(s, ORDERS, g.order);
+  /* The numbers of a table that was pickled may have no members, which is an IndexError. */
+  it->value[6] = Py_XNewRef(PyTuple_GetItem(s->it[KINDS], g.kind));
+  it->value[7] = Py_XNewRef(PyTuple_GetItem(s->it[DIMENSIONS], g.dimension));
+  it->value[8] = Py_XNewRef(PyTuple_GetItem(s->it[ORDERS], g.order));
   return whole(it, 9);
 }
-
-PyObject *found_of(state *s, const wkb_found *found) { return geometry_of(s, FOUND, found); }
 
 static PyObject *range_of(state *s, const wkb_range *r) {
   record *it = new_record(s, RANGE);
@@ -151,32 +139,30 @@ PyObject *refuse(state *s, uint32_t status, const wkb_fault *fault, uint32_t whi
   return NULL;
 }
 
-static PyObject *record_of(state *s, int which, const uint8_t *at) {
-  wkb_box box;
-  wkb_fault fault;
-  switch (which) {
-    case BOX: return box_of(s, memcpy(&box, at, sizeof box));
-    case FAULT: return fault_of(s, memcpy(&fault, at, sizeof fault));
-    default: return geometry_of(s, which, at);
-  }
-}
-
 /* read_record(type, memory, index): a record of a table. */
 PyObject *read_record(PyObject *module, PyObject *args) {
-  static const size_t SIZES[] = {sizeof(wkb_found), sizeof(wkb_fault), sizeof(wkb_part), SIZE_MAX,
-                                        sizeof(wkb_box)};
+  static const size_t SIZES[] = {sizeof(wkb_found), sizeof(wkb_fault), sizeof(wkb_part), SIZE_MAX, sizeof(wkb_box)};
   state *s = state_of(module);
   PyObject *type, *memory, *result = NULL;
   Py_ssize_t index;
   holds h;
-  span input;
+  span in;
+  wkb_box box;
+  wkb_fault fault;
   int which = 0;
   h.count = 0;
-  if (!PyArg_ParseTuple(args, "OOn", &type, &memory, &index) || hold_input(&h, memory, &input) < 0) return NULL;
+  if (!PyArg_ParseTuple(args, "OOn", &type, &memory, &index) || hold_input(&h, memory, &in) < 0) return NULL;
   while (which <= BOX && s->it[which] != type) which++;
-  if (which > BOX || index < 0 || (size_t)index >= input.size / SIZES[which])
+  int is_there = which <= BOX && index >= 0 && (size_t)index < in.size / SIZES[which];
+  const uint8_t *at = is_there ? in.at + (size_t)index * SIZES[which] : NULL;
+  if (!is_there)
     PyErr_SetString(PyExc_IndexError, "there is no such record");
-  else result = record_of(s, which, input.at + (size_t)index * SIZES[which]);
+  else if (which == BOX)
+    result = box_of(s, memcpy(&box, at, sizeof box));
+  else if (which == FAULT)
+    result = fault_of(s, memcpy(&fault, at, sizeof fault));
+  else
+    result = geometry_of(s, which, at);
   let(&h);
   return result;
 }

@@ -46,8 +46,8 @@ class Array(NamedTuple):
     release: bool
     capsule: Any
 
-    def buffer(self, place: int, size: int) -> Any:
-        """So many bytes of a buffer, which keep the array; None where there is none."""
+    def buffer(self, place: int, size: int) -> Optional[memoryview]:
+        """So many bytes of a buffer, which are there as long as the capsule lives; None where there is none."""
         return _wkb.array_buffer(self.capsule, place, size)
 
 
@@ -60,7 +60,7 @@ def array_of(capsule: Any) -> Array:
 
 
 # The kinds of structs of `_wkb`.
-SCHEMA, ARRAY = range(2)
+SCHEMA, ARRAY, STREAM = range(3)
 # The types of rows, and the bytes of an offset: those of binary views have none.
 OFFSET_SIZES = {b"z": 4, b"Z": 8, b"vz": 0}
 # A view has so many bytes. A row of up to SHORT bytes is in the view itself; of a longer one it says where it is.
@@ -116,18 +116,18 @@ def has_validity(it: Array) -> bool:
 
 def is_all_set(it: Array, first: int, count: int) -> bool:
     """Whether the bits of these items, in the validity that the array has, say that none is null."""
-    bits = int.from_bytes(memoryview(borrowed(it, 0, (first + count + 7) // 8))[first // 8 :], "little")
+    bits = int.from_bytes(borrowed(it, 0, (first + count + 7) // 8)[first // 8 :], "little")
     return (bits >> first % 8) + 1 & (1 << count) - 1 == 0
 
 
 def schema_child(of: Schema, number: int) -> Schema:
-    child = _wkb.schema_child(of.capsule, number)
+    child = _wkb.child(of.capsule, False, number)
     expect(child is not None, f"array has no child {number}")
     return schema_of(child)
 
 
 def array_child(of: Array, number: int) -> Array:
-    child = _wkb.array_child(of.capsule, number)
+    child = _wkb.child(of.capsule, True, number)
     expect(child is not None, f"array has no child {number}")
     return array_of(child)
 
@@ -167,10 +167,10 @@ def _column_of(schema: Schema, name: Optional[str]) -> _Column:
     return _Column(child, schema.n_children, _offset_size_of(schema_child(schema, child)))
 
 
-def borrowed(it: Array, place: int, size: int) -> Any:
-    """So many bytes of a buffer."""
+def borrowed(it: Array, place: int, size: int) -> memoryview:
+    """So many bytes of a buffer, which are there as long as the array's capsule lives."""
     if size == 0:
-        return b""
+        return memoryview(b"")
     memory = it.buffer(place, size) if 0 < size <= sys.maxsize else None
     if memory is None:
         raise ValueError(f"the Arrow array lacks a buffer of {size} bytes")
@@ -194,7 +194,7 @@ def _pieces_in(it: Array, column: _Column) -> Pieces:
         return Pieces(b"", b"", None, offset_size=size, owner=it)
     end = first + rows
     ends = borrowed(it, 1, (end + 1) * size)
-    used = int.from_bytes(memoryview(ends)[-size:], sys.byteorder, signed=True)
+    used = int.from_bytes(ends[-size:], sys.byteorder, signed=True)
     bits = borrowed(it, 0, (end + 7) // 8) if has_validity(it) else None
     return Pieces(borrowed(it, 2, max(used, 0)), ends, bits, first, rows, size, it)
 
@@ -203,9 +203,9 @@ def _rows_in_views(it: Array, first: int, rows: int) -> Iterator[Optional[bytes]
     """Copies of the rows of an array of binary views."""
     count = it.n_buffers - 3
     sizes = struct.unpack(f"={count}q", borrowed(it, it.n_buffers - 1, 8 * count))
-    buffers = [memoryview(borrowed(it, 2 + i, size)) for i, size in enumerate(sizes)]
-    bits = bytes(memoryview(borrowed(it, 0, (first + rows + 7) // 8))[first // 8 :]) if has_validity(it) else b""
-    held = bytes(memoryview(borrowed(it, 1, VIEW_SIZE * (first + rows)))[VIEW_SIZE * first :])
+    buffers = [borrowed(it, 2 + i, size) for i, size in enumerate(sizes)]
+    bits = bytes(borrowed(it, 0, (first + rows + 7) // 8)[first // 8 :]) if has_validity(it) else b""
+    held = bytes(borrowed(it, 1, VIEW_SIZE * (first + rows))[VIEW_SIZE * first :])
     left = MOST_COPIES * (len(held) + sum(sizes))
     for i, (length, _, buffer, offset) in enumerate(struct.iter_unpack("=4i", held)):
         bit = first % 8 + i
@@ -233,7 +233,7 @@ def taken(array: ArrowArray) -> Tuple[Schema, Array]:
         hint = "; chunks_from_arrow takes what has chunks" if hasattr(array, "__arrow_c_stream__") else ""
         raise TypeError(f"{type(array).__name__} has no method __arrow_c_array__{hint}")
     schema_capsule, capsule = array.__arrow_c_array__()
-    schema, it = schema_of(_wkb.take(schema_capsule)), array_of(_wkb.take(capsule))
+    schema, it = schema_of(_wkb.take(schema_capsule, SCHEMA)), array_of(_wkb.take(capsule, ARRAY))
     expect(schema.n_children == it.n_children, "array has other children than its schema")
     return schema, it
 
@@ -243,14 +243,23 @@ def chunks_of_arrow(stream: ArrowStream, name: Optional[str]) -> Iterator[Pieces
     if not hasattr(stream, "__arrow_c_stream__"):
         hint = "; from_arrow takes one array" if hasattr(stream, "__arrow_c_array__") else ""
         raise TypeError(f"{type(stream).__name__} has no method __arrow_c_stream__{hint}")
-    capsule = _wkb.take(stream.__arrow_c_stream__())
-    return _chunks(capsule, _column_of(schema_of(_wkb.stream_next(capsule, SCHEMA)), name))
+    capsule = _wkb.take(stream.__arrow_c_stream__(), STREAM)
+    return _chunks(capsule, _column_of(schema_of(_next(capsule, False)), name))
+
+
+def _next(capsule: Any, is_array: bool) -> Any:
+    """The next array of a stream, or its schema."""
+    found = _wkb.stream_next(capsule, is_array)
+    if isinstance(found, tuple):
+        code, text = found
+        raise OSError(code, (text or b"the Arrow stream failed").decode(errors="replace"))
+    return found
 
 
 def _chunks(capsule: Any, column: _Column) -> Iterator[Pieces]:
     """The arrays of a stream, which lives as long as its capsule."""
     while True:
-        array = array_of(_wkb.stream_next(capsule, ARRAY))
+        array = array_of(_next(capsule, True))
         if not array.release:
             return
         pieces = [_pieces_in(array, column)]

@@ -69,8 +69,9 @@ def write(
     orders and SRIDs are.
     """
     if order is LITTLE and form is None and srid is None:
-        return _wkb.write(data, 1, 0, 0)
-    return _wkb.write(data, *make_options(order, form, srid))
+        return _wkb.write(data, 1)
+    order_number, form_number, srid_number = make_options(order, form, srid)
+    return _wkb.write(data, order_number | form_number << 8 | srid_number << 32)
 
 
 def same(first: Buffer, second: Buffer) -> bool:

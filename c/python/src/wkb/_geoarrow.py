@@ -29,6 +29,7 @@ class Levels(NamedTuple):
     validity: Any
     first: int  # the bit of the first row
     dimension: Dimension
+    owner: Any = None  # what the memory lives by
 
 
 class _Window(NamedTuple):
@@ -77,7 +78,7 @@ def _opened(it: _Window, depth: int) -> Tuple[Numbers, _Window]:
     if it.rows == 0:
         return _less(memoryview(bytes(8)).cast("q"), 0), _inner(it, 0, 0, 0)
     end = it.first + it.rows + 1
-    offsets = memoryview(borrowed(it.array, 1, end * size)).cast("i" if size == 4 else "q")[it.first :]
+    offsets = borrowed(it.array, 1, end * size).cast("i" if size == 4 else "q")[it.first :]
     least, most = offsets[0], offsets[-1]
     expect(0 <= least <= most, f"array has lists from item {least} to {most}")
     return _less(offsets, least), _inner(it, 0, least, most - least)
@@ -93,7 +94,7 @@ def _words(it: _Window, number: int, first: int, count: int) -> Any:
     if words.schema.format != b"g":
         raise TypeError(f"coordinates of format {_format(words)} are not 64-bit floats ('g')")
     _check(words, 0, WITH_ONE, 1)
-    held = memoryview(borrowed(words.array, 1, WORD_SIZE * (words.first + count))).cast("B")
+    held = borrowed(words.array, 1, WORD_SIZE * (words.first + count))
     return held[WORD_SIZE * words.first :].cast("d")
 
 
@@ -128,4 +129,4 @@ def levels_of_arrow(of: Any, kind: Kind) -> Levels:
     if name.upper() not in Dimension.__members__:
         raise TypeError(f"coordinates of {name!r} are not of xy, xyz, xym or xyzm")
     validity = borrowed(top, 0, (top.offset + top.length + 7) // 8) if has_validity(top) else None
-    return Levels(words, (offsets[0], offsets[1], offsets[2]), validity, top.offset, Dimension[name.upper()])
+    return Levels(words, (offsets[0], offsets[1], offsets[2]), validity, top.offset, Dimension[name.upper()], top)

@@ -16,7 +16,7 @@ def load(path: Union[str, "os.PathLike[str]", None] = None) -> None:
 
 def version() -> Tuple[int, int, int]:
     """The version of wkb.h that the library has."""
-    number = _wkb.version()
+    number = _wkb.VERSION
     return number // 1000000, number // 1000 % 1000, number % 1000
 
 

@@ -19,8 +19,6 @@ NULLABLE = 2
 NARROW = 2**31
 # Rows become bytes so many at a time.
 SOME = 4096
-# The kinds of structs of `_wkb`.
-SCHEMA, ARRAY = range(2)
 # The lists of GeoArrow, by kinds, from the outermost on: the name of a list's items, and the levels of offsets between
 # the list and these.
 LISTS: Dict[Kind, Tuple[Tuple[bytes, Tuple[int, ...]], ...]] = {
@@ -42,7 +40,7 @@ def metadata_of(extension: Optional[str]) -> Optional[bytes]:
 
 def exported(node: Node) -> Tuple[Any, Any]:
     """The capsules of an array."""
-    return _wkb.export(node, SCHEMA), _wkb.export(node, ARRAY)
+    return _wkb.export(node, False), _wkb.export(node, True)
 
 
 def wanted(requested_schema: Any) -> Optional[bytes]:
