@@ -1,0 +1,193 @@
+"""References and memory: none is lost by calls that are made again and again, and each allocation is refused in turn.
+
+This file is also the program that refuses, in a process of its own, so that a crash is seen.
+"""
+import array
+import contextlib
+import gc
+import itertools
+import subprocess
+import sys
+import tracemalloc
+import unittest
+
+import wkb
+from capsules import KEPT, Arrow, Records, Stream, Views
+from samples import LINE, POINT, POINTS, POLYGON, ROWS
+from wkb import Column, Dimension, Form, Kind, column_from_coordinates
+
+try:
+    import _testcapi
+except ImportError:
+    _testcapi = None
+
+LONG = wkb.write(wkb.Column.of([POINT]).write().rows[0]) + bytes(20_000)
+WORDS, ENDS = array.array("d", [1.0, 2.0, 3.0, 4.0]), array.array("i", [0, 1, 2])
+COLLECTION = bytes.fromhex("010700000064000000") + 100 * LINE
+COLUMN = Column.of(ROWS)
+TABLE = wkb.parts(POLYGON)
+
+
+class Ready:
+    """What hands out capsules that are made already."""
+
+    def __init__(self, source):
+        is_stream = isinstance(source, Stream)
+        self.source, self.capsules = source, source.__arrow_c_stream__() if is_stream else source.__arrow_c_array__()
+
+    def __arrow_c_array__(self, requested_schema=None):
+        return self.capsules
+
+    __arrow_c_stream__ = __arrow_c_array__
+
+
+def rows_in(source):
+    return Column.from_arrow(source).check()
+
+
+def chunks_in(source):
+    return [it.check() for it in Column.chunks_from_arrow(source)]
+
+
+# What others hand out, and the calls that take it.
+GIVEN = {
+    "an array that comes in": (Arrow, rows_in),
+    "views that come in": (lambda: Views([POINT, None, POLYGON], 1), rows_in),
+    "records that come in": (lambda: Records(Arrow(name=b"a"), length=5), lambda it: Column.from_arrow(it, "a").check()),
+    "records without a name": (lambda: Records(Arrow(), length=5), rows_in),
+    "a wrong array that comes in": (lambda: Arrow(n_buffers=2), rows_in),
+    "a stream": (lambda: Stream(Arrow(), [Arrow(), Arrow()]), chunks_in),
+    "a stream that fails": (lambda: Stream(Arrow(), [], b"text"), chunks_in),
+}
+# Other calls that return, and such that raise.
+CALLS = {
+    "check": lambda: wkb.check(POLYGON),
+    "check of a long input": lambda: wkb.check(LONG),
+    "check of a copy": lambda: wkb.check(memoryview(bytes(2 * len(POINT)))[::2]),
+    "check of text": lambda: wkb.check(POINT.hex()),
+    "check of hexadecimal text": lambda: wkb.check(POINT.hex().encode()),
+    "a refusal": lambda: wkb.check(POLYGON[:-1]),
+    "bounds": lambda: wkb.bounds(LINE),
+    "write": lambda: wkb.write(POLYGON),
+    "write with an SRID": lambda: wkb.write(POLYGON, srid=7),
+    "write of a long geometry": lambda: wkb.write(COLLECTION),
+    "same": lambda: wkb.same(POINT, POLYGON),
+    "same with a refusal": lambda: wkb.same(POINT, b"\1"),
+    "parts": lambda: list(wkb.parts(COLLECTION)),
+    "a part that is not there": lambda: wkb._wkb.read_record(wkb.Part, TABLE._memory, 9),
+    "coordinates": lambda: wkb.coordinates(POLYGON, TABLE[1]),
+    "statuses": lambda: wkb.status_text(40),
+    "rows": lambda: Column.of(ROWS).check(),
+    "bounds of a column": lambda: list(COLUMN.bounds().boxes),
+    "parts of a column": lambda: list(COLUMN.parts().parts),
+    "rows that are written": lambda: list(COLUMN.write(form=Form.EWKB_WITH_SRID, srid=7).rows),
+    "coordinates of a column": lambda: COLUMN.coordinates(Dimension.XYZ),
+    "a column without offsets": lambda: Column(b"", bytes(8), first=1, offset_size=8),
+    "validity that is too short": lambda: Column(POINT, array.array("q", [0] * 10), b"\1"),
+    "rows from coordinates": lambda: column_from_coordinates(Kind.LINE_STRING, WORDS, ENDS),
+    "offsets that begin with 1": lambda: column_from_coordinates(Kind.LINE_STRING, WORDS, ENDS[1:]),
+    "encodings that go out": lambda: COLUMN.write().__arrow_c_array__(),
+    "encodings there and back": lambda: Column.from_arrow(COLUMN.write()).check(),
+    "points that go out": lambda: Column.of([POINT, None]).coordinates().__arrow_c_array__(),
+    "polygons that go out": lambda: Column.of([POLYGON, None]).coordinates().__arrow_c_array__(),
+    "coordinates there and back": lambda: column_from_coordinates(Kind.MULTI_POINT, Column.of([POINTS]).coordinates()),
+    "a record": lambda: wkb.Range(1.0, 2.0, 3),
+}
+ALL = {name: (lambda make=make: Ready(make()), take) for name, (make, take) in GIVEN.items()}
+ALL.update((name, (tuple, lambda _, call=call: call())) for name, call in CALLS.items())
+FEW, MANY = 200, 2000
+
+
+def quietly(make, call):
+    """Makes a call, and forgets what it returns or raises, if that is an error which calls document."""
+    with contextlib.suppress(TypeError, ValueError, IndexError, OSError):
+        call(make())
+
+
+def growth_of(make, call):
+    """How many blocks and bytes of memory, and references to what calls return, there are more after many calls."""
+    watched = (*wkb.Kind, *wkb.Order, *wkb.Dimension, wkb.Found, wkb.Part, wkb.Fault, wkb.Refused, POINT, POLYGON)
+
+    def counted():
+        del KEPT[:]
+        gc.collect()
+        return (sys.getallocatedblocks(), tracemalloc.get_traced_memory()[0], *map(sys.getrefcount, watched))
+
+    for _ in range(FEW):
+        quietly(make, call)
+    before = counted()
+    for _ in range(MANY):
+        quietly(make, call)
+    return [after - first for after, first in zip(counted(), before)]
+
+
+class References(unittest.TestCase):
+    def setUp(self):
+        tracemalloc.start()
+        self.addCleanup(tracemalloc.stop)
+
+    def is_lost(self, growth):
+        """Whether every second call has kept a block of memory, or a reference, or has lost one that it didn't have."""
+        blocks, size, *references = growth
+        return max(blocks, size // 32, *map(abs, references)) >= MANY // 2
+
+    def test_calls(self):
+        for name, of in ALL.items():
+            with self.subTest(name):
+                growth = growth_of(*of)
+                self.assertFalse(self.is_lost(growth), growth)
+
+    def test_losses_are_seen(self):
+        """What keeps an object, a reference or some memory at each call."""
+        kept = []
+        for make in (object, lambda: POLYGON, lambda: bytes(1000)):
+            self.assertTrue(self.is_lost(growth_of(make, kept.append)))
+
+
+def refuse_each(make, call):
+    """Refuses one allocation after another during a call, until it has made none of so many. Returns how often it has
+    raised a MemoryError; an error that no call documents is not caught."""
+    count, last = 0, 0
+    for number in itertools.count():
+        made = make()
+        _testcapi.set_nomemory(number, number + 1)
+        try:
+            call(made)
+        except MemoryError:
+            count, last = count + 1, number
+        except (TypeError, ValueError, IndexError, OSError):
+            pass
+        except SystemError as error:
+            # CPython may lose an error between two functions in Python. Of one in C it says "<built-in function".
+            if not str(error).startswith(("<function ", "error return without exception set")):
+                raise
+        finally:
+            _testcapi.remove_mem_hooks()
+        if number > last + 50:
+            return count
+
+
+# What is tried with refused memory. The stream that fails here has callbacks of ctypes, which return any address as the
+# text of an error where they get no memory.
+REFUSED = {name: of for name, of in ALL.items() if name != "a stream that fails"}
+
+
+def main():
+    for name, (make, call) in REFUSED.items():
+        quietly(make, call)
+        print(refuse_each(make, call), name, flush=True)
+
+
+@unittest.skipUnless(_testcapi, "not tried: there is no _testcapi, which refuses memory")
+class Memory(unittest.TestCase):
+    def test_refused(self):
+        ran = subprocess.run([sys.executable, __file__], stdout=subprocess.PIPE, stderr=subprocess.PIPE, text=True)
+        self.assertEqual(ran.returncode, 0, ran.stdout[-300:] + ran.stderr[-3000:])
+        counts = {name: int(count) for count, name in (line.split(" ", 1) for line in ran.stdout.splitlines())}
+        self.assertEqual([*counts], [*REFUSED])
+        self.assertEqual([name for name, count in counts.items() if not count], ["same"], "of which one allocates nothing")
+        self.assertGreater(sum(counts.values()), 1000)
+
+
+if __name__ == "__main__":
+    main()
