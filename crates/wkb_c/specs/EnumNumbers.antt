@@ -27,7 +27,7 @@ pub record HaveStatusNumbers : Type 0 where
   pub no_room : NO_ROOM ≡ 2
   pub unknown_option : UNKNOWN_OPTION ≡ 3
   pub null_row : NULL_ROW ≡ 16
-  pub bad_offsemembers : BAD_OFFSETS ≡ 17
+  pub bad_offsets : BAD_OFFSETS ≡ 17
   pub bad_levels : BAD_LEVELS ≡ 18
   pub short_header : SHORT_HEADER ≡ 32
   pub invalid_byte_order : INVALID_BYTE_ORDER ≡ 33
