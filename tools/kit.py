@@ -1,7 +1,7 @@
 #!/usr/bin/env python3
 """The crates as the Rattle kit's command `rt` knows them, for scripts that call the prover over the libraries built.
 
-    tools/kit.py archive NAME FILE [TOOLCHAIN TARGET CPU KEPT]
+    tools/kit.py archive NAME FILE [TOOLCHAIN TARGET CPU KEPT [BACKEND]]
                                        proves crates/NAME, a static library, and builds it into FILE
     tools/kit.py program NAME FILE     proves crates/NAME, a program, and builds it into FILE
     tools/kit.py built NAME            prints the libraries below crates/NAME that are built
@@ -9,7 +9,7 @@
 `archive` and `program` first prove and build each library below the crate that is not built, or is older than its
 sources, and those above it; as many side by side as RT_JOBS says. TOOLCHAIN stands for the kit's folder of that name;
 TARGET and CPU are a target and a processor of its prover's `build`. What is proved for one target is kept in the
-folder KEPT for the next.
+folder KEPT for the next. BACKEND is llvm, or rattle, which is the kit's own compiler.
 
 The command is a program and no library, so another kit may have other names inside. BORROWED lists each name that is
 used here, and a name that is missing ends the script with 2 before anything is tried.
@@ -141,10 +141,11 @@ def archive(name, file, *build):
     library = crate(name)
     if not prove_below(library):
         return 1
-    words = ("--toolchain", "--target", "--cpu", "--incremental")
-    given = zip(words, build or (f"{rt.KIT}/toolchain", "x86_64-unknown-linux-gnu", "x86-64"))
-    flags = ["--jobs", str(min(4, processors())), *(it for pair in given for it in pair)]
-    ran = prove("build", library, [*flags, "--backend", "llvm", "-o", os.path.abspath(file)], library.folder)
+    words = ("--toolchain", "--target", "--cpu", "--incremental", "--backend")
+    given = dict(zip(words, build or (f"{rt.KIT}/toolchain", "x86_64-unknown-linux-gnu", "x86-64")))
+    given.setdefault("--backend", "llvm")
+    flags = ["--jobs", str(min(4, processors())), *(it for pair in given.items() for it in pair)]
+    ran = prove("build", library, [*flags, "-o", os.path.abspath(file)], library.folder)
     print(ran.stdout, end="")
     return ran.returncode
 
@@ -198,8 +199,8 @@ def built(name):
 
 
 if __name__ == "__main__":
-    verbs = {("built", 3): built, ("archive", 4): archive, ("archive", 8): archive, ("program", 4): program}
-    verb = verbs.get(("".join(sys.argv[1:2]), len(sys.argv)))
-    if verb is None:
+    verbs = {"built": (built, 3), "archive": (archive, 4, 8, 9), "program": (program, 4)}
+    verb, *lengths = verbs.get("".join(sys.argv[1:2]), (None,))
+    if len(sys.argv) not in lengths:
         stop(__doc__)
     sys.exit(verb(*sys.argv[2:]))
