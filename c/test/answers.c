@@ -85,19 +85,26 @@ static void write_in_all_forms(const generated *it) {
   write_under(it, &options, random_room(size, it->len + 4));
 }
 
-/* An input beside the one before, and beside its encoding, of which a byte is changed. */
+static void compare(const uint8_t *a, size_t a_len, const uint8_t *b, size_t b_len) {
+  wkb_fault fault;
+  uint32_t equal = UNTOUCHED, which = UNTOUCHED;
+  memset(&fault, UNTOUCHED, sizeof fault);
+  take(SAME, wkb_same(a, a_len, b, b_len, &equal, &fault, &which));
+  take(SAME, equal), take(SAME, which), take_bytes(SAME, &fault, sizeof fault);
+}
+
+/* An input beside the one before, and beside its encoding, of which any byte is changed, or now and then each. */
 static void compare_values(const generated *it) {
   const wkb_options options = {random_below(2), WKB_FORM_ISO, 0};
-  size_t size = write_under(it, &options, it->len + 4);
-  for (int i = 0; i < 3; i++) {
-    wkb_fault fault;
-    uint32_t equal = UNTOUCHED, which = UNTOUCHED;
-    memset(&fault, UNTOUCHED, sizeof fault);
+  size_t size = write_under(it, &options, it->len + 4), step = is_rare(3) ? 1 : size / 3 + 1;
+  bool is_first = is_rare(2);
+  compare(it->bytes, it->len, before, before_len), compare(it->bytes, it->len, out, size);
+  for (size_t at = random_below((uint32_t)step); at < size && at < 500; at += step) {
     uint8_t bit = (uint8_t)(1u << random_below(8));
-    if (i == 1 && size > 0) out[random_below((uint32_t)size)] ^= bit;
-    const uint8_t *other = i < 2 ? out : before;
-    take(SAME, wkb_same(it->bytes, it->len, other, i < 2 ? size : before_len, &equal, &fault, &which));
-    take(SAME, equal), take(SAME, which), take_bytes(SAME, &fault, sizeof fault);
+    out[at] ^= bit;
+    if (is_first) compare(out, size, it->bytes, it->len);
+    if (!is_first) compare(it->bytes, it->len, out, size);
+    out[at] ^= bit;
   }
   memcpy(before, it->bytes, it->len), before_len = it->len;
 }
@@ -116,6 +123,28 @@ static void list_parts(const generated *it) {
     take(PARTS, count), take_bytes(PARTS, parts, sizeof parts[0] * (needed + 1));
     take_bytes(PARTS, &fault, sizeof fault);
     room = random_room(needed, needed);
+  }
+}
+
+/* Each single call over an input that is broken. */
+static void answer_broken(const generated *it, const wkb_options *options, const generated *whole) {
+  check_and_bounds(it), write_under(it, options, it->len + 4), list_parts(it);
+  compare(it->bytes, it->len, whole->bytes, whole->len), compare(whole->bytes, whole->len, it->bytes, it->len);
+}
+
+/* A short input that is cut at each of its bytes, or in which this one is changed. */
+static void break_everywhere(const generated *whole) {
+  static const uint8_t BYTES[] = {0, 1, 2, 0x7f, 0x80, 0xff};
+  static generated it;
+  const wkb_options options = {random_below(2), WKB_FORM_EWKB_OWN_SRID, 0};
+  it = *whole;
+  for (size_t at = 0; at < whole->len; at++) {
+    it.len = at, answer_broken(&it, &options, whole), it.len = whole->len;
+    for (int i = 0; i < 2; i++) {
+      it.bytes[at] = i == 0 ? BYTES[random_below(sizeof BYTES)] : (uint8_t)(whole->bytes[at] + 1 - 2 * random_below(2));
+      answer_broken(&it, &options, whole);
+    }
+    it.bytes[at] = whole->bytes[at];
   }
 }
 
@@ -243,7 +272,7 @@ static void write_levels(wkb_levels *it, uint32_t kind, uint32_t dimension) {
 
 static void split_columns(const wkb_column *it, uint32_t kind, uint32_t dimension) {
   static const uint32_t WIDTHS[4] = {2, 3, 3, 4};
-  uint32_t asked = is_rare(4) ? random_below(4) : is_rare(40) ? (uint32_t)random_bits() : dimension;
+  uint32_t asked = is_rare(2) ? dimension : is_rare(20) ? (uint32_t)random_bits() : random_below(4);
   wkb_coordinates all = split(it, asked, 0, 0, 0);
   size_t width = asked < 4 ? WIDTHS[asked] : 1, words = width * all.coordinates;
   expect(words < WORDS_ROOM && all.rings < ENDS_ROOM && all.singles < ENDS_ROOM, "too many levels", "a random column");
@@ -257,13 +286,15 @@ static void split_columns(const wkb_column *it, uint32_t kind, uint32_t dimensio
   write_levels(&levels, is_rare(20) ? (uint32_t)random_bits() : kind, asked);
 }
 
-/* Each call over a column of inputs: of all, or of some in any order. */
-static void answer_column(const generated *inputs, uint32_t kind, uint32_t dimension, bool is_of_all) {
+/* Each call over a column of inputs: of all in turn, of some in any order, or of parts of one. */
+static void answer_column(const generated *inputs, uint32_t kind, uint32_t dimension, uint32_t which) {
   uint64_t ends[COLUMN_INPUTS];
+  size_t one = random_below(COLUMN_INPUTS);
   column.size = 0;
   for (size_t i = 0; i < COLUMN_INPUTS; i++) {
-    const generated *it = &inputs[is_of_all ? i : random_below(COLUMN_INPUTS)];
-    memcpy(column.data + column.size, it->bytes, it->len), column.size += it->len, ends[i] = column.size;
+    const generated *it = &inputs[which == 0 ? i : which == 1 ? one : random_below(COLUMN_INPUTS)];
+    size_t len = which == 1 ? random_below((uint32_t)it->len + 1) : it->len;
+    memcpy(column.data + column.size, it->bytes, len), column.size += len, ends[i] = column.size;
   }
   wkb_column it = random_column(ends);
   wkb_options options = random_options();
@@ -283,8 +314,9 @@ static void answer_inputs(uint64_t seed) {
     if (!is_of_one_dimension) dimension = random_below(4);
     generate(it, kind, dimension);
     check_and_bounds(it), write_in_all_forms(it), compare_values(it), list_parts(it);
+    if (it->len < 100 && is_rare(3)) break_everywhere(it);
   }
-  for (int i = 0; i < 4; i++) answer_column(inputs, kind, dimension, i == 0);
+  for (uint32_t i = 0; i < 8; i++) answer_column(inputs, kind, dimension, i);
 }
 
 uint64_t answers_over(uint64_t seed, uint64_t inputs) {

@@ -89,8 +89,8 @@ static void put_members(generated *to, uint32_t kind, uint32_t dimension, unsign
   put(to, count, 4);
   for (uint32_t i = 0; i < count; i++) {
     uint32_t any = 1 + random_below(depth < DEEPEST ? 7 : 6), inside = kind == 7 ? any : kind - 3;
-    uint32_t its = is_rare(kind == 7 ? 3 : 200) ? random_below(4) : dimension;
-    put_geometry(to, inside, its, depth + 1, kind != 4 || is_rare(200));
+    uint32_t its = is_rare(kind == 7 ? 3 : 100) ? random_below(4) : dimension;
+    put_geometry(to, inside, its, depth + 1, kind != 4 || is_rare(100));
   }
 }
 
@@ -119,6 +119,31 @@ static void put_nested(generated *to) {
   }
 }
 
+/* A multi geometry or a collection of few members, of which each may be of another kind or dimension. */
+static void put_mixed(generated *to) {
+  uint32_t kind = 4 + random_below(4), dimension = random_below(4), count = 1 + random_below(2);
+  put_header(to, kind, dimension, is_rare(4));
+  mark(to);
+  put(to, count, 4);
+  for (uint32_t i = 0; i < count; i++) {
+    uint32_t inside = kind == 7 || is_rare(6) ? 1 + random_below(7) : kind - 3;
+    uint32_t its = is_rare(2) ? dimension : random_below(4);
+    put_header(to, inside, its, is_rare(6));
+    if (inside == WKB_KIND_POINT) put_words(to, its, 1, true);
+    if (inside == WKB_KIND_LINE_STRING) put_line(to, its);
+    if (inside == WKB_KIND_POLYGON) put(to, 1, 4), put_line(to, its);
+    if (inside > WKB_KIND_POLYGON) put(to, 0, 4);
+  }
+}
+
+/* A line whose words have one byte only, so that all its pieces are the same. */
+static void put_plain_line(generated *to, uint32_t dimension) {
+  uint32_t count = random_below(40);
+  put_header(to, WKB_KIND_LINE_STRING, dimension, is_rare(4));
+  put(to, count, 4);
+  for (uint32_t k = 0; k < width_of(dimension) * count; k++) put(to, 0, 8);
+}
+
 /* Changes a byte, or some of them, near the beginning of a header or a count, or anywhere. */
 static void change(generated *it) {
   static const uint8_t BYTES[] = {0, 1, 2, 3, 4, 7, 8, 0x20, 0x40, 0x80, 0xe0, 0xff, 0xe9, 0xeb};
@@ -134,8 +159,11 @@ void generate(generated *to, uint32_t kind, uint32_t dimension) {
   to->len = to->mark_count = 0;
   to->may_be_little = orders != 1, to->may_be_big = orders != 0;
   to->has_iso_codes = codes != 1, to->has_flags = codes != 0;
-  if (is_rare(24)) put_nested(to);
-  put_geometry(to, kind, dimension, is_rare(8) ? DEEPEST : 0, true);
+  uint32_t which = random_below(24);
+  if (which == 0) put_nested(to);
+  if (which >= 1 && which <= 4) put_mixed(to);
+  if (which == 5) put_plain_line(to, dimension);
+  if (which == 0 || which > 5) put_geometry(to, kind, dimension, is_rare(8) ? DEEPEST : 0, true);
   uint32_t breaks = random_below(12);
   if (breaks >= 6 && breaks <= 9 && to->len > 0) change(to);
   if (breaks == 9 && to->len > 0) change(to);

@@ -23,7 +23,7 @@ int main(int count, char **words) {
   levels_come_back_from_rows();
   printf("columns return what they must\n");
   what_lasts_is_as_it_was();
-  printf("10000 random inputs have the answers %016llx\n", (unsigned long long)answers_over(0, 10000));
+  printf("20000 random inputs have the answers %016llx\n", (unsigned long long)answers_over(0, 20000));
   nothing_is_read_after_the_input();
   printf("no byte after the input is read, and refusals leave their outputs\n");
   no_memory_is_asked_for();
