@@ -155,6 +155,48 @@ class Records(Held):
             column.release(what, struct_of)
 
 
+class Lists(Held):
+    """An array of GeoArrow's: lists in one another over interleaved or separate coordinates, each with its offset."""
+
+    NOTHING = RELEASE(lambda address: None)  # of a child, which is released with its parent
+
+    def __init__(self, levels, words, names=("xy",), offset=0, length=None, form=b"+l", **changes):
+        words = [memory_of(struct.pack(f"={len(it)}d", *it)) for it in words]
+        self.memory, inner = [*words], [self.leaf(name, it) for name, it in zip(names, words)]
+        width = len(names[0]) if len(names) == 1 else len(names)
+        count = len(words[0]) // (8 * width if len(names) == 1 else 8)
+        self.make(b"+s" if len(names) > 1 else b"+w:%d" % width, inner, count, [None])
+        for ends in reversed(levels):
+            self.memory.append(memory_of(struct.pack(f"={len(ends)}{'i' if form == b'+l' else 'q'}", *ends)))
+            self.make(form, [self.top], len(ends) - 1, [None, ctypes.addressof(self.memory[-1])])
+        self.array.offset = offset
+        self.array.length = self.array.length - offset if length is None else length
+        for name, value in changes.items():
+            setattr(self.array, name, value)
+
+    def leaf(self, name, words):
+        return self.struct(b"g", name.encode(), [], len(words) // 8, [None, ctypes.addressof(words)])
+
+    def struct(self, form, name, inner, length, buffers):
+        schema = Schema(format=form, name=name, n_children=len(inner),
+                        children=pointers([ctypes.addressof(it[0]) for it in inner]))
+        it = Array(length=length, n_buffers=len(buffers), n_children=len(inner), buffers=pointers(buffers),
+                   children=pointers([ctypes.addressof(it[1]) for it in inner]))
+        schema.release = it.release = pointer(self.NOTHING)
+        return schema, it, inner
+
+    def make(self, form, inner, length, buffers):
+        self.top = self.struct(form, b"", inner, length, buffers)
+        self.hold(*self.top[:2])
+
+    def deep(self, depth):
+        """The array so many levels down."""
+        it = self.top
+        for _ in range(depth):
+            it = it[2][0]
+        return it[1]
+
+
 class Stream:
     """Arrays one after another. A stream that has a fault ends with it."""
 

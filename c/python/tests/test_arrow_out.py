@@ -11,7 +11,7 @@ import threading
 import unittest
 
 import wkb
-from capsules import Arrow, Array, Held, Schema, address_of, memory_of, pointers
+from capsules import Arrow, Array, Lists, Schema, address_of, memory_of
 from samples import BIG_POINT, EMPTY_POINT, ISO_POLYGON, POINT, POLYGON, ROWS, STATUSES
 from wkb import Column, Dimension, Form, Kind, Order, Status, column_from_coordinates
 
@@ -278,48 +278,6 @@ class Coordinates(unittest.TestCase):
             self.assertEqual(list(column_from_coordinates(Kind.POINT, rows).statuses), [0, 0])
 
 
-class Lists(Held):
-    """An array of GeoArrow's: lists in one another over interleaved or separate coordinates, each with its offset."""
-
-    def __init__(self, levels, words, names=("xy",), offset=0, length=None, form=b"+l", **changes):
-        words = [memory_of(struct.pack(f"={len(it)}d", *it)) for it in words]
-        self.memory, inner = [*words], [self.leaf(name, it) for name, it in zip(names, words)]
-        width = len(names[0]) if len(names) == 1 else len(names)
-        count = len(words[0]) // (8 * width if len(names) == 1 else 8)
-        self.make(b"+s" if len(names) > 1 else b"+w:%d" % width, inner, count, [None])
-        for ends in reversed(levels):
-            self.memory.append(memory_of(struct.pack(f"={len(ends)}{'i' if form == b'+l' else 'q'}", *ends)))
-            self.make(form, [self.top], len(ends) - 1, [None, ctypes.addressof(self.memory[-1])])
-        self.array.offset = offset
-        self.array.length = self.array.length - offset if length is None else length
-        for name, value in changes.items():
-            setattr(self.array, name, value)
-
-    def leaf(self, name, words):
-        return self.struct(b"g", name.encode(), [], len(words) // 8, [None, ctypes.addressof(words)])
-
-    def struct(self, form, name, inner, length, buffers):
-        schema = Schema(format=form, name=name, n_children=len(inner),
-                        children=pointers([ctypes.addressof(it[0]) for it in inner]))
-        it = Array(length=length, n_buffers=len(buffers), n_children=len(inner), buffers=pointers(buffers),
-                   children=pointers([ctypes.addressof(it[1]) for it in inner]))
-        schema.release = it.release = ctypes.cast(self.NOTHING, ctypes.c_void_p)
-        return schema, it, inner
-
-    NOTHING = ctypes.CFUNCTYPE(None, ctypes.c_void_p)(lambda address: None)
-
-    def make(self, form, inner, length, buffers):
-        self.top = self.struct(form, b"", inner, length, buffers)
-        self.hold(*self.top[:2])
-
-    def deep(self, depth):
-        """The array so many levels down."""
-        it = self.top
-        for _ in range(depth):
-            it = it[2][0]
-        return it[1]
-
-
 class FromGeoArrow(unittest.TestCase):
     def test_round_trip(self):
         """What is handed out is taken, with its null rows, and whatever the offsets' size is."""
@@ -344,6 +302,14 @@ class FromGeoArrow(unittest.TestCase):
         it = Lists([(0, 1, 3), (0, 2, 3, 3)], [(1, 2, 3, 4, 5, 6)], offset=1)
         (row,) = column_from_coordinates(Kind.MULTI_LINE_STRING, it).rows
         self.assertEqual(row, part(5, [OTHER, part(2, [])]))
+
+    def test_slices_inside(self):
+        """Coordinates, and their numbers, that begin behind the front of an array."""
+        for depth, offset, length in ((1, 1, 2), (2, 2, 4)):
+            it = Lists([(0, 2)], [(9.0, 9.0, 1.0, 2.0, 3.0, 4.0)])
+            it.deep(1).length = 2
+            it.deep(depth).offset, it.deep(depth).length = offset, length
+            self.assertEqual(list(column_from_coordinates(Kind.LINE_STRING, it).rows), [LINE])
 
     def test_separate(self):
         """Coordinates whose x, y, z and m are in arrays of their own."""
@@ -389,7 +355,8 @@ class FromGeoArrow(unittest.TestCase):
         for depth, name, value, text in (
             (1, "length", 1, "fewer items"), (1, "offset", -1, "can't begin"), (2, "length", 3, "fewer items"),
             (2, "n_buffers", 3, "can't have 3 buffers"), (2, "offset", -1, "can't begin"),
-            (1, "release", None, "released"), (1, "null_count", 1, "no validity"), (1, "n_children", 0, "children"), (2, "buffers", None, "no list"),
+            (1, "release", None, "released"), (1, "null_count", 1, "no validity"), (1, "n_children", 0, "children"),
+            (2, "buffers", None, "no list"),
         ):
             source = Lists([(0, 2)], [(1.0, 2.0, 3.0, 4.0)])
             setattr(source.deep(depth), name, value)

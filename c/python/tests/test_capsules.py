@@ -7,6 +7,7 @@ import ctypes
 import gc
 import json
 import mmap
+import os
 import resource
 import struct
 import subprocess
@@ -16,9 +17,9 @@ from functools import partial
 from typing import Any, Callable, NamedTuple
 
 import capsules
-from capsules import FILL, Arrow, Records, Stream, Views, pointer, pointers
+from capsules import FILL, Arrow, Lists, Records, Stream, Views, pointer, pointers
 from samples import POINT, POLYGON, ROWS, STATUSES
-from wkb import Column
+from wkb import Column, Kind, column_from_coordinates
 
 LOW, HIGH, HUGE, PAGE = -(2**63), 2**63 - 1, 2**62, mmap.PAGESIZE
 # The errors that calls document, each for what it is raised.
@@ -232,6 +233,63 @@ def array_cases():
                     yield Case(f"{name}, {path}: {it.name}", partial(changed, make, it, *calls), it.expected)
 
 
+def inside(depth, change):
+    """A change of a child so many levels down."""
+    def apply(source):
+        top = source.top
+        for _ in range(depth):
+            top = top[2][0]
+        source.schema, source.array = top[:2]
+        change.apply(source)
+        source.schema, source.array = source.top[:2]
+
+    return Change(f"{depth} down: {change.name}", apply, change.expected)
+
+
+def list_changes():
+    """Of lists of lists of numbers what makes the lists wrong, or the one that all of them have."""
+    for of in ("array", "schema"):
+        yield from fields(of, "n_children", LOW, -1, 0, 2, HUGE, HIGH)
+        yield from fields(of, "children", None)
+        yield from fields(of, "dictionary", 8)
+        yield place(of, "children", 0)
+    yield from fields("array", "n_buffers", LOW, -1, 0, 1, 3, HUGE, HIGH)
+    yield from fields("array", "length", LOW, -1, 2**61, HUGE, HIGH)
+    yield from fields("array", "offset", LOW, -1, 2**61, HUGE, HIGH)
+    yield from fields("array", "null_count", LOW, -2, 1, 3, HIGH)
+    yield from fields("array", "buffers", None)
+    yield from fields("array", "release", None)
+    yield from fields("schema", "release", None)
+    yield place("array", "buffers", 1)
+
+
+def number_changes():
+    """What makes their numbers wrong."""
+    yield from fields("array", "n_buffers", LOW, -1, 0, 1, 3, HUGE, HIGH)
+    yield from fields("array", "length", LOW, -1, 0, 5, 2**61, HUGE, HIGH)
+    yield from fields("array", "offset", LOW, -1, 2**61, HUGE, HIGH)
+    yield from fields("array", "n_children", LOW, -1, 1, HUGE, HIGH)
+    yield from fields("array", "buffers", None)
+    yield place("array", "buffers", 1)
+    yield from fields("schema", "format", b"", b"f", b"G", b"z", b"+l", b"+w:2", expected=NOT_BINARY)
+
+
+def list_cases():
+    """Coordinates in lists, as GeoArrow has them."""
+    def coordinates(source):
+        return [Column.of(column_from_coordinates(Kind.LINE_STRING, source).rows)]
+
+    def lists():
+        return Lists([(0, 1, 3)], [(1.0, 2.0, 3.0, 4.0, 5.0, 6.0)])
+
+    kinds = fields("schema", "format", None, b"", b"+", b"+s", b"+w", b"z", b"+l ", expected=NOT_BINARY)
+    sizes = fields("schema", "format", b"+w:0", b"+w:1", b"+w:5", b"+w:-2", b"+w:", b"+l", expected=NOT_BINARY)
+    sized = [it for it in list_changes() if "buffers" not in it.name and "is 3" not in it.name]
+    deep = [inside(1, it) for it in sizes + sized] + [inside(2, it) for it in number_changes()]
+    for it in (Change("as it is", RIGHT.apply, [0, 0]), *kinds, *list_changes(), *deep):
+        yield Case(f"lists: {it.name}", partial(changed, lists, it, coordinates), it.expected)
+
+
 class Exports:
     """An object whose methods of Arrow return this."""
 
@@ -302,7 +360,7 @@ def mismatch_cases():
 
 def cases():
     """All cases, one after another."""
-    for some in (array_cases, stream_cases, export_cases, release_cases, mismatch_cases):
+    for some in (array_cases, list_cases, stream_cases, export_cases, release_cases, mismatch_cases):
         yield from some()
 
 
@@ -324,7 +382,8 @@ def outcome_of(case):
 def main(name, first):
     """Prints what becomes of the cases of this generator, from a number on."""
     capsules.memory_of = guarded
-    resource.setrlimit(resource.RLIMIT_AS, (2**32, 2**32))
+    if "asan" not in os.environ.get("LD_PRELOAD", ""):  # which has a limit of its own
+        resource.setrlimit(resource.RLIMIT_AS, (2**32, 2**32))
     for number, case in enumerate(globals()[name]()):
         if number >= first:
             print(json.dumps(outcome_of(case)), flush=True)

@@ -8,7 +8,8 @@ from ._buffers import Buffer, Numbers, view_of
 from ._enums import Dimension, Form, Kind, Order, Status
 from ._records import Box, Fault, Found, Part, Range, Table
 
-LITTLE = Order.LITTLE
+# Members of enums, which take longer to find by their classes.
+LITTLE, ISO, WITH_SRID = Order.LITTLE, Form.ISO, Form.EWKB_WITH_SRID
 
 
 class Refused(ValueError):
@@ -50,13 +51,13 @@ def bounds(data: Buffer) -> Box:
 def make_options(order: Order, form: Optional[Form], srid: Optional[int]) -> Tuple[int, int, int]:
     """The options, if they have a meaning. Without a form it is that of an SRID where there is one."""
     if form is None:
-        form = Form.ISO if srid is None else Form.EWKB_WITH_SRID
-    if (srid is not None) != (form == Form.EWKB_WITH_SRID):
+        form = ISO if srid is None else WITH_SRID
+    if (srid is not None) != (form == WITH_SRID):
         raise ValueError("an SRID is written in Form.EWKB_WITH_SRID, and in no other form")
     number = operator.index(srid or 0)
     if not 0 <= number < 2**32:
         raise ValueError(f"SRID {number} is not from 0 to 4294967295")
-    return Order(order), Form(form), number
+    return order if isinstance(order, Order) else Order(order), form if isinstance(form, Form) else Form(form), number
 
 
 def write(

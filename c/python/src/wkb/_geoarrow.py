@@ -6,7 +6,7 @@ from ._arrow import (
     Array, Schema, array_child, borrowed, check_array, check_schema, expect, has_validity, is_all_set,
     schema_child, taken,
 )
-from ._buffers import Buffer, Numbers, has_numpy, new_numbers
+from ._buffers import Buffer, has_numpy, new_numbers
 from ._enums import Dimension, Kind
 
 # The level of each list of a kind, from the outermost on: 0 has the ends of rings, 1 of singles, 2 of rows.
@@ -58,18 +58,18 @@ def _inner(it: _Window, number: int, first: int, count: int) -> _Window:
     return _Window(schema_child(it.schema, number), child, child.offset + first, count)
 
 
-def _less(offsets: memoryview, least: int) -> Numbers:
-    """Offsets less the first of them."""
+def _less(offsets: memoryview, least: int) -> Buffer:
+    """Offsets of 64 bits: these less the first of them."""
+    if least == 0 and offsets.itemsize == WORD_SIZE:
+        return offsets
     if has_numpy:
         import numpy
 
         return numpy.asarray(offsets).astype("i8") - least
-    items: Any = array.array("q", (it - least for it in offsets))
-    numbers: Numbers = items
-    return numbers
+    return array.array("q", (it - least for it in offsets))
 
 
-def _opened(it: _Window, depth: int) -> Tuple[Numbers, _Window]:
+def _opened(it: _Window, depth: int) -> Tuple[Buffer, _Window]:
     """The offsets of a list, from 0 on, and the items in it."""
     size = LIST_SIZES.get(it.schema.format or b"")
     if size is None:
@@ -122,7 +122,7 @@ def levels_of_arrow(of: Any, kind: Kind) -> Levels:
     """The levels of an array of rows of this kind."""
     schema, top = taken(of)
     it = _Window(schema, top, top.offset, top.length)
-    offsets: List[Optional[Numbers]] = [None, None, None]
+    offsets: List[Optional[Buffer]] = [None, None, None]
     for depth, level in enumerate(LEVELS[kind]):
         offsets[level], it = _opened(it, depth)
     words, name = _coordinates(it, len(LEVELS[kind]))

@@ -50,9 +50,10 @@ def wanted(requested_schema: Any) -> Optional[bytes]:
 
 def validity_of(statuses: Numbers) -> Tuple[Optional[memoryview], int]:
     """The bits of the rows that are there, if not all are, and how many are not."""
-    present = [not status for status in bytes(view_of(statuses))]
-    bits = bits_of(present)
-    return (None, 0) if bits is None else (memoryview(bits), present.count(False))
+    held = bytes(view_of(statuses))
+    nulls = len(held) - held.count(0)
+    bits = bits_of([not status for status in held]) if nulls else None
+    return (None, 0) if bits is None else (memoryview(bits), nulls)
 
 
 def narrow(offsets: Numbers) -> memoryview:
