@@ -12,6 +12,7 @@ pub mod features;
 pub mod framed;
 pub mod gathered;
 pub mod keys;
+pub mod kinds;
 pub mod members;
 pub mod orders;
 pub mod package;
