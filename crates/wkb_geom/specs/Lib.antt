@@ -17,3 +17,4 @@ pub mod Meanings
 pub mod Items
 pub mod Stored
 pub mod Found
+pub mod Counted

@@ -18,3 +18,4 @@ pub mod Spelled
 pub mod OneEncoding
 pub mod PartsInPlace
 pub mod EncodingBytes
+pub mod Counts

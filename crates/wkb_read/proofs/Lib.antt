@@ -10,3 +10,4 @@ pub mod Parts
 pub mod Placed
 pub mod Results
 pub mod Stacks
+mod Sums

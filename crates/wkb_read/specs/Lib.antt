@@ -10,3 +10,4 @@ pub mod NoSrids
 pub mod Stack
 pub mod Types
 pub mod Seen
+pub mod Contents

@@ -10,3 +10,4 @@ pub mod Asked
 mod CoordsAsWritten
 pub mod Encoded
 pub mod Sized
+pub mod CoordCounts

@@ -21,7 +21,7 @@ module _ (l : Layout) (ends bytes : List ℕ) (p : Listed (List (List Coordinate
       let seen = polygon_seen (polygon_laid l ends bytes) in
       spelled_good seen.spelled seen.value bytes fine (in_full_lem seen.spelled seen.value bytes spells)
 
-  rings_same : fitted_parts (polygon_laid l ends bytes) ≡ (polygon_laid l ends bytes).parts
+  pub rings_same : fitted_parts (polygon_laid l ends bytes) ≡ (polygon_laid l ends bytes).parts
   rings_same =
       (line_strings_fit (as_dimensions l.dimension) (polygon_laid l ends bytes).parts).same
       (lawful-geometry_of (polygon_seen (polygon_laid l ends bytes)).value good.0)

@@ -15,7 +15,7 @@ use std::alloc::{AllocError, Global};
 use std::marker::Model;
 use wkb_geom::code::WkbType;
 use wkb_geom::header::MIN_MEMBER_SIZE;
-use wkb_geom::words::COUNT_SIZE;
+use wkb_geom::words::{COUNT_SIZE, WORD_SIZE};
 use wkb_geom::{
     Dimension, Dimensioned, Dimensions, Endianness, Form, GeometryTrait, GeometryType, Layout,
     PolygonTrait, Refusal,
@@ -47,7 +47,7 @@ impl<'a> Model for Polygon<'a> {
 }
 
 impl<'a> Polygon<'a> {
-    ghost use Rattle.std.specs.Prelude.{◌≡◌, length, IfSome, IfOk, IfErr};
+    ghost use Rattle.std.specs.Prelude.{◌≡◌, length, sum_by, IfSome, IfOk, IfErr};
     ghost use Rattle.wkb_geom.specs.Found.{IsItemAt};
     ghost use Rattle.wkb_geom.specs.declared.code.WkbType.TheVariants as kinds;
     ghost use Rattle.wkb_view.specs.Prelude.{polygon_at, BytesSpell, order_of};
@@ -81,9 +81,19 @@ impl<'a> Polygon<'a> {
         self.buf
     }
 
+    /// The number of coordinates of all rings, told by their bytes: no ring is visited.
+    pub fn num_coords(&self) -> usize
+        ensures { result ≡ sum_by length self.now.parts }
+    {
+        let bytes = self.layout.length_after_header(self.buf)
+            - COUNT_SIZE
+            - COUNT_SIZE * self.num_rings();
+        bytes / (WORD_SIZE * self.layout.dimension.width())
+    }
+
     /// The number of rings.
     #[tactic(auto, using(crate::proofs::Pieces::parts_counted))]
-    pub(crate) fn num_rings(&self) -> usize
+    pub fn num_rings(&self) -> usize
         ensures { result ≡ length self.now.parts }
     {
         self.ends.len()

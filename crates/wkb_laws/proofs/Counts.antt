@@ -1,0 +1,82 @@
+-- Bytes spell no more coordinates and parts than there are bytes.
+use Rattle.std.proofs.Common.{ℕ, ◌+◌, ◌*◌, ◌≤◌, List, [], ◌∷◌, length, sum_by, arith}
+use Rattle.std.proofs.lemmas.List.Sums.{sum_by-cons}
+use Rattle.wkb_geom.specs.declared.common.Dimension.{Dimension}
+use Rattle.wkb_geom.specs.declared.common.Dimension.TheVariants.{Xy, Xyz, Xym, Xyzm}
+use Rattle.wkb_geom.specs.Dimensions.{size, as_dimensions}
+use Rattle.wkb_geom.specs.Counted.{coordinate_count, coordinate_count_each}
+use Rattle.wkb_geom.specs.Geometries.{geometry_of, geometries_of}
+use Rattle.wkb_geom.specs.Sizes.{byte_size, byte_sizes, ring_size, line_string_size, polygon_size, point_size}
+use Rattle.wkb_geom.specs.Spellings.{Spelling, Spells}
+use Rattle.wkb_geom.specs.Values.{Coordinate, Value, Values, point, line_string, polygon, multi_point}
+use Rattle.wkb_geom.specs.Values.{multi_line_string, multi_polygon, collection, no_members, member, member_count}
+use Rattle.wkb_geom.specs.Values.{member_count_each}
+use Rattle.wkb_laws.proofs.Spelled.{size_of_spelled_lem}
+
+coordinates_within : (d : Dimension) (n : ℕ) → n ≤ 8 * size (as_dimensions d) * n
+coordinates_within Xy n = omega arith
+coordinates_within Xyz n = omega arith
+coordinates_within Xym n = omega arith
+coordinates_within Xyzm n = omega arith
+
+points_within : (d : Dimension) (n : ℕ) → n + n ≤ n * point_size (as_dimensions d)
+points_within Xy n = omega arith
+points_within Xyz n = omega arith
+points_within Xym n = omega arith
+points_within Xyzm n = omega arith
+
+rings_within : (d : Dimension) (rs : List (List Coordinate))
+    → sum_by length rs + length rs ≤ sum_by (ring_size (as_dimensions d)) rs
+rings_within d [] = omega arith
+rings_within d (r ∷ rs) =
+    omega (
+      arith,
+      rings_within d rs,
+      coordinates_within d (length r),
+      sum_by-cons length r rs,
+      sum_by-cons (ring_size (as_dimensions d)) r rs,
+    )
+
+line_strings_within : (d : Dimension) (ls : List (List Coordinate))
+    → sum_by length ls + length ls ≤ sum_by (line_string_size (as_dimensions d)) ls
+line_strings_within d [] = omega arith
+line_strings_within d (l ∷ ls) =
+    omega (
+      arith,
+      line_strings_within d ls,
+      coordinates_within d (length l),
+      sum_by-cons length l ls,
+      sum_by-cons (line_string_size (as_dimensions d)) l ls,
+    )
+
+polygons_within : (d : Dimension) (ps : List (List (List Coordinate)))
+    → sum_by (λ rings. sum_by length rings) ps + sum_by (λ rings. 1 + length rings) ps
+    ≤ sum_by (polygon_size (as_dimensions d)) ps
+polygons_within d [] = omega arith
+polygons_within d (p ∷ ps) =
+    omega (
+      arith,
+      polygons_within d ps,
+      rings_within d p,
+      sum_by-cons (λ (rings : List (List Coordinate)). sum_by length rings) p ps,
+      sum_by-cons (λ (rings : List (List Coordinate)). 1 + length rings) p ps,
+      sum_by-cons (polygon_size (as_dimensions d)) p ps,
+    )
+
+mutual
+  value_within : (t : Value) → coordinate_count t + (1 + member_count t) ≤ byte_size (geometry_of t)
+  value_within (point d c) = omega (arith, coordinates_within d 1)
+  value_within (line_string d cs) = omega (arith, coordinates_within d (length cs))
+  value_within (polygon d rings) = omega (arith, rings_within d rings)
+  value_within (multi_point d points) = omega (arith, points_within d (length points))
+  value_within (multi_line_string d lines) = omega (arith, line_strings_within d lines)
+  value_within (multi_polygon d polygons) = omega (arith, polygons_within d polygons)
+  value_within (collection d ts) = omega (arith, values_within ts)
+
+  values_within : (ts : Values) → coordinate_count_each ts + member_count_each ts ≤ byte_sizes (geometries_of ts)
+  values_within no_members = omega arith
+  values_within (member t ts) = omega (arith, value_within t, values_within ts)
+
+pub counts_within : (s : Spelling) (t : Value) (x : List ℕ) → Spells s t x
+    → coordinate_count t + (1 + member_count t) ≤ length x
+counts_within s t x h = omega (arith, value_within t, size_of_spelled_lem s t x h)
