@@ -4,7 +4,7 @@ use crate::command::show_run;
 use crate::line::Line;
 use crate::members::show_members;
 use crate::notation::bytes;
-use crate::reading::{show_error, show_geometry, show_iso_size, show_reading};
+use crate::reading::{show_counts, show_error, show_geometry, show_iso_size, show_reading};
 use crate::rewriting::{show_comparison, show_encoding, show_there_and_back};
 use crate::view::show_view;
 use std::alloc::Global;
@@ -32,6 +32,7 @@ fn show_of_geometry(line: &mut Line, question: &str, wkb: &Wkb<'_>) {
     match question {
         "geometry" => show_geometry(line, wkb),
         "view" => show_view(line, wkb),
+        "counts" => show_counts(line, wkb),
         "front" => line.show_bytes("", wkb.buf()),
         "members" => show_members(line, wkb),
         "iso size" => show_iso_size(line, wkb),

@@ -3,6 +3,7 @@
 use crate::line::Line;
 use std::alloc::Global;
 use wkb::error::WkbError;
+use wkb::geom::{GeometryTrait, GeometryType};
 use wkb::reader::Wkb;
 use wkb::writer::geometry_wkb_size;
 use wkb_cases::reading::{Outcome, answer_to, are_same, counts, tried, view_size};
@@ -92,6 +93,16 @@ pub fn show_geometry(line: &mut Line, wkb: &Wkb<'_>) {
     line.show(", srid ", wkb.srid());
     line.show(", bytes ", wkb.buf().len());
     line.show(", size ", view_size(wkb));
+}
+
+/// Shows how many parts and coordinates a geometry has, and of a polygon its rings and their coordinates.
+pub fn show_counts(line: &mut Line, wkb: &Wkb<'_>) {
+    line.show("parts ", wkb.num_parts());
+    line.show(", coordinates ", wkb.num_coords());
+    if let GeometryType::Polygon(polygon) = wkb.as_type() {
+        line.show(", rings ", polygon.num_rings());
+        line.show(" with ", polygon.num_coords());
+    }
 }
 
 /// Shows how many bytes a geometry is written to in ISO codes.
