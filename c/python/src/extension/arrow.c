@@ -112,7 +112,7 @@ static PyObject *schema_name(PyObject *module, PyObject *args) {
   return PyBytes_FromStringAndSize(it->name, size);
 }
 
-/* schema_fields(schema): its format or None, the number of children, whether it has a dictionary and is not released.
+/* schema_fields(schema): its format or None, the number of children, whether it has a dictionary, and isn't released.
  */
 static PyObject *schema_fields(PyObject *module, PyObject *capsule) {
   const struct ArrowSchema *it = PyCapsule_GetPointer(capsule, STRUCT_NAMES[SCHEMA]);
@@ -129,8 +129,7 @@ static PyObject *array_fields(PyObject *module, PyObject *capsule) {
                        it->release != NULL);
 }
 
-/* array_buffer(array, place, size): so many bytes of a buffer, as long as the capsule lives; None where there is none.
- */
+/* array_buffer(array, place, size): so many bytes of a buffer, which live as long as the capsule; None without one. */
 static PyObject *array_buffer(PyObject *module, PyObject *args) {
   PyObject *capsule;
   Py_ssize_t place, size;
@@ -238,16 +237,11 @@ static int fill(int kind, PyObject *node, void *out) {
   own->children[0] = &own->child;
   struct ArrowSchema schema = {
       format, name, metadata, flags, child != Py_None, (struct ArrowSchema **)own->children, NULL, release_schema, own};
-  struct ArrowArray array = {length,
-                             nulls,
-                             0,
-                             PyTuple_Size(views),
-                             child != Py_None,
-                             own->buffers,
-                             (struct ArrowArray **)own->children,
-                             NULL,
-                             release_array,
-                             own};
+  struct ArrowArray array = {.length = length, .null_count = nulls, .release = release_array, .private_data = own};
+  array.n_buffers = PyTuple_Size(views);
+  array.buffers = own->buffers;
+  array.n_children = child != Py_None;
+  array.children = (struct ArrowArray **)own->children;
   memcpy(out, kind == SCHEMA ? (void *)&schema : (void *)&array, SIZES[kind]);
   if ((kind == SCHEMA || find_buffers(views, own) == 0) && (child == Py_None || fill(kind, child, &own->child) == 0))
     return 0;

@@ -50,8 +50,7 @@ static PyObject *write_long(span in, const wkb_options *options, size_t size) {
   return status == WKB_STATUS_OK && again == size ? out : changed(out);
 }
 
-/* write(data, options): the options are one number, of the order, the form and the SRID from its bits 0, 8 and 32 on.
- */
+/* write(data, options): the order, the form and the SRID are in one number, from its bits 0, 8 and 32 on. */
 static PyObject *write_one(PyObject *module, PyObject *const *args, Py_ssize_t count) {
   state *s = state_of(module);
   char small[SMALL];
@@ -88,7 +87,7 @@ static PyObject *same(PyObject *module, PyObject *const *args, Py_ssize_t count)
   h.count = 0;
   if (count != 2) return PyErr_Format(PyExc_TypeError, "two arguments are expected");
   if (hold_input(&h, args[0], &in[0]) == 0 && hold_input(&h, args[1], &in[1]) == 0) {
-    PyThreadState *unlocked = unlock(in[0].size);
+    PyThreadState *unlocked = unlock(in[0].size + in[1].size);
     uint32_t status = wkb_same(in[0].at, in[0].size, in[1].at, in[1].size, &equal, &fault, &which);
     lock(unlocked);
     if (status == WKB_STATUS_OK)
