@@ -48,6 +48,8 @@ def wrong(part: wkb.Part, column: wkb.Column) -> None:
     wkb.column_from_coordinates(wkb.Kind.POINT, [1.0, 2.0])  # type: ignore[arg-type]
     column.coordinates(3)  # type: ignore[arg-type]
     part.count = 0  # type: ignore[misc]
+    column.write().rows[0] + b""  # type: ignore[operator]
+    wkb.column_from_coordinates(wkb.Kind.POINT, NotArrow())  # type: ignore[arg-type]
 
 
 def right(data: bytes, mapped: mmap.mmap, rows: List[Optional[bytes]]) -> List[wkb.Found]:
@@ -58,4 +60,9 @@ def right(data: bytes, mapped: mmap.mmap, rows: List[Optional[bytes]]) -> List[w
     for column in wkb.Column.chunks_from_arrow(Stream(), "geometry"):
         column.check()
     wkb.column_from_coordinates(wkb.Kind.LINE_STRING, array.array("d"), array.array("i"))
+    levels = wkb.Column.of(rows).coordinates()
+    written = wkb.column_from_coordinates(wkb.Kind.POINT, levels, dimension=wkb.Dimension.XYZ)
+    wkb.Column.of(written.rows)
+    wkb.Column.from_arrow(written)
+    wkb.write(data, srid=4326)
     return [wkb.check(data), wkb.check(mapped)]
