@@ -255,7 +255,7 @@ void all_words(const row &input) {
 std::vector<shape_times> time_words() {
   const row little = line<LONG>();
   std::vector<shape_times> all;
-  for (const row &input : {little, wkb::write(little, BIG)}) {
+  for (const row &input : {little, written(little, BIG)}) {
     parts_of(input);
     const std::vector<timed> calls{{"wkb_word", each_word, nullptr, 2 * LONG},
                                    {"wkb_words", all_words, nullptr, 2 * LONG}};

@@ -96,10 +96,10 @@ inline void compare_column(const whole_column &column) {
 inline void compare_with_plain() {
   compare_codes();
   for (const wkb_options &options : {LITTLE, BIG}) {
-    compare_around(wkb::write(collection(), options));
+    compare_around(written(collection(), options));
     for (const shape &it : SHAPES) {
       std::vector<row> rows = rows_of(it);
-      for (row &input : rows) compare_input(input = wkb::write(input, options));
+      for (row &input : rows) compare_input(input = written(input, options));
       compare_column(whole_column(rows));
     }
   }
