@@ -38,19 +38,29 @@ pub const MAX_WKB_NESTING_DEPTH: usize = 128;
 pub fn read_wkb<'a>(alloc: Global, buf: &'a [u8]) -> WkbResult<Wkb<'a>>
     ensures { Reads buf.now result }
 {
-    read_wkb_counted(alloc, buf).0
+    read_and_count(alloc, buf, &mut Counts { turns: 0, slots: 0 })
 }
 
 /// Reads as `read_wkb` does, and counts what it cost, whatever the result.
-#[inline(always)]
 pub fn read_wkb_counted<'a>(alloc: Global, buf: &'a [u8]) -> (WkbResult<Wkb<'a>>, Counts)
     ensures reads { Reads buf.now result.0 }
     ensures costs { Costs buf.now result.0 result.1 }
 {
     let mut counts = Counts { turns: 0, slots: 0 };
-    match read_geometry(alloc, buf, &mut counts) {
-        Ok(whole) => (Ok(whole), counts),
-        Err(refusal) => (Err(refusal.into()), counts),
+    let result = read_and_count(alloc, buf, &mut counts);
+    (result, counts)
+}
+
+/// Reads as `read_wkb` does, and counts from zero what it costs.
+#[inline(always)]
+fn read_and_count<'a>(alloc: Global, buf: &'a [u8], counts: &mut Counts) -> WkbResult<Wkb<'a>>
+    ensures reads { Reads buf.now result }
+    ensures costs { Costs buf.now result counts.new }
+{
+    *counts = Counts { turns: 0, slots: 0 };
+    match read_geometry(alloc, buf, counts) {
+        Ok(whole) => Ok(whole),
+        Err(refusal) => Err(refusal.into()),
     }
 }
 

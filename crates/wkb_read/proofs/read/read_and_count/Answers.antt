@@ -3,7 +3,7 @@ use Rattle.wkb_laws.proofs.GeometryAt.{reading_is_bounded_lem}
 use Rattle.wkb_laws.proofs.Lengths.{front_is_writable_lem}
 use Rattle.wkb_read.proofs.NoMemory.{without_memory}
 use Rattle.wkb_read.proofs.Results.{count_bounded, is_read, refused_as, refused_at}
-use Rattle.wkb_read.proofs.read.read_wkb_counted.Goals as goal
+use Rattle.wkb_read.proofs.read.read_and_count.Goals as goal
 
 pub read_geometry-requires : goal.read_geometry-requires
 read_geometry-requires c =
