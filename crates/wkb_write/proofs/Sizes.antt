@@ -33,7 +33,7 @@ pub measured_length : (order : Endianness) (form : Form) (g : Geometry) → IsFo
     → length (encoding order form g) ≡ byte_size g + srid_size (is_some (form_srid form))
 measured_length order form g fits lawful none =
     encoding_has_size_lem order form g fits lawful none
-        ∙ ap (λ n. byte_size g + n) (sym (srid_size_is (is_some (form_srid form))))
+    ∙ ap (λ n. byte_size g + n) (sym (srid_size_is (is_some (form_srid form))))
 
 -- what the exit of a `?` returns where there was no room for the header and what is behind it
 pub no_room_for : {a b : Progress} {n : ℕ} (options : WriteOptions) (g : Geometry) (e : Stopped)

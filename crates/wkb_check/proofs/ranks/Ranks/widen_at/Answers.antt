@@ -6,8 +6,11 @@ use Rattle.wkb_check.proofs.ranks.Ranks.widen_at.Goals as goal
 
 pub widen-requires-clause-inside : goal.widen-requires-clause-inside
 widen-requires-clause-inside c =
-    omega (arith, place_is c.args.dimension c.args.place _ c.in-Some.is c.requires.place,
-        c.coordinate_size-size.ensures)
+    omega (
+      arith,
+      place_is c.args.dimension c.args.place _ c.in-Some.is c.requires.place,
+      c.coordinate_size-size.ensures,
+    )
 
 pub widen-requires-clause-whole : goal.widen-requires-clause-whole
 widen-requires-clause-whole c = rw c.coordinate_size-size.ensures c.requires.whole

@@ -27,4 +27,4 @@ pub returns-clause-bytes : goal.returns-clause-bytes
 returns-clause-bytes c =
     let p = c.args.self.now in
     rw (c.subslice.ensures, c.header_length.ensures, c.coordinate_size.ensures, point_encoding_is p.layout p.buf.now)
-        refl
+    refl
