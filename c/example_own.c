@@ -18,7 +18,7 @@ static void print_rows(const wkb_levels *levels, wkb_kind kind) {
 int main(void) {
   /* One row of one single, which has one ring of one coordinate. */
   static const double one_two[] = {1, 2};
-  wkb_levels point = {.words = one_two, .word_count = 2, .rings = 1, .singles = 1, .rows = 1};
+  wkb_levels point = wkb_one_point(one_two, 2);
   print_rows(&point, WKB_KIND_POINT);
 
   /* Two rows of one single each, each of one ring: these end after two coordinates and after four. */

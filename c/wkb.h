@@ -1,7 +1,7 @@
 /* Well-Known Binary for C and C++: a reader and a writer that are proved to do what this header says. A sentence that
- * ends in (tested) is tested only. So are wkb_version, wkb_words, wkb_word, wkb_whole, wkb_little_word, wkb_big_word,
- * the texts and the classes of statuses, and what a call does around the proved one: it replaces null pointers, passes
- * structs on, and returns what it has found.
+ * ends in (tested) is tested only. So are wkb_version, wkb_words, wkb_word, wkb_whole, wkb_one_point, wkb_little_word,
+ * wkb_big_word, the texts and the classes of statuses, and what a call does around the proved one: it replaces null
+ * pointers, passes structs on, and returns what it has found.
  *
  * BUF may hold any bytes. A call returns, and keeps nothing (tested). It reads the bytes that it is given and no
  * others, and writes only through its other pointers (tested). Output buffers must not overlap each other or any input.
@@ -314,6 +314,12 @@ typedef struct wkb_levels {
 size_t wkb_column_from_coordinates(const wkb_levels *levels, wkb_kind kind, wkb_dim dimension,
                                    const wkb_options *options, void *out, size_t room, uint64_t *ends,
                                    uint8_t *statuses);
+
+/* The levels of one point, which has these words: one row, one single, one ring, one coordinate. */
+static inline wkb_levels wkb_one_point(const double *words, size_t word_count) {
+  wkb_levels levels = {words, word_count, NULL, 1, NULL, 1, NULL, 1, NULL, 0};
+  return levels;
+}
 
 /* The first entry of the table of wkb_parts, made of what wkb_check finds: all that a point or a line string needs. */
 static inline wkb_part wkb_whole(const wkb_found *found) {
