@@ -24,7 +24,17 @@ class AnyInput:
         return True
 
 
-class Ogr(peers.Ogr):
+class OneByOne:
+    """A library that reads one input after another."""
+
+    def writes(self, inputs):
+        """What it writes of each input; None of one that it doesn't read."""
+        for data in inputs:
+            geometry = self.read(data)
+            yield geometry and self.ways(geometry)
+
+
+class Ogr(OneByOne, peers.Ogr):
     """OGR writes ISO codes, and keeps no SRID."""
 
     keeps_m = True
@@ -41,11 +51,6 @@ class Ogr(peers.Ogr):
                 found[order, ISO] = out.raw
         return found
 
-    def writes(self, inputs):
-        for data in inputs:
-            geometry = self.read(data)
-            yield geometry and self.ways(geometry)
-
     def made_of(self, text):
         geometry, at = c_void_p(), c_char_p(text.encode())
         if self.library.OGR_G_CreateFromWkt(ctypes.byref(at), c_void_p(), ctypes.byref(geometry)):
@@ -58,7 +63,7 @@ class Ogr(peers.Ogr):
                 yield out.raw
 
 
-class Geos(AnyInput, peers.Geos):
+class Geos(AnyInput, OneByOne, peers.Geos):
     """GEOS before 3.12 has no m."""
 
     keeps_m = False
@@ -75,11 +80,6 @@ class Geos(AnyInput, peers.Geos):
             if out:
                 found[order, form] = ctypes.string_at(out, size.value)
         return found
-
-    def writes(self, inputs):
-        for data in inputs:
-            geometry = self.read(data)
-            yield geometry and self.ways(geometry)
 
     def made_of(self, text):
         self.library.GEOSGeomFromWKT_r.restype = c_void_p
