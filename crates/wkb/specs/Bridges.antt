@@ -92,7 +92,7 @@ appended {options = options} {g = g} {x = x} {untouched = untouched} {old = old}
     appended_by options g x untouched old new failed fails_by _ refl
     (subst (λ q. Writes options g q untouched old new failed fails_by) is w)
 
--- So a sink that held nothing holds the encoding.
+-- A sink that held nothing before the writer holds the encoding after it.
 pub encoding_alone : {options : WriteOptions} {g : Geometry} {r : Result (Unit {0}) WkbError} {x : Unit {0}}
     {untouched : Type 0} {old new : List ℕ} {failed : Bool} {fails_by : Option Error → Type 0}
     → old ≡ [] → Writes options g r untouched (Some old) (Some new) failed fails_by
@@ -121,7 +121,7 @@ read_before rest {options = options} {g = g} {r = r} {x = x} {old = old} {new = 
       h.options_kept,
     )
 
--- The same with nothing after it.
+-- The encoding that a writer wrote into an empty sink is read again, with nothing after it.
 pub read_again : {options : WriteOptions} {g : Geometry} {r : Result (Unit {0}) WkbError} {x : Unit {0}}
     {untouched : Type 0} {old new : List ℕ} {failed : Bool} {fails_by : Option Error → Type 0}
     → old ≡ [] → Writes options g r untouched (Some old) (Some new) failed fails_by

@@ -6,7 +6,7 @@ use Rattle.wkb.specs.Prelude.{as_dimensions, Dimension, Dimensions, size, Xy, Xy
 use Rattle.wkb.specs.Values.{Coordinate}
 use Rattle.wkb.specs.Geometries.{IsCoordinate, IsPoint, AreCoordinates}
 use Rattle.wkb.specs.Reads.{Listed, Coord, LinearRing, Point, LineString, MultiPoint, words_seen, coord_dimension}
-use Rattle.wkb.specs.Reads.{ring_seen, ring_dimension, seen_coordinate, point_dimension, line_string_coordinates}
+use Rattle.wkb.specs.Reads.{ring_seen, ring_dimension, seen_coordinate, point_dimension, seen_coordinates}
 use Rattle.wkb.specs.Reads.{line_string_dimension, seen_points, multi_point_dimension, fitted_parts, fitted_members}
 use Rattle.wkb_view.specs.Ranges as ranges
 use Rattle.wkb_view.specs.Fitted.{line_strings_fit, polygons_fit}
@@ -15,23 +15,23 @@ use Rattle.wkb_view.specs.Fitted.{line_strings_fit, polygons_fit}
 pub coord_view_lawful : (c : Coord) → IsCoordinate (as_dimensions (coord_dimension c)) (words_seen c)
 coord_view_lawful c = ranges.coordinate_lawful c.order c.dimension c.bytes.now c.in_range
 
--- So has each of a ring that was read.
+-- Each coordinate of a ring that was read has as many words as the ring's dimension, each of 64 bits.
 pub ring_view_lawful : (r : LinearRing) → AreCoordinates (as_dimensions (ring_dimension r)) (ring_seen r)
 ring_view_lawful r = ranges.ring_lawful r.order r.dimension r.bytes.now r.in_range
 
 -- The coordinate of a point that was read, where it has one.
 pub point_view_lawful : (p : Point) → IsPoint (as_dimensions (point_dimension p)) (seen_coordinate p)
-point_view_lawful p = ranges.point_lawful p.layout p.buf.now p.in_range
+point_view_lawful p = ranges.point_item_lawful p.layout p.buf.now p.in_range
 
 -- Each coordinate of a line string that was read.
 pub line_string_view_lawful : (l : LineString)
-    → AreCoordinates (as_dimensions (line_string_dimension l)) (line_string_coordinates l)
-line_string_view_lawful l = ranges.line_string_lawful l.layout l.buf.now l.in_range
+    → AreCoordinates (as_dimensions (line_string_dimension l)) (seen_coordinates l)
+line_string_view_lawful l = ranges.line_string_item_lawful l.layout l.buf.now l.in_range
 
 -- Each point of a multi point that was read.
 pub multi_point_view_lawful : (m : MultiPoint)
     → AllByRecursion (IsPoint (as_dimensions (multi_point_dimension m))) (seen_points m)
-multi_point_view_lawful m = ranges.multi_point_lawful m.layout m.count m.buf.now m.in_range
+multi_point_view_lawful m = ranges.multi_point_item_lawful m.layout m.count m.buf.now m.in_range
 
 -- Each ring of a polygon that was read, and each line string of a multi line string.
 pub parts_view_lawful : (g : Listed (List (List Coordinate)))
@@ -63,7 +63,7 @@ x_is_there c w is =
     let dims = as_dimensions (coord_dimension c) in
     word_is_there dims (words_seen c) 0 w (coord_view_lawful c) (omega (arith, has_two (coord_dimension c))) is
 
--- So is the word that `y` returns.
+-- The word that `y` of a coordinate that was read returns is there.
 pub y_is_there : (c : Coord) (w : ℕ) → w ≡ slice_index (words_seen c) 1 → slice_get (words_seen c) 1 ≡ Some w
 y_is_there c w is =
     let dims = as_dimensions (coord_dimension c) in

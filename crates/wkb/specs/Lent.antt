@@ -7,7 +7,7 @@ use Rattle.wkb.specs.Spellings.{SpellsCoordinates}
 use Rattle.wkb.specs.Reads.{Listed, Item, whole_of, BytesSpell, spelling_at, order_of, Point, LineString, MultiPoint}
 use Rattle.wkb.specs.Reads.{LinearRing, point_seen, point_dimension, seen_coordinate, point_value, multi_point_seen}
 use Rattle.wkb.specs.Reads.{multi_point_dimension, seen_points, line_string_seen, line_string_dimension}
-use Rattle.wkb.specs.Reads.{line_string_coordinates, ring_seen, ring_encoding, ring_order, ring_dimension}
+use Rattle.wkb.specs.Reads.{seen_coordinates, ring_seen, ring_encoding, ring_order, ring_dimension}
 use Rattle.wkb.specs.Laws.{IsMember, SpelledInFull, MembersInPlace, RingsInPlace, WordsStand, IsWordOf, StandsAt}
 use Rattle.wkb.specs.Laws.{member_start, ring_start, NextStart, SizeOfSpelled}
 use Rattle.wkb.specs.Bridges.{part_is_member, rest_stands, stands_within, begins_there}
@@ -32,15 +32,15 @@ point_is_member m k p same spelled of =
 -- The line string of a multi line string at an index is its member of this number.
 pub line_string_is_member : (m : Listed (List (List Coordinate))) (k : ℕ) (l : LineString)
     → line_string_dimension l ≡ m.dimension → Some (line_string_seen l).spelled ≡ spelling_at m.spelled k
-    → Some (line_string_coordinates l) ≡ slice_get m.parts k
+    → Some (seen_coordinates l) ≡ slice_get m.parts k
     → IsMember k m.spelled (multi_line_string m.dimension m.parts) (line_string_seen l).spelled
     (line_string_seen l).value
 line_string_is_member m k l same spelled of =
     subst (λ d. IsMember k m.spelled (multi_line_string m.dimension m.parts) (line_string_seen l).spelled
-    (line_string d (line_string_coordinates l)))
+    (line_string d (seen_coordinates l)))
     (sym same)
     (part_is_member (line_string m.dimension) m.spelled (multi_line_string m.dimension m.parts) m.parts k
-    (line_string_seen l).spelled (line_string_coordinates l) refl spelled of)
+    (line_string_seen l).spelled (seen_coordinates l) refl spelled of)
 
 -- The polygon of a multi polygon at an index is its member of this number.
 pub polygon_is_member : (m : Listed (List (List (List Coordinate)))) (k : ℕ) (p : Listed (List (List Coordinate)))
@@ -83,7 +83,7 @@ pub record IsRingAt (p : Listed (List (List Coordinate))) (j : ℕ) (r : LinearR
   pub stands : StandsAt (ring_start j p.spelled p.dimension p.parts) (ring_encoding r) p.encoding
   pub at : Some (ring_seen r) ≡ slice_get p.parts j
 
--- So is the ring that `exterior` or `interior` returns.
+-- The ring that `exterior` or `interior` returns is at its place in the polygon's bytes.
 pub ring_stands : SpelledInFull → RingsInPlace → (p : Listed (List (List Coordinate))) (j : ℕ) (r : LinearRing)
     {lent : List ℕ} → Lends (whole_of polygon p) lent
     → SpellsCoordinates (ring_order r) (ring_dimension r) (ring_seen r) (ring_encoding r)

@@ -5,7 +5,7 @@ pub mod Values
 pub mod Spellings
 pub mod Refusals
 pub mod Geometries
-pub mod PlainGeometry
+mod PlainGeometry
 pub mod Plain
 pub mod Levels
 pub mod Encodings

@@ -1,4 +1,5 @@
--- What a plain geometry of any kind means, and that it is lawful.
+-- What a plain geometry of any kind means, and that it is lawful. `Plain` passes it on, and can't hold it: `Point` and
+-- its like are types there, and the variants of a layer here.
 use Rattle.std.specs.Prelude.{◌≡◌, List, [], ◌∷◌, map, refl}
 use Rattle.std.proofs.Common.{ap, ◌∙◌, sym, subst}
 use Rattle.wkb_geom.specs.declared.common.Dimensions.{Dimensions}

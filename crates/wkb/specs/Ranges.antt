@@ -60,7 +60,7 @@ widened_by_both r (x ∷ xs) ys = widened_by_both (with_word r x) xs ys
 
 -- ---- the words that bring a number within
 
--- So is it within their own range.
+-- A number that words bring within any range is within the range of these words.
 pub within_range_of : (ws : List ℕ) (x : ℕ) → BringsWithin ws x → IsWithin (range_of ws) x
 within_range_of ws x h = h no_numbers
 
@@ -80,7 +80,7 @@ before_others ws more x h r =
 after_others : (before ws : List ℕ) (x : ℕ) → BringsWithin ws x → BringsWithin (before ++ ws) x
 after_others before ws x h r = subst (λ q. IsWithin q x) (sym (widened_by_both r before ws)) (h (widened r before))
 
--- So do the words of a list's items, as of a polygon's rings, if those of one do.
+-- What the words of one item of a list bring within, the words of all its items do, as of a polygon's rings.
 pub item_within : {A : Type 0} (f : A → List ℕ) (items : List A) (i : ℕ) (a : A) (x : ℕ) → slice_get items i ≡ Some a
     → BringsWithin (f a) x → BringsWithin (words_of_each f items) x
 item_within f [] i a x at h = absurd (cc)

@@ -19,7 +19,7 @@ pub use Rattle.wkb_view.specs.Coords.{ring_coord_bytes, CoordBytesSpell, RingByt
 pub use Rattle.wkb_view.specs.Views.{point_seen, line_string_seen, multi_point_seen, point_layout, line_string_layout}
 pub use Rattle.wkb_view.specs.Views.{multi_point_layout, point_dimension, line_string_dimension}
 pub use Rattle.wkb_view.specs.Views.{multi_point_dimension, point_order, point_spelling, line_string_order}
-pub use Rattle.wkb_view.specs.Views.{line_string_spelling, line_string_coordinates, coordinate_in, line_string_offset}
+pub use Rattle.wkb_view.specs.Views.{line_string_spelling, seen_coordinates, coordinate_in, line_string_offset}
 pub use Rattle.wkb_view.specs.Views.{multi_point_offset, point_value, seen_coordinate, seen_points, point_coord_bytes}
 pub use Rattle.wkb_view.specs.Views.{point_words_bytes, line_string_coord_bytes, line_string_coords_bytes}
 pub use Rattle.wkb_view.specs.Views.{multi_point_member_bytes}
@@ -30,7 +30,7 @@ pub use Rattle.wkb_view.specs.Members.{polygon_seen, multi_line_string_seen, mul
 pub use Rattle.wkb_view.specs.Members.{multi_point_item}
 pub use Rattle.wkb_geom.specs.Reading.{body_start, parts_start, point_item, line_string_item}
 pub use Rattle.wkb_view.specs.Fitted.{fitted_line_string, fitted_line_strings, fitted_polygons, fitted_point}
-pub use Rattle.wkb_view.specs.Fitted.{fitted_geometry, fitted_geometries, fitted_parts, fitted_members}
+pub use Rattle.wkb_view.specs.Fitted.{fitted_geometry, fitted_geometries, fitted_parts, fitted_polygon, fitted_members}
 pub use Rattle.wkb_view.specs.Fitted.{fitted_geometry-same}
 pub use Rattle.wkb_read.specs.declared.geometry.Wkb.{Wkb}
 pub use Rattle.wkb_view.specs.declared.coord.Coord.{Coord}

@@ -5,14 +5,14 @@ use Rattle.wkb_geom.specs.declared.error.WkbError.{WkbError}
 use Rattle.wkb_geom.specs.Geometries.{Geometry}
 use Rattle.wkb_write.specs.Answers.{encoding_of}
 pub use Rattle.wkb_write.specs.Answers.{IsSizeOf, IsRefusedAs, IsWrittenAs, IsSpelled, IsSpelledAs, IsFailedAs, Writes}
-pub use Rattle.wkb_write.specs.Answers.{WritesTo, IsInFront, OutgrowsSlice, IsVecError, IsSliceError}
+pub use Rattle.wkb_write.specs.Answers.{WritesTo, WritesToSlice, IsInFront, OutgrowsSlice, IsVecError, IsSliceError}
 pub use Rattle.wkb_write.specs.Measures.{Reports}
 pub use Rattle.wkb_sink.specs.Sinks.{FailsBy, TellsFailure, IsOutOfMemory, IsIOError, IsOwnError, IsWritten, IsBegun}
 pub use Rattle.wkb_sink.specs.Sinks.{Puts}
 pub use Rattle.wkb_sink.specs.declared.options.WriteOptions.{WriteOptions}
-pub use Rattle.wkb_sink.specs.Sinks.{put_fails, put_whole, KnownOfFailure, IsShortOfMemory}
+pub use Rattle.wkb_sink.specs.Sinks.{put_fails, put_whole, PutsWhole, KnownOfFailure, IsShortOfMemory}
 pub use Rattle.wkb_sink.specs.declared.sink.Sink.{Ghosts}
-pub use Rattle.wkb_sink.specs.Held.{Outward, Growing, Lent}
+pub use Rattle.wkb_sink.specs.Held.{Outward, Growing, FitsCapacity, Lent}
 
 -- the bytes that are returned at Ok are the geometry's encoding under the options
 abbrev pub IsEncodingOf : WriteOptions → Geometry → Result (Vec ℕ Global) WkbError → Type 0

@@ -3,12 +3,12 @@ use Rattle.wkb_c.proofs.Common.{◌≡◌, ℕ, zero, suc, ◌+◌, ◌≤◌, �
 use Rattle.std.proofs.Common.{set}
 use lib.Seq.{get_or-set_same, get_or-set_other}
 use Rattle.wkb_c.specs.declared.column.Column.{Column}
-use Rattle.wkb_c.specs.Coordinates.{Levels, AreColumnCoordinates, IsCoordinatesRow}
+use Rattle.wkb_c.specs.Coordinates.{LevelLists, AreColumnCoordinates, IsCoordinatesRow}
 use Rattle.wkb_c.specs.declared.coordinates.Totals.{Totals}
 
-module _ (c : Column) (dimension : ℕ) (statuses row_ends : List ℕ) (out : Levels) (i s e : ℕ) where
+module _ (c : Column) (dimension : ℕ) (statuses row_ends : List ℕ) (out : LevelLists) (i s e : ℕ) where
   -- the rows above aren't changed by what is written for a later one
-  rows_kept : (n : ℕ) (at : Totals) (now : Levels) → n ≤ i
+  rows_kept : (n : ℕ) (at : Totals) (now : LevelLists) → n ≤ i
       → AreColumnCoordinates c dimension statuses row_ends out n at now
       → AreColumnCoordinates c dimension (set statuses i s) (set row_ends i e) out n at now
   rows_kept zero at now above h = h
@@ -19,8 +19,8 @@ module _ (c : Column) (dimension : ℕ) (statuses row_ends : List ℕ) (out : Le
       let end = get_or-set_other row_ends i n e 0 other ∙ h.1.1.2 in
       (h.0, (h.1.0, (rows_kept n h.0 h.1.0 (omega (arith, above)) h.1.1.0, row, end)))
 
-pub row_more : (c : Column) (dimension : ℕ) (statuses row_ends : List ℕ) (out : Levels) (i s : ℕ) (from at : Totals)
-    (before now : Levels)
+pub row_more : (c : Column) (dimension : ℕ) (statuses row_ends : List ℕ) (out : LevelLists) (i s : ℕ) (from at : Totals)
+    (before now : LevelLists)
     → i < length statuses → i < length row_ends → AreColumnCoordinates c dimension statuses row_ends out i from before
     → IsCoordinatesRow c dimension i s from at before now
     → AreColumnCoordinates c dimension (set statuses i s) (set row_ends i at.singles) out (i + 1) at now

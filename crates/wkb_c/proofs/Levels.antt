@@ -17,14 +17,14 @@ use Rattle.wkb_check.specs.Pieces.{rings_of, pieces_of, IsAhead, IsTaken, IsPiec
 use Rattle.wkb_check.specs.declared.pieces.Pieces.{Pieces}
 use Rattle.wkb_check.specs.declared.pieces.Piece.{Piece}
 use Rattle.wkb_check.proofs.Placing.{sets_after, own_piece, leaf_of}
-use Rattle.wkb_c.specs.Coordinates.{words_asked, words_in, ring_counts, single_counts, ends, totals_after, with_levels}
-use Rattle.wkb_c.specs.Coordinates.{Levels, HasRoomUpTo}
+use Rattle.wkb_c.specs.Coordinates.{words_asked, asked_subject_words, ring_counts, single_counts, ends, totals_after}
+use Rattle.wkb_c.specs.Coordinates.{LevelLists, HasRoomUpTo, with_levels}
 use Rattle.wkb_c.specs.declared.coordinates.Totals.{Totals}
 use Rattle.wkb_c.specs.PieceLevels.{ring_sizes, single_sizes, piece_words, with_words, with_ring_end, with_single_end}
 use Rattle.wkb_c.specs.RowItems.{end_of}
 use Rattle.wkb_check.proofs.Subjects.{IsPieceOf, ArePiecesOf, kind_in, count_in, pieces_match}
 use Rattle.wkb_check.specs.Subjects.{Subject, whole, ring, subjects, subjects_of_rings, subjects_of_each, dimension_in}
-use Rattle.wkb_check.specs.Subjects.{coordinates_in}
+use Rattle.wkb_check.specs.Subjects.{subject_coordinates}
 
 -- ---- words
 
@@ -176,14 +176,16 @@ module _ {input : List ℕ} {p : Piece} {ps : List Piece} {xs : List Subject} (f
   singles_are : flat_map single_counts xs ≡ single_sizes p ++ flat_map single_counts f.others
   singles_are = ap (flat_map single_counts) f.first ∙ ap (λ ns. ns ++ flat_map single_counts f.others) own_singles
 
-  first_words : (asked : Dimension) → words_in asked f.x ≡ piece_words asked input p
+  first_words : (asked : Dimension) → asked_subject_words asked f.x ≡ piece_words asked input p
   first_words asked =
       λ i. flat_map (words_asked asked (sym f.piece.dimension_is i)) (sym f.piece.coordinates_are i)
 
   words_are : (asked : Dimension)
-      → flat_map (words_in asked) xs ≡ piece_words asked input p ++ flat_map (words_in asked) f.others
+      → flat_map (asked_subject_words asked) xs
+      ≡ piece_words asked input p ++ flat_map (asked_subject_words asked) f.others
   words_are asked =
-      ap (flat_map (words_in asked)) f.first ∙ ap (λ ws. ws ++ flat_map (words_in asked) f.others) (first_words asked)
+      ap (flat_map (asked_subject_words asked)) f.first
+      ∙ ap (λ ws. ws ++ flat_map (asked_subject_words asked) f.others) (first_words asked)
 
   rings_sum : sum (flat_map ring_counts xs) ≡ sum (ring_sizes p) + sum (flat_map ring_counts f.others)
   rings_sum = ap sum rings_are ∙ sum_append (ring_sizes p) (flat_map ring_counts f.others)
@@ -331,24 +333,25 @@ words_length asked own (c ∷ cs) =
     )
 
 -- a ring has as many coordinates as it counts, and nothing else has any
-subject_length : (x : Subject) → length (coordinates_in x) ≡ sum (ring_counts x)
+subject_length : (x : Subject) → length (subject_coordinates x) ≡ sum (ring_counts x)
 subject_length (ring order d cs) = omega (arith, sum-first (length cs) [])
 subject_length (whole (node h words ss) (point d None)) = refl
 subject_length (whole (node h words ss) (point d (Some c))) = refl
 subject_length (whole (node h words ss) (line_string d cs)) = omega (arith, sum-first (length cs) [])
 subject_length (whole (node h words ss) _) = refl
 
-subject_words : (asked : Dimension) (x : Subject) → length (words_in asked x) ≡ width asked * sum (ring_counts x)
+subject_words : (asked : Dimension) (x : Subject)
+    → length (asked_subject_words asked x) ≡ width asked * sum (ring_counts x)
 subject_words asked x =
-    words_length asked (dimension_in x) (coordinates_in x) ∙ ap (λ n. width asked * n) (subject_length x)
+    words_length asked (dimension_in x) (subject_coordinates x) ∙ ap (λ n. width asked * n) (subject_length x)
 
 subjects_words : (asked : Dimension) (xs : List Subject)
-    → length (flat_map (words_in asked) xs) ≡ width asked * sum (flat_map ring_counts xs)
+    → length (flat_map (asked_subject_words asked) xs) ≡ width asked * sum (flat_map ring_counts xs)
 subjects_words asked [] = omega arith
 subjects_words asked (x ∷ xs) =
     omega (
       arith,
-      length-append (words_in asked x) (flat_map (words_in asked) xs),
+      length-append (asked_subject_words asked x) (flat_map (asked_subject_words asked) xs),
       subject_words asked x,
       subjects_words asked xs,
       ap (λ n. width asked * n) (sum_append (ring_counts x) (flat_map ring_counts xs)),
@@ -377,20 +380,20 @@ items_last : {out : List ℕ} {at : ℕ} {items all : List ℕ} → ItemsLeft ou
 items_last {out} {at} left none = ap (sets out at) (sym none) ∙ left.written
 
 -- these subjects are still to be written, where so many rings of an open polygon come first
-pub record LevelsLeft (asked : Dimension) (input : List ℕ) (from : Totals) (all : List Subject) (before : Levels)
-    (at : Totals) (out : Levels) (ps : List Piece) : Type 0 where
+pub record LevelsLeft (asked : Dimension) (input : List ℕ) (from : Totals) (all : List Subject) (before : LevelLists)
+    (at : Totals) (out : LevelLists) (ps : List Piece) : Type 0 where
   pub xs : List Subject
   pub match_is : ArePiecesOf input ps xs
   pub rings_left : ℕ
   pub paced : Paced rings_left xs
-  pub words : ItemsLeft out.words (width asked * at.coordinates) (flat_map (words_in asked) xs)
+  pub words : ItemsLeft out.words (width asked * at.coordinates) (flat_map (asked_subject_words asked) xs)
       (with_levels asked all from before).words
   pub ring_ends : ItemsLeft out.ring_ends at.rings (ends at.coordinates (flat_map ring_counts xs))
       (with_levels asked all from before).ring_ends
   pub single_ends : ItemsLeft out.single_ends at.singles (ends (at.rings + rings_left) (flat_map single_counts xs))
       (with_levels asked all from before).single_ends
 
-pub levels_first : (asked : Dimension) (input : List ℕ) (from : Totals) (out : Levels) (g : HasGeometry input)
+pub levels_first : (asked : Dimension) (input : List ℕ) (from : Totals) (out : LevelLists) (g : HasGeometry input)
     → length out.words < 2 ^ 63
     → length out.ring_ends < 2 ^ 63 → length out.single_ends < 2 ^ 63
     → HasRoomUpTo asked out (totals_after from (subjects g.spelled g.value))
@@ -425,8 +428,8 @@ levels_first asked input from out g short short' short'' room =
       };
     }
 
-module _ {asked : Dimension} {input : List ℕ} {from : Totals} {all : List Subject} {before : Levels} {at : Totals}
-    {out : Levels} {ps rest : List Piece} {p : Piece}
+module _ {asked : Dimension} {input : List ℕ} {from : Totals} {all : List Subject} {before : LevelLists} {at : Totals}
+    {out : LevelLists} {ps rest : List Piece} {p : Piece}
     (left : LevelsLeft asked input from all before at out ps) (first : ps ≡ p ∷ rest) where
   this : FirstPiece input p rest left.xs
   this = first_piece input left.xs left.match_is first
@@ -445,7 +448,7 @@ module _ {asked : Dimension} {input : List ℕ} {from : Totals} {all : List Subj
         arith,
         left.words.room,
         ap length (words_are this asked),
-        length-append (piece_words asked input p) (flat_map (words_in asked) this.others),
+        length-append (piece_words asked input p) (flat_map (asked_subject_words asked) this.others),
         piece_length,
       )
 
@@ -467,7 +470,8 @@ module _ {asked : Dimension} {input : List ℕ} {from : Totals} {all : List Subj
         singles_many this,
       )
 
-  module _ (to : Totals) (new : Levels) (coordinates_is : to.coordinates ≡ end_of at.coordinates (sum (ring_sizes p)))
+  module _ (to : Totals) (new : LevelLists)
+      (coordinates_is : to.coordinates ≡ end_of at.coordinates (sum (ring_sizes p)))
       (rings_is : to.rings ≡ end_of at.rings (length (ring_sizes p)))
       (singles_is : to.singles ≡ end_of at.singles (length (single_sizes p)))
       (words_is : new.words ≡ with_words asked input p at out.words)
@@ -512,7 +516,7 @@ module _ {asked : Dimension} {input : List ℕ} {from : Totals} {all : List Subj
       paced = paces.paced;
       words =
           items_next left.words (width asked * to.coordinates) (piece_words asked input p)
-          (flat_map (words_in asked) this.others) new.words (words_are this asked)
+          (flat_map (asked_subject_words asked) this.others) new.words (words_are this asked)
           (ap (λ n. width asked * n) coordinates_to ∙ omega (arith, piece_length)) words_is;
       ring_ends =
           items_next left.ring_ends to.rings (ends at.coordinates (ring_sizes p))
@@ -533,13 +537,13 @@ module _ {asked : Dimension} {input : List ℕ} {from : Totals} {all : List Subj
     pub levels_next : {now : Pieces} → IsAhead now rest → Coming now (LevelsLeft asked input from all before to new)
     levels_next ahead = record { ps = rest; ahead = ahead; left = levels_behind }
 
-pub levels_end : {asked : Dimension} {input : List ℕ} {from at : Totals} {all : List Subject} {before out : Levels}
+pub levels_end : {asked : Dimension} {input : List ℕ} {from at : Totals} {all : List Subject} {before out : LevelLists}
     {ps : List Piece} → LevelsLeft asked input from all before at out ps → ps ≡ []
     → out ≡ with_levels asked all from before
 levels_end {asked} {input} {at = at} {ps = ps} left none =
     let empty = no_piece input ps left.xs none left.match_is in
     λ i. record {
-      words = items_last left.words (ap (flat_map (words_in asked)) empty) i;
+      words = items_last left.words (ap (flat_map (asked_subject_words asked)) empty) i;
       ring_ends = items_last left.ring_ends (ap (λ xs. ends at.coordinates (flat_map ring_counts xs)) empty) i;
       single_ends =
           items_last left.single_ends
@@ -547,7 +551,7 @@ levels_end {asked} {input} {at = at} {ps = ps} left none =
     }
 
 pub levels_last : {asked : Dimension} {input : List ℕ} {w : Pieces} {from at : Totals} {all : List Subject}
-    {before out : Levels} → Coming w (LevelsLeft asked input from all before at out)
+    {before out : LevelLists} → Coming w (LevelsLeft asked input from all before at out)
     → ((ps : List Piece) → IsAhead w ps → ps ≡ []) → out ≡ with_levels asked all from before
 levels_last c none = levels_end c.left (none c.ps c.ahead)
 

@@ -14,3 +14,5 @@ mod Reasons
 mod LastEnds
 mod Rooms
 mod InTurn
+mod Collecting
+mod Gathering

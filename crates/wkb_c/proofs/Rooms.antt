@@ -9,9 +9,9 @@ use Rattle.wkb_check.specs.Public.{DescribesFront}
 use Rattle.wkb_check.specs.declared.answer.Summary.{Summary}
 use Rattle.wkb_c.specs.Columns.{IsRow}
 use Rattle.wkb_c.specs.declared.column.Column.{Column}
-use Rattle.wkb_c.specs.Coordinates.{Levels, HasRoomUpTo, LevelsSuffice, written, no_room, LacksCoordinates}
+use Rattle.wkb_c.specs.Coordinates.{LevelLists, HasRoomUpTo, LevelsSuffice, written, no_room, LacksCoordinates}
 use Rattle.wkb_c.specs.Coordinates.{IsCoordinatesRow, HasCoordinates, handed, failed, dimension_named}
-use Rattle.wkb_c.specs.Coordinates.{totals_after, with_levels, ring_counts, single_counts, ends, words_in}
+use Rattle.wkb_c.specs.Coordinates.{totals_after, with_levels, ring_counts, single_counts, ends, asked_subject_words}
 use Rattle.wkb_c.specs.declared.coordinates.Totals.{Totals}
 use Rattle.wkb_c.specs.declared.status.TheConstants.{NO_ROOM}
 use Rattle.wkb_check.specs.Subjects.{Subject, subjects}
@@ -35,7 +35,7 @@ has_coordinates row is asked_is found d = record {
 }
 
 -- lists are as long as others
-pub record AreAsLong (a b : Levels) : Type 0 where
+pub record AreAsLong (a b : LevelLists) : Type 0 where
   pub words : length a.words ≡ length b.words
   pub ring_ends : length a.ring_ends ≡ length b.ring_ends
   pub single_ends : length a.single_ends ≡ length b.single_ends
@@ -50,7 +50,7 @@ scaled : (d : Dimension) (a b : ℕ) → a ≤ b → width d * a ≤ width d * b
 scaled Xy a b h = omega (arith, h)
 scaled _ a b h = omega (arith, h)
 
-room_before : (asked : Dimension) (out : Levels) (from to : Totals) → Reaches from to → HasRoomUpTo asked out to
+room_before : (asked : Dimension) (out : LevelLists) (from to : Totals) → Reaches from to → HasRoomUpTo asked out to
     → HasRoomUpTo asked out from
 room_before asked out from to far room = record {
   words_fit = omega (arith, room.words_fit, scaled asked from.coordinates to.coordinates far.coordinates);
@@ -58,7 +58,7 @@ room_before asked out from to far room = record {
   singles_fit = omega (arith, room.singles_fit, far.singles);
 }
 
-room_in : (asked : Dimension) (out other : Levels) (to : Totals) → AreAsLong other out → HasRoomUpTo asked out to
+room_in : (asked : Dimension) (out other : LevelLists) (to : Totals) → AreAsLong other out → HasRoomUpTo asked out to
     → HasRoomUpTo asked other to
 room_in asked out other to long room = record {
   words_fit = omega (arith, room.words_fit, long.words);
@@ -77,13 +77,13 @@ reaches from xs small = record {
 small_after : (from : Totals) (xs : List Subject) → AreSmall (totals_after from xs)
 small_after from xs = record { coordinates = omega arith; rings = omega arith; singles = omega arith }
 
-same_long : (out : Levels) → AreAsLong out out
+same_long : (out : LevelLists) → AreAsLong out out
 same_long out = record { words = refl; ring_ends = refl; single_ends = refl }
 
-put_long : (asked : Dimension) (xs : List Subject) (from : Totals) (out : Levels)
+put_long : (asked : Dimension) (xs : List Subject) (from : Totals) (out : LevelLists)
     → AreAsLong (with_levels asked xs from out) out
 put_long asked xs from out = record {
-  words = length-sets out.words (width asked * from.coordinates) (flat_map (words_in asked) xs);
+  words = length-sets out.words (width asked * from.coordinates) (flat_map (asked_subject_words asked) xs);
   ring_ends = length-sets out.ring_ends from.rings (ends from.coordinates (flat_map ring_counts xs));
   single_ends = length-sets out.single_ends from.singles (ends from.rings (flat_map single_counts xs));
 }
@@ -92,14 +92,14 @@ one_dimension : (n : ℕ) (a b : Dimension) → dimension_named n ≡ Some a →
 one_dimension n a b f g = let same : Some a ≡ Some b = sym f ∙ g in cc
 
 -- what a row more says of totals, lengths and room
-pub record RowSays (dimension status : ℕ) (from to : Totals) (before after : Levels) : Type 0 where
+pub record RowSays (dimension status : ℕ) (from to : Totals) (before after : LevelLists) : Type 0 where
   pub far : Reaches from to
   pub small : AreSmall to
   pub long : AreAsLong after before
   pub lacks : (asked : Dimension) → dimension_named dimension ≡ Some asked → HasRoomUpTo asked before to
       → status ≡ NO_ROOM → ⊥
 
-says : {dimension status : ℕ} {from to : Totals} {before after : Levels} (xs : List Subject) (now : Levels)
+says : {dimension status : ℕ} {from to : Totals} {before after : LevelLists} (xs : List Subject) (now : LevelLists)
     → to ≡ totals_after from xs → after ≡ now → AreSmall from → AreAsLong now before
     → ((asked : Dimension) → dimension_named dimension ≡ Some asked → HasRoomUpTo asked before to → status ≡ NO_ROOM
     → ⊥)
@@ -111,7 +111,7 @@ says {from = from} {before = before} xs now to_is after_is small long lacks = re
   lacks = lacks;
 }
 
-pub row_says : {c : Column} {dimension i status : ℕ} {from to : Totals} {before after : Levels}
+pub row_says : {c : Column} {dimension i status : ℕ} {from to : Totals} {before after : LevelLists}
     → IsCoordinatesRow c dimension i status from to before after → AreSmall from
     → RowSays dimension status from to before after
 row_says {from = from} {before = before} (handed asked xs has (written ok is room put)) small =
@@ -124,14 +124,14 @@ row_says {c = c} {dimension = dimension} {i = i} {from = from} {before = before}
     says [] _ (is ∙ none_added from small) same small (same_long before)
     (λ other named room told. coordinates_tell_other c dimension i (subst (LacksCoordinates c dimension i) told why))
 
-pub long_more : {out before after : Levels} → AreAsLong after before → AreAsLong before out → AreAsLong after out
+pub long_more : {out before after : LevelLists} → AreAsLong after before → AreAsLong before out → AreAsLong after out
 long_more more long = record {
   words = more.words ∙ long.words;
   ring_ends = more.ring_ends ∙ long.ring_ends;
   single_ends = more.single_ends ∙ long.single_ends;
 }
 
-module _ {dimension status i : ℕ} {from to : Totals} {out before after : Levels} (statuses : List ℕ)
+module _ {dimension status i : ℕ} {from to : Totals} {out before after : LevelLists} (statuses : List ℕ)
     (row : RowSays dimension status from to before after) (long : AreAsLong before out)
     (done : LevelsSuffice dimension out from i statuses) (there : i < length statuses) where
   pub room_more : LevelsSuffice dimension out to (i + 1) (set statuses i status)

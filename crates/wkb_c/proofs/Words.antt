@@ -15,11 +15,11 @@ use Rattle.wkb_laws.proofs.Parts.{item_at}
 use Rattle.wkb_check.specs.declared.parts.Part.{Part}
 use Rattle.wkb_check.specs.declared.pieces.Piece.{Piece}
 use Rattle.wkb_check.specs.Pieces.{rings_of, pieces_of}
-use Rattle.wkb_check.specs.Subjects.{Subject, whole, ring, order_in, coordinates_in, SpellsSubject, subjects}
+use Rattle.wkb_check.specs.Subjects.{Subject, whole, ring, order_in, subject_coordinates, SpellsSubject, subjects}
 use Rattle.wkb_check.specs.Tables.{entry_count, entry_counts, geometry_entries}
 use Rattle.wkb_check.proofs.Placing.{spelled_size, entries_are}
 use Rattle.wkb_check.proofs.Subjects.{Stands, entry_at, piece_at, ArePlaced, all_placed, IsPieceOf, says}
-use Rattle.wkb_c.specs.Subjects.{HoldsWords, Holds, HoldEach}
+use Rattle.wkb_c.specs.Subjects.{HoldsWords, HoldsSubject, HoldEach}
 
 -- ---- words
 
@@ -39,7 +39,7 @@ word_read input order d offset m i n w cs c read this that =
 
 -- the words of a subject are where its entry says
 entry_words : (input : List ℕ) (index at : ℕ) (x : Subject) → IsPieceOf input (piece_at at x) x
-    → HoldsWords input (entry_at index at x) (order_in x) (coordinates_in x)
+    → HoldsWords input (entry_at index at x) (order_in x) (subject_coordinates x)
 entry_words input index at (ring order d cs) is i n w c this that =
     word_read input order d (at + 4) (length cs) i n w cs c is.coordinates_are this that
 entry_words input index at (whole (node h words ss) (point d p)) is i n w c this that =
@@ -50,7 +50,7 @@ entry_words input index at (whole (node h words ss) (line_string d cs)) is i n w
 entry_words input index at (whole (node h words ss) _) is i n w c this that = absurd (cc)
 
 placed_holds : {input : List ℕ} {at : ℕ} {bytes rest : List ℕ} (index : ℕ) (x : Subject)
-    → Stands input at bytes rest → SpellsSubject x bytes → Holds input (entry_at index at x) x
+    → Stands input at bytes rest → SpellsSubject x bytes → HoldsSubject input (entry_at index at x) x
 placed_holds {input} {at} {bytes} {rest} index (whole (node h words ss) t) stands sp = record {
   bytes = bytes;
   rest = rest;
@@ -72,7 +72,7 @@ each_holds : (input : List ℕ) (es : List Part) (ps : List Piece) (xs : List Su
     → HoldEach input es xs
 each_holds input [] [] [] f = tt
 each_holds input (e ∷ es) (p ∷ ps) (x ∷ xs) f = (
-  subst (λ e. Holds input e x) (sym f.0.entry_is) (placed_holds f.0.index x f.0.stands f.0.spell),
+  subst (λ e. HoldsSubject input e x) (sym f.0.entry_is) (placed_holds f.0.index x f.0.stands f.0.spell),
   each_holds input es ps xs f.1,
 )
 each_holds input _ _ _ f = absurd f

@@ -12,7 +12,7 @@ pub data IsRowBox (c : Column) (i status : ℕ) (box : Bounds) : Type 0 where
   refused : (row : List ℕ) → IsRow c i row → IsRefusedWith row status → box ≡ nothing → IsRowBox c i status box
   no_row : LacksRow c i status → box ≡ nothing → IsRowBox c i status box
 
--- so it is of the rows below this number
+-- each row below this number has its status and its box
 abbrev pub AreRowBoxes : Column → ℕ → List ℕ → List Bounds → Type 0
 AreRowBoxes c rows statuses boxes =
     (i : ℕ) → i < rows → IsRowBox c i (slice_index statuses i) (slice_index_or boxes i nothing)

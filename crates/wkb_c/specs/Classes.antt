@@ -6,6 +6,10 @@ pub record IsRowStatus (status : ℕ) : Type 0 where
   pub least : 16 ≤ status
   pub below : status < 32
 
+-- a row has no bytes, or is refused
+abbrev pub TellsOfRow : ℕ → Type 0
+TellsOfRow status = 16 ≤ status
+
 -- the input is refused
 abbrev pub IsRefusalStatus : ℕ → Type 0
 IsRefusalStatus status = 32 ≤ status

@@ -41,7 +41,7 @@ pub record IsSpan (bytes offsets : List ℕ) (size i start end : ℕ) : Type 0 w
   pub rise : start ≤ end
   pub inside : end ≤ length bytes
 
--- it has no such bytes
+-- row i has no such bytes: an offset is missing or negative, or they decrease or pass the end
 abbrev pub HasNoSpan : List ℕ → List ℕ → ℕ → ℕ → Type 0
 HasNoSpan bytes offsets size i = (start end : ℕ) → IsSpan bytes offsets size i start end → ⊥
 
@@ -71,7 +71,7 @@ pub record IsReach (bytes offsets : List ℕ) (size i reach : ℕ) : Type 0 wher
   pub enough : EndBy bytes offsets size i reach
   pub least : (limit : ℕ) → EndBy bytes offsets size i limit → reach ≤ limit
 
--- so it is of the rows of a column
+-- how far the rows of a column before row i reach
 abbrev pub Reach : Column → ℕ → ℕ → Type 0
 Reach c i reach = IsReach c.bytes.now c.offsets.now c.offset_size i reach
 
@@ -110,6 +110,6 @@ pub data IsStatusOfRow (c : Column) (i status : ℕ) : Type 0 where
   checked_row : (row : List ℕ) → IsRow c i row → IsStatusOf row status → IsStatusOfRow c i status
   no_row : LacksRow c i status → IsStatusOfRow c i status
 
--- so it is of the rows below this number
+-- each row below this number has its status
 abbrev pub AreStatuses : Column → ℕ → List ℕ → Type 0
 AreStatuses c rows statuses = (i : ℕ) → i < rows → IsStatusOfRow c i (slice_index statuses i)

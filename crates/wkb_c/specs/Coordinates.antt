@@ -13,7 +13,7 @@ use Rattle.wkb_geom.specs.Values.{Coordinate, Value, point, line_string, polygon
 use Rattle.wkb_c.specs.Columns.{IsRow, LacksRow, IsRefusedWith}
 use Rattle.wkb_c.specs.declared.column.Column.{Column}
 use Rattle.wkb_c.specs.RowItems.{end_of, NoneLacksRoom}
-use Rattle.wkb_check.specs.Subjects.{Subject, whole, ring, dimension_in, coordinates_in, subjects}
+use Rattle.wkb_check.specs.Subjects.{Subject, whole, ring, dimension_in, subject_coordinates, subjects}
 use Rattle.wkb_c.specs.declared.coordinates.Totals.{Totals}
 use Rattle.wkb_c.specs.declared.status.TheConstants.{OK, NO_ROOM, UNKNOWN_OPTION}
 
@@ -30,7 +30,7 @@ z_of Xyz c = slice_index c 2
 z_of Xym c = empty_word
 z_of Xyzm c = slice_index c 2
 
--- its m
+-- the m of a coordinate of this dimension
 abbrev pub m_of : Dimension → Coordinate → ℕ
 m_of Xy c = empty_word
 m_of Xyz c = empty_word
@@ -44,9 +44,9 @@ words_asked Xyz own c = slice_index c 0 ∷ slice_index c 1 ∷ z_of own c ∷ [
 words_asked Xym own c = slice_index c 0 ∷ slice_index c 1 ∷ m_of own c ∷ []
 words_asked Xyzm own c = slice_index c 0 ∷ slice_index c 1 ∷ z_of own c ∷ m_of own c ∷ []
 
--- those of a subject's coordinates
-abbrev pub words_in : Dimension → Subject → List ℕ
-words_in asked x = flat_map (words_asked asked (dimension_in x)) (coordinates_in x)
+-- the words that the dimension names, of all coordinates of a subject
+abbrev pub asked_subject_words : Dimension → Subject → List ℕ
+asked_subject_words asked x = flat_map (words_asked asked (dimension_in x)) (subject_coordinates x)
 
 -- how many coordinates it has, if it is a ring
 abbrev pub ring_counts : Subject → List ℕ
@@ -72,7 +72,7 @@ ends start (n ∷ ns) = (start + n) ∷ ends (start + n) ns
 abbrev pub no_totals : Totals
 no_totals = record { coordinates = 0; rings = 0; singles = 0 }
 
--- these subjects have so many coordinates, rings and singles
+-- the totals count the coordinates, rings and singles of these subjects
 pub record AreTotals (own : Totals) (xs : List Subject) : Type 0 where
   pub coordinates_are : own.coordinates ≡ sum (flat_map ring_counts xs)
   pub rings_are : own.rings ≡ length (flat_map ring_counts xs)
@@ -87,30 +87,31 @@ totals_after from xs = record {
 }
 
 -- the three lists that the levels are written to
-pub record Levels : Type 0 where
+pub record LevelLists : Type 0 where
   pub words : List ℕ
   pub ring_ends : List ℕ
   pub single_ends : List ℕ
 
-abbrev pub levels : List ℕ → List ℕ → List ℕ → Levels
+abbrev pub levels : List ℕ → List ℕ → List ℕ → LevelLists
 levels words ring_ends single_ends = record { words = words; ring_ends = ring_ends; single_ends = single_ends }
 
 -- the lists have room up to here
-pub record HasRoomUpTo (asked : Dimension) (out : Levels) (to : Totals) : Type 0 where
+pub record HasRoomUpTo (asked : Dimension) (out : LevelLists) (to : Totals) : Type 0 where
   pub words_fit : width asked * to.coordinates ≤ length out.words
   pub rings_fit : to.rings ≤ length out.ring_ends
   pub singles_fit : to.singles ≤ length out.single_ends
 
--- the same lists with the levels of these subjects, which begin here
-abbrev pub with_levels : Dimension → List Subject → Totals → Levels → Levels
+-- the lists after the levels of these subjects are put into them, from these totals on
+abbrev pub with_levels : Dimension → List Subject → Totals → LevelLists → LevelLists
 with_levels asked xs from out = record {
-  words = sets out.words (width asked * from.coordinates) (flat_map (words_in asked) xs);
+  words = sets out.words (width asked * from.coordinates) (flat_map (asked_subject_words asked) xs);
   ring_ends = sets out.ring_ends from.rings (ends from.coordinates (flat_map ring_counts xs));
   single_ends = sets out.single_ends from.singles (ends from.rings (flat_map single_counts xs));
 }
 
 -- the levels of these subjects that begin here are written, or there is no room for them and nothing changes
-pub data ArePut (asked : Dimension) (xs : List Subject) (status : ℕ) (from to : Totals) (before after : Levels) : Type 0
+pub data ArePut (asked : Dimension) (xs : List Subject) (status : ℕ) (from to : Totals) (before after : LevelLists)
+    : Type 0
   where
     written : status ≡ OK → to ≡ totals_after from xs → HasRoomUpTo asked before to
         → after ≡ with_levels asked xs from before → ArePut asked xs status from to before after
@@ -137,7 +138,7 @@ pub record HasCoordinates (c : Column) (dimension i : ℕ) (asked : Dimension) (
   pub are : xs ≡ subjects s t
 
 -- the status of row i, where its levels begin and end, and what becomes of the lists
-pub data IsCoordinatesRow (c : Column) (dimension i status : ℕ) (from to : Totals) (before after : Levels) : Type 0
+pub data IsCoordinatesRow (c : Column) (dimension i status : ℕ) (from to : Totals) (before after : LevelLists) : Type 0
   where
     handed : (asked : Dimension) (xs : List Subject) → HasCoordinates c dimension i asked xs
         → ArePut asked xs status from to before after
@@ -146,15 +147,15 @@ pub data IsCoordinatesRow (c : Column) (dimension i status : ℕ) (from to : Tot
         → IsCoordinatesRow c dimension i status from to before after
 
 -- The rows below this number, each after the one before it: their levels end here, and the lists are these now.
-abbrev pub AreColumnCoordinates : Column → ℕ → List ℕ → List ℕ → Levels → ℕ → Totals → Levels → Type 0
+abbrev pub AreColumnCoordinates : Column → ℕ → List ℕ → List ℕ → LevelLists → ℕ → Totals → LevelLists → Type 0
 AreColumnCoordinates c dimension statuses row_ends out zero at now = (at ≡ no_totals) × (now ≡ out)
 AreColumnCoordinates c dimension statuses row_ends out (suc i) at now =
-    (from : Totals) × ((before : Levels) × (AreColumnCoordinates c dimension statuses row_ends out i from before
+    (from : Totals) × ((before : LevelLists) × (AreColumnCoordinates c dimension statuses row_ends out i from before
     × IsCoordinatesRow c dimension i (slice_index statuses i) from at before now
     × (slice_index row_ends i ≡ at.singles)))
 
 -- with room up to here in the dimension of this number none of the rows below a number lacks room
-abbrev pub LevelsSuffice : ℕ → Levels → Totals → ℕ → List ℕ → Type 0
+abbrev pub LevelsSuffice : ℕ → LevelLists → Totals → ℕ → List ℕ → Type 0
 LevelsSuffice dimension out to rows statuses =
     (asked : Dimension) → dimension_named dimension ≡ Some asked
     → NoneLacksRoom (HasRoomUpTo asked out to) rows statuses

@@ -15,10 +15,11 @@ use Rattle.wkb_c.specs.Statuses.{cause_status, cause_fault}
 use Rattle.wkb_c.specs.declared.inputs.TheConstants.{FIRST, SECOND, DIFFERENT, EQUAL}
 use Rattle.wkb_c.specs.declared.options.TheConstants.{BIG_ENDIAN, LITTLE_ENDIAN, ISO, EWKB_OWN_SRID, EWKB_WITH_SRID}
 use Rattle.wkb_c.specs.declared.options.TheConstants.{EWKB_WITHOUT_SRID}
-use Rattle.wkb_c.specs.declared.status.TheConstants.{OK, NO_MEMORY, NO_ROOM, UNKNOWN_OPTION, NULL_ROW, BAD_OFFSETS}
-use Rattle.wkb_c.specs.declared.status.TheConstants.{BAD_LEVELS, SHORT_HEADER, INVALID_BYTE_ORDER, CODE_OUT_OF_RANGE}
-use Rattle.wkb_c.specs.declared.status.TheConstants.{INCORRECT_TYPE, NESTING_DEPTH_EXCEEDED, SHORT_POINT}
-use Rattle.wkb_c.specs.declared.status.TheConstants.{SHORT_LINE_STRING, SHORT_MULTI_POINT, SHORT_LINEAR_RING}
+use Rattle.wkb_c.specs.declared.status.TheConstants.{OK, NO_MEMORY, NO_ROOM, UNKNOWN_OPTION, TOO_MANY_ROWS, NULL_ROW}
+use Rattle.wkb_c.specs.declared.status.TheConstants.{BAD_OFFSETS, BAD_LEVELS, SHORT_HEADER, INVALID_BYTE_ORDER}
+use Rattle.wkb_c.specs.declared.status.TheConstants.{CODE_OUT_OF_RANGE, INCORRECT_TYPE, NESTING_DEPTH_EXCEEDED}
+use Rattle.wkb_c.specs.declared.status.TheConstants.{SHORT_POINT, SHORT_LINE_STRING, SHORT_MULTI_POINT}
+use Rattle.wkb_c.specs.declared.status.TheConstants.{SHORT_LINEAR_RING}
 
 -- what a call returns
 pub record HaveStatusNumbers : Type 0 where
@@ -26,6 +27,7 @@ pub record HaveStatusNumbers : Type 0 where
   pub no_memory : NO_MEMORY ≡ 1
   pub no_room : NO_ROOM ≡ 2
   pub unknown_option : UNKNOWN_OPTION ≡ 3
+  pub too_many_rows : TOO_MANY_ROWS ≡ 4
   pub null_row : NULL_ROW ≡ 16
   pub bad_offsets : BAD_OFFSETS ≡ 17
   pub bad_levels : BAD_LEVELS ≡ 18

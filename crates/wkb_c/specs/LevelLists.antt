@@ -4,7 +4,7 @@ use Rattle.wkb_geom.specs.declared.common.Dimension.{Dimension}
 use Rattle.wkb_check.specs.Bounded.{HasGeometry}
 use Rattle.wkb_check.specs.Public.{DescribesFront}
 use Rattle.wkb_check.specs.declared.answer.Summary.{Summary}
-use Rattle.wkb_c.specs.Coordinates.{Levels, levels, HasRoomUpTo, totals_after, with_levels, IsCoordinatesRow}
+use Rattle.wkb_c.specs.Coordinates.{LevelLists, levels, HasRoomUpTo, totals_after, with_levels, IsCoordinatesRow}
 use Rattle.wkb_c.specs.Coordinates.{ArePut, AreColumnCoordinates, LevelsSuffice}
 use Rattle.wkb_c.specs.RowItems.{rows_of}
 use Rattle.wkb_check.specs.Subjects.{subjects}
@@ -13,7 +13,7 @@ use Rattle.wkb_c.specs.declared.coordinates.LevelSlices.{LevelSlices}
 use Rattle.wkb_c.specs.declared.coordinates.Totals.{Totals}
 
 -- what they hold
-abbrev pub levels_of : LevelSlices → Levels
+abbrev pub levels_of : LevelSlices → LevelLists
 levels_of out = levels out.words.now out.ring_ends.now out.single_ends.now
 
 -- both are over the same slices
@@ -22,12 +22,12 @@ pub record AreSameSlices (before after : LevelSlices) : Type 0 where
   pub ring_ends_stay : after.ring_ends.ghost_name ≡ before.ring_ends.ghost_name
   pub single_ends_stay : after.single_ends.ghost_name ≡ before.single_ends.ghost_name
 
--- they have room for the levels, which begin here, of the geometry that a row begins with
+-- the slices have room for the levels of the geometry that a row begins with, from these totals on
 abbrev pub HasRoomFor : Dimension → List ℕ → Totals → LevelSlices → Type 0
 HasRoomFor asked row from out =
     (g : HasGeometry row) → HasRoomUpTo asked (levels_of out) (totals_after from (subjects g.spelled g.value))
 
--- these levels are written to them
+-- the levels of the geometry that a row begins with are written to the slices
 abbrev pub PutsLevels : Dimension → List ℕ → Totals → LevelSlices → LevelSlices → Type 0
 PutsLevels asked row from before after =
     (g : HasGeometry row) → levels_of after ≡ with_levels asked (subjects g.spelled g.value) from (levels_of before)
@@ -43,7 +43,7 @@ abbrev pub PutsRow : Column → ℕ → ℕ → ℕ → Totals → Totals → Le
 PutsRow c dimension i status from to before after =
     IsCoordinatesRow c dimension i status from to (levels_of before) (levels_of after)
 
--- so it is of all rows
+-- the levels of all rows are written to the slices, with a status and an end for each row
 abbrev pub AreLevels : Column → ℕ → List ℕ → List ℕ → Totals → LevelSlices → LevelSlices → Type 0
 AreLevels c dimension statuses row_ends at before now =
     AreColumnCoordinates c dimension statuses row_ends (levels_of before) (rows_of statuses row_ends) at (levels_of now)

@@ -1,6 +1,7 @@
 pub mod Boxes
 pub mod Checks
 pub mod Classes
+pub mod Collections
 pub mod Columns
 pub mod Coordinates
 pub mod EnumNumbers

@@ -7,8 +7,13 @@ use Rattle.wkb_geom.specs.declared.common.Dimension.{Dimension}
 use Rattle.wkb_geom.specs.declared.code.TheConstants.{POLYGON}
 use Rattle.wkb_geom.specs.Dimensions.{width}
 use Rattle.wkb_geom.specs.Reading.{coordinates}
+use Rattle.wkb_check.specs.declared.answer.Summary.{Summary}
 use Rattle.wkb_check.specs.declared.pieces.Piece.{Piece}
-use Rattle.wkb_c.specs.Coordinates.{words_asked, ends}
+use Rattle.wkb_check.specs.Bounded.{HasGeometry}
+use Rattle.wkb_check.specs.Pieces.{IsPieceAt}
+use Rattle.wkb_check.specs.Public.{DescribesFront}
+use Rattle.wkb_check.specs.Subjects.{subjects}
+use Rattle.wkb_c.specs.Coordinates.{words_asked, ends, AreTotals}
 use Rattle.wkb_c.specs.declared.coordinates.Totals.{Totals}
 
 -- how many coordinates it has, if it is a ring
@@ -27,15 +32,21 @@ ring_number p parts = if nat_lt p.kind 3 then 1 else (if nat_lt p.kind 6 then p.
 abbrev pub single_number : Piece → ℕ
 single_number p = if nat_lt p.kind 4 then 1 else p.count
 
--- its coordinates are inside the row, where they have this dimension
+-- a geometry in which the check found this, and whose first piece is this, has these totals
+abbrev pub AreTotalsOf : Summary → Piece → Totals → Type 0
+AreTotalsOf found first own =
+    (input : List ℕ) → DescribesFront input found → IsPieceAt input 0 first → (g : HasGeometry input)
+    → AreTotals own (subjects g.spelled g.value)
+
+-- the coordinates of a piece are inside the row, if they have this dimension
 abbrev pub AreInside : List ℕ → Dimension → Piece → Type 0
 AreInside row own p = p.offset + 8 * width own * p.count ≤ length row
 
--- its own coordinates are, if it is a ring
+-- the coordinates of a piece that has some are inside the row
 abbrev pub IsRingInside : List ℕ → Piece → Type 0
 IsRingInside row p = IsTrue (nat_lt p.kind POLYGON) → AreInside row p.dimension p
 
--- its coordinates in the row, where they have this order and dimension
+-- the coordinates of a piece in the row, read in this order and dimension
 abbrev pub coordinates_as : Endianness → Dimension → List ℕ → Piece → List (List ℕ)
 coordinates_as order own row p = coordinates order own p.count (drop p.offset row)
 
@@ -43,11 +54,11 @@ coordinates_as order own row p = coordinates order own p.count (drop p.offset ro
 abbrev pub words_as : Dimension → Endianness → Dimension → List ℕ → Piece → List ℕ
 words_as asked order own row p = flat_map (words_asked asked own) (coordinates_as order own row p)
 
--- those in its own order and dimension
+-- the words that the dimension names, read in the order and dimension of the piece
 abbrev pub words_asked_of : Dimension → List ℕ → Piece → List ℕ
 words_asked_of asked row p = words_as asked p.order p.dimension row p
 
--- its coordinates, if it is a ring
+-- the coordinates of a piece, if it has some
 abbrev pub piece_coordinates : List ℕ → Piece → List (List ℕ)
 piece_coordinates row p = if nat_lt p.kind 3 then coordinates_as p.order p.dimension row p else []
 

@@ -30,14 +30,14 @@ pub data IsRowAnswer {A : Type 0} (Has : ℕ → List A → Type 0) (Fails : ℕ
       → IsRowAnswer Has Fails i status start end out
   failed : Fails i status → end ≡ start → IsRowAnswer Has Fails i status start end out
 
--- so it is of the rows below this number
+-- each row below this number has such an answer
 abbrev pub AreRowAnswers : {A : Type 0} → (ℕ → List A → Type 0) → (ℕ → ℕ → Type 0) → ℕ → List ℕ → List ℕ → List A
     → Type 0
 AreRowAnswers Has Fails rows statuses ends out =
     (i : ℕ) → i < rows
     → IsRowAnswer Has Fails i (slice_index statuses i) (start_at 0 ends i) (slice_index ends i) out
 
--- these are the items of the bytes of row i
+-- row i has bytes, and these are their items
 pub record RowHas {A : Type 0} (Has : List ℕ → List A → Type 0) (c : Column) (i : ℕ) (items : List A) : Type 0 where
   pub row : List ℕ
   pub is : IsRow c i row
@@ -87,12 +87,12 @@ pub data IsRowStep {A : Type 0} (Has : ℕ → List A → Type 0) (Fails : ℕ �
       → IsRowStep Has Fails i status count start before after
   nothing : Fails i status → count ≡ 0 → after ≡ before → IsRowStep Has Fails i status count start before after
 
--- so it is of the table of row i
+-- the step of row i, whose items are the entries of its table of parts
 abbrev pub IsTableStep : Column → ℕ → ℕ × ℕ → ℕ → List Part → List Part → Type 0
 IsTableStep c i told start before after =
     IsRowStep (RowHas HasTable c) (RowFails IsRefusedWith c) i told.0 told.1 start before after
 
--- so it is of its encoding
+-- the step of row i, whose items are the bytes of its encoding
 abbrev pub IsEncodingStep : Options → Column → ℕ → ℕ × ℕ → ℕ → List ℕ → List ℕ → Type 0
 IsEncodingStep o c i told start before after =
     IsRowStep (RowHas (HasEncoding o) c) (RowFails (FailsToWrite o) c) i told.0 told.1 start before after

@@ -64,17 +64,21 @@ abbrev pub cause_fault : ℕ → ℕ → Cause → WkbFault
 cause_fault part offset (general g) = general_fault (general_status g) part offset g
 cause_fault part offset cause = plain_fault (cause_status cause) part offset
 
--- The input is refused. The status says why, and the fault says which part, its numbers, and where it begins: from
--- there on the input has as many bytes as from the refused part on.
-pub record IsFault (input : List ℕ) (status : ℕ) (fault : WkbFault) : Type 0 where
+-- The input is refused, with room for this many collections. The status says why, and the fault says which part, its
+-- numbers, and where it begins: from there on the input has as many bytes as from the refused part on.
+pub record IsFaultWithin (room : ℕ) (input : List ℕ) (status : ℕ) (fault : WkbFault) : Type 0 where
   pub cause : Cause
   pub turns : ℕ
   pub slots : ℕ
-  pub refuses : Refuses max_nesting any input cause turns slots
+  pub refuses : Refuses room any input cause turns slots
   pub offset : ℕ
   pub status_is : status ≡ cause_status cause
   pub fault_is : fault ≡ cause_fault turns offset cause
   pub begins : offset + length (left_in refuses) ≡ length input
+
+-- The input is refused. The status says why, and the fault says which part, its numbers, and where it begins.
+abbrev pub IsFault : List ℕ → ℕ → WkbFault → Type 0
+IsFault input status fault = IsFaultWithin max_nesting input status fault
 
 -- the first input is refused, or it begins with a geometry and the second is refused; the status and the fault tell
 -- why, and `which` the input

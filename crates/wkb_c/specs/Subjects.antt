@@ -5,7 +5,7 @@ use Rattle.wkb_geom.specs.Fronts.{Front}
 use Rattle.wkb_geom.specs.Numbers.{number}
 use Rattle.wkb_geom.specs.Values.{Coordinate, Value, member_count}
 use Rattle.wkb_geom.specs.Spellings.{Spelling}
-use Rattle.wkb_check.specs.Subjects.{Subject, order_in, coordinates_in, SpellsSubject, subjects}
+use Rattle.wkb_check.specs.Subjects.{Subject, order_in, subject_coordinates, SpellsSubject, subjects}
 use Rattle.wkb_check.specs.Tables.{geometry_entries}
 use Rattle.wkb_check.specs.declared.parts.Part.{Part}
 use Rattle.wkb_c.specs.Room.{IsHeld}
@@ -16,18 +16,18 @@ HoldsWords input p order cs = (i n w : ℕ) (c : Coordinate) → slice_get cs i 
     → number order 8 (drop (p.offset + 8 * (p.width * i + n)) input) ≡ w
 
 -- the bytes of the part, from its first up to its end, spell it, and its words are where the entry says
-pub record Holds (input : List ℕ) (p : Part) (x : Subject) : Type 0 where
+pub record HoldsSubject (input : List ℕ) (p : Part) (x : Subject) : Type 0 where
   pub bytes : List ℕ
   pub rest : List ℕ
   pub stand : drop p.begin input ≡ bytes ++ rest
   pub end_is : p.end ≡ p.begin + length bytes
   pub spell : SpellsSubject x bytes
-  pub words : HoldsWords input p (order_in x) (coordinates_in x)
+  pub words : HoldsWords input p (order_in x) (subject_coordinates x)
 
--- so it is of each part, and there are as many parts on either side
+-- each entry holds its subject, and there are as many entries as subjects
 abbrev pub HoldEach : List ℕ → List Part → List Subject → Type 0
 HoldEach input [] [] = Unit {0}
-HoldEach input (p ∷ parts) (x ∷ xs) = Holds input p x × HoldEach input parts xs
+HoldEach input (p ∷ parts) (x ∷ xs) = HoldsSubject input p x × HoldEach input parts xs
 HoldEach input [] (x ∷ xs) = ⊥
 HoldEach input (p ∷ parts) [] = ⊥
 
@@ -58,7 +58,7 @@ pub record HasParts (input : List ℕ) (many : ℕ) : Type 0 where
   pub front : Front input s t rest
   pub many_are : many ≡ suc (member_count t)
 
--- these are the entries of the geometry that the input begins with: where the bytes and words of its parts are
+-- the table of the geometry that the input begins with: where the bytes and words of its parts are
 pub record HasTable (input : List ℕ) (parts : List Part) : Type 0 where
   pub s : Spelling
   pub t : Value

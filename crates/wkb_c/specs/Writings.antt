@@ -1,10 +1,10 @@
 -- The bytes that an encoding is written into.
-use Rattle.std.specs.Prelude.{◌≡◌, ◌≢◌, ℕ, List, Some, None}
+use Rattle.std.specs.Prelude.{◌≡◌, ◌≢◌, ◌⊎◌, ℕ, ◌+◌, ◌≤◌, List, length, Some, None}
 use Rattle.wkb_c.specs.Room.{IsHeld, Exceeds}
 use Rattle.wkb_c.specs.declared.options.Options.{Options}
 use Rattle.wkb_c.specs.declared.options.Request.{Request}
 use Rattle.wkb_c.specs.declared.fault.WkbFault.{WkbFault}
-use Rattle.wkb_c.specs.declared.status.TheConstants.{UNKNOWN_OPTION}
+use Rattle.wkb_c.specs.declared.status.TheConstants.{OK, NO_ROOM, UNKNOWN_OPTION}
 use Rattle.wkb_c.specs.Requests.{request_of, IsRequested}
 use Rattle.wkb_c.specs.Statuses.{IsFault}
 
@@ -19,6 +19,16 @@ pub record FindsNoRoom (request : Request) (input before : List ℕ) (size : ℕ
   pub encoding : List ℕ
   pub is_requested : IsRequested request input encoding
   pub lacks : Exceeds encoding before size
+
+-- The encoding that is asked for was written, or doesn't fit its room. Its length is told, which is at most four bytes
+-- more than the input's.
+pub record WritesRequested (request : Request) (input before after : List ℕ) (status size : ℕ) : Type 0 where
+  pub written : status ≡ OK → IsHandedOut request input before after size
+  pub no_room : status ≡ NO_ROOM → FindsNoRoom request input before size
+  pub bound : size ≤ length input + 4
+  pub known : (status ≡ OK) ⊎ (status ≡ NO_ROOM)
+  pub long : length after ≡ length before
+  pub out_kept : status ≢ OK → after ≡ before
 
 -- the encoding that the options ask for was written
 pub record WritesEncoding (o : Options) (input before after : List ℕ) (size : ℕ) : Type 0 where

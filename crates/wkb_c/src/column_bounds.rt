@@ -7,7 +7,7 @@ ghost use Rattle.wkb_c.specs.Columns.{Reach};
 ghost use Rattle.wkb_c.specs.RowItems.{KeepsFrom, rows_of};
 
 use crate::column::Column;
-use crate::fault::{NO_FAULT, refuse};
+use crate::fault::{NO_FAULT, report_refusal};
 use crate::status::OK;
 use wkb_check::{Bounds, put_bounds};
 
@@ -27,7 +27,7 @@ fn bound_row(column: &Column, i: usize, reach: &mut u64, found: &mut Bounds) -> 
     let mut fault = NO_FAULT;
     match put_bounds(row, found) {
         Ok(()) => OK,
-        Err(refused) => refuse(&refused, &mut fault),
+        Err(refused) => report_refusal(&refused, &mut fault),
     }
 }
 

@@ -46,7 +46,7 @@ fn list_row(
 }
 
 /// Writes the encoding of row i from an index on. Returns its status, and how long its encoding is.
-fn write_row(
+fn write_wkb_row(
     column: &Column,
     i: usize,
     reach: &mut u64,
@@ -136,7 +136,7 @@ pub extern "C" fn wkb_raw_column_write(
     let mut at = 0;
     let mut reach = 0;
     for i in 0..statuses.len().min(ends.len()) {
-        let (status, size) = write_row(column, i, &mut reach, options, out, at);
+        let (status, size) = write_wkb_row(column, i, &mut reach, options, out, at);
         at = at.saturating_add(size);
         statuses[i] = status as u8;
         ends[i] = at;

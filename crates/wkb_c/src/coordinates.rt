@@ -1,7 +1,7 @@
 //! The coordinates of a geometry, in levels: it has singles, a single has rings, a ring has coordinates.
 
 ghost use Rattle.std.specs.Prelude.{◌≡◌, ◌+◌, ◌*◌, ◌^◌, ◌<◌, ◌≤◌, ◌&&◌, length, drop, nat_lt, sum};
-ghost use Rattle.std.specs.Prelude.{IsTrue, true, false, IfSome, is_some, List, ℕ};
+ghost use Rattle.std.specs.Prelude.{IsTrue, true, false, IfSome, is_some};
 ghost use Rattle.wkb_geom.specs.declared.code.TheConstants.{POLYGON};
 ghost use lib.Seq.{sets};
 ghost use Rattle.wkb_geom.specs.Dimensions.{width};
@@ -10,11 +10,11 @@ ghost use Rattle.wkb_check.specs.Bounded.{HasGeometry};
 ghost use Rattle.wkb_check.specs.Pieces.{IsPieceAt};
 ghost use Rattle.wkb_check.specs.Public.{DescribesFront};
 ghost use Rattle.wkb_c.specs.Coordinates.{dimension_named, z_of, m_of, words_asked, HasRoomUpTo};
-ghost use Rattle.wkb_c.specs.Coordinates.{totals_after, AreTotals};
+ghost use Rattle.wkb_c.specs.Coordinates.{totals_after};
 ghost use Rattle.wkb_c.specs.LevelLists.{levels_of, AreSameSlices, HasRoomFor, PutsLevels};
 ghost use Rattle.wkb_c.specs.PieceLevels.{ring_sizes, single_sizes, AreInside, IsRingInside, words_as};
 ghost use Rattle.wkb_c.specs.PieceLevels.{words_asked_of, with_words, with_ring_end, with_single_end};
-ghost use Rattle.wkb_c.specs.PieceLevels.{ring_number, single_number};
+ghost use Rattle.wkb_c.specs.PieceLevels.{ring_number, single_number, AreTotalsOf};
 ghost use Rattle.wkb_c.specs.RowItems.{end_of};
 ghost use Rattle.wkb_check.specs.Subjects.{subjects};
 
@@ -140,7 +140,7 @@ fn put_ordered(
 
 /// Writes the words that are asked for of the coordinates of a piece. The order is a constant in each loop, and where x
 /// and y alone are there and asked for, the dimensions are, too.
-fn put_coordinates(row: &[u8], piece: &Piece, asked: Dimension, out: &mut [u64], start: usize)
+fn put_piece_coordinates(row: &[u8], piece: &Piece, asked: Dimension, out: &mut [u64], start: usize)
     requires inside { AreInside row.now piece.now.dimension piece.now }
     requires room { start + width asked * piece.now.count ≤ length out.old }
     ensures { out.new ≡ sets out.old start (words_asked_of asked row.now piece.now) }
@@ -192,7 +192,7 @@ fn singles_by_kind(first: &Piece) -> u64
 }
 
 impl Totals {
-    /// These totals and a piece more.
+    /// The totals after one more piece. A total that doesn't fit stays at the greatest `u64`.
     #[inline(always)]
     fn with(self, piece: &Piece) -> Totals
         ensures coordinates { result.coordinates ≡ end_of self.coordinates (sum (ring_sizes piece.now)) }
@@ -208,7 +208,7 @@ impl Totals {
         }
     }
 
-    /// These totals and others.
+    /// The sum of two totals. A sum that doesn't fit is the greatest `u64`.
     #[inline(always)]
     fn and(self, own: Totals) -> Totals
         ensures coordinates { result.coordinates ≡ end_of self.coordinates own.coordinates }
@@ -226,8 +226,7 @@ impl Totals {
     #[inline(always)]
     fn of_plain(found: &Summary, first: &Piece) -> Option<Totals>
         ensures some { is_some result ≡ nat_lt first.now.kind GEOMETRY_COLLECTION }
-        ensures totals { IfSome result (λ own. (input : List ℕ) → DescribesFront input found.now
-            → IsPieceAt input 0 first.now → (g : HasGeometry input) → AreTotals own (subjects g.spelled g.value)) }
+        ensures totals { IfSome result (AreTotalsOf found.now first.now) }
     {
         if first.kind >= GEOMETRY_COLLECTION {
             return None;
@@ -253,7 +252,7 @@ impl Totals {
         }
     }
 
-    /// The same, by its first piece and those behind it.
+    /// The totals after a geometry, by a walk from its first piece on.
     #[inline(never)]
     fn after_walk(self, row: &[u8], first: &Piece) -> Totals
         requires here { HasGeometry row.now }
@@ -304,7 +303,7 @@ fn put_ring(
         return;
     }
     let start = asked.width() * at.coordinates as usize;
-    put_coordinates(row, piece, asked, words, start);
+    put_piece_coordinates(row, piece, asked, words, start);
     ring_ends[at.rings as usize] = at.coordinates + piece.count as u64;
 }
 
@@ -362,7 +361,7 @@ pub fn put_levels(
     }
 }
 
-/// The same, by its first piece and those behind it.
+/// Puts the levels of a geometry, by a walk from its first piece on.
 #[inline(never)]
 fn put_walked(row: &[u8], first: &Piece, from: Totals, asked: Dimension, out: &mut LevelSlices<'_>)
     requires here { HasGeometry row.now }

@@ -1,16 +1,19 @@
 //! The encoding that is asked for of what was checked.
 
-ghost use Rattle.std.specs.Prelude.{◌≡◌, ◌≢◌, ◌⊎◌, ◌≤◌, ◌+◌, length};
+ghost use Rattle.std.specs.Prelude.{◌≡◌, ◌<◌};
+ghost use Rattle.wkb_geom.specs.Reading.{type_kind};
+ghost use Rattle.wkb_geom.specs.declared.code.TheConstants.{POLYGON};
 ghost use Rattle.wkb_check.specs.Public.{DescribesFront};
 ghost use Rattle.wkb_c.specs.Requests.{options_for};
-ghost use Rattle.wkb_c.specs.Writings.{IsHandedOut, FindsNoRoom};
+ghost use Rattle.wkb_c.specs.Writings.{WritesRequested};
 
 use crate::options::Request;
 use crate::status::{NO_ROOM, OK};
 use wkb_check::Summary;
 use wkb_geom::Form;
+use wkb_geom::code::WkbType;
 use wkb_geom::words::COUNT_SIZE;
-use wkb_rewrite::{encoded_size, put_encoding};
+use wkb_rewrite::{encoded_size, put_encoding, put_one_piece, size_with_own_srid};
 use wkb_sink::WriteOptions;
 
 /// The options of a request, for a geometry that has this SRID of its own.
@@ -36,12 +39,7 @@ pub fn write_requested(
     size: &mut u64,
 ) -> u32
     requires { DescribesFront buf.now found.now }
-    ensures written { result ≡ OK → IsHandedOut request buf.now out.old out.new size.new }
-    ensures no_room { result ≡ NO_ROOM → FindsNoRoom request buf.now out.old size.new }
-    ensures bound { size.new ≤ length buf.now + 4 }
-    ensures known { (result ≡ OK) ⊎ (result ≡ NO_ROOM) }
-    ensures long { length out.new ≡ length out.old }
-    ensures out_kept { result ≢ OK → out.new ≡ out.old }
+    ensures { WritesRequested request buf.now out.old out.new result size.new }
 {
     let options = options_for(request, found.srid);
     // An encoding is at most four bytes longer than its input, so its size is only asked for where there is less room.
@@ -54,4 +52,49 @@ pub fn write_requested(
     }
     *size = put_encoding(buf, found, options, out) as u64;
     OK
+}
+
+/// As `write_requested`, for a geometry that is one piece: a point or a line string.
+///
+/// It isn't inlined, so that other geometries don't pay for its frame.
+#[inline(never)]
+fn write_one_piece(
+    buf: &[u8],
+    found: &Summary,
+    request: Request,
+    out: &mut [u8],
+    size: &mut u64,
+) -> u32
+    requires here { DescribesFront buf.now found.now }
+    requires kind { type_kind found.now.wkb_type < POLYGON }
+    ensures { WritesRequested request buf.now out.old out.new result size.new }
+{
+    let options = options_for(request, found.srid);
+    let wanted = size_with_own_srid(buf, found, options.form);
+    *size = wanted as u64;
+    if out.len() < wanted {
+        return NO_ROOM;
+    }
+    put_one_piece(buf, found, options, out);
+    OK
+}
+
+/// As `write_requested`, by shorter code for a geometry that is one piece.
+#[inline(always)]
+pub fn write_plain(
+    buf: &[u8],
+    found: &Summary,
+    request: Request,
+    out: &mut [u8],
+    size: &mut u64,
+) -> u32
+    requires { DescribesFront buf.now found.now }
+    ensures { WritesRequested request buf.now out.old out.new result size.new }
+{
+    match found.wkb_type {
+        WkbType::Point(_) | WkbType::LineString(_) => {
+            write_one_piece(buf, found, request, out, size)
+        }
+        _ => write_requested(buf, found, request, out, size),
+    }
 }

@@ -1,10 +1,10 @@
 //! Where and why some bytes are refused.
 
 ghost use Rattle.std.specs.Prelude.{◌≡◌, ℕ, List, IfOk, IfErr, IfSome, None};
-ghost use Rattle.wkb_check.specs.Public.{DescribesFront, IsRefusedFor};
+ghost use Rattle.wkb_check.specs.Public.{DescribesFront, IsRefusedForWithin};
 ghost use Rattle.wkb_rewrite.specs.Inputs.{IsAccepted};
 ghost use Rattle.wkb_c.specs.Classes.{IsRefusalStatus, FitsByte};
-ghost use Rattle.wkb_c.specs.Statuses.{cause_status, general_status, cause_fault, IsFault};
+ghost use Rattle.wkb_c.specs.Statuses.{cause_status, general_status, cause_fault, IsFault, IsFaultWithin};
 
 use crate::status::{
     CODE_OUT_OF_RANGE, INCORRECT_TYPE, INVALID_BYTE_ORDER, NESTING_DEPTH_EXCEEDED, OK,
@@ -91,8 +91,9 @@ fn fault_of_refused(refused: &Refused) -> WkbFault
 }
 
 /// Reports a refusal by the check, and returns its status.
-pub fn refuse(refused: &Refused, fault: &mut WkbFault) -> u32
-    ensures is { (buf : List ℕ) → IsRefusedFor buf refused.now → IsFault buf result fault.new }
+pub fn report_refusal(refused: &Refused, fault: &mut WkbFault) -> u32
+    ensures is { (room : ℕ) (buf : List ℕ) → IsRefusedForWithin room buf refused.now
+        → IsFaultWithin room buf result fault.new }
     ensures refusal { IsRefusalStatus result }
     ensures small { FitsByte result }
 {
@@ -113,7 +114,7 @@ pub fn check_input(buf: &[u8], fault: &mut WkbFault) -> Result<Summary, u32>
 {
     match check(buf) {
         Ok(found) => Ok(found),
-        Err(refused) => Err(refuse(&refused, fault)),
+        Err(refused) => Err(report_refusal(&refused, fault)),
     }
 }
 

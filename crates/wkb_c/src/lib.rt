@@ -3,6 +3,7 @@
 //! In C a slice is a pointer and a length. No call allocates.
 #![tactic(auto)]
 
+mod collect;
 mod column;
 mod column_bounds;
 mod column_coordinates;
@@ -29,8 +30,8 @@ ghost use Rattle.wkb_c.specs.Statuses.{IsStatusOfWriting, IsStatusOfListing};
 ghost use Rattle.wkb_c.specs.Subjects.{IsTable, LacksEntries};
 ghost use Rattle.wkb_c.specs.Writings.{WritesEncoding, WantsRoom};
 
-use encoding::write_requested;
-use fault::{WkbFault, check_input, refuse, status_of_refusal};
+use encoding::{write_plain, write_requested};
+use fault::{WkbFault, check_input, report_refusal, status_of_refusal};
 use found::{Found, found_of};
 use inputs::{FIRST, SECOND, compare};
 use options::{Options, request_of};
@@ -91,16 +92,47 @@ pub extern "C" fn wkb_raw_bounds(buf: &[u8], bounds: &mut Bounds, fault: &mut Wk
 {
     match put_bounds(buf, bounds) {
         Ok(()) => OK,
-        Err(refused) => refuse(&refused, fault),
+        Err(refused) => report_refusal(&refused, fault),
     }
 }
 
 /// Writes the encoding that the options ask for, and its length.
 ///
-/// `NO_ROOM` writes the length too, but no encoding. The options are looked at before the bytes. A refusal
-/// leaves `out` unchanged.
+/// `NO_ROOM` writes the length too, but no encoding. Options that mean nothing are told whatever the bytes are. A
+/// refusal leaves `out` unchanged.
 #[unsafe(no_mangle)]
 pub extern "C" fn wkb_raw_write(
+    buf: &[u8],
+    options: &Options,
+    out: &mut [u8],
+    size: &mut u64,
+    fault: &mut WkbFault,
+) -> u32
+    ensures written { result ≡ OK → WritesEncoding options.now buf.now out.old out.new size.new }
+    ensures no_room { result ≡ NO_ROOM → WantsRoom options.now buf.now out.old size.new }
+    ensures unknown { (result ≡ UNKNOWN_OPTION) ↔ (request_of options.now ≡ None) }
+    ensures bound { (result ≡ OK) ⊎ (result ≡ NO_ROOM) → size.new ≤ length buf.now + 4 }
+    ensures refused { IsRefusalStatus result → IsFault buf.now result fault.new }
+    ensures known { IsStatusOfWriting result }
+    ensures out_kept { result ≢ OK → out.new ≡ out.old }
+    ensures size_kept { result ≢ OK → result ≢ NO_ROOM → size.new ≡ size.old }
+    ensures fault_kept { IsNoRefusal result → fault.new ≡ fault.old }
+{
+    match check_plain(buf) {
+        // The options are read after the check, so that they take no registers during it.
+        Some(plain) => match request_of(options) {
+            Some(request) => write_plain(buf, &plain, request, out, size),
+            None => UNKNOWN_OPTION,
+        },
+        None => write_any(buf, options, out, size, fault),
+    }
+}
+
+/// Writes by the long way, which collections and refused bytes need.
+///
+/// It isn't inlined, so that other bytes don't pay for its frame.
+#[inline(never)]
+fn write_any(
     buf: &[u8],
     options: &Options,
     out: &mut [u8],
@@ -120,9 +152,6 @@ pub extern "C" fn wkb_raw_write(
     let Some(request) = request_of(options) else {
         return UNKNOWN_OPTION;
     };
-    if let Some(found) = check_plain(buf) {
-        return write_requested(buf, &found, request, out, size);
-    }
     match check_input(buf, fault) {
         Ok(found) => write_requested(buf, &found, request, out, size),
         Err(status) => status,

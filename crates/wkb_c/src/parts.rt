@@ -7,7 +7,7 @@ ghost use Rattle.wkb_c.specs.Subjects.{IsTable, LacksEntries};
 
 use crate::found::{Found, found_of};
 use crate::status::{NO_ROOM, OK};
-use wkb_check::{Part, Place, Summary, put_geometries};
+use wkb_check::{Part, PartPlace, Summary, put_geometries};
 
 /// The entry of a geometry that is its only part.
 #[inline(always)]
@@ -49,6 +49,6 @@ pub fn list_parts(buf: &[u8], found: &Summary, parts: &mut [Part], count: &mut u
         parts[0] = whole_part(&whole);
         return OK;
     }
-    put_geometries(buf, 1, parts, Place { index: 0, byte: 0 });
+    put_geometries(buf, 1, parts, PartPlace { index: 0, byte: 0 });
     OK
 }

@@ -13,6 +13,9 @@ pub const NO_ROOM: u32 = 2;
 /// The options name no order or no form.
 pub const UNKNOWN_OPTION: u32 = 3;
 
+/// There are more rows than the four bytes of a count hold.
+pub const TOO_MANY_ROWS: u32 = 4;
+
 /// The validity bit of a row is 0.
 pub const NULL_ROW: u32 = 16;
 

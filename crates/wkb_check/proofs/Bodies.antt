@@ -11,7 +11,7 @@ unfoldable use Rattle.wkb_laws.specs.Prelude.{head_at}
 use Rattle.wkb_laws.proofs.Parts.{then_length, then_append, drop_front, header_length}
 use Rattle.wkb_laws.proofs.Complete.{ring_read}
 use Rattle.wkb_laws.proofs.Lengths.{coordinates_length}
-use Rattle.wkb_check.specs.Bounded.{AreWhole, rings_in, HasGeometry}
+use Rattle.wkb_check.specs.Bounded.{AreWhole, decoded_rings, HasGeometry}
 use Rattle.wkb_check.proofs.Public.{geometry_opens}
 
 -- the members of one kind are geometries
@@ -78,7 +78,7 @@ ring_first order d cs x rest h =
 pub record RingsFirst (order : Endianness) (d : Dimension) (rings : List (List Coordinate)) (n : ℕ)
     (body : List ℕ) : Type 0 where
   pub whole : AreWhole order d n body
-  pub are : rings_in order d n body ≡ rings
+  pub are : decoded_rings order d n body ≡ rings
 
 pub rings_first : (order : Endianness) (d : Dimension) (rings : List (List Coordinate)) (x rest : List ℕ)
     → IsEach (SpellsCoordinates order d) rings x → RingsFirst order d rings (length rings) (x ++ rest)

@@ -7,7 +7,7 @@ use Rattle.wkb_laws.specs.Prelude.{Endianness, Dimension, number, Values, no_mem
 use Rattle.wkb_laws.specs.Prelude.{Spellings, no_spellings, spelling, SpellsEach, any, width, ring_end}
 use Rattle.wkb_geom.specs.Items.{length-items}
 use Rattle.wkb_geom.specs.Reading.{ring_in}
-use Rattle.wkb_check.specs.Bounded.{HasGeometry, HasGeometries, AreWhole, rings_in}
+use Rattle.wkb_check.specs.Bounded.{HasGeometry, HasGeometries, AreWhole, decoded_rings}
 use Rattle.wkb_check.specs.Pieces.{Ahead, own_end, ring_piece, piece_of, pieces_of, pieces_of_rings, pieces_of_each}
 use Rattle.wkb_check.specs.Pieces.{size_of_rings, size, sizes, IsInside, IsAhead, HasAhead, IsTaken, Steps, bytes_left}
 use Rattle.wkb_check.specs.declared.pieces.Pieces.{Pieces}
@@ -73,13 +73,14 @@ ring_taken {buf = buf} {order = order} {d = d} {r = suc m} {geometries = geometr
     let moved : next ≡ at + ring_end d many = omega (arith, ends, ap own_end is) in
     let rest : drop (ring_end d many) bytes ≡ drop next buf = drop-drop (ring_end d many) at buf
     ∙ ap (λ k. drop k buf) (omega (arith, moved)) in
-    let others = rings_in order d m (drop next buf) in
+    let others = decoded_rings order d m (drop next buf) in
     subst (λ k. Taken buf order d k geometries next xs p) (omega arith)
     (record {
       rest = pieces_of_rings order d next others ++ pieces_of_each a.after a.all.spelled a.all.values;
       first = a.are
           ∙ (λ i. ring_piece order d at (cs-many i)
-          ∷ (pieces_of_rings order d ((ap (λ k. at + ring_end d k) cs-many ∙ sym moved) i) (rings_in order d m (rest i))
+          ∷ (pieces_of_rings order d ((ap (λ k. at + ring_end d k) cs-many ∙ sym moved) i)
+          (decoded_rings order d m (rest i))
           ++ pieces_of_each a.after a.all.spelled a.all.values))
           ∙ ap (λ q. q ∷ (pieces_of_rings order d next others ++ pieces_of_each a.after a.all.spelled a.all.values))
           (sym is);
@@ -92,7 +93,7 @@ ring_taken {buf = buf} {order = order} {d = d} {r = suc m} {geometries = geometr
           a.after_is,
           moved,
           ap (ring_end d) cs-many,
-          ap (λ z. size_of_rings d (rings_in order d m z)) rest,
+          ap (λ z. size_of_rings d (decoded_rings order d m z)) rest,
         );
         all = a.all;
         are = refl;

@@ -1,6 +1,6 @@
 -- The loop over the open collections: what is looked at, and what is ahead of it.
 use Rattle.std.proofs.Common.{◌≡◌, ℕ, zero, suc, ◌+◌, ◌-◌, ◌<◌, ◌≤◌, List, [], ◌∷◌, length, take, slice_set, sum_by}
-use Rattle.std.proofs.Common.{Bor, Result, Ok, Err, refl, sym, ap, ◌∙◌, arith, length-take}
+use Rattle.std.proofs.Common.{Bor, Result, Ok, Err, refl, sym, ap, ◌∙◌, arith, length-take, slice_index_or, replicate}
 use Rattle.std.proofs.lemmas.List.{length-reverse}
 use Rattle.std.proofs.lemmas.List.Sums.{sum_by-cons}
 use Rattle.wkb_geom.specs.declared.code.WkbType.{WkbType}
@@ -31,7 +31,7 @@ use Rattle.wkb_check.specs.Walked.{type_walked, body_walked, inside_walked}
 use Rattle.wkb_check.specs.Walked.{Tally, Walked, walked, with_left, onward, item_coordinates, coordinates_by}
 use Rattle.wkb_check.specs.Walked.{inside_told, body_told, ahead_of}
 use Rattle.wkb_check.proofs.Counting.{no_count, list_walked}
-use Rattle.wkb_check.proofs.Closing.{top_set}
+use Rattle.wkb_check.proofs.Closing.{top_set, top_is, none_left}
 use Rattle.wkb_check.proofs.Leaves.{refused_walked}
 
 values_sum : (l : List Item) → coordinate_count_each (values l) ≡ sum_by item_coordinates l
@@ -146,9 +146,24 @@ passes_plain (Err c) h l bytes o old new is p = rw (← is) p
 
 -- ---- the loop
 
-pub starts : (left : List ℕ) (w : Walked) → onward w (ahead_of (open_counts left 0)) ≡ w
-starts left (Ok x) = refl
-starts left (Err e) = refl
+pub no_count_left : (n d : ℕ) → ◌≡◌ {A = ℕ} (slice_index_or (replicate n 0) d 0) 0
+no_count_left zero d = refl
+no_count_left (suc n) zero = refl
+no_count_left (suc n) (suc d) = no_count_left n d
+
+-- of the collections around the outermost no member follows
+none_follow : (left : List ℕ) (around : ℕ) → ((d : ℕ) → ◌≡◌ {A = ℕ} (slice_index_or left d 0) 0) → around ≤ length left
+    → (t : Tally) (rest : List ℕ) → ahead_of (open_counts left around) t rest ≡ Ok (t, rest)
+none_follow left zero none fits t rest = refl
+none_follow left (suc around) none fits t rest =
+    ap (λ (ns : List ℕ). ahead_of ns t rest) (top_is left around 0 (omega (arith, fits)) (sym (none around)))
+    ∙ none_left (open_counts left around) t rest ∙ none_follow left around none (omega (arith, fits)) t rest
+
+pub starts : (left : List ℕ) (around : ℕ) (w : Walked) → ((d : ℕ) → ◌≡◌ {A = ℕ} (slice_index_or left d 0) 0)
+    → around ≤ length left
+    → onward w (ahead_of (open_counts left around)) ≡ w
+starts left around (Ok x) none fits = none_follow left around none fits x.0 x.1
+starts left around (Err e) none fits = refl
 
 -- the next member begins
 module _ (left next bytes : List ℕ) (depth deep turns passed : ℕ) (reached whole : Walked) (ahead : reached ≡ whole)
@@ -174,4 +189,4 @@ module _ (left next bytes : List ℕ) (depth deep turns passed : ℕ) (reached w
 
 pub ruleset open_laws = (opens, opens_none)
 
-pub ruleset loop_laws = (starts, next_begins, next_stops)
+pub ruleset loop_laws = (next_begins, next_stops)

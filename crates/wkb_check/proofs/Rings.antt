@@ -14,7 +14,7 @@ use Rattle.wkb_geom.specs.Refusals.{ring_end}
 use Rattle.wkb_check.specs.declared.parts.Part.{Part}
 use Rattle.wkb_check.specs.Tables.{entry, entry_of, ring_place, ring_entries}
 use Rattle.wkb_check.specs.Pieces.{own_end, ring_piece, size_of_rings}
-use Rattle.wkb_check.specs.Bounded.{rings_in, AreWhole}
+use Rattle.wkb_check.specs.Bounded.{decoded_rings, AreWhole}
 
 pub width_is_small : (d : Dimension) → width d < 2 ^ 32
 width_is_small Xy = omega arith
@@ -28,10 +28,10 @@ pub record RingsLeft (buf : List ℕ) (order : Endianness) (d : Dimension) (n in
   pub whole : AreWhole order d n (drop at buf)
   pub many : length parts ≡ length before
   pub indices : index + n ≡ first + all
-  pub bytes : at + size_of_rings d (rings_in order d n (drop at buf))
-      ≡ start + size_of_rings d (rings_in order d all (drop start buf))
-  pub put : sets parts index (ring_entries d (order_byte order) index at (rings_in order d n (drop at buf)))
-      ≡ sets before first (ring_entries d (order_byte order) first start (rings_in order d all (drop start buf)))
+  pub bytes : at + size_of_rings d (decoded_rings order d n (drop at buf))
+      ≡ start + size_of_rings d (decoded_rings order d all (drop start buf))
+  pub put : sets parts index (ring_entries d (order_byte order) index at (decoded_rings order d n (drop at buf)))
+      ≡ sets before first (ring_entries d (order_byte order) first start (decoded_rings order d all (drop start buf)))
 
 -- what there is of the next ring
 pub record RingThere (buf : List ℕ) (order : Endianness) (d : Dimension) (at : ℕ) : Type 0 where
@@ -79,10 +79,10 @@ ring_next {buf = buf} {order = order} {d = d} {n = suc n} {m = m} {index = index
             arith,
             after,
             l.bytes,
-            ap (λ z. size_of_rings d (rings_in order d n z)) rest,
+            ap (λ z. size_of_rings d (decoded_rings order d n z)) rest,
           );
       put =
           (λ i. sets (set parts index (same i)) (one i)
-          (ring_entries d (order_byte order) (index + 1) (after i) (rings_in order d n (sym rest i))))
+          (ring_entries d (order_byte order) (index + 1) (after i) (decoded_rings order d n (sym rest i))))
           ∙ l.put;
     })

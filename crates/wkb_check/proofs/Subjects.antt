@@ -19,7 +19,7 @@ use Rattle.wkb_check.specs.declared.parts.Part.{Part}
 use Rattle.wkb_check.specs.declared.pieces.Piece.{Piece}
 use Rattle.wkb_check.specs.Pieces.{leading, count_of, rings_of, size, piece_of, ring_piece, pieces_of, pieces_of_rings}
 use Rattle.wkb_check.specs.Pieces.{pieces_of_each}
-use Rattle.wkb_check.specs.Subjects.{Subject, whole, ring, dimension_in, coordinates_in, SpellsSubject, subjects}
+use Rattle.wkb_check.specs.Subjects.{Subject, whole, ring, dimension_in, subject_coordinates, SpellsSubject, subjects}
 use Rattle.wkb_check.specs.Subjects.{subjects_of_rings, subjects_of_each}
 use Rattle.wkb_check.specs.Tables.{entry, place, ring_place, entry_count, geometry_entries, ring_entries}
 use Rattle.wkb_check.specs.Tables.{member_entries}
@@ -228,7 +228,7 @@ pub record IsPieceOf (input : List ℕ) (p : Piece) (x : Subject) : Type 0 where
   pub kind_is : p.kind ≡ kind_in x
   pub dimension_is : p.dimension ≡ dimension_in x
   pub count_is : p.count ≡ count_in x
-  pub coordinates_are : piece_coordinates input p ≡ coordinates_in x
+  pub coordinates_are : piece_coordinates input p ≡ subject_coordinates x
   pub point_is : PointIs x
   pub inside : nat_lt p.kind 3 ≡ true → p.offset + 8 * width p.dimension * p.count ≤ length input
 
@@ -263,7 +263,7 @@ one_read {bytes = bytes} order d c stands h =
 -- a piece of a point, a line string or a ring, whose coordinates are read where it says
 with_coordinates : {input : List ℕ} (p : Piece) (x : Subject) → p.kind ≡ kind_in x → p.dimension ≡ dimension_in x
     → p.count ≡ count_in x → nat_lt p.kind 3 ≡ true
-    → AreRead input p.order p.dimension p.offset p.count (coordinates_in x) → PointIs x → IsPieceOf input p x
+    → AreRead input p.order p.dimension p.offset p.count (subject_coordinates x) → PointIs x → IsPieceOf input p x
 with_coordinates {input} p x kind_is dimension_is count_is low r point_is = record {
   kind_is = kind_is;
   dimension_is = dimension_is;

@@ -22,7 +22,7 @@ use Rattle.wkb_check.specs.Bounded.{on, nothing, HasGeometry, AreBounds}
 use Rattle.wkb_check.specs.Pieces.{pieces_of, piece_of, own_end}
 use Rattle.wkb_check.proofs.Widening.{widened-append}
 use Rattle.wkb_check.proofs.Placing.{leaf_of, own_piece}
-use Rattle.wkb_check.specs.Subjects.{Subject, dimension_in, coordinates_in, subjects, subjects_of_rings}
+use Rattle.wkb_check.specs.Subjects.{Subject, dimension_in, subject_coordinates, subjects, subjects_of_rings}
 use Rattle.wkb_check.specs.Subjects.{subjects_of_each}
 use Rattle.wkb_check.proofs.Subjects.{piece_coordinates, ArePiecesOf, pieces_match}
 
@@ -79,7 +79,7 @@ member_words a _ high = absurd cc
 
 -- the words of a subject's own coordinates on an axis
 abbrev subject_words : Axis → Subject → List ℕ
-subject_words a x = words_in a (dimension_in x) (coordinates_in x)
+subject_words a x = words_in a (dimension_in x) (subject_coordinates x)
 
 same_words : (a : Axis) (buf : List ℕ) (ps : List Piece) (xs : List Subject) → ArePiecesOf buf ps xs
     → words_of_each (piece_words a buf) ps ≡ words_of_each (subject_words a) xs

@@ -15,7 +15,7 @@ use Rattle.wkb_geom.specs.Spellings.{Header, header, Spelling, node, Spellings, 
 use Rattle.wkb_geom.specs.Values.{Coordinate, Value, Values, point, line_string, polygon, multi_point}
 use Rattle.wkb_geom.specs.Values.{multi_line_string, multi_polygon, collection, no_members, member, kind, dimension}
 use Rattle.wkb_geom.specs.Values.{members, count}
-use Rattle.wkb_check.specs.Bounded.{HasGeometry, HasGeometries, AreWhole, rings_in}
+use Rattle.wkb_check.specs.Bounded.{HasGeometry, HasGeometries, AreWhole, decoded_rings}
 use Rattle.wkb_check.specs.declared.pieces.Piece.{Piece}
 use Rattle.wkb_check.specs.declared.pieces.Pieces.{Pieces}
 
@@ -124,10 +124,10 @@ pub record Ahead (buf : List ℕ) (order : Endianness) (d : Dimension) (rings ge
   pub after : ℕ
   pub more : List ℕ
   pub whole : AreWhole order d rings (drop at buf)
-  pub after_is : after ≡ at + size_of_rings d (rings_in order d rings (drop at buf))
+  pub after_is : after ≡ at + size_of_rings d (decoded_rings order d rings (drop at buf))
   pub all : HasGeometries geometries (drop after buf) more
   pub are : xs
-      ≡ pieces_of_rings order d at (rings_in order d rings (drop at buf))
+      ≡ pieces_of_rings order d at (decoded_rings order d rings (drop at buf))
       ++ pieces_of_each after all.spelled all.values
 
 abbrev pub IsAhead : Pieces → List Piece → Type 0
@@ -144,7 +144,7 @@ pub record IsTaken (now : Pieces) (xs : List Piece) (p : Piece) : Type 0 where
   pub first : xs ≡ p ∷ rest
   pub ahead : IsAhead now rest
 
--- its coordinates, rings or members begin behind this byte, and its own bytes end at that one, inside the bytes
+-- a piece's coordinates, rings or members begin after `from`, and its own bytes end at `to`, inside the input
 pub record IsInside (buf : List ℕ) (from to : ℕ) (p : Piece) : Type 0 where
   pub begins : from < p.offset
   pub ends : to ≡ own_end p

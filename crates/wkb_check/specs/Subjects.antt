@@ -16,7 +16,7 @@ abbrev pub order_in : Subject → Endianness
 order_in (whole (node h words ss) t) = h.order
 order_in (ring order d cs) = order
 
--- its dimension
+-- the dimension of a subject
 abbrev pub dimension_in : Subject → Dimension
 dimension_in (whole s t) = dimension t
 dimension_in (ring order d cs) = d
@@ -28,12 +28,12 @@ coordinates_of words (point d (Some c)) = c ∷ []
 coordinates_of words (line_string d cs) = cs
 coordinates_of words _ = []
 
--- its coordinates
-abbrev pub coordinates_in : Subject → List Coordinate
-coordinates_in (whole (node h words ss) t) = coordinates_of words t
-coordinates_in (ring order d cs) = cs
+-- the coordinates of a subject
+abbrev pub subject_coordinates : Subject → List Coordinate
+subject_coordinates (whole (node h words ss) t) = coordinates_of words t
+subject_coordinates (ring order d cs) = cs
 
--- these are its bytes
+-- the bytes spell the subject
 abbrev pub SpellsSubject : Subject → List ℕ → Type 0
 SpellsSubject (whole s t) bytes = Spells s t bytes
 SpellsSubject (ring order d cs) bytes = SpellsCoordinates order d cs bytes

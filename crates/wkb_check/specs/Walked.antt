@@ -121,7 +121,7 @@ type_walked room t l bytes = walked (coordinates_by (type_kind t)) (body_told ro
 abbrev pub body_walked : ℕ → Head → List ℕ → Tally → Walked
 body_walked around h bytes = type_walked (max_nesting - around) h.wkb_type (layout_of h) bytes
 
--- the same with its header
+-- a geometry from its header on, inside this many open collections
 abbrev pub inside_walked : ℕ → List ℕ → Tally → Walked
 inside_walked around bytes = walked item_coordinates (inside_told around bytes)
 

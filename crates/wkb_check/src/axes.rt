@@ -51,7 +51,8 @@ fn widen_plane_in(
     *y = y_ranks;
 }
 
-/// The same, by a loop for each order. It isn't inlined, so that its counters stay in registers.
+/// Widens the ranks of x and y by coordinates, with a loop for each order. It isn't inlined, so that its counters stay
+/// in registers.
 #[inline(never)]
 fn widen_plane(
     x: &mut Ranks,
@@ -100,7 +101,7 @@ fn place_of_m(dimension: Dimension) -> Option<usize>
 }
 
 impl AxisRanks {
-    /// Those of no coordinate.
+    /// The ranks of no coordinate.
     #[inline(always)]
     pub(crate) fn empty() -> AxisRanks
         ensures { bounds_by result ≡ no_bounds }

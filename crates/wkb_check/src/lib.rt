@@ -16,9 +16,9 @@ mod skip;
 mod walk;
 mod widen;
 
-pub use answer::{Refused, Summary, check, check_plain};
-pub use head::srid_size;
-pub use parts::{Part, Place, dimension_number, put_geometries, width_number};
+pub use answer::{Refused, Summary, check, check_member, check_plain};
+pub use head::size_of_srid;
+pub use parts::{Part, PartPlace, dimension_number, put_geometries, width_number};
 pub use pieces::{Piece, Pieces, RING};
 pub use range::{Bounds, Range};
 pub use scan::{bounds, put_bounds};

@@ -72,13 +72,13 @@ impl Part {
 
 /// An index of a table, and the byte at which the part there begins.
 #[derive(Clone, Copy)]
-pub struct Place {
+pub struct PartPlace {
     pub index: usize,
     pub byte: usize,
 }
 
 /// Puts the entries of the rings of a polygon from this place on, and returns the place after them.
-pub fn put_rings(buf: &[u8], polygon: &Piece, parts: &mut [Part], start: Place) -> Place
+pub fn put_rings(buf: &[u8], polygon: &Piece, parts: &mut [Part], start: PartPlace) -> PartPlace
     requires whole { HasRingsFrom buf.now polygon.now start.byte }
     requires room { start.index + polygon.now.count ≤ length parts.old }
     ensures put { parts.new ≡ sets parts.old start.index (entries_of_rings_from buf.now polygon.now start) }
@@ -87,8 +87,8 @@ pub fn put_rings(buf: &[u8], polygon: &Piece, parts: &mut [Part], start: Place) 
 {
     let mut at = start;
     for _ in 0..polygon.count {
-        let ring = Piece::ring_at(buf, at.byte, polygon.order, polygon.dimension);
-        let next = Place {
+        let ring = Piece::of_ring(buf, at.byte, polygon.order, polygon.dimension);
+        let next = PartPlace {
             index: at.index + 1,
             byte: ring.end(),
         };
@@ -100,15 +100,15 @@ pub fn put_rings(buf: &[u8], polygon: &Piece, parts: &mut [Part], start: Place) 
 
 /// Puts the entries of `count` geometries one after another from this place on, and returns the place after them.
 #[cycle(table)]
-pub fn put_geometries(buf: &[u8], count: u32, parts: &mut [Part], start: Place) -> Place
+pub fn put_geometries(buf: &[u8], count: u32, parts: &mut [Part], start: PartPlace) -> PartPlace
     requires fit { FitGeometries count (drop start.byte buf.now) start.index (length parts.old) }
     ensures { OfGeometries count (drop start.byte buf.now)
         (PutsGeometries parts.old parts.new start result) }
 {
     let mut at = start;
     for _ in 0..count {
-        let piece = Piece::geometry_at(buf, at.byte);
-        let inside = Place {
+        let piece = Piece::of_geometry(buf, at.byte);
+        let inside = PartPlace {
             index: at.index + 1,
             byte: piece.end(),
         };

@@ -9,7 +9,7 @@ ghost use Rattle.wkb_check.specs.Pieces.{IsTaken, IsInside, Steps, bytes_left};
 ghost use Rattle.wkb_check.specs.Public.{DescribesFront};
 
 use crate::answer::Summary;
-use crate::head::{bare_kind, srid_size};
+use crate::head::{bare_kind, size_of_srid};
 use crate::range::rest_from;
 use wkb_geom::code::{POINT, POLYGON};
 use wkb_geom::header::MEMBER_HEADER_SIZE;
@@ -73,7 +73,7 @@ impl Piece {
         requires header { IsHeaderAt bytes.now begin kind dimension order srid }
         ensures { IsPieceAt bytes.now begin result }
     {
-        let body = begin + MEMBER_HEADER_SIZE + srid_size(srid);
+        let body = begin + MEMBER_HEADER_SIZE + size_of_srid(srid);
         let (count, offset) = if kind == POINT {
             (1, body)
         } else {
@@ -92,7 +92,7 @@ impl Piece {
 
     /// The geometry that begins at this byte, up to its rings or members.
     #[inline(always)]
-    pub fn geometry_at(bytes: &[u8], begin: usize) -> Piece
+    pub fn of_geometry(bytes: &[u8], begin: usize) -> Piece
         requires here { HasGeometry (drop begin bytes.now) }
         ensures { IsPieceAt bytes.now begin result }
     {
@@ -120,7 +120,7 @@ impl Piece {
 
     /// The ring that begins at this byte, of a polygon of this order and dimension.
     #[inline(always)]
-    pub fn ring_at(bytes: &[u8], begin: usize, order: Endianness, dimension: Dimension) -> Piece
+    pub fn of_ring(bytes: &[u8], begin: usize, order: Endianness, dimension: Dimension) -> Piece
         requires { begin + COUNT_SIZE ≤ length bytes.now }
         ensures { result ≡ ring_piece order dimension begin (number order 4 (drop begin bytes.now)) }
     {
@@ -196,7 +196,7 @@ impl<'a> Pieces<'a> {
         ensures inside { IsInside self.old.bytes.now self.old.at self.new.at result }
         ensures same { self.new.bytes.now ≡ self.old.bytes.now }
     {
-        let piece = Piece::ring_at(self.bytes, self.at, self.order, self.dimension);
+        let piece = Piece::of_ring(self.bytes, self.at, self.order, self.dimension);
         self.rings -= 1;
         self.at = piece.end();
         piece
@@ -234,7 +234,7 @@ impl<'a> Pieces<'a> {
         ensures inside { IsInside self.old.bytes.now self.old.at self.new.at result }
         ensures same { self.new.bytes.now ≡ self.old.bytes.now }
     {
-        let piece = Piece::geometry_at(self.bytes, self.at);
+        let piece = Piece::of_geometry(self.bytes, self.at);
         self.pass_geometry(&piece);
         piece
     }

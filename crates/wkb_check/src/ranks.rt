@@ -98,7 +98,8 @@ impl Ranks {
         *self = ranks;
     }
 
-    /// The same, by a loop for each order. It isn't inlined, so that its counters stay in registers.
+    /// Widens the ranks by a word of each coordinate, with a loop for each order. It isn't inlined, so that its
+    /// counters stay in registers.
     #[inline(never)]
     fn widen(&mut self, order: Endianness, size: usize, at: usize, count: u32, bytes: &[u8])
         requires inside { at + 8 ≤ size }

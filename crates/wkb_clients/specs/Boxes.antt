@@ -11,7 +11,7 @@ pub record HasRanges (d : Dimension) (cs : List Coordinate) (box : BoundingBox) 
   pub x_is : box.x ≡ range_of (words_in x_axis d cs)
   pub y_is : box.y ≡ range_of (words_in y_axis d cs)
 
--- so it has those of a ring
+-- the box has the ranges of a ring's x and y
 abbrev pub IsBoxOfRing : LinearRing → BoundingBox → Type 0
 IsBoxOfRing r box = HasRanges (ring_dimension r) (ring_seen r) box
 
@@ -20,7 +20,7 @@ abbrev pub exterior_of : List (List Coordinate) → List Coordinate
 exterior_of [] = []
 exterior_of (ring ∷ rings) = ring
 
--- so it has those of a polygon's exterior
+-- the box has the ranges of the x and y of a polygon's exterior
 abbrev pub IsBoxOf : Listed (List (List Coordinate)) → BoundingBox → Type 0
 IsBoxOf p box = HasRanges p.dimension (exterior_of p.parts) box
 

@@ -2,7 +2,7 @@
 use Rattle.wkb.specs.Prelude.{as_dimensions}
 use Rattle.wkb.specs.Geometries.{Geometry, point, line_string}
 use Rattle.wkb.specs.Plain.{point_dimensions, point_coordinate}
-use Rattle.wkb.specs.Reads.{line_string_dimension, line_string_coordinates}
+use Rattle.wkb.specs.Reads.{line_string_dimension, seen_coordinates}
 use Rattle.wkb_clients.specs.declared.sites.Site.{Site}
 use Rattle.wkb_clients.specs.declared.sites.Route.{Route}
 
@@ -13,4 +13,4 @@ site_meant site = point (point_dimensions site.at) (point_coordinate site.at)
 -- a route is a line string
 abbrev pub route_meant : Route → Geometry
 route_meant route =
-    line_string (as_dimensions (line_string_dimension route.along)) (line_string_coordinates route.along)
+    line_string (as_dimensions (line_string_dimension route.along)) (seen_coordinates route.along)

@@ -20,15 +20,15 @@ pub fn polygon_of_row(
     alloc: Global,
     levels: &Levels,
     i: usize,
-    reach: &mut Place,
+    floor: &mut Place,
     options: &WriteOptions,
 ) -> WkbResult<Option<Vec<u8>>>
     requires index { i < length (ends_of levels.now.row_ends) }
-    requires reach { IsFloor levels.now Xy i reach.old }
+    requires floor { IsFloor levels.now Xy i floor.old }
     ensures row { IfOk result (FindsRowEncoding levels.now Polygon Xy options.now i) }
-    ensures reach { IsFloor levels.now Xy (i + 1) reach.new }
+    ensures floor { IsFloor levels.now Xy (i + 1) floor.new }
 {
-    match levels.row(Kind::Polygon, Dimensions::Xy, i, reach) {
+    match levels.row(Kind::Polygon, Dimensions::Xy, i, floor) {
         Some(Row::Single(polygon)) => match to_vec(alloc, &polygon, options) {
             Ok(bytes) => Ok(Some(bytes)),
             Err(e) => Err(e),

@@ -17,7 +17,7 @@ use wkb::geom::{
 use wkb::writer::{WriteOptions, to_vec};
 
 /// Whether a point is the empty one.
-pub fn is_empty_point(point: &Point) -> bool
+pub fn has_no_coord(point: &Point) -> bool
     ensures { result ≡ is_none (point_coordinate point.now) }
 {
     match point.coord() {

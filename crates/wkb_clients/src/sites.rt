@@ -2,7 +2,7 @@
 
 ghost use Rattle.wkb.specs.Prelude.{as_dimensions};
 ghost use Rattle.wkb.specs.Plain.{point_dimensions, point_coordinate, point_lawful};
-ghost use Rattle.wkb.specs.Reads.{line_string_dimension, line_string_coordinates};
+ghost use Rattle.wkb.specs.Reads.{line_string_dimension, seen_coordinates};
 ghost use Rattle.wkb.specs.Lawful.{line_string_view_lawful};
 ghost use Rattle.wkb.specs.Writes.{IsEncodingOf};
 ghost use Rattle.wkb_clients.specs.Sites.{site_meant, route_meant};
@@ -58,7 +58,7 @@ impl Dimensioned for Route<'_> {
 impl<'a> LineStringTrait for Route<'a> {
     type CoordType = reader::Coord<'a>;
 
-    ghost coordinates = { λ route. line_string_coordinates route.along };
+    ghost coordinates = { λ route. seen_coordinates route.along };
 
     ghost lawful = { λ route. line_string_view_lawful route.along };
 

@@ -5,7 +5,8 @@ use Rattle.std.specs.Io.{StartsWith}
 use Rattle.wkb_command.specs.declared.program.Command.{Command}
 use Rattle.wkb_command.specs.declared.program.Report.{Report}
 use Rattle.wkb_command.specs.Reports.{line_of, IsReport, IsReportOn, IsLineOf}
-use Rattle.wkb_command.specs.Program.{Answers, asked, Ends, answered, cut_short, out_of_memory, RunEnds, status_failed}
+use Rattle.wkb_command.specs.Program.{Answers, asked, RunOutcome, answered, cut_short, out_of_memory, RunEnds}
+use Rattle.wkb_command.specs.Program.{status_failed}
 use Rattle.wkb_command.specs.Program.{command_name, lines, OfReported}
 
 -- what holds of any bytes holds of those of a reader
@@ -21,25 +22,25 @@ of_read (Some x) P read is h = rw (sym is) h
 
 -- the whole line of a report was written
 pub ends_whole : (r : Result Report AllocError) (report : Report) (written : List ℕ) → r ≡ Ok report
-    → written ≡ line_of report.output → Ends (IsLineOf r) report.status written
+    → written ≡ line_of report.output → RunOutcome (IsLineOf r) report.status written
 ends_whole r report written is whole =
     rw whole (answered {line = line_of report.output} {status = report.status} (rw is (refl, refl)))
 
 -- a prefix of it was written
 pub ends_cut : (r : Result Report AllocError) (report : Report) (written : List ℕ) → r ≡ Ok report
-    → StartsWith (line_of report.output) written → Ends (IsLineOf r) status_failed written
+    → StartsWith (line_of report.output) written → RunOutcome (IsLineOf r) status_failed written
 ends_cut r report written is begins = cut_short {status = report.status} (rw is (refl, refl)) begins
 
-Ends-from : (P Q : List ℕ → ℕ → Type 0) (status : ℕ) (written : List ℕ)
-    → ((line : List ℕ) (s : ℕ) → P line s → Q line s) → Ends P status written → Ends Q status written
-Ends-from P Q status written f (answered h) = answered (f _ _ h)
-Ends-from P Q status written f (cut_short h begins) = cut_short (f _ _ h) begins
-Ends-from P Q status written f (out_of_memory begins) = out_of_memory begins
+RunOutcome-from : (P Q : List ℕ → ℕ → Type 0) (status : ℕ) (written : List ℕ)
+    → ((line : List ℕ) (s : ℕ) → P line s → Q line s) → RunOutcome P status written → RunOutcome Q status written
+RunOutcome-from P Q status written f (answered h) = answered (f _ _ h)
+RunOutcome-from P Q status written f (cut_short h begins) = cut_short (f _ _ h) begins
+RunOutcome-from P Q status written f (out_of_memory begins) = out_of_memory begins
 
 pub RunEnds-from : (old new : Option (List ℕ)) (P Q : List ℕ → ℕ → Type 0) (status : ℕ) → RunEnds old new P status
     → ((line : List ℕ) (s : ℕ) → P line s → Q line s) → RunEnds old new Q status
 RunEnds-from old new P Q status h f =
-    record { written = h.written; appended = h.appended; ends = Ends-from P Q status h.written f h.ends }
+    record { written = h.written; appended = h.appended; ends = RunOutcome-from P Q status h.written f h.ends }
 
 -- the line of a report with a fixed line
 pub fixed_answer : (arguments : List (List ℕ)) (input fixed : List ℕ) (code : ℕ) (r : Result Report AllocError)

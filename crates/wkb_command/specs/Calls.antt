@@ -28,7 +28,7 @@ pub record IsHexOf (text bytes : List ℕ) : Type 0 where
 abbrev pub OfHex : List ℕ → (List ℕ → Type 0) → Type 0
 OfHex text P = (bytes : List ℕ) × IsHexOf text bytes × P bytes
 
--- the same of two texts
+-- two texts are hex, and the statement holds for the bytes that they spell
 abbrev pub OfTwoHexes : List ℕ → List ℕ → (List ℕ → List ℕ → Type 0) → Type 0
 OfTwoHexes first second P = OfHex first (λ a. OfHex second (λ b. P a b))
 

@@ -201,19 +201,20 @@ pub data Answers (arguments : List (List ℕ)) (input : List ℕ) : List ℕ →
 
 -- `IsDue` says which line and status are due. The whole line was written and its status returned, or the run failed
 -- after a prefix of the line or of `out of memory`, perhaps empty or whole.
-pub data Ends (IsDue : List ℕ → ℕ → Type 0) : ℕ → List ℕ → Type 0 where
-  answered : {line : List ℕ} {status : ℕ} → IsDue line status → Ends IsDue status line
+pub data RunOutcome (IsDue : List ℕ → ℕ → Type 0) : ℕ → List ℕ → Type 0 where
+  answered : {line : List ℕ} {status : ℕ} → IsDue line status → RunOutcome IsDue status line
   cut_short : {line written : List ℕ} {status : ℕ} → IsDue line status → StartsWith line written
-      → Ends IsDue status_failed written
-  out_of_memory : {written : List ℕ} → StartsWith (codes "out of memory\n") written → Ends IsDue status_failed written
+      → RunOutcome IsDue status_failed written
+  out_of_memory : {written : List ℕ} → StartsWith (codes "out of memory\n") written
+      → RunOutcome IsDue status_failed written
 
 -- what the run wrote was appended to the output, and the run ended as above
 pub record RunEnds (old new : Option (List ℕ)) (IsDue : List ℕ → ℕ → Type 0) (status : ℕ) : Type 0 where
   pub written : List ℕ
   pub appended : Appends old new written
-  pub ends : Ends IsDue status written
+  pub ends : RunOutcome IsDue status written
 
--- so it is of the bytes that a reader reports, or of some bytes where it doesn't report them
+-- a statement holds for the bytes that a reader reports, or for some bytes where it reports none
 abbrev pub OfReported : Option (List ℕ) → (List ℕ → Type 0) → Type 0
 OfReported (Some bytes) P = P bytes
 OfReported None P = (bytes : List ℕ) × P bytes

@@ -14,8 +14,9 @@ use hex::FromHexError;
 use std::alloc::Global;
 use wkb::Endianness;
 use wkb::canon::{canonical, canonical_with_srid, same};
+use wkb::check::check;
 use wkb::error::WkbError;
-use wkb::reader::{Counts, read_wkb, read_wkb_counted};
+use wkb::reader::{Counts, read_wkb_counted};
 use wkb::writer::WriteOptions;
 
 /// Why a call on hex texts fails.
@@ -139,5 +140,8 @@ pub fn srid_hex(alloc: Global, text: &str) -> Result<Option<u32>, HexFault>
     ensures err { IfErr result (IsFailureOf (text.now ∷ []) RefusedFirst) }
 {
     let bytes = bytes_of_hex(alloc, text)?;
-    Ok(read_wkb(alloc, bytes.as_slice())?.srid())
+    match check(bytes.as_slice()) {
+        Ok(found) => Ok(found.srid),
+        Err(refused) => Err(WkbError::from(refused.cause).into()),
+    }
 }

@@ -211,6 +211,19 @@ impl WkbType {
         matches!(self, WkbType::Point(_))
     }
 
+    /// The ISO code. `u32::from` gives the same, but only a crate that lists `wkb_geom` can call it.
+    pub fn iso_code(self) -> u32
+        ensures { result ≡ iso_code (type_kind self) (type_dimension self) }
+    {
+        let thousands = match self.dimension() {
+            Dimension::Xy => 0,
+            Dimension::Xyz => 1000,
+            Dimension::Xym => 2000,
+            Dimension::Xyzm => 3000,
+        };
+        thousands + self.kind()
+    }
+
     /// The code with the flags of EWKB.
     pub fn ewkb_code(self, srid: bool) -> u32
         ensures { result ≡ ewkb_code (type_kind self) (type_dimension self) srid }
@@ -228,12 +241,6 @@ impl From<WkbType> for u32 {
     ghost from_gives = { λ t c. c ≡ iso_code (type_kind t) (type_dimension t) };
 
     fn from(t: WkbType) -> u32 {
-        let thousands = match t.dimension() {
-            Dimension::Xy => 0,
-            Dimension::Xyz => 1000,
-            Dimension::Xym => 2000,
-            Dimension::Xyzm => 3000,
-        };
-        thousands + t.kind()
+        t.iso_code()
     }
 }

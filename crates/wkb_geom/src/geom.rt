@@ -221,8 +221,8 @@ pub trait MultiLineStringTrait: Dimensioned {
 
 /// Polygons of one dimension.
 ///
-/// They are lent. So a polygon that leads through references to a type with ghost fields is an enum, or a struct with a
-/// ghost field of its own: the checker doesn't take an `Option` of a reference to another struct of this sort.
+/// Polygons are returned by reference. A polygon type that contains references to types with ghost fields must be an
+/// enum, or have a ghost field itself: the checker takes no `Option` of a reference to another struct of this sort.
 pub trait MultiPolygonTrait: Dimensioned {
     type InnerPolygonType: PolygonTrait;
 
@@ -245,7 +245,7 @@ pub trait MultiPolygonTrait: Dimensioned {
 
 /// Geometries of any kind and dimension.
 ///
-/// They are lent, as the polygons of a multi polygon are, and what is said there holds of their type as well.
+/// Members are returned by reference, so what `MultiPolygonTrait` says of a polygon's type holds for theirs as well.
 pub trait GeometryCollectionTrait: Dimensioned {
     type GeometryType: GeometryTrait;
 

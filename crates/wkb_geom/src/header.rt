@@ -80,8 +80,8 @@ impl Head {
         }
     }
 
-    /// The same by the shortest way for the most frequent codes: those that are the number of a kind, with or without
-    /// the SRID flag.
+    /// Reads a header by the shortest way, if it has one of the most frequent codes: the number of a kind, with or
+    /// without the SRID flag.
     #[inline(always)]
     fn read_bare(bytes: &[u8]) -> Option<Head>
         ensures { IfSome result (λ header. head_at bytes.now ≡ Ok header) }
@@ -100,7 +100,7 @@ impl Head {
         })
     }
 
-    /// The same for any code.
+    /// Reads a header with any code.
     #[tactic(auto, unfolding(crate::specs::Reading::head_at))]
     #[inline]
     fn read_any(bytes: &[u8]) -> Result<Head, Cause>
@@ -305,7 +305,7 @@ impl Layout {
     ghost use Rattle.std.specs.Prelude.{◌≡◌, ◌≤◌, IfOk, IfErr, length};
     ghost use Rattle.wkb_geom.specs.Refusals.{point_end, line_string_end, multi_point_end, ring_end};
     ghost use Rattle.wkb_geom.specs.Numbers.{number};
-    ghost use Rattle.wkb_geom.specs.Reading.{Ends, EndsWith, point_at, point_item, line_string_at};
+    ghost use Rattle.wkb_geom.specs.Reading.{EndsAt, EndsWith, point_at, point_item, line_string_at};
     ghost use Rattle.wkb_geom.specs.Reading.{line_string_item, ring_at, count_in, multi_point_at, refused};
     ghost use Rattle.wkb_geom.specs.Reading.{points_counted};
 
@@ -313,7 +313,7 @@ impl Layout {
     #[tactic(auto, unfolding(crate::specs::Reading::point_told))]
     #[inline(always)]
     pub fn end_of_point(self, bytes: &[u8]) -> Result<usize, Cause>
-        ensures answer { Ends (point_item self) bytes.now (point_at self bytes.now) result }
+        ensures answer { EndsAt (point_item self) bytes.now (point_at self bytes.now) result }
         ensures end { IfOk result (λ end. end ≡ point_end self.dimension self.has_srid) }
         ensures whole { IfOk result (λ end. end ≤ length bytes.now) }
     {

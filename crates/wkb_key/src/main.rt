@@ -13,7 +13,7 @@ use wkb::canon::canonical_with_srid;
 use wkb::error::WkbResult;
 
 /// The bytes of the geometry in one byte order: equal for equal values with equal SRIDs.
-fn key(alloc: Global, bytes: &[u8], order: Endianness) -> WkbResult<Vec<u8>>
+fn key_with_srid(alloc: Global, bytes: &[u8], order: Endianness) -> WkbResult<Vec<u8>>
     ensures ok { IfOk result (λ key. IsRewritingWithSrid order bytes.now key.items) }
     ensures err { IfErr result (λ e. IsMemory e ⊎ IsRefusal bytes.now e) }
 {
@@ -27,7 +27,7 @@ fn main(rt: HostRuntime) -> io::Result<()> {
             println!(rt; "not hex")?;
             continue;
         };
-        match key(alloc, bytes.as_slice(), Endianness::LittleEndian) {
+        match key_with_srid(alloc, bytes.as_slice(), Endianness::LittleEndian) {
             Ok(key) => println!(rt; "{}", hex::encode(alloc, key.as_slice())?)?,
             Err(e) => println!(rt; "refused: {e}")?,
         }

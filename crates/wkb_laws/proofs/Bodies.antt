@@ -16,7 +16,7 @@ use Rattle.wkb_laws.specs.Prelude.{short_point, short_line_string, bad_ring, Cos
 use Rattle.wkb_laws.specs.Prelude.{free, Reading, body_start, parts_start, coordinate, coordinates, ring_in, ring_part}
 use Rattle.wkb_laws.specs.Prelude.{and_then, at_no_cost, costs, done}
 use Rattle.wkb_laws.specs.Prelude.{line_string_at, line_string_body, one_turn, parts_body, point_at, point_item_of}
-use Rattle.wkb_laws.specs.Prelude.{polygon_at, polygon_item, repeated, ring_at}
+use Rattle.wkb_laws.specs.Prelude.{polygon_at, polygon_item, repeated}
 use Rattle.wkb_laws.specs.Prelude.{slots_of, consumed, Cause, Value, multi_point, multi_line_string, multi_polygon}
 use Rattle.wkb_laws.specs.Prelude.{collection, Values, no_members, member, kind}
 use Rattle.wkb_laws.specs.Prelude.{dimension, members, each, count, nest, nest_each, member_count, member_count_each}

@@ -8,10 +8,10 @@ use Rattle.std.proofs.lemmas.Bool.{cond-true, cond-false, false_from_ne_true}
 use Rattle.wkb_laws.specs.Prelude.{count_in, Endianness, BigEndian, LittleEndian, Dimension, Head, Layout, WkbType}
 use Rattle.wkb_laws.specs.Prelude.{Cause, end_of_input, general, incorrect_type}
 use Rattle.wkb_laws.specs.Prelude.{InvalidByteOrder, IsNumber, order_byte, Code, Begins, Wanted, any, part, IsPart}
-use Rattle.wkb_laws.specs.Prelude.{Opens, Reading, Item, type_kind, type_dimension}
+use Rattle.wkb_laws.specs.Prelude.{Opens, Item, type_kind, type_dimension}
 use Rattle.wkb_laws.specs.Prelude.{type_of, layout_of, laid, head_at, head_by_order, head_by_code, meaning, meaning_of}
-use Rattle.wkb_laws.specs.Prelude.{then_body, member_body, layout_wanted}
-use Rattle.wkb_laws.specs.Prelude.{body_at, collection_within, by_type, geometry_at, is_member, member_at, refused}
+use Rattle.wkb_laws.specs.Prelude.{layout_wanted}
+use Rattle.wkb_laws.specs.Prelude.{is_member, refused}
 use Rattle.wkb_laws.specs.Prelude.{ShortLinearRing, number, all_nan, width}
 use Rattle.wkb_laws.specs.Prelude.{IsEach, Coordinate, Value, point, line_string, polygon, multi_point}
 use Rattle.wkb_laws.specs.Prelude.{multi_line_string, multi_polygon, collection, Values}
@@ -21,15 +21,13 @@ use Rattle.wkb_laws.specs.Prelude.{Header, Spelling, node, Spellings, no_spellin
 use Rattle.wkb_laws.specs.Prelude.{SpellsCoordinates, Spells, SpellsEach}
 use Rattle.wkb_laws.specs.Prelude.{member_part, has_srid, FrontWithin, srid_size, point_end, line_string_end}
 use Rattle.wkb_laws.specs.Prelude.{multi_point_end, ring_end, slots_asked, room_inside}
-use Rattle.wkb_laws.specs.Prelude.{IsAllowed, OpensCounted, Cost, free, body_start, parts_start, ◌⊕◌, with_count}
-use Rattle.wkb_laws.specs.Prelude.{ring_part}
+use Rattle.wkb_laws.specs.Prelude.{IsAllowed, OpensCounted, Cost, free, body_start, parts_start, ◌⊕◌}
 use Rattle.wkb_laws.specs.Prelude.{parts_body, coordinate, coordinates}
-use Rattle.wkb_laws.specs.Prelude.{ring_in, items, spellings, values, and_then, at_no_cost, collection_at, costs, done}
-use Rattle.wkb_laws.specs.Prelude.{line_string_of, line_string_at}
-use Rattle.wkb_laws.specs.Prelude.{line_string_body}
-use Rattle.wkb_laws.specs.Prelude.{line_string_item, list_item, multi_line_string_at, multi_point_at, multi_polygon_at}
-use Rattle.wkb_laws.specs.Prelude.{one_turn, point_at, point_item}
-use Rattle.wkb_laws.specs.Prelude.{point_item_of, point_of, polygon_at, polygon_item, polygon_of, repeated, ring_at}
+use Rattle.wkb_laws.specs.Prelude.{ring_in, spellings, values, and_then, at_no_cost, costs, done}
+use Rattle.wkb_laws.specs.Prelude.{line_string_of}
+use Rattle.wkb_laws.specs.Prelude.{line_string_item, list_item}
+use Rattle.wkb_laws.specs.Prelude.{one_turn, point_item}
+use Rattle.wkb_laws.specs.Prelude.{point_item_of, point_of, polygon_item, polygon_of, repeated}
 use Rattle.wkb_laws.specs.Prelude.{slots_of, spelled_in, srid_in, consumed}
 use Rattle.wkb_laws.specs.Prelude.{RefusesRings, no_ring_count, short_ring, later_ring, Refuses, no_order_byte}
 use Rattle.wkb_laws.specs.Prelude.{bad_order_byte, no_code, bad_code, wrong_part}
@@ -37,14 +35,13 @@ use Rattle.wkb_laws.specs.Prelude.{too_deep, short_point, no_count, short_line_s
 use Rattle.wkb_laws.specs.Prelude.{bad_member, RefusesEach, this_member, later_member}
 use Rattle.wkb_geom.specs.Refusals.{left_in, left_in_rings, left_in_each}
 use Rattle.wkb_geom.specs.declared.code.WkbType.TheVariants as kinds
-use Rattle.wkb_geom.specs.Reading as reading
 use Rattle.wkb_geom.proofs.Codes.{one_meaning}
 use Rattle.wkb_geom.proofs.Meanings.{meaning_holds, type_kind-type_of}
 use Rattle.wkb_laws.specs.Laws.{listed_inside}
 use Rattle.wkb_laws.proofs.Parts.{then_length, then_append, begins_number, number-front, take_front, drop_front}
 use Rattle.wkb_laws.proofs.Parts.{items_read, coordinate_read, length-opens, header_length}
 use Rattle.wkb_laws.proofs.Parts.{srid_length}
-use Rattle.wkb_laws.proofs.Lists.{IsWanted, by_list_kind, whole_by, list_behind, count-each, each_same}
+use Rattle.wkb_laws.proofs.Lists.{IsWanted, by_list_kind, whole_by, count-each, each_same}
 use Rattle.wkb_laws.proofs.Sound.{passes, is_passed}
 use Rattle.wkb_laws.proofs.Lengths.{coordinate_length, coordinates_length, each_size, each_spelled_length}
 use Rattle.wkb_laws.proofs.Bounds.{wanted_inside, each_long, coordinates_long}

@@ -8,7 +8,7 @@ use Rattle.wkb_laws.specs.Prelude.{IsAllowed}
 use Rattle.wkb_laws.specs.Prelude.{too_deep, wrong_part, Reading, Item}
 use Rattle.wkb_laws.specs.Prelude.{type_kind, type_dimension, laid, layout_of, body_at, by_type, collection_at}
 use Rattle.wkb_laws.specs.Prelude.{geometry_at, is_member, layout_wanted, member_at}
-use Rattle.wkb_laws.specs.Prelude.{member_body, multi_line_string_at, multi_point_at, multi_polygon_at, then_body}
+use Rattle.wkb_laws.specs.Prelude.{member_body, then_body}
 use Rattle.wkb_geom.specs.declared.code.WkbType.TheVariants as kinds
 use Rattle.wkb_geom.specs.Reading as reading
 use Rattle.wkb_geom.proofs.Codes.{thousands_inj}

@@ -39,7 +39,8 @@ EqualSpelled = (order : Endianness) (form : Form) (s u : Spelling) (t v : Value)
     → IsForm form → AreBytes x → AreBytes y → Spells s t x → Spells u v y
     → (encoding order form (geometry_of t) ≡ encoding order form (geometry_of v)) ↔ (t ≡ v)
 
--- The same under EWKB, where each is written with some SRID or without one.
+-- Two values that bytes spell are written alike under EWKB exactly where they are equal and the same SRID, or none, is
+-- written.
 abbrev pub EqualSpelledWithSrid : Type 0
 EqualSpelledWithSrid = (order : Endianness) (i j : Option ℕ) (s u : Spelling) (t v : Value) (x y : List ℕ)
     → IsForm (Ewkb i) → IsForm (Ewkb j) → AreBytes x → AreBytes y → Spells s t x → Spells u v y

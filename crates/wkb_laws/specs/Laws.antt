@@ -136,15 +136,15 @@ abbrev pub EncodingSpells : Type 0
 EncodingSpells = (order : Endianness) (form : Form) (g : Geometry) → IsForm form → IsGeometry g → fault g ≡ None
     → (s : Spelling) × Spells s (normal g) (encoding order form g) × HasOptions order form s
 
--- It is read again as that value, in the order and with the SRID of the options, whatever follows it, unless its
--- collections are nested too deep.
+-- The encoding of a geometry without a fault is read again as its normal value, in the order and with the SRID of the
+-- options, whatever follows it, unless its collections are nested too deep.
 abbrev pub WrittenIsRead : Type 0
 WrittenIsRead =
     (order : Endianness) (form : Form) (g : Geometry) (rest : List ℕ) → IsForm form → IsGeometry g → fault g ≡ None
     → nest (normal g) ≤ max_nesting
     → (s : Spelling) × Front (encoding order form g ++ rest) s (normal g) rest × HasOptions order form s
 
--- So is whatever a writer doesn't refuse.
+-- The encoding of a geometry that a writer doesn't refuse is read again as its normal value.
 abbrev pub WritableIsRead : Type 0
 WritableIsRead =
     (order : Endianness) (form : Form) (g : Geometry) (rest : List ℕ) → IsForm form → IsGeometry g
@@ -175,7 +175,7 @@ FrontIsWritable =
     → length input < 2 ^ 64 → Front input s t rest
     → IsGeometry (geometry_of t) × (normal (geometry_of t) ≡ t) × IsWritable order Iso (geometry_of t)
 
--- So it can under EWKB without an SRID.
+-- A value that was read can be written under EWKB without an SRID.
 abbrev pub EwkbIsWritable : Type 0
 EwkbIsWritable =
     (order : Endianness) (input : List ℕ) (s : Spelling) (t : Value) (rest : List ℕ) → AreBytes input
@@ -210,7 +210,7 @@ RewritingIsFixed =
     → IsRewriting order form input out
     → IsRewriting order form out out × ((again : List ℕ) → IsRewriting order form out again → again ≡ out)
 
--- So is one with the SRID of its outermost geometry.
+-- A rewriting with the SRID of its outermost geometry is its own rewriting of this sort, and has no other.
 abbrev pub RewritingWithSridIsFixed : Type 0
 RewritingWithSridIsFixed =
     (order : Endianness) (input out : List ℕ) → AreBytes input → IsRewritingWithSrid order input out
@@ -222,7 +222,7 @@ EqualEncodings = (order : Endianness) (form : Form) (a b : List ℕ) (s u : Spel
     → IsForm form → AreBytes a → AreBytes b → Front a s t rest → Front b u v more
     → (encoding order form (geometry_of t) ≡ encoding order form (geometry_of v)) ↔ (t ≡ v)
 
--- The same under EWKB, where each is written with some SRID or without one.
+-- Two inputs are written alike under EWKB exactly where their values are equal and the same SRID, or none, is written.
 abbrev pub EqualEncodingsWithSrid : Type 0
 EqualEncodingsWithSrid =
     (order : Endianness) (i j : Option ℕ) (a b : List ℕ) (s u : Spelling) (t v : Value) (rest more : List ℕ)

@@ -165,7 +165,7 @@ WordsStand = (order : Endianness) (d : Dimension) (cs : List Coordinate) (bytes 
     → SpellsCoordinates order d cs bytes → IsWordOf cs i n w
     → number order 8 (drop (4 + 8 * (width d * i + n)) (bytes ++ rest)) ≡ w
 
--- The same in a line string, after its count, in its order.
+-- A word of a line string stands after its count, in its order.
 abbrev pub LineStringWordsStand : Type 0
 LineStringWordsStand = (s : Spelling) (d : Dimension) (cs : List Coordinate) (bytes rest : List ℕ) (i n w : ℕ)
     → Spells s (line_string d cs) bytes → IsWordOf cs i n w

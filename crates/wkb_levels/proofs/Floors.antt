@@ -4,18 +4,18 @@ use Rattle.std.proofs.lemmas.Bool.{cases_eq}
 use Rattle.wkb_geom.specs.declared.common.Dimensions.{Dimensions}
 use Rattle.wkb_levels.specs.declared.levels.Levels.{Levels}
 use Rattle.wkb_levels.specs.declared.levels.Place.{Place}
-use Rattle.wkb_levels.specs.Columns.{EndUpTo, IsLevelReach, IsFloor}
+use Rattle.wkb_levels.specs.Columns.{EndUpTo, IsLevelFloor, IsFloor}
 
 -- ---- at one level
 
 module _ {Spans : ℕ → Type 0} {end : ℕ → ℕ} where
-  reach_first : (n : ℕ) → n ≡ 0 → IsLevelReach Spans end 0 n
-  reach_first n is =
+  floor_first : (n : ℕ) → n ≡ 0 → IsLevelFloor Spans end 0 n
+  floor_first n is =
       record { enough = λ j h. absurd (omega (arith, h)); least = λ other are. omega (arith, is) }
 
   -- a row that spans no items there reaches nowhere
-  pub reach_kept : {i reach : ℕ} → IsLevelReach Spans end i reach → (Spans i → ⊥) → IsLevelReach Spans end (i + 1) reach
-  reach_kept {i} {reach} is differ =
+  pub floor_kept : {i floor : ℕ} → IsLevelFloor Spans end i floor → (Spans i → ⊥) → IsLevelFloor Spans end (i + 1) floor
+  floor_kept {i} {floor} is differ =
       record {
         enough = λ j h spans. elim (cases_eq j i) [
           | inl same ↦ absurd (differ (subst Spans same spans))
@@ -25,9 +25,9 @@ module _ {Spans : ℕ → Type 0} {end : ℕ → ℕ} where
       }
 
   -- one that spans some reaches to its end
-  pub reach_moved : {i reach : ℕ} → IsLevelReach Spans end i reach → Spans i → (next : ℕ) → next ≡ max reach (end i)
-      → IsLevelReach Spans end (i + 1) next
-  reach_moved {i} {reach} is here next moved =
+  pub floor_moved : {i floor : ℕ} → IsLevelFloor Spans end i floor → Spans i → (next : ℕ) → next ≡ max floor (end i)
+      → IsLevelFloor Spans end (i + 1) next
+  floor_moved {i} {floor} is here next moved =
       record {
         enough = λ j h spans. elim (cases_eq j i) [
           | inl same ↦ let at : end j ≡ end i = ap end same in omega (arith, at, moved)
@@ -42,8 +42,8 @@ module _ {Spans : ℕ → Type 0} {end : ℕ → ℕ} where
             );
       }
 
-  -- a number is behind the earlier rows' ends exactly if it is behind the reach
-  pub behind : {i reach : ℕ} → IsLevelReach Spans end i reach → (n : ℕ) → reach ≤ n → EndUpTo Spans end i n
+  -- a number is behind the earlier rows' ends exactly if it is behind the floor
+  pub behind : {i floor : ℕ} → IsLevelFloor Spans end i floor → (n : ℕ) → floor ≤ n → EndUpTo Spans end i n
   behind is n up j h spans = omega (arith, is.enough j h spans, up)
 
 -- ---- at all
@@ -51,6 +51,6 @@ module _ {Spans : ℕ → Type 0} {end : ℕ → ℕ} where
 pub front_floor : (place : Place) → place.singles ≡ 0 → place.rings ≡ 0 → place.coordinates ≡ 0
     → (l : Levels) (d : Dimensions) → IsFloor l d 0 place
 front_floor place s r c l d =
-    record { singles = reach_first _ s; rings = reach_first _ r; coordinates = reach_first _ c }
+    record { singles = floor_first _ s; rings = floor_first _ r; coordinates = floor_first _ c }
 
 pub ruleset floor_laws = front_floor

@@ -1,7 +1,7 @@
 -- The pieces between ends, one by one, and some of them; and the coordinates in some of the words.
 use Rattle.std.proofs.Common.{◌≡◌, ℕ, zero, suc, ◌+◌, ◌-◌, ◌*◌, ◌/◌, ◌<◌, ◌≤◌, refl, sym, ap, ◌∙◌, arith}
 use Rattle.std.proofs.Common.{List, [], ◌∷◌, length, take, drop, length-take, length-drop, Option, Some, slice_get}
-use Rattle.std.proofs.Common.{option_map}
+use Rattle.std.proofs.Common.{option_map, option_and_then}
 use Rattle.std.proofs.Common.{slice_index, slice_range, None, inl, inr}
 use Rattle.std.proofs.lemmas.Bool.{cases_eq}
 use Rattle.std.proofs.Math.Nat.{mul-le-mul_left, mul-div-le, mul-div_cancel_left, mul-sub, mul-zero}
@@ -9,7 +9,7 @@ use Rattle.std.proofs.lemmas.List.{drop-drop, take-take, drop-take, get_or-drop,
 use Rattle.wkb_geom.specs.declared.common.Dimensions.{Dimensions}
 use Rattle.wkb_geom.specs.Dimensions.{size}
 use Rattle.wkb_plain.specs.Runs.{runs, coordinates_in}
-use Rattle.wkb_levels.specs.Cuts.{start_at, AreEnds, AreOnes, pieces_from, only, and_then, only_each}
+use Rattle.wkb_levels.specs.Cuts.{start_at, AreEnds, AreOnes, pieces_from, only, only_each}
 
 pub length-pieces : {A : Type 0} (base : ℕ) (items : List A) (start : ℕ) (ends : List ℕ)
     → length (pieces_from base items start ends) ≡ length ends
@@ -131,10 +131,11 @@ ones_only base items start (e ∷ ends) low ones h =
     (omega (arith, next, low, h)) in
     let wide : e - base - k ≡ 1 = omega (arith, next, low) in
     let up : e - base ≡ suc k = omega (arith, next, low) in
-    ap (λ o. and_then (λ a. option_map (λ more. a ∷ more) o) (only (take (e - base - k) (drop k items)))) rest
-    ∙ ap (λ n. and_then (λ a. Some (a ∷ take (length ends) (drop (e - base) items))) (only (take n (drop k items))))
+    ap (λ o. option_and_then (λ a. option_map (λ more. a ∷ more) o) (only (take (e - base - k) (drop k items)))) rest
+    ∙ ap
+    (λ n. option_and_then (λ a. Some (a ∷ take (length ends) (drop (e - base) items))) (only (take n (drop k items))))
     wide
-    ∙ ap (λ l. and_then (λ a. Some (a ∷ take (length ends) (drop (e - base) items))) (only (take 1 l))) m.1
+    ∙ ap (λ l. option_and_then (λ a. Some (a ∷ take (length ends) (drop (e - base) items))) (only (take 1 l))) m.1
     ∙ ap (λ n. Some (m.0 ∷ take (length ends) (drop n items))) up
     ∙ ap (λ l. Some (take (suc (length ends)) l)) (sym m.1)
 
@@ -143,7 +144,7 @@ not_only [] differ = refl
 not_only (a ∷ []) differ = absurd (differ refl)
 not_only (a ∷ b ∷ items) differ = refl
 
-no_rest : {A B C : Type 0} (f : A → B → C) (o : Option A) → and_then (λ a. option_map (f a) None) o ≡ None
+no_rest : {A B C : Type 0} (f : A → B → C) (o : Option A) → option_and_then (λ a. option_map (f a) None) o ≡ None
 no_rest f None = refl
 no_rest f (Some a) = refl
 
@@ -163,12 +164,12 @@ not_ones base items limit start (e ∷ ends) low whole are differ =
     let here = are.1 0 (omega arith) in
     elim (cases_eq e (start + 1)) [
       | inl one ↦
-          ap (λ o. and_then (λ a. option_map (λ more. a ∷ more) o) (only first))
+          ap (λ o. option_and_then (λ a. option_map (λ more. a ∷ more) o) (only first))
           (not_ones base items limit e ends (omega (arith, low, one)) whole (rest_fit limit start e ends are)
           (λ ones. differ (λ i h. each_one i h one ones)))
           ∙ no_rest (λ a more. a ∷ more) (only first)
       | inr other ↦
-          ap (and_then (λ a. option_map (λ more. a ∷ more) (only_each (pieces_from base items e ends))))
+          ap (option_and_then (λ a. option_map (λ more. a ∷ more) (only_each (pieces_from base items e ends))))
           (not_only first (λ l. other (omega (
             arith,
             l,

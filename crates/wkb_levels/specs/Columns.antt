@@ -85,12 +85,12 @@ pub record IsClear (l : Levels) (d : Dimensions) (i : ℕ) : Type 0 where
   pub coordinates : EndUpTo (SpansCoordinates l d) (coordinates_end l) i (coordinates_begin l i)
 
 -- how far the rows before row i reach at a level: none ends later there, and no lower number is as much
-pub record IsLevelReach (Spans : ℕ → Type 0) (end : ℕ → ℕ) (i reach : ℕ) : Type 0 where
-  pub enough : EndUpTo Spans end i reach
-  pub least : (n : ℕ) → EndUpTo Spans end i n → reach ≤ n
+pub record IsLevelFloor (Spans : ℕ → Type 0) (end : ℕ → ℕ) (i floor : ℕ) : Type 0 where
+  pub enough : EndUpTo Spans end i floor
+  pub least : (n : ℕ) → EndUpTo Spans end i n → floor ≤ n
 
 -- how far the rows before row i reach
 pub record IsFloor (l : Levels) (d : Dimensions) (i : ℕ) (floor : Place) : Type 0 where
-  pub singles : IsLevelReach (SpansSingles l) (row_end l) i floor.singles
-  pub rings : IsLevelReach (SpansRings l) (rings_end l) i floor.rings
-  pub coordinates : IsLevelReach (SpansCoordinates l d) (coordinates_end l) i floor.coordinates
+  pub singles : IsLevelFloor (SpansSingles l) (row_end l) i floor.singles
+  pub rings : IsLevelFloor (SpansRings l) (rings_end l) i floor.rings
+  pub coordinates : IsLevelFloor (SpansCoordinates l d) (coordinates_end l) i floor.coordinates

@@ -1,7 +1,7 @@
 -- Lists that are cut out of one longer list by the ends of their items.
 use Rattle.std.specs.Prelude.{◌≡◌, ℕ, zero, suc, ◌+◌, ◌-◌, ◌≤◌, ◌<◌, List, [], ◌∷◌, length, All, slice_index}
 use Rattle.std.specs.Prelude.{slice_range}
-use Rattle.std.specs.Prelude.{Option, Some, None}
+use Rattle.std.specs.Prelude.{Option, Some, None, option_and_then}
 use Rattle.std.specs.Option.{option_map}
 use Rattle.std.specs.List.{AllByRecursion}
 use Rattle.std.proofs.lemmas.List.Elements.{All-take, All-drop, recursion_from_All}
@@ -42,11 +42,7 @@ only [] = None
 only (a ∷ []) = Some a
 only (a ∷ b ∷ rest) = None
 
-abbrev pub and_then : {A B : Type 0} → (A → Option B) → Option A → Option B
-and_then f None = None
-and_then f (Some a) = f a
-
 -- the one item of each list
 abbrev pub only_each : {A : Type 0} → List (List A) → Option (List A)
 only_each [] = Some []
-only_each (items ∷ rest) = and_then (λ a. option_map (λ more. a ∷ more) (only_each rest)) (only items)
+only_each (items ∷ rest) = option_and_then (λ a. option_map (λ more. a ∷ more) (only_each rest)) (only items)

@@ -1,5 +1,5 @@
 -- What a row means, and what the levels of a row mean.
-use Rattle.std.specs.Prelude.{◌≡◌, ℕ, List, map, Option, Some, None, MatchOption, refl}
+use Rattle.std.specs.Prelude.{◌≡◌, ℕ, List, map, Option, Some, None, MatchOption, option_and_then, refl}
 use Rattle.std.specs.Option.{option_map}
 use Rattle.wkb_geom.specs.declared.common.Dimensions.{Dimensions}
 use Rattle.wkb_geom.specs.Geometries.{Geometry, point, line_string, polygon, multi_point, multi_line_string}
@@ -16,7 +16,7 @@ use Rattle.wkb_levels.specs.declared.row.Kind.{Kind}
 use Rattle.wkb_levels.specs.declared.row.Kind.TheVariants as kinds
 use Rattle.wkb_levels.specs.declared.levels.Levels.{Levels}
 use Rattle.wkb_levels.specs.Columns.{AreRowLevels, IsClear, singles_of}
-use Rattle.wkb_levels.specs.Cuts.{only, and_then, only_each}
+use Rattle.wkb_levels.specs.Cuts.{only, only_each}
 use Rattle.wkb_levels.specs.RingLists.{rings_dimensions, rings_rings, rings_lawful}
 use Rattle.wkb_levels.specs.PointLists.{points_dimensions, points_points, points_lawful}
 use Rattle.wkb_levels.specs.PolygonLists.{polygons_dimensions, polygons_polygons}
@@ -61,7 +61,7 @@ row_meant (rows.MultiPolygon p) = multi_polygon (polygons_dimensions p) (polygon
 -- and a point's ring has one coordinate
 abbrev pub rings_meant : Kind → Dimensions → List (List (List ℕ)) → Option Geometry
 rings_meant kinds.Point d rings =
-    and_then (λ ring. option_map (λ c. point d (Some c)) (only ring)) (only rings)
+    option_and_then (λ ring. option_map (λ c. point d (Some c)) (only ring)) (only rings)
 rings_meant kinds.LineString d rings = option_map (λ ring. line_string d ring) (only rings)
 rings_meant kinds.Polygon d rings = None
 rings_meant kinds.MultiPoint d rings = option_map (λ cs. multi_point d (map (λ c. Some c) cs)) (only_each rings)
@@ -71,18 +71,18 @@ rings_meant kinds.MultiPolygon d rings = None
 -- the rings of each single as a geometry of this kind, if they fit it: a polygon is one single, and a single that is no
 -- polygon has one ring
 abbrev pub kind_meant : Kind → Dimensions → List (List (List (List ℕ))) → Option Geometry
-kind_meant kinds.Point d s = and_then (rings_meant kinds.Point d) (only_each s)
-kind_meant kinds.LineString d s = and_then (rings_meant kinds.LineString d) (only_each s)
+kind_meant kinds.Point d s = option_and_then (rings_meant kinds.Point d) (only_each s)
+kind_meant kinds.LineString d s = option_and_then (rings_meant kinds.LineString d) (only_each s)
 kind_meant kinds.Polygon d s = option_map (λ rings. polygon d rings) (only s)
-kind_meant kinds.MultiPoint d s = and_then (rings_meant kinds.MultiPoint d) (only_each s)
-kind_meant kinds.MultiLineString d s = and_then (rings_meant kinds.MultiLineString d) (only_each s)
+kind_meant kinds.MultiPoint d s = option_and_then (rings_meant kinds.MultiPoint d) (only_each s)
+kind_meant kinds.MultiLineString d s = option_and_then (rings_meant kinds.MultiLineString d) (only_each s)
 kind_meant kinds.MultiPolygon d s = Some (multi_polygon d s)
 
--- these rings as a geometry of this kind, if they fit it
+-- the geometry of this kind that rings of a column mean, if they fit it
 abbrev pub rings_as : Kind → Rings → Option Geometry
 rings_as kind r = rings_meant kind (rings_dimensions r) (rings_rings r)
 
--- these singles as a geometry of this kind, if they fit it
+-- the geometry of this kind that singles of a column mean, if they fit it
 abbrev pub singles_as : Kind → Polygons → Option Geometry
 singles_as kind s = kind_meant kind (polygons_dimensions s) (polygons_polygons s)
 

@@ -10,7 +10,7 @@ use Rattle.wkb_levels.specs.declared.write.Written.{Written}
 use Rattle.wkb_levels.specs.declared.write.Written.TheVariants as written
 use Rattle.wkb_levels.specs.Meant.{IsLevelRow}
 
--- these bytes are the encoding of row i
+-- the bytes are the encoding of row i under the options
 pub record HasRowEncoding (l : Levels) (kind : Kind) (d : Dimensions) (o : WriteOptions) (i : ℕ) (bytes : List ℕ)
     : Type 0 where
   pub geometry : Geometry

@@ -124,7 +124,7 @@ impl<'w> Ends<'w> {
     }
 }
 
-/// So many numbers behind another, where that is no further than the last, or the other itself.
+/// The number `i` after `from`, which is no greater than `last`, or is `from` itself.
 fn number_at(from: u64, i: usize, last: u64) -> u64
     requires { (i ≡ 0) ⊎ (from + i ≤ last) }
     ensures { result ≡ from + i }
@@ -132,7 +132,7 @@ fn number_at(from: u64, i: usize, last: u64) -> u64
     from + i as u64
 }
 
-/// The number behind that one, which isn't the last.
+/// The number `i + 1` after `from`, which is no greater than `last`.
 fn number_behind(from: u64, i: usize, last: u64) -> u64
     requires { from + i < last }
     ensures { result ≡ from + i + 1 }

@@ -102,7 +102,7 @@ impl<'w> Rings<'w> {
         LineString::new(self.dim, &self.words[from..to])
     }
 
-    /// Those from one index up to another.
+    /// The rings from one index up to another.
     pub fn part(&self, from: usize, to: usize) -> Rings<'w>
         requires order { from ≤ to }
         requires within { to ≤ length (rings_rings self.now) }

@@ -1,11 +1,11 @@
 //! A row of a column, as a geometry of the column's kind.
 
-ghost use Rattle.std.specs.Prelude.{◌≡◌, ◌<◌, ◌+◌, length, None, IfOk, IfErr};
+ghost use Rattle.std.specs.Prelude.{◌≡◌, ◌<◌, ◌+◌, length};
 ghost use Rattle.std.specs.Option.{option_map};
 ghost use Rattle.wkb_geom.specs.Found.{HasDimensions};
 ghost use Rattle.wkb_plain.specs.Kinds.{line_string_coordinates, coord_words, coord_dimensions};
 ghost use Rattle.wkb_plain.specs.Kinds.{line_string_dimensions};
-ghost use Rattle.wkb_write.specs.Prelude.{encoding_of, refusal_of, IsSizeOf, IsInFront, IsSliceError};
+ghost use Rattle.wkb_write.specs.Prelude.{IsSizeOf, WritesToSlice};
 ghost use Rattle.wkb_levels.specs.Columns.{IsFloor};
 ghost use Rattle.wkb_levels.specs.Cuts.{only};
 ghost use Rattle.wkb_levels.specs.EndLists.{ends_of};
@@ -54,11 +54,7 @@ impl Row<'_> {
 
     /// Writes it to the front of a slice, as `write_to_slice` does.
     pub fn write(&self, options: &WriteOptions, out: &mut [u8]) -> WkbResult<usize>
-        ensures ok { IfOk result
-            (IsInFront out.old out.new (encoding_of options.now (row_meant self.now))) }
-        ensures writable { IfOk result (λ _. refusal_of options.now (row_meant self.now) ≡ None) }
-        ensures err { IfErr result (IsSliceError options.now (row_meant self.now) out.old) }
-        ensures kept { IfErr result (λ _. out.new ≡ out.old) }
+        ensures { WritesToSlice options.now (row_meant self.now) out.old out.new result }
     {
         match self {
             Row::Single(g) => write_to_slice(g, options, out),

@@ -19,7 +19,7 @@ pub struct Rows<'w> {
     end: usize,
     floor: Place,
     ghost all: { end ≡ length (ends_of levels.row_ends) },
-    ghost reach: { IsFloor levels dim at floor },
+    ghost is_floor: { IsFloor levels dim at floor },
 }
 
 impl<'w> Levels<'w> {

@@ -12,11 +12,11 @@ use wkb_write::WriteOptions;
 /// What became of a row.
 #[derive(Debug, Clone, Copy, PartialEq)]
 pub enum Written {
-    /// Its encoding, which is so long, stands at the front of the slice.
+    /// Its encoding is at the front of the slice, and has this many bytes.
     Whole(usize),
-    /// Its encoding is so long, and the slice is shorter.
+    /// The slice is shorter than its encoding, which has this many bytes.
     LacksRoom(usize),
-    /// Its levels don't fit, or hold more than a count of four bytes counts.
+    /// Its levels don't fit, or a count is 2^32 or more.
     Unfit,
 }
 

@@ -20,7 +20,7 @@ use Rattle.wkb_geom.specs.Parts.{TriangleMembers, LineMembers}
 use Rattle.wkb_view.specs.Fitted.{fitted_parts, fitted_members, fitted_geometry, fitted_geometries}
 use Rattle.wkb_view.specs.Fitted.{fitted_geometry-same}
 use Rattle.wkb_view.specs.Views.{point_seen, point_dimension, point_value, seen_coordinate, line_string_seen}
-use Rattle.wkb_view.specs.Views.{line_string_dimension, line_string_coordinates, multi_point_seen}
+use Rattle.wkb_view.specs.Views.{line_string_dimension, seen_coordinates, multi_point_seen}
 use Rattle.wkb_view.specs.Views.{multi_point_dimension, seen_points}
 use Rattle.wkb_view.proofs.Lawful.{point_is_lawful, line_string_is_lawful, multi_point_is_lawful}
 use Rattle.wkb_view.specs.declared.point.Point.{Point}
@@ -80,7 +80,7 @@ point_means : (p : Point)
 point_means p = part_seen _ (point_seen p).value (ap geometry_of (point_value p)) (point_is_lawful p)
 
 line_string_means : (l : LineString)
-    → line_string (as_dimensions (line_string_dimension l)) (line_string_coordinates l)
+    → line_string (as_dimensions (line_string_dimension l)) (seen_coordinates l)
     ≡ geometry_seen (line_string_seen l)
 line_string_means l = part_seen _ (line_string_seen l).value refl (line_string_is_lawful l)
 
@@ -107,7 +107,7 @@ module _ {R T N : Type 0} where
       → LineStringMeans
       (record {
         dimensions = λ l. as_dimensions (line_string_dimension l);
-        coordinates = line_string_coordinates;
+        coordinates = seen_coordinates;
       }) part (geometry_seen w)
   line_string_told w (handed.LineString l) e = line_string_means l.now ∙ ap geometry_seen e
   line_string_told w _ e = tt

@@ -34,7 +34,7 @@ pub record HoldsMembers (has_srid : Bool) (encoding : List ℕ) (members : List 
   pub behind : parts_start has_srid encoding ≡ joined_encodings members
   pub each : AllByRecursion BytesSpell members
 
--- this encoding holds these members, and spells their collection
+-- the encoding holds these members, and spells their collection
 abbrev pub IsCollectionIn : Layout → List Item → List ℕ → Type 0
 IsCollectionIn l members encoding =
     HoldsMembers l.has_srid encoding members × BytesSpell (list_item l collection_with members encoding)

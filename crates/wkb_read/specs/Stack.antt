@@ -27,7 +27,7 @@ abbrev pub after_member : (List ℕ → Reading Item) → Layout → List ℕ �
 after_member member l bytes left front x rest =
     and_then (repeated left member rest) (λ xs after. closing l bytes (front ++ x ∷ xs) after)
 
--- the same of an open collection inside this number of others
+-- how an open collection, inside this number of others, is read on once a member is finished
 abbrev pub in_collection : ℕ → Open → Item → List ℕ → Reading Item
 in_collection depth o = after_member (geometry_inside (suc depth)) o.layout o.bytes.now o.left (entries o.members)
 

@@ -50,7 +50,8 @@ fn of_polygons(multi: &MultiPolygon<'_>) -> Contents
 impl GeometryCollection<'_> {
     ghost use Rattle.wkb_read.specs.Contents.{AreContentsOfEach};
 
-    /// Those of its members, and the members. Both are fewer than the bytes.
+    /// How many coordinates its members have, and how many parts these are, themselves counted. Each number is less
+    /// than the length in bytes.
     #[cycle(contents)]
     fn contents(&self) -> Contents
         ensures { AreContentsOfEach self.now.parts result }

@@ -1,11 +1,13 @@
-//! What clients return: words of geometries in a blob, and whether a value is stored.
+//! What clients return: words of geometries in a blob, whether a value is stored, and codes.
 
 use std::alloc::Global;
 use std::test::Fail;
+use wkb::check::check;
 use wkb_cases::spelled::bytes;
 use wkb_cases::support::{THREE, TWO};
 use wkb_clients::collections::{WordPath, ring_word};
 use wkb_clients::keys::Store;
+use wkb_clients::kinds::code;
 use wkb_clients::package::word;
 
 /// Eight bytes that another format's header could have, and a big endian line string of one coordinate with a z.
@@ -65,5 +67,23 @@ fn value_stored_once(rt: HostRuntime) -> Result<(), Fail> {
     let big = "00 20000003 000010e6 00000001 00000001 3ff0000000000000 4000000000000000";
     assert!(rt; !was_there(&mut store, little)?);
     assert!(rt; was_there(&mut store, big)?);
+    Ok(())
+}
+
+/// The ISO code of the geometry at the front of a text's bytes.
+fn code_at_front(text: &str) -> Result<Option<u32>, Fail> {
+    let input = bytes(text)?;
+    match check(input.as_slice()) {
+        Ok(found) => Ok(Some(code(found))),
+        Err(_) => Ok(None),
+    }
+}
+
+// A point whose code has the thousands of a z and the flag of an m, a polygon with an SRID, and an unknown code.
+#[test]
+fn codes_of_fronts(rt: HostRuntime) -> Result<(), Fail> {
+    assert!(rt; code_at_front("01 e9030040 P P")? == Some(3001));
+    assert!(rt; code_at_front("00 20000003 000010e6 00000000")? == Some(3));
+    assert!(rt; code_at_front("01 c00b0000 P")?.is_none());
     Ok(())
 }

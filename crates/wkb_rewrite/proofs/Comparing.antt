@@ -9,7 +9,7 @@ use Rattle.wkb_laws.proofs.Rewritings.{one_encoding}
 use Rattle.wkb_check.specs.declared.pieces.Piece.{Piece}
 use Rattle.wkb_check.specs.declared.pieces.Pieces.{Pieces}
 use Rattle.wkb_check.specs.Bounded.{HasGeometry}
-use Rattle.wkb_rewrite.specs.Shares.{Share, is_empty, own_words, written_words, word_count}
+use Rattle.wkb_rewrite.specs.Shares.{Share, is_empty_point, own_words, written_words, word_count}
 use Rattle.wkb_rewrite.proofs.ValueShares.{shares_of, shares_same}
 use Rattle.wkb_rewrite.proofs.Encodings.{shares_encoding, shares_encoded}
 use Rattle.wkb_rewrite.proofs.Walks.{Rest}
@@ -73,7 +73,7 @@ empty_by true false n own e = e
 
 pub empty_told : (a : List ℕ) (x : Piece) (b : List ℕ) (y : Piece) → x.kind ≡ y.kind
     → written_words a x ≡ written_words b y
-    → is_empty a x ≡ is_empty b y
+    → is_empty_point a x ≡ is_empty_point b y
 empty_told a x b y k e =
     empty_by (x.kind == 1) (all_nan (own_words a x)) (word_count x) (own_words a x) refl
     ∙ (λ i. (k i == 1) && all_nan (e i))

@@ -12,7 +12,7 @@ use Rattle.wkb_check.specs.Bounded.{HasGeometry}
 use Rattle.wkb_check.specs.Pieces.{own_end, piece_of, pieces_of, IsAhead, HasAhead, IsTaken, IsInside}
 use Rattle.wkb_check.proofs.Placing.{own_piece, inner_pieces}
 use Rattle.wkb_rewrite.specs.Shares.{share_in, share_encoding, written_words, count_part, header_part, type_header}
-use Rattle.wkb_rewrite.specs.Shares.{is_empty}
+use Rattle.wkb_rewrite.specs.Shares.{is_empty_point}
 use Rattle.wkb_rewrite.specs.Rewritings.{StandsAsWritten}
 use Rattle.wkb_rewrite.proofs.Encodings.{shares_encoding, shares_encoded, inner_twice}
 use Rattle.wkb_rewrite.proofs.Measured.{srid_sizes, measured}
@@ -115,15 +115,15 @@ abbrev own_body : List ℕ → Endianness → Piece → List ℕ
 own_body buf order p = count_part order p.kind p.count ++ words_encoding order (written_words buf p)
 
 own_there : (buf : List ℕ) (g : HasGeometry buf) (p : Piece) → AreBytes buf → p ≡ piece_of 0 g.spelled g.value
-    → own_end p ≤ length buf → is_empty buf p ≡ false
+    → own_end p ≤ length buf → is_empty_point buf p ≡ false
     → (p.kind ≢ 0) × Spans buf (5 + srid_size (is_some p.srid)) (own_end p) (own_body buf p.order p)
 own_there buf g p b is inside some =
-    subst (λ q. own_end q ≤ length buf → is_empty buf q ≡ false
+    subst (λ q. own_end q ≤ length buf → is_empty_point buf q ≡ false
     → (q.kind ≢ 0) × Spans buf (5 + srid_size (is_some q.srid)) (own_end q) (own_body buf q.order q)) (sym is)
     (by g.spelled g.begins) inside some
   where
     by : (s : Spelling) → Begins (Spells s g.value) buf g.rest
-        → own_end (piece_of 0 s g.value) ≤ length buf → is_empty buf (piece_of 0 s g.value) ≡ false
+        → own_end (piece_of 0 s g.value) ≤ length buf → is_empty_point buf (piece_of 0 s g.value) ≡ false
         → ((piece_of 0 s g.value).kind ≢ 0)
         × Spans buf (5 + srid_size (is_some (piece_of 0 s g.value).srid)) (own_end (piece_of 0 s g.value))
         (own_body buf (piece_of 0 s g.value).order (piece_of 0 s g.value))
@@ -143,7 +143,7 @@ pub record IsCopied (buf : List ℕ) (order : Endianness) (form : Form) (first :
 
 pub all_stand : (buf : List ℕ) (order : Endianness) (form inside : Form) (w : Pieces) (first : Piece) (bytes start : ℕ)
     (g : HasGeometry buf) → AreBytes buf → inside ≡ inner form → bytes ≡ length g.begins.front
-    → (l : StandSoFar buf order inside w first g) → l.left ≡ [] → first.order ≡ order → is_empty buf first ≡ false
+    → (l : StandSoFar buf order inside w first g) → l.left ≡ [] → first.order ≡ order → is_empty_point buf first ≡ false
     → own_end first ≤ length buf → start ≡ 5 + srid_size (is_some first.srid)
     → IsCopied buf order form first bytes start (encoding order form (geometry_of g.value))
 all_stand buf order form inside w first bytes start g b inside_is long l none order_is some fits start_is =

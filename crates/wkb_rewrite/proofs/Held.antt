@@ -25,7 +25,7 @@ use Rattle.wkb_laws.proofs.OneEncoding.{number_fixed}
 use Rattle.wkb_check.specs.declared.pieces.Piece.{Piece}
 use Rattle.wkb_check.specs.Pieces.{own_end}
 use Rattle.wkb_sink.specs.Runs.{other}
-use Rattle.wkb_rewrite.specs.Shares.{Holds, own_words, word_count, written_words, is_empty}
+use Rattle.wkb_rewrite.specs.Shares.{Holds, own_words, word_count, written_words, is_empty_point}
 
 pub taken_bytes : (n : ℕ) (z : List ℕ) → AreBytes z → AreBytes (take n z) × AreBytes (drop n z)
 taken_bytes n z b =
@@ -172,16 +172,16 @@ own_long buf p bytes h = omega (arith, held_long p.order (own_words buf p) bytes
 
 pub written_long : (order : Endianness) (buf : List ℕ) (p : Piece)
     → length (words_encoding order (written_words buf p)) ≡ 8 * word_count p
-written_long order buf p = words_length order (written_words buf p) ∙ ap (λ n. 8 * n) (by (is_empty buf p))
+written_long order buf p = words_length order (written_words buf p) ∙ ap (λ n. 8 * n) (by (is_empty_point buf p))
   where
     by : (empty : Bool) → length (if empty then replicate (word_count p) empty_word else own_words buf p) ≡ word_count p
     by true = length-replicate (word_count p) empty_word
     by false = words_long buf p
 
 -- which words are written of a piece
-pub written_empty : (buf : List ℕ) (p : Piece) → is_empty buf p ≡ true
+pub written_empty : (buf : List ℕ) (p : Piece) → is_empty_point buf p ≡ true
     → written_words buf p ≡ replicate (word_count p) empty_word
 written_empty buf p e = ap (λ t. if t then replicate (word_count p) empty_word else own_words buf p) e
 
-pub written_own : (buf : List ℕ) (p : Piece) → is_empty buf p ≡ false → written_words buf p ≡ own_words buf p
+pub written_own : (buf : List ℕ) (p : Piece) → is_empty_point buf p ≡ false → written_words buf p ≡ own_words buf p
 written_own buf p e = ap (λ t. if t then replicate (word_count p) empty_word else own_words buf p) e

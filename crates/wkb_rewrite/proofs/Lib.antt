@@ -1,6 +1,6 @@
 mod Held
 mod ValueShares
-mod Encodings
+pub mod Encodings
 mod Spelled
 mod Putting
 mod Walks

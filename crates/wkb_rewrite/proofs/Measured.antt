@@ -3,19 +3,21 @@ use Rattle.std.proofs.Common.{◌≡◌, ℕ, ◌+◌, ◌*◌, ◌≤◌, List,
 use Rattle.std.proofs.Common.{refl, sym, ap, ◌∙◌, arith, length-append}
 use Rattle.wkb_laws.specs.Prelude.{Endianness, Dimension, Form, Coordinate, AreBytes, Value, Values, no_members, member}
 use Rattle.wkb_laws.specs.Prelude.{dimension, members, Spelling, node, Spellings, no_spellings, spelling, Spells}
-use Rattle.wkb_laws.specs.Prelude.{SpellsEach, kind, point, line_string, polygon, multi_point, part}
+use Rattle.wkb_laws.specs.Prelude.{SpellsEach, kind, point, line_string, polygon, multi_point}
 use Rattle.wkb_laws.specs.Prelude.{Wanted, srid_count, srid_count_each, srid_size, ring_end, form_srid}
 use Rattle.wkb_laws.specs.Prelude.{geometry_of, encoding}
 use Rattle.wkb_laws.proofs.Lengths.{spelled_length, encoding_length, value_size, srid_size_is, none_without_members}
 use Rattle.wkb_laws.proofs.Lengths.{none_in_points}
 use Rattle.wkb_laws.proofs.OneFront.{one_spelling}
 use Rattle.wkb_laws.proofs.Values.{spelled_good, normal-geometry_of, lawful-geometry_of}
+use Rattle.wkb_geom.specs.Reading.{type_kind}
 use Rattle.wkb_geom.specs.Spellings.{Header}
 use Rattle.wkb_check.specs.declared.pieces.Piece.{Piece}
 use Rattle.wkb_check.specs.declared.answer.Summary.{Summary}
 use Rattle.wkb_check.specs.Bounded.{HasGeometry}
 use Rattle.wkb_check.specs.Public.{DescribesFront}
 use Rattle.wkb_check.specs.Pieces.{leading, rings_of, size, piece_of, pieces_of, pieces_of_rings, pieces_of_each}
+use Rattle.wkb_check.proofs.Ahead.{type_kind_is}
 use Rattle.wkb_rewrite.proofs.Comparing.{geometry_bytes}
 
 -- the bytes of the SRIDs of pieces
@@ -128,3 +130,16 @@ at_most order form buf g b =
       ap length g.begins.whole,
       length-append g.begins.front g.rest,
     )
+
+piece_kind : (s : Spelling) (t : Value) → (piece_of 0 s t).kind ≡ kind t
+piece_kind (node h words ss) t = refl
+
+-- the kind of its first piece is that which was found
+pub kind_of : {buf : List ℕ} {found : Summary} → DescribesFront buf found → (g : HasGeometry buf) (p : Piece)
+    → p ≡ piece_of 0 g.spelled g.value
+    → p.kind ≡ type_kind found.wkb_type
+kind_of d g p is =
+    let same = one_spelling d.spelled g.spelled d.value g.value d.front.front g.begins.front d.rest g.rest
+    d.front.spelled g.begins.first (sym d.front.whole ∙ g.begins.whole) in
+    ap (λ (q : Piece). q.kind) is ∙ piece_kind g.spelled g.value
+    ∙ sym (ap type_kind d.described.wkb_type ∙ type_kind_is d.value ∙ ap kind same.value)

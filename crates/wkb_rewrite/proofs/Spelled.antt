@@ -12,7 +12,7 @@ unfoldable use Rattle.wkb_laws.specs.Prelude.{point_words}
 use Rattle.wkb_geom.specs.Reading.{items, coordinate}
 use Rattle.wkb_check.specs.declared.pieces.Piece.{Piece}
 use Rattle.wkb_check.specs.Pieces.{pieces_of, rings_of}
-use Rattle.wkb_check.specs.Subjects.{Subject, whole, ring, coordinates_in, subjects, subjects_of_rings}
+use Rattle.wkb_check.specs.Subjects.{Subject, whole, ring, subject_coordinates, subjects, subjects_of_rings}
 use Rattle.wkb_check.specs.Subjects.{subjects_of_each}
 use Rattle.wkb_check.proofs.Subjects.{piece_coordinates, IsPieceOf, ArePiecesOf, pieces_match}
 use Rattle.wkb_rewrite.specs.Shares.{Share, share_in, own_words, word_count}
@@ -61,7 +61,7 @@ abbrev written : ℕ → ℕ → List ℕ → List ℕ
 written k n words = if (k == 1) && all_nan words then replicate n empty_word else words
 
 module _ (buf : List ℕ) (p : Piece) where
-  own : (x : Subject) → IsPieceOf buf p x → own_words buf p ≡ concat (coordinates_in x)
+  own : (x : Subject) → IsPieceOf buf p x → own_words buf p ≡ concat (subject_coordinates x)
   own x m = own_are buf p ∙ ap concat m.coordinates_are
 
   share_is : (x : Subject) → IsPieceOf buf p x → share_in buf p ≡ share_of x

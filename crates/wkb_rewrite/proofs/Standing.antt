@@ -19,7 +19,7 @@ use Rattle.wkb_check.proofs.Ahead.{says, begins_inside}
 use Rattle.wkb_check.proofs.Placing.{cut, own_piece, inner_pieces}
 use Rattle.wkb_check.proofs.Public.{geometry_opens}
 use Rattle.wkb_geom.specs.Items.{length-items}
-use Rattle.wkb_rewrite.specs.Shares.{share_in, share_encoding, written_words, count_part, header_part, is_empty}
+use Rattle.wkb_rewrite.specs.Shares.{share_in, share_encoding, written_words, count_part, header_part, is_empty_point}
 use Rattle.wkb_rewrite.specs.Rewritings.{StandsAsWritten}
 use Rattle.wkb_rewrite.proofs.Held.{taken_bytes, number_held, own_held, own_end_is, written_own}
 use Rattle.wkb_rewrite.proofs.Putting.{header_is, piece_header, no_srid}
@@ -47,7 +47,7 @@ number_span buf order at to b inside to-is =
     taken_span buf at 4 to _ held.1 to-is
 
 -- the own words of a piece
-words_span : (buf : List ℕ) (p : Piece) → AreBytes buf → own_end p ≤ length buf → is_empty buf p ≡ false
+words_span : (buf : List ℕ) (p : Piece) → AreBytes buf → own_end p ≤ length buf → is_empty_point buf p ≡ false
     → Spans buf p.offset (own_end p) (words_encoding p.order (written_words buf p))
 words_span buf p b inside some =
     taken_span buf p.offset (own_end p - p.offset) (own_end p) _
@@ -78,7 +78,8 @@ module _ (buf : List ℕ) (b : AreBytes buf) (h : Header) (words : List ℕ) (ss
 
   -- the count and the own words
   pub body_span : (t : Value) → Begins (Spells (node h words ss) t) (drop at buf) rest
-      → own_end (piece_of at (node h words ss) t) ≤ length buf → is_empty buf (piece_of at (node h words ss) t) ≡ false
+      → own_end (piece_of at (node h words ss) t) ≤ length buf
+      → is_empty_point buf (piece_of at (node h words ss) t) ≡ false
       → Spans buf (at + (5 + srid_size (is_some h.srid))) (own_end (piece_of at (node h words ss) t))
       (count_part h.order (kind t) (count_of t)
       ++ words_encoding h.order (written_words buf (piece_of at (node h words ss) t)))
@@ -132,7 +133,7 @@ module _ (buf : List ℕ) (b : AreBytes buf) (h : Header) (words : List ℕ) (ss
 
 ring_span : (buf : List ℕ) (own order : Endianness) (form : Form) (d : Dimension) (at : ℕ) → AreBytes buf
     → let p = ring_piece own d at (number own 4 (drop at buf)) in
-    own ≡ order → own_end p ≤ length buf → is_empty buf p ≡ false
+    own ≡ order → own_end p ≤ length buf → is_empty_point buf p ≡ false
     → Spans buf at (own_end p) (share_encoding order form (share_in buf p))
 ring_span buf own order form d at b same inside some =
     let p = ring_piece own d at (number own 4 (drop at buf)) in
@@ -197,7 +198,7 @@ pub there_span : (buf : List ℕ) (order : Endianness) (form : Form) (at : ℕ) 
     → IsThere buf at p → form_srid form ≡ None → StandsAsWritten order form buf p → own_end p ≤ length buf
     → Spans buf at (own_end p) (share_encoding order form (share_in buf p))
 there_span buf order form at p b (ring o d is) none w inside =
-    subst (λ q. q.order ≡ order → own_end q ≤ length buf → is_empty buf q ≡ false
+    subst (λ q. q.order ≡ order → own_end q ≤ length buf → is_empty_point buf q ≡ false
     → Spans buf at (own_end q) (share_encoding order form (share_in buf q))) (sym is)
     (ring_span buf o order form d at b) w.order_is inside w.some
 there_span buf order form at p b (geometry g is) none w inside =

@@ -9,7 +9,7 @@ use Rattle.wkb_check.specs.Pieces.{IsAhead, IsTaken, IsInside}
 use Rattle.wkb_check.specs.declared.pieces.Piece.{Piece}
 use Rattle.wkb_check.specs.declared.pieces.Pieces.{Pieces}
 use Rattle.wkb_check.specs.declared.pieces.TheConstants.{RING}
-use Rattle.wkb_rewrite.specs.Shares.{is_empty}
+use Rattle.wkb_rewrite.specs.Shares.{is_empty_point}
 
 -- a geometry has the code that is written of it under this form; a ring has none
 abbrev pub CodeStands : Endianness → Form → List ℕ → Piece → Type 0
@@ -21,7 +21,7 @@ pub record StandsAsWritten (order : Endianness) (form : Form) (buf : List ℕ) (
   pub order_is : p.order ≡ order
   pub plain : p.srid ≡ None
   pub code : CodeStands order form buf p
-  pub some : is_empty buf p ≡ false
+  pub some : is_empty_point buf p ≡ false
 
 -- the walk passed the next piece, and these are told apart: one that stands as it is written, and one that may not
 pub record HasPassed (order : Endianness) (form : Form) (buf : List ℕ) (old new : Pieces) (stands : Bool) : Type 0 where

@@ -29,17 +29,17 @@ TellsSameWords same a_order a b_order b =
 abbrev pub word_count : Piece → ℕ
 word_count p = if nat_lt p.kind POLYGON then width p.dimension * p.count else 0
 
--- these words
+-- the words that a piece itself has
 abbrev pub own_words : List ℕ → Piece → List ℕ
 own_words buf p = items 8 (number p.order 8) (word_count p) (drop p.offset buf)
 
 -- whether a piece is a point whose words are all not-a-numbers
-abbrev pub is_empty : List ℕ → Piece → Bool
-is_empty buf p = (p.kind == POINT) && all_nan (own_words buf p)
+abbrev pub is_empty_point : List ℕ → Piece → Bool
+is_empty_point buf p = (p.kind == POINT) && all_nan (own_words buf p)
 
 -- the words that are written of a piece: of an empty point the empty word in each place
 abbrev pub written_words : List ℕ → Piece → List ℕ
-written_words buf p = if is_empty buf p then replicate (word_count p) empty_word else own_words buf p
+written_words buf p = if is_empty_point buf p then replicate (word_count p) empty_word else own_words buf p
 
 -- what a piece says of the value
 pub record Share : Type 0 where
@@ -56,7 +56,7 @@ share_in buf p =
 abbrev pub type_header : Endianness → Form → WkbType → List ℕ
 type_header order form t = header_encoding order form (type_kind t) (type_dimension t)
 
--- its encoding has three parts: a ring has no header, and a point no count
+-- The encoding of a share has three parts: a header, a count and words. A ring has no header, and a point no count.
 abbrev pub header_part : Endianness → Form → ℕ → Dimension → List ℕ
 header_part order form k d = if k == RING then [] else type_header order form (type_of k d)
 
@@ -67,7 +67,7 @@ abbrev pub share_encoding : Endianness → Form → Share → List ℕ
 share_encoding order form x =
     header_part order form x.kind x.dimension ++ (count_part order x.kind x.count ++ words_encoding order x.words)
 
--- these bytes were put at this index, and end here
+-- the bytes were put at the index `at`, and end at `end`
 pub record IsPut (old new : List ℕ) (at end : ℕ) (bytes : List ℕ) : Type 0 where
   pub end_is : end ≡ at + length bytes
   pub put : new ≡ sets old at bytes

@@ -17,14 +17,14 @@ encoding_for options t = encoding options.endianness options.form (geometry_of t
 abbrev pub IsFrontEncoding : List ℕ → WriteOptions → List ℕ → Type 0
 IsFrontEncoding input options bytes = (g : HasGeometry input) → encoding_for options g.value ≡ bytes
 
--- its encoding in this order and form has this size
+-- whatever geometry the input begins with, its encoding in this order and form has this size
 abbrev pub IsFrontSize : List ℕ → Endianness → Form → ℕ → Type 0
 IsFrontSize input order form n = (g : HasGeometry input) → n ≡ length (encoding order form (geometry_of g.value))
 
--- its encoding under the options is no longer than the slice
+-- whatever geometry the input begins with, its encoding under the options is no longer than the slice
 abbrev pub FrontFits : List ℕ → WriteOptions → List ℕ → Type 0
 FrontFits input options slice = (g : HasGeometry input) → length (encoding_for options g.value) ≤ length slice
 
--- its encoding under the options was put at the front of the slice
+-- whatever geometry the input begins with, its encoding under the options was put at the front of the slice
 abbrev pub PutsFront : List ℕ → WriteOptions → List ℕ → List ℕ → Type 0
 PutsFront input options old new = (g : HasGeometry input) → new ≡ sets old 0 (encoding_for options g.value)

@@ -6,14 +6,14 @@ ghost use Rattle.wkb_geom.specs.declared.header.TheConstants.{MEMBER_HEADER_SIZE
 ghost use Rattle.wkb_check.specs.Pieces.{own_end, IsAhead, HasAhead};
 ghost use Rattle.wkb_check.specs.Public.{DescribesFront};
 ghost use Rattle.wkb_check.specs.declared.pieces.TheConstants.{RING};
-ghost use Rattle.wkb_rewrite.specs.Shares.{IsPut, is_empty};
+ghost use Rattle.wkb_rewrite.specs.Shares.{IsPut, is_empty_point};
 ghost use Rattle.wkb_rewrite.specs.Rewritings.{CodeStands, StandsAsWritten, HasPassed};
 ghost use Rattle.wkb_rewrite.specs.Copies.{copied_header, copied_encoding};
 ghost use Rattle.wkb_rewrite.specs.Targets.{IsFrontEncoding};
 
 use crate::own::is_empty_point;
 use crate::put::put_type_header;
-use wkb_check::{Piece, Pieces, RING, Summary, srid_size};
+use wkb_check::{Piece, Pieces, RING, Summary, size_of_srid};
 use wkb_geom::code::{WkbType, of_kind};
 use wkb_geom::header::MEMBER_HEADER_SIZE;
 use wkb_geom::words::u32_at;
@@ -35,7 +35,7 @@ pub struct Copied<'a> {
 fn has_written_words(buf: &[u8], piece: &Piece, order: Endianness) -> bool
     requires { own_end piece.now ≤ length buf.now }
     ensures order { result ≡ true → piece.now.order ≡ order }
-    ensures some { result ≡ true → is_empty buf.now piece.now ≡ false }
+    ensures some { result ≡ true → is_empty_point buf.now piece.now ≡ false }
 {
     piece.order == order && !is_empty_point(buf, piece)
 }
@@ -121,7 +121,7 @@ impl<'a> Copied<'a> {
                 return None;
             }
         }
-        let start = MEMBER_HEADER_SIZE + srid_size(first.srid);
+        let start = MEMBER_HEADER_SIZE + size_of_srid(first.srid);
         Some(Copied {
             options,
             wkb_type: of_kind(first.kind, first.dimension),

@@ -1,16 +1,18 @@
 //! The encoding of a geometry that is known to be there, piece by piece.
 
-ghost use Rattle.std.specs.Prelude.{◌≡◌, ◌+◌, ◌≤◌};
+ghost use Rattle.std.specs.Prelude.{◌≡◌, ◌+◌, ◌<◌, ◌≤◌};
 ghost use Rattle.wkb_geom.specs.declared.common.Endianness.{Endianness};
+ghost use Rattle.wkb_geom.specs.declared.code.TheConstants.{MULTI_POINT, POLYGON};
 ghost use Rattle.wkb_geom.specs.declared.words.TheConstants.{COUNT_SIZE};
 ghost use Rattle.wkb_geom.specs.Encodings.{form_srid};
+ghost use Rattle.wkb_geom.specs.Reading.{type_kind};
 ghost use Rattle.wkb_check.specs.Bounded.{HasGeometry};
 ghost use Rattle.wkb_check.specs.Public.{DescribesFront};
 ghost use Rattle.wkb_rewrite.specs.Targets.{IsFrontSize, FrontFits, PutsFront};
 
 use crate::copied::Copied;
-use crate::put::put_piece;
-use wkb_check::{Piece, Pieces, Summary, srid_size};
+use crate::put::{put_piece, put_piece_of};
+use wkb_check::{Piece, Pieces, Summary, size_of_srid};
 use wkb_geom::Form;
 use wkb_geom::code::MULTI_POINT;
 use wkb_geom::words::COUNT_SIZE;
@@ -18,7 +20,7 @@ use wkb_sink::WriteOptions;
 
 /// The SRID that is written under a form.
 #[inline(always)]
-fn srid_of(form: Form) -> Option<u32>
+fn srid_of_form(form: Form) -> Option<u32>
     ensures { result ≡ form_srid form }
 {
     match form {
@@ -27,21 +29,31 @@ fn srid_of(form: Form) -> Option<u32>
     }
 }
 
+/// As `encoded_size`, where only the geometry itself may have an SRID: rings and the points of a multi point have none.
+#[inline(always)]
+pub fn size_with_own_srid(buf: &[u8], found: &Summary, form: Form) -> usize
+    requires here { DescribesFront buf.now found.now }
+    requires kind { type_kind found.now.wkb_type ≤ MULTI_POINT }
+    ensures size { (order : Endianness) → IsFrontSize buf.now order form result }
+    ensures bound { result ≤ found.now.bytes + COUNT_SIZE }
+{
+    let first = Piece::outermost(buf, found);
+    found.bytes + size_of_srid(srid_of_form(form)) - size_of_srid(first.srid)
+}
+
 /// The size of the encoding under a form of the geometry in which the check found this. Any order gives this size.
 pub fn encoded_size(buf: &[u8], found: &Summary, form: Form) -> usize
     requires { DescribesFront buf.now found.now }
     ensures size { (order : Endianness) → IsFrontSize buf.now order form result }
     ensures bound { result ≤ found.now.bytes + COUNT_SIZE }
 {
-    // Only SRIDs make an encoding longer or shorter.
-    let mut size = found.bytes + srid_size(srid_of(form));
-    let first = Piece::outermost(buf, found);
-    if first.kind <= MULTI_POINT {
-        // Rings and the points of a multi point have none.
-        return size - srid_size(first.srid);
+    if found.wkb_type.kind() <= MULTI_POINT {
+        return size_with_own_srid(buf, found, form);
     }
+    // Only SRIDs make an encoding longer or shorter.
+    let mut size = found.bytes + size_of_srid(srid_of_form(form));
     for piece in Pieces::of(buf) {
-        size -= srid_size(piece.srid);
+        size -= size_of_srid(piece.srid);
     }
     size
 }
@@ -82,4 +94,16 @@ pub fn put_encoding(buf: &[u8], found: &Summary, options: WriteOptions, out: &mu
         Some(copied) => copied.put(out),
         None => put_pieces(buf, options, out),
     }
+}
+
+/// As `put_encoding`, for a geometry that is one piece: a point or a line string.
+#[inline(always)]
+pub fn put_one_piece(buf: &[u8], found: &Summary, options: WriteOptions, out: &mut [u8])
+    requires here { DescribesFront buf.now found.now }
+    requires kind { type_kind found.now.wkb_type < POLYGON }
+    requires room { FrontFits buf.now options out.old }
+    ensures put { PutsFront buf.now options out.old out.new }
+{
+    let first = Piece::outermost(buf, found);
+    put_piece_of(found.wkb_type, buf, &first, options, out, 0);
 }

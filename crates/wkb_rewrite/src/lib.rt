@@ -10,4 +10,4 @@ mod put;
 
 pub use comparison::have_one_value;
 pub use copied::Copied;
-pub use encoding::{encoded_size, put_encoding, put_pieces};
+pub use encoding::{encoded_size, put_encoding, put_one_piece, put_pieces, size_with_own_srid};

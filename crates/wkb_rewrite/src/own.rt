@@ -3,7 +3,7 @@
 ghost use Rattle.std.specs.Prelude.{◌≡◌, ◌≤◌, ℕ, List, length};
 ghost use Rattle.wkb_geom.specs.Numbers.{all_nan};
 ghost use Rattle.wkb_check.specs.Pieces.{own_end};
-ghost use Rattle.wkb_rewrite.specs.Shares.{Holds, TellsSameWords, own_words, is_empty};
+ghost use Rattle.wkb_rewrite.specs.Shares.{Holds, TellsSameWords, own_words, is_empty_point};
 
 use wkb_check::Piece;
 use wkb_geom::Endianness;
@@ -36,7 +36,7 @@ fn hold_no_number(bytes: &[u8], order: Endianness) -> bool
 #[inline(always)]
 pub fn is_empty_point(buf: &[u8], piece: &Piece) -> bool
     requires { own_end piece.now ≤ length buf.now }
-    ensures { result ≡ is_empty buf.now piece.now }
+    ensures { result ≡ is_empty_point buf.now piece.now }
 {
     piece.kind == POINT && hold_no_number(own_bytes(buf, piece), piece.order)
 }

@@ -12,9 +12,9 @@ ghost use Rattle.wkb_rewrite.specs.Shares.{written_words, share_in, share_encodi
 
 use crate::own::{is_empty_point, own_bytes};
 use wkb_check::{Piece, RING};
-use wkb_geom::Endianness;
 use wkb_geom::code::{POINT, WkbType, of_kind};
 use wkb_geom::words::{COUNT_SIZE, WORD_SIZE};
+use wkb_geom::{Dimension, Endianness};
 use wkb_sink::block::{code_and_srid, lay_empty};
 use wkb_sink::{WriteOptions, store_words, u32_bytes};
 
@@ -73,7 +73,7 @@ fn put_piece_header(piece: &Piece, options: WriteOptions, out: &mut [u8], at: us
 
 /// Puts the count of a piece, and of a point nothing, and returns the index after it.
 #[inline(always)]
-fn put_count(piece: &Piece, order: Endianness, out: &mut [u8], at: usize) -> usize
+fn put_count_part(piece: &Piece, order: Endianness, out: &mut [u8], at: usize) -> usize
     requires { at + length (count_part order piece.now.kind piece.now.count) ≤ length out.old }
     ensures { IsPut out.old out.new at result (count_part order piece.now.kind piece.now.count) }
 {
@@ -143,6 +143,29 @@ fn put_words(buf: &[u8], piece: &Piece, order: Endianness, out: &mut [u8], at: u
     end
 }
 
+/// As `put_words`, in longer code that takes a point less time.
+#[inline(always)]
+fn put_words_by_dimension(
+    buf: &[u8],
+    piece: &Piece,
+    order: Endianness,
+    out: &mut [u8],
+    at: usize,
+) -> usize
+    requires inside { own_end piece.now ≤ length buf.now }
+    requires room { at + length (words_encoding order (written_words buf.now piece.now))
+        ≤ length out.old }
+    ensures { IsPut out.old out.new at result
+        (words_encoding order (written_words buf.now piece.now)) }
+{
+    // In each arm the dimension is a constant, for which the call is compiled.
+    match piece.dimension {
+        Dimension::Xy => put_words(buf, piece, order, out, at),
+        Dimension::Xyz | Dimension::Xym => put_words(buf, piece, order, out, at),
+        Dimension::Xyzm => put_words(buf, piece, order, out, at),
+    }
+}
+
 /// Puts the encoding of a piece up to its rings or members, and returns the index after it.
 #[inline(always)]
 pub fn put_piece(
@@ -161,6 +184,51 @@ pub fn put_piece(
 {
     let order = options.endianness;
     let count_at = put_piece_header(piece, options, out, start);
-    let words_at = put_count(piece, order, out, count_at);
+    let words_at = put_count_part(piece, order, out, count_at);
     put_words(buf, piece, order, out, words_at)
+}
+
+/// As `put_piece`, by `put_words_by_dimension`.
+#[inline(always)]
+fn put_piece_by_dimension(
+    buf: &[u8],
+    piece: &Piece,
+    options: WriteOptions,
+    out: &mut [u8],
+    start: usize,
+) -> usize
+    requires inside { own_end piece.now ≤ length buf.now }
+    requires room { start
+        + length (share_encoding options.endianness options.form (share_in buf.now piece.now))
+        ≤ length out.old }
+    ensures { IsPut out.old out.new start result
+        (share_encoding options.endianness options.form (share_in buf.now piece.now)) }
+{
+    let order = options.endianness;
+    let count_at = put_piece_header(piece, options, out, start);
+    let words_at = put_count_part(piece, order, out, count_at);
+    put_words_by_dimension(buf, piece, order, out, words_at)
+}
+
+/// As `put_piece`, for the first piece of a geometry of this type. Points have code of their own.
+#[inline(always)]
+pub fn put_piece_of(
+    wkb_type: WkbType,
+    buf: &[u8],
+    piece: &Piece,
+    options: WriteOptions,
+    out: &mut [u8],
+    start: usize,
+) -> usize
+    requires inside { own_end piece.now ≤ length buf.now }
+    requires room { start
+        + length (share_encoding options.endianness options.form (share_in buf.now piece.now))
+        ≤ length out.old }
+    ensures { IsPut out.old out.new start result
+        (share_encoding options.endianness options.form (share_in buf.now piece.now)) }
+{
+    match wkb_type {
+        WkbType::Point(_) => put_piece_by_dimension(buf, piece, options, out, start),
+        _ => put_piece(buf, piece, options, out, start),
+    }
 }

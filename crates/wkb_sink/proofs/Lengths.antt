@@ -9,7 +9,7 @@ use Rattle.wkb_geom.specs.declared.common.Form.{Form}
 use Rattle.wkb_geom.specs.Encodings.{code_of, form_srid}
 use Rattle.wkb_geom.specs.Numbers.{number_bytes}
 use Rattle.wkb_geom.specs.Refusals.{srid_size}
-use Rattle.wkb_sink.specs.Options.{header_length}
+use Rattle.wkb_sink.specs.Options.{header_size}
 
 pub length-number : (order : Endianness) (n w : ℕ) → length (number_bytes order n w) ≡ n
 unfolding number_bytes
@@ -22,7 +22,7 @@ length-srid order None = refl
 length-srid order (Some n) = length-number order 4 n
 
 pub length-header : (order : Endianness) (form : Form) (k : ℕ) (d : Dimension)
-    → length (header_encoding order form k d) ≡ header_length form
+    → length (header_encoding order form k d) ≡ header_size form
 unfolding header_encoding
 length-header order form k d =
     omega (
@@ -34,7 +34,7 @@ length-header order form k d =
 
 -- a header and a count
 pub length-counted : (order : Endianness) (form : Form) (k : ℕ) (d : Dimension) (n : ℕ) {size : ℕ}
-    → size ≡ header_length form
+    → size ≡ header_size form
     → size + 4 ≤ length (header_encoding order form k d ++ number_bytes order 4 n)
 length-counted order form k d n is =
     omega (

@@ -22,5 +22,5 @@ abbrev pub counted_header : WriteOptions → WkbType → ℕ → List ℕ
 counted_header options kind n = header_of options kind ++ number_bytes options.endianness 4 n
 
 -- the length of a header under a form
-abbrev pub header_length : Form → ℕ
-header_length form = 5 + srid_size (is_some (form_srid form))
+abbrev pub header_size : Form → ℕ
+header_size form = 5 + srid_size (is_some (form_srid form))

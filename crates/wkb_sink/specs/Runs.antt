@@ -1,12 +1,12 @@
 -- Coordinates, and runs of them: those of a line from an index up to another one.
-use Rattle.std.specs.Prelude.{◌≡◌, ℕ, ◌≤◌, ◌-◌, ◌*◌, List, ◌++◌, length, take, drop, slice_index}
+use Rattle.std.specs.Prelude.{◌≡◌, ℕ, ◌≤◌, ◌-◌, ◌*◌, List, ◌++◌, length, take, drop, replicate, slice_index}
 use Rattle.std.specs.List.{AllByRecursion, flat_map}
 use Rattle.wkb_geom.specs.declared.common.Dimensions.{Dimensions}
 use Rattle.wkb_geom.specs.declared.common.Endianness.{Endianness}
 use Rattle.wkb_geom.specs.declared.common.Endianness.TheVariants.{BigEndian, LittleEndian}
 use Rattle.wkb_geom.specs.Dimensions.{size}
 use Rattle.wkb_geom.specs.Encodings.{words_encoding}
-use Rattle.wkb_geom.specs.Numbers.{IsWord, number_bytes}
+use Rattle.wkb_geom.specs.Numbers.{IsWord, number_bytes, empty_word}
 use Rattle.wkb_geom.specs.Values.{Coordinate}
 
 -- a coordinate of this dimension has as many words, and can be written
@@ -18,6 +18,10 @@ pub record FitsCoordinate (d : Dimensions) (words : ℕ) : Type 0 where
 -- the first two words of a coordinate
 abbrev pub x_y_encoding : Endianness → Coordinate → List ℕ
 x_y_encoding order c = number_bytes order 8 (slice_index c 0) ++ number_bytes order 8 (slice_index c 1)
+
+-- the words of a point without a coordinate
+abbrev pub empty_encoding : Endianness → ℕ → List ℕ
+empty_encoding order words = words_encoding order (replicate words empty_word)
 
 -- the two indices are a run's, and the dimension can be written
 pub record IsRun (d : Dimensions) (cs : List Coordinate) (from to : ℕ) : Type 0 where

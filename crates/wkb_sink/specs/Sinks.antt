@@ -18,12 +18,16 @@ abbrev pub put_whole : {E : Type 0} → Result Bool E → List ℕ → List ℕ
 put_whole (Ok true) whole = whole
 put_whole _ whole = []
 
+-- a put with this result appended these bytes so
+abbrev pub PutsWhole : {E : Type 0} → Option (List ℕ) → Option (List ℕ) → Result Bool E → List ℕ → Type 0
+PutsWhole old new r whole = Appends old new (put_whole r whole)
+
 -- a put of n bytes failed by this error, or by none, as nothing was taken of some bytes
 abbrev pub FailsBy : ℕ → Result ℕ Error → Option Error → Type 0
 FailsBy n r (Some e) = r ≡ Err e
 FailsBy n r None = (r ≡ Ok 0) × (0 < n)
 
--- this is known of each error by which a put of n bytes failed
+-- a fact is known of each error by which a put of n bytes failed
 abbrev pub KnownOfFailure : ℕ → Result ℕ Error → (Option Error → Type 0) → Type 0
 KnownOfFailure n r known = (failure : Option Error) → FailsBy n r failure → known failure
 
@@ -31,7 +35,7 @@ KnownOfFailure n r known = (failure : Option Error) → FailsBy n r failure → 
 abbrev pub IsOutOfMemory : Option Error → Type 0
 IsOutOfMemory failure = IsSomeAnd failure (λ e. error_kind e ≡ OutOfMemory)
 
--- this is known of each error that reports a failed allocation
+-- a fact is known of each error that reports a failed allocation
 abbrev pub IsShortOfMemory : (Option Error → Type 0) → Type 0
 IsShortOfMemory known = (e : Error) → error_kind e ≡ OutOfMemory → known (Some e)
 

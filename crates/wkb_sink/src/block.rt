@@ -1,14 +1,14 @@
 //! The parts of an encoding, laid in the bytes of a slice. Each is laid at a place, and returns where it ends.
 
-ghost use Rattle.std.specs.Prelude.{◌≡◌, ◌+◌, ◌*◌, ◌≤◌, ◌∷◌, [], length, replicate};
+ghost use Rattle.std.specs.Prelude.{◌≡◌, ◌+◌, ◌*◌, ◌≤◌, ◌∷◌, [], length};
 ghost use Rattle.wkb_geom.specs.Dimensions.{written_dimension};
 ghost use Rattle.wkb_geom.specs.Encodings.{code_of, form_srid, words_encoding};
-ghost use Rattle.wkb_geom.specs.Numbers.{number_bytes, empty_word};
+ghost use Rattle.wkb_geom.specs.Numbers.{number_bytes};
 ghost use Rattle.wkb_geom.specs.Reading.{type_kind, type_dimension};
 ghost use Rattle.wkb_geom.specs.declared.words.TheConstants.{COUNT_SIZE};
 ghost use Rattle.wkb_sink.specs.Blocks.{LaysAt};
-ghost use Rattle.wkb_sink.specs.Options.{header_length, header_of};
-ghost use Rattle.wkb_sink.specs.Runs.{FitsCoordinate, IsRun, run_size, run_encoding};
+ghost use Rattle.wkb_sink.specs.Options.{header_size, header_of};
+ghost use Rattle.wkb_sink.specs.Runs.{FitsCoordinate, IsRun, empty_encoding, run_size, run_encoding};
 ghost use Rattle.wkb_sink.specs.declared.block.TheConstants.{CORNER_SIZE};
 
 use crate::options::WriteOptions;
@@ -146,8 +146,8 @@ pub fn lay_count(bytes: &mut [u8], at: usize, order: Endianness, n: u32) -> usiz
 /// Lays the order's byte, the code, and the SRID where there is one.
 #[inline(always)]
 pub fn lay_header(bytes: &mut [u8], at: usize, options: &WriteOptions, kind: WkbType) -> usize
-    requires { at + header_length options.now.form ≤ length bytes.old }
-    ensures end { result ≡ at + header_length options.now.form }
+    requires { at + header_size options.now.form ≤ length bytes.old }
+    ensures end { result ≡ at + header_size options.now.form }
     ensures bytes { LaysAt at result bytes.old bytes.new (header_of options.now kind) }
 {
     let WriteOptions {
@@ -168,8 +168,7 @@ pub fn lay_header(bytes: &mut [u8], at: usize, options: &WriteOptions, kind: Wkb
 pub fn lay_empty(bytes: &mut [u8], at: usize, order: Endianness, words: usize) -> usize
     requires { at + 8 * words ≤ length bytes.old }
     ensures end { result ≡ at + 8 * words }
-    ensures bytes { LaysAt at result bytes.old bytes.new
-        (words_encoding order (replicate words empty_word)) }
+    ensures bytes { LaysAt at result bytes.old bytes.new (empty_encoding order words) }
 {
     let mut end = at;
     for _i in 0..words {

@@ -5,7 +5,7 @@ ghost use Rattle.wkb_geom.specs.declared.header.TheConstants.{MAX_HEADER_SIZE};
 ghost use Rattle.wkb_geom.specs.Encodings.{IsForm};
 ghost use Rattle.wkb_geom.specs.declared.common.Endianness.TheVariants.{LittleEndian};
 ghost use Rattle.wkb_geom.specs.declared.common.Form.TheVariants.{Iso};
-ghost use Rattle.wkb_sink.specs.Options.{header_length, inner_options};
+ghost use Rattle.wkb_sink.specs.Options.{header_size, inner_options};
 
 use wkb_geom::header::{MAX_HEADER_SIZE, MEMBER_HEADER_SIZE};
 use wkb_geom::{Endianness, Form};
@@ -44,7 +44,7 @@ impl WriteOptions {
 /// The size of the header that is written.
 #[inline]
 pub fn length_of_header(form: Form) -> usize
-    ensures size { result ≡ header_length form }
+    ensures size { result ≡ header_size form }
     ensures most { result ≤ MAX_HEADER_SIZE }
     ensures fits { IsForm form }
 {

@@ -5,9 +5,10 @@ ghost use Rattle.std.specs.Prelude.{length, take, Option, None, Some, IsOk, IfOk
 ghost use Rattle.std.specs.Prelude.{vec_capacity, ⊤, true, is_err, IfErr};
 ghost use Rattle.std.specs.declared.io.Error.{Error};
 ghost use Rattle.std.specs.Io.{WritesAtMost};
-ghost use Rattle.std.specs.Io.KnownBytes.{Appends, WriteAppends};
-ghost use Rattle.wkb_sink.specs.Held.{Outward, Growing, Lent};
-ghost use Rattle.wkb_sink.specs.Sinks.{put_fails, put_whole, KnownOfFailure, IsOutOfMemory, IsShortOfMemory};
+ghost use Rattle.std.specs.Io.KnownBytes.{WriteAppends};
+ghost use Rattle.wkb_sink.specs.Held.{Outward, Growing, FitsCapacity, Lent};
+ghost use Rattle.wkb_sink.specs.Sinks.{put_fails, put_whole, PutsWhole, KnownOfFailure, IsOutOfMemory};
+ghost use Rattle.wkb_sink.specs.Sinks.{IsShortOfMemory};
 
 use std::alloc::{AllocError, Global};
 use std::io;
@@ -70,8 +71,7 @@ pub trait Sink {
     #[inline(always)]
     #[tactic(auto, using(crate::proofs::Appended::nothing_appended))]
     fn put_in_place<L: LayWhole>(&mut self, whole: &L) -> Result<bool, AllocError>
-        ensures bytes { Appends (appended self.old) (appended self.new)
-            (put_whole result (L.bytes whole.now)) }
+        ensures bytes { PutsWhole (appended self.old) (appended self.new) result (L.bytes whole.now) }
         ensures failure { has_failed self.new ≡ (has_failed self.old || is_err result) }
         ensures cause { IfErr result (λ _. IsShortOfMemory (fails_by self.new)) }
     {
@@ -209,7 +209,7 @@ impl Sink for VecSink {
             ≡ (self.old.failed || put_fails (length bytes.now) result) }
         ensures cause { KnownOfFailure (length bytes.now) result IsOutOfMemory }
         ensures whole { IfOk result (λ n. n ≡ length bytes.now) }
-        ensures room { length self.old.bytes + length bytes.now ≤ self.old.capacity → IsOk result }
+        ensures room { FitsCapacity self.old bytes.now → IsOk result }
         ensures capacity { self.old.capacity ≤ self.new.capacity }
     {
         match self.bytes.extend_from_slice(bytes) {
@@ -223,13 +223,11 @@ impl Sink for VecSink {
 
     #[inline(always)]
     fn put_in_place<L: LayWhole>(&mut self, whole: &L) -> Result<bool, AllocError>
-        ensures bytes { Appends (Some self.old.bytes) (Some self.new.bytes)
-            (put_whole result (L.bytes whole.now)) }
+        ensures bytes { PutsWhole (Some self.old.bytes) (Some self.new.bytes) result (L.bytes whole.now) }
         ensures failure { self.new.failed ≡ (self.old.failed || is_err result) }
         ensures whole { length (L.bytes whole.now) ≤ MAX_IN_PLACE
             → IfOk result (λ laid. laid ≡ true) }
-        ensures room { length self.old.bytes + length (L.bytes whole.now) ≤ self.old.capacity
-            → IsOk result }
+        ensures room { FitsCapacity self.old (L.bytes whole.now) → IsOk result }
         ensures capacity { self.old.capacity ≤ self.new.capacity }
     {
         let size = whole.size();
@@ -331,8 +329,7 @@ impl Sink for SliceSink<'_> {
 
     #[inline(always)]
     fn put_in_place<L: LayWhole>(&mut self, whole: &L) -> Result<bool, AllocError>
-        ensures bytes { Appends (Some self.old.bytes) (Some self.new.bytes)
-            (put_whole result (L.bytes whole.now)) }
+        ensures bytes { PutsWhole (Some self.old.bytes) (Some self.new.bytes) result (L.bytes whole.now) }
         ensures failure { self.new.failed ≡ (self.old.failed || is_err result) }
         ensures cause { IfErr result (λ _. IsShortOfMemory (λ failure. failure ≡ None)) }
         ensures ok { IsOk result }

@@ -1,6 +1,5 @@
 -- How many bytes of a view come after its header.
 use Rattle.std.proofs.Common.{◌≡◌, ℕ, ◌-◌, ap, List, length, None, arith, is_some}
-use Rattle.wkb_geom.specs.Geometries.{polygon}
 use Rattle.wkb_geom.specs.Sizes.{rings_size}
 use Rattle.wkb_geom.specs.Encodings.{fault}
 use Rattle.wkb_geom.specs.Refusals.{srid_size}
@@ -10,7 +9,7 @@ use Rattle.wkb_laws.proofs.Spelled.{in_full_lem, size_of_spelled_lem}
 use Rattle.wkb_laws.proofs.Values.{Good, spelled_good, lawful-geometry_of}
 use Rattle.wkb_view.specs.Prelude.{AreBytes, Layout, Coordinate, Listed, body_start, srid_in, as_dimensions}
 use Rattle.wkb_view.specs.Prelude.{BytesSpell}
-use Rattle.wkb_view.specs.Fitted.{fitted_parts, line_strings_fit}
+use Rattle.wkb_view.specs.Fitted.{fitted_parts, fitted_polygon, line_strings_fit}
 use Rattle.wkb_view.specs.Members.{polygon_laid, polygon_seen}
 
 -- a polygon, by what its view means
@@ -37,7 +36,7 @@ module _ (l : Layout) (ends bytes : List ℕ) (p : Listed (List (List Coordinate
       (omega (arith, is, long, srid_size_is (is_some (srid_in l.order l.has_srid bytes)), ap srid_size srid))
 
   -- it has no fault
-  pub polygon_writable : fault (polygon (as_dimensions p.dimension) (fitted_parts p)) ≡ None
+  pub polygon_writable : fault (fitted_polygon p) ≡ None
   polygon_writable = rw (← view, rings_same) good.1
 
 pub ruleset sized_laws = (polygon_size, polygon_writable)

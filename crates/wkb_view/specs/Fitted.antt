@@ -33,6 +33,10 @@ fitted_line_strings dims = map (fitted_line_string dims)
 abbrev pub fitted_parts : Listed (List (List Coordinate)) → List (List Coordinate)
 fitted_parts g = fitted_line_strings (as_dimensions g.dimension) g.parts
 
+-- the polygon of these rings
+abbrev pub fitted_polygon : Listed (List (List Coordinate)) → Geometry
+fitted_polygon p = polygon (as_dimensions p.dimension) (fitted_parts p)
+
 abbrev pub fitted_polygons : Dimensions → List (List (List Coordinate)) → List (List (List Coordinate))
 fitted_polygons dims = map (fitted_line_strings dims)
 

@@ -1,5 +1,5 @@
 -- How the result of a read agrees with reading.
-use Rattle.std.specs.Prelude.{◌≡◌, ℕ, ◌+◌, ◌≤◌, ◌<◌, ◌^◌, List, length, Result, Ok, Err}
+use Rattle.std.specs.Prelude.{◌≡◌, ℕ, ◌+◌, ◌≤◌, ◌<◌, ◌^◌, List, length, Result, Ok, Err, IfErr}
 use Rattle.std.specs.Borrow.{Bor}
 use Rattle.wkb_view.specs.Prelude.{Cause, Refusal, Cost, Outcome, Reading}
 use Rattle.wkb_view.specs.Prelude.refusals
@@ -69,3 +69,7 @@ TakesAtLeast least bytes x = length x.1.now + least ≤ length bytes
 abbrev pub IsCause : Refusal → Type 0
 IsCause (refusals.Cause cause) = Unit {0}
 IsCause refusals.Memory = ⊥
+
+-- a reading that asks for no slot fails only by refusing the bytes
+abbrev pub RefusesWithoutSlots : {X Y : Type 0} → Reading Y → Result X Refusal → Type 0
+RefusesWithoutSlots reading result = reading.0.slots ≡ 0 → IfErr result IsCause

@@ -60,9 +60,9 @@ pub ring_lawful : (e : Endianness) (d : Dimension) (encoding : List ℕ) → Are
     → AreCoordinates (as_dimensions d) (ring_in e d encoding)
 ring_lawful e d encoding h = coordinates_lawful e d (number e 4 encoding) (drop 4 encoding) (AreBytes-drop 4 encoding h)
 
-pub line_string_lawful : (l : Layout) (encoding : List ℕ) → AreBytes encoding
+pub line_string_item_lawful : (l : Layout) (encoding : List ℕ) → AreBytes encoding
     → AreCoordinates (as_dimensions l.dimension) (line_string_of (line_string_item l encoding).value)
-line_string_lawful l encoding h =
+line_string_item_lawful l encoding h =
     ring_lawful l.order l.dimension (drop (body_start l.has_srid) encoding)
     (AreBytes-drop (body_start l.has_srid) encoding h)
 
@@ -71,9 +71,9 @@ point_by : (l : Layout) (encoding ws : List ℕ) (b : Bool) → IsCoordinate (as
 point_by l encoding ws true h = tt
 point_by l encoding ws false h = h
 
-pub point_lawful : (l : Layout) (encoding : List ℕ) → AreBytes encoding
+pub point_item_lawful : (l : Layout) (encoding : List ℕ) → AreBytes encoding
     → IsPoint (as_dimensions l.dimension) (point_of (point_item l encoding).value)
-point_lawful l encoding h =
+point_item_lawful l encoding h =
     let words = drop (body_start l.has_srid) encoding in
     point_by l encoding _ (all_nan (coordinate l.order l.dimension words))
     (coordinate_lawful l.order l.dimension words (AreBytes-drop (body_start l.has_srid) encoding h))
@@ -99,19 +99,20 @@ member_by : (d : Dimension) (encoding : List ℕ) (r : Result Layout Cause) → 
     → IsPoint (as_dimensions d) (point_of (point_item (layout_said d r) encoding).value)
 member_by d encoding (Ok l) same h =
     subst (λ e. IsPoint (as_dimensions e) (point_of (point_item l encoding).value)) (same l refl)
-    (point_lawful l encoding h)
-member_by d encoding (Err c) same h = point_lawful (laid BigEndian d false) encoding h
+    (point_item_lawful l encoding h)
+member_by d encoding (Err c) same h = point_item_lawful (laid BigEndian d false) encoding h
 
-points_lawful : (d : Dimension) (start : ℕ) (ends encoding : List ℕ) → AreBytes encoding
+member_points_lawful : (d : Dimension) (start : ℕ) (ends encoding : List ℕ) → AreBytes encoding
     → AllByRecursion (IsPoint (as_dimensions d))
     (map (λ i. point_of i.value) (map (member_item 1 d) (pieces start ends encoding)))
-points_lawful d start [] encoding h = tt
-points_lawful d start (end ∷ ends) encoding h = (
+member_points_lawful d start [] encoding h = tt
+member_points_lawful d start (end ∷ ends) encoding h = (
   member_by d _ _ (member_dimension 1 d _)
       (AreBytes-take (end - start) (drop start encoding) (AreBytes-drop start encoding h)),
-  points_lawful d end ends encoding h,
+  member_points_lawful d end ends encoding h,
 )
 
-pub multi_point_lawful : (l : Layout) (n : ℕ) (encoding : List ℕ) → AreBytes encoding
+pub multi_point_item_lawful : (l : Layout) (n : ℕ) (encoding : List ℕ) → AreBytes encoding
     → AllByRecursion (IsPoint (as_dimensions l.dimension)) (points_of (multi_point_item l n encoding).value)
-multi_point_lawful l n encoding h = points_lawful l.dimension (body_start l.has_srid + 4) (point_ends l n) encoding h
+multi_point_item_lawful l n encoding h =
+    member_points_lawful l.dimension (body_start l.has_srid + 4) (point_ends l n) encoding h

@@ -35,8 +35,8 @@ abbrev pub line_string_order : LineString → Endianness
 line_string_order l = order_of (line_string_spelling l)
 
 -- the coordinates of a line string
-abbrev pub line_string_coordinates : LineString → List Coordinate
-line_string_coordinates l = line_string_of (line_string_seen l).value
+abbrev pub seen_coordinates : LineString → List Coordinate
+seen_coordinates l = line_string_of (line_string_seen l).value
 
 -- how its bytes are laid out
 abbrev pub point_layout : Point → Layout
@@ -48,7 +48,7 @@ line_string_layout l = l.layout
 abbrev pub multi_point_layout : MultiPoint → Layout
 multi_point_layout m = m.layout
 
--- its dimension
+-- the dimension of a view
 abbrev pub point_dimension : Point → Dimension
 point_dimension p = p.layout.dimension
 

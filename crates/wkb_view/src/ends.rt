@@ -1,10 +1,10 @@
 //! The offsets at which parts end.
 
-ghost use Rattle.std.specs.Prelude.{◌≡◌, ◌+◌, ℕ, length, ◌≤◌, IfOk, IfErr, []};
+ghost use Rattle.std.specs.Prelude.{◌≡◌, ◌+◌, ℕ, length, ◌≤◌, IfOk, []};
 ghost use Rattle.wkb_view.specs.Prelude.{Layout, body_start, consumed};
 ghost use Rattle.wkb_view.specs.Ends.{PartsOf, whole_at, parts_at, AreEndsOf, PassesParts, ReadsEnds};
 ghost use Rattle.wkb_view.specs.Entries.{entries, capacity, HasSlots};
-ghost use Rattle.wkb_view.specs.Outcome.{CanCount, IsCause};
+ghost use Rattle.wkb_view.specs.Outcome.{CanCount, RefusesWithoutSlots};
 ghost use Rattle.wkb_view.specs.Passing.{PassesPart};
 ghost use Rattle.wkb_view.specs.Pieces.{IsAfterCount, Passed};
 
@@ -42,7 +42,7 @@ pub(crate) fn read_ends<'a, P: Parts>(
     ensures answer { ReadsEnds P.parts layout bytes.now result counts.old counts.new }
     ensures ends { IfOk result (λ x. AreEndsOf P.parts layout x.0.items (consumed bytes.now x.1.now)) }
     ensures shorter { IfOk result (λ x. IsAfterCount layout bytes.now x.1.now) }
-    ensures no_memory { (whole_at P.parts layout bytes.now).0.slots ≡ 0 → IfErr result IsCause }
+    ensures no_memory { RefusesWithoutSlots (whole_at P.parts layout bytes.now) result }
 {
     let (count, ends) = counted_list(alloc, layout, bytes, P::MIN_SIZE, counts)?;
     let (ends, rest) = pass_parts::<P>(layout, bytes, ends, count, counts)?;

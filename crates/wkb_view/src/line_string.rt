@@ -38,7 +38,7 @@ impl<'a> LineString<'a> {
     ghost use Rattle.wkb_view.specs.Prelude.{line_string_at, line_string_item, consumed, BytesSpell};
     ghost use Rattle.wkb_view.specs.Coords.{ring_encoding, ring_order, ring_dimension};
     ghost use Rattle.wkb_view.specs.Views.{line_string_seen, line_string_layout};
-    ghost use Rattle.wkb_view.specs.Views.{line_string_offset, line_string_coordinates};
+    ghost use Rattle.wkb_view.specs.Views.{line_string_offset, seen_coordinates};
     ghost use Rattle.wkb_view.specs.Views.{line_string_order, line_string_ring_bytes};
     ghost use Rattle.wkb_view.specs.Views.{line_string_coords_bytes, line_string_dimension};
     ghost use Rattle.wkb_view.specs.Headers.{HasHead};
@@ -56,7 +56,7 @@ impl<'a> LineString<'a> {
     /// The offset at which a coordinate begins in its bytes.
     #[inline]
     pub fn coord_offset(&self, i: u64) -> u64
-        requires { i ≤ length (line_string_coordinates self.now) }
+        requires { i ≤ length (seen_coordinates self.now) }
         ensures { result ≡ line_string_offset self.now i }
     {
         self.layout.header_length() as u64 + self.as_ring().coord_offset(i)
@@ -184,15 +184,15 @@ impl<'a> LineStringTrait for LineString<'a> {
     ghost use Rattle.wkb_geom.specs.Found.{IsItemAt};
     ghost use Rattle.wkb_view.specs.Coords.{words_seen, coord_order, coord_dimension};
     ghost use Rattle.wkb_view.specs.Coords.{coord_encoding};
-    ghost use Rattle.wkb_view.specs.Ranges.{line_string_lawful};
-    ghost use Rattle.wkb_view.specs.Views.{line_string_coordinates, line_string_dimension};
+    ghost use Rattle.wkb_view.specs.Ranges.{line_string_item_lawful};
+    ghost use Rattle.wkb_view.specs.Views.{seen_coordinates, line_string_dimension};
     ghost use Rattle.wkb_view.specs.Views.{line_string_order, line_string_coord_bytes};
 
     type CoordType = Coord<'a>;
 
-    ghost coordinates = { line_string_coordinates };
+    ghost coordinates = { seen_coordinates };
 
-    ghost lawful = { λ l. line_string_lawful l.layout l.buf.now l.in_range };
+    ghost lawful = { λ l. line_string_item_lawful l.layout l.buf.now l.in_range };
 
     #[tactic(auto, using(crate::proofs::Items::ring_counted))]
     #[inline]
@@ -203,7 +203,7 @@ impl<'a> LineStringTrait for LineString<'a> {
     #[inline]
     fn coords_as_written(&self, order: Endianness) -> Option<&[u8]>
         ensures bytes { IfSome result
-            (λ b. b.now ≡ flat_map (words_encoding order) (line_string_coordinates self.now)) }
+            (λ b. b.now ≡ flat_map (words_encoding order) (seen_coordinates self.now)) }
         ensures own_order { IsSome result ↔ (line_string_order self.now ≡ order) }
     {
         if self.layout.order == order {
@@ -215,7 +215,7 @@ impl<'a> LineStringTrait for LineString<'a> {
 
     #[inline]
     fn coord(&self, i: usize) -> Option<Coord<'a>>
-        ensures value { IsItemAt words_seen result (line_string_coordinates self.now) i }
+        ensures value { IsItemAt words_seen result (seen_coordinates self.now) i }
         ensures dimension { IfSome result (λ c. coord_dimension c ≡ line_string_dimension self.now) }
         ensures order { IfSome result (λ c. coord_order c ≡ line_string_order self.now) }
         ensures bytes { IfSome result (λ c. coord_encoding c ≡ line_string_coord_bytes self.now i) }
@@ -225,8 +225,8 @@ impl<'a> LineStringTrait for LineString<'a> {
 
     #[inline]
     fn coord_at(&self, i: usize) -> Coord<'a>
-        requires { i < length (line_string_coordinates self.now) }
-        ensures value { slice_get (line_string_coordinates self.now) i ≡ Some (words_seen result) }
+        requires { i < length (seen_coordinates self.now) }
+        ensures value { slice_get (seen_coordinates self.now) i ≡ Some (words_seen result) }
         ensures dimension { coord_dimension result ≡ line_string_dimension self.now }
         ensures order { coord_order result ≡ line_string_order self.now }
         ensures bytes { coord_encoding result ≡ line_string_coord_bytes self.now i }
@@ -240,8 +240,8 @@ impl<'a> GeometryTrait for LineString<'a> {
     ghost use Rattle.wkb_geom.specs.declared.geom.GeometryType.TheVariants.{LineString as Handed};
     ghost use Rattle.wkb_geom.specs.Geometries.{line_string};
     ghost use Rattle.wkb_view.specs.Prelude.{as_dimensions};
-    ghost use Rattle.wkb_view.specs.Ranges.{line_string_lawful};
-    ghost use Rattle.wkb_view.specs.Views.{line_string_coordinates, line_string_dimension};
+    ghost use Rattle.wkb_view.specs.Ranges.{line_string_item_lawful};
+    ghost use Rattle.wkb_view.specs.Views.{seen_coordinates, line_string_dimension};
 
     type PointType = Point<'a>;
 
@@ -262,11 +262,11 @@ impl<'a> GeometryTrait for LineString<'a> {
     type LineType = Line<'a>;
 
     ghost geometry = { λ l. line_string (as_dimensions (line_string_dimension l))
-        (line_string_coordinates l) };
+        (seen_coordinates l) };
 
     ghost one_dimension = { λ g. refl };
 
-    ghost lawful = { λ l. line_string_lawful l.layout l.buf.now l.in_range };
+    ghost lawful = { λ l. line_string_item_lawful l.layout l.buf.now l.in_range };
 
     #[inline]
     fn as_written(&self, order: Endianness, form: Form) -> Option<&[u8]> {

@@ -114,9 +114,9 @@ fn count_of_size(dimension: Dimension, size: usize) -> usize
 }
 
 /// The rings of a polygon.
-pub(crate) struct Rings;
+pub(crate) struct RingParts;
 
-impl Parts for Rings {
+impl Parts for RingParts {
     ghost use Rattle.wkb_geom.specs.declared.words.TheConstants.{COUNT_SIZE};
     ghost use Rattle.wkb_view.specs.Ends.{ring_parts};
 

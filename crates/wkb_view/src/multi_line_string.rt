@@ -47,15 +47,15 @@ impl<'a> Model for MultiLineString<'a> {
 }
 
 impl<'a> MultiLineString<'a> {
-    ghost use Rattle.std.specs.Prelude.{◌≡◌, length, option_map, IfSome, IfOk, IfErr};
+    ghost use Rattle.std.specs.Prelude.{◌≡◌, length, option_map, IfSome, IfOk};
     ghost use Rattle.wkb_geom.specs.Found.{IsItemAt};
     ghost use Rattle.wkb_geom.specs.declared.code.WkbType.TheVariants as kinds;
     ghost use Rattle.wkb_view.specs.Prelude.{multi_line_string_at, BytesSpell, spelling_at};
     ghost use Rattle.wkb_view.specs.Views.{line_string_spelling, line_string_dimension};
-    ghost use Rattle.wkb_view.specs.Views.{line_string_coordinates};
+    ghost use Rattle.wkb_view.specs.Views.{seen_coordinates};
     ghost use Rattle.wkb_view.specs.Headers.{HasHead};
     ghost use Rattle.wkb_view.specs.Members.{multi_line_string_seen};
-    ghost use Rattle.wkb_view.specs.Outcome.{IsReadOrStops, TakesAtLeast, CanCount, IsCause};
+    ghost use Rattle.wkb_view.specs.Outcome.{IsReadOrStops, TakesAtLeast, CanCount, RefusesWithoutSlots};
 
     /// The number of its bytes.
     #[inline]
@@ -92,7 +92,7 @@ impl<'a> MultiLineString<'a> {
 
     /// The line string at an index, read again from the bytes between two ends, in its own order.
     pub(crate) fn member(&self, i: usize) -> Option<LineString<'a>>
-        ensures value { IsItemAt line_string_coordinates result self.now.parts i }
+        ensures value { IsItemAt seen_coordinates result self.now.parts i }
         ensures dimension { IfSome result (λ l. line_string_dimension l ≡ self.now.dimension) }
         ensures spelled { option_map line_string_spelling result ≡ spelling_at self.now.spelled i }
     {
@@ -120,8 +120,7 @@ impl<'a> MultiLineString<'a> {
         ensures answer { IsReadOrStops multi_line_string_seen
             result (multi_line_string_at layout bytes.now) counts.old counts.new }
         ensures shorter { IfOk result (TakesAtLeast MIN_MEMBER_SIZE bytes.now) }
-        ensures no_memory { (multi_line_string_at layout bytes.now).0.slots ≡ 0
-            → IfErr result IsCause }
+        ensures no_memory { RefusesWithoutSlots (multi_line_string_at layout bytes.now) result }
     {
         let (ends, rest) = read_ends::<LineStrings>(alloc, layout, bytes, counts)?;
         let multi_line_string = MultiLineString {
@@ -216,7 +215,7 @@ impl<'a> MultiLineStringTrait for MultiLineString<'a> {
     ghost use Rattle.wkb_geom.specs.Found.{IsItemAt};
     ghost use Rattle.wkb_view.specs.Prelude.{as_dimensions, spelling_at};
     ghost use Rattle.wkb_view.specs.Views.{line_string_spelling, line_string_dimension};
-    ghost use Rattle.wkb_view.specs.Views.{line_string_coordinates};
+    ghost use Rattle.wkb_view.specs.Views.{seen_coordinates};
     ghost use Rattle.wkb_view.specs.Fitted.{fitted_parts, line_strings_fit};
 
     type InnerLineStringType = LineString<'a>;
@@ -232,8 +231,8 @@ impl<'a> MultiLineStringTrait for MultiLineString<'a> {
 
     #[inline]
     fn line_string(&self, i: usize) -> Option<LineString<'a>>
-        ensures value { IsItemAt line_string_coordinates result (fitted_parts self.now) i }
-        ensures part { IsItemAt line_string_coordinates result self.now.parts i }
+        ensures value { IsItemAt seen_coordinates result (fitted_parts self.now) i }
+        ensures part { IsItemAt seen_coordinates result self.now.parts i }
         ensures dimension { IfSome result (λ l. line_string_dimension l ≡ self.now.dimension) }
         ensures spelled { option_map line_string_spelling result ≡ spelling_at self.now.spelled i }
     {

@@ -185,13 +185,13 @@ impl<'a> MultiPointTrait for MultiPoint<'a> {
     ghost use Rattle.wkb_view.specs.Views.{point_seen, seen_coordinate, point_dimension};
     ghost use Rattle.wkb_view.specs.Views.{multi_point_seen, seen_points, multi_point_dimension};
     ghost use Rattle.wkb_view.specs.Views.{point_spelling, multi_point_member_bytes};
-    ghost use Rattle.wkb_view.specs.Ranges.{multi_point_lawful};
+    ghost use Rattle.wkb_view.specs.Ranges.{multi_point_item_lawful};
 
     type InnerPointType = Point<'a>;
 
     ghost points = { seen_points };
 
-    ghost lawful = { λ m. multi_point_lawful m.layout m.count m.buf.now m.in_range };
+    ghost lawful = { λ m. multi_point_item_lawful m.layout m.count m.buf.now m.in_range };
 
     #[tactic(auto, using(crate::proofs::Members::points_counted))]
     #[inline]
@@ -227,7 +227,7 @@ impl<'a> GeometryTrait for MultiPoint<'a> {
     ghost use Rattle.wkb_geom.specs.declared.geom.GeometryType.TheVariants.{MultiPoint as Handed};
     ghost use Rattle.wkb_geom.specs.Geometries.{multi_point};
     ghost use Rattle.wkb_view.specs.Prelude.{as_dimensions};
-    ghost use Rattle.wkb_view.specs.Ranges.{multi_point_lawful};
+    ghost use Rattle.wkb_view.specs.Ranges.{multi_point_item_lawful};
     ghost use Rattle.wkb_view.specs.Views.{seen_points, multi_point_dimension};
 
     type PointType = Point<'a>;
@@ -253,7 +253,7 @@ impl<'a> GeometryTrait for MultiPoint<'a> {
 
     ghost one_dimension = { λ g. refl };
 
-    ghost lawful = { λ m. multi_point_lawful m.layout m.count m.buf.now m.in_range };
+    ghost lawful = { λ m. multi_point_item_lawful m.layout m.count m.buf.now m.in_range };
 
     #[inline]
     fn as_type(&self) -> AnyView<'_, 'a, MultiPoint<'a>>

@@ -1,8 +1,8 @@
 //! A multi polygon.
 
-ghost use Rattle.std.specs.Prelude.{◌≡◌, ◌+◌, length, ◌≤◌, IfOk, IfErr, []};
+ghost use Rattle.std.specs.Prelude.{◌≡◌, ◌+◌, length, ◌≤◌, IfOk, []};
 ghost use Rattle.wkb_view.specs.Prelude.{as_dimensions, body_start, member_at};
-ghost use Rattle.wkb_view.specs.Outcome.{IsReadOrStops, TakesAtLeast, CanCount, IsCause};
+ghost use Rattle.wkb_view.specs.Outcome.{IsReadOrStops, TakesAtLeast, CanCount, RefusesWithoutSlots};
 ghost use Rattle.wkb_view.specs.Members.{members_behind, polygon_seen, AreOfDimension};
 ghost use Rattle.wkb_view.specs.Pieces.{IsAfterCount};
 ghost use Rattle.wkb_view.specs.Passing.{polygons_seen};
@@ -51,12 +51,12 @@ impl<'a> Model for MultiPolygon<'a> {
 }
 
 impl<'a> MultiPolygon<'a> {
-    ghost use Rattle.std.specs.Prelude.{◌≡◌, length, IfOk, IfErr};
+    ghost use Rattle.std.specs.Prelude.{◌≡◌, length, IfOk};
     ghost use Rattle.wkb_geom.specs.declared.code.WkbType.TheVariants as kinds;
     ghost use Rattle.wkb_view.specs.Prelude.{multi_polygon_at, BytesSpell};
     ghost use Rattle.wkb_view.specs.Headers.{HasHead};
     ghost use Rattle.wkb_view.specs.Members.{multi_polygon_seen};
-    ghost use Rattle.wkb_view.specs.Outcome.{IsReadOrStops, TakesAtLeast, CanCount, IsCause};
+    ghost use Rattle.wkb_view.specs.Outcome.{IsReadOrStops, TakesAtLeast, CanCount, RefusesWithoutSlots};
 
     /// The number of its bytes.
     #[inline]
@@ -97,8 +97,7 @@ impl<'a> MultiPolygon<'a> {
         ensures answer { IsReadOrStops multi_polygon_seen
             result (multi_polygon_at layout bytes.now) counts.old counts.new }
         ensures shorter { IfOk result (TakesAtLeast MIN_MEMBER_SIZE bytes.now) }
-        ensures no_memory { (multi_polygon_at layout bytes.now).0.slots ≡ 0
-            → IfErr result IsCause }
+        ensures no_memory { RefusesWithoutSlots (multi_polygon_at layout bytes.now) result }
     {
         let (count, members) = counted_list(alloc, layout, bytes, MIN_MEMBER_SIZE, counts)?;
         let (members, rest) = read_members(alloc, layout, bytes, members, count, counts)?;
@@ -122,7 +121,7 @@ fn read_member<'a>(
     ensures dimension { IfOk result (λ x. x.0.dimension ≡ dimension) }
     ensures answer { IsReadOrStops polygon_seen result (member_at POLYGON dimension bytes.now) counts.old counts.new }
     ensures shorter { IfOk result (TakesAtLeast MIN_MEMBER_SIZE bytes.now) }
-    ensures no_memory { (member_at POLYGON dimension bytes.now).0.slots ≡ 0 → IfErr result IsCause }
+    ensures no_memory { RefusesWithoutSlots (member_at POLYGON dimension bytes.now) result }
 {
     let layout = Layout::of_member(WkbType::Polygon(dimension), bytes)?;
     Polygon::read(alloc, layout, bytes, counts)
@@ -145,8 +144,7 @@ fn read_members<'a>(
     ensures polygons { IsReadOrStops polygons_seen
         result (members_behind POLYGON layout count bytes.now) counts.old counts.new }
     ensures shorter { IfOk result (λ x. IsAfterCount layout bytes.now x.1.now) }
-    ensures no_memory { (members_behind POLYGON layout count bytes.now).0.slots ≡ 0
-        → IfErr result IsCause }
+    ensures no_memory { RefusesWithoutSlots (members_behind POLYGON layout count bytes.now) result }
 {
     let mut rest = layout.after_count(bytes);
     for _ in 0..count {

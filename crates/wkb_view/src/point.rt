@@ -175,7 +175,7 @@ impl Dimensioned for Point<'_> {
 
 impl<'a> PointTrait for Point<'a> {
     ghost use Rattle.std.specs.Prelude.{◌≡◌, option_map, IfSome};
-    ghost use Rattle.wkb_view.specs.Ranges.{point_lawful};
+    ghost use Rattle.wkb_view.specs.Ranges.{point_item_lawful};
     ghost use Rattle.wkb_view.specs.Coords.{words_seen, coord_order, coord_dimension};
     ghost use Rattle.wkb_view.specs.Coords.{coord_encoding};
     ghost use Rattle.wkb_view.specs.Views.{seen_coordinate, point_order, point_dimension};
@@ -185,7 +185,7 @@ impl<'a> PointTrait for Point<'a> {
 
     ghost coordinate = { seen_coordinate };
 
-    ghost lawful = { λ p. point_lawful p.layout p.buf.now p.in_range };
+    ghost lawful = { λ p. point_item_lawful p.layout p.buf.now p.in_range };
 
     #[inline(always)]
     fn coord(&self) -> Option<Coord<'a>>
@@ -208,7 +208,7 @@ impl<'a> GeometryTrait for Point<'a> {
     ghost use Rattle.wkb_geom.specs.declared.geom.GeometryType.TheVariants.{Point as Handed};
     ghost use Rattle.wkb_geom.specs.Geometries.{point};
     ghost use Rattle.wkb_view.specs.Prelude.{as_dimensions};
-    ghost use Rattle.wkb_view.specs.Ranges.{point_lawful};
+    ghost use Rattle.wkb_view.specs.Ranges.{point_item_lawful};
     ghost use Rattle.wkb_view.specs.Views.{seen_coordinate, point_dimension};
 
     type PointType = Point<'a>;
@@ -233,7 +233,7 @@ impl<'a> GeometryTrait for Point<'a> {
 
     ghost one_dimension = { λ g. refl };
 
-    ghost lawful = { λ p. point_lawful p.layout p.buf.now p.in_range };
+    ghost lawful = { λ p. point_item_lawful p.layout p.buf.now p.in_range };
 
     #[inline]
     fn as_written(&self, order: Endianness, form: Form) -> Option<&[u8]> {

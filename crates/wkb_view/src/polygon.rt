@@ -8,7 +8,7 @@ use crate::any::{
 use crate::as_written::{AsWritten, flags_without_srid};
 use crate::counts::Counts;
 use crate::ends::read_ends;
-use crate::linear_ring::{LinearRing, Rings};
+use crate::linear_ring::{LinearRing, RingParts};
 use crate::own_srid::OwnSrid;
 use crate::part::part_at;
 use std::alloc::{AllocError, Global};
@@ -47,14 +47,14 @@ impl<'a> Model for Polygon<'a> {
 }
 
 impl<'a> Polygon<'a> {
-    ghost use Rattle.std.specs.Prelude.{◌≡◌, length, sum_by, IfSome, IfOk, IfErr};
+    ghost use Rattle.std.specs.Prelude.{◌≡◌, length, sum_by, IfSome, IfOk};
     ghost use Rattle.wkb_geom.specs.Found.{IsItemAt};
     ghost use Rattle.wkb_geom.specs.declared.code.WkbType.TheVariants as kinds;
     ghost use Rattle.wkb_view.specs.Prelude.{polygon_at, BytesSpell, order_of};
     ghost use Rattle.wkb_view.specs.Coords.{ring_order, ring_dimension, ring_seen};
     ghost use Rattle.wkb_view.specs.Headers.{HasHead};
     ghost use Rattle.wkb_view.specs.Members.{polygon_seen};
-    ghost use Rattle.wkb_view.specs.Outcome.{IsReadOrStops, CanCount, IsCause, TakesAtLeast};
+    ghost use Rattle.wkb_view.specs.Outcome.{IsReadOrStops, CanCount, RefusesWithoutSlots, TakesAtLeast};
 
     /// The number of its bytes.
     #[inline]
@@ -128,9 +128,9 @@ impl<'a> Polygon<'a> {
         ensures dimension { IfOk result (λ x. x.0.dimension ≡ layout.dimension) }
         ensures answer { IsReadOrStops polygon_seen result (polygon_at layout bytes.now) counts.old counts.new }
         ensures shorter { IfOk result (TakesAtLeast MIN_MEMBER_SIZE bytes.now) }
-        ensures no_memory { (polygon_at layout bytes.now).0.slots ≡ 0 → IfErr result IsCause }
+        ensures no_memory { RefusesWithoutSlots (polygon_at layout bytes.now) result }
     {
-        let (ends, rest) = read_ends::<Rings>(alloc, layout, bytes, counts)?;
+        let (ends, rest) = read_ends::<RingParts>(alloc, layout, bytes, counts)?;
         let polygon = Polygon {
             buf: &bytes[..bytes.len() - rest.len()],
             layout,
@@ -189,11 +189,10 @@ impl<'a> PolygonTrait for Polygon<'a> {
     ghost use Rattle.std.specs.Prelude.{◌≡◌, ◌+◌, Some, None, IfSome};
     ghost use Rattle.wkb_geom.specs.Encodings.{fault};
     ghost use Rattle.wkb_geom.specs.Found.{IsItemAt};
-    ghost use Rattle.wkb_geom.specs.Geometries.{polygon};
     ghost use Rattle.wkb_geom.specs.Sizes.{rings_size};
     ghost use Rattle.wkb_view.specs.Prelude.{as_dimensions, order_of};
     ghost use Rattle.wkb_view.specs.Coords.{ring_order, ring_dimension, ring_seen};
-    ghost use Rattle.wkb_view.specs.Fitted.{fitted_parts, line_strings_fit};
+    ghost use Rattle.wkb_view.specs.Fitted.{fitted_parts, fitted_polygon, line_strings_fit};
 
     type RingType = LinearRing<'a>;
 
@@ -235,7 +234,7 @@ impl<'a> PolygonTrait for Polygon<'a> {
     #[inline]
     fn rings_size(&self) -> Option<usize>
         ensures size { result ≡ Some (rings_size (as_dimensions self.now.dimension) (fitted_parts self.now)) }
-        ensures writable { fault (polygon (as_dimensions self.now.dimension) (fitted_parts self.now)) ≡ None }
+        ensures writable { fault (fitted_polygon self.now) ≡ None }
     {
         Some(self.layout.length_after_header(self.buf))
     }
@@ -244,9 +243,8 @@ impl<'a> PolygonTrait for Polygon<'a> {
 impl<'a> GeometryTrait for Polygon<'a> {
     ghost use Rattle.std.specs.Prelude.{◌≡◌, refl};
     ghost use Rattle.wkb_geom.specs.declared.geom.GeometryType.TheVariants.{Polygon as Handed};
-    ghost use Rattle.wkb_geom.specs.Geometries.{polygon};
     ghost use Rattle.wkb_view.specs.Prelude.{as_dimensions};
-    ghost use Rattle.wkb_view.specs.Fitted.{fitted_parts, line_strings_fit};
+    ghost use Rattle.wkb_view.specs.Fitted.{fitted_polygon, line_strings_fit};
 
     type PointType = Point<'a>;
 
@@ -266,7 +264,7 @@ impl<'a> GeometryTrait for Polygon<'a> {
 
     type LineType = Line<'a>;
 
-    ghost geometry = { λ p. polygon (as_dimensions p.dimension) (fitted_parts p) };
+    ghost geometry = { fitted_polygon };
 
     ghost one_dimension = { λ g. refl };
 

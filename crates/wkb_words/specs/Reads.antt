@@ -15,7 +15,7 @@ pub use Rattle.wkb.specs.Reads.{ring_dimension, ring_encoding, ring_offset, ring
 pub use Rattle.wkb.specs.Reads.{RingBytesSpell, point_seen, line_string_seen, multi_point_seen, point_layout}
 pub use Rattle.wkb.specs.Reads.{line_string_layout, multi_point_layout, point_dimension, line_string_dimension}
 pub use Rattle.wkb.specs.Reads.{multi_point_dimension, point_order, point_spelling, line_string_order}
-pub use Rattle.wkb.specs.Reads.{line_string_spelling, line_string_coordinates, coordinate_in, line_string_offset}
+pub use Rattle.wkb.specs.Reads.{line_string_spelling, seen_coordinates, coordinate_in, line_string_offset}
 pub use Rattle.wkb.specs.Reads.{multi_point_offset, point_value, seen_coordinate, seen_points, point_coord_bytes}
 pub use Rattle.wkb.specs.Reads.{point_words_bytes, line_string_coord_bytes, line_string_coords_bytes}
 pub use Rattle.wkb.specs.Reads.{multi_point_member_bytes, list_of_values, IsCollection, points_of, members_spelled}
@@ -23,9 +23,9 @@ pub use Rattle.wkb.specs.Reads.{list_of_spellings, spelling_at, BytesSpell, srid
 pub use Rattle.wkb.specs.Reads.{multi_line_string_seen, multi_polygon_seen, stride, ArePoints, multi_point_item}
 pub use Rattle.wkb.specs.Reads.{body_start, parts_start, point_item, line_string_item, fitted_line_string}
 pub use Rattle.wkb.specs.Reads.{fitted_line_strings, fitted_polygons, fitted_point, fitted_geometry, fitted_geometries}
-pub use Rattle.wkb.specs.Reads.{fitted_parts, fitted_members, fitted_geometry-same, Wkb, Coord, Counts, LineString}
-pub use Rattle.wkb.specs.Reads.{LinearRing, MultiPoint, Point, GeometryType, Layout, Reading, Cost, IsNotMemory}
-pub use Rattle.wkb.specs.Reads.{tells_size, geometry_type_of, IsListed, GeometryKind}
+pub use Rattle.wkb.specs.Reads.{fitted_parts, fitted_polygon, fitted_members, fitted_geometry-same, Wkb, Coord, Counts}
+pub use Rattle.wkb.specs.Reads.{LineString, LinearRing, MultiPoint, Point, GeometryType, Layout, Reading, Cost}
+pub use Rattle.wkb.specs.Reads.{IsNotMemory, tells_size, geometry_type_of, IsListed, GeometryKind}
 
 abbrev pub reads_words : ℕ
-reads_words = 134
+reads_words = 135

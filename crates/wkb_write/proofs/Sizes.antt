@@ -1,11 +1,10 @@
 -- The length of an encoding, from what was measured.
-use Rattle.wkb_write.proofs.Prelude.{◌≡◌, ℕ, ◌+◌, ◌<◌, ◌≤◌, ◌^◌, ◌*◌, ◌∙◌, ap, length, Bool, true, None, Result, Ok}
-use Rattle.wkb_write.proofs.Prelude.{Err, refl, sym, subst, arith, IsErrAnd, nat_tests, Endianness, Form, Fault}
+use Rattle.wkb_write.proofs.Prelude.{◌≡◌, ℕ, ◌+◌, ◌<◌, ◌≤◌, ◌^◌, ◌∙◌, ap, length, None, Result, Ok}
+use Rattle.wkb_write.proofs.Prelude.{Err, sym, subst, arith, IsErrAnd, nat_tests, Endianness, Form, Fault}
 use Rattle.wkb_write.proofs.Prelude.{Geometry, IsGeometry, byte_size, encoding, fault, IsForm, Finds, Measures}
 use Rattle.wkb_write.proofs.Prelude.{bytes_behind_header, none_both, WkbError, TellsFault, encoding_of, IsSized}
 use Rattle.wkb_write.proofs.Prelude.{no_room, Advances, IsShort, Progress, Stopped, WriteOptions}
-use Rattle.std.proofs.Common.{false}
-use Rattle.std.specs.Prelude.{is_some, if◌then◌else◌}
+use Rattle.std.specs.Prelude.{is_some}
 use Rattle.std.proofs.lemmas.Result.{err_from_is_err_and}
 use Rattle.wkb_geom.specs.Refusals.{srid_size}
 use Rattle.wkb_geom.specs.Encodings.{refusal, size_fault, form_srid}
@@ -17,7 +16,7 @@ use Rattle.wkb_laws.proofs.Lengths.{srid_size_is}
 use Rattle.wkb_write.specs.Answers.{IsSizeOf}
 use Rattle.wkb_write.specs.Measures.{IsMeasured}
 use Rattle.wkb_sink.proofs.Laid.{exits}
-use Rattle.wkb_sink.specs.Options.{header_length}
+use Rattle.wkb_sink.specs.Options.{header_size}
 use Rattle.wkb_geom.specs.declared.error.Fault.TheVariants as found
 
 reports_size : (n : ℕ) → 2 ^ 64 ≤ n → Finds found.Size (size_fault n)
@@ -38,7 +37,7 @@ measured_length order form g fits lawful none =
 -- what the exit of a `?` returns where there was no room for the header and what is behind it
 pub no_room_for : {a b : Progress} {n : ℕ} (options : WriteOptions) (g : Geometry) (e : Stopped)
     (r : Result (Unit {0}) Stopped) → IsErrAnd r (λ y. y ≡ e) → IsShort a b n → IsForm options.form → IsGeometry g
-    → fault g ≡ None → n ≤ header_length options.form + size_by_parts g → Advances a b (encoding_of options g) r
+    → fault g ≡ None → n ≤ header_size options.form + size_by_parts g → Advances a b (encoding_of options g) r
 no_room_for options g e r is short fits lawful none many =
     let long = measured_length options.endianness options.form g fits lawful none in
     exits e r is (no_room _ short (omega (arith, many, long, size_of_parts g none)))
@@ -59,13 +58,13 @@ module _ {s : ℕ} {read told : Result ℕ Fault} (form : Form) (g : Geometry) (
   unfolding IsMeasured
   m = rw (sym same ∙ was) at measured
 
-  pub size_told : (total : ℕ) → total ≡ s + header_length form → total < 2 ^ 64 → IsSized form g (Ok total)
+  pub size_told : (total : ℕ) → total ≡ s + header_size form → total < 2 ^ 64 → IsSized form g (Ok total)
   size_told total sum fits = λ order.
       let whole = measured_length order form g srid_fits lawful m.0 in
       let exact : total ≡ length (encoding order form g) = omega (arith, m.1, sum, fits, whole, header_within g) in
       (none_both (fault g) _ m.0 (size_without_fault _ (subst (λ n. n < 2 ^ 64) exact fits)), exact)
 
-  pub size_past : 2 ^ 64 ≤ s + header_length form → IsSized form g (Err found.Size)
+  pub size_past : 2 ^ 64 ≤ s + header_size form → IsSized form g (Err found.Size)
   size_past past = λ order.
       let whole = measured_length order form g srid_fits lawful m.0 in
       reports_rest _ (fault g) _ m.0 (reports_size _ (omega (arith, m.1, past, whole, header_within g)))

@@ -109,6 +109,8 @@ pub known_is_measured : (g : Geometry) (n : ℕ) → fault g ≡ None → n < 2 
 unfolding IsMeasured
 known_is_measured g n none fits is = (none, omega (arith, fits, is))
 
+pub ruleset known_laws = (known_is_measured, header_within)
+
 -- what was measured of a header and a body is measured of the geometry
 pub whole_measured : (g : Geometry) (dims : Dimensions) (r : Result ℕ Fault) → dims ≡ dimensions_of g
     → dimensions_fault dims ≡ None → Measures (body_fault g) (size_by_parts g) r

@@ -1,6 +1,6 @@
 -- What a size and a writer return.
-use Rattle.std.specs.Prelude.{◌≡◌, ◌<◌, ◌++◌, ◌⊎◌, ℕ, drop, length, Bool, List, Option, Some, None, Result, MatchResult}
-use Rattle.std.specs.Prelude.{IsErrAnd, IfOk, IfErr}
+use Rattle.std.specs.Prelude.{◌≡◌, ◌<◌, ◌++◌, ◌⊎◌, ℕ, drop, length, Bool, List, Option, Some, None, Result}
+use Rattle.std.specs.Prelude.{Ok, MatchResult, IsErrAnd, IfOk, IfErr}
 use Rattle.std.specs.declared.io.Error.{Error}
 use Rattle.std.specs.Io.KnownBytes.{Appends}
 use Rattle.wkb_geom.specs.declared.common.Endianness.{Endianness}
@@ -14,6 +14,7 @@ use Rattle.wkb_geom.specs.Encodings.{fault, refusal, encoding, form_with_flags}
 use Rattle.wkb_laws.specs.Written.{HasOptions}
 use Rattle.wkb_write.specs.Measures.{Reports, Finds}
 use Rattle.wkb_geom.specs.declared.error.Fault.{Fault}
+use Rattle.wkb_sink.specs.Puts.{PutsTo}
 use Rattle.wkb_sink.specs.Sinks.{IsOwnError, Puts, TellsFailure}
 use Rattle.wkb_sink.specs.declared.sink.Sink.{Ghosts}
 use Rattle.wkb_sink.specs.declared.options.WriteOptions.{WriteOptions}
@@ -83,23 +84,29 @@ pub record Writes (options : WriteOptions) (g : Geometry) (r : Result (Unit {0})
   pub spelled : IsSpelledAs options g r old new
   pub own : IsFailedAs options g r fails_by
 
--- this is so of each geometry without a fault that has this encoding
-abbrev pub OfEncoding : WriteOptions → List ℕ → (Geometry → Type 0) → Type 0
-OfEncoding options bytes P = (g : Geometry) → IsGeometry g → fault g ≡ None → bytes ≡ encoding_of options g → P g
-
 -- what a writer promises, by the sink's ghost members
 abbrev pub WritesTo : {S : Type 0} → Ghosts S → S → S → WriteOptions → Geometry → Result (Unit {0}) WkbError → Type 0
 WritesTo sink old new options g r =
     Writes options g r (new ≡ old) (sink.appended old) (sink.appended new) (sink.has_failed new) (sink.fails_by new)
 
+-- what a writer promises that copies an encoding, of each geometry without a fault that has it
+abbrev pub CopiesTo : {S : Type 0} → Ghosts S → S → S → WriteOptions → List ℕ → Result (Unit {0}) WkbError → Type 0
+CopiesTo sink old new options bytes r =
+    (g : Geometry) → IsGeometry g → fault g ≡ None → bytes ≡ encoding_of options g → WritesTo sink old new options g r
+
+-- the sink took a geometry's encoding, or failed as the result says
+abbrev pub PutsGeometry : {S : Type 0} → Ghosts S → S → S → WriteOptions → Geometry → Result (Unit {0}) (Option Error)
+    → Type 0
+PutsGeometry sink old new options g r = PutsTo sink old new (encoding_of options g) r
+
+-- the result is that of putting, where a failure is reported by the error
+abbrev pub TellsPut : Result (Unit {0}) (Option Error) → Result (Unit {0}) WkbError → Type 0
+TellsPut put r = MatchResult put (λ u. r ≡ Ok u) (λ failure. IsErrAnd r (λ e. TellsFailure e failure))
+
 -- the slice begins with the encoding, whose size is n, and the bytes after it are as they were
 pub record IsInFront (old new encoding : List ℕ) (n : ℕ) : Type 0 where
   pub len : n ≡ length encoding
   pub whole : new ≡ encoding ++ drop n old
-
--- at Ok the slice begins with the geometry's encoding, whose size is the result
-abbrev pub IsWrittenInFront : WriteOptions → Geometry → List ℕ → List ℕ → Result ℕ WkbError → Type 0
-IsWrittenInFront options g old new r = IfOk r (IsInFront old new (encoding_of options g))
 
 -- what isn't refused is longer than the slice, and the error says that nothing was taken
 pub record OutgrowsSlice (options : WriteOptions) (g : Geometry) (old : List ℕ) (e : WkbError) : Type 0 where
@@ -114,3 +121,12 @@ IsVecError options g e = IsMemory e ⊎ Reports e (refusal_of options g)
 -- the error reports what is refused, or that the slice is too short
 abbrev pub IsSliceError : WriteOptions → Geometry → List ℕ → WkbError → Type 0
 IsSliceError options g old e = Reports e (refusal_of options g) ⊎ OutgrowsSlice options g old e
+
+-- what a writer to the front of a slice promises: the result is the size of the encoding, which stands there, or the
+-- slice is as it was
+pub record WritesToSlice (options : WriteOptions) (g : Geometry) (old new : List ℕ) (r : Result ℕ WkbError) : Type 0
+  where
+    pub ok : IfOk r (IsInFront old new (encoding_of options g))
+    pub writable : IfOk r (λ _. refusal_of options g ≡ None)
+    pub err : IfErr r (IsSliceError options g old)
+    pub kept : IfErr r (λ _. new ≡ old)

@@ -4,6 +4,7 @@ use Rattle.std.specs.Prelude.{◌≡◌, ℕ, ◌+◌, ◌-◌, ◌*◌, min, Li
 use Rattle.std.specs.Borrow.{Bor}
 use Rattle.std.specs.List.{sum_by}
 use Rattle.wkb_geom.specs.declared.common.Dimensions.{Dimensions}
+use Rattle.wkb_geom.specs.declared.common.Form.{Form}
 use Rattle.wkb_geom.specs.Dimensions.{size}
 use Rattle.wkb_geom.specs.Values.{Coordinate}
 use Rattle.wkb_geom.specs.Geometries.{Geometry, point, line_string, polygon, multi_point, multi_line_string}
@@ -11,6 +12,7 @@ use Rattle.wkb_geom.specs.Geometries.{multi_polygon, collection, rectangle, tria
 use Rattle.wkb_geom.specs.Sizes.{byte_size, byte_sizes}
 use Rattle.wkb_geom.specs.Encodings.{or_else, count_fault, first_fault, coordinates_fault, fault, fault_each}
 use Rattle.wkb_geom.specs.Encodings.{count_geometries}
+use Rattle.wkb_sink.specs.Options.{header_size}
 
 -- the first fault and the size of a part
 pub record Measure : Type 0 where
@@ -95,3 +97,7 @@ size_by_parts (collection d gs) = 4 + byte_sizes gs
 size_by_parts (line d start end) = 4 + 16 * coordinate_words d
 size_by_parts (rectangle d least greatest) = 88
 size_by_parts (triangle d first second third) = 8 + 32 * coordinate_words d
+
+-- the size with the header that the form writes, by the parts
+abbrev pub whole_size_by_parts : Form → Geometry → ℕ
+whole_size_by_parts form g = header_size form + size_by_parts g

@@ -1,5 +1,5 @@
 -- A count, and that many items: how they are measured and encoded.
-use Rattle.std.specs.Prelude.{◌≡◌, ℕ, List, ◌++◌, None, length, slice_get, IfSome}
+use Rattle.std.specs.Prelude.{◌≡◌, ℕ, List, ◌++◌, None, length, slice_get, IfSome, Result}
 use Rattle.std.specs.List.{flat_map}
 use Rattle.wkb_geom.specs.declared.common.Dimensions.{Dimensions}
 use Rattle.wkb_geom.specs.declared.common.Endianness.{Endianness}
@@ -11,7 +11,14 @@ use Rattle.wkb_geom.specs.Values.{Coordinate}
 use Rattle.wkb_sink.specs.Options.{header_of, inner_options}
 use Rattle.wkb_sink.specs.declared.options.WriteOptions.{WriteOptions}
 use Rattle.wkb_write.specs.Answers.{encoding_of}
-use Rattle.wkb_write.specs.Bodies.{Measure, body_fault, parts_fault, parts_size, ring_measure, size_by_parts}
+use Rattle.wkb_sink.specs.Progress.{Lays}
+use Rattle.wkb_sink.specs.declared.buffered.Buffered.{Buffered}
+use Rattle.wkb_sink.specs.declared.buffered.Stopped.{Stopped}
+use Rattle.wkb_sink.specs.declared.sink.Sink.{Ghosts}
+use Rattle.wkb_write.specs.declared.measure.Measured.{Measured}
+use Rattle.wkb_write.specs.Bodies.{Measure, body_fault, parts_fault, parts_measure, parts_size, ring_measure}
+use Rattle.wkb_write.specs.Bodies.{size_by_parts}
+use Rattle.wkb_write.specs.Measures.{IsMeasureOf}
 
 -- the items of a geometry: how each is measured, and encoded under the options of items
 pub record ItemList : Type 1 where
@@ -52,6 +59,19 @@ ListsItems g kind items =
 -- what is said of the item at an index
 abbrev pub OfItem : (items : ItemList) → ℕ → (items.Item → Type 0) → Type 0
 OfItem items i P = IfSome (slice_get items.list i) P
+
+-- this was measured of the item at an index
+abbrev pub MeasuresItem : ItemList → ℕ → Measured → Type 0
+MeasuresItem items i measured = OfItem items i (λ x. IsMeasureOf (items.measure x) measured)
+
+-- a step laid the encoding of the item at an index, or the sink failed
+abbrev pub LaysItem : {S : Type 0} (sink : Ghosts S) → Buffered S sink → Buffered S sink → ItemList → ℕ → WriteOptions
+    → Result (Unit {0}) Stopped → Type 0
+LaysItem sink old new items i options r = OfItem items i (λ x. Lays sink old new (items.encode options x) r)
+
+-- the items after their count, each with a header of this size
+abbrev pub items_measure : ℕ → ItemList → Measure
+items_measure header items = parts_measure header items.measure items.list
 
 -- after its header a geometry of this dimension is these items, each with a header of this size
 pub record HasMeasures (g : Geometry) (d : Dimensions) (header : ℕ) (items : ItemList) : Type 0 where

@@ -62,7 +62,7 @@ IsMeasuredBehindHeader dim body measured =
     (g : Geometry) → dim ≡ dimensions_of g → Measures (body_fault g) (size_by_parts g) (result_of body)
     → IsMeasured g (result_of measured)
 
--- this is so of each geometry of which that was measured
+-- a statement holds for each geometry of which this was measured
 abbrev pub OfMeasured : Measured → (Geometry → Type 0) → Type 0
 OfMeasured measured P = (g : Geometry) → IsGeometry g → IsMeasured g (result_of measured) → P g
 

@@ -11,11 +11,11 @@ pub use Rattle.wkb_sink.specs.Puts.{PutsTo}
 pub use Rattle.wkb_sink.specs.Sinks.{TellsFailure}
 pub use Rattle.wkb_sink.specs.declared.block.TheConstants.{MIN_BLOCK}
 pub use Rattle.wkb_write.specs.Answers.{encoding_of, refusal_of, IsInFront, IsSized, IsSizeOf, IsSliceError}
-pub use Rattle.wkb_write.specs.Answers.{IsVecError, IsWrittenInFront, OfEncoding, WritesTo}
+pub use Rattle.wkb_write.specs.Answers.{IsVecError, PutsGeometry, TellsPut, CopiesTo, WritesTo, WritesToSlice}
 unfoldable pub use Rattle.wkb_write.specs.Answers.{member_encoding}
-pub use Rattle.wkb_write.specs.Bodies.{parts_measure, point_measure, polygon_measure, ring_measure, collection_of}
+pub use Rattle.wkb_write.specs.Bodies.{point_measure, polygon_measure, ring_measure, collection_of, whole_size_by_parts}
 pub use Rattle.wkb_write.specs.Bodies.{bytes_behind_header, coordinate_words, size_by_parts, AreMembersOf, IsLeaf}
-pub use Rattle.wkb_write.specs.Counted.{HasFaultlessBody, HasMeasures, ItemList, ListsItems, OfItem, member_list}
-pub use Rattle.wkb_write.specs.Counted.{ring_list}
+pub use Rattle.wkb_write.specs.Counted.{HasFaultlessBody, HasMeasures, ItemList, LaysItem, ListsItems, MeasuresItem}
+pub use Rattle.wkb_write.specs.Counted.{items_measure, member_list, ring_list}
 pub use Rattle.wkb_write.specs.Measures.{IsAdded, IsMeasured, IsMeasureOf, OfMeasured, Reports, FindsUnsupported}
 pub use Rattle.wkb_write.specs.Measures.{IsCountToWrite, IsMeasuredBehindHeader, result_of}

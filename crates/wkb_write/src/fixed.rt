@@ -4,9 +4,9 @@ ghost use Rattle.std.specs.Prelude.{◌≡◌, ◌+◌, ◌≤◌, None, false, 
 ghost use Rattle.wkb_geom.specs.Dimensions.{width, written_dimension};
 ghost use Rattle.wkb_geom.specs.declared.header.TheConstants.{MAX_HEADER_SIZE};
 ghost use Rattle.wkb_sink.specs.Blocks.{LaysAt};
-ghost use Rattle.wkb_sink.specs.Options.{header_length};
 ghost use Rattle.wkb_write.specs.Prelude.{Geometry, IsGeometry, encoding_of, fault};
 ghost use Rattle.wkb_write.specs.Prelude.{HasFaultlessBody, MIN_BLOCK, coordinate_words, size_by_parts};
+ghost use Rattle.wkb_write.specs.Prelude.{whole_size_by_parts};
 
 use crate::common::*;
 use crate::measure::words_to_measure;
@@ -29,10 +29,8 @@ pub trait Fixed<G: Dimensioned> {
         requires fault { fault (geometry geom.now) ≡ None }
         requires dimension { dim ≡ written_dimension (G.dimensions geom.now) }
         requires words { width dim ≡ coordinate_words (G.dimensions geom.now) }
-        requires room { at + (header_length options.now.form + size_by_parts (geometry geom.now))
-            ≤ length bytes.old }
-        ensures end { result
-            ≡ at + (header_length options.now.form + size_by_parts (geometry geom.now)) }
+        requires room { at + whole_size_by_parts options.now.form (geometry geom.now) ≤ length bytes.old }
+        ensures end { result ≡ at + whole_size_by_parts options.now.form (geometry geom.now) }
         ensures bytes { LaysAt at result bytes.old bytes.new
             (encoding_of options.now (geometry geom.now)) };
 

@@ -1,8 +1,8 @@
 //! A geometry of any kind: its sizes, its writer, and its encoding in a vector or in a slice.
 
 ghost use Rattle.std.specs.Prelude.{◌≡◌, None, IfOk, IfErr, false};
-ghost use Rattle.wkb_write.specs.Prelude.{encoding_of, refusal_of, Iso, IsInFront, IsSizeOf};
-ghost use Rattle.wkb_write.specs.Prelude.{IsSliceError, IsVecError, WritesTo};
+ghost use Rattle.wkb_write.specs.Prelude.{encoding_of, refusal_of, Iso, IsSizeOf, IsVecError, WritesTo};
+ghost use Rattle.wkb_write.specs.Prelude.{IsMemory, WritesToSlice};
 
 use crate::common::*;
 use crate::fixed::AtOnce;
@@ -12,7 +12,7 @@ use crate::line_string::{LineStringKind, write_line_string};
 use crate::multi_line_string::MultiLineStringKind;
 use crate::multi_point::MultiPointKind;
 use crate::multi_polygon::MultiPolygonKind;
-use crate::nested::{Nested, Node};
+use crate::nested::{Nested, measure_geometry, put_members};
 use crate::point::{PointKind, write_point};
 use crate::polygon::{PolygonKind, write_polygon};
 use crate::rect::RectKind;
@@ -36,12 +36,6 @@ impl<G: GeometryTrait> Nested<G> for GeometryKind {
             GeometryType::GeometryCollection(members) => Some(members),
             _ => None,
         }
-    }
-
-    #[tactic(auto, using(crate::proofs::Whole::header_within))]
-    #[inline(always)]
-    fn known_size(geom: &G) -> Option<usize> {
-        Some(geom.byte_size()? - MEMBER_HEADER_SIZE)
     }
 
     #[inline(always)]
@@ -79,6 +73,30 @@ impl<G: GeometryTrait> Nested<G> for GeometryKind {
     }
 }
 
+#[tactic(auto, using(crate::proofs::Collections::collection_laws, crate::proofs::Whole::known_laws))]
+impl<G: GeometryTrait> Writable<G> for GeometryKind {
+    ghost geometry = { λ g. G.geometry g };
+
+    ghost lawful = { λ g. G.lawful g };
+
+    #[inline(always)]
+    fn measure(geom: &G) -> Measured {
+        match geom.byte_size() {
+            Some(size) => Measured::Bytes(size - MEMBER_HEADER_SIZE),
+            None => measure_geometry::<G, GeometryKind>(geom),
+        }
+    }
+
+    fn put<S: Sink>(out: &mut Buffered<'_, S>, geom: &G, options: &WriteOptions) -> Put {
+        match GeometryKind::members_of(geom) {
+            Some(members) => {
+                put_members::<S, G, GeometryKind>(out, geom.dim(), members, options)
+            }
+            None => GeometryKind::put_leaf(out, geom, options),
+        }
+    }
+}
+
 /// The size of a geometry in ISO codes, in bytes.
 ///
 /// Refused by the first of these in preorder: dimensions that can't be written
@@ -88,7 +106,7 @@ impl<G: GeometryTrait> Nested<G> for GeometryKind {
 pub fn geometry_wkb_size<G: GeometryTrait>(geom: &G) -> WkbResult<usize>
     ensures size { IsSizeOf Iso (G.geometry geom.now) result }
 {
-    size_as::<G, Node<GeometryKind>>(geom, Form::Iso)
+    size_as::<G, GeometryKind>(geom, Form::Iso)
 }
 
 /// The size of a geometry under the options: four bytes more where they have an SRID.
@@ -101,7 +119,7 @@ pub fn geometry_wkb_size_with<G: GeometryTrait>(
 ) -> WkbResult<usize>
     ensures size { IsSizeOf options.now.form (G.geometry geom.now) result }
 {
-    size_as::<G, Node<GeometryKind>>(geom, options.form)
+    size_as::<G, GeometryKind>(geom, options.form)
 }
 
 /// Writes a geometry. The whole of it is tested before a byte is put.
@@ -135,7 +153,7 @@ pub fn write_geometry<S: Sink, G: GeometryTrait>(
         GeometryType::Point(p) => write_point(writer, p, options),
         GeometryType::LineString(l) => write_line_string(writer, l, options),
         GeometryType::Polygon(p) => write_polygon(writer, p, options),
-        _ => write_as::<S, G, Node<GeometryKind>>(writer, geom, options),
+        _ => write_as::<S, G, GeometryKind>(writer, geom, options),
     }
 }
 
@@ -146,7 +164,7 @@ pub fn write_geometry<S: Sink, G: GeometryTrait>(
 /// assert_eq!(rt; encoding.len(), geometry_wkb_size(&geometry)?);
 /// ```
 ///
-/// Refused as `geometry_wkb_size_with` refuses it under the same options, or `Memory`.
+/// Refused as `geometry_wkb_size_with` refuses it under the same options. `Memory` only of a geometry that is not.
 #[inline(always)]
 #[tactic(auto, using(crate::proofs::Writing::encoding_fits))]
 pub fn to_vec<G: GeometryTrait>(
@@ -157,6 +175,8 @@ pub fn to_vec<G: GeometryTrait>(
     ensures ok { IfOk result (λ out. out.items ≡ encoding_of options.now (G.geometry geom.now)) }
     ensures writable { IfOk result (λ _. refusal_of options.now (G.geometry geom.now) ≡ None) }
     ensures err { IfErr result (IsVecError options.now (G.geometry geom.now)) }
+    ensures memory { IfErr result
+        (λ e. IsMemory e → refusal_of options.now (G.geometry geom.now) ≡ None) }
 {
     if let Some(encoding) = geom.as_written(options.endianness, options.form) {
         return vec_of_encoding(alloc, encoding);
@@ -164,7 +184,7 @@ pub fn to_vec<G: GeometryTrait>(
     match geom.as_type() {
         // A point by itself needs no call.
         GeometryType::Point(p) => vec_as::<G::PointType, AtOnce<PointKind>>(alloc, p, options),
-        _ => vec_as::<G, Node<GeometryKind>>(alloc, geom, options),
+        _ => vec_as::<G, GeometryKind>(alloc, geom, options),
     }
 }
 
@@ -186,14 +206,10 @@ pub fn write_to_slice<G: GeometryTrait>(
     options: &WriteOptions,
     out: &mut [u8],
 ) -> WkbResult<usize>
-    ensures ok { IfOk result
-        (IsInFront out.old out.new (encoding_of options.now (G.geometry geom.now))) }
-    ensures writable { IfOk result (λ _. refusal_of options.now (G.geometry geom.now) ≡ None) }
-    ensures err { IfErr result (IsSliceError options.now (G.geometry geom.now) out.old) }
-    ensures kept { IfErr result (λ _. out.new ≡ out.old) }
+    ensures { WritesToSlice options.now (G.geometry geom.now) out.old out.new result }
 {
     if let Some(encoding) = geom.as_written(options.endianness, options.form) {
         return encoding_to_slice(encoding, out);
     }
-    slice_as::<G, Node<GeometryKind>>(geom, options, out)
+    slice_as::<G, GeometryKind>(geom, options, out)
 }

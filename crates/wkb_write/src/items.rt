@@ -1,8 +1,8 @@
 //! Items after a count: the rings of a polygon, the members of a multi geometry.
 
 ghost use Rattle.std.specs.Prelude.{◌≡◌, ◌<◌, ℕ, None, false, length, IfSome};
-ghost use Rattle.wkb_write.specs.Prelude.{Geometry, IsGeometry, ItemList, ListsItems, OfItem, fault};
-ghost use Rattle.wkb_write.specs.Prelude.{IsMeasureOf, parts_measure, bytes_behind_header, HasMeasures, Lays};
+ghost use Rattle.wkb_write.specs.Prelude.{Geometry, IsGeometry, ItemList, LaysItem, ListsItems, MeasuresItem};
+ghost use Rattle.wkb_write.specs.Prelude.{IsMeasureOf, bytes_behind_header, HasMeasures, fault, items_measure};
 
 use crate::common::*;
 use crate::measure::count_to_write;
@@ -40,8 +40,7 @@ pub trait Items<G: Dimensioned> {
     /// The fault of the item at an index, or its size without its header.
     fn measure_item(geom: &G, i: usize) -> Measured
         requires { i < length (items geom.now).list }
-        ensures { OfItem (items geom.now) i
-            (λ x. IsMeasureOf ((items geom.now).measure x) result) };
+        ensures { MeasuresItem (items geom.now) i result };
 
     /// Puts the item at an index. The options go by reference, in one register.
     fn put_item<S: Sink>(
@@ -53,8 +52,7 @@ pub trait Items<G: Dimensioned> {
         requires fault { fault (geometry geom.now) ≡ None }
         requires within { i < length (items geom.now).list }
         requires working { S.has_failed out.old.sink.now ≡ false }
-        ensures { OfItem (items geom.now) i
-            (λ x. Lays S.Sink out.old out.new ((items geom.now).encode options.now x) result) };
+        ensures { LaysItem S.Sink out.old out.new (items geom.now) i options.now result };
 
     // After its header a geometry is its items.
     ghost parts: { (g : G) → HasMeasures (geometry g) (G.dimensions g) ITEM_HEADER (items g) };
@@ -93,8 +91,7 @@ impl<G: Dimensioned, I: Items<G>> Writable<G> for Counted<I> {
 /// Measures the count and the items, each with its header: by the size that is known, else one by one.
 #[inline(always)]
 pub fn measure_items<G: Dimensioned, I: Items<G>>(geom: &G) -> Measured
-    ensures { IsMeasureOf (parts_measure I.ITEM_HEADER (I.items geom.now).measure
-        (I.items geom.now).list) result }
+    ensures { IsMeasureOf (items_measure I.ITEM_HEADER (I.items geom.now)) result }
 {
     match I::known_size(geom) {
         Some(size) => Measured::Bytes(size),
@@ -105,8 +102,7 @@ pub fn measure_items<G: Dimensioned, I: Items<G>>(geom: &G) -> Measured
 /// Measures the count and the items in order, each with its header.
 #[tactic(auto, using(crate::proofs::Sums::measured_laws))]
 fn measure_each<G: Dimensioned, I: Items<G>>(geom: &G) -> Measured
-    ensures { IsMeasureOf (parts_measure I.ITEM_HEADER (I.items geom.now).measure
-        (I.items geom.now).list) result }
+    ensures { IsMeasureOf (items_measure I.ITEM_HEADER (I.items geom.now)) result }
 {
     let Some(count) = count_to_write(I::count(geom)) else {
         return Measured::Count;

@@ -2,9 +2,9 @@
 //!
 //! A *leaf* is a geometry of any kind but a collection. The recursion ends there.
 
-ghost use Rattle.std.specs.Prelude.{◌≡◌, None, IfSome, false};
+ghost use Rattle.std.specs.Prelude.{◌≡◌, None, false};
 ghost use Rattle.wkb_write.specs.Prelude.{Geometry, IsGeometry, AreMembersOf, collection_of, fault};
-ghost use Rattle.wkb_write.specs.Prelude.{bytes_behind_header, encoding_of, form_with_flags, inner};
+ghost use Rattle.wkb_write.specs.Prelude.{encoding_of, form_with_flags, inner};
 ghost use Rattle.wkb_write.specs.Prelude.{IsAdded, IsLeaf, IsMeasured, Lays, member_encoding, result_of};
 
 use crate::common::*;
@@ -21,11 +21,6 @@ pub trait Nested<G: Dimensioned> {
     fn members_of(geom: &G) -> Option<&[G]>
         ensures { AreMembersOf (geometry geom.now) geometry (G.dimensions geom.now) result };
 
-    /// The size of a geometry without its header, where it is known without a look at each part.
-    fn known_size(geom: &G) -> Option<usize>
-        ensures size { IfSome result (λ n. n ≡ bytes_behind_header (geometry geom.now)) }
-        ensures writable { IfSome result (λ _. fault (geometry geom.now) ≡ None) };
-
     /// The size of a leaf without its header, or its first fault.
     fn measure_leaf(geom: &G) -> Measured
         requires { IsLeaf (geometry geom.now) }
@@ -40,31 +35,6 @@ pub trait Nested<G: Dimensioned> {
 
     // Every coordinate fits the dimension.
     ghost lawful: { (g : G) → IsGeometry (geometry g) };
-}
-
-/// The geometries of a kind, each a leaf or a collection.
-pub struct Node<K>(K);
-
-#[tactic(auto, using(crate::proofs::Collections::collection_laws, crate::proofs::Whole::known_is_measured))]
-impl<G: Dimensioned, K: Nested<G>> Writable<G> for Node<K> {
-    ghost geometry = { λ g. K.geometry g };
-
-    ghost lawful = { λ g. K.lawful g };
-
-    #[inline(always)]
-    fn measure(geom: &G) -> Measured {
-        match K::known_size(geom) {
-            Some(size) => Measured::Bytes(size),
-            None => measure_geometry::<G, K>(geom),
-        }
-    }
-
-    fn put<S: Sink>(out: &mut Buffered<'_, S>, geom: &G, options: &WriteOptions) -> Put {
-        match K::members_of(geom) {
-            Some(members) => put_members::<S, G, K>(out, geom.dim(), members, options),
-            None => K::put_leaf(out, geom, options),
-        }
-    }
 }
 
 // Adds the size of a collection of these dimensions and members to the size before it. Where the last member is a

@@ -2,13 +2,11 @@
 //!
 //! `MultiPolygonTrait` lends its polygons, so each has to stand in memory. These needn't.
 
-ghost use Rattle.std.specs.Prelude.{◌≡◌, ◌<◌, ℕ, List, IfOk, IfErr, Some, None, length, refl};
-ghost use Rattle.std.specs.Prelude.{slice_get};
+ghost use Rattle.std.specs.Prelude.{◌≡◌, ◌<◌, ℕ, List, Some, length, refl, slice_get};
 ghost use Rattle.std.specs.List.{AllByRecursion};
 ghost use Rattle.wkb_geom.specs.Geometries.{AreCoordinates};
-ghost use Rattle.wkb_write.specs.Prelude.{Geometry, multi_polygon, multi_polygon_meant, polygon, refusal_of};
-ghost use Rattle.wkb_write.specs.Prelude.{IsSizeOf, IsWrittenInFront, IsSliceError, polygon_measure};
-ghost use Rattle.wkb_write.specs.Prelude.{member_list};
+ghost use Rattle.wkb_write.specs.Prelude.{Geometry, multi_polygon, multi_polygon_meant, polygon, polygon_measure};
+ghost use Rattle.wkb_write.specs.Prelude.{IsSizeOf, WritesToSlice, member_list};
 
 use crate::common::*;
 use crate::items::{Counted, Items, measure_items};
@@ -94,13 +92,8 @@ pub fn write_made_polygons_to_slice<M: MadePolygons>(
     options: &WriteOptions,
     out: &mut [u8],
 ) -> WkbResult<usize>
-    ensures ok { IsWrittenInFront options.now (multi_polygon_meant M.MadePolygons geom.now)
+    ensures { WritesToSlice options.now (multi_polygon_meant M.MadePolygons geom.now)
         out.old out.new result }
-    ensures writable { IfOk result (λ _. refusal_of options.now
-        (multi_polygon_meant M.MadePolygons geom.now) ≡ None) }
-    ensures err { IfErr result (IsSliceError options.now
-        (multi_polygon_meant M.MadePolygons geom.now) out.old) }
-    ensures kept { IfErr result (λ _. out.new ≡ out.old) }
 {
     slice_as::<M, Counted<MadePolygonsKind>>(geom, options, out)
 }

@@ -1,8 +1,7 @@
 //! An encoding at the front of a slice.
 
 ghost use Rattle.std.specs.Prelude.{◌≡◌, ◌<◌, ◌^◌, None, IfOk, IfErr, length};
-ghost use Rattle.wkb_write.specs.Prelude.{encoding_of, refusal_of, IsInFront, IsSliceError};
-ghost use Rattle.wkb_write.specs.Prelude.{TellsFailure};
+ghost use Rattle.wkb_write.specs.Prelude.{IsInFront, TellsFailure, WritesToSlice};
 
 use crate::WriteOptions;
 use crate::measure::refuse;
@@ -16,11 +15,7 @@ pub fn slice_as<G, K: Writable<G>>(
     options: &WriteOptions,
     out: &mut [u8],
 ) -> WkbResult<usize>
-    ensures ok { IfOk result
-        (IsInFront out.old out.new (encoding_of options.now (K.geometry geom.now))) }
-    ensures writable { IfOk result (λ _. refusal_of options.now (K.geometry geom.now) ≡ None) }
-    ensures err { IfErr result (IsSliceError options.now (K.geometry geom.now) out.old) }
-    ensures kept { IfErr result (λ _. out.new ≡ out.old) }
+    ensures { WritesToSlice options.now (K.geometry geom.now) out.old out.new result }
 {
     let size = match checked_size::<G, K>(geom, options.form) {
         Ok(size) => size,

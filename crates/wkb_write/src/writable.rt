@@ -1,11 +1,11 @@
 //! What each kind says of itself, and what follows from it: a size, a writer, and an encoding in a vector.
 
-ghost use Rattle.std.specs.Prelude.{◌≡◌, ◌≤◌, ◌<◌, ◌^◌, false, length, None, Ok, IfOk, IfErr};
-ghost use Rattle.std.specs.Prelude.{IsErrAnd, MatchResult};
+ghost use Rattle.std.specs.Prelude.{◌≡◌, ◌≤◌, ◌<◌, ◌^◌, false, length, None, IfOk, IfErr};
+ghost use Rattle.std.specs.Prelude.{IsErrAnd};
 ghost use Rattle.wkb_write.specs.Prelude.{Geometry, IsGeometry, fault, encoding_of, refusal_of};
 ghost use Rattle.wkb_write.specs.Prelude.{IsForm, IsMeasured, IsSized, IsSizeOf, IsMemory, IsVecError};
-ghost use Rattle.wkb_write.specs.Prelude.{Lays, OfEncoding, WritesTo};
-ghost use Rattle.wkb_write.specs.Prelude.{PutsTo, TellsFailure, MIN_BLOCK, result_of};
+ghost use Rattle.wkb_write.specs.Prelude.{Lays, PutsGeometry, TellsPut, CopiesTo, WritesTo};
+ghost use Rattle.wkb_write.specs.Prelude.{TellsFailure, MIN_BLOCK, result_of};
 
 use crate::checked::Checked;
 use crate::measure::{Measured, form_fits, refuse, size_of, whole_size};
@@ -56,8 +56,7 @@ fn put_through<S: Sink, G, K: Writable<G>>(
     requires least { MIN_BLOCK ≤ length bytes.old }
     requires fault { fault (K.geometry geom.now) ≡ None }
     requires working { S.has_failed writer.old ≡ false }
-    ensures { PutsTo S.Sink writer.old writer.new
-        (encoding_of options.now (K.geometry geom.now)) result }
+    ensures { PutsGeometry S.Sink writer.old writer.new options.now (K.geometry geom.now) result }
 {
     let error = None;
     let mut out = Buffered {
@@ -107,8 +106,7 @@ pub fn put_sized<S: Sink, G, K: Writable<G>>(
     requires size { size ≡ length (encoding_of options.now (K.geometry geom.now)) }
     requires some { 0 < size }
     requires working { S.has_failed writer.old ≡ false }
-    ensures { PutsTo S.Sink writer.old writer.new
-        (encoding_of options.now (K.geometry geom.now)) result }
+    ensures { PutsGeometry S.Sink writer.old writer.new options.now (K.geometry geom.now) result }
 {
     let whole = Checked {
         geom,
@@ -172,8 +170,7 @@ pub fn write_as<S: Sink, G, K: Writable<G>>(
 /// The writer's result: where the sink failed, the sink's own error, or that it took no byte.
 #[inline(always)]
 pub fn wkb_result(put: Result<(), Option<io::Error>>) -> WkbResult<()>
-    ensures { MatchResult put (λ u. result ≡ Ok u)
-        (λ failure. IsErrAnd result (λ e. TellsFailure e failure)) }
+    ensures { TellsPut put result }
 {
     match put {
         Ok(()) => Ok(()),
@@ -202,6 +199,8 @@ pub fn vec_as<G, K: Writable<G>>(
     ensures ok { IfOk result (λ out. out.items ≡ encoding_of options.now (K.geometry geom.now)) }
     ensures writable { IfOk result (λ _. refusal_of options.now (K.geometry geom.now) ≡ None) }
     ensures err { IfErr result (IsVecError options.now (K.geometry geom.now)) }
+    ensures memory { IfErr result
+        (λ e. IsMemory e → refusal_of options.now (K.geometry geom.now) ≡ None) }
 {
     let size = match checked_size::<G, K>(geom, options.form) {
         Ok(size) => size,
@@ -293,8 +292,7 @@ pub fn write_encoding<S: Sink>(
     options: &WriteOptions,
 ) -> WkbResult<()>
     requires working { S.has_failed writer.old ≡ false }
-    ensures { OfEncoding options.now bytes.now
-        (λ g. WritesTo S.Sink writer.old writer.new options.now g result) }
+    ensures { CopiesTo S.Sink writer.old writer.new options.now bytes.now result }
 {
     form_fits(options.form);
     length_fits(bytes);

@@ -107,7 +107,8 @@ fn fills_all(multi: &MultiLineString<'_>, encoding: &[u8], rooms: &[usize]) -> b
         && fills(multi, encoding, whole, 1)
 }
 
-// So for `empty` line strings without coordinates, one of these words, and another without.
+// Whether blocks of each of these sizes are filled by `empty` line strings without coordinates, one of these words, and
+// another without.
 fn fills_rooms(empty: usize, words: &[u64], rooms: &[usize]) -> Result<bool, Fail> {
     if empty >= MOST_EMPTY {
         return Ok(false);

@@ -119,7 +119,7 @@ fn ends<R: Read>(
     Ok(ended == status && out.as_slice() == line.as_bytes())
 }
 
-// So of digits that end.
+// How the program ends behind a reader of digits that ends after `left` of them.
 fn ends_behind(alloc: Global, left: u32, status: u8, line: &str) -> Result<bool, Fail> {
     let mut digits = Digits {
         left,
@@ -175,7 +175,7 @@ fn is_told(alloc: Global, answer: (&str, &str, &str), room: usize) -> Result<boo
     }
 }
 
-// So where the writer takes nothing, a byte, or the whole line.
+// Whether a failure is told where the writer takes nothing, a byte, or the whole line before it.
 fn is_told_at_each(alloc: Global, answer: (&str, &str, &str)) -> Result<bool, Fail> {
     let len = answer.2.len();
     Ok(is_told(alloc, answer, 0)? && is_told(alloc, answer, 1)? && is_told(alloc, answer, len)?)
@@ -231,7 +231,7 @@ fn is_short(alloc: Global, digits: &[u8], len: usize) -> Result<bool, Fail> {
     )
 }
 
-// So of each strict prefix.
+// Whether each strict prefix is refused as too short.
 fn are_short(alloc: Global, text: &str) -> Result<bool, Fail> {
     let input = bytes(text)?;
     let digits = digits_of(input.as_slice())?;

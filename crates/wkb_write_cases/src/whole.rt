@@ -149,7 +149,7 @@ fn is_one_put<G: GeometryTrait>(geometry: &G, encoding: &[u8]) -> bool {
     written == Answer::Written && sink.taken.as_slice() == encoding
 }
 
-// So for the view of its kind, of those that can lend their bytes.
+// Whether the view of its kind, if it can lend its bytes, is written by one put.
 fn is_view_one_put(wkb: &Wkb<'_>, encoding: &[u8]) -> bool {
     match wkb.as_type() {
         GeometryType::LineString(view) => is_one_put(view, encoding),

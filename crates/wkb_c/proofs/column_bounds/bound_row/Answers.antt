@@ -9,5 +9,5 @@ returns-in-Ok-put_bounds-clause-row c =
 pub returns-in-Err-put_bounds-clause-row : goal.returns-in-Err-put_bounds-clause-row
 returns-in-Err-put_bounds-clause-row c =
     refused c.in-Ok.row.now c.in-Ok.ensures.row
-    (_, c.refuse.ensures.is c.in-Ok.row.now c.in-Err-put_bounds.ensures.refused.refusal)
+    (_, c.report_refusal.ensures.is _ c.in-Ok.row.now c.in-Err-put_bounds.ensures.refused.refusal)
     (c.in-Err-put_bounds.ensures.kept ∙ c.empty.ensures)

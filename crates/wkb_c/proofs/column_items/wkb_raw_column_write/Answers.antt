@@ -8,7 +8,7 @@ pub loop-i-preserved : goal.loop-i-preserved
 loop-i-preserved c =
     let l = c.loop-i in
     let lists = l.invariant.lists in
-    let row = c.write_row-status in
+    let row = c.write_wkb_row-status in
     let end = c.saturating_add-at in record {
       reaches = row.ensures.reach;
       lists = set_more lists l.i row.result.0 end.result (omega arith);

@@ -1,4 +1,5 @@
-use Rattle.wkb_c.proofs.Common.{arith, length, ◌≤◌}
+use Rattle.std.proofs.Common.{rules}
+use Rattle.wkb_c.proofs.Common.{arith, refl, length, ◌≤◌}
 use Rattle.wkb_geom.specs.Encodings.{encoding}
 use Rattle.wkb_geom.specs.Geometries.{geometry_of}
 use Rattle.wkb_check.specs.Bounded.{HasGeometry}
@@ -7,13 +8,26 @@ use Rattle.wkb_c.proofs.Encodings.{handed_out, finds_no_room}
 use Rattle.wkb_c.proofs.encoding.write_requested.Goals as goal
 use Rattle.wkb_c.proofs.encoding.write_requested.Goals.{Joined-out-buf, then-out-buf+else-out-wanted, else-out-buf}
 
-pub returns-then-out-wanted-clause-no_room : goal.returns-then-out-wanted-clause-no_room
-returns-then-out-wanted-clause-no_room c = λ told.
+pub returns-then-out-wanted : goal.returns-then-out-wanted
+returns-then-out-wanted c =
     let options = c.options_for-options in
-    finds_no_room c.args.request c.args.buf.now c.args.found.now c.requires options.result options.ensures
-    c.args.out.now c.encoded_size-wanted.result
-    (c.encoded_size-wanted.ensures.size options.result.endianness (here c.requires))
-    (omega (arith, c.if-out-wanted.true))
+    record {
+      written = search rules;
+      no_room = λ told.
+          finds_no_room c.args.request c.args.buf.now c.args.found.now c.requires options.result options.ensures
+          c.args.out.now c.encoded_size-wanted.result
+          (c.encoded_size-wanted.ensures.size options.result.endianness (here c.requires))
+          (omega (arith, c.if-out-wanted.true));
+      bound = omega (
+        arith,
+        c.encoded_size-wanted.ensures.size options.result.endianness (here c.requires),
+        at_most options.result.endianness options.result.form c.args.buf.now (here c.requires)
+            (λ i. (c.type_inv.buf i).fits),
+      );
+      known = search rules;
+      long = refl;
+      out_kept = search rules;
+    }
 
 -- there is room for the encoding where it is put
 fits : (c : Joined-out-buf) → (g : HasGeometry c.args.buf.now)
@@ -34,22 +48,23 @@ fits c g =
 pub put_encoding-requires-clause-room : goal.put_encoding-requires-clause-room
 put_encoding-requires-clause-room c = fits (goal.at.put_encoding-requires-clause-room c).Joined-out-buf
 
-pub returns-clause-written : goal.returns-clause-written
-returns-clause-written c = λ told.
+pub returns : goal.returns
+returns c =
     let options = c.options_for-options in
     let there = here c.requires in
     let size_is = c.put_encoding.ensures.size there in
-    handed_out c.args.request c.args.buf.now c.args.found.now c.requires options.result options.ensures c.args.out.now
-    c.put_encoding.new.out c.put_encoding.result size_is
-    (omega (arith, size_is, fits (goal.at.returns-clause-written c).Joined-out-buf there))
-    (c.put_encoding.ensures.put there)
-
-pub returns-clause-bound : goal.returns-clause-bound
-returns-clause-bound c =
-    let there = here c.requires in
-    let options = c.options_for-options in
-    omega (
-      arith,
-      c.put_encoding.ensures.size there,
-      at_most options.result.endianness options.result.form c.args.buf.now there (λ i. (c.type_inv.buf i).fits),
-    )
+    record {
+      written = λ told.
+          handed_out c.args.request c.args.buf.now c.args.found.now c.requires options.result options.ensures
+          c.args.out.now c.put_encoding.new.out c.put_encoding.result size_is
+          (omega (arith, size_is, fits (goal.at.returns c).Joined-out-buf there)) (c.put_encoding.ensures.put there);
+      no_room = search rules;
+      bound = omega (
+        arith,
+        size_is,
+        at_most options.result.endianness options.result.form c.args.buf.now there (λ i. (c.type_inv.buf i).fits),
+      );
+      known = search rules;
+      long = search rules;
+      out_kept = search rules;
+    }

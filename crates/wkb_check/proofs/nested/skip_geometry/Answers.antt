@@ -1,8 +1,9 @@
+use Rattle.std.specs.Prelude.{◌-◌}
 use Rattle.wkb_check.proofs.nested.skip_geometry.Goals as goal
 
 pub returns-in_default : goal.returns-in_default
 returns-in_default c =
     record {
-      passes = rw (← c.layout.ensures) (c.skip_plain.ensures.passes 128);
+      passes = rw (← c.layout.ensures) (c.skip_plain.ensures.passes (128 - c.args.around));
       held = c.skip_plain.ensures.held;
     }

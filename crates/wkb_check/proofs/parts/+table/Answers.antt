@@ -1,7 +1,7 @@
 use Rattle.std.proofs.Common.{◌+◌, refl, sym, ap, ◌∙◌, arith}
 use lib.Seq.{sets}
 use Rattle.wkb_check.specs.Tables.{entries_of_rings_from, size_of_rings_from}
-use Rattle.wkb_check.specs.declared.parts.Place.{Place}
+use Rattle.wkb_check.specs.declared.parts.PartPlace.{PartPlace}
 use Rattle.wkb_check.proofs.Filling.{left_first, left_next, here, none_left}
 use Rattle.wkb_check.proofs.Placing.{geometry_inside, onward, leaf_of, rings_inside}
 use Rattle.wkb_check.proofs.Placing.{members_inside, members_at, item_by}
@@ -12,8 +12,8 @@ use Rattle.wkb_check.proofs.parts.+table.Goals.{else-has_coordinates+else-piece-
 pub loop-init : goal.loop-init
 loop-init t c = λ more all. left_first (omega arith)
 
-pub geometry_at-piece-requires : goal.geometry_at-piece-requires
-geometry_at-piece-requires t c =
+pub of_geometry-piece-requires : goal.of_geometry-piece-requires
+of_geometry-piece-requires t c =
     let h = here (c.loop.invariant _ c.requires.fit.all) (omega (arith, c.loop-test.true)) c.requires.fit.fit in
     record { here = h.geometry }
 
@@ -27,16 +27,16 @@ end-requires t c =
     let h = here (c.loop.invariant _ c.requires.fit.all) (omega (arith, c.loop-test.true)) c.requires.fit.fit in
     omega (
       arith,
-      (geometry_inside c.args.buf.now c.loop.at.byte _ h.geometry c.geometry_at-piece.result
-          (c.geometry_at-piece.ensures h.geometry) refl).inside,
+      (geometry_inside c.args.buf.now c.loop.at.byte _ h.geometry c.of_geometry-piece.result
+          (c.of_geometry-piece.ensures h.geometry) refl).inside,
     )
 
 pub put_rings-requires-clause-whole : goal.put_rings-requires-clause-whole
 put_rings-requires-clause-whole t c =
     let h = here (c.loop.invariant _ c.requires.fit.all) (omega (arith, c.loop-test.true)) c.requires.fit.fit in
     rw c.end.ensures
-    (rings_inside c.args.buf.now c.loop.at.byte c.loop.at.index h.geometry c.geometry_at-piece.result
-    (c.geometry_at-piece.ensures h.geometry) c.if-piece-eq-POLYGON.true).whole
+    (rings_inside c.args.buf.now c.loop.at.byte c.loop.at.index h.geometry c.of_geometry-piece.result
+    (c.of_geometry-piece.ensures h.geometry) c.if-piece-eq-POLYGON.true).whole
 
 pub put_rings-requires-clause-room : goal.put_rings-requires-clause-room
 put_rings-requires-clause-room t c =
@@ -45,19 +45,19 @@ put_rings-requires-clause-room t c =
       arith,
       h.room,
       (rings_inside c.args.buf.now c.loop.at.byte c.loop.at.index h.geometry
-          c.geometry_at-piece.result (c.geometry_at-piece.ensures h.geometry) c.if-piece-eq-POLYGON.true).counts,
+          c.of_geometry-piece.result (c.of_geometry-piece.ensures h.geometry) c.if-piece-eq-POLYGON.true).counts,
     )
 
 pub put_geometries-requires : goal.put_geometries-requires
 put_geometries-requires t c =
     let l = c.loop.invariant _ c.requires.fit.all in
     let h = here l (omega (arith, c.loop-test.true)) c.requires.fit.fit in
-    let is = c.geometry_at-piece.ensures h.geometry in
-    let inside = geometry_inside c.args.buf.now c.loop.at.byte c.end.result h.geometry c.geometry_at-piece.result is
+    let is = c.of_geometry-piece.ensures h.geometry in
+    let inside = geometry_inside c.args.buf.now c.loop.at.byte c.end.result h.geometry c.of_geometry-piece.result is
     c.end.ensures in
-    let m = members_inside c.args.buf.now c.loop.at.byte c.loop.at.index h.geometry c.geometry_at-piece.result is
+    let m = members_inside c.args.buf.now c.loop.at.byte c.loop.at.index h.geometry c.of_geometry-piece.result is
     (sym c.has_coordinates.ensures ∙ c.if-has_coordinates.false) c.if-piece-eq-POLYGON.false in (
-      omega (arith, c.decreases, l.onward, inside.inside, onward _ _ _ c.geometry_at-piece.result inside),
+      omega (arith, c.decreases, l.onward, inside.inside, onward _ _ _ c.of_geometry-piece.result inside),
       rw c.end.ensures (record { more = h.geometry.rest; all = m.all; fit = omega (arith, h.room, m.counts) }),
     )
 
@@ -76,20 +76,20 @@ loop-preserved t c = λ more all.
     left_next (c.loop.invariant more all) (omega (arith, c.loop-test.true)) c.if-has_coordinates.next.index
     c.if-has_coordinates.next.byte _
     (λ g.
-    let is = c.geometry_at-piece.ensures g in
-    item_by c.args.buf.now c.loop.at.byte c.loop.at.index g c.geometry_at-piece.result is c.loop.parts
+    let is = c.of_geometry-piece.ensures g in
+    item_by c.args.buf.now c.loop.at.byte c.loop.at.index g c.of_geometry-piece.result is c.loop.parts
     c.if-has_coordinates.parts c.if-has_coordinates.next.index c.if-has_coordinates.next.byte c.of.result
     (elim c.if-has_coordinates.branch [
       | then-has_coordinates w ↦
-          let l = leaf_of c.args.buf.now c.loop.at.byte c.loop.at.index g c.geometry_at-piece.result is
+          let l = leaf_of c.args.buf.now c.loop.at.byte c.loop.at.index g c.of_geometry-piece.result is
           (sym c.has_coordinates.ensures ∙ w.if-has_coordinates.true) in
           record {
             put = w.parts-is ∙ ap (sets c.loop.parts (c.loop.at.index + 1)) (sym l.2);
-            next_is = omega (arith, ap (λ (p : Place). p.index) w.next-is, l.1);
-            to_is = ap (λ (p : Place). p.byte) w.next-is ∙ c.end.ensures ∙ l.0;
+            next_is = omega (arith, ap (λ (p : PartPlace). p.index) w.next-is, l.1);
+            to_is = ap (λ (p : PartPlace). p.byte) w.next-is ∙ c.end.ensures ∙ l.0;
           }
       | else-has_coordinates+then-piece-eq-POLYGON w ↦
-          let q = c.geometry_at-piece.result in
+          let q = c.of_geometry-piece.result in
           let r = rings_inside c.args.buf.now c.loop.at.byte c.loop.at.index g q is w.if-piece-eq-POLYGON.true in
           record {
             put =
@@ -98,11 +98,11 @@ loop-preserved t c = λ more all.
                 (entries_of_rings_from c.args.buf.now q
                 (record { index = c.loop.at.index + 1; byte = c.end.ensures i })))
                 ∙ ap (sets c.loop.parts (c.loop.at.index + 1)) r.entries;
-            next_is = omega (arith, ap (λ (p : Place). p.index) w.next-is, w.put_rings.ensures.index, r.counts);
+            next_is = omega (arith, ap (λ (p : PartPlace). p.index) w.next-is, w.put_rings.ensures.index, r.counts);
             to_is =
                 omega (
                   arith,
-                  ap (λ (p : Place). p.byte) w.next-is,
+                  ap (λ (p : PartPlace). p.byte) w.next-is,
                   w.put_rings.ensures.byte,
                   r.long,
                   c.end.ensures,
@@ -110,7 +110,7 @@ loop-preserved t c = λ more all.
                 );
           }
       | else-has_coordinates+else-piece-eq-POLYGON w ↦
-          let q = c.geometry_at-piece.result in
+          let q = c.of_geometry-piece.result in
           let m = members_at c.args.buf.now c.loop.at.byte c.loop.at.index g.spelled g.value g.rest q c.end.result
           c.end.ensures
           (members_inside c.args.buf.now c.loop.at.byte c.loop.at.index g q is
@@ -123,12 +123,12 @@ loop-preserved t c = λ more all.
             next_is =
                 omega (
                   arith,
-                  ap (λ (p : Place). p.index) w.next-is,
+                  ap (λ (p : PartPlace). p.index) w.next-is,
                   puts.index,
                   m.counts,
                 );
             to_is =
-                omega (arith, ap (λ (p : Place). p.byte) w.next-is, puts.byte, m.long);
+                omega (arith, ap (λ (p : PartPlace). p.byte) w.next-is, puts.byte, m.long);
           }
     ])
     c.of.ensures)

@@ -3,9 +3,9 @@ use Rattle.wkb_laws.specs.Prelude.{Endianness, LittleEndian, srid_size, encoding
 use Rattle.wkb_check.specs.Bounded.{HasGeometry}
 use Rattle.wkb_check.specs.Pieces.{IsAhead, pieces_of}
 use Rattle.wkb_check.proofs.Following.{given, all_given}
-use Rattle.wkb_rewrite.proofs.Measured.{srid_sizes, sizes_append, here, long_of, measured, most_srid, own_srid_alone}
+use Rattle.wkb_rewrite.proofs.Measured.{srid_sizes, sizes_append, here, long_of, measured, most_srid}
 use Rattle.wkb_rewrite.proofs.encoding.encoded_size.Goals as goal
-use Rattle.wkb_rewrite.proofs.encoding.encoded_size.Goals.{Then-first-le-MULTI_POINT, After-into_iter-piece-iterator}
+use Rattle.wkb_rewrite.proofs.encoding.encoded_size.Goals.{After-into_iter-piece-iterator}
 
 pub overflow_add-size : goal.overflow_add-size
 overflow_add-size c =
@@ -13,39 +13,11 @@ overflow_add-size c =
     omega (
       arith,
       c.requires.described.bytes_are,
-      c.srid_size.ensures,
-      most_srid (is_some c.srid_of.result),
+      c.size_of_srid.ensures,
+      most_srid (is_some c.srid_of_form.result),
       ap length g.begins.whole,
       length-append g.begins.front g.rest,
     )
-
--- where only the outermost geometry can have an SRID
-alone : (c : Then-first-le-MULTI_POINT) (order : Endianness) (g : HasGeometry c.args.buf.now)
-    → c.args.found.now.bytes + c.srid_size.result
-    ≡ length (encoding order c.args.form (geometry_of g.value)) + srid_size (is_some c.outermost-first.result.srid)
-alone c order g =
-    omega (
-      arith,
-      c.srid_size.ensures,
-      ap (λ o. srid_size (is_some o)) c.srid_of.ensures,
-      measured order c.args.form c.args.buf.now g (λ i. (c.type_inv.buf i).fits) (long_of c.requires g),
-      own_srid_alone 0 g.spelled g.value g.begins.front g.begins.first c.outermost-first.result
-          (c.outermost-first.ensures g) c.if-first-le-MULTI_POINT.true,
-    )
-
-pub overflow_sub-result : goal.overflow_sub-result
-overflow_sub-result c =
-    let step = (goal.at.overflow_sub-result c).Then-first-le-MULTI_POINT in
-    omega (
-      arith,
-      alone step LittleEndian (here c.requires),
-      c.srid_size-then-first-le-MULTI_POINT.ensures,
-    )
-
-pub returns-then-first-le-MULTI_POINT-clause-size : goal.returns-then-first-le-MULTI_POINT-clause-size
-returns-then-first-le-MULTI_POINT-clause-size c = λ order g.
-    let step = (goal.at.returns-then-first-le-MULTI_POINT-clause-size c).Then-first-le-MULTI_POINT in
-    omega (arith, alone step order g, c.srid_size-then-first-le-MULTI_POINT.ensures)
 
 -- the loop goes over the pieces of the geometry, and the first size is too much by their SRIDs
 ahead : (c : After-into_iter-piece-iterator) (g : HasGeometry c.args.buf.now)
@@ -55,13 +27,13 @@ ahead c g =
     (c.of-piece-items.ensures.ahead g)
 
 over : (c : After-into_iter-piece-iterator) (order : Endianness) (g : HasGeometry c.args.buf.now)
-    → c.args.found.now.bytes + c.srid_size.result
+    → c.args.found.now.bytes + c.size_of_srid.result
     ≡ length (encoding order c.args.form (geometry_of g.value)) + srid_sizes (pieces_of 0 g.spelled g.value)
 over c order g =
     omega (
       arith,
-      c.srid_size.ensures,
-      ap (λ o. srid_size (is_some o)) c.srid_of.ensures,
+      c.size_of_srid.ensures,
+      ap (λ o. srid_size (is_some o)) c.srid_of_form.ensures,
       measured order c.args.form c.args.buf.now g (λ i. (c.type_inv.buf i).fits) (long_of c.requires g),
     )
 
@@ -84,7 +56,7 @@ overflow_sub-size c =
       ap srid_sizes k.2,
       sizes_append c.loop-piece.yielded k.0,
       ap srid_sizes x.first,
-      c.srid_size-size.ensures,
+      c.size_of_srid-size.ensures,
     )
 
 pub loop-piece-preserved : goal.loop-piece-preserved
@@ -95,7 +67,7 @@ loop-piece-preserved c = record {
       omega (
         arith,
         c.loop-piece.invariant.less,
-        c.srid_size-size.ensures,
+        c.size_of_srid-size.ensures,
         sizes_append c.loop-piece.yielded (c.in-Some.piece ∷ []),
         overflow_sub-size c,
       );

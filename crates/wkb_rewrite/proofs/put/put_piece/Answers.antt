@@ -4,4 +4,4 @@ use Rattle.wkb_rewrite.proofs.put.put_piece.Goals as goal
 pub returns : goal.returns
 returns c =
     put_on _ _ _ _ _ _ _ _ c.put_piece_header-count_at.ensures
-    (put_on _ _ _ _ _ _ _ _ c.put_count-words_at.ensures c.put_words.ensures)
+    (put_on _ _ _ _ _ _ _ _ c.put_count_part-words_at.ensures c.put_words.ensures)

@@ -1,4 +1,4 @@
-use Rattle.wkb_write.proofs.Prelude.{◌≡◌, ◌<◌, ◌∙◌, None, length, arith, refl, count_fault}
+use Rattle.wkb_write.proofs.Prelude.{◌≡◌, ◌∙◌, None, arith, refl, count_fault}
 use Rattle.wkb_write.proofs.FirstItem.{item_at}
 use Rattle.wkb_write.proofs.Sums.{parts_ahead, part_step, headers_fit, part_refused}
 use Rattle.wkb_write.proofs.items.measure_each.Goals as goal

@@ -15,7 +15,7 @@ pub overflow_add-body-2 : goal.overflow_add-body-2
 overflow_add-body-2 c =
     omega (
       arith,
-      c.srid_size.ensures,
+      c.size_of_srid.ensures,
       header_inside c.args.bytes.now c.args.begin c.requires.here c.args.kind c.args.dimension c.args.order c.args.srid
           (c.requires.header c.requires.here),
     )
@@ -24,7 +24,7 @@ pub u32_at-requires : goal.u32_at-requires
 u32_at-requires c =
     omega (
       arith,
-      c.srid_size.ensures,
+      c.size_of_srid.ensures,
       count_inside c.args.bytes.now c.args.begin c.requires.here c.args.kind c.args.dimension c.args.order c.args.srid
           (c.requires.header c.requires.here) c.if-kind-eq-POINT.false,
     )
@@ -33,7 +33,7 @@ pub overflow_add-count : goal.overflow_add-count
 overflow_add-count c =
     omega (
       arith,
-      c.srid_size.ensures,
+      c.size_of_srid.ensures,
       count_inside c.args.bytes.now c.args.begin c.requires.here c.args.kind c.args.dimension c.args.order c.args.srid
           (c.requires.header c.requires.here) c.if-kind-eq-POINT.false,
     )
@@ -45,6 +45,6 @@ returns-else-kind-eq-POINT c = λ g.
     (inr (
       c.if-kind-eq-POINT.false,
       c.u32_at.ensures
-          ∙ ap (λ n. number c.args.order 4 (drop (c.args.begin + 5 + n) c.args.bytes.now)) c.srid_size.ensures,
-      omega (arith, c.srid_size.ensures),
+          ∙ ap (λ n. number c.args.order 4 (drop (c.args.begin + 5 + n) c.args.bytes.now)) c.size_of_srid.ensures,
+      omega (arith, c.size_of_srid.ensures),
     ))

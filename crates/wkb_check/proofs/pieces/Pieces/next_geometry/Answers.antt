@@ -1,6 +1,6 @@
 use Rattle.wkb_check.proofs.Following.{geometry_there}
 use Rattle.wkb_check.proofs.pieces.Pieces.next_geometry.Goals as goal
 
-pub geometry_at-piece-requires : goal.geometry_at-piece-requires
-geometry_at-piece-requires c =
+pub of_geometry-piece-requires : goal.of_geometry-piece-requires
+of_geometry-piece-requires c =
     record { here = geometry_there c.requires.ahead.are c.requires.no_ring c.requires.some }

@@ -1,15 +1,15 @@
 use Rattle.std.proofs.Common.{rules}
 use Rattle.wkb_levels.specs.Columns.{SpansSingles, SpansRings, SpansCoordinates}
-use Rattle.wkb_levels.proofs.Floors.{reach_kept, reach_moved}
+use Rattle.wkb_levels.proofs.Floors.{floor_kept, floor_moved}
 use Rattle.wkb_levels.proofs.levels.Levels.pass.Goals as goal
 
 pub returns-then-not-are_items-clause-floor : goal.returns-then-not-are_items-clause-floor
 returns-then-not-are_items-clause-floor c =
     let no : SpansSingles c.args.self.now c.args.i → ⊥ = λ spans. search rules in
     record {
-      singles = reach_kept c.requires.floor.singles no;
-      rings = reach_kept c.requires.floor.rings (λ spans. no spans.0);
-      coordinates = reach_kept c.requires.floor.coordinates (λ spans. no spans.rings.0);
+      singles = floor_kept c.requires.floor.singles no;
+      rings = floor_kept c.requires.floor.rings (λ spans. no spans.0);
+      coordinates = floor_kept c.requires.floor.coordinates (λ spans. no spans.rings.0);
     }
 
 pub returns-then-not-are_items-2-clause-floor : goal.returns-then-not-are_items-2-clause-floor
@@ -17,9 +17,9 @@ returns-then-not-are_items-2-clause-floor c =
     let some : SpansSingles c.args.self.now c.args.i = search rules in
     let no : SpansRings c.args.self.now c.args.i → ⊥ = λ spans. search rules in
     record {
-      singles = reach_moved c.requires.floor.singles some _ (search rules);
-      rings = reach_kept c.requires.floor.rings no;
-      coordinates = reach_kept c.requires.floor.coordinates (λ spans. no spans.rings);
+      singles = floor_moved c.requires.floor.singles some _ (search rules);
+      rings = floor_kept c.requires.floor.rings no;
+      coordinates = floor_kept c.requires.floor.coordinates (λ spans. no spans.rings);
     }
 
 pub returns-then-width-eq0-clause-floor : goal.returns-then-width-eq0-clause-floor
@@ -28,9 +28,9 @@ returns-then-width-eq0-clause-floor c =
     let spans : SpansRings c.args.self.now c.args.i = search rules in
     let no : SpansCoordinates c.args.self.now c.args.dim c.args.i → ⊥ = λ spans. search rules in
     record {
-      singles = reach_moved c.requires.floor.singles some _ (search rules);
-      rings = reach_moved c.requires.floor.rings spans _ (search rules);
-      coordinates = reach_kept c.requires.floor.coordinates no;
+      singles = floor_moved c.requires.floor.singles some _ (search rules);
+      rings = floor_moved c.requires.floor.rings spans _ (search rules);
+      coordinates = floor_kept c.requires.floor.coordinates no;
     }
 
 pub returns-then-rings_clear-clause-floor : goal.returns-then-rings_clear-clause-floor
@@ -39,9 +39,9 @@ returns-then-rings_clear-clause-floor c =
     let spans : SpansRings c.args.self.now c.args.i = search rules in
     let whole : SpansCoordinates c.args.self.now c.args.dim c.args.i = search rules in
     record {
-      singles = reach_moved c.requires.floor.singles some _ (search rules);
-      rings = reach_moved c.requires.floor.rings spans _ (search rules);
-      coordinates = reach_moved c.requires.floor.coordinates whole _ (search rules);
+      singles = floor_moved c.requires.floor.singles some _ (search rules);
+      rings = floor_moved c.requires.floor.rings spans _ (search rules);
+      coordinates = floor_moved c.requires.floor.coordinates whole _ (search rules);
     }
 
 pub returns-else-rings_clear-clause-floor : goal.returns-else-rings_clear-clause-floor
@@ -50,7 +50,7 @@ returns-else-rings_clear-clause-floor c =
     let spans : SpansRings c.args.self.now c.args.i = search rules in
     let whole : SpansCoordinates c.args.self.now c.args.dim c.args.i = search rules in
     record {
-      singles = reach_moved c.requires.floor.singles some _ (search rules);
-      rings = reach_moved c.requires.floor.rings spans _ (search rules);
-      coordinates = reach_moved c.requires.floor.coordinates whole _ (search rules);
+      singles = floor_moved c.requires.floor.singles some _ (search rules);
+      rings = floor_moved c.requires.floor.rings spans _ (search rules);
+      coordinates = floor_moved c.requires.floor.coordinates whole _ (search rules);
     }

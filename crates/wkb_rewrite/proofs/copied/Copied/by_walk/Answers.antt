@@ -5,7 +5,7 @@ use Rattle.wkb_rewrite.specs.Shares.{type_header}
 use Rattle.wkb_rewrite.proofs.Measured.{here, long_of}
 use Rattle.wkb_rewrite.proofs.Copying.{first_stands, one_more_stands, still_ahead, IsCopied, all_stand}
 use Rattle.wkb_rewrite.proofs.copied.Copied.by_walk.Goals as goal
-use Rattle.wkb_rewrite.proofs.copied.Copied.by_walk.Goals.{After-srid_size-start}
+use Rattle.wkb_rewrite.proofs.copied.Copied.by_walk.Goals.{After-size_of_srid-start}
 
 pub behind-pieces-requires : goal.behind-pieces-requires
 behind-pieces-requires c = record { here = here c.requires; first = c.outermost-first.ensures }
@@ -28,29 +28,29 @@ loop-stands-preserved c = λ g.
     c.inner-form.ensures l (p.steps l.left l.ahead) p.inside p.same (p.is c.if-not-stands.false)
 
 -- the parts, where no piece is left
-copied : (c : After-srid_size-start) → (g : HasGeometry c.args.buf.now)
+copied : (c : After-size_of_srid-start) → (g : HasGeometry c.args.buf.now)
     → IsCopied c.args.buf.now c.args.options.endianness c.args.options.form c.outermost-first.result
     c.args.found.now.bytes
-    (5 + c.srid_size-start.result) (encoding c.args.options.endianness c.args.options.form (geometry_of g.value))
+    (5 + c.size_of_srid-start.result) (encoding c.args.options.endianness c.args.options.form (geometry_of g.value))
 copied c g =
     let l = c.loop-stands.invariant g in
     let inside = c.behind-pieces.ensures.inside in
     all_stand c.args.buf.now c.args.options.endianness c.args.options.form c.inner-form.result c.loop-stands.pieces
-    c.outermost-first.result c.args.found.now.bytes (5 + c.srid_size-start.result) g (λ i. (c.type_inv.buf i).fits)
+    c.outermost-first.result c.args.found.now.bytes (5 + c.size_of_srid-start.result) g (λ i. (c.type_inv.buf i).fits)
     c.inner-form.ensures (long_of c.requires g) l
     (c.pass_next.ensures.none c.in_default.is l.left l.ahead)
     (c.has_written_words.ensures.order c.if-not-has_written_words.false)
     (c.has_written_words.ensures.some c.if-not-has_written_words.false)
     (omega (arith, inside.ends, inside.inside))
-    (ap (λ n. 5 + n) c.srid_size-start.ensures)
+    (ap (λ n. 5 + n) c.size_of_srid-start.ensures)
 
 pub slice_bounds-result-count : goal.slice_bounds-result-count
 slice_bounds-result-count c =
-    (copied (goal.at.slice_bounds-result-count c).After-srid_size-start (here c.requires)).inside
+    (copied (goal.at.slice_bounds-result-count c).After-size_of_srid-start (here c.requires)).inside
 
 pub slice_bounds-result-start : goal.slice_bounds-result-start
 slice_bounds-result-start c =
-    (copied (goal.at.slice_bounds-result-start c).After-srid_size-start (here c.requires)).inside
+    (copied (goal.at.slice_bounds-result-start c).After-size_of_srid-start (here c.requires)).inside
 
 pub slice_bounds-result-end : goal.slice_bounds-result-end
 slice_bounds-result-end c =
@@ -59,7 +59,7 @@ slice_bounds-result-end c =
 
 pub returns : goal.returns
 returns c = λ g.
-    let start : ℕ = 5 + c.srid_size-start.result in
-    (copied (goal.at.returns c).After-srid_size-start g).is
+    let start : ℕ = 5 + c.size_of_srid-start.result in
+    (copied (goal.at.returns c).After-size_of_srid-start g).is
     ∙ ap (λ t. type_header c.args.options.endianness c.args.options.form t
     ++ take (c.args.found.now.bytes - start) (drop start c.args.buf.now)) (sym c.of_kind.ensures)

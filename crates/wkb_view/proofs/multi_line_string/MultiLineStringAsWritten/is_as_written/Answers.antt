@@ -2,7 +2,7 @@ use Rattle.std.proofs.Common.{refl, ap, arith, map, length, ◌≤◌}
 use Rattle.wkb_geom.specs.Values.{line_string}
 use Rattle.wkb_view.specs.Prelude.{line_string_of}
 use Rattle.wkb_view.specs.Members.{members_in}
-use Rattle.wkb_view.specs.Views.{line_string_coordinates}
+use Rattle.wkb_view.specs.Views.{seen_coordinates}
 use Rattle.wkb_view.proofs.Encoded.{HasWrittenHeader, one_more_written, all_written}
 use Rattle.wkb_view.proofs.multi_line_string.MultiLineStringAsWritten.is_as_written.Goals as goal
 
@@ -13,7 +13,7 @@ loop-i-preserved c =
     let dimension = rw c.unwrap.ensures at c.member.ensures.dimension in
     record {
       so_far =
-          one_more_written c.loop-i.invariant.so_far is (ap (λ d. line_string d (line_string_coordinates l)) dimension)
+          one_more_written c.loop-i.invariant.so_far is (ap (λ d. line_string d (seen_coordinates l)) dimension)
           (rw c.unwrap.ensures at c.member.ensures.spelled) (rw c.unwrap.ensures at c.member.ensures.value);
     }
 

@@ -1,4 +1,4 @@
-use Rattle.std.proofs.Common.{◌≡◌, ◌*◌, ◌+◌, ◌-◌, ◌/◌, length, sum_by, arith, ap, ◌∙◌, sym}
+use Rattle.std.proofs.Common.{◌≡◌, ◌*◌, ◌-◌, ◌/◌, length, sum_by, arith, ap, ◌∙◌}
 use Rattle.wkb_view.specs.Prelude.{width}
 use Rattle.wkb_view.proofs.CoordCounts.{view_counted, coordinates_counted}
 use Rattle.wkb_view.proofs.polygon.Polygon.num_coords.Goals as goal

@@ -1,7 +1,7 @@
 use Rattle.std.proofs.Common.{arith, length, ap}
 use Rattle.wkb_sink.proofs.Lengths.{length-number}
 use Rattle.wkb_rewrite.proofs.Putting.{count_is}
-use Rattle.wkb_rewrite.proofs.put.put_count.Goals as goal
+use Rattle.wkb_rewrite.proofs.put.put_count_part.Goals as goal
 
 pub put_number-requires : goal.put_number-requires
 put_number-requires c =

@@ -1,7 +1,7 @@
 use Rattle.std.proofs.Common.{◌-◌, length, take, drop, length-drop, arith}
 use Rattle.std.proofs.lemmas.List.{take_all}
 use Rattle.wkb_view.proofs.Leaves.{ring_passed}
-use Rattle.wkb_view.proofs.linear_ring.RingsParts.pass.Goals as goal
+use Rattle.wkb_view.proofs.linear_ring.RingPartsParts.pass.Goals as goal
 
 pub returns-clause-passed : goal.returns-clause-passed
 returns-clause-passed c =

@@ -4,8 +4,8 @@ use Rattle.wkb_geom.specs.Reading.{body_start, srid_in}
 use Rattle.wkb_geom.specs.declared.header.Layout.{Layout}
 use Rattle.wkb_check.proofs.Ahead.{says, read_header, begins_inside}
 use Rattle.wkb_check.proofs.Bodies.{always_header}
-use Rattle.wkb_check.proofs.pieces.Piece.geometry_at.Goals as goal
-use Rattle.wkb_check.proofs.pieces.Piece.geometry_at.Goals.{After-layout-layout}
+use Rattle.wkb_check.proofs.pieces.Piece.of_geometry.Goals as goal
+use Rattle.wkb_check.proofs.pieces.Piece.of_geometry.Goals.{After-layout-layout}
 
 head_is : (c : After-layout-layout) → head_at (drop c.args.begin c.args.bytes.now) ≡ Ok c.in-Ok.header
 head_is c = ap head_at (sym c.rest_from-from.ensures) ∙ c.in-Ok.ensures

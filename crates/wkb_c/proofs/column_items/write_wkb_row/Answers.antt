@@ -3,7 +3,7 @@ use Rattle.wkb_c.specs.RowItems.{nothing, fails, has_no_row}
 use Rattle.wkb_c.specs.Writings.{refused, unknown}
 use Rattle.wkb_c.proofs.Encodings.{is_asked, write_step}
 use Rattle.wkb_c.proofs.RowItems.{lent_rest}
-use Rattle.wkb_c.proofs.column_items.write_row.Goals as goal
+use Rattle.wkb_c.proofs.column_items.write_wkb_row.Goals as goal
 
 pub returns-clause-step : goal.returns-clause-step
 returns-clause-step c =

@@ -1,0 +1,473 @@
+-- The members that rows begin with, row by row.
+use Rattle.wkb_c.proofs.Common.{◌≡◌, ℕ, suc, ◌+◌, ◌≤◌, ◌<◌, List, [], ◌++◌, length, drop, ◌⊎◌, inl, inr}
+use Rattle.wkb_c.proofs.Common.{refl, sym, ap, subst, ◌∙◌, arith, append-nil, append_assoc, length-append}
+use Rattle.wkb_c.proofs.Common.{Value, Values, member, no_members, kind, dimension, point, collection, Dimension}
+use Rattle.wkb_c.proofs.Common.{is_some, None, srid_size, drop-drop}
+use Rattle.std.specs.Prelude.{true, false, ◌-◌, take, nat_lt, slice_range, Result, Ok, Err, IfErr}
+use Rattle.std.proofs.Common.{length-drop, ltb-false}
+use Rattle.std.proofs.lemmas.Bool.{cond_both}
+use Rattle.std.proofs.lemmas.List.{length-take, nil_from_length}
+use Rattle.std.proofs.lemmas.Slice.{between_to_end}
+use denote.Enum.Bare.{sameb}
+use lib.Seq.{sets, sets-eq, length-sets}
+use Rattle.wkb_geom.specs.contracts.common.Dimension.{the_type}
+use Rattle.wkb_geom.specs.declared.common.Dimension.TheVariants.{Xy, Xyz, Xym, Xyzm}
+use Rattle.wkb_geom.specs.declared.common.Endianness.{Endianness}
+use Rattle.wkb_geom.specs.declared.common.Form.{Form}
+use Rattle.wkb_geom.specs.declared.common.Form.TheVariants.{Iso, Ewkb}
+use Rattle.wkb_geom.specs.declared.code.WkbType.{WkbType}
+use Rattle.wkb_geom.specs.declared.code.WkbType.TheVariants.{Point}
+use Rattle.wkb_geom.specs.Encodings.{encoding, encodings, inner, form_srid, IsRewriting}
+use Rattle.wkb_geom.specs.Geometries.{geometry_of, geometries_of}
+use Rattle.wkb_geom.specs.Numbers.{AreBytes}
+use Rattle.wkb_geom.specs.Reading.{type_of, type_kind, type_dimension}
+use Rattle.wkb_geom.specs.Spellings.{Wanted, part, any, member_part, IsPart}
+use Rattle.wkb_geom.specs.Values.{count, nest}
+use Rattle.wkb_laws.proofs.OneFront.{one_spelling}
+use Rattle.wkb_laws.proofs.Outcomes.{never_both_lem}
+use Rattle.wkb_check.specs.Public.{DescribesFrontWithin, DescribesFront, Checks, member_room}
+use Rattle.wkb_check.specs.declared.answer.Summary.{Summary}
+use Rattle.wkb_check.proofs.Placing.{sets_after}
+use Rattle.wkb_rewrite.specs.Inputs.{IsAccepted}
+use Rattle.wkb_rewrite.specs.Shares.{IsPut}
+use Rattle.wkb_rewrite.specs.Targets.{encoding_for}
+use Rattle.wkb_rewrite.proofs.Measured.{measured}
+use Rattle.wkb_sink.specs.declared.options.WriteOptions.{WriteOptions}
+use Rattle.wkb_c.specs.Collections.{BeginsWithMember, IsRowMember, AreRowMembers, HaveMembers, part_of, inner_of}
+use Rattle.wkb_c.specs.Collections.{inside_of}
+use Rattle.wkb_c.specs.Collections.{RowIsMeasured, IsMeasuredFound, AreMeasured, IsUnwanted, IsUnfit, no_member}
+use Rattle.wkb_c.proofs.Telling.{accepted_there}
+use Rattle.wkb_c.specs.Writings.{IsHandedOut, FindsNoRoom}
+use Rattle.wkb_c.specs.declared.options.Request.TheVariants.{Encoding}
+use Rattle.wkb_c.specs.declared.status.TheConstants.{OK, NO_ROOM}
+use Rattle.wkb_c.specs.Columns.{IsRow, LacksRow, IsRefusedWith, null_row, bad_offsets, Reach}
+use Rattle.wkb_c.specs.declared.collect.CollectTarget.{CollectTarget}
+use Rattle.wkb_c.specs.declared.column.Column.{Column}
+use Rattle.wkb_c.specs.declared.fault.WkbFault.{WkbFault}
+
+-- ---- one row
+
+-- a row has one list of bytes
+pub one_row : {c : Column} {i : ℕ} {a b : List ℕ} → IsRow c i a → IsRow c i b → a ≡ b
+one_row {c} x y =
+    let p = x.slice in
+    let q = y.slice in
+    let starts : p.start ≡ q.start = p.span.start_is.number_is ∙ sym q.span.start_is.number_is in
+    let ends : p.end ≡ q.end = p.span.end_is.number_is ∙ sym q.span.end_is.number_is in
+    p.row_is ∙ (λ i. slice_range c.bytes.now (starts i) (ends i)) ∙ sym q.row_is
+
+pub never_lacks : {c : Column} {i status : ℕ} {row : List ℕ} → IsRow c i row → LacksRow c i status → ⊥
+never_lacks {c} {i} is (null_row null told) =
+    let never : true ≡ false = sym null ∙ is.present in absurd cc
+never_lacks is (bad_offsets some none told) = none _ is.slice
+
+-- a member is a geometry that is accepted, and no other is there
+abbrev pub there : {w : Wanted} {row : List ℕ} {t : Value} → BeginsWithMember w row t → IsAccepted row
+there {t = t} b = record {
+  s = b.s;
+  t = t;
+  rest = b.rest;
+  front = record {
+    front = b.front.front;
+    whole = b.front.whole;
+    spelled = b.front.spelled;
+    shallow = omega (arith, b.front.shallow);
+  };
+}
+
+-- all that a row is accepted as is one value
+same_value : {row : List ℕ} (a b : IsAccepted row) → a.t ≡ b.t
+same_value a b =
+    (one_spelling a.s b.s a.t b.t a.front.front b.front.front a.rest b.rest a.front.spelled b.front.spelled
+    (sym a.front.whole ∙ b.front.whole)).value
+
+pub one_value : {w : Wanted} {row : List ℕ} {t : Value} → BeginsWithMember w row t → (a : IsAccepted row) → a.t ≡ t
+one_value b a = same_value a (there b)
+
+-- what is accepted isn't refused
+pub never_refused : {row : List ℕ} {status : ℕ} → IsAccepted row → IsRefusedWith row status → ⊥
+never_refused {row} a why =
+    let r = why.1 in never_both_lem row a.s a.t a.rest r.cause r.turns r.slots a.front r.refuses
+
+-- the kind and the dimension of a type are those of the value
+kind_typed : (t : Value) → type_kind (type_of (kind t) (dimension t)) ≡ kind t
+kind_typed (point d c) = refl
+kind_typed _ = refl
+
+dimension_typed : (t : Value) → type_dimension (type_of (kind t) (dimension t)) ≡ dimension t
+dimension_typed (point d c) = refl
+dimension_typed _ = refl
+
+-- a geometry that is no collection has room anywhere
+none_nested : (t : Value) → kind t < 7 → nest t ≤ member_room
+none_nested (collection d ts) low = absurd (omega (arith, low))
+none_nested (point d c) low = omega arith
+none_nested _ low = omega arith
+
+pub plain_inside : {row : List ℕ} {f : Summary} → Checks row (Ok f) → type_kind f.wkb_type < 7
+    → DescribesFrontWithin member_room row f
+plain_inside checks low =
+    let d = checks.front in
+    let kind_is = ap type_kind d.described.wkb_type ∙ kind_typed d.value in
+    record {
+      spelled = d.spelled;
+      value = d.value;
+      rest = d.rest;
+      front =
+          record {
+            front = d.front.front;
+            whole = d.front.whole;
+            spelled = d.front.spelled;
+            shallow = none_nested d.value (omega (arith, low, kind_is));
+          };
+      described = d.described;
+    }
+
+-- what is described inside a collection is described
+pub described_outside : (row : List ℕ) (f : Summary) → DescribesFrontWithin member_room row f → DescribesFront row f
+described_outside row f d = record {
+  spelled = d.spelled;
+  value = d.value;
+  rest = d.rest;
+  front =
+      record {
+        front = d.front.front;
+        whole = d.front.whole;
+        spelled = d.front.spelled;
+        shallow = omega (arith, d.front.shallow);
+      };
+  described = d.described;
+}
+
+pub unfit_of : {c : Column} {i : ℕ} {row : List ℕ} (w : Wanted) (fault : WkbFault) (r : Result ℕ ℕ) → IsRow c i row
+    → IfErr r (λ status. IsUnwanted w row status fault) → IfErr r (λ status. IsUnfit c w i status fault)
+unfit_of w fault (Ok size) is unwanted = tt
+unfit_of {row = row} w fault (Err status) is unwanted = no_member row is unwanted
+
+-- ---- members are settled by their rows
+
+same_members : (c : Column) (w : Wanted) (i : ℕ) (ts us : Values) → AreRowMembers c w i ts → AreRowMembers c w i us
+    → count ts ≡ count us → ts ≡ us
+same_members c w i no_members no_members a b many = refl
+same_members c w i no_members (member u us) a b many = absurd (omega (arith, many))
+same_members c w i (member t ts) no_members a b many = absurd (omega (arith, many))
+same_members c w i (member t ts) (member u us) a b many =
+    let own : BeginsWithMember w a.0.row u =
+    subst (λ z. BeginsWithMember w z u) (one_row b.0.is a.0.is) b.0.begins in
+    λ j. member (one_value own (there a.0.begins) j)
+    (same_members c w (suc i) ts us a.1 b.1 (omega (arith, many)) j)
+
+pub one_list : {c : Column} {w : Wanted} {rows : ℕ} (h k : HaveMembers c w rows) → h.values ≡ k.values
+one_list {c} {w} h k = same_members c w 0 h.values k.values h.are k.are (h.many ∙ sym k.many)
+
+-- ---- how long a member is
+
+-- inside a geometry no SRID is written, so that an encoding is no longer than its input
+inner_none : (form : Form) → form_srid (inner form) ≡ None
+inner_none Iso = refl
+inner_none (Ewkb srid) = refl
+
+at_most_inside : (order : Endianness) (form : Form) (row : List ℕ) (a : IsAccepted row) → AreBytes row
+    → length (encoding order (inner form) (geometry_of a.t)) ≤ length row
+at_most_inside order form row a b =
+    omega (
+      arith,
+      measured order (inner form) row (accepted_there row a) b refl,
+      ap (λ o. srid_size (is_some o)) (inner_none form),
+      ap length a.front.whole,
+      length-append a.front.front a.rest,
+    )
+
+-- a call that writes an encoding, with room or without
+module _ {row before after : List ℕ} {size : ℕ} (o : WriteOptions) (status : ℕ)
+    (written : status ≡ OK → IsHandedOut (Encoding o) row before after size)
+    (no_room : status ≡ NO_ROOM → FindsNoRoom (Encoding o) row before size)
+    (known : (status ≡ OK) ⊎ (status ≡ NO_ROOM)) (a : IsAccepted row) where
+  requested_is : (bytes : List ℕ) → IsRewriting o.endianness o.form row bytes → bytes ≡ encoding_for o a.t
+  requested_is bytes h =
+      h.written ∙ ap (encoding_for o) (same_value (record { s = h.s; t = h.t; rest = h.rest; front = h.front }) a)
+
+  size_of : (status ≡ OK) ⊎ (status ≡ NO_ROOM) → size ≡ length (encoding_for o a.t)
+  size_of (inl ok) =
+      let h = written ok in h.held.count_is ∙ ap length (requested_is h.encoding h.is_requested)
+  size_of (inr none) =
+      let h = no_room none in h.lacks.count_is ∙ ap length (requested_is h.encoding h.is_requested)
+
+  pub requested_size : size ≡ length (encoding_for o a.t)
+  requested_size = size_of known
+
+  bytes_of : length (encoding_for o a.t) ≤ length before → (status ≡ OK) ⊎ (status ≡ NO_ROOM)
+      → after ≡ encoding_for o a.t ++ drop (length (encoding_for o a.t)) before
+  bytes_of room (inl ok) =
+      let h = written ok in
+      h.held.whole ∙ ap (λ z. z ++ drop (length z) before) (requested_is h.encoding h.is_requested)
+  bytes_of room (inr none) =
+      let h = no_room none in
+      absurd (omega (arith, room, h.lacks.short, ap length (requested_is h.encoding h.is_requested)))
+
+  pub requested_bytes : length (encoding_for o a.t) ≤ length before
+      → after ≡ encoding_for o a.t ++ drop (length (encoding_for o a.t)) before
+  requested_bytes room = bytes_of room known
+
+pub found_measured : {target : CollectTarget} {row : List ℕ} {f : Summary} {size : ℕ} (o : WriteOptions) → AreBytes row
+    → (d : DescribesFrontWithin member_room row f) → o ≡ inner_of target
+    → IsPart (part_of target) (type_kind f.wkb_type) (type_dimension f.wkb_type) false
+    → ((a : IsAccepted row) → size ≡ length (encoding_for o a.t)) → IsMeasuredFound target row size
+found_measured {target} {row} {f} {size} o b d o_is wanted size_is =
+    let typed = d.described.wkb_type in
+    let begins : BeginsWithMember (part_of target) row d.value = record {
+      s = d.spelled;
+      rest = d.rest;
+      front = d.front;
+      wanted =
+          subst (λ T. T)
+          (λ i. IsPart (part_of target) ((ap type_kind typed ∙ kind_typed d.value) i)
+          ((ap type_dimension typed ∙ dimension_typed d.value) i) false) wanted;
+    } in
+    let long : size ≡ length (encoding_for (inner_of target) d.value) =
+    size_is (there begins) ∙ ap (λ z. length (encoding_for z d.value)) o_is in
+    record {
+      t = d.value;
+      begins = begins;
+      size_is = long;
+      short =
+          omega (arith, long, at_most_inside target.options.endianness target.options.form row (there begins) b);
+    }
+
+-- a type that is no part that is wanted
+some_kind : (t : WkbType) → 1 ≤ type_kind t
+some_kind (Point d) = omega arith
+some_kind _ = omega arith
+
+pub no_part : (k : ℕ) (d : Dimension) (t : WkbType) → k < 7
+    → (type_kind t + 3 ≡ k → type_dimension t ≡ d → ⊥)
+    → IsPart (member_part k d) (type_kind t) (type_dimension t) false → ⊥
+no_part k d t low differ =
+    cond_both (nat_lt k 7) (part (k - 3) d) any (λ w. IsPart w (type_kind t) (type_dimension t) false → ⊥)
+    (λ t_is is. differ (omega (arith, is.0, some_kind t)) is.1)
+    (λ f is. absurd (omega (arith, low, ltb-false k 7 f)))
+
+pub same_self : (x y : Dimension) → x ≡ y → sameb the_type x y ≡ false → ⊥
+same_self x y e other = own x (ap (λ z. sameb the_type x z) e ∙ other)
+  where
+    own : (x : Dimension) → sameb the_type x x ≡ false → ⊥
+    own Xy e = absurd cc
+    own Xyz e = absurd cc
+    own Xym e = absurd cc
+    own Xyzm e = absurd cc
+
+-- ---- one member more
+
+abbrev snoc : Values → Value → Values
+snoc no_members t = member t no_members
+snoc (member u us) t = member u (snoc us t)
+
+count_more : (ts : Values) (t : Value) → count (snoc ts t) ≡ count ts + 1
+count_more no_members t = refl
+count_more (member u us) t = omega (arith, count_more us t)
+
+are_more : (c : Column) (w : Wanted) (i : ℕ) (ts : Values) (t : Value) → AreRowMembers c w i ts
+    → IsRowMember c w (i + count ts) t → AreRowMembers c w i (snoc ts t)
+are_more c w i no_members t are one =
+    let here : i + 0 ≡ i = omega arith in (subst (λ n. IsRowMember c w n t) here one, tt)
+are_more c w i (member u us) t are one =
+    let here : i + (1 + count us) ≡ suc i + count us = omega arith in
+    (are.0, are_more c w (suc i) us t are.1 (subst (λ n. IsRowMember c w n t) here one))
+
+encoded_more : (order : Endianness) (form : Form) (ts : Values) (t : Value)
+    → encodings order form (geometries_of (snoc ts t))
+    ≡ encodings order form (geometries_of ts) ++ encoding order form (geometry_of t)
+encoded_more order form no_members t = append-nil (encoding order form (geometry_of t))
+encoded_more order form (member u us) t =
+    ap (λ z. encoding order form (geometry_of u) ++ z) (encoded_more order form us t)
+    ∙ sym (append_assoc (encoding order form (geometry_of u)) (encodings order form (geometries_of us))
+    (encoding order form (geometry_of t)))
+
+abbrev have_more : {c : Column} {w : Wanted} {i : ℕ} {t : Value} → (h : HaveMembers c w i) → IsRowMember c w i t
+    → HaveMembers c w (i + 1)
+have_more {c} {w} {i} {t} h one = record {
+  values = snoc h.values t;
+  many = omega (arith, count_more h.values t, h.many);
+  are =
+      let here : i ≡ 0 + count h.values = omega (arith, h.many) in
+      are_more c w 0 h.values t h.are (subst (λ n. IsRowMember c w n t) here one);
+}
+
+-- ---- how long they are
+
+-- the encodings of the members of the rows before row i are together this long, and no longer than these rows
+pub record MeasuredBefore (c : Column) (target : CollectTarget) (i reach size : ℕ) : Type 0 where
+  pub have : HaveMembers c (part_of target) i
+  pub size_is : size ≡ length (inside_of target have.values)
+  pub fits : size ≤ reach
+
+pub none_measured : {c : Column} {target : CollectTarget} {reach : ℕ} → MeasuredBefore c target 0 reach 0
+none_measured = record {
+  have = record { values = no_members; many = refl; are = tt };
+  size_is = refl;
+  fits = omega arith;
+}
+
+pub measured_more : {c : Column} {target : CollectTarget} {i reach to size n : ℕ} → Reach c i reach
+    → Reach c (i + 1) to → MeasuredBefore c target i reach size → RowIsMeasured c target i n
+    → MeasuredBefore c target (i + 1) to (size + n)
+measured_more {c} {target} {i} {size = size} {n} before after m one =
+    let s = one.is.slice in
+    let own : IsRowMember c (part_of target) i one.found.t =
+    record { row = one.row; is = one.is; begins = one.found.begins } in
+    let more : inside_of target (snoc m.have.values one.found.t)
+    ≡ inside_of target m.have.values ++ encoding_for (inner_of target) one.found.t =
+    encoded_more (inner_of target).endianness (inner_of target).form m.have.values one.found.t in
+    record {
+      have = have_more m.have own;
+      size_is =
+          omega (
+            arith,
+            m.size_is,
+            one.found.size_is,
+            ap length more,
+            length-append (inside_of target m.have.values) (encoding_for (inner_of target) one.found.t),
+          );
+      fits =
+          omega (
+            arith,
+            m.fits,
+            one.found.short,
+            before.least s.start s.after,
+            after.enough i s.start s.end (omega arith) s.span,
+            ap length s.row_is,
+            length-take (s.end - s.start) (drop s.start c.bytes.now),
+            s.span.rise,
+          );
+    }
+
+-- rows reach no further than the bytes
+pub reach_inside : {i reach : ℕ} (c : Column) → Reach c i reach → reach ≤ length c.bytes.now
+reach_inside c r = r.least (length c.bytes.now) (λ j s e below is. is.inside)
+
+pub all_measured : {c : Column} {target : CollectTarget} {i reach size rows : ℕ} → Reach c i reach
+    → MeasuredBefore c target i reach size → i ≡ rows → AreMeasured c target rows size
+all_measured {c} {target} {size = size} r m all =
+    subst (λ n. AreMeasured c target n size) all
+    (record { have = m.have; size_is = m.size_is; short = omega (arith, m.fits, reach_inside c r) })
+
+-- ---- the members that are still to be put
+
+pub record MembersLeft (c : Column) (target : CollectTarget) (rows i at : ℕ) (out before whole : List ℕ) (end : ℕ)
+    : Type 0 where
+  pub left : Values
+  pub are : AreRowMembers c (part_of target) i left
+  pub many : i + count left ≡ rows
+  pub put : sets out at (inside_of target left) ≡ whole
+  pub ends : at + length (inside_of target left) ≡ end
+  pub long : length out ≡ length before
+
+-- the next one, and those behind it
+pub record NextMember (c : Column) (target : CollectTarget) (i : ℕ) (left : Values) : Type 0 where
+  pub t : Value
+  pub others : Values
+  pub left_is : left ≡ member t others
+  pub own : IsRowMember c (part_of target) i t
+  pub are : AreRowMembers c (part_of target) (suc i) others
+
+next_of : (c : Column) (target : CollectTarget) (rows i : ℕ) (left : Values) → AreRowMembers c (part_of target) i left
+    → i + count left ≡ rows → i < rows → NextMember c target i left
+next_of c target rows i no_members are many below = absurd (omega (arith, many, below))
+next_of c target rows i (member t ts) are many below =
+    record { t = t; others = ts; left_is = refl; own = are.0; are = are.1 }
+
+module _ {c : Column} {target : CollectTarget} {rows i at : ℕ} {out before whole : List ℕ} {end : ℕ}
+    (l : MembersLeft c target rows i at out before whole end) where
+  pub next_member : i < rows → NextMember c target i l.left
+  next_member below = next_of c target rows i l.left l.are l.many below
+
+  module _ (below : i < rows) where
+    abbrev next : NextMember c target i l.left
+    next = next_member below
+
+    abbrev own_bytes : List ℕ
+    own_bytes = encoding_for (inner_of target) next.t
+
+    abbrev other_bytes : List ℕ
+    other_bytes = inside_of target next.others
+
+    bytes_are : inside_of target l.left ≡ own_bytes ++ other_bytes
+    bytes_are = ap (inside_of target) next.left_is
+
+    pub own_room : end ≤ length before → at + length own_bytes ≤ length out
+    own_room fit =
+        omega (arith, fit, l.ends, l.long, ap length bytes_are, length-append own_bytes other_bytes)
+
+    pub member_put : (to : ℕ) (new : List ℕ) → IsPut out new at to own_bytes
+        → MembersLeft c target rows (i + 1) to new before whole end
+    member_put to new p = record {
+      left = next.others;
+      are = let more : suc i ≡ i + 1 = omega arith in
+          subst (λ n. AreRowMembers c (part_of target) n next.others) more next.are;
+      many = omega (arith, l.many, ap count next.left_is);
+      put =
+          ap (λ z. sets z to other_bytes) p.put ∙ sets_after out at to own_bytes other_bytes p.end_is
+          ∙ ap (sets out at) (sym bytes_are) ∙ l.put;
+      ends = omega (arith, l.ends, p.end_is, ap length bytes_are, length-append own_bytes other_bytes);
+      long = ap length p.put ∙ length-sets out at own_bytes ∙ l.long;
+    }
+
+    -- whatever geometry the row begins with, it is this one
+    module _ (row : List ℕ) (is : IsRow c i row) where
+      own_begins : BeginsWithMember (part_of target) row next.t
+      own_begins =
+          subst (λ z. BeginsWithMember (part_of target) z next.t) (one_row next.own.is is) next.own.begins
+
+      pub row_there : IsAccepted row
+      row_there = there own_begins
+
+      encoded_so : (a : IsAccepted row) → encoding_for (inner_of target) a.t ≡ own_bytes
+      encoded_so a = ap (encoding_for (inner_of target)) (one_value own_begins a)
+
+      pub row_room : end ≤ length before → (a : IsAccepted row)
+          → at + length (encoding_for (inner_of target) a.t) ≤ length out
+      row_room fit a = omega (arith, own_room fit, ap length (encoded_so a))
+
+      pub row_put : (to : ℕ) (new : List ℕ)
+          → ((a : IsAccepted row) → IsPut out new at to (encoding_for (inner_of target) a.t))
+          → MembersLeft c target rows (i + 1) to new before whole end
+      row_put to new p = member_put to new (subst (IsPut out new at to) (encoded_so row_there) (p row_there))
+
+pub none_left : {c : Column} {target : CollectTarget} {rows i at : ℕ} {out before whole : List ℕ} {end : ℕ}
+    → (l : MembersLeft c target rows i at out before whole end) → rows ≤ i → out ≡ whole
+none_left {target = target} {rows} {i} {at} {out} {whole = whole} l past = by l.left (omega (arith, l.many, past)) l.put
+  where
+    by : (left : Values) → count left ≤ 0 → sets out at (inside_of target left) ≡ whole → out ≡ whole
+    by no_members few put = put
+    by (member t ts) few put = absurd (omega (arith, few))
+
+-- ---- a member that is put behind others
+
+pub put_behind : (out sub enc : List ℕ) (at : ℕ) → at + length enc ≤ length out
+    → (length enc ≤ length (take (length out - at) (drop at out))
+    → sub ≡ enc ++ drop (length enc) (take (length out - at) (drop at out)))
+    → take at out ++ (sub ++ drop (length out - at) (drop at out)) ≡ sets out at enc
+put_behind out sub enc at room is =
+    let k = length out - at in
+    let lent : take k (drop at out) ≡ drop at out = between_to_end out at (length out) (omega arith) in
+    let rest : drop k (drop at out) ≡ [] =
+    nil_from_length (drop k (drop at out)) (omega (arith, length-drop k (drop at out), length-drop at out)) in
+    let sub_is : sub ≡ enc ++ drop (at + length enc) out =
+    is (omega (arith, room, ap length lent, length-drop at out)) ∙ ap (λ z. enc ++ drop (length enc) z) lent
+    ∙ ap (λ z. enc ++ z) (drop-drop (length enc) at out ∙ ap (λ n. drop n out) (omega arith)) in
+    ap (λ z. take at out ++ (sub ++ z)) rest ∙ ap (λ z. take at out ++ z) (append-nil sub ∙ sub_is)
+    ∙ sym (append_assoc (take at out) enc (drop (at + length enc) out)) ∙ sym (sets-eq enc out at room)
+
+-- the front of the whole, and its members behind it
+pub whole_put : (out copied new front inside : List ℕ) (start : ℕ) → start ≡ length front
+    → start + length inside ≤ length out → copied ≡ front → new ≡ sets (copied ++ drop start out) start inside
+    → new ≡ (front ++ inside) ++ drop (length (front ++ inside)) out
+whole_put out copied new front inside start start_is room copied_is put =
+    let long : 0 + length front ≤ length out = omega (arith, room, start_is) in
+    let laid : copied ++ drop start out ≡ sets out 0 front =
+    (λ i. copied_is i ++ drop (start_is i) out) ∙ ap (λ n. front ++ drop n out) (omega arith)
+    ∙ sym (sets-eq front out 0 long) in
+    put ∙ ap (λ z. sets z start inside) laid
+    ∙ sets_after out 0 start front inside (omega (arith, start_is))
+    ∙ sets-eq (front ++ inside) out 0 (omega (arith, room, start_is, length-append front inside))
+    ∙ ap (λ n. (front ++ inside) ++ drop n out) (omega arith)

@@ -1,0 +1,28 @@
+use Rattle.wkb_c.proofs.Common.{arith, ◌∙◌}
+use Rattle.wkb_c.proofs.Gathering.{measured_more, all_measured, reach_inside}
+use Rattle.wkb_c.proofs.collect.measure_members.Goals as goal
+
+pub overflow_add-size : goal.overflow_add-size
+overflow_add-size c =
+    let l = c.loop-i.invariant in
+    omega (
+      arith,
+      (measured_more l.reaches c.measure_row.ensures.reach l.measured c.in-Ok.ensures.measured).fits,
+      reach_inside c.args.column.now c.measure_row.ensures.reach,
+      c.fits_word.ensures,
+    )
+
+pub loop-i-preserved : goal.loop-i-preserved
+loop-i-preserved c =
+    let l = c.loop-i.invariant in
+    record {
+      reaches = c.measure_row.ensures.reach;
+      measured = measured_more l.reaches c.measure_row.ensures.reach l.measured c.in-Ok.ensures.measured;
+      fault_same = c.in-Ok.ensures.kept ∙ l.fault_same;
+      row_same = l.row_same;
+    }
+
+pub returns-clause-measured : goal.returns-clause-measured
+returns-clause-measured c =
+    let l = c.loop-i.invariant in
+    all_measured l.reaches l.measured (omega (arith, c.loop-i-test.false, c.loop-i.auto.i-end))

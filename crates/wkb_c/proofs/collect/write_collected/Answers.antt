@@ -1,0 +1,53 @@
+use Rattle.wkb_c.proofs.Common.{arith, ap, length, length-append, drop, ◌∙◌}
+use Rattle.std.proofs.Common.{length-drop}
+use Rattle.wkb_c.specs.Collections.{front_of, inside_of}
+use Rattle.wkb_c.proofs.Gathering.{one_list, whole_put}
+use Rattle.wkb_c.proofs.collect.write_collected.Goals as goal
+
+pub returns-then-out-wanted-clause-no_room : goal.returns-then-out-wanted-clause-no_room
+returns-then-out-wanted-clause-no_room c = λ told.
+    let m = c.requires.measured in
+    let target = c.args.target.now in
+    let long = length-append (front_of target c.args.rows) (inside_of target m.have.values) in
+    record {
+      have = m.have;
+      lacks = record {
+        count_is = omega (arith, m.size_is, c.lay_front-start.ensures.bytes.ends, long);
+        short = omega (arith, m.size_is, c.lay_front-start.ensures.bytes.ends, long, c.if-out-wanted.true);
+      };
+    }
+
+pub put_row_members-requires-clause-room : goal.put_row_members-requires-clause-room
+put_row_members-requires-clause-room c = λ m.
+    omega (
+      arith,
+      ap (λ z. length (inside_of c.args.target.now z)) (one_list m c.requires.measured.have),
+      c.requires.measured.size_is,
+      c.if-out-wanted.false,
+      c.copy_from_slice.ensures.len,
+      length-append c.copy_from_slice.new.self (drop c.lay_front-start.result c.args.out.now),
+      length-drop c.lay_front-start.result c.args.out.now,
+    )
+
+pub returns-clause-written : goal.returns-clause-written
+returns-clause-written c = λ told.
+    let m = c.requires.measured in
+    let target = c.args.target.now in
+    let laid = c.lay_front-start.ensures.bytes in
+    record {
+      have = m.have;
+      held = record {
+        count_is =
+            omega (
+              arith,
+              m.size_is,
+              laid.ends,
+              length-append (front_of target c.args.rows) (inside_of target m.have.values),
+            );
+        whole =
+            whole_put c.args.out.now c.copy_from_slice.new.self c.put_row_members.new.out (front_of target c.args.rows)
+            (inside_of target m.have.values) c.lay_front-start.result
+            (omega (arith, laid.ends)) (omega (arith, m.size_is, c.if-out-wanted.false))
+            (c.copy_from_slice.ensures.after ∙ laid.is) (c.put_row_members.ensures m.have);
+      };
+    }

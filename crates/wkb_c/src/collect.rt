@@ -1,0 +1,332 @@
+//! One geometry whose members are the geometries that the rows of a column begin with.
+
+ghost use Rattle.std.specs.Prelude.{◌≡◌, ◌≢◌, ◌⊎◌, ◌↔◌, ◌+◌, ◌<◌, ◌≤◌, ◌^◌, length, true, false, None, IfOk, IfErr};
+ghost use lib.Seq.{sets};
+ghost use Rattle.wkb_geom.specs.Reading.{type_kind, type_dimension};
+ghost use Rattle.wkb_geom.specs.Spellings.{IsPart};
+ghost use Rattle.wkb_check.specs.Public.{DescribesFrontWithin, member_room};
+ghost use Rattle.wkb_rewrite.specs.Inputs.{IsAccepted};
+ghost use Rattle.wkb_rewrite.specs.Shares.{IsPut};
+ghost use Rattle.wkb_rewrite.specs.Targets.{encoding_for};
+ghost use Rattle.wkb_sink.specs.Blocks.{LaysAt};
+ghost use Rattle.wkb_c.specs.Classes.{IsRefusalStatus, IsNoRefusal, TellsOfRow};
+ghost use Rattle.wkb_c.specs.Collections.{collect_asked, part_of, inner_of, front_of, inside_of};
+ghost use Rattle.wkb_c.specs.Collections.{HaveMembers, IsUnwanted, IsUnfit, IsFirstUnfit, IsFirstUnfitFor};
+ghost use Rattle.wkb_c.specs.Collections.{IsMeasuredFound, RowIsMeasured, AreMeasured, PutsCollected, WholeExceeds};
+ghost use Rattle.wkb_c.specs.Collections.{WritesCollected, CollectedExceeds, IsStatusOfCollecting};
+ghost use Rattle.wkb_c.specs.Columns.{Reach};
+ghost use Rattle.wkb_c.specs.Statuses.{IsFaultWithin};
+
+use crate::column::{Column, check_row};
+use crate::coordinates::dimension_of_number;
+use crate::encoding::{options_for, write_requested};
+use crate::fault::{NO_FAULT, WkbFault, report_refusal};
+use crate::options::{Options, Request, request_of};
+use crate::status::{INCORRECT_TYPE, NO_ROOM, OK, TOO_MANY_ROWS, UNKNOWN_OPTION};
+use wkb_check::{Summary, check_member, check_plain};
+use wkb_geom::Dimension;
+use wkb_geom::code::{GEOMETRY_COLLECTION, MULTI_POINT, WkbType, of_kind};
+use wkb_geom::header::MAX_HEADER_SIZE;
+use wkb_geom::words::COUNT_SIZE;
+use wkb_sink::WriteOptions;
+use wkb_sink::block::{lay_count, lay_header};
+
+/// The longest header with a count.
+const MAX_FRONT_SIZE: usize = MAX_HEADER_SIZE + COUNT_SIZE;
+
+/// What rows are collected into: a geometry of this kind and dimension, written under these options.
+#[derive(Clone, Copy)]
+pub struct CollectTarget {
+    pub kind: u32,
+    pub dimension: Dimension,
+    pub options: WriteOptions,
+}
+
+/// What the numbers ask for, if they mean something.
+fn collect_target_of(kind: u32, dimension: u32, options: &Options) -> Option<CollectTarget>
+    ensures { result ≡ collect_asked kind dimension options.now }
+{
+    if kind < MULTI_POINT || GEOMETRY_COLLECTION < kind {
+        return None;
+    }
+    let dimension = dimension_of_number(dimension)?;
+    let request = request_of(options)?;
+    Some(CollectTarget {
+        kind,
+        dimension,
+        // No row's own SRID is written.
+        options: options_for(request, None),
+    })
+}
+
+impl CollectTarget {
+    /// Whether a geometry of this type is one of its members, once its SRID is dropped.
+    fn takes(&self, member: WkbType) -> bool
+        ensures fits { result ≡ true → IsPart (part_of self.now) (type_kind member) (type_dimension member) false }
+        ensures unfit { result ≡ false → IsPart (part_of self.now) (type_kind member) (type_dimension member) false
+            → ⊥ }
+    {
+        // No kind has a greater number than a collection, which takes any member.
+        self.kind >= GEOMETRY_COLLECTION
+            || (member.kind() + 3 == self.kind && member.dimension() == self.dimension)
+    }
+
+    /// The options of its members.
+    fn inner(&self) -> WriteOptions
+        ensures { result ≡ inner_of self.now }
+    {
+        WriteOptions {
+            endianness: self.options.endianness,
+            form: self.options.form.inner(),
+        }
+    }
+
+    /// Lays its header and the number of its members, and returns where they end.
+    #[tactic(auto, using(wkb_sink::proofs::Behind::behind_laws))]
+    fn lay_front(&self, rows: u32, front: &mut [u8]) -> usize
+        requires { MAX_FRONT_SIZE ≤ length front.old }
+        ensures bytes { LaysAt 0 result front.old front.new (front_of self.now rows) }
+        ensures bound { result ≤ MAX_FRONT_SIZE }
+    {
+        let wkb_type = of_kind(self.kind, self.dimension);
+        let at = lay_header(front, 0, &self.options, wkb_type);
+        lay_count(front, at, self.options.endianness, rows)
+    }
+}
+
+/// The geometry at the front of a row that is to be a member; or the status of the one refusal, and its numbers.
+#[inline(never)]
+fn check_member_row(row: &[u8], fault: &mut WkbFault) -> Result<Summary, u32>
+    ensures accepted { IfOk result (λ found. DescribesFrontWithin member_room row.now found) }
+    ensures refused { IfErr result (λ status. IsFaultWithin member_room row.now status fault.new) }
+    ensures refusal { IfErr result IsRefusalStatus }
+    ensures kept { IfOk result (λ _. fault.new ≡ fault.old) }
+{
+    match check_member(row) {
+        Ok(found) => Ok(found),
+        Err(refused) => Err(report_refusal(&refused, fault)),
+    }
+}
+
+/// How long the encoding of a row's geometry is as a member; or the status and the fault of one that is no member.
+fn measure_found(
+    row: &[u8],
+    found: &Summary,
+    target: &CollectTarget,
+    fault: &mut WkbFault,
+) -> Result<u64, u32>
+    requires { DescribesFrontWithin member_room row.now found.now }
+    ensures measured { IfOk result (λ size. IsMeasuredFound target.now row.now size) }
+    ensures unfit { IfErr result (λ status. IsUnwanted (part_of target.now) row.now status fault.new) }
+    ensures kept { IfOk result (λ _. fault.new ≡ fault.old) }
+{
+    if !target.takes(found.wkb_type) {
+        *fault = WkbFault {
+            status: INCORRECT_TYPE,
+            ..NO_FAULT
+        };
+        return Err(INCORRECT_TYPE);
+    }
+    let request = Request::Encoding(target.inner());
+    let mut size = 0;
+    // Without room only its length is reported.
+    let _status = write_requested(row, found, request, &mut [], &mut size);
+    Ok(size)
+}
+
+/// How long the encoding of row i's geometry is as a member; or the status and the fault of a row that is no member.
+fn measure_row(
+    column: &Column,
+    i: usize,
+    reach: &mut u64,
+    target: &CollectTarget,
+    fault: &mut WkbFault,
+) -> Result<u64, u32>
+    requires small { i < 2 ^ 63 }
+    requires before { Reach column.now i reach.old }
+    ensures reach { Reach column.now (i + 1) reach.new }
+    ensures measured { IfOk result (λ size. RowIsMeasured column.now target.now i size) }
+    ensures unfit { IfErr result (λ status. IsUnfit column.now (part_of target.now) i status fault.new) }
+    ensures known { IfErr result TellsOfRow }
+    ensures kept { IfOk result (λ _. fault.new ≡ fault.old) }
+    ensures lacks_kept { IfErr result (λ status. IsNoRefusal status → fault.new ≡ fault.old) }
+{
+    let row = match column.row(i, reach) {
+        Ok(row) => row,
+        Err(status) => return Err(status),
+    };
+    if let Some(plain) = check_plain(row) {
+        return measure_found(row, &plain, target, fault);
+    }
+    match check_member_row(row, fault) {
+        Ok(found) => measure_found(row, &found, target, fault),
+        Err(status) => Err(status),
+    }
+}
+
+/// The length of a slice fits a word.
+#[inline(always)]
+fn fits_word(bytes: &[u8])
+    ensures { length bytes.now < 2 ^ 64 }
+{}
+
+/// How long the encodings of the rows' geometries are together as members. Where a row begins with none, the first such
+/// row is told, with its status and its fault.
+#[tactic(auto, using(crate::proofs::Gathering::none_measured))]
+fn measure_members(
+    column: &Column,
+    rows: usize,
+    target: &CollectTarget,
+    fault: &mut WkbFault,
+    row: &mut u64,
+) -> Result<u64, u32>
+    requires few { rows < 2 ^ 32 }
+    ensures measured { IfOk result (λ size. AreMeasured column.now target.now rows size) }
+    ensures unfit { IfErr result (λ status. IsFirstUnfit column.now (part_of target.now) rows row.new status
+        fault.new) }
+    ensures known { IfErr result TellsOfRow }
+    ensures kept { IfOk result (λ _. fault.new ≡ fault.old) }
+    ensures lacks_kept { IfErr result (λ status. IsNoRefusal status → fault.new ≡ fault.old) }
+    ensures row_kept { IfOk result (λ _. row.new ≡ row.old) }
+{
+    fits_word(column.bytes);
+    let mut reach = 0;
+    let mut size = 0;
+    for i in 0..rows {
+        match measure_row(column, i, &mut reach, target, fault) {
+            Ok(length) => size += length,
+            Err(status) => {
+                *row = i as u64;
+                return Err(status);
+            }
+        }
+    }
+    Ok(size)
+}
+
+/// Puts the encoding of the geometry that a row begins with from an index on, and returns the index after it.
+fn put_row_member(row: &[u8], options: WriteOptions, out: &mut [u8], at: usize) -> usize
+    requires here { IsAccepted row.now }
+    requires inside { at ≤ length out.old }
+    requires room { (a : IsAccepted row.now)
+        → at + length (encoding_for options a.t) ≤ length out.old }
+    ensures { (a : IsAccepted row.now)
+        → IsPut out.old out.new at result (encoding_for options a.t) }
+{
+    let request = Request::Encoding(options);
+    let mut size = 0;
+    if let Some(plain) = check_plain(row) {
+        let _status = write_requested(row, &plain, request, &mut out[at..], &mut size);
+        return at + size as usize;
+    }
+    match check_row(row) {
+        Ok(found) => {
+            let _status = write_requested(row, &found, request, &mut out[at..], &mut size);
+            at + size as usize
+        }
+        Err(_status) => unreachable!(),
+    }
+}
+
+/// Puts the encodings of the members that the rows begin with from an index on.
+fn put_row_members(
+    column: &Column,
+    rows: usize,
+    target: &CollectTarget,
+    out: &mut [u8],
+    start: usize,
+)
+    requires few { rows < 2 ^ 32 }
+    requires here { HaveMembers column.now (part_of target.now) rows }
+    requires room { (m : HaveMembers column.now (part_of target.now) rows)
+        → start + length (inside_of target.now m.values) ≤ length out.old }
+    ensures { (m : HaveMembers column.now (part_of target.now) rows)
+        → out.new ≡ sets out.old start (inside_of target.now m.values) }
+{
+    let options = target.inner();
+    let mut reach = 0;
+    let mut at = start;
+    for i in 0..rows {
+        let row = match column.row(i, &mut reach) {
+            Ok(row) => row,
+            Err(_status) => unreachable!(),
+        };
+        at = put_row_member(row, options, out, at);
+    }
+}
+
+/// Writes the geometry with the members that the rows begin with, whose encodings are together this long, and reports
+/// its length. Without room nothing is written.
+fn write_collected(
+    column: &Column,
+    rows: usize,
+    target: &CollectTarget,
+    inside: u64,
+    out: &mut [u8],
+    size: &mut u64,
+) -> u32
+    requires few { rows < 2 ^ 32 }
+    requires measured { AreMeasured column.now target.now rows inside }
+    ensures written { result ≡ OK → PutsCollected column.now target.now rows out.old out.new size.new }
+    ensures no_room { result ≡ NO_ROOM → WholeExceeds column.now target.now rows out.old size.new }
+    ensures bound { size.new ≤ length column.now.bytes.now + 13 }
+    ensures known { (result ≡ OK) ⊎ (result ≡ NO_ROOM) }
+    ensures out_kept { result ≢ OK → out.new ≡ out.old }
+{
+    let mut front = [0; MAX_FRONT_SIZE];
+    let start = target.lay_front(rows as u32, &mut front);
+    let wanted = start as u64 + inside;
+    *size = wanted;
+    if (out.len() as u64) < wanted {
+        return NO_ROOM;
+    }
+    out[..start].copy_from_slice(&front[..start]);
+    put_row_members(column, rows, target, out, start);
+    OK
+}
+
+/// Writes the encoding, under the options, of the geometry of this kind and dimension that has the geometries at the
+/// front of the first rows of a column as its members, in order, and its length.
+///
+/// The rows are those of `wkb_raw_column_check`. A member keeps neither its byte order nor its SRID, and own SRIDs are
+/// none. `NO_ROOM` writes the length too, but no encoding. The numbers are looked at before the rows, and of these the
+/// first that begins with no member refuses the whole: `row` is its index, and its fault is counted from its own front.
+#[unsafe(no_mangle)]
+pub extern "C" fn wkb_raw_collect(
+    column: &Column<'_>,
+    rows: usize,
+    kind: u32,
+    dimension: u32,
+    options: &Options,
+    out: &mut [u8],
+    size: &mut u64,
+    fault: &mut WkbFault,
+    row: &mut u64,
+) -> u32
+    ensures written { result ≡ OK → WritesCollected column.now rows kind dimension options.now
+        out.old out.new size.new }
+    ensures no_room { result ≡ NO_ROOM → CollectedExceeds column.now rows kind dimension options.now
+        out.old size.new }
+    ensures unknown { (result ≡ UNKNOWN_OPTION) ↔ (collect_asked kind dimension options.now ≡ None) }
+    ensures too_many { (result ≡ TOO_MANY_ROWS)
+        ↔ ((collect_asked kind dimension options.now ≢ None) × (2 ^ 32 ≤ rows)) }
+    ensures refused { TellsOfRow result → IsFirstUnfitFor kind dimension column.now rows row.new
+        result fault.new }
+    ensures bound { (result ≡ OK) ⊎ (result ≡ NO_ROOM) → size.new ≤ length column.now.bytes.now + 13 }
+    ensures known { IsStatusOfCollecting result }
+    ensures out_kept { result ≢ OK → out.new ≡ out.old }
+    ensures size_kept { result ≢ OK → result ≢ NO_ROOM → size.new ≡ size.old }
+    ensures fault_kept { IsNoRefusal result → fault.new ≡ fault.old }
+    ensures row_kept { result < 16 → row.new ≡ row.old }
+{
+    let Some(target) = collect_target_of(kind, dimension, options) else {
+        return UNKNOWN_OPTION;
+    };
+    if rows >= 1 << 32 {
+        return TOO_MANY_ROWS;
+    }
+    match measure_members(column, rows, &target, fault, row) {
+        Ok(inside) => write_collected(column, rows, &target, inside, out, size),
+        Err(status) => status,
+    }
+}
