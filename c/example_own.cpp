@@ -1,12 +1,14 @@
-// Encodes coordinates of one's own: a point, two line strings, and a polygon with a hole.
+// Encodes coordinates of one's own: a point, two line strings, which are collected into one geometry, and a polygon
+// with a hole.
 #include "wkb.hpp"
 
 #include <array>
 #include <cstdio>
 
+static constexpr wkb_options options{WKB_ORDER_LITTLE, WKB_FORM_ISO, 0};
+
 // Prints the encodings of rows, as hex.
 static void print_rows(const wkb::levels &levels, wkb_kind kind) {
-  const wkb_options options{WKB_ORDER_LITTLE, WKB_FORM_ISO, 0};
   const auto rows = wkb::rows_from_coordinates(levels, kind, WKB_DIM_XY, options);
   std::size_t at = 0;
   for (std::size_t row = 0; row < rows.ends.size(); row++) {
@@ -15,6 +17,18 @@ static void print_rows(const wkb::levels &levels, wkb_kind kind) {
     for (; at < rows.ends[row]; at++) std::printf("%02x", static_cast<unsigned>(rows.data[at]));
     std::printf("\n");
   }
+}
+
+// Prints the multi geometry of rows, as hex. Their ends, behind a 0, are the offsets of a column.
+static void print_collected(const wkb::levels &levels, wkb_kind kind) {
+  const auto rows = wkb::rows_from_coordinates(levels, kind, WKB_DIM_XY, options);
+  std::vector<std::int64_t> offsets{0};
+  offsets.insert(offsets.end(), rows.ends.begin(), rows.ends.end());
+  const wkb_column column = wkb::column(rows.data, std::span<const std::int64_t>(offsets));
+  std::printf("%s: ", wkb_kind_text(kind + 3));
+  for (const std::byte it : wkb::collect(column, kind + 3, WKB_DIM_XY, options))
+    std::printf("%02x", static_cast<unsigned>(it));
+  std::printf("\n");
 }
 
 int main() {
@@ -26,6 +40,7 @@ int main() {
   const std::array two_lines{0.0, 0.0, 1.0, 1.0, 5.0, 5.0, 6.0, 6.0};
   const std::array<std::uint64_t, 2> line_ends{2, 4};
   print_rows({.words = two_lines, .ring_ends = line_ends}, WKB_KIND_LINE_STRING);
+  print_collected({.words = two_lines, .ring_ends = line_ends}, WKB_KIND_LINE_STRING);
 
   // A polygon of two rings: an exterior of five coordinates, and an interior of four.
   const std::array both_rings{0., 0., 9., 0., 9., 9., 0., 9., 0., 0., 1., 1., 2., 2., 1., 2., 1., 1.};

@@ -58,6 +58,16 @@ size_t turned(const void *buf, size_t len, void *out, size_t room, char *text, s
   return status == WKB_STATUS_NO_ROOM ? size + count : 0;
 }
 
+/* How long the rows are as one geometry, or else which row can't be a member. */
+size_t length_of(const wkb_column *column, size_t *row);
+size_t length_of(const wkb_column *column, size_t *row) {
+  const wkb_options options = {WKB_ORDER_LITTLE, WKB_FORM_ISO, 0};
+  size_t size = 0;
+  wkb_status status =
+      wkb_collect(column, WKB_KIND_MULTI_POINT, WKB_DIM_XY, &options, NULL, 0, &size, NULL, row);
+  return status == WKB_STATUS_NO_ROOM ? size : 0;
+}
+
 /* The rooms that a column needs. */
 size_t rooms_of(const wkb_column *column, const wkb_levels *levels, uint64_t *ends, uint8_t *statuses);
 size_t rooms_of(const wkb_column *column, const wkb_levels *levels, uint64_t *ends, uint8_t *statuses) {

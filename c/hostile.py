@@ -126,7 +126,7 @@ def headers():
 
 
 def try_sqlite(extension):
-    """Compares the results of the extension at a path, which is all that a user gives."""
+    """Compare the results of the extension at a path, which is all that a user gives."""
     count, database = 0, sqlite3.connect(":memory:")
     database.enable_load_extension(True)
     database.load_extension(os.fspath(extension))

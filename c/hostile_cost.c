@@ -32,6 +32,12 @@ static void bounds(void) { wkb_column_bounds(&column, boxes, statuses); }
 static void list(void) { wkb_column_parts(&column, parts, PARTS, ends, statuses); }
 static void write_little(void) { write_as(WKB_ORDER_LITTLE); }
 static void write_big(void) { write_as(WKB_ORDER_BIG); }
+static void collect(void) {
+  const wkb_options options = {WKB_ORDER_LITTLE, WKB_FORM_ISO, 0};
+  const wkb_kind any = WKB_KIND_GEOMETRY_COLLECTION;
+  size_t size, row;
+  wkb_collect(&column, any, WKB_DIM_XY, &options, out, sizeof out, &size, NULL, &row);
+}
 static void coordinates(void) {
   wkb_coordinates to = {words, WORDS, ring_ends, PARTS, single_ends, PARTS, ends, 0, 0, 0};
   wkb_column_coordinates(&column, WKB_DIM_XY, &to, statuses);
@@ -51,6 +57,7 @@ static const call CALLS[] = {{"`wkb_column_check`", check, 0},
                              {"`wkb_column_parts`", list, 0},
                              {"`wkb_column_write`", write_little, 0},
                              {"`wkb_column_write`, the other order", write_big, 0},
+                             {"`wkb_collect`", collect, 0},
                              {"`wkb_column_coordinates`", coordinates, 0},
                              {"`wkb_column_from_coordinates`, points", from_coordinates, WKB_KIND_POINT},
                              {"line strings", from_coordinates, WKB_KIND_LINE_STRING},

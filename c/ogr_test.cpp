@@ -1,5 +1,6 @@
 // ogr_test N: N random geometries of OGR in every kind, dimension, byte order and variant. Their words, bounds and
-// coordinates as this library has them are compared with OGR's own, in order and by their bits.
+// coordinates as this library has them, and what it collects of their members, are compared with OGR's own, in order
+// and by their bits.
 #include "wkb.hpp"
 
 #include <array>
@@ -177,6 +178,24 @@ bool has_coordinates_of(const std::vector<std::byte> &row, wkb_dim dimension, co
          are_same(got.single_ends, expected.single_ends);
 }
 
+// The members of a geometry as rows, in either order, are collected into what OGR has of the whole.
+bool is_collected(const OGRGeometryCollection &whole, wkb_kind kind, wkb_dim dimension) {
+  std::vector<std::byte> rows, expected(whole.WkbSize());
+  std::vector<std::int64_t> offsets{0};
+  const auto put = [](const OGRGeometry &from, OGRwkbByteOrder order, std::byte *to) {
+    from.exportToWkb(order, reinterpret_cast<unsigned char *>(to), wkbVariantIso);
+  };
+  for (const OGRGeometry *member : whole) {
+    const std::size_t before = rows.size();
+    rows.resize(before + member->WkbSize());
+    put(*member, below(2) == 0 ? wkbXDR : wkbNDR, rows.data() + before);
+    offsets.push_back(static_cast<std::int64_t>(rows.size()));
+  }
+  put(whole, wkbNDR, expected.data());
+  const wkb_column column = wkb::column(rows, std::span<const std::int64_t>(offsets));
+  return wkb::collect(column, kind, dimension, {WKB_ORDER_LITTLE, WKB_FORM_ISO, 0}) == expected;
+}
+
 }  // namespace
 
 int main(int argc, char **argv) {
@@ -198,8 +217,10 @@ int main(int argc, char **argv) {
     add_words(whole, block);
     add_each_word(whole, each);
     const auto dimension = static_cast<wkb_dim>((has_z ? 1 : 0) + (has_m ? 2 : 0));
+    const bool has_members = whole.kind() >= WKB_KIND_MULTI_POINT;
     const bool is_right = are_same(block, expected.words) && are_same(each, expected.words) &&
-                          has_bounds_of(*geometry, row, expected) && has_coordinates_of(row, dimension, expected);
+                          has_bounds_of(*geometry, row, expected) && has_coordinates_of(row, dimension, expected) &&
+                          (!has_members || is_collected(*geometry->toGeometryCollection(), whole.kind(), dimension));
     if (!is_right && wrong++ < 5) std::printf("wrong: row %ld, kind %u\n", i, whole.kind());
     words += expected.words.size();
   }

@@ -313,33 +313,29 @@ std::vector<shape_times> those_of(const std::vector<shape_times> &all, const std
   return found;
 }
 
-// A call beside its like in plain C. The aim, in times of plain C, is one for points and lines and one for the others.
+// A call beside its like in plain C, and the head of the column of their quotient.
 struct pair {
   const char *head;
   const char *name;
   bool of_column;
-  double aim_of_lines;
-  double aim;
 };
 
-constexpr pair PAIRS[] = {
-    {"ns, in the other order", "write", false, 1.2, NEVER},
-    {"ns, as it is", "write as it is", false, 1.1, NEVER},
-    {"ns, bounds", "bounds", false, NEVER, NEVER},
-    {"ns a row, coordinates", "coordinates", true, 1.0, 1.3},
-};
+constexpr pair PAIRS[] = {{"other order", "write", false},
+                          {"as it is", "write as it is", false},
+                          {"bounds", "bounds", false},
+                          {"coordinates", "coordinates", true}};
 
-void print_pair(const pair &of, const std::vector<shape_times> &all) {
-  print_head({of.head, "ours", "plain C", "times", "aim"});
+// Our times by those of plain C.
+void print_quotients(const std::vector<shape_times> &all) {
+  std::vector<std::string> heads{"our time / plain C"};
+  for (const pair &of : PAIRS) heads.emplace_back(of.head);
+  print_head(heads);
   for (const shape_times &it : all) {
-    const double ours = time_of(it.of(of.name), of.of_column);
-    const double plain = time_of(it.of(std::string(of.name) + " in plain C"), of.of_column);
-    const bool is_line = std::strncmp(it.shape, "point", 5) == 0 || std::strncmp(it.shape, "line", 4) == 0;
     std::printf("| %-24s |", it.shape);
-    print_cell("ours", ours, 1);
-    print_cell("plain C", plain, 1);
-    print_cell("times", ours / plain, 2);
-    print_cell("aim", is_line ? of.aim_of_lines : of.aim, 1);
+    for (const pair &of : PAIRS) {
+      const double plain = time_of(it.of(std::string(of.name) + " in plain C"), of.of_column);
+      print_cell(of.head, time_of(it.of(of.name), of.of_column) / plain, 2);
+    }
     std::printf("\n");
   }
   std::printf("\n");
@@ -360,7 +356,7 @@ int main(int argc, char **argv) {
               {"check", "bounds", "parts", "parts, words", "parts, each word", "write", "coordinates",
                "from coordinates", "OGR", "GEOS"},
               true, 1);
-  for (const pair &it : PAIRS) print_pair(it, shapes);
+  print_quotients(shapes);
   print_calls("ns a word", long_lines, {"wkb_word", "wkb_words"}, false, 2);
   print_calls("ns a geometry", those_of(shapes, {"point", "line of 10", "line of 100", "multi polygon of 5 x 12"}),
               {"check", "bounds", "write", "write in plain C", "OGR", "GEOS"}, false, 0);

@@ -54,6 +54,7 @@ const char *wkb_status_text(wkb_status status) {
     case WKB_STATUS_NO_MEMORY: return "out of memory";
     case WKB_STATUS_NO_ROOM: return "the output doesn't fit its room";
     case WKB_STATUS_UNKNOWN_OPTION: return "unknown byte order, form, kind or dimension";
+    case WKB_STATUS_TOO_MANY_ROWS: return "there are more rows than a count of four bytes holds";
     case WKB_STATUS_NULL_ROW: return "the row is null";
     case WKB_STATUS_BAD_OFFSETS:
       return "the row's offsets are negative, decrease or pass the end of the data, or it begins before a row ends";
@@ -168,21 +169,21 @@ wkb_status wkb_parts(const void *buf, size_t len, wkb_part *parts, size_t room, 
                        fault ? fault : &fault_here);
 }
 
-/* The bytes of all offsets of a column that has rows; none where no row has an offset. */
+/* The bytes of all offsets of a column; none where no row has an offset. */
 static size_t offsets_len(const wkb_column *column) {
   size_t size = column->offset_size;
-  if (size != sizeof(int32_t) && size != sizeof(int64_t)) return 0;
+  if (column->rows == 0 || (size != sizeof(int32_t) && size != sizeof(int64_t))) return 0;
   return column->rows < SIZE_MAX / size ? size * (column->rows + 1) : 0;
 }
 
-/* The bytes up to the one with the validity bit of the last of some rows; none without validity. */
+/* The bytes up to the one with the validity bit of the last of some rows; none without validity or rows. */
 static size_t validity_len(const void *validity, size_t first, size_t rows) {
   size_t more = rows - 1;
-  if (validity == NULL) return 0;
+  if (validity == NULL || rows == 0) return 0;
   return first / 8 + more / 8 + (first % 8 + more % 8) / 8 + 1;
 }
 
-/* The same column with the lengths of its buffers, for one that has rows. */
+/* The same column with the lengths of its buffers. */
 static wkb_raw_column unpacked(const wkb_column *column) {
   size_t offsets = offsets_len(column);
   size_t validity = validity_len(column->validity, column->validity_offset, column->rows);
@@ -228,6 +229,16 @@ size_t wkb_column_write(const wkb_column *column, const wkb_options *options, vo
   wkb_raw_column raw = unpacked(column);
   wkb_raw_column_write(&raw, options, room == 0 ? &out_here : (uint8_t *)out, room, ends, rows, statuses, rows);
   return ends[rows - 1];
+}
+
+wkb_status wkb_collect(const wkb_column *column, wkb_kind kind, wkb_dim dimension, const wkb_options *options,
+                       void *out, size_t room, size_t *size, wkb_fault *fault, size_t *row) {
+  uint8_t out_here;
+  size_t size_here, row_here;
+  wkb_fault fault_here;
+  wkb_raw_column raw = unpacked(column);
+  return wkb_raw_collect(&raw, column->rows, kind, dimension, options, room == 0 ? &out_here : (uint8_t *)out, room,
+                         size ? size : &size_here, fault ? fault : &fault_here, row ? row : &row_here);
 }
 
 void wkb_column_coordinates(const wkb_column *column, wkb_dim dimension, wkb_coordinates *out, uint8_t *statuses) {

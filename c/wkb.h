@@ -9,9 +9,9 @@
  * Otherwise nothing is promised, not even where a call writes. So copy a mapped file that others may write before the
  * call.
  *
- * A pointer may be null where its length, room or number of rows is 0 (tested). FOUND, FAULT, BOX, SIZE, COUNT, EQUAL
- * and WHICH may be null where the caller doesn't want that result (tested). No other pointer may be null. What a call
- * doesn't write is unchanged.
+ * A pointer may be null where its length, room or number of rows is 0 (tested). FOUND, FAULT, BOX, SIZE, COUNT, EQUAL,
+ * WHICH and ROW may be null where the caller doesn't want that result (tested). No other pointer may be null. What a
+ * call doesn't write is unchanged.
  *
  * No call returns WKB_STATUS_NO_MEMORY, whose number stays free. No call asks for memory, and all may be called from a
  * signal handler, in a forked child and on a thread with a small stack: wkb_parts and wkb_column_parts take at most
@@ -60,6 +60,7 @@ enum {
   WKB_STATUS_NO_MEMORY = 1,                /* no call of this version returns it */
   WKB_STATUS_NO_ROOM = 2,                  /* a room is too small; *SIZE, *COUNT or the ends say what is needed */
   WKB_STATUS_UNKNOWN_OPTION = 3,           /* the options name no order, form, kind or dimension */
+  WKB_STATUS_TOO_MANY_ROWS = 4,            /* there are 2^32 rows or more, and a count has four bytes */
   WKB_STATUS_NULL_ROW = 16,                /* the row's validity bit is 0 */
   WKB_STATUS_BAD_OFFSETS = 17,             /* the row's offsets are negative, decrease or pass the end of the data, or
                                               the row begins before an earlier one ends whose offsets do none of this */
@@ -258,6 +259,22 @@ size_t wkb_column_parts(const wkb_column *column, wkb_part *parts, size_t room, 
  * offsets are good is WKB_STATUS_UNKNOWN_OPTION. */
 size_t wkb_column_write(const wkb_column *column, const wkb_options *options, void *out, size_t room, uint64_t *ends,
                         uint8_t *statuses);
+
+/* The one encoding under the options of the geometry of KIND, from WKB_KIND_MULTI_POINT to
+ * WKB_KIND_GEOMETRY_COLLECTION, and DIMENSION whose members are the geometries of all rows in order. Without rows it is
+ * empty. Of a member only the value counts: it is written under the options, without its SRID. WKB_FORM_EWKB_OWN_SRID
+ * writes no SRID. WKB_STATUS_OK: the encoding is at the front of OUT, and *SIZE is its length, which is never more than
+ * the column's SIZE + 13. WKB_STATUS_NO_ROOM: *SIZE is its length, which is more than ROOM, and nothing was written.
+ * WKB_STATUS_UNKNOWN_OPTION: the kind is none of these four, or the dimension or the options have no meaning, whatever
+ * the rows are. WKB_STATUS_TOO_MANY_ROWS: these have a meaning, and there are 2^32 rows or more. None of them is read
+ * then (tested). Any other status is that of the first row that can't be a member, and *ROW is its index. It is
+ * WKB_STATUS_NULL_ROW or WKB_STATUS_BAD_OFFSETS as in wkb_column_check, or a refusal, which writes FAULT, whose part
+ * and offset are counted in the row alone. A row is refused as wkb_check refuses it, but with no more than 127
+ * collections inside one another, since the new one is around them. A row of another kind or dimension than a multi
+ * geometry takes is WKB_STATUS_INCORRECT_TYPE, with part 0 and offset 0. A collection takes rows of any kind and
+ * dimension. The work is proportional to the rows and their bytes at most (tested). */
+wkb_status wkb_collect(const wkb_column *column, wkb_kind kind, wkb_dim dimension, const wkb_options *options,
+                       void *out, size_t room, size_t *size, wkb_fault *fault, size_t *row);
 
 /* The coordinates of a column, in levels as GeoArrow has them: a row has singles, a single has rings, a ring has
  * coordinates, a coordinate has as many words as the dimension that is asked for. A single is a point, a line string or

@@ -373,6 +373,52 @@ inline row_encodings write_rows(const wkb_column &column, const wkb_options &opt
   return it;
 }
 
+// Replaces what OUT holds by the encoding under the options of the geometry of a kind and a dimension whose members are
+// the rows, and returns true. Where a row can't be a member, it returns false, OUT is unchanged, FAULT says why and ROW
+// which row it is, unless they are null. So it does where the kind, the dimension or the options are unknown, or there
+// are 2^32 rows or more; ROW is then unchanged.
+inline bool try_collect(const wkb_column &column, wkb_kind kind, wkb_dim dimension, const wkb_options &options,
+                        std::vector<std::byte> &out, wkb_fault *fault = nullptr, std::size_t *row = nullptr) {
+  std::size_t size = 0;
+  wkb_fault found{};
+  const auto put = [&](std::byte *to, std::size_t room) {
+    return wkb_collect(&column, kind, dimension, &options, to, room, &size, &found, row);
+  };
+  wkb_status status = put(nullptr, 0);
+  if (status == WKB_STATUS_NO_ROOM) {
+    out.resize(size);
+    status = put(out.data(), size);
+  }
+  return detail::accepted(status, found, fault);
+}
+
+#ifdef __cpp_exceptions
+
+// A row can't be a member.
+class refused_row : public refused {
+ public:
+  refused_row(const wkb_fault &fault, std::size_t row) : refused(fault), row_(row) {}
+
+  std::size_t row() const noexcept { return row_; }
+
+ private:
+  std::size_t row_;
+};
+
+// The encoding under the options of the geometry of this kind and dimension whose members are the rows. Throws
+// refused_row, and std::invalid_argument for an unknown kind, dimension or option and for 2^32 rows or more.
+inline std::vector<std::byte> collect(const wkb_column &column, wkb_kind kind, wkb_dim dimension,
+                                      const wkb_options &options) {
+  std::vector<std::byte> out;
+  std::size_t row = 0;
+  wkb_fault fault;
+  if (try_collect(column, kind, dimension, options, out, &fault, &row)) return out;
+  if (wkb_status_is_failure(fault.status)) throw std::invalid_argument(wkb_status_text(fault.status));
+  throw refused_row(fault, row);
+}
+
+#endif  // __cpp_exceptions
+
 // The coordinates of all rows, in the levels of wkb_coordinates.
 struct row_coordinates {
   wkb::statuses statuses;

@@ -187,6 +187,44 @@ static void columns() {
   expect(wkb::check_rows(wkb::column({}, std::span<const std::int32_t>())).empty(), "no rows");
 }
 
+// Rows as one geometry, and the row that can't be a member.
+static void collects() {
+  const auto big = spelled("000000000400000001" "0000000001" "3ff00000000000004000000000000000");
+  std::vector<std::byte> data = POINT, out = POLYGONS;
+  data.insert(data.end(), POLYGONS.begin(), POLYGONS.end());
+  const std::int32_t end = static_cast<std::int32_t>(data.size()), offsets[] = {0, 25, end, end};
+  const wkb_options options = {WKB_ORDER_BIG, WKB_FORM_ISO, 0};
+  const auto of = [&](std::size_t rows) { return wkb::column(data, std::span<const std::int32_t>(offsets, rows + 1)); };
+  const auto refused = [&](std::size_t rows, wkb_kind kind) {
+    try {
+      wkb::collect(of(rows), kind, WKB_DIM_XY, options);
+    } catch (const wkb::refused_row &refusal) {
+      return std::pair(refusal.row(), std::string(refusal.what()));
+    }
+    return std::pair(rows, std::string());
+  };
+  expect(wkb::collect(of(1), WKB_KIND_MULTI_POINT, WKB_DIM_XY, options) == big, "a multi point");
+  expect(wkb::try_collect(of(1), WKB_KIND_MULTI_POINT, WKB_DIM_XY, options, out) && out == big, "a shorter one");
+  const auto whole = wkb::collect(of(2), WKB_KIND_GEOMETRY_COLLECTION, WKB_DIM_XY, options);
+  expect(whole.size() == 9 + 21 + POLYGONS.size() && std::equal(POLYGONS.begin(), POLYGONS.end(), whole.begin() + 30),
+         "a collection");
+  expect(wkb::collect(of(0), WKB_KIND_GEOMETRY_COLLECTION, WKB_DIM_XY, options).size() == 9, "an empty one");
+  const std::string wrong = "a member does not belong in its multi geometry, in part 0 at byte 0";
+  expect(refused(2, WKB_KIND_MULTI_POINT) == std::pair<std::size_t, std::string>(1, wrong), "another kind");
+  const std::string ends = "the input ends inside a header or before a count, in part 0 at byte 0";
+  expect(refused(3, WKB_KIND_GEOMETRY_COLLECTION) == std::pair<std::size_t, std::string>(2, ends), "an empty row");
+  try {
+    wkb::collect(of(3), WKB_KIND_POINT, WKB_DIM_XY, options);
+    expect(false, "a kind without members");
+  } catch (const std::invalid_argument &) {
+  }
+  wkb_fault fault{};
+  std::size_t row = 7;
+  const bool is_written = wkb::try_collect(of(3), WKB_KIND_GEOMETRY_COLLECTION, 4, options, out, &fault, &row);
+  expect(!is_written && out == big && row == 7, "an unknown dimension");
+  expect(fault.status == WKB_STATUS_UNKNOWN_OPTION && !wkb::try_collect(of(3), 7, 0, options, out), "why");
+}
+
 // Coordinates of one's own: levels with ends and without, null rows, bad ones, and back.
 static void rows_of_ones_own() {
   const wkb_options little = {WKB_ORDER_LITTLE, WKB_FORM_ISO, 0};
@@ -224,5 +262,6 @@ int main() {
   refusals_without_exceptions();
   long_inputs();
   columns();
+  collects();
   rows_of_ones_own();
 }

@@ -69,6 +69,9 @@ void wkb_raw_column_parts(const wkb_raw_column *column, wkb_part *parts, size_t 
                           size_t end_count, uint8_t *statuses, size_t rows);
 void wkb_raw_column_write(const wkb_raw_column *column, const wkb_options *options, uint8_t *out, size_t room,
                           uint64_t *ends, size_t end_count, uint8_t *statuses, size_t rows);
+wkb_status wkb_raw_collect(const wkb_raw_column *column, size_t rows, uint32_t kind, uint32_t dimension,
+                           const wkb_options *options, uint8_t *out, size_t room, size_t *size, wkb_fault *fault,
+                           size_t *row);
 void wkb_raw_column_coordinates(const wkb_raw_column *column, uint32_t dimension, wkb_raw_level_slices *out,
                                 uint64_t *row_ends, size_t row_count, wkb_raw_totals *totals, uint8_t *statuses,
                                 size_t rows);

@@ -71,7 +71,7 @@ def try_names(library):
 
 
 def try_order(library, order, ask):
-    """Compares the answers after these loads with those of each library alone, in all ways to load them."""
+    """Compare the answers after these loads with those of each library alone, in all ways to load them."""
     asked = {"wkb": OURS, "wkbst": TRIGGERS, "spatialite": THEIRS}
     # SpatiaLite's functions replace those of the second entry point.
     names = [name for name in order if name != "wkbst" or "spatialite" not in order]

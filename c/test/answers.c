@@ -6,10 +6,11 @@ enum { COLUMN_INPUTS = 16, DATA_ROOM = COLUMN_INPUTS * INPUT_ROOM, PARTS_ROOM = 
 enum { WORDS_ROOM = DATA_ROOM / 8, ENDS_ROOM = DATA_ROOM / 4, UNTOUCHED = 0x5a };
 
 /* The calls, and the sum of the answers of each. */
-enum { CHECK, BOUNDS, WRITE, SAME, PARTS, COLUMN_CHECK, COLUMN_BOUNDS, COLUMN_PARTS, COLUMN_WRITE, COORDINATES, FROM };
+enum { CHECK, BOUNDS, WRITE, SAME, PARTS, COLUMN_CHECK, COLUMN_BOUNDS, COLUMN_PARTS, COLUMN_WRITE, COORDINATES, FROM,
+       COLLECT };
 static const char *const NAMES[] = {"check",         "bounds",       "write",        "same",
                                     "parts",         "column_check", "column_bounds", "column_parts",
-                                    "column_write",  "column_coordinates", "column_from_coordinates"};
+                                    "column_write",  "column_coordinates", "column_from_coordinates", "collect"};
 enum { CALLS = sizeof NAMES / sizeof NAMES[0] };
 static uint64_t sums[CALLS];
 
@@ -229,6 +230,34 @@ static void write_columns(const wkb_column *it, const wkb_options *options) {
   }
 }
 
+/* Collects a column of a kind and a dimension in a room. Returns the size that is told, or 0. */
+static size_t collect(const wkb_column *it, uint32_t kind, uint32_t dimension, const wkb_options *options,
+                      size_t room, size_t shown) {
+  wkb_fault fault;
+  size_t size = 0, row = UNTOUCHED;
+  memset(&fault, UNTOUCHED, sizeof fault), memset(written.bytes, UNTOUCHED, shown);
+  take(COLLECT, wkb_collect(it, kind, dimension, options, written.bytes, room, &size, &fault, &row));
+  take(COLLECT, size), take(COLLECT, row), take_bytes(COLLECT, &fault, sizeof fault);
+  take_bytes(COLLECT, written.bytes, shown);
+  return size;
+}
+
+/* Up to three rows from each on, in just enough room and in less; and all rows. */
+static void collect_columns(const wkb_column *all, uint32_t kind, uint32_t dimension, const wkb_options *options) {
+  for (size_t i = 0; i < COLUMN_INPUTS; i++) {
+    uint32_t whole = i % 2 || kind > WKB_KIND_POLYGON ? WKB_KIND_GEOMETRY_COLLECTION : kind + 3;
+    wkb_column it = *all;
+    it.offsets = column.offsets + i * (all->offset_size == 4 ? 4 : 8), it.validity_offset += i;
+    for (it.rows = 0; it.rows <= COLUMN_INPUTS - i && it.rows <= 3; it.rows++) {
+      size_t size = collect(&it, whole, dimension, options, 0, 1);
+      if (size == 0) continue;
+      collect(&it, whole, dimension, options, size, size + 1);
+      collect(&it, whole, dimension, options, size - 1, size + 1);
+    }
+  }
+  collect(all, kind, dimension, options, 0, 1);
+}
+
 /* One call for coordinates with these rooms. */
 static wkb_coordinates split(const wkb_column *it, uint32_t dimension, size_t words, size_t rings, size_t singles) {
   wkb_coordinates to = {written.words,       words,   written.ring_ends, rings,
@@ -299,6 +328,7 @@ static void answer_column(const generated *inputs, uint32_t kind, uint32_t dimen
   wkb_column it = random_column(ends);
   wkb_options options = random_options();
   check_columns(&it), list_columns(&it), write_columns(&it, &options), split_columns(&it, kind, dimension);
+  collect_columns(&it, kind, dimension, &options);
 }
 
 /* Each call over some inputs, and over columns of them. */

@@ -90,6 +90,36 @@ void writes(const auto &it) {
   expect(found.data == expected, "the encodings of rows");
 }
 
+// The collection of all shapes.
+std::vector<std::byte> collection_of_shapes(wkb_dim dimension) {
+  speller whole{WKB_ORDER_BIG, dimension, true, 7};
+  whole.header(WKB_KIND_GEOMETRY_COLLECTION), whole.put(SHAPES.size(), 4);
+  for (const shape &it : SHAPES) {
+    const auto member = speller{WKB_ORDER_BIG, dimension, true}.spell(it);
+    whole.bytes.insert(whole.bytes.end(), member.begin(), member.end());
+  }
+  return whole.bytes;
+}
+
+// All rows as one geometry, unless one is null. Only a collection takes all of them: the first row is a point, the
+// second a line string.
+void collects(const auto &it) {
+  for (wkb_kind kind = WKB_KIND_MULTI_POINT; kind <= WKB_KIND_GEOMETRY_COLLECTION; kind++) {
+    const std::size_t fitting = kind == WKB_KIND_GEOMETRY_COLLECTION ? SHAPES.size() : kind == WKB_KIND_MULTI_POINT;
+    const std::size_t first = std::min(fitting, it.null_row);
+    std::vector<std::byte> out, expected;
+    wkb_fault fault{};
+    std::size_t row = SHAPES.size();
+    const bool is_written = wkb::try_collect(it.column(), kind, it.dimension, BIG_EWKB, out, &fault, &row);
+    expect(is_written == (first == SHAPES.size()) && row == first, "whether rows are collected");
+    if (is_written) expected = collection_of_shapes(it.dimension);
+    expect(out == expected, "a collection of rows");
+    wkb_status why = it.null_row == first ? WKB_STATUS_NULL_ROW : WKB_STATUS_INCORRECT_TYPE;
+    if (is_written) why = WKB_STATUS_OK;
+    expect(fault.status == why, "why rows are not collected");
+  }
+}
+
 // The words of a coordinate whose first ordinate is X, from one dimension to another.
 void put_words(std::vector<double> &words, double x, wkb_dim from, wkb_dim to) {
   const double none = std::numeric_limits<double>::quiet_NaN();
@@ -142,6 +172,7 @@ void columns(wkb_order order, wkb_dim dimension) {
     bounds(it);
     parts(it);
     writes(it);
+    collects(it);
     for (const wkb_dim to : DIMENSIONS) coordinates(it, to);
   }
   const rows<Offset> it(order, dimension, 0);

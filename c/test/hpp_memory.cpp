@@ -11,6 +11,7 @@
 
 static_assert(std::is_nothrow_copy_constructible_v<wkb::refused>);
 static_assert(std::is_nothrow_copy_constructible_v<wkb::refused_of_two>);
+static_assert(std::is_nothrow_copy_constructible_v<wkb::refused_row>);
 
 namespace {
 
@@ -110,6 +111,24 @@ void writes() {
   is_unchanged();
 }
 
+// So is an output of many rows.
+void collects() {
+  const std::array<std::int64_t, 3> offsets{0, 21, 41};
+  const wkb_column points = wkb::column(POINT, std::span<const std::int64_t>(offsets).first(2));
+  const wkb_column cut = wkb::column(POLYGON, std::span<const std::int64_t>(offsets));
+  const auto before = spelled("0a0b0c"), big = spelled("00000000040000000100000000013ff00000000000004000000000000000");
+  auto out = before;
+  const auto is_unchanged = [&] { expect(out == before, "an output of rows after a refusal"); };
+  const auto puts = [&] { wkb::try_collect(points, WKB_KIND_MULTI_POINT, WKB_DIM_XY, BIG, out); };
+  expect(refusals(puts, is_unchanged) == 1 && out == big && refusals(puts) == 0, "try_collect");
+  const auto collect = [&](const wkb_column &of, wkb_dim dimension) {
+    return wkb::collect(of, WKB_KIND_MULTI_POINT, dimension, BIG);
+  };
+  expect(refusals([&] { expect(collect(points, WKB_DIM_XY) == big, "a collection"); }) == 1, "collect");
+  needs_memory_to_throw<wkb::refused_row>([&] { collect(cut, WKB_DIM_XY); }, [] {});
+  needs_memory_to_throw<std::invalid_argument>([&] { collect(points, 4); }, [] {});
+}
+
 void exceptions() {
   needs_memory_to_throw<wkb::refused>([] { wkb::bounds(CUT); }, [] {});
   needs_memory_to_throw<wkb::refused>([] { wkb::write(CUT, BIG); }, [] {});
@@ -163,6 +182,7 @@ int main() {
   readers();
   parts();
   writes();
+  collects();
   exceptions();
   columns();
   calls_without_memory();

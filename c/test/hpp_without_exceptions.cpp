@@ -96,6 +96,15 @@ void columns() {
   expect(wkb::bounds_of_rows(column).boxes[0].y.least == 2, "bounds_of_rows");
   expect(wkb::parts_of_rows(column).parts.size() == 1, "parts_of_rows");
   expect(wkb::write_rows(column, BIG).data == BIG_POINT, "write_rows");
+  std::vector<std::byte> whole;
+  wkb_fault fault = UNTOLD;
+  std::size_t row = 7;
+  const auto collects = [&](wkb_kind kind) {
+    return wkb::try_collect(column, kind, WKB_DIM_XY, BIG, whole, &fault, &row);
+  };
+  expect(collects(WKB_KIND_MULTI_POINT) && whole.size() == 30 && fault.status == 7 && row == 7, "try_collect");
+  expect(!collects(WKB_KIND_POINT) && is_only(WKB_STATUS_UNKNOWN_OPTION, fault) && row == 7, "no kind of members");
+  expect(!collects(WKB_KIND_MULTI_POLYGON) && is_only(WKB_STATUS_INCORRECT_TYPE, fault) && row == 0, "another kind");
   const auto found = wkb::coordinates_of_rows(column, WKB_DIM_XY);
   expect(wkb::rows_from_coordinates({.words = found.words}, WKB_KIND_POINT, WKB_DIM_XY, BIG).data == BIG_POINT, "back");
 }
@@ -130,6 +139,9 @@ void refused_memory() {
   expect(ends_without_memory([&] { wkb::try_write(POINT, BIG, out); }), "try_write without memory");
   expect(ends_without_memory([&] { point.words(); }), "words without memory");
   expect(ends_without_memory([&] { wkb::check_rows(column); }), "check_rows without memory");
+  out.clear(), out.shrink_to_fit();
+  expect(ends_without_memory([&] { wkb::try_collect(column, WKB_KIND_MULTI_POINT, WKB_DIM_XY, BIG, out); }),
+         "try_collect without memory");
 }
 #endif
 

@@ -16,15 +16,15 @@ enum { INTERRUPTED = 300, SIGNALS_MOST = 100000 };
 /* All that the calls write over the column of all inputs. */
 typedef struct results {
   wkb_found found;
-  wkb_fault faults[5];
+  wkb_fault faults[5], row_fault;
   wkb_box box, boxes[COLUMN_ROWS];
   wkb_part parts[ROOM], row_parts[ROOM];
   double own_words[4], words[ROOM];
-  size_t size, count;
+  size_t size, count, whole_size, bad_row;
   uint64_t ends[3][COLUMN_ROWS], ring_ends[ROOM], single_ends[ROOM], row_ends[COLUMN_ROWS];
   uint32_t equal, which;
   char texts[5][WKB_FAULT_TEXT_ROOM];
-  uint8_t out[BYTES], row_out[BYTES], level_out[BYTES], statuses[6][COLUMN_ROWS];
+  uint8_t out[BYTES], row_out[BYTES], level_out[BYTES], whole_out[BYTES], statuses[6][COLUMN_ROWS];
 } results;
 
 static filled inputs;
@@ -39,6 +39,18 @@ static void call_for_one(results *r, const uint8_t *bytes, size_t len) {
   for (int i = 0; i < 5; i++) wkb_fault_text(&r->faults[i], r->texts[i], WKB_FAULT_TEXT_ROOM);
 }
 
+/* All rows of a column, of which one refuses the whole, and the first ones in turn that are accepted. */
+static void collect(results *r, wkb_column column) {
+  const wkb_kind kind = WKB_KIND_GEOMETRY_COLLECTION;
+  size_t first = 0, end;
+  wkb_collect(&column, kind, 0, &LITTLE_ISO, r->whole_out, BYTES, NULL, &r->row_fault, &r->bad_row);
+  while (r->statuses[0][first] != WKB_STATUS_OK) first++;
+  for (end = first; r->statuses[0][end] == WKB_STATUS_OK;) end++;
+  column.offsets = (const int64_t *)column.offsets + first;
+  column.validity_offset += first, column.rows = end - first;
+  wkb_collect(&column, kind, 0, &LITTLE_ISO, r->whole_out, BYTES, &r->whole_size, NULL, NULL);
+}
+
 /* Over the inputs from one on. */
 static void call_all(results *r, size_t first) {
   wkb_column column = inputs.column;
@@ -50,6 +62,7 @@ static void call_all(results *r, size_t first) {
   wkb_column_bounds(&column, r->boxes, r->statuses[1]);
   wkb_column_parts(&column, r->row_parts, ROOM, r->ends[0], r->statuses[2]);
   wkb_column_write(&column, &LITTLE_ISO, r->row_out, BYTES, r->ends[1], r->statuses[3]);
+  collect(r, column);
   wkb_coordinates to = {r->words, ROOM, r->ring_ends, ROOM, r->single_ends, ROOM, r->row_ends, 0, 0, 0};
   wkb_column_coordinates(&column, WKB_DIM_XY, &to, r->statuses[4]);
   const wkb_levels from = {r->words,   2 * to.coordinates, r->ring_ends, to.rings, r->single_ends,

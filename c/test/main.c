@@ -21,6 +21,8 @@ int main(int count, char **words) {
   coordinates_are_right();
   levels_are_right();
   levels_come_back_from_rows();
+  collections_are_right();
+  random_collections_are_right();
   printf("columns return what they must\n");
   what_lasts_is_as_it_was();
   printf("20000 random inputs have the answers %016llx\n", (unsigned long long)answers_over(0, 20000));

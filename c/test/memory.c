@@ -3,7 +3,7 @@
 
 enum { PART_COUNT = 10000, DEPTH = 128, LEN_MOST = 9 + 30 * PART_COUNT };
 
-static uint8_t bytes[LEN_MOST], out[LEN_MOST + 4];
+static uint8_t bytes[LEN_MOST], out[LEN_MOST + 9];
 static wkb_part parts[4 * PART_COUNT + 1];
 static uint64_t ring_ends[3 * PART_COUNT], single_ends[PART_COUNT];
 static double words[4 * PART_COUNT];
@@ -32,6 +32,9 @@ static void all_calls(size_t len, const char *what) {
   expect(status == found, "a row's parts", what);
   wkb_column_write(&column, &LITTLE_ISO, out, sizeof out, &end, &status);
   expect(status == found, "a row's encoding", what);
+  const wkb_kind any = WKB_KIND_GEOMETRY_COLLECTION;
+  wkb_status whole = wkb_collect(&column, any, WKB_DIM_XY, &LITTLE_ISO, out, sizeof out, &size, NULL, NULL);
+  expect(whole == found || whole == WKB_STATUS_NESTING_DEPTH_EXCEEDED, "a collection of a row", what);
   wkb_column_coordinates(&column, WKB_DIM_XYZM, &levels, &status);
   expect(status == found, "a row's coordinates", what);
   wkb_levels read = {words, 4 * levels.coordinates, ring_ends, levels.rings, single_ends, levels.singles, NULL, 1,

@@ -35,6 +35,8 @@ static void column_ends_at_page(const answer *a, uint8_t *page_end, uint8_t *oth
     expect(status == a->status, "bounds at the end of a page", a->input);
     wkb_column_parts(&column, NULL, 0, &end, &status);
     expect(status == (a->status == WKB_STATUS_OK ? WKB_STATUS_NO_ROOM : a->status), "parts at the end", a->input);
+    wkb_status of_all = wkb_collect(&column, WKB_KIND_GEOMETRY_COLLECTION, 0, &LITTLE_ISO, NULL, 0, NULL, NULL, NULL);
+    expect(of_all == status, "a collection at the end", a->input);
   }
   uint8_t status = 0x5a;
   int64_t offsets[2] = {0, (int64_t)len};
@@ -61,6 +63,11 @@ static void rows_without_bytes_are_not_read(const uint8_t *unreadable) {
   wkb_column_parts(&column, parts, ROOM, ends, statuses[2]);
   wkb_column_write(&column, &LITTLE_ISO, out, ROOM, ends, statuses[3]);
   wkb_column_coordinates(&column, WKB_DIM_XY, &to, statuses[4]);
+  for (size_t i = 0; i < ROWS; i++) {
+    const wkb_column rest = {unreadable, 42, OFFSETS + i, 4, &VALIDITY, i, ROWS - i};
+    wkb_status status = wkb_collect(&rest, WKB_KIND_MULTI_POINT, 0, &LITTLE_ISO, out, ROOM, NULL, NULL, NULL);
+    expect(status == (i ? WKB_STATUS_BAD_OFFSETS : WKB_STATUS_NULL_ROW), "a row of all", "");
+  }
   for (int i = 0; i < 5 * ROWS; i++)
     expect(statuses[i / ROWS][i % ROWS] == (i % ROWS ? WKB_STATUS_BAD_OFFSETS : WKB_STATUS_NULL_ROW), "a row", "");
 }

@@ -61,6 +61,8 @@ void columns_are_right(void);
 void coordinates_are_right(void);
 void levels_are_right(void);
 void levels_come_back_from_rows(void);
+void collections_are_right(void);
+void random_collections_are_right(void);
 void check_is_as_expected(const answer *a, const uint8_t *bytes, size_t len);
 void parts_are_as_expected(const answer *a, const uint8_t *bytes, size_t len);
 void refusal_leaves_outputs(const answer *a, const uint8_t *bytes, size_t len);

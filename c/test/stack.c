@@ -19,6 +19,7 @@ static uint64_t row_end, ring_ends[ROOM], single_ends[ROOM];
 static double words[2 * ROOM];
 static wkb_part parts[ROOM];
 static int64_t offsets[2];
+static int64_t collected[2]; /* of the row that is collected */
 static wkb_column column = {bytes, 0, offsets, sizeof offsets[0], NULL, 0, 1};
 
 /* Collections inside one another, as many as are accepted. The innermost has a multi polygon, and a point follows each
@@ -58,6 +59,11 @@ static void parts_of_rows(void) {
 static void write_rows(void) {
   wkb_column_write(&column, &LITTLE_ISO, out, sizeof out, &row_end, &row_status), status = row_status;
 }
+static void collect_rows(void) {
+  const wkb_column member = {bytes, len, collected, sizeof collected[0], NULL, 0, 1};
+  const wkb_kind kind = WKB_KIND_GEOMETRY_COLLECTION;
+  status = wkb_collect(&member, kind, WKB_DIM_XY, &LITTLE_ISO, out, sizeof out, &size, NULL, NULL);
+}
 static void coordinates_of_rows(void) {
   wkb_coordinates levels = {words, 2 * ROOM, ring_ends, ROOM, single_ends, ROOM, &row_end, 0, 0, 0};
   wkb_column_coordinates(&column, WKB_DIM_XY, &levels, &row_status), status = row_status;
@@ -87,6 +93,7 @@ static const tried TRIED[] = {{"wkb_check", check, OTHERS_MOST, false},
                               {"wkb_column_bounds", bounds_of_rows, OTHERS_MOST, false},
                               {"wkb_column_parts", parts_of_rows, PARTS_MOST, false},
                               {"wkb_column_write", write_rows, OTHERS_MOST, false},
+                              {"wkb_collect", collect_rows, OTHERS_MOST, false},
                               {"wkb_column_coordinates", coordinates_of_rows, OTHERS_MOST, false},
                               {"wkb_column_from_coordinates", rows_of_coordinates, OTHERS_MOST, true},
                               {"wkb_words", copy, OTHERS_MOST, true},
@@ -156,11 +163,14 @@ void little_stack_is_taken(void) {
   stack_of(&NOTHING, stack); /* a program's first thread takes more */
   size_t without = stack_of(&NOTHING, stack);
   nest();
+  /* The outermost collection's first member, behind its header and before its point. */
+  collected[0] = 9, collected[1] = (int64_t)len - 21;
   all_take_little(WKB_STATUS_OK, without, stack);
-  len--;
+  len--, collected[1]--;
   all_take_little(WKB_STATUS_SHORT_POINT, without, stack);
   for (int i = 0; i < ANSWER_COUNT; i++) {
     len = spelled(ANSWERS[i].input, bytes);
+    collected[0] = 0, collected[1] = (int64_t)len;
     all_take_little(ANSWERS[i].status, without, stack);
   }
   release(stack, STACK_SIZE);

@@ -1,7 +1,7 @@
 /* The texts of statuses, kinds and faults, the classes of statuses, and the version. */
 #include "shared.h"
 
-enum { STATUS_COUNT = 16, KIND_COUNT = 8, STATUSES_MOST = 300 };
+enum { STATUS_COUNT = 17, KIND_COUNT = 8, STATUSES_MOST = 300 };
 
 /* The texts of numbers without a name: each is that of its class. */
 static const char *const CLASSES[] = {"the call couldn't do what it was asked for", "something is wrong with the row",

@@ -1,12 +1,13 @@
-//! Encodes coordinates of one's own: a point, a column of line strings, and a polygon with a hole.
-use porchsorrel_wkb::{encode_point, Dimension, Kind, Levels, Options};
+//! Encodes coordinates of one's own: a point, a column of line strings, which are collected into one geometry, and a
+//! polygon with a hole.
+use porchsorrel_wkb::{encode_point, Dimension, Kind, Levels, NotCollected, Options, Rows};
 
 fn print(what: &str, encoding: &[u8]) {
     let hex: String = encoding.iter().map(|byte| format!("{byte:02x}")).collect();
     println!("{what}: {hex}");
 }
 
-fn main() {
+fn main() -> Result<(), NotCollected> {
     let options = Options::default();
     print("point", &encode_point(&[1.0, 2.0], Dimension::Xy, &options));
 
@@ -21,8 +22,12 @@ fn main() {
         }
     }
 
+    let both = Rows::of((0..rows.ends.len()).map(|row| rows.row(row)));
+    print("multilinestring", &both.column().collect(Kind::MultiLineString, Dimension::Xy, &options)?);
+
     // One polygon of two rings, the exterior of five coordinates and the interior of four.
     let words = [0., 0., 9., 0., 9., 9., 0., 9., 0., 0., 1., 1., 2., 2., 1., 2., 1., 1.];
     let polygon = Levels { words: &words, ring_ends: Some(&[5, 9]), single_ends: Some(&[2]), ..Levels::default() };
     print("polygon", &polygon.encode(Kind::Polygon, Dimension::Xy, &options).data);
+    Ok(())
 }

@@ -80,7 +80,7 @@ impl<'a> Column<'a> {
         }
     }
 
-    fn raw(&self) -> raw::Column {
+    pub(crate) fn raw(&self) -> raw::Column {
         let (offsets, offset_size) = match self.offsets {
             Offsets::Small(offsets) => (offsets.as_ptr().cast(), 4),
             Offsets::Large(offsets) => (offsets.as_ptr().cast(), 8),

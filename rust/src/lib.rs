@@ -17,6 +17,7 @@
 //! assert_eq!(refused.to_string(), "the input ends inside a point, in part 0 at byte 0, which would end at 21 of 20");
 //! # Ok::<(), porchsorrel_wkb::Refused>(())
 //! ```
+mod collect;
 mod column;
 mod geometry;
 mod levels;
@@ -24,6 +25,7 @@ mod raw;
 mod status;
 mod types;
 
+pub use collect::NotCollected;
 pub use column::{Column, Coordinates, Encodings, Rows};
 pub use geometry::{Geometry, Part, Reader, Words};
 pub use levels::{encode_point, Levels};

@@ -126,6 +126,17 @@ extern "C" {
         ends: *mut u64,
         statuses: *mut u8,
     ) -> usize;
+    pub fn wkb_collect(
+        column: *const Column,
+        kind: u32,
+        dimension: u32,
+        options: *const Options,
+        out: *mut c_void,
+        room: usize,
+        size: *mut usize,
+        fault: *mut Fault,
+        row: *mut usize,
+    ) -> u32;
     pub fn wkb_column_coordinates(column: *const Column, dimension: u32, out: *mut Coordinates, statuses: *mut u8);
     pub fn wkb_column_from_coordinates(
         levels: *const Levels,

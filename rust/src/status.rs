@@ -12,6 +12,9 @@ pub struct Status(u8);
 
 impl Status {
     pub const OK: Status = Status(0);
+    pub(crate) const NO_ROOM: Status = Status(2);
+    /// There are 2^32 rows or more, and a count has four bytes.
+    pub const TOO_MANY_ROWS: Status = Status(4);
     /// The row's validity bit is 0.
     pub const NULL_ROW: Status = Status(16);
     /// The row's offsets are negative, decrease or pass the end of the data, or the row begins before an earlier one

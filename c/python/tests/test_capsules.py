@@ -90,7 +90,7 @@ def size(number):
 
 
 def with_child(source):
-    """Gives the array a child."""
+    """Give the array a child."""
     child = Arrow()
     source.schema.n_children = source.array.n_children = 1
     source.schema.children = pointers([ctypes.addressof(child.schema)])
@@ -98,7 +98,7 @@ def with_child(source):
 
 
 def with_null(source, bits=0b11011):
-    """Gives records validity."""
+    """Give records validity."""
     validity = guarded(bytes([bits]))
     source.array.buffers[0] = ctypes.addressof(validity)
 
@@ -108,7 +108,7 @@ def without_null(source):
 
 
 def nested(source):
-    """Makes a column of records records inside records, 1,000 deep."""
+    """Make a column of records records inside records, 1,000 deep."""
     inner = Arrow()
     for _ in range(1000):
         inner = Records(inner, length=len(ROWS))
@@ -380,7 +380,7 @@ def outcome_of(case):
 
 
 def main(name, first):
-    """Prints what becomes of the cases of this generator, from a number on."""
+    """Print what becomes of the cases of this generator, from a number on."""
     capsules.memory_of = guarded
     if "asan" not in os.environ.get("LD_PRELOAD", ""):  # which has a limit of its own
         resource.setrlimit(resource.RLIMIT_AS, (2**32, 2**32))

@@ -172,7 +172,8 @@ class Results(unittest.TestCase):
         column = Column(*rows_of(POLYGON, b"\2", POINT))
         written = column.write(Order.BIG, Form.EWKB_WITH_SRID, 4326)
         big = bytes.fromhex("0020000001000010e6") + BIG_POINT[5:]
-        self.assertEqual((list(written.statuses), list(written.offsets)), ([0, Status.INVALID_BYTE_ORDER, 0], [0, 33, 33, 58]))
+        self.assertEqual(list(written.statuses), [0, Status.INVALID_BYTE_ORDER, 0])
+        self.assertEqual(list(written.offsets), [0, 33, 33, 58])
         self.assertEqual(bytes(written.data), POLYGON + big)
         again = Column(written.data, written.offsets).write()
         self.assertEqual(bytes(again.data), ISO_POLYGON + POINT)

@@ -59,7 +59,7 @@ def run_example(name, *arguments, **options):
 
 
 def until(holds):
-    """Waits until a condition holds, for a minute at most."""
+    """Wait until a condition holds, for a minute at most."""
     end = time.monotonic() + 60
     while not holds():
         if time.monotonic() > end:
@@ -171,7 +171,7 @@ class ManyFiles(unittest.TestCase):
         return process
 
     def mend(self):
-        """Puts the partition where the pipe is."""
+        """Put the partition where the pipe is."""
         os.replace(shutil.copy(self.before / "0002.npz", self.rows / "aside"), self.rows / "0002.npz")
 
     def test_cut_off(self):
@@ -185,7 +185,7 @@ class ManyFiles(unittest.TestCase):
         self.is_clean(run_example(*self.arguments), FILES - 2)
 
     def kill_workers(self, process):
-        """Kills the processes of a run, and counts them."""
+        """Kill the processes of a run, and count them."""
         killed = 0
         for folder in pathlib.Path("/proc").glob("[0-9]*"):
             with contextlib.suppress(OSError):
@@ -272,7 +272,7 @@ class ManyFiles(unittest.TestCase):
         self.assertIn("; the same command takes up what is done\n", said)
 
     def partition_is_right(self, name, rows, results, refused, duplicates, firsts):
-        """Compares what is kept of a partition, and adds what the tables have to say of it."""
+        """Compare what is kept of a partition, and add what the tables have to say of it."""
         data, offsets, bits = rows["data"].tobytes(), rows["offsets"], rows["validity"]
         self.assertEqual(len(results["boxes"]), len(offsets) - 1)
         for i, box in enumerate(results["boxes"]):

@@ -6,7 +6,7 @@ import unittest
 
 import wkb
 from samples import POINT
-from wkb import Column, Kind, column_from_coordinates
+from wkb import Column, Kind, collect, column_from_coordinates
 
 COUNT = 100_000
 # A collection of points, whose parts are read one by one.
@@ -45,7 +45,7 @@ class Lock(unittest.TestCase):
     def test_given_back(self):
         for call in (lambda: wkb.check(LONG), lambda: wkb.bounds(LONG), lambda: wkb.write(LONG),
                      lambda: wkb.same(LONG, LONG), lambda: wkb.parts(LONG), COLUMN.check, COLUMN.bounds, COLUMN.parts,
-                     COLUMN.write, COLUMN.coordinates,
+                     COLUMN.write, COLUMN.coordinates, lambda: collect(COLUMN, Kind.MULTI_POINT),
                      lambda: column_from_coordinates(Kind.POINT, LEVELS.coordinates)):
             self.assertEqual(order_of(call, 1_000), ["begin", "meanwhile", "end"])
 

@@ -14,7 +14,7 @@ import unittest
 import wkb
 from capsules import KEPT, Arrow, Records, Stream, Views
 from samples import LINE, POINT, POINTS, POLYGON, ROWS
-from wkb import Column, Dimension, Form, Kind, column_from_coordinates
+from wkb import Column, Dimension, Form, Kind, collect, column_from_coordinates
 
 try:
     import _testcapi
@@ -24,7 +24,7 @@ except ImportError:
 LONG = wkb.write(wkb.Column.of([POINT]).write().rows[0]) + bytes(20_000)
 WORDS, ENDS = array.array("d", [1.0, 2.0, 3.0, 4.0]), array.array("i", [0, 1, 2])
 COLLECTION = bytes.fromhex("010700000064000000") + 100 * LINE
-COLUMN = Column.of(ROWS)
+COLUMN, COLUMN_OF_POINTS = Column.of(ROWS), Column.of([POINT, POINT])
 TABLE = wkb.parts(POLYGON)
 
 
@@ -82,6 +82,9 @@ CALLS = {
     "parts of a column": lambda: list(COLUMN.parts().parts),
     "rows that are written": lambda: list(COLUMN.write(form=Form.EWKB_WITH_SRID, srid=7).rows),
     "coordinates of a column": lambda: COLUMN.coordinates(Dimension.XYZ),
+    "rows that are collected": lambda: collect(COLUMN_OF_POINTS, Kind.MULTI_POINT, srid=7),
+    "a row that is not collected": lambda: collect(COLUMN_OF_POINTS, Kind.MULTI_POLYGON),
+    "a null row that is not collected": lambda: collect(COLUMN, Kind.MULTI_POINT),
     "a column without offsets": lambda: Column(b"", bytes(8), first=1, offset_size=8),
     "validity that is too short": lambda: Column(POINT, array.array("q", [0] * 10), b"\1"),
     "rows from coordinates": lambda: column_from_coordinates(Kind.LINE_STRING, WORDS, ENDS),
@@ -95,11 +98,11 @@ CALLS = {
 }
 ALL = {name: (lambda make=make: Ready(make()), take) for name, (make, take) in GIVEN.items()}
 ALL.update((name, (tuple, lambda _, call=call: call())) for name, call in CALLS.items())
-FEW, MANY = 100, 500
+FEW, MANY, TRIES = 100, 500, 8
 
 
 def quietly(make, call):
-    """Makes a call, and forgets what it returns or raises, if that is an error which calls document."""
+    """Make a call, and forget what it returns or raises, if that is an error which calls document."""
     with contextlib.suppress(TypeError, ValueError, IndexError, OSError):
         call(make())
 
@@ -128,8 +131,8 @@ class References(unittest.TestCase):
 
     def growths(self, make, call):
         """What every second call has kept at least, each time that it is tried: a block of memory, or a reference, or a
-        reference less than it had. Python itself keeps some memory once."""
-        for _ in range(3):
+        reference less than it had. Python itself keeps some memory now and then."""
+        for _ in range(TRIES):
             blocks, size, *references = growth_of(make, call)
             if max(blocks, size // 32, *map(abs, references)) < MANY // 2:
                 return
@@ -139,17 +142,17 @@ class References(unittest.TestCase):
         for name, of in ALL.items():
             with self.subTest(name):
                 found = [*self.growths(*of)]
-                self.assertLess(len(found), 3, found)
+                self.assertLess(len(found), TRIES, found)
 
     def test_losses_are_seen(self):
         """What keeps an object, a reference or some memory at each call."""
         kept = []
         for make in (object, lambda: POLYGON, lambda: bytes(1000)):
-            self.assertEqual(len([*self.growths(make, kept.append)]), 3)
+            self.assertEqual(len([*self.growths(make, kept.append)]), TRIES)
 
 
 def refuse_each(make, call):
-    """Refuses one allocation after another during a call, until it has made none of so many. Returns how often it has
+    """Refuse one allocation after another during a call, until it has made none of so many. Return how often it has
     raised a MemoryError; an error that no call documents is not caught."""
     count, last = 0, 0
     for number in itertools.count():

@@ -65,7 +65,7 @@ class Names(unittest.TestCase):
             self.assertRegex(wkb.__doc__, rf"\.{name}\(")
 
     def test_names(self):
-        self.assertEqual(len(self.PUBLIC), 29)
+        self.assertEqual(len(self.PUBLIC), 30)
         for name in self.PUBLIC:
             self.assertTrue(getattr(wkb, name).__doc__, name)
         everything = {}

@@ -47,6 +47,8 @@ def wrong(part: wkb.Part, column: wkb.Column) -> None:
     wkb.column_from_coordinates(1, b"")  # type: ignore[arg-type]
     wkb.column_from_coordinates(wkb.Kind.POINT, [1.0, 2.0])  # type: ignore[arg-type]
     column.coordinates(3)  # type: ignore[arg-type]
+    wkb.collect(column, 4)  # type: ignore[arg-type]
+    wkb.collect([b""], wkb.Kind.MULTI_POINT)  # type: ignore[arg-type]
     part.count = 0  # type: ignore[misc]
     column.write().rows[0] + b""  # type: ignore[operator]
     wkb.column_from_coordinates(wkb.Kind.POINT, NotArrow())  # type: ignore[arg-type]
@@ -64,5 +66,6 @@ def right(data: bytes, mapped: mmap.mmap, rows: List[Optional[bytes]]) -> List[w
     written = wkb.column_from_coordinates(wkb.Kind.POINT, levels, dimension=wkb.Dimension.XYZ)
     wkb.Column.of(written.rows)
     wkb.Column.from_arrow(written)
+    wkb.check(wkb.collect(wkb.Column.of(rows), wkb.Kind.MULTI_POINT, wkb.Dimension.XYZ, srid=4326))
     wkb.write(data, srid=4326)
     return [wkb.check(data), wkb.check(mapped)]

@@ -19,16 +19,14 @@ static PyObject *read_one(state *s, PyObject *data, int for_bounds) {
   wkb_found found;
   wkb_box box;
   wkb_fault fault;
-  PyObject *result;
   h.count = 0;
   if (hold_input(&h, data, &in) < 0) return NULL;
   PyThreadState *unlocked = unlock(in.size);
   uint32_t status = for_bounds ? wkb_bounds(in.at, in.size, &box, &fault) : wkb_check(in.at, in.size, &found, &fault);
   lock(unlocked);
-  if (status != WKB_STATUS_OK)
-    result = refuse(s, status, &fault, 1, in);
-  else
-    result = for_bounds ? box_of(s, &box) : geometry_of(s, FOUND, &found);
+  PyObject *result = status != WKB_STATUS_OK ? refuse(s, status, &fault, 1, in)
+                     : for_bounds            ? box_of(s, &box)
+                                             : geometry_of(s, FOUND, &found);
   let(&h);
   return result;
 }
@@ -90,10 +88,8 @@ static PyObject *same(PyObject *module, PyObject *const *args, Py_ssize_t count)
     PyThreadState *unlocked = unlock(in[0].size + in[1].size);
     uint32_t status = wkb_same(in[0].at, in[0].size, in[1].at, in[1].size, &equal, &fault, &which);
     lock(unlocked);
-    if (status == WKB_STATUS_OK)
-      result = PyBool_FromLong(equal == 1);
-    else
-      result = refuse(state_of(module), status, &fault, which, in[which == 2]);
+    result = status == WKB_STATUS_OK ? PyBool_FromLong(equal == 1)
+                                     : refuse(state_of(module), status, &fault, which, in[which == 2]);
   }
   let(&h);
   return result;

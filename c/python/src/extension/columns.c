@@ -48,11 +48,9 @@ static int hold_column(holds *h, PyObject *given, wkb_column *out) {
 }
 
 static int64_t offset_at(const wkb_column *column, size_t index) {
-  const uint8_t *at = (const uint8_t *)column->offsets + index * column->offset_size;
-  int32_t narrow;
-  int64_t wide;
-  memcpy(column->offset_size == 4 ? (void *)&narrow : (void *)&wide, at, column->offset_size);
-  return column->offset_size == 4 ? narrow : wide;
+  int64_t offset = 0;
+  memcpy(&offset, (const uint8_t *)column->offsets + index * column->offset_size, column->offset_size);
+  return column->offset_size == 4 ? (int32_t)offset : offset;
 }
 
 /* How many bytes are from the first offset up to the last, at most those of the data, whatever the offsets are. */
@@ -77,42 +75,51 @@ static size_t kinds_of(const wkb_column *column, const uint8_t *statuses) {
   return kinds;
 }
 
-/* A call for a column of rows, with memory for a result, for offsets that begin with 0, and for statuses. */
-enum { CHECK, BOUNDS, PARTS, WRITE, ROOM, ROW_KINDS };
-static size_t run(int call, const wkb_column *column, const wkb_options *options, const span *out) {
+/* A call for a column of rows, with memory for a result, for offsets that begin with 0, and for statuses. A collection
+ * of a kind and a dimension has a fault in the place of offsets, with its status, and returns the row that is refused.
+ */
+enum { CHECK, BOUNDS, PARTS, WRITE, ROOM, ROW_KINDS, COLLECT };
+static size_t run(int call, const wkb_column *column, const wkb_options *options, const span *out, const uint32_t *of) {
+  wkb_fault *fault = (wkb_fault *)(void *)out[1].at;
   uint64_t *ends = (uint64_t *)(void *)out[1].at + 1;
   uint8_t *statuses = out[2].at;
   wkb_part *table = (wkb_part *)(void *)out[0].at;
+  size_t size = 0, row = 0;
   switch (call) {
     case CHECK: wkb_column_check(column, statuses); return 0;
     case BOUNDS: wkb_column_bounds(column, (wkb_box *)(void *)out[0].at, statuses); return 0;
     case PARTS: return wkb_column_parts(column, table, out[0].size / sizeof(wkb_part), ends, statuses);
     case WRITE: return wkb_column_write(column, options, out[0].at, out[0].size, ends, statuses);
     case ROOM: return room_of(column);
+    case COLLECT:
+      fault->status = wkb_collect(column, of[0], of[1], options, out[0].at, out[0].size, &size, fault, &row);
+      return fault->status >= WKB_STATUS_NULL_ROW ? row : size;
     default: return kinds_of(column, statuses);
   }
 }
 
-/* column(call, column, (order, form, srid), (result, offsets, statuses)): the size of the whole result, where the call
- * returns it. */
+/* column(call, column, (order, form, srid), (result, offsets, statuses)[, kind, dimension]): the size of the whole
+ * result, where the call returns it. */
 static PyObject *column_call(PyObject *module, PyObject *args) {
   PyObject *given, *to[3], *size = NULL;
   holds h;
   wkb_column column;
   wkb_options options;
   span out[3];
+  uint32_t of[2] = {0, 0};
   int call;
   h.count = 0;
-  if (!PyArg_ParseTuple(args, "iO!(III)(OOO)", &call, &PyTuple_Type, &given, &options.order, &options.form,
-                        &options.srid, &to[0], &to[1], &to[2]))
+  if (!PyArg_ParseTuple(args, "iO!(III)(OOO)|II", &call, &PyTuple_Type, &given, &options.order, &options.form,
+                        &options.srid, &to[0], &to[1], &to[2], &of[0], &of[1]))
     return NULL;
-  int has_ends = call == PARTS || call == WRITE;
+  int has_ends = call == PARTS || call == WRITE, has_statuses = call != ROOM && call != COLLECT;
   if (hold_column(&h, given, &column) == 0 && hold_outputs(&h, to, 3, out) == 0 &&
       expect("bytes of boxes", out[0].size, call == BOUNDS ? column.rows * sizeof(wkb_box) : 0, column.rows) == 0 &&
       expect("bytes of ends", out[1].size, has_ends ? 8 * (column.rows + 1) : 0, column.rows) == 0 &&
-      expect("statuses", out[2].size, call == ROOM ? 0 : column.rows, column.rows) == 0) {
+      expect("bytes of a fault", out[1].size, call == COLLECT ? sizeof(wkb_fault) : 0, column.rows) == 0 &&
+      expect("statuses", out[2].size, has_statuses ? column.rows : 0, column.rows) == 0) {
     PyThreadState *unlocked = PyEval_SaveThread();
-    size_t needed = run(call, &column, &options, out);
+    size_t needed = run(call, &column, &options, out, of);
     PyEval_RestoreThread(unlocked);
     size = PyLong_FromSize_t(needed);
   }

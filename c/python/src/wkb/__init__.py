@@ -20,6 +20,8 @@ A column of geometries, in one piece of memory as Arrow has it:
     Column(data, offsets[, validity])  of any buffers; first= and rows= pick a slice
     column.check(), .bounds(), .write([order, form, srid]), .parts(), .coordinates([dimension])
                                     results for all rows, and a Status for each; no row stops a call
+    collect(column, kind[, dimension, order, form, srid])
+                                    the multi geometry or the collection whose members are the rows
     column_from_coordinates(kind, coordinates[, ring_offsets, single_offsets, row_offsets])
                                     the encodings of rows of one kind, from coordinates of your own, or of an
                                     array of GeoArrow in their place
@@ -32,13 +34,14 @@ What the numbers mean, as enums of integers:
 Records are Found, Fault, Part, Range and Box: frozen, compared by value, good as keys. Table is a sequence of Part or
 Box, and becomes a structured array by numpy.asarray. The column calls return ColumnBounds, ColumnParts,
 ColumnEncodings and ColumnCoordinates. The last two are arrays for packages of Arrow, and `rows` of ColumnEncodings is a
-sequence of bytes and None. Refused is a ValueError with `status` and `fault`, the part that is refused.
+sequence of bytes and None. Refused is a ValueError with `status`, `fault`, the part that is refused, and of a
+collection `row`, its index.
 
 A blob is anything with the buffer protocol. A call holds its buffer until it returns or raises, and no longer; only
 view returns an array over the blob's memory. Calls over a column, or over a blob of 16 KB or more, don't hold the
-interpreter's lock: those of several threads run side by side. The input may not change during a call, by other threads or processes either: of a mapped file that
-others write, such as a numpy.memmap, pass a copy, bytes(it). Sizes and offsets are in bytes. Functions, results,
-columns and Refused can be pickled, for other processes.
+interpreter's lock: those of several threads run side by side. The input may not change during a call, by other threads
+or processes either: of a mapped file that others write, such as a numpy.memmap, pass a copy, bytes(it). Sizes and
+offsets are in bytes. Functions, results, columns and Refused can be pickled, for other processes.
 
 The library is inside this package: load() needs to load nothing, and version() is that of its wkb.h. help(wkb.write),
 and so on, says more of each name.
@@ -53,6 +56,7 @@ from ._calls import same as same
 from ._calls import view as view
 from ._calls import write as write
 from ._columns import Column as Column
+from ._columns import collect as collect
 from ._enums import Dimension as Dimension
 from ._enums import Form as Form
 from ._enums import Kind as Kind

@@ -29,7 +29,7 @@ class Schema(NamedTuple):
     capsule: Any
 
     def name(self, most: int) -> str:
-        """The name, of a longer one so many bytes."""
+        """Return the name, of a longer one so many bytes."""
         return _wkb.schema_name(self.capsule, most).decode(errors="replace")
 
 
@@ -47,7 +47,7 @@ class Array(NamedTuple):
     capsule: Any
 
     def buffer(self, place: int, size: int) -> Optional[memoryview]:
-        """So many bytes of a buffer, which are there as long as the capsule lives; None where there is none."""
+        """Return so many bytes of a buffer, which are there as long as the capsule lives; None where there is none."""
         return _wkb.array_buffer(self.capsule, place, size)
 
 
@@ -86,7 +86,7 @@ class _Column(NamedTuple):
 
 
 def expect(holds: Any, text: str) -> None:
-    """Raises an error if a struct can't be right."""
+    """Raise an error if a struct can't be right."""
     if not holds:
         raise ValueError(f"the Arrow {text}")
 
@@ -98,7 +98,7 @@ def check_schema(it: Schema) -> None:
 
 
 def check_array(it: Array, children: int, buffers: range) -> None:
-    """Raises an error unless the counts are those of an array with so many children and buffers, and fit together."""
+    """Raise an error unless the counts are those of an array with so many children and buffers, and fit together."""
     expect(it.release, "array is released already")
     expect(it.n_children == children, f"array has {it.n_children} children, and its schema {children}")
     expect(it.n_buffers in buffers, f"array can't have {it.n_buffers} buffers")
@@ -115,7 +115,7 @@ def has_validity(it: Array) -> bool:
 
 
 def is_all_set(it: Array, first: int, count: int) -> bool:
-    """Whether the bits of these items, in the validity that the array has, say that none is null."""
+    """Return whether the bits of these items, in the validity that the array has, say that none is null."""
     bits = int.from_bytes(borrowed(it, 0, (first + count + 7) // 8)[first // 8 :], "little")
     return (bits >> first % 8) + 1 & (1 << count) - 1 == 0
 
@@ -133,7 +133,7 @@ def array_child(of: Array, number: int) -> Array:
 
 
 def _number_of(name: str, schema: Schema) -> int:
-    """Which child of records has this name. None is looked at that comes after it."""
+    """Return which child of records has this name. None is looked at that comes after it."""
     names, most = [], max(4 * len(name) + 1, SHOWN)  # a character has at most four bytes
     if schema.format == b"+s" and not schema.dictionary:
         for number in range(schema.n_children):
@@ -147,7 +147,7 @@ def _number_of(name: str, schema: Schema) -> int:
 
 
 def _offset_size_of(schema: Schema) -> int:
-    """The bytes of an offset of a column with this schema."""
+    """Return the bytes of an offset of a column with this schema."""
     check_schema(schema)
     form = schema.format or b""
     size = OFFSET_SIZES.get(form)
@@ -168,7 +168,7 @@ def _column_of(schema: Schema, name: Optional[str]) -> _Column:
 
 
 def borrowed(it: Array, place: int, size: int) -> memoryview:
-    """So many bytes of a buffer, which are there as long as the array's capsule lives."""
+    """Return so many bytes of a buffer, which are there as long as the array's capsule lives."""
     if size == 0:
         return memoryview(b"")
     memory = it.buffer(place, size) if 0 < size <= sys.maxsize else None
@@ -178,7 +178,7 @@ def borrowed(it: Array, place: int, size: int) -> memoryview:
 
 
 def _pieces_in(it: Array, column: _Column) -> Pieces:
-    """The memory of the column in an array, which the pieces keep."""
+    """Return the memory of the column in an array, which the pieces keep."""
     first, rows, size = it.offset, it.length, column.offset_size
     if column.child is not None:
         check_array(it, column.children, OF_RECORDS)
@@ -200,7 +200,7 @@ def _pieces_in(it: Array, column: _Column) -> Pieces:
 
 
 def _rows_in_views(it: Array, first: int, rows: int) -> Iterator[Optional[bytes]]:
-    """Copies of the rows of an array of binary views."""
+    """Yield copies of the rows of an array of binary views."""
     count = it.n_buffers - 3
     sizes = struct.unpack(f"={count}q", borrowed(it, it.n_buffers - 1, 8 * count))
     buffers = [borrowed(it, 2 + i, size) for i, size in enumerate(sizes)]
@@ -222,13 +222,13 @@ def _rows_in_views(it: Array, first: int, rows: int) -> Iterator[Optional[bytes]
 
 
 def pieces_of_arrow(array: ArrowArray, name: Optional[str]) -> Pieces:
-    """The memory of an Arrow array, or of a column of records. Its capsule owns it, and releases it when it goes."""
+    """Return the memory of an Arrow array, or of a column of records. Its capsule owns it, and frees it at its end."""
     schema, it = taken(array)
     return _pieces_in(it, _column_of(schema, name))
 
 
 def taken(array: ArrowArray) -> Tuple[Schema, Array]:
-    """The structs of an array, which its capsules own no longer."""
+    """Return the structs of an array, which its capsules own no longer."""
     if not hasattr(array, "__arrow_c_array__"):
         hint = "; chunks_from_arrow takes what has chunks" if hasattr(array, "__arrow_c_stream__") else ""
         raise TypeError(f"{type(array).__name__} has no method __arrow_c_array__{hint}")
@@ -239,7 +239,7 @@ def taken(array: ArrowArray) -> Tuple[Schema, Array]:
 
 
 def chunks_of_arrow(stream: ArrowStream, name: Optional[str]) -> Iterator[Pieces]:
-    """The memory of each array of an Arrow stream. The type is looked at before the first array is asked for."""
+    """Return the memory of each array of an Arrow stream. The type is looked at before the first array is asked for."""
     if not hasattr(stream, "__arrow_c_stream__"):
         hint = "; from_arrow takes one array" if hasattr(stream, "__arrow_c_array__") else ""
         raise TypeError(f"{type(stream).__name__} has no method __arrow_c_stream__{hint}")
@@ -248,7 +248,7 @@ def chunks_of_arrow(stream: ArrowStream, name: Optional[str]) -> Iterator[Pieces
 
 
 def _next(capsule: Any, is_array: bool) -> Any:
-    """The next array of a stream, or its schema."""
+    """Return the next array of a stream, or its schema."""
     found = _wkb.stream_next(capsule, is_array)
     if isinstance(found, tuple):
         code, text = found
@@ -257,7 +257,7 @@ def _next(capsule: Any, is_array: bool) -> Any:
 
 
 def _chunks(capsule: Any, column: _Column) -> Iterator[Pieces]:
-    """The arrays of a stream, which lives as long as its capsule."""
+    """Yield the arrays of a stream, which lives as long as its capsule."""
     while True:
         array = array_of(_next(capsule, True))
         if not array.release:

@@ -31,27 +31,27 @@ CODES = {"u1": "B", "u4": "I", "i8": "q", "f8": "d"}
 
 
 def view_of(data: Buffer) -> memoryview:
-    """The buffer as Python has it."""
+    """Return the buffer as Python has it."""
     buffer: Any = data
     return memoryview(buffer)
 
 
 def new_numbers(kind: str, count: int) -> Numbers:
-    """An array of `count` numbers of this type of numpy's."""
+    """Return an array of `count` numbers of this type of numpy's."""
     made: Any = numpy.empty(count, kind) if has_numpy else array.array(CODES[kind], [0]) * count
     numbers: Numbers = made
     return numbers
 
 
 def new_offsets(count: int) -> Numbers:
-    """An array of offset 0 and `count` ends."""
+    """Return an array of offset 0 and `count` ends."""
     offsets = new_numbers("i8", count + 1)
     offsets[0] = 0
     return offsets
 
 
 def less_the_least(offsets: memoryview) -> Tuple[bytes, int]:
-    """Offsets less the least of them, and this one; as they are, and 0, where one is negative."""
+    """Return offsets less the least of them, and this one; as they are, and 0, where one is negative."""
     if has_numpy:
         numbers = numpy.asarray(offsets)
         least = max(int(numbers.min()), 0)

@@ -5,7 +5,7 @@ from typing import List, Optional, Tuple, Union
 
 from . import _wkb
 from ._buffers import Buffer, Numbers, view_of
-from ._enums import Dimension, Form, Kind, Order, Status
+from ._enums import Dimension, Form, Kind, Order, Status, is_refusal
 from ._records import Box, Fault, Found, Part, Range, Table
 
 # Members of enums, which take longer to find by their classes.
@@ -15,11 +15,12 @@ LITTLE, ISO, WITH_SRID = Order.LITTLE, Form.ISO, Form.EWKB_WITH_SRID
 class Refused(ValueError):
     """Some bytes are refused. It can be pickled."""
 
-    def __init__(self, fault: Fault, which: int, text: str, hint: str = ""):
-        super().__init__(fault, which, text, hint)
+    def __init__(self, fault: Fault, which: int, text: str, hint: str = "", row: Optional[int] = None):
+        super().__init__(fault, which, text, hint, row)
         self.fault = fault
         self.which = which  # the input, 1 or 2
         self.text = text  # what the status says
+        self.row = row  # the row of a column that is no member of a collection
         self._hint = hint
 
     @property
@@ -29,8 +30,10 @@ class Refused(ValueError):
 
     def __str__(self) -> str:
         fault = self.fault
+        if self.row is not None and not is_refusal(fault.status):
+            return f"{self.text}: row {self.row}"
         code = f" {fault.code}" if fault.status == Status.CODE_OUT_OF_RANGE else ""
-        second = " of the second" if self.which == 2 else ""
+        second = " of the second" if self.which == 2 else "" if self.row is None else f" of row {self.row}"
         end = f", which would end at {fault.end} of {fault.len}" if fault.end else ""
         return f"{self.text}{code}, in part {fault.part} at byte {fault.offset}{second}{end}{self._hint}"
 
@@ -39,17 +42,17 @@ _wkb.give(Found, Fault, Part, Range, Box, Refused, Status, tuple(Kind), tuple(Di
 
 
 def check(data: Buffer) -> Found:
-    """What is at the front of the bytes. Raises `Refused` if it isn't a geometry."""
+    """Return what is at the front of the bytes. Raise `Refused` if it isn't a geometry."""
     return _wkb.check(data)
 
 
 def bounds(data: Buffer) -> Box:
-    """The bounds of the geometry at the front of the bytes."""
+    """Return the bounds of the geometry at the front of the bytes."""
     return _wkb.bounds(data)
 
 
 def make_options(order: Order, form: Optional[Form], srid: Optional[int]) -> Tuple[int, int, int]:
-    """The options, if they have a meaning. Without a form it is that of an SRID where there is one."""
+    """Return the options, if they have a meaning. Without a form it is that of an SRID where there is one."""
     if form is None:
         form = ISO if srid is None else WITH_SRID
     if (srid is not None) != (form == WITH_SRID):
@@ -63,7 +66,7 @@ def make_options(order: Order, form: Optional[Form], srid: Optional[int]) -> Tup
 def write(
     data: Buffer, order: Order = Order.LITTLE, form: Optional[Form] = None, srid: Optional[int] = None
 ) -> bytes:
-    """The one encoding of the geometry at the front of the bytes, in this order and form.
+    """Return the one encoding of the geometry at the front of the bytes, in this order and form.
 
     Without a form it is ISO, or with an SRID EWKB. The SRID is that of `Form.EWKB_WITH_SRID`, which needs one; no other
     form takes one. With the default options, two geometries of one value have the same encoding, whatever their byte
@@ -76,17 +79,17 @@ def write(
 
 
 def same(first: Buffer, second: Buffer) -> bool:
-    """Whether both begin with geometries of one value: byte orders and SRIDs aside, and coordinates by their bits."""
+    """Return whether both begin with geometries of one value: SRIDs aside, and coordinates compared by their bits."""
     return _wkb.same(first, second)
 
 
 def parts(data: Buffer) -> Table[Part]:
-    """The parts of the geometry at the front of the bytes, in preorder: itself, and its rings and members."""
+    """Return the parts of the geometry at the front of the bytes, in preorder: itself, and its rings and members."""
     return Table(Part, _wkb.parts(data))
 
 
 def _is_there(view: memoryview, part: Union[Part, Found]) -> bool:
-    """Whether these bytes have this part where it says: the header and the count are right, and no byte lacks."""
+    """Return whether these bytes have this part where it says: header and count are right, and no byte is missing."""
     begin = part.begin if isinstance(part, Part) else 0
     if begin < 0:
         return False
@@ -102,7 +105,7 @@ def _is_there(view: memoryview, part: Union[Part, Found]) -> bool:
 
 
 def _words(data: Buffer, part: Union[Part, Found]) -> memoryview:
-    """The bytes of a part's coordinates where they are in the data."""
+    """Return the bytes of a part's coordinates where they are in the data."""
     if part.kind > Kind.LINE_STRING:
         raise ValueError(f"a {part.kind.name} has no coordinates of its own, but {part.count} rings or members")
     view = view_of(data).cast("B")
@@ -116,9 +119,9 @@ def _words(data: Buffer, part: Union[Part, Found]) -> memoryview:
 
 
 def coordinates(data: Buffer, part: Union[Part, Found]) -> List[Tuple[float, ...]]:
-    """The coordinates of a point, a line string or a ring, each of two to four numbers.
+    """Return the coordinates of a point, a line string or a ring, each of two to four numbers.
 
-    The part is one that `parts` has found in these bytes, or `check` if it is a point or a line string. Raises
+    The part is one that `parts` has found in these bytes, or `check` if it is a point or a line string. Raise
     `ValueError` where the bytes have no such part at its place.
     """
     order = ">" if part.order == Order.BIG else "<"
@@ -126,7 +129,7 @@ def coordinates(data: Buffer, part: Union[Part, Found]) -> List[Tuple[float, ...
 
 
 def view(data: Buffer, part: Union[Part, Found]) -> Numbers:
-    """The coordinates of a point, a line string or a ring as a numpy array, a row for each. Nothing is copied.
+    """Return the coordinates of a point, a line string or a ring as a numpy array, a row for each. Nothing is copied.
 
     The part is one that `coordinates` takes. The numbers have its byte order. While the array lives, the data can't be
     resized.

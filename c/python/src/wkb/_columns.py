@@ -6,27 +6,29 @@ from typing import Any, Dict, Iterable, Iterator, Optional, Tuple
 from . import _wkb
 from ._arrow import ArrowArray, ArrowStream, chunks_of_arrow, pieces_of_arrow
 from ._buffers import Buffer, Numbers, has_numpy, less_the_least, new_numbers, new_offsets, view_of
-from ._calls import make_options
-from ._enums import Dimension, Form, Order
-from ._records import Box, Part, Table
+from ._calls import Refused, make_options
+from ._enums import Dimension, Form, Kind, Order, Status
+from ._records import Box, Fault, Part, Table
 from ._results import ColumnBounds, ColumnCoordinates, ColumnEncodings, ColumnParts
 from ._rows import Pieces, pieces_of
 
 # The calls of `_wkb.column`.
-CHECK, BOUNDS, PARTS, WRITE, ROOM, KINDS = range(6)
+CHECK, BOUNDS, PARTS, WRITE, ROOM, KINDS, COLLECT = range(7)
 NO_OPTIONS, NO_RESULTS = (0, 0, 0), (None, None, None)
 # An encoding may be four bytes longer than its row: an SRID.
 SRID_SIZE = 4
+# What a collection has before its members, at most.
+FRONT_SIZE = 13
 
 
 def code_of(view: memoryview) -> str:
-    """The format of a buffer without the sign for the machine's own byte order."""
+    """Return the format of a buffer without the sign for the machine's own byte order."""
     native = "@=" + ("<" if sys.byteorder == "little" else ">")
     return view.format[1:] if view.format[:1] in native else view.format
 
 
 def size_of_offsets(offsets: Buffer, given: Optional[int]) -> int:
-    """The bytes of an offset: as given for raw bytes, else by the format of the buffer."""
+    """Return the bytes of an offset: as given for raw bytes, else by the format of the buffer."""
     with view_of(offsets) as view:
         code = code_of(view)
         if view.ndim != 1:
@@ -43,7 +45,7 @@ def size_of_offsets(offsets: Buffer, given: Optional[int]) -> int:
 
 
 def check_validity(validity: Buffer, bits: int) -> None:
-    """Raises an error unless the buffer is bytes and has at least this many bits."""
+    """Raise an error unless the buffer is bytes and has at least this many bits."""
     with view_of(validity) as view:
         if code_of(view) not in ("B", "b", "c"):
             raise TypeError(f"validity of format {view.format!r} is not bits in bytes")
@@ -93,7 +95,7 @@ class Column:
 
     @classmethod
     def of(cls, rows: Iterable[Optional[Buffer]]) -> "Column":
-        """A column of rows that are objects of their own, with a null row for None. The bytes are copied.
+        """Return a column of rows that are objects of their own, with a null row for None. The bytes are copied.
 
         The rows are those of a list, or of a column of pandas, whose missing values are null too. A column of geopandas
         is written by its own `to_wkb`, without SRIDs.
@@ -102,7 +104,7 @@ class Column:
 
     @classmethod
     def from_arrow(cls, array: ArrowArray, name: Optional[str] = None) -> "Column":
-        """A column of an Arrow array of type binary, large binary or binary view, or of a slice of one.
+        """Return a column of an Arrow array of type binary, large binary or binary view, or of a slice of one.
 
         The array is any object with the method `__arrow_c_array__`, such as an array of pyarrow. Of a batch of records
         `name` picks the column. Nothing is copied but views: the array's memory lives as long as the column.
@@ -116,11 +118,11 @@ class Column:
 
     @classmethod
     def chunks_from_arrow(cls, stream: ArrowStream, name: Optional[str] = None) -> Iterator["Column"]:
-        """A column for each chunk of an Arrow column in chunks, or of a table, one after another.
+        """Return a column for each chunk of an Arrow column in chunks, or of a table, one after another.
 
         The stream is any object with the method `__arrow_c_stream__`, such as a chunked array of pyarrow; of a table or
         another stream of records `name` picks the column. Each chunk is an array as `from_arrow` takes it, and is asked
-        for when its column is. Raises what `from_arrow` raises, and `OSError` where the stream fails.
+        for when its column is. Raise what `from_arrow` raises, and `OSError` where the stream fails.
         """
         return map(cls._of_pieces, chunks_of_arrow(stream, name))
 
@@ -131,14 +133,14 @@ class Column:
         return column
 
     def __getstate__(self) -> Dict[str, Any]:
-        """What is pickled: of memory that is someone else's, a copy of what the rows have there."""
+        """Return what is pickled: of memory that is someone else's, a copy of what the rows have there."""
         state = dict(self.__dict__, _owner=None)
         if self._owner is not None and self._rows:
             state.update(self._copied())
         return state
 
     def _copied(self) -> Dict[str, Any]:
-        """The rows by themselves, and up to seven before them, since a byte of validity has the bits of eight."""
+        """Return the rows alone, but for up to seven before them, since a byte of validity has the bits of eight."""
         size, before = self._offset_size, self._first % 8
         begin, end = self._first - before, self._first + self._rows
         offsets = view_of(self._offsets).cast("B")[begin * size : (end + 1) * size].cast("i" if size == 4 else "q")
@@ -153,27 +155,27 @@ class Column:
         return f"<column of {self._rows} rows>"
 
     def _arguments(self) -> Tuple[Buffer, Buffer, Optional[Buffer], int, int, int]:
-        """The column as `_wkb` takes it."""
+        """Return the column as `_wkb` takes it."""
         return self._data, self._offsets, self._validity, self._offset_size, self._first, self._rows
 
     def _room(self) -> int:
-        """How many bytes the rows have at most. The buffers are tested, as each call tests them."""
+        """Return how many bytes the rows have at most. The buffers are tested, as each call tests them."""
         return _wkb.column(ROOM, self._arguments(), NO_OPTIONS, NO_RESULTS)
 
     def check(self) -> Numbers:
-        """The status of each row."""
+        """Return the status of each row."""
         statuses = new_numbers("u1", self._rows)
         _wkb.column(CHECK, self._arguments(), NO_OPTIONS, (None, None, statuses))
         return statuses
 
     def bounds(self) -> ColumnBounds:
-        """The bounds of each row."""
+        """Return the bounds of each row."""
         statuses, boxes = new_numbers("u1", self._rows), new_numbers("u1", self._rows * Box.LAYOUT.size)
         _wkb.column(BOUNDS, self._arguments(), NO_OPTIONS, (boxes, None, statuses))
         return ColumnBounds(statuses, Table(Box, boxes))
 
     def parts(self) -> ColumnParts:
-        """The parts of each row in preorder."""
+        """Return the parts of each row in preorder."""
         statuses, offsets = new_numbers("u1", self._rows), new_offsets(self._rows)
         count = _wkb.column(PARTS, self._arguments(), NO_OPTIONS, (None, offsets, statuses))
         table = new_numbers("u1", count * Part.LAYOUT.size)
@@ -184,7 +186,7 @@ class Column:
     def write(
         self, order: Order = Order.LITTLE, form: Optional[Form] = None, srid: Optional[int] = None
     ) -> ColumnEncodings:
-        """The one encoding of each row in this order and form, as `wkb.write` has it."""
+        """Return the one encoding of each row in this order and form, as `wkb.write` has it."""
         options = make_options(order, form, srid)
         statuses, offsets = new_numbers("u1", self._rows), new_offsets(self._rows)
         needed, room = self._room() + SRID_SIZE * self._rows, -1
@@ -195,7 +197,7 @@ class Column:
         return ColumnEncodings._of_form(options[1], statuses, offsets, data[: offsets[-1]])
 
     def coordinates(self, dimension: Dimension = Dimension.XY) -> ColumnCoordinates:
-        """The coordinates of all rows in this dimension, with a NaN for each number that a geometry doesn't have."""
+        """Return the coordinates of all rows in this dimension, with a NaN for each number that a geometry lacks."""
         dimension = Dimension(dimension)
         statuses, row_offsets = new_numbers("u1", self._rows), new_offsets(self._rows)
         needed = _wkb.column_coordinates(self._arguments(), dimension, (None, None, None, row_offsets, statuses))
@@ -209,7 +211,35 @@ class Column:
         return ColumnCoordinates._of_kinds(kinds, dimension, statuses, row_offsets, single_offsets, ring_offsets, rows)
 
 
+def collect(
+    column: Column, kind: Kind, dimension: Dimension = Dimension.XY, order: Order = Order.LITTLE,
+    form: Optional[Form] = None, srid: Optional[int] = None,
+) -> bytes:
+    """The one encoding of the geometry of this kind and dimension whose members are all rows, in this order and form.
+
+    The kind is MULTI_POINT, MULTI_LINE_STRING, MULTI_POLYGON or GEOMETRY_COLLECTION, which takes rows of any kind and
+    dimension. The byte orders and SRIDs of rows don't matter. The form and the SRID are as `wkb.write` has them.
+
+    Raises `Refused` for the first row that can't be a member, with its index as `row`: its status is NULL_ROW,
+    BAD_OFFSETS or a refusal, whose fault is counted from the row's own front.
+    """
+    kind, dimension, options = Kind(kind), Dimension(dimension), make_options(order, form, srid)
+    if kind < Kind.MULTI_POINT:
+        raise ValueError(f"a {kind.name} has no geometries as members")
+    told, found = bytearray(Fault.LAYOUT.size), column._room() + FRONT_SIZE
+    status = Status.NO_ROOM
+    while status == Status.NO_ROOM:
+        data = new_numbers("u1", found)
+        found = _wkb.column(COLLECT, column._arguments(), options, (data, told, None), kind, dimension)
+        fault = Fault._read(told)
+        status = fault.status
+    if status == Status.OK:
+        return bytes(view_of(data)[:found])
+    text = _wkb.status_text(status)
+    raise ValueError(text) if status < Status.NULL_ROW else Refused(fault, 1, text, "", found)
+
+
 def expect_same(holds: bool) -> None:
-    """Raises an error if a second call needs another room than the first one said: not all of it is written then."""
+    """Raise an error if a second call needs another room than the first one said: not all of it is written then."""
     if not holds:
         raise RuntimeError("the rows have changed during the call")

@@ -14,6 +14,7 @@ class Status(enum.IntEnum):
     NO_MEMORY = 1
     NO_ROOM = 2
     UNKNOWN_OPTION = 3
+    TOO_MANY_ROWS = 4
     NULL_ROW = 16
     BAD_OFFSETS = 17
     BAD_LEVELS = 18
@@ -40,7 +41,7 @@ class Status(enum.IntEnum):
 
 
 def is_refusal(status: Any) -> Any:
-    """Whether a status says that the bytes are refused; of a numpy array of statuses, which of them do."""
+    """Return whether a status says that the bytes are refused; of a numpy array of statuses, which of them do."""
     return status >= 32
 
 

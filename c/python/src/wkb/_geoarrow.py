@@ -42,7 +42,7 @@ class _Window(NamedTuple):
 
 
 def _check(it: _Window, children: int, buffers: range, depth: int) -> None:
-    """Raises an error unless the counts fit, and no item inside a row is null."""
+    """Raise an error unless the counts fit, and no item inside a row is null."""
     check_schema(it.schema)
     check_array(it.array, children, buffers)
     expect(it.schema.n_children == children and not it.schema.dictionary, "array has other children than its type")
@@ -52,14 +52,14 @@ def _check(it: _Window, children: int, buffers: range, depth: int) -> None:
 
 
 def _inner(it: _Window, number: int, first: int, count: int) -> _Window:
-    """Some items of a child, counted from its first."""
+    """Return some items of a child, counted from its first."""
     child = array_child(it.array, number)
     expect(child.offset >= 0, f"array can't begin with item {child.offset}")
     return _Window(schema_child(it.schema, number), child, child.offset + first, count)
 
 
 def _less(offsets: memoryview, least: int) -> Buffer:
-    """Offsets of 64 bits: these less the first of them."""
+    """Return offsets of 64 bits: these less the first of them."""
     if least == 0 and offsets.itemsize == WORD_SIZE:
         return offsets
     if has_numpy:
@@ -70,7 +70,7 @@ def _less(offsets: memoryview, least: int) -> Buffer:
 
 
 def _opened(it: _Window, depth: int) -> Tuple[Buffer, _Window]:
-    """The offsets of a list, from 0 on, and the items in it."""
+    """Return the offsets of a list, from 0 on, and the items in it."""
     size = LIST_SIZES.get(it.schema.format or b"")
     if size is None:
         raise TypeError(f"an Arrow array of format {_format(it)} is not a list, where this kind has one")
@@ -89,7 +89,7 @@ def _format(it: _Window) -> str:
 
 
 def _words(it: _Window, number: int, first: int, count: int) -> Any:
-    """Some doubles of a child."""
+    """Return some doubles of a child."""
     words = _inner(it, number, first, count)
     if words.schema.format != b"g":
         raise TypeError(f"coordinates of format {_format(words)} are not 64-bit floats ('g')")
@@ -99,7 +99,7 @@ def _words(it: _Window, number: int, first: int, count: int) -> Any:
 
 
 def _coordinates(it: _Window, depth: int) -> Tuple[Any, str]:
-    """The coordinates one after another, and the name of their dimension: no copy is made of interleaved ones."""
+    """Return the coordinates one after another, and the name of their dimension. Interleaved ones are not copied."""
     form = it.schema.format or b""
     if form in (b"+w:2", b"+w:3", b"+w:4"):
         _check(it, 1, VALIDITY, depth)
@@ -119,7 +119,7 @@ def _coordinates(it: _Window, depth: int) -> Tuple[Any, str]:
 
 
 def levels_of_arrow(of: Any, kind: Kind) -> Levels:
-    """The levels of an array of rows of this kind."""
+    """Return the levels of an array of rows of this kind."""
     schema, top = taken(of)
     it = _Window(schema, top, top.offset, top.length)
     offsets: List[Optional[Buffer]] = [None, None, None]

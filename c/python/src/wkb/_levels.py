@@ -17,7 +17,7 @@ WORD_SIZE = 8
 
 
 def _wide(offsets: Buffer) -> Buffer:
-    """Offsets of 32 bits as ones of 64 bits."""
+    """Return offsets of 32 bits as ones of 64 bits."""
     with view_of(offsets) as view:
         narrow = memoryview(view.tobytes()).cast("i")
     wide = new_numbers("i8", len(narrow))
@@ -26,7 +26,7 @@ def _wide(offsets: Buffer) -> Buffer:
 
 
 def _level(offsets: Optional[Buffer], offset_size: Optional[int]) -> Optional[Buffer]:
-    """The offsets of a level as ones of 64 bits."""
+    """Return the offsets of a level as ones of 64 bits."""
     if offsets is None:
         return None
     size = size_of_offsets(offsets, offset_size)
@@ -37,7 +37,7 @@ def _level(offsets: Optional[Buffer], offset_size: Optional[int]) -> Optional[Bu
 
 
 def _items(offsets: Optional[Buffer], below: int) -> int:
-    """How many items a level has over one with so many."""
+    """Return how many items a level has over one with so many."""
     if offsets is None:
         return below
     with view_of(offsets) as view:
@@ -45,7 +45,7 @@ def _items(offsets: Optional[Buffer], below: int) -> int:
 
 
 def _count(coordinates: Buffer, dimension: Dimension) -> int:
-    """How many coordinates there are, if they are such of this dimension."""
+    """Return how many coordinates there are, if they are such of this dimension."""
     with view_of(coordinates) as view:
         if code_of(view) != "d":
             raise TypeError(f"coordinates of format {view.format!r} are not 64-bit floats of this machine")
@@ -58,7 +58,7 @@ def _count(coordinates: Buffer, dimension: Dimension) -> int:
 
 
 def _write(kind: Kind, options: Tuple[int, int, int], it: Levels) -> ColumnEncodings:
-    """The encodings of rows in levels."""
+    """Return the encodings of rows in levels."""
     rows = _count(it.coordinates, it.dimension)
     for level in it.offsets:
         rows = _items(level, rows)
@@ -88,7 +88,7 @@ def column_from_coordinates(
     validity_offset: int = 0,
     offset_size: Optional[int] = None,
 ) -> ColumnEncodings:
-    """The encodings of rows of one kind, from POINT to MULTI_POLYGON: the inverse of `Column.coordinates`.
+    """Return the encodings of rows of one kind, from POINT to MULTI_POLYGON: the inverse of `Column.coordinates`.
 
     The levels are those of `ColumnCoordinates`. None is a level with one item for each of the next: points need no
     offsets, line strings `ring_offsets`, polygons `single_offsets` too, and multi geometries `row_offsets`. Offsets are

@@ -6,7 +6,7 @@ from . import _wkb
 
 
 def load(path: Union[str, "os.PathLike[str]", None] = None) -> None:
-    """Does nothing without a path: the library is inside the package.
+    """Do nothing without a path: the library is inside the package.
 
     Raises `OSError` for a path, since no other library can take its place.
     """
@@ -15,11 +15,11 @@ def load(path: Union[str, "os.PathLike[str]", None] = None) -> None:
 
 
 def version() -> Tuple[int, int, int]:
-    """The version of wkb.h that the library has."""
+    """Return the version of wkb.h that the library has."""
     number = _wkb.VERSION
     return number // 1000000, number // 1000 % 1000, number % 1000
 
 
 def status_text(status: int) -> str:
-    """What a status says, in one line."""
+    """Return what a status says, in one line."""
     return _wkb.status_text(status)

@@ -13,12 +13,12 @@ Fields = List[Tuple[str, Any]]
 
 
 def fields(kind: str, names: str) -> Fields:
-    """Fields of one type."""
+    """Return fields of one type."""
     return [(name, kind) for name in names.split()]
 
 
 def layout(of: Fields) -> Struct:
-    """How the fields stand in memory."""
+    """Return how the fields stand in memory."""
     return Struct("=" + "".join(CODES[kind] if isinstance(kind, str) else layout(kind).format[1:] for _, kind in of))
 
 
@@ -44,7 +44,7 @@ class _Values:
 
     @classmethod
     def _read(cls: Type[Self], memory: Buffer) -> Self:
-        """The struct at the front of the memory."""
+        """Return the struct at the front of the memory."""
         record: Self = _wkb.read_record(cls, memory, 0)
         return record
 

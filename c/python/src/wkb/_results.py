@@ -31,7 +31,7 @@ LISTS: Dict[Kind, Tuple[Tuple[bytes, Tuple[int, ...]], ...]] = {
 
 
 def metadata_of(extension: Optional[str]) -> Optional[bytes]:
-    """Arrow's metadata of a type of GeoArrow."""
+    """Return Arrow's metadata of a type of GeoArrow."""
     if extension is None:
         return None
     texts = b"ARROW:extension:name", extension.encode(), b"ARROW:extension:metadata", b"{}"
@@ -39,17 +39,17 @@ def metadata_of(extension: Optional[str]) -> Optional[bytes]:
 
 
 def exported(node: Node) -> Tuple[Any, Any]:
-    """The capsules of an array."""
+    """Return the capsules of an array."""
     return _wkb.export(node, False), _wkb.export(node, True)
 
 
 def wanted(requested_schema: Any) -> Optional[bytes]:
-    """The format that a consumer asks for."""
+    """Return the format that a consumer asks for."""
     return None if requested_schema is None else _wkb.schema_fields(requested_schema)[0]
 
 
 def validity_of(statuses: Numbers) -> Tuple[Optional[memoryview], int]:
-    """The bits of the rows that are there, if not all are, and how many are not."""
+    """Return the bits of the rows that are there, if not all are, and how many are not."""
     held = bytes(view_of(statuses))
     nulls = len(held) - held.count(0)
     bits = bits_of([not status for status in held]) if nulls else None
@@ -57,12 +57,12 @@ def validity_of(statuses: Numbers) -> Tuple[Optional[memoryview], int]:
 
 
 def narrow(offsets: Numbers) -> memoryview:
-    """Offsets as ones of 32 bits."""
+    """Return offsets as ones of 32 bits."""
     return view_of(offsets.astype("i4") if has_numpy else array.array("i", offsets))
 
 
 def through(outer: Numbers, inner: Numbers) -> Numbers:
-    """Offsets into a level as offsets into the one below it."""
+    """Return offsets into a level as offsets into the one below it."""
     items: Any = inner[outer] if has_numpy else array.array("q", map(inner.__getitem__, outer))
     numbers: Numbers = items
     return numbers
@@ -109,7 +109,7 @@ class Rows(Sequence[Optional[bytes]]):
         return itertools.chain.from_iterable(self._some(i, min(i + SOME, count)) for i in range(0, count, SOME))
 
     def _some(self, first: int, end: int) -> List[Optional[bytes]]:
-        """The rows from one up to another one."""
+        """Return the rows from one up to another one."""
         if end <= first:
             return []
         ends = self._of.offsets[first : end + 1].tolist()
@@ -149,7 +149,7 @@ class ColumnEncodings(_Encodings):
         return Rows(self)
 
     def __arrow_c_array__(self, requested_schema: Any = None) -> Tuple[Any, Any]:
-        """The rows as an array of Arrow."""
+        """Return the rows as an array of Arrow."""
         bits, nulls = validity_of(self.statuses)
         is_narrow = wanted(requested_schema) == b"z" and self.offsets[-1] < NARROW
         offsets = narrow(self.offsets) if is_narrow else view_of(self.offsets)
@@ -182,13 +182,13 @@ class ColumnCoordinates(_Coordinates):
 
     @classmethod
     def _of_kinds(cls, kinds: int, dimension: Dimension, *levels: Numbers) -> "ColumnCoordinates":
-        """Levels of rows of which the kinds are known, a bit for each."""
+        """Return levels of rows of which the kinds are known, a bit for each."""
         it = cls(*levels)
         it._kinds, it._dimension = kinds, dimension
         return it
 
     def __arrow_c_array__(self, requested_schema: Any = None) -> Tuple[Any, Any]:
-        """The rows as an array of Arrow."""
+        """Return the rows as an array of Arrow."""
         bits, nulls = validity_of(self.statuses)
         kind = next((it for it in Kind if self._kinds == 1 << it and it in (Kind.POINT, *LISTS)), None)
         metadata = metadata_of(None if kind is None else f"geoarrow.{kind.name.lower().replace('_', '')}")
@@ -212,7 +212,7 @@ class ColumnCoordinates(_Coordinates):
         self, words: Numbers, name: bytes, metadata: Optional[bytes] = None, nulls: int = 0,
         bits: Optional[memoryview] = None,
     ) -> Node:
-        """The coordinates as lists of one size. Those of points are rows."""
+        """Return the coordinates as lists of one size. Those of points are rows."""
         width, numbers = self._dimension.width, view_of(words)
         count = numbers.nbytes // 8
         inner = b"g", self._dimension.name.lower().encode(), None, 0, count, 0, (None, numbers), None
@@ -220,7 +220,7 @@ class ColumnCoordinates(_Coordinates):
         return b"+w:%d" % width, name, metadata, flags, count // width, nulls, (bits,), inner
 
     def _one_for_each_row(self) -> Numbers:
-        """The coordinates of points, with not-a-numbers for rows that have none: lists of one size have no gaps."""
+        """Return the coordinates of points, with NaNs for rows that have none: lists of one size have no gaps."""
         width = self._dimension.width
         words = new_numbers("f8", width * len(self.statuses))
         given, at = view_of(self.coordinates).cast("B").cast("d"), 0

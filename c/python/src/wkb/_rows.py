@@ -29,7 +29,7 @@ def _bytes_of_row(i: int, row: Any) -> bytes:
 
 
 def bits_of(flags: List[bool]) -> Optional[bytes]:
-    """A bit for each flag, from the lowest of a byte on; None where all are set."""
+    """Return a bit for each flag, from the lowest of a byte on; None where all are set."""
     if all(flags):
         return None
     digits = "".join("1" if flag else "0" for flag in reversed(flags))
@@ -37,7 +37,7 @@ def bits_of(flags: List[bool]) -> Optional[bytes]:
 
 
 def pieces_of(rows: Iterable[Optional[Buffer]]) -> Pieces:
-    """The rows in one piece of memory."""
+    """Return the rows in one piece of memory."""
     column: Any = rows
     if isinstance(column, (str, bytes, bytearray, memoryview)):
         raise TypeError(f"a column is made of many rows, and this is one {type(column).__name__}")

@@ -1,0 +1,88 @@
+//! Rows of a column as one geometry.
+use crate::{raw, Column, Dimension, Kind, Options, Refused, Status};
+use std::error::Error;
+use std::fmt;
+use std::ptr;
+
+/// Why rows are no members of one geometry: the first row that can't be one, counted from 0.
+#[derive(Clone, Copy, Debug, Eq, PartialEq)]
+pub enum NotCollected {
+    /// There are 2^32 rows or more, which a count of four bytes doesn't hold.
+    TooManyRows,
+    /// The row's validity bit is 0.
+    NullRow(usize),
+    /// The row's offsets are bad, as [`Column::check`] finds them.
+    BadOffsets(usize),
+    /// The row is no geometry, or another one than the whole takes; counted from the row's own front.
+    Refused(usize, Refused),
+}
+
+impl NotCollected {
+    /// What became of the row, or of all of them.
+    pub fn status(&self) -> Status {
+        match self {
+            NotCollected::TooManyRows => Status::TOO_MANY_ROWS,
+            NotCollected::NullRow(_) => Status::NULL_ROW,
+            NotCollected::BadOffsets(_) => Status::BAD_OFFSETS,
+            NotCollected::Refused(_, why) => why.status,
+        }
+    }
+}
+
+impl fmt::Display for NotCollected {
+    fn fmt(&self, f: &mut fmt::Formatter<'_>) -> fmt::Result {
+        match self {
+            NotCollected::TooManyRows => self.status().fmt(f),
+            NotCollected::NullRow(row) | NotCollected::BadOffsets(row) => write!(f, "row {row}: {}", self.status()),
+            NotCollected::Refused(row, why) => write!(f, "row {row}: {why}"),
+        }
+    }
+}
+
+impl Error for NotCollected {}
+
+impl Column<'_> {
+    /// The one encoding under the options of the geometry of this kind and dimension whose members are the geometries
+    /// of all rows in order. Of a row only the value counts: its byte order and its SRID don't matter. A collection
+    /// takes rows of any kind and dimension. [`Form::EwkbOwnSrid`](crate::Form::EwkbOwnSrid) writes no SRID.
+    ///
+    /// ```
+    /// use porchsorrel_wkb::{check, Dimension, Kind, NotCollected, Options, Rows};
+    ///
+    /// let point = [1, 1, 0, 0, 0, 0, 0, 0, 0, 0, 0, 0xf0, 0x3f, 0, 0, 0, 0, 0, 0, 0, 0x40];
+    /// let rows = Rows::of([Some(&point), Some(&point)]);
+    /// let points = rows.column().collect(Kind::MultiPoint, Dimension::Xy, &Options::default())?;
+    /// assert_eq!(points[..9], [1, 4, 0, 0, 0, 2, 0, 0, 0]);
+    /// assert_eq!(points[9..30], point);
+    /// # Ok::<(), NotCollected>(())
+    /// ```
+    ///
+    /// # Panics
+    ///
+    /// If the kind has no geometries as members.
+    pub fn collect(&self, kind: Kind, dimension: Dimension, options: &Options) -> Result<Vec<u8>, NotCollected> {
+        assert!(kind as u32 >= Kind::MultiPoint as u32, "members of a {kind:?}");
+        let (column, options) = (self.raw(), options.raw());
+        let (mut size, mut row, mut fault) = (0, 0, raw::Fault::default());
+        let mut call = |out: *mut u8, room| {
+            let (kind, dimension, out) = (kind as u32, dimension as u32, out.cast());
+            // SAFETY: the column has its slices' lengths, and `out` has so much room.
+            let status = unsafe {
+                raw::wkb_collect(&column, kind, dimension, &options, out, room, &mut size, &mut fault, &mut row)
+            };
+            (Status::of(status), size)
+        };
+        let (mut status, needed) = call(ptr::null_mut(), 0);
+        let mut data = vec![0; needed];
+        if status == Status::NO_ROOM {
+            (status, _) = call(data.as_mut_ptr(), needed);
+        }
+        match status {
+            Status::OK => Ok(data),
+            Status::TOO_MANY_ROWS => Err(NotCollected::TooManyRows),
+            Status::NULL_ROW => Err(NotCollected::NullRow(row)),
+            Status::BAD_OFFSETS => Err(NotCollected::BadOffsets(row)),
+            _ => Err(NotCollected::Refused(row, Refused::of(fault))),
+        }
+    }
+}
