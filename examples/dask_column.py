@@ -50,7 +50,7 @@ ENTRY = numpy.dtype([("high", "u8"), ("low", "u8"), ("partition", "i8"), ("row",
 
 
 def say(text):
-    """Tells how far the work has come."""
+    """Tell how far the work has come."""
     print(f"dask_column: {text}", file=sys.stderr, flush=True)
 
 
@@ -141,7 +141,7 @@ def text_of(error):
 
 
 def rewrite(partition, file, out, buckets):
-    """Rewrites a partition. Returns why that can't be done (or None), how many rows it has, the lines of refused.csv,
+    """Rewrite a partition. Return why that can't be done (or None), how many rows it has, the lines of refused.csv,
     and the entries in buckets: all entries of one digest are in buckets of one number.
 
     It can't be done where the partition can't be read, which is told by a text, or where its result can't be written,
@@ -175,7 +175,7 @@ def duplicates_of(pieces):
 
 
 def write_table(path, head, lines):
-    """Writes a table, and returns how many lines it has."""
+    """Write a table, and return how many lines it has."""
     count = 0
     with written_aside(path, "w") as file:
         writer = csv.writer(file, lineterminator="\n")
@@ -186,8 +186,8 @@ def write_table(path, head, lines):
 
 
 def wait(outcomes, seconds):
-    """Waits until all partitions are done, and tells each so many seconds how many are. Returns why some can't be read,
-    by their numbers. Raises an OSError if a result can't be written."""
+    """Wait until all partitions are done, and tell each so many seconds how many are. Return why some can't be read,
+    by their numbers. Raise an OSError if a result can't be written."""
     numbers, why, told = {outcome: i for i, outcome in enumerate(outcomes)}, {}, time.monotonic()
     for done, outcome in enumerate(distributed.as_completed(outcomes), 1):
         error = outcome.exception()  # this and the next wait anew where the process with the outcome has died since
@@ -203,7 +203,7 @@ def wait(outcomes, seconds):
 
 
 def run(client, folder, out, seconds):
-    """Rewrites all partitions of a folder. Returns the numbers of rows, of refused ones, of duplicates, and of
+    """Rewrite all partitions of a folder. Return the numbers of rows, of refused ones, of duplicates, and of
     partitions that can't be read."""
     files = sorted(folder.glob("*.npz"))
     names = [file.stem for file in files]
@@ -252,7 +252,7 @@ class Watch(threading.Thread):
 
 
 def take_up(folder, out):
-    """Tells what an earlier run has left, and removes what it has not finished."""
+    """Tell what an earlier run has left, and remove what it has not finished."""
     for aside in out.glob("*.part"):
         aside.unlink()
     files = list(folder.glob("*.npz"))
@@ -277,7 +277,7 @@ def arguments_of(parser):
 
 
 def main():
-    """Returns the exit status."""
+    """Return the exit status."""
     it = arguments_of(argparse.ArgumentParser(description=__doc__.splitlines()[0]))
     here = {"n_workers": it.workers, "threads_per_worker": 1, "dashboard_address": None}
     try:

@@ -34,7 +34,7 @@ def row(draw, i):
 
 
 def main():
-    """Writes the files, each with as many of the rows."""
+    """Write the files, each with as many of the rows."""
     folder, rows, files = pathlib.Path(sys.argv[1]), int(sys.argv[2]), int(sys.argv[3])
     folder.mkdir(parents=True, exist_ok=True)
     draw = random.Random(20261126)

@@ -35,13 +35,13 @@ BORROWED = {
 
 
 def stop(why):
-    """Ends the script, which has judged nothing."""
+    """End the script, which has judged nothing."""
     print(why, file=sys.stderr)
     sys.exit(2)
 
 
 def look(owner, label):
-    """Ends the script where the command has not what is borrowed of it."""
+    """End the script where the command has not what is borrowed of it."""
     missing = [name for name in BORROWED[label].split() if not hasattr(owner, name)]
     if missing:
         what = " ".join(f"{label}.{name}" for name in missing)
@@ -71,7 +71,7 @@ rt = load()
 
 
 def begin():
-    """Starts what ends the prover with this script. No other thread may run then, since a signal's handler is set.
+    """Start what ends the prover with this script. No other thread may run then, since a signal's handler is set.
 
     Ctrl-C ends the script at once: else Python waits for the threads that wait for a proof.
     """
@@ -111,7 +111,7 @@ def unbuilt(crates):
 
 
 def copy_sources(crate, folder):
-    """Copies the code, the definitions and the proofs of a crate into a folder."""
+    """Copy the code, the definitions and the proofs of a crate into a folder."""
     for part in rt.rtlib.PARTS:
         if pathlib.Path(crate.folder, part).is_dir():
             shutil.copytree(f"{crate.folder}/{part}", folder / part)
@@ -128,7 +128,7 @@ def is_unread(line, changed):
 
 
 def prove(verb, crate, flags, folder):
-    """Runs the prover, as `check` or `build`, over the sources in a folder, which are the crate's or a copy of them."""
+    """Run the prover, as `check` or `build`, over the sources in a folder, which are the crate's or a copy of them."""
     words = crate.words(flags, keeps=False)
     how = {"cwd": folder, "stdin": subprocess.DEVNULL, "stdout": subprocess.PIPE, "stderr": subprocess.STDOUT}
     how.update(encoding="utf-8", errors="replace")
@@ -136,7 +136,7 @@ def prove(verb, crate, flags, folder):
 
 
 def archive(name, file, *build):
-    """Proves a static library, and builds it into the file. Returns the status."""
+    """Prove a static library, and build it into the file. Return the status."""
     begin()
     library = crate(name)
     if not prove_below(library):
@@ -151,7 +151,7 @@ def archive(name, file, *build):
 
 
 def prove_anew(crate, built, given, _jobs):
-    """Proves a crate, where those below it are proved or built, and builds its library or its object file."""
+    """Prove a crate, where those below it are proved or built, and build its library or its object file."""
     if not all({**built, **given}[it.name] for it in crate.below()):
         return False
     to = f"{crate.folder}/out/{crate.name}.o" if crate.is_program else crate.rlib
@@ -172,7 +172,7 @@ def built_below(crate):
 
 
 def prove_below(crate, *last):
-    """Proves the libraries below a crate that are not built, and then the last. Returns whether all are proved."""
+    """Prove the libraries below a crate that are not built, and then the last. Return whether all are proved."""
     built, tasks = built_below(crate), {}
     for it in [*crate.below(), *last]:
         if it.name not in built:
@@ -183,7 +183,7 @@ def prove_below(crate, *last):
 
 
 def program(name, file):
-    """Proves a program, and the libraries below it that are not built, and builds it into the file."""
+    """Prove a program, and the libraries below it that are not built, and build it into the file."""
     begin()
     whole = crate(name)
     if not prove_below(whole, whole) or whole.link(f"out/{name}.o", f"out/{name}"):
@@ -193,7 +193,7 @@ def program(name, file):
 
 
 def built(name):
-    """Prints the libraries below a crate that are built."""
+    """Print the libraries below a crate that are built."""
     print(*sorted(built_below(crate(name))))
     return 0
 

@@ -1,6 +1,7 @@
-"""The tables of the pages that list calls: tools/api makes that of Rattle, tools/bindings that of the other languages."""
+"""The tables of the pages that list calls: tools/api makes that of Rattle, tools/bindings those of other languages."""
 import re
 import sys
+import textwrap
 
 from pages import ROOT
 
@@ -30,8 +31,13 @@ def listed(head, names):
     return f"{head}: {', '.join(f'`{it}`' for it in dict.fromkeys(names))}." if names else ""
 
 
+def wrapped(text):
+    """The lines of a paragraph, as wide as those of the pages."""
+    return textwrap.wrap(" ".join(text.split()), 139, break_long_words=False, break_on_hyphens=False)
+
+
 def made(page, title, said, parts, bare):
-    """Prints a page that is made of parts, or writes it with --write, or prints the rows that have a name. Ends with 1 if
+    """Print a page that is made of parts, or write it with --write, or print the rows that have a name. End with 1 if
     something on it has no comment."""
     name = " ".join(sys.argv[1:]).split("/")[-1]
     lines = [f"# {title}", "", *said, ""]
@@ -45,7 +51,8 @@ def made(page, title, said, parts, bare):
     if name == "--write":
         (ROOT / page).write_text(text, encoding="utf-8")
     elif name:
-        text = "".join(f"{it}\n" for it in lines if re.search(rf"^\|[^|]*\b{re.escape(name)}\b", it)).replace("<br>", "\n  ")
+        rows = [it for it in lines if re.search(rf"^\|[^|]*\b{re.escape(name)}\b", it)]
+        text = "".join(f"{it}\n" for it in rows).replace("<br>", "\n  ")
         sys.exit(sys.stdout.write(text) == 0)
     else:
         sys.stdout.write(text)

@@ -6,7 +6,10 @@ import subprocess
 import sys
 
 ROOT = pathlib.Path(__file__).resolve().parent.parent
-PAGES = [str(it.relative_to(ROOT)) for it in [*sorted(ROOT.glob("*.md")), *sorted(ROOT.glob("docs/*.md")), ROOT / "c/package.md"]]
+PAGES = [
+    str(it.relative_to(ROOT))
+    for it in [*sorted(ROOT.glob("*.md")), *sorted(ROOT.glob("docs/*.md")), ROOT / "c/package.md"]
+]
 # What a build makes, and what a checkout keeps beside its files.
 NOT_OURS = {".git", "out", "build", "__pycache__", "wkb.so", "wkb_postgres.o"}
 SPAN = re.compile(r"`([^`\n]+)`")
@@ -50,7 +53,7 @@ def judged(judge, *controls):
 
 
 def ended(found, summary):
-    """Prints what was found wrong, each once, and what there is in all. Returns the status to end with."""
+    """Print what was found wrong, each once, and what there is in all. Return the status to end with."""
     for it in [*dict.fromkeys(found), summary]:
         print(it)
     return 1 if found else 0
@@ -126,7 +129,7 @@ def files():
 
 
 def copy_files(to):
-    """Copies the files of the repository into a folder."""
+    """Copy the files of the repository into a folder."""
     for file in files():
         copy = to / file.relative_to(ROOT)
         copy.parent.mkdir(parents=True, exist_ok=True)

@@ -19,9 +19,6 @@ NO_API = {
     "Form::inner",
 }
 
-# Modules of specs/ whose words another one passes on.
-PASSED_ON = {"PlainGeometry"}
-
 USE = re.compile(r"^(?:unfoldable )?(?:pub )?(?:unfoldable )?(?:ghost )?use\s+(.*)$", re.S)
 
 
@@ -80,17 +77,17 @@ class Specs:
                     yield module, local, self.origin(source, name) if name else (source, None)
 
     def words(self, crate):
-        """(module, its words) of each module that a crate's specs hand to other crates. A word is its name there, and the
-        module and the name where it stands; the last is None of a whole module. A comment names what users import from
-        where it stands, since it can't be passed on."""
+        """(module, its words) of each module that a crate's specs hand to other crates. A word is its name there, and
+        the module and the name where it stands; the last is None of a whole module. A comment names what users import
+        from where it stands, since it can't be passed on."""
         folder = CRATES / crate / "specs"
         for name in re.findall(r"pub mod (\w+)", (folder / "Lib.antt").read_text(encoding="utf-8")):
             module, text = f"Rattle.{crate}.specs.{name}", (folder / f"{name}.antt").read_text(encoding="utf-8")
-            passed = [(local, *(self.origin(source, it) if it else (source, it))) for source, it, local in self.passed[module]]
+            found = self.passed[module]
+            passed = [(local, *(self.origin(source, it) if it else (source, it))) for source, it, local in found]
             passed += [(local, source, None) for source, local in re.findall(r"(?m)^-- use (\S+) as (\w+)$", text)]
             own = [it for it in defined(text) if re.search(rf"\bpub (?:record |data )?{re.escape(it)}\b", text)]
-            if name not in PASSED_ON:
-                yield name, passed + [(it, module, it) for it in own]
+            yield name, passed + [(it, module, it) for it in own]
 
 
 WORDS = re.compile(r"(?:(?:unfoldable|abbrev|pub|private|record|data)\s+)*")

@@ -1,7 +1,7 @@
-"""table.py TIMES ROUNDS: ours as a part of the others' time, by the shortest pass of all rounds, as a table in Markdown.
+"""table.py TIMES ROUNDS: ours as a part of the others' time, by the shortest pass of all rounds, as a Markdown table.
 
-A line of TIMES is a file, and what a program prints of it: who, what, the items, nanoseconds, what was computed. Besides the
-table, TIMES.all gets the nanoseconds for each geometry of each file.
+A line of TIMES is a file, and what a program prints of it: who, what, the items, nanoseconds, what was computed.
+Besides the table, TIMES.all gets the nanoseconds for each geometry of each file.
 """
 import math
 import sys
@@ -24,7 +24,8 @@ WORST = ("earlier", "original")
 INSTEAD = {("canonical", "original"): "rewrite", ("canonical", "geos"): "rewrite", ("canonical", "plain"): "rewrite"}
 INSTEAD.update({("vector", who): "other" for who in ("original", "geos", "plain", "tree")})
 INSTEAD.update({("canonical", "tree"): "rewrite", ("own", "geos"): "write", ("own", "plain"): "write"})
-# Of these a reading says little: the original looks at no member's header, and one item takes little more than the clock.
+# Of these a reading says little: the original looks at no member's header, and one item takes little more than the
+# clock.
 UNEQUAL = ("multi_points", "long_line", "long_line_big")
 
 
@@ -76,10 +77,12 @@ def main(path, rounds):
             if who in WORST:
                 lines[-1].append("{1} {0:.2f}".format(*max(parts)) if parts else "")
     print_table(lines)
-    print(f"\nMeans over {len(files)} files (read: without {', '.join(UNEQUAL)}), {rounds} rounds; below 1 ours is faster.")
+    unequal = ", ".join(UNEQUAL)
+    print(f"\nMeans over {len(files)} files (read: without {unequal}), {rounds} rounds; below 1 ours is faster.")
 
     with open(f"{path}.all", "w") as out:
-        print(f"{'nanoseconds a geometry':30}" + "".join(f"{it:>12}" for it in ["ours", *(NAMES[w] for w in peers)]), file=out)
+        heads = ["ours", *(NAMES[w] for w in peers)]
+        print(f"{'nanoseconds a geometry':30}" + "".join(f"{it:>12}" for it in heads), file=out)
         for file in files:
             for what in ROWS:
                 times = [time_of(who, what, file) for who in ["ours", *peers]]
