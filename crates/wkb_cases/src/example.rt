@@ -1,4 +1,4 @@
-//! The library's use, as the README shows it.
+//! The first lines of a user: read, look at the kind, ask a ring.
 
 use std::alloc::Global;
 use wkb::error::WkbResult;

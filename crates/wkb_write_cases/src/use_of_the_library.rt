@@ -1,4 +1,4 @@
-//! The examples of the README.
+//! The examples of `wkb_cases`, on bytes.
 
 use std::test::Fail;
 use wkb::Endianness;
