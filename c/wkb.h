@@ -3,21 +3,23 @@
  * wkb_big_word, the texts and the classes of statuses, and what a call does around the proved one: it replaces null
  * pointers, passes structs on, and returns what it has found.
  *
- * BUF may hold any bytes. A call returns, and keeps nothing (tested). It reads the bytes that it is given and no
- * others, and writes only through its other pointers (tested). Output buffers must not overlap each other or any input.
- * The input, offsets, validity and levels must not change during a call, by another thread or by another process.
- * Otherwise nothing is promised, not even where a call writes. So copy a mapped file that others may write before the
- * call.
+ * BUF may hold any bytes. Its numbers may have either byte order. They may have any alignment (tested). Numbers in the
+ * structs have the machine's byte order and alignment. Every call refuses an input as wkb_check does, with the same
+ * status and FAULT. WKB_STATUS_OK writes the results, WKB_STATUS_NO_ROOM only *SIZE or *COUNT, the length that is
+ * needed, which is more than ROOM, a refusal only FAULT, *WHICH and *ROW, and any other status at most *ROW. What a
+ * call doesn't write is unchanged. A call returns, and keeps nothing (tested). It reads the bytes that it is given and
+ * no others, and writes only through its other pointers (tested).
  *
- * A pointer may be null where its length, room or number of rows is 0 (tested). FOUND, FAULT, BOX, SIZE, COUNT, EQUAL,
- * WHICH and ROW may be null where the caller doesn't want that result (tested). No other pointer may be null. What a
- * call doesn't write is unchanged.
+ * Output buffers must not overlap each other or any input. The input, offsets, validity and levels must not change
+ * during a call, by another thread or by another process. Otherwise nothing is promised, not even where a call writes.
+ * So copy a mapped file that others may write before the call. A pointer may be null where its length, room or number
+ * of rows is 0 (tested). FOUND, FAULT, BOX, SIZE, COUNT, EQUAL, WHICH and ROW may be null where the caller doesn't want
+ * that result (tested). No other pointer may be null.
  *
- * No call returns WKB_STATUS_NO_MEMORY, whose number stays free. No call asks for memory, and all may be called from a
- * signal handler, in a forked child and on a thread with a small stack: wkb_parts and wkb_column_parts take at most
- * 20 KB of it (28 KB on Windows), any other call 2 KB (tested). Calls may run at the same time: there is no static data
- * (tested). Numbers in BUF may have either byte order. They may have any alignment (tested). Numbers in the structs
- * have the machine's byte order and alignment.
+ * No call asks for memory, and all may be called from a signal handler, in a forked child and on a thread with a small
+ * stack: wkb_parts and wkb_column_parts take at most 20 KB of it (28 KB on Windows), any other call 2 KB (tested).
+ * Calls may run at the same time: there is no static data (tested). The work over a column is at most proportional to
+ * its rows and bytes, or to its rows, singles, rings and coordinates, whatever its offsets and ends say (tested).
  *
  * Within version 1 these stay as they are: names, numbers and structs; which inputs are accepted, those of the grammar
  * with its seven kinds and at most 128 collections inside one another; and every byte that is written for an input and
@@ -47,13 +49,13 @@ extern "C" {
 /* A wkb_status, wkb_kind, wkb_dim, wkb_order or wkb_form is a number that need not have one of the names below: it may
  * be a status of a later version, or an option without a meaning. So none of these types is an enum. */
 
-/* What a call returns, and what became of a row of a column, which fits a byte. Each number belongs to a class, and
- * later versions add statuses inside the classes, so ask for the class where the number isn't known:
+/* What a call returns, and what became of a row of a column, which fits a byte. Each number belongs to a class; ask for
+ * the class where the number isn't known:
  *
  *      1 to 15    wkb_status_is_failure     what the call couldn't do
- *     16 to 31    wkb_status_is_of_row      what is wrong with a row of a column
+ *     16 to 31    wkb_status_is_of_row      what is wrong with a row of a column, whatever its bytes are
  *     32 to 255   wkb_status_is_refusal     the input is refused: the first fault from its front on; FAULT is written
- *     48 to 255   wkb_status_is_early_end   it is because it ends too early: `end` and `len` of FAULT are told */
+ *     48 to 255   wkb_status_is_early_end   the input ends too early: `end` and `len` of FAULT say where */
 typedef uint32_t wkb_status;
 enum {
   WKB_STATUS_OK = 0,
@@ -62,8 +64,9 @@ enum {
   WKB_STATUS_UNKNOWN_OPTION = 3,           /* the options name no order, form, kind or dimension */
   WKB_STATUS_TOO_MANY_ROWS = 4,            /* there are 2^32 rows or more, and a count has four bytes */
   WKB_STATUS_NULL_ROW = 16,                /* the row's validity bit is 0 */
-  WKB_STATUS_BAD_OFFSETS = 17,             /* the row's offsets are negative, decrease or pass the end of the data, or
-                                              the row begins before an earlier one ends whose offsets do none of this */
+  WKB_STATUS_BAD_OFFSETS = 17,             /* the row isn't null, and its offsets are negative, decrease or pass the end
+                                              of the data, or it begins before the end of an earlier row, null or not,
+                                              whose offsets do none of this, or OFFSET_SIZE is neither 4 nor 8 */
   WKB_STATUS_BAD_LEVELS = 18,              /* the row's levels don't fit its kind or each other */
   WKB_STATUS_SHORT_HEADER = 32,            /* the input ends inside a header or before a count */
   WKB_STATUS_INVALID_BYTE_ORDER = 33,      /* an order byte is neither 0 nor 1 */
@@ -71,23 +74,15 @@ enum {
   WKB_STATUS_INCORRECT_TYPE = 35,          /* a member has another kind or dimension than its multi geometry takes, or a
                                               point of a multi point has an SRID */
   WKB_STATUS_NESTING_DEPTH_EXCEEDED = 36,  /* a collection inside 128 others */
-  WKB_STATUS_SHORT_POINT = 48,             /* the input ends before its coordinates do: end, len */
-  WKB_STATUS_SHORT_LINE_STRING = 49,
-  WKB_STATUS_SHORT_MULTI_POINT = 50,
-  WKB_STATUS_SHORT_LINEAR_RING = 51
+  WKB_STATUS_SHORT_POINT = 48,             /* here and below the input ends before its coordinates do: end, len */
+  WKB_STATUS_SHORT_LINE_STRING = 49, WKB_STATUS_SHORT_MULTI_POINT = 50, WKB_STATUS_SHORT_LINEAR_RING = 51
 };
 
 /* The kinds, by their numbers in the codes. A ring is a part of a polygon. */
 typedef uint32_t wkb_kind;
 enum {
-  WKB_KIND_RING = 0,
-  WKB_KIND_POINT = 1,
-  WKB_KIND_LINE_STRING = 2,
-  WKB_KIND_POLYGON = 3,
-  WKB_KIND_MULTI_POINT = 4,
-  WKB_KIND_MULTI_LINE_STRING = 5,
-  WKB_KIND_MULTI_POLYGON = 6,
-  WKB_KIND_GEOMETRY_COLLECTION = 7
+  WKB_KIND_RING = 0, WKB_KIND_POINT = 1, WKB_KIND_LINE_STRING = 2, WKB_KIND_POLYGON = 3, WKB_KIND_MULTI_POINT = 4,
+  WKB_KIND_MULTI_LINE_STRING = 5, WKB_KIND_MULTI_POLYGON = 6, WKB_KIND_GEOMETRY_COLLECTION = 7
 };
 
 /* The dimensions, by the thousands of ISO codes. */
@@ -124,16 +119,15 @@ typedef struct wkb_found {
 
 /* The part that is refused. */
 typedef struct wkb_fault {
-  uint64_t part;    /* how many parts come before it, in preorder: 0 is the whole geometry */
-  uint64_t offset;  /* where it begins, counted from the front of the input, whatever the status */
-  uint64_t end;     /* of a status from 48 on: where it would end, counted from its own first byte; else 0 */
-  uint64_t len;     /* of a status from 48 on: where the input ends, counted likewise; else 0 */
-  uint32_t code;    /* of WKB_STATUS_CODE_OUT_OF_RANGE: all bits of the code; else 0 */
-  uint32_t status;  /* the wkb_status that the call returns */
+  uint64_t part;      /* how many parts come before it, in preorder: 0 is the whole geometry */
+  uint64_t offset;    /* where it begins, counted from the front of the input, whatever the status */
+  uint64_t end, len;  /* of a status from 48 on: where it would end and where the input ends, both counted from the
+                         part's own first byte; else 0 */
+  uint32_t code;      /* of WKB_STATUS_CODE_OUT_OF_RANGE: all bits of the code; else 0 */
+  uint32_t status;    /* the wkb_status that the call returns */
 } wkb_fault;
 
-/* The byte order and the form that are written. A member may be any number: an order or a form without a meaning is
- * WKB_STATUS_UNKNOWN_OPTION. */
+/* The byte order and the form that are written. An order or a form without a meaning is WKB_STATUS_UNKNOWN_OPTION. */
 typedef struct wkb_options {
   uint32_t order;  /* a wkb_order */
   uint32_t form;   /* a wkb_form */
@@ -144,17 +138,10 @@ typedef struct wkb_options {
  * are counted from the front of BUF. The bytes from BEGIN up to END are the part's own; those of a geometry are a
  * well-formed input by themselves. */
 typedef struct wkb_part {
-  uint64_t begin;      /* its first byte */
-  uint64_t end;        /* one past its last byte */
-  uint64_t offset;     /* where its coordinates, rings or members begin */
-  uint64_t count;      /* how many it has; a point has one coordinate, an empty point one of not-a-numbers */
-  uint64_t next;       /* the index of the entry after those of its own rings and members */
-  uint32_t srid;       /* its own SRID, or 0 */
-  uint32_t has_srid;   /* 1 if it has an SRID, else 0 */
-  uint32_t kind;       /* a wkb_kind */
-  uint32_t dimension;  /* a wkb_dim */
-  uint32_t width;      /* the words (doubles) of a coordinate: 2, 3 or 4 */
-  uint32_t order;      /* a wkb_order */
+  uint64_t begin, end;     /* its first byte, and one past its last byte */
+  uint64_t offset, count;  /* as in wkb_found */
+  uint64_t next;           /* the index of the entry after those of its own rings and members */
+  uint32_t srid, has_srid, kind, dimension, width, order;  /* as in wkb_found */
 } wkb_part;
 
 /* The range of an ordinate over all coordinates that have one. Not-a-numbers are left out. -0 is below +0. */
@@ -164,11 +151,8 @@ typedef struct wkb_range {
   uint64_t count;     /* how many numbers there are */
 } wkb_range;
 
-/* The bounds of a geometry: z of coordinates that have a z, m of those that have an m. They are over all rings of a
- * polygon, the interior ones too. */
-typedef struct wkb_box {
-  wkb_range x, y, z, m;
-} wkb_box;
+/* The bounds of a geometry, over all its rings: z of coordinates that have a z, m of those that have an m. */
+typedef struct wkb_box { wkb_range x, y, z, m; } wkb_box;
 
 /* A column as Arrow has it (binary, large binary, or a slice of one). Row i has the bytes of DATA from offset i up to
  * offset i + 1. Rows that are read don't overlap, so all of them together are no longer than SIZE. */
@@ -184,62 +168,47 @@ typedef struct wkb_column {
 
 /* The version of the library: its WKB_VERSION. */
 unsigned wkb_version(void);
-
-/* The text of a status, in one line: a static string, for any number. A number without a name has the text of its
- * class. */
+/* The text of a status, or of its class where the number has no name, in one line: a static string, for any number. */
 const char *wkb_status_text(wkb_status status);
-
 /* The name of a kind in lower case, such as "linestring": a static string, for any number. */
 const char *wkb_kind_text(wkb_kind kind);
 
-/* Writes to OUT what FAULT tells, in one line: the text of its status, the code, which part is refused and where it
+/* Writes to OUT what FAULT says, in one line: the text of its status, the code, which part is refused and where it
  * begins and would end. If the status is no refusal, only its text is written. Returns how many characters there are:
  * at most ROOM - 1 of these are written, and a 0 after them. Nothing is cut off where ROOM is WKB_FAULT_TEXT_ROOM. */
 size_t wkb_fault_text(const wkb_fault *fault, char *out, size_t room);
 
-/* Whether a status says that the input is refused, so that FAULT is written: 1 from 32 on, else 0. */
+/* Whether a status says that the input is refused: 1 from 32 on, else 0. */
 int wkb_status_is_refusal(wkb_status status);
-
-/* Whether the input is refused because it ends too early: 1 from 48 on, else 0. */
+/* Whether a status says that the input is refused because it ends too early: 1 from 48 on, else 0. */
 static inline int wkb_status_is_early_end(wkb_status status) { return status >= 48; }
-
-/* Whether something is wrong with a row of a column, whatever its bytes are: 1 from 16 to 31, else 0. */
+/* Whether a status says what is wrong with a row of a column, whatever its bytes are: 1 from 16 to 31, else 0. */
 static inline int wkb_status_is_of_row(wkb_status status) { return status >= 16 && status < 32; }
-
 /* Whether a status says what the call couldn't do: 1 from 1 to 15, else 0. */
 static inline int wkb_status_is_failure(wkb_status status) { return status >= 1 && status < 16; }
 
-/* Whether a geometry of the grammar is at the front of the input, with at most 128 collections inside one another.
- * WKB_STATUS_OK writes FOUND, a refusal writes FAULT. */
+/* Whether a geometry of the grammar is at the front of the input, with at most 128 collections inside one another. */
 wkb_status wkb_check(const void *buf, size_t len, wkb_found *found, wkb_fault *fault);
 
-/* The bounds of the input's geometry. WKB_STATUS_OK writes BOX, a refusal writes FAULT, as wkb_check would. */
+/* The bounds of the input's geometry. */
 wkb_status wkb_bounds(const void *buf, size_t len, wkb_box *box, wkb_fault *fault);
 
-/* The one encoding of the input's geometry under the options. WKB_STATUS_OK: it is at the front of OUT, and *SIZE is
- * its length, which is never more than LEN + 4. WKB_STATUS_NO_ROOM: *SIZE is its length, which is more than ROOM, and
- * nothing was written. WKB_STATUS_UNKNOWN_OPTION: the options have no meaning, whatever the input is. A refusal writes
- * FAULT. Any other status leaves *SIZE and FAULT unchanged, and any but WKB_STATUS_OK leaves OUT unchanged. */
+/* The one encoding of the input's geometry under the options, at the front of OUT. Its length, *SIZE, is never more
+ * than LEN + 4. WKB_STATUS_UNKNOWN_OPTION: the options have no meaning, whatever the input is. */
 wkb_status wkb_write(const void *buf, size_t len, const wkb_options *options, void *out, size_t room, size_t *size,
                      wkb_fault *fault);
 
 /* Whether both inputs begin with geometries of one value: the same kinds, dimensions and coordinates, bit for bit,
- * whatever their SRIDs and byte orders are. Empty points are the same whatever not-a-numbers they hold. WKB_STATUS_OK
- * writes *EQUAL, 1 or 0. A refusal is that of A, or else that of B: it writes FAULT, and *WHICH, 1 for A and 2 for B.
- */
+ * whatever their SRIDs and byte orders are. Then *EQUAL is 1, else 0. Empty points are the same whatever not-a-numbers
+ * they hold. A refusal is that of A, or else that of B: *WHICH is 1 for A and 2 for B. */
 wkb_status wkb_same(const void *a, size_t a_len, const void *b, size_t b_len, uint32_t *equal, wkb_fault *fault,
                     uint32_t *which);
 
-/* The table of the parts of the input's geometry in preorder. WKB_STATUS_OK: it is at the front of PARTS, and *COUNT is
- * its length, which is wkb_found.parts. WKB_STATUS_NO_ROOM: *COUNT is its length, which is more than ROOM. A refusal
- * writes FAULT. Any other status leaves *COUNT and FAULT unchanged, and any but WKB_STATUS_OK leaves PARTS unchanged.
- */
+/* The table of the parts of the input's geometry in preorder, in PARTS. Its length, *COUNT, is wkb_found.parts. */
 wkb_status wkb_parts(const void *buf, size_t len, wkb_part *parts, size_t room, size_t *count, wkb_fault *fault);
 
-/* What wkb_check returns for each row, a byte a row in STATUSES. A null row is WKB_STATUS_NULL_ROW. Any other row is
- * WKB_STATUS_BAD_OFFSETS if its offsets are negative, decrease or pass the end of the data, or if it begins before the
- * end of an earlier row, null or not, whose offsets do none of this; and so is each where OFFSET_SIZE is neither 4 nor
- * 8. None of these rows is read (tested). No row stops the others. */
+/* What wkb_check returns for each row, a byte a row in STATUSES. Of a row that is WKB_STATUS_NULL_ROW or
+ * WKB_STATUS_BAD_OFFSETS no byte is read (tested). No row stops the others. */
 void wkb_column_check(const wkb_column *column, uint8_t *statuses);
 
 /* What wkb_bounds returns for each row, and its bounds: BOXES has one a row. The box of a row without bounds is that of
@@ -250,29 +219,26 @@ void wkb_column_bounds(const wkb_column *column, wkb_box *boxes, uint8_t *status
  * at ends[i - 1], or at 0 where i is 0. In it OFFSET, BEGIN and END are counted from the row's own front, and NEXT from
  * the first entry of its own table. STATUSES has a byte a row, ENDS a number a row. A row without a table ends where it
  * begins. WKB_STATUS_NO_ROOM: the table would end at ends[i], which is more than ROOM. Returns the last end, or 0
- * without rows (tested). With that much room, no row lacks room. PARTS is unchanged after the last table that was
- * written. */
+ * without rows (tested). With that much room, no row lacks room. PARTS is unchanged after the last table in it. */
 size_t wkb_column_parts(const wkb_column *column, wkb_part *parts, size_t room, uint64_t *ends, uint8_t *statuses);
 
-/* What wkb_write returns for each row under the options, the encodings one after another in OUT, with ends, statuses
- * and the result as wkb_column_parts has them. Where the options have no meaning, each row that is not null and whose
- * offsets are good is WKB_STATUS_UNKNOWN_OPTION. */
+/* What wkb_write returns for each row under the options, the encodings one after another in OUT, with ENDS, STATUSES
+ * and the result as wkb_column_parts has them. WKB_STATUS_UNKNOWN_OPTION: the row isn't null, its offsets are good, and
+ * the options have no meaning. */
 size_t wkb_column_write(const wkb_column *column, const wkb_options *options, void *out, size_t room, uint64_t *ends,
                         uint8_t *statuses);
 
 /* The one encoding under the options of the geometry of KIND, from WKB_KIND_MULTI_POINT to
  * WKB_KIND_GEOMETRY_COLLECTION, and DIMENSION whose members are the geometries of all rows in order. Without rows it is
- * empty. Of a member only the value counts: it is written under the options, without its SRID. WKB_FORM_EWKB_OWN_SRID
- * writes no SRID. WKB_STATUS_OK: the encoding is at the front of OUT, and *SIZE is its length, which is never more than
- * the column's SIZE + 13. WKB_STATUS_NO_ROOM: *SIZE is its length, which is more than ROOM, and nothing was written.
+ * empty. It is at the front of OUT, and its length, *SIZE, is never more than the column's SIZE + 13. Of a member only
+ * the value counts: it is written under the options, without its SRID. WKB_FORM_EWKB_OWN_SRID writes no SRID.
  * WKB_STATUS_UNKNOWN_OPTION: the kind is none of these four, or the dimension or the options have no meaning, whatever
  * the rows are. WKB_STATUS_TOO_MANY_ROWS: these have a meaning, and there are 2^32 rows or more. None of them is read
- * then (tested). Any other status is that of the first row that can't be a member, and *ROW is its index. It is
- * WKB_STATUS_NULL_ROW or WKB_STATUS_BAD_OFFSETS as in wkb_column_check, or a refusal, which writes FAULT, whose part
- * and offset are counted in the row alone. A row is refused as wkb_check refuses it, but with no more than 127
- * collections inside one another, since the new one is around them. A row of another kind or dimension than a multi
- * geometry takes is WKB_STATUS_INCORRECT_TYPE, with part 0 and offset 0. A collection takes rows of any kind and
- * dimension. The work is proportional to the rows and their bytes at most (tested). */
+ * then (tested). Any other status is that of the first row that can't be a member, whose index is *ROW:
+ * WKB_STATUS_NULL_ROW, WKB_STATUS_BAD_OFFSETS, or a refusal, whose part and offset are counted in the row alone. A row
+ * is refused as wkb_check refuses it, but with no more than 127 collections inside one another, since the new one is
+ * around them. A row of another kind or dimension than a multi geometry takes is WKB_STATUS_INCORRECT_TYPE, with part 0
+ * and offset 0. A collection takes rows of any kind and dimension. */
 wkb_status wkb_collect(const wkb_column *column, wkb_kind kind, wkb_dim dimension, const wkb_options *options,
                        void *out, size_t room, size_t *size, wkb_fault *fault, size_t *row);
 
@@ -290,9 +256,7 @@ typedef struct wkb_coordinates {
   uint64_t *single_ends;  /* for each single, its end in rings */
   size_t    single_room;
   uint64_t *row_ends;     /* for each row, its end in singles */
-  uint64_t  coordinates;  /* results: how many coordinates, rings and singles all rows have */
-  uint64_t  rings;
-  uint64_t  singles;
+  uint64_t  coordinates, rings, singles;  /* results: how many of each all rows have */
 } wkb_coordinates;
 
 /* The coordinates of all rows. DIMENSION is a wkb_dim: words that it doesn't name are left out, and a word that a
@@ -326,8 +290,7 @@ typedef struct wkb_levels {
  * kind, it needs a count of 2^32, its ends decrease, it begins or ends past the end of a level, or at some level it
  * begins before the end of an earlier row, null or not, that neither there nor above ends before it begins or past the
  * level's end. WKB_STATUS_UNKNOWN_OPTION: the row isn't null, and the kind, the dimension or the options have no
- * meaning. WKB_FORM_EWKB_OWN_SRID writes no SRID. No row stops the others. The work is proportional to the rows,
- * singles, rings and coordinates together at most, whatever the levels say (tested). */
+ * meaning. WKB_FORM_EWKB_OWN_SRID writes no SRID. No row stops the others. */
 size_t wkb_column_from_coordinates(const wkb_levels *levels, wkb_kind kind, wkb_dim dimension,
                                    const wkb_options *options, void *out, size_t room, uint64_t *ends,
                                    uint8_t *statuses);
