@@ -21,6 +21,7 @@ static wkb_part parts[ROOM];
 static int64_t offsets[2];
 static int64_t collected[2]; /* of the row that is collected */
 static wkb_column column = {bytes, 0, offsets, sizeof offsets[0], NULL, 0, 1};
+static wkb_column member = {bytes, 0, collected, sizeof collected[0], NULL, 0, 1};
 
 /* Collections inside one another, as many as are accepted. The innermost has a multi polygon, and a point follows each
  * but the outermost. */
@@ -60,7 +61,6 @@ static void write_rows(void) {
   wkb_column_write(&column, &LITTLE_ISO, out, sizeof out, &row_end, &row_status), status = row_status;
 }
 static void collect_rows(void) {
-  const wkb_column member = {bytes, len, collected, sizeof collected[0], NULL, 0, 1};
   const wkb_kind kind = WKB_KIND_GEOMETRY_COLLECTION;
   status = wkb_collect(&member, kind, WKB_DIM_XY, &LITTLE_ISO, out, sizeof out, &size, NULL, NULL);
 }
@@ -150,7 +150,7 @@ static size_t stack_of(const tried *it, uint8_t *stack) {
 
 /* All calls over the input, whose status is known. */
 static void all_take_little(wkb_status expected, size_t without, uint8_t *stack) {
-  column.size = len, offsets[1] = (int64_t)len;
+  column.size = member.size = len, offsets[1] = (int64_t)len;
   for (size_t i = 0; i < sizeof TRIED / sizeof TRIED[0]; i++) {
     TRIED[i].call(); /* so that the linker has found what it calls */
     if (!TRIED[i].has_levels) expect(status == expected, "the status on a painted stack", TRIED[i].name);

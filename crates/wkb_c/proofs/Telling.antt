@@ -10,12 +10,14 @@ use Rattle.wkb_laws.proofs.Complete.{head_of}
 use Rattle.wkb_check.proofs.Ahead.{Says, says}
 use Rattle.wkb_check.proofs.Public.{geometry_opens}
 use Rattle.wkb_check.specs.Bounded.{HasGeometry}
-use Rattle.wkb_check.specs.Public.{DescribesFront}
+use Rattle.wkb_check.specs.Public.{DescribesFront, IsRefusedFor}
+use Rattle.wkb_check.specs.declared.answer.Refused.{Refused}
 use Rattle.wkb_check.specs.declared.answer.Summary.{Summary}
 use Rattle.wkb_rewrite.specs.Inputs.{IsAccepted, HaveOneValue, HaveTwoValues}
 use Rattle.wkb_c.specs.Classes.{IsRefusalStatus, IsShortStatus}
+use Rattle.wkb_c.specs.Columns.{IsRefusedWith}
 use Rattle.wkb_c.specs.EnumNumbers.{AreRefusals, OthersTellNoEnd}
-use Rattle.wkb_c.specs.Statuses.{general_status, general_fault}
+use Rattle.wkb_c.specs.Statuses.{general_status, general_fault, cause_status, cause_fault}
 use Rattle.wkb_c.specs.Subjects.{HasParts}
 
 general_is_refusal : (g : Bad) → IsRefusalStatus (general_status g)
@@ -41,6 +43,23 @@ pub others_tell_no_end : OthersTellNoEnd
 others_tell_no_end end_of_input part offset long = (refl, refl)
 others_tell_no_end (general g) part offset long = general_tells_end g part offset long
 others_tell_no_end _ part offset long = (refl, refl)
+
+-- the status of its cause says why the bytes are refused
+pub refused_with : (buf : List ℕ) (e : Refused) (status : ℕ) → IsRefusedFor buf e → status ≡ cause_status e.cause
+    → IsRefusedWith buf status
+refused_with buf e status r is = (
+  cause_fault e.part e.offset e.cause,
+  record {
+    cause = e.cause;
+    turns = e.part;
+    slots = r.slots;
+    refuses = r.refuses;
+    offset = e.offset;
+    status_is = is;
+    fault_is = refl;
+    begins = r.begins;
+  },
+)
 
 -- what is found is accepted
 pub found_is_accepted : (buf : List ℕ) (f : Summary) → DescribesFront buf f → IsAccepted buf

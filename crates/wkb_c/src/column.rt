@@ -8,9 +8,9 @@ ghost use Rattle.wkb_c.specs.Columns.{IsSpan, HasNoSpan, Reach, RowsFollow, Rows
 ghost use Rattle.wkb_c.specs.Columns.{IsRow, LacksRow};
 ghost use Rattle.wkb_c.specs.Columns.{IsRefusedWith, IsStatusOf, IsStatusOfRow, AreStatuses};
 
-use crate::fault::{NO_FAULT, check_input};
+use crate::fault::status_of_cause;
 use crate::status::{BAD_OFFSETS, NULL_ROW, OK};
-use wkb_check::{Summary, check_plain};
+use wkb_check::{Summary, check, check_plain};
 use wkb_geom::Endianness;
 use wkb_geom::words::{u32_at, u64_at};
 
@@ -147,8 +147,10 @@ pub fn check_row(row: &[u8]) -> Result<Summary, u32>
     ensures refused { IfErr result (λ status. IsRefusedWith row.now status) }
     ensures known { IfErr result FitsByte }
 {
-    let mut fault = NO_FAULT;
-    check_input(row, &mut fault)
+    match check(row) {
+        Ok(found) => Ok(found),
+        Err(refused) => Err(status_of_cause(refused.cause)),
+    }
 }
 
 /// The status of some bytes. The short way comes first: most rows hold no collection, and it counts in registers.

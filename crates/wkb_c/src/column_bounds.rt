@@ -7,7 +7,7 @@ ghost use Rattle.wkb_c.specs.Columns.{Reach};
 ghost use Rattle.wkb_c.specs.RowItems.{KeepsFrom, rows_of};
 
 use crate::column::Column;
-use crate::fault::{NO_FAULT, report_refusal};
+use crate::fault::status_of_cause;
 use crate::status::OK;
 use wkb_check::{Bounds, put_bounds};
 
@@ -24,10 +24,9 @@ fn bound_row(column: &Column, i: usize, reach: &mut u64, found: &mut Bounds) -> 
         Ok(row) => row,
         Err(status) => return status,
     };
-    let mut fault = NO_FAULT;
     match put_bounds(row, found) {
         Ok(()) => OK,
-        Err(refused) => report_refusal(&refused, &mut fault),
+        Err(refused) => status_of_cause(refused.cause),
     }
 }
 

@@ -43,7 +43,8 @@ pub const NO_FAULT: WkbFault = WkbFault {
 
 /// The status of a fault of the bytes.
 fn status_of_general(fault: General) -> u32
-    ensures { result ≡ general_status fault }
+    ensures status { result ≡ general_status fault }
+    ensures small { FitsByte result }
 {
     match fault {
         General::InvalidByteOrder => INVALID_BYTE_ORDER,
@@ -57,8 +58,9 @@ fn status_of_general(fault: General) -> u32
 }
 
 /// The status of a cause.
-fn status_of_cause(cause: Cause) -> u32
-    ensures { result ≡ cause_status cause }
+pub fn status_of_cause(cause: Cause) -> u32
+    ensures status { result ≡ cause_status cause }
+    ensures small { FitsByte result }
 {
     match cause {
         Cause::EndOfInput => SHORT_HEADER,
