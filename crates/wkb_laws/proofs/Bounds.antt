@@ -1,16 +1,15 @@
 -- Members and list entries are bounded by the bytes.
-use Rattle.std.proofs.Common.{◌≡◌, ℕ, ◌+◌, ◌*◌, ◌<◌, ◌≤◌, List, [], ◌∷◌, ◌++◌, length, Bool, refl, sym, ap, ◌∙◌, arith}
+use Rattle.std.proofs.Common.{◌≡◌, ℕ, ◌+◌, ◌*◌, ◌<◌, ◌≤◌, List, [], ◌∷◌, length, Bool, refl, sym, ap, ◌∙◌, arith}
 use Rattle.std.proofs.Common.{length-append, lit≤, mul-le-mul_left}
+use Rattle.std.proofs.lemmas.Bool.Decides.{nat_tests}
 use Rattle.wkb_laws.specs.Prelude.{Endianness, Dimension, IsEach, Coordinate, Value, point, line_string, polygon}
-use Rattle.wkb_laws.specs.Prelude.{multi_point, multi_line_string, multi_polygon}
-use Rattle.wkb_laws.specs.Prelude.{collection, Values, no_members, member, kind, dimension, members, member_count}
-use Rattle.wkb_laws.specs.Prelude.{member_count_each, listed_count}
+use Rattle.wkb_laws.specs.Prelude.{multi_point, multi_line_string, multi_polygon, collection, Values, no_members}
+use Rattle.wkb_laws.specs.Prelude.{member, kind, dimension, members, member_count, member_count_each, listed_count}
 use Rattle.wkb_laws.specs.Prelude.{listed_count_each, Spelling, node, Spellings, no_spellings, spelling}
-use Rattle.wkb_laws.specs.Prelude.{SpellsCoordinates, SpellsBody, Wanted, any, part}
-use Rattle.wkb_laws.specs.Prelude.{member_part, Spells, SpellsEach, FrontWithin, Cause, slots_asked, room_inside}
-use Rattle.wkb_laws.specs.Prelude.{IsAllowed, OpensCounted, RefusesRings, no_ring_count}
-use Rattle.wkb_laws.specs.Prelude.{short_ring, later_ring, Refuses, bad_ring, bad_member, RefusesEach, this_member}
-use Rattle.wkb_laws.specs.Prelude.{later_member}
+use Rattle.wkb_laws.specs.Prelude.{SpellsCoordinates, SpellsBody, Wanted, any, part, member_part, Spells, SpellsEach}
+use Rattle.wkb_laws.specs.Prelude.{FrontWithin, Cause, slots_asked, room_inside, IsAllowed, OpensCounted, RefusesRings}
+use Rattle.wkb_laws.specs.Prelude.{no_ring_count, short_ring, later_ring, Refuses, bad_ring, bad_member, RefusesEach}
+use Rattle.wkb_laws.specs.Prelude.{this_member, later_member}
 use Rattle.wkb_laws.specs.Laws.{FrontIsBounded, RefusalIsBounded}
 use Rattle.wkb_laws.proofs.Parts.{then_length, length-opens, header_length}
 use Rattle.wkb_laws.proofs.Lists.{each_sum, each_same, by_list_kind, IsWanted}
@@ -53,11 +52,8 @@ mutual
 body_long : (order : Endianness) (own : List ℕ) (t : Value) (x : List ℕ) → SpellsBody order own t x
     → 4 * ring_count t ≤ length x
 body_long order own (polygon d rings) x h =
-    omega (
-      arith,
-      each_long (SpellsCoordinates order d) 4 (coordinates_long order d) rings (h.1).rest (h.1).second,
-      then_length h.1,
-    )
+    let each = each_long (SpellsCoordinates order d) 4 (coordinates_long order d) rings h.1.rest h.1.second in
+    omega (arith, then_length h.1)
 body_long order own _ x h = omega arith
 
 -- each ring and each member has four bytes of its own, and so has the geometry
@@ -66,13 +62,8 @@ mutual
   spelled_long (node h own ss) t x a =
       let body = body_long h.order own t a.second.front a.second.first in
       let tail = each_spelled_long (member_part (kind t) (dimension t)) ss (members t) a.second.rest a.second.second in
-      omega (
-        arith,
-        header_length h (kind t) (dimension t) a.front a.first,
-        then_length a,
-        then_length a.second,
-        member_count-members t,
-      )
+      let head = header_length h (kind t) (dimension t) a.front a.first in
+      omega (arith, then_length a, then_length a.second, member_count-members t)
 
   pub each_spelled_long : (w : Wanted) (ss : Spellings) (ts : Values) (x : List ℕ) → SpellsEach w ss ts x
       → 4 * member_count_each ts ≤ length x
@@ -91,53 +82,25 @@ front_is_bounded_lem input s t rest f =
 length-counts : {room : ℕ} {w : Wanted} {input rest : List ℕ} {order : Endianness} {k : ℕ} {d : Dimension}
     {srid : Bool} {n : ℕ}
     → OpensCounted room w input order k d srid n rest → 9 + length rest ≤ length input
-length-counts {rest = rest} c =
-    omega (
-      arith,
-      length-opens c.opens,
-      length-append c.srid_field (c.count_field ++ rest),
-      length-append c.count_field rest,
-    )
+length-counts c = omega (arith, length-opens c.opens, length-append {A = ℕ})
 
 rings_begun : {order : Endianness} {d : Dimension} {n : ℕ} {input : List ℕ} {cause : Cause} {begun : ℕ}
     → RefusesRings order d n input cause begun
     → 4 * begun ≤ length input + 4
 rings_begun (no_ring_count h) = omega arith
 rings_begun (short_ring b h) = omega arith
-rings_begun {order} {d} {input = input} (later_ring {rest = rest} ring b h) =
-    omega (
-      arith,
-      coordinates_long order d ring b.front b.first,
-      rings_begun h,
-      ap length b.whole,
-      length-append b.front rest,
-    )
+rings_begun {order} {d} (later_ring ring b h) =
+    let first = coordinates_long order d ring b.front b.first in
+    omega (arith, rings_begun h, ap length b.whole, length-append {A = ℕ})
 
 front_long : {room : ℕ} {input : List ℕ} {s : Spelling} {t : Value} {rest : List ℕ} → FrontWithin room input s t rest
     → 4 * member_count t + 5 + length rest ≤ length input
 front_long {s = s} {t = t} {rest = rest} f =
     omega (arith, spelled_long s t f.front f.spelled, ap length f.whole, length-append f.front rest)
 
-mutual
-  pub refused_turns : {room : ℕ} {w : Wanted} {input : List ℕ} {cause : Cause} {begun slots : ℕ}
-      → Refuses room w input cause begun slots
-      → 4 * begun ≤ length input
-  refused_turns (bad_ring c r) = let inside = rings_begun r in let long = length-counts c in omega arith
-  refused_turns (bad_member c low enough r) =
-      let inside = each_refused_turns r in let long = length-counts c in omega arith
-  refused_turns _ = omega arith
-
-  pub each_refused_turns : {room : ℕ} {w : Wanted} {n : ℕ} {input : List ℕ} {cause : Cause} {begun slots : ℕ}
-      → RefusesEach room w n input cause begun slots
-      → 4 * begun ≤ length input + 4
-  each_refused_turns (this_member r) = let inside = refused_turns r in omega arith
-  each_refused_turns (later_member f p r) = let inside = each_refused_turns r in let long = front_long f in omega arith
-
 -- a list of members asks for a ninth of the bytes after its count
 slots_asked-members : (k n remaining : ℕ) → 3 < k → k ≤ 7 → 9 * slots_asked k n remaining ≤ remaining
-slots_asked-members k n remaining =
-    by_list_kind
-    (λ z. 9 * slots_asked z n remaining ≤ remaining) (omega arith) (omega arith) (omega arith) (omega arith) k
+slots_asked-members k n remaining low high = grind (arith, nat_tests)
 
 -- nine times the entries for each byte: one for each collection that may be open, and five for the rest
 abbrev share : Wanted → ℕ → ℕ
@@ -150,9 +113,7 @@ share-least (part k d) room = omega arith
 
 share_inside : (room k : ℕ) (d : Dimension) → 3 < k → k ≤ 7 → (k ≡ 7 → 0 < room)
     → share (member_part k d) (room_inside k room) + 1 ≤ room + 5
-share_inside room k d =
-    by_list_kind (λ z. (z ≡ 7 → 0 < room) → share (member_part z d) (room_inside z room) + 1 ≤ room + 5)
-    (λ some. omega arith) (λ some. omega arith) (λ some. omega arith) (λ some. let more = some refl in omega arith) k
+share_inside room k d low high some = grind (arith, nat_tests)
 
 -- the share of the members of a list, and its own entries, are within the list's share
 list_share : (inner outer asked slots rest len : ℕ) → inner + 1 ≤ outer → 9 * asked ≤ rest → rest ≤ len
@@ -176,40 +137,45 @@ own_share s front rest len own slots h pays inside fits =
     omega (arith, mul-le-mul_left s fits, mul-le-mul_left front h)
 
 mutual
-  pub refused_slots : {room : ℕ} {w : Wanted} {input : List ℕ} {cause : Cause} {begun slots : ℕ}
+  pub refused_within : {room : ℕ} {w : Wanted} {input : List ℕ} {cause : Cause} {begun slots : ℕ}
       → Refuses room w input cause begun slots → IsWanted w
-      → 9 * slots ≤ share w room * length input
-  refused_slots {room} {w} {input} (bad_ring {n = n} {rest = rest} c r) good =
-      let asked = slots_asked 3 n (length rest) in
+      → (4 * begun ≤ length input) × (9 * slots ≤ share w room * length input)
+  refused_within {room} {w} {input} (bad_ring {n = n} {rest = rest} c r) good =
+      let inside = rings_begun r in
+      let long = length-counts c in
       let all =
-      own_share (share w room) (length rest) 0 (length input) asked 0 (share-least w room) (omega arith) (omega arith)
-      (omega (arith, length-counts c)) in
-      omega arith
-  refused_slots {room} {w = part l e} (bad_member c low enough r) good =
+      own_share (share w room) (length rest) 0 (length input) (slots_asked 3 n (length rest)) 0 (share-least w room)
+      (omega arith) (omega arith) (omega arith) in
+      (omega arith, omega arith)
+  refused_within {w = part l e} (bad_member c low enough r) good =
       let same = (c.allowed.wanted).0 in absurd (omega arith)
-  refused_slots {room} {w = any} {input = input}
+  refused_within {room} {w = any} {input = input}
       (bad_member {k = k} {n = n} {slots = slots} {d = d} {srid = srid} {rest = rest} c low enough r) good =
       let high = c.opens.meaning.kind.high in
-      list_share (share (member_part k d) (room_inside k room)) (room + 5) (slots_asked k n (length rest)) slots
-      (length rest) (length input)
-      (share_inside room k d low high c.allowed.shallow) (slots_asked-members k n (length rest) low high)
-      (omega (arith, length-counts c))
-      (each_refused_slots r (wanted_inside any room k d srid good c.allowed low high))
-  refused_slots _ good = omega arith
+      let long = length-counts c in
+      let inside = each_refused_within r (wanted_inside any room k d srid good c.allowed low high) in (
+        omega arith,
+        list_share (share (member_part k d) (room_inside k room)) (room + 5) (slots_asked k n (length rest)) slots
+            (length rest) (length input) (share_inside room k d low high c.allowed.shallow)
+            (slots_asked-members k n (length rest) low high) (omega arith) inside.1,
+      )
+  refused_within _ good = (omega arith, omega arith)
 
-  pub each_refused_slots : {room : ℕ} {w : Wanted} {n : ℕ} {input : List ℕ} {cause : Cause} {begun slots : ℕ}
-      → RefusesEach room w n input cause begun slots
-      → IsWanted w → 9 * slots ≤ share w room * length input
-  each_refused_slots (this_member r) good = refused_slots r good
-  each_refused_slots {room} {w} {input = input} (later_member {slots = slots} {rest = rest} {t = t} f p r) good =
+  pub each_refused_within : {room : ℕ} {w : Wanted} {n : ℕ} {input : List ℕ} {cause : Cause} {begun slots : ℕ}
+      → RefusesEach room w n input cause begun slots → IsWanted w
+      → (4 * begun ≤ length input + 4) × (9 * slots ≤ share w room * length input)
+  each_refused_within (this_member r) good = let inside = refused_within r good in (omega arith, inside.1)
+  each_refused_within {room} {w} {input = input} (later_member {slots = slots} {rest = rest} {t = t} f p r) good =
+      let inside = each_refused_within r good in
       let long = front_long f in
-      let most = listed_count-most t in
-      own_share (share w room) (4 * member_count t + 5) (length rest) (length input) (listed_count t) slots
-      (share-least w room) (omega arith)
-      (each_refused_slots r good) (omega arith)
+      let most = listed_count-most t in (
+        omega arith,
+        own_share (share w room) (4 * member_count t + 5) (length rest) (length input) (listed_count t) slots
+            (share-least w room) (omega arith) inside.1 (omega arith),
+      )
 
 pub refusal_is_bounded_lem : RefusalIsBounded
 refusal_is_bounded_lem input cause turns slots r =
-    let begun = refused_turns r in
-    let asked : 9 * slots ≤ 133 * length input = refused_slots r tt in
+    let within = refused_within r tt in
+    let asked : 9 * slots ≤ 133 * length input = within.1 in
     (omega arith, omega arith)

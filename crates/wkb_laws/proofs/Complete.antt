@@ -1,36 +1,24 @@
 -- Every front and every refusal is what reading from left to right gives.
 use Rattle.std.proofs.Common.{◌≡◌, ℕ, zero, suc, ◌<◌, ◌≤◌, List, [], ◌∷◌, length, Some, None, Ok, Err, Result, Bool}
-use Rattle.std.proofs.Common.{nat_lt, refl, sym, ap, ◌∙◌, arith, lt-ltb}
-use Rattle.std.proofs.Common.{le-ltb, ◌≢◌, ◌+◌, ◌-◌, ◌*◌, ◌++◌, take, drop, map, Option, true, false, is_some, ◌==◌}
-use Rattle.std.proofs.Common.{if◌then◌else◌, subst, append_assoc}
-use Rattle.std.proofs.Common.{append-nil, length-append, drop-drop, lit<, lit≤}
-use Rattle.std.proofs.lemmas.Bool.{cond-true, cond-false, false_from_ne_true}
+use Rattle.std.proofs.Common.{nat_lt, refl, sym, ap, ◌∙◌, arith, lt-ltb, le-ltb, ◌≢◌, ◌+◌, ◌-◌, ◌*◌, ◌++◌, drop, map}
+use Rattle.std.proofs.Common.{Option, true, false, is_some, ◌==◌, if◌then◌else◌, subst, append_assoc, append-nil}
+use Rattle.std.proofs.Common.{length-append, drop-drop, lit<, lit≤}
+use Rattle.std.proofs.lemmas.Bool.{false_from_ne_true}
 use Rattle.wkb_laws.specs.Prelude.{count_in, Endianness, BigEndian, LittleEndian, Dimension, Head, Layout, WkbType}
-use Rattle.wkb_laws.specs.Prelude.{Cause, end_of_input, general, incorrect_type}
-use Rattle.wkb_laws.specs.Prelude.{InvalidByteOrder, IsNumber, order_byte, Code, Begins, Wanted, any, part, IsPart}
-use Rattle.wkb_laws.specs.Prelude.{Opens, Item, type_kind, type_dimension}
+use Rattle.wkb_laws.specs.Prelude.{Cause, end_of_input, general, incorrect_type, InvalidByteOrder, IsNumber, order_byte}
+use Rattle.wkb_laws.specs.Prelude.{Code, Begins, Wanted, any, part, IsPart, Opens, Item, type_kind, type_dimension}
 use Rattle.wkb_laws.specs.Prelude.{type_of, layout_of, laid, head_at, head_by_order, head_by_code, meaning, meaning_of}
-use Rattle.wkb_laws.specs.Prelude.{layout_wanted}
-use Rattle.wkb_laws.specs.Prelude.{is_member, refused}
-use Rattle.wkb_laws.specs.Prelude.{ShortLinearRing, number, all_nan, width}
-use Rattle.wkb_laws.specs.Prelude.{IsEach, Coordinate, Value, point, line_string, polygon, multi_point}
-use Rattle.wkb_laws.specs.Prelude.{multi_line_string, multi_polygon, collection, Values}
-use Rattle.wkb_laws.specs.Prelude.{no_members, member, each, count, nest, nest_each, members, kind, dimension}
-use Rattle.wkb_laws.specs.Prelude.{member_count, member_count_each, listed_count}
-use Rattle.wkb_laws.specs.Prelude.{Header, Spelling, node, Spellings, no_spellings, spelling, IsSrid, SpellsCoordinate}
-use Rattle.wkb_laws.specs.Prelude.{SpellsCoordinates, Spells, SpellsEach}
-use Rattle.wkb_laws.specs.Prelude.{member_part, has_srid, FrontWithin, srid_size, point_end, line_string_end}
-use Rattle.wkb_laws.specs.Prelude.{multi_point_end, ring_end, slots_asked, room_inside}
-use Rattle.wkb_laws.specs.Prelude.{IsAllowed, OpensCounted, Cost, free, body_start, parts_start, ◌⊕◌}
-use Rattle.wkb_laws.specs.Prelude.{parts_body, coordinate, coordinates}
-use Rattle.wkb_laws.specs.Prelude.{ring_in, spellings, values, and_then, at_no_cost, costs, done}
-use Rattle.wkb_laws.specs.Prelude.{line_string_of}
-use Rattle.wkb_laws.specs.Prelude.{line_string_item, list_item}
-use Rattle.wkb_laws.specs.Prelude.{one_turn, point_item}
-use Rattle.wkb_laws.specs.Prelude.{point_item_of, point_of, polygon_item, polygon_of, repeated}
-use Rattle.wkb_laws.specs.Prelude.{slots_of, spelled_in, srid_in, consumed}
-use Rattle.wkb_laws.specs.Prelude.{RefusesRings, no_ring_count, short_ring, later_ring, Refuses, no_order_byte}
-use Rattle.wkb_laws.specs.Prelude.{bad_order_byte, no_code, bad_code, wrong_part}
+use Rattle.wkb_laws.specs.Prelude.{layout_wanted, refused, number, all_nan, width, IsEach, Coordinate, Value, point}
+use Rattle.wkb_laws.specs.Prelude.{line_string, polygon, multi_point, multi_line_string, multi_polygon, collection}
+use Rattle.wkb_laws.specs.Prelude.{Values, no_members, member, each, count, nest, nest_each, members, kind, dimension}
+use Rattle.wkb_laws.specs.Prelude.{member_count, member_count_each, listed_count, Header, Spelling, node, Spellings}
+use Rattle.wkb_laws.specs.Prelude.{no_spellings, spelling, IsSrid, SpellsCoordinate, SpellsCoordinates, Spells}
+use Rattle.wkb_laws.specs.Prelude.{SpellsEach, member_part, has_srid, FrontWithin, srid_size, point_end}
+use Rattle.wkb_laws.specs.Prelude.{line_string_end, multi_point_end, ring_end, room_inside, IsAllowed, OpensCounted}
+use Rattle.wkb_laws.specs.Prelude.{free, body_start, parts_start, parts_body, coordinate, ring_in, spellings, values}
+use Rattle.wkb_laws.specs.Prelude.{at_no_cost, done, line_string_of, list_item, point_item_of, point_of, polygon_item}
+use Rattle.wkb_laws.specs.Prelude.{polygon_of, repeated, spelled_in, srid_in, RefusesRings, no_ring_count, short_ring}
+use Rattle.wkb_laws.specs.Prelude.{later_ring, Refuses, no_order_byte, bad_order_byte, no_code, bad_code, wrong_part}
 use Rattle.wkb_laws.specs.Prelude.{too_deep, short_point, no_count, short_line_string, short_multi_point, bad_ring}
 use Rattle.wkb_laws.specs.Prelude.{bad_member, RefusesEach, this_member, later_member}
 use Rattle.wkb_geom.specs.Refusals.{left_in, left_in_rings, left_in_each}
@@ -39,19 +27,17 @@ use Rattle.wkb_geom.proofs.Codes.{one_meaning}
 use Rattle.wkb_geom.proofs.Meanings.{meaning_holds, type_kind-type_of}
 use Rattle.wkb_laws.specs.Laws.{listed_inside}
 use Rattle.wkb_laws.proofs.Parts.{then_length, then_append, begins_number, number-front, take_front, drop_front}
-use Rattle.wkb_laws.proofs.Parts.{items_read, coordinate_read, length-opens, header_length}
-use Rattle.wkb_laws.proofs.Parts.{srid_length}
-use Rattle.wkb_laws.proofs.Lists.{IsWanted, by_list_kind, whole_by, count-each, each_same}
-use Rattle.wkb_laws.proofs.Sound.{passes, is_passed}
-use Rattle.wkb_laws.proofs.Lengths.{coordinate_length, coordinates_length, each_size, each_spelled_length}
+use Rattle.wkb_laws.proofs.Parts.{items_read, coordinate_read, length-opens, header_length, srid_length, taken_front}
+use Rattle.wkb_laws.proofs.Lists.{IsWanted, whole_by, count-each, each_same, list_behind_told}
+use Rattle.wkb_laws.proofs.Heads.{passes, is_passed}
+use Rattle.wkb_laws.proofs.Lengths.{coordinate_length, coordinates_length, each_size, each_spelled_length, named_width}
 use Rattle.wkb_laws.proofs.Bounds.{wanted_inside, each_long, coordinates_long}
-use Rattle.wkb_laws.proofs.Bodies.{asked_all, list_body, each_nine, list_turns, list_slots}
+use Rattle.wkb_laws.proofs.Bodies.{list_body, list_turns, list_slots, each_least}
 unfoldable use Rattle.wkb_geom.specs.Reading.{by_type_told, collection_told, geometry_told, line_string_told}
 unfoldable use Rattle.wkb_geom.specs.Reading.{multi_line_string_told, multi_point_told, multi_polygon_told, point_told}
 unfoldable use Rattle.wkb_geom.specs.Reading.{polygon_told, ring_told}
 use Rattle.wkb_geom.specs.Reading.{ReadingOf, OutcomeOf, then_body_told, with_count_told, line_string_body_told}
 use Rattle.wkb_geom.specs.Reading.{ring_part_told, member_body_told, member_told, kind_told, collection_within_told}
-use Rattle.wkb_laws.proofs.Lists.{list_behind_told}
 
 pub type_of-type : (t : WkbType) → type_of (type_kind t) (type_dimension t) ≡ t
 type_of-type (kinds.Point d) = refl
@@ -79,9 +65,7 @@ pub head_coded : {input behind rest : List ℕ} {order : Endianness} {c : ℕ} �
     → head_at input ≡ head_by_code order c (meaning_of c)
 head_coded {behind = behind} {rest = rest} {order = order} {c = c} e b =
     let read = begins_number order 4 c behind rest b in
-    ap head_at e ∙ head_by_byte order behind
-    ∙ cond-false (nat_lt (length behind) 4) _ _ (le-ltb (length behind) 4 read.0)
-    ∙ ap (λ z. head_by_code order z (meaning_of z)) read.1
+    ap head_at e ∙ head_by_byte order behind ∙ rw (le-ltb _ _ read.0, read.1)
 
 abbrev pub head_of : Endianness → ℕ → Dimension → Bool → Head
 head_of order k d srid = record { order = order; wkb_type = type_of k d; has_srid = srid }
@@ -99,8 +83,8 @@ head_misordered _ rest h = absurd (omega arith)
 
 head_cut : (first : ℕ) (rest : List ℕ) → first ≤ 1 → length rest < 4 → head_at (first ∷ rest) ≡ Err end_of_input
 unfolding head_at
-head_cut zero rest h short = cond-true (nat_lt (length rest) 4) _ _ (lt-ltb (length rest) 4 short)
-head_cut (suc zero) rest h short = cond-true (nat_lt (length rest) 4) _ _ (lt-ltb (length rest) 4 short)
+head_cut zero rest h short = rw (lt-ltb _ _ short)
+head_cut (suc zero) rest h short = rw (lt-ltb _ _ short)
 head_cut (suc (suc n)) rest h short = absurd (omega arith)
 
 -- Readers, by what they tell of a fault and of the bytes from the refused part on.
@@ -132,10 +116,8 @@ module _ {F : Type 0} (told : List ℕ → Cause → F) where
   member_body_is : (deeper : Layout → List ℕ → ReadingOf F Item) (k : ℕ) (d : Dimension) (l : Layout) (input : List ℕ)
       → 1 ≤ k → k ≤ 3
       → member_body_told told k l input ≡ kind_told told deeper (type_of k d) l input
-  member_body_is deeper (suc zero) d l input low few = refl
-  member_body_is deeper (suc (suc zero)) d l input low few = refl
   member_body_is deeper (suc (suc (suc zero))) d l input low few = refl
-  member_body_is deeper _ d l input low few = absurd (omega arith)
+  member_body_is deeper _ d l input low few = grind arith
 
   module _ {input rest : List ℕ} {order : Endianness} {k : ℕ} {d : Dimension} {srid : Bool}
       (o : Opens input order k d srid rest) where
@@ -146,17 +128,12 @@ module _ {F : Type 0} (told : List ℕ → Cause → F) where
         → reader room w input
         ≡ kind_told told (collection_within_told told room) (type_of k d) (laid order d srid) input
     opened room any good p =
-        reader_by room any input ∙ ap (read_by room any input) (head_opened o)
-        ∙ ap (λ z. kind_told told (collection_within_told told room) (type_of k d) (laid order z srid) input)
-        same_type.1
+        reader_by room any input ∙ rw (head_opened o, same_type.1)
     opened room (part l e) good p =
         let wanted = is_passed l e (head_of order k d srid) (same_type.0 ∙ p.0, same_type.1 ∙ p.1, p.2) in
-        let few : k ≤ 3 = omega (arith, p.0) in
-        ap (read_by room (part l e) input) (head_opened o)
-        ∙ ap (λ z. then_body_told (told input) z (λ m. member_body_told told l m input))
-        (cond-true (is_member l e (head_of order k d srid)) _ _ wanted)
-        ∙ (λ i. member_body_told told (sym p.0 i) (laid order (sym p.1 i) srid) input)
-        ∙ member_body_is (collection_within_told told room) k d (laid order d srid) input o.meaning.kind.low few
+        rw (head_opened o, wanted, p.0, p.1)
+        (member_body_is (collection_within_told told room) l e (laid order e srid) input
+        (omega (arith, p.0, o.meaning.kind.low)) good)
 
     unwanted : (room : ℕ) (w : Wanted) → (IsPart w k d srid → ⊥)
         → reader room w input ≡ refused (told input incorrect_type)
@@ -166,9 +143,7 @@ module _ {F : Type 0} (told : List ℕ → Cause → F) where
         false_from_ne_true _
         (λ t. let p = passes l e (head_of order k d srid) t in n (sym same_type.0 ∙ p.0, sym same_type.1 ∙ p.1, p.2))
         in
-        ap (read_by room (part l e) input) (head_opened o)
-        ∙ ap (λ z. then_body_told (told input) z (λ m. member_body_told told l m input))
-        (cond-false (is_member l e (head_of order k d srid)) _ _ not)
+        rw (head_opened o, not)
 
   -- what comes after the count of a body, by the kind
   abbrev behind_of : ℕ → ℕ → Layout → List ℕ → ℕ → ReadingOf F Item
@@ -182,18 +157,15 @@ module _ {F : Type 0} (told : List ℕ → Cause → F) where
       → kind_told told (collection_within_told told room) (type_of k l.dimension) l input
       ≡ with_count_told told l input (behind_of room k l input)
   unfolding line_string_told polygon_told multi_point_told multi_line_string_told multi_polygon_told collection_told
-  body_counted room (suc zero) l input low high n some = absurd (n refl)
+  body_counted (suc room) (suc (suc (suc (suc (suc (suc (suc zero))))))) l input low high n some =
+      let inside : room ≡ suc room - 1 = omega arith in
+      ap (λ z. with_count_told told l input (list_behind_told told 7 l (reader z any) input)) inside
   body_counted room (suc (suc zero)) l input low high n some = refl
   body_counted room (suc (suc (suc zero))) l input low high n some = refl
   body_counted room (suc (suc (suc (suc zero)))) l input low high n some = refl
   body_counted room (suc (suc (suc (suc (suc zero))))) l input low high n some = refl
   body_counted room (suc (suc (suc (suc (suc (suc zero)))))) l input low high n some = refl
-  body_counted zero (suc (suc (suc (suc (suc (suc (suc zero))))))) l input low high n some =
-      let more = some refl in absurd (omega arith)
-  body_counted (suc room) (suc (suc (suc (suc (suc (suc (suc zero))))))) l input low high n some =
-      let inside : room ≡ suc room - 1 = omega arith in
-      ap (λ z. with_count_told told l input (list_behind_told told 7 l (reader z any) input)) inside
-  body_counted room _ l input low high n some = absurd (omega arith)
+  body_counted room _ l input low high n some = grind arith
 
   -- a count, as it is read
   pub record CountRead (input : List ℕ) (l : Layout) (n : ℕ) (rest : List ℕ) : Type 0 where
@@ -210,19 +182,11 @@ module _ {F : Type 0} (told : List ℕ → Cause → F) where
         let behind5 : drop 5 input ≡ c.srid_field ++ (c.count_field ++ rest) =
         ap (drop 5) o.whole ∙ (begins_number order 4 o.code o.behind _ o.number).2 in
         let start : drop (body_start srid) input ≡ c.count_field ++ rest =
-        sym (drop-drop size 5 input) ∙ ap (drop size) behind5
-        ∙ drop_front size c.srid_field (c.count_field ++ rest) c.srid_len in
-        let four = (c.number).len in
+        rw (← drop-drop size 5 input, behind5) (drop_front size c.srid_field (c.count_field ++ rest) c.srid_len) in
         record {
-          long =
-              omega (
-                arith,
-                length-opens o,
-                length-append c.srid_field (c.count_field ++ rest),
-                length-append c.count_field rest,
-              );
-          many = ap (number order 4) start ∙ number-front order 4 n c.count_field rest c.number;
-          behind = ap (drop 4) start ∙ drop_front 4 c.count_field rest four;
+          long = omega (arith, length-opens o, length-append {A = ℕ});
+          many = rw start (number-front order 4 n c.count_field rest c.number);
+          behind = rw start (drop_front 4 c.count_field rest c.number.len);
         }
 
     -- what a reader of such parts gives is what comes after the count
@@ -231,39 +195,16 @@ module _ {F : Type 0} (told : List ℕ → Cause → F) where
         opened c.opens room w good c.allowed.wanted
         ∙ body_counted room k
         (laid order d srid) input c.opens.meaning.kind.low c.opens.meaning.kind.high not1 c.allowed.shallow
-        ∙ cond-false (nat_lt (length input) (body_start srid + 4)) _ _ (le-ltb _ _ count_read.long)
-        ∙ ap (behind_of room k (laid order d srid) input) count_read.many
+        ∙ rw (le-ltb _ _ count_read.long, count_read.many)
 
   -- a list of members, where a multi point is long enough
   list_counted : (room k : ℕ) (l : Layout) (input : List ℕ) (n : ℕ) → 3 < k → k ≤ 7
       → (k ≡ 4 → multi_point_end l.dimension l.has_srid n ≤ length input)
       → behind_of room k l input n
       ≡ parts_body k l (reader (room_inside k room) (member_part k l.dimension)) (list_item l (whole_by k)) input n
-  list_counted room k l input n low high long =
-      by_list_kind (λ k. (k ≡ 4 → multi_point_end l.dimension l.has_srid n ≤ length input)
-      → behind_of room k l input n
-      ≡ parts_body k l (reader (room_inside k room) (member_part k l.dimension)) (list_item l (whole_by k)) input n)
-      (λ fits. cond-false (nat_lt (length input) (multi_point_end l.dimension l.has_srid n)) _ _
-      (le-ltb _ _ (fits refl)))
-      (λ fits. refl) (λ fits. refl) (λ fits. refl) k low high long
-
-  -- what is read of n parts, by what each of them is read as
-  parts_read : {A : Type 0} (k : ℕ) (l : Layout) (part_at : List ℕ → ReadingOf F A) (whole : List A → List ℕ → Item)
-      (input rest : List ℕ) (n : ℕ)
-      (r : ReadingOf F (List A)) → parts_start l.has_srid input ≡ rest → repeated n part_at rest ≡ r
-      → parts_body k l part_at whole input n
-      ≡ costs (slots_of (slots_asked k n (length rest)))
-      (and_then r (λ parts after. done (whole parts (consumed input after)) after))
-  parts_read k l part_at whole input rest n r e same =
-      ap (λ z. costs (slots_of (slots_asked k n (length z)))
-      (and_then (repeated n part_at z) (λ parts after. done (whole parts (consumed input after)) after))) e
-      ∙ ap (λ z. costs (slots_of (slots_asked k n (length rest)))
-      (and_then z (λ parts after. done (whole parts (consumed input after)) after))) same
-
-  taken_front : (x rest : List ℕ) → consumed (x ++ rest) rest ≡ x
-  taken_front x rest =
-      let n : length (x ++ rest) - length rest ≡ length x = omega (arith, length-append x rest) in
-      ap (λ z. take z (x ++ rest)) n ∙ take_front (length x) x rest refl
+  list_counted room (suc (suc (suc (suc zero)))) l input n low high long = rw (le-ltb _ _ (long refl))
+  list_counted room (suc (suc (suc (suc (suc (suc (suc zero))))))) l input n low high long = refl
+  list_counted room _ l input n low high long = grind arith
 
   -- ---- words, coordinates and rings, as they are read at the front of the bytes
 
@@ -274,13 +215,11 @@ module _ {F : Type 0} (told : List ℕ → Cause → F) where
   pub ring_read : (order : Endianness) (d : Dimension) (cs : List Coordinate) (x y : List ℕ)
       → SpellsCoordinates order d cs x → RingRead order d cs x y
   ring_read order d cs x y h =
-      let shape : x ++ y ≡ h.front ++ (h.rest ++ y) = then_append h y in
-      let many : number order 4 (x ++ y) ≡ length cs =
-      ap (number order 4) shape ∙ number-front order 4 (length cs) h.front (h.rest ++ y) h.first in
-      let behind : drop 4 (x ++ y) ≡ h.rest ++ y = ap (drop 4) shape ∙ drop_front 4 h.front (h.rest ++ y) h.first.len in
+      let shape = then_append h y in
+      let many = number-front order 4 (length cs) h.front (h.rest ++ y) h.first in
       let read = items_read (SpellsCoordinate order d) (8 * width d) (coordinate order d)
       (λ c x y is. (coordinate_length order d c x is, coordinate_read order d c x y is)) cs h.rest y h.second in
-      record { many = many; is = (λ i. coordinates order d (many i) (behind i)) ∙ read }
+      record { many = rw (shape, many); is = rw (shape, many, drop_front 4 h.front _ h.first.len, read) }
 
   -- a ring at the front is read as its encoding
   ring_found : (order : Endianness) (d : Dimension) (ring : List Coordinate) (x rest : List ℕ)
@@ -292,13 +231,9 @@ module _ {F : Type 0} (told : List ℕ → Cause → F) where
       let read = ring_read order d ring x rest h in
       let len : length (x ++ rest) ≡ length x + length rest = length-append x rest in
       let long : length x ≡ end = coordinates_length order d ring x h in
-      let input = x ++ rest in
-      cond-false (nat_lt (length input) 4) _ _ (le-ltb (length input) 4 (omega arith))
-      ∙ ap (λ z. if nat_lt (length input) (ring_end d z) then Err
-      (told input (general (ShortLinearRing (ring_end d z) (length input))))
-      else Ok (take (ring_end d z) input, drop (ring_end d z) input)) read.many
-      ∙ cond-false (nat_lt (length input) end) _ _ (le-ltb (length input) end (omega arith))
-      ∙ (λ i. Ok (take_front end x rest long i, drop_front end x rest long i))
+      let four : 4 ≤ length (x ++ rest) = omega arith in
+      let whole : end ≤ length (x ++ rest) = omega arith in
+      rw (le-ltb _ _ four, read.many, le-ltb _ _ whole, take_front end x rest long, drop_front end x rest long)
 
   -- what several parts are read as, with the parts
   record RingsFound (l : Layout) (rings : List (List Coordinate)) (input rest : List ℕ) : Type 0 where
@@ -306,24 +241,6 @@ module _ {F : Type 0} (told : List ℕ → Cause → F) where
     pub read : repeated (length rings) (ring_part_told told l) input
         ≡ (record { turns = length rings; slots = 0 }, Ok (encodings, rest))
     pub are : map (ring_in l.order l.dimension) encodings ≡ rings
-
-  -- n parts, where the first is refused, and where it is read
-  module _ {A : Type 0} (part_at : List ℕ → ReadingOf F A) (n : ℕ) (input : List ℕ) where
-    next_part : ReadingOf F A → ReadingOf F (List A)
-    next_part r =
-        costs one_turn (and_then r (λ x rest. and_then (repeated n part_at rest) (λ xs after. done (x ∷ xs) after)))
-
-    part_refused : (c : Cost) (cause : F) → part_at input ≡ (c, Err cause)
-        → repeated (suc n) part_at input ≡ (one_turn ⊕ c, Err cause)
-    unfolding repeated next_part
-    part_refused c cause e = ap next_part e
-
-    then_parts : (rest : List ℕ) (x : A) (c : Cost) (r : ReadingOf F (List A)) → part_at input ≡ (c, Ok (x, rest))
-        → repeated n part_at rest ≡ r
-        → repeated (suc n) part_at input ≡ costs one_turn (costs c (and_then r (λ xs after. done (x ∷ xs) after)))
-    unfolding repeated next_part
-    then_parts rest x c r first others =
-        ap next_part first ∙ ap (λ z. costs one_turn (costs c (and_then z (λ xs after. done (x ∷ xs) after)))) others
 
   -- the same outcome at equal costs
   at_cost : {A : Type 0} {r : OutcomeOf F A} {a b c d : ℕ} → a ≡ c → b ≡ d
@@ -344,10 +261,7 @@ module _ {F : Type 0} (told : List ℕ → Cause → F) where
       ∙ (ring_read l.order l.dimension ring h.front [] h.first).is in
       record {
         encodings = h.front ∷ others.encodings;
-        read =
-            then_parts (ring_part_told told l) (length rings) (x ++ rest) (h.rest ++ rest) h.front free _
-            (ap (ring_part_told told l) shape ∙ ap at_no_cost found) others.read
-            ∙ at_cost (omega arith) refl;
+        read = rw (shape, found, others.read) (at_cost (omega arith) refl);
         are = λ i. head i ∷ others.are i;
       }
 
@@ -367,8 +281,7 @@ module _ {F : Type 0} (told : List ℕ → Cause → F) where
 
   points_long : (t : Value) → kind t ≡ 4 → each_size (members t) ≡ (5 + 8 * width (dimension t)) * count (members t)
   points_long (multi_point d l) e =
-      each_same (point d) each_size refl (5 + 8 * width d) (λ a ts. refl) l
-      ∙ ap (λ n. (5 + 8 * width d) * n) (sym (count-each (point d) l))
+      rw (count-each, named_width d) (each_same (point d) each_size refl _ (λ a ts. refl) l)
   points_long _ e = absurd (omega (arith, e))
 
   -- how deep a geometry's members are nested
@@ -422,31 +335,24 @@ module _ {F : Type 0} (told : List ℕ → Cause → F) where
   module _ (h : Header) (own : List ℕ) (ss : Spellings) (t : Value) (x : List ℕ) (a : Spells (node h own ss) t x) where
     body_cut : drop (body_start (is_some h.srid)) x ≡ a.second.front ++ a.second.rest
     body_cut =
-        ap (drop (body_start (is_some h.srid))) a.whole
-        ∙ drop_front (body_start (is_some h.srid)) a.front a.rest
-        (header_length h (kind t) (dimension t) a.front a.first)
-        ∙ a.second.whole
+        rw a.whole (drop_front (body_start (is_some h.srid)) a.front a.rest
+        (header_length h (kind t) (dimension t) a.front a.first) ∙ a.second.whole)
 
     encoding_length : length x ≡ body_start (is_some h.srid) + (length a.second.front + length a.second.rest)
     encoding_length =
         omega (arith, then_length a, header_length h (kind t) (dimension t) a.front a.first, then_length a.second)
 
     head_whole : x ≡ order_byte h.order ∷ (a.first.code_field ++ (a.first.srid_field ++ a.rest))
-    head_whole =
-        a.whole ∙ ap (λ z. z ++ a.rest) a.first.whole
-        ∙ ap (λ z. order_byte h.order ∷ z) (append_assoc a.first.code_field a.first.srid_field a.rest)
+    head_whole = a.whole ∙ rw (a.first.whole, append_assoc)
 
     opens : (rest : List ℕ)
         → Opens (x ++ rest) h.order (kind t) (dimension t) (is_some h.srid) (a.first.srid_field ++ (a.rest ++ rest))
     opens rest =
         let is = a.first in
-        let behind =
-        append_assoc is.code_field (is.srid_field ++ a.rest) rest
-        ∙ ap (λ z. is.code_field ++ z) (append_assoc is.srid_field a.rest rest) in
         record {
           code = h.code;
           behind = is.code_field ++ (is.srid_field ++ (a.rest ++ rest));
-          whole = ap (λ z. z ++ rest) head_whole ∙ ap (λ z. order_byte h.order ∷ z) behind;
+          whole = then_append a rest ∙ rw (is.whole, append_assoc);
           number = record { front = is.code_field; whole = refl; first = is.code };
           meaning = is.meaning;
         }
@@ -455,12 +361,10 @@ module _ {F : Type 0} (told : List ℕ → Cause → F) where
         → spelled_in (laid h.order (dimension t) (is_some h.srid)) x words others ≡ node h own ss
     spelling_read words others same_words same_others =
         let is = a.first in
-        let whole = head_whole in
         let code : number h.order 4 (drop 1 x) ≡ h.code =
-        ap (λ z. number h.order 4 (drop 1 z)) whole
-        ∙ number-front h.order 4 h.code is.code_field (is.srid_field ++ a.rest) is.code in
+        rw head_whole (number-front h.order 4 h.code is.code_field (is.srid_field ++ a.rest) is.code) in
         let behind : drop 5 x ≡ is.srid_field ++ a.rest =
-        ap (drop 5) whole ∙ drop_front 5 (order_byte h.order ∷ is.code_field) (is.srid_field ++ a.rest) (omega arith) in
+        rw head_whole (drop_front 5 (order_byte h.order ∷ is.code_field) (is.srid_field ++ a.rest) (omega arith)) in
         let srid = srid_read h.order h.srid is.srid_field x a.rest is.srid behind in
         λ i. node (record { order = h.order; code = code i; srid = srid i }) (same_words i) (same_others i)
 
@@ -473,14 +377,12 @@ module _ {F : Type 0} (told : List ℕ → Cause → F) where
           → OpensCounted room w (x ++ rest) h.order (kind t) (dimension t) (is_some h.srid) n
           (behind ++ (a.second.rest ++ rest))
       front_counts n field behind e number =
-          let more = a.second.rest ++ rest in
-          let shape = then_append a.second rest ∙ ap (λ z. z ++ more) e ∙ append_assoc field behind more in
+          let shape : a.rest ++ rest ≡ field ++ (behind ++ (a.second.rest ++ rest)) =
+          then_append a.second rest ∙ rw (e, append_assoc) in
           record {
             srid_field = a.first.srid_field;
             count_field = field;
-            opens =
-                subst (λ z. Opens (x ++ rest) h.order (kind t) (dimension t) (is_some h.srid) (a.first.srid_field ++ z))
-                shape (opens rest);
+            opens = rw shape at (opens rest);
             allowed = is_allowed;
             srid_len = srid_length h.order h.srid a.first.srid_field a.first.srid;
             number = number;
@@ -500,19 +402,13 @@ module _ {F : Type 0} (told : List ℕ → Cause → F) where
           let inside = each_spelled_length (member_part k (dimension t)) ss (members t) a.second.rest a.second.second in
           let enough : k ≡ 4 → multi_point_end l.dimension l.has_srid n ≤ length (x ++ rest) =
           λ four. omega (arith, length-append x rest, points_long t four, body.1.len, encoding_length) in
-          let nine = each_nine (member_part k (dimension t)) ss (members t) a.second.rest a.second.second in
-          let slots = list_slots t (length behind) low (omega (arith, length-append a.second.rest rest)) in
+          let fits : 9 * n ≤ length behind = omega (arith, length-append a.second.rest rest, each_least (members t)) in
+          let slots = list_slots t (length behind) low fits in
           let turns = list_turns t low in
           let spelled = spelling_read [] (spellings f.items) (sym body.0) f.same_spellings in
-          let cost : Cost = record { turns = member_count t; slots = listed_count t } in
           let value = whole_is t f.items low f.same_values in
           counted c good (λ one. omega arith) ∙ list_counted room k l (x ++ rest) n low c.opens.meaning.kind.high enough
-          ∙ parts_read k l (reader (room_inside k room) (member_part k l.dimension)) (list_item l (whole_by k))
-          (x ++ rest) behind n _
-          (count_read c).behind f.read
-          ∙ at_cost (omega arith) (omega arith)
-          ∙ (λ i. (cost, Ok (list_item l (whole_by k) f.items (taken_front x rest i), rest)))
-          ∙ (λ i. (cost, Ok (record { encoding = x; spelled = spelled i; value = value i }, rest)))
+          ∙ rw ((count_read c).behind, f.read, taken_front x rest, spelled, value) (at_cost (omega arith) (omega arith))
 
   module _ (room : ℕ) (w : Wanted) (good : IsWanted w) (h : Header) (own : List ℕ) (ss : Spellings) (x rest : List ℕ)
       (d : Dimension) where
@@ -532,12 +428,9 @@ module _ {F : Type 0} (told : List ℕ → Cause → F) where
         let is =
         ap (coordinate h.order d) (body_cut h own ss (point d c) x a)
         ∙ coordinate_read h.order d words a.second.front a.second.rest spelled in
+        let short : nat_lt (length (x ++ rest)) end ≡ false = le-ltb _ _ (omega (arith, length-append x rest)) in
         opened (opens h own ss (point d c) x a rest) room w good p
-        ∙ ap at_no_cost
-        (cond-false (nat_lt (length (x ++ rest)) end) _ _ (le-ltb _ _ (omega (arith, length-append x rest)))
-        ∙ (λ i. Ok (point_item l (take_front end x rest len i), drop_front end x rest len i)))
-        ∙ (λ i. (free, Ok (point_item_of l x (is i) (all_nan (is i)), rest)))
-        ∙ (λ i. (free, Ok (point_item_of l x words (nan i), rest)))
+        ∙ rw (short, take_front end x rest len, drop_front end x rest len, is, nan)
 
     line_string_by : (cs : List Coordinate) → Spells (node h own ss) (line_string d cs) x
         → IsPart w 2 d (is_some h.srid)
@@ -556,11 +449,9 @@ module _ {F : Type 0} (told : List ℕ → Cause → F) where
         let spelled = spelling_read h own ss (line_string d cs) x a [] no_spellings (sym a.second.first.0) none.0 in
         let ring : ring_in h.order d (drop (body_start (is_some h.srid)) x) ≡ cs =
         ap (ring_in h.order d) (body_cut h own ss (line_string d cs) x a) ∙ read.is in
+        let short : nat_lt (length (x ++ rest)) end ≡ false = le-ltb _ _ (omega (arith, length-append x rest)) in
         counted c good (λ e. omega arith)
-        ∙ ap at_no_cost
-        (cond-false (nat_lt (length (x ++ rest)) end) _ _ (le-ltb _ _ (omega (arith, length-append x rest)))
-        ∙ (λ i. Ok (line_string_item l (take_front end x rest len i), drop_front end x rest len i)))
-        ∙ (λ i. (free, Ok (record { encoding = x; spelled = spelled i; value = line_string d (ring i) }, rest)))
+        ∙ rw (short, take_front end x rest len, drop_front end x rest len, spelled, ring)
 
     polygon_by : (rings : List (List Coordinate)) → Spells (node h own ss) (polygon d rings) x
         → IsPart w 3 d (is_some h.srid)
@@ -569,23 +460,15 @@ module _ {F : Type 0} (told : List ℕ → Cause → F) where
         let body = a.second.first.1 in
         let l = laid h.order d (is_some h.srid) in
         let none = alone _ ss a.second.rest a.second.second in
-        let more = a.second.rest ++ rest in
-        let f = rings_found l rings body.rest more body.second in
+        let f = rings_found l rings body.rest rest body.second in
         let long = each_long (SpellsCoordinates h.order d) 4 (coordinates_long h.order d) rings body.rest body.second in
         let c =
         front_counts h own ss (polygon d rings) x a room w good rest (omega arith) p
         (length rings) body.front body.rest body.whole body.first in
         let spelled = spelling_read h own ss (polygon d rings) x a [] no_spellings (sym a.second.first.0) none.0 in
-        let cost : Cost = record { turns = length rings; slots = length rings } in
-        let asked =
-        asked_all (length rings) (length (body.rest ++ more)) (omega (arith, length-append body.rest more)) in
         counted c good (λ e. omega arith)
-        ∙ parts_read 3 l (ring_part_told told l) (polygon_item l) (x ++ rest) (body.rest ++ more) (length rings) _
-        (count_read c).behind f.read
-        ∙ at_cost (omega arith) (omega (arith, asked))
-        ∙ (λ i. (cost, Ok (polygon_item l f.encodings (consumed (x ++ rest) (none.1 i ++ rest)), none.1 i ++ rest)))
-        ∙ (λ i. (cost, Ok (polygon_item l f.encodings (taken_front x rest i), rest)))
-        ∙ (λ i. (cost, Ok (record { encoding = x; spelled = spelled i; value = polygon d (f.are i) }, rest)))
+        ∙ rw ((count_read c).behind, none.1, f.read, taken_front x rest, spelled, f.are)
+        (at_cost (omega arith) (omega (arith, length-append body.rest rest)))
 
   -- A front is what a reader of such parts gives.
   mutual
@@ -595,17 +478,13 @@ module _ {F : Type 0} (told : List ℕ → Cause → F) where
         → nest t ≤ room
         → IsPart w (kind t) (dimension t) (has_srid s) → reader room w (x ++ rest) ≡ found s t x rest
     front_at room w good (node h own ss) (point d None) x rest a shallow p =
-        let spelled =
-        spelling_read h own ss (point d None) x a own no_spellings refl
-        (alone _ ss a.second.rest a.second.second).0 in
         point_by room w good h own ss x rest d None a own true a.second.first.1 a.second.first.0 p
-        ∙ (λ i. (free, Ok (record { encoding = x; spelled = spelled i; value = point d None }, rest)))
+        ∙ rw (spelling_read h own ss (point d None) x a own no_spellings refl
+        (alone _ ss a.second.rest a.second.second).0)
     front_at room w good (node h own ss) (point d (Some c)) x rest a shallow p =
-        let spelled =
-        spelling_read h own ss (point d (Some c)) x a [] no_spellings (sym a.second.first.0)
-        (alone _ ss a.second.rest a.second.second).0 in
+        let none = alone _ ss a.second.rest a.second.second in
         point_by room w good h own ss x rest d (Some c) a c false a.second.first.2 a.second.first.1 p
-        ∙ (λ i. (free, Ok (record { encoding = x; spelled = spelled i; value = point d (Some c) }, rest)))
+        ∙ rw (spelling_read h own ss (point d (Some c)) x a [] no_spellings (sym a.second.first.0) none.0)
     front_at room w good (node h own ss) (line_string d cs) x rest a shallow p =
         line_string_by room w good h own ss x rest d cs a p
     front_at room w good (node h own ss) (polygon d rings) x rest a shallow p =
@@ -630,10 +509,7 @@ module _ {F : Type 0} (told : List ℕ → Cause → F) where
         let many : 1 + count ts ≡ suc (count ts) = omega arith in
         record {
           items = record { encoding = a.front; spelled = s; value = t } ∷ others.items;
-          read = ap (λ n. repeated n (reader room w) (x ++ rest)) many
-              ∙ then_parts (reader room w) (count ts) (x ++ rest) (a.rest ++ rest) _ _ _
-              (ap (reader room w) shape ∙ first) others.read
-              ∙ at_cost (omega arith) (omega arith);
+          read = rw (many, shape, first, others.read) (at_cost (omega arith) (omega arith));
           same_spellings = ap (spelling s) others.same_spellings;
           same_values = ap (member t) others.same_values;
         }
@@ -653,29 +529,16 @@ module _ {F : Type 0} (told : List ℕ → Cause → F) where
       → (srid : Bool)
       → (r : RefusesRings order d n input cause begun)
       → repeated n (ring_part_told told (laid order d srid)) input ≡ refusal begun 0 (told (left_in_rings r) cause)
-  unfolding ring_told
-  rings_refused {order} {d} {input = input} srid (no_ring_count {more = more} h) =
-      part_refused (ring_part_told told (laid order d srid)) more input free (told input end_of_input)
-      (ap at_no_cost (cond-true (nat_lt (length input) 4) _ _ (lt-ltb (length input) 4 h)))
-  rings_refused {order} {d} {input = input} srid (short_ring {more = more} {n = n} {rest = rest} b h) =
-      let read = begins_number order 4 n input rest b in
-      part_refused (ring_part_told told (laid order d srid)) more input free _ (ap at_no_cost
-      (cond-false (nat_lt (length input) 4) _ _ (le-ltb (length input) 4 read.0)
-      ∙ ap (λ z. if nat_lt (length input) (ring_end d z) then Err
-      (told input (general (ShortLinearRing (ring_end d z) (length input))))
-      else Ok (take (ring_end d z) input, drop (ring_end d z) input)) read.1
-      ∙ cond-true (nat_lt (length input) (ring_end d n)) _ _ (lt-ltb (length input) (ring_end d n) h)))
-  rings_refused {order} {d} {input = input} srid
-      (later_ring {more = more} {begun = begun} {rest = rest} {cause = cause} ring b r) =
-      let l = laid order d srid in
-      then_parts (ring_part_told told l) more input rest b.front free _
-      (ap (ring_part_told told l) b.whole ∙ ap at_no_cost (ring_found order d ring b.front rest b.first))
-      (rings_refused srid r)
-      ∙ at_cost (omega arith) refl
+  unfolding ring_told repeated
+  rings_refused srid (no_ring_count h) = rw (lt-ltb _ _ h)
+  rings_refused {order} {input = input} srid (short_ring {n = n} {rest = rest} b h) =
+      let read = begins_number order 4 n input rest b in rw (le-ltb _ _ read.0, read.1, lt-ltb _ _ h)
+  rings_refused {order} {d} srid (later_ring {rest = rest} ring b r) =
+      rw (b.whole, ring_found order d ring b.front rest b.first, rings_refused srid r) (at_cost (omega arith) refl)
 
   -- Each refusal is what a reader of such parts gives, with its turns and its slots.
   mutual
-    unfolding point_told head_at
+    unfolding point_told head_at repeated
 
     pub refusal_read : {room : ℕ} {w : Wanted} {input : List ℕ} {cause : Cause} {begun slots : ℕ}
         (r : Refuses room w input cause begun slots) → IsWanted w
@@ -690,42 +553,27 @@ module _ {F : Type 0} (told : List ℕ → Cause → F) where
         faulty room w _ _ (head_coded e b ∙ ap (head_by_code order c) missing)
     refusal_read {room} {w} (wrong_part o n) good = unwanted o room w n
     refusal_read {w = w} (too_deep o p) good = opened o 0 w good p
-    refusal_read {room} {w} {input} (short_point {d = d} {srid = srid} o p short) good =
-        opened o room w good p
-        ∙ ap at_no_cost (cond-true (nat_lt (length input) (point_end d srid)) _ _ (lt-ltb _ _ short))
+    refusal_read {room} {w} (short_point o p short) good = opened o room w good p ∙ rw (lt-ltb _ _ short)
     refusal_read {room} {w} {input} (no_count {k = k} {order = order} {d = d} {srid = srid} o n a short) good =
         let few : length input < body_start srid + 4 = omega (arith, length-opens o) in
         opened o room w good a.wanted
         ∙ body_counted room k (laid order d srid) input o.meaning.kind.low o.meaning.kind.high n a.shallow
-        ∙ cond-true (nat_lt (length input) (body_start srid + 4)) _ _ (lt-ltb _ _ few)
-    refusal_read {input = input} (short_line_string {n = n} {d = d} {srid = srid} c short) good =
+        ∙ rw (lt-ltb _ _ few)
+    refusal_read (short_line_string c short) good = counted c good (λ e. omega arith) ∙ rw (lt-ltb _ _ short)
+    refusal_read (short_multi_point c short) good = counted c good (λ e. omega arith) ∙ rw (lt-ltb _ _ short)
+    refusal_read (bad_ring {srid = srid} c h) good =
         counted c good (λ e. omega arith)
-        ∙ ap at_no_cost (cond-true (nat_lt (length input) (line_string_end d srid n)) _ _ (lt-ltb _ _ short))
-    refusal_read {input = input} (short_multi_point {n = n} {d = d} {srid = srid} c short) good =
-        counted c good (λ e. omega arith)
-        ∙ cond-true (nat_lt (length input) (multi_point_end d srid n)) _ _ (lt-ltb _ _ short)
-    refusal_read {input = input} (bad_ring {n = n} {order = order} {d = d} {srid = srid} {rest = rest} c h) good =
-        let l = laid order d srid in
-        counted c good (λ e. omega arith)
-        ∙ parts_read 3 l (ring_part_told told l) (polygon_item l) input rest n _ (count_read c).behind
-        (rings_refused srid h)
-        ∙ at_cost (omega arith) (omega arith)
+        ∙ rw ((count_read c).behind, rings_refused srid h) (at_cost (omega arith) (omega arith))
     refusal_read {room} {w} {input}
-        (bad_member {k = k} {n = n} {order = order} {d = d} {srid = srid} {rest = rest} c low long h) good =
-        let l = laid order d srid in
+        (bad_member {k = k} {n = n} {order = order} {d = d} {srid = srid} c low long h) good =
         let high = c.opens.meaning.kind.high in
         let members = each_refusal_read h (wanted_inside w room k d srid good c.allowed low high) in
-        counted c good (λ e. omega arith) ∙ list_counted room k l input n low high long
-        ∙ parts_read k l (reader (room_inside k room) (member_part k d)) (list_item l (whole_by k)) input rest n _
-        (count_read c).behind members
-        ∙ at_cost (omega arith) refl
+        counted c good (λ e. omega arith) ∙ list_counted room k (laid order d srid) input n low high long
+        ∙ rw ((count_read c).behind, members) (at_cost (omega arith) refl)
 
     each_refusal_read : {room : ℕ} {w : Wanted} {n : ℕ} {input : List ℕ} {cause : Cause} {begun slots : ℕ}
         (r : RefusesEach room w n input cause begun slots)
         → IsWanted w → repeated n (reader room w) input ≡ refusal begun slots (told (left_in_each r) cause)
-    each_refusal_read {room} {w} {input = input} (this_member {more = more} h) good =
-        part_refused (reader room w) more input _ _ (refusal_read h good) ∙ at_cost refl (omega arith)
-    each_refusal_read {room} {w} {input = input} (later_member {more = more} {rest = rest} {s = s} {t = t} f p h) good =
-        then_parts (reader room w) more input rest _ _ _ (front_read room w good input s t rest f p)
-        (each_refusal_read h good)
-        ∙ at_cost (omega arith) (omega arith)
+    each_refusal_read (this_member h) good = rw (refusal_read h good) (at_cost refl (omega arith))
+    each_refusal_read {room} {w} {input = input} (later_member {rest = rest} {s = s} {t = t} f p h) good =
+        rw (front_read room w good input s t rest f p, each_refusal_read h good) (at_cost (omega arith) (omega arith))

@@ -1,14 +1,12 @@
 -- A strict prefix of a geometry is refused as an input that ends too early.
-use Rattle.std.proofs.Common.{◌⊎◌, ℕ, ◌+◌, List, [], ◌++◌, length, sym, ap, ◌∙◌, subst, append_assoc, arith, inl, inr}
+use Rattle.std.proofs.Common.{◌⊎◌, ℕ, ◌+◌, List, [], ◌++◌, length, sym, ap, ◌∙◌, append_assoc, arith, inl, inr}
 use Rattle.std.proofs.Common.{length-append, Bool, append-nil}
 use Rattle.wkb_laws.specs.Prelude.{Endianness, Dimension, ShortPoint, ShortLineString, ShortLinearRing, ShortMultiPoint}
-use Rattle.wkb_laws.specs.Prelude.{Begins, Value, listed_count, Spelling}
-use Rattle.wkb_laws.specs.Prelude.{Wanted, any, Front, FrontWithin, max_nesting, Cause, end_of_input, general}
-use Rattle.wkb_laws.specs.Prelude.{slots_asked}
-use Rattle.wkb_laws.specs.Prelude.{Opens, OpensCounted, RefusesRings, later_ring}
+use Rattle.wkb_laws.specs.Prelude.{Begins, Value, listed_count, Spelling, Wanted, Front, FrontWithin, Cause}
+use Rattle.wkb_laws.specs.Prelude.{end_of_input, general, slots_asked, Opens, OpensCounted, RefusesRings, later_ring}
 use Rattle.wkb_laws.specs.Prelude.{Refuses, bad_order_byte, bad_code, wrong_part, too_deep, bad_ring, bad_member}
 use Rattle.wkb_laws.specs.Prelude.{RefusesEach, this_member, later_member}
-use Rattle.wkb_laws.specs.Laws.{HasFront, HasRefusal, EndsTooEarly, CutIsRefused}
+use Rattle.wkb_laws.specs.Laws.{EndsTooEarly, CutIsRefused}
 use Rattle.wkb_laws.proofs.OneFront.{one_front_lem}
 use Rattle.wkb_laws.proofs.Outcomes.{read_or_refused_lem, never_both_lem}
 
@@ -36,9 +34,8 @@ counts_more : {room : ℕ} {w : Wanted} {input rest : List ℕ} {order : Endiann
 counts_more {input = input} {rest = rest} {order = order} {k = k} {d = d} {srid = srid} y c = record {
   srid_field = c.srid_field;
   count_field = c.count_field;
-  opens = subst (λ z. Opens (input ++ y) order k d srid z)
-      (append_assoc c.srid_field (c.count_field ++ rest) y
-      ∙ ap (λ z. c.srid_field ++ z) (append_assoc c.count_field rest y)) (opens_more y c.opens);
+  opens = rw (append_assoc c.srid_field (c.count_field ++ rest) y, append_assoc c.count_field rest y) at
+      (opens_more y c.opens);
   allowed = c.allowed;
   srid_len = c.srid_len;
   number = c.number;
@@ -94,21 +91,16 @@ cut_or_not (general (ShortMultiPoint end len)) = inl tt
 cut_or_not _ = inr (λ h. h)
 
 pub cut_is_refused_lem : CutIsRefused
-cut_is_refused_lem input s t rest x y f e some = go (read_or_refused_lem x)
-  where
-    whole : Front (x ++ y) s t []
-    whole =
-        record { front = f.front; whole = sym e ∙ sym (append-nil f.front); spelled = f.spelled; shallow = f.shallow }
-
-    refused : (c : Cause) (b z : ℕ) → Refuses max_nesting any x c b z → EndsTooEarly c ⊎ (EndsTooEarly c → ⊥)
-        → (cause : Cause) × (turns : ℕ) × (slots : ℕ) × Refuses max_nesting any x cause turns slots × EndsTooEarly cause
-    refused c b z r (inl cut) = (c, b, z, r, cut)
-    refused c b z r (inr not) =
-        let more = lasts r y not in absurd (never_both_lem (x ++ y) s t [] c b more.0 whole more.1)
-
-    go : HasFront x ⊎ HasRefusal x
-        → (cause : Cause) × (turns : ℕ) × (slots : ℕ) × Refuses max_nesting any x cause turns slots × EndsTooEarly cause
-    go (inl g) =
-        let same = one_front_lem (x ++ y) g.0 s g.1 t (g.2 ++ y) [] (front_more y g.3) whole in
-        absurd (omega (arith, ap length same.3, length-append g.2 y))
-    go (inr r) = refused r.0 r.1 r.2 r.3 (cut_or_not r.0)
+cut_is_refused_lem input s t rest x y f e some =
+    let whole : Front (x ++ y) s t [] =
+    record { front = f.front; whole = sym e ∙ sym (append-nil f.front); spelled = f.spelled; shallow = f.shallow } in
+    elim (read_or_refused_lem x) [
+      | inl g ↦
+          let same = one_front_lem (x ++ y) g.0 s g.1 t (g.2 ++ y) [] (front_more y g.3) whole in
+          absurd (omega (arith, ap length same.3, length-append g.2 y))
+      | inr r ↦ elim (cut_or_not r.0) [
+        | inl cut ↦ (r.0, r.1, r.2, r.3, cut)
+        | inr not ↦
+            let more = lasts r.3 y not in absurd (never_both_lem (x ++ y) s t [] r.0 r.1 more.0 whole more.1)
+      ]
+    ]

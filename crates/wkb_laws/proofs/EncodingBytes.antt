@@ -4,17 +4,11 @@ use Rattle.std.proofs.Common.{sym, subst}
 use Rattle.std.proofs.Math.Nat.{mod-lt}
 use Rattle.std.specs.Int.{byte_at, bytes_high_first, bytes_low_first}
 use Rattle.std.specs.List.{flat_map}
-use Rattle.wkb_laws.specs.Prelude.{Endianness, BigEndian, LittleEndian, Dimension, Xy, Form, AreBytes, order_byte}
-use Rattle.wkb_laws.specs.Prelude.{number_bytes, Coordinate, Value, Spelling}
-use Rattle.wkb_laws.specs.Prelude.{Spells, Geometry, Geometries, no_geometries, geometry, geometry_of, encoding}
-use Rattle.wkb_laws.specs.Prelude.{encodings}
-use Rattle.wkb_laws.specs.Prelude.{form_srid, inner, IsForm, srid_encoding}
-use Rattle.wkb_laws.specs.Prelude.{header_encoding, words_encoding, coordinates_encoding, point_words, point_encoding}
-use Rattle.wkb_laws.specs.Prelude.{line_string_encoding}
-use Rattle.wkb_laws.specs.Prelude.{polygon_encoding}
-use Rattle.wkb_laws.specs.Prelude.{members_encoding, written_dimension, rectangle_ring, triangle_ring, line, rectangle}
-use Rattle.wkb_laws.specs.Prelude.{triangle}
-use Rattle.wkb_geom.specs.Geometries.{point, line_string, polygon, multi_point, multi_line_string, multi_polygon}
+use Rattle.wkb_laws.specs.Prelude.{Endianness, BigEndian, LittleEndian, Dimension, Form, AreBytes, order_byte}
+use Rattle.wkb_laws.specs.Prelude.{number_bytes, Coordinate, Value, Spelling, Spells, Geometry, Geometries}
+use Rattle.wkb_laws.specs.Prelude.{no_geometries, geometry, geometry_of, encoding, encodings, form_srid, inner, IsForm}
+use Rattle.wkb_laws.specs.Prelude.{srid_encoding, header_encoding, words_encoding, coordinates_encoding, point_words}
+use Rattle.wkb_laws.specs.Prelude.{point_encoding, line_string_encoding, polygon_encoding, members_encoding}
 use Rattle.wkb_geom.specs.Geometries.{collection}
 use Rattle.wkb_laws.specs.Written.{written}
 use Rattle.wkb_laws.proofs.OneEncoding.{one_encoding_lem}
@@ -94,25 +88,14 @@ module _ (order : Endianness) where
     members_are_bytes k n inside h =
         both_are_bytes _ _ (header_is_bytes k) (both_are_bytes _ _ (number_is_bytes order 4 n) h)
 
+ruleset parts_are_bytes =
+    (point_is_bytes, line_string_is_bytes, polygon_is_bytes, members_are_bytes, each_is_bytes)
+
 mutual
   pub encoding_is_bytes : (order : Endianness) (form : Form) (g : Geometry) → AreBytes (encoding order form g)
-  encoding_is_bytes order form (point dims c) = point_is_bytes order form (written_dimension dims) c
-  encoding_is_bytes order form (line_string dims cs) = line_string_is_bytes order form (written_dimension dims) cs
-  encoding_is_bytes order form (polygon dims rings) = polygon_is_bytes order form (written_dimension dims) rings
-  encoding_is_bytes order form (multi_point dims points) =
-      members_are_bytes order form _ 4 _ _ (each_is_bytes _ (point_is_bytes order (inner form) _) points)
-  encoding_is_bytes order form (multi_line_string dims lines) =
-      members_are_bytes order form _ 5 _ _ (each_is_bytes _ (line_string_is_bytes order (inner form) _) lines)
-  encoding_is_bytes order form (multi_polygon dims polygons) =
-      members_are_bytes order form _ 6 _ _ (each_is_bytes _ (polygon_is_bytes order (inner form) _) polygons)
   encoding_is_bytes order form (collection dims gs) =
       members_are_bytes order form _ 7 _ _ (encodings_are_bytes order (inner form) gs)
-  encoding_is_bytes order form (line dims start end) =
-      line_string_is_bytes order form (written_dimension dims) (start ∷ end ∷ [])
-  encoding_is_bytes order form (rectangle dims least greatest) =
-      polygon_is_bytes order form Xy (rectangle_ring least greatest ∷ [])
-  encoding_is_bytes order form (triangle dims first second third) =
-      polygon_is_bytes order form (written_dimension dims) (triangle_ring first second third ∷ [])
+  encoding_is_bytes order form _ = search parts_are_bytes
 
   encodings_are_bytes : (order : Endianness) (form : Form) (gs : Geometries) → AreBytes (encodings order form gs)
   encodings_are_bytes order form no_geometries i = lit< tt

@@ -3,14 +3,14 @@ use Rattle.std.proofs.Common.{ℕ, ◌+◌, ◌*◌, ◌≤◌, List, length, re
 use Rattle.wkb_laws.specs.Prelude.{any, max_nesting, Reading, Item}
 use Rattle.wkb_laws.specs.Laws.{Agrees, GeometryAgrees, FrontIsRead, RefusalIsRead, ReadingIsBounded}
 use Rattle.wkb_laws.proofs.Bounds.{front_is_bounded_lem, refusal_is_bounded_lem}
-use Rattle.wkb_laws.proofs.Heads.{IsRight}
+use Rattle.wkb_laws.proofs.Heads.{IsRight, item_front}
 use Rattle.wkb_laws.proofs.Sound.{geometry_says}
 use Rattle.wkb_laws.proofs.Complete.{front_read, refusal_read}
 use Rattle.wkb_geom.specs.Reading.{cause_alone}
 
 agrees : (input : List ℕ) (r : Reading Item) → IsRight max_nesting any input r → Agrees input r
 agrees input (cost, Ok x) h =
-    (record { front = x.0.encoding; whole = h.whole; spelled = h.spelled; shallow = h.shallow }, h.turns, h.slots, refl)
+    (item_front h, h.turns, h.slots, refl)
 agrees input (cost, Err cause) h = h
 
 pub geometry_agrees_lem : GeometryAgrees

@@ -1,22 +1,22 @@
 -- Reading from left to right, up to the body: what a reading says of its input, and its opening and its count.
 use Rattle.std.proofs.Common.{◌≡◌, ◌≢◌, ℕ, zero, suc, ◌+◌, ◌≤◌, List, [], ◌∷◌, ◌++◌, length, take, drop, Some, Ok, Err}
-use Rattle.std.proofs.Common.{Result, Bool, true, false, is_some}
-use Rattle.std.proofs.Common.{nat_lt, refl, sym, ap, ◌∙◌, subst, append_assoc, arith, length-drop, take-append-drop}
-use Rattle.std.proofs.Common.{length-take-le, drop-drop, ltb-true}
-use Rattle.std.proofs.Common.{ltb-false}
-use Rattle.std.proofs.lemmas.Bool.{cond_both}
+use Rattle.std.proofs.Common.{Result, Bool, true, false, is_some, nat_lt, refl, sym, ap, ◌∙◌, subst, append_assoc}
+use Rattle.std.proofs.Common.{arith, length-drop, take-append-drop, length-take-le, drop-drop, ltb-true, ltb-false, ◌⊎◌}
+use Rattle.std.proofs.Common.{inl, inr}
+use Rattle.std.proofs.lemmas.Bool.Decides.{nat_tests}
+use Rattle.std.proofs.lemmas.Bool.{cond_both, cases_lt}
 use Rattle.std.proofs.lemmas.List.{drop-append-le}
 use Rattle.wkb_laws.specs.Prelude.{Endianness, BigEndian, LittleEndian, Dimension, Head, Layout, Cause, number}
-use Rattle.wkb_laws.specs.Prelude.{order_byte, Code, Begins, Value, kind, dimension}
-use Rattle.wkb_laws.specs.Prelude.{members, nest, member_count, listed_count, Header, IsHeader, IsSrid, Spellings}
-use Rattle.wkb_laws.specs.Prelude.{SpellsBody, Spells, SpellsEach, Wanted}
-use Rattle.wkb_laws.specs.Prelude.{member_part, IsPart, has_srid, srid_size, Opens, IsAllowed, OpensCounted, Refuses}
-use Rattle.wkb_laws.specs.Prelude.{no_order_byte, bad_order_byte, no_code, bad_code}
-use Rattle.wkb_laws.specs.Prelude.{no_count, Cost, Reading, Item, type_kind, layout_of, body_start, parts_start}
-use Rattle.wkb_laws.specs.Prelude.{head_at, head_by_order, head_by_code, with_count}
-use Rattle.wkb_laws.specs.Prelude.{srid_in, spelled_in, count_in}
+use Rattle.wkb_laws.specs.Prelude.{order_byte, Begins, Value, kind, dimension, members, nest, member_count}
+use Rattle.wkb_laws.specs.Prelude.{listed_count, Header, IsHeader, IsSrid, Spellings, SpellsBody, Spells, SpellsEach}
+use Rattle.wkb_laws.specs.Prelude.{Wanted, member_part, IsPart, has_srid, srid_size, Opens, IsAllowed, OpensCounted}
+use Rattle.wkb_laws.specs.Prelude.{Refuses, no_order_byte, bad_order_byte, no_code, bad_code, no_count, Cost, Reading}
+use Rattle.wkb_laws.specs.Prelude.{Item, type_kind, layout_of, body_start, parts_start, head_at, head_by_order}
+use Rattle.wkb_laws.specs.Prelude.{head_by_code, srid_in, spelled_in, count_in, part, type_dimension, is_member}
+use Rattle.wkb_laws.specs.Prelude.{thousands, FrontWithin}
 use Rattle.wkb_geom.proofs.Meanings.{meaning_holds}
 use Rattle.wkb_laws.proofs.Parts.{number-more, number_begins, begins_number, field_taken, length-opens}
+use Rattle.wkb_geom.proofs.Codes.{thousands_inj}
 
 -- what a reading says of the input: a front with its counts, or the refusal with its counts
 pub record ItemIs (room : ℕ) (w : Wanted) (input : List ℕ) (i : Item) (rest : List ℕ) (cost : Cost) : Type 0 where
@@ -31,11 +31,21 @@ abbrev pub IsRight : ℕ → Wanted → List ℕ → Reading Item → Type 0
 IsRight room w input (cost, Ok x) = ItemIs room w input x.0 x.1 cost
 IsRight room w input (cost, Err cause) = Refuses room w input cause cost.turns cost.slots
 
--- the same refusal with equal counts
-pub refused_as : {room : ℕ} {w : Wanted} {input : List ℕ} {cause : Cause} {a b c d : ℕ} → a ≡ c → b ≡ d
-    → Refuses room w input cause a b
-    → Refuses room w input cause c d
-refused_as {room} {w} {input} {cause} e f r = subst (λ T. T) (λ i. Refuses room w input cause (e i) (f i)) r
+-- what was read is a front
+abbrev pub item_front : {room : ℕ} {w : Wanted} {input : List ℕ} {i : Item} {rest : List ℕ} {cost : Cost}
+    → ItemIs room w input i rest cost → FrontWithin room input i.spelled i.value rest
+item_front {i = i} h =
+    record { front = i.encoding; whole = h.whole; spelled = h.spelled; shallow = h.shallow }
+
+-- the turns and the entries of a value
+abbrev pub cost_of : Value → Cost
+cost_of t = record { turns = member_count t; slots = listed_count t }
+
+-- The input begins with a part that is wanted, or is refused.
+abbrev pub HasPart : ℕ → Wanted → List ℕ → Type 0
+HasPart room w input =
+    ((i : Item) × (rest : List ℕ) × ItemIs room w input i rest (cost_of i.value))
+    ⊎ ((cause : Cause) × (turns : ℕ) × (slots : ℕ) × Refuses room w input cause turns slots)
 
 -- the input opens with a geometry of this kind and this layout
 abbrev pub Opened : List ℕ → ℕ → Layout → Type 0
@@ -80,32 +90,32 @@ module _ (room : ℕ) (w : Wanted) (input : List ℕ) (k : ℕ) (l : Layout) (o 
       let field = take size (drop 5 input) in
       let c = drop (body_start l.has_srid) input in
       let cut : drop 5 input ≡ field ++ (take 4 c ++ drop 4 c) =
-      sym (take-append-drop size (drop 5 input))
-      ∙ ap (λ z. field ++ z) (drop-drop size 5 input ∙ sym (take-append-drop 4 c)) in
+      sym (take-append-drop size (drop 5 input)) ∙ rw (drop-drop size 5 input, take-append-drop 4 c) in
       record {
         srid_field = field;
         count_field = take 4 c;
-        opens = subst (λ z. Opens input l.order k l.dimension l.has_srid z) cut o;
+        opens = rw cut at o;
         allowed = allowed;
         srid_len = length-take-le size (drop 5 input) (omega (arith, length-drop 5 input));
         number = field_taken l.order 4 c (omega (arith, length-drop (body_start l.has_srid) input));
       }
 
   -- with a count that is whole, or not
-  pub count_says : (f : ℕ → Reading Item) → k ≢ 1
-      → (body_start l.has_srid + 4 ≤ length input → IsRight room w input (f (count_in l input)))
-      → IsRight room w input (with_count l input f)
-  count_says f not1 each =
-      cond_both (nat_lt (length input) (body_start l.has_srid + 4)) _ _ (IsRight room w input)
-      (λ t. let short = ltb-true _ _ t in no_count o not1 allowed (omega (arith, length-opens o)))
-      (λ t. each (ltb-false _ _ t))
+  pub count_has : k ≢ 1
+      → (body_start l.has_srid + 4 ≤ length input
+      → OpensCounted room w input l.order k l.dimension l.has_srid (count_in l input) (parts_start l.has_srid input)
+      → HasPart room w input)
+      → HasPart room w input
+  count_has not1 each = elim (cases_lt (length input) (body_start l.has_srid + 4)) [
+    | inl short ↦ inr (_, _, _, no_count o not1 allowed (omega (arith, length-opens o)))
+    | inr enough ↦ each enough (counts_here enough)
+  ]
 
 -- a number inside an encoding is the same in the input that begins with it
 pub number_in : (order : Endianness) (a : ℕ) (input x rest : List ℕ) → input ≡ x ++ rest → a + 4 ≤ length x
     → number order 4 (drop a input) ≡ number order 4 (drop a x)
 number_in order a input x rest e h =
-    ap (λ z. number order 4 (drop a z)) e ∙ ap (number order 4) (drop-append-le a x rest (omega arith))
-    ∙ number-more order 4 (drop a x) rest (omega (arith, length-drop a x))
+    rw (e, drop-append-le a x rest (omega arith)) (number-more order 4 (drop a x) rest (omega (arith, length-drop a x)))
 
 -- the header that an encoding begins with
 abbrev encoding_header : Layout → List ℕ → Header
@@ -131,7 +141,7 @@ encoding_head input (a ∷ y) rest k d l o e long =
     let tail : y ++ rest ≡ o.behind = cc in
     let read = begins_number l.order 4 o.code o.behind (drop 5 input) o.number in
     let same : o.code ≡ number l.order 4 y =
-    sym (sym (number-more l.order 4 y rest (omega arith)) ∙ ap (number l.order 4) tail ∙ read.1) in
+    sym read.1 ∙ rw (← tail) (number-more l.order 4 y rest (omega arith)) in
     let field = take (srid_size l.has_srid) (drop 4 y) in
     let cut =
     sym (take-append-drop (srid_size l.has_srid) (drop 4 y))
@@ -139,18 +149,14 @@ encoding_head input (a ∷ y) rest k d l o e long =
     let code = number_begins l.order 4 y (omega arith) in
     record {
       front = order_byte l.order ∷ (code.front ++ field);
-      whole =
-          ap (λ z. z ∷ y) head
-          ∙ ap (λ z. order_byte l.order ∷ z)
-          (code.whole ∙ ap (λ z. code.front ++ z) cut ∙ sym (append_assoc code.front field _));
+      whole = rw (append_assoc code.front field (drop (body_start l.has_srid) (a ∷ y)), ← cut, head)
+          (ap (λ z. order_byte l.order ∷ z) code.whole);
       first = record {
         code_field = code.front;
         srid_field = field;
         whole = refl;
         code = code.first;
-        meaning =
-            subst (λ z. Code (number l.order 4 y) k d z) (has_srid_in l.order l.has_srid (a ∷ y))
-            (subst (λ c. Code c k d l.has_srid) same o.meaning);
+        meaning = rw (same, has_srid_in l.order l.has_srid (a ∷ y)) at o.meaning;
         srid = srid_is l.order l.has_srid (a ∷ y) (omega (arith, length-drop 4 y));
       };
     }
@@ -180,3 +186,15 @@ item_is room w input x rest l own ss t b m cost o p e long cut body each shallow
       turns = turns;
       slots = slots;
     }
+
+-- members that pass the test are wanted, and no others: a head of a member of this kind and dimension
+abbrev pub IsWantedHead : ℕ → Dimension → Head → Type 0
+IsWantedHead k d h = IsPart (part k d) (type_kind h.wkb_type) (type_dimension h.wkb_type) h.has_srid
+
+pub passes : (k : ℕ) (d : Dimension) (h : Head) → is_member k d h ≡ true → IsWantedHead k d h
+passes k d h t =
+    let same : thousands (type_dimension h.wkb_type) ≡ thousands d = grind (arith, nat_tests) in
+    (grind (arith, nat_tests), thousands_inj _ d same, λ one. grind (arith, nat_tests))
+
+pub is_passed : (k : ℕ) (d : Dimension) (h : Head) → IsWantedHead k d h → is_member k d h ≡ true
+is_passed k d h p = grind (arith, nat_tests)

@@ -1,25 +1,22 @@
 -- How long an encoding is.
 use Rattle.std.proofs.Common.{◌≡◌, ℕ, ◌+◌, ◌*◌, ◌<◌, ◌≤◌, ◌^◌, List, [], ◌∷◌, ◌++◌, length, Some, None, Bool, true}
-use Rattle.std.proofs.Common.{false}
-use Rattle.std.proofs.Common.{refl, sym, ap, ◌∙◌, arith, length-append}
-use Rattle.std.proofs.Common.{sum_by, is_some, if◌then◌else◌, nat_lt, lt-ltb}
+use Rattle.std.proofs.Common.{false, refl, sym, ap, ◌∙◌, arith, length-append, sum_by, is_some, if◌then◌else◌, lt-ltb}
 use Rattle.std.proofs.lemmas.List.Sums.{sum_by-cons}
-use Rattle.std.proofs.lemmas.Bool.{cond-true}
 use Rattle.byteorder.specs.Numbers.{length-bytes_high_first, length-bytes_low_first}
 use Rattle.wkb_geom.specs.declared.common.Endianness.TheVariants.{BigEndian, LittleEndian}
-use Rattle.wkb_geom.specs.Dimensions.{written_dimension}
+use Rattle.wkb_geom.specs.Sizes.{byte_size, byte_sizes, point_size, ring_size, line_string_size, rings_size}
+use Rattle.wkb_geom.specs.Sizes.{polygon_size}
 use Rattle.wkb_geom.specs.Encodings.{point_encoding, line_string_encoding, polygon_encoding, members_encoding}
 use Rattle.wkb_geom.specs.Geometries as geometries
 use Rattle.wkb_laws.specs.Prelude.{Endianness, Dimension, Xy, Form, Iso, Ewkb, AreBytes, IsNumber, width, IsEach}
-use Rattle.wkb_laws.specs.Prelude.{Coordinate, Value, point, line_string, polygon}
-use Rattle.wkb_laws.specs.Prelude.{multi_point, multi_line_string, multi_polygon, collection, Values, no_members}
-use Rattle.wkb_laws.specs.Prelude.{member, kind, dimension, members, header}
+use Rattle.wkb_laws.specs.Prelude.{Coordinate, Value, point, line_string, polygon, multi_point, multi_line_string}
+use Rattle.wkb_laws.specs.Prelude.{multi_polygon, Values, no_members, member, kind, dimension, members, header}
 use Rattle.wkb_laws.specs.Prelude.{Spelling, node, Spellings, no_spellings, spelling, SpellsCoordinate}
-use Rattle.wkb_laws.specs.Prelude.{SpellsCoordinates, SpellsBody, Wanted, part, member_part, Spells}
-use Rattle.wkb_laws.specs.Prelude.{SpellsEach, srid_count, srid_count_each, Front, srid_size, Geometry, IsGeometry}
-use Rattle.wkb_laws.specs.Prelude.{normal, geometry_of, or_else, size_fault}
-use Rattle.wkb_laws.specs.Prelude.{number_bytes, code_of, srid_encoding, header_encoding}
-use Rattle.wkb_laws.specs.Prelude.{form_srid, inner, encoding, fault, refusal, IsForm, IsWritable}
+use Rattle.wkb_laws.specs.Prelude.{SpellsCoordinates, SpellsBody, Wanted, part, member_part, Spells, SpellsEach}
+use Rattle.wkb_laws.specs.Prelude.{srid_count, srid_count_each, Front, srid_size, Geometry, IsGeometry, normal}
+use Rattle.wkb_laws.specs.Prelude.{geometry_of, or_else, size_fault, number_bytes, srid_encoding, header_encoding}
+use Rattle.wkb_laws.specs.Prelude.{form_srid, inner, encoding, fault, refusal, IsForm, IsWritable, size, as_dimensions}
+use Rattle.wkb_laws.specs.Prelude.{geometries_of}
 use Rattle.wkb_laws.specs.Written.{written, HasOptions, AllHaveOptions}
 use Rattle.wkb_laws.specs.Encodings.{IsRewritable, SpelledIsWritable}
 use Rattle.wkb_laws.specs.Laws.{LengthOfEncoding, LengthOfFront, FrontIsWritable, EwkbIsWritable, SizeIsRefused}
@@ -34,23 +31,16 @@ use Rattle.wkb_laws.proofs.Values.{lawful-geometry_of}
 abbrev coordinates_size : Dimension → List Coordinate → ℕ
 coordinates_size d cs = 4 + 8 * width d * length cs
 
-abbrev rings_size : Dimension → List (List Coordinate) → ℕ
-rings_size d rings = 4 + sum_by (coordinates_size d) rings
-
 -- the bytes of a value without SRIDs
-abbrev mutual
-  pub value_size : Value → ℕ
-  value_size (point d c) = 5 + 8 * width d
-  value_size (line_string d cs) = 5 + coordinates_size d cs
-  value_size (polygon d rings) = 5 + rings_size d rings
-  value_size (multi_point d l) = 9 + (5 + 8 * width d) * length l
-  value_size (multi_line_string d l) = 9 + sum_by (λ cs. 5 + coordinates_size d cs) l
-  value_size (multi_polygon d l) = 9 + sum_by (λ rings. 5 + rings_size d rings) l
-  value_size (collection d ts) = 9 + each_size ts
+abbrev pub value_size : Value → ℕ
+value_size t = byte_size (geometry_of t)
 
-  pub each_size : Values → ℕ
-  each_size no_members = 0
-  each_size (member t ts) = value_size t + each_size ts
+abbrev pub each_size : Values → ℕ
+each_size ts = byte_sizes (geometries_of ts)
+
+pub named_width : (d : Dimension) → width d ≡ size (as_dimensions d)
+named_width Xy = refl
+named_width _ = refl
 
 -- a geometry has at least nine bytes
 pub width-least : (d : Dimension) → 2 ≤ width d
@@ -58,23 +48,23 @@ width-least Xy = omega arith
 width-least _ = omega arith
 
 pub value_size-least : (t : Value) → 9 ≤ value_size t
-value_size-least (point d c) = let w = width-least d in omega arith
+value_size-least (point d c) = omega (arith, width-least d, named_width d)
 value_size-least _ = omega arith
 
 -- the body up to the members
 abbrev body_size : Value → ℕ
-body_size (point d c) = 8 * width d
-body_size (line_string d cs) = coordinates_size d cs
-body_size (polygon d rings) = rings_size d rings
+body_size (point d c) = 8 * size (as_dimensions d)
+body_size (line_string d cs) = ring_size (as_dimensions d) cs
+body_size (polygon d rings) = rings_size (as_dimensions d) rings
 body_size _ = 4
 
 value_size-members : (t : Value) → value_size t ≡ 5 + body_size t + each_size (members t)
 value_size-members (multi_point d l) =
-    omega (arith, each_same (point d) each_size refl (5 + 8 * width d) (λ a ts. refl) l)
+    omega (arith, each_same (point d) each_size refl (point_size (as_dimensions d)) (λ a ts. refl) l)
 value_size-members (multi_line_string d l) =
-    ap (λ z. 9 + z) (sym (each_sum (line_string d) each_size refl (λ cs. 5 + coordinates_size d cs) (λ a ts. refl) l))
+    omega (arith, each_sum (line_string d) each_size refl (line_string_size (as_dimensions d)) (λ a ts. refl) l)
 value_size-members (multi_polygon d l) =
-    ap (λ z. 9 + z) (sym (each_sum (polygon d) each_size refl (λ rings. 5 + rings_size d rings) (λ a ts. refl) l))
+    omega (arith, each_sum (polygon d) each_size refl (polygon_size (as_dimensions d)) (λ a ts. refl) l)
 value_size-members _ = omega arith
 
 pub each_length : {A : Type 0} (P : A → List ℕ → Type 0) (size : A → ℕ)
@@ -93,22 +83,17 @@ pub coordinates_length : (order : Endianness) (d : Dimension) (cs : List Coordin
     → SpellsCoordinates order d cs x
     → length x ≡ coordinates_size d cs
 coordinates_length order d cs x h =
-    omega (
-      arith,
-      each_len (SpellsCoordinate order d) (8 * width d) (coordinate_length order d) cs h.rest h.second,
-      then_length h,
-    )
+    let each = each_len (SpellsCoordinate order d) (8 * width d) (coordinate_length order d) cs h.rest h.second in
+    omega (arith, then_length h)
 
 body_length : (order : Endianness) (own : List ℕ) (t : Value) (x : List ℕ) → SpellsBody order own t x
     → length x ≡ body_size t
-body_length order own (point d None) x h = coordinate_length order d own x h.1
-body_length order own (point d (Some c)) x h = coordinate_length order d c x h.2
-body_length order own (line_string d cs) x h = coordinates_length order d cs x h.1
+body_length order own (point d None) x h = rw (← named_width d) (coordinate_length order d own x h.1)
+body_length order own (point d (Some c)) x h = rw (← named_width d) (coordinate_length order d c x h.2)
+body_length order own (line_string d cs) x h = rw (← named_width d) (coordinates_length order d cs x h.1)
 body_length order own (polygon d rings) x h =
-    let body =
-    each_length (SpellsCoordinates order d) (coordinates_size d) (coordinates_length order d) rings (h.1).rest
-    (h.1).second in
-    omega (arith, ((h.1).first).len, then_length h.1)
+    let each = each_length (SpellsCoordinates order d) (coordinates_size d) (coordinates_length order d) in
+    rw (← named_width d) (omega (arith, then_length h.1, h.1.first.len, each rings h.1.rest h.1.second))
 body_length order own _ x h = (h.1).len
 
 pub srid_size_is : (b : Bool) → srid_size b ≡ 4 * (if b then 1 else 0)
@@ -127,13 +112,9 @@ pub none_in_points : (d : Dimension) (ss : Spellings) (ts : Values) (x : List �
 none_in_points d no_spellings ts x h = refl
 none_in_points d (spelling s ss) no_members x h = absurd h
 none_in_points d (spelling (node h own inside) ss) (member (point e c) ts) x a =
-    omega (
-      arith,
-      ap (λ (some : Bool). srid_size some) (a.first.1.2 refl),
-      srid_size_is (is_some h.srid),
-      none_without_members _ inside _ a.first.0.second.second,
-      none_in_points d ss ts a.rest a.second,
-    )
+    let own : srid_size (is_some h.srid) ≡ 0 = rw (a.first.1.2 refl) in
+    let inside = none_without_members _ inside _ a.first.0.second.second in
+    omega (arith, srid_size_is (is_some h.srid), none_in_points d ss ts a.rest a.second)
 none_in_points d (spelling s ss) (member t ts) x a = absurd (omega (arith, a.first.1.0))
 
 -- an encoding is as long as its value asks for, and four bytes for each SRID
@@ -174,11 +155,7 @@ form_length : (order : Endianness) (form : Form) (g : Geometry) → IsForm form 
     → length (encoding order form g) ≡ value_size (normal g) + 4 * (if is_some (form_srid form) then 1 else 0)
 form_length order form g h lawful fine =
     let one = srid_counted order form (written order form g) (written_has_options order form g) in
-    omega (
-      arith,
-      spelled_length (written order form g) (normal g) (encoding order form g)
-          (encoding_spells order form g h lawful fine),
-    )
+    omega (arith, spelled_length _ _ _ (encoding_spells order form g h lawful fine))
 
 -- an encoding is as long with any SRID, also with one that doesn't fit
 four_long : (order : Endianness) (n : ℕ) → length (number_bytes order 4 n) ≡ 4
@@ -189,17 +166,7 @@ four_long LittleEndian n = length-bytes_low_first 0 4 n
 header_long : (order : Endianness) (n k : ℕ) (d : Dimension) (rest : List ℕ)
     → length (header_encoding order (Ewkb (Some n)) k d ++ rest) ≡ 9 + length rest
 unfolding header_encoding srid_encoding
-header_long order n k d rest =
-    let code : List ℕ = number_bytes order 4 (code_of (Ewkb (Some n)) k d) in
-    let srid : List ℕ = srid_encoding order (form_srid (Ewkb (Some n))) in
-    let srid_long : length srid ≡ 4 = four_long order n in
-    omega (
-      arith,
-      length-append (code ++ srid) rest,
-      length-append code srid,
-      four_long order (code_of (Ewkb (Some n)) k d),
-      srid_long,
-    )
+header_long order n k d rest = simp (length-append, four_long) (omega arith)
 
 any_header : (order : Endianness) (n k : ℕ) (d : Dimension) (rest : List ℕ)
     → length (header_encoding order (Ewkb (Some n)) k d ++ rest)
@@ -209,16 +176,8 @@ any_header order n k d rest = header_long order n k d rest ∙ sym (header_long 
 any_srid : (order : Endianness) (n : ℕ) (g : Geometry)
     → length (encoding order (Ewkb (Some n)) g) ≡ length (encoding order (Ewkb (Some 0)) g)
 unfolding point_encoding line_string_encoding polygon_encoding members_encoding
-any_srid order n (geometries.point dims c) = any_header order n 1 (written_dimension dims) _
-any_srid order n (geometries.line_string dims cs) = any_header order n 2 (written_dimension dims) _
-any_srid order n (geometries.polygon dims rings) = any_header order n 3 (written_dimension dims) _
-any_srid order n (geometries.multi_point dims ps) = any_header order n 4 (written_dimension dims) _
-any_srid order n (geometries.multi_line_string dims ls) = any_header order n 5 (written_dimension dims) _
-any_srid order n (geometries.multi_polygon dims ps) = any_header order n 6 (written_dimension dims) _
-any_srid order n (geometries.collection dims gs) = any_header order n 7 (written_dimension dims) _
-any_srid order n (geometries.line dims start end) = any_header order n 2 (written_dimension dims) _
-any_srid order n (geometries.rectangle dims least greatest) = any_header order n 3 Xy _
-any_srid order n (geometries.triangle dims a b c) = any_header order n 3 (written_dimension dims) _
+any_srid order n (geometries.point dims c) = any_header order n _ _ _
+any_srid order n _ = any_header order n _ _ _
 
 pub encoding_length : (order : Endianness) (form : Form) (g : Geometry) → IsGeometry g → fault g ≡ None
     → length (encoding order form g) ≡ value_size (normal g) + 4 * (if is_some (form_srid form) then 1 else 0)
@@ -264,7 +223,7 @@ fits order form s t x b small h fewer =
     let len = encoding_length order form (geometry_of t) (lawful-geometry_of t good.0) good.1 in
     let same : value_size (normal (geometry_of t)) ≡ value_size t = ap value_size (normal-geometry_of t good.0) in
     size_refused order form t good
-    ∙ cond-true (nat_lt (length (encoding order form (geometry_of t))) (2 ^ 64)) _ _ (lt-ltb _ _ (omega arith))
+    ∙ rw (lt-ltb (length (encoding order form (geometry_of t))) (2 ^ 64) (omega arith))
 
 outer_counted : (s : Spelling) → ◌≤◌ (if is_some (header s).srid then 1 else 0) (srid_count s)
 outer_counted (node h own ss) = omega arith

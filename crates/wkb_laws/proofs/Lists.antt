@@ -1,14 +1,13 @@
 -- Lists of values, what holds of all items, and the kinds that are lists of members.
 use Rattle.std.proofs.Common.{ℕ, sum_by, ◌+◌, ◌*◌, sym, ap, ◌∙◌, ◌≡◌, List, [], ◌∷◌, length, refl, arith, zero, suc}
-use Rattle.std.proofs.Common.{◌<◌, ◌≤◌, ◌==◌, ◌&&◌, nat_lt}
-use Rattle.std.proofs.Common.{if◌then◌else◌}
+use Rattle.std.proofs.Common.{◌<◌, ◌≤◌, ◌==◌, ◌&&◌, nat_lt, if◌then◌else◌}
 use Rattle.std.proofs.lemmas.List.Sums.{sum_by-cons}
 use Rattle.std.specs.List.{AllByRecursion}
 use Rattle.wkb_laws.specs.Prelude.{Values, no_members, member, Value, each, count, Dimension, Layout, general}
-use Rattle.wkb_laws.specs.Prelude.{ShortMultiPoint, Wanted, any, part, multi_point_end}
-use Rattle.wkb_laws.specs.Prelude.{Reading, Item, collection_with, list_item, multi_line_string_with, multi_point_with}
-use Rattle.wkb_laws.specs.Prelude.{multi_polygon_with, parts_body, refused}
-use Rattle.wkb_geom.specs.Reading.{ReadingOf, cause_alone}
+use Rattle.wkb_laws.specs.Prelude.{ShortMultiPoint, Wanted, any, part, multi_point_end, Item, collection_with}
+use Rattle.wkb_laws.specs.Prelude.{list_item, multi_line_string_with, multi_point_with, multi_polygon_with, parts_body}
+use Rattle.wkb_laws.specs.Prelude.{refused}
+use Rattle.wkb_geom.specs.Reading.{ReadingOf}
 use Rattle.wkb_geom.specs.declared.error.Cause.{Cause}
 
 -- what follows for one follows for all
@@ -16,6 +15,10 @@ pub all_imply : {A : Type 0} (P Q : A → Type 0) → ((a : A) → P a → Q a) 
     → AllByRecursion Q l
 all_imply P Q f [] h = tt
 all_imply P Q f (a ∷ l) h = (f a h.0, all_imply P Q f l h.1)
+
+pub lists_imply : {A : Type 0} (P Q : A → Type 0) → ((a : A) → P a → Q a) → (l : List (List A))
+    → AllByRecursion (AllByRecursion P) l → AllByRecursion (AllByRecursion Q) l
+lists_imply P Q f = all_imply _ _ (all_imply P Q f)
 
 -- What a list of values has is the sum of what its items have.
 module _ {A : Type 0} (f : A → Value) (total : Values → ℕ) (none : total no_members ≡ 0) where
@@ -58,7 +61,3 @@ list_behind_told told k l part_at input n =
     let end = multi_point_end l.dimension l.has_srid n in
     if (k == 4) && nat_lt (length input) end then refused (told input (general (ShortMultiPoint end (length input))))
     else parts_body k l part_at (list_item l (whole_by k)) input n
-
--- the same, where of a fault its cause is told
-abbrev pub list_behind : ℕ → Layout → (List ℕ → Reading Item) → List ℕ → ℕ → Reading Item
-list_behind = list_behind_told cause_alone

@@ -4,13 +4,11 @@ use Rattle.std.proofs.Common.{refl, sym, ap, subst, ◌∙◌, arith, ◌/◌}
 use Rattle.std.proofs.lemmas.Nat.{div-mul-add}
 use Rattle.byteorder.specs.Endian.{big_from, little_from}
 use Rattle.byteorder.specs.Numbers.{big_from-cons, little_from-cons, big_from-lt}
-use Rattle.wkb_laws.specs.Prelude.{Endianness, BigEndian, LittleEndian, Dimension, AreBytes, IsNumber, number}
-use Rattle.wkb_laws.specs.Prelude.{order_byte, Then, IsEach, IsCounted, Coordinate}
-use Rattle.wkb_laws.specs.Prelude.{Value, Values, point, line_string, polygon, no_members, member, kind, dimension}
-use Rattle.wkb_laws.specs.Prelude.{members, Header, Spelling, node, Spellings}
+use Rattle.wkb_laws.specs.Prelude.{Endianness, BigEndian, LittleEndian, Dimension, AreBytes, IsNumber, number, Then}
+use Rattle.wkb_laws.specs.Prelude.{IsEach, IsCounted, Coordinate, Value, Values, point, line_string, polygon}
+use Rattle.wkb_laws.specs.Prelude.{no_members, member, kind, dimension, members, Header, Spelling, node, Spellings}
 use Rattle.wkb_laws.specs.Prelude.{no_spellings, spelling, IsHeader, IsSrid, SpellsCoordinate, SpellsCoordinates}
-use Rattle.wkb_laws.specs.Prelude.{SpellsBody, Wanted, member_part, Spells}
-use Rattle.wkb_laws.specs.Prelude.{SpellsEach}
+use Rattle.wkb_laws.specs.Prelude.{SpellsBody, Wanted, member_part, Spells, SpellsEach}
 use Rattle.wkb_laws.specs.Places.{HasOneEncoding, HaveOneEncoding, CoordinateHasOneEncoding}
 use Rattle.wkb_laws.proofs.Values.{AreBytes-front, AreBytes-rest}
 
@@ -56,9 +54,9 @@ number_fixed BigEndian n v = record { same = λ x y a b h k. big_fixed n x y a.l
 number_fixed LittleEndian n v =
     record { same = λ x y a b h k. little_fixed n x y a.len b.len (a.value ∙ sym b.value) h k }
 
-joined : {P Q : List ℕ → Type 0} → Fixed P → Fixed Q → (a b c d : List ℕ) → P a → P b → Q c → Q d → AreBytes (a ++ c)
+together : {P Q : List ℕ → Type 0} → Fixed P → Fixed Q → (a b c d : List ℕ) → P a → P b → Q c → Q d → AreBytes (a ++ c)
     → AreBytes (b ++ d) → a ++ c ≡ b ++ d
-joined one other a b c d p q r s h k =
+together one other a b c d p q r s h k =
     let first : a ≡ b = one.same a b p q (AreBytes-front a c h) (AreBytes-front b d k) in
     let second : c ≡ d = other.same c d r s (AreBytes-rest a c h) (AreBytes-rest b d k) in
     cc
@@ -66,9 +64,8 @@ joined one other a b c d p q r s h k =
 then_fixed : {P Q : List ℕ → Type 0} → Fixed P → Fixed Q → Fixed (Then P Q)
 then_fixed one other = record {
   same = λ x y a b h k.
-      a.whole ∙ joined one other a.front b.front a.rest b.rest a.first b.first a.second b.second
-      (subst AreBytes a.whole h) (subst AreBytes b.whole k)
-      ∙ sym b.whole;
+      rw (a.whole, b.whole) (together one other a.front b.front a.rest b.rest a.first b.first a.second b.second
+      (rw a.whole at h) (rw b.whole at k));
 }
 
 each_fixed : {A : Type 0} {P : A → List ℕ → Type 0} → ((a : A) → Fixed (P a)) → (l : List A) → Fixed (IsEach P l)
@@ -83,7 +80,8 @@ coordinate_fixed : (order : Endianness) (d : Dimension) (c : Coordinate) → Fix
 coordinate_fixed order d c =
     record { same = λ x y a b h k. (each_fixed (number_fixed order 8) c).same x y a.words b.words h k }
 
-coordinates_fixed : (order : Endianness) (d : Dimension) (cs : List Coordinate) → Fixed (SpellsCoordinates order d cs)
+pub coordinates_fixed : (order : Endianness) (d : Dimension) (cs : List Coordinate)
+    → Fixed (SpellsCoordinates order d cs)
 coordinates_fixed order d = counted_fixed order (coordinate_fixed order d)
 
 srid_fixed : (order : Endianness) (o : Option ℕ) → Fixed (IsSrid order o)
@@ -95,10 +93,9 @@ header_fixed g n d = record {
   same = λ x y a b h k.
       let h' : AreBytes (a.code_field ++ a.srid_field) = λ i. subst AreBytes a.whole h (suc i) in
       let k' : AreBytes (b.code_field ++ b.srid_field) = λ i. subst AreBytes b.whole k (suc i) in
-      let fields = joined (number_fixed g.order 4 g.code)
-      (srid_fixed g.order g.srid) a.code_field b.code_field a.srid_field b.srid_field a.code b.code a.srid b.srid h' k'
-      in
-      a.whole ∙ ap (λ (t : List ℕ). order_byte g.order ∷ t) fields ∙ sym b.whole;
+      let fields = together (number_fixed g.order 4 g.code) (srid_fixed g.order g.srid) a.code_field b.code_field
+      a.srid_field b.srid_field a.code b.code a.srid b.srid h' k' in
+      rw (a.whole, b.whole, fields);
 }
 
 -- what follows another fact, where that says nothing of the bytes
@@ -114,7 +111,7 @@ body_fixed order words (polygon d rings) = beside (counted_fixed order (coordina
 body_fixed order words _ = beside (number_fixed order 4 _)
 
 mutual
-  spells_fixed : (s : Spelling) (t : Value) → Fixed (Spells s t)
+  pub spells_fixed : (s : Spelling) (t : Value) → Fixed (Spells s t)
   spells_fixed (node g words ss) t =
       then_fixed (header_fixed g (kind t) (dimension t))
       (then_fixed (body_fixed g.order words t) (members_fixed (member_part (kind t) (dimension t)) ss (members t)))

@@ -1,23 +1,21 @@
 -- Every input has a front or exactly one refusal, and never both.
-use Rattle.std.proofs.Common.{◌≡◌, ◌⊎◌, ℕ, suc, ◌+◌, ◌≤◌, List, ◌++◌, refl, sym, ap, ◌∙◌, subst, arith, inl, inr, Ok}
-use Rattle.std.proofs.Common.{Err}
+use Rattle.std.proofs.Common.{◌≡◌, ℕ, suc, ◌+◌, ◌≤◌, List, ◌++◌, refl, sym, ap, ◌∙◌, arith, inl, inr, Ok, Err}
 use Rattle.wkb_laws.specs.Prelude.{Values, no_members, member, count, nest_each, member_count_each, Spellings}
-use Rattle.wkb_laws.specs.Prelude.{no_spellings, spelling, Wanted, any, SpellsEach}
-use Rattle.wkb_laws.specs.Prelude.{Cause, room_inside, Refuses, bad_member, RefusesEach, this_member, later_member}
-use Rattle.wkb_laws.specs.Prelude.{Reading, Item}
+use Rattle.wkb_laws.specs.Prelude.{no_spellings, spelling, Wanted, any, SpellsEach, Cause, room_inside, Refuses}
+use Rattle.wkb_laws.specs.Prelude.{bad_member, RefusesEach, this_member, later_member, Item, max_nesting}
 use Rattle.wkb_geom.specs.Reading as reading
-use Rattle.wkb_laws.specs.Laws.{Agrees, HasFront, HasRefusal, ReadOrRefused, NeverBoth, OneRefusal, listed_inside}
-use Rattle.wkb_laws.specs.Laws.{RefusedOutward}
+use Rattle.wkb_laws.specs.Laws.{ReadOrRefused, NeverBoth, OneRefusal, listed_inside, RefusedOutward}
 use Rattle.wkb_laws.proofs.Parts.{then_append}
 use Rattle.wkb_laws.proofs.Bodies.{refused_each}
-use Rattle.wkb_laws.proofs.GeometryAt.{geometry_agrees_lem, front_is_read_lem, refusal_is_read_lem}
-
-either : (input : List ℕ) (r : Reading Item) → Agrees input r → HasFront input ⊎ HasRefusal input
-either input (cost, Ok x) h = inl (x.0.spelled, x.0.value, x.1, h.0)
-either input (cost, Err cause) h = inr (cause, cost.turns, cost.slots, h)
+use Rattle.wkb_laws.proofs.GeometryAt.{front_is_read_lem, refusal_is_read_lem}
+use Rattle.wkb_laws.proofs.Heads.{item_front}
+use Rattle.wkb_laws.proofs.Sound.{any_has}
 
 pub read_or_refused_lem : ReadOrRefused
-read_or_refused_lem input = either input _ (geometry_agrees_lem input)
+read_or_refused_lem input = elim (any_has max_nesting input) [
+  | inl h ↦ inl (h.0.spelled, h.0.value, h.1, item_front h.2)
+  | inr r ↦ inr r
+]
 
 pub never_both_lem : NeverBoth
 never_both_lem input s t rest cause turns slots f r =
@@ -38,8 +36,7 @@ refused_behind : (room : ℕ) (w : Wanted) (more : ℕ) (ss : Spellings) (ts : V
     → input ≡ x ++ rest → SpellsEach w ss ts x → nest_each ts ≤ room → Refuses room w rest c b z
     → RefusesEach room w (count ts + suc more) input c (member_count_each ts + (1 + b)) (listed_inside ts + z)
 refused_behind room w more no_spellings no_members input x rest c b z e h shallow r =
-    subst (λ y. RefusesEach room w (0 + suc more) y c (0 + (1 + b)) (0 + z)) (sym (e ∙ ap (λ y. y ++ rest) h))
-    (refused_each (omega arith) (omega arith) (omega arith) (this_member {more = more} r))
+    rw (e, h) (refused_each (omega arith) (omega arith) (omega arith) (this_member {more = more} r))
 refused_behind room w more (spelling s ss) (member t ts) input x rest c b z e h shallow r =
     let shape : input ≡ h.front ++ (h.rest ++ rest) = e ∙ then_append h rest in
     let others = refused_behind room w more ss ts (h.rest ++ rest) h.rest rest c b z refl h.second (omega arith) r in
@@ -51,6 +48,4 @@ refused_behind room w more _ _ input x rest c b z e h shallow r = absurd h
 pub refused_outward_lem : RefusedOutward
 refused_outward_lem room w input order d srid n behind more ss ts x rest c b z counts e h shallow fewer r =
     bad_member {k = 7} counts (omega arith) (λ four. absurd (omega arith))
-    (subst (λ k. RefusesEach (room_inside 7 room) any k behind c (member_count_each ts + (1 + b))
-    (listed_inside ts + z)) (sym fewer)
-    (refused_behind (room_inside 7 room) any more ss ts behind x rest c b z e h shallow r))
+    (rw fewer (refused_behind (room_inside 7 room) any more ss ts behind x rest c b z e h shallow r))

@@ -1,13 +1,13 @@
 -- The front of a list, what is read there, and what comes before a body.
 use Rattle.std.proofs.Common.{slice_get, Some, drop-drop, ◌≡◌, ℕ, zero, suc, ◌+◌, ◌*◌, ◌≤◌, List, [], ◌∷◌, ◌++◌}
-use Rattle.std.proofs.Common.{append_assoc, length, take, drop, refl, sym}
-use Rattle.std.proofs.Common.{ap, ◌∙◌, subst, arith, length-drop, length-append, take-append-drop, length-take-le}
-use Rattle.std.proofs.Common.{take-add, Option, None, Bool, is_some}
+use Rattle.std.proofs.Common.{append_assoc, length, take, drop, refl, sym, ap, ◌∙◌, subst, arith, length-drop}
+use Rattle.std.proofs.Common.{length-append, take-append-drop, length-take-le, take-add, Option, None, Bool, is_some}
+use Rattle.std.proofs.Common.{◌-◌}
 use Rattle.std.proofs.Math.Seq.{take-append_seam, drop-append_seam}
 use Rattle.byteorder.specs.Numbers.{big_from-append, little_from-append}
 use Rattle.wkb_laws.specs.Prelude.{Then, Endianness, BigEndian, LittleEndian, IsNumber, number, IsEach, Begins}
-use Rattle.wkb_laws.specs.Prelude.{Dimension, Header, IsHeader, IsSrid, srid_size}
-use Rattle.wkb_laws.specs.Prelude.{Opens, Coordinate, SpellsCoordinate, coordinate}
+use Rattle.wkb_laws.specs.Prelude.{Dimension, Header, IsHeader, IsSrid, srid_size, Opens, Coordinate, SpellsCoordinate}
+use Rattle.wkb_laws.specs.Prelude.{coordinate, consumed}
 use Rattle.wkb_geom.specs.Items.{number-take}
 pub use Rattle.wkb_geom.specs.Reading.{items}
 
@@ -18,11 +18,19 @@ then_length a = ap length a.whole ∙ length-append a.front a.rest
 pub then_append : {P Q : List ℕ → Type 0} {x : List ℕ} (a : Then P Q x) (y : List ℕ) → x ++ y ≡ a.front ++ (a.rest ++ y)
 then_append a y = ap (λ z. z ++ y) a.whole ∙ append_assoc a.front a.rest y
 
+-- an encoding and another one after it
+pub joined : {P Q : List ℕ → Type 0} (x y : List ℕ) → P x → Q y → Then P Q (x ++ y)
+joined x y p q = record { front = x; rest = y; whole = refl; first = p; second = q }
+
 pub take_front : (n : ℕ) (x y : List ℕ) → length x ≡ n → take n (x ++ y) ≡ x
 take_front n x y e = subst (λ k. take k (x ++ y) ≡ x) e (take-append_seam x y)
 
 pub drop_front : (n : ℕ) (x y : List ℕ) → length x ≡ n → drop n (x ++ y) ≡ y
 drop_front n x y e = subst (λ k. drop k (x ++ y) ≡ y) e (drop-append_seam x y)
+
+-- what comes before the rest is what was consumed
+pub taken_front : (x rest : List ℕ) → consumed (x ++ rest) rest ≡ x
+taken_front x rest = take_front (length (x ++ rest) - length rest) x rest (omega (arith, length-append x rest))
 
 -- a number is read off the first bytes
 pub number-more : (order : Endianness) (n : ℕ) (x y : List ℕ) → n ≤ length x
@@ -43,10 +51,10 @@ field_taken order n y h = record { len = length-take-le n y h; value = number-ta
 pub begins_number : (order : Endianness) (n v : ℕ) (input rest : List ℕ) → Begins (IsNumber order n v) input rest
     → (n ≤ length input) × (number order n input ≡ v) × (drop n input ≡ rest)
 begins_number order n v input rest b =
-    let long : n ≤ length (b.front ++ rest) = omega (arith, (b.first).len, length-append b.front rest) in (
-      subst (λ z. n ≤ length z) (sym b.whole) long,
-      ap (number order n) b.whole ∙ number-front order n v b.front rest b.first,
-      ap (drop n) b.whole ∙ drop_front n b.front rest (b.first).len,
+    rw b.whole (
+      omega (arith, b.first.len, length-append b.front rest),
+      number-front order n v b.front rest b.first,
+      drop_front n b.front rest b.first.len,
     )
 
 pub number_begins : (order : Endianness) (n : ℕ) (input : List ℕ) → n ≤ length input
@@ -84,21 +92,15 @@ pub items_read : {A : Type 0} (P : A → List ℕ → Type 0) (size : ℕ) (item
 items_read P size item one [] x y h = refl
 items_read P size item one (a ∷ l) x y h =
     let first = one a h.front (h.rest ++ y) h.first in
-    let shape : x ++ y ≡ h.front ++ (h.rest ++ y) = then_append h y in
-    let behind : drop size (x ++ y) ≡ h.rest ++ y =
-    ap (drop size) shape ∙ drop_front size h.front (h.rest ++ y) first.0 in
-    let head : item (x ++ y) ≡ a = ap item shape ∙ first.1 in
-    let tail : items size item (length l) (drop size (x ++ y)) ≡ l =
-    ap (items size item (length l)) behind ∙ items_read P size item one l h.rest y h.second in
-    cc
+    let others = items_read P size item one l h.rest y h.second in
+    rw (then_append h y, first.1, drop_front size h.front (h.rest ++ y) first.0, others)
 
 -- a coordinate at the front of the bytes
 pub coordinate_read : (order : Endianness) (d : Dimension) (c : Coordinate) (x y : List ℕ)
     → SpellsCoordinate order d c x → coordinate order d (x ++ y) ≡ c
 coordinate_read order d c x y h =
-    ap (λ n. items 8 (number order 8) n (x ++ y)) (sym h.len)
-    ∙ items_read (IsNumber order 8) 8 (number order 8)
-    (λ v x y is. (is.len, number-front order 8 v x y is)) c x y h.words
+    rw (← h.len) (items_read (IsNumber order 8) 8 (number order 8)
+    (λ v x y is. (is.len, number-front order 8 v x y is)) c x y h.words)
 
 -- one of the items, by its number
 pub item_at : {A : Type 0} (size : ℕ) (item : List ℕ → A) (n i : ℕ) (y : List ℕ) (a : A)
@@ -106,11 +108,10 @@ pub item_at : {A : Type 0} (size : ℕ) (item : List ℕ → A) (n i : ℕ) (y :
     → item (drop (size * i) y) ≡ a
 item_at size item zero i y a is = absurd (cc)
 item_at size item (suc n) zero y a is =
-    let start : size * 0 ≡ 0 = omega arith in let same : item y ≡ a = cc in ap (λ k. item (drop k y)) start ∙ same
+    let start : size * 0 ≡ 0 = omega arith in let same : item y ≡ a = cc in rw (start, same)
 item_at size item (suc n) (suc i) y a is =
     let start : size * suc i ≡ size + size * i = omega arith in
-    ap (λ k. item (drop k y)) start ∙ ap item (sym (drop-drop (size * i) size y))
-    ∙ item_at size item n i (drop size y) a is
+    rw (start, ← drop-drop (size * i) size y) (item_at size item n i (drop size y) a is)
 
 pub length-opens : {input rest : List ℕ} {order : Endianness} {k : ℕ} {d : Dimension} {srid : Bool}
     → Opens input order k d srid rest
@@ -126,9 +127,4 @@ srid_length order (Some n) field h = h.len
 pub header_length : (h : Header) (k : ℕ) (d : Dimension) (front : List ℕ) → IsHeader h k d front
     → length front ≡ 5 + srid_size (is_some h.srid)
 header_length h k d front is =
-    omega (
-      arith,
-      ap length is.whole,
-      length-append is.code_field is.srid_field,
-      srid_length h.order h.srid is.srid_field is.srid,
-    )
+    omega (arith, ap length is.whole, length-append {A = ℕ}, srid_length h.order h.srid is.srid_field is.srid)

@@ -1,26 +1,23 @@
 -- The parts of a geometry at their places in its bytes.
 use Rattle.std.proofs.Common.{◌≡◌, ℕ, zero, suc, ◌+◌, ◌*◌, List, [], ◌∷◌, ◌++◌, length, take, drop, Some, refl, sym, ap}
-use Rattle.std.proofs.Common.{sum_by}
+use Rattle.std.proofs.Common.{sum_by, subst, ◌∙◌, append_assoc, length-append, arith, slice_get, is_some, drop-drop}
 use Rattle.std.proofs.lemmas.List.Sums.{sum_by_more}
 use Rattle.std.proofs.lemmas.Option.{slice_get_within, get_or_from_slice_get}
-use Rattle.std.proofs.Common.{subst, ◌∙◌, append_assoc}
-use Rattle.std.proofs.Common.{length-append, arith, slice_get, is_some, drop-drop}
 use Rattle.wkb_laws.specs.Prelude.{Then, Endianness, Dimension, number, width, IsEach, Coordinate, Value, Values, point}
-use Rattle.wkb_laws.specs.Prelude.{line_string, polygon, no_members, member}
-use Rattle.wkb_laws.specs.Prelude.{kind, dimension, members, count, Header, Spelling, node, Spellings, no_spellings}
-use Rattle.wkb_laws.specs.Prelude.{spelling, header, IsHeader}
+use Rattle.wkb_laws.specs.Prelude.{line_string, polygon, no_members, member, kind, dimension, members, count, Header}
+use Rattle.wkb_laws.specs.Prelude.{Spelling, node, Spellings, no_spellings, spelling, header, IsHeader}
 use Rattle.wkb_laws.specs.Prelude.{SpellsCoordinates, SpellsBody, Wanted, any, member_part, Spells, SpellsEach}
 use Rattle.wkb_laws.specs.Prelude.{srid_size, ring_end, coordinate, AreBytes}
 use Rattle.wkb_laws.specs.Encodings.{spelled_size}
 use Rattle.wkb_laws.specs.Places.{behind_count, IsOneOf, IsMember, first_spellings, first_values, ring_start, StandsAt}
 use Rattle.wkb_laws.specs.Places.{first_size, FirstStart, NextStart, FirstRingStart, NextRingStart, HoldsMember}
-use Rattle.wkb_laws.specs.Places.{MembersStand, HoldsRing}
-use Rattle.wkb_laws.specs.Places.{RingsStand, MembersInPlace, RingsInPlace, WordsStand, LineStringWordsStand}
-use Rattle.wkb_laws.proofs.Parts.{then_append, take_front, drop_front, item_at, header_length}
+use Rattle.wkb_laws.specs.Places.{MembersStand, HoldsRing, RingsStand, MembersInPlace, RingsInPlace, WordsStand}
+use Rattle.wkb_laws.specs.Places.{LineStringWordsStand}
+use Rattle.wkb_laws.proofs.Parts.{then_append, take_front, drop_front, item_at, header_length, joined}
 use Rattle.wkb_laws.proofs.Values.{AreBytes-front, AreBytes-rest}
 use Rattle.wkb_laws.proofs.Lengths.{each_length, coordinates_length}
 use Rattle.wkb_laws.proofs.Complete.{ring_read}
-use Rattle.wkb_laws.proofs.OneEncoding.{one_encoding_lem, coordinates_lem}
+use Rattle.wkb_laws.proofs.OneEncoding.{Fixed, coordinates_fixed, spells_fixed}
 use Rattle.wkb_laws.proofs.Spelled.{first_length}
 use Rattle.wkb_geom.specs.Reading.{cause_alone}
 
@@ -50,7 +47,7 @@ module _ {P Q Others : List ℕ → Type 0} {bytes : List ℕ} (h : Then P Q byt
     before = h.front ++ f.before;
     item = f.item;
     after = f.after;
-    whole = h.whole ∙ ap (λ t. h.front ++ t) f.whole ∙ sym (append_assoc h.front f.before (f.item ++ f.after));
+    whole = h.whole ∙ rw (f.whole, append_assoc);
     others = others;
     is = f.is;
   }
@@ -62,7 +59,7 @@ each_at P [] j a bytes h is = absurd (cc)
 each_at P (b ∷ l) zero a bytes h is = let same : b ≡ a = cc in first_is h (subst (λ c. P c h.front) same h.first) refl
 each_at P (b ∷ l) (suc j) a bytes h is =
     let f = each_at P l j a h.rest h.second is in
-    later_is h f (record { front = h.front; rest = f.before; whole = refl; first = h.first; second = f.others })
+    later_is h f (joined h.front f.before h.first f.others)
 
 -- ---- words
 
@@ -78,9 +75,7 @@ words_lem order d cs bytes rest i n w h is =
     item_at 8 (number order 8) _ n (drop (size * i) (drop 4 x)) w
     (ap (λ z. slice_get z n) coordinate_is ∙ is.word_is) in
     let at : 4 + 8 * (width d * i + n) ≡ (4 + size * i) + 8 * n = omega arith in
-    ap (λ k. number order 8 (drop k x)) at
-    ∙ ap (number order 8)
-    (sym (drop-drop (8 * n) (4 + size * i) x) ∙ ap (drop (8 * n)) (sym (drop-drop (size * i) 4 x))) ∙ word_is
+    rw (at, ← drop-drop (8 * n) (4 + size * i) x, ← drop-drop (size * i) 4 x) word_is
 
 pub line_string_words_lem : LineStringWordsStand
 line_string_words_lem (node g own ss) d cs bytes rest i n w h is =
@@ -88,16 +83,11 @@ line_string_words_lem (node g own ss) d cs bytes rest i n w h is =
     let coordinates = body.first.1 in
     let len = header_length g 2 d h.front h.first in
     let all : bytes ++ rest ≡ h.front ++ (body.front ++ (body.rest ++ rest)) =
-    then_append h rest ∙ ap (λ t. h.front ++ t) (then_append body rest) in
-    let at : behind_count (node g own ss) + 8 * (width d * i + n)
-    ≡ (5 + srid_size (is_some g.srid)) + (4 + 8 * (width d * i + n)) = omega arith in
-    ap (λ k. number g.order 8 (drop k (bytes ++ rest))) at
-    ∙ ap (number g.order 8)
-    (sym (drop-drop (4 + 8 * (width d * i + n)) (5 + srid_size (is_some g.srid)) (bytes ++ rest)))
-    ∙ ap (λ t. number g.order 8 (drop (4 + 8 * (width d * i + n)) t))
-    (ap (drop (5 + srid_size (is_some g.srid))) all
-    ∙ drop_front (5 + srid_size (is_some g.srid)) h.front (body.front ++ (body.rest ++ rest)) len)
-    ∙ words_lem g.order d cs body.front (body.rest ++ rest) i n w coordinates is
+    then_append h rest ∙ rw (then_append body rest) in
+    let start = 5 + srid_size (is_some g.srid) in
+    let at : behind_count (node g own ss) + 8 * (width d * i + n) ≡ start + (4 + 8 * (width d * i + n)) = omega arith in
+    rw (at, ← drop-drop (4 + 8 * (width d * i + n)) start (bytes ++ rest), all, drop_front start h.front _ len)
+    (words_lem g.order d cs body.front (body.rest ++ rest) i n w coordinates is)
 
 -- ---- rings
 
@@ -114,11 +104,8 @@ rings_lem whole d rings j ring h value_is is =
         let body = h.second in
         let counted = body.first.1 in
         let f = each_at (SpellsCoordinates g.order d) rings j ring counted.rest counted.second is in
-        let items : counted.rest ++ body.rest ≡ f.before ++ (f.item ++ (f.after ++ body.rest)) =
-        ap (λ t. t ++ body.rest) f.whole ∙ append_assoc f.before (f.item ++ f.after) body.rest
-        ∙ ap (λ t. f.before ++ t) (append_assoc f.item f.after body.rest) in
-        let behind = then_append counted body.rest ∙ ap (λ t. counted.front ++ t) items in
         let head = head_len g 3 d h.front counted.front h.first counted.first.len in
+        let each = each_length _ _ (coordinates_length g.order d) (take j rings) f.before f.others in
         record {
           start = length (h.front ++ counted.front) + length f.before;
           head = h.front ++ counted.front;
@@ -131,16 +118,11 @@ rings_lem whole d rings j ring h value_is is =
           is = is;
           spells = f.is;
           others = f.others;
-          parts = h.whole ∙ ap (λ t. h.front ++ t) (body.whole ∙ behind)
-              ∙ sym (append_assoc h.front counted.front (f.before ++ (f.item ++ (f.after ++ body.rest))));
+          parts = h.whole ∙ ap (λ t. h.front ++ t) (body.whole ∙ then_append counted body.rest)
+              ∙ ap (λ t. h.front ++ (counted.front ++ (t ++ body.rest))) f.whole ∙ simp append_assoc;
           counted = head;
           start_is = refl;
-          place = omega (
-            arith,
-            head,
-            each_length (SpellsCoordinates g.order d)
-                (λ cs. ring_end d (length cs)) (coordinates_length g.order d) (take j rings) f.before f.others,
-          );
+          place = omega (arith, head);
         }
 
 -- ---- members
@@ -149,10 +131,7 @@ next_size : (k : ℕ) (ss : Spellings) (ts : Values) (s : Spelling) (t : Value) 
     → first_size (suc k) ss ts ≡ first_size k ss ts + spelled_size s t
 next_size zero (spelling a ss) (member b ts) s t is = rw (is.0, is.1) (omega arith)
 next_size (suc k) (spelling a ss) (member b ts) s t is = omega (arith, next_size k ss ts s t is)
-next_size zero no_spellings ts s t is = absurd is
-next_size (suc k) no_spellings ts s t is = absurd is
-next_size zero (spelling a ss) no_members s t is = absurd is
-next_size (suc k) (spelling a ss) no_members s t is = absurd is
+next_size _ _ _ s t is = absurd is
 
 pub first_start_lem : FirstStart
 first_start_lem (node h words ss) value = omega arith
@@ -167,12 +146,9 @@ pub next_ring_lem : NextRingStart
 next_ring_lem j s d rings ring is =
     let size = λ (cs : List Coordinate). ring_end d (length cs) in
     let more : suc j ≡ j + 1 = omega arith in
-    omega (
-      arith,
-      ap (λ n. sum_by size (take n rings)) more,
-      sum_by_more size rings j ring (slice_get_within rings j ring is),
-      ap size (get_or_from_slice_get rings j ring ring is),
-    )
+    let taken = sum_by_more size rings j ring (slice_get_within rings j ring is) in
+    let same = ap size (get_or_from_slice_get rings j ring ring is) in
+    omega (arith, ap (λ n. sum_by size (take n rings)) more)
 
 -- one member's encoding among those of the others
 member_at : (w : Wanted) (k : ℕ) (ss : Spellings) (ts : Values) (s : Spelling) (t : Value) (bytes : List ℕ)
@@ -182,7 +158,7 @@ member_at w zero (spelling a ss) (member v ts) s t bytes h is =
     first_is h (subst (λ u. Spells u t h.front) (sym is.0) (subst (λ u. Spells a u h.front) (sym is.1) h.first.0)) refl
 member_at w (suc k) (spelling a ss) (member v ts) s t bytes h is =
     let f = member_at w k ss ts s t h.rest h.second is in
-    later_is h f (record { front = h.front; rest = f.before; whole = refl; first = (h.first.0, tt); second = f.others })
+    later_is h f (joined h.front f.before (h.first.0, tt) f.others)
 member_at w _ _ _ s t bytes h is = absurd is
 
 -- a geometry has one of its members; what has none holds no bytes for them
@@ -220,8 +196,7 @@ members_by encoding (node g own ss) v k s t h is =
         is = is;
         spells = f.is;
         others = f.others;
-        parts = h.whole ∙ ap (λ x. h.front ++ x) (body.whole ∙ ap (λ x. body.front ++ x) f.whole)
-            ∙ sym (append_assoc h.front body.front (f.before ++ (f.item ++ f.after)));
+        parts = h.whole ∙ ap (λ x. h.front ++ x) (body.whole ∙ ap (λ x. body.front ++ x) f.whole) ∙ simp append_assoc;
         counted = counted;
         start_is = refl;
         place = omega (arith, counted, first_length k ss (members v) f.before f.others);
@@ -233,32 +208,26 @@ members_lem whole k s t h is = members_by whole.encoding whole.spelled whole.val
 
 -- ---- whatever spells a part is the whole's bytes at its place
 
-inner_bytes : (a b c d : List ℕ) → AreBytes (a ++ (b ++ (c ++ d))) → AreBytes c
-inner_bytes a b c d h = AreBytes-front c d (AreBytes-rest b (c ++ d) (AreBytes-rest a (b ++ (c ++ d)) h))
-
-placed : (whole head before part after : List ℕ) (start : ℕ) → whole ≡ head ++ (before ++ (part ++ after))
-    → start ≡ length head + length before
-    → StandsAt start part whole
-placed whole head before part after start is at =
-    let all : whole ≡ (head ++ before) ++ (part ++ after) = is ∙ sym (append_assoc head before (part ++ after)) in
+-- where an encoding of a form stands, the bytes of this form are those at its place
+placed : {P : List ℕ → Type 0} → Fixed P → (whole head before item after part : List ℕ) (start : ℕ)
+    → whole ≡ head ++ (before ++ (item ++ after)) → start ≡ length head + length before → AreBytes whole → AreBytes part
+    → P item → P part → StandsAt start part whole
+placed one whole head before item after part start is at b b' p q =
+    let all : whole ≡ (head ++ before) ++ (item ++ after) = is ∙ sym (append_assoc head before (item ++ after)) in
+    let inside = AreBytes-front item after (AreBytes-rest (head ++ before) (item ++ after) (rw all at b)) in
+    let same : part ≡ item = one.same part item q p b' inside in
     let front : length (head ++ before) ≡ start = length-append head before ∙ sym at in
     record {
-      within =
-          omega (arith, front, ap length all, length-append (head ++ before) (part ++ after), length-append part after);
-      is = ap (take (length part)) (ap (drop start) all ∙ drop_front start (head ++ before) (part ++ after) front)
-          ∙ take_front (length part) part after refl;
+      within = omega (arith, front, ap length all, ap length same, length-append {A = ℕ});
+      is = rw (same, all, drop_front start (head ++ before) _ front) (take_front (length item) item after refl);
     }
 
 pub members_in_place_lem : MembersInPlace
 members_in_place_lem whole k part b b' h h' is =
     let m = members_lem whole k part.spelled part.value h is in
     let held = m.1 in
-    let inside = inner_bytes held.head held.before m.0 held.after (subst AreBytes held.parts b) in
-    let same : m.0 ≡ part.encoding =
-    one_encoding_lem part.spelled part.value m.0 part.encoding inside b' held.spells h' in
-    subst (λ n. StandsAt n part.encoding whole.encoding) held.place
-    (subst (λ x. StandsAt held.start x whole.encoding) same
-    (placed whole.encoding held.head held.before m.0 held.after held.start held.parts held.start_is))
+    placed (spells_fixed part.spelled part.value) whole.encoding held.head held.before m.0 held.after part.encoding _
+    held.parts (sym held.place ∙ held.start_is) b b' held.spells h'
 
 pub rings_in_place_lem : RingsInPlace
 rings_in_place_lem whole d rings j ring bytes b b' h h' value_is is =
@@ -266,13 +235,6 @@ rings_in_place_lem whole d rings j ring bytes b b' h h' value_is is =
     let one : polygon held.dimension held.rings ≡ polygon d rings = sym held.value_is ∙ value_is in
     let dimension_is : held.dimension ≡ d = cc in
     let rings_are : held.rings ≡ rings = cc in
-    let inside = inner_bytes held.head held.before held.bytes held.after (subst AreBytes held.parts b) in
-    let spelled =
-    subst (λ e. SpellsCoordinates (header whole.spelled).order e ring held.bytes) dimension_is held.spells in
-    let same : held.bytes ≡ bytes =
-    coordinates_lem (header whole.spelled).order d ring held.bytes bytes inside b' spelled h' in
-    let place : held.start ≡ ring_start j whole.spelled d rings =
-    held.place ∙ (λ i. ring_start j whole.spelled (dimension_is i) (rings_are i)) in
-    subst (λ n. StandsAt n bytes whole.encoding) place
-    (subst (λ x. StandsAt held.start x whole.encoding) same
-    (placed whole.encoding held.head held.before held.bytes held.after held.start held.parts held.start_is))
+    let place : held.start ≡ ring_start j whole.spelled d rings = held.place ∙ rw (dimension_is, rings_are) in
+    placed (coordinates_fixed (header whole.spelled).order d ring) whole.encoding held.head held.before held.bytes
+    held.after bytes _ held.parts (sym place ∙ held.start_is) b b' (rw dimension_is at held.spells) h'

@@ -4,11 +4,9 @@ use Rattle.wkb_laws.specs.Prelude.{Endianness, Form, Ewkb, AreBytes, Value, Spel
 use Rattle.wkb_laws.specs.Prelude.{geometry_of, form_srid, encoding, IsForm}
 use Rattle.wkb_laws.specs.Written.{written, HasOptions}
 use Rattle.wkb_laws.specs.Encodings.{EqualSpelled, EqualSpelledWithSrid}
-use Rattle.wkb_laws.specs.Laws.{EncodingSpells, WrittenIsRead, WritableIsRead, EqualEncodings}
-use Rattle.wkb_laws.specs.Laws.{EqualEncodingsWithSrid}
-use Rattle.wkb_laws.specs.Laws.{EqualEncodingsWithOwnSrid}
-use Rattle.wkb_laws.specs.Laws.{RestIsFree, BytesAreRead, RewritingIsRead}
-use Rattle.wkb_laws.specs.Laws.{RewritingIsFixed, RewritingWithSridIsFixed}
+use Rattle.wkb_laws.specs.Laws.{EncodingSpells, WrittenIsRead, WritableIsRead, EqualEncodings, EqualEncodingsWithSrid}
+use Rattle.wkb_laws.specs.Laws.{EqualEncodingsWithOwnSrid, RestIsFree, BytesAreRead, RewritingIsRead, RewritingIsFixed}
+use Rattle.wkb_laws.specs.Laws.{RewritingWithSridIsFixed}
 use Rattle.wkb_laws.proofs.OneFront.{one_spelling, one_front_lem}
 use Rattle.wkb_laws.proofs.EncodingSpells.{encoding_spells, written_has_options}
 use Rattle.wkb_laws.proofs.Values.{Good, spelled_good, front_good, front_bytes, front_srid, normal-geometry_of}
@@ -22,8 +20,7 @@ outer_srid order form (node h words ss) k = k.1
 pub value_encoding : (order : Endianness) (form : Form) (t : Value) → IsForm form → Good t
     → Spells (written order form (geometry_of t)) t (encoding order form (geometry_of t))
 value_encoding order form t h good =
-    subst (λ v. Spells (written order form (geometry_of t)) v (encoding order form (geometry_of t)))
-    (normal-geometry_of t good.0)
+    rw (normal-geometry_of t good.0) at
     (encoding_spells order form (geometry_of t) h (lawful-geometry_of t good.0) good.1)
 
 pub one_encoding : (order : Endianness) (form other : Form) (t v : Value) → IsForm form → IsForm other → Good t → Good v
@@ -86,16 +83,11 @@ bytes_are_read_lem input s t rest f =
     record { front = f.front; whole = sym (append-nil f.front); spelled = f.spelled; shallow = f.shallow }
 
 pub rewriting_is_read_lem : RewritingIsRead
-rewriting_is_read_lem order form input s t rest more h b f = (
-  written order form (geometry_of t),
-  record {
-    front = encoding order form (geometry_of t);
-    whole = refl;
-    spelled = value_encoding order form t h (front_good input s t rest b f);
-    shallow = f.shallow;
-  },
-  written_has_options order form (geometry_of t),
-)
+rewriting_is_read_lem order form input s t rest more h b f =
+    let good = front_good input s t rest b f in
+    let same = normal-geometry_of t good.0 in
+    let lawful = lawful-geometry_of t good.0 in
+    rw same at (written_is_read_lem order form (geometry_of t) more h lawful good.1 (rw same f.shallow))
 
 pub equal_encodings_with_own_srid_lem : EqualEncodingsWithOwnSrid
 equal_encodings_with_own_srid_lem order a b s u t v rest more ab bb f g =
@@ -115,9 +107,9 @@ pub rewriting_is_fixed_lem : RewritingIsFixed
 rewriting_is_fixed_lem order form input out h b r =
     let back = read_back order form input out r.s r.t r.rest h b r.front r.written in (
       record { s = back.0; t = r.t; rest = []; front = back.1; written = r.written },
-      λ again q. q.written
-          ∙ ap (λ z. encoding order form (geometry_of z))
-          (one_front_lem out q.s back.0 q.t r.t q.rest [] q.front back.1).2 ∙ sym r.written,
+      λ again q.
+          let one = one_front_lem out q.s back.0 q.t r.t q.rest [] q.front back.1 in
+          q.written ∙ rw one.2 (sym r.written),
     )
 
 pub rewriting_with_srid_is_fixed_lem : RewritingWithSridIsFixed
@@ -136,7 +128,5 @@ rewriting_with_srid_is_fixed_lem order input out b r =
       },
       λ again q.
           let one = one_front_lem out q.s back.0 q.t r.t q.rest [] q.front back.1 in
-          q.written ∙ ap (λ z. encoding order (Ewkb (header z).srid) (geometry_of q.t)) one.1
-          ∙ ap (λ z. encoding order (Ewkb z) (geometry_of q.t)) same
-          ∙ ap (λ z. encoding order (Ewkb srid) (geometry_of z)) one.2 ∙ sym r.written,
+          q.written ∙ rw (one.1, same, one.2) (sym r.written),
     )

@@ -1,20 +1,16 @@
 -- What is known to be spelled is so in full, and by how many bytes.
-use Rattle.std.proofs.Common.{◌≡◌, ℕ, zero, suc, ◌+◌, ◌*◌, List, [], length, Ok, Err, refl, sym, ap, subst, ◌∙◌}
-use Rattle.std.proofs.Common.{append-nil, arith, sum_by}
+use Rattle.std.proofs.Common.{◌≡◌, ℕ, zero, suc, List, [], length, Ok, Err, sym, ap, subst, ◌∙◌, append-nil, arith}
 use Rattle.std.proofs.Math.Logic.{∥∥₁_elim}
 use Rattle.std.proofs.Props.{props}
 use Rattle.std.specs.Coded.{Coded-set}
 use Rattle.wkb_geom.specs.Stored.{item_code}
 use Rattle.wkb_geom.specs.Reading as reading
-use Rattle.wkb_laws.specs.Prelude.{Dimension, Xy, width, size, as_dimensions, Value, Values, point, line_string}
-use Rattle.wkb_laws.specs.Prelude.{polygon, multi_point, multi_line_string, multi_polygon}
-use Rattle.wkb_laws.specs.Prelude.{collection, no_members, member, nest, Spelling, Spellings, no_spellings, spelling}
-use Rattle.wkb_laws.specs.Prelude.{Spells, SpellsEach, any, srid_count}
-use Rattle.wkb_laws.specs.Prelude.{geometry_of, geometries_of, byte_size, byte_sizes, Reading, Item, geometry_at}
+use Rattle.wkb_laws.specs.Prelude.{Value, Values, no_members, member, nest, Spelling, Spellings, no_spellings, spelling}
+use Rattle.wkb_laws.specs.Prelude.{Spells, SpellsEach, any, Reading, Item, geometry_at}
 use Rattle.wkb_laws.specs.Encodings.{SpelledInFull, SizeOfSpelled}
 use Rattle.wkb_laws.specs.Places.{first_spellings, first_values, first_size}
 use Rattle.wkb_laws.proofs.Parts.{then_length}
-use Rattle.wkb_laws.proofs.Lengths.{value_size, each_size, spelled_length}
+use Rattle.wkb_laws.proofs.Lengths.{spelled_length}
 use Rattle.wkb_laws.proofs.Heads.{IsRight}
 use Rattle.wkb_laws.proofs.Sound.{geometry_says}
 use Rattle.wkb_laws.proofs.Complete.{found, front_at}
@@ -44,27 +40,8 @@ in_full_lem s t bytes spelled =
 
 -- ---- by how many bytes
 
-named_width : (d : Dimension) → width d ≡ size (as_dimensions d)
-named_width Xy = refl
-named_width _ = refl
-
-mutual
-  size_of_value : (t : Value) → value_size t ≡ byte_size (geometry_of t)
-  size_of_value (point d c) = ap (λ w. 5 + 8 * w) (named_width d)
-  size_of_value (line_string d cs) = ap (λ w. 5 + (4 + 8 * w * length cs)) (named_width d)
-  size_of_value (polygon d rings) = ap (λ w. 5 + (4 + sum_by (λ cs. 4 + 8 * w * length cs) rings)) (named_width d)
-  size_of_value (multi_point d l) = ap (λ w. 9 + (5 + 8 * w) * length l) (named_width d) ∙ omega arith
-  size_of_value (multi_line_string d l) = ap (λ w. 9 + sum_by (λ cs. 5 + (4 + 8 * w * length cs)) l) (named_width d)
-  size_of_value (multi_polygon d l) =
-      ap (λ w. 9 + sum_by (λ rings. 5 + (4 + sum_by (λ cs. 4 + 8 * w * length cs) rings)) l) (named_width d)
-  size_of_value (collection d ts) = ap (λ n. 9 + n) (sizes_of_values ts)
-
-  sizes_of_values : (ts : Values) → each_size ts ≡ byte_sizes (geometries_of ts)
-  sizes_of_values no_members = refl
-  sizes_of_values (member t ts) = omega (arith, size_of_value t, sizes_of_values ts)
-
 pub size_of_spelled_lem : SizeOfSpelled
-size_of_spelled_lem s t bytes h = spelled_length s t bytes h ∙ ap (λ n. n + 4 * srid_count s) (size_of_value t)
+size_of_spelled_lem s t bytes h = spelled_length s t bytes h
 
 -- the bytes of the first k members
 pub first_length : (k : ℕ) (ss : Spellings) (ts : Values) (x : List ℕ)

@@ -1,35 +1,34 @@
 -- What bytes spell is a value, and it can be written: its words and counts are in their ranges, and nothing of it is a
 -- fault.
-use Rattle.std.proofs.Common.{◌≡◌, Option, Some, None, refl, sym, is_some, unwrap_or, ◌==◌, if◌then◌else◌, eqb-true, ℕ}
-use Rattle.std.proofs.Common.{zero, suc, ◌+◌, ◌<◌, ◌^◌, List, [], ◌∷◌}
-use Rattle.std.proofs.Common.{◌++◌, length, map, true, false, ap, ◌∙◌, subst, lit<, nat_lt, lt-ltb}
-use Rattle.std.proofs.lemmas.Bool.{cond_both}
+use Rattle.std.proofs.Common.{arith, ◌≡◌, Option, Some, None, refl, unwrap_or, ℕ, zero, suc, ◌+◌, ◌<◌, ◌^◌, List, []}
+use Rattle.std.proofs.Common.{◌∷◌, ◌++◌, length, map, true, false, ap, subst, lit<, nat_lt, lt-ltb}
 use Rattle.std.specs.List.{AllByRecursion}
+use Rattle.std.proofs.lemmas.Bool.Decides.{nat_tests}
 use Rattle.byteorder.specs.Numbers.{big_from-lt, little_from-lt}
-use Rattle.wkb_laws.specs.Prelude.{Then, Dimension, Xy, Xyz, Xyzm, Dimensions, width, size, written_dimension, Fault}
-use Rattle.wkb_laws.specs.Prelude.{unsupported_dimensions, or_else}
-use Rattle.wkb_laws.specs.Prelude.{dimensions_fault, Endianness, BigEndian, LittleEndian, Xym, number, AreBytes}
-use Rattle.wkb_laws.specs.Prelude.{IsNumber, IsWord, all_nan, as_dimensions, IsEach}
-use Rattle.wkb_laws.specs.Prelude.{IsCounted, Coordinate, Value, point, line_string, polygon, multi_point}
-use Rattle.wkb_laws.specs.Prelude.{multi_line_string, multi_polygon, collection, Values}
-use Rattle.wkb_laws.specs.Prelude.{no_members, member, kind, dimension, members, each, count, IsValueCoordinate}
-use Rattle.wkb_laws.specs.Prelude.{IsValuePoint}
-use Rattle.wkb_laws.specs.Prelude.{AreValueCoordinates, IsValue, AreValues, header}
-use Rattle.wkb_laws.specs.Prelude.{IsSrid, Spelling, node, Spellings, no_spellings, spelling, SpellsCoordinate}
-use Rattle.wkb_laws.specs.Prelude.{SpellsCoordinates, SpellsBody, Wanted, member_part}
-use Rattle.wkb_laws.specs.Prelude.{Spells, SpellsEach, normal, normal_each, normal_point, geometry_of, geometries_of}
-use Rattle.wkb_laws.specs.Prelude.{Ewkb, Front, IsForm, count_fault}
+use Rattle.wkb_laws.specs.Prelude.{Then, Dimension, Xy, Dimensions, width, size, written_dimension, Fault, or_else}
+use Rattle.wkb_laws.specs.Prelude.{dimensions_fault, Endianness, BigEndian, LittleEndian, number, AreBytes, IsNumber}
+use Rattle.wkb_laws.specs.Prelude.{IsWord, all_nan, as_dimensions, IsEach, IsCounted, Coordinate, Value, point}
+use Rattle.wkb_laws.specs.Prelude.{line_string, polygon, multi_point, multi_line_string, multi_polygon, collection}
+use Rattle.wkb_laws.specs.Prelude.{Values, no_members, member, kind, dimension, members, each, count, IsValueCoordinate}
+use Rattle.wkb_laws.specs.Prelude.{IsValuePoint, AreValueCoordinates, IsValue, AreValues, header, IsSrid, Spelling}
+use Rattle.wkb_laws.specs.Prelude.{node, Spellings, no_spellings, spelling, SpellsCoordinate, SpellsCoordinates}
+use Rattle.wkb_laws.specs.Prelude.{SpellsBody, Wanted, member_part, Spells, SpellsEach, normal, normal_each}
+use Rattle.wkb_laws.specs.Prelude.{normal_point, geometry_of, geometries_of, Ewkb, Front, IsForm, count_fault}
 use Rattle.wkb_laws.specs.Prelude.{first_fault, coordinates_fault, rings_fault, fault, fault_each, count_geometries}
 use Rattle.wkb_geom.specs.declared.common.Dimensions.TheVariants as asked
 use Rattle.wkb_geom.specs.Geometries as geometry
 use Rattle.wkb_geom.proofs.Faults.{none_both}
 use Rattle.wkb_laws.specs.Laws.{NamedDimension}
-use Rattle.wkb_laws.proofs.Lists.{all_imply}
+use Rattle.wkb_laws.proofs.Lists.{all_imply, lists_imply}
 
 pub or_else_parts : (a b : Option Fault) → or_else a b ≡ None → (a ≡ None) × (b ≡ None)
 unfolding or_else
 or_else_parts None b e = (refl, e)
 or_else_parts (Some x) b e = cc
+
+pub or_else_three : {a b c : Option Fault} → or_else a (or_else b c) ≡ None → (a ≡ None) × (b ≡ None) × (c ≡ None)
+or_else_three e =
+    let parts = or_else_parts _ _ e in let more = or_else_parts _ _ parts.1 in (parts.0, more.0, more.1)
 
 -- a dimension with a name has as many words as its name says
 pub width-written_dimension : (dims : Dimensions) → dimensions_fault dims ≡ None
@@ -39,14 +38,7 @@ width-written_dimension asked.Xy e = refl
 width-written_dimension asked.Xyz e = refl
 width-written_dimension asked.Xym e = refl
 width-written_dimension asked.Xyzm e = refl
-width-written_dimension (asked.Unknown n) e =
-    cond_both (n == 2) (Some Xy) _ HasWidth (λ two h. sym (eqb-true n 2 two))
-    (λ not2. cond_both (n == 3) (Some Xyz) _ HasWidth (λ three h. sym (eqb-true n 3 three))
-    (λ not3. cond_both (n == 4) (Some Xyzm) None HasWidth (λ four h. sym (eqb-true n 4 four)) (λ not4 h. cc)))
-    e
-  where
-    HasWidth : Option Dimension → Type 0
-    HasWidth d = (if is_some d then None else Some (unsupported_dimensions n)) ≡ None → width (unwrap_or d Xy) ≡ n
+width-written_dimension (asked.Unknown n) e = grind (arith, nat_tests)
 
 -- the parts of bytes are bytes
 pub AreBytes-front : (x y : List ℕ) → AreBytes (x ++ y) → AreBytes x
@@ -126,22 +118,31 @@ GoodEach ts = AreValues ts × (fault_each (geometries_of ts) ≡ None)
 
 pub named_dimension_lem : NamedDimension
 named_dimension_lem Xy = refl
-named_dimension_lem Xyz = refl
-named_dimension_lem Xym = refl
-named_dimension_lem Xyzm = refl
+named_dimension_lem _ = refl
 
 -- a dimension that was read can be written
 pub named_dimension : (d : Dimension) → dimensions_fault (as_dimensions d) ≡ None
 unfolding dimensions_fault
 named_dimension d = let same = named_dimension_lem d in rw same refl
 
--- what each member is, all of them are
-members_good : {A : Type 0} (f : A → Value) (good : A → Type 0) → ((a : A) → Good (f a) → good a) → (l : List A)
-    → GoodEach (each f l) → AllByRecursion good l
-members_good f good one [] h = tt
-members_good f good one (a ∷ l) h =
+fine : (d : Dimension) {e : Option Fault} → e ≡ None → or_else (dimensions_fault (as_dimensions d)) e ≡ None
+fine d = none_both _ _ (named_dimension d)
+
+-- a count that was read can be written
+fits : (order : Endianness) (n : ℕ) (x : List ℕ) → AreBytes x → IsNumber order 4 n x → count_fault n ≡ None
+fits order n x b h = count_fault_none n (number-lt order 4 n x h b)
+
+-- what each member is, all of them are, and none is at fault
+parts_good : {A : Type 0} (f : A → Value) (P : A → Type 0) (g : A → Option Fault)
+    → ((a : A) → Good (f a) → P a × (g a ≡ None)) → (l : List A)
+    → GoodEach (each f l) → AllByRecursion P l × (first_fault g l ≡ None)
+unfolding first_fault
+parts_good f P g one [] h = (tt, refl)
+parts_good f P g one (a ∷ l) h =
     let parts = or_else_parts _ _ h.1 in
-    (one a ((h.0).0, parts.0), members_good f good one l ((h.0).1, parts.1))
+    let first = one a (h.0.0, parts.0) in
+    let others = parts_good f P g one l (h.0.1, parts.1) in
+    ((first.0, others.0), none_both _ _ first.1 others.1)
 
 pub count-geometries_of : (ts : Values) → count_geometries (geometries_of ts) ≡ count ts
 count-geometries_of no_members = refl
@@ -153,31 +154,22 @@ value_good : (order : Endianness) (own : List ℕ) (t : Value) (x : List ℕ) �
 value_good order own (point d None) x b h m = (tt, named_dimension d)
 value_good order own (point d (Some c)) x b h m = ((coordinate_good order d c x b h.2, h.1), named_dimension d)
 value_good order own (line_string d cs) x b h m =
-    let good = coordinates_good order d cs x b h.1 in
-    (good.0, none_both _ _ (named_dimension d) good.1)
+    let good = coordinates_good order d cs x b h.1 in (good.0, fine d good.1)
 value_good order own (polygon d rings) x b h m =
     let both = counted_good (SpellsCoordinates order d) (GoodLine d) (coordinates_good order d) order rings x b h.1 in
     let all = faultless (AreValueCoordinates d) coordinates_fault rings both.1 in
-    (all.0, none_both _ _ (named_dimension d) (none_both _ _ (count_fault_none (length rings) both.0) all.1))
+    (all.0, fine d (none_both _ _ (count_fault_none (length rings) both.0) all.1))
 value_good order own (multi_point d l) x b h m =
-    let fits = count_fault_none (length l) (number-lt order 4 (length l) x h.1 b) in
-    (members_good (point d) (IsValuePoint d) (λ c one. one.0) l m, none_both _ _ (named_dimension d) fits)
+    let all = parts_good (point d) (IsValuePoint d) (λ c. None) (λ c one. (one.0, refl)) l m in
+    (all.0, fine d (fits order (length l) x b h.1))
 value_good order own (multi_line_string d l) x b h m =
-    let fits = count_fault_none (length l) (number-lt order 4 (length l) x h.1 b) in
-    let all =
-    faultless _ coordinates_fault l
-    (members_good (line_string d) (GoodLine d) (λ cs one. (one.0, (or_else_parts _ _ one.1).1)) l m) in
-    (all.0, none_both _ _ (named_dimension d) (none_both _ _ fits all.1))
+    let all = parts_good (line_string d) _ coordinates_fault (λ cs one. (one.0, (or_else_parts _ _ one.1).1)) l m in
+    (all.0, fine d (none_both _ _ (fits order (length l) x b h.1) all.1))
 value_good order own (multi_polygon d l) x b h m =
-    let fits = count_fault_none (length l) (number-lt order 4 (length l) x h.1 b) in
-    let all =
-    faultless _ rings_fault l
-    (members_good (polygon d) (GoodRings d) (λ rings one. (one.0, (or_else_parts _ _ one.1).1)) l m) in
-    (all.0, none_both _ _ (named_dimension d) (none_both _ _ fits all.1))
+    let all = parts_good (polygon d) _ rings_fault (λ rings one. (one.0, (or_else_parts _ _ one.1).1)) l m in
+    (all.0, fine d (none_both _ _ (fits order (length l) x b h.1) all.1))
 value_good order own (collection d ts) x b h m =
-    let fits =
-    ap count_fault (count-geometries_of ts) ∙ count_fault_none (count ts) (number-lt order 4 (count ts) x h.1 b) in
-    (m.0, none_both _ _ (named_dimension d) (none_both _ _ fits m.1))
+    (m.0, fine d (none_both _ _ (rw (count-geometries_of ts) (fits order (count ts) x b h.1)) m.1))
 
 mutual
   pub spelled_good : (s : Spelling) (t : Value) (x : List ℕ) → AreBytes x → Spells s t x → Good t
@@ -238,12 +230,9 @@ same_points d (c ∷ l) h = λ i. same_point d c h.0 i ∷ same_points d l h.1 i
 mutual
   pub normal-geometry_of : (t : Value) → IsValue t → normal (geometry_of t) ≡ t
   normal-geometry_of (point d c) h = λ i. point (same_dimension d i) (same_point d c h i)
-  normal-geometry_of (line_string d cs) h = ap (λ z. line_string z cs) (same_dimension d)
-  normal-geometry_of (polygon d rings) h = ap (λ z. polygon z rings) (same_dimension d)
   normal-geometry_of (multi_point d l) h = λ i. multi_point (same_dimension d i) (same_points d l h i)
-  normal-geometry_of (multi_line_string d l) h = ap (λ z. multi_line_string z l) (same_dimension d)
-  normal-geometry_of (multi_polygon d l) h = ap (λ z. multi_polygon z l) (same_dimension d)
   normal-geometry_of (collection d ts) h = λ i. collection (same_dimension d i) (normal-geometries_of ts h i)
+  normal-geometry_of _ h = rw same_dimension
 
   pub normal-geometries_of : (ts : Values) → AreValues ts → normal_each (geometries_of ts) ≡ ts
   normal-geometries_of no_members h = refl
@@ -258,22 +247,14 @@ point_lawful : (d : Dimension) (c : Option Coordinate) → IsValuePoint d c → 
 point_lawful d None h = tt
 point_lawful d (Some c) h = coordinate_lawful d c h.0
 
-coordinates_lawful : (d : Dimension) (cs : List Coordinate) → AreValueCoordinates d cs
-    → geometry.AreCoordinates (as_dimensions d) cs
-coordinates_lawful d cs h = all_imply _ _ (coordinate_lawful d) cs h
-
-rings_lawful : (d : Dimension) (rings : List (List Coordinate)) → AllByRecursion (AreValueCoordinates d) rings
-    → AllByRecursion (geometry.AreCoordinates (as_dimensions d)) rings
-rings_lawful d rings h = all_imply _ _ (coordinates_lawful d) rings h
-
 mutual
   pub lawful-geometry_of : (t : Value) → IsValue t → geometry.IsGeometry (geometry_of t)
   lawful-geometry_of (point d c) h = point_lawful d c h
-  lawful-geometry_of (line_string d cs) h = coordinates_lawful d cs h
-  lawful-geometry_of (polygon d rings) h = rings_lawful d rings h
+  lawful-geometry_of (line_string d cs) h = all_imply _ _ (coordinate_lawful d) cs h
+  lawful-geometry_of (polygon d rings) h = lists_imply _ _ (coordinate_lawful d) rings h
   lawful-geometry_of (multi_point d l) h = all_imply _ _ (point_lawful d) l h
-  lawful-geometry_of (multi_line_string d l) h = all_imply _ _ (coordinates_lawful d) l h
-  lawful-geometry_of (multi_polygon d l) h = all_imply _ _ (rings_lawful d) l h
+  lawful-geometry_of (multi_line_string d l) h = lists_imply _ _ (coordinate_lawful d) l h
+  lawful-geometry_of (multi_polygon d l) h = all_imply _ _ (lists_imply _ _ (coordinate_lawful d)) l h
   lawful-geometry_of (collection d ts) h = lawful-geometries_of ts h
 
   pub lawful-geometries_of : (ts : Values) → AreValues ts → geometry.AreGeometries (geometries_of ts)
