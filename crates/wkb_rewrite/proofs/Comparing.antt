@@ -1,42 +1,52 @@
 -- Values are equal exactly where their shares are.
-use Rattle.std.proofs.Common.{◌≡◌, ◌↔◌, ℕ, ◌&&◌, ◌==◌, List, ◌∷◌, replicate, refl, sym, ap, ◌∙◌, subst, true, false}
-use Rattle.std.proofs.Common.{Bool}
-use Rattle.std.proofs.Common.{zero, suc, ◌*◌, nat_lt, if◌then◌else◌}
-use Rattle.wkb_laws.specs.Prelude.{LittleEndian, Iso, AreBytes, Spells}
+use Rattle.std.proofs.Common.{◌≡◌, ◌↔◌, ℕ, ◌&&◌, ◌==◌, List, ◌∷◌, replicate, refl, sym, ap, ◌∙◌, subst, true, Bool}
+use Rattle.std.proofs.Common.{arith, zero, suc, ◌*◌, nat_lt, if◌then◌else◌}
+use Rattle.wkb_laws.specs.Prelude.{Endianness, Form, LittleEndian, Iso, AreBytes, Spells, encoding, geometry_of}
 use Rattle.wkb_laws.specs.Prelude.{all_nan, empty_word, width}
-use Rattle.wkb_laws.proofs.Values.{AreBytes-front, spelled_good}
+use Rattle.wkb_laws.proofs.Values.{Good, AreBytes-front, spelled_good}
+use Rattle.wkb_laws.proofs.OneFront.{SameSpelling, one_spelling}
 use Rattle.wkb_laws.proofs.Rewritings.{one_encoding}
 use Rattle.wkb_check.specs.declared.pieces.Piece.{Piece}
 use Rattle.wkb_check.specs.declared.pieces.Pieces.{Pieces}
 use Rattle.wkb_check.specs.Bounded.{HasGeometry}
-use Rattle.wkb_rewrite.specs.Shares.{Share, is_empty_point, own_words, written_words, word_count}
+use Rattle.wkb_rewrite.specs.Shares.{Share, share_in, is_empty_point, own_words, written_words, word_count}
 use Rattle.wkb_rewrite.proofs.ValueShares.{shares_of, shares_same}
 use Rattle.wkb_rewrite.proofs.Encodings.{shares_encoding, shares_encoded}
-use Rattle.wkb_rewrite.proofs.Walks.{Rest}
+use Rattle.wkb_rewrite.proofs.Held.{own_long, written_empty, written_own}
+use Rattle.wkb_rewrite.proofs.Walks.{Rest, Next}
 
 abbrev pub shares_at : {buf : List ℕ} → HasGeometry buf → List Share
 shares_at g = shares_of g.spelled g.value
 
-pub geometry_bytes : (buf : List ℕ) (g : HasGeometry buf) → AreBytes buf → AreBytes g.begins.front
-geometry_bytes buf g b = AreBytes-front g.begins.front g.rest (subst AreBytes g.begins.whole b)
+-- the same bytes begin with one geometry
+pub same_spelling : {a b : List ℕ} (g : HasGeometry a) (h : HasGeometry b) → a ≡ b
+    → SameSpelling g.spelled h.spelled g.value h.value g.begins.front h.begins.front g.rest h.rest
+same_spelling g h e =
+    one_spelling g.spelled h.spelled g.value h.value g.begins.front h.begins.front g.rest h.rest g.begins.first
+    h.begins.first (sym g.begins.whole ∙ e ∙ h.begins.whole)
 
-pub shares_of_one : (a b : List ℕ) (g : HasGeometry a) (h : HasGeometry b) → g.value ≡ h.value
+-- its encoding is that of its shares
+pub encoded : {buf : List ℕ} (order : Endianness) (form : Form) (g : HasGeometry buf)
+    → shares_encoding order form (shares_at g) ≡ encoding order form (geometry_of g.value)
+encoded order form g = shares_encoded order form g.spelled g.value g.begins.front g.begins.first
+
+pub value_good : {buf : List ℕ} (g : HasGeometry buf) → AreBytes buf → Good g.value
+value_good g b =
+    spelled_good g.spelled g.value g.begins.front
+    (AreBytes-front g.begins.front g.rest (subst AreBytes g.begins.whole b)) g.begins.first
+
+pub shares_of_one : {a b : List ℕ} (g : HasGeometry a) (h : HasGeometry b) → g.value ≡ h.value
     → shares_at g ≡ shares_at h
-shares_of_one a b g h e =
+shares_of_one g h e =
     ap (shares_of g.spelled) e
     ∙ shares_same g.spelled h.spelled h.value g.begins.front h.begins.front
     (subst (λ v. Spells g.spelled v g.begins.front) e g.begins.first) h.begins.first
 
-pub value_of_shares : (a b : List ℕ) (g : HasGeometry a) (h : HasGeometry b) → AreBytes a → AreBytes b
-    → shares_at g ≡ shares_at h
-    → g.value ≡ h.value
-value_of_shares a b g h x y e =
-    (one_encoding LittleEndian Iso Iso g.value h.value tt tt
-    (spelled_good g.spelled g.value g.begins.front (geometry_bytes a g x) g.begins.first)
-    (spelled_good h.spelled h.value h.begins.front (geometry_bytes b h y) h.begins.first)
-    (sym (shares_encoded LittleEndian Iso g.spelled g.value g.begins.front g.begins.first)
-    ∙ ap (shares_encoding LittleEndian Iso) e
-    ∙ shares_encoded LittleEndian Iso h.spelled h.value h.begins.front h.begins.first)).0
+pub value_of_shares : {a b : List ℕ} (g : HasGeometry a) (h : HasGeometry b) → AreBytes a → AreBytes b
+    → shares_at g ≡ shares_at h → g.value ≡ h.value
+value_of_shares g h x y e =
+    (one_encoding LittleEndian Iso Iso g.value h.value tt tt (value_good g x) (value_good h y)
+    (sym (encoded LittleEndian Iso g) ∙ ap (shares_encoding LittleEndian Iso) e ∙ encoded LittleEndian Iso h)).0
 
 -- ---- the loop
 
@@ -48,15 +58,22 @@ pub record Compared (a b : List ℕ) (v w : Pieces) (xs ys : List Share) : Type 
   pub seconds : Rest b w right
   pub same : (xs ≡ ys) ↔ (left ≡ right)
 
-pub alike : (x y : Share) (xs ys left right : List Share) → left ≡ x ∷ xs → right ≡ y ∷ ys → x ≡ y
-    → (left ≡ right) ↔ (xs ≡ ys)
-alike x y xs ys left right a b e = (
-  λ f. let both : x ∷ xs ≡ y ∷ ys = sym a ∙ f ∙ b in cc,
-  λ f. a ∙ (λ i. e i ∷ f i) ∙ sym b,
-)
+module _ {a b : List ℕ} {v w : Pieces} {xs ys : List Share} (l : Compared a b v w xs ys) {new more : Pieces}
+    {x y : Piece} (m : Next a new l.left x) (n : Next b more l.right y) where
+  both : xs ≡ ys → share_in a x ∷ m.others ≡ share_in b y ∷ n.others
+  both e = sym m.first ∙ l.same.0 e ∙ n.first
 
-pub unlike : (x y : Share) (xs ys left right : List Share) → left ≡ x ∷ xs → right ≡ y ∷ ys → left ≡ right → x ≡ y
-unlike x y xs ys left right a b f = let both : x ∷ xs ≡ y ∷ ys = sym a ∙ f ∙ b in cc
+  pub unlike : xs ≡ ys → share_in a x ≡ share_in b y
+  unlike e = let first = both e in cc
+
+  pub like : share_in a x ≡ share_in b y → Compared a b new more xs ys
+  like e = record {
+    left = m.others;
+    right = n.others;
+    firsts = m.left;
+    seconds = n.left;
+    same = (λ f. let others = both f in cc, λ f. l.same.1 (m.first ∙ (λ i. e i ∷ f i) ∙ sym n.first));
+  }
 
 -- ---- two pieces
 
@@ -67,9 +84,7 @@ empty_is_nan (suc n) = empty_is_nan n
 -- an empty point is known by the words that are written of it
 empty_by : (point empty : Bool) (n : ℕ) (own : List ℕ) → empty ≡ all_nan own
     → (point && empty) ≡ (point && all_nan (if (point && empty) then replicate n empty_word else own))
-empty_by false empty n own e = refl
-empty_by true true n own e = sym (empty_is_nan n)
-empty_by true false n own e = e
+empty_by point empty n own e = grind (arith, empty_is_nan)
 
 pub empty_told : (a : List ℕ) (x : Piece) (b : List ℕ) (y : Piece) → x.kind ≡ y.kind
     → written_words a x ≡ written_words b y
@@ -82,3 +97,5 @@ empty_told a x b y k e =
 pub words_as_many : (x y : Piece) → x.kind ≡ y.kind → x.dimension ≡ y.dimension → x.count ≡ y.count
     → word_count x ≡ word_count y
 words_as_many x y k d n = λ i. if nat_lt (k i) 3 then width (d i) * n i else 0
+
+pub ruleset word_laws = (own_long, written_empty, written_own, empty_told, words_as_many)

@@ -1,19 +1,13 @@
 -- The encoding of a value is that of its shares.
-use Rattle.std.proofs.Common.{◌≡◌, ℕ, List, [], ◌∷◌, ◌++◌, length, map, refl, sym, ap, ◌∙◌, append-nil}
-use Rattle.std.proofs.Common.{append_assoc}
+use Rattle.std.proofs.Common.{◌≡◌, ℕ, List, [], ◌∷◌, ◌++◌, length, map, refl, sym, ap, ◌∙◌, append-nil, append_assoc}
 use Rattle.std.specs.List.{flat_map, concat}
 use Rattle.wkb_laws.specs.Prelude.{Endianness, Dimension, Form, Iso, Ewkb, Coordinate, Value, Values, no_members}
-use Rattle.wkb_laws.specs.Prelude.{member}
-use Rattle.wkb_laws.specs.Prelude.{dimension, members, each, count}
-use Rattle.wkb_laws.specs.Prelude.{point, line_string, polygon, multi_point, multi_line_string, multi_polygon}
-use Rattle.wkb_laws.specs.Prelude.{collection}
-use Rattle.wkb_laws.specs.Prelude.{Spelling, node, Spellings, no_spellings, spelling, Spells, SpellsEach, Wanted}
-use Rattle.wkb_laws.specs.Prelude.{geometry_of, geometries_of, encoding, encodings, inner}
-use Rattle.wkb_laws.specs.Prelude.{number_bytes}
-use Rattle.wkb_laws.specs.Prelude.{written_dimension, as_dimensions}
+use Rattle.wkb_laws.specs.Prelude.{member, dimension, members, each, point, line_string, polygon, multi_point}
+use Rattle.wkb_laws.specs.Prelude.{multi_line_string, multi_polygon, collection, Spelling, node, Spellings}
+use Rattle.wkb_laws.specs.Prelude.{no_spellings, spelling, Spells, SpellsEach, Wanted, geometry_of, geometries_of}
+use Rattle.wkb_laws.specs.Prelude.{encoding, encodings, inner, number_bytes}
 unfoldable use Rattle.wkb_laws.specs.Prelude.{words_encoding, coordinates_encoding, point_encoding}
-unfoldable use Rattle.wkb_laws.specs.Prelude.{line_string_encoding}
-unfoldable use Rattle.wkb_laws.specs.Prelude.{polygon_encoding, members_encoding, header_encoding}
+unfoldable use Rattle.wkb_laws.specs.Prelude.{line_string_encoding, polygon_encoding, members_encoding}
 use Rattle.wkb_laws.proofs.Values.{same_dimension, count-geometries_of}
 use Rattle.wkb_check.specs.Pieces.{rings_of}
 use Rattle.wkb_sink.proofs.Turned.{words_joined}
@@ -33,11 +27,7 @@ inner_twice (Ewkb srid) = refl
 pub shares_append : (order : Endianness) (form : Form) (xs ys : List Share) → inner form ≡ form
     → shares_encoding order form (xs ++ ys) ≡ shares_encoding order form xs ++ shares_encoding order form ys
 shares_append order form [] ys e = refl
-shares_append order form (x ∷ xs) ys e =
-    ap (λ f. share_encoding order form x ++ shares_encoding order f (xs ++ ys)) e
-    ∙ ap (λ l. share_encoding order form x ++ l) (shares_append order form xs ys e)
-    ∙ sym (append_assoc (share_encoding order form x) (shares_encoding order form xs) (shares_encoding order form ys))
-    ∙ ap (λ f. (share_encoding order form x ++ shares_encoding order f xs) ++ shares_encoding order form ys) (sym e)
+shares_append order form (x ∷ xs) ys e = simp (e, append_assoc, shares_append order form xs ys e)
 
 -- a count and coordinates
 counted_words : (order : Endianness) (cs : List Coordinate)
@@ -61,43 +51,21 @@ abbrev pub inside : Endianness → Form → Value → List ℕ
 inside order form t =
     flat_map (coordinates_encoding order) (rings_of t) ++ encodings order (inner form) (geometries_of (members t))
 
--- a header, a count, and members
-members_apart : (order : Endianness) (form : Form) (k : ℕ) (e d : Dimension) (n : ℕ) (behind after : List ℕ) → e ≡ d
-    → behind ≡ after
-    → members_encoding order form k e n behind
-    ≡ (header_encoding order form k d ++ (number_bytes order 4 n ++ words_encoding order [])) ++ after
-unfolding members_encoding words_encoding
-members_apart order form k e d n behind after same is =
-    (λ i. header_encoding order form k (same i) ++ (number_bytes order 4 n ++ is i))
-    ∙ sym (ap (λ z. (header_encoding order form k d ++ z) ++ after) (append-nil (number_bytes order 4 n))
-    ∙ append_assoc (header_encoding order form k d) (number_bytes order 4 n) after)
-
 -- a value's own encoding comes first
 pub encoded_apart : (order : Endianness) (form : Form) (t : Value)
     → encoding order form (geometry_of t) ≡ share_encoding order form (own_share t) ++ inside order form t
-unfolding point_encoding line_string_encoding polygon_encoding members_encoding words_encoding
-encoded_apart order form (point d c) =
-    ap (λ e. point_encoding order form e c) (same_dimension d) ∙ sym (append-nil (point_encoding order form d c))
-encoded_apart order form (line_string d cs) =
-    (λ i. header_encoding order form 2 (same_dimension d i) ++ sym (counted_words order cs) i)
-    ∙ sym (append-nil (header_encoding order form 2 d
-    ++ (number_bytes order 4 (length cs) ++ words_encoding order (concat cs))))
-encoded_apart order form (polygon d rings) =
-    members_apart order form 3 _ d (length rings) _ _ (same_dimension d)
-    (sym (append-nil (flat_map (coordinates_encoding order) rings)))
+unfolding point_encoding line_string_encoding coordinates_encoding polygon_encoding members_encoding words_encoding
+encoded_apart order form (point d c) = simp (same_dimension d, append-nil)
+encoded_apart order form (line_string d cs) = simp (same_dimension d, append-nil, words_joined order cs)
+encoded_apart order form (polygon d rings) = simp (same_dimension d, append-nil, append_assoc)
 encoded_apart order form (multi_point d points) =
-    members_apart order form 4 _ d (length points) _ _ (same_dimension d)
-    (sym (each_encoded order (inner form) (point d) points))
+    simp (same_dimension d, append-nil, append_assoc, each_encoded order (inner form) (point d) points)
 encoded_apart order form (multi_line_string d lines) =
-    members_apart order form 5 _ d (length lines) _ _ (same_dimension d)
-    (sym (each_encoded order (inner form) (line_string d) lines))
+    simp (same_dimension d, append-nil, append_assoc, each_encoded order (inner form) (line_string d) lines)
 encoded_apart order form (multi_polygon d polygons) =
-    members_apart order form 6 _ d (length polygons) _ _ (same_dimension d)
-    (sym (each_encoded order (inner form) (polygon d) polygons))
+    simp (same_dimension d, append-nil, append_assoc, each_encoded order (inner form) (polygon d) polygons)
 encoded_apart order form (collection d ts) =
-    ap (λ n. members_encoding order form 7 (written_dimension (as_dimensions d)) n
-    (encodings order (inner form) (geometries_of ts))) (count-geometries_of ts)
-    ∙ members_apart order form 7 _ d (count ts) _ _ (same_dimension d) refl
+    simp (same_dimension d, append-nil, append_assoc, count-geometries_of ts)
 
 mutual
   pub shares_encoded : (order : Endianness) (form : Form) (s : Spelling) (t : Value) (x : List ℕ) → Spells s t x

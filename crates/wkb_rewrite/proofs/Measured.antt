@@ -1,15 +1,13 @@
 -- How long an encoding is, by the SRIDs of the pieces.
-use Rattle.std.proofs.Common.{◌≡◌, ℕ, ◌+◌, ◌*◌, ◌≤◌, List, [], ◌∷◌, ◌++◌, length, is_some, Bool, true, false}
-use Rattle.std.proofs.Common.{refl, sym, ap, ◌∙◌, arith, length-append}
+use Rattle.std.proofs.Common.{◌≡◌, ℕ, ◌+◌, ◌*◌, ◌≤◌, List, [], ◌∷◌, ◌++◌, length, is_some, refl, sym, ap, ◌∙◌, arith}
+use Rattle.std.proofs.Common.{length-append}
 use Rattle.wkb_laws.specs.Prelude.{Endianness, Dimension, Form, Coordinate, AreBytes, Value, Values, no_members, member}
 use Rattle.wkb_laws.specs.Prelude.{dimension, members, Spelling, node, Spellings, no_spellings, spelling, Spells}
-use Rattle.wkb_laws.specs.Prelude.{SpellsEach, kind, point, line_string, polygon, multi_point}
-use Rattle.wkb_laws.specs.Prelude.{Wanted, srid_count, srid_count_each, srid_size, ring_end, form_srid}
-use Rattle.wkb_laws.specs.Prelude.{geometry_of, encoding}
+use Rattle.wkb_laws.specs.Prelude.{SpellsEach, kind, multi_point, Wanted, srid_count, srid_count_each, srid_size}
+use Rattle.wkb_laws.specs.Prelude.{ring_end, form_srid, geometry_of, encoding}
 use Rattle.wkb_laws.proofs.Lengths.{spelled_length, encoding_length, value_size, srid_size_is, none_without_members}
 use Rattle.wkb_laws.proofs.Lengths.{none_in_points}
-use Rattle.wkb_laws.proofs.OneFront.{one_spelling}
-use Rattle.wkb_laws.proofs.Values.{spelled_good, normal-geometry_of, lawful-geometry_of}
+use Rattle.wkb_laws.proofs.Values.{normal-geometry_of, lawful-geometry_of}
 use Rattle.wkb_geom.specs.Reading.{type_kind}
 use Rattle.wkb_geom.specs.Spellings.{Header}
 use Rattle.wkb_check.specs.declared.pieces.Piece.{Piece}
@@ -18,7 +16,8 @@ use Rattle.wkb_check.specs.Bounded.{HasGeometry}
 use Rattle.wkb_check.specs.Public.{DescribesFront}
 use Rattle.wkb_check.specs.Pieces.{leading, rings_of, size, piece_of, pieces_of, pieces_of_rings, pieces_of_each}
 use Rattle.wkb_check.proofs.Ahead.{type_kind_is}
-use Rattle.wkb_rewrite.proofs.Comparing.{geometry_bytes}
+use Rattle.wkb_rewrite.proofs.Comparing.{same_spelling, value_good}
+use Rattle.wkb_rewrite.proofs.Putting.{most_srid}
 
 -- the bytes of the SRIDs of pieces
 abbrev pub srid_sizes : List Piece → ℕ
@@ -33,10 +32,6 @@ rings_have_none : (order : Endianness) (d : Dimension) (at : ℕ) (rings : List 
     → srid_sizes (pieces_of_rings order d at rings) ≡ 0
 rings_have_none order d at [] = refl
 rings_have_none order d at (cs ∷ rings) = omega (arith, rings_have_none order d (at + ring_end d (length cs)) rings)
-
-pub most_srid : (some : Bool) → srid_size some ≤ 4
-most_srid true = omega arith
-most_srid false = omega arith
 
 mutual
   srids_counted : (at : ℕ) (s : Spelling) (t : Value) (x : List ℕ) → Spells s t x
@@ -68,10 +63,7 @@ none_inside : (h : Header) (words : List ℕ) (ss : Spellings) (t : Value) (x : 
     → kind t ≤ 4
     → srid_count_each ss ≡ 0
 none_inside h words ss (multi_point d l) x a low = none_in_points d ss _ a.second.rest a.second.second
-none_inside h words ss (point d c) x a low = none_without_members _ ss a.second.rest a.second.second
-none_inside h words ss (line_string d cs) x a low = none_without_members _ ss a.second.rest a.second.second
-none_inside h words ss (polygon d rings) x a low = none_without_members _ ss a.second.rest a.second.second
-none_inside h words ss _ x a low = absurd (omega (arith, low))
+none_inside h words ss _ x a low = search (arith, none_without_members)
 
 pub own_srid_alone : (at : ℕ) (s : Spelling) (t : Value) (x : List ℕ) → Spells s t x → (p : Piece) → p ≡ piece_of at s t
     → p.kind ≤ 4
@@ -97,10 +89,11 @@ here d = record {
 -- whichever geometry is there, it has as many bytes
 pub long_of : {buf : List ℕ} {found : Summary} → DescribesFront buf found → (g : HasGeometry buf)
     → found.bytes ≡ length g.begins.front
-long_of d g =
-    d.described.bytes_are
-    ∙ ap length (one_spelling d.spelled g.spelled d.value g.value d.front.front g.begins.front d.rest g.rest
-    d.front.spelled g.begins.first (sym d.front.whole ∙ g.begins.whole)).encoding
+long_of d g = d.described.bytes_are ∙ ap length (same_spelling (here d) g refl).encoding
+
+pub found_inside : {buf : List ℕ} {found : Summary} → DescribesFront buf found → found.bytes ≤ length buf
+found_inside d =
+    omega (arith, d.described.bytes_are, ap length d.front.whole, length-append d.front.front d.rest)
 
 -- the encoding has the form's SRID, and not those that the pieces have
 pub measured : (order : Endianness) (form : Form) (buf : List ℕ) {bytes : ℕ} (g : HasGeometry buf) → AreBytes buf
@@ -108,7 +101,7 @@ pub measured : (order : Endianness) (form : Form) (buf : List ℕ) {bytes : ℕ}
     → bytes + srid_size (is_some (form_srid form))
     ≡ length (encoding order form (geometry_of g.value)) + srid_sizes (pieces_of 0 g.spelled g.value)
 measured order form buf g b long =
-    let good = spelled_good g.spelled g.value g.begins.front (geometry_bytes buf g b) g.begins.first in
+    let good = value_good g b in
     omega (
       arith,
       long,
@@ -139,7 +132,5 @@ pub kind_of : {buf : List ℕ} {found : Summary} → DescribesFront buf found �
     → p ≡ piece_of 0 g.spelled g.value
     → p.kind ≡ type_kind found.wkb_type
 kind_of d g p is =
-    let same = one_spelling d.spelled g.spelled d.value g.value d.front.front g.begins.front d.rest g.rest
-    d.front.spelled g.begins.first (sym d.front.whole ∙ g.begins.whole) in
     ap (λ (q : Piece). q.kind) is ∙ piece_kind g.spelled g.value
-    ∙ sym (ap type_kind d.described.wkb_type ∙ type_kind_is d.value ∙ ap kind same.value)
+    ∙ sym (ap type_kind d.described.wkb_type ∙ type_kind_is d.value ∙ ap kind (same_spelling (here d) g refl).value)

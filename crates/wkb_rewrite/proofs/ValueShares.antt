@@ -1,9 +1,9 @@
 -- The shares of a value, by how it is spelled.
-use Rattle.std.proofs.Common.{◌≡◌, ℕ, List, [], ◌∷◌, ◌++◌, length, map, refl, ap}
+use Rattle.std.proofs.Common.{◌≡◌, ℕ, List, [], ◌∷◌, ◌++◌, length, map, refl, ap, rules}
 use Rattle.std.specs.List.{concat}
 use Rattle.wkb_laws.specs.Prelude.{Dimension, Coordinate, Value, Values, no_members, member, kind, dimension, members}
-use Rattle.wkb_laws.specs.Prelude.{point, line_string}
-use Rattle.wkb_laws.specs.Prelude.{Spelling, node, Spellings, no_spellings, spelling, Spells, SpellsEach, Wanted}
+use Rattle.wkb_laws.specs.Prelude.{point, line_string, Spelling, node, Spellings, no_spellings, spelling, Spells}
+use Rattle.wkb_laws.specs.Prelude.{SpellsEach, Wanted}
 unfoldable use Rattle.wkb_laws.specs.Prelude.{point_words}
 use Rattle.wkb_check.specs.Pieces.{count_of, rings_of}
 use Rattle.wkb_rewrite.specs.Shares.{Share}
@@ -46,8 +46,4 @@ mutual
   each_same w (spelling s ss) (spelling u us) (member t ts) x y a b =
       λ i. shares_same s u t a.front b.front a.first.0 b.first.0 i
       ++ each_same w ss us ts a.rest b.rest a.second b.second i
-  each_same w no_spellings (spelling u us) no_members x y a b = absurd b
-  each_same w no_spellings (spelling u us) (member t ts) x y a b = absurd a
-  each_same w (spelling s ss) no_spellings no_members x y a b = absurd a
-  each_same w (spelling s ss) no_spellings (member t ts) x y a b = absurd b
-  each_same w (spelling s ss) (spelling u us) no_members x y a b = absurd a
+  each_same w _ _ _ x y a b = search rules

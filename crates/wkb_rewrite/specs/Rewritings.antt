@@ -1,11 +1,11 @@
 -- What is known of a geometry that is to be rewritten.
-use Rattle.std.specs.Prelude.{◌≡◌, ◌≢◌, ℕ, ◌+◌, List, drop, None, false, true, Bool}
+use Rattle.std.specs.Prelude.{◌≡◌, ◌≢◌, ℕ, ◌+◌, List, drop, None, Some, false, true, Bool}
 use Rattle.wkb_geom.specs.declared.common.Endianness.{Endianness}
 use Rattle.wkb_geom.specs.declared.common.Form.{Form}
 use Rattle.wkb_geom.specs.Encodings.{type_code}
 use Rattle.wkb_geom.specs.Numbers.{number}
 use Rattle.wkb_geom.specs.Reading.{type_of}
-use Rattle.wkb_check.specs.Pieces.{IsAhead, IsTaken, IsInside}
+use Rattle.wkb_check.specs.Pieces.{Steps}
 use Rattle.wkb_check.specs.declared.pieces.Piece.{Piece}
 use Rattle.wkb_check.specs.declared.pieces.Pieces.{Pieces}
 use Rattle.wkb_check.specs.declared.pieces.TheConstants.{RING}
@@ -26,7 +26,5 @@ pub record StandsAsWritten (order : Endianness) (form : Form) (buf : List ℕ) (
 -- the walk passed the next piece, and these are told apart: one that stands as it is written, and one that may not
 pub record HasPassed (order : Endianness) (form : Form) (buf : List ℕ) (old new : Pieces) (stands : Bool) : Type 0 where
   pub piece : Piece
-  pub steps : (xs : List Piece) → IsAhead old xs → IsTaken new xs piece
-  pub inside : IsInside old.bytes.now old.at new.at piece
-  pub same : new.bytes.now ≡ old.bytes.now
+  pub step : Steps old (Some piece) new
   pub is : stands ≡ true → StandsAsWritten order form buf piece

@@ -1,6 +1,6 @@
 -- What each piece of a geometry says of its value, and how that is encoded.
-use Rattle.std.specs.Prelude.{◌≡◌, ℕ, ◌+◌, ◌*◌, List, [], ◌++◌, length, drop, replicate, Bool}
-use Rattle.std.specs.Prelude.{IsTrue, ◌↔◌, nat_lt, ◌&&◌, ◌==◌, if◌then◌else◌}
+use Rattle.std.specs.Prelude.{◌≡◌, ◌≤◌, ℕ, ◌+◌, ◌*◌, List, [], ◌++◌, length, drop, replicate, Bool, IsTrue, ◌↔◌, nat_lt}
+use Rattle.std.specs.Prelude.{◌&&◌, ◌==◌, if◌then◌else◌}
 use Rattle.std.specs.List.{AllByRecursion}
 use lib.Seq.{sets}
 use Rattle.wkb_geom.specs.declared.common.Dimension.{Dimension}
@@ -14,6 +14,7 @@ use Rattle.wkb_geom.specs.Numbers.{IsWord, number, number_bytes, all_nan, empty_
 use Rattle.wkb_geom.specs.Reading.{items, type_of, type_kind, type_dimension}
 use Rattle.wkb_check.specs.declared.pieces.Piece.{Piece}
 use Rattle.wkb_check.specs.declared.pieces.TheConstants.{RING}
+use Rattle.wkb_sink.specs.declared.options.WriteOptions.{WriteOptions}
 
 -- the bytes hold these words in this order
 pub record Holds (order : Endianness) (words bytes : List ℕ) : Type 0 where
@@ -66,6 +67,22 @@ count_part order k n = if k == POINT then [] else number_bytes order 4 n
 abbrev pub share_encoding : Endianness → Form → Share → List ℕ
 share_encoding order form x =
     header_part order form x.kind x.dimension ++ (count_part order x.kind x.count ++ words_encoding order x.words)
+
+-- the header that is written of a piece under options
+abbrev pub piece_header : WriteOptions → Piece → List ℕ
+piece_header options p = header_part options.endianness options.form p.kind p.dimension
+
+-- the words that are written of a piece, encoded
+abbrev pub words_part : Endianness → List ℕ → Piece → List ℕ
+words_part order buf p = words_encoding order (written_words buf p)
+
+-- the encoding of a piece under options
+abbrev pub piece_encoding : WriteOptions → List ℕ → Piece → List ℕ
+piece_encoding options buf p = share_encoding options.endianness options.form (share_in buf p)
+
+-- the slice has room for the bytes at the index `at`
+abbrev pub HasRoomAt : List ℕ → ℕ → List ℕ → Type 0
+HasRoomAt slice at bytes = at + length bytes ≤ length slice
 
 -- the bytes were put at the index `at`, and end at `end`
 pub record IsPut (old new : List ℕ) (at end : ℕ) (bytes : List ℕ) : Type 0 where

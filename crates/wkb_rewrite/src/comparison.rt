@@ -10,6 +10,7 @@ use wkb_check::{Piece, Pieces};
 
 /// Whether two pieces have the same words, or both are empty points.
 #[inline(always)]
+#[tactic(auto, using(crate::proofs::Comparing::word_laws))]
 fn have_same_words(a: &[u8], x: &Piece, b: &[u8], y: &Piece) -> bool
     requires first { own_end x.now ≤ length a.now }
     requires second { own_end y.now ≤ length b.now }
@@ -37,6 +38,7 @@ fn are_alike(a: &[u8], x: &Piece, b: &[u8], y: &Piece) -> bool
 
 /// Whether the pieces of two geometries are alike, one after another. It looks at no order, no code and no SRID, and
 /// ends at the first difference.
+#[tactic(auto, using(crate::proofs::Walks::fewer_left))]
 fn have_like_pieces(a: &[u8], b: &[u8]) -> bool
     requires first { HasGeometry a.now }
     requires second { HasGeometry b.now }

@@ -1,6 +1,6 @@
 //! Encodings that stand in the input but for their headers, so that a copy makes them.
 
-ghost use Rattle.std.specs.Prelude.{◌≡◌, ◌≢◌, ◌+◌, ◌-◌, ◌≤◌, ◌<◌, List, length, take, drop, IfSome, None, []};
+ghost use Rattle.std.specs.Prelude.{◌≡◌, ◌≢◌, ◌+◌, ◌-◌, ◌≤◌, List, length, take, drop, IfSome, None, []};
 ghost use Rattle.std.specs.Prelude.{true, false};
 ghost use Rattle.wkb_geom.specs.declared.header.TheConstants.{MEMBER_HEADER_SIZE, MAX_HEADER_SIZE};
 ghost use Rattle.wkb_check.specs.Pieces.{own_end, IsAhead, HasAhead};
@@ -73,7 +73,6 @@ fn pass_next(buf: &[u8], pieces: &mut Pieces<'_>, order: Endianness, form: Form)
     requires here { pieces.old.bytes.now ≡ buf.now }
     ensures none { result ≡ None → (xs : List Piece) → IsAhead pieces.old xs → xs ≡ [] }
     ensures passed { IfSome result (HasPassed order form buf.now pieces.old pieces.new) }
-    ensures further { IfSome result (λ _. pieces.old.at < pieces.new.at) }
     ensures same { pieces.new.bytes.now ≡ pieces.old.bytes.now }
 {
     // Most pieces are bare, and the test of these is short.
@@ -131,6 +130,7 @@ impl<'a> Copied<'a> {
 
     /// Puts its header at the front of a slice that is as long as any header, and returns the index after it.
     #[inline(always)]
+    #[tactic(auto, using(crate::proofs::Putting::copy_laws))]
     pub fn put_header(&self, out: &mut [u8]) -> usize
         requires { MAX_HEADER_SIZE ≤ length out.old }
         ensures header { take result out.new ≡ copied_header self.now }
@@ -140,6 +140,7 @@ impl<'a> Copied<'a> {
     }
 
     /// Puts the encoding at the front of a slice, and returns the index after it.
+    #[tactic(auto, using(crate::proofs::Putting::copy_laws))]
     pub fn put(&self, out: &mut [u8]) -> usize
         requires { length (copied_encoding self.now) ≤ length out.old }
         ensures { IsPut out.old out.new 0 result (copied_encoding self.now) }

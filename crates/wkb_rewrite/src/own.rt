@@ -21,6 +21,7 @@ pub fn own_bytes<'a>(buf: &'a [u8], piece: &Piece) -> &'a [u8]
 
 /// Whether bytes hold no words but not-a-numbers.
 #[inline(always)]
+#[tactic(auto, using(crate::proofs::Held::word_next, crate::proofs::Held::no_word_next))]
 fn hold_no_number(bytes: &[u8], order: Endianness) -> bool
     ensures { (words : List ℕ) → Holds order words bytes.now → result ≡ all_nan words }
 {
@@ -43,6 +44,7 @@ pub fn is_empty_point(buf: &[u8], piece: &Piece) -> bool
 
 /// Whether bytes hold the same words in these orders.
 #[inline(always)]
+#[tactic(auto, using(crate::proofs::Held::same_laws))]
 pub fn hold_same_words(a: &[u8], a_order: Endianness, b: &[u8], b_order: Endianness) -> bool
     requires { length a.now ≡ length b.now }
     ensures { TellsSameWords result a_order a.now b_order b.now }

@@ -1,14 +1,14 @@
 //! Pieces and their numbers, put into a slice.
 
-ghost use Rattle.std.specs.Prelude.{◌≡◌, ◌≤◌, ◌+◌, ◌*◌, ℕ, List, length, replicate};
+ghost use Rattle.std.specs.Prelude.{◌≡◌, ◌≤◌, ◌+◌, ◌*◌, ℕ, length};
 ghost use Rattle.wkb_geom.specs.declared.words.TheConstants.{COUNT_SIZE, WORD_SIZE};
-ghost use Rattle.wkb_geom.specs.Encodings.{srid_encoding, words_encoding};
-ghost use Rattle.wkb_geom.specs.Numbers.{number_bytes, empty_word};
+ghost use Rattle.wkb_geom.specs.Encodings.{srid_encoding};
+ghost use Rattle.wkb_geom.specs.Numbers.{number_bytes};
 ghost use Rattle.wkb_check.specs.Pieces.{own_end};
 ghost use Rattle.wkb_sink.specs.Options.{header_of};
-ghost use Rattle.wkb_sink.specs.Runs.{other};
-ghost use Rattle.wkb_rewrite.specs.Shares.{Holds, header_part, count_part, word_count};
-ghost use Rattle.wkb_rewrite.specs.Shares.{written_words, share_in, share_encoding, IsPut};
+ghost use Rattle.wkb_sink.specs.Runs.{Turns, empty_encoding, other};
+ghost use Rattle.wkb_rewrite.specs.Shares.{HasRoomAt, IsPut, count_part};
+ghost use Rattle.wkb_rewrite.specs.Shares.{piece_header, words_part, piece_encoding};
 
 use crate::own::{is_empty_point, own_bytes};
 use wkb_check::{Piece, RING};
@@ -20,8 +20,9 @@ use wkb_sink::{WriteOptions, store_words, u32_bytes};
 
 /// Puts a number of four bytes, and returns the index after it.
 #[inline(always)]
+#[tactic(auto, using(crate::proofs::Putting::put_laws))]
 fn put_number(n: u32, order: Endianness, out: &mut [u8], at: usize) -> usize
-    requires { at + COUNT_SIZE ≤ length out.old }
+    requires { HasRoomAt out.old at (number_bytes order COUNT_SIZE n) }
     ensures { IsPut out.old out.new at result (number_bytes order COUNT_SIZE n) }
 {
     let end = at + COUNT_SIZE;
@@ -31,8 +32,9 @@ fn put_number(n: u32, order: Endianness, out: &mut [u8], at: usize) -> usize
 
 /// Puts an SRID where there is one, and returns the index after it.
 #[inline(always)]
+#[tactic(auto, using(crate::proofs::Putting::put_laws), unfolding(wkb_geom::specs::Encodings::srid_encoding))]
 fn put_srid(srid: Option<u32>, order: Endianness, out: &mut [u8], at: usize) -> usize
-    requires { at + length (srid_encoding order srid) ≤ length out.old }
+    requires { HasRoomAt out.old at (srid_encoding order srid) }
     ensures { IsPut out.old out.new at result (srid_encoding order srid) }
 {
     match srid {
@@ -43,8 +45,9 @@ fn put_srid(srid: Option<u32>, order: Endianness, out: &mut [u8], at: usize) -> 
 
 /// Puts the header of a geometry of this type, and returns the index after it.
 #[inline(always)]
+#[tactic(auto, using(crate::proofs::Putting::put_laws), unfolding(wkb_geom::specs::Encodings::header_encoding))]
 pub fn put_type_header(wkb_type: WkbType, options: WriteOptions, out: &mut [u8], at: usize) -> usize
-    requires { at + length (header_of options wkb_type) ≤ length out.old }
+    requires { HasRoomAt out.old at (header_of options wkb_type) }
     ensures { IsPut out.old out.new at result (header_of options wkb_type) }
 {
     let WriteOptions {
@@ -60,10 +63,8 @@ pub fn put_type_header(wkb_type: WkbType, options: WriteOptions, out: &mut [u8],
 /// Puts the header of a piece, of a ring nothing, and returns the index after it.
 #[inline(always)]
 fn put_piece_header(piece: &Piece, options: WriteOptions, out: &mut [u8], at: usize) -> usize
-    requires { at + length (header_part options.endianness options.form piece.now.kind piece.now.dimension)
-        ≤ length out.old }
-    ensures { IsPut out.old out.new at result
-        (header_part options.endianness options.form piece.now.kind piece.now.dimension) }
+    requires { HasRoomAt out.old at (piece_header options piece.now) }
+    ensures { IsPut out.old out.new at result (piece_header options piece.now) }
 {
     if piece.kind == RING {
         return at;
@@ -73,8 +74,9 @@ fn put_piece_header(piece: &Piece, options: WriteOptions, out: &mut [u8], at: us
 
 /// Puts the count of a piece, and of a point nothing, and returns the index after it.
 #[inline(always)]
+#[tactic(auto, using(crate::proofs::Putting::put_laws))]
 fn put_count_part(piece: &Piece, order: Endianness, out: &mut [u8], at: usize) -> usize
-    requires { at + length (count_part order piece.now.kind piece.now.count) ≤ length out.old }
+    requires { HasRoomAt out.old at (count_part order piece.now.kind piece.now.count) }
     ensures { IsPut out.old out.new at result (count_part order piece.now.kind piece.now.count) }
 {
     if piece.kind == POINT {
@@ -85,10 +87,9 @@ fn put_count_part(piece: &Piece, order: Endianness, out: &mut [u8], at: usize) -
 
 /// Stores the empty word in each place.
 #[inline(always)]
-#[tactic(auto, using(crate::proofs::Putting::all_empty))]
+#[tactic(auto, using(std::proofs::lemmas::List::take_all))]
 fn store_empty(out: &mut [u8], order: Endianness)
-    ensures { (n : ℕ) → length out.old ≡ WORD_SIZE * n
-        → out.new ≡ words_encoding order (replicate n empty_word) }
+    ensures { (n : ℕ) → length out.old ≡ WORD_SIZE * n → out.new ≡ empty_encoding order n }
 {
     let words = out.len() / WORD_SIZE;
     lay_empty(out, 0, order, words);
@@ -98,8 +99,7 @@ fn store_empty(out: &mut [u8], order: Endianness)
 #[inline(always)]
 fn store_turned(bytes: &[u8], order: Endianness, out: &mut [u8])
     requires { length bytes.now ≡ length out.old }
-    ensures { (words : List ℕ) → Holds (other order) words bytes.now
-        → out.new ≡ words_encoding order words }
+    ensures { Turns (other order) order bytes.now out.new }
 {
     // In each arm both orders are constants, for which the call is compiled.
     match order {
@@ -114,10 +114,11 @@ fn store_turned(bytes: &[u8], order: Endianness, out: &mut [u8])
 
 /// Stores the words that are written of a piece.
 #[inline(always)]
+#[tactic(auto, using(crate::proofs::Held::stored_laws))]
 fn store_written(buf: &[u8], piece: &Piece, order: Endianness, out: &mut [u8])
     requires inside { own_end piece.now ≤ length buf.now }
-    requires room { length out.old ≡ WORD_SIZE * word_count piece.now }
-    ensures { out.new ≡ words_encoding order (written_words buf.now piece.now) }
+    requires room { length out.old ≡ length (words_part order buf.now piece.now) }
+    ensures { out.new ≡ words_part order buf.now piece.now }
 {
     let words = own_bytes(buf, piece);
     if is_empty_point(buf, piece) {
@@ -131,12 +132,11 @@ fn store_written(buf: &[u8], piece: &Piece, order: Endianness, out: &mut [u8])
 
 /// Puts the words of a piece, and returns the index after them.
 #[inline(always)]
+#[tactic(auto, using(crate::proofs::Putting::put_laws, crate::proofs::Held::as_long))]
 fn put_words(buf: &[u8], piece: &Piece, order: Endianness, out: &mut [u8], at: usize) -> usize
     requires inside { own_end piece.now ≤ length buf.now }
-    requires room { at + length (words_encoding order (written_words buf.now piece.now))
-        ≤ length out.old }
-    ensures { IsPut out.old out.new at result
-        (words_encoding order (written_words buf.now piece.now)) }
+    requires room { HasRoomAt out.old at (words_part order buf.now piece.now) }
+    ensures { IsPut out.old out.new at result (words_part order buf.now piece.now) }
 {
     let end = at + own_bytes(buf, piece).len();
     store_written(buf, piece, order, &mut out[at..end]);
@@ -153,10 +153,8 @@ fn put_words_by_dimension(
     at: usize,
 ) -> usize
     requires inside { own_end piece.now ≤ length buf.now }
-    requires room { at + length (words_encoding order (written_words buf.now piece.now))
-        ≤ length out.old }
-    ensures { IsPut out.old out.new at result
-        (words_encoding order (written_words buf.now piece.now)) }
+    requires room { HasRoomAt out.old at (words_part order buf.now piece.now) }
+    ensures { IsPut out.old out.new at result (words_part order buf.now piece.now) }
 {
     // In each arm the dimension is a constant, for which the call is compiled.
     match piece.dimension {
@@ -176,11 +174,8 @@ pub fn put_piece(
     start: usize,
 ) -> usize
     requires inside { own_end piece.now ≤ length buf.now }
-    requires room { start
-        + length (share_encoding options.endianness options.form (share_in buf.now piece.now))
-        ≤ length out.old }
-    ensures { IsPut out.old out.new start result
-        (share_encoding options.endianness options.form (share_in buf.now piece.now)) }
+    requires room { HasRoomAt out.old start (piece_encoding options buf.now piece.now) }
+    ensures { IsPut out.old out.new start result (piece_encoding options buf.now piece.now) }
 {
     let order = options.endianness;
     let count_at = put_piece_header(piece, options, out, start);
@@ -198,11 +193,8 @@ fn put_piece_by_dimension(
     start: usize,
 ) -> usize
     requires inside { own_end piece.now ≤ length buf.now }
-    requires room { start
-        + length (share_encoding options.endianness options.form (share_in buf.now piece.now))
-        ≤ length out.old }
-    ensures { IsPut out.old out.new start result
-        (share_encoding options.endianness options.form (share_in buf.now piece.now)) }
+    requires room { HasRoomAt out.old start (piece_encoding options buf.now piece.now) }
+    ensures { IsPut out.old out.new start result (piece_encoding options buf.now piece.now) }
 {
     let order = options.endianness;
     let count_at = put_piece_header(piece, options, out, start);
@@ -221,11 +213,8 @@ pub fn put_piece_of(
     start: usize,
 ) -> usize
     requires inside { own_end piece.now ≤ length buf.now }
-    requires room { start
-        + length (share_encoding options.endianness options.form (share_in buf.now piece.now))
-        ≤ length out.old }
-    ensures { IsPut out.old out.new start result
-        (share_encoding options.endianness options.form (share_in buf.now piece.now)) }
+    requires room { HasRoomAt out.old start (piece_encoding options buf.now piece.now) }
+    ensures { IsPut out.old out.new start result (piece_encoding options buf.now piece.now) }
 {
     match wkb_type {
         WkbType::Point(_) => put_piece_by_dimension(buf, piece, options, out, start),

@@ -1,10 +1,10 @@
-use Rattle.std.proofs.Common.{◌-◌, length}
 use Rattle.wkb_check.specs.Bounded.{HasGeometry}
+use Rattle.wkb_check.specs.Pieces.{bytes_left}
 use Rattle.wkb_rewrite.proofs.Comparing.{shares_at, Compared}
 use Rattle.wkb_rewrite.proofs.comparison.have_like_pieces.Given as goal
 
 abbrev pub decreases-loop-x : goal.decreases-loop-x
-decreases-loop-x l = length l.firsts.bytes.now - l.firsts.at
+decreases-loop-x l = bytes_left l.firsts
 
 abbrev pub invariant-loop-x : goal.invariant-loop-x
 invariant-loop-x l = (g : HasGeometry l.a) (h : HasGeometry l.b)

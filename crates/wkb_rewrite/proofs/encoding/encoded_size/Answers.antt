@@ -1,30 +1,21 @@
-use Rattle.std.proofs.Common.{◌≡◌, ◌+◌, ◌∷◌, [], arith, ap, sym, subst, length, is_some, length-append}
+use Rattle.std.proofs.Common.{◌≡◌, ◌+◌, ◌∷◌, [], arith, ap, length, is_some}
 use Rattle.wkb_laws.specs.Prelude.{Endianness, LittleEndian, srid_size, encoding, geometry_of}
 use Rattle.wkb_check.specs.Bounded.{HasGeometry}
 use Rattle.wkb_check.specs.Pieces.{IsAhead, pieces_of}
 use Rattle.wkb_check.proofs.Following.{given, all_given}
-use Rattle.wkb_rewrite.proofs.Measured.{srid_sizes, sizes_append, here, long_of, measured, most_srid}
+use Rattle.wkb_rewrite.proofs.Measured.{srid_sizes, sizes_append, here, long_of, found_inside, measured}
+use Rattle.wkb_rewrite.proofs.Putting.{most_srid}
 use Rattle.wkb_rewrite.proofs.encoding.encoded_size.Goals as goal
 use Rattle.wkb_rewrite.proofs.encoding.encoded_size.Goals.{After-into_iter-piece-iterator}
 
 pub overflow_add-size : goal.overflow_add-size
 overflow_add-size c =
-    let g = here c.requires in
-    omega (
-      arith,
-      c.requires.described.bytes_are,
-      c.size_of_srid.ensures,
-      most_srid (is_some c.srid_of_form.result),
-      ap length g.begins.whole,
-      length-append g.begins.front g.rest,
-    )
+    omega (arith, found_inside c.requires, c.size_of_srid.ensures, most_srid (is_some c.srid_of_form.result))
 
 -- the loop goes over the pieces of the geometry, and the first size is too much by their SRIDs
 ahead : (c : After-into_iter-piece-iterator) (g : HasGeometry c.args.buf.now)
     → IsAhead c.into_iter-piece-iterator.result (pieces_of 0 g.spelled g.value)
-ahead c g =
-    subst (λ w. IsAhead w (pieces_of 0 g.spelled g.value)) (sym c.into_iter-piece-iterator.ensures.into_iter_gives)
-    (c.of-piece-items.ensures.ahead g)
+ahead c g = rw c.into_iter-piece-iterator.ensures.into_iter_gives (c.of-piece-items.ensures.ahead g)
 
 over : (c : After-into_iter-piece-iterator) (order : Endianness) (g : HasGeometry c.args.buf.now)
     → c.args.found.now.bytes + c.size_of_srid.result
@@ -48,14 +39,13 @@ overflow_sub-size c =
     let g = here c.requires in
     let before = (goal.at.overflow_sub-size c).After-into_iter-piece-iterator in
     let k = given _ _ _ _ (ahead before g) c.loop-piece.yielded_by in
-    let x = c.in-Some.ensures.steps.steps k.0 k.1 in
     omega (
       arith,
       c.loop-piece.invariant.less,
       over before LittleEndian g,
       ap srid_sizes k.2,
       sizes_append c.loop-piece.yielded k.0,
-      ap srid_sizes x.first,
+      ap srid_sizes (c.in-Some.ensures.steps.steps k.0 k.1).first,
       c.size_of_srid-size.ensures,
     )
 

@@ -1,11 +1,11 @@
-use Rattle.std.proofs.Common.{◌-◌, length}
 use Rattle.wkb_laws.specs.Prelude.{geometry_of, encoding}
 use Rattle.wkb_check.specs.Bounded.{HasGeometry}
+use Rattle.wkb_check.specs.Pieces.{bytes_left}
 use Rattle.wkb_rewrite.proofs.Encoded.{Left}
 use Rattle.wkb_rewrite.proofs.encoding.put_pieces.Given as goal
 
 abbrev pub decreases-loop-piece : goal.decreases-loop-piece
-decreases-loop-piece l = length l.pieces.bytes.now - l.pieces.at
+decreases-loop-piece l = bytes_left l.pieces
 
 abbrev pub invariant-loop-piece : goal.invariant-loop-piece
 invariant-loop-piece l = (g : HasGeometry l.buf)

@@ -1,8 +1,6 @@
-use Rattle.std.proofs.Common.{◌+◌, ◌-◌, ◌++◌, ℕ, take, drop, ap, sym, ◌∙◌, arith, length, length-append}
-use Rattle.wkb_laws.specs.Prelude.{encoding, geometry_of}
+use Rattle.std.proofs.Common.{◌+◌, arith}
 use Rattle.wkb_check.specs.Bounded.{HasGeometry}
-use Rattle.wkb_rewrite.specs.Shares.{type_header}
-use Rattle.wkb_rewrite.proofs.Measured.{here, long_of}
+use Rattle.wkb_rewrite.proofs.Measured.{here, long_of, found_inside}
 use Rattle.wkb_rewrite.proofs.Copying.{first_stands, one_more_stands, still_ahead, IsCopied, all_stand}
 use Rattle.wkb_rewrite.proofs.copied.Copied.by_walk.Goals as goal
 use Rattle.wkb_rewrite.proofs.copied.Copied.by_walk.Goals.{After-size_of_srid-start}
@@ -22,27 +20,21 @@ pass_next-requires c =
 
 pub loop-stands-preserved : goal.loop-stands-preserved
 loop-stands-preserved c = λ g.
-    let l = c.loop-stands.invariant g in
-    let p = c.in-Some.ensures.passed in
-    one_more_stands _ _ c.outermost-first.result p.piece g (λ i. (c.type_inv.buf i).fits) c.args.options.form
-    c.inner-form.ensures l (p.steps l.left l.ahead) p.inside p.same (p.is c.if-not-stands.false)
+    one_more_stands (λ i. (c.type_inv.buf i).fits) c.args.options.form c.inner-form.ensures
+    (c.loop-stands.invariant g) c.in-Some.ensures.passed c.if-not-stands.false
 
 -- the parts, where no piece is left
-copied : (c : After-size_of_srid-start) → (g : HasGeometry c.args.buf.now)
-    → IsCopied c.args.buf.now c.args.options.endianness c.args.options.form c.outermost-first.result
-    c.args.found.now.bytes
-    (5 + c.size_of_srid-start.result) (encoding c.args.options.endianness c.args.options.form (geometry_of g.value))
+copied : (c : After-size_of_srid-start) (g : HasGeometry c.args.buf.now)
+    → IsCopied c.args.options c.outermost-first.result c.args.found.now.bytes (5 + c.size_of_srid-start.result) g
 copied c g =
     let l = c.loop-stands.invariant g in
     let inside = c.behind-pieces.ensures.inside in
-    all_stand c.args.buf.now c.args.options.endianness c.args.options.form c.inner-form.result c.loop-stands.pieces
-    c.outermost-first.result c.args.found.now.bytes (5 + c.size_of_srid-start.result) g (λ i. (c.type_inv.buf i).fits)
-    c.inner-form.ensures (long_of c.requires g) l
+    all_stand c.args.options (λ i. (c.type_inv.buf i).fits) c.outermost-first.ensures c.inner-form.ensures
+    (long_of c.requires g) l
     (c.pass_next.ensures.none c.in_default.is l.left l.ahead)
     (c.has_written_words.ensures.order c.if-not-has_written_words.false)
     (c.has_written_words.ensures.some c.if-not-has_written_words.false)
-    (omega (arith, inside.ends, inside.inside))
-    (ap (λ n. 5 + n) c.size_of_srid-start.ensures)
+    (omega (arith, inside.ends, inside.inside)) (omega (arith, c.size_of_srid-start.ensures))
 
 pub slice_bounds-result-count : goal.slice_bounds-result-count
 slice_bounds-result-count c =
@@ -53,13 +45,7 @@ slice_bounds-result-start c =
     (copied (goal.at.slice_bounds-result-start c).After-size_of_srid-start (here c.requires)).inside
 
 pub slice_bounds-result-end : goal.slice_bounds-result-end
-slice_bounds-result-end c =
-    let g = here c.requires in
-    omega (arith, c.requires.described.bytes_are, ap length g.begins.whole, length-append g.begins.front g.rest)
+slice_bounds-result-end c = found_inside c.requires
 
 pub returns : goal.returns
-returns c = λ g.
-    let start : ℕ = 5 + c.size_of_srid-start.result in
-    (copied (goal.at.returns c).After-size_of_srid-start g).is
-    ∙ ap (λ t. type_header c.args.options.endianness c.args.options.form t
-    ++ take (c.args.found.now.bytes - start) (drop start c.args.buf.now)) (sym c.of_kind.ensures)
+returns c = λ g. rw c.of_kind.ensures (copied (goal.at.returns c).After-size_of_srid-start g).is
