@@ -125,25 +125,18 @@ first_is_whole input f h one =
     let offset : 0 + leading (header h.s) h.t ≡ f.offset = omega (arith, h.offset_is) in
     let next : 0 + entry_count h.s h.t ≡ 1 =
     omega (arith, one, h.parts_are, counted h.s h.t h.front.front h.front.spelled) in
-    let count = sym h.count_is in
-    let srid = sym h.srid_is in
-    let has_srid = sym h.has_srid_is in
-    let kind_is = sym h.kind_is in
-    let dimension_is = sym h.dimension_is in
-    let width_is = sym h.width_is in
-    let order_is = sym h.order_is in
     λ i. record {
       begin = 0;
       end = end i;
       offset = offset i;
-      count = count i;
+      count = sym h.count_is i;
       next = next i;
-      srid = srid i;
-      has_srid = has_srid i;
-      kind = kind_is i;
-      dimension = dimension_is i;
-      width = width_is i;
-      order = order_is i;
+      srid = sym h.srid_is i;
+      has_srid = sym h.has_srid_is i;
+      kind = sym h.kind_is i;
+      dimension = sym h.dimension_is i;
+      width = sym h.width_is i;
+      order = sym h.order_is i;
     }
 
 -- what was found has so many parts

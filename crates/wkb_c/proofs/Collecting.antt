@@ -17,6 +17,7 @@ use Rattle.wkb_geom.specs.Numbers.{number_bytes}
 use Rattle.wkb_geom.specs.Reading.{type_of, type_kind, type_dimension, point_of, line_string_of, polygon_of}
 use Rattle.wkb_geom.specs.Spellings.{IsPart, member_part, Wanted, part}
 use Rattle.wkb_geom.specs.Values.{count, each, nest, nest_each}
+use Rattle.wkb_check.proofs.Ahead.{type_kind_is, type_dimension_is}
 use Rattle.wkb_check.specs.Public.{member_room}
 use Rattle.wkb_rewrite.proofs.Encodings.{encoded_apart}
 use Rattle.wkb_rewrite.specs.Targets.{encoding_for}
@@ -51,19 +52,16 @@ module _ {A : Type 0} (make : A → Value) (take_out : Value → A) (w : Wanted)
 
 point_again : (d : Dimension) (t : Value) → IsPart (part 1 d) (kind t) (dimension t) false → point d (point_of t) ≡ t
 point_again d (point e c) is = ap (λ z. point z c) (sym is.1)
-point_again d (line_string e c) is = absurd (omega (arith, is.0))
 point_again d _ is = absurd (omega (arith, is.0))
 
 line_string_again : (d : Dimension) (t : Value) → IsPart (part 2 d) (kind t) (dimension t) false
     → line_string d (line_string_of t) ≡ t
 line_string_again d (line_string e cs) is = ap (λ z. line_string z cs) (sym is.1)
-line_string_again d (point e c) is = absurd (omega (arith, is.0))
 line_string_again d _ is = absurd (omega (arith, is.0))
 
 polygon_again : (d : Dimension) (t : Value) → IsPart (part 3 d) (kind t) (dimension t) false
     → polygon d (polygon_of t) ≡ t
 polygon_again d (polygon e rings) is = ap (λ z. polygon z rings) (sym is.1)
-polygon_again d (point e c) is = absurd (omega (arith, is.0))
 polygon_again d _ is = absurd (omega (arith, is.0))
 
 -- the value that has these members
@@ -74,35 +72,23 @@ pub record HasValue (k : ℕ) (d : Dimension) (ts : Values) : Type 0 where
   pub members_are : members value ≡ ts
   pub shallow : nest_each ts ≤ member_room → nest value ≤ max_nesting
 
+of_value : {k : ℕ} {d : Dimension} {ts : Values} (t : Value) → kind t ≡ k → dimension t ≡ d → members t ≡ ts
+    → (nest_each ts ≤ member_room → nest t ≤ max_nesting) → HasValue k d ts
+of_value t kind_is dimension_is members_are shallow =
+    record { value = t; kind_is = kind_is; dimension_is = dimension_is; members_are = members_are; shallow = shallow }
+
 whole_of : (k : ℕ) (d : Dimension) (ts : Values) → 4 ≤ k → k ≤ 7 → AreParts (member_part k d) ts → HasValue k d ts
-whole_of (suc (suc (suc (suc zero)))) d ts low high are = record {
-  value = multi_point d (listed point_of ts);
-  kind_is = refl;
-  dimension_is = refl;
-  members_are = listed_again (point d) point_of (part 1 d) (point_again d) ts are;
-  shallow = λ few. omega arith;
-}
-whole_of (suc (suc (suc (suc (suc zero))))) d ts low high are = record {
-  value = multi_line_string d (listed line_string_of ts);
-  kind_is = refl;
-  dimension_is = refl;
-  members_are = listed_again (line_string d) line_string_of (part 2 d) (line_string_again d) ts are;
-  shallow = λ few. omega arith;
-}
-whole_of (suc (suc (suc (suc (suc (suc zero)))))) d ts low high are = record {
-  value = multi_polygon d (listed polygon_of ts);
-  kind_is = refl;
-  dimension_is = refl;
-  members_are = listed_again (polygon d) polygon_of (part 3 d) (polygon_again d) ts are;
-  shallow = λ few. omega arith;
-}
-whole_of (suc (suc (suc (suc (suc (suc (suc zero))))))) d ts low high are = record {
-  value = collection d ts;
-  kind_is = refl;
-  dimension_is = refl;
-  members_are = refl;
-  shallow = λ few. omega (arith, few);
-}
+whole_of (suc (suc (suc (suc zero)))) d ts low high are =
+    of_value (multi_point d (listed point_of ts)) refl refl
+    (listed_again (point d) point_of (part 1 d) (point_again d) ts are) (λ few. omega arith)
+whole_of (suc (suc (suc (suc (suc zero))))) d ts low high are =
+    of_value (multi_line_string d (listed line_string_of ts)) refl refl
+    (listed_again (line_string d) line_string_of (part 2 d) (line_string_again d) ts are) (λ few. omega arith)
+whole_of (suc (suc (suc (suc (suc (suc zero)))))) d ts low high are =
+    of_value (multi_polygon d (listed polygon_of ts)) refl refl
+    (listed_again (polygon d) polygon_of (part 3 d) (polygon_again d) ts are) (λ few. omega arith)
+whole_of (suc (suc (suc (suc (suc (suc (suc zero))))))) d ts low high are =
+    of_value (collection d ts) refl refl refl (λ few. omega (arith, few))
 whole_of _ d ts low high are = absurd (omega (arith, low, high))
 
 -- ---- its encoding
@@ -182,14 +168,6 @@ is_asked k n o target e =
     e)
     e
 
-kind_again : (k : ℕ) (d : Dimension) → 4 ≤ k → k ≤ 7
-    → (type_kind (type_of k d) ≡ k) × (type_dimension (type_of k d) ≡ d)
-kind_again (suc (suc (suc (suc zero)))) d low high = (refl, refl)
-kind_again (suc (suc (suc (suc (suc zero))))) d low high = (refl, refl)
-kind_again (suc (suc (suc (suc (suc (suc zero)))))) d low high = (refl, refl)
-kind_again (suc (suc (suc (suc (suc (suc (suc zero))))))) d low high = (refl, refl)
-kind_again _ d low high = absurd (omega (arith, low, high))
-
 parts_of : (c : Column) (w : Wanted) (i : ℕ) (ts : Values) → AreRowMembers c w i ts
     → AreParts w ts × (nest_each ts ≤ member_room)
 parts_of c w i no_members are = (tt, omega arith)
@@ -207,7 +185,6 @@ module _ {c : Column} {rows k n : ℕ} {o : Options} {target : CollectTarget} (a
       let v = whole_of target.kind target.dimension have.values low high parts.0 in
       let order = target.options.endianness in
       let form = target.options.form in
-      let again = kind_again target.kind target.dimension low high in
       record {
         value = v.value;
         kind_is = v.kind_is ∙ a.kind_is;
@@ -220,9 +197,13 @@ module _ {c : Column} {rows k n : ℕ} {o : Options} {target : CollectTarget} (a
         request = a.request;
         asked = a.asked;
         written =
-            (λ i. (header_encoding order form ((again.0 ∙ sym v.kind_is) i) ((again.1 ∙ sym v.dimension_is) i)
+            (λ i. (header_encoding order form (type_kind (type_of (sym v.kind_is i) (sym v.dimension_is i)))
+            (type_dimension (type_of (sym v.kind_is i) (sym v.dimension_is i)))
             ++ number_bytes order 4 (sym (ap count v.members_are ∙ have.many) i))
             ++ encodings order (inner form) (geometries_of (sym v.members_are i)))
+            ∙ (λ i. (header_encoding order form (type_kind_is v.value i) (type_dimension_is v.value i)
+            ++ number_bytes order 4 (count (members v.value)))
+            ++ encodings order (inner form) (geometries_of (members v.value)))
             ∙ sym (whole_encoded order form v.value (omega (arith, low, v.kind_is)))
             ∙ ap (λ z. encoding_for z v.value) a.options_are;
       }

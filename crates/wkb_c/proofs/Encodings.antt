@@ -1,21 +1,23 @@
 -- The encoding that is asked for of what was checked, and how long it is.
-use Rattle.wkb_c.proofs.Common.{◌≡◌, ◌≢◌, ℕ, ◌≤◌, ◌<◌, ◌⊎◌, List, ◌++◌, length, drop, Some, None, sym, ap, ◌∙◌, arith}
-use Rattle.wkb_c.proofs.Common.{header}
-use lib.Seq.{sets, sets-eq}
+use Rattle.wkb_c.proofs.Common.{◌≡◌, ◌≢◌, ℕ, ◌+◌, ◌≤◌, ◌<◌, inl, inr, List, ◌++◌, length, drop, Some, None, refl, sym}
+use Rattle.wkb_c.proofs.Common.{ap, ◌∙◌, arith, header}
+use lib.Seq.{sets, sets-eq, length-sets}
 use Rattle.wkb_geom.specs.declared.common.Endianness.{Endianness}
 use Rattle.wkb_geom.specs.declared.common.Form.{Form}
 use Rattle.wkb_geom.specs.declared.common.Form.TheVariants.{Ewkb}
 use Rattle.wkb_geom.specs.Encodings.{encoding, header_encoding, point_encoding, line_string_encoding}
 use Rattle.wkb_geom.specs.Encodings.{polygon_encoding, members_encoding}
 use Rattle.wkb_geom.specs.Geometries.{geometry_of, Geometry, point}
+use Rattle.wkb_geom.specs.Numbers.{AreBytes}
 use Rattle.wkb_check.specs.Public.{DescribesFront}
 use Rattle.wkb_check.specs.declared.answer.Summary.{Summary}
+use Rattle.wkb_rewrite.proofs.Measured.{at_most, here}
 use Rattle.wkb_sink.specs.declared.options.WriteOptions.{WriteOptions}
 use Rattle.wkb_c.specs.Columns.{IsRow}
 use Rattle.wkb_c.specs.declared.column.Column.{Column}
 use Rattle.wkb_c.specs.Requests.{IsRequested, request_of, options_for}
 use Rattle.wkb_c.specs.RowItems.{IsRowStep, RowHas, RowFails}
-use Rattle.wkb_c.specs.Writings.{IsHandedOut, FindsNoRoom, HasEncoding, FailsToWrite}
+use Rattle.wkb_c.specs.Writings.{WritesRequested, HasEncoding, FailsToWrite}
 use Rattle.wkb_c.specs.declared.options.Options.{Options}
 use Rattle.wkb_c.specs.declared.options.Request.{Request}
 use Rattle.wkb_c.specs.declared.options.Request.TheVariants.{Encoding, OwnSrid}
@@ -53,24 +55,42 @@ module _ (request : Request) (input : List ℕ) (found : Summary) (d : Describes
       ∙ ap (λ z. encoding order (Ewkb z) (geometry_of d.value)) d.described.srid in
       record { s = d.spelled; t = d.value; rest = d.rest; front = d.front; written = written }
 
-  pub handed_out : (out new : List ℕ) (size : ℕ) → size ≡ length bytes → size ≤ length out → new ≡ sets out 0 bytes
-      → IsHandedOut request input out new size
-  handed_out out new size size_is fit put = record {
-    encoding = bytes;
-    is_requested = requested_of request options_are;
-    held = record {
-      count_is = size_is;
-      whole =
-          put ∙ sets-eq bytes out 0 (omega (arith, fit, size_is)) ∙ ap (λ n. bytes ++ drop n out) (omega arith);
+  bound : {size : ℕ} → AreBytes input → size ≡ length bytes → size ≤ length input + 4
+  bound are size_is = omega (arith, size_is, at_most options.endianness options.form input (here d) are)
+
+  -- it is put, or there is less room
+  pub writes : (out new : List ℕ) (size : ℕ) → AreBytes input → size ≡ length bytes → size ≤ length out
+      → new ≡ sets out 0 bytes → WritesRequested request input out new OK size
+  writes out new size are size_is fit put = record {
+    written = λ told. record {
+      encoding = bytes;
+      is_requested = requested_of request options_are;
+      held = record {
+        count_is = size_is;
+        whole =
+            put ∙ sets-eq bytes out 0 (omega (arith, fit, size_is)) ∙ ap (λ n. bytes ++ drop n out) (omega arith);
+      };
     };
+    no_room = λ told. absurd (omega (arith, told));
+    bound = bound are size_is;
+    known = inl refl;
+    long = ap length put ∙ length-sets out 0 bytes;
+    out_kept = λ differ. absurd (differ refl);
   }
 
-  pub finds_no_room : (out : List ℕ) (size : ℕ) → size ≡ length bytes → length out < size
-      → FindsNoRoom request input out size
-  finds_no_room out size size_is short = record {
-    encoding = bytes;
-    is_requested = requested_of request options_are;
-    lacks = record { count_is = size_is; short = omega (arith, short, size_is) };
+  pub lacks_room : (out : List ℕ) (size : ℕ) → AreBytes input → size ≡ length bytes → length out < size
+      → WritesRequested request input out out NO_ROOM size
+  lacks_room out size are size_is short = record {
+    written = λ told. absurd (omega (arith, told));
+    no_room = λ told. record {
+      encoding = bytes;
+      is_requested = requested_of request options_are;
+      lacks = record { count_is = size_is; short = omega (arith, short, size_is) };
+    };
+    bound = bound are size_is;
+    known = inr refl;
+    long = refl;
+    out_kept = λ differ. refl;
   }
 
 row_encoding : {c : Column} {i : ℕ} (row : List ℕ) → IsRow c i row → (o : Options) (request : Request)
@@ -82,14 +102,12 @@ row_encoding row is o request asked encoding requested =
 module _ {c : Column} {i start status count : ℕ} {before lent sub after : List ℕ} (row : List ℕ)
     (is : IsRow c i row) (o : Options) (request : Request) (asked : request_of o ≡ Some request)
     (l : IsLent start before lent sub after) where
-  pub write_step : (status ≡ OK → IsHandedOut request row lent sub count)
-      → (status ≡ NO_ROOM → FindsNoRoom request row lent count) → (status ≢ OK → sub ≡ lent)
-      → (status ≡ OK) ⊎ (status ≡ NO_ROOM)
+  pub write_step : WritesRequested request row lent sub status count
       → IsRowStep (RowHas (HasEncoding o) c) (RowFails (FailsToWrite o) c) i status count start before after
-  write_step written short =
+  write_step w =
       called_step l
       (λ ok.
-      let h = written ok in (
+      let h = w.written ok in (
         h.encoding,
         (
           row_encoding row is o request asked h.encoding h.is_requested,
@@ -97,5 +115,6 @@ module _ {c : Column} {i start status count : ℕ} {before lent sub after : List
         ),
       ))
       (λ told.
-      let h = short told in
+      let h = w.no_room told in
       (h.encoding, (row_encoding row is o request asked h.encoding h.is_requested, h.lacks)))
+      w.out_kept w.known

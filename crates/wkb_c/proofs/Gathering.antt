@@ -1,32 +1,33 @@
 -- The members that rows begin with, row by row.
-use Rattle.wkb_c.proofs.Common.{◌≡◌, ℕ, suc, ◌+◌, ◌≤◌, ◌<◌, List, [], ◌++◌, length, drop, ◌⊎◌, inl, inr}
+use Rattle.wkb_c.proofs.Common.{◌≡◌, ℕ, suc, ◌+◌, ◌≤◌, ◌<◌, List, ◌++◌, length, drop, ◌⊎◌, inl, inr}
 use Rattle.wkb_c.proofs.Common.{refl, sym, ap, subst, ◌∙◌, arith, append-nil, append_assoc, length-append}
-use Rattle.wkb_c.proofs.Common.{Value, Values, member, no_members, kind, dimension, point, collection, Dimension}
-use Rattle.wkb_c.proofs.Common.{is_some, None, srid_size, drop-drop}
+use Rattle.wkb_c.proofs.Common.{Spelling, Value, Values, member, no_members, kind, collection}
+use Rattle.wkb_c.proofs.Common.{Dimension, is_some, None, srid_size, drop-drop}
 use Rattle.std.specs.Prelude.{true, false, ◌-◌, take, nat_lt, slice_range, Result, Ok, Err, IfErr}
 use Rattle.std.proofs.Common.{length-drop, ltb-false}
 use Rattle.std.proofs.lemmas.Bool.{cond_both}
-use Rattle.std.proofs.lemmas.List.{length-take, nil_from_length}
-use Rattle.std.proofs.lemmas.Slice.{between_to_end}
+use Rattle.std.proofs.lemmas.List.{length-take}
 use denote.Enum.Bare.{sameb}
 use lib.Seq.{sets, sets-eq, length-sets}
 use Rattle.wkb_geom.specs.contracts.common.Dimension.{the_type}
-use Rattle.wkb_geom.specs.declared.common.Dimension.TheVariants.{Xy, Xyz, Xym, Xyzm}
+use Rattle.wkb_geom.specs.declared.common.Dimension.TheVariants.{Xy}
 use Rattle.wkb_geom.specs.declared.common.Endianness.{Endianness}
 use Rattle.wkb_geom.specs.declared.common.Form.{Form}
 use Rattle.wkb_geom.specs.declared.common.Form.TheVariants.{Iso, Ewkb}
 use Rattle.wkb_geom.specs.declared.code.WkbType.{WkbType}
 use Rattle.wkb_geom.specs.declared.code.WkbType.TheVariants.{Point}
 use Rattle.wkb_geom.specs.Encodings.{encoding, encodings, inner, form_srid, IsRewriting}
+use Rattle.wkb_geom.specs.Fronts.{FrontWithin}
 use Rattle.wkb_geom.specs.Geometries.{geometry_of, geometries_of}
 use Rattle.wkb_geom.specs.Numbers.{AreBytes}
-use Rattle.wkb_geom.specs.Reading.{type_of, type_kind, type_dimension}
+use Rattle.wkb_geom.specs.Reading.{type_kind, type_dimension}
 use Rattle.wkb_geom.specs.Spellings.{Wanted, part, any, member_part, IsPart}
 use Rattle.wkb_geom.specs.Values.{count, nest}
 use Rattle.wkb_laws.proofs.OneFront.{one_spelling}
 use Rattle.wkb_laws.proofs.Outcomes.{never_both_lem}
-use Rattle.wkb_check.specs.Public.{DescribesFrontWithin, DescribesFront, Checks, member_room}
+use Rattle.wkb_check.specs.Public.{DescribesFrontWithin, Checks, member_room}
 use Rattle.wkb_check.specs.declared.answer.Summary.{Summary}
+use Rattle.wkb_check.proofs.Ahead.{type_kind_is, type_dimension_is}
 use Rattle.wkb_check.proofs.Placing.{sets_after}
 use Rattle.wkb_rewrite.specs.Inputs.{IsAccepted}
 use Rattle.wkb_rewrite.specs.Shares.{IsPut}
@@ -36,8 +37,9 @@ use Rattle.wkb_sink.specs.declared.options.WriteOptions.{WriteOptions}
 use Rattle.wkb_c.specs.Collections.{BeginsWithMember, IsRowMember, AreRowMembers, HaveMembers, part_of, inner_of}
 use Rattle.wkb_c.specs.Collections.{inside_of}
 use Rattle.wkb_c.specs.Collections.{RowIsMeasured, IsMeasuredFound, AreMeasured, IsUnwanted, IsUnfit, no_member}
+use Rattle.wkb_c.proofs.RowItems.{lent_rest}
 use Rattle.wkb_c.proofs.Telling.{accepted_there}
-use Rattle.wkb_c.specs.Writings.{IsHandedOut, FindsNoRoom}
+use Rattle.wkb_c.specs.Writings.{WritesRequested}
 use Rattle.wkb_c.specs.declared.options.Request.TheVariants.{Encoding}
 use Rattle.wkb_c.specs.declared.status.TheConstants.{OK, NO_ROOM}
 use Rattle.wkb_c.specs.Columns.{IsRow, LacksRow, IsRefusedWith, null_row, bad_offsets, Reach}
@@ -61,19 +63,15 @@ never_lacks {c} {i} is (null_row null told) =
     let never : true ≡ false = sym null ∙ is.present in absurd cc
 never_lacks is (bad_offsets some none told) = none _ is.slice
 
+-- where a geometry is in front, it also is with other room that it doesn't exceed
+abbrev with_room : {a b : ℕ} {row : List ℕ} {s : Spelling} {t : Value} {rest : List ℕ} → FrontWithin a row s t rest
+    → nest t ≤ b → FrontWithin b row s t rest
+with_room f few = record { front = f.front; whole = f.whole; spelled = f.spelled; shallow = few }
+
 -- a member is a geometry that is accepted, and no other is there
 abbrev pub there : {w : Wanted} {row : List ℕ} {t : Value} → BeginsWithMember w row t → IsAccepted row
-there {t = t} b = record {
-  s = b.s;
-  t = t;
-  rest = b.rest;
-  front = record {
-    front = b.front.front;
-    whole = b.front.whole;
-    spelled = b.front.spelled;
-    shallow = omega (arith, b.front.shallow);
-  };
-}
+there {t = t} b =
+    record { s = b.s; t = t; rest = b.rest; front = with_room b.front (omega (arith, b.front.shallow)) }
 
 -- all that a row is accepted as is one value
 same_value : {row : List ℕ} (a b : IsAccepted row) → a.t ≡ b.t
@@ -89,55 +87,28 @@ pub never_refused : {row : List ℕ} {status : ℕ} → IsAccepted row → IsRef
 never_refused {row} a why =
     let r = why.1 in never_both_lem row a.s a.t a.rest r.cause r.turns r.slots a.front r.refuses
 
--- the kind and the dimension of a type are those of the value
-kind_typed : (t : Value) → type_kind (type_of (kind t) (dimension t)) ≡ kind t
-kind_typed (point d c) = refl
-kind_typed _ = refl
-
-dimension_typed : (t : Value) → type_dimension (type_of (kind t) (dimension t)) ≡ dimension t
-dimension_typed (point d c) = refl
-dimension_typed _ = refl
-
 -- a geometry that is no collection has room anywhere
 none_nested : (t : Value) → kind t < 7 → nest t ≤ member_room
 none_nested (collection d ts) low = absurd (omega (arith, low))
-none_nested (point d c) low = omega arith
 none_nested _ low = omega arith
+
+-- and so is what is described there
+pub described_with : {a b : ℕ} {row : List ℕ} {f : Summary} → (d : DescribesFrontWithin a row f) → nest d.value ≤ b
+    → DescribesFrontWithin b row f
+described_with d few = record {
+  spelled = d.spelled;
+  value = d.value;
+  rest = d.rest;
+  front = with_room d.front few;
+  described = d.described;
+}
 
 pub plain_inside : {row : List ℕ} {f : Summary} → Checks row (Ok f) → type_kind f.wkb_type < 7
     → DescribesFrontWithin member_room row f
 plain_inside checks low =
     let d = checks.front in
-    let kind_is = ap type_kind d.described.wkb_type ∙ kind_typed d.value in
-    record {
-      spelled = d.spelled;
-      value = d.value;
-      rest = d.rest;
-      front =
-          record {
-            front = d.front.front;
-            whole = d.front.whole;
-            spelled = d.front.spelled;
-            shallow = none_nested d.value (omega (arith, low, kind_is));
-          };
-      described = d.described;
-    }
-
--- what is described inside a collection is described
-pub described_outside : (row : List ℕ) (f : Summary) → DescribesFrontWithin member_room row f → DescribesFront row f
-described_outside row f d = record {
-  spelled = d.spelled;
-  value = d.value;
-  rest = d.rest;
-  front =
-      record {
-        front = d.front.front;
-        whole = d.front.whole;
-        spelled = d.front.spelled;
-        shallow = omega (arith, d.front.shallow);
-      };
-  described = d.described;
-}
+    described_with d
+    (none_nested d.value (omega (arith, low, ap type_kind d.described.wkb_type ∙ type_kind_is d.value)))
 
 pub unfit_of : {c : Column} {i : ℕ} {row : List ℕ} (w : Wanted) (fault : WkbFault) (r : Result ℕ ℕ) → IsRow c i row
     → IfErr r (λ status. IsUnwanted w row status fault) → IfErr r (λ status. IsUnfit c w i status fault)
@@ -179,35 +150,29 @@ at_most_inside order form row a b =
     )
 
 -- a call that writes an encoding, with room or without
-module _ {row before after : List ℕ} {size : ℕ} (o : WriteOptions) (status : ℕ)
-    (written : status ≡ OK → IsHandedOut (Encoding o) row before after size)
-    (no_room : status ≡ NO_ROOM → FindsNoRoom (Encoding o) row before size)
-    (known : (status ≡ OK) ⊎ (status ≡ NO_ROOM)) (a : IsAccepted row) where
+module _ {o : WriteOptions} {row before after : List ℕ} {status size : ℕ}
+    (w : WritesRequested (Encoding o) row before after status size) (a : IsAccepted row) where
   requested_is : (bytes : List ℕ) → IsRewriting o.endianness o.form row bytes → bytes ≡ encoding_for o a.t
   requested_is bytes h =
       h.written ∙ ap (encoding_for o) (same_value (record { s = h.s; t = h.t; rest = h.rest; front = h.front }) a)
 
   size_of : (status ≡ OK) ⊎ (status ≡ NO_ROOM) → size ≡ length (encoding_for o a.t)
   size_of (inl ok) =
-      let h = written ok in h.held.count_is ∙ ap length (requested_is h.encoding h.is_requested)
+      let h = w.written ok in h.held.count_is ∙ ap length (requested_is h.encoding h.is_requested)
   size_of (inr none) =
-      let h = no_room none in h.lacks.count_is ∙ ap length (requested_is h.encoding h.is_requested)
+      let h = w.no_room none in h.lacks.count_is ∙ ap length (requested_is h.encoding h.is_requested)
 
   pub requested_size : size ≡ length (encoding_for o a.t)
-  requested_size = size_of known
+  requested_size = size_of w.known
 
   bytes_of : length (encoding_for o a.t) ≤ length before → (status ≡ OK) ⊎ (status ≡ NO_ROOM)
       → after ≡ encoding_for o a.t ++ drop (length (encoding_for o a.t)) before
   bytes_of room (inl ok) =
-      let h = written ok in
+      let h = w.written ok in
       h.held.whole ∙ ap (λ z. z ++ drop (length z) before) (requested_is h.encoding h.is_requested)
   bytes_of room (inr none) =
-      let h = no_room none in
+      let h = w.no_room none in
       absurd (omega (arith, room, h.lacks.short, ap length (requested_is h.encoding h.is_requested)))
-
-  pub requested_bytes : length (encoding_for o a.t) ≤ length before
-      → after ≡ encoding_for o a.t ++ drop (length (encoding_for o a.t)) before
-  requested_bytes room = bytes_of room known
 
 pub found_measured : {target : CollectTarget} {row : List ℕ} {f : Summary} {size : ℕ} (o : WriteOptions) → AreBytes row
     → (d : DescribesFrontWithin member_room row f) → o ≡ inner_of target
@@ -221,8 +186,8 @@ found_measured {target} {row} {f} {size} o b d o_is wanted size_is =
       front = d.front;
       wanted =
           subst (λ T. T)
-          (λ i. IsPart (part_of target) ((ap type_kind typed ∙ kind_typed d.value) i)
-          ((ap type_dimension typed ∙ dimension_typed d.value) i) false) wanted;
+          (λ i. IsPart (part_of target) ((ap type_kind typed ∙ type_kind_is d.value) i)
+          ((ap type_dimension typed ∙ type_dimension_is d.value) i) false) wanted;
     } in
     let long : size ≡ length (encoding_for (inner_of target) d.value) =
     size_is (there begins) ∙ ap (λ z. length (encoding_for z d.value)) o_is in
@@ -252,9 +217,7 @@ same_self x y e other = own x (ap (λ z. sameb the_type x z) e ∙ other)
   where
     own : (x : Dimension) → sameb the_type x x ≡ false → ⊥
     own Xy e = absurd cc
-    own Xyz e = absurd cc
-    own Xym e = absurd cc
-    own Xyzm e = absurd cc
+    own _ e = absurd cc
 
 -- ---- one member more
 
@@ -421,17 +384,16 @@ module _ {c : Column} {target : CollectTarget} {rows i at : ℕ} {out before who
       pub row_there : IsAccepted row
       row_there = there own_begins
 
-      encoded_so : (a : IsAccepted row) → encoding_for (inner_of target) a.t ≡ own_bytes
-      encoded_so a = ap (encoding_for (inner_of target)) (one_value own_begins a)
+      module _ {o : WriteOptions} (o_is : o ≡ inner_of target) where
+        encoded_so : (a : IsAccepted row) → encoding_for o a.t ≡ own_bytes
+        encoded_so a = λ i. encoding_for (o_is i) (one_value own_begins a i)
 
-      pub row_room : end ≤ length before → (a : IsAccepted row)
-          → at + length (encoding_for (inner_of target) a.t) ≤ length out
-      row_room fit a = omega (arith, own_room fit, ap length (encoded_so a))
+        pub row_room : end ≤ length before → (a : IsAccepted row) → at + length (encoding_for o a.t) ≤ length out
+        row_room fit a = omega (arith, own_room fit, ap length (encoded_so a))
 
-      pub row_put : (to : ℕ) (new : List ℕ)
-          → ((a : IsAccepted row) → IsPut out new at to (encoding_for (inner_of target) a.t))
-          → MembersLeft c target rows (i + 1) to new before whole end
-      row_put to new p = member_put to new (subst (IsPut out new at to) (encoded_so row_there) (p row_there))
+        pub row_put : (to : ℕ) (new : List ℕ) → ((a : IsAccepted row) → IsPut out new at to (encoding_for o a.t))
+            → MembersLeft c target rows (i + 1) to new before whole end
+        row_put to new p = member_put to new (subst (IsPut out new at to) (encoded_so row_there) (p row_there))
 
 pub none_left : {c : Column} {target : CollectTarget} {rows i at : ℕ} {out before whole : List ℕ} {end : ℕ}
     → (l : MembersLeft c target rows i at out before whole end) → rows ≤ i → out ≡ whole
@@ -443,20 +405,23 @@ none_left {target = target} {rows} {i} {at} {out} {whole = whole} l past = by l.
 
 -- ---- a member that is put behind others
 
-pub put_behind : (out sub enc : List ℕ) (at : ℕ) → at + length enc ≤ length out
-    → (length enc ≤ length (take (length out - at) (drop at out))
-    → sub ≡ enc ++ drop (length enc) (take (length out - at) (drop at out)))
-    → take at out ++ (sub ++ drop (length out - at) (drop at out)) ≡ sets out at enc
-put_behind out sub enc at room is =
-    let k = length out - at in
-    let lent : take k (drop at out) ≡ drop at out = between_to_end out at (length out) (omega arith) in
-    let rest : drop k (drop at out) ≡ [] =
-    nil_from_length (drop k (drop at out)) (omega (arith, length-drop k (drop at out), length-drop at out)) in
+pub requested_put : {o : WriteOptions} {row sub : List ℕ} {status size : ℕ} (out : List ℕ) (at : ℕ)
+    → WritesRequested (Encoding o) row (take (length out - at) (drop at out)) sub status size → (a : IsAccepted row)
+    → at + length (encoding_for o a.t) ≤ length out
+    → IsPut out (take at out ++ (sub ++ drop (length out - at) (drop at out))) at (at + size) (encoding_for o a.t)
+requested_put {o} {sub = sub} out at w a room =
+    let enc = encoding_for o a.t in
+    let l = lent_rest {start = at} out sub at (omega (arith, room)) w.long in
     let sub_is : sub ≡ enc ++ drop (at + length enc) out =
-    is (omega (arith, room, ap length lent, length-drop at out)) ∙ ap (λ z. enc ++ drop (length enc) z) lent
+    bytes_of w a (omega (arith, room, ap length l.lent_is, length-drop at out)) w.known
+    ∙ ap (λ z. enc ++ drop (length enc) z) l.lent_is
     ∙ ap (λ z. enc ++ z) (drop-drop (length enc) at out ∙ ap (λ n. drop n out) (omega arith)) in
-    ap (λ z. take at out ++ (sub ++ z)) rest ∙ ap (λ z. take at out ++ z) (append-nil sub ∙ sub_is)
-    ∙ sym (append_assoc (take at out) enc (drop (at + length enc) out)) ∙ sym (sets-eq enc out at room)
+    record {
+      end_is = ap (λ n. at + n) (requested_size w a);
+      put =
+          l.after_is ∙ ap (λ z. take at out ++ z) sub_is
+          ∙ sym (append_assoc (take at out) enc (drop (at + length enc) out)) ∙ sym (sets-eq enc out at room);
+    }
 
 -- the front of the whole, and its members behind it
 pub whole_put : (out copied new front inside : List ℕ) (start : ℕ) → start ≡ length front

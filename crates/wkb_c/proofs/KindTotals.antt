@@ -18,9 +18,9 @@ use Rattle.wkb_check.specs.declared.answer.Summary.{Summary}
 use Rattle.wkb_check.specs.declared.pieces.Piece.{Piece}
 use Rattle.wkb_c.specs.Coordinates.{ring_counts, single_counts, totals_after, AreTotals}
 use Rattle.wkb_c.specs.declared.coordinates.Totals.{Totals}
-use Rattle.wkb_c.specs.PieceLevels.{ring_number, single_number, ring_sizes, single_sizes}
+use Rattle.wkb_c.specs.PieceLevels.{ring_number, single_number}
 use Rattle.wkb_c.specs.RowItems.{end_of}
-use Rattle.wkb_check.specs.Subjects.{Subject, whole, ring, subjects, subjects_of_rings, subjects_of_each}
+use Rattle.wkb_check.specs.Subjects.{Subject, ring, subjects, subjects_of_rings, subjects_of_each}
 use Rattle.wkb_c.proofs.Levels.{sum-first, sum_append}
 
 -- these subjects have so many coordinates, rings and singles
@@ -33,36 +33,29 @@ no_subject : Count [] 0 0 0
 no_subject = record { coordinates_are = refl; rings_are = refl; singles_are = refl }
 
 -- and so many have these and others
-both : {xs ys : List Subject} {c d r q s t : ℕ} (cd rq st : ℕ) → Count xs c r s → Count ys d q t
-    → c + d ≡ cd → r + q ≡ rq → s + t ≡ st → Count (xs ++ ys) cd rq st
-both {xs} {ys} cd rq st a b c_is r_is s_is =
+both : {xs ys : List Subject} {c d cd r q rq s t st : ℕ} → Count xs c r s → Count ys d q t → c + d ≡ cd → r + q ≡ rq
+    → s + t ≡ st → Count (xs ++ ys) cd rq st
+both {xs} {ys} a b c_is r_is s_is =
     let rings = flat_map-append ring_counts xs ys in
     let singles = flat_map-append single_counts xs ys in
+    let r = flat_map ring_counts in
+    let s = flat_map single_counts in
     record {
-      coordinates_are = omega (
-        arith,
-        ap sum rings,
-        sum_append (flat_map ring_counts xs) (flat_map ring_counts ys),
-        a.coordinates_are,
-        b.coordinates_are,
-        c_is,
-      );
-      rings_are = omega (
-        arith,
-        ap length rings,
-        length-append (flat_map ring_counts xs) (flat_map ring_counts ys),
-        a.rings_are,
-        b.rings_are,
-        r_is,
-      );
-      singles_are = omega (
-        arith,
-        ap length singles,
-        length-append (flat_map single_counts xs) (flat_map single_counts ys),
-        a.singles_are,
-        b.singles_are,
-        s_is,
-      );
+      coordinates_are =
+          omega (arith, ap sum rings, sum_append (r xs) (r ys), a.coordinates_are, b.coordinates_are, c_is);
+      rings_are = omega (arith, ap length rings, length-append (r xs) (r ys), a.rings_are, b.rings_are, r_is);
+      singles_are = omega (arith, ap length singles, length-append (s xs) (s ys), a.singles_are, b.singles_are, s_is);
+    }
+
+-- and so many has one more
+more : {xs : List Subject} {c cd r rq s st : ℕ} (x : Subject) → Count xs c r s → sum (ring_counts x) + c ≡ cd
+    → length (ring_counts x) + r ≡ rq → length (single_counts x) + s ≡ st → Count (x ∷ xs) cd rq st
+more {xs} x are c_is r_is s_is =
+    let rings = flat_map ring_counts xs in record {
+      coordinates_are = omega (arith, sum_append (ring_counts x) rings, are.coordinates_are, c_is);
+      rings_are = omega (arith, length-append (ring_counts x) rings, are.rings_are, r_is);
+      singles_are =
+          omega (arith, length-append (single_counts x) (flat_map single_counts xs), are.singles_are, s_is);
     }
 
 -- a geometry without members has no subjects in them
@@ -74,40 +67,21 @@ rings_count : (order : Endianness) (d : Dimension) (rings : List (List Coordinat
     → Count (subjects_of_rings order d rings) (sum_by length rings) (length rings) 0
 rings_count order d [] = no_subject
 rings_count order d (cs ∷ rest) =
-    let one : Count (ring order d cs ∷ []) (length cs) 1 0 = record {
-      coordinates_are = omega (arith, sum-first (length cs) []);
-      rings_are = refl;
-      singles_are = refl;
-    } in
-    both (sum_by length (cs ∷ rest)) (length (cs ∷ rest)) 0 one (rings_count order d rest)
-    (sym (sum_by-cons length cs rest)) (omega arith) (omega arith)
+    more (ring order d cs) (rings_count order d rest)
+    (omega (arith, sum-first (length cs) [], sum_by-cons length cs rest)) (omega arith) (omega arith)
 
 point_counts : (d : Dimension) (c : Option Coordinate) (s : Spelling) → Count (subjects s (point d c)) 1 1 1
-point_counts d c (node h words ss) =
-    let own : Count (whole (node h words ss) (point d c) ∷ []) 1 1 1 =
-    record { coordinates_are = refl; rings_are = refl; singles_are = refl } in
-    both 1 1 1 own (no_member ss) (omega arith) (omega arith) (omega arith)
+point_counts d c (node h words ss) = more _ (no_member ss) (omega arith) (omega arith) (omega arith)
 
 line_counts : (d : Dimension) (cs : List Coordinate) (s : Spelling)
     → Count (subjects s (line_string d cs)) (length cs) 1 1
 line_counts d cs (node h words ss) =
-    let own : Count (whole (node h words ss) (line_string d cs) ∷ []) (length cs) 1 1 = record {
-      coordinates_are = omega (arith, sum-first (length cs) []);
-      rings_are = refl;
-      singles_are = refl;
-    } in
-    both (length cs) 1 1 own (no_member ss) (omega arith) (omega arith) (omega arith)
+    more _ (no_member ss) (omega (arith, sum-first (length cs) [])) (omega arith) (omega arith)
 
 polygon_counts : (d : Dimension) (rings : List (List Coordinate)) (s : Spelling)
     → Count (subjects s (polygon d rings)) (sum_by length rings) (length rings) 1
 polygon_counts d rings (node h words ss) =
-    let own : Count (whole (node h words ss) (polygon d rings) ∷ []) 0 0 1 =
-    record { coordinates_are = refl; rings_are = refl; singles_are = refl } in
-    let inside : Count (subjects_of_rings h.order d rings ++ subjects_of_each ss no_members) (sum_by length rings)
-    (length rings) 0 =
-    both (sum_by length rings) (length rings) 0 (rings_count h.order d rings) (no_member ss) (omega arith) (omega arith)
-    (omega arith) in
-    both (sum_by length rings) (length rings) 1 own inside (omega arith) (omega arith) (omega arith)
+    more _ (both (rings_count h.order d rings) (no_member ss) refl refl refl) (omega arith) (omega arith) (omega arith)
 
 -- the members of a multi geometry
 module _ {A : Type 0} (f : A → Value) (c r k : A → ℕ)
@@ -118,8 +92,7 @@ module _ {A : Type 0} (f : A → Value) (c r k : A → ℕ)
   each_counts w [] (spelling s ss) bytes h = absurd h
   each_counts w (a ∷ xs) no_spellings bytes h = absurd h
   each_counts w (a ∷ xs) (spelling s ss) bytes h =
-      both (sum_by c (a ∷ xs)) (sum_by r (a ∷ xs)) (sum_by k (a ∷ xs)) (one a s)
-      (each_counts w xs ss h.rest h.second) (sym (sum_by-cons c a xs)) (sym (sum_by-cons r a xs))
+      both (one a s) (each_counts w xs ss h.rest h.second) (sym (sum_by-cons c a xs)) (sym (sum_by-cons r a xs))
       (sym (sum_by-cons k a xs))
 
 sum_of_ones : {A : Type 0} (xs : List A) → sum_by (λ (a : A). 1) xs ≡ length xs
@@ -148,15 +121,6 @@ single_total (multi_line_string d lines) = length lines
 single_total (multi_polygon d polygons) = length polygons
 single_total _ = 1
 
--- a subject that is no ring and no single adds nothing
-alone : {xs : List Subject} {c r k : ℕ} (x : Subject) → ring_counts x ≡ [] → single_counts x ≡ [] → Count xs c r k
-    → Count (x ∷ xs) c r k
-alone {xs} x no_ring no_single are = record {
-  coordinates_are = ap (λ ns. sum (ns ++ flat_map ring_counts xs)) no_ring ∙ are.coordinates_are;
-  rings_are = ap (λ ns. length (ns ++ flat_map ring_counts xs)) no_ring ∙ are.rings_are;
-  singles_are = ap (λ ns. length (ns ++ flat_map single_counts xs)) no_single ∙ are.singles_are;
-}
-
 kind_counts : (s : Spelling) (t : Value) (bytes : List ℕ) → Spells s t bytes → kind t < 7
     → Count (subjects s t) (coordinate_count t) (ring_total t) (single_total t)
 kind_counts s (point d c) bytes h small = point_counts d c s
@@ -164,28 +128,16 @@ kind_counts s (line_string d cs) bytes h small = line_counts d cs s
 kind_counts s (polygon d rings) bytes h small = polygon_counts d rings s
 kind_counts (node h words ss) (multi_point d points) bytes sp small =
     let ones = sum_of_ones points in
-    let inner = each_counts (point d) (λ c. 1) (λ c. 1) (λ c. 1) (point_counts d) _ points ss _ sp.second.second in
-    alone (whole (node h words ss) _) refl refl (record {
-      coordinates_are = inner.coordinates_are ∙ ones;
-      rings_are = inner.rings_are ∙ ones;
-      singles_are = inner.singles_are ∙ ones;
-    })
+    more _ (each_counts (point d) (λ c. 1) (λ c. 1) (λ c. 1) (point_counts d) _ points ss _ sp.second.second)
+    (omega (arith, ones)) (omega (arith, ones)) (omega (arith, ones))
 kind_counts (node h words ss) (multi_line_string d lines) bytes sp small =
     let ones = sum_of_ones lines in
-    let inner = each_counts (line_string d) length (λ cs. 1) (λ cs. 1) (line_counts d) _ lines ss _ sp.second.second in
-    alone (whole (node h words ss) _) refl refl (record {
-      coordinates_are = inner.coordinates_are;
-      rings_are = inner.rings_are ∙ ones;
-      singles_are = inner.singles_are ∙ ones;
-    })
+    more _ (each_counts (line_string d) length (λ cs. 1) (λ cs. 1) (line_counts d) _ lines ss _ sp.second.second)
+    (omega arith) (omega (arith, ones)) (omega (arith, ones))
 kind_counts (node h words ss) (multi_polygon d polygons) bytes sp small =
-    let inner = each_counts (polygon d) (sum_by length) length (λ rings. 1) (polygon_counts d) _ polygons ss _
-    sp.second.second in
-    alone (whole (node h words ss) _) refl refl (record {
-      coordinates_are = inner.coordinates_are;
-      rings_are = inner.rings_are;
-      singles_are = inner.singles_are ∙ sum_of_ones polygons;
-    })
+    more _
+    (each_counts (polygon d) (sum_by length) length (λ rings. 1) (polygon_counts d) _ polygons ss _ sp.second.second)
+    (omega arith) (omega arith) (omega (arith, sum_of_ones polygons))
 kind_counts s (collection d ts) bytes h small = absurd (omega (arith, small))
 
 ring_number_is : (at : ℕ) (s : Spelling) (t : Value) → kind t < 7
@@ -229,15 +181,8 @@ pub totals_and : {own to : Totals} {xs : List Subject} (from : Totals) → AreTo
     → to.coordinates ≡ end_of from.coordinates own.coordinates → to.rings ≡ end_of from.rings own.rings
     → to.singles ≡ end_of from.singles own.singles → to ≡ totals_after from xs
 totals_and from are c r s =
-    let coordinates_is = c ∙ ap (end_of from.coordinates) are.coordinates_are in
-    let rings_is = r ∙ ap (end_of from.rings) are.rings_are in
-    let singles_is = s ∙ ap (end_of from.singles) are.singles_are in
-    λ i. record { coordinates = coordinates_is i; rings = rings_is i; singles = singles_is i }
-
--- totals and a piece more
-abbrev pub with_piece : Totals → Piece → Totals
-with_piece at p = record {
-  coordinates = end_of at.coordinates (sum (ring_sizes p));
-  rings = end_of at.rings (length (ring_sizes p));
-  singles = end_of at.singles (length (single_sizes p));
-}
+    λ i. record {
+      coordinates = (c ∙ ap (end_of from.coordinates) are.coordinates_are) i;
+      rings = (r ∙ ap (end_of from.rings) are.rings_are) i;
+      singles = (s ∙ ap (end_of from.singles) are.singles_are) i;
+    }

@@ -1,17 +1,20 @@
 -- Words and ends that are written one after another, and how far they go.
 use Rattle.wkb_c.proofs.Common.{◌≡◌, ℕ, zero, suc, ◌+◌, ◌*◌, ◌≤◌, ◌<◌, ◌^◌, ◌⊎◌, inl, inr, List, [], ◌∷◌, ◌++◌, length}
-use Rattle.wkb_c.proofs.Common.{drop, Some, None, slice_index, refl, ap, sym, subst, ◌∙◌, arith, append_assoc}
+use Rattle.wkb_c.proofs.Common.{drop, None, slice_index, refl, ap, sym, subst, ◌∙◌, arith, append_assoc}
 use Rattle.wkb_c.proofs.Common.{append-nil, length-append, drop-drop, Dimension, width, number, Coordinate, Spelling}
 use Rattle.wkb_c.proofs.Common.{node, Spellings, no_spellings, spelling, Value, Values, point, line_string, polygon}
 use Rattle.wkb_c.proofs.Common.{no_members, member, members, dimension}
 use Rattle.std.specs.Prelude.{sum, flat_map, true, nat_lt, ◌&&◌, if◌then◌else◌}
 use Rattle.std.proofs.Common.{set}
 use Rattle.std.proofs.lemmas.Grind.{common_steps}
+use Rattle.std.proofs.lemmas.Option.{slice_get-get_or}
 use lib.Seq.{sets, length-sets}
 use Rattle.wkb_geom.specs.declared.common.Dimension.TheVariants.{Xy}
 use Rattle.wkb_geom.specs.declared.common.Endianness.{Endianness}
-use Rattle.wkb_geom.specs.Reading.{items, coordinate, coordinates}
+use Rattle.wkb_geom.specs.Items.{length-items}
+use Rattle.wkb_geom.specs.Reading.{coordinate, coordinates}
 use Rattle.wkb_laws.proofs.Lengths.{width-least}
+use Rattle.wkb_laws.proofs.Parts.{item_at}
 use Rattle.wkb_check.specs.Bounded.{HasGeometry}
 use Rattle.wkb_check.specs.Pieces.{rings_of, pieces_of, IsAhead, IsTaken, IsPieceAt}
 use Rattle.wkb_check.specs.declared.pieces.Pieces.{Pieces}
@@ -19,8 +22,10 @@ use Rattle.wkb_check.specs.declared.pieces.Piece.{Piece}
 use Rattle.wkb_check.proofs.Placing.{sets_after, own_piece, leaf_of}
 use Rattle.wkb_c.specs.Coordinates.{words_asked, asked_subject_words, ring_counts, single_counts, ends, totals_after}
 use Rattle.wkb_c.specs.Coordinates.{LevelLists, HasRoomUpTo, with_levels}
+use Rattle.wkb_c.specs.LevelLists.{AreSameSlices}
+use Rattle.wkb_c.specs.declared.coordinates.LevelSlices.{LevelSlices}
 use Rattle.wkb_c.specs.declared.coordinates.Totals.{Totals}
-use Rattle.wkb_c.specs.PieceLevels.{ring_sizes, single_sizes, piece_words, with_words, with_ring_end, with_single_end}
+use Rattle.wkb_c.specs.PieceLevels.{ring_sizes, single_sizes, piece_words, PieceFits, PutsPiece, AreTotalsWith}
 use Rattle.wkb_c.specs.RowItems.{end_of}
 use Rattle.wkb_check.proofs.Subjects.{IsPieceOf, ArePiecesOf, kind_in, count_in, pieces_match}
 use Rattle.wkb_check.specs.Subjects.{Subject, whole, ring, subjects, subjects_of_rings, subjects_of_each, dimension_in}
@@ -28,21 +33,13 @@ use Rattle.wkb_check.specs.Subjects.{subject_coordinates}
 
 -- ---- words
 
-item_word : (order : Endianness) (m n : ℕ) (y : List ℕ) → n < m
-    → number order 8 (drop (8 * n) y) ≡ slice_index (items 8 (number order 8) m y) n
-item_word order zero n y h = absurd (omega (arith, h))
-item_word order (suc m) zero y h = let start : 8 * 0 ≡ 0 = omega arith in ap (λ k. number order 8 (drop k y)) start
-item_word order (suc m) (suc n) y h =
-    let next : 8 * suc n ≡ 8 + 8 * n = omega arith in
-    ap (λ k. number order 8 (drop k y)) next ∙ ap (number order 8) (sym (drop-drop (8 * n) 8 y))
-    ∙ item_word order m n (drop 8 y) (omega (arith, h))
-
 -- word n of a coordinate
 pub coordinate_word : (order : Endianness) (d : Dimension) (from n at : ℕ) (row : List ℕ) → n < width d
     → at ≡ from + 8 * n → number order 8 (drop at row) ≡ slice_index (coordinate order d (drop from row)) n
 coordinate_word order d from n at row h is =
     ap (λ k. number order 8 (drop k row)) is ∙ ap (number order 8) (sym (drop-drop (8 * n) from row))
-    ∙ item_word order (width d) n (drop from row) h
+    ∙ item_at 8 (number order 8) (width d) n (drop from row) _
+    (slice_get-get_or _ n 0 (omega (arith, h, length-items 8 (number order 8) (width d) (drop from row))))
 
 -- the first word of a coordinate, and the next
 pub x_word : (order : Endianness) (d : Dimension) (from : ℕ) (row : List ℕ)
@@ -134,11 +131,10 @@ record FirstPiece (input : List ℕ) (p : Piece) (ps : List Piece) (xs : List Su
 
 first_piece : {p : Piece} {ps rest : List Piece} (input : List ℕ) (xs : List Subject) → ArePiecesOf input ps xs
     → ps ≡ p ∷ rest → FirstPiece input p rest xs
-first_piece {p} {rest = rest} input xs are is =
-    first xs (subst (λ ps. ArePiecesOf input ps xs) is are) where
-      first : (xs : List Subject) → ArePiecesOf input (p ∷ rest) xs → FirstPiece input p rest xs
-      first [] are = absurd are
-      first (x ∷ xs) are = record { x = x; others = xs; first = refl; piece = are.0; pieces = are.1 }
+first_piece input [] are is = absurd (subst (λ ps. ArePiecesOf input ps []) is are)
+first_piece input (x ∷ xs) are is =
+    let h = subst (λ ps. ArePiecesOf input ps (x ∷ xs)) is are in
+    record { x = x; others = xs; first = refl; piece = h.0; pieces = h.1 }
 
 no_piece : (input : List ℕ) (ps : List Piece) (xs : List Subject) → ps ≡ [] → ArePiecesOf input ps xs → xs ≡ []
 no_piece input [] [] none are = refl
@@ -235,17 +231,16 @@ totals_first input from g small = record {
 }
 
 pub totals_next : {input : List ℕ} {now : Pieces} {from at : Totals} {all : List Subject} {ps : List Piece} {p : Piece}
-    (to : Totals) → TotalsLeft input from all at ps → IsTaken now ps p
-    → to.coordinates ≡ end_of at.coordinates (sum (ring_sizes p)) → to.rings ≡ end_of at.rings (length (ring_sizes p))
-    → to.singles ≡ end_of at.singles (length (single_sizes p)) → Coming now (TotalsLeft input from all to)
-totals_next {input} {at = at} to left taken coordinates_is rings_is singles_is =
+    (to : Totals) → TotalsLeft input from all at ps → IsTaken now ps p → AreTotalsWith at p to
+    → Coming now (TotalsLeft input from all to)
+totals_next {input} {at = at} to left taken with =
     let f = first_piece input left.xs left.match_is taken.first in
     let c : end_of to.coordinates (sum (flat_map ring_counts f.others))
-    ≡ end_of at.coordinates (sum (flat_map ring_counts left.xs)) = omega (arith, coordinates_is, rings_sum f) in
+    ≡ end_of at.coordinates (sum (flat_map ring_counts left.xs)) = omega (arith, with.coordinates, rings_sum f) in
     let r : end_of to.rings (length (flat_map ring_counts f.others))
-    ≡ end_of at.rings (length (flat_map ring_counts left.xs)) = omega (arith, rings_is, rings_many f) in
+    ≡ end_of at.rings (length (flat_map ring_counts left.xs)) = omega (arith, with.rings, rings_many f) in
     let s : end_of to.singles (length (flat_map single_counts f.others))
-    ≡ end_of at.singles (length (flat_map single_counts left.xs)) = omega (arith, singles_is, singles_many f) in
+    ≡ end_of at.singles (length (flat_map single_counts left.xs)) = omega (arith, with.singles, singles_many f) in
     record {
       ps = taken.rest;
       ahead = taken.ahead;
@@ -253,9 +248,9 @@ totals_next {input} {at = at} to left taken coordinates_is rings_is singles_is =
         xs = f.others;
         match_is = f.pieces;
         small = record {
-          coordinates = omega (arith, coordinates_is);
-          rings = omega (arith, rings_is);
-          singles = omega (arith, singles_is);
+          coordinates = omega (arith, with.coordinates);
+          rings = omega (arith, with.rings);
+          singles = omega (arith, with.singles);
         };
         total = (λ i. record { coordinates = c i; rings = r i; singles = s i }) ∙ left.total;
       };
@@ -317,6 +312,14 @@ pace _ _ xs p = absurd p
 
 -- ---- levels
 
+-- slices that stay are the same all along
+pub stay_same : {a b c : LevelSlices} → AreSameSlices b c → AreSameSlices a b → AreSameSlices a c
+stay_same next before = record {
+  words_stay = next.words_stay ∙ before.words_stay;
+  ring_ends_stay = next.ring_ends_stay ∙ before.ring_ends_stay;
+  single_ends_stay = next.single_ends_stay ∙ before.single_ends_stay;
+}
+
 wide_enough : (d : Dimension) (n : ℕ) → n ≤ width d * n
 wide_enough Xy n = omega arith
 wide_enough _ n = omega arith
@@ -336,7 +339,6 @@ words_length asked own (c ∷ cs) =
 subject_length : (x : Subject) → length (subject_coordinates x) ≡ sum (ring_counts x)
 subject_length (ring order d cs) = omega (arith, sum-first (length cs) [])
 subject_length (whole (node h words ss) (point d None)) = refl
-subject_length (whole (node h words ss) (point d (Some c))) = refl
 subject_length (whole (node h words ss) (line_string d cs)) = omega (arith, sum-first (length cs) [])
 subject_length (whole (node h words ss) _) = refl
 
@@ -434,15 +436,12 @@ module _ {asked : Dimension} {input : List ℕ} {from : Totals} {all : List Subj
   this : FirstPiece input p rest left.xs
   this = first_piece input left.xs left.match_is first
 
-  pub piece_inside : nat_lt p.kind 3 ≡ true → p.offset + 8 * width p.dimension * p.count ≤ length input
-  piece_inside = this.piece.inside
-
   piece_length : length (piece_words asked input p) ≡ width asked * sum (ring_sizes p)
   piece_length =
       sym (ap length (first_words this asked)) ∙ subject_words asked this.x
       ∙ ap (λ ns. width asked * sum ns) (own_rings this)
 
-  pub ring_words_fit : width asked * (at.coordinates + sum (ring_sizes p)) ≤ length out.words
+  ring_words_fit : width asked * (at.coordinates + sum (ring_sizes p)) ≤ length out.words
   ring_words_fit =
       omega (
         arith,
@@ -452,7 +451,7 @@ module _ {asked : Dimension} {input : List ℕ} {from : Totals} {all : List Subj
         piece_length,
       )
 
-  pub ring_end_fits : at.rings + length (ring_sizes p) ≤ length out.ring_ends
+  ring_end_fits : at.rings + length (ring_sizes p) ≤ length out.ring_ends
   ring_end_fits =
       omega (
         arith,
@@ -461,7 +460,7 @@ module _ {asked : Dimension} {input : List ℕ} {from : Totals} {all : List Subj
         rings_many this,
       )
 
-  pub single_end_fits : at.singles + length (single_sizes p) ≤ length out.single_ends
+  single_end_fits : at.singles + length (single_sizes p) ≤ length out.single_ends
   single_end_fits =
       omega (
         arith,
@@ -470,28 +469,32 @@ module _ {asked : Dimension} {input : List ℕ} {from : Totals} {all : List Subj
         singles_many this,
       )
 
-  module _ (to : Totals) (new : LevelLists)
-      (coordinates_is : to.coordinates ≡ end_of at.coordinates (sum (ring_sizes p)))
-      (rings_is : to.rings ≡ end_of at.rings (length (ring_sizes p)))
-      (singles_is : to.singles ≡ end_of at.singles (length (single_sizes p)))
-      (words_is : new.words ≡ with_words asked input p at out.words)
-      (ring_ends_is : new.ring_ends ≡ with_ring_end p at out.ring_ends)
-      (single_ends_is : new.single_ends ≡ with_single_end p at out.single_ends) where
+  pub piece_fits : PieceFits asked input p at out
+  piece_fits = record {
+    inside = this.piece.inside;
+    words_fit = ring_words_fit;
+    ring_ends_fit = ring_end_fits;
+    single_ends_fit = single_end_fits;
+    small = omega (arith, left.ring_ends.room, left.ring_ends.short);
+  }
+
+  module _ (to : Totals) (new : LevelLists) (with : AreTotalsWith at p to)
+      (put : PutsPiece asked input p at out new) where
     coordinates_to : to.coordinates ≡ at.coordinates + sum (ring_sizes p)
     coordinates_to =
         omega (
           arith,
-          coordinates_is,
+          with.coordinates,
           left.words.short,
           ring_words_fit,
           wide_enough asked (at.coordinates + sum (ring_sizes p)),
         )
 
     rings_to : to.rings ≡ at.rings + length (ring_sizes p)
-    rings_to = omega (arith, rings_is, left.ring_ends.short, ring_end_fits)
+    rings_to = omega (arith, with.rings, left.ring_ends.short, ring_end_fits)
 
     singles_to : to.singles ≡ at.singles + length (single_sizes p)
-    singles_to = omega (arith, singles_is, left.single_ends.short, single_end_fits)
+    singles_to = omega (arith, with.singles, left.single_ends.short, single_end_fits)
 
     paces : Paces left.rings_left this.x this.others
     paces = pace left.rings_left this.x this.others (subst (Paced left.rings_left) this.first left.paced)
@@ -517,13 +520,13 @@ module _ {asked : Dimension} {input : List ℕ} {from : Totals} {all : List Subj
       words =
           items_next left.words (width asked * to.coordinates) (piece_words asked input p)
           (flat_map (asked_subject_words asked) this.others) new.words (words_are this asked)
-          (ap (λ n. width asked * n) coordinates_to ∙ omega (arith, piece_length)) words_is;
+          (ap (λ n. width asked * n) coordinates_to ∙ omega (arith, piece_length)) put.words;
       ring_ends =
           items_next left.ring_ends to.rings (ends at.coordinates (ring_sizes p))
           (ends to.coordinates (flat_map ring_counts this.others)) new.ring_ends
           (ap (ends at.coordinates) (rings_are this)
           ∙ ends_append at.coordinates to.coordinates (ring_sizes p) (flat_map ring_counts this.others) coordinates_to)
-          (omega (arith, rings_to, ends_length at.coordinates (ring_sizes p))) ring_ends_is;
+          (omega (arith, rings_to, ends_length at.coordinates (ring_sizes p))) put.ring_ends;
       single_ends =
           let start = at.rings + left.rings_left in
           items_next left.single_ends to.singles (ends start (single_sizes p))
@@ -531,7 +534,7 @@ module _ {asked : Dimension} {input : List ℕ} {from : Totals} {all : List Subj
           (ap (ends start) (singles_are this)
           ∙ ends_append start (to.rings + paces.now) (single_sizes p) (flat_map single_counts this.others) open_to)
           (omega (arith, singles_to, ends_length start (single_sizes p)))
-          (single_ends_is ∙ ap (sets out.single_ends at.singles) (from_here paces.single_or_none));
+          (put.single_ends ∙ ap (sets out.single_ends at.singles) (from_here paces.single_or_none));
     }
 
     pub levels_next : {now : Pieces} → IsAhead now rest → Coming now (LevelsLeft asked input from all before to new)
@@ -550,13 +553,20 @@ levels_end {asked} {input} {at = at} {ps = ps} left none =
           (ap (λ xs. ends (at.rings + left.rings_left) (flat_map single_counts xs)) empty) i;
     }
 
-pub levels_last : {asked : Dimension} {input : List ℕ} {w : Pieces} {from at : Totals} {all : List Subject}
-    {before out : LevelLists} → Coming w (LevelsLeft asked input from all before at out)
-    → ((ps : List Piece) → IsAhead w ps → ps ≡ []) → out ≡ with_levels asked all from before
-levels_last c none = levels_end c.left (none c.ps c.ahead)
-
--- a geometry with coordinates of its own is its only piece
+-- a geometry with coordinates of its own is its only piece, and then all is written
 pub only_piece : (input : List ℕ) (g : HasGeometry input) (p : Piece) → IsPieceAt input 0 p → nat_lt p.kind 3 ≡ true
     → pieces_of 0 g.spelled g.value ≡ p ∷ []
 only_piece input g p at low =
     own_piece 0 g.spelled g.value ∙ (λ i. sym (at g) i ∷ (leaf_of input 0 0 g p (at g) low).3 i)
+
+pub levels_alone : {asked : Dimension} {input : List ℕ} {from at : Totals} {all : List Subject}
+    {before out new : LevelLists} {ps : List Piece} {p : Piece} → LevelsLeft asked input from all before at out ps
+    → ps ≡ p ∷ [] → PutsPiece asked input p at out new → new ≡ with_levels asked all from before
+levels_alone {at = at} {new = new} {p = p} left only put =
+    let to : Totals = record {
+      coordinates = end_of at.coordinates (sum (ring_sizes p));
+      rings = end_of at.rings (length (ring_sizes p));
+      singles = end_of at.singles (length (single_sizes p));
+    } in
+    let with : AreTotalsWith at p to = record { coordinates = refl; rings = refl; singles = refl } in
+    levels_end (levels_behind left only to new with put) refl

@@ -1,9 +1,9 @@
 -- With room for the totals no row lacks room.
 use Rattle.wkb_c.proofs.Common.{◌≡◌, ℕ, ◌+◌, ◌*◌, ◌≤◌, ◌<◌, List, [], length, Some, refl, sym, ◌∙◌, subst, arith}
-use Rattle.wkb_c.proofs.Common.{slice_index, Dimension, width}
+use Rattle.wkb_c.proofs.Common.{Dimension, width}
 use Rattle.std.specs.Prelude.{flat_map}
 use Rattle.std.proofs.Common.{set}
-use lib.Seq.{get_or-set_same, get_or-set_other, length-sets}
+use lib.Seq.{length-sets}
 use Rattle.wkb_geom.specs.declared.common.Dimension.TheVariants.{Xy}
 use Rattle.wkb_check.specs.Public.{DescribesFront}
 use Rattle.wkb_check.specs.declared.answer.Summary.{Summary}
@@ -17,7 +17,7 @@ use Rattle.wkb_c.specs.declared.status.TheConstants.{NO_ROOM}
 use Rattle.wkb_check.specs.Subjects.{Subject, subjects}
 use Rattle.wkb_c.proofs.Levels.{AreSmall, none_added}
 use Rattle.wkb_c.proofs.Reasons.{coordinates_tell_other}
-use Rattle.wkb_c.proofs.Rows.{below_more}
+use Rattle.wkb_c.proofs.Rows.{statuses_more}
 
 -- what was checked has coordinates
 pub has_coordinates : {c : Column} {dimension i : ℕ} {asked : Dimension} (row : List ℕ) → IsRow c i row
@@ -136,8 +136,6 @@ module _ {dimension status i : ℕ} {from to : Totals} {out before after : Level
     (done : LevelsSuffice dimension out from i statuses) (there : i < length statuses) where
   pub room_more : LevelsSuffice dimension out to (i + 1) (set statuses i status)
   room_more asked named room =
-      below_more (λ j. slice_index (set statuses i status) j ≡ NO_ROOM → ⊥) i
-      (λ j above told. done asked named (room_before asked out from to row.far room) j above
-      (sym (get_or-set_other statuses i j status 0 (λ same. omega (arith, same, above))) ∙ told))
-      (λ told. row.lacks asked named (room_in asked out before to long room)
-      (sym (get_or-set_same statuses i status 0 there) ∙ told))
+      statuses_more (λ j told. told ≡ NO_ROOM → ⊥) statuses i status there
+      (done asked named (room_before asked out from to row.far room))
+      (row.lacks asked named (room_in asked out before to long room))

@@ -9,11 +9,11 @@ use Rattle.std.proofs.lemmas.List.{take-append-drop, take-append-le, drop-append
 use Rattle.std.proofs.lemmas.List.{nil_from_length}
 use Rattle.std.proofs.lemmas.Slice.{drop-append-drop, between_to_end}
 use lib.ListN.{length-set}
-use lib.Seq.{get_or-set_same, get_or-set_other}
+use lib.Seq.{get_or-set_same, get_or-set_other, sets-eq, length-sets}
 use Rattle.wkb_c.specs.declared.status.TheConstants.{OK, NO_ROOM}
 use Rattle.wkb_c.specs.Room.{IsHeld, Exceeds}
 use Rattle.wkb_levels.specs.Cuts.{start_at}
-use Rattle.wkb_c.specs.RowItems.{end_of, IsRowAnswer, handed, no_room, failed, AreRowAnswers, KeepsAfter}
+use Rattle.wkb_c.specs.RowItems.{rows_of, end_of, IsRowAnswer, handed, no_room, failed, AreRowAnswers, KeepsAfter}
 use Rattle.wkb_c.specs.RowItems.{KeepsFrom, IsRowStep, put, lacks, nothing}
 use Rattle.wkb_c.proofs.Rows.{below_more}
 
@@ -54,15 +54,9 @@ drop_behind xs items start k there far =
 put_length : {A : Type 0} (xs items : List A) (start : ℕ) → start + length items ≤ length xs
     → length (take start xs ++ (items ++ drop (start + length items) xs)) ≡ length xs
 put_length xs items start there =
-    let end = start + length items in
-    omega (
-      arith,
-      there,
-      length-append (take start xs) (items ++ drop end xs),
-      length-append items (drop end xs),
-      length-drop end xs,
-      length-take-le start xs (omega (arith, there)),
-    )
+    ap length
+    (sym (append_assoc (take start xs) items (drop (start + length items) xs)) ∙ sym (sets-eq items xs start there))
+    ∙ length-sets xs start items
 
 -- ---- a step of one row
 
@@ -152,22 +146,46 @@ rows_first = record {
   kept = λ k far. refl;
 }
 
+-- lists in which the rows below this number are set, one after another
+pub record AreSet {A : Type 0} (rows : ℕ) (before statuses : List ℕ) (before' others : List A) : Type 0 where
+  pub as_many : length statuses ≡ length before
+  pub as_many_others : length others ≡ length before'
+  pub statuses_kept : KeepsFrom rows before statuses
+  pub others_kept : KeepsFrom rows before' others
+
+pub set_first : {A : Type 0} {rows : ℕ} {statuses : List ℕ} {others : List A}
+    → AreSet rows statuses statuses others others
+set_first = record { as_many = refl; as_many_others = refl; statuses_kept = refl; others_kept = refl }
+
+pub set_more : {A : Type 0} {rows : ℕ} {before statuses : List ℕ} {before' others : List A}
+    → AreSet rows before statuses before' others → (i status : ℕ) (x : A) → i < rows
+    → AreSet rows before (set statuses i status) before' (set others i x)
+set_more {rows = rows} {statuses = statuses} {others = others} are i status x below = record {
+  as_many = length-set statuses i status ∙ are.as_many;
+  as_many_others = length-set others i x ∙ are.as_many_others;
+  statuses_kept = drop-set-lt rows statuses i status below ∙ are.statuses_kept;
+  others_kept = drop-set-lt rows others i x below ∙ are.others_kept;
+}
+
 start_kept : (ends : List ℕ) (i e j : ℕ) → j ≤ i → start_at 0 (set ends i e) j ≡ start_at 0 ends j
 start_kept ends i e zero h = refl
 start_kept ends i e (suc j) h = get_or-set_other ends i j e 0 (λ same. omega (arith, same, h))
 
 module _ {A : Type 0} {Has : ℕ → List A → Type 0} {Fails : ℕ → ℕ → Type 0} {i at : ℕ} {statuses ends : List ℕ}
-    {before out new : List A} {status count end : ℕ} (done : RowsDone Has Fails i at statuses ends before out)
-    (step : IsRowStep Has Fails i status count at out new) (end_is : end ≡ end_of at count)
-    (small : length before < 2 ^ 64) (there : i < length statuses) (there' : i < length ends) where
+    {before out new : List A} {status count end rows : ℕ} {before_statuses before_ends : List ℕ}
+    (done : RowsDone Has Fails i at statuses ends before out)
+    (lists : AreSet rows before_statuses statuses before_ends ends)
+    (step : IsRowStep Has Fails i status count at out new)
+    (end_is : end ≡ end_of at count) (small : length before < 2 ^ 64) (below : i < rows)
+    (few : rows ≤ rows_of before_statuses before_ends) where
   small_out : length out < 2 ^ 64
   small_out = omega (arith, small, done.long)
 
   status_here : slice_index (set statuses i status) i ≡ status
-  status_here = get_or-set_same statuses i status 0 there
+  status_here = get_or-set_same statuses i status 0 (omega (arith, below, few, lists.as_many))
 
   end_here : slice_index (set ends i end) i ≡ end_of at count
-  end_here = get_or-set_same ends i end 0 there' ∙ end_is
+  end_here = get_or-set_same ends i end 0 (omega (arith, below, few, lists.as_many_others)) ∙ end_is
 
   status_above : (j : ℕ) → j < i → slice_index (set statuses i status) j ≡ slice_index statuses j
   status_above j above = get_or-set_other statuses i j status 0 (λ same. omega (arith, same, above))
@@ -204,27 +222,6 @@ module _ {A : Type 0} {Has : ℕ → List A → Type 0} {Fails : ℕ → ℕ →
         (λ j above ok. omega (arith, far j (omega (arith, above)) (status_above j above ∙ ok), end_above j above));
   }
 
--- lists in which the rows below this number are set, one after another
-pub record AreSet {A : Type 0} (rows : ℕ) (before statuses : List ℕ) (before' others : List A) : Type 0 where
-  pub as_many : length statuses ≡ length before
-  pub as_many_others : length others ≡ length before'
-  pub statuses_kept : KeepsFrom rows before statuses
-  pub others_kept : KeepsFrom rows before' others
-
-pub set_first : {A : Type 0} {rows : ℕ} {statuses : List ℕ} {others : List A}
-    → AreSet rows statuses statuses others others
-set_first = record { as_many = refl; as_many_others = refl; statuses_kept = refl; others_kept = refl }
-
-pub set_more : {A : Type 0} {rows : ℕ} {before statuses : List ℕ} {before' others : List A}
-    → AreSet rows before statuses before' others → (i status : ℕ) (x : A) → i < rows
-    → AreSet rows before (set statuses i status) before' (set others i x)
-set_more {rows = rows} {statuses = statuses} {others = others} are i status x below = record {
-  as_many = length-set statuses i status ∙ are.as_many;
-  as_many_others = length-set others i x ∙ are.as_many_others;
-  statuses_kept = drop-set-lt rows statuses i status below ∙ are.statuses_kept;
-  others_kept = drop-set-lt rows others i x below ∙ are.others_kept;
-}
-
 -- ---- a call for one row
 
 -- a call is lent what is at `start` or after it, and makes `sub` of it
@@ -236,7 +233,7 @@ pub record IsLent {A : Type 0} (start : ℕ) (before lent sub after : List A) : 
   pub long : length sub ≡ length lent
 
 -- what is borrowed from an index on, and what comes of it
-pub lent_rest : {A : Type 0} {start : ℕ} (xs sub : List A) (at : ℕ) → at ≡ min start (length xs)
+abbrev pub lent_rest : {A : Type 0} {start : ℕ} (xs sub : List A) (at : ℕ) → at ≡ min start (length xs)
     → length sub ≡ length (take (length xs - at) (drop at xs))
     → IsLent start xs (take (length xs - at) (drop at xs)) sub
     (take at xs ++ (sub ++ drop (length xs - at) (drop at xs)))

@@ -1,45 +1,36 @@
 -- How far the rows of a column reach, so that no two of them overlap.
 use Rattle.wkb_c.proofs.Common.{◌≡◌, ℕ, zero, suc, ◌+◌, ◌<◌, ◌≤◌, ◌⊎◌, inl, inr, List, [], length}
-use Rattle.wkb_c.proofs.Common.{ap, sym, subst, ◌∙◌, arith}
+use Rattle.wkb_c.proofs.Common.{ap, arith}
 use Rattle.std.specs.Prelude.{max, ◌-◌, drop}
 use Rattle.std.proofs.lemmas.List.{length-take}
 use Rattle.wkb_c.proofs.Rows.{below_more}
 use Rattle.wkb_c.specs.declared.column.Column.{Column}
-use Rattle.wkb_c.specs.Columns.{IsOffset, IsSpan, HasNoSpan, HasNoSlice, EndBy, IsReach, Reach, IsRow}
+use Rattle.wkb_c.specs.Columns.{IsSpan, HasNoSpan, HasNoSlice, EndBy, IsReach, IsRow}
 use Rattle.wkb_c.specs.Columns.{RowsFollow, RowsFit, total_length}
-
--- an offset is one number
-one_offset : (offsets : List ℕ) (size i n m : ℕ) → IsOffset offsets size i n → IsOffset offsets size i m → n ≡ m
-one_offset offsets size i n m a b = a.number_is ∙ sym b.number_is
 
 module _ (bytes offsets : List ℕ) (size : ℕ) where
   -- the rows before row i are among those before the next one
   fewer : (i limit : ℕ) → EndBy bytes offsets size (i + 1) limit → EndBy bytes offsets size i limit
   fewer i limit by = λ j start end below is. by j start end (omega (arith, below)) is
 
-  pub reach_more : (i reach start end : ℕ) → IsReach bytes offsets size i reach
-      → IsSpan bytes offsets size i start end → IsReach bytes offsets size (i + 1) (max reach end)
-  reach_more i reach start end r own = record {
-    enough = λ j s e below is. below_more (λ j. (s e : ℕ) → IsSpan bytes offsets size j s e → e ≤ max reach end) i
-        (λ j above s e is. omega (arith, r.enough j s e above is))
-        (λ s e is. omega (arith, one_offset offsets size (i + 1) e end is.end_is own.end_is)) j below s e is;
-    least = λ limit by. omega (arith, r.least limit (fewer i limit by), by i start end (omega arith) own);
+  -- so far the rows reach with a row that has bytes, where the greater end is told
+  pub reached : {i reach start end to : ℕ} → to ≡ max reach end → IsReach bytes offsets size i reach
+      → IsSpan bytes offsets size i start end → IsReach bytes offsets size (i + 1) to
+  reached {i} {reach} {start} {end} {to} to_is r own = record {
+    enough = λ j s e below is. below_more (λ j. (s e : ℕ) → IsSpan bytes offsets size j s e → e ≤ to) i
+        (λ j above s e is. omega (arith, r.enough j s e above is, to_is))
+        (λ s e is. omega (arith, is.end_is.number_is, own.end_is.number_is, to_is)) j below s e is;
+    least = λ limit by. omega (arith, r.least limit (fewer i limit by), by i start end (omega arith) own, to_is);
   }
 
-  pub reach_same : (i reach : ℕ) → IsReach bytes offsets size i reach → HasNoSpan bytes offsets size i
+  -- and with a row that has none
+  pub reach_same : {i reach : ℕ} → IsReach bytes offsets size i reach → HasNoSpan bytes offsets size i
       → IsReach bytes offsets size (i + 1) reach
-  reach_same i reach r none = record {
+  reach_same {i} {reach} r none = record {
     enough = λ j s e below is. below_more (λ j. (s e : ℕ) → IsSpan bytes offsets size j s e → e ≤ reach) i
         (λ j above s e is. r.enough j s e above is) (λ s e is. absurd (none s e is)) j below s e is;
     least = λ limit by. r.least limit (fewer i limit by);
   }
-
--- so far the rows reach with a row that has bytes, where the greater end is told
-pub reached : {i reach start end to : ℕ} (c : Column) → to ≡ max reach end → Reach c i reach
-    → IsSpan c.bytes.now c.offsets.now c.offset_size i start end → Reach c (i + 1) to
-reached {i} {reach} {start} {end} c to_is r own =
-    subst (Reach c (i + 1)) (sym to_is)
-    (reach_more c.bytes.now c.offsets.now c.offset_size i reach start end r own)
 
 -- without a span there is no slice
 pub no_span : {i : ℕ} (c : Column) → HasNoSpan c.bytes.now c.offsets.now c.offset_size i

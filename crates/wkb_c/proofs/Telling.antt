@@ -3,7 +3,7 @@ use Rattle.wkb_c.proofs.Common.{◌≡◌, ◌≢◌, ℕ, List, refl, arith, sy
 use Rattle.wkb_c.proofs.Common.{header, Spelling, Spells}
 use Rattle.wkb_geom.specs.Fronts.{Front}
 use Rattle.wkb_geom.specs.Grammar.{Begins}
-use Rattle.wkb_geom.specs.declared.error.Cause.TheVariants.{EndOfInput as end_of_input, General as general}
+use Rattle.wkb_geom.specs.declared.error.Cause.TheVariants.{General as general}
 use Rattle.wkb_geom.specs.declared.error.General.{General as Bad}
 use Rattle.wkb_geom.specs.declared.error.General.TheVariants.{InvalidByteOrder, CodeOutOfRange, UnsupportedDimensions}
 use Rattle.wkb_laws.proofs.Complete.{head_of}
@@ -18,7 +18,6 @@ use Rattle.wkb_c.specs.Classes.{IsRefusalStatus, IsShortStatus}
 use Rattle.wkb_c.specs.Columns.{IsRefusedWith}
 use Rattle.wkb_c.specs.EnumNumbers.{AreRefusals, OthersTellNoEnd}
 use Rattle.wkb_c.specs.Statuses.{general_status, general_fault, cause_status, cause_fault}
-use Rattle.wkb_c.specs.Subjects.{HasParts}
 
 general_is_refusal : (g : Bad) → IsRefusalStatus (general_status g)
 general_is_refusal InvalidByteOrder = omega arith
@@ -26,7 +25,6 @@ general_is_refusal _ = omega arith
 
 -- each cause has a status of the class of refusals
 pub refusals : AreRefusals
-refusals end_of_input = omega arith
 refusals (general g) = general_is_refusal g
 refusals _ = omega arith
 
@@ -40,7 +38,6 @@ general_tells_end (UnsupportedDimensions n) part offset long = (refl, refl)
 general_tells_end _ part offset long = absurd (long (omega arith))
 
 pub others_tell_no_end : OthersTellNoEnd
-others_tell_no_end end_of_input part offset long = (refl, refl)
 others_tell_no_end (general g) part offset long = general_tells_end g part offset long
 others_tell_no_end _ part offset long = (refl, refl)
 
@@ -64,11 +61,6 @@ refused_with buf e status r is = (
 -- what is found is accepted
 pub found_is_accepted : (buf : List ℕ) (f : Summary) → DescribesFront buf f → IsAccepted buf
 found_is_accepted buf f d = record { s = d.spelled; t = d.value; rest = d.rest; front = d.front }
-
--- and has as many parts as were found
-abbrev pub found_has_parts : (buf : List ℕ) (f : Summary) → DescribesFront buf f → HasParts buf f.parts
-found_has_parts buf f d =
-    record { s = d.spelled; t = d.value; rest = d.rest; front = d.front; many_are = omega (arith, d.described.parts) }
 
 -- the bytes of what is in front
 abbrev pub begins : (buf : List ℕ) (s : Spelling) (t : Value) (rest : List ℕ) → Front buf s t rest

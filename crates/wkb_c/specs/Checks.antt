@@ -1,5 +1,5 @@
 -- What `wkb_check` reports of the geometry at the front of an input.
-use Rattle.std.specs.Prelude.{◌≡◌, ℕ, suc, List, length, is_some, unwrap_or}
+use Rattle.std.specs.Prelude.{◌≡◌, ◌≢◌, ℕ, suc, List, length, is_some, unwrap_or}
 use mir.Val.{bool_byte as from_bool}
 use Rattle.wkb_geom.specs.Codes.{thousands}
 use Rattle.wkb_geom.specs.Dimensions.{width}
@@ -9,8 +9,13 @@ use Rattle.wkb_geom.specs.Spellings.{Spelling, header}
 use Rattle.wkb_geom.specs.Fronts.{Front}
 use Rattle.wkb_check.specs.Counted.{coordinate_count}
 use Rattle.wkb_check.specs.Pieces.{count_of, leading}
+use Rattle.wkb_check.specs.Public.{DescribesFront}
+use Rattle.wkb_check.specs.declared.answer.Summary.{Summary}
 use Rattle.wkb_check.specs.declared.parts.Part.{Part}
+use Rattle.wkb_c.specs.declared.fault.WkbFault.{WkbFault}
 use Rattle.wkb_c.specs.declared.found.Found.{Found}
+use Rattle.wkb_c.specs.declared.status.TheConstants.{OK, NO_MEMORY}
+use Rattle.wkb_c.specs.Statuses.{IsFault}
 
 -- the input begins with a geometry, and these are its numbers
 pub record IsFound (input : List ℕ) (found : Found) : Type 0 where
@@ -29,6 +34,18 @@ pub record IsFound (input : List ℕ) (found : Found) : Type 0 where
   pub has_srid_is : found.has_srid ≡ from_bool (is_some (header s).srid)
   pub srid_is : found.srid ≡ unwrap_or (header s).srid 0
   pub order_is : found.order ≡ order_byte (header s).order
+
+-- what a call does that reports the geometry at the front of an input, or why there is none
+pub record TellsFound (input : List ℕ) (before after : Found) (fault fault' : WkbFault) (status : ℕ) : Type 0 where
+  pub accepted : status ≡ OK → IsFound input after
+  pub refused : status ≢ OK → IsFault input status fault'
+  pub no_memory : status ≢ NO_MEMORY
+  pub found_kept : status ≢ OK → after ≡ before
+  pub fault_kept : status ≡ OK → fault' ≡ fault
+
+-- where the coordinates, rings or members begin of the geometry that the check found
+abbrev pub content_start : {input : List ℕ} {f : Summary} → DescribesFront input f → ℕ
+content_start d = leading (header d.spelled) d.value
 
 -- the entry of a geometry that is its only part
 abbrev pub whole_entry : Found → Part

@@ -1,12 +1,14 @@
 -- One geometry whose members are the geometries that the rows of a column begin with.
-use Rattle.std.specs.Prelude.{◌≡◌, ℕ, suc, ◌<◌, ◌≤◌, List, ◌++◌, length, Option, Some, None, false, nat_lt}
-use Rattle.std.specs.Prelude.{◌||◌, if◌then◌else◌}
+use Rattle.std.specs.Prelude.{◌≡◌, ◌≢◌, ℕ, suc, ◌+◌, ◌^◌, ◌<◌, ◌≤◌, List, ◌++◌, length, Option, Some, None, false}
+use Rattle.std.specs.Prelude.{nat_lt, ◌||◌, if◌then◌else◌}
+use lib.Seq.{sets}
 use Rattle.wkb_geom.specs.declared.code.TheConstants.{MULTI_POINT, GEOMETRY_COLLECTION}
+use Rattle.wkb_geom.specs.declared.code.WkbType.{WkbType}
 use Rattle.wkb_geom.specs.declared.common.Dimension.{Dimension}
 use Rattle.wkb_geom.specs.Encodings.{encodings}
 use Rattle.wkb_geom.specs.Fronts.{FrontWithin, max_nesting}
 use Rattle.wkb_geom.specs.Geometries.{geometries_of}
-use Rattle.wkb_geom.specs.Reading.{type_of}
+use Rattle.wkb_geom.specs.Reading.{type_of, type_kind, type_dimension}
 use Rattle.wkb_geom.specs.Spellings.{Spelling, Wanted, IsPart, member_part}
 use Rattle.wkb_geom.specs.Values.{Value, Values, no_members, member, kind, dimension, members, count, nest}
 use Rattle.wkb_check.specs.Public.{member_room}
@@ -38,6 +40,10 @@ abbrev pub collect_asked : ℕ → ℕ → Options → Option CollectTarget
 collect_asked kind dimension o =
     if nat_lt kind MULTI_POINT || nat_lt GEOMETRY_COLLECTION kind then None
     else collect_with kind (dimension_named dimension) (request_of o)
+
+-- the numbers mean something, and ask for more members than a count holds
+abbrev pub AsksForTooMany : ℕ → ℕ → Options → ℕ → Type 0
+AsksForTooMany kind dimension o rows = (collect_asked kind dimension o ≢ None) × (2 ^ 32 ≤ rows)
 
 -- ---- members
 
@@ -135,6 +141,10 @@ pub data IsStatusOfCollecting (status : ℕ) : Type 0 where
 abbrev pub part_of : CollectTarget → Wanted
 part_of target = member_part target.kind target.dimension
 
+-- a geometry of this type is such a member, once its SRID is dropped
+abbrev pub Takes : CollectTarget → WkbType → Type 0
+Takes target t = IsPart (part_of target) (type_kind t) (type_dimension t) false
+
 -- the options of a target's members
 abbrev pub inner_of : CollectTarget → WriteOptions
 inner_of target = inner_options target.options
@@ -159,6 +169,16 @@ pub record RowIsMeasured (c : Column) (target : CollectTarget) (i size : ℕ) : 
   pub row : List ℕ
   pub is : IsRow c i row
   pub found : IsMeasuredFound target row size
+
+-- there is room from this index on for the encodings of the members that these rows begin with
+abbrev pub MembersFit : Column → CollectTarget → ℕ → ℕ → List ℕ → Type 0
+MembersFit c target rows start out =
+    (m : HaveMembers c (part_of target) rows) → start + length (inside_of target m.values) ≤ length out
+
+-- these encodings are put from this index on, and nothing else changes
+abbrev pub PutsMembers : Column → CollectTarget → ℕ → ℕ → List ℕ → List ℕ → Type 0
+PutsMembers c target rows start before after =
+    (m : HaveMembers c (part_of target) rows) → after ≡ sets before start (inside_of target m.values)
 
 -- the encodings of the members that these rows begin with are together this long
 pub record AreMeasured (c : Column) (target : CollectTarget) (rows size : ℕ) : Type 0 where

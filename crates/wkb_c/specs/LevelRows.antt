@@ -4,7 +4,7 @@ use Rattle.wkb_levels.specs.EndLists.{ends_of}
 use Rattle.wkb_levels.specs.RowWrites.{HasRowEncoding}
 use Rattle.wkb_c.specs.Columns.{is_unset_bit}
 use Rattle.wkb_c.specs.LevelTargets.{levels_in, target_asked}
-use Rattle.wkb_c.specs.RowItems.{rows_of, AreRowAnswers, IsRowStep}
+use Rattle.wkb_c.specs.RowItems.{rows_of, AreRowAnswers, IsRowStep, KeepsAfter, LastEndSuffices}
 use Rattle.wkb_c.specs.declared.from_coordinates.LevelColumn.{LevelColumn}
 use Rattle.wkb_c.specs.declared.from_coordinates.LevelTarget.{LevelTarget}
 use Rattle.wkb_c.specs.declared.options.Options.{Options}
@@ -36,8 +36,16 @@ IsLevelStep c asked i told start before after =
 abbrev pub level_rows : LevelColumn → List ℕ → List ℕ → ℕ
 level_rows c statuses ends = min (rows_of statuses ends) (length (ends_of (levels_in c).row_ends))
 
+-- after the last encoding of these rows nothing has changed
+abbrev pub KeepsLevelRest : LevelColumn → List ℕ → List ℕ → List ℕ → List ℕ → Type 0
+KeepsLevelRest c statuses ends before after = KeepsAfter (level_rows c statuses ends) statuses ends before after
+
+-- with room up to the end of the last of these rows none of them lacks room
+abbrev pub LastLevelEndSuffices : LevelColumn → List ℕ → List ℕ → List ℕ → Type 0
+LastLevelEndSuffices c statuses ends out = LastEndSuffices (level_rows c statuses ends) statuses ends out
+
 -- the encodings of the rows of a column, as the numbers ask for them
-abbrev pub AreLevelEncodings : ℕ → ℕ → Options → LevelColumn → List ℕ → List ℕ → List ℕ → Type 0
-AreLevelEncodings kind dimension o c statuses ends out =
+abbrev pub EncodeLevels : ℕ → ℕ → Options → LevelColumn → List ℕ → List ℕ → List ℕ → Type 0
+EncodeLevels kind dimension o c statuses ends out =
     AreRowAnswers (HasLevelEncoding c (target_asked kind dimension o)) (LacksLevels c (target_asked kind dimension o))
     (level_rows c statuses ends) statuses ends out

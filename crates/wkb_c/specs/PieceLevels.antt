@@ -1,24 +1,29 @@
 -- What one piece of a geometry gives each level: the code's step.
-use Rattle.std.specs.Prelude.{ℕ, ◌+◌, ◌-◌, ◌*◌, ◌≤◌, List, [], ◌∷◌, length, drop, flat_map, nat_lt, ◌&&◌, IsTrue}
-use Rattle.std.specs.Prelude.{if◌then◌else◌}
+use Rattle.std.specs.Prelude.{◌≡◌, ℕ, ◌+◌, ◌-◌, ◌*◌, ◌^◌, ◌<◌, ◌≤◌, List, [], ◌∷◌, length, drop, sum, flat_map, nat_lt}
+use Rattle.std.specs.Prelude.{◌&&◌, IsTrue, if◌then◌else◌}
 use lib.Seq.{sets}
 use Rattle.wkb_geom.specs.declared.common.Endianness.{Endianness}
 use Rattle.wkb_geom.specs.declared.common.Dimension.{Dimension}
 use Rattle.wkb_geom.specs.declared.code.TheConstants.{POLYGON}
 use Rattle.wkb_geom.specs.Dimensions.{width}
-use Rattle.wkb_geom.specs.Reading.{coordinates}
+use Rattle.wkb_geom.specs.Reading.{coordinate, coordinates}
 use Rattle.wkb_check.specs.declared.answer.Summary.{Summary}
 use Rattle.wkb_check.specs.declared.pieces.Piece.{Piece}
 use Rattle.wkb_check.specs.Bounded.{HasGeometry}
 use Rattle.wkb_check.specs.Pieces.{IsPieceAt}
 use Rattle.wkb_check.specs.Public.{DescribesFront}
 use Rattle.wkb_check.specs.Subjects.{subjects}
-use Rattle.wkb_c.specs.Coordinates.{words_asked, ends, AreTotals}
+use Rattle.wkb_c.specs.Coordinates.{LevelLists, words_asked, ends, AreTotals}
+use Rattle.wkb_c.specs.RowItems.{end_of}
 use Rattle.wkb_c.specs.declared.coordinates.Totals.{Totals}
 
 -- how many coordinates it has, if it is a ring
 abbrev pub ring_sizes : Piece → List ℕ
 ring_sizes p = if nat_lt p.kind 3 then p.count ∷ [] else []
+
+-- how many coordinates there are up to its end, after so many before it
+abbrev pub coordinates_with : Piece → Totals → ℕ
+coordinates_with p at = at.coordinates + sum (ring_sizes p)
 
 -- how many rings it has, if it is a single
 abbrev pub single_sizes : Piece → List ℕ
@@ -50,6 +55,10 @@ IsRingInside row p = IsTrue (nat_lt p.kind POLYGON) → AreInside row p.dimensio
 abbrev pub coordinates_as : Endianness → Dimension → List ℕ → Piece → List (List ℕ)
 coordinates_as order own row p = coordinates order own p.count (drop p.offset row)
 
+-- the words that are asked for of the coordinate that is read from here on in this order and dimension
+abbrev pub words_read : Dimension → Endianness → Dimension → List ℕ → ℕ → List ℕ
+words_read asked order own row from = words_asked asked own (coordinate order own (drop from row))
+
 -- the words that are asked for of these
 abbrev pub words_as : Dimension → Endianness → Dimension → List ℕ → Piece → List ℕ
 words_as asked order own row p = flat_map (words_asked asked own) (coordinates_as order own row p)
@@ -77,3 +86,24 @@ with_ring_end p at ring_ends = sets ring_ends at.rings (ends at.coordinates (rin
 -- the list of single ends with its own, if it is a single
 abbrev pub with_single_end : Piece → Totals → List ℕ → List ℕ
 with_single_end p at single_ends = sets single_ends at.singles (ends at.rings (single_sizes p))
+
+-- the row has the coordinates of a piece, and there is room for what it gives each level
+pub record PieceFits (asked : Dimension) (row : List ℕ) (p : Piece) (at : Totals) (out : LevelLists) : Type 0 where
+  pub inside : IsRingInside row p
+  pub words_fit : width asked * coordinates_with p at ≤ length out.words
+  pub ring_ends_fit : at.rings + length (ring_sizes p) ≤ length out.ring_ends
+  pub single_ends_fit : at.singles + length (single_sizes p) ≤ length out.single_ends
+  pub small : at.rings < 2 ^ 63
+
+-- what a piece gives each level is written
+pub record PutsPiece (asked : Dimension) (row : List ℕ) (p : Piece) (at : Totals) (before after : LevelLists) : Type 0
+  where
+    pub words : after.words ≡ with_words asked row p at before.words
+    pub ring_ends : after.ring_ends ≡ with_ring_end p at before.ring_ends
+    pub single_ends : after.single_ends ≡ with_single_end p at before.single_ends
+
+-- these are the totals after one more piece
+pub record AreTotalsWith (at : Totals) (p : Piece) (to : Totals) : Type 0 where
+  pub coordinates : to.coordinates ≡ end_of at.coordinates (sum (ring_sizes p))
+  pub rings : to.rings ≡ end_of at.rings (length (ring_sizes p))
+  pub singles : to.singles ≡ end_of at.singles (length (single_sizes p))

@@ -63,6 +63,10 @@ abbrev pub KeepsAfter : {A : Type 0} → ℕ → List ℕ → List ℕ → List 
 KeepsAfter rows statuses ends before after =
     (k : ℕ) → ((i : ℕ) → i < rows → slice_index statuses i ≡ OK → slice_index ends i ≤ k) → drop k after ≡ drop k before
 
+-- after the last items of the rows that both lists have entries for nothing has changed
+abbrev pub KeepsRest : {A : Type 0} → List ℕ → List ℕ → List A → List A → Type 0
+KeepsRest statuses ends before after = KeepsAfter (rows_of statuses ends) statuses ends before after
+
 -- with this room none of the rows below this number lacks room
 abbrev pub NoneLacksRoom : Type 0 → ℕ → List ℕ → Type 0
 NoneLacksRoom Room rows statuses = Room → (i : ℕ) → i < rows → slice_index statuses i ≡ NO_ROOM → ⊥

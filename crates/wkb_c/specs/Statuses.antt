@@ -11,6 +11,8 @@ use Rattle.wkb_geom.specs.declared.error.Cause.TheVariants.{EndOfInput as end_of
 use Rattle.wkb_geom.specs.declared.error.Cause.TheVariants.{IncorrectType as incorrect_type}
 use Rattle.wkb_geom.specs.declared.error.Cause.TheVariants.{NestingDepthExceeded as nesting_depth_exceeded}
 use Rattle.wkb_geom.specs.Refusals.{Refuses, left_in}
+use Rattle.wkb_check.specs.Public.{IsRefusedForWithin}
+use Rattle.wkb_check.specs.declared.answer.Refused.{Refused}
 use Rattle.wkb_rewrite.specs.Inputs.{IsAccepted, HaveOneValue, HaveTwoValues}
 use Rattle.wkb_c.specs.Classes.{IsRefusalStatus}
 use Rattle.wkb_c.specs.declared.status.TheConstants.{OK, NO_ROOM, UNKNOWN_OPTION}
@@ -75,6 +77,11 @@ pub record IsFaultWithin (room : ℕ) (input : List ℕ) (status : ℕ) (fault :
   pub status_is : status ≡ cause_status cause
   pub fault_is : fault ≡ cause_fault turns offset cause
   pub begins : offset + length (left_in refuses) ≡ length input
+
+-- whatever input is refused so, with whatever room, this status and this fault say so
+abbrev pub ReportsRefusal : Refused → ℕ → WkbFault → Type 0
+ReportsRefusal e status fault =
+    (room : ℕ) (input : List ℕ) → IsRefusedForWithin room input e → IsFaultWithin room input status fault
 
 -- The input is refused. The status says why, and the fault says which part, its numbers, and where it begins.
 abbrev pub IsFault : List ℕ → ℕ → WkbFault → Type 0

@@ -1,12 +1,13 @@
 -- The bytes that an encoding is written into.
-use Rattle.std.specs.Prelude.{◌≡◌, ◌≢◌, ◌⊎◌, ℕ, ◌+◌, ◌≤◌, List, length, Some, None}
+use Rattle.std.specs.Prelude.{◌≡◌, ◌≢◌, ◌⊎◌, ◌↔◌, ℕ, ◌+◌, ◌≤◌, List, length, Some, None}
 use Rattle.wkb_c.specs.Room.{IsHeld, Exceeds}
 use Rattle.wkb_c.specs.declared.options.Options.{Options}
 use Rattle.wkb_c.specs.declared.options.Request.{Request}
 use Rattle.wkb_c.specs.declared.fault.WkbFault.{WkbFault}
 use Rattle.wkb_c.specs.declared.status.TheConstants.{OK, NO_ROOM, UNKNOWN_OPTION}
 use Rattle.wkb_c.specs.Requests.{request_of, IsRequested}
-use Rattle.wkb_c.specs.Statuses.{IsFault}
+use Rattle.wkb_c.specs.Classes.{IsRefusalStatus, IsNoRefusal}
+use Rattle.wkb_c.specs.Statuses.{IsFault, IsStatusOfWriting}
 
 -- the encoding that is asked for was written
 pub record IsHandedOut (request : Request) (input before after : List ℕ) (size : ℕ) : Type 0 where
@@ -41,6 +42,19 @@ pub record WantsRoom (o : Options) (input before : List ℕ) (size : ℕ) : Type
   pub request : Request
   pub asked : request_of o ≡ Some request
   pub lacks : FindsNoRoom request input before size
+
+-- what a call does that writes the encoding that the options ask for
+pub record Encodes (o : Options) (input before after : List ℕ) (size size' : ℕ) (fault fault' : WkbFault)
+    (status : ℕ) : Type 0 where
+  pub written : status ≡ OK → WritesEncoding o input before after size'
+  pub no_room : status ≡ NO_ROOM → WantsRoom o input before size'
+  pub unknown : (status ≡ UNKNOWN_OPTION) ↔ (request_of o ≡ None)
+  pub bound : (status ≡ OK) ⊎ (status ≡ NO_ROOM) → size' ≤ length input + 4
+  pub refused : IsRefusalStatus status → IsFault input status fault'
+  pub known : IsStatusOfWriting status
+  pub out_kept : status ≢ OK → after ≡ before
+  pub size_kept : status ≢ OK → status ≢ NO_ROOM → size' ≡ size
+  pub fault_kept : IsNoRefusal status → fault' ≡ fault
 
 -- the encoding that the options ask for of the input's geometry
 pub record HasEncoding (o : Options) (input encoding : List ℕ) : Type 0 where

@@ -1,16 +1,14 @@
 //! One geometry whose members are the geometries that the rows of a column begin with.
 
 ghost use Rattle.std.specs.Prelude.{◌≡◌, ◌≢◌, ◌⊎◌, ◌↔◌, ◌+◌, ◌<◌, ◌≤◌, ◌^◌, length, true, false, None, IfOk, IfErr};
-ghost use lib.Seq.{sets};
-ghost use Rattle.wkb_geom.specs.Reading.{type_kind, type_dimension};
-ghost use Rattle.wkb_geom.specs.Spellings.{IsPart};
 ghost use Rattle.wkb_check.specs.Public.{DescribesFrontWithin, member_room};
 ghost use Rattle.wkb_rewrite.specs.Inputs.{IsAccepted};
 ghost use Rattle.wkb_rewrite.specs.Shares.{IsPut};
 ghost use Rattle.wkb_rewrite.specs.Targets.{encoding_for};
 ghost use Rattle.wkb_sink.specs.Blocks.{LaysAt};
 ghost use Rattle.wkb_c.specs.Classes.{IsRefusalStatus, IsNoRefusal, TellsOfRow};
-ghost use Rattle.wkb_c.specs.Collections.{collect_asked, part_of, inner_of, front_of, inside_of};
+ghost use Rattle.wkb_c.specs.Collections.{collect_asked, AsksForTooMany, part_of, Takes, inner_of, front_of};
+ghost use Rattle.wkb_c.specs.Collections.{MembersFit, PutsMembers};
 ghost use Rattle.wkb_c.specs.Collections.{HaveMembers, IsUnwanted, IsUnfit, IsFirstUnfit, IsFirstUnfitFor};
 ghost use Rattle.wkb_c.specs.Collections.{IsMeasuredFound, RowIsMeasured, AreMeasured, PutsCollected, WholeExceeds};
 ghost use Rattle.wkb_c.specs.Collections.{WritesCollected, CollectedExceeds, IsStatusOfCollecting};
@@ -62,9 +60,8 @@ fn collect_target_of(kind: u32, dimension: u32, options: &Options) -> Option<Col
 impl CollectTarget {
     /// Whether a geometry of this type is one of its members, once its SRID is dropped.
     fn takes(&self, member: WkbType) -> bool
-        ensures fits { result ≡ true → IsPart (part_of self.now) (type_kind member) (type_dimension member) false }
-        ensures unfit { result ≡ false → IsPart (part_of self.now) (type_kind member) (type_dimension member) false
-            → ⊥ }
+        ensures fits { result ≡ true → Takes self.now member }
+        ensures unfit { result ≡ false → Takes self.now member → ⊥ }
     {
         // No kind has a greater number than a collection, which takes any member.
         self.kind >= GEOMETRY_COLLECTION
@@ -238,10 +235,8 @@ fn put_row_members(
 )
     requires few { rows < 2 ^ 32 }
     requires here { HaveMembers column.now (part_of target.now) rows }
-    requires room { (m : HaveMembers column.now (part_of target.now) rows)
-        → start + length (inside_of target.now m.values) ≤ length out.old }
-    ensures { (m : HaveMembers column.now (part_of target.now) rows)
-        → out.new ≡ sets out.old start (inside_of target.now m.values) }
+    requires room { MembersFit column.now target.now rows start out.old }
+    ensures { PutsMembers column.now target.now rows start out.old out.new }
 {
     let options = target.inner();
     let mut reach = 0;
@@ -308,8 +303,7 @@ pub extern "C" fn wkb_raw_collect(
     ensures no_room { result ≡ NO_ROOM → CollectedExceeds column.now rows kind dimension options.now
         out.old size.new }
     ensures unknown { (result ≡ UNKNOWN_OPTION) ↔ (collect_asked kind dimension options.now ≡ None) }
-    ensures too_many { (result ≡ TOO_MANY_ROWS)
-        ↔ ((collect_asked kind dimension options.now ≢ None) × (2 ^ 32 ≤ rows)) }
+    ensures too_many { (result ≡ TOO_MANY_ROWS) ↔ AsksForTooMany kind dimension options.now rows }
     ensures refused { TellsOfRow result → IsFirstUnfitFor kind dimension column.now rows row.new
         result fault.new }
     ensures bound { (result ≡ OK) ⊎ (result ≡ NO_ROOM) → size.new ≤ length column.now.bytes.now + 13 }

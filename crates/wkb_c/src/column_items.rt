@@ -4,7 +4,7 @@ ghost use Rattle.std.specs.Prelude.{◌≡◌, ◌+◌, ◌<◌, ◌^◌, length
 ghost use Rattle.wkb_c.specs.Classes.{FitsByte};
 ghost use Rattle.wkb_c.specs.Columns.{Reach};
 ghost use Rattle.wkb_c.specs.RowItems.{rows_of, AreTables, AreEncodings, IsTableStep, IsEncodingStep};
-ghost use Rattle.wkb_c.specs.RowItems.{KeepsAfter, KeepsFrom, LastEndSuffices};
+ghost use Rattle.wkb_c.specs.RowItems.{KeepsRest, KeepsFrom, LastEndSuffices};
 
 use crate::column::{Column, check_row};
 use crate::encoding::write_requested;
@@ -94,8 +94,7 @@ pub extern "C" fn wkb_raw_column_parts(
 )
     ensures each { AreTables column.now statuses.new ends.new parts.new }
     ensures room { LastEndSuffices (rows_of statuses.old ends.old) statuses.new ends.new parts.old }
-    ensures parts_kept { KeepsAfter (rows_of statuses.old ends.old) statuses.new ends.new
-        parts.old parts.new }
+    ensures parts_kept { KeepsRest statuses.new ends.new parts.old parts.new }
     ensures statuses_kept { KeepsFrom (rows_of statuses.old ends.old) statuses.old statuses.new }
     ensures ends_kept { KeepsFrom (rows_of statuses.old ends.old) ends.old ends.new }
     ensures as_many { length statuses.new ≡ length statuses.old }
@@ -126,8 +125,7 @@ pub extern "C" fn wkb_raw_column_write(
 )
     ensures each { AreEncodings options.now column.now statuses.new ends.new out.new }
     ensures room { LastEndSuffices (rows_of statuses.old ends.old) statuses.new ends.new out.old }
-    ensures out_kept { KeepsAfter (rows_of statuses.old ends.old) statuses.new ends.new
-        out.old out.new }
+    ensures out_kept { KeepsRest statuses.new ends.new out.old out.new }
     ensures statuses_kept { KeepsFrom (rows_of statuses.old ends.old) statuses.old statuses.new }
     ensures ends_kept { KeepsFrom (rows_of statuses.old ends.old) ends.old ends.new }
     ensures as_many { length statuses.new ≡ length statuses.old }

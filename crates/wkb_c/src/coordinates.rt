@@ -9,12 +9,13 @@ ghost use Rattle.wkb_geom.specs.Reading.{coordinate};
 ghost use Rattle.wkb_check.specs.Bounded.{HasGeometry};
 ghost use Rattle.wkb_check.specs.Pieces.{IsPieceAt};
 ghost use Rattle.wkb_check.specs.Public.{DescribesFront};
-ghost use Rattle.wkb_c.specs.Coordinates.{dimension_named, z_of, m_of, words_asked, HasRoomUpTo};
+ghost use Rattle.wkb_c.specs.Coordinates.{dimension_named, z_of, m_of, HasRoomUpTo};
 ghost use Rattle.wkb_c.specs.Coordinates.{totals_after};
 ghost use Rattle.wkb_c.specs.LevelLists.{levels_of, AreSameSlices, HasRoomFor, PutsLevels};
-ghost use Rattle.wkb_c.specs.PieceLevels.{ring_sizes, single_sizes, AreInside, IsRingInside, words_as};
+ghost use Rattle.wkb_c.specs.PieceLevels.{ring_sizes, single_sizes, AreInside, IsRingInside, words_read, words_as};
 ghost use Rattle.wkb_c.specs.PieceLevels.{words_asked_of, with_words, with_ring_end, with_single_end};
-ghost use Rattle.wkb_c.specs.PieceLevels.{ring_number, single_number, AreTotalsOf};
+ghost use Rattle.wkb_c.specs.PieceLevels.{coordinates_with, AreTotalsWith, ring_number, single_number, AreTotalsOf};
+ghost use Rattle.wkb_c.specs.PieceLevels.{PieceFits, PutsPiece};
 ghost use Rattle.wkb_c.specs.RowItems.{end_of};
 ghost use Rattle.wkb_check.specs.Subjects.{subjects};
 
@@ -96,7 +97,7 @@ fn put_coordinate(
 )
     requires inside { from + 8 * width own ≤ length row.now }
     requires room { at + width asked ≤ length out.old }
-    ensures { out.new ≡ sets out.old at (words_asked asked own (coordinate order own (drop from row.now))) }
+    ensures { out.new ≡ sets out.old at (words_read asked order own row.now from) }
 {
     // Both are read before the first is stored, so that they are moved at once.
     let x = u64_at(row, from, order);
@@ -195,9 +196,7 @@ impl Totals {
     /// The totals after one more piece. A total that doesn't fit stays at the greatest `u64`.
     #[inline(always)]
     fn with(self, piece: &Piece) -> Totals
-        ensures coordinates { result.coordinates ≡ end_of self.coordinates (sum (ring_sizes piece.now)) }
-        ensures rings { result.rings ≡ end_of self.rings (length (ring_sizes piece.now)) }
-        ensures singles { result.singles ≡ end_of self.singles (length (single_sizes piece.now)) }
+        ensures { AreTotalsWith self piece.now result }
     {
         let ring = piece.has_coordinates();
         let coordinates = if ring { piece.count as u64 } else { 0 };
@@ -294,7 +293,7 @@ fn put_ring(
     ring_ends: &mut [u64],
 )
     requires inside { IsRingInside row.now piece.now }
-    requires words_fit { width asked * (at.coordinates + sum (ring_sizes piece.now)) ≤ length words.old }
+    requires words_fit { width asked * coordinates_with piece.now at ≤ length words.old }
     requires ends_fit { at.rings + length (ring_sizes piece.now) ≤ length ring_ends.old }
     ensures words { words.new ≡ with_words asked row.now piece.now at words.old }
     ensures ends { ring_ends.new ≡ with_ring_end piece.now at ring_ends.old }
@@ -325,18 +324,21 @@ fn put_single(piece: &Piece, at: Totals, single_ends: &mut [u64])
     single_ends[at.singles as usize] = at.rings + rings;
 }
 
-/// Writes the levels of a row that is a point or a line string.
+/// Writes what a piece gives each level.
 #[inline(always)]
-fn put_alone(row: &[u8], only: &Piece, from: Totals, asked: Dimension, out: &mut LevelSlices<'_>)
-    requires here { HasGeometry row.now }
-    requires only { IsPieceAt row.now 0 only.now }
-    requires low { nat_lt only.now.kind POLYGON ≡ true }
-    requires room { HasRoomFor asked row.now from out.old }
-    ensures levels { PutsLevels asked row.now from out.old out.new }
+fn put_piece_levels(
+    row: &[u8],
+    piece: &Piece,
+    asked: Dimension,
+    at: Totals,
+    out: &mut LevelSlices<'_>,
+)
+    requires { PieceFits asked row.now piece.now at (levels_of out.old) }
+    ensures put { PutsPiece asked row.now piece.now at (levels_of out.old) (levels_of out.new) }
     ensures same_slices { AreSameSlices out.old out.new }
 {
-    put_ring(row, only, asked, from, out.words, out.ring_ends);
-    put_single(only, from, out.single_ends);
+    put_ring(row, piece, asked, at, out.words, out.ring_ends);
+    put_single(piece, at, out.single_ends);
 }
 
 /// Writes the levels of a row from the totals on, for which there is room, by its first piece.
@@ -355,7 +357,7 @@ pub fn put_levels(
     ensures same_slices { AreSameSlices out.old out.new }
 {
     if first.has_coordinates() {
-        put_alone(row, first, from, asked, out);
+        put_piece_levels(row, first, asked, from, out);
     } else {
         put_walked(row, first, from, asked, out);
     }
@@ -371,12 +373,10 @@ fn put_walked(row: &[u8], first: &Piece, from: Totals, asked: Dimension, out: &m
     ensures same_slices { AreSameSlices out.old out.new }
 {
     let mut pieces = Pieces::behind(row, first);
-    put_ring(row, first, asked, from, out.words, out.ring_ends);
-    put_single(first, from, out.single_ends);
+    put_piece_levels(row, first, asked, from, out);
     let mut at = from.with(first);
     while let Some(piece) = pieces.next() {
-        put_ring(row, &piece, asked, at, out.words, out.ring_ends);
-        put_single(&piece, at, out.single_ends);
+        put_piece_levels(row, &piece, asked, at, out);
         at = at.with(&piece);
     }
 }

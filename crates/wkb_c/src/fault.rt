@@ -1,10 +1,10 @@
 //! Where and why some bytes are refused.
 
-ghost use Rattle.std.specs.Prelude.{◌≡◌, ℕ, List, IfOk, IfErr, IfSome, None};
-ghost use Rattle.wkb_check.specs.Public.{DescribesFront, IsRefusedForWithin};
+ghost use Rattle.std.specs.Prelude.{◌≡◌, IfOk, IfErr, IfSome, None};
+ghost use Rattle.wkb_check.specs.Public.{DescribesFront};
 ghost use Rattle.wkb_rewrite.specs.Inputs.{IsAccepted};
 ghost use Rattle.wkb_c.specs.Classes.{IsRefusalStatus, FitsByte};
-ghost use Rattle.wkb_c.specs.Statuses.{cause_status, general_status, cause_fault, IsFault, IsFaultWithin};
+ghost use Rattle.wkb_c.specs.Statuses.{cause_status, general_status, cause_fault, IsFault, ReportsRefusal};
 
 use crate::status::{
     CODE_OUT_OF_RANGE, INCORRECT_TYPE, INVALID_BYTE_ORDER, NESTING_DEPTH_EXCEEDED, OK,
@@ -94,8 +94,7 @@ fn fault_of_refused(refused: &Refused) -> WkbFault
 
 /// Reports a refusal by the check, and returns its status.
 pub fn report_refusal(refused: &Refused, fault: &mut WkbFault) -> u32
-    ensures is { (room : ℕ) (buf : List ℕ) → IsRefusedForWithin room buf refused.now
-        → IsFaultWithin room buf result fault.new }
+    ensures is { ReportsRefusal refused.now result fault.new }
     ensures refusal { IsRefusalStatus result }
     ensures small { FitsByte result }
 {

@@ -1,10 +1,9 @@
 //! What `wkb_check` reports of the geometry at the front of some bytes.
 
 ghost use Rattle.std.specs.Prelude.{◌≡◌};
-ghost use Rattle.wkb_geom.specs.Spellings.{header};
-ghost use Rattle.wkb_check.specs.Pieces.{count_of, leading};
+ghost use Rattle.wkb_check.specs.Pieces.{count_of};
 ghost use Rattle.wkb_check.specs.Public.{DescribesFront};
-ghost use Rattle.wkb_c.specs.Checks.{IsFound};
+ghost use Rattle.wkb_c.specs.Checks.{IsFound, content_start};
 
 use wkb_check::{Summary, dimension_number, width_number};
 use wkb_geom::code::POINT;
@@ -43,7 +42,7 @@ pub struct Found {
 #[inline(always)]
 fn content_of(buf: &[u8], summary: &Summary) -> (usize, u32)
     requires { DescribesFront buf.now summary.now }
-    ensures offset { (d : DescribesFront buf.now summary.now) → result.0 ≡ leading (header d.spelled) d.value }
+    ensures offset { (d : DescribesFront buf.now summary.now) → result.0 ≡ content_start d }
     ensures count { (d : DescribesFront buf.now summary.now) → result.1 ≡ count_of d.value }
 {
     let body = if summary.srid.is_some() {

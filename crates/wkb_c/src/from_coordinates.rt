@@ -2,10 +2,10 @@
 
 ghost use Rattle.std.specs.Prelude.{◌≡◌, ◌+◌, ◌<◌, ◌==◌, length, Some, None, if◌then◌else◌};
 ghost use Rattle.wkb_c.specs.Classes.{FitsByte};
-ghost use Rattle.wkb_c.specs.LevelRows.{AreLevelEncodings, IsLevelStep, level_rows};
+ghost use Rattle.wkb_c.specs.LevelRows.{EncodeLevels, IsLevelStep, level_rows};
+ghost use Rattle.wkb_c.specs.LevelRows.{LastLevelEndSuffices, KeepsLevelRest};
 ghost use Rattle.wkb_c.specs.LevelTargets.{kind_named, levels_in, target_asked, Ready};
-ghost use Rattle.wkb_c.specs.RowItems.{KeepsAfter, KeepsFrom};
-ghost use Rattle.wkb_c.specs.RowItems.{LastEndSuffices};
+ghost use Rattle.wkb_c.specs.RowItems.{KeepsFrom};
 ghost use Rattle.wkb_levels.specs.declared.ends.Ends.TheVariants.{Each, At};
 ghost use Rattle.wkb_levels.specs.EndLists.{ends_of};
 
@@ -152,10 +152,9 @@ pub extern "C" fn wkb_raw_column_from_coordinates(
     ends: &mut [u64],
     statuses: &mut [u8],
 )
-    ensures each { AreLevelEncodings kind dimension options.now column.now statuses.new ends.new out.new }
-    ensures room { LastEndSuffices (level_rows column.now statuses.old ends.old) statuses.new ends.new out.old }
-    ensures out_kept { KeepsAfter (level_rows column.now statuses.old ends.old) statuses.new ends.new
-        out.old out.new }
+    ensures each { EncodeLevels kind dimension options.now column.now statuses.new ends.new out.new }
+    ensures room { LastLevelEndSuffices column.now statuses.new ends.new out.old }
+    ensures out_kept { KeepsLevelRest column.now statuses.new ends.new out.old out.new }
     ensures statuses_kept { KeepsFrom (level_rows column.now statuses.old ends.old) statuses.old statuses.new }
     ensures ends_kept { KeepsFrom (level_rows column.now statuses.old ends.old) ends.old ends.new }
     ensures as_many { length statuses.new ≡ length statuses.old }

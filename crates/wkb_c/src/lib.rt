@@ -22,13 +22,13 @@ mod status;
 
 ghost use Rattle.std.specs.Prelude.{◌≡◌, ◌≢◌, ◌≤◌, ◌+◌, ◌⊎◌, ◌↔◌, None, length};
 ghost use Rattle.wkb_check.specs.Bounded.{BoundsFront};
-ghost use Rattle.wkb_c.specs.Checks.{IsFound};
+ghost use Rattle.wkb_c.specs.Checks.{IsFound, TellsFound};
 ghost use Rattle.wkb_c.specs.Classes.{IsRefusalStatus, IsNoRefusal};
 ghost use Rattle.wkb_c.specs.Requests.{request_of};
 ghost use Rattle.wkb_c.specs.Statuses.{IsFault, IsRefusedInTurn, IsComparison};
 ghost use Rattle.wkb_c.specs.Statuses.{IsStatusOfWriting, IsStatusOfListing};
 ghost use Rattle.wkb_c.specs.Subjects.{IsTable, LacksEntries};
-ghost use Rattle.wkb_c.specs.Writings.{WritesEncoding, WantsRoom};
+ghost use Rattle.wkb_c.specs.Writings.{WritesEncoding, WantsRoom, Encodes};
 
 use encoding::{write_plain, write_requested};
 use fault::{WkbFault, check_input, report_refusal, status_of_refusal};
@@ -64,11 +64,7 @@ pub extern "C" fn wkb_raw_check(buf: &[u8], found: &mut Found, fault: &mut WkbFa
 /// It isn't inlined, so that other bytes don't pay for its frame.
 #[inline(never)]
 fn check_any(buf: &[u8], found: &mut Found, fault: &mut WkbFault) -> u32
-    ensures accepted { result ≡ OK → IsFound buf.now found.new }
-    ensures refused { result ≢ OK → IsFault buf.now result fault.new }
-    ensures no_memory { result ≢ NO_MEMORY }
-    ensures found_kept { result ≢ OK → found.new ≡ found.old }
-    ensures fault_kept { result ≡ OK → fault.new ≡ fault.old }
+    ensures { TellsFound buf.now found.old found.new fault.old fault.new result }
 {
     match check_input(buf, fault) {
         Ok(summary) => {
@@ -139,15 +135,7 @@ fn write_any(
     size: &mut u64,
     fault: &mut WkbFault,
 ) -> u32
-    ensures written { result ≡ OK → WritesEncoding options.now buf.now out.old out.new size.new }
-    ensures no_room { result ≡ NO_ROOM → WantsRoom options.now buf.now out.old size.new }
-    ensures unknown { (result ≡ UNKNOWN_OPTION) ↔ (request_of options.now ≡ None) }
-    ensures bound { (result ≡ OK) ⊎ (result ≡ NO_ROOM) → size.new ≤ length buf.now + 4 }
-    ensures refused { IsRefusalStatus result → IsFault buf.now result fault.new }
-    ensures known { IsStatusOfWriting result }
-    ensures out_kept { result ≢ OK → out.new ≡ out.old }
-    ensures size_kept { result ≢ OK → result ≢ NO_ROOM → size.new ≡ size.old }
-    ensures fault_kept { IsNoRefusal result → fault.new ≡ fault.old }
+    ensures { Encodes options.now buf.now out.old out.new size.old size.new fault.old fault.new result }
 {
     let Some(request) = request_of(options) else {
         return UNKNOWN_OPTION;

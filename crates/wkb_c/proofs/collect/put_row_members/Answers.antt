@@ -1,7 +1,4 @@
-use Rattle.wkb_c.proofs.Common.{arith, sym, subst, length, ◌+◌, ◌≤◌}
-use Rattle.wkb_rewrite.specs.Inputs.{IsAccepted}
-use Rattle.wkb_rewrite.specs.Shares.{IsPut}
-use Rattle.wkb_rewrite.specs.Targets.{encoding_for}
+use Rattle.wkb_c.proofs.Common.{arith}
 use Rattle.wkb_c.proofs.Gathering.{next_member, never_lacks, row_there, row_room, own_room, row_put, none_left}
 use Rattle.wkb_c.proofs.collect.put_row_members.Goals as goal
 
@@ -22,20 +19,15 @@ put_row_member-at-requires-clause-inside c =
 
 pub put_row_member-at-requires-clause-room : goal.put_row_member-at-requires-clause-room
 put_row_member-at-requires-clause-room c =
-    subst (λ o. (a : IsAccepted c.in-Ok.row.now) → c.loop-i.at + length (encoding_for o a.t) ≤ length c.loop-i.out)
-    (sym c.inner-options.ensures)
-    (row_room (c.loop-i.invariant.left c.requires.here) c.loop-i-test.true c.in-Ok.row.now c.in-Ok.ensures.row
-    (c.requires.room c.requires.here))
+    row_room (c.loop-i.invariant.left c.requires.here) c.loop-i-test.true c.in-Ok.row.now c.in-Ok.ensures.row
+    c.inner-options.ensures (c.requires.room c.requires.here)
 
 pub loop-i-preserved : goal.loop-i-preserved
 loop-i-preserved c = record {
   reaches = c.row.ensures.reach;
   left = λ m.
-      row_put (c.loop-i.invariant.left m) c.loop-i-test.true c.in-Ok.row.now c.in-Ok.ensures.row
-      c.put_row_member-at.result c.put_row_member-at.new.out
-      (subst (λ o. (a : IsAccepted c.in-Ok.row.now)
-      → IsPut c.loop-i.out c.put_row_member-at.new.out c.loop-i.at c.put_row_member-at.result (encoding_for o a.t))
-      c.inner-options.ensures c.put_row_member-at.ensures);
+      row_put (c.loop-i.invariant.left m) c.loop-i-test.true c.in-Ok.row.now c.in-Ok.ensures.row c.inner-options.ensures
+      c.put_row_member-at.result c.put_row_member-at.new.out c.put_row_member-at.ensures;
 }
 
 pub returns : goal.returns

@@ -1,6 +1,7 @@
 use Rattle.wkb_c.proofs.Common.{arith, ◌∙◌}
 use lib.ListN.{length-set}
-use Rattle.wkb_c.proofs.Rows.{rows_more}
+use Rattle.wkb_c.specs.Columns.{IsStatusOfRow}
+use Rattle.wkb_c.proofs.Rows.{statuses_more}
 use Rattle.wkb_c.proofs.column.wkb_raw_column_check.Goals as goal
 
 pub loop-i-preserved : goal.loop-i-preserved
@@ -10,8 +11,8 @@ loop-i-preserved c =
       reaches = c.status_of_row.ensures.reach;
       as_many = length-set l.statuses l.i s ∙ l.invariant.as_many;
       done =
-          rows_more c.args.column.now l.statuses l.i s (omega (arith, c.loop-i-test.true, l.invariant.as_many))
-          l.invariant.done c.status_of_row.ensures.status;
+          statuses_more (IsStatusOfRow c.args.column.now) l.statuses l.i s
+          (omega (arith, c.loop-i-test.true, l.invariant.as_many)) l.invariant.done c.status_of_row.ensures.status;
     }
 
 pub returns-clause-each : goal.returns-clause-each

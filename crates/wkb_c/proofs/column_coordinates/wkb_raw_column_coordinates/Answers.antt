@@ -1,7 +1,8 @@
-use Rattle.wkb_c.proofs.Common.{arith, ◌∙◌}
+use Rattle.wkb_c.proofs.Common.{arith}
 use Rattle.wkb_c.specs.LevelLists.{levels_of}
 use Rattle.wkb_c.proofs.InTurn.{row_more}
 use Rattle.wkb_c.proofs.Rooms.{row_says, room_more, long_more}
+use Rattle.wkb_c.proofs.Levels.{stay_same}
 use Rattle.wkb_c.proofs.RowItems.{set_more}
 use Rattle.wkb_c.proofs.column_coordinates.wkb_raw_column_coordinates.Goals as goal
 
@@ -12,9 +13,7 @@ loop-i-preserved c =
     let row = c.put_row-status in
     let to = row.new.at in
     let lists = l.invariant.lists in
-    let says = row_says row.ensures.put l.invariant.small in
-    let stay = l.invariant.same_slices in
-    let same = row.ensures.same_slices in record {
+    let says = row_says row.ensures.put l.invariant.small in record {
       reaches = row.ensures.reach;
       lists = set_more lists l.i row.result to.singles (omega arith);
       done =
@@ -27,9 +26,5 @@ loop-i-preserved c =
           (omega (arith, c.loop-i-test.true, c.min-i-end.ensures, lists.as_many));
       small = says.small;
       long = long_more says.long l.invariant.long;
-      same_slices = record {
-        words_stay = same.words_stay ∙ stay.words_stay;
-        ring_ends_stay = same.ring_ends_stay ∙ stay.ring_ends_stay;
-        single_ends_stay = same.single_ends_stay ∙ stay.single_ends_stay;
-      };
+      same_slices = stay_same row.ensures.same_slices l.invariant.same_slices;
     }

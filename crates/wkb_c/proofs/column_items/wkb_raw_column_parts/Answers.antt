@@ -13,9 +13,8 @@ loop-i-preserved c =
       reaches = row.ensures.reach;
       lists = set_more lists l.i row.result.0 end.result (omega arith);
       done =
-          row_done l.invariant.done row.ensures.step end.ensures (omega arith)
-          (omega (arith, c.loop-i-test.true, c.min-i-end.ensures, lists.as_many))
-          (omega (arith, c.loop-i-test.true, c.min-i-end.ensures, lists.as_many_others));
+          row_done l.invariant.done lists row.ensures.step end.ensures (omega arith) c.loop-i-test.true
+          (omega (arith, c.min-i-end.ensures));
     }
 
 pub returns-clause-each : goal.returns-clause-each

@@ -8,10 +8,8 @@ use Rattle.wkb_c.proofs.column_items.write_wkb_row.Goals as goal
 pub returns-clause-step : goal.returns-clause-step
 returns-clause-step c =
     let called = c.write_requested-status-2 in
-    let e = called.ensures in
     write_step c.in-Ok.row.now c.in-Ok.ensures.row c.args.options.now _ (sym c.in-Some.ensures)
-    (lent_rest c.args.out.now called.new.out c.min-at.result c.min-at.ensures e.long) e.written e.no_room e.out_kept
-    e.known
+    (lent_rest c.args.out.now called.new.out c.min-at.result c.min-at.ensures called.ensures.long) called.ensures
 
 pub returns-in-Err-clause-step : goal.returns-in-Err-clause-step
 returns-in-Err-clause-step c = nothing (has_no_row c.in-Err.ensures.none) refl refl
@@ -23,10 +21,8 @@ returns-in_default-clause-step c =
 pub returns-in-Some-check_plain-clause-step : goal.returns-in-Some-check_plain-clause-step
 returns-in-Some-check_plain-clause-step c =
     let called = c.write_requested-status in
-    let e = called.ensures in
     write_step c.in-Ok.row.now c.in-Ok.ensures.row c.args.options.now _ (sym c.in-Some.ensures)
-    (lent_rest c.args.out.now called.new.out c.min-at.result c.min-at.ensures e.long) e.written e.no_room e.out_kept
-    e.known
+    (lent_rest c.args.out.now called.new.out c.min-at.result c.min-at.ensures called.ensures.long) called.ensures
 
 pub returns-in-Err-check_row-clause-step : goal.returns-in-Err-check_row-clause-step
 returns-in-Err-check_row-clause-step c =

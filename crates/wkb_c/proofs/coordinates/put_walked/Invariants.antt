@@ -7,7 +7,7 @@ use Rattle.wkb_c.proofs.coordinates.put_walked.Given as goal
 
 abbrev pub invariant-loop-piece : goal.invariant-loop-piece
 invariant-loop-piece l = record {
-  same_slices : AreSameSlices l.initial.out l.out;
+  same_slices : AreSameSlices l.fn.out l.out;
   left : (g : HasGeometry l.row)
       → Coming l.pieces (LevelsLeft l.asked l.row l.fn.from (subjects g.spelled g.value) (levels_of l.fn.out) l.at
       (levels_of l.out));

@@ -1,33 +1,19 @@
-use Rattle.std.proofs.Common.{rules}
-use Rattle.wkb_c.proofs.Common.{arith, refl, length, ◌≤◌}
+use Rattle.wkb_c.proofs.Common.{arith, length, ◌≤◌}
 use Rattle.wkb_geom.specs.Encodings.{encoding}
 use Rattle.wkb_geom.specs.Geometries.{geometry_of}
 use Rattle.wkb_check.specs.Bounded.{HasGeometry}
 use Rattle.wkb_rewrite.proofs.Measured.{at_most, here}
-use Rattle.wkb_c.proofs.Encodings.{handed_out, finds_no_room}
+use Rattle.wkb_c.proofs.Encodings.{writes, lacks_room}
 use Rattle.wkb_c.proofs.encoding.write_requested.Goals as goal
 use Rattle.wkb_c.proofs.encoding.write_requested.Goals.{Joined-out-buf, then-out-buf+else-out-wanted, else-out-buf}
 
 pub returns-then-out-wanted : goal.returns-then-out-wanted
 returns-then-out-wanted c =
     let options = c.options_for-options in
-    record {
-      written = search rules;
-      no_room = λ told.
-          finds_no_room c.args.request c.args.buf.now c.args.found.now c.requires options.result options.ensures
-          c.args.out.now c.encoded_size-wanted.result
-          (c.encoded_size-wanted.ensures.size options.result.endianness (here c.requires))
-          (omega (arith, c.if-out-wanted.true));
-      bound = omega (
-        arith,
-        c.encoded_size-wanted.ensures.size options.result.endianness (here c.requires),
-        at_most options.result.endianness options.result.form c.args.buf.now (here c.requires)
-            (λ i. (c.type_inv.buf i).fits),
-      );
-      known = search rules;
-      long = refl;
-      out_kept = search rules;
-    }
+    let wanted = c.encoded_size-wanted in
+    lacks_room c.args.request c.args.buf.now c.args.found.now c.requires options.result options.ensures c.args.out.now
+    wanted.result (λ i. (c.type_inv.buf i).fits) (wanted.ensures.size options.result.endianness (here c.requires))
+    (omega (arith, c.if-out-wanted.true))
 
 -- there is room for the encoding where it is put
 fits : (c : Joined-out-buf) → (g : HasGeometry c.args.buf.now)
@@ -53,18 +39,6 @@ returns c =
     let options = c.options_for-options in
     let there = here c.requires in
     let size_is = c.put_encoding.ensures.size there in
-    record {
-      written = λ told.
-          handed_out c.args.request c.args.buf.now c.args.found.now c.requires options.result options.ensures
-          c.args.out.now c.put_encoding.new.out c.put_encoding.result size_is
-          (omega (arith, size_is, fits (goal.at.returns c).Joined-out-buf there)) (c.put_encoding.ensures.put there);
-      no_room = search rules;
-      bound = omega (
-        arith,
-        size_is,
-        at_most options.result.endianness options.result.form c.args.buf.now there (λ i. (c.type_inv.buf i).fits),
-      );
-      known = search rules;
-      long = search rules;
-      out_kept = search rules;
-    }
+    writes c.args.request c.args.buf.now c.args.found.now c.requires options.result options.ensures c.args.out.now
+    c.put_encoding.new.out c.put_encoding.result (λ i. (c.type_inv.buf i).fits) size_is
+    (omega (arith, size_is, fits (goal.at.returns c).Joined-out-buf there)) (c.put_encoding.ensures.put there)

@@ -1,13 +1,12 @@
-use Rattle.wkb_c.proofs.Common.{arith, ◌∙◌, subst, ap, length, slice_index}
-use Rattle.wkb_levels.specs.Cuts.{start_at}
+use Rattle.wkb_c.proofs.Common.{arith, ◌∙◌, ◌≡◌, ap, length}
 use Rattle.wkb_levels.specs.EndLists.{ends_of}
-use Rattle.wkb_c.specs.LevelRows.{HasLevelEncoding, LacksLevels}
-use Rattle.wkb_c.specs.RowItems.{IsRowAnswer}
 use Rattle.wkb_c.proofs.LastEnds.{last_end_suffices}
 use Rattle.wkb_c.proofs.LevelRows.{ready_first}
 use Rattle.wkb_c.proofs.Reasons.{levels_tell_other}
 use Rattle.wkb_c.proofs.RowItems.{set_first, set_more, rows_first, row_done}
 use Rattle.wkb_c.proofs.from_coordinates.wkb_raw_column_from_coordinates.Goals as goal
+use Rattle.wkb_c.proofs.from_coordinates.wkb_raw_column_from_coordinates.Goals.{After-len-rows}
+use Rattle.wkb_c.specs.LevelTargets.{levels_in}
 
 pub loop-i-init : goal.loop-i-init
 loop-i-init c = record {
@@ -25,36 +24,25 @@ loop-i-preserved c =
       ready = row.ensures.ready;
       lists = set_more lists l.i row.result.0 end.result (omega (arith, c.loop-i-test.true));
       done =
-          row_done l.invariant.done row.ensures.step end.ensures (omega arith)
-          (omega (arith, c.loop-i-test.true, c.min.ensures, c.min-i-end.ensures, lists.as_many))
-          (omega (arith, c.loop-i-test.true, c.min.ensures, c.min-i-end.ensures, lists.as_many_others));
+          row_done l.invariant.done lists row.ensures.step end.ensures (omega arith) c.loop-i-test.true
+          (omega (arith, c.min.ensures, c.min-i-end.ensures));
     }
+
+-- as many rows as are counted
+rows_are : (c : After-len-rows) → c.len-rows.result ≡ length (ends_of (levels_in c.args.column.now).row_ends)
+rows_are c = c.len-rows.ensures ∙ ap (λ levels. length (ends_of levels.row_ends)) c.levels_of_column-levels.ensures
 
 pub returns-clause-each : goal.returns-clause-each
 returns-clause-each c =
     let l = c.loop-i in
-    let column = c.args.column.now in
-    λ i below.
-    subst (λ t. IsRowAnswer (HasLevelEncoding column t) (LacksLevels column t) i (slice_index l.statuses i)
-    (start_at 0 l.ends i) (slice_index l.ends i) l.out) c.target_of_numbers-target.ensures
-    (l.invariant.done.each i (omega (
-      arith,
-      below,
-      c.loop-i-test.false,
-      c.min.ensures,
-      c.min-i-end.ensures,
-      c.len-rows.ensures ∙ ap (λ levels. length (ends_of levels.row_ends)) c.levels_of_column-levels.ensures,
-      l.invariant.lists,
-    )))
+    let rows = rows_are (goal.at.returns-clause-each c).After-len-rows in λ i below.
+    rw (← c.target_of_numbers-target.ensures)
+    (l.invariant.done.each i
+    (omega (arith, below, c.loop-i-test.false, c.min.ensures, c.min-i-end.ensures, rows, l.invariant.lists)))
 
 pub returns-clause-room : goal.returns-clause-room
 returns-clause-room c =
     let l = c.loop-i in
+    let rows = rows_are (goal.at.returns-clause-room c).After-len-rows in
     last_end_suffices (levels_tell_other c.args.column.now c.target_of_numbers-target.result) l.invariant.done
-    (omega (
-      arith,
-      c.loop-i-test.false,
-      c.min.ensures,
-      c.min-i-end.ensures,
-      c.len-rows.ensures ∙ ap (λ levels. length (ends_of levels.row_ends)) c.levels_of_column-levels.ensures,
-    )) (omega arith)
+    (omega (arith, c.loop-i-test.false, c.min.ensures, c.min-i-end.ensures, rows)) (omega arith)

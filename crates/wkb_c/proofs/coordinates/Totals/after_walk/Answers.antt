@@ -7,11 +7,10 @@ loop-piece-init-derived c = (record { pieces = _; are = (c.behind-pieces.ensures
 
 pub loop-piece-init : goal.loop-piece-init
 loop-piece-init c =
-    let behind = c.behind-pieces.ensures in
-    let first = c.with-to.ensures in record {
+    let behind = c.behind-pieces.ensures in record {
       left = λ g. totals_next c.with-to.result (totals_first c.args.row.now c.args.self g
           (record { coordinates = omega arith; rings = omega arith; singles = omega arith })) (behind.steps g)
-          first.coordinates first.rings first.singles;
+          c.with-to.ensures;
       same = behind.same;
       inside = behind.inside.inside;
     }
@@ -22,16 +21,14 @@ next-requires c =
     record { pieces = left.ps; are = left.ahead }
 
 pub loop-piece-preserved : goal.loop-piece-preserved
-loop-piece-preserved c =
-    let more = c.with-to-in-Some.ensures in record {
-      left = λ g.
-          let left = c.loop-piece.invariant.left g in
-          totals_next c.with-to-in-Some.result left.left (c.in-Some.ensures.steps.steps left.ps left.ahead)
-          more.coordinates
-          more.rings more.singles;
-      same = c.next.ensures.steps.same ∙ c.loop-piece.invariant.same;
-      inside = omega (arith, c.in-Some.ensures.steps.inside.inside, ap length c.loop-piece.invariant.same);
-    }
+loop-piece-preserved c = record {
+  left = λ g.
+      let left = c.loop-piece.invariant.left g in
+      totals_next c.with-to-in-Some.result left.left (c.in-Some.ensures.steps.steps left.ps left.ahead)
+      c.with-to-in-Some.ensures;
+  same = c.next.ensures.steps.same ∙ c.loop-piece.invariant.same;
+  inside = omega (arith, c.in-Some.ensures.steps.inside.inside, ap length c.loop-piece.invariant.same);
+}
 
 pub returns : goal.returns
 returns c = λ g. totals_last (c.loop-piece.invariant.left g) c.in_default.ensures.steps.steps
