@@ -4,7 +4,7 @@ pub use Rattle.wkb_geom.specs.Geometries.{multi_polygon, collection, line, recta
 pub use Rattle.wkb_geom.specs.Geometries.{no_geometries, geometry, geometries, IsCoordinate, IsPoint, AreCoordinates}
 pub use Rattle.wkb_geom.specs.Geometries.{IsGeometry, AreGeometries, rectangle_ring, triangle_ring, normal_point}
 pub use Rattle.wkb_geom.specs.Geometries.{normal, normal_each, geometry_of, geometries_of, dimensions_of}
-pub use Rattle.wkb_geom.specs.Found.{IsItemAt, HasDimensions}
+pub use Rattle.wkb_geom.specs.Found.{IsItemAt, HasDimensions, IsOfWritable}
 pub use Rattle.wkb_geom.specs.Sizes.{byte_size, byte_sizes, rings_size}
 pub use Rattle.wkb_geom.specs.Parts.{PointMembers, LineStringMembers, PolygonMembers, MultiPointMembers}
 pub use Rattle.wkb_geom.specs.Parts.{MultiLineStringMembers, MultiPolygonMembers, CollectionMembers, RectMembers}

@@ -5,7 +5,8 @@ use Rattle.wkb_geom.specs.declared.error.WkbError.{WkbError}
 use Rattle.wkb_geom.specs.Geometries.{Geometry}
 use Rattle.wkb_write.specs.Answers.{encoding_of}
 pub use Rattle.wkb_write.specs.Answers.{IsSizeOf, IsRefusedAs, IsWrittenAs, IsSpelled, IsSpelledAs, IsFailedAs, Writes}
-pub use Rattle.wkb_write.specs.Answers.{WritesTo, WritesToSlice, IsInFront, OutgrowsSlice, IsVecError, IsSliceError}
+pub use Rattle.wkb_write.specs.Answers.{WritesTo, WritesToVec, IsVecError, WritesToSlice, IsInFront, IsSliceError}
+pub use Rattle.wkb_write.specs.Answers.{OutgrowsSlice}
 pub use Rattle.wkb_write.specs.Measures.{Reports}
 pub use Rattle.wkb_sink.specs.Sinks.{FailsBy, TellsFailure, IsOutOfMemory, IsIOError, IsOwnError, IsWritten, IsBegun}
 pub use Rattle.wkb_sink.specs.Sinks.{Puts}

@@ -33,11 +33,9 @@ laid_if order d a b one srid =
 
 wanted_by : (order : Endianness) (d : Dimension) (a b one srid : Bool) → IsOk (laid_if order d a b one srid)
     → laid_if order d a b one srid ≡ Ok (laid order d (if one then false else srid))
-wanted_by order d true true true true h = absurd cc
 wanted_by order d true true true false h = refl
 wanted_by order d true true false srid h = refl
-wanted_by order d true false one srid h = absurd cc
-wanted_by order d false b one srid h = absurd cc
+wanted_by order d _ _ _ _ h = absurd cc
 
 wanted : (k : ℕ) (d : Dimension) (h : Head) → IsOk (layout_wanted k d (Ok h))
     → layout_wanted k d (Ok h) ≡ Ok (laid h.order d (if k == 1 then false else h.has_srid))

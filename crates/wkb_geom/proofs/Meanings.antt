@@ -37,19 +37,15 @@ below_flags c z m s z' m' s' a b n rest ea la eb lb en ln hz hm hs iz im is smal
 code_is : (c k : ℕ) (d : Dimension) (z m s : Bool) (a b n : ℕ) (iso : Dimension) → has_z d ≡ (z || has_z iso)
     → has_m d ≡ (m || has_m iso)
     → c ≡ flag z 0x80000000 + a → a ≡ flag m 0x40000000 + b → b ≡ flag s 0x20000000 + n → IsIso n iso k → Code c k d s
-code_is c k d z m s a b n iso dz dm ea eb en h =
-    let low = h.0 in
-    let high = h.1 in
-    let sum = h.2 in
-    record {
-      z = z;
-      m = m;
-      iso = iso;
-      kind = record { low = low; high = high };
-      sum = omega arith;
-      has_z = dz;
-      has_m = dm;
-    }
+code_is c k d z m s a b n iso dz dm ea eb en h = record {
+  z = z;
+  m = m;
+  iso = iso;
+  kind = record { low = h.0; high = h.1 };
+  sum = omega arith;
+  has_z = dz;
+  has_m = dm;
+}
 
 no_meaning : (c : ℕ) (z m s : Bool) (a b n : ℕ) → c ≡ flag z 0x80000000 + a → (z ≡ false → a < 0x80000000)
     → a ≡ flag m 0x40000000 + b → (m ≡ false → b < 0x40000000) → b ≡ flag s 0x20000000 + n
@@ -57,8 +53,6 @@ no_meaning : (c : ℕ) (z m s : Bool) (a b n : ℕ) → c ≡ flag z 0x80000000 
     → ((d : Dimension) (k : ℕ) → IsIso n d k → ⊥) → HasNoMeaning c
 no_meaning c z m s a b n ea la eb lb en ln none k d srid code =
     let most = thousands-most code.iso in
-    let low = code.kind.low in
-    let high = code.kind.high in
     let sum : c
     ≡ bit code.z * 0x80000000 + bit code.m * 0x40000000 + bit srid * 0x20000000 + (1000 * thousands code.iso + k) =
     omega (arith, code.sum, flag-bit code.z 0x80000000, flag-bit code.m 0x40000000, flag-bit srid 0x20000000) in
@@ -68,7 +62,7 @@ no_meaning c z m s a b n ea la eb lb en ln none k d srid code =
     (set_or_below m b _ lb)
     (omega (arith, en, flag-bit s 0x20000000)) (set_or_below s n _ ln)
     (bit-most code.z) (bit-most code.m) (bit-most srid) (bit-most z) (bit-most m) (bit-most s) (omega arith) sum in
-    none code.iso k (low, high, same)
+    none code.iso k (code.kind.low, code.kind.high, same)
 
 if_holds : {A : Type 0} (Q : A → Type 0) (b : Bool) (x y : A) → (b ≡ true → Q x) → (b ≡ false → Q y)
     → Q (if b then x else y)
@@ -78,14 +72,8 @@ if_holds Q false x y f g = g refl
 pub type_kind-type_of : (k : ℕ) (d : Dimension) → 1 ≤ k → k ≤ 7
     → (type_kind (type_of k d) ≡ k) × (type_dimension (type_of k d) ≡ d)
 type_kind-type_of zero d low high = absurd (omega arith)
-type_kind-type_of (suc zero) d low high = (refl, refl)
-type_kind-type_of (suc (suc zero)) d low high = (refl, refl)
-type_kind-type_of (suc (suc (suc zero))) d low high = (refl, refl)
-type_kind-type_of (suc (suc (suc (suc zero)))) d low high = (refl, refl)
-type_kind-type_of (suc (suc (suc (suc (suc zero))))) d low high = (refl, refl)
-type_kind-type_of (suc (suc (suc (suc (suc (suc zero)))))) d low high = (refl, refl)
-type_kind-type_of (suc (suc (suc (suc (suc (suc (suc zero))))))) d low high = (refl, refl)
 type_kind-type_of (suc (suc (suc (suc (suc (suc (suc (suc k)))))))) d low high = absurd (omega arith)
+type_kind-type_of _ d low high = (refl, refl)
 
 without_by : (c worth : ℕ) (b : Bool) → nat_le worth c ≡ b
     → (c ≡ flag b worth + (if b then c - worth else c)) × (b ≡ false → (if b then c - worth else c) < worth)
@@ -98,22 +86,17 @@ without_by c worth false e =
 
 has_z-with : (z m : Bool) → has_z (dimension_with z m) ≡ z
 has_z-with false false = refl
-has_z-with true false = refl
-has_z-with false true = refl
 has_z-with true true = refl
+has_z-with _ _ = refl
 
 has_m-with : (z m : Bool) → has_m (dimension_with z m) ≡ m
 has_m-with false false = refl
-has_m-with true false = refl
-has_m-with false true = refl
 has_m-with true true = refl
+has_m-with _ _ = refl
 
 thousands-iso : (q : ℕ) → q < 4 → thousands (iso_dimension q) ≡ q
-thousands-iso zero h = refl
-thousands-iso (suc zero) h = refl
-thousands-iso (suc (suc zero)) h = refl
-thousands-iso (suc (suc (suc zero))) h = refl
 thousands-iso (suc (suc (suc (suc q)))) h = absurd (omega arith)
+thousands-iso _ h = refl
 
 all_true : (a b c : Bool) → a ≡ true → b ≡ true → c ≡ true → (a && (b && c)) ≡ true
 all_true a b c e f g = rw (e, f, g) refl
@@ -150,9 +133,6 @@ meaning_holds Q c some none =
     (λ e. none (no_meaning c z m s a b n ez.0 ez.1 em.0 em.1 es.0 es.1
     (λ d k h.
     let most = thousands-most d in
-    let low = h.0 in
-    let high = h.1 in
-    let sum = h.2 in
     let q : n / 1000 < 4 = omega arith in
     let r : 0 < n % 1000 = omega arith in
     let t : n % 1000 < 8 = omega arith in
@@ -172,15 +152,9 @@ meant c =
 abbrev is_in_table : ℕ → Bool
 is_in_table c = in_table (without (without (without c z_flag) m_flag) srid_flag)
 
-meaning_by : (c : ℕ) → meaning_of c ≡ (if is_in_table c then Some (meant c) else None)
+meaning_by : (c : ℕ) {b : Bool} → b ≡ is_in_table c → meaning_of c ≡ (if b then Some (meant c) else None)
 unfolding meaning_of
-meaning_by c = refl
-
-meaning_found : (c : ℕ) → true ≡ is_in_table c → meaning_of c ≡ Some (meant c)
-meaning_found c table = meaning_by c ∙ ap (λ (x : Bool). if x then Some (meant c) else None) (sym table)
-
-pub meaning_missing : (c : ℕ) → false ≡ is_in_table c → meaning_of c ≡ None
-meaning_missing c table = meaning_by c ∙ ap (λ (x : Bool). if x then Some (meant c) else None) (sym table)
+meaning_by c table = ap (λ (x : Bool). if x then Some (meant c) else None) (sym table)
 
 -- the meaning, from the steps that find it
 pub meaning_is : (c a b n : ℕ) (iso d : Dimension) (t : WkbType)
@@ -189,11 +163,11 @@ pub meaning_is : (c a b n : ℕ) (iso d : Dimension) (t : WkbType)
     → d ≡ dimension_with (nat_le z_flag c || has_z iso) (nat_le m_flag a || has_m iso) → t ≡ type_of (n % 1000) d
     → meaning_of c ≡ Some (record { wkb_type = t; has_srid = has_srid_flag c })
 meaning_is c a b n iso d t a-is b-is n-is table iso-is d-is t-is =
-    rw (t-is, d-is, iso-is, n-is, b-is, a-is) (meaning_found c (rw (n-is, b-is, a-is) at table))
+    rw (t-is, d-is, iso-is, n-is, b-is, a-is) (meaning_by c (rw (n-is, b-is, a-is) at table))
 
 pub meaning_is_none : (c a b n : ℕ) → a ≡ without c z_flag → b ≡ without a m_flag → n ≡ without b srid_flag
     → false ≡ in_table n → meaning_of c ≡ None
-meaning_is_none c a b n a-is b-is n-is table = meaning_missing c (rw (n-is, b-is, a-is) at table)
+meaning_is_none c a b n a-is b-is n-is table = meaning_by c (rw (n-is, b-is, a-is) at table)
 
 -- what is read is a meaning
 pub code_of_meaning : (c : ℕ) (m : Meaning) → meaning_of c ≡ Some m

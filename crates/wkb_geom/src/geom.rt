@@ -3,19 +3,19 @@
 //! whole. An ordinate is the 64 bits of a binary64, never a float.
 
 ghost use Rattle.std.specs.Prelude.{◌≡◌, ℕ, ◌+◌, ◌-◌, ◌<◌, ◌≤◌, List, length, map, All, slice_get};
-ghost use Rattle.std.specs.Prelude.{Option, None, IfSome, slice_index};
+ghost use Rattle.std.specs.Prelude.{Option, IfSome, slice_index};
 ghost use Rattle.std.specs.Option.{option_map};
 ghost use Rattle.std.specs.List.{AllByRecursion, flat_map, concat};
 ghost use Rattle.wkb_geom.specs.declared.common.Dimensions.{Dimensions};
 ghost use Rattle.wkb_geom.specs.Dimensions.{size};
-ghost use Rattle.wkb_geom.specs.Found.{IsItemAt, HasDimensions};
+ghost use Rattle.wkb_geom.specs.Found.{IsItemAt, HasDimensions, IsOfWritable};
 ghost use Rattle.wkb_geom.specs.Geometries.{Geometry, dimensions_of, geometries, polygon, IsCoordinate};
 ghost use Rattle.wkb_geom.specs.Geometries.{IsPoint, AreCoordinates, IsGeometry, AreGeometries};
 ghost use Rattle.wkb_geom.specs.Sizes.{byte_size, rings_size};
 ghost use Rattle.wkb_geom.specs.Parts.{PointMeans, LineStringMeans, PolygonMeans, MultiPointMeans};
 ghost use Rattle.wkb_geom.specs.Parts.{MultiLineStringMeans, MultiPolygonMeans, CollectionMeans};
 ghost use Rattle.wkb_geom.specs.Parts.{RectMeans, TriangleMeans, LineMeans};
-ghost use Rattle.wkb_geom.specs.Encodings.{words_encoding, encoding, fault};
+ghost use Rattle.wkb_geom.specs.Encodings.{words_encoding, encoding};
 
 use crate::{Dimensions, Endianness, Form};
 
@@ -170,7 +170,7 @@ pub trait PolygonTrait: Dimensioned {
     #[inline]
     fn rings_size(&self) -> Option<usize>
         ensures size { IfSome result (λ n. n ≡ rings_size (Self.dimensions self.now) (rings self.now)) }
-        ensures writable { IfSome result (λ _. fault (polygon (Self.dimensions self.now) (rings self.now)) ≡ None) }
+        ensures writable { IsOfWritable result (polygon (Self.dimensions self.now) (rings self.now)) }
     {
         None
     }
@@ -415,7 +415,7 @@ pub trait GeometryTrait: Dimensioned + Sized {
     #[inline]
     fn as_written(&self, order: Endianness, form: Form) -> Option<&[u8]>
         ensures encoding { IfSome result (λ b. b.now ≡ encoding order form (geometry self.now)) }
-        ensures writable { IfSome result (λ _. fault (geometry self.now) ≡ None) }
+        ensures writable { IsOfWritable result (geometry self.now) }
     {
         None
     }
@@ -427,7 +427,7 @@ pub trait GeometryTrait: Dimensioned + Sized {
     #[inline]
     fn byte_size(&self) -> Option<usize>
         ensures size { IfSome result (λ n. n ≡ byte_size (geometry self.now)) }
-        ensures writable { IfSome result (λ _. fault (geometry self.now) ≡ None) }
+        ensures writable { IsOfWritable result (geometry self.now) }
     {
         None
     }

@@ -303,17 +303,17 @@ impl Layout {
 
 impl Layout {
     ghost use Rattle.std.specs.Prelude.{◌≡◌, ◌≤◌, IfOk, IfErr, length};
-    ghost use Rattle.wkb_geom.specs.Refusals.{point_end, line_string_end, multi_point_end, ring_end};
+    ghost use Rattle.wkb_geom.specs.Refusals.{point_end, line_string_end, ring_end};
     ghost use Rattle.wkb_geom.specs.Numbers.{number};
     ghost use Rattle.wkb_geom.specs.Reading.{EndsAt, EndsWith, point_at, point_item, line_string_at};
-    ghost use Rattle.wkb_geom.specs.Reading.{line_string_item, ring_at, count_in, multi_point_at, refused};
-    ghost use Rattle.wkb_geom.specs.Reading.{points_counted};
+    ghost use Rattle.wkb_geom.specs.Reading.{line_string_item, ring_part, count_in, multi_point_at, refused};
+    ghost use Rattle.wkb_geom.specs.Reading.{points_counted, HoldPoints};
 
     /// Where the point at the front of the bytes ends.
     #[tactic(auto, unfolding(crate::specs::Reading::point_told))]
     #[inline(always)]
     pub fn end_of_point(self, bytes: &[u8]) -> Result<usize, Cause>
-        ensures answer { EndsAt (point_item self) bytes.now (point_at self bytes.now) result }
+        ensures answer { EndsAt (point_item self) (point_at self) bytes.now result }
         ensures end { IfOk result (λ end. end ≡ point_end self.dimension self.has_srid) }
         ensures whole { IfOk result (λ end. end ≤ length bytes.now) }
     {
@@ -331,7 +331,7 @@ impl Layout {
     #[tactic(auto, unfolding(crate::specs::Reading::line_string_told))]
     #[inline(always)]
     pub fn end_of_line_string(self, bytes: &[u8]) -> Result<(u32, usize), Cause>
-        ensures answer { EndsWith (line_string_item self) bytes.now (line_string_at self bytes.now).1 result }
+        ensures answer { EndsWith (line_string_item self) (line_string_at self) bytes.now result }
         ensures counted { IfOk result (λ x. x.0 ≡ count_in self bytes.now) }
         ensures end { IfOk result (λ x. x.1 ≡ line_string_end self.dimension self.has_srid x.0) }
         ensures whole { IfOk result (λ x. x.1 ≤ length bytes.now) }
@@ -353,7 +353,7 @@ impl Layout {
     #[tactic(auto, unfolding(crate::specs::Reading::ring_told))]
     #[inline(always)]
     pub fn end_of_ring(self, bytes: &[u8]) -> Result<(u32, usize), Cause>
-        ensures answer { EndsWith (λ ring. ring) bytes.now (ring_at self.order self.dimension bytes.now) result }
+        ensures answer { EndsWith (λ ring. ring) (ring_part self) bytes.now result }
         ensures counted { IfOk result (λ x. x.0 ≡ number self.order COUNT_SIZE bytes.now) }
         ensures end { IfOk result (λ x. x.1 ≡ ring_end self.dimension x.0) }
         ensures whole { IfOk result (λ x. x.1 ≤ length bytes.now) }
@@ -379,7 +379,7 @@ impl Layout {
     pub fn count_of_points(self, bytes: &[u8]) -> Result<u32, Cause>
         ensures answer { points_counted self bytes.now ≡ result }
         ensures counted { IfOk result (λ n. n ≡ count_in self bytes.now) }
-        ensures whole { IfOk result (λ n. multi_point_end self.dimension self.has_srid n ≤ length bytes.now) }
+        ensures whole { IfOk result (HoldPoints self bytes.now) }
         ensures refused { IfErr result (λ cause. multi_point_at self bytes.now ≡ refused cause) }
     {
         let count = self.count(bytes)?;

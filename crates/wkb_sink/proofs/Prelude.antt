@@ -11,7 +11,8 @@ pub use Rattle.wkb_geom.specs.declared.common.Endianness.{Endianness}
 pub use Rattle.wkb_geom.specs.Numbers.{number_bytes, empty_word}
 unfoldable pub use Rattle.wkb_geom.specs.Encodings.{words_encoding, header_encoding, srid_encoding}
 pub use Rattle.wkb_sink.specs.Blocks.{LaysAt, Waiting, block_size}
-pub use Rattle.wkb_sink.specs.Progress.{Progress, Advances, IsReady, IsLaid, IsShort, IsBroken, IsCut, held, progress}
+pub use Rattle.wkb_sink.specs.Progress.{Progress, Moves, RunsOut, Advances, IsReady, IsLaid, IsShort, IsBroken, IsCut}
+pub use Rattle.wkb_sink.specs.Progress.{held, progress}
 pub use Rattle.wkb_sink.specs.declared.block.TheConstants.{MIN_BLOCK}
 pub use Rattle.wkb_sink.specs.Sinks.{IsWritten, IsBegun}
 pub use Rattle.wkb_sink.specs.declared.buffered.Stopped.{Stopped}

@@ -5,23 +5,17 @@ use Rattle.wkb_sink.proofs.Prelude.{flat_map-append, length-drop, length-take-le
 use Rattle.wkb_sink.proofs.Prelude.{take_all, append_assoc, subst}
 use Rattle.std.proofs.Math.Nat.{mul-add}
 use Rattle.std.specs.List.{AllByRecursion, concat}
-use Rattle.std.proofs.lemmas.List.Concat.{concat_is}
 use Rattle.std.proofs.lemmas.Option.{slice_get-get_or}
 use Rattle.std.proofs.Math.Seq.{drop-append-add, take-append-add}
-use Rattle.byteorder.specs.Numbers.{big_number-reads_back, little_number-reads_back, length-bytes_high_first}
-use Rattle.byteorder.specs.Numbers.{length-bytes_low_first}
+use Rattle.byteorder.specs.Numbers.{big_number-reads_back, little_number-reads_back}
 use Rattle.wkb_geom.specs.declared.common.Endianness.TheVariants.{BigEndian, LittleEndian}
 use Rattle.wkb_geom.specs.declared.common.Dimensions.{Dimensions}
 use Rattle.wkb_geom.specs.Dimensions.{size}
 use Rattle.wkb_geom.specs.Numbers.{number, number_bytes, IsWord}
 use Rattle.wkb_geom.specs.Geometries.{AreCoordinates}
+use Rattle.wkb_sink.proofs.Lengths.{length-number}
 use Rattle.wkb_sink.proofs.Stores.{stored_next, flat_map_step}
 use borrow.Rule.Slice.PartMut.{put_mid}
-
-word_length : (order : Endianness) (w : ℕ) → length (number_bytes order 8 w) ≡ 8
-unfolding number_bytes
-word_length BigEndian w = length-bytes_high_first 8 w
-word_length LittleEndian w = length-bytes_low_first 0 8 w
 
 read_back : (order : Endianness) (w : ℕ) (rest : List ℕ) → IsWord w
     → number order 8 (number_bytes order 8 w ++ rest) ≡ w
@@ -34,7 +28,7 @@ unfolding words_encoding
 words_length order [] = refl
 words_length order (w ∷ ws) =
     let whole = length-append (number_bytes order 8 w) (flat_map (number_bytes order 8) ws) in
-    omega (arith, whole, word_length order w, words_length order ws)
+    omega (arith, whole, length-number order 8 w, words_length order ws)
 
 -- the word at an index, read off the bytes
 pub word_at : (order : Endianness) (ws : List ℕ) (i : ℕ) → AllByRecursion IsWord ws → i < length ws
@@ -45,19 +39,8 @@ word_at order (w ∷ ws) zero h there = ap Some (sym (read_back order w (flat_ma
 word_at order (w ∷ ws) (suc i) h there =
     let first = number_bytes order 8 w in
     let rest = flat_map (number_bytes order 8) ws in
-    let place : 8 * suc i ≡ length first + 8 * i = omega (arith, word_length order w) in
+    let place : 8 * suc i ≡ length first + 8 * i = omega (arith, length-number order 8 w) in
     rw (place, drop-append-add first rest (8 * i)) (word_at order ws i h.1 (omega arith))
-
--- one word more is stored
-one_word_more : (order : Endianness) (words all part : List ℕ) (i k word : ℕ)
-    → take (8 * i) all ≡ words_encoding order (take i words) → slice_get words i ≡ Some word
-    → take 8 part ≡ number_bytes order 8 word → 8 * i ≤ length all → 8 ≤ length part
-    → take (8 * (i + 1)) (put_mid (8 * i) k all part) ≡ words_encoding order (take (i + 1) words)
-unfolding words_encoding
-one_word_more order words all part i k word behind item stored fits part_fits =
-    let next : 8 * (i + 1) ≡ 8 * i + 8 = omega arith in
-    rw next (stored_next _ _ _ _ (8 * i) 8 _ behind fits stored part_fits)
-    ∙ sym (flat_map_step (number_bytes order 8) words i word item)
 
 -- two words more are stored
 two_words_more : (order : Endianness) (words all part : List ℕ) (i k first second : ℕ)
@@ -96,20 +79,20 @@ stored_two_more order words all part i k behind stored more fits part_fits =
     two_words_more order words all part i k _ _ behind (slice_get-get_or words (2 * i) 0 (omega (arith, more)))
     (slice_get-get_or words (2 * i + 1) 0 more) stored fits part_fits
 
--- the last of an odd number of them
-pub stored_last : (order : Endianness) (words all part : List ℕ) (i k : ℕ)
-    → take (8 * i) all ≡ words_encoding order (take i words)
-    → take 8 part ≡ number_bytes order 8 (slice_index words i)
-    → i + 1 ≡ length words → 8 * i ≤ length all → 8 ≤ length part
-    → take (8 * length words) (put_mid (8 * i) k all part) ≡ words_encoding order words
-stored_last order words all part i k behind stored last fits part_fits =
-    subst (λ n. take (8 * n) (put_mid (8 * i) k all part) ≡ words_encoding order (take n words)) last
-    (one_word_more order words all part i k _ behind (slice_get-get_or words i 0 (omega (arith, last))) stored fits
-    part_fits)
-    ∙ ap (words_encoding order) (take_all (length words) words (omega arith))
+-- the last of an odd number of words
+pub stored_last : (order : Endianness) (words all part : List ℕ) (i k n word : ℕ) → n ≡ 8 * length words
+    → take (8 * i) all ≡ words_encoding order (take i words) → slice_get words i ≡ Some word
+    → take 8 part ≡ number_bytes order 8 word → i + 1 ≡ length words → 8 * i ≤ length all → 8 ≤ length part
+    → take n (put_mid (8 * i) k all part) ≡ words_encoding order words
+unfolding words_encoding
+stored_last order words all part i k n word is behind item stored last fits part_fits =
+    let whole : n ≡ 8 * i + 8 = omega (arith, is, last) in
+    rw whole (stored_next _ _ _ _ (8 * i) 8 _ behind fits stored part_fits
+    ∙ sym (flat_map_step (number_bytes order 8) words i word item)
+    ∙ ap (words_encoding order) (take_all (i + 1) words (omega (arith, last))))
 
 -- the word at an index of those that the bytes hold in this order
-word_held : (held : Endianness) (words lent : List ℕ) (at i word : ℕ) → AllByRecursion IsWord words
+pub word_held : (held : Endianness) (words lent : List ℕ) (at i word : ℕ) → AllByRecursion IsWord words
     → lent ≡ words_encoding held words → at ≡ 8 * i → word ≡ number held 8 (drop at lent) → i < length words
     → slice_get words i ≡ Some word
 word_held held words lent at i word fit is place read more =
@@ -130,20 +113,6 @@ turned_two_more held order words lent all part i k first second fit is behind on
     two_words_more order words all part i k first second behind
     (word_held held words lent (16 * i) (2 * i) first fit is (omega arith) one (omega (arith, more)))
     (word_held held words lent (16 * i + 8) (2 * i + 1) second fit is (omega arith) two more) stored fits part_fits
-
--- the last of an odd number of them
-pub turned_last : (held order : Endianness) (words lent all part : List ℕ) (i k word : ℕ) → AllByRecursion IsWord words
-    → lent ≡ words_encoding held words
-    → take (8 * i) all ≡ words_encoding order (take i words)
-    → word ≡ number held 8 (drop (8 * i) lent)
-    → take 8 part ≡ number_bytes order 8 word
-    → i + 1 ≡ length words → 8 * i ≤ length all → 8 ≤ length part
-    → take (length lent) (put_mid (8 * i) k all part) ≡ words_encoding order words
-turned_last held order words lent all part i k word fit is behind read stored last fits part_fits =
-    let whole : length lent ≡ 8 * (i + 1) = omega (arith, ap length is, words_length held words, last) in
-    rw whole (one_word_more order words all part i k word behind
-    (word_held held words lent (8 * i) i word fit is refl read (omega (arith, last))) stored fits part_fits
-    ∙ ap (words_encoding order) (take_all (i + 1) words (omega (arith, last))))
 
 -- a run of items of k bytes each
 run_front : {X : Type 0} (f : X → List ℕ) (k : ℕ) (xs : List X) (to : ℕ) → AllByRecursion (λ x. length (f x) ≡ k) xs
@@ -179,6 +148,38 @@ items_fit f k [] (suc n) h within = absurd (omega arith)
 items_fit f k (x ∷ xs) (suc n) h within =
     omega (arith, h.0, length-append (f x) (flat_map f xs), items_fit f k xs n h.1 (omega arith))
 
+-- items of k numbers each that stand one after another in memory, and the part of these that is a run
+module _ {X : Type 0} (f : X → List ℕ) (k : ℕ) (xs : List X) {all : List ℕ} {to : ℕ}
+    (each : AllByRecursion (λ x. length (f x) ≡ k) xs) (is : all ≡ flat_map f xs) (within : to ≤ length xs) where
+  pub run_within : k * to ≤ length all
+  run_within = rw is (items_fit f k xs to each within)
+
+  module _ {from : ℕ} {part : List ℕ} (order : from ≤ to) (lent : part ≡ take (k * to - k * from) (drop (k * from) all))
+    where
+      pub run_length : length part ≡ k * (to - from)
+      run_length =
+          let parts : to ≡ from + (to - from) = omega arith in
+          let whole : k * to ≡ k * from + k * (to - from) = ap (λ n. k * n) parts ∙ mul-add k from (to - from) in
+          let left = length-drop (k * from) all in
+          ap length lent
+          ∙ length-take-le (k * to - k * from) (drop (k * from) all) (omega (arith, left, whole, run_within))
+          ∙ omega (arith, whole)
+
+      pub run_lent : part ≡ flat_map f (drop from (take to xs))
+      run_lent = lent ∙ rw is (run_bytes f k xs from to each order within)
+
+-- of coordinates as bytes, and as words
+module _ {w : ℕ} (read dims : Dimensions) (wide : w ≡ size read) (same : read ≡ dims) where
+  pub bytes_each : (order : Endianness) (cs : List (List ℕ)) → AreCoordinates dims cs
+      → AllByRecursion (λ c. length (words_encoding order c) ≡ 8 * w) cs
+  bytes_each order [] h = tt
+  bytes_each order (c ∷ cs) h =
+      (omega (arith, words_length order c, h.0.len, wide, ap size same), bytes_each order cs h.1)
+
+  pub words_each : (cs : List (List ℕ)) → AreCoordinates dims cs → AllByRecursion (λ c. length c ≡ w) cs
+  words_each [] h = tt
+  words_each (c ∷ cs) h = (omega (arith, h.0.len, wide, ap size same), words_each cs h.1)
+
 -- the words of a run of coordinates
 abbrev pub run_words : List (List ℕ) → ℕ → ℕ → List ℕ
 run_words cs from to = concat (drop from (take to cs))
@@ -198,62 +199,8 @@ are_words (x ∷ xs) ys h k = (h.0, are_words xs ys h.1 k)
 pub run_are_words : (dims : Dimensions) (cs : List (List ℕ)) (from to : ℕ) → AreCoordinates dims cs
     → AllByRecursion IsWord (run_words cs from to)
 run_are_words dims [] zero zero h = tt
-run_are_words dims [] zero (suc to) h = tt
 run_are_words dims [] (suc from) zero h = tt
-run_are_words dims [] (suc from) (suc to) h = tt
-run_are_words dims (c ∷ cs) zero zero h = tt
-run_are_words dims (c ∷ cs) (suc from) zero h = tt
 run_are_words dims (c ∷ cs) zero (suc to) h =
     are_words c (run_words cs zero to) h.0.words (run_are_words dims cs zero to h.1)
 run_are_words dims (c ∷ cs) (suc from) (suc to) h = run_are_words dims cs from to h.1
-
-coordinates_length : (order : Endianness) (dims : Dimensions) (cs : List (List ℕ)) → AreCoordinates dims cs
-    → AllByRecursion (λ c. length (words_encoding order c) ≡ 8 * size dims) cs
-coordinates_length order dims [] h = tt
-coordinates_length order dims (c ∷ cs) h =
-    (words_length order c ∙ ap (λ n. 8 * n) h.0.len, coordinates_length order dims cs h.1)
-
--- the bytes of a run are among all that are borrowed
-pub run_within : (order : Endianness) (dims : Dimensions) (cs : List (List ℕ)) (to : ℕ) → AreCoordinates dims cs
-    → to ≤ length cs
-    → 8 * size dims * to ≤ length (flat_map (words_encoding order) cs)
-run_within order dims cs to h within =
-    items_fit (words_encoding order) (8 * size dims) cs to (coordinates_length order dims cs h) within
-
--- the length of a run, by the items' size
-pub run_length : (w from to : ℕ) (all : List ℕ) → from ≤ to → w * to ≤ length all
-    → length (take (w * to - w * from) (drop (w * from) all)) ≡ w * (to - from)
-run_length w from to all order within =
-    let parts : to ≡ from + (to - from) = omega arith in
-    let whole : w * to ≡ w * from + w * (to - from) = ap (λ n. w * n) parts ∙ mul-add w from (to - from) in
-    let left = length-drop (w * from) all in
-    length-take-le (w * to - w * from) (drop (w * from) all) (omega (arith, left, whole, within)) ∙ omega (arith, whole)
-
-pub run_lent : (order : Endianness) (dims : Dimensions) (cs : List (List ℕ)) (from to : ℕ) → AreCoordinates dims cs
-    → from ≤ to → to ≤ length cs
-    → take (8 * size dims * to - 8 * size dims * from)
-    (drop (8 * size dims * from) (flat_map (words_encoding order) cs))
-    ≡ words_encoding order (run_words cs from to)
-run_lent order dims cs from to h ordered within =
-    run_bytes (words_encoding order) (8 * size dims) cs from to (coordinates_length order dims cs h) ordered within
-    ∙ sym (words_joined order (drop from (take to cs)))
-
--- ---- the words of all coordinates, one after another
-
-words_each : (dims : Dimensions) (cs : List (List ℕ)) → AreCoordinates dims cs
-    → AllByRecursion (λ c. length c ≡ size dims) cs
-words_each dims [] h = tt
-words_each dims (c ∷ cs) h = (h.0.len, words_each dims cs h.1)
-
--- those of a run are among them
-pub own_within : (dims : Dimensions) (cs : List (List ℕ)) (to : ℕ) → AreCoordinates dims cs → to ≤ length cs
-    → size dims * to ≤ length (concat cs)
-own_within dims cs to h within =
-    rw (concat_is cs) (items_fit (λ c. c) (size dims) cs to (words_each dims cs h) within)
-
-pub own_run : (dims : Dimensions) (cs : List (List ℕ)) (from to : ℕ) → AreCoordinates dims cs → from ≤ to
-    → to ≤ length cs
-    → take (size dims * to - size dims * from) (drop (size dims * from) (concat cs)) ≡ run_words cs from to
-own_run dims cs from to h ordered within =
-    rw (concat_is cs, concat_is (drop from (take to cs)))
-    (run_bytes (λ c. c) (size dims) cs from to (words_each dims cs h) ordered within)
+run_are_words dims cs from to h = tt

@@ -17,20 +17,9 @@ pub record Progress : Type 1 where
   pub fails_by : Type 0
   pub block : Waiting
 
--- some of what waited was appended, nothing where the block had room for n bytes, and the sink works
-pub record IsReady (old new : Progress) (n : ℕ) : Type 0 where
-  pub same : new.sink ≡ old.sink
-  pub slice : new.block.slice ≡ old.block.slice
-  pub size : block_size new.block ≡ block_size old.block
-  pub works : new.failed ≡ false
-  pub moved : List ℕ
-  pub whole : old.block.waiting ≡ moved ++ new.block.waiting
-  pub appended : Appends old.appended new.appended moved
-  pub kept : n ≤ old.block.room → moved ≡ []
-
 -- the encoding was laid after what waited, and some of these bytes were appended, nothing where the block had room for
--- the encoding. The sink works
-pub record IsLaid (old new : Progress) (encoding : List ℕ) : Type 0 where
+-- n bytes. The sink works
+pub record Moves (old new : Progress) (encoding : List ℕ) (n : ℕ) : Type 0 where
   pub same : new.sink ≡ old.sink
   pub slice : new.block.slice ≡ old.block.slice
   pub size : block_size new.block ≡ block_size old.block
@@ -38,7 +27,15 @@ pub record IsLaid (old new : Progress) (encoding : List ℕ) : Type 0 where
   pub moved : List ℕ
   pub whole : old.block.waiting ++ encoding ≡ moved ++ new.block.waiting
   pub appended : Appends old.appended new.appended moved
-  pub kept : length encoding ≤ old.block.room → moved ≡ []
+  pub kept : n ≤ old.block.room → moved ≡ []
+
+-- nothing was laid, and there is room for n bytes
+abbrev pub IsReady : Progress → Progress → ℕ → Type 0
+IsReady old new n = Moves old new [] n
+
+-- the encoding was laid
+abbrev pub IsLaid : Progress → Progress → List ℕ → Type 0
+IsLaid old new encoding = Moves old new encoding (length encoding)
 
 -- the sink failed by the error that is kept, after a strict prefix of what waited and the encoding was appended
 pub record IsBroken (old new : Progress) (encoding : List ℕ) : Type 0 where
@@ -51,15 +48,18 @@ pub record IsBroken (old new : Progress) (encoding : List ℕ) : Type 0 where
   pub left : 0 < length rest
   pub appended : Appends old.appended new.appended front
 
--- the block had no room for n bytes, and the sink failed, or the block is too small
-pub record IsShort (old new : Progress) (n : ℕ) : Type 0 where
+-- the block had no room for n bytes, and the sink failed before the encoding was appended, or the block is too small
+pub record RunsOut (old new : Progress) (encoding : List ℕ) (n : ℕ) : Type 0 where
   pub full : old.block.room < n
-  pub broken : MIN_BLOCK ≤ block_size old.block → IsBroken old new []
-
--- the block had no room for the encoding, and the sink failed, or the block is too small
-pub record IsCut (old new : Progress) (encoding : List ℕ) : Type 0 where
-  pub full : old.block.room < length encoding
   pub broken : MIN_BLOCK ≤ block_size old.block → IsBroken old new encoding
+
+-- n bytes found no room
+abbrev pub IsShort : Progress → Progress → ℕ → Type 0
+IsShort old new n = RunsOut old new [] n
+
+-- the encoding found no room
+abbrev pub IsCut : Progress → Progress → List ℕ → Type 0
+IsCut old new encoding = RunsOut old new encoding (length encoding)
 
 -- the encoding was laid, or the sink failed
 abbrev pub Advances : Progress → Progress → List ℕ → Result (Unit {0}) Stopped → Type 0

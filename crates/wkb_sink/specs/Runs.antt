@@ -44,6 +44,10 @@ Turns held order from to =
 abbrev pub run_size : Dimensions → ℕ → ℕ → ℕ
 run_size d from to = 8 * size d * (to - from)
 
--- the encodings of a run's coordinates, one after another
+-- coordinates one after another, without their count
+abbrev pub uncounted_encoding : Endianness → List Coordinate → List ℕ
+uncounted_encoding order cs = flat_map (words_encoding order) cs
+
+-- the coordinates of a run, one after another
 abbrev pub run_encoding : Endianness → List Coordinate → ℕ → ℕ → List ℕ
-run_encoding order cs from to = flat_map (words_encoding order) (drop from (take to cs))
+run_encoding order cs from to = uncounted_encoding order (drop from (take to cs))

@@ -8,10 +8,10 @@ use Rattle.std.specs.Io.KnownBytes.{Appends}
 use Rattle.wkb_geom.specs.declared.error.WkbError.{WkbError}
 use Rattle.wkb_geom.specs.declared.error.WkbError.TheVariants as errors
 
--- whether this result of a put of n bytes is a failure
-abbrev pub put_fails : {E : Type 0} → ℕ → Result ℕ E → Bool
-put_fails n (Ok k) = k == 0 && nat_lt 0 n
-put_fails n (Err e) = true
+-- whether this result of a put of the bytes is a failure
+abbrev pub put_fails : {E : Type 0} → List ℕ → Result ℕ E → Bool
+put_fails bytes (Ok n) = n == 0 && nat_lt 0 (length bytes)
+put_fails bytes (Err e) = true
 
 -- what was appended of bytes that are put as a whole, or not at all
 abbrev pub put_whole : {E : Type 0} → Result Bool E → List ℕ → List ℕ
@@ -22,14 +22,14 @@ put_whole _ whole = []
 abbrev pub PutsWhole : {E : Type 0} → Option (List ℕ) → Option (List ℕ) → Result Bool E → List ℕ → Type 0
 PutsWhole old new r whole = Appends old new (put_whole r whole)
 
--- a put of n bytes failed by this error, or by none, as nothing was taken of some bytes
-abbrev pub FailsBy : ℕ → Result ℕ Error → Option Error → Type 0
-FailsBy n r (Some e) = r ≡ Err e
-FailsBy n r None = (r ≡ Ok 0) × (0 < n)
+-- a put of the bytes failed by this error, or by none, as nothing was taken of some bytes
+abbrev pub FailsBy : List ℕ → Result ℕ Error → Option Error → Type 0
+FailsBy bytes r (Some e) = r ≡ Err e
+FailsBy bytes r None = (r ≡ Ok 0) × (0 < length bytes)
 
--- a fact is known of each error by which a put of n bytes failed
-abbrev pub KnownOfFailure : ℕ → Result ℕ Error → (Option Error → Type 0) → Type 0
-KnownOfFailure n r known = (failure : Option Error) → FailsBy n r failure → known failure
+-- a fact is known of each error by which a put of the bytes failed
+abbrev pub KnownOfFailure : List ℕ → Result ℕ Error → (Option Error → Type 0) → Type 0
+KnownOfFailure bytes r known = (failure : Option Error) → FailsBy bytes r failure → known failure
 
 -- a put failed by an error that reports a failed allocation
 abbrev pub IsOutOfMemory : Option Error → Type 0

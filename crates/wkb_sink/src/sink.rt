@@ -62,8 +62,8 @@ pub trait Sink {
         ensures bound { WritesAtMost result bytes.now }
         ensures bytes { WriteAppends (appended self.old) (appended self.new) result bytes.now }
         ensures failure { has_failed self.new
-            ≡ (has_failed self.old || put_fails (length bytes.now) result) }
-        ensures cause { KnownOfFailure (length bytes.now) result (fails_by self.new) };
+            ≡ (has_failed self.old || put_fails bytes.now result) }
+        ensures cause { KnownOfFailure bytes.now result (fails_by self.new) };
 
     /// Appends all of the bytes by laying them in the sink's own memory: `Ok(true)`. By default, and where a sink has
     /// no memory to lend, it appends nothing and stays as it was: `Ok(false)`. Writers then put block after block. An
@@ -87,7 +87,7 @@ pub trait Sink {
 // Whether a put with this result failed: by an error, or by taking no byte of some.
 #[inline]
 fn is_failure(answer: &io::Result<usize>, bytes: &[u8]) -> bool
-    ensures { result ≡ put_fails (length bytes.now) answer.now }
+    ensures { result ≡ put_fails bytes.now answer.now }
 {
     match answer {
         Ok(count) => *count == 0 && !bytes.is_empty(),
@@ -206,8 +206,8 @@ impl Sink for VecSink {
         ensures bound { WritesAtMost result bytes.now }
         ensures bytes { WriteAppends (Some self.old.bytes) (Some self.new.bytes) result bytes.now }
         ensures failure { self.new.failed
-            ≡ (self.old.failed || put_fails (length bytes.now) result) }
-        ensures cause { KnownOfFailure (length bytes.now) result IsOutOfMemory }
+            ≡ (self.old.failed || put_fails bytes.now result) }
+        ensures cause { KnownOfFailure bytes.now result IsOutOfMemory }
         ensures whole { IfOk result (λ n. n ≡ length bytes.now) }
         ensures room { FitsCapacity self.old bytes.now → IsOk result }
         ensures capacity { self.old.capacity ≤ self.new.capacity }
@@ -313,8 +313,8 @@ impl Sink for SliceSink<'_> {
         ensures bound { WritesAtMost result bytes.now }
         ensures bytes { WriteAppends (Some self.old.bytes) (Some self.new.bytes) result bytes.now }
         ensures failure { self.new.failed
-            ≡ (self.old.failed || put_fails (length bytes.now) result) }
-        ensures cause { KnownOfFailure (length bytes.now) result (λ failure. failure ≡ None) }
+            ≡ (self.old.failed || put_fails bytes.now result) }
+        ensures cause { KnownOfFailure bytes.now result (λ failure. failure ≡ None) }
         ensures most { IfOk result (λ n. n ≡ min (length bytes.now) self.old.room) }
         ensures room { IfOk result (λ n. self.new.room ≡ self.old.room - n) }
         ensures ok { IsOk result }

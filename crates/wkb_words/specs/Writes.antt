@@ -1,10 +1,11 @@
 -- The words of Writes, and how many they are.
 use Rattle.std.specs.Prelude.{ℕ}
 pub use Rattle.wkb.specs.Writes.{IsSizeOf, IsRefusedAs, IsWrittenAs, IsSpelled, IsSpelledAs, IsFailedAs, Writes}
-pub use Rattle.wkb.specs.Writes.{WritesTo, WritesToSlice, IsInFront, OutgrowsSlice, IsVecError, IsSliceError, Reports}
-pub use Rattle.wkb.specs.Writes.{FailsBy, TellsFailure, IsOutOfMemory, IsIOError, IsOwnError, IsWritten, IsBegun, Puts}
-pub use Rattle.wkb.specs.Writes.{WriteOptions, put_fails, put_whole, PutsWhole, KnownOfFailure, IsShortOfMemory, Ghosts}
-pub use Rattle.wkb.specs.Writes.{Outward, Growing, FitsCapacity, Lent, IsEncodingOf}
+pub use Rattle.wkb.specs.Writes.{WritesTo, WritesToVec, IsVecError, WritesToSlice, IsInFront, IsSliceError}
+pub use Rattle.wkb.specs.Writes.{OutgrowsSlice, Reports, FailsBy, TellsFailure, IsOutOfMemory, IsIOError, IsOwnError}
+pub use Rattle.wkb.specs.Writes.{IsWritten, IsBegun, Puts, WriteOptions, put_fails, put_whole, PutsWhole}
+pub use Rattle.wkb.specs.Writes.{KnownOfFailure, IsShortOfMemory, Ghosts, Outward, Growing, FitsCapacity, Lent}
+pub use Rattle.wkb.specs.Writes.{IsEncodingOf}
 
 abbrev pub writes_words : ℕ
-writes_words = 34
+writes_words = 35

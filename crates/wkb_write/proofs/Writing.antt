@@ -3,7 +3,7 @@ use Rattle.wkb_write.proofs.Prelude.{◌≡◌, ℕ, ◌<◌, ◌^◌, Bool, Lis
 use Rattle.wkb_write.proofs.Prelude.{IsErrAnd, Some, Form, WkbError, TellsFault, Geometry, IsGeometry, fault, IsForm}
 use Rattle.wkb_write.proofs.Prelude.{[], arith, refl, none_first, none_both, Fault, WriteOptions, encoding_of, IsSized}
 use Rattle.std.proofs.Common.{inr}
-use Rattle.std.specs.Prelude.{IfErr, IfOk, MatchResult}
+use Rattle.std.specs.Prelude.{IfErr, IfOk}
 use Rattle.wkb_geom.specs.declared.common.Endianness.TheVariants.{LittleEndian}
 use Rattle.wkb_laws.proofs.Rewritings.{encoding_spells_lem}
 use Rattle.wkb_write.proofs.Sizes.{measured_length, size_without_fault}
@@ -12,7 +12,7 @@ use Rattle.std.specs.declared.io.Error.{Error}
 use Rattle.std.proofs.KnownBytes.{Appends-trans}
 use Rattle.std.specs.Io.KnownBytes.{Appends}
 use Rattle.wkb_sink.specs.Sinks.{IsBegun, IsIOError, IsOwnError, Puts, PutsOrStops, TellsFailure}
-use Rattle.wkb_write.specs.Answers.{refusal_of, IsSpelledAs, OutgrowsSlice, Writes}
+use Rattle.wkb_write.specs.Answers.{refusal_of, IsSpelledAs, OutgrowsSlice, TellsPut, Writes}
 use Rattle.wkb_write.specs.Measures.{Reports}
 use Rattle.wkb_geom.specs.declared.error.WkbError.TheVariants as errors
 
@@ -28,20 +28,6 @@ some_bytes form g (Ok n) fits lawful size =
     let long = measured_length LittleEndian form g fits lawful (none_first (fault g) _ (size LittleEndian).0) in
     omega (arith, (size LittleEndian).1, long, header_within g)
 some_bytes form g (Err e) fits lawful size = tt
-
--- what has a fault is refused, and nothing is put
-pub refusal_writes : {o : WriteOptions} {g : Geometry} {f : Fault} {r : Result (Unit {0}) WkbError} {untouched : Type 0}
-    {old new : Option (List ℕ)} {failed : Bool} {fails_by : Option Error → Type 0} → IsSized o.form g (Err f)
-    → IsErrAnd r (λ e. TellsFault e f) → untouched → Writes o g r untouched old new failed fails_by
-refusal_writes {r = Ok u} size tells kept = absurd tells
-refusal_writes {o = o} {f = f} {r = Err e} size tells kept =
-    let is = (size o.endianness).is in
-    record {
-      refused = λ h other. let same : f ≡ h = cc in (subst (TellsFault e) same tells, kept);
-      written = λ none. absurd (cc);
-      spelled = tt;
-      own = λ none. absurd (cc);
-    }
 
 -- the encoding that was put spells the normal value
 spelled_as : (o : WriteOptions) (g : Geometry) (r : Result (Unit {0}) WkbError) (old new : Option (List ℕ))
@@ -100,32 +86,41 @@ is_io _ None told = absurd told
 told : (old new : Option (List ℕ)) (failed : Bool) (fails_by : Option Error → Type 0) (bytes : List ℕ)
     (put : Result (Unit {0}) (Option Error)) (r : Result (Unit {0}) WkbError)
     → PutsOrStops old new failed fails_by bytes put
-    → MatchResult put (λ u. r ≡ Ok u) (λ failure. IsErrAnd r (λ e. TellsFailure e failure))
-    → Puts old new failed bytes r × IfErr r (IsOwnError fails_by)
+    → TellsPut put r → Puts old new failed bytes r × IfErr r (IsOwnError fails_by)
 told old new failed fails_by bytes (Ok u) r puts is = rw is (puts, tt)
 told old new failed fails_by bytes (Err failure) (Ok u) puts never = absurd never
 told old new failed fails_by bytes (Err failure) (Err e) puts tells =
     ((is_io e failure tells, puts.0, puts.1), (failure, puts.2, tells))
 
--- what was put of a geometry that isn't refused was written
-pub put_writes : {o : WriteOptions} {g : Geometry} {r : Result (Unit {0}) WkbError} {untouched : Type 0}
-    {old new : Option (List ℕ)} {failed : Bool} {fails_by : Option Error → Type 0}
-    (put : Result (Unit {0}) (Option Error)) → refusal_of o g ≡ None → IsGeometry g → IsForm o.form
-    → PutsOrStops old new failed fails_by (encoding_of o g) put
-    → MatchResult put (λ u. r ≡ Ok u) (λ failure. IsErrAnd r (λ e. TellsFailure e failure))
-    → Writes o g r untouched old new failed fails_by
-put_writes {o} {g} {r} {untouched} {old} {new} {failed} {fails_by} put none lawful fits puts is =
-    let result = told old new failed fails_by (encoding_of o g) put r puts is in
-    record {
-      refused = λ f some. absurd (cc);
-      written = λ _. result.0;
-      spelled = spelled_as o g r old new failed (none_first _ _ none) lawful fits result.0;
-      own = λ _. result.1;
-    }
+module _ {o : WriteOptions} {g : Geometry} {untouched : Type 0} {old new : Option (List ℕ)} {failed : Bool}
+    {fails_by : Option Error → Type 0} where
+  -- what has a fault is refused, and nothing is put
+  pub refusal_writes : {f : Fault} {r : Result (Unit {0}) WkbError} → IsSized o.form g (Err f)
+      → IsErrAnd r (λ e. TellsFault e f) → untouched → Writes o g r untouched old new failed fails_by
+  refusal_writes {r = Ok u} size tells kept = absurd tells
+  refusal_writes {f = f} {r = Err e} size tells kept =
+      let is = (size o.endianness).is in
+      record {
+        refused = λ h other. let same : f ≡ h = cc in (subst (TellsFault e) same tells, kept);
+        written = λ none. absurd (cc);
+        spelled = tt;
+        own = λ none. absurd (cc);
+      }
 
--- what is promised of a geometry is promised of an equal one
-pub writes_same : {o : WriteOptions} {g h : Geometry} {r : Result (Unit {0}) WkbError} {untouched : Type 0}
-    {old new : Option (List ℕ)} {failed : Bool} {fails_by : Option Error → Type 0} → g ≡ h
-    → Writes o g r untouched old new failed fails_by → Writes o h r untouched old new failed fails_by
-writes_same {o} {g} {h} {r} {untouched} {old} {new} {failed} {fails_by} same writes =
-    subst (λ t. Writes o t r untouched old new failed fails_by) same writes
+  -- what was put of a geometry that isn't refused was written
+  pub put_writes : {r : Result (Unit {0}) WkbError} (put : Result (Unit {0}) (Option Error)) → refusal_of o g ≡ None
+      → IsGeometry g → IsForm o.form → PutsOrStops old new failed fails_by (encoding_of o g) put → TellsPut put r
+      → Writes o g r untouched old new failed fails_by
+  put_writes {r} put none lawful fits puts is =
+      let result = told old new failed fails_by (encoding_of o g) put r puts is in
+      record {
+        refused = λ f some. absurd (cc);
+        written = λ _. result.0;
+        spelled = spelled_as o g r old new failed (none_first _ _ none) lawful fits result.0;
+        own = λ _. result.1;
+      }
+
+  -- what is promised of a geometry is promised of an equal one
+  pub writes_same : {h : Geometry} {r : Result (Unit {0}) WkbError} → h ≡ g
+      → Writes o h r untouched old new failed fails_by → Writes o g r untouched old new failed fails_by
+  writes_same {r = r} same writes = subst (λ t. Writes o t r untouched old new failed fails_by) same writes

@@ -1,6 +1,7 @@
 -- What a size and a writer return.
 use Rattle.std.specs.Prelude.{◌≡◌, ◌<◌, ◌++◌, ◌⊎◌, ℕ, drop, length, Bool, List, Option, Some, None, Result}
-use Rattle.std.specs.Prelude.{Ok, MatchResult, IsErrAnd, IfOk, IfErr}
+use Rattle.std.specs.Prelude.{Ok, MatchResult, IsErrAnd, IfOk, IfErr, Vec}
+use Rattle.std.specs.Global.{Global}
 use Rattle.std.specs.declared.io.Error.{Error}
 use Rattle.std.specs.Io.KnownBytes.{Appends}
 use Rattle.wkb_geom.specs.declared.common.Endianness.{Endianness}
@@ -117,6 +118,14 @@ pub record OutgrowsSlice (options : WriteOptions) (g : Geometry) (old : List ℕ
 -- the error is an allocation failure, or reports what is refused
 abbrev pub IsVecError : WriteOptions → Geometry → WkbError → Type 0
 IsVecError options g e = IsMemory e ⊎ Reports e (refusal_of options g)
+
+-- what a writer to a vector promises: the vector is the encoding, or the error reports what is refused. Only where
+-- nothing is, it may be an allocation failure
+pub record WritesToVec (options : WriteOptions) (g : Geometry) (r : Result (Vec ℕ Global) WkbError) : Type 0 where
+  pub ok : IfOk r (λ out. out.items ≡ encoding_of options g)
+  pub writable : IfOk r (λ _. refusal_of options g ≡ None)
+  pub err : IfErr r (IsVecError options g)
+  pub memory : IfErr r (λ e. IsMemory e → refusal_of options g ≡ None)
 
 -- the error reports what is refused, or that the slice is too short
 abbrev pub IsSliceError : WriteOptions → Geometry → List ℕ → WkbError → Type 0

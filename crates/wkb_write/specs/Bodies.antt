@@ -35,6 +35,10 @@ parts_measure header part xs = record { fault = parts_fault part xs; size = part
 abbrev pub coordinate_words : Dimensions → ℕ
 coordinate_words d = min (size d) 4
 
+-- a coordinate of this dimension has as many words, where it can be written
+abbrev pub HasWords : Dimensions → ℕ → Type 0
+HasWords d words = words ≡ coordinate_words d
+
 abbrev pub ring_bytes : Dimensions → List Coordinate → ℕ
 ring_bytes d cs = 4 + 8 * coordinate_words d * length cs
 

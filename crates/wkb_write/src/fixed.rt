@@ -5,7 +5,7 @@ ghost use Rattle.wkb_geom.specs.Dimensions.{width, written_dimension};
 ghost use Rattle.wkb_geom.specs.declared.header.TheConstants.{MAX_HEADER_SIZE};
 ghost use Rattle.wkb_sink.specs.Blocks.{LaysAt};
 ghost use Rattle.wkb_write.specs.Prelude.{Geometry, IsGeometry, encoding_of, fault};
-ghost use Rattle.wkb_write.specs.Prelude.{HasFaultlessBody, MIN_BLOCK, coordinate_words, size_by_parts};
+ghost use Rattle.wkb_write.specs.Prelude.{HasFaultlessBody, HasWords, MIN_BLOCK, size_by_parts};
 ghost use Rattle.wkb_write.specs.Prelude.{whole_size_by_parts};
 
 use crate::common::*;
@@ -20,15 +20,14 @@ pub trait Fixed<G: Dimensioned> {
     /// The size without the header, by the number of words of a coordinate.
     fn size(words: usize) -> usize
         requires { words ≤ 4 }
-        ensures size { (g : G) → coordinate_words (G.dimensions g) ≡ words
-            → result ≡ size_by_parts (geometry g) }
+        ensures size { (g : G) → HasWords (G.dimensions g) words → result ≡ size_by_parts (geometry g) }
         ensures most { MAX_HEADER_SIZE + result ≤ MIN_BLOCK };
 
     /// Lays a geometry that has no fault, by the dimension that its header tells.
     fn lay(bytes: &mut [u8], at: usize, geom: &G, dim: Dimension, options: &WriteOptions) -> usize
         requires fault { fault (geometry geom.now) ≡ None }
         requires dimension { dim ≡ written_dimension (G.dimensions geom.now) }
-        requires words { width dim ≡ coordinate_words (G.dimensions geom.now) }
+        requires words { HasWords (G.dimensions geom.now) (width dim) }
         requires room { at + whole_size_by_parts options.now.form (geometry geom.now) ≤ length bytes.old }
         ensures end { result ≡ at + whole_size_by_parts options.now.form (geometry geom.now) }
         ensures bytes { LaysAt at result bytes.old bytes.new

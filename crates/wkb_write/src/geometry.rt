@@ -1,8 +1,7 @@
 //! A geometry of any kind: its sizes, its writer, and its encoding in a vector or in a slice.
 
-ghost use Rattle.std.specs.Prelude.{◌≡◌, None, IfOk, IfErr, false};
-ghost use Rattle.wkb_write.specs.Prelude.{encoding_of, refusal_of, Iso, IsSizeOf, IsVecError, WritesTo};
-ghost use Rattle.wkb_write.specs.Prelude.{IsMemory, WritesToSlice};
+ghost use Rattle.std.specs.Prelude.{◌≡◌, false};
+ghost use Rattle.wkb_write.specs.Prelude.{encoding_of, Iso, IsSizeOf, WritesTo, WritesToSlice, WritesToVec};
 
 use crate::common::*;
 use crate::fixed::AtOnce;
@@ -172,11 +171,7 @@ pub fn to_vec<G: GeometryTrait>(
     geom: &G,
     options: &WriteOptions,
 ) -> WkbResult<Vec<u8>>
-    ensures ok { IfOk result (λ out. out.items ≡ encoding_of options.now (G.geometry geom.now)) }
-    ensures writable { IfOk result (λ _. refusal_of options.now (G.geometry geom.now) ≡ None) }
-    ensures err { IfErr result (IsVecError options.now (G.geometry geom.now)) }
-    ensures memory { IfErr result
-        (λ e. IsMemory e → refusal_of options.now (G.geometry geom.now) ≡ None) }
+    ensures { WritesToVec options.now (G.geometry geom.now) result }
 {
     if let Some(encoding) = geom.as_written(options.endianness, options.form) {
         return vec_of_encoding(alloc, encoding);

@@ -2,7 +2,8 @@
 
 ghost use Rattle.std.specs.Prelude.{◌≡◌, ◌<◌, ℕ, None, false, length, IfSome};
 ghost use Rattle.wkb_write.specs.Prelude.{Geometry, IsGeometry, ItemList, LaysItem, ListsItems, MeasuresItem};
-ghost use Rattle.wkb_write.specs.Prelude.{IsMeasureOf, bytes_behind_header, HasMeasures, fault, items_measure};
+ghost use Rattle.wkb_write.specs.Prelude.{IsMeasureOf, IsOfWritable, HasMeasures, bytes_behind_header, fault};
+ghost use Rattle.wkb_write.specs.Prelude.{items_measure};
 
 use crate::common::*;
 use crate::measure::count_to_write;
@@ -32,7 +33,7 @@ pub trait Items<G: Dimensioned> {
     #[inline(always)]
     fn known_size(geom: &G) -> Option<usize>
         ensures size { IfSome result (λ n. n ≡ bytes_behind_header (geometry geom.now)) }
-        ensures writable { IfSome result (λ _. fault (geometry geom.now) ≡ None) }
+        ensures writable { IsOfWritable result (geometry geom.now) }
     {
         None
     }

@@ -1,8 +1,7 @@
 //! A line string. A ring is measured and put as its coordinates are.
 
 ghost use Rattle.std.specs.Prelude.{◌≡◌, ◌≤◌, ◌<◌, ◌*◌, ◌-◌, ◌^◌, None, false, length};
-ghost use Rattle.std.specs.List.{flat_map};
-ghost use Rattle.wkb_write.specs.Prelude.{Iso, line_string_meant, words_encoding, dimensions_fault};
+ghost use Rattle.wkb_write.specs.Prelude.{Iso, line_string_meant, uncounted_encoding, dimensions_fault};
 ghost use Rattle.wkb_write.specs.Prelude.{Lays, IsSizeOf, WritesTo, IsMeasureOf, ring_measure};
 ghost use Rattle.wkb_sink.specs.declared.block.TheConstants.{MAX_COORDINATE_SIZE};
 
@@ -52,7 +51,7 @@ pub fn put_coordinates<S: Sink, L: LineStringTrait>(
     requires count { length (L.coordinates line.now) < 2 ^ 32 }
     requires working { S.has_failed out.old.sink.now ≡ false }
     ensures { Lays S.Sink out.old out.new
-        (flat_map (words_encoding order) (L.coordinates line.now)) result }
+        (uncounted_encoding order (L.coordinates line.now)) result }
 {
     let count = line.num_coords();
     let size = WORD_SIZE * line.dim().size();

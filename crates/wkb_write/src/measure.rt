@@ -6,7 +6,7 @@
 ghost use Rattle.std.specs.Prelude.{◌≡◌, ◌*◌, ◌^◌, ◌<◌, ◌≤◌, Err, None, IsErrAnd};
 ghost use Rattle.wkb_geom.specs.Dimensions.{width, written_dimension};
 ghost use Rattle.wkb_write.specs.Prelude.{IsForm, coordinate_words, dimensions_fault, result_of, TellsFault};
-ghost use Rattle.wkb_write.specs.Prelude.{FindsUnsupported, IsCountToWrite};
+ghost use Rattle.wkb_write.specs.Prelude.{FindsUnsupported, HasWords, IsCountToWrite};
 ghost use Rattle.wkb_write.specs.Prelude.{IsMeasuredBehindHeader, OfMeasured, IsSized, IsSizeOf};
 
 use wkb_geom::words::WORD_SIZE;
@@ -75,7 +75,7 @@ pub fn count_to_write(n: u128) -> Option<u32>
 /// The number of words of a coordinate that is measured. No dimension that can be written has more than four.
 #[inline(always)]
 pub fn words_to_measure(dim: Dimensions) -> usize
-    ensures { result ≡ coordinate_words dim }
+    ensures { HasWords dim result }
 {
     dim.size().min(4)
 }
@@ -107,7 +107,7 @@ pub fn behind_header(dim: Dimensions, body: Measured) -> Measured
 pub fn supported_dimension(dim: Dimensions) -> Dimension
     requires { dimensions_fault dim ≡ None }
     ensures named { result ≡ written_dimension dim }
-    ensures words { width result ≡ coordinate_words dim }
+    ensures words { HasWords dim (width result) }
 {
     dimension_to_write(dim)
 }

@@ -2,9 +2,9 @@
 
 ghost use Rattle.std.specs.Prelude.{◌≡◌, ◌≤◌, ◌<◌, ◌^◌, false, length, None, IfOk, IfErr};
 ghost use Rattle.std.specs.Prelude.{IsErrAnd};
-ghost use Rattle.wkb_write.specs.Prelude.{Geometry, IsGeometry, fault, encoding_of, refusal_of};
-ghost use Rattle.wkb_write.specs.Prelude.{IsForm, IsMeasured, IsSized, IsSizeOf, IsMemory, IsVecError};
-ghost use Rattle.wkb_write.specs.Prelude.{Lays, PutsGeometry, TellsPut, CopiesTo, WritesTo};
+ghost use Rattle.wkb_write.specs.Prelude.{Geometry, IsGeometry, fault, encoding_of};
+ghost use Rattle.wkb_write.specs.Prelude.{IsForm, IsMeasured, IsSized, IsSizeOf, IsMemory};
+ghost use Rattle.wkb_write.specs.Prelude.{Lays, PutsGeometry, TellsPut, CopiesTo, WritesTo, WritesToVec};
 ghost use Rattle.wkb_write.specs.Prelude.{TellsFailure, MIN_BLOCK, result_of};
 
 use crate::checked::Checked;
@@ -196,11 +196,7 @@ pub fn vec_as<G, K: Writable<G>>(
     geom: &G,
     options: &WriteOptions,
 ) -> WkbResult<Vec<u8>>
-    ensures ok { IfOk result (λ out. out.items ≡ encoding_of options.now (K.geometry geom.now)) }
-    ensures writable { IfOk result (λ _. refusal_of options.now (K.geometry geom.now) ≡ None) }
-    ensures err { IfErr result (IsVecError options.now (K.geometry geom.now)) }
-    ensures memory { IfErr result
-        (λ e. IsMemory e → refusal_of options.now (K.geometry geom.now) ≡ None) }
+    ensures { WritesToVec options.now (K.geometry geom.now) result }
 {
     let size = match checked_size::<G, K>(geom, options.form) {
         Ok(size) => size,

@@ -7,7 +7,7 @@ use Rattle.wkb_write.proofs.line_string.put_coordinates.Goals as goal
 pub loop-done-init : goal.loop-done-init
 loop-done-init g c = record {
   within = omega arith;
-  laid = record { front = []; is = refl; laid = laid_none _ c.requires.working };
+  laid = record { front = []; is = refl; laid = laid_none _ 0 c.requires.working };
 }
 
 pub returns-in_err-make_room : goal.returns-in_err-make_room

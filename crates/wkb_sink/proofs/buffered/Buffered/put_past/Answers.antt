@@ -8,10 +8,10 @@ returns-in_err-flush g c =
 
 pub returns-in-Ok : goal.returns-in-Ok
 returns-in-Ok g c =
-    past_laid _ _ _ _ _ _ _ _ _ c.in_ok-flush.ensures.ready c.in_ok-flush.ensures.empty c.requires.long
+    past_laid c.in_ok-flush.ensures.ready c.in_ok-flush.ensures.empty c.requires.long
     c.in-Ok.ensures.0 c.in-Ok.ensures.1
 
 pub returns-in-Err : goal.returns-in-Err
 returns-in-Err g c =
-    past_cut _ _ _ _ _ _ _ _ _ c.in_ok-flush.ensures.ready c.in_ok-flush.ensures.empty c.requires.long
+    past_cut c.in_ok-flush.ensures.ready c.in_ok-flush.ensures.empty c.requires.long
     c.in-Err.ensures.0 c.in-Err.ensures.1 c.in-Err.ensures.2

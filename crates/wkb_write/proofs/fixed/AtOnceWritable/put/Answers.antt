@@ -1,4 +1,4 @@
-use Rattle.wkb_write.proofs.Prelude.{◌∙◌, ap, arith, sym}
+use Rattle.wkb_write.proofs.Prelude.{◌∙◌, ap, arith}
 use Rattle.wkb_write.proofs.Sizes.{no_room_for}
 use Rattle.wkb_write.proofs.Whole.{supported_body}
 use Rattle.wkb_write.specs.Bodies.{coordinate_words}
@@ -11,7 +11,7 @@ supported_dimension-dim-requires g c =
 pub returns-in_err-make_room : goal.returns-in_err-make_room
 returns-in_err-make_room g c =
     let wide = c.supported_dimension-dim.ensures.words ∙ ap coordinate_words c.dim.ensures in
-    let size = c.size.ensures.size c.args.geom.now (sym (c.width.ensures ∙ wide)) in
+    let size = c.size.ensures.size c.args.geom.now (c.width.ensures ∙ wide) in
     no_room_for c.args.options.now _ _ _ c.from_residual.ensures.1 c.in_err-make_room.ensures.ready
     c.length_of_header.ensures.fits (g.met.F.Fixed.lawful c.args.geom.now) c.requires.fault
     (omega (arith, c.length_of_header.ensures.size, size))
