@@ -1,7 +1,7 @@
 -- What the call for one row of a column does.
 use Rattle.wkb_c.proofs.Common.{◌≡◌, ◌≢◌, ℕ, ◌+◌, ◌≤◌, ◌<◌, ◌⊎◌, List, [], ◌∷◌, ◌++◌, length, drop, refl, sym, ap, ◌∙◌}
-use Rattle.wkb_c.proofs.Common.{arith, append-nil, Spelling, node, spelling, no_spellings, header, Value, member}
-use Rattle.wkb_c.proofs.Common.{no_members, kind, dimension, order_byte}
+use Rattle.wkb_c.proofs.Common.{arith, append-nil, Spelling, node, header, Value}
+use Rattle.wkb_c.proofs.Common.{kind, dimension, order_byte}
 use lib.Seq.{sets, sets-eq}
 use Rattle.std.proofs.Common.{set}
 use Rattle.std.proofs.lemmas.List.{nil_from_length}
@@ -10,7 +10,8 @@ use Rattle.wkb_check.specs.Bounded.{HasGeometries}
 use Rattle.wkb_check.specs.Pieces.{leading, count_of, size}
 use Rattle.wkb_check.specs.Tables.{geometry_entries, FitGeometries, entry, place, entry_count}
 use Rattle.wkb_check.specs.declared.parts.Part.{Part}
-use Rattle.wkb_check.proofs.Placing.{spelled_size}
+use Rattle.wkb_check.proofs.Placing.{spelled_size, alone}
+use Rattle.wkb_check.proofs.Scanning.{geometry_of_front}
 use Rattle.wkb_c.specs.Checks.{IsFound, whole_entry}
 use Rattle.wkb_c.specs.declared.found.Found.{Found}
 use Rattle.wkb_c.specs.Columns.{IsRow, IsRefusedWith}
@@ -61,22 +62,7 @@ module _ {c : Column} {i start status count : ℕ} {before lent sub after : List
 -- the geometry at the front, as the only one of some
 abbrev pub one_geometry : (input : List ℕ) (s : Spelling) (t : Value) (rest : List ℕ) → Front input s t rest
     → HasGeometries 1 input rest
-one_geometry input s t rest f = record {
-  spelled = spelling s no_spellings;
-  values = member t no_members;
-  begins = record {
-    front = f.front;
-    whole = f.whole;
-    first = record {
-      front = f.front;
-      rest = [];
-      whole = sym (append-nil f.front);
-      first = (f.spelled, tt);
-      second = refl;
-    };
-  };
-  counted = refl;
-}
+one_geometry input s t rest f = alone (geometry_of_front f)
 
 pub fits_table : (input : List ℕ) (many : ℕ) (parts : List Part) → HasParts input many → many ≤ length parts
     → FitGeometries 1 input 0 (length parts)

@@ -287,8 +287,8 @@ mutual
 
   members_paced : (ss : Spellings) (ts : Values) (tail : List Subject) → Paced 0 tail
       → Paced 0 (subjects_of_each ss ts ++ tail)
-  members_paced no_spellings ts tail p = p
-  members_paced (spelling s ss) no_members tail p = p
+  members_paced ss no_members tail p = p
+  members_paced no_spellings (member t ts) tail p = p
   members_paced (spelling s ss) (member t ts) tail p =
       subst (Paced 0) (sym (append_assoc (subjects s t) (subjects_of_each ss ts) tail))
       (geometry_paced s t (subjects_of_each ss ts ++ tail) (members_paced ss ts tail p))

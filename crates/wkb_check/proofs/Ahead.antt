@@ -1,12 +1,10 @@
 -- What the header and the count of a geometry say, and the pieces that follow one another.
-use Rattle.std.proofs.Common.{◌≡◌, ◌≢◌, ℕ, ◌+◌, ◌≤◌, List, ◌++◌, length, drop, is_some, None, Ok, refl, sym, ap, ◌∙◌}
-use Rattle.std.proofs.Common.{subst, arith, length-drop, Option, Some, false, ◌⊎◌, ⊎_elim}
+use Rattle.std.proofs.Common.{◌≡◌, ◌≢◌, ℕ, ◌+◌, ◌≤◌, List, [], ◌++◌, length, drop, is_some, None, Ok, refl, sym, ap}
+use Rattle.std.proofs.Common.{◌∙◌, subst, arith, length-drop, Option, Some, false, append_assoc, append-nil}
 use Rattle.std.proofs.lemmas.List.{drop-drop}
-use Rattle.wkb_laws.specs.Prelude.{Endianness, Dimension, Head, number, Begins, Value}
-use Rattle.wkb_laws.specs.Prelude.{point, line_string, polygon, multi_point, multi_line_string, multi_polygon}
-use Rattle.wkb_laws.specs.Prelude.{collection}
-use Rattle.wkb_laws.specs.Prelude.{kind, dimension, Spelling, node, SpellsBody, Spells, type_of}
-use Rattle.wkb_laws.specs.Prelude.{type_dimension, body_start}
+use Rattle.wkb_laws.specs.Prelude.{Endianness, Dimension, Head, number, IsNumber, Begins, Value}
+use Rattle.wkb_laws.specs.Prelude.{point, line_string, polygon, kind, dimension, Spelling, node, SpellsBody, Spells}
+use Rattle.wkb_laws.specs.Prelude.{type_of, type_dimension, body_start}
 unfoldable use Rattle.wkb_laws.specs.Prelude.{head_at}
 use Rattle.wkb_geom.specs.Reading.{type_kind, srid_in, meaning, meaning_of}
 use Rattle.wkb_geom.specs.Refusals.{srid_size}
@@ -20,31 +18,23 @@ use Rattle.wkb_laws.proofs.Complete.{head_of}
 use Rattle.wkb_check.specs.Bounded.{HasGeometry}
 use Rattle.wkb_check.specs.Pieces.{count_of, leading, piece_of, bare_head, HeaderIs}
 use Rattle.wkb_check.specs.declared.pieces.Piece.{Piece}
-use Rattle.wkb_check.proofs.Public.{geometry_opens, one_head}
+use Rattle.wkb_check.proofs.Public.{geometry_opens}
 use Rattle.wkb_check.proofs.Bodies.{rest_smaller}
 
 -- the count at the front of a body
+count_first : (order : Endianness) (n : ℕ) (x rest more : List ℕ) {front : List ℕ} → x ≡ front ++ rest
+    → IsNumber order 4 n front → (4 ≤ length (x ++ more)) × (number order 4 (x ++ more) ≡ n)
+count_first order n x rest more {front} whole h =
+    let b = begins_number order 4 n (x ++ more) (rest ++ more)
+    (record { front = front; whole = ap (λ z. z ++ more) whole ∙ append_assoc front rest more; first = h }) in
+    (b.0, b.1)
+
 counted : (order : Endianness) (words : List ℕ) (t : Value) (x more : List ℕ) → SpellsBody order words t x → kind t ≢ 1
     → (4 ≤ length (x ++ more)) × (number order 4 (x ++ more) ≡ count_of t)
 counted order words (point d c) x more h differs = absurd (differs refl)
-counted order words (line_string d cs) x more h differs =
-    let b = h.1 in
-    let r = begins_number order 4 (length cs) (x ++ more) (b.rest ++ more)
-    (record { front = b.front; whole = then_append b more; first = b.first }) in
-    (r.0, r.1)
-counted order words (polygon d rings) x more h differs =
-    let b = h.1 in
-    let r = begins_number order 4 (length rings) (x ++ more) (b.rest ++ more)
-    (record { front = b.front; whole = then_append b more; first = b.first }) in
-    (r.0, r.1)
-counted order words (multi_point d points) x more h differs =
-    let r = begins_number order 4 _ (x ++ more) more (record { front = x; whole = refl; first = h.1 }) in (r.0, r.1)
-counted order words (multi_line_string d lines) x more h differs =
-    let r = begins_number order 4 _ (x ++ more) more (record { front = x; whole = refl; first = h.1 }) in (r.0, r.1)
-counted order words (multi_polygon d polygons) x more h differs =
-    let r = begins_number order 4 _ (x ++ more) more (record { front = x; whole = refl; first = h.1 }) in (r.0, r.1)
-counted order words (collection d ts) x more h differs =
-    let r = begins_number order 4 _ (x ++ more) more (record { front = x; whole = refl; first = h.1 }) in (r.0, r.1)
+counted order words (line_string d cs) x more h differs = count_first order _ x h.1.rest more h.1.whole h.1.first
+counted order words (polygon d rings) x more h differs = count_first order _ x h.1.rest more h.1.whole h.1.first
+counted order words _ x more h differs = count_first order _ x [] more (sym (append-nil x)) h.1
 
 -- the type of a value has its kind and its dimension
 pub type_kind_is : (t : Value) → type_kind (type_of (kind t) (dimension t)) ≡ kind t
@@ -74,13 +64,11 @@ says bytes (node own words ss) t rest b h head =
     let x = b.first in
     let y = x.second in
     let said = geometry_opens bytes (node own words ss) t rest b in
-    let same : head_of own.order (kind t) (dimension t) (is_some own.srid) ≡ h = one_head (sym said.head ∙ head) in
+    let same : head_of own.order (kind t) (dimension t) (is_some own.srid) ≡ h = cc (sym said.head ∙ head) in
     let start = body_start (is_some own.srid) in
-    let shape : bytes ≡ x.front ++ (y.front ++ (y.rest ++ rest)) = b.whole ∙ then_append x rest
-    ∙ ap (λ z. x.front ++ z) (then_append y rest) in
-    let cut : drop start bytes ≡ y.front ++ (y.rest ++ rest) = ap (drop start) shape
-    ∙ drop_front start x.front (y.front ++ (y.rest ++ rest)) (header_length own (kind t) (dimension t) x.front x.first)
-    in
+    let cut : drop start bytes ≡ y.front ++ (y.rest ++ rest) = ap (drop start) (b.whole ∙ then_append x rest)
+    ∙ drop_front start x.front (x.rest ++ rest) (header_length own (kind t) (dimension t) x.front x.first)
+    ∙ then_append y rest in
     subst (Says bytes (node own words ss) t) same
     (record {
       long = said.long;
@@ -98,31 +86,16 @@ says bytes (node own words ss) t rest b h head =
 pub begins_inside : (bytes : List ℕ) (begin : ℕ) → HasGeometry (drop begin bytes) → begin + 5 ≤ length bytes
 begins_inside bytes begin g = omega (arith, rest_smaller g, length-drop begin bytes)
 
-point_counts : (h : Header) (t : Value) → kind t ≡ 1
-    → (count_of t ≡ 1) × (leading h t ≡ 5 + srid_size (is_some h.srid))
-point_counts h (point d c) e = (refl, refl)
-point_counts h _ e = absurd (omega (arith, e))
-
 other_leads : (h : Header) (t : Value) → kind t ≢ 1 → leading h t ≡ 9 + srid_size (is_some h.srid)
 other_leads h (point d c) differs = absurd (differs refl)
 other_leads h _ differs = refl
 
-piece_is : (at : ℕ) (s : Spelling) (t : Value) (k : ℕ) (d : Dimension) (order : Endianness) (srid : Option ℕ)
-    (n offset : ℕ) → k ≡ kind t → d ≡ dimension t → order ≡ (header s).order → srid ≡ (header s).srid
-    → n ≡ count_of t
-    → offset ≡ at + leading (header s) t
+piece_is : (at : ℕ) (s : Spelling) (t : Value) {k : ℕ} {d : Dimension} {order : Endianness} {srid : Option ℕ}
+    → HeaderIs s t k d order srid → (n offset : ℕ) → n ≡ count_of t → offset ≡ at + leading (header s) t
     → ◌≡◌ {A = Piece}
     (record { kind = k; dimension = d; order = order; srid = srid; count = n; begin = at; offset = offset })
     (piece_of at s t)
-piece_is at (node h words ss) t k d order srid n offset ke de oe se ne fe = λ i. record {
-  kind = ke i;
-  dimension = de i;
-  order = oe i;
-  srid = se i;
-  count = ne i;
-  begin = at;
-  offset = fe i;
-}
+piece_is at (node h words ss) t is n offset count_is offset_is = cc
 
 -- the number of a kind is the code of that kind
 pub bare_meant : (k : ℕ) → 1 ≤ k → k ≤ 7 → meaning_of k ≡ Some (meaning (type_of k Xy) false)
@@ -161,7 +134,7 @@ module _ (bytes : List ℕ) (begin : ℕ) (g : HasGeometry (drop begin bytes)) w
         srid_is = read.srid_is;
       }
 
-  module _ (k : ℕ) (d : Dimension) (order : Endianness) (srid : Option ℕ)
+  module _ {k : ℕ} {d : Dimension} {order : Endianness} {srid : Option ℕ}
       (is : HeaderIs g.spelled g.value k d order srid) where
     srid_long : srid_size (is_some srid) ≡ srid_size (is_some (header g.spelled).srid)
     srid_long = ap (λ s. srid_size (is_some s)) is.srid_is
@@ -184,26 +157,17 @@ module _ (bytes : List ℕ) (begin : ℕ) (g : HasGeometry (drop begin bytes)) w
         )
 
     -- the piece, by its header and its count
-    pub counted_piece : (n offset : ℕ)
-        → ((k ≡ 1) × (n ≡ 1) × (offset ≡ begin + 5 + srid_size (is_some srid))
-        ⊎ (k ≢ 1) × (n ≡ number order 4 (drop (begin + 5 + srid_size (is_some srid)) bytes))
-        × (offset ≡ begin + 9 + srid_size (is_some srid)))
+    pub counted_piece : (n offset : ℕ) → k ≢ 1
+        → n ≡ number order 4 (drop (begin + 5 + srid_size (is_some srid)) bytes)
+        → offset ≡ begin + 9 + srid_size (is_some srid)
         → ◌≡◌ {A = Piece}
         (record { kind = k; dimension = d; order = order; srid = srid; count = n; begin = begin; offset = offset })
         (piece_of begin g.spelled g.value)
-    counted_piece n offset by =
-        let ends : (n ≡ count_of g.value) × (offset ≡ begin + leading (header g.spelled) g.value) =
-        ⊎_elim
-        (λ a. let p = point_counts (header g.spelled) g.value (sym is.kind_is ∙ a.0) in
-        (a.1 ∙ sym p.0, omega (arith, a.2, srid_long, p.1)))
-        (λ a. let other : kind g.value ≢ 1 = λ e. a.0 (is.kind_is ∙ e) in (
-          a.1 ∙ (λ i. number (is.order_is i) 4 (drop (begin + 5 + srid_size (is_some srid)) bytes))
-              ∙ ap (number (header g.spelled).order 4)
-              (ap (λ j. drop j bytes) (omega (arith, srid_long, own_says.start_is))
-              ∙ sym (drop-drop (body_start (is_some (header g.spelled).srid)) begin bytes))
-              ∙ (own_says.counts other).1,
-          omega (arith, a.2, srid_long, other_leads (header g.spelled) g.value other),
-        ))
-        by in
-        piece_is begin g.spelled g.value k d order srid n offset is.kind_is is.dimension_is is.order_is is.srid_is
-        ends.0 ends.1
+    counted_piece n offset differs n_is offset_is =
+        let other : kind g.value ≢ 1 = λ e. differs (is.kind_is ∙ e) in
+        let at : begin + 5 + srid_size (is_some srid) ≡ begin + body_start (is_some (header g.spelled).srid) =
+        omega (arith, srid_long, own_says.start_is) in
+        piece_is begin g.spelled g.value is n offset
+        (rw (n_is, is.order_is, at, ← drop-drop (body_start (is_some (header g.spelled).srid)) begin bytes)
+        (own_says.counts other).1)
+        (omega (arith, offset_is, srid_long, other_leads (header g.spelled) g.value other))

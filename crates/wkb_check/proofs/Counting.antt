@@ -1,6 +1,6 @@
 -- A count, and the parts after it.
 use Rattle.std.proofs.Common.{◌≡◌, ℕ, ◌+◌, ◌≤◌, List, [], ◌∷◌, length, map, sum_by, Result, Ok, Err, refl, sym, ap}
-use Rattle.std.proofs.Common.{◌∙◌, arith, zero-add, nat_lt, lt-ltb, le-ltb, Bor}
+use Rattle.std.proofs.Common.{◌∙◌, arith, zero-add, add-zero, nat_lt, lt-ltb, le-ltb, Bor}
 use Rattle.std.proofs.lemmas.Bool.{cond-true, cond-false}
 use Rattle.std.proofs.lemmas.List.Sums.{sum_by-cons}
 use Rattle.wkb_geom.specs.declared.error.Cause.{Cause}
@@ -16,7 +16,7 @@ use Rattle.wkb_geom.specs.Reading.{list_item, multi_point_with, multi_line_strin
 use Rattle.wkb_check.specs.declared.walk.Walk.{Walk}
 use Rattle.wkb_check.specs.Passes.{Passes, tally}
 use Rattle.wkb_check.proofs.Leaves.{cond_image, refused_walked}
-use Rattle.wkb_check.specs.Walked.{Tally, walked, with_left, ring_coordinates, coordinates_by, number_of_member}
+use Rattle.wkb_check.specs.Walked.{Tally, Walked, walked, with_left, ring_coordinates, coordinates_by, number_of_member}
 use Rattle.wkb_check.specs.Walked.{item_coordinates, rings_walked, polygon_walked, members_walked, multi_point_walked}
 use Rattle.wkb_check.specs.Walked.{multi_walked}
 unfoldable use Rattle.wkb_check.specs.Walked.{multi_told}
@@ -33,11 +33,10 @@ no_count many l bytes turns passed behind c none =
     ∙ ap (λ c. refused (c, length bytes)) (sym none.0)) ∙ refused_walked many (c, length bytes) (turns, passed)
 
 -- a reading that is walked over as another one
-as_walked : {A B : Type 0} (f : A → ℕ) (g : B → ℕ) (p : ReadingOf (Cause × ℕ) A) (q : ReadingOf (Cause × ℕ) B)
-    (r : Result (Bor (List ℕ)) Cause) (old new : Walk) → walked f p (tally old) ≡ walked g q (tally old)
-    → Passes r (walked g q) old new → Passes r (walked f p) old new
-as_walked f g p q (Ok rest) old new same h = same ∙ h
-as_walked f g p q (Err c) old new same h = same ∙ h
+as_walked : (walk other : Tally → Walked) (r : Result (Bor (List ℕ)) Cause) (old new : Walk)
+    → walk (tally old) ≡ other (tally old) → Passes r other old new → Passes r walk old new
+as_walked walk other (Ok rest) old new same h = same ∙ h
+as_walked walk other (Err c) old new same h = same ∙ h
 
 module _ {A : Type 0} (many : A → ℕ) (whole : List A → List ℕ → Item) (total : Item → ℕ)
     (sum : (parts : List A) (encoding : List ℕ) → total (whole parts encoding) ≡ sum_by many parts) where
@@ -45,28 +44,24 @@ module _ {A : Type 0} (many : A → ℕ) (whole : List A → List ℕ → Item) 
   whole_walked : (n : ℕ) (bytes : List ℕ) (r : ReadingOf (Cause × ℕ) (List A)) (t : Tally)
       → walked total (costs (slots_of n) (and_then r (λ parts rest. done (whole parts (consumed bytes rest)) rest))) t
       ≡ walked (sum_by many) r t
-  whole_walked n bytes (c, Ok x) t =
-      let turns : t.0 + (0 + (c.turns + 0)) ≡ t.0 + c.turns = omega arith in
-      λ i. Ok ((turns i, t.1 + sum x.0 (consumed bytes x.1) i), x.1)
-  whole_walked n bytes (c, Err e) t = λ i. Err (t.0 + zero-add c.turns i, e)
+  whole_walked n bytes (c, Ok x) t = simp (add-zero, zero-add, sum)
+  whole_walked n bytes (c, Err e) t = simp zero-add
 
   pub list_walked : (part : List ℕ → ReadingOf (Cause × ℕ) A) (k : ℕ) (l : Layout) (bytes start : List ℕ) (n : ℕ)
       → n ≡ count_in l bytes → body_start l.has_srid + 4 ≤ length bytes → start ≡ parts_start l.has_srid bytes
       → (t : Tally)
       → walked total (list_told with_left k l part whole bytes) t ≡ walked (sum_by many) (repeated n part start) t
   list_walked part k l bytes start n counts long at t =
-      ap (λ r. walked total r t)
+      rw (counts, at) (ap (λ r. walked total r t)
       (cond-false (nat_lt (length bytes) (body_start l.has_srid + 4)) _ _ (le-ltb _ _ long))
       ∙ whole_walked (slots_asked k (count_in l bytes) (length (parts_start l.has_srid bytes))) bytes
-      (repeated (count_in l bytes) part (parts_start l.has_srid bytes)) t
-      ∙ (λ i. walked (sum_by many) (repeated (sym counts i) part (sym at i)) t)
+      (repeated (count_in l bytes) part (parts_start l.has_srid bytes)) t)
 
 -- ---- the sums
 
 mapped_sum : {A B : Type 0} (f : B → ℕ) (g : A → B) (l : List A) → sum_by f (map g l) ≡ sum_by (λ a. f (g a)) l
 mapped_sum f g [] = refl
-mapped_sum f g (a ∷ l) = sum_by-cons f (g a) (map g l) ∙ ap (λ n. f (g a) + n) (mapped_sum f g l)
-    ∙ sym (sum_by-cons (λ a. f (g a)) a l)
+mapped_sum f g (a ∷ l) = simp (sum_by-cons, mapped_sum f g l)
 
 mapped_ones : {A B : Type 0} (g : A → B) (l : List A) → length (map g l) ≡ sum_by (λ a. 1) l
 mapped_ones g [] = refl
@@ -79,8 +74,7 @@ pub polygon_passes : (l : Layout) (bytes start : List ℕ) (n : ℕ) (r : Result
     → Passes r (rings_walked l n start) old new → Passes r (polygon_walked l bytes) old new
 unfolding polygon_told
 polygon_passes l bytes start n r old new counts long at h =
-    as_walked (coordinates_by 3) (sum_by (ring_coordinates l)) (polygon_told with_left l bytes)
-    (repeated n (ring_part_told with_left l) start) r old new
+    as_walked (polygon_walked l bytes) (rings_walked l n start) r old new
     (list_walked (ring_coordinates l) (polygon_item l) (coordinates_by 3)
     (λ rings encoding. mapped_sum length (ring_in l.order l.dimension) rings) (ring_part_told with_left l) 3 l bytes
     start n counts long at (tally old)) h
@@ -103,8 +97,7 @@ multi_is : (kind : MemberKind) (l : Layout) (bytes : List ℕ)
     (multi_with kind l) bytes
 unfolding multi_told multi_line_string_told multi_polygon_told
 multi_is kinds.Point l bytes = refl
-multi_is kinds.LineString l bytes = refl
-multi_is kinds.Polygon l bytes = refl
+multi_is _ l bytes = refl
 
 module _ (kind : MemberKind) (l : Layout) (bytes : List ℕ) where
   abbrev member_part : List ℕ → ReadingOf (Cause × ℕ) Item
@@ -113,19 +106,17 @@ module _ (kind : MemberKind) (l : Layout) (bytes : List ℕ) where
   pub multi_cut : (turns passed : ℕ) (c : Cause) → HasNoCount l bytes c
       → walked item_coordinates (multi_told kind l bytes) (turns, passed) ≡ Err (turns, (c, length bytes))
   multi_cut turns passed c none =
-      ap (λ r. walked item_coordinates r (turns, passed)) (multi_is kind l bytes)
-      ∙ no_count item_coordinates l bytes turns passed
-      (parts_body (3 + number_of_member kind) l member_part (multi_with kind l) bytes) c none
+      rw (multi_is kind l bytes) (no_count item_coordinates l bytes turns passed
+      (parts_body (3 + number_of_member kind) l member_part (multi_with kind l) bytes) c none)
 
   pub multi_passes : (start : List ℕ) (n : ℕ) (r : Result (Bor (List ℕ)) Cause) (old new : Walk) → n ≡ count_in l bytes
       → body_start l.has_srid + 4 ≤ length bytes → start ≡ parts_start l.has_srid bytes
       → Passes r (members_walked kind l.dimension n start) old new → Passes r (multi_walked kind l bytes) old new
   multi_passes start n r old new counts long at h =
       let k = number_of_member kind in
-      as_walked item_coordinates (sum_by (coordinates_by k)) (multi_told kind l bytes) (repeated n member_part start) r
-      old new (ap (λ p. walked item_coordinates p (tally old)) (multi_is kind l bytes)
-      ∙ list_walked (coordinates_by k) (multi_with kind l) item_coordinates (multi_sum kind l) member_part (3 + k) l
-      bytes start n counts long at (tally old)) h
+      as_walked (multi_walked kind l bytes) (members_walked kind l.dimension n start) r old new
+      (rw (multi_is kind l bytes) (list_walked (coordinates_by k) (multi_with kind l) item_coordinates
+      (multi_sum kind l) member_part (3 + k) l bytes start n counts long at (tally old))) h
 
 -- ---- multi points
 
@@ -144,8 +135,7 @@ module _ (l : Layout) (bytes : List ℕ) where
   pub points_stop : (turns passed : ℕ) (c : Cause) → points_counted l bytes ≡ Err c
       → walked item_coordinates (multi_point_told with_left l bytes) (turns, passed) ≡ Err (turns, (c, length bytes))
   points_stop turns passed c e =
-      ap (λ r. walked item_coordinates r (turns, passed)) (points_are ∙ ap points_behind e)
-      ∙ refused_walked item_coordinates (c, length bytes) (turns, passed)
+      rw (points_are, e) (refused_walked item_coordinates (c, length bytes) (turns, passed))
 
   pub points_pass : (start : List ℕ) (n : ℕ) (r : Result (Bor (List ℕ)) Cause) (old new : Walk)
       → points_counted l bytes ≡ Ok n → start ≡ parts_start l.has_srid bytes
@@ -153,12 +143,9 @@ module _ (l : Layout) (bytes : List ℕ) where
       → Passes r (multi_point_walked l bytes) old new
   points_pass start n r old new counts at h =
       let part = member_told with_left 1 l.dimension in
-      as_walked item_coordinates (sum_by (coordinates_by 1)) (multi_point_told with_left l bytes)
-      (repeated n part start) r old new
-      (ap (λ p. walked item_coordinates p (tally old)) (points_are ∙ ap points_behind counts)
-      ∙ whole_walked (coordinates_by 1) (multi_with kinds.Point l) item_coordinates (multi_sum kinds.Point l)
-      (slots_asked 4 n (length (parts_start l.has_srid bytes))) bytes
-      (repeated n part (parts_start l.has_srid bytes)) (tally old)
-      ∙ (λ i. walked (sum_by (coordinates_by 1)) (repeated n part (sym at i)) (tally old))) h
+      as_walked (multi_point_walked l bytes) (members_walked kinds.Point l.dimension n start) r old new
+      (rw (points_are, counts, at) (whole_walked (coordinates_by 1) (multi_with kinds.Point l) item_coordinates
+      (multi_sum kinds.Point l) (slots_asked 4 n (length (parts_start l.has_srid bytes))) bytes
+      (repeated n part (parts_start l.has_srid bytes)) (tally old))) h
 
 pub ruleset count_laws = (no_count, polygon_passes, multi_cut, multi_passes, points_stop, points_pass)

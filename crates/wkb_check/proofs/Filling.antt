@@ -1,26 +1,12 @@
 -- The loop over geometries whose entries are put into a table.
-use Rattle.std.proofs.Common.{◌≡◌, ℕ, suc, ◌+◌, ◌-◌, ◌<◌, ◌≤◌, List, [], length, drop}
-use Rattle.std.proofs.Common.{refl, sym, ap, ◌∙◌, subst, arith}
+use Rattle.std.proofs.Common.{◌≡◌, ℕ, suc, ◌+◌, ◌-◌, ◌<◌, ◌≤◌, List, length, drop, refl, sym, ap, ◌∙◌, arith}
 use lib.Seq.{sets, length-sets}
-use Rattle.wkb_laws.specs.Prelude.{Value, Values}
-use Rattle.wkb_laws.specs.Prelude.{no_members, member, count}
-use Rattle.wkb_laws.specs.Prelude.{Spelling, node, Spellings, no_spellings, spelling}
+use Rattle.wkb_laws.specs.Prelude.{Value, Spelling, node}
 use Rattle.wkb_check.specs.Bounded.{HasGeometry, HasGeometries}
-use Rattle.wkb_check.specs.Pieces.{size, sizes}
+use Rattle.wkb_check.specs.Pieces.{sizes}
 use Rattle.wkb_check.specs.Tables.{geometry_entries, member_entries, entry_count, entry_counts}
 use Rattle.wkb_check.specs.declared.parts.Part.{Part}
-use Rattle.wkb_check.proofs.Placing.{begun_at, behind_geometry, first_one, sets_after, entries_are}
-
-pub none_left : (n : ℕ) (bytes more : List ℕ) (all : HasGeometries n bytes more) → n ≡ 0
-    → (entry_counts all.spelled all.values ≡ 0) × (sizes all.spelled all.values ≡ 0)
-    × ((index at : ℕ) → member_entries index at all.spelled all.values ≡ [])
-none_left n bytes more all e = by all.spelled all.values (sym e ∙ all.counted)
-  where
-    by : (ss : Spellings) (ts : Values) → 0 ≡ count ts → (entry_counts ss ts ≡ 0) × (sizes ss ts ≡ 0)
-        × ((index at : ℕ) → member_entries index at ss ts ≡ [])
-    by no_spellings ts c = (refl, refl, λ index at. refl)
-    by (spelling s ss) no_members c = (refl, refl, λ index at. refl)
-    by ss (member t ts) c = absurd (omega (arith, c))
+use Rattle.wkb_check.proofs.Placing.{begun_at, behind_geometry, first_one, of_first, sets_after, entries_are, IsPut}
 
 -- What is left of the geometries, at the next index and from the next byte on, makes of the table what all make of it.
 pub record Left (buf : List ℕ) (total start : ℕ) (more : List ℕ) (all : HasGeometries total (drop start buf) more)
@@ -46,31 +32,27 @@ module _ {buf more : List ℕ} {total start : ℕ} {all : HasGeometries total (d
     {before : List Part} where
   pub left_first : {n : ℕ} → n ≡ total → Left buf total start more all first before n first start before
   left_first e =
-      subst (λ k. Left buf total start more all first before k first start before) (sym e)
-      (record { to_come = all; indices = refl; bytes = refl; put = refl; long = refl; onward = omega arith })
+      rw e (record { to_come = all; indices = refl; bytes = refl; put = refl; long = refl; onward = omega arith })
 
   module _ {n index at : ℕ} {parts : List Part} (l : Left buf total start more all first before n index at parts) where
     pub left_next : {m : ℕ} → n ≡ suc m → (next to : ℕ) (after : List Part)
-        → ((g : HasGeometry (drop at buf))
-        → (after ≡ sets parts index (geometry_entries index at g.spelled g.value))
-        × (next ≡ index + entry_count g.spelled g.value) × (to ≡ at + size g.spelled g.value))
+        → ((g : HasGeometry (drop at buf)) → IsPut parts after index at next to g.spelled g.value)
         → Left buf total start more all first before m next to after
     left_next {m = m} e next to after item =
         let f = first_one n m (drop at buf) more l.to_come e in
         let g = f.geometry in
         let i = item g in
-        let behind = behind_geometry buf at to g i.2 in
         record {
-          to_come = begun_at behind.0 f.others;
-          indices = omega (arith, l.indices, f.counts, i.1);
-          bytes = omega (arith, l.bytes, f.long, i.2);
+          to_come = begun_at (behind_geometry buf at to g i.to_is).0 f.others;
+          indices = omega (arith, l.indices, of_first entry_counts f, i.next_is);
+          bytes = omega (arith, l.bytes, of_first sizes f, i.to_is);
           put =
-              (λ j. sets (i.0 j) next (member_entries (i.1 j) (i.2 j) f.others.spelled f.others.values))
+              (λ j. sets (i.put j) next (member_entries (i.next_is j) (i.to_is j) f.others.spelled f.others.values))
               ∙ sets_after parts index next (geometry_entries index at g.spelled g.value) _
-              (omega (arith, i.1, entries_are index at g.spelled g.value))
-              ∙ ap (sets parts index) (sym (f.entries index at)) ∙ l.put;
-          long = ap length i.0 ∙ length-sets parts index (geometry_entries index at g.spelled g.value) ∙ l.long;
-          onward = omega (arith, l.onward, i.2);
+              (omega (arith, i.next_is, entries_are index at g.spelled g.value))
+              ∙ ap (sets parts index) (sym (of_first (member_entries index at) f)) ∙ l.put;
+          long = ap length i.put ∙ length-sets parts index (geometry_entries index at g.spelled g.value) ∙ l.long;
+          onward = omega (arith, l.onward, i.to_is);
         }
 
     pub here : 0 < n → first + entry_counts all.spelled all.values ≤ length before → Here buf at index parts
@@ -78,6 +60,6 @@ module _ {buf more : List ℕ} {total start : ℕ} {all : HasGeometries total (d
         let f = first_one n (n - 1) (drop at buf) more l.to_come (omega (arith, some)) in
         record {
           geometry = f.geometry;
-          room = omega (arith, fit, l.indices, f.counts, l.long);
+          room = omega (arith, fit, l.indices, of_first entry_counts f, l.long);
           some = some_entries f.geometry.spelled f.geometry.value;
         }

@@ -1,23 +1,20 @@
 -- The pieces that are to come, one after another.
-use Rattle.std.proofs.Common.{◌≡◌, ◌≢◌, ℕ, zero, suc, ◌+◌, ◌-◌, ◌*◌, ◌<◌, ◌≤◌, List, [], ◌∷◌, ◌++◌, length, drop}
+use Rattle.std.proofs.Common.{◌≡◌, ◌≢◌, ℕ, zero, suc, ◌+◌, ◌-◌, ◌<◌, ◌≤◌, List, [], ◌∷◌, ◌++◌, length, drop}
 use Rattle.std.proofs.Common.{refl, sym, ap, ◌∙◌, subst, arith, append-nil, append_assoc, length-drop}
 use Rattle.std.proofs.Common.{lt-ltb, le-ltb}
-use Rattle.std.proofs.lemmas.List.{drop-drop}
-use Rattle.wkb_laws.specs.Prelude.{Endianness, Dimension, number, Values, no_members, member, count}
-use Rattle.wkb_laws.specs.Prelude.{Spellings, no_spellings, spelling, SpellsEach, any, width, ring_end}
-use Rattle.wkb_geom.specs.Items.{length-items}
-use Rattle.wkb_geom.specs.Reading.{ring_in}
-use Rattle.wkb_check.specs.Bounded.{HasGeometry, HasGeometries, AreWhole, decoded_rings}
-use Rattle.wkb_check.specs.Pieces.{Ahead, own_end, ring_piece, piece_of, pieces_of, pieces_of_rings, pieces_of_each}
-use Rattle.wkb_check.specs.Pieces.{size_of_rings, size, sizes, IsInside, IsAhead, HasAhead, IsTaken, Steps, bytes_left}
-use Rattle.wkb_check.specs.declared.pieces.Pieces.{Pieces}
 use Rattle.std.specs.Prelude.{Some, None}
 use Rattle.std.specs.Iterator.{MakesProgress, Yields, at_most}
+use Rattle.wkb_laws.specs.Prelude.{Endianness, Dimension, number}
+use Rattle.wkb_check.specs.Bounded.{HasGeometry, HasGeometries, decoded_rings}
+use Rattle.wkb_check.specs.Pieces.{Ahead, own_end, ring_piece, piece_of, pieces_of, pieces_of_rings, pieces_of_each}
+use Rattle.wkb_check.specs.Pieces.{size_of_rings, sizes, IsPieceAt, IsInside, IsAhead, HasAhead, Takes, Steps}
+use Rattle.wkb_check.specs.Pieces.{bytes_left}
 use Rattle.wkb_check.specs.declared.pieces.Piece.{Piece}
-use Rattle.wkb_check.proofs.Scanning.{few_geometries, join_spellings, join_values, count_join, spelled_join}
-use Rattle.wkb_check.specs.Tables.{rings_from}
-use Rattle.wkb_check.proofs.Placing.{begun_at, behind_geometry, first_one, leaf_of, rings_inside, members_inside}
-use Rattle.wkb_check.proofs.Placing.{own_piece, First, geometry_inside, onward}
+use Rattle.wkb_check.specs.declared.pieces.Pieces.{Pieces}
+use Rattle.wkb_check.proofs.Placing.{First, alone, first_one, of_first, Inside, leaf_inside, rings_inside}
+use Rattle.wkb_check.proofs.Placing.{members_inside, own_piece, geometry_inside, onward, none_of}
+use Rattle.wkb_check.proofs.Rings.{NextRing, next_ring}
+use Rattle.wkb_check.proofs.Scanning.{few_geometries, join_spellings, join_values, joined}
 
 pub ahead_first : (buf : List ℕ) (order : Endianness) (d : Dimension) (g : HasGeometry buf)
     → Ahead buf order d 0 1 0 (pieces_of 0 g.spelled g.value)
@@ -26,22 +23,7 @@ ahead_first buf order d g = record {
   more = g.rest;
   whole = tt;
   after_is = omega arith;
-  all = record {
-    spelled = spelling g.spelled no_spellings;
-    values = member g.value no_members;
-    begins = record {
-      front = g.begins.front;
-      whole = g.begins.whole;
-      first = record {
-        front = g.begins.front;
-        rest = [];
-        whole = sym (append-nil g.begins.front);
-        first = (g.begins.first, tt);
-        second = refl;
-      };
-    };
-    counted = refl;
-  };
+  all = alone g;
   are = sym (append-nil (pieces_of 0 g.spelled g.value));
 }
 
@@ -54,61 +36,43 @@ pub record Taken (buf : List ℕ) (order : Endianness) (d : Dimension) (rings ge
   pub first : xs ≡ p ∷ rest
   pub ahead : Ahead buf order d rings geometries at rest
 
-pub ring_counted : {buf : List ℕ} {order : Endianness} {d : Dimension} {r geometries at : ℕ} {xs : List Piece}
-    → Ahead buf order d r geometries at xs → 0 < r → at + ring_end d (number order 4 (drop at buf)) ≤ length buf
-ring_counted {r = zero} a some = absurd (omega (arith, some))
-ring_counted {buf = buf} {r = suc m} {at = at} a some = omega (arith, a.whole.0, a.whole.1, length-drop at buf)
+-- the ring that was read at the next byte is taken
+module _ (w : Pieces) (ahead : HasAhead w) (some : 0 < w.rings) (p : Piece)
+    (is : p ≡ ring_piece w.order w.dimension w.at (number w.order 4 (drop w.at w.bytes.now))) where
+  ring_after : {xs : List Piece} → IsAhead w xs → (next : ℕ) → next ≡ own_end p
+      → NextRing w.bytes.now w.order w.dimension w.rings (w.rings - 1) w.at next
+  ring_after a next ends =
+      next_ring w.bytes.now w.order w.dimension w.rings _ w.at next a.whole (omega (arith, some))
+      (ends ∙ ap own_end is)
 
-pub ring_taken : {buf : List ℕ} {order : Endianness} {d : Dimension} {r geometries at : ℕ} {xs : List Piece}
-    → Ahead buf order d r geometries at xs → 0 < r → (p : Piece)
-    → p ≡ ring_piece order d at (number order 4 (drop at buf))
-    → (next : ℕ) → next ≡ own_end p → Taken buf order d (r - 1) geometries next xs p
-ring_taken {r = zero} a some p is next ends = absurd (omega (arith, some))
-ring_taken {buf = buf} {order = order} {d = d} {r = suc m} {geometries = geometries} {at = at} {xs = xs} a some p is
-    next ends =
-    let bytes = drop at buf in
-    let many : ℕ = number order 4 bytes in
-    let cs = ring_in order d bytes in
-    let cs-many : length cs ≡ many = length-items (8 * width d) _ many (drop 4 bytes) in
-    let moved : next ≡ at + ring_end d many = omega (arith, ends, ap own_end is) in
-    let rest : drop (ring_end d many) bytes ≡ drop next buf = drop-drop (ring_end d many) at buf
-    ∙ ap (λ k. drop k buf) (omega (arith, moved)) in
-    let others = decoded_rings order d m (drop next buf) in
-    subst (λ k. Taken buf order d k geometries next xs p) (omega arith)
-    (record {
-      rest = pieces_of_rings order d next others ++ pieces_of_each a.after a.all.spelled a.all.values;
-      first = a.are
-          ∙ (λ i. ring_piece order d at (cs-many i)
-          ∷ (pieces_of_rings order d ((ap (λ k. at + ring_end d k) cs-many ∙ sym moved) i)
-          (decoded_rings order d m (rest i))
-          ++ pieces_of_each a.after a.all.spelled a.all.values))
-          ∙ ap (λ q. q ∷ (pieces_of_rings order d next others ++ pieces_of_each a.after a.all.spelled a.all.values))
-          (sym is);
-      ahead = record {
-        after = a.after;
-        more = a.more;
-        whole = subst (AreWhole order d m) rest a.whole.2;
-        after_is = omega (
-          arith,
-          a.after_is,
-          moved,
-          ap (ring_end d) cs-many,
-          ap (λ z. size_of_rings d (decoded_rings order d m z)) rest,
-        );
-        all = a.all;
-        are = refl;
-      };
-    })
+  pub ring_inside : own_end p ≤ length w.bytes.now
+  ring_inside = (ring_after ahead.are (own_end p) refl).inside
 
-pub ring_inside : {buf : List ℕ} {order : Endianness} {d : Dimension} {r geometries at : ℕ} {xs : List Piece}
-    → Ahead buf order d r geometries at xs → 0 < r → (p : Piece)
-    → p ≡ ring_piece order d at (number order 4 (drop at buf))
-    → (next : ℕ) → next ≡ own_end p → IsInside buf at next p
-ring_inside a some p is next ends = record {
-  begins = omega (arith, ap (λ (q : Piece). q.offset) is);
-  ends = ends;
-  inside = omega (arith, ends, ap own_end is, ring_counted a some);
-}
+  pub ring_takes : (next : ℕ) → next ≡ own_end p → Takes w (record w { rings = w.rings - 1; at = next }) p
+  ring_takes next ends = record {
+    steps = λ xs a.
+        let r = ring_after a next ends in
+        let others = pieces_of_each a.after a.all.spelled a.all.values in
+        let rings = decoded_rings w.order w.dimension (w.rings - 1) (drop next w.bytes.now) in
+        record {
+          rest = pieces_of_rings w.order w.dimension next rings ++ others;
+          first = rw (a.are, r.are, ← r.next_is, r.many, ← is);
+          ahead = record {
+            after = a.after;
+            more = a.more;
+            whole = r.whole;
+            after_is = omega (arith, a.after_is, ap (size_of_rings w.dimension) r.are, r.next_is);
+            all = a.all;
+            are = refl;
+          };
+        };
+    inside = record {
+      begins = omega (arith, ap (λ (q : Piece). q.offset) is);
+      ends = ends;
+      inside = omega (arith, ends, ring_inside);
+    };
+    same = refl;
+  }
 
 -- ---- a geometry
 
@@ -131,24 +95,7 @@ pub none_ahead : {buf : List ℕ} {order : Endianness} {d : Dimension} {r n at :
     → Ahead buf order d r n at xs → r ≤ 0 → n ≤ 0 → xs ≡ []
 none_ahead {buf = buf} {order = order} {d = d} {r = r} {n = n} {at = at} {xs = xs} a e none =
     let c = coming buf order d r n at xs (omega (arith, e)) a in
-    c.are ∙ empty c.all.spelled c.all.values (omega (arith, none, c.all.counted))
-  where
-    empty : (ss : Spellings) (ts : Values) → 0 ≡ count ts → pieces_of_each at ss ts ≡ []
-    empty no_spellings ts c = refl
-    empty (spelling s ss) no_members c = refl
-    empty ss (member t ts) c = absurd (omega (arith, c))
-
-pieces_join : (at : ℕ) (ss us : Spellings) (ts vs : Values) (x : List ℕ) → SpellsEach any ss ts x
-    → pieces_of_each at (join_spellings ss us) (join_values ts vs)
-    ≡ pieces_of_each at ss ts ++ pieces_of_each (at + sizes ss ts) us vs
-pieces_join at no_spellings us no_members vs x h = ap (λ k. pieces_of_each k us vs) (omega arith)
-pieces_join at (spelling s ss) us (member t ts) vs x h =
-    ap (λ ps. pieces_of at s t ++ ps)
-    (pieces_join (at + size s t) ss us ts vs h.rest h.second
-    ∙ ap (λ k. pieces_of_each (at + size s t) ss ts ++ pieces_of_each k us vs) (omega arith))
-    ∙ sym (append_assoc (pieces_of at s t) (pieces_of_each (at + size s t) ss ts) _)
-pieces_join at no_spellings us (member t ts) vs x h = absurd h
-pieces_join at (spelling s ss) us no_members vs x h = absurd h
+    c.are ∙ ap (pieces_of_each at c.all.spelled) (none_of c.all.values (omega (arith, none, c.all.counted)))
 
 module _ {buf : List ℕ} {order : Endianness} {d : Dimension} {r n at : ℕ} {xs : List Piece}
     (a : Ahead buf order d r n at xs) (none : r ≡ 0) (some : 0 < n) where
@@ -161,114 +108,117 @@ module _ {buf : List ℕ} {order : Endianness} {d : Dimension} {r n at : ℕ} {x
   pub geometry_there : HasGeometry (drop at buf)
   geometry_there = one.geometry
 
-  module _ (p : Piece) (is : (g : HasGeometry (drop at buf)) → p ≡ piece_of at g.spelled g.value) (next : ℕ)
-      (ends : next ≡ own_end p) where
-    pub piece_inside : IsInside buf at next p
-    piece_inside = geometry_inside buf at next one.geometry p (is one.geometry) ends
-
-    pub leaf_taken : p.kind ≤ 3 → p.kind ≢ 3 → Taken buf order d r (n - 1) next xs p
-    leaf_taken low other =
-        let g = one.geometry in
-        let o = one.others in
-        let l = leaf_of buf at 0 g p (is g) (lt-ltb p.kind 3 (omega (arith, low, other))) in
-        let behind = behind_geometry buf at next g (ends ∙ l.0) in
-        record {
-          rest = pieces_of_each next o.spelled o.values;
-          first = to_come.are ∙ one.pieces at
-              ∙ (λ i. own_piece at g.spelled g.value i ++ pieces_of_each (sym (ends ∙ l.0) i) o.spelled o.values)
-              ∙ (λ i. sym (is g) i ∷ (l.3 i ++ pieces_of_each next o.spelled o.values));
-          ahead = subst (λ k. Ahead buf order d k (n - 1) next (pieces_of_each next o.spelled o.values)) (sym none)
-              (record {
-                after = next;
-                more = to_come.more;
-                whole = tt;
-                after_is = omega arith;
-                all = begun_at behind.0 o;
-                are = refl;
-              });
-        }
-
-    pub polygon_taken : p.kind ≡ 3 → Taken buf p.order p.dimension p.count (n - 1) next xs p
-    polygon_taken three =
-        let g = one.geometry in
-        let o = one.others in
-        let h = rings_inside buf at 0 g p (is g) three in
-        let rings = rings_from buf p (own_end p) in
-        let after : ℕ = own_end p + size_of_rings p.dimension rings in
-        let behind = behind_geometry buf at after g h.long in
-        subst (λ k. Taken buf p.order p.dimension p.count (n - 1) k xs p) (sym ends)
-        (record {
-          rest = pieces_of_rings p.order p.dimension (own_end p) rings ++ pieces_of_each after o.spelled o.values;
-          first = to_come.are ∙ one.pieces at
-              ∙ (λ i. own_piece at g.spelled g.value i ++ pieces_of_each (sym h.long i) o.spelled o.values)
-              ∙ (λ i. sym (is g) i ∷ (sym h.pieces i ++ pieces_of_each after o.spelled o.values));
-          ahead = record {
-            after = after;
-            more = to_come.more;
-            whole = h.whole;
-            after_is = refl;
-            all = begun_at behind.0 o;
-            are = refl;
+  -- its piece comes first, and then what is inside it
+  taken : (p : Piece) → p ≡ piece_of at one.geometry.spelled one.geometry.value
+      → {o : Endianness} {e : Dimension} {rings m next after : ℕ}
+      → Inside buf at 0 one.geometry.spelled one.geometry.value one.geometry.rest o e rings m next after
+      → Taken buf o e rings (n - 1 + m) next xs p
+  taken p is {o} {e} {rings} {m} {next} {after} i =
+      let g = one.geometry in
+      let x = i.all in
+      let y = one.others in
+      let j = joined after x.spelled y.spelled x.values y.values x.begins.front y.begins.front x.begins.first
+      y.begins.first in
+      let own = pieces_of_rings o e next (decoded_rings o e rings (drop next buf)) in
+      let others = pieces_of_each (after + sizes x.spelled x.values) y.spelled y.values in
+      record {
+        rest = own ++ pieces_of_each after (join_spellings x.spelled y.spelled) (join_values x.values y.values);
+        first = to_come.are ∙ rw (
+          of_first (pieces_of_each at) one,
+          own_piece at g.spelled g.value,
+          ← i.long,
+          ← is,
+          ← i.pieces,
+          append_assoc own (pieces_of_each after x.spelled x.values) others,
+          j.pieces,
+        );
+        ahead = record {
+          after = after;
+          more = to_come.more;
+          whole = i.whole;
+          after_is = i.after_is;
+          all = record {
+            spelled = join_spellings x.spelled y.spelled;
+            values = join_values x.values y.values;
+            begins = record {
+              front = x.begins.front ++ y.begins.front;
+              whole = x.begins.whole ∙ ap (λ z. x.begins.front ++ z) y.begins.whole
+                  ∙ sym (append_assoc x.begins.front y.begins.front to_come.more);
+              first = j.spelled;
+            };
+            counted = omega (arith, x.counted, y.counted, j.many);
           };
-        })
+          are = refl;
+        };
+      }
 
-    pub members_taken : 3 < p.kind → p.kind ≢ 3 → Taken buf order d r (n - 1 + p.count) next xs p
-    members_taken high other =
-        let g = one.geometry in
-        let o = one.others in
-        let h = members_inside buf at 0 g p (is g) (le-ltb p.kind 3 (omega (arith, high))) other in
-        let ss = join_spellings h.all.spelled o.spelled in
-        let ts = join_values h.all.values o.values in
-        subst (λ k. Taken buf order d r (n - 1 + p.count) k xs p) (sym ends)
-        (record {
-          rest = pieces_of_each (own_end p) ss ts;
-          first = to_come.are ∙ one.pieces at
-              ∙ (λ i. own_piece at g.spelled g.value i ++ pieces_of_each (sym h.long i) o.spelled o.values)
-              ∙ (λ i. sym (is g) i
-              ∷ (sym h.pieces i ++ pieces_of_each (own_end p + sizes h.all.spelled h.all.values) o.spelled o.values))
-              ∙ ap (λ ps. p ∷ ps)
-              (sym (pieces_join (own_end p) h.all.spelled o.spelled h.all.values o.values h.all.begins.front
-              h.all.begins.first));
-          ahead = subst (λ k. Ahead buf order d k (n - 1 + p.count) (own_end p) (pieces_of_each (own_end p) ss ts))
-              (sym none)
-              (record {
-                after = own_end p;
-                more = to_come.more;
-                whole = tt;
-                after_is = omega arith;
-                all = record {
-                  spelled = ss;
-                  values = ts;
-                  begins = record {
-                    front = h.all.begins.front ++ o.begins.front;
-                    whole = h.all.begins.whole ∙ ap (λ z. h.all.begins.front ++ z) o.begins.whole
-                        ∙ sym (append_assoc h.all.begins.front o.begins.front to_come.more);
-                    first = spelled_join h.all.spelled o.spelled h.all.values o.values h.all.begins.front o.begins.front
-                        h.all.begins.first o.begins.first;
-                  };
-                  counted = omega (arith, h.all.counted, o.counted, count_join h.all.values o.values);
-                };
-                are = refl;
-              });
-        })
+-- the geometry that was read at the next byte is taken
+module _ (w : Pieces) (ahead : HasAhead w) (none : w.rings ≡ 0) (some : 0 < w.geometries) (p : Piece)
+    (is : IsPieceAt w.bytes.now w.at p) where
+  there : HasGeometry (drop w.at w.bytes.now)
+  there = geometry_there ahead.are none some
 
-    -- no more members are counted than there are bytes
-    pub members_few : 3 < p.kind → p.kind ≢ 3 → n - 1 + p.count ≤ length buf
-    members_few high other =
-        let q = members_taken high other in
-        omega (arith, few_geometries _ _ _ q.ahead.all, length-drop q.ahead.after buf)
+  pub piece_inside : (next : ℕ) → next ≡ own_end p → IsInside w.bytes.now w.at next p
+  piece_inside next ends = geometry_inside w.bytes.now w.at next there p (is there) ends
+
+  takes : {o : Endianness} {e : Dimension} {rings m next after : ℕ} → next ≡ own_end p
+      → ((g : HasGeometry (drop w.at w.bytes.now))
+      → Inside w.bytes.now w.at 0 g.spelled g.value g.rest o e rings m next after)
+      → (r n : ℕ) → r ≡ rings → n ≡ w.geometries - 1 + m
+      → Takes w (record w { at = next; rings = r; geometries = n; order = o; dimension = e }) p
+  unfolding one geometry_there
+  takes {o} {e} {rings} {m} {next} ends inside r n r-is n-is = record {
+    steps = λ xs a.
+        let g = geometry_there a none some in
+        let t : Taken w.bytes.now o e r n next xs p = rw (r-is, n-is) (taken a none some p (is g) (inside g)) in
+        record { rest = t.rest; first = t.first; ahead = t.ahead };
+    inside = piece_inside next ends;
+    same = refl;
+  }
+
+  module _ (next : ℕ) (ends : next ≡ own_end p) where
+    pub leaf_takes : p.kind ≤ 3 → p.kind ≢ 3 → Takes w (record w { at = next; geometries = w.geometries - 1 }) p
+    leaf_takes low other =
+        takes ends (λ g. leaf_inside w.bytes.now w.at 0 g p (is g) next ends
+        (lt-ltb p.kind 3 (omega (arith, low, other))) w.order w.dimension)
+        w.rings (w.geometries - 1) none (omega arith)
+
+    pub polygon_takes : p.kind ≡ 3
+        → Takes w
+        (record w {
+          at = next;
+          rings = p.count;
+          geometries = w.geometries - 1;
+          order = p.order;
+          dimension = p.dimension;
+        }) p
+    polygon_takes three =
+        takes ends (λ g. rings_inside w.bytes.now w.at 0 g p (is g) next ends three) p.count (w.geometries - 1) refl
+        (omega arith)
+
+    module _ (high : 3 < p.kind) (other : p.kind ≢ 3) where
+      pub members_takes : Takes w (record w { at = next; geometries = w.geometries - 1 + p.count }) p
+      members_takes =
+          takes ends (λ g. members_inside w.bytes.now w.at 0 g p (is g) next ends
+          (le-ltb p.kind 3 (omega (arith, high))) other w.order w.dimension)
+          w.rings (w.geometries - 1 + p.count) none refl
+
+      -- no more members are counted than there are bytes
+      pub members_few : w.geometries - 1 + p.count ≤ length w.bytes.now
+      members_few =
+          let a = (members_takes.steps ahead.pieces ahead.are).ahead in
+          omega (arith, few_geometries _ _ _ a.all, length-drop a.after w.bytes.now)
 
 -- ---- the iterator
 
 -- after a piece, others may be taken, and fewer bytes are left
-pub goes : (w now : Pieces) (p : Piece) → HasAhead w → ((xs : List Piece) → IsAhead w xs → IsTaken now xs p)
-    → IsInside w.bytes.now w.at now.at p → now.bytes.now ≡ w.bytes.now
+pub goes : (w now : Pieces) (p : Piece) → HasAhead w → Takes w now p
     → MakesProgress HasAhead (λ v. at_most (bytes_left v)) w (Some p) now
-goes w now p h steps inside same =
-    let x = steps h.pieces h.are in
+goes w now p h t =
+    let x = t.steps h.pieces h.are in
     let can : HasAhead now = record { pieces = x.rest; are = x.ahead } in
     record {
-      on = λ f. (can, f, omega (arith, ap length same, inside.inside, onward w.bytes.now w.at now.at p inside));
+      on = λ f. (can, f, omega (arith, ap length t.same, t.inside.inside, onward w.bytes.now w.at now.at p t.inside));
       keeps = can;
       rests = λ f. tt;
     }

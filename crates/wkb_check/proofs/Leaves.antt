@@ -1,10 +1,10 @@
 -- Points, line strings and rings: what is told of them, and how many coordinates they have.
 use Rattle.std.proofs.Common.{◌≡◌, ℕ, ◌+◌, ◌*◌, ◌≤◌, List, length, drop, take, Ok, Err, Bool, true, false}
 use Rattle.std.proofs.Common.{refl, sym, ap, ◌∙◌, ◌-◌, arith, nat_lt, if◌then◌else◌, length-drop, length-take-le}
-use Rattle.std.proofs.Common.{take-append-drop}
+use Rattle.std.proofs.Common.{take-append-drop, add-zero}
 use Rattle.std.proofs.lemmas.List.{take_all}
 use Rattle.wkb_geom.specs.declared.common.Dimension.{Dimension}
-use Rattle.wkb_geom.specs.declared.common.Dimension.TheVariants.{Xy, Xyz, Xym, Xyzm}
+use Rattle.wkb_geom.specs.declared.common.Dimension.TheVariants.{Xy}
 use Rattle.wkb_geom.specs.declared.common.Endianness.{Endianness}
 use Rattle.wkb_geom.specs.declared.error.Cause.{Cause}
 use Rattle.wkb_geom.specs.declared.header.Layout.{Layout}
@@ -54,7 +54,7 @@ line_string_tells l bytes =
 -- what is refused itself
 pub refused_walked : {A : Type 0} (many : A → ℕ) (e : Cause × ℕ) (t : Tally)
     → walked many (refused e) t ≡ Err (t.0, e)
-refused_walked many e t = let turns : t.0 + 0 ≡ t.0 = omega arith in λ i. Err (turns i, e)
+refused_walked many e t = simp add-zero
 
 -- how many coordinates a ring has that begins here, in an encoding that ends there
 coordinates_there : (order : Endianness) (d : Dimension) (start end : ℕ) (bytes : List ℕ) → start + 4 ≤ end
@@ -70,9 +70,7 @@ coordinates_there order d start end bytes counted whole =
 -- a coordinate has sixteen bytes at least
 pub wide : (d : Dimension) (n : ℕ) → 16 * n ≤ 8 * width d * n
 wide Xy n = omega arith
-wide Xyz n = omega arith
-wide Xym n = omega arith
-wide Xyzm n = omega arith
+wide _ n = omega arith
 
 -- what is counted of a part that is passed, by where it ends
 leaf_passes : {A : Type 0} (many : A → ℕ) (x : A) (bytes : List ℕ) (n end turns passed : ℕ)
@@ -81,10 +79,8 @@ leaf_passes : {A : Type 0} (many : A → ℕ) (x : A) (bytes : List ℕ) (n end 
     → walked many (at_no_cost read) (turns, passed)
     ≡ Ok ((turns, passed + n), take (length bytes - end) (drop end bytes))
 leaf_passes many x bytes n end turns passed read is counted =
-    let none : turns + 0 ≡ turns = omega arith in
     let all = take_all (length bytes - end) (drop end bytes) (omega (arith, length-drop end bytes)) in
-    ap (λ r. walked many (at_no_cost r) (turns, passed)) is
-    ∙ (λ i. Ok ((none i, passed + counted i), sym all i))
+    simp (is, counted, all, add-zero)
 
 module _ (l : Layout) (bytes : List ℕ) where
   pub ring_passes : (n end turns passed : ℕ) → n ≡ number l.order 4 bytes → end ≡ ring_end l.dimension n
@@ -103,10 +99,10 @@ module _ (l : Layout) (bytes : List ℕ) where
       → walked (coordinates_by 2) (line_string_told with_left l bytes) (turns, passed)
       ≡ Ok ((turns, passed + n), take (length bytes - end) (drop end bytes))
   line_string_passes n end turns passed n-is end-is whole read =
-      ap (λ r. walked (coordinates_by 2) r (turns, passed)) (line_string_tells l bytes)
-      ∙ leaf_passes (coordinates_by 2) (line_string_item l (take end bytes)) bytes n end turns passed _
-      (ap (tells bytes) read)
-      (coordinates_there l.order l.dimension (body_start l.has_srid) end bytes (omega (arith, end-is)) whole ∙ sym n-is)
+      let many =
+      coordinates_there l.order l.dimension (body_start l.has_srid) end bytes (omega (arith, end-is)) whole in
+      rw (line_string_tells l bytes) (leaf_passes (coordinates_by 2) (line_string_item l (take end bytes)) bytes n end
+      turns passed _ (ap (tells bytes) read) (many ∙ sym n-is))
 
   pub point_passes : (end turns passed : ℕ) → end ≤ length bytes
       → point_at l bytes ≡ Ok (point_item l (take end bytes), drop end bytes)

@@ -36,7 +36,7 @@ use Rattle.wkb_check.proofs.Leaves.{refused_walked}
 
 values_sum : (l : List Item) → coordinate_count_each (values l) ≡ sum_by item_coordinates l
 values_sum [] = refl
-values_sum (i ∷ l) = ap (λ n. item_coordinates i + n) (values_sum l) ∙ sym (sum_by-cons item_coordinates i l)
+values_sum (i ∷ l) = simp (sum_by-cons, values_sum l)
 
 -- ---- a geometry with its header
 
@@ -76,23 +76,19 @@ by_header : (room : ℕ) (bytes : List ℕ) (read : Result Head Cause) → head_
     → geometry_told with_left room bytes
     ≡ then_body_told (with_left bytes) read (λ h. body_told room h.wkb_type (layout_of h) bytes)
 unfolding geometry_told by_type_told
-by_header zero bytes read e =
-    ap (λ r. then_body_told (with_left bytes) r (λ h. body_told zero h.wkb_type (layout_of h) bytes)) e
-by_header (suc room) bytes read e =
-    ap (λ r. then_body_told (with_left bytes) r (λ h. body_told (suc room) h.wkb_type (layout_of h) bytes)) e
+by_header zero bytes read e = rw e
+by_header (suc room) bytes read e = rw e
 
 pub with_header : (around : ℕ) (bytes : List ℕ) (h : Head) (t : Tally) → head_at bytes ≡ Ok h
     → inside_walked around bytes t ≡ body_walked around h bytes t
 with_header around bytes h t e =
-    let room = max_nesting - around in
-    ap (λ r. walked item_coordinates r t) (by_header room bytes (Ok h) e)
-    ∙ kind_same t (layout_of h) bytes (collection_within_told with_left room) h.wkb_type
+    rw (by_header (max_nesting - around) bytes (Ok h) e)
+    (kind_same t (layout_of h) bytes (collection_within_told with_left (max_nesting - around)) h.wkb_type)
 
 pub without_header : (around : ℕ) (bytes : List ℕ) (c : Cause) (t : Tally) → head_at bytes ≡ Err c
     → inside_walked around bytes t ≡ Err (t.0, (c, length bytes))
 without_header around bytes c t e =
-    ap (λ r. walked item_coordinates r t) (by_header (max_nesting - around) bytes (Err c) e)
-    ∙ refused_walked item_coordinates (c, length bytes) t
+    rw (by_header (max_nesting - around) bytes (Err c) e) (refused_walked item_coordinates (c, length bytes) t)
 
 -- ---- the open collections
 
@@ -118,15 +114,14 @@ module _ (depth : ℕ) (h : Head) (d : Dimension) (l : Layout) (bytes : List ℕ
       ≡ ahead_of (open_counts (slice_set left depth n) (depth + 1)) (turns, passed) start
   opens left start n turns passed len counts long at =
       let ns = open_counts left depth in
-      let one : depth + 1 ≡ suc depth = omega arith in
-      let more : open_counts (slice_set left depth n) (depth + 1) ≡ n ∷ ns =
-      ap (λ (k : ℕ). open_counts (slice_set left depth n) k) one ∙ top_set left depth n (omega (arith, len, shallow)) in
-      ap (λ w. onward w (ahead_of ns)) (behind (turns, passed)
-      ∙ list_walked item_coordinates (list_item l collection_with) item_coordinates (λ parts encoding. values_sum parts)
-      (inside_told (suc depth)) 7 l bytes start n counts long at (turns, passed)
-      ∙ ap (λ k. walked (sum_by item_coordinates) (repeated n (inside_told (suc k)) start) (turns, passed))
-      (sym (as_many left depth len (omega (arith, shallow)))))
-      ∙ ap (λ (cs : List ℕ). ahead_of cs (turns, passed) start) (sym more)
+      let more = top_set left depth (depth + 1) n (omega arith) (omega (arith, len, shallow)) in
+      rw (
+        more,
+        behind (turns, passed),
+        list_walked item_coordinates (list_item l collection_with) item_coordinates (λ parts encoding. values_sum parts)
+            (inside_told (suc depth)) 7 l bytes start n counts long at (turns, passed),
+        as_many left depth len (omega (arith, shallow)),
+      )
 
   pub opens_none : (turns passed : ℕ) (c : Cause) → HasNoCount l bytes c
       → body_walked depth h bytes (turns, passed) ≡ Err (turns, (c, length bytes))
@@ -156,8 +151,11 @@ none_follow : (left : List ℕ) (around : ℕ) → ((d : ℕ) → ◌≡◌ {A =
     → (t : Tally) (rest : List ℕ) → ahead_of (open_counts left around) t rest ≡ Ok (t, rest)
 none_follow left zero none fits t rest = refl
 none_follow left (suc around) none fits t rest =
-    ap (λ (ns : List ℕ). ahead_of ns t rest) (top_is left around 0 (omega (arith, fits)) (sym (none around)))
-    ∙ none_left (open_counts left around) t rest ∙ none_follow left around none (omega (arith, fits)) t rest
+    rw (
+      top_is left around (suc around) 0 refl (omega (arith, fits)) (sym (none around)),
+      none_left (open_counts left around) t rest,
+    )
+    (none_follow left around none (omega (arith, fits)) t rest)
 
 pub starts : (left : List ℕ) (around : ℕ) (w : Walked) → ((d : ℕ) → ◌≡◌ {A = ℕ} (slice_index_or left d 0) 0)
     → around ≤ length left
@@ -178,14 +176,10 @@ module _ (left next bytes : List ℕ) (depth deep turns passed : ℕ) (reached w
 
   pub next_begins : (h : Head) → head_at bytes ≡ Ok h
       → onward (body_walked deep h bytes (turns + 1, passed)) (ahead_of (open_counts next deep)) ≡ whole
-  next_begins h e =
-      ap (λ w. onward w (ahead_of (open_counts next deep))) (sym (with_header deep bytes h (turns + 1, passed) e))
-      ∙ begun
+  next_begins h e = rw (← with_header deep bytes h (turns + 1, passed) e) begun
 
   pub next_stops : (c : Cause) → head_at bytes ≡ Err c → whole ≡ Err (turns + 1, (c, length bytes))
-  next_stops c e =
-      sym begun
-      ∙ ap (λ w. onward w (ahead_of (open_counts next deep))) (without_header deep bytes c (turns + 1, passed) e)
+  next_stops c e = sym (rw (without_header deep bytes c (turns + 1, passed) e) at begun)
 
 pub ruleset open_laws = (opens, opens_none)
 

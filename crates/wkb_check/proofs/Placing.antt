@@ -1,29 +1,27 @@
 -- Geometries one after another, from their bytes into a table.
 use Rattle.std.proofs.Common.{◌≡◌, ◌≢◌, ℕ, suc, ◌+◌, ◌<◌, ◌≤◌, List, [], ◌∷◌, ◌++◌, length, drop, set}
 use Rattle.std.proofs.Common.{refl, sym, ap, ◌∙◌, subst, arith, length-append, append-nil, length-drop}
-use Rattle.std.proofs.Common.{None, Some, is_some, true, false, nat_lt}
+use Rattle.std.proofs.Common.{None, Some, is_some, true, false, nat_lt, le-ltb, ltb-false, add-one}
 use Rattle.std.proofs.lemmas.Bool.{cond_both}
 use Rattle.std.proofs.lemmas.List.{drop-drop, set_comm}
 use lib.Seq.{sets}
 use Rattle.wkb_laws.specs.Prelude.{Endianness, Dimension, Begins, Coordinate, Value, Values}
 use Rattle.wkb_laws.specs.Prelude.{point, line_string, polygon, multi_point, multi_line_string, multi_polygon}
-use Rattle.wkb_laws.specs.Prelude.{collection}
-use Rattle.wkb_laws.specs.Prelude.{no_members, member, members, count, kind, dimension}
-use Rattle.wkb_laws.specs.Prelude.{Spelling, node, Spellings, no_spellings, spelling, SpellsBody, Spells}
-use Rattle.wkb_laws.specs.Prelude.{SpellsEach, Wanted}
-use Rattle.wkb_laws.specs.Prelude.{SpellsCoordinates, IsEach, any, ring_end}
+use Rattle.wkb_laws.specs.Prelude.{collection, no_members, member, members, count, kind, dimension}
+use Rattle.wkb_laws.specs.Prelude.{Spelling, node, Spellings, no_spellings, spelling, SpellsBody, Spells, SpellsEach}
+use Rattle.wkb_laws.specs.Prelude.{Wanted, SpellsCoordinates, IsEach, any, ring_end}
+use Rattle.wkb_geom.specs.Grammar.{Then}
 use Rattle.wkb_geom.specs.Numbers.{order_byte}
 use Rattle.wkb_geom.specs.Refusals.{srid_size}
-use Rattle.wkb_geom.specs.Spellings.{Header, member_part}
+use Rattle.wkb_geom.specs.Spellings.{Header, IsHeader, member_part}
 use Rattle.wkb_laws.proofs.Parts.{then_length, then_append, drop_front, header_length}
 use Rattle.wkb_laws.proofs.Lengths.{coordinate_length, coordinates_length}
 use Rattle.wkb_laws.proofs.Lists.{count-each}
-use Rattle.wkb_check.specs.Bounded.{HasGeometry, HasGeometries}
+use Rattle.wkb_check.specs.Bounded.{HasGeometry, HasGeometries, AreWhole, decoded_rings}
 use Rattle.wkb_check.specs.Pieces.{count_of, leading, rings_of, size_of_rings, content_size, size, sizes, own_end}
-use Rattle.wkb_check.specs.Pieces.{piece_of}
-use Rattle.wkb_check.specs.Pieces.{pieces_of, pieces_of_rings, pieces_of_each, IsInside}
+use Rattle.wkb_check.specs.Pieces.{piece_of, pieces_of, pieces_of_rings, pieces_of_each, IsInside}
 use Rattle.wkb_check.specs.Tables.{entry_of, ring_entries, geometry_entries, member_entries, entry_count, entry_counts}
-use Rattle.wkb_check.specs.Tables.{rings_from, HasRingsFrom, size_of_rings_from, entries_of_rings_from}
+use Rattle.wkb_check.specs.Tables.{size_of_rings_from}
 use Rattle.wkb_check.specs.declared.parts.Part.{Part}
 use Rattle.wkb_check.specs.declared.pieces.Piece.{Piece}
 use Rattle.wkb_check.proofs.Bodies.{RingsFirst, rings_first, wanted_by_any, rest_smaller}
@@ -44,9 +42,58 @@ module _ {A : Type 0} where
 
   -- an item that is put last, before others
   pub put_first : (l r : List A) (i : ℕ) (a : A) (vs : List A) → r ≡ sets l (i + 1) vs → set r i a ≡ sets l i (a ∷ vs)
-  put_first l r i a vs e =
-      ap (λ z. set z i a) e ∙ set_first l i (i + 1) a vs (omega arith)
-      ∙ ap (λ k. sets (set l i a) k vs) (omega arith)
+  put_first l r i a vs e = rw (e, ← add-one i) (set_first l i (i + 1) a vs (omega arith))
+
+-- ---- where bytes stand
+
+pub cut : (buf : List ℕ) (at n to : ℕ) (front rest : List ℕ) → drop at buf ≡ front ++ rest → length front ≡ n
+    → to ≡ at + n
+    → drop to buf ≡ rest
+cut buf at n to front rest e long is =
+    ap (λ k. drop k buf) (omega (arith, is)) ∙ sym (drop-drop n at buf) ∙ ap (drop n) e ∙ drop_front n front rest long
+
+-- these bytes stand here in the input, and the rest of it behind them
+pub record Stands (input : List ℕ) (at : ℕ) (bytes rest : List ℕ) : Type 0 where
+  pub is : drop at input ≡ bytes ++ rest
+  pub inside : at + length bytes ≤ length input
+
+-- then the first of two parts does too, and the second behind it
+module _ {input : List ℕ} {at : ℕ} {bytes rest : List ℕ} {P Q : List ℕ → Type 0}
+    (stands : Stands input at bytes rest) (both : Then P Q bytes) where
+  pub front_stands : Stands input at both.front (both.rest ++ rest)
+  front_stands =
+      record { is = stands.is ∙ then_append both rest; inside = omega (arith, stands.inside, then_length both) }
+
+  pub rest_stands : (to : ℕ) → to ≡ at + length both.front → Stands input to both.rest rest
+  rest_stands to is = record {
+    is = cut input at (length both.front) to both.front (both.rest ++ rest) front_stands.is refl is;
+    inside = omega (arith, stands.inside, then_length both, is);
+  }
+
+pub geometry_stands : (buf : List ℕ) (at : ℕ) (g : HasGeometry (drop at buf)) → Stands buf at g.begins.front g.rest
+geometry_stands buf at g = record {
+  is = g.begins.whole;
+  inside = omega (
+    arith,
+    ap length g.begins.whole,
+    length-append g.begins.front g.rest,
+    length-drop at buf,
+    rest_smaller g,
+  );
+}
+
+-- where the body of a geometry begins that begins here, and what follows its count
+abbrev pub body_at : Header → ℕ → ℕ
+body_at h at = at + (5 + srid_size (is_some h.srid))
+
+abbrev pub counted_at : Header → ℕ → ℕ
+counted_at h at = at + (9 + srid_size (is_some h.srid))
+
+pub body_stands : {input : List ℕ} {at : ℕ} {bytes rest : List ℕ} {Q : List ℕ → Type 0} (h : Header) (t : Value)
+    → Stands input at bytes rest → (sp : Then (IsHeader h (kind t) (dimension t)) Q bytes)
+    → Stands input (body_at h at) sp.rest rest
+body_stands {at = at} h t stands sp =
+    rest_stands stands sp (body_at h at) (omega (arith, header_length h (kind t) (dimension t) sp.front sp.first))
 
 -- ---- lengths
 
@@ -104,20 +151,9 @@ mutual
 pub behind_geometry : (buf : List ℕ) (at next : ℕ) (g : HasGeometry (drop at buf)) → next ≡ at + size g.spelled g.value
     → (drop next buf ≡ g.rest) × (next ≤ length buf)
 behind_geometry buf at next g e =
-    let long = spelled_size g.spelled g.value g.begins.front g.begins.first in (
-      ap (λ k. drop k buf) (omega (arith, e)) ∙ sym (drop-drop (size g.spelled g.value) at buf)
-          ∙ ap (drop (size g.spelled g.value)) g.begins.whole
-          ∙ drop_front (size g.spelled g.value) g.begins.front g.rest long,
-      omega (
-        arith,
-        e,
-        long,
-        ap length g.begins.whole,
-        length-append g.begins.front g.rest,
-        length-drop at buf,
-        rest_smaller g,
-      ),
-    )
+    let b = g.begins in
+    let long = spelled_size g.spelled g.value b.front b.first in
+    (cut buf at _ next b.front g.rest b.whole long e, omega (arith, e, long, (geometry_stands buf at g).inside))
 
 rings_many : (d : Dimension) (order index at : ℕ) (rings : List (List Coordinate))
     → length (ring_entries d order index at rings) ≡ length rings
@@ -128,41 +164,31 @@ rings_many d order index at (cs ∷ rings) =
 mutual
   pub entries_are : (index at : ℕ) (s : Spelling) (t : Value) → length (geometry_entries index at s t) ≡ entry_count s t
   entries_are index at (node h words ss) t =
-      omega (
-        arith,
-        length-append (ring_entries (dimension t) (order_byte h.order) (index + 1) (at + leading h t) (rings_of t))
-            (member_entries (index + 1) (at + leading h t) ss (members t)),
-        rings_many (dimension t) (order_byte h.order) (index + 1) (at + leading h t) (rings_of t),
-        members_are (index + 1) (at + leading h t) ss (members t),
-      )
+      simp (length-append, rings_many)
+      (omega (arith, members_are (index + 1) (at + leading h t) ss (members t)))
 
   members_are : (index at : ℕ) (ss : Spellings) (ts : Values)
       → length (member_entries index at ss ts) ≡ entry_counts ss ts
-  members_are index at no_spellings ts = refl
-  members_are index at (spelling s ss) no_members = refl
+  members_are index at ss no_members = refl
+  members_are index at no_spellings (member t ts) = refl
   members_are index at (spelling s ss) (member t ts) =
-      omega (
-        arith,
-        length-append (geometry_entries index at s t) (member_entries (index + entry_count s t) (at + size s t) ss ts),
-        entries_are index at s t,
-        members_are (index + entry_count s t) (at + size s t) ss ts,
-      )
+      simp length-append
+      (omega (arith, entries_are index at s t, members_are (index + entry_count s t) (at + size s t) ss ts))
 
 -- ---- the first of some geometries
 
 pub record First (n : ℕ) (bytes more : List ℕ) (all : HasGeometries n bytes more) (m : ℕ) : Type 0 where
   pub geometry : HasGeometry bytes
   pub others : HasGeometries m geometry.rest more
-  pub counts : entry_counts all.spelled all.values
-      ≡ entry_count geometry.spelled geometry.value + entry_counts others.spelled others.values
-  pub long : sizes all.spelled all.values ≡ size geometry.spelled geometry.value + sizes others.spelled others.values
-  pub entries : (index at : ℕ) → member_entries index at all.spelled all.values
-      ≡ geometry_entries index at geometry.spelled geometry.value
-      ++ member_entries (index + entry_count geometry.spelled geometry.value)
-      (at + size geometry.spelled geometry.value) others.spelled others.values
-  pub pieces : (at : ℕ) → pieces_of_each at all.spelled all.values
-      ≡ pieces_of at geometry.spelled geometry.value
-      ++ pieces_of_each (at + size geometry.spelled geometry.value) others.spelled others.values
+  pub spelled_is : all.spelled ≡ spelling geometry.spelled others.spelled
+  pub values_is : all.values ≡ member geometry.value others.values
+
+-- what is made of all geometries is made of the first and the others
+pub of_first : {A : Type 0} (make : Spellings → Values → A) {n m : ℕ} {bytes more : List ℕ}
+    {all : HasGeometries n bytes more} (f : First n bytes more all m)
+    → make all.spelled all.values
+    ≡ make (spelling f.geometry.spelled f.others.spelled) (member f.geometry.value f.others.values)
+of_first make f = λ i. make (f.spelled_is i) (f.values_is i)
 
 first_by : (n m : ℕ) (bytes more : List ℕ) (ss : Spellings) (ts : Values)
     (b : Begins (SpellsEach any ss ts) bytes more) (counted : n ≡ count ts) → n ≡ suc m
@@ -184,17 +210,15 @@ first_by n m bytes more (spelling s ss) (member t ts) b counted e =
         begins = record { front = h.rest; whole = refl; first = h.second };
         counted = omega (arith, counted, e);
       };
-      counts = refl;
-      long = refl;
-      entries = λ index at. refl;
-      pieces = λ at. refl;
+      spelled_is = refl;
+      values_is = refl;
     }
 
 pub first_one : (n m : ℕ) (bytes more : List ℕ) (all : HasGeometries n bytes more) → n ≡ suc m
     → First n bytes more all m
 first_one n m bytes more all e = first_by n m bytes more all.spelled all.values all.begins all.counted e
 
--- the same, where these bytes begin
+-- geometries at the front of some bytes are at the front of equal ones
 abbrev pub begun_at : {n : ℕ} {start bytes more : List ℕ} → start ≡ bytes → HasGeometries n bytes more
     → HasGeometries n start more
 begun_at e all = record {
@@ -204,6 +228,39 @@ begun_at e all = record {
   counted = all.counted;
 }
 
+-- one geometry alone
+abbrev pub alone : {bytes : List ℕ} (g : HasGeometry bytes) → HasGeometries 1 bytes g.rest
+alone g = record {
+  spelled = spelling g.spelled no_spellings;
+  values = member g.value no_members;
+  begins = record {
+    front = g.begins.front;
+    whole = g.begins.whole;
+    first = record {
+      front = g.begins.front;
+      rest = [];
+      whole = sym (append-nil g.begins.front);
+      first = (g.begins.first, tt);
+      second = refl;
+    };
+  };
+  counted = refl;
+}
+
+-- there are no members, where none are counted
+pub none_of : (ts : Values) → 0 ≡ count ts → ts ≡ no_members
+none_of no_members e = refl
+none_of (member t ts) e = absurd (omega (arith, e))
+
+-- no geometries are at the front of any bytes
+abbrev pub none_at : {start bytes : List ℕ} → start ≡ bytes → HasGeometries 0 start bytes
+none_at e = record {
+  spelled = no_spellings;
+  values = no_members;
+  begins = record { front = []; whole = e; first = refl };
+  counted = refl;
+}
+
 -- ---- the entries of what is inside a geometry
 
 pub inner_entries : ℕ → ℕ → Spelling → Value → List Part
@@ -211,17 +268,11 @@ inner_entries index at (node h words ss) t =
     ring_entries (dimension t) (order_byte h.order) (index + 1) (at + leading h t) (rings_of t)
     ++ member_entries (index + 1) (at + leading h t) ss (members t)
 
--- the own entry is put after those
-pub item_put : (buf : List ℕ) (at index : ℕ) (s : Spelling) (t : Value) (p : Piece) → p ≡ piece_of at s t
-    → (parts with : List Part) → with ≡ sets parts (index + 1) (inner_entries index at s t) → (end next : ℕ) (e : Part)
-    → end ≡ at + size s t
-    → next ≡ index + entry_count s t → e ≡ entry_of p end next
-    → set with index e ≡ sets parts index (geometry_entries index at s t)
+own_entry : (index at : ℕ) (s : Spelling) (t : Value)
+    → entry_of (piece_of at s t) (at + size s t) (index + entry_count s t) ∷ inner_entries index at s t
+    ≡ geometry_entries index at s t
 unfolding inner_entries
-item_put buf at index (node h words ss) t p p-is parts with w end next e end-is next-is e-is =
-    put_first parts with index e (inner_entries index at (node h words ss) t) w
-    ∙ (λ i. sets parts index ((e-is ∙ (λ j. entry_of (p-is j) (end-is j) (next-is j))) i
-    ∷ inner_entries index at (node h words ss) t))
+own_entry index at (node h words ss) t = refl
 
 -- ---- what is inside a geometry, by its kind
 
@@ -234,172 +285,113 @@ pub own_piece : (at : ℕ) (s : Spelling) (t : Value) → pieces_of at s t ≡ p
 unfolding inner_pieces
 own_piece at (node h words ss) t = refl
 
-pub no_pieces : (at : ℕ) (ss : Spellings) → pieces_of_each at ss no_members ≡ []
-no_pieces at no_spellings = refl
-no_pieces at (spelling s ss) = refl
+-- inside a geometry there are so many rings from this byte on, and so many members behind them
+pub record Inside (buf : List ℕ) (at index : ℕ) (s : Spelling) (t : Value) (more : List ℕ) (order : Endianness)
+    (d : Dimension) (rings n from after : ℕ) : Type 0 where
+  pub whole : AreWhole order d rings (drop from buf)
+  pub after_is : after ≡ from + size_of_rings d (decoded_rings order d rings (drop from buf))
+  pub all : HasGeometries n (drop after buf) more
+  pub long : after + sizes all.spelled all.values ≡ at + size s t
+  pub counts : entry_count s t ≡ 1 + rings + entry_counts all.spelled all.values
+  pub entries : ring_entries d (order_byte order) (index + 1) from (decoded_rings order d rings (drop from buf))
+      ++ member_entries (index + 1) after all.spelled all.values
+      ≡ inner_entries index at s t
+  pub pieces : pieces_of_rings order d from (decoded_rings order d rings (drop from buf))
+      ++ pieces_of_each after all.spelled all.values
+      ≡ inner_pieces at s t
 
-no_entries : (index at : ℕ) (ss : Spellings) → member_entries index at ss no_members ≡ []
-no_entries index at no_spellings = refl
-no_entries index at (spelling s ss) = refl
-
-no_counts : (ss : Spellings) → entry_counts ss no_members ≡ 0
-no_counts no_spellings = refl
-no_counts (spelling s ss) = refl
-
-no_sizes : (ss : Spellings) → sizes ss no_members ≡ 0
-no_sizes no_spellings = refl
-no_sizes (spelling s ss) = refl
-
-pub cut : (buf : List ℕ) (at n to : ℕ) (front rest : List ℕ) → drop at buf ≡ front ++ rest → length front ≡ n
-    → to ≡ at + n
-    → drop to buf ≡ rest
-cut buf at n to front rest e long is =
-    ap (λ k. drop k buf) (omega (arith, is)) ∙ sym (drop-drop n at buf) ∙ ap (drop n) e ∙ drop_front n front rest long
-
--- what follows the header of a geometry
-pub body_at : (buf : List ℕ) (at : ℕ) (h : Header) (words : List ℕ) (ss : Spellings) (t : Value) (rest : List ℕ)
-    → (b : Begins (Spells (node h words ss) t) (drop at buf) rest)
-    → drop (at + (5 + srid_size (is_some h.srid))) buf ≡ b.first.second.front ++ (b.first.second.rest ++ rest)
-body_at buf at h words ss t rest b =
-    let x = b.first in
-    let y = x.second in
-    cut buf at (5 + srid_size (is_some h.srid)) (at + (5 + srid_size (is_some h.srid))) x.front
-    (y.front ++ (y.rest ++ rest))
-    (b.whole ∙ then_append x rest ∙ ap (λ w. x.front ++ w) (then_append y rest))
-    (header_length h (kind t) (dimension t) x.front x.first) refl
+-- rings are inside, and no members
+pub rings_alone : {buf more : List ℕ} {at index : ℕ} {s : Spelling} {t : Value} {order : Endianness} {d : Dimension}
+    {rings from after : ℕ} → Inside buf at index s t more order d rings 0 from after
+    → (ring_entries d (order_byte order) (index + 1) from (decoded_rings order d rings (drop from buf))
+    ≡ inner_entries index at s t) × (entry_count s t ≡ 1 + rings) × (after ≡ at + size s t)
+rings_alone {buf} {index = index} {order = order} {d} {rings} {from} {after} i =
+    let own = ring_entries d (order_byte order) (index + 1) from (decoded_rings order d rings (drop from buf)) in
+    let none = none_of i.all.values i.all.counted in (
+      sym (append-nil own)
+          ∙ ap (λ ts. own ++ member_entries (index + 1) after i.all.spelled ts) (sym none) ∙ i.entries,
+      omega (arith, i.counts, ap (entry_counts i.all.spelled) none),
+      omega (arith, i.long, ap (sizes i.all.spelled) none),
+    )
 
 -- it has coordinates
-pub record IsLeaf (at index : ℕ) (s : Spelling) (t : Value) : Type 0 where
-  pub long : own_end (piece_of at s t) ≡ at + size s t
-  pub counts : entry_count s t ≡ 1
-  pub entries : inner_entries index at s t ≡ []
-  pub pieces : inner_pieces at s t ≡ []
-
-pub leaf : (at index : ℕ) (s : Spelling) (t : Value) → nat_lt (kind t) 3 ≡ true → IsLeaf at index s t
+leaf : (at index : ℕ) (s : Spelling) (t : Value) → nat_lt (kind t) 3 ≡ true
+    → (own_end (piece_of at s t) ≡ at + size s t) × (entry_count s t ≡ 1) × (inner_entries index at s t ≡ [])
+    × (inner_pieces at s t ≡ [])
 unfolding inner_entries inner_pieces
-leaf at index (node h words ss) (point d c) e = record {
-  long = omega (arith, no_sizes ss);
-  counts = omega (arith, no_counts ss);
-  entries = no_entries (index + 1) (at + leading h (point d c)) ss;
-  pieces = no_pieces (at + leading h (point d c)) ss;
-}
-leaf at index (node h words ss) (line_string d cs) e = record {
-  long = omega (arith, no_sizes ss);
-  counts = omega (arith, no_counts ss);
-  entries = no_entries (index + 1) (at + leading h (line_string d cs)) ss;
-  pieces = no_pieces (at + leading h (line_string d cs)) ss;
-}
+leaf at index (node h words ss) (point d c) e = (omega arith, refl, refl, refl)
+leaf at index (node h words ss) (line_string d cs) e = (omega arith, refl, refl, refl)
 leaf at index (node h words ss) _ e = absurd cc
 
 -- it has rings
-pub record HasRings (buf : List ℕ) (at index : ℕ) (s : Spelling) (t : Value) (p : Piece) : Type 0 where
-  pub whole : HasRingsFrom buf p (own_end p)
-  pub are : rings_from buf p (own_end p) ≡ rings_of t
-  pub long : own_end p + size_of_rings_from buf p (own_end p) ≡ at + size s t
-  pub counts : entry_count s t ≡ 1 + p.count
-  pub entries : entries_of_rings_from buf p (record { index = index + 1; byte = own_end p })
-      ≡ inner_entries index at s t
-  pub pieces : pieces_of_rings p.order p.dimension (own_end p) (rings_from buf p (own_end p)) ≡ inner_pieces at s t
-
-pub has_rings : (buf : List ℕ) (at index : ℕ) (s : Spelling) (t : Value) (rest : List ℕ)
+has_rings : (buf : List ℕ) (at index : ℕ) (s : Spelling) (t : Value) (rest : List ℕ)
     → Begins (Spells s t) (drop at buf) rest → kind t ≡ 3
-    → HasRings buf at index s t (piece_of at s t)
+    → Inside buf at index s t rest (piece_of at s t).order (piece_of at s t).dimension (piece_of at s t).count 0
+    (own_end (piece_of at s t))
+    (own_end (piece_of at s t) + size_of_rings_from buf (piece_of at s t) (own_end (piece_of at s t)))
 unfolding inner_entries inner_pieces
 has_rings buf at index (node h words ss) (polygon d rings) rest b e =
-    let x = b.first in
-    let y = x.second in
+    let t = polygon d rings in
+    let g : HasGeometry (drop at buf) = record { spelled = node h words ss; value = t; rest = rest; begins = b } in
+    let y = b.first.second in
     let z = y.first.1 in
-    let start = at + (5 + srid_size (is_some h.srid)) in
-    let body = body_at buf at h words ss (polygon d rings) rest b in
-    let after : drop (at + leading h (polygon d rings)) buf ≡ z.rest ++ (y.rest ++ rest) =
-    cut buf start 4 (at + leading h (polygon d rings)) z.front (z.rest ++ (y.rest ++ rest))
-    (body ∙ then_append z (y.rest ++ rest)) z.first.len (omega arith) in
-    let found : RingsFirst h.order d rings (length rings) (drop (at + leading h (polygon d rings)) buf) =
-    subst (λ w. RingsFirst h.order d rings (length rings) w) (sym after)
+    let from = at + leading h t in
+    let body = front_stands (body_stands h t (geometry_stands buf at g) b.first) y in
+    let stands = rest_stands body z from (omega (arith, z.first.len)) in
+    let found : RingsFirst h.order d rings (length rings) (drop from buf) =
+    subst (RingsFirst h.order d rings (length rings)) (sym stands.is)
     (rings_first h.order d rings z.rest (y.rest ++ rest) z.second) in
-    let own = ring_entries d (order_byte h.order) (index + 1) (at + leading h (polygon d rings)) rings in
-    let own-pieces = pieces_of_rings h.order d (at + leading h (polygon d rings)) rings in
+    let long : from + size_of_rings d (decoded_rings h.order d (length rings) (drop from buf))
+    ≡ at + size (node h words ss) t = omega (arith, ap (size_of_rings d) found.are) in
     record {
-      pieces =
-          ap (pieces_of_rings h.order d (at + leading h (polygon d rings))) found.are
-          ∙ sym (ap (λ ps. own-pieces ++ ps) (no_pieces (at + leading h (polygon d rings)) ss) ∙ append-nil own-pieces);
       whole = found.whole;
-      are = found.are;
-      long = omega (arith, ap (size_of_rings d) found.are, no_sizes ss);
-      counts = omega (arith, no_counts ss);
-      entries =
-          ap (ring_entries d (order_byte h.order) (index + 1) (at + leading h (polygon d rings))) found.are
-          ∙ sym (ap (λ ps. own ++ ps) (no_entries (index + 1) (at + leading h (polygon d rings)) ss) ∙ append-nil own);
+      after_is = refl;
+      all = none_at (behind_geometry buf at _ g long).0;
+      long = omega (arith, long);
+      counts = omega arith;
+      entries = ap (λ rs. ring_entries d (order_byte h.order) (index + 1) from rs ++ []) found.are;
+      pieces = ap (λ rs. pieces_of_rings h.order d from rs ++ []) found.are;
     }
 has_rings buf at index (node h words ss) _ rest b e = absurd (omega (arith, e))
 
 -- it has members
-pub record HasMembers (buf : List ℕ) (at index : ℕ) (s : Spelling) (t : Value) (rest : List ℕ) (p : Piece)
-    : Type 0 where
-  pub all : HasGeometries p.count (drop (own_end p) buf) rest
-  pub long : own_end p + sizes all.spelled all.values ≡ at + size s t
-  pub counts : entry_count s t ≡ 1 + entry_counts all.spelled all.values
-  pub entries : member_entries (index + 1) (own_end p) all.spelled all.values ≡ inner_entries index at s t
-  pub pieces : pieces_of_each (own_end p) all.spelled all.values ≡ inner_pieces at s t
+members_many : (t : Value) → nat_lt (kind t) 4 ≡ false → count_of t ≡ count (members t)
+members_many (multi_point d points) e = sym (count-each (point d) points)
+members_many (multi_line_string d lines) e = sym (count-each (line_string d) lines)
+members_many (multi_polygon d polygons) e = sym (count-each (polygon d) polygons)
+members_many (collection d ts) e = refl
+members_many _ e = absurd cc
 
-module _ (buf : List ℕ) (at index : ℕ) (h : Header) (words : List ℕ) (ss : Spellings) (rest : List ℕ) where
-  abbrev members_by : (t : Value) → (b : Begins (Spells (node h words ss) t) (drop at buf) rest)
-      → length b.first.second.front ≡ 4 → count_of t ≡ count (members t) → leading h t ≡ 9 + srid_size (is_some h.srid)
-      → HasGeometries (count_of t) (drop (at + leading h t) buf) rest
-  members_by t b four many leads =
-      let x = b.first in
-      let y = x.second in
-      let start = at + (5 + srid_size (is_some h.srid)) in
-      let body = body_at buf at h words ss t rest b in
-      record {
+has_members : (buf : List ℕ) (at index : ℕ) (s : Spelling) (t : Value) (rest : List ℕ)
+    → Begins (Spells s t) (drop at buf) rest → nat_lt (kind t) 4 ≡ false → (order : Endianness) (d : Dimension)
+    → Inside buf at index s t rest order d 0 (piece_of at s t).count (own_end (piece_of at s t))
+    (own_end (piece_of at s t))
+unfolding inner_entries inner_pieces
+has_members buf at index (node h words ss) (point d c) rest b e order f = absurd cc
+has_members buf at index (node h words ss) (line_string d cs) rest b e order f = absurd cc
+has_members buf at index (node h words ss) (polygon d rings) rest b e order f = absurd cc
+has_members buf at index (node h words ss) t rest b e order f =
+    let g : HasGeometry (drop at buf) = record { spelled = node h words ss; value = t; rest = rest; begins = b } in
+    let y = b.first.second in
+    let body = body_stands h t (geometry_stands buf at g) b.first in
+    record {
+      whole = tt;
+      after_is = omega arith;
+      all = record {
         spelled = ss;
         values = members t;
         begins = record {
           front = y.rest;
-          whole = cut buf start 4 (at + leading h t) y.front (y.rest ++ rest) body four (omega (arith, leads));
+          whole = (rest_stands body y (counted_at h at) (omega (arith, y.first.1.len))).is;
           first = wanted_by_any (member_part (kind t) (dimension t)) ss (members t) y.rest y.second;
         };
-        counted = many;
-      }
-
-pub has_inner : (buf : List ℕ) (at index : ℕ) (s : Spelling) (t : Value) (rest : List ℕ)
-    → Begins (Spells s t) (drop at buf) rest → nat_lt (kind t) 3 ≡ false → kind t ≢ 3
-    → HasMembers buf at index s t rest (piece_of at s t)
-unfolding inner_entries inner_pieces
-has_inner buf at index (node h words ss) (point d c) rest b e f = absurd cc
-has_inner buf at index (node h words ss) (line_string d cs) rest b e f = absurd cc
-has_inner buf at index (node h words ss) (polygon d rings) rest b e f = absurd (f refl)
-has_inner buf at index (node h words ss) (multi_point d points) rest b e f = record {
-  all = members_by buf at index h words ss rest (multi_point d points) b b.first.second.first.1.len
-      (sym (count-each (point d) points)) refl;
-  long = omega arith;
-  counts = refl;
-  entries = refl;
-  pieces = refl;
-}
-has_inner buf at index (node h words ss) (multi_line_string d lines) rest b e f = record {
-  all = members_by buf at index h words ss rest (multi_line_string d lines) b b.first.second.first.1.len
-      (sym (count-each (line_string d) lines)) refl;
-  long = omega arith;
-  counts = refl;
-  entries = refl;
-  pieces = refl;
-}
-has_inner buf at index (node h words ss) (multi_polygon d polygons) rest b e f = record {
-  all = members_by buf at index h words ss rest (multi_polygon d polygons) b b.first.second.first.1.len
-      (sym (count-each (polygon d) polygons)) refl;
-  long = omega arith;
-  counts = refl;
-  entries = refl;
-  pieces = refl;
-}
-has_inner buf at index (node h words ss) (collection d ts) rest b e f = record {
-  all = members_by buf at index h words ss rest (collection d ts) b b.first.second.first.1.len refl refl;
-  long = omega arith;
-  counts = refl;
-  entries = refl;
-  pieces = refl;
-}
+        counted = members_many t e;
+      };
+      long = omega arith;
+      counts = omega arith;
+      entries = refl;
+      pieces = refl;
+    }
 
 own_inside : (at : ℕ) (s : Spelling) (t : Value) → own_end (piece_of at s t) ≤ at + size s t
 own_inside at (node h words ss) (point d c) = omega arith
@@ -448,45 +440,52 @@ module _ (buf : List ℕ) (at index : ℕ) (g : HasGeometry (drop at buf)) (p : 
       × (inner_pieces at g.spelled g.value ≡ [])
   leaf_of low =
       let l = leaf at index g.spelled g.value (ap (λ k. nat_lt k 3) (sym kind_of) ∙ low) in
-      (ap own_end is ∙ l.long, l.counts, l.entries, l.pieces)
+      (ap own_end is ∙ l.0, l.1, l.2, l.3)
 
-  pub rings_inside : p.kind ≡ 3 → HasRings buf at index g.spelled g.value p
-  rings_inside three =
-      subst (HasRings buf at index g.spelled g.value) (sym is)
-      (has_rings buf at index g.spelled g.value g.rest g.begins (sym kind_of ∙ three))
+  module _ (end : ℕ) (ends : end ≡ own_end p) where
+    pub leaf_inside : nat_lt p.kind 3 ≡ true → (order : Endianness) (d : Dimension)
+        → Inside buf at index g.spelled g.value g.rest order d 0 0 end end
+    leaf_inside low order d =
+        let l = leaf_of low in
+        record {
+          whole = tt;
+          after_is = omega arith;
+          all = none_at (behind_geometry buf at end g (ends ∙ l.0)).0;
+          long = omega (arith, ends, l.0);
+          counts = omega (arith, l.1);
+          entries = sym l.2;
+          pieces = sym l.3;
+        }
 
-  pub members_inside : nat_lt p.kind 3 ≡ false → p.kind ≢ 3 → HasMembers buf at index g.spelled g.value g.rest p
-  members_inside high other =
-      subst (HasMembers buf at index g.spelled g.value g.rest) (sym is)
-      (has_inner buf at index g.spelled g.value g.rest g.begins (ap (λ k. nat_lt k 3) (sym kind_of) ∙ high)
-      (λ e. other (kind_of ∙ e)))
+    pub rings_inside : p.kind ≡ 3
+        → Inside buf at index g.spelled g.value g.rest p.order p.dimension p.count 0 end
+        (end + size_of_rings_from buf p end)
+    rings_inside three =
+        rw (ends, is) (has_rings buf at index g.spelled g.value g.rest g.begins (sym kind_of ∙ three))
 
-  -- what is inside was put, and the next part is known
-  pub record Inner (parts with : List Part) (next to : ℕ) : Type 0 where
-    pub put : with ≡ sets parts (index + 1) (inner_entries index at g.spelled g.value)
-    pub next_is : next ≡ index + entry_count g.spelled g.value
-    pub to_is : to ≡ at + size g.spelled g.value
+    pub members_inside : nat_lt p.kind 3 ≡ false → p.kind ≢ 3 → (order : Endianness) (d : Dimension)
+        → Inside buf at index g.spelled g.value g.rest order d 0 p.count end end
+    members_inside high other order d =
+        let more : nat_lt (kind g.value) 4 ≡ false =
+        le-ltb (kind g.value) 4 (omega (arith, kind_of, other, ltb-false p.kind 3 high)) in
+        rw (ends, is) (has_members buf at index g.spelled g.value g.rest g.begins more order d)
 
-  pub item_by : (parts with : List Part) (next to : ℕ) (e : Part) → Inner parts with next to → e ≡ entry_of p to next
-      → (set with index e ≡ sets parts index (geometry_entries index at g.spelled g.value))
-      × (next ≡ index + entry_count g.spelled g.value) × (to ≡ at + size g.spelled g.value)
-  item_by parts with next to e i e-is = (
-    item_put buf at index g.spelled g.value p is parts with i.put to next e i.to_is i.next_is e-is,
-    i.next_is,
-    i.to_is,
-  )
+-- The entry of this geometry and of what is inside it are put at this index, and the next place is the one after them.
+pub record IsPut (parts new : List Part) (index at next to : ℕ) (s : Spelling) (t : Value) : Type 0 where
+  pub put : new ≡ sets parts index (geometry_entries index at s t)
+  pub next_is : next ≡ index + entry_count s t
+  pub to_is : to ≡ at + size s t
 
--- the same from where they begin
-pub record MembersAt (buf : List ℕ) (at index : ℕ) (s : Spelling) (t : Value) (rest : List ℕ) (p : Piece) (end : ℕ)
-    : Type 0 where
-  pub all : HasGeometries p.count (drop end buf) rest
-  pub long : end + sizes all.spelled all.values ≡ at + size s t
-  pub counts : entry_count s t ≡ 1 + entry_counts all.spelled all.values
-  pub entries : member_entries (index + 1) end all.spelled all.values ≡ inner_entries index at s t
-
-pub members_at : (buf : List ℕ) (at index : ℕ) (s : Spelling) (t : Value) (rest : List ℕ) (p : Piece) (end : ℕ)
-    → end ≡ own_end p
-    → HasMembers buf at index s t rest p → MembersAt buf at index s t rest p end
-members_at buf at index s t rest p end is m =
-    subst (MembersAt buf at index s t rest p) (sym is)
-    (record { all = m.all; long = m.long; counts = m.counts; entries = m.entries })
+-- so it is where the own entry is put after those of what is inside
+pub item_put : (index at : ℕ) (s : Spelling) (t : Value) (p : Piece) → p ≡ piece_of at s t
+    → (parts with : List Part) (next to : ℕ) (e : Part) → with ≡ sets parts (index + 1) (inner_entries index at s t)
+    → next ≡ index + entry_count s t → to ≡ at + size s t → e ≡ entry_of p to next
+    → IsPut parts (set with index e) index at next to s t
+item_put index at s t p p-is parts with next to e put n b e-is = record {
+  put =
+      put_first parts with index e (inner_entries index at s t) put
+      ∙ (λ j. sets parts index ((e-is ∙ (λ k. entry_of (p-is k) (b k) (n k))) j ∷ inner_entries index at s t))
+      ∙ ap (sets parts index) (own_entry index at s t);
+  next_is = n;
+  to_is = b;
+}

@@ -1,20 +1,18 @@
 -- Where the subjects of a geometry stand in its bytes, and what its pieces and entries say of them.
 use Rattle.std.proofs.Common.{◌≡◌, ℕ, ◌+◌, ◌*◌, ◌≤◌, List, [], ◌∷◌, ◌++◌, length, drop, Some, None}
-use Rattle.std.proofs.Common.{refl, sym, ap, subst, ◌∙◌, arith, append_assoc, append-nil, length-append, drop-drop}
-use Rattle.std.proofs.Common.{length-drop, is_some, nat_lt, if◌then◌else◌, true, false}
+use Rattle.std.proofs.Common.{refl, sym, ap, subst, ◌∙◌, arith, append-nil, nat_lt, if◌then◌else◌, true, false}
 use Rattle.std.proofs.lemmas.Bool.{cond-true}
 use Rattle.wkb_laws.specs.Prelude.{Endianness, Dimension, width, ring_end, Coordinate, Value, Values, point}
 use Rattle.wkb_laws.specs.Prelude.{line_string}
 use Rattle.wkb_laws.specs.Prelude.{polygon, no_members, member, members, kind, dimension, Spelling, node, Spellings}
 use Rattle.wkb_laws.specs.Prelude.{no_spellings, spelling, Spells, SpellsBody, SpellsCoordinate, SpellsCoordinates}
 use Rattle.wkb_laws.specs.Prelude.{SpellsEach, Wanted, Begins, coordinates, all_nan}
-use Rattle.wkb_geom.specs.Spellings.{Header, IsHeader}
+use Rattle.wkb_geom.specs.Spellings.{Header}
 use Rattle.wkb_geom.specs.Grammar.{Then, IsEach}
 use Rattle.wkb_geom.specs.Numbers.{order_byte}
 use Rattle.wkb_geom.specs.Reading.{coordinate}
-use Rattle.wkb_geom.specs.Refusals.{srid_size}
 use Rattle.wkb_laws.proofs.Lengths.{coordinate_length, coordinates_length}
-use Rattle.wkb_laws.proofs.Parts.{drop_front, header_length, items_read, each_len, coordinate_read}
+use Rattle.wkb_laws.proofs.Parts.{items_read, each_len, coordinate_read}
 use Rattle.wkb_check.specs.declared.parts.Part.{Part}
 use Rattle.wkb_check.specs.declared.pieces.Piece.{Piece}
 use Rattle.wkb_check.specs.Pieces.{leading, count_of, rings_of, size, piece_of, ring_piece, pieces_of, pieces_of_rings}
@@ -23,46 +21,9 @@ use Rattle.wkb_check.specs.Subjects.{Subject, whole, ring, dimension_in, subject
 use Rattle.wkb_check.specs.Subjects.{subjects_of_rings, subjects_of_each}
 use Rattle.wkb_check.specs.Tables.{entry, place, ring_place, entry_count, geometry_entries, ring_entries}
 use Rattle.wkb_check.specs.Tables.{member_entries}
-use Rattle.wkb_check.proofs.Placing.{spelled_size}
-
--- these bytes stand here in the input, and the rest of it behind them
-pub record Stands (input : List ℕ) (at : ℕ) (bytes rest : List ℕ) : Type 0 where
-  pub is : drop at input ≡ bytes ++ rest
-  pub inside : at + length bytes ≤ length input
-
--- then the first of two parts does too, and the second behind it
-module _ {input : List ℕ} {at : ℕ} {bytes rest : List ℕ} {P Q : List ℕ → Type 0}
-    (stands : Stands input at bytes rest) (both : Then P Q bytes) where
-  long : length bytes ≡ length both.front + length both.rest
-  long = ap length both.whole ∙ length-append both.front both.rest
-
-  front_stands : Stands input at both.front (both.rest ++ rest)
-  front_stands = record {
-    is = stands.is ∙ ap (λ (x : List ℕ). x ++ rest) both.whole ∙ append_assoc both.front both.rest rest;
-    inside = omega (arith, stands.inside, long);
-  }
-
-  rest_stands : (to : ℕ) → at + length both.front ≡ to → Stands input to both.rest rest
-  rest_stands to to_is = record {
-    is =
-        ap (λ k. drop k input) (sym to_is) ∙ sym (drop-drop (length both.front) at input)
-        ∙ ap (drop (length both.front)) front_stands.is
-        ∙ drop_front (length both.front) both.front (both.rest ++ rest) refl;
-    inside = omega (arith, stands.inside, long, to_is);
-  }
-
--- where the body of a geometry begins that begins here, and what follows its count
-abbrev body_at : Header → ℕ → ℕ
-body_at h at = at + (5 + srid_size (is_some h.srid))
-
-abbrev counted_at : Header → ℕ → ℕ
-counted_at h at = at + (9 + srid_size (is_some h.srid))
-
-body_stands : {input : List ℕ} {at : ℕ} {bytes rest : List ℕ} {Q : List ℕ → Type 0} (h : Header) (t : Value)
-    → Stands input at bytes rest → (sp : Then (IsHeader h (kind t) (dimension t)) Q bytes)
-    → Stands input (body_at h at) sp.rest rest
-body_stands {at = at} h t stands sp =
-    rest_stands stands sp (body_at h at) (omega (arith, header_length h (kind t) (dimension t) sp.front sp.first))
+use Rattle.wkb_check.proofs.Placing.{spelled_size, geometry_stands, body_at, counted_at, body_stands, front_stands}
+use Rattle.wkb_check.proofs.Placing.{rest_stands}
+pub use Rattle.wkb_check.proofs.Placing.{Stands}
 
 -- the entry of a subject that has this index and begins at this byte
 abbrev pub entry_at : ℕ → ℕ → Subject → Part
@@ -127,81 +88,53 @@ rings_placed order d (cs ∷ rings) index {at} stands h = (
       (omega (arith, coordinates_length order d cs h.front h.first))) h.second,
 )
 
-own_rings_placed : {input : List ℕ} {bytes rest : List ℕ} (h : Header) (words : List ℕ) (t : Value)
-    (index at : ℕ) → Stands input (body_at h at) bytes rest → SpellsBody h.order words t bytes
-    → ArePlaced input (ring_entries (dimension t) (order_byte h.order) index (at + leading h t) (rings_of t))
-    (pieces_of_rings h.order (dimension t) (at + leading h t) (rings_of t))
-    (subjects_of_rings h.order (dimension t) (rings_of t))
-own_rings_placed h words (polygon d rings) index at stands b =
-    rings_placed h.order d rings index (rest_stands stands b.1 (counted_at h at) (omega (arith, b.1.first.len)))
-    b.1.second
-own_rings_placed h words _ index at stands b = tt
-
-abbrev MembersPlaced : List ℕ → Header → Spellings → Value → ℕ → ℕ → Type 0
-MembersPlaced input h ss t index at =
-    ArePlaced input (member_entries index (at + leading h t) ss (members t))
-    (pieces_of_each (at + leading h t) ss (members t)) (subjects_of_each ss (members t))
-
-none_placed : (input : List ℕ) (index at : ℕ) (ss : Spellings)
-    → ArePlaced input (member_entries index at ss no_members) (pieces_of_each at ss no_members)
-    (subjects_of_each ss no_members)
-none_placed input index at no_spellings = tt
-none_placed input index at (spelling s ss) = tt
-
--- the members follow a count
-own_members_placed : {input : List ℕ} {bytes rest : List ℕ} {Q : List ℕ → Type 0} (h : Header)
-    (words : List ℕ) (ss : Spellings) (t : Value) (index at : ℕ) → Stands input (body_at h at) bytes rest
+-- The rings follow a count, and so do the members.
+inside_placed : {input : List ℕ} {bytes rest : List ℕ} {Q : List ℕ → Type 0} (h : Header) (words : List ℕ)
+    (ss : Spellings) (t : Value) (index at : ℕ) → Stands input (body_at h at) bytes rest
     → (both : Then (SpellsBody h.order words t) Q bytes)
-    → (Stands input (at + leading h t) both.rest rest → MembersPlaced input h ss t index at)
-    → MembersPlaced input h ss t index at
-own_members_placed {input} h words ss (point d c) index at stands both each = none_placed input index _ ss
-own_members_placed {input} h words ss (line_string d cs) index at stands both each = none_placed input index _ ss
-own_members_placed {input} h words ss (polygon d rings) index at stands both each = none_placed input index _ ss
-own_members_placed h words ss _ index at stands both each =
+    → (Stands input (at + leading h t) both.rest rest
+    → ArePlaced input (member_entries index (at + leading h t) ss (members t))
+    (pieces_of_each (at + leading h t) ss (members t)) (subjects_of_each ss (members t)))
+    → ArePlaced input
+    (ring_entries (dimension t) (order_byte h.order) index (at + leading h t) (rings_of t)
+    ++ member_entries index (at + leading h t) ss (members t))
+    (pieces_of_rings h.order (dimension t) (at + leading h t) (rings_of t)
+    ++ pieces_of_each (at + leading h t) ss (members t))
+    (subjects_of_rings h.order (dimension t) (rings_of t) ++ subjects_of_each ss (members t))
+inside_placed h words ss (point d c) index at stands both each = tt
+inside_placed h words ss (line_string d cs) index at stands both each = tt
+inside_placed h words ss (polygon d rings) index at stands both each =
+    let b = both.first.1 in
+    placed_append _ _ _ _ _ _ _ (rings_placed h.order d rings index
+    (rest_stands (front_stands stands both) b (counted_at h at) (omega (arith, b.first.len))) b.second) tt
+inside_placed h words ss _ index at stands both each =
     each (rest_stands stands both (counted_at h at) (omega (arith, both.first.1.len)))
 
 mutual
   placed : {input : List ℕ} (s : Spelling) (t : Value) (index : ℕ) {at : ℕ} {bytes rest : List ℕ}
       → Stands input at bytes rest → Spells s t bytes
       → ArePlaced input (geometry_entries index at s t) (pieces_of at s t) (subjects s t)
-  placed {input} (node h words ss) t index {at} stands sp =
-      let body = body_stands h t stands sp in (
-        is_placed index (whole (node h words ss) t) stands sp,
-        placed_append input _ _ _ _ _ _
-            (own_rings_placed h words t (index + 1) at (front_stands body sp.second) sp.second.first)
-            (own_members_placed h words ss t (index + 1) at body sp.second
-            (λ there. each_placed _ ss (members t) (index + 1) there sp.second.second)),
-      )
+  placed {input} (node h words ss) t index {at} stands sp = (
+    is_placed index (whole (node h words ss) t) stands sp,
+    inside_placed h words ss t (index + 1) at (body_stands h t stands sp) sp.second
+        (λ there. each_placed _ ss (members t) (index + 1) there sp.second.second),
+  )
 
   each_placed : {input : List ℕ} (w : Wanted) (ss : Spellings) (ts : Values) (index : ℕ) {at : ℕ} {bytes rest : List ℕ}
       → Stands input at bytes rest → SpellsEach w ss ts bytes
       → ArePlaced input (member_entries index at ss ts) (pieces_of_each at ss ts) (subjects_of_each ss ts)
-  each_placed w no_spellings ts index stands sp = tt
-  each_placed w (spelling s ss) no_members index stands sp = tt
+  each_placed w ss no_members index stands sp = tt
+  each_placed w no_spellings (member t ts) index stands sp = tt
   each_placed {input} w (spelling s ss) (member t ts) index {at} stands sp =
       placed_append input _ _ _ _ _ _ (placed s t index (front_stands stands sp) sp.first.0)
       (each_placed w ss ts (index + entry_count s t)
       (rest_stands stands sp (at + size s t) (omega (arith, spelled_size s t sp.front sp.first.0))) sp.second)
 
--- a geometry that begins here stands there
-some_leading : (h : Header) (t : Value) → 5 ≤ leading h t
-some_leading h (point d c) = omega arith
-some_leading h _ = omega arith
-
 pub all_placed : (input : List ℕ) (at : ℕ) {rest : List ℕ} (s : Spelling) (t : Value)
     → Begins (Spells s t) (drop at input) rest
     → ArePlaced input (geometry_entries 0 at s t) (pieces_of at s t) (subjects s t)
-all_placed input at {rest} (node h words ss) t g =
-    let inside : at + length g.front ≤ length input =
-    omega (
-      arith,
-      spelled_size (node h words ss) t g.front g.first,
-      some_leading h t,
-      ap length g.whole,
-      length-append g.front rest,
-      length-drop at input,
-    ) in
-    placed (node h words ss) t 0 (record { is = g.whole; inside = inside }) g.first
+all_placed input at {rest} s t b =
+    placed s t 0 (geometry_stands input at (record { spelled = s; value = t; rest = rest; begins = b })) b.first
 
 -- ---- what a piece says of its subject
 
@@ -261,10 +194,10 @@ one_read {bytes = bytes} order d c stands h =
     (record { front = bytes; rest = []; whole = sym (append-nil bytes); first = h; second = refl })
 
 -- a piece of a point, a line string or a ring, whose coordinates are read where it says
-with_coordinates : {input : List ℕ} (p : Piece) (x : Subject) → p.kind ≡ kind_in x → p.dimension ≡ dimension_in x
+with_coordinates : {input : List ℕ} {p : Piece} {x : Subject} → p.kind ≡ kind_in x → p.dimension ≡ dimension_in x
     → p.count ≡ count_in x → nat_lt p.kind 3 ≡ true
     → AreRead input p.order p.dimension p.offset p.count (subject_coordinates x) → PointIs x → IsPieceOf input p x
-with_coordinates {input} p x kind_is dimension_is count_is low r point_is = record {
+with_coordinates {input} {p} {x} kind_is dimension_is count_is low r point_is = record {
   kind_is = kind_is;
   dimension_is = dimension_is;
   count_is = count_is;
@@ -277,14 +210,11 @@ body_says : {input : List ℕ} (at : ℕ) {body rest : List ℕ} (h : Header) (o
     → Stands input (body_at h at) body rest → SpellsBody h.order own t body
     → IsPieceOf input (piece_of at (node h own ss) t) (whole (node h own ss) t)
 body_says at h own ss (point d None) stands b =
-    with_coordinates (piece_of at (node h own ss) (point d None)) (whole (node h own ss) (point d None)) refl refl refl
-    refl (one_read h.order d own stands b.1) b.0
+    with_coordinates refl refl refl refl (one_read h.order d own stands b.1) b.0
 body_says at h own ss (point d (Some c)) stands b =
-    with_coordinates (piece_of at (node h own ss) (point d (Some c))) (whole (node h own ss) (point d (Some c))) refl
-    refl refl refl (one_read h.order d c stands b.2) b.1
+    with_coordinates refl refl refl refl (one_read h.order d c stands b.2) b.1
 body_says at h own ss (line_string d cs) stands b =
-    with_coordinates (piece_of at (node h own ss) (line_string d cs)) (whole (node h own ss) (line_string d cs)) refl
-    refl refl refl
+    with_coordinates refl refl refl refl
     (coordinates_read h.order d cs (rest_stands stands b.1 (counted_at h at) (omega (arith, b.1.first.len)))
     b.1.second) tt
 body_says at h own ss _ stands b = record {
@@ -301,7 +231,7 @@ pub says : {input : List ℕ} {at : ℕ} {bytes rest : List ℕ} (x : Subject) �
 says {at = at} (whole (node h words ss) t) stands sp =
     body_says at h words ss t (front_stands (body_stands h t stands sp) sp.second) sp.second.first
 says {at = at} (ring order d cs) stands sp =
-    with_coordinates (ring_piece order d at (length cs)) (ring order d cs) refl refl refl refl
+    with_coordinates refl refl refl refl
     (coordinates_read order d cs (rest_stands stands sp (at + 4) (omega (arith, sp.first.len))) sp.second) tt
 
 -- these are the pieces of the subjects, one for one

@@ -15,7 +15,7 @@ use Rattle.wkb_check.specs.declared.pieces.Piece.{Piece}
 use Rattle.wkb_check.specs.declared.range.Range.{Range}
 use Rattle.wkb_check.specs.declared.range.Bounds.{Bounds}
 use Rattle.wkb_check.specs.Ranges.{widened, range_of, no_numbers}
-use Rattle.wkb_check.specs.Ordinates.{Axis, x_axis, y_axis, z_axis, m_axis, axis_place, word_at, words_of_each}
+use Rattle.wkb_check.specs.Ordinates.{Axis, x_axis, axis_place, word_at, words_of_each}
 use Rattle.wkb_check.specs.Ordinates.{words_in}
 use Rattle.wkb_check.specs.Ordinates.{words_on, words_on_each, point_words_on}
 use Rattle.wkb_check.specs.Bounded.{on, nothing, HasGeometry, AreBounds}
@@ -44,8 +44,7 @@ no_words a buf p high = ap (words_in a p.dimension) (cond-false (nat_lt p.kind 3
 words_append : {A : Type 0} (f : A → List ℕ) (xs ys : List A)
     → words_of_each f (xs ++ ys) ≡ words_of_each f xs ++ words_of_each f ys
 words_append f [] ys = refl
-words_append f (x ∷ xs) ys =
-    ap (λ z. f x ++ z) (words_append f xs ys) ∙ sym (append_assoc (f x) (words_of_each f xs) (words_of_each f ys))
+words_append f (x ∷ xs) ys = simp (words_append f xs ys, append_assoc)
 
 -- ---- points
 
@@ -88,27 +87,19 @@ same_words a buf (p ∷ ps) (x ∷ xs) m =
     λ i. words_in a (m.0.dimension_is i) (m.0.coordinates_are i) ++ same_words a buf ps xs m.1 i
 same_words a buf _ _ m = absurd m
 
-rings_words : (a : Axis) (order : Endianness) (d : Dimension) (rings : List (List Coordinate)) (ss : Spellings)
-    → words_of_each (subject_words a) (subjects_of_rings order d rings ++ subjects_of_each ss no_members)
-    ≡ words_of_each (words_in a d) rings
-rings_words a order d [] no_spellings = refl
-rings_words a order d [] (spelling s ss) = refl
-rings_words a order d (cs ∷ rings) ss = ap (λ z. words_in a d cs ++ z) (rings_words a order d rings ss)
+rings_words : (a : Axis) (order : Endianness) (d : Dimension) (rings : List (List Coordinate))
+    → words_of_each (subject_words a) (subjects_of_rings order d rings ++ []) ≡ words_of_each (words_in a d) rings
+rings_words a order d [] = refl
+rings_words a order d (cs ∷ rings) = ap (λ z. words_in a d cs ++ z) (rings_words a order d rings)
 
 mutual
   value_words : (a : Axis) (s : Spelling) (t : Value) (x : List ℕ) → Spells s t x → (r : Range)
       → widened r (words_of_each (subject_words a) (subjects s t)) ≡ widened r (words_on a t)
   value_words a (node h words ss) (point d None) x sp r =
-      ap (λ z. widened r ((word_at (axis_place a d) words ++ []) ++ z)) (rings_words a h.order d [] ss)
-      ∙ ap (widened r) (append-nil (word_at (axis_place a d) words ++ []) ∙ append-nil (word_at (axis_place a d) words))
-      ∙ empty_words r (axis_place a d) words sp.second.first.0
-  value_words a (node h words ss) (point d (Some c)) x sp r =
-      ap (λ z. widened r ((word_at (axis_place a d) c ++ []) ++ z)) (rings_words a h.order d [] ss)
-      ∙ ap (widened r) (append-nil (word_at (axis_place a d) c ++ []) ∙ append-nil (word_at (axis_place a d) c))
-  value_words a (node h words ss) (line_string d cs) x sp r =
-      ap (λ z. widened r (words_in a d cs ++ z)) (rings_words a h.order d [] ss)
-      ∙ ap (widened r) (append-nil (words_in a d cs))
-  value_words a (node h words ss) (polygon d rings) x sp r = ap (widened r) (rings_words a h.order d rings ss)
+      simp append-nil (empty_words r (axis_place a d) words sp.second.first.0)
+  value_words a (node h words ss) (point d (Some c)) x sp r = simp append-nil
+  value_words a (node h words ss) (line_string d cs) x sp r = simp append-nil
+  value_words a (node h words ss) (polygon d rings) x sp r = ap (widened r) (rings_words a h.order d rings)
   value_words a (node h words ss) t x sp r =
       members_words a _ ss (members t) sp.second.rest sp.second.second r ∙ ap (widened r) (member_words a t refl)
 
@@ -117,14 +108,19 @@ mutual
       → widened r (words_of_each (subject_words a) (subjects_of_each ss ts)) ≡ widened r (words_on_each a ts)
   members_words a w no_spellings no_members x h r = refl
   members_words a w (spelling s ss) (member t ts) x h r =
-      let others = words_of_each (subject_words a) (subjects_of_each ss ts) in
-      ap (widened r) (words_append (subject_words a) (subjects s t) (subjects_of_each ss ts))
-      ∙ widened-append r (words_of_each (subject_words a) (subjects s t)) others
-      ∙ ap (λ q. widened q others) (value_words a s t h.front h.first.0 r)
-      ∙ members_words a w ss ts h.rest h.second (widened r (words_on a t))
-      ∙ sym (widened-append r (words_on a t) (words_on_each a ts))
-  members_words a w no_spellings (member t ts) x h r = absurd h
-  members_words a w (spelling s ss) no_members x h r = absurd h
+      simp (words_append, widened-append)
+      (ap (λ q. widened q (words_of_each (subject_words a) (subjects_of_each ss ts)))
+      (value_words a s t h.front h.first.0 r) ∙ members_words a w ss ts h.rest h.second (widened r (words_on a t)))
+  members_words a w _ _ x h r = absurd h
+
+-- the words of all pieces
+all_words : (a : Axis) (buf : List ℕ) (g : HasGeometry buf)
+    → widened no_numbers (words_of_each (piece_words a buf) (pieces_of 0 g.spelled g.value))
+    ≡ range_of (words_on a g.value)
+all_words a buf g =
+    ap (widened no_numbers)
+    (same_words a buf (pieces_of 0 g.spelled g.value) _ (pieces_match buf 0 g.spelled g.value g.begins))
+    ∙ value_words a g.spelled g.value g.begins.front g.begins.first no_numbers
 
 -- a geometry with coordinates is one piece, and its words are that piece's
 pub one_words : (a : Axis) (buf : List ℕ) (g : HasGeometry buf) (p : Piece) → p ≡ piece_of 0 g.spelled g.value
@@ -135,17 +131,13 @@ one_words a buf g p is low =
     ap (widened no_numbers) (sym (leaf_words a buf p low) ∙ sym (append-nil (piece_words a buf p)))
     ∙ ap (λ ps. widened no_numbers (words_of_each (piece_words a buf) ps))
     (sym (own_piece 0 g.spelled g.value ∙ (λ i. sym is i ∷ (leaf_of buf 0 0 g p is low).3 i)))
-    ∙ ap (widened no_numbers)
-    (same_words a buf (pieces_of 0 g.spelled g.value) _ (pieces_match buf 0 g.spelled g.value g.begins))
-    ∙ value_words a g.spelled g.value g.begins.front g.begins.first no_numbers
+    ∙ all_words a buf g
 
 -- ---- the loop over the pieces
 
 pub on_nothing : (a : Axis) → on a nothing ≡ no_numbers
 on_nothing x_axis = refl
-on_nothing y_axis = refl
-on_nothing z_axis = refl
-on_nothing m_axis = refl
+on_nothing _ = refl
 
 pub none_counted : (a : Axis) → (on a nothing).count ≡ 0
 none_counted a = ap (λ (r : Range). r.count) (on_nothing a)
@@ -154,19 +146,10 @@ none_counted a = ap (λ (r : Range). r.count) (on_nothing a)
 pub widened_push : (a : Axis) (buf : List ℕ) (r : Range) (ps : List Piece) (p : Piece) (q : Range)
     → q ≡ widened r (words_of_each (piece_words a buf) ps)
     → widened q (piece_words a buf p) ≡ widened r (words_of_each (piece_words a buf) (ps ++ p ∷ []))
-widened_push a buf r ps p q e =
-    ap (λ z. widened z (piece_words a buf p)) e
-    ∙ sym (widened-append r (words_of_each (piece_words a buf) ps) (piece_words a buf p))
-    ∙ ap (λ z. widened r (words_of_each (piece_words a buf) ps ++ z)) (sym (append-nil (piece_words a buf p)))
-    ∙ ap (widened r) (sym (words_append (piece_words a buf) ps (p ∷ [])))
+widened_push a buf r ps p q e = simp (e, words_append, append-nil, widened-append)
 
 -- all pieces
 pub all_widened : (buf : List ℕ) (b : Bounds) (ps : List Piece) (g : HasGeometry buf)
     → pieces_of 0 g.spelled g.value ≡ ps
     → ((a : Axis) → on a b ≡ widened (on a nothing) (words_of_each (piece_words a buf) ps)) → AreBounds b g.value
-all_widened buf b ps g all widens = λ a.
-    widens a ∙ ap (λ r. widened r (words_of_each (piece_words a buf) ps)) (on_nothing a)
-    ∙ ap (λ l. widened no_numbers (words_of_each (piece_words a buf) l)) (sym all)
-    ∙ ap (widened no_numbers)
-    (same_words a buf (pieces_of 0 g.spelled g.value) _ (pieces_match buf 0 g.spelled g.value g.begins))
-    ∙ value_words a g.spelled g.value g.begins.front g.begins.first no_numbers
+all_widened buf b ps g all widens = λ a. rw (widens a, on_nothing a, ← all) (all_words a buf g)

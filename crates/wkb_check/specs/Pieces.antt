@@ -57,8 +57,8 @@ abbrev mutual
   size (node h words ss) t = leading h t + content_size t + sizes ss (members t)
 
   pub sizes : Spellings → Values → ℕ
-  sizes no_spellings ts = 0
-  sizes (spelling s ss) no_members = 0
+  sizes ss no_members = 0
+  sizes no_spellings (member t ts) = 0
   sizes (spelling s ss) (member t ts) = size s t + sizes ss ts
 
 -- the coordinates of a piece end here, or its rings or members begin
@@ -113,9 +113,13 @@ abbrev mutual
       ++ pieces_of_each (at + leading h t) ss (members t))
 
   pub pieces_of_each : ℕ → Spellings → Values → List Piece
-  pieces_of_each at no_spellings ts = []
-  pieces_of_each at (spelling s ss) no_members = []
+  pieces_of_each at ss no_members = []
+  pieces_of_each at no_spellings (member t ts) = []
   pieces_of_each at (spelling s ss) (member t ts) = pieces_of at s t ++ pieces_of_each (at + size s t) ss ts
+
+-- all pieces of a geometry at the front of some bytes
+abbrev pub all_pieces : {bytes : List ℕ} → HasGeometry bytes → List Piece
+all_pieces g = pieces_of 0 g.spelled g.value
 
 -- These pieces are to come from this byte on, and no others: the rings of a polygon, and then geometries with all that
 -- is inside them.
@@ -149,6 +153,12 @@ pub record IsInside (buf : List ℕ) (from to : ℕ) (p : Piece) : Type 0 where
   pub begins : from < p.offset
   pub ends : to ≡ own_end p
   pub inside : to ≤ length buf
+
+-- this piece was taken: it is the first of whatever pieces were to come, and the bytes are the same
+pub record Takes (w now : Pieces) (p : Piece) : Type 0 where
+  pub steps : (xs : List Piece) → IsAhead w xs → IsTaken now xs p
+  pub inside : IsInside w.bytes.now w.at now.at p
+  pub same : now.bytes.now ≡ w.bytes.now
 
 -- the next of these pieces was taken, if there is one
 abbrev pub IsNext : Pieces → List Piece → Option Piece → Type 0

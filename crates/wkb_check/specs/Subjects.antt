@@ -50,6 +50,6 @@ abbrev mutual
       ∷ (subjects_of_rings h.order (dimension t) (rings_of t) ++ subjects_of_each ss (members t))
 
   pub subjects_of_each : Spellings → Values → List Subject
-  subjects_of_each no_spellings ts = []
-  subjects_of_each (spelling s ss) no_members = []
+  subjects_of_each ss no_members = []
+  subjects_of_each no_spellings (member t ts) = []
   subjects_of_each (spelling s ss) (member t ts) = subjects s t ++ subjects_of_each ss ts

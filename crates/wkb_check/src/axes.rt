@@ -1,11 +1,11 @@
 //! Ranges on all axes, while they are widened.
 
-ghost use Rattle.std.specs.Prelude.{◌≡◌, ◌+◌, ◌*◌, ◌^◌, ◌<◌, ◌≤◌, length};
+ghost use Rattle.std.specs.Prelude.{◌≡◌, ◌*◌, ◌≤◌, length};
 ghost use Rattle.wkb_geom.specs.Dimensions.{width};
 ghost use Rattle.wkb_geom.specs.Reading.{coordinates};
-ghost use Rattle.wkb_check.specs.Ranges.{widened, range_by};
+ghost use Rattle.wkb_check.specs.Ranges.{CanWiden, WidensRange};
 ghost use Rattle.wkb_check.specs.Ordinates.{column_words, axis_place, z_axis, m_axis};
-ghost use Rattle.wkb_check.specs.Bounded.{Adds, HasRoom, bounds_by};
+ghost use Rattle.wkb_check.specs.Bounded.{WidensBounds, HasRoom, bounds_by};
 ghost use Rattle.wkb_check.specs.Bounded.{nothing as no_bounds};
 
 use crate::range::{Bounds, Range, rest_from};
@@ -23,6 +23,7 @@ pub(crate) struct AxisRanks {
 }
 
 /// Widens the ranges of x and y by the first two words of each of `count` coordinates, which have `size` bytes each.
+#[tactic(auto, using(crate::proofs::Widening::column_laws))]
 #[inline(always)]
 fn widen_plane_in(
     x: &mut Ranks,
@@ -32,12 +33,10 @@ fn widen_plane_in(
     count: u32,
     bytes: &[u8],
 )
-    requires inside { 16 ≤ size }
-    requires whole { size * count ≤ length bytes.now }
-    requires room_of_x { x.old.count + count < 2 ^ 64 }
-    requires room_of_y { y.old.count + count < 2 ^ 64 }
-    ensures x { range_by x.new ≡ widened (range_by x.old) (column_words order size 0 count bytes.now) }
-    ensures y { range_by y.new ≡ widened (range_by y.old) (column_words order size 8 count bytes.now) }
+    requires x { CanWiden x.old size 0 count bytes.now }
+    requires y { CanWiden y.old size 8 count bytes.now }
+    ensures x { WidensRange x.old x.new (column_words order size 0 count bytes.now) }
+    ensures y { WidensRange y.old y.new (column_words order size 8 count bytes.now) }
 {
     let mut x_ranks = *x;
     let mut y_ranks = *y;
@@ -62,12 +61,10 @@ fn widen_plane(
     count: u32,
     bytes: &[u8],
 )
-    requires inside { 16 ≤ size }
-    requires whole { size * count ≤ length bytes.now }
-    requires room_of_x { x.old.count + count < 2 ^ 64 }
-    requires room_of_y { y.old.count + count < 2 ^ 64 }
-    ensures x { range_by x.new ≡ widened (range_by x.old) (column_words order size 0 count bytes.now) }
-    ensures y { range_by y.new ≡ widened (range_by y.old) (column_words order size 8 count bytes.now) }
+    requires x { CanWiden x.old size 0 count bytes.now }
+    requires y { CanWiden y.old size 8 count bytes.now }
+    ensures x { WidensRange x.old x.new (column_words order size 0 count bytes.now) }
+    ensures y { WidensRange y.old y.new (column_words order size 8 count bytes.now) }
 {
     match order {
         Endianness::BigEndian => widen_plane_in(x, y, Endianness::BigEndian, size, count, bytes),
@@ -139,8 +136,7 @@ impl AxisRanks {
     )
         requires whole { 8 * width dimension * count ≤ length bytes.now }
         requires room { HasRoom (bounds_by self.old) bytes.now }
-        ensures { Adds (bounds_by self.old) (bounds_by self.new) dimension
-            (coordinates order dimension count bytes.now) }
+        ensures { WidensBounds self.old self.new dimension (coordinates order dimension count bytes.now) }
     {
         let size = dimension.coordinate_size();
         widen_plane(&mut self.x, &mut self.y, order, size, count, bytes);

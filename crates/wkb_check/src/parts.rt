@@ -1,11 +1,9 @@
 //! The table of a geometry's parts.
 
 ghost use Rattle.std.specs.Prelude.{◌≡◌, ◌+◌, ◌≤◌, length, drop};
-ghost use lib.Seq.{sets};
 ghost use Rattle.wkb_geom.specs.Codes.{thousands};
 ghost use Rattle.wkb_geom.specs.Dimensions.{width};
-ghost use Rattle.wkb_check.specs.Tables.{entry_of, HasRingsFrom, size_of_rings_from, entries_of_rings_from};
-ghost use Rattle.wkb_check.specs.Tables.{FitGeometries, OfGeometries, PutsGeometries};
+ghost use Rattle.wkb_check.specs.Tables.{entry_of, HasRingsFrom, PutsRings, FitGeometries, PutsFrom};
 
 use crate::pieces::Piece;
 use wkb_geom::Dimension;
@@ -81,9 +79,7 @@ pub struct PartPlace {
 pub fn put_rings(buf: &[u8], polygon: &Piece, parts: &mut [Part], start: PartPlace) -> PartPlace
     requires whole { HasRingsFrom buf.now polygon.now start.byte }
     requires room { start.index + polygon.now.count ≤ length parts.old }
-    ensures put { parts.new ≡ sets parts.old start.index (entries_of_rings_from buf.now polygon.now start) }
-    ensures index { result.index ≡ start.index + polygon.now.count }
-    ensures byte { result.byte ≡ start.byte + size_of_rings_from buf.now polygon.now start.byte }
+    ensures { PutsRings buf.now polygon.now parts.old parts.new start result }
 {
     let mut at = start;
     for _ in 0..polygon.count {
@@ -102,8 +98,7 @@ pub fn put_rings(buf: &[u8], polygon: &Piece, parts: &mut [Part], start: PartPla
 #[cycle(table)]
 pub fn put_geometries(buf: &[u8], count: u32, parts: &mut [Part], start: PartPlace) -> PartPlace
     requires fit { FitGeometries count (drop start.byte buf.now) start.index (length parts.old) }
-    ensures { OfGeometries count (drop start.byte buf.now)
-        (PutsGeometries parts.old parts.new start result) }
+    ensures { PutsFrom buf.now count parts.old parts.new start result }
 {
     let mut at = start;
     for _ in 0..count {

@@ -1,11 +1,11 @@
 //! The pieces of a geometry that is known to be there, in preorder: itself, and its rings and members at every level.
 
-ghost use Rattle.std.specs.Prelude.{◌≡◌, ◌+◌, ◌≤◌, ◌<◌, ◌^◌, length, drop, List, IfSome, None, nat_lt};
+ghost use Rattle.std.specs.Prelude.{◌≡◌, ◌+◌, ◌≤◌, ◌<◌, ◌^◌, length, drop, IfSome, None, nat_lt};
 ghost use Rattle.std.specs.Iterator.{at_most};
 ghost use Rattle.wkb_geom.specs.Numbers.{number};
 ghost use Rattle.wkb_check.specs.Bounded.{HasGeometry};
-ghost use Rattle.wkb_check.specs.Pieces.{own_end, ring_piece, pieces_of, IsPieceAt, IsHeaderAt, IsAhead, HasAhead};
-ghost use Rattle.wkb_check.specs.Pieces.{IsTaken, IsInside, Steps, bytes_left};
+ghost use Rattle.wkb_check.specs.Pieces.{own_end, ring_piece, all_pieces, IsPieceAt, IsHeaderAt, IsAhead, HasAhead};
+ghost use Rattle.wkb_check.specs.Pieces.{IsTaken, IsInside, Takes, Steps, bytes_left};
 ghost use Rattle.wkb_check.specs.Public.{DescribesFront};
 
 use crate::answer::Summary;
@@ -156,7 +156,7 @@ impl<'a> Pieces<'a> {
     #[inline(always)]
     pub fn of(bytes: &'a [u8]) -> Pieces<'a>
         requires here { HasGeometry bytes.now }
-        ensures ahead { (g : HasGeometry bytes.now) → IsAhead result (pieces_of 0 g.spelled g.value) }
+        ensures ahead { (g : HasGeometry bytes.now) → IsAhead result (all_pieces g) }
         ensures begins { result.at ≡ 0 }
         ensures rings { result.rings ≡ 0 }
         ensures geometries { result.geometries ≡ 1 }
@@ -177,8 +177,7 @@ impl<'a> Pieces<'a> {
     pub fn behind(bytes: &'a [u8], first: &Piece) -> Pieces<'a>
         requires here { HasGeometry bytes.now }
         requires first { IsPieceAt bytes.now 0 first.now }
-        ensures steps { (g : HasGeometry bytes.now)
-            → IsTaken result (pieces_of 0 g.spelled g.value) first.now }
+        ensures steps { (g : HasGeometry bytes.now) → IsTaken result (all_pieces g) first.now }
         ensures inside { IsInside bytes.now 0 result.at first.now }
         ensures same { result.bytes.now ≡ bytes.now }
     {
@@ -192,9 +191,7 @@ impl<'a> Pieces<'a> {
     fn next_ring(&mut self) -> Piece
         requires ahead { HasAhead self.old }
         requires some { 0 < self.old.rings }
-        ensures steps { (xs : List Piece) → IsAhead self.old xs → IsTaken self.new xs result }
-        ensures inside { IsInside self.old.bytes.now self.old.at self.new.at result }
-        ensures same { self.new.bytes.now ≡ self.old.bytes.now }
+        ensures { Takes self.old self.new result }
     {
         let piece = Piece::of_ring(self.bytes, self.at, self.order, self.dimension);
         self.rings -= 1;
@@ -209,9 +206,7 @@ impl<'a> Pieces<'a> {
         requires no_ring { self.old.rings ≡ 0 }
         requires some { 0 < self.old.geometries }
         requires piece { IsPieceAt self.old.bytes.now self.old.at piece.now }
-        ensures steps { (xs : List Piece) → IsAhead self.old xs → IsTaken self.new xs piece.now }
-        ensures inside { IsInside self.old.bytes.now self.old.at self.new.at piece.now }
-        ensures same { self.new.bytes.now ≡ self.old.bytes.now }
+        ensures { Takes self.old self.new piece.now }
     {
         self.geometries -= 1;
         self.at = piece.end();
@@ -230,9 +225,7 @@ impl<'a> Pieces<'a> {
         requires ahead { HasAhead self.old }
         requires no_ring { self.old.rings ≡ 0 }
         requires some { 0 < self.old.geometries }
-        ensures steps { (xs : List Piece) → IsAhead self.old xs → IsTaken self.new xs result }
-        ensures inside { IsInside self.old.bytes.now self.old.at self.new.at result }
-        ensures same { self.new.bytes.now ≡ self.old.bytes.now }
+        ensures { Takes self.old self.new result }
     {
         let piece = Piece::of_geometry(self.bytes, self.at);
         self.pass_geometry(&piece);
@@ -245,8 +238,7 @@ impl<'a> Pieces<'a> {
     #[inline(always)]
     pub fn next_bare(&mut self, order: Endianness) -> Option<Piece>
         requires ahead { HasAhead self.old }
-        ensures steps { IfSome result (λ p. (xs : List Piece) → IsAhead self.old xs → IsTaken self.new xs p) }
-        ensures inside { IfSome result (λ p. IsInside self.old.bytes.now self.old.at self.new.at p) }
+        ensures takes { IfSome result (Takes self.old self.new) }
         ensures further { IfSome result (λ p. self.old.at < self.new.at) }
         ensures same { self.new.bytes.now ≡ self.old.bytes.now }
         ensures stays { result ≡ None → self.new ≡ self.old }

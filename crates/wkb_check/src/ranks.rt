@@ -2,9 +2,9 @@
 
 ghost use Rattle.std.specs.Prelude.{◌≡◌, ◌+◌, ◌*◌, ◌<◌, ◌≤◌, ◌^◌, length, IfSome};
 ghost use Rattle.wkb_geom.specs.Dimensions.{width};
-ghost use Rattle.wkb_geom.specs.Reading.{coordinates};
-ghost use Rattle.wkb_check.specs.Ranges.{rank as rank_of, word_of as word_by, range_by, with_word, WidensRange};
-ghost use Rattle.wkb_check.specs.Ordinates.{column_words, words_at};
+ghost use Rattle.wkb_check.specs.Ranges.{rank as rank_of, word_of as word_by, range_by, with_word};
+ghost use Rattle.wkb_check.specs.Ranges.{CanWiden, WidensRange};
+ghost use Rattle.wkb_check.specs.Ordinates.{column_words, place_words};
 
 use crate::range::{Range, rest_from};
 use wkb_geom::words::{WORD_SIZE, is_nan, u64_at};
@@ -82,11 +82,10 @@ impl Ranks {
     }
 
     /// Widens the range by the word at offset `at` of each of `count` coordinates, which have `size` bytes each.
+    #[tactic(auto, using(crate::proofs::Widening::column_laws))]
     #[inline(always)]
     fn widen_in(&mut self, order: Endianness, size: usize, at: usize, count: u32, bytes: &[u8])
-        requires inside { at + 8 ≤ size }
-        requires whole { size * count ≤ length bytes.now }
-        requires room { self.old.count + count < 2 ^ 64 }
+        requires { CanWiden self.old size at count bytes.now }
         ensures { WidensRange self.old self.new (column_words order size at count bytes.now) }
     {
         let mut ranks = *self;
@@ -102,9 +101,7 @@ impl Ranks {
     /// counters stay in registers.
     #[inline(never)]
     fn widen(&mut self, order: Endianness, size: usize, at: usize, count: u32, bytes: &[u8])
-        requires inside { at + 8 ≤ size }
-        requires whole { size * count ≤ length bytes.now }
-        requires room { self.old.count + count < 2 ^ 64 }
+        requires { CanWiden self.old size at count bytes.now }
         ensures { WidensRange self.old self.new (column_words order size at count bytes.now) }
     {
         match order {
@@ -128,8 +125,7 @@ impl Ranks {
         requires place { IfSome place (λ k. k < width dimension) }
         requires whole { 8 * width dimension * count ≤ length bytes.now }
         requires room { self.old.count + length bytes.now < 2 ^ 64 }
-        ensures { WidensRange self.old self.new
-            (words_at place (coordinates order dimension count bytes.now)) }
+        ensures { WidensRange self.old self.new (place_words place order dimension count bytes.now) }
     {
         if let Some(word) = place {
             let size = dimension.coordinate_size();

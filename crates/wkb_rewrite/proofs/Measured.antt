@@ -48,8 +48,7 @@ mutual
 
   each_counted : (at : ℕ) (w : Wanted) (ss : Spellings) (ts : Values) (x : List ℕ) → SpellsEach w ss ts x
       → srid_sizes (pieces_of_each at ss ts) ≡ 4 * srid_count_each ss
-  each_counted at w no_spellings ts x a = refl
-  each_counted at w (spelling s ss) no_members x a = absurd a
+  each_counted at w no_spellings no_members x a = refl
   each_counted at w (spelling s ss) (member t ts) x a =
       omega (
         arith,
@@ -57,6 +56,7 @@ mutual
         srids_counted at s t a.front a.first.0,
         each_counted (at + size s t) w ss ts a.rest a.second,
       )
+  each_counted at w _ _ x a = absurd a
 
 -- up to multi points only the outermost geometry can have one
 none_inside : (h : Header) (words : List ℕ) (ss : Spellings) (t : Value) (x : List ℕ) → Spells (node h words ss) t x

@@ -7,7 +7,7 @@ use Rattle.std.proofs.lemmas.List.{map-append}
 use Rattle.std.specs.List.{concat}
 use Rattle.wkb_laws.specs.Prelude.{Endianness, Dimension, Coordinate, Value, Values, member, dimension, point, members}
 use Rattle.wkb_laws.specs.Prelude.{width, all_nan, empty_word, number, Begins, coordinates, Spelling, node, Spellings}
-use Rattle.wkb_laws.specs.Prelude.{spelling, Spells}
+use Rattle.wkb_laws.specs.Prelude.{no_spellings, spelling, no_members, Spells}
 unfoldable use Rattle.wkb_laws.specs.Prelude.{point_words}
 use Rattle.wkb_geom.specs.Reading.{items}
 use Rattle.wkb_check.specs.declared.pieces.Piece.{Piece}
@@ -76,8 +76,10 @@ mutual
       simp (map-append, rings_shares h.order (dimension t) (rings_of t), each_shares ss (members t))
 
   each_shares : (ss : Spellings) (ts : Values) → map share_of (subjects_of_each ss ts) ≡ shares_of_each ss ts
+  each_shares no_spellings no_members = refl
+  each_shares no_spellings (member t ts) = refl
+  each_shares (spelling s ss) no_members = refl
   each_shares (spelling s ss) (member t ts) = simp (map-append, value_shares s t, each_shares ss ts)
-  each_shares _ _ = refl
 
 pub pieces_say : (buf : List ℕ) (at : ℕ) (s : Spelling) (t : Value) (rest : List ℕ)
     → Begins (Spells s t) (drop at buf) rest → map (share_in buf) (pieces_of at s t) ≡ shares_of s t

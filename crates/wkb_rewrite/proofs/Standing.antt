@@ -13,7 +13,7 @@ use Rattle.wkb_check.specs.declared.pieces.Piece.{Piece}
 use Rattle.wkb_check.specs.Bounded.{HasGeometry}
 use Rattle.wkb_check.specs.Pieces.{own_end, count_of, piece_of, pieces_of_each, ring_piece, size, Ahead}
 use Rattle.wkb_check.proofs.Ahead.{says, begins_inside}
-use Rattle.wkb_check.proofs.Placing.{own_piece, inner_pieces, first_one}
+use Rattle.wkb_check.proofs.Placing.{own_piece, inner_pieces, first_one, of_first}
 use Rattle.wkb_check.proofs.Following.{none_ahead}
 use Rattle.wkb_check.proofs.Public.{geometry_opens}
 use Rattle.wkb_rewrite.specs.Shares.{share_in, share_encoding, words_part, count_part, header_part, is_empty_point}
@@ -133,7 +133,7 @@ module _ {buf : List ℕ} (b : AreBytes buf) where
       let g = f.geometry in
       let others = pieces_of_each (a.after + size g.spelled g.value) f.others.spelled f.others.values in
       let first : p ∷ ps ≡ piece_of a.after g.spelled g.value ∷ (inner_pieces a.after g.spelled g.value ++ others) =
-      a.are ∙ f.pieces a.after ∙ ap (λ qs. qs ++ others) (own_piece a.after g.spelled g.value) in
+      a.are ∙ of_first (pieces_of_each a.after) f ∙ ap (λ qs. qs ++ others) (own_piece a.after g.spelled g.value) in
       let is : p ≡ piece_of a.after g.spelled g.value = cc in
       geometry (rw is (subst (λ k. IsGeometry buf k (piece_of a.after g.spelled g.value)) (omega (arith, a.after_is))
       (geometry_there a.after g)))

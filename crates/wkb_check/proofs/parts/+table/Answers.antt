@@ -1,10 +1,13 @@
 use Rattle.std.proofs.Common.{◌+◌, refl, sym, ap, ◌∙◌, arith}
 use lib.Seq.{sets}
-use Rattle.wkb_check.specs.Tables.{entries_of_rings_from, size_of_rings_from}
+use Rattle.wkb_geom.specs.declared.common.Dimension.TheVariants.{Xy}
+use Rattle.wkb_geom.specs.declared.common.Endianness.TheVariants.{BigEndian}
+use Rattle.wkb_check.specs.Pieces.{sizes}
+use Rattle.wkb_check.specs.Tables.{member_entries, entry_counts}
 use Rattle.wkb_check.specs.declared.parts.PartPlace.{PartPlace}
-use Rattle.wkb_check.proofs.Filling.{left_first, left_next, here, none_left}
-use Rattle.wkb_check.proofs.Placing.{geometry_inside, onward, leaf_of, rings_inside}
-use Rattle.wkb_check.proofs.Placing.{members_inside, members_at, item_by}
+use Rattle.wkb_check.proofs.Filling.{left_first, left_next, here}
+use Rattle.wkb_check.proofs.Placing.{geometry_inside, onward, leaf_of, rings_inside, members_inside, rings_alone}
+use Rattle.wkb_check.proofs.Placing.{item_put, none_of}
 use Rattle.wkb_check.proofs.parts.+table.Goals as goal
 use Rattle.wkb_check.proofs.parts.+table.Goals.{then-has_coordinates, else-has_coordinates+then-piece-eq-POLYGON}
 use Rattle.wkb_check.proofs.parts.+table.Goals.{else-has_coordinates+else-piece-eq-POLYGON}
@@ -34,9 +37,8 @@ end-requires t c =
 pub put_rings-requires-clause-whole : goal.put_rings-requires-clause-whole
 put_rings-requires-clause-whole t c =
     let h = here (c.loop.invariant _ c.requires.fit.all) (omega (arith, c.loop-test.true)) c.requires.fit.fit in
-    rw c.end.ensures
     (rings_inside c.args.buf.now c.loop.at.byte c.loop.at.index h.geometry c.of_geometry-piece.result
-    (c.of_geometry-piece.ensures h.geometry) c.if-piece-eq-POLYGON.true).whole
+    (c.of_geometry-piece.ensures h.geometry) c.end.result c.end.ensures c.if-piece-eq-POLYGON.true).whole
 
 pub put_rings-requires-clause-room : goal.put_rings-requires-clause-room
 put_rings-requires-clause-room t c =
@@ -44,8 +46,8 @@ put_rings-requires-clause-room t c =
     omega (
       arith,
       h.room,
-      (rings_inside c.args.buf.now c.loop.at.byte c.loop.at.index h.geometry
-          c.of_geometry-piece.result (c.of_geometry-piece.ensures h.geometry) c.if-piece-eq-POLYGON.true).counts,
+      (rings_inside c.args.buf.now c.loop.at.byte c.loop.at.index h.geometry c.of_geometry-piece.result
+          (c.of_geometry-piece.ensures h.geometry) c.end.result c.end.ensures c.if-piece-eq-POLYGON.true).counts,
     )
 
 pub put_geometries-requires : goal.put_geometries-requires
@@ -56,9 +58,10 @@ put_geometries-requires t c =
     let inside = geometry_inside c.args.buf.now c.loop.at.byte c.end.result h.geometry c.of_geometry-piece.result is
     c.end.ensures in
     let m = members_inside c.args.buf.now c.loop.at.byte c.loop.at.index h.geometry c.of_geometry-piece.result is
-    (sym c.has_coordinates.ensures ∙ c.if-has_coordinates.false) c.if-piece-eq-POLYGON.false in (
+    c.end.result c.end.ensures (sym c.has_coordinates.ensures ∙ c.if-has_coordinates.false)
+    c.if-piece-eq-POLYGON.false BigEndian Xy in (
       omega (arith, c.decreases, l.onward, inside.inside, onward _ _ _ c.of_geometry-piece.result inside),
-      rw c.end.ensures (record { more = h.geometry.rest; all = m.all; fit = omega (arith, h.room, m.counts) }),
+      record { more = h.geometry.rest; all = m.all; fit = omega (arith, h.room, m.counts) },
     )
 
 pub offset_bounds-parts-at : goal.offset_bounds-parts-at
@@ -76,69 +79,43 @@ loop-preserved t c = λ more all.
     left_next (c.loop.invariant more all) (omega (arith, c.loop-test.true)) c.if-has_coordinates.next.index
     c.if-has_coordinates.next.byte _
     (λ g.
+    let buf = c.args.buf.now in
+    let at = c.loop.at in
+    let p = c.of_geometry-piece.result in
     let is = c.of_geometry-piece.ensures g in
-    item_by c.args.buf.now c.loop.at.byte c.loop.at.index g c.of_geometry-piece.result is c.loop.parts
-    c.if-has_coordinates.parts c.if-has_coordinates.next.index c.if-has_coordinates.next.byte c.of.result
-    (elim c.if-has_coordinates.branch [
+    elim c.if-has_coordinates.branch [
       | then-has_coordinates w ↦
-          let l = leaf_of c.args.buf.now c.loop.at.byte c.loop.at.index g c.of_geometry-piece.result is
-          (sym c.has_coordinates.ensures ∙ w.if-has_coordinates.true) in
-          record {
-            put = w.parts-is ∙ ap (sets c.loop.parts (c.loop.at.index + 1)) (sym l.2);
-            next_is = omega (arith, ap (λ (p : PartPlace). p.index) w.next-is, l.1);
-            to_is = ap (λ (p : PartPlace). p.byte) w.next-is ∙ c.end.ensures ∙ l.0;
-          }
+          let l = leaf_of buf at.byte at.index g p is (sym c.has_coordinates.ensures ∙ w.if-has_coordinates.true) in
+          item_put at.index at.byte _ _ p is c.loop.parts _ _ _ c.of.result
+          (w.parts-is ∙ ap (sets c.loop.parts (at.index + 1)) (sym l.2))
+          (omega (arith, ap (λ (p : PartPlace). p.index) w.next-is, l.1))
+          (omega (arith, ap (λ (p : PartPlace). p.byte) w.next-is, c.end.ensures, l.0)) c.of.ensures
       | else-has_coordinates+then-piece-eq-POLYGON w ↦
-          let q = c.of_geometry-piece.result in
-          let r = rings_inside c.args.buf.now c.loop.at.byte c.loop.at.index g q is w.if-piece-eq-POLYGON.true in
-          record {
-            put =
-                w.parts-is ∙ w.put_rings.ensures.put
-                ∙ (λ i. sets c.loop.parts (c.loop.at.index + 1)
-                (entries_of_rings_from c.args.buf.now q
-                (record { index = c.loop.at.index + 1; byte = c.end.ensures i })))
-                ∙ ap (sets c.loop.parts (c.loop.at.index + 1)) r.entries;
-            next_is = omega (arith, ap (λ (p : PartPlace). p.index) w.next-is, w.put_rings.ensures.index, r.counts);
-            to_is =
-                omega (
-                  arith,
-                  ap (λ (p : PartPlace). p.byte) w.next-is,
-                  w.put_rings.ensures.byte,
-                  r.long,
-                  c.end.ensures,
-                  ap (size_of_rings_from c.args.buf.now q) c.end.ensures,
-                );
-          }
+          let r = rings_alone (rings_inside buf at.byte at.index g p is _ c.end.ensures w.if-piece-eq-POLYGON.true) in
+          let puts = w.put_rings.ensures in
+          item_put at.index at.byte _ _ p is c.loop.parts _ _ _ c.of.result
+          (w.parts-is ∙ puts.put ∙ ap (sets c.loop.parts (at.index + 1)) r.0)
+          (omega (arith, ap (λ (p : PartPlace). p.index) w.next-is, puts.index, r.1))
+          (omega (arith, ap (λ (p : PartPlace). p.byte) w.next-is, puts.byte, r.2)) c.of.ensures
       | else-has_coordinates+else-piece-eq-POLYGON w ↦
-          let q = c.of_geometry-piece.result in
-          let m = members_at c.args.buf.now c.loop.at.byte c.loop.at.index g.spelled g.value g.rest q c.end.result
-          c.end.ensures
-          (members_inside c.args.buf.now c.loop.at.byte c.loop.at.index g q is
-          (sym c.has_coordinates.ensures ∙ w.if-has_coordinates.false) w.if-piece-eq-POLYGON.false) in
+          let m = members_inside buf at.byte at.index g p is _ c.end.ensures
+          (sym c.has_coordinates.ensures ∙ w.if-has_coordinates.false) w.if-piece-eq-POLYGON.false BigEndian Xy in
           let puts = w.put_geometries.ensures g.rest m.all in
-          record {
-            put =
-                w.parts-is ∙ puts.put
-                ∙ ap (sets c.loop.parts (c.loop.at.index + 1)) m.entries;
-            next_is =
-                omega (
-                  arith,
-                  ap (λ (p : PartPlace). p.index) w.next-is,
-                  puts.index,
-                  m.counts,
-                );
-            to_is =
-                omega (arith, ap (λ (p : PartPlace). p.byte) w.next-is, puts.byte, m.long);
-          }
+          item_put at.index at.byte _ _ p is c.loop.parts _ _ _ c.of.result
+          (w.parts-is ∙ puts.put ∙ ap (sets c.loop.parts (at.index + 1)) m.entries)
+          (omega (arith, ap (λ (p : PartPlace). p.index) w.next-is, puts.index, m.counts))
+          (omega (arith, ap (λ (p : PartPlace). p.byte) w.next-is, puts.byte, m.long)) c.of.ensures
     ])
-    c.of.ensures)
 
 pub returns : goal.returns
 returns t c = λ more all.
     let l = c.loop.invariant more all in
-    let none = none_left _ _ _ l.to_come (omega (arith, c.loop-test.false)) in
+    let left = l.to_come.spelled in
+    let none = none_of l.to_come.values (omega (arith, l.to_come.counted, c.loop-test.false)) in
     record {
-      put = ap (sets c.loop.parts c.loop.at.index) (sym (none.2 c.loop.at.index c.loop.at.byte)) ∙ l.put;
-      index = omega (arith, l.indices, none.0);
-      byte = omega (arith, l.bytes, none.1);
+      put =
+          ap (λ ts. sets c.loop.parts c.loop.at.index (member_entries c.loop.at.index c.loop.at.byte left ts))
+          (sym none) ∙ l.put;
+      index = omega (arith, l.indices, ap (entry_counts left) none);
+      byte = omega (arith, l.bytes, ap (sizes left) none);
     }

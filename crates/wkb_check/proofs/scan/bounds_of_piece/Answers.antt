@@ -1,8 +1,4 @@
-use Rattle.std.proofs.Common.{length, length-drop, ap, ◌∙◌, arith, refl}
-use Rattle.wkb_geom.specs.Reading.{coordinates}
-use Rattle.wkb_check.specs.Bounded.{on}
-use Rattle.wkb_check.specs.Ordinates.{words_in}
-use Rattle.wkb_check.specs.Ranges.{widened}
+use Rattle.std.proofs.Common.{length, length-drop, ap, arith, refl}
 use Rattle.wkb_check.proofs.Placing.{geometry_inside}
 use Rattle.wkb_check.proofs.Words.{one_words, on_nothing, none_counted, leaf_end}
 use Rattle.wkb_check.proofs.scan.bounds_of_piece.Goals as goal
@@ -31,8 +27,5 @@ widen-requires-clause-room c = λ a. rw c.empty-ranks.ensures (omega (arith, non
 
 pub returns : goal.returns
 returns c = λ g a.
-    let p = c.args.only.now in
-    ap (on a) c.bounds.ensures ∙ c.widen.ensures a
-    ∙ (λ i. widened ((ap (on a) c.empty-ranks.ensures ∙ on_nothing a) i)
-    (words_in a p.dimension (coordinates p.order p.dimension p.count (c.rest_from-bytes.ensures i))))
-    ∙ one_words a c.args.buf.now g p (c.requires.only g) c.requires.low
+    rw (c.bounds.ensures, c.widen.ensures a, c.empty-ranks.ensures, on_nothing a, c.rest_from-bytes.ensures)
+    (one_words a c.args.buf.now g c.args.only.now (c.requires.only g) c.requires.low)

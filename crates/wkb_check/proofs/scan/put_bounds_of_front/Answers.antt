@@ -1,13 +1,12 @@
 use Rattle.std.proofs.Common.{length, ap, sym, ◌∙◌, subst, arith}
-use Rattle.wkb_geom.specs.Reading.{coordinates}
-use Rattle.wkb_check.specs.Ordinates.{words_in}
 use Rattle.wkb_check.specs.Pieces.{HasAhead, IsAhead, pieces_of}
 use Rattle.wkb_check.specs.declared.pieces.Pieces.{Pieces}
 use Rattle.wkb_check.specs.Ranges.{widened}
 use Rattle.wkb_check.specs.Bounded.{on, bounds_by, nothing, AreBounds}
 use Rattle.wkb_check.proofs.Following.{all_given}
 use Rattle.wkb_check.proofs.Words.{widened_push, all_widened, none_counted, leaf_words, leaf_end, no_words}
-use Rattle.wkb_check.proofs.Widening.{counts_more, few}
+use Rattle.wkb_check.proofs.Leaves.{wide}
+use Rattle.wkb_check.proofs.Widening.{counts_more}
 use Rattle.wkb_check.proofs.scan.put_bounds_of_front.Goals as goal
 
 pub loop-piece-init-derived : goal.loop-piece-init-derived
@@ -38,11 +37,8 @@ loop-piece-preserved-then-has_coordinates c =
       can = c.in-Some.ensures.goes.keeps;
       finite = tt;
       widened = λ a.
-          c.widen.ensures a
-          ∙ ap (λ z. widened (on a (bounds_by c.loop-piece.ranks))
-          (words_in a p.dimension (coordinates p.order p.dimension p.count z))) c.rest_from-bytes.ensures
-          ∙ ap (widened (on a (bounds_by c.loop-piece.ranks))) (sym (leaf_words a c.args.buf.now p leaf))
-          ∙ widened_push a c.args.buf.now (on a nothing) c.loop-piece.yielded p _ (c.loop-piece.invariant.widened a);
+          rw (c.widen.ensures a, c.rest_from-bytes.ensures, ← leaf_words a c.args.buf.now p leaf)
+          (widened_push a c.args.buf.now (on a nothing) c.loop-piece.yielded p _ (c.loop-piece.invariant.widened a));
       same = s.same ∙ c.loop-piece.invariant.same;
       few = λ a.
           omega (
@@ -53,7 +49,7 @@ loop-piece-preserved-then-has_coordinates c =
             s.inside.begins,
             s.inside.ends,
             leaf_end p leaf,
-            few p.dimension p.count,
+            wide p.dimension p.count,
           );
       inside = omega (arith, s.inside.inside, ap length c.loop-piece.invariant.same);
     }

@@ -9,7 +9,7 @@ pub stands_as_written-requires-clause-header : goal.stands_as_written-requires-c
 stands_as_written-requires-clause-header c =
     let ahead = c.requires.ahead in
     there_header (taken_there c.args.pieces.now (λ i. (c.type_inv.buf i).fits) c.requires.here ahead.are
-    (c.in-Some.ensures.steps ahead.pieces ahead.are))
+    (c.in-Some.ensures.takes.steps ahead.pieces ahead.are))
 
 pub stands_as_written-requires-2-clause-header : goal.stands_as_written-requires-2-clause-header
 stands_as_written-requires-2-clause-header c =

@@ -1,7 +1,5 @@
-use Rattle.std.proofs.Common.{◌≡◌, length, drop, sym, ap, ◌∙◌, arith, Ok}
+use Rattle.std.proofs.Common.{◌≡◌, drop, sym, ap, ◌∙◌, arith, Ok}
 unfoldable use Rattle.wkb_geom.specs.Reading.{head_at}
-use Rattle.wkb_geom.specs.Reading.{body_start, srid_in}
-use Rattle.wkb_geom.specs.declared.header.Layout.{Layout}
 use Rattle.wkb_check.proofs.Ahead.{says, read_header, begins_inside}
 use Rattle.wkb_check.proofs.Bodies.{always_header}
 use Rattle.wkb_check.proofs.pieces.Piece.of_geometry.Goals as goal
@@ -21,24 +19,12 @@ unreachable-requires c =
 pub srid-srid-requires : goal.srid-srid-requires
 srid-srid-requires c =
     let g = c.requires.here in
-    let head = head_is (goal.at.srid-srid-requires c).After-layout-layout in
-    omega (
-      arith,
-      ap (λ (l : Layout). body_start l.has_srid) c.layout-layout.ensures,
-      (says (drop c.args.begin c.args.bytes.now) g.spelled g.value g.rest g.begins c.in-Ok.header head).long,
-      ap length c.rest_from-from.ensures,
-    )
+    rw (c.layout-layout.ensures, c.rest_from-from.ensures)
+    (says (drop c.args.begin c.args.bytes.now) g.spelled g.value g.rest g.begins c.in-Ok.header
+    (head_is (goal.at.srid-srid-requires c).After-layout-layout)).long
 
 pub of_header-requires-clause-header : goal.of_header-requires-clause-header
 of_header-requires-clause-header c = λ g.
-    let head = head_is (goal.at.of_header-requires-clause-header c).After-layout-layout in
-    let read = read_header c.args.bytes.now c.args.begin g c.in-Ok.header head in
-    let layout_is = c.layout-layout.ensures in
-    record {
-      kind_is = c.kind-kind.ensures ∙ read.kind_is;
-      dimension_is = ap (λ (l : Layout). l.dimension) layout_is ∙ read.dimension_is;
-      order_is = ap (λ (l : Layout). l.order) layout_is ∙ read.order_is;
-      srid_is = c.srid-srid.ensures
-          ∙ (λ i. srid_in (layout_is i).order (layout_is i).has_srid (c.rest_from-from.ensures i))
-          ∙ read.srid_is;
-    }
+    rw (c.kind-kind.ensures, c.srid-srid.ensures, c.layout-layout.ensures, c.rest_from-from.ensures)
+    (read_header c.args.bytes.now c.args.begin g c.in-Ok.header
+    (head_is (goal.at.of_header-requires-clause-header c).After-layout-layout))

@@ -4,13 +4,11 @@ use Rattle.wkb_check.proofs.pieces.PiecesIterator.next.Goals as goal
 
 pub returns-then-self-gt0-clause-goes : goal.returns-then-self-gt0-clause-goes
 returns-then-self-gt0-clause-goes c =
-    goes c.args.self.now c.next_ring.new.self c.next_ring.result c.requires c.next_ring.ensures.steps
-    c.next_ring.ensures.inside c.next_ring.ensures.same
+    goes c.args.self.now c.next_ring.new.self c.next_ring.result c.requires c.next_ring.ensures
 
 pub returns-then-self-gt0-2-clause-goes : goal.returns-then-self-gt0-2-clause-goes
 returns-then-self-gt0-2-clause-goes c =
-    goes c.args.self.now c.next_geometry.new.self c.next_geometry.result c.requires c.next_geometry.ensures.steps
-    c.next_geometry.ensures.inside c.next_geometry.ensures.same
+    goes c.args.self.now c.next_geometry.new.self c.next_geometry.result c.requires c.next_geometry.ensures
 
 pub returns-else-self-gt0-2-clause-steps : goal.returns-else-self-gt0-2-clause-steps
 returns-else-self-gt0-2-clause-steps c = record {

@@ -1,23 +1,13 @@
-use Rattle.std.proofs.Common.{arith, ◌∙◌, ap}
+use Rattle.std.proofs.Common.{◌∙◌, ap}
 use Rattle.wkb_geom.specs.Reading.{coordinates}
 use Rattle.wkb_check.specs.Ranges.{widened, range_by}
-use Rattle.wkb_check.proofs.Widening.{ordinates_are, no_ordinates, few, place_is}
+use Rattle.wkb_check.proofs.Widening.{can_widen, ordinates_are, no_ordinates, place_is}
 use Rattle.wkb_check.proofs.ranks.Ranks.widen_at.Goals as goal
 
-pub widen-requires-clause-inside : goal.widen-requires-clause-inside
-widen-requires-clause-inside c =
-    omega (
-      arith,
-      place_is c.args.dimension c.args.place _ c.in-Some.is c.requires.place,
-      c.coordinate_size-size.ensures,
-    )
-
-pub widen-requires-clause-whole : goal.widen-requires-clause-whole
-widen-requires-clause-whole c = rw c.coordinate_size-size.ensures c.requires.whole
-
-pub widen-requires-clause-room : goal.widen-requires-clause-room
-widen-requires-clause-room c =
-    omega (arith, c.requires.room, c.requires.whole, few c.args.dimension c.args.count)
+pub widen-requires : goal.widen-requires
+widen-requires c =
+    can_widen c.args.dimension _ (place_is c.args.dimension c.args.place _ c.in-Some.is c.requires.place)
+    c.coordinate_size-size.ensures c.requires.whole c.requires.room
 
 pub returns-in-Some : goal.returns-in-Some
 returns-in-Some c =

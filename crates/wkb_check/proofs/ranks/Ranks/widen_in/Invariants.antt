@@ -1,4 +1,3 @@
-use Rattle.std.proofs.Common.{◌-◌, ◌*◌, ◌≤◌, length}
 use Rattle.wkb_check.specs.Ranges.{widened, range_by}
 use Rattle.wkb_check.specs.Ordinates.{column_words}
 use Rattle.wkb_check.proofs.Widening.{ColumnLeft}
@@ -6,7 +5,6 @@ use Rattle.wkb_check.proofs.ranks.Ranks.widen_in.Given as goal
 
 abbrev pub invariant-loop : goal.invariant-loop
 invariant-loop l = record {
-  left : ColumnLeft l.order l.size l.at l.count l.counter l.rest (range_by l.ranks)
+  left : ColumnLeft l.order l.size l.at l.count l.counter l.rest l.ranks
       (widened (range_by l.initial.self) (column_words l.order l.size l.at l.count l.bytes));
-  long : l.size * (l.count - l.counter) ≤ length l.rest;
 }
