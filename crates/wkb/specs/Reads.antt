@@ -15,14 +15,14 @@ pub use Rattle.wkb_read.specs.Placed.{collection_seen, joined_encodings, HoldsMe
 pub use Rattle.wkb_read.specs.Placed.{IsMemberAt}
 pub use Rattle.wkb_view.specs.Coords.{words_seen, ring_seen, coordinate_encoding, coord_order, coord_dimension}
 pub use Rattle.wkb_view.specs.Coords.{coord_encoding, ring_order, ring_dimension, ring_encoding, ring_offset}
-pub use Rattle.wkb_view.specs.Coords.{ring_coord_bytes, CoordBytesSpell, RingBytesSpell}
+pub use Rattle.wkb_view.specs.Coords.{ring_coord_bytes, CoordBytesSpell, RingBytesSpell, LendsCoordinates}
 pub use Rattle.wkb_view.specs.Views.{point_seen, line_string_seen, multi_point_seen, point_layout, line_string_layout}
 pub use Rattle.wkb_view.specs.Views.{multi_point_layout, point_dimension, line_string_dimension}
 pub use Rattle.wkb_view.specs.Views.{multi_point_dimension, point_order, point_spelling, line_string_order}
 pub use Rattle.wkb_view.specs.Views.{line_string_spelling, seen_coordinates, coordinate_in, line_string_offset}
 pub use Rattle.wkb_view.specs.Views.{multi_point_offset, point_value, seen_coordinate, seen_points, point_coord_bytes}
 pub use Rattle.wkb_view.specs.Views.{point_words_bytes, line_string_coord_bytes, line_string_coords_bytes}
-pub use Rattle.wkb_view.specs.Views.{multi_point_member_bytes}
+pub use Rattle.wkb_view.specs.Views.{multi_point_member_bytes, multi_point_spelling}
 pub use Rattle.wkb_view.specs.Parts.{list_of_values, IsCollection, points_of, members_spelled, list_of_spellings}
 pub use Rattle.wkb_view.specs.Parts.{spelling_at}
 pub use Rattle.wkb_view.specs.Spelled.{BytesSpell, srid_of, order_of}
@@ -31,7 +31,7 @@ pub use Rattle.wkb_view.specs.Members.{multi_point_item}
 pub use Rattle.wkb_geom.specs.Reading.{body_start, parts_start, point_item, line_string_item}
 pub use Rattle.wkb_view.specs.Fitted.{fitted_line_string, fitted_line_strings, fitted_polygons, fitted_point}
 pub use Rattle.wkb_view.specs.Fitted.{fitted_geometry, fitted_geometries, fitted_parts, fitted_polygon, fitted_members}
-pub use Rattle.wkb_view.specs.Fitted.{fitted_geometry-same}
+pub use Rattle.wkb_view.specs.Fitted.{fitted_geometry-same, fitted_rings_size}
 pub use Rattle.wkb_read.specs.declared.geometry.Wkb.{Wkb}
 pub use Rattle.wkb_view.specs.declared.coord.Coord.{Coord}
 pub use Rattle.wkb_view.specs.declared.counts.Counts.{Counts}

@@ -1,14 +1,12 @@
 -- Views of one spelling and one value are equal.
-use Rattle.std.proofs.Common.{◌≡◌, ℕ, List, Some, sym, ap, subst, ◌∙◌, slice_get}
+use Rattle.std.proofs.Common.{arith, ◌≡◌, ℕ, List, Some, sym, ap, ◌∙◌, slice_get}
 use Rattle.wkb_clients.specs.Common.{Dimension, AreBytes, Coordinate, line_string, polygon, Spelling, Spells, Listed}
 use Rattle.wkb_clients.specs.Common.{whole_of, Item, HasOneEncoding, members_spelled, list_of_spellings}
 
 same_encoding : HasOneEncoding → (a b : Item) → AreBytes a.encoding → AreBytes b.encoding
     → Spells a.spelled a.value a.encoding → Spells b.spelled b.value b.encoding
     → a.spelled ≡ b.spelled → a.value ≡ b.value → a.encoding ≡ b.encoding
-same_encoding one a b bytes bytes' spells spells' s t =
-    one a.spelled a.value a.encoding b.encoding bytes bytes' spells
-    (subst (λ u. Spells u a.value b.encoding) (sym s) (subst (λ v. Spells b.spelled v b.encoding) (sym t) spells'))
+same_encoding one a b bytes bytes' spells spells' s t = grind arith
 
 some_one : {A : Type 0} (a b : A) → Some a ≡ Some b → a ≡ b
 some_one a b h = cc

@@ -1,9 +1,9 @@
 -- The points among the members of a collection.
-use Rattle.std.specs.Prelude.{List, [], ◌∷◌, Bool, true, false, if◌then◌else◌}
+use Rattle.std.specs.Prelude.{◌≡◌, List, [], ◌∷◌, map, Bool, true, false, if◌then◌else◌}
 use Rattle.wkb.specs.Prelude.{as_dimensions}
 use Rattle.wkb.specs.Geometries.{Geometry, point, collection, geometries}
-use Rattle.wkb.specs.Reads.{members_seen}
-use Rattle.wkb_clients.specs.Common.{Listed, Values}
+use Rattle.wkb.specs.Reads.{geometry_seen, members_seen}
+use Rattle.wkb_clients.specs.Common.{Item, Listed, Values}
 
 -- whether a geometry is a point
 abbrev pub means_point : Geometry → Bool
@@ -14,6 +14,10 @@ means_point _ = false
 abbrev pub points_among : List Geometry → List Geometry
 points_among [] = []
 points_among (g ∷ gs) = if means_point g then g ∷ points_among gs else points_among gs
+
+-- the second list has the points among the first, by what they mean
+abbrev pub ArePointsAmong : List Item → List Item → Type 0
+ArePointsAmong members points = map geometry_seen points ≡ points_among (map geometry_seen members)
 
 -- the collection of the points that are members of one that was read
 abbrev pub points_meant : Listed Values → Geometry

@@ -1,5 +1,6 @@
 -- The bytes of a member, of a ring, and a word of a member's ring.
 use Rattle.std.proofs.Common.{◌≡◌, ℕ, ◌+◌, ◌*◌, List, length, drop, Some, slice_get}
+use Rattle.std.specs.Borrow.{Bor}
 use Rattle.wkb_clients.specs.Common.{Dimension, width, number, Coordinate, polygon, header, Listed, Item, IsMember}
 use Rattle.wkb_clients.specs.Common.{IsWordOf, IsFront, StandsAt, member_start, ring_start, Spells}
 
@@ -12,9 +13,9 @@ abbrev pub LendsMember : Item → ℕ → List ℕ → Type 0
 LendsMember whole k bytes = StandsAt (member_start k whole.spelled whole.value) bytes whole.encoding
 
 -- these are the bytes of the geometry's member of this number and of the next one, which begins where the first ends
-pub record AreNeighbours (whole : Item) (k : ℕ) (one next : List ℕ) : Type 0 where
-  pub first : LendsMember whole k one
-  pub second : StandsAt (member_start k whole.spelled whole.value + length one) next whole.encoding
+pub record AreNeighbours (whole : Item) (k : ℕ) (both : Bor (List ℕ) × Bor (List ℕ)) : Type 0 where
+  pub first : LendsMember whole k both.0.now
+  pub second : StandsAt (member_start k whole.spelled whole.value + length both.0.now) both.1.now whole.encoding
 
 -- the bytes are the polygon's at the place of the coordinates of its ring of this number, after the ring's count
 abbrev pub LendsRing : Listed (List (List Coordinate)) → ℕ → List ℕ → Type 0

@@ -1,9 +1,9 @@
 //! The points of a collection that was read, written as a collection of their own.
 
-ghost use Rattle.std.specs.Prelude.{◌≡◌, map, IfOk};
+ghost use Rattle.std.specs.Prelude.{map, IfOk};
 ghost use Rattle.wkb.specs.Reads.{geometry_seen};
 ghost use Rattle.wkb.specs.Writes.{IsEncodingOf};
-ghost use Rattle.wkb_clients.specs.Gathered.{points_among, points_meant};
+ghost use Rattle.wkb_clients.specs.Gathered.{ArePointsAmong, points_meant};
 
 use std::alloc::{AllocError, Global};
 use wkb::error::WkbResult;
@@ -50,8 +50,7 @@ impl<'a> GeometryCollectionTrait for Gathered<'a> {
 
 /// Copies of the points among these geometries.
 pub fn copied_points<'a>(alloc: Global, members: &[Wkb<'a>]) -> Result<Vec<Wkb<'a>>, AllocError>
-    ensures { IfOk result (λ points. map geometry_seen points.items
-        ≡ points_among (map geometry_seen members.now)) }
+    ensures { IfOk result (λ points. ArePointsAmong members.now points.items) }
 {
     let mut points = Vec::new(alloc);
     for member in members {

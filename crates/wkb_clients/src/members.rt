@@ -72,8 +72,7 @@ pub fn polygon_bytes<'a>(multi: &MultiPolygon<'a>, i: usize) -> Option<&'a [u8]>
 /// The bytes of a polygon of a multi polygon and those of the next one, if both are there: the next begins where the
 /// first ends.
 pub fn neighbour_bytes<'a>(multi: &MultiPolygon<'a>, i: u32) -> Option<(&'a [u8], &'a [u8])>
-    ensures { IfSome result
-        (λ both. AreNeighbours (multi_polygon_seen multi.now) i both.0.now both.1.now) }
+    ensures { IfSome result (AreNeighbours (multi_polygon_seen multi.now) i) }
 {
     members_in_place();
     next_start();

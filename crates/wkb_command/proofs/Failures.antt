@@ -1,5 +1,5 @@
 -- The failures of the calls.
-use Rattle.std.proofs.Common.{◌≡◌, ℕ, List, [], ◌∷◌, Result, Ok, Err, ◌⊎◌, inl, inr, refl}
+use Rattle.std.proofs.Common.{arith, ◌≡◌, ℕ, List, [], ◌∷◌, Result, Ok, Err, ◌⊎◌, inl, inr, refl}
 use Rattle.std.specs.Prelude.{IfErr, IsErrAnd}
 use Rattle.hex.specs.Hex.{decode_of}
 use Rattle.hex.specs.declared.error.FromHexError.{FromHexError}
@@ -27,9 +27,7 @@ IfErr-from (Err e) P Q h f = f e h
 pub decode_failure : (text : List ℕ) (e : FromHexError) (failure : HexFault)
     → (e ≡ hex_errors.OutOfMemory) ⊎ (decode_of text ≡ Err e)
     → FailureOfHexError e failure → (failure ≡ Memory) ⊎ ((failure ≡ NotHex) × ¬ IsHex text)
-decode_failure text hex_errors.OutOfMemory failure h is = inl is
-decode_failure text e failure (inl memory) is = absurd (cc)
-decode_failure text e failure (inr refused) is = inr (is, not_hex text e refused)
+decode_failure text e failure h is = grind (arith, not_hex)
 
 pub call_failure : (texts : List (List ℕ)) (IsRefused : List (List ℕ) → WkbError → Type 0) (e : WkbError)
     (failure : HexFault)

@@ -18,8 +18,7 @@ decode_of-sized : (s : List ℕ) → decode_of s ≡ decode_sized s (length s / 
 decode_of-sized s = grind (arith, common_steps)
 
 value_of-ok : (r : Result (List ℕ) FromHexError) → IsOk r → (bytes : List ℕ) × (r ≡ Ok bytes)
-value_of-ok (Ok bytes) h = (bytes, refl)
-value_of-ok (Err e) h = cc
+value_of-ok r h = grind arith
 
 pub IsHex-from : (text bytes : List ℕ) → IsHexOf text bytes → IsHex text
 IsHex-from text bytes h =

@@ -140,8 +140,7 @@ gives_length_one (a ∷ b ∷ rest) inputs w hex h =
     let e = AreHexOf-length (a ∷ b ∷ rest) inputs hex in omega (arith, e, w)
 
 wants_one : (command : Command) → command ≢ Same → wanted_lines command ≡ 1
-wants_one Same ne = absurd (ne refl)
-wants_one _ ne = refl
+wants_one n ne = grind arith
 
 pub gives_one : (command : Command) (texts inputs : List (List ℕ)) → command ≢ Same → IsNotSingle texts
     → ¬ Gives command texts inputs

@@ -30,11 +30,7 @@ pub piece_written : (before written rest piece behind bytes : List ℕ) → writ
     → rest ≡ piece ++ behind
     → before ++ encode_lower rest ≡ encode_lower bytes
     → (before ++ written) ++ encode_lower behind ≡ encode_lower bytes
-piece_written before written rest piece behind bytes wrote parts h =
-    append_assoc before written (encode_lower behind)
-    ∙ ap (λ l. before ++ (l ++ encode_lower behind)) wrote
-    ∙ ap (λ l. before ++ l) (sym (encode_with-append lower_digits piece behind) ∙ ap encode_lower (sym parts))
-    ∙ h
+piece_written before written rest piece behind bytes wrote parts h = grind (arith, append_assoc, encode_with-append)
 
 regroup : (written rest bytes : List ℕ) (n : ℕ) → written ++ rest ≡ bytes
     → (written ++ take n rest) ++ take (length rest - n) (drop n rest) ≡ bytes
@@ -60,9 +56,7 @@ digits_and_feed digits piece hex fits =
 -- the last part of the line
 pub last_part : (before rest bytes text : List ℕ) → text ≡ encode_lower rest ++ line_feed ∷ []
     → before ++ encode_lower rest ≡ encode_lower bytes → before ++ text ≡ encode_lower bytes ++ line_feed ∷ []
-last_part before rest bytes text is h =
-    ap (λ l. before ++ l) is ∙ sym (append_assoc before (encode_lower rest) (line_feed ∷ []))
-    ∙ ap (λ l. l ++ line_feed ∷ []) h
+last_part before rest bytes text is h = grind (arith, append_assoc)
 
 -- a part that isn't the last one
 pub part_and_more : (before rest piece behind bytes text : List ℕ) → text ≡ encode_lower piece → rest ≡ piece ++ behind
@@ -108,8 +102,7 @@ taken old new (Err e) bytes p = Appends-kept _ _ _ _ (Appends-nil old) p
 
 pub taken_fits : {E : Type 0} (r : Result ℕ E) (bytes : List ℕ) → WritesAtMost r bytes
     → result_unwrap_or r 0 ≤ length bytes
-taken_fits (Ok n) bytes p = p
-taken_fits (Err e) bytes p = omega arith
+taken_fits r bytes p = grind arith
 
 -- the text as far as it is written, and the rest
 pub record Stands (old new : Option (List ℕ)) (rest text : List ℕ) : Type 0 where

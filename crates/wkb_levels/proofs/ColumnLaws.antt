@@ -1,7 +1,7 @@
 -- The singles of a row, from what its ends are.
 use Rattle.std.proofs.Common.{◌≡◌, ℕ, zero, suc, ◌+◌, ◌-◌, ◌/◌, ◌<◌, ◌≤◌, ◌↔◌, refl, sym, ap, ◌∙◌, subst, arith}
 use Rattle.std.proofs.Common.{List, [], ◌∷◌, length, take, drop, length-take, length-drop, slice_range}
-use Rattle.std.proofs.Common.{Option, Some, None, IsSome, IfSome}
+use Rattle.std.proofs.Common.{Option, None, IsSome, IfSome}
 use Rattle.std.proofs.lemmas.Bool.{false≢true}
 use Rattle.std.proofs.lemmas.List.{drop-drop, take-take, drop-take}
 use Rattle.wkb_geom.specs.declared.common.Dimensions.{Dimensions}
@@ -74,20 +74,10 @@ ends_there limit e from to part has are =
 -- the last of them ends where the level does there
 pub part_last : (e : Ends) (from to : ℕ) (part : Ends) → HasPart e from to part
     → begin_of part (length (ends_of part)) ≡ begin_of e to
-part_last e from to part has =
-    ap (λ k. start_at k (ends_of part) (length (ends_of part))) has.start
-    ∙ ap (λ x. start_at (begin_of e from) x (length x)) has.ends
-    ∙ last_of_part (start_of e) (ends_of e) from to has.order has.within
+part_last e from to part has = grind (arith, last_of_part)
 
 pub part_count : (e : Ends) (from to : ℕ) (part : Ends) → HasPart e from to part → length (ends_of part) ≡ to - from
-part_count e from to part has =
-    omega (
-      arith,
-      ap length has.ends,
-      length-take (to - from) (drop from (ends_of e)),
-      length-drop from (ends_of e),
-      has.within,
-    )
+part_count e from to part has = grind (arith, length-drop, length-take)
 
 -- where ends are in order the first is not behind the last
 pub rises : (limit : ℕ) (e : Ends) → AreEndsWithin limit e
@@ -100,11 +90,7 @@ rises limit e are = (
 ascend : (limit start : ℕ) (ends : List ℕ) (i k : ℕ) → AreEnds limit start ends → i + k ≤ length ends
     → start_at start ends i ≤ start_at start ends (i + k)
 ascend limit start ends i zero are h = let same : i ≡ i + 0 = omega arith in rw (← same) (omega arith)
-ascend limit start ends i (suc k) are h =
-    let up : suc (i + k) ≡ i + suc k = omega arith in
-    let more : start_at start ends i ≤ start_at start ends (suc (i + k)) =
-    omega (arith, ascend limit start ends i k are (omega (arith, h)), (are.1 (i + k) (omega (arith, h))).0) in
-    rw (← up) more
+ascend limit start ends i (suc k) are h = grind (arith, ascend limit start ends i k are (omega (arith, h)))
 
 -- the last end is a limit
 pub to_last : (limit : ℕ) (e : Ends) (n : ℕ) → n ≡ begin_of e (length (ends_of e)) → AreEndsWithin limit e
@@ -145,14 +131,7 @@ module _ (l : Levels) (d : Dimensions) (i : ℕ) (s : Ends)
 
     pub count_rings : (rings : List (List (List ℕ))) → rings ≡ rings_in d l.words.now r
         → start_of s + length rings ≡ begin_of s (length (ends_of s))
-    count_rings rings are =
-        omega (
-          arith,
-          ap length are,
-          length-pieces 0 (coordinates_in d l.words.now) (start_of r) (ends_of r),
-          part_count l.ring_ends (start_of s) (begin_of s (length (ends_of s))) r spans,
-          spans.order,
-        )
+    count_rings rings are = grind (arith, length-pieces, part_count)
 
     -- the singles end within them exactly if the row's levels are in order
     pub levels_are : (n : ℕ) → n ≡ begin_of s (length (ends_of s))
@@ -201,8 +180,7 @@ none_exactly o is differ = (λ some. absurd (false≢true (subst IsSome is some)
 
 pub some_told : {A B F : Type 0} (f : A → B) (x y : B) (o : Option A) → IsSome o ↔ F → IfSome o (λ a. f a ≡ x)
     → (F → x ≡ y) → IfSome o (λ a. f a ≡ y)
-some_told f x y None some are same = tt
-some_told f x y (Some a) some are same = are ∙ same (some.0 refl)
+some_told f x y o some are same = grind arith
 
 pub follows_on : {A F G : Type 0} (o : Option A) → IsSome o ↔ F → F ↔ G → IsSome o ↔ G
 follows_on o some same = (λ s. same.0 (some.0 s), λ g. some.1 (same.1 g))

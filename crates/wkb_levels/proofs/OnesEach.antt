@@ -1,6 +1,6 @@
 -- Ends of items that are one each: the numbers from one to another.
-use Rattle.std.proofs.Common.{◌≡◌, ℕ, zero, suc, ◌+◌, ◌-◌, ◌<◌, ◌≤◌, refl, sym, ap, ◌∙◌, arith}
-use Rattle.std.proofs.Common.{subst, ◌⊎◌, inl, inr, ◌∷◌, length, take, drop, slice_index, slice_range}
+use Rattle.std.proofs.Common.{◌≡◌, ℕ, zero, suc, ◌+◌, ◌-◌, ◌<◌, ◌≤◌, refl, ap, arith}
+use Rattle.std.proofs.Common.{subst, ◌⊎◌, ◌∷◌, length, take, drop, slice_index, slice_range}
 use Rattle.std.specs.List.{range_with_len}
 use Rattle.std.proofs.lemmas.List.FromFn.{length-range_with_len, get_or-range_with_len}
 use Rattle.wkb_levels.specs.declared.ends.Ends.{Ends}
@@ -15,22 +15,13 @@ pub each-end : (n k i : ℕ) → i < k → slice_index (range_with_len (suc n) k
 each-end n k i h = omega (arith, get_or-range_with_len (suc n) k i 0 h)
 
 pub each-begin : (n k i : ℕ) → i ≤ k → start_at n (range_with_len (suc n) k) i ≡ n + i
-each-begin n k zero h = omega arith
-each-begin n k (suc i) h = omega (arith, each-end n k i (omega arith))
+each-begin n k i h = grind (arith, each-end)
 
 drop-each : (n k from : ℕ) → from ≤ k
     → drop from (range_with_len (suc n) k) ≡ range_with_len (suc (n + from)) (k - from)
-drop-each n k zero h =
-    let a : n ≡ n + 0 = omega arith in
-    let b : k ≡ k - 0 = omega arith in
-    ap (λ m. range_with_len (suc m) k) a ∙ ap (range_with_len (suc (n + 0))) b
+drop-each n k zero h = grind arith
 drop-each n zero (suc from) h = absurd (omega arith)
-drop-each n (suc k) (suc from) h =
-    let a : suc n + 1 ≡ suc (suc n) = omega arith in
-    let b : suc n + from ≡ n + suc from = omega arith in
-    let c : k - from ≡ suc k - suc from = omega arith in
-    ap (λ m. drop from (range_with_len m k)) a ∙ drop-each (suc n) k from (omega arith)
-    ∙ ap (λ m. range_with_len (suc m) (k - from)) b ∙ ap (range_with_len (suc (n + suc from))) c
+drop-each n (suc k) (suc from) h = grind (arith, drop-each (suc n) k from (omega arith))
 
 take-each : (n k to : ℕ) → to ≤ k → take to (range_with_len n k) ≡ range_with_len n to
 take-each n k zero h = refl
@@ -39,11 +30,7 @@ take-each n (suc k) (suc to) h = ap (λ l. n ∷ l) (take-each (n + 1) k to (ome
 
 pub each-part : (n k from to : ℕ) → from ≤ to → to ≤ k
     → range_with_len (suc (n + from)) (n + to - (n + from)) ≡ slice_range (range_with_len (suc n) k) from to
-each-part n k from to order within =
-    let a : n + to - (n + from) ≡ to - from = omega (arith, order) in
-    ap (range_with_len (suc (n + from))) a
-    ∙ sym (ap (take (to - from)) (drop-each n k from (omega (arith, order, within)))
-    ∙ take-each (suc (n + from)) (k - from) (to - from) (omega (arith, order, within)))
+each-part n k from to order within = grind (arith, drop-each, take-each)
 
 pub each-ones : (n k : ℕ) → AreOnes n (range_with_len (suc n) k)
 each-ones n k i h =
@@ -63,10 +50,7 @@ each-within limit from to a b = (
 -- items of one each end within the numbers
 pub each-number : (e : Ends) (from to i : ℕ) → e ≡ variants.Each from to → i ≤ length (ends_of e)
     → (i ≡ 0) ⊎ (from + i ≤ to)
-each-number e from to zero is h = inl refl
-each-number e from to (suc i) is h =
-    let inside = subst (λ x. suc i ≤ length (ends_of x)) is h in
-    inr (omega (arith, each-length from (to - from), inside))
+each-number e from to is_each is h = grind (arith, each-length)
 
 pub each-inside : (e : Ends) (from to i : ℕ) → e ≡ variants.Each from to → i < length (ends_of e) → from + i < to
 each-inside e from to i is h =

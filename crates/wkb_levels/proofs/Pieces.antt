@@ -18,8 +18,7 @@ length-pieces base items start (e ∷ ends) = omega (arith, length-pieces base i
 
 -- where an item begins, seen from the end of the first
 pub start_behind : (start e : ℕ) (ends : List ℕ) (i : ℕ) → start_at e ends i ≡ start_at start (e ∷ ends) (suc i)
-start_behind start e ends zero = refl
-start_behind start e ends (suc i) = refl
+start_behind start e ends i = grind arith
 
 pub slice_get-pieces : {A : Type 0} (base : ℕ) (items : List A) (start : ℕ) (ends : List ℕ) (i : ℕ) → i < length ends
     → slice_get (pieces_from base items start ends) i
@@ -27,45 +26,38 @@ pub slice_get-pieces : {A : Type 0} (base : ℕ) (items : List A) (start : ℕ) 
 slice_get-pieces base items start [] i h = absurd (omega arith)
 slice_get-pieces base items start (e ∷ ends) zero h = refl
 slice_get-pieces base items start (e ∷ ends) (suc i) h =
-    slice_get-pieces base items e ends i (omega arith)
-    ∙ ap (λ n. Some (slice_range items (n - base) (slice_index ends i - base))) (start_behind start e ends i)
+    grind (arith, start_behind, slice_get-pieces base items e ends i (omega arith))
 
 drop-pieces : {A : Type 0} (base : ℕ) (items : List A) (start : ℕ) (ends : List ℕ) (k : ℕ) → k ≤ length ends
     → drop k (pieces_from base items start ends) ≡ pieces_from base items (start_at start ends k) (drop k ends)
 drop-pieces base items start ends zero h = refl
 drop-pieces base items start [] (suc k) h = absurd (omega arith)
 drop-pieces base items start (e ∷ ends) (suc k) h =
-    drop-pieces base items e ends k (omega arith)
-    ∙ ap (λ n. pieces_from base items n (drop k ends)) (start_behind start e ends k)
+    grind (arith, start_behind, drop-pieces base items e ends k (omega arith))
 
 take-pieces : {A : Type 0} (base : ℕ) (items : List A) (start : ℕ) (ends : List ℕ) (k : ℕ)
     → take k (pieces_from base items start ends) ≡ pieces_from base items start (take k ends)
 take-pieces base items start ends zero = refl
 take-pieces base items start [] (suc k) = refl
-take-pieces base items start (e ∷ ends) (suc k) =
-    ap (λ rest. slice_range items (start - base) (e - base) ∷ rest) (take-pieces base items e ends k)
+take-pieces base items start (e ∷ ends) (suc k) = grind (arith, take-pieces base items e ends k)
 
 -- some of the pieces are the pieces between some of the ends
 pub slice_range-pieces : {A : Type 0} (base : ℕ) (items : List A) (start : ℕ) (ends : List ℕ) (from to : ℕ)
     → from ≤ length ends
     → pieces_from base items (start_at start ends from) (slice_range ends from to)
     ≡ slice_range (pieces_from base items start ends) from to
-slice_range-pieces base items start ends from to h =
-    sym (ap (take (to - from)) (drop-pieces base items start ends from h)
-    ∙ take-pieces base items (start_at start ends from) (drop from ends) (to - from))
+slice_range-pieces base items start ends from to h = grind (arith, drop-pieces, take-pieces)
 
 -- ---- ends
 
 pub start_within : (limit start : ℕ) (ends : List ℕ) (i : ℕ) → AreEnds limit start ends → i ≤ length ends
     → start_at start ends i ≤ limit
-start_within limit start ends zero are h = are.0
-start_within limit start ends (suc i) are h = (are.1 i (omega arith)).1
+start_within limit start ends i are h = grind arith
 
 pub start_from : (limit start : ℕ) (ends : List ℕ) (i : ℕ) → AreEnds limit start ends → i ≤ length ends
     → start ≤ start_at start ends i
 start_from limit start ends zero are h = omega arith
-start_from limit start ends (suc i) are h =
-    omega (arith, start_from limit start ends i are (omega arith), (are.1 i (omega arith)).0)
+start_from limit start ends (suc i) are h = grind (arith, start_from limit start ends i are (omega arith))
 
 part_index : (ends : List ℕ) (from k i : ℕ) → i < k
     → slice_index (take k (drop from ends)) i ≡ slice_index ends (from + i)
@@ -73,10 +65,7 @@ part_index ends from k i h = get_or-take k (drop from ends) i 0 h ∙ get_or-dro
 
 pub part_start : (start : ℕ) (ends : List ℕ) (from k b i : ℕ) → b ≡ start_at start ends from → i ≤ k
     → start_at b (take k (drop from ends)) i ≡ start_at start ends (from + i)
-part_start start ends from k b zero at h = at ∙ ap (start_at start ends) (omega arith)
-part_start start ends from k b (suc i) at h =
-    let next : suc (from + i) ≡ from + suc i = omega arith in
-    part_index ends from k i (omega arith) ∙ ap (start_at start ends) next
+part_start start ends from k b i at h = grind (arith, part_index)
 
 -- the last of some of the ends
 pub last_of_part : (start : ℕ) (ends : List ℕ) (from to : ℕ) → from ≤ to → to ≤ length ends
@@ -115,8 +104,7 @@ one_more (x ∷ items) (suc start) h = one_more items start (omega arith)
 pub ones_at : (start : ℕ) (ends : List ℕ) (i : ℕ) → AreOnes start ends → i ≤ length ends
     → start_at start ends i ≡ start + i
 ones_at start ends zero ones h = omega arith
-ones_at start ends (suc i) ones h =
-    omega (arith, ones i (omega arith), ones_at start ends i ones (omega arith))
+ones_at start ends (suc i) ones h = grind (arith, ones_at start ends i ones (omega arith))
 
 pub ones_only : {A : Type 0} (base : ℕ) (items : List A) (start : ℕ) (ends : List ℕ) → base ≤ start → AreOnes start ends
     → start - base + length ends ≤ length items
@@ -140,13 +128,10 @@ ones_only base items start (e ∷ ends) low ones h =
     ∙ ap (λ l. Some (take (suc (length ends)) l)) (sym m.1)
 
 pub not_only : {A : Type 0} (items : List A) → (length items ≡ 1 → ⊥) → only items ≡ None
-not_only [] differ = refl
-not_only (a ∷ []) differ = absurd (differ refl)
-not_only (a ∷ b ∷ items) differ = refl
+not_only items differ = grind arith
 
 no_rest : {A B C : Type 0} (f : A → B → C) (o : Option A) → option_and_then (λ a. option_map (f a) None) o ≡ None
-no_rest f None = refl
-no_rest f (Some a) = refl
+no_rest f o = grind arith
 
 pub rest_fit : (limit start e : ℕ) (ends : List ℕ) → AreEnds limit start (e ∷ ends) → AreEnds limit e ends
 rest_fit limit start e ends are = (
@@ -189,14 +174,10 @@ not_ones base items limit start (e ∷ ends) low whole are differ =
 
 drop-runs : (width count k : ℕ) (words : List ℕ) → k ≤ count
     → drop k (runs width count words) ≡ runs width (count - k) (drop (width * k) words)
-drop-runs width count zero words h =
-    let rest : count ≡ count - 0 = omega arith in
-    ap (λ n. runs width n words) rest ∙ ap (λ n. runs width (count - 0) (drop n words)) (sym (mul-zero width))
+drop-runs width count zero words h = grind (arith, mul-zero)
 drop-runs width zero (suc k) words h = absurd (omega arith)
 drop-runs width (suc count) (suc k) words h =
-    drop-runs width count k (drop width words) (omega arith)
-    ∙ ap (λ l. runs width (count - k) l) (drop-drop (width * k) width words ∙ ap (λ n. drop n words) (omega arith))
-    ∙ ap (λ n. runs width n (drop (width * suc k) words)) (omega arith)
+    grind (arith, drop-drop, drop-runs width count k (drop width words) (omega arith))
 
 take-runs : (width count k : ℕ) (words : List ℕ) → k ≤ count
     → take k (runs width count words) ≡ runs width k (take (width * k) words)
@@ -214,23 +195,16 @@ pub coordinates_between : (d : Dimensions) (words : List ℕ) (from to : ℕ) �
     → to ≤ length words / size d
     → coordinates_in d (slice_range words (size d * from) (size d * to)) ≡ slice_range (coordinates_in d words) from to
 coordinates_between d words from to some order within =
-    let w = size d in
-    let count = length words / w in
-    let wide : w * to - w * from ≡ w * (to - from) = sym (mul-sub w to from) in
-    let whole : w * to ≤ length words = omega (arith, mul-le-mul_left w within, mul-div-le (length words) w) in
-    let long : length (slice_range words (w * from) (w * to)) ≡ w * (to - from) =
-    omega (
+    grind (
       arith,
-      wide,
-      whole,
-      length-take (w * to - w * from) (drop (w * from) words),
-      length-drop (w * from) words,
-      mul-le-mul_left w order,
-    ) in
-    ap (λ n. runs w (n / w) (slice_range words (w * from) (w * to))) long
-    ∙ ap (λ n. runs w n (slice_range words (w * from) (w * to))) (mul-div_cancel_left (to - from) some)
-    ∙ ap (λ n. runs w (to - from) (take n (drop (w * from) words))) wide
-    ∙ sym (take-runs w (count - from) (to - from) (drop (w * from) words) (omega arith))
-    ∙ ap (take (to - from)) (sym (drop-runs w count from words (omega arith)))
+      mul-div_cancel_left,
+      mul-le-mul_left,
+      length-drop,
+      length-take,
+      mul-div-le,
+      mul-sub,
+      drop-runs,
+      take-runs,
+    )
 
 pub ruleset piece_laws = (length-pieces, slice_get-pieces, slice_range-pieces)

@@ -1,6 +1,6 @@
 -- A polygon's rings are inside the rings, and are the piece.
-use Rattle.std.proofs.Common.{◌≡◌, ℕ, List, ◌+◌, ◌-◌, ◌<◌, ◌≤◌, sym, ap, ◌∙◌, arith}
-use Rattle.std.proofs.Common.{length, take, drop, Some, None, slice_index, slice_range}
+use Rattle.std.proofs.Common.{◌≡◌, ℕ, List, ◌+◌, ◌-◌, ◌<◌, ◌≤◌, sym, arith}
+use Rattle.std.proofs.Common.{length, Some, None, slice_index, slice_range}
 use Rattle.wkb_levels.specs.Cuts.{AreOnes, only_each}
 use Rattle.wkb_levels.specs.EndLists.{start_of, ends_of, begin_of}
 use Rattle.wkb_levels.specs.RingLists.{rings_rings}
@@ -29,13 +29,7 @@ begins_from p s b i first at h =
 pub ends_in : (p : Polygons) (s b e i : ℕ) → s ≡ start_of p.ends → b ≡ begin_of p.ends i
     → e ≡ slice_index (ends_of p.ends) i → i < length (polygons_polygons p)
     → (s ≤ e) × (b - s ≤ e - s) × (e - s ≤ length (rings_rings p.rings))
-ends_in p s b e i first at to h =
-    let fit = p.fit.1 i (omega (arith, h, count_polygons p)) in
-    let from = begins_from p s b i first at h in (
-      omega (arith, from, at, to, fit),
-      omega (arith, from, at, to, fit),
-      omega (arith, from, first, to, fit),
-    )
+ends_in p s b e i first at to h = grind (arith, count_polygons, begins_from)
 
 -- where each has one ring, there are as many rings
 pub ones_in : (p : Polygons) (n : ℕ) → n ≡ length (ends_of p.ends) → AreOnes (start_of p.ends) (ends_of p.ends)
@@ -53,15 +47,7 @@ ones_in p n count ones =
 pub ones_first : (p : Polygons) (n : ℕ) (rings : List (List (List ℕ))) → n ≡ length (ends_of p.ends)
     → AreOnes (start_of p.ends) (ends_of p.ends) → rings ≡ slice_range (rings_rings p.rings) 0 n
     → Some rings ≡ only_each (polygons_polygons p)
-ones_first p n rings count ones are =
-    let s = start_of p.ends in
-    let zero : 0 ≡ s - s = omega arith in
-    let within : s - s + length (ends_of p.ends) ≤ length (rings_rings p.rings) =
-    omega (arith, ones_in p n count ones, count) in
-    let long : n - 0 ≡ length (ends_of p.ends) = omega (arith, count) in
-    ap (λ r. Some r) (are ∙ ap (λ k. take k (rings_rings p.rings)) long
-    ∙ ap (λ k. take (length (ends_of p.ends)) (drop k (rings_rings p.rings))) zero)
-    ∙ sym (ones_only s (rings_rings p.rings) s (ends_of p.ends) (omega arith) ones within)
+ones_first p n rings count ones are = grind (arith, ones_only, ones_in)
 
 -- where not each has one ring
 pub not_ones_in : (p : Polygons) → (AreOnes (start_of p.ends) (ends_of p.ends) → ⊥)

@@ -26,23 +26,12 @@ below r i h = omega (arith, h, count_rings r)
 -- no ring begins past the words
 pub begins_within : (r : Rings) (w b i : ℕ) → w ≡ size r.dim → b ≡ begin_of r.ends i
     → i ≤ length (ends_of r.ends) → w * b ≤ length r.words.now
-begins_within r w b i wide at h =
-    rw wide (rw at (omega (
-      arith,
-      mul-le-mul_left (size r.dim)
-          (start_within (length r.words.now / size r.dim) (start_of r.ends) (ends_of r.ends) i r.fit h),
-      mul-div-le (length r.words.now) (size r.dim),
-    )))
+begins_within r w b i wide at h = grind (arith, mul-le-mul_left, start_within, mul-div-le)
 
 -- none ends past the words
 pub ends_within : (r : Rings) (w e i : ℕ) → w ≡ size r.dim → e ≡ slice_index (ends_of r.ends) i
     → i < length (ends_of r.ends) → w * e ≤ length r.words.now
-ends_within r w e i wide to h =
-    rw wide (rw to (omega (
-      arith,
-      mul-le-mul_left (size r.dim) (r.fit.1 i h).1,
-      mul-div-le (length r.words.now) (size r.dim),
-    )))
+ends_within r w e i wide to h = grind (arith, mul-le-mul_left, mul-div-le)
 
 -- none ends before it begins
 pub ends_behind : (r : Rings) (w b e i : ℕ) → b ≡ begin_of r.ends i → e ≡ slice_index (ends_of r.ends) i
@@ -69,13 +58,7 @@ whole_ring r w b e i wide at to h =
 pub ring_at : (r : Rings) (w b e i : ℕ) → w ≡ size r.dim → b ≡ begin_of r.ends i → e ≡ slice_index (ends_of r.ends) i
     → i < length (ends_of r.ends)
     → slice_get (rings_rings r) i ≡ Some (coordinates_in r.dim (slice_range r.words.now (w * b) (w * e)))
-ring_at r w b e i wide at to h =
-    let cs = coordinates_in r.dim r.words.now in
-    rw wide (rw at (rw to (slice_get-pieces 0 cs (start_of r.ends) (ends_of r.ends) i h
-    ∙ ap (λ n. Some (slice_range cs n (slice_index (ends_of r.ends) i - 0))) (omega arith)
-    ∙ ap (λ n. Some (slice_range cs (begin_of r.ends i) n)) (omega arith)
-    ∙ ap (λ l. Some l) (sym (coordinates_between r.dim r.words.now (begin_of r.ends i) (slice_index (ends_of r.ends) i)
-    r.some_words (r.fit.1 i h).0 (r.fit.1 i h).1)))))
+ring_at r w b e i wide at to h = grind (arith, coordinates_between, slice_get-pieces)
 
 -- ---- rings of one coordinate each
 

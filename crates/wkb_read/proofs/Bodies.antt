@@ -1,6 +1,6 @@
 -- Geometries by their headers and kinds.
 use Rattle.wkb_read.specs.Prelude.refusals
-use Rattle.wkb_read.proofs.Prelude.{any, max_nesting, ◌≡◌, ◌-◌, ℕ, zero, suc, List, Result, Ok, Err, refl, sym, ap}
+use Rattle.wkb_read.proofs.Prelude.{any, max_nesting, ◌≡◌, ◌-◌, ℕ, List, Result, Ok, Err, refl, sym, ap}
 use Rattle.wkb_read.proofs.Prelude.{◌∙◌, subst, arith, WkbType, Layout, layout_of, collection_within, then_body, Cause}
 use Rattle.wkb_read.proofs.Prelude.{Head, Item, Outcome, Reading, free, costs, done, at_no_cost}
 use Rattle.wkb_read.proofs.Prelude.{head_at, body_at, geometry_at, Counts, Spent, Stops}
@@ -14,8 +14,7 @@ geometry_is : (levels : ℕ) (bytes : List ℕ)
     → geometry_at levels bytes
     ≡ then_body (head_at bytes) (λ h. body_at (collection_within levels) h.wkb_type (layout_of h) bytes)
 unfolding geometry_told by_type_told
-geometry_is zero bytes = refl
-geometry_is (suc levels) bytes = refl
+geometry_is levels bytes = grind arith
 
 -- the reading of what follows a header, inside this number of open collections
 abbrev pub body_inside : ℕ → Head → List ℕ → Reading Item
@@ -24,17 +23,13 @@ body_inside depth h bytes = body_at (collection_within (max_nesting - depth)) h.
 -- after a header comes its body
 pub behind_header : (depth : ℕ) (bytes : List ℕ) (h : Head) → head_at bytes ≡ Ok h
     → geometry_inside depth bytes ≡ body_inside depth h bytes
-behind_header depth bytes h e =
-    geometry_is (max_nesting - depth) bytes
-    ∙ ap (λ (r : Result Head Cause). then_body r (λ g. body_inside depth g bytes)) e
+behind_header depth bytes h e = grind (arith, geometry_is)
 
 -- the reading of the bytes, by the type in their header
 pub by_header : (depth : ℕ) (bytes : List ℕ) (h : Head) (t : WkbType) (l : Layout) → head_at bytes ≡ Ok h
     → h.wkb_type ≡ t → l ≡ layout_of h
     → geometry_inside depth bytes ≡ body_at (collection_within (max_nesting - depth)) t l bytes
-by_header depth bytes h t l e is laid =
-    behind_header depth bytes h e
-    ∙ (λ i. body_at (collection_within (max_nesting - depth)) (is i) (sym laid i) bytes)
+by_header depth bytes h t l e is laid = grind (arith, behind_header)
 
 -- what fails at no cost stops there
 nothing_spent : (c : Counts) → Spent c c free

@@ -1,5 +1,4 @@
 pub mod Prelude
-pub mod Algebra
 pub mod AsWritten
 pub mod Bodies
 pub mod LastItem

@@ -1,14 +1,14 @@
 -- Inputs that take no memory, by their headers.
-use Rattle.wkb_read.proofs.Prelude.{◌≡◌, ℕ, zero, suc, ◌+◌, Bool, true, false, ltb, List, length, drop, Ok, Err, refl}
+use Rattle.wkb_read.proofs.Prelude.{◌≡◌, ℕ, ◌+◌, Bool, false, ltb, List, length, drop, Ok, Err, refl}
 use Rattle.wkb_read.proofs.Prelude.{subst, arith, WkbType, Endianness, Layout, max_nesting, Item, Reading, and_then}
 use Rattle.wkb_read.proofs.Prelude.{head_at, type_kind, type_dimension, laid, body_start, count_in, parts_start}
 use Rattle.wkb_read.proofs.Prelude.{repeated, collection_at, geometry_at, Agrees, geometry_agrees_lem, HasNoMembers}
 use Rattle.wkb_read.proofs.Prelude.{TypeTakesNone, ReadsWithoutMemory, AsksForNone, BeginsNone, KindTakesNone}
 use Rattle.wkb_read.proofs.Prelude.{TakesNoMemory, closing}
-use Rattle.std.proofs.lemmas.Bool.{ltb-true, ltb-false, le-ltb}
+use Rattle.std.proofs.lemmas.Bool.{le-ltb}
 use Rattle.wkb_view.specs.Entries.{entries_asked}
 use Rattle.wkb_geom.specs.declared.code.WkbType.TheVariants as kinds
-use Rattle.wkb_read.proofs.Algebra.{and_then-least}
+use Rattle.wkb_view.proofs.Algebra.{and_then-least}
 use Rattle.wkb_read.proofs.Bodies.{behind_header, head_opens}
 unfoldable use Rattle.wkb_geom.specs.Reading.{collection_told}
 
@@ -32,9 +32,7 @@ takes_no_turn buf r none e = takes_no_turn_by buf r none (subst (Agrees buf) e (
 no_parts : {A B : Type 0} (n : ℕ) (part : List ℕ → Reading A) (bytes : List ℕ) (end : List A → List ℕ → Reading B)
     → (and_then (repeated n part bytes) end).0.turns ≡ 0 → n ≡ 0
 unfolding repeated
-no_parts zero part bytes end none = refl
-no_parts (suc n) part bytes end none =
-    absurd (omega (arith, none, (and_then-least (repeated (suc n) part bytes) end).0))
+no_parts n part bytes end none = grind (arith, (and_then-least (repeated n part bytes) end).0)
 
 -- a collection that takes no turn has no members
 no_members_in : (member : List ℕ → Reading Item) (l : Layout) (bytes : List ℕ)
@@ -45,13 +43,8 @@ no_members_in member l bytes none = λ whole.
     no_parts (count_in l bytes) member (parts_start l.has_srid bytes) (closing l bytes) (omega (arith, rw long at none))
 
 -- where there are no members, no entry is asked for
-asked_if : (l : Layout) (bytes : List ℕ) (b : Bool) → ltb (length bytes) (body_start l.has_srid + 4) ≡ b
-    → HasNoMembers l bytes → entries_asked 9 l bytes ≡ 0
-asked_if l bytes true is none = let cut = ltb-true _ _ is in omega (arith, cut)
-asked_if l bytes false is none = let count = none (ltb-false _ _ is) in omega (arith, count)
-
 pub none_asked : (l : Layout) (bytes : List ℕ) → HasNoMembers l bytes → entries_asked 9 l bytes ≡ 0
-none_asked l bytes none = asked_if l bytes _ refl none
+none_asked l bytes none = grind (arith, none)
 
 by_kind : (buf : List ℕ) (type : WkbType) (order : Endianness) (srid : Bool)
     → head_at buf ≡ Ok (record { order = order; wkb_type = type; has_srid = srid })

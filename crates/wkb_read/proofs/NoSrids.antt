@@ -46,9 +46,7 @@ own_and_inside (node h own ss) = omega (arith, srid_size_is (is_some h.srid))
 -- the bytes of a geometry that holds no SRID, without its own
 module _ (w : Item) (spells : BytesSpell w) (none : HoldsNoSrid w) where
   long : length w.encoding ≡ byte_size (geometry_of w.value) + srid_size (is_some (srid_of w.spelled))
-  long =
-      let whole = size_of_spelled_lem w.spelled w.value w.encoding (in_full_lem w.spelled w.value w.encoding spells) in
-      omega (arith, whole, own_and_inside w.spelled, none spells)
+  long = grind (arith, size_of_spelled_lem, in_full_lem, own_and_inside)
 
   pub srid_within : srid_size (is_some (srid_of w.spelled)) ≤ length w.encoding
   srid_within = omega (arith, long)

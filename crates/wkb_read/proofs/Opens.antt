@@ -9,7 +9,7 @@ use Rattle.wkb_geom.specs.declared.error.Cause.TheVariants.{NestingDepthExceeded
 use Rattle.std.proofs.lemmas.Bool.{le-ltb}
 use Rattle.wkb_view.specs.Entries.{entries_asked}
 use Rattle.wkb_view.proofs.Lists.{parts_length}
-use Rattle.wkb_read.proofs.Algebra.{cost_is, costs-costs, repeated_more, repeated_none}
+use Rattle.wkb_view.proofs.Algebra.{cost_is, costs-costs, repeated_more, repeated_none}
 unfoldable use Rattle.wkb_geom.specs.Reading.{collection_told}
 
 -- more entries are asked for

@@ -1,8 +1,9 @@
 -- The members of collections, as a caller of the geometry traits sees them.
-use Rattle.wkb_read.proofs.Prelude.{◌≡◌, ℕ, List, [], ◌∷◌, map, refl, sym, ap, ◌∙◌, slice_get, Option, Some, None}
+use Rattle.wkb_read.proofs.Prelude.{◌≡◌, ℕ, List, [], ◌∷◌, map, refl, sym, ap, ◌∙◌, slice_get, Option}
 use Rattle.wkb_read.proofs.Prelude.{option_map, Bor, length, Value, Values, Coordinate, Listed, Geometry, Geometries}
 use Rattle.wkb_read.proofs.Prelude.{geometries, geometry_of, geometries_of, IsGeometry, Item, values, geometry_seen}
 use Rattle.wkb_read.proofs.Prelude.{members_seen, Layout, parts_in, AreMembers, IsMemberAt}
+use Rattle.wkb_read.proofs.Prelude.{arith}
 use Rattle.wkb_read.proofs.Placed.{is_member_at}
 use Rattle.std.proofs.lemmas.Bool.{ltb-true, ltb-false}
 use Rattle.std.proofs.lemmas.List.{length-map}
@@ -12,7 +13,7 @@ use Rattle.wkb_geom.specs.Dimensions.{as_dimensions}
 use Rattle.wkb_geom.specs.declared.geom.GeometryType.{GeometryType}
 use Rattle.wkb_geom.specs.declared.geom.GeometryType.TheVariants as handed
 use Rattle.wkb_geom.specs.Values as value
-use Rattle.wkb_geom.specs.Geometries.{geometry, point, line_string, multi_point}
+use Rattle.wkb_geom.specs.Geometries.{point, line_string, multi_point}
 use Rattle.wkb_geom.specs.Geometries.{collection}
 use Rattle.wkb_geom.specs.Parts.{PointMeans, LineStringMeans, PolygonMeans, MultiPointMeans, MultiLineStringMeans}
 use Rattle.wkb_geom.specs.Parts.{MultiPolygonMeans, CollectionMeans, RectMeans, TriangleMeans, LineMeans, RectMembers}
@@ -35,13 +36,11 @@ members_are (m ∷ ms) = ap (λ (gs : List Geometry). geometry_seen m ∷ gs) (m
 -- what `get` finds is the item at this index
 found_at : {A : Type 0} (xs : List A) (i : ℕ) (found : Option (Bor A)) → IsItemAt xs i found
     → option_map (λ b. b.now) found ≡ slice_get xs i
-found_at xs i None h = sym (slice_get_past xs i (ltb-false i (length xs) (sym h.0)))
-found_at xs i (Some b) h = sym (slice_get_read xs (length xs) i b.now refl (ltb-true i (length xs) (sym h.0)) h.1)
+found_at xs i found h = grind (arith, slice_get_past, slice_get_read, ltb-false, ltb-true)
 
 found_means : (found : Option (Bor Item))
     → option_map (λ g. geometry_seen g.now) found ≡ option_map geometry_seen (option_map (λ g. g.now) found)
-found_means None = refl
-found_means (Some g) = refl
+found_means found = grind arith
 
 -- the members of a collection mean what their values mean
 pub members_mean : (whole : Listed Values) (found : List Item) (l : Layout) (members : List Item) (encoding : List ℕ)
@@ -56,9 +55,7 @@ members_counted gs ms n means is = is ∙ sym (length-map ms geometry_seen) ∙ 
 -- what `get` finds in the members means what the member at this index means
 pub member_means : (gs : List Geometry) (ms : List Item) (i : ℕ) (found : Option (Bor Item)) → map geometry_seen ms ≡ gs
     → IsItemAt ms i found → option_map (λ g. geometry_seen g.now) found ≡ slice_get gs i
-member_means gs ms i found means is =
-    found_means found ∙ ap (λ (o : Option Item). option_map geometry_seen o) (found_at ms i found is)
-    ∙ sym (slice_get-map geometry_seen ms i) ∙ ap (λ (hs : List Geometry). slice_get hs i) means
+member_means gs ms i found means is = grind (arith, slice_get-map, found_at, found_means)
 
 -- what `get` finds in a collection's members is the collection's member of this number
 pub member_is : (whole : Listed Values) (ms : List Item) (i : ℕ) (found : Option (Bor Item)) → AreMembers whole ms
@@ -68,8 +65,7 @@ member_is whole ms i found are is = is_member_at whole ms i _ are (found_at ms i
 -- the members in one geometry
 pub members_together : (vs : Values) → geometries (members_seen vs) ≡ fitted_geometries (geometries_of vs)
 members_together value.no_members = refl
-members_together (value.member v vs) =
-    ap (λ (gs : Geometries). geometry (fitted_geometry (geometry_of v)) gs) (members_together vs)
+members_together (value.member v vs) = grind (arith, members_together vs)
 
 -- a part that is lawful by its own law is what its value means
 pub part_seen : (g : Geometry) (v : Value) → geometry_of v ≡ g → IsGeometry g → g ≡ fitted_geometry (geometry_of v)

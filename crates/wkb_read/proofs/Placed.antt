@@ -20,17 +20,12 @@ use Rattle.wkb_read.proofs.Bodies.{head_opens}
 
 joined_encodings-append : (xs ys : List Item) → joined_encodings (xs ++ ys) ≡ joined_encodings xs ++ joined_encodings ys
 joined_encodings-append [] ys = refl
-joined_encodings-append (x ∷ xs) ys =
-    ap (λ (b : List ℕ). x.encoding ++ b) (joined_encodings-append xs ys)
-    ∙ sym (append_assoc x.encoding (joined_encodings xs) (joined_encodings ys))
+joined_encodings-append (x ∷ xs) ys = grind (arith, append_assoc, joined_encodings-append xs ys)
 
 -- with one member more, its bytes come after the others
 pub one_more : (xs : List Item) (x : Item) (rest : List ℕ)
     → joined_encodings (xs ++ x ∷ []) ++ rest ≡ joined_encodings xs ++ (x.encoding ++ rest)
-one_more xs x rest =
-    ap (λ (b : List ℕ). b ++ rest)
-    (joined_encodings-append xs (x ∷ []) ∙ ap (λ (b : List ℕ). joined_encodings xs ++ b) (append-nil x.encoding))
-    ∙ append_assoc (joined_encodings xs) x.encoding rest
+one_more xs x rest = grind (arith, append_assoc, append-nil, joined_encodings-append)
 
 -- what is read of bytes are their first ones, and spell it
 pub record PartRead (bytes : List ℕ) (w : Item) (rest : List ℕ) : Type 0 where
@@ -65,9 +60,7 @@ part_read w rest bytes depth old new b =
 -- what comes before the rest is what was taken
 pub front_taken : (n : ℕ) (bytes encoding rest : List ℕ) → n ≤ length bytes → encoding ≡ take n bytes
     → rest ≡ drop n bytes → encoding ≡ consumed bytes rest
-front_taken n bytes encoding rest long encoding-is rest-is =
-    let k : n ≡ length bytes - length rest = omega (arith, ap length rest-is, length-drop n bytes) in
-    encoding-is ∙ ap (λ (m : ℕ). take m bytes) k
+front_taken n bytes encoding rest long encoding-is rest-is = grind (arith, length-drop)
 
 -- ---- a collection that has all its members
 

@@ -20,7 +20,7 @@ pub use Rattle.wkb_read.specs.Prelude.{collection_with, collection_within, layou
 pub use Rattle.wkb_read.specs.Prelude.{consumed, body_start, parts_start, type_kind, type_dimension, too_deep, body_at}
 pub use Rattle.wkb_read.specs.Prelude.{values, spellings, Refuses, any, Listed, Tells, TellsRefusal, Coordinate, Value}
 pub use Rattle.wkb_read.specs.Prelude.{Values, collection, member_count, listed_count, Counts, HasHead, IsCause, Spent}
-pub use Rattle.wkb_read.specs.Prelude.{AtMost, CanCount, Stops, BytesSpell, count_in}
+pub use Rattle.wkb_read.specs.Prelude.{AtMost, CanCount, Stops, BytesSpell, count_in, cost_of}
 unfoldable pub use Rattle.wkb_read.specs.Prelude.{repeated, head_at, by_type_told, geometry_told, collection_told}
 pub use Rattle.wkb_read.specs.Prelude.{by_type, geometry_at, collection_at}
 pub use Rattle.wkb_laws.specs.Laws.{Agrees}
@@ -36,5 +36,5 @@ pub use Rattle.wkb_read.specs.Reads.{IsFront, IsOnlyFront, IsRefusal, TellsEach,
 pub use Rattle.wkb_read.specs.Reads.{CountsRefusal, CountsAtMost, AsksForNone, BeginsNone, KindTakesNone}
 pub use Rattle.wkb_read.specs.Reads.{TakesNoMemory}
 pub use Rattle.wkb_read.specs.Seen.{geometry_seen, members_seen, seen_as_it_is}
-pub use Rattle.wkb_read.specs.Stack.{geometry_inside, after_member, in_collection, outward, first_member, cost_of}
+pub use Rattle.wkb_read.specs.Stack.{geometry_inside, after_member, in_collection, outward, first_member}
 pub use Rattle.wkb_read.specs.Stack.{around, IsOpen, AreOpen, IsFinished, collection_inside, BeginsAs, ReadsAs}

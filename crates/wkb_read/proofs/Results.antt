@@ -29,10 +29,7 @@ counted_of whole (Err refusals.Memory) old new h = h
 
 pub count_bounded : (buf : List ℕ) (r : Result Wkb Refusal) (new : Counts) → ReadsAs (reading_of buf) r zero_counts new
     → (4 * new.turns ≤ length buf + 4) × (new.slots ≤ 15 * length buf)
-count_bounded buf r new h =
-    let b = reading_is_bounded_lem buf in
-    let a = counted_of (reading_of buf) r zero_counts new h in
-    (omega (arith, b.0, a.turns), omega (arith, b.1, a.slots))
+count_bounded buf r new h = grind (arith, reading_is_bounded_lem, counted_of)
 
 -- ---- a geometry that was read is at the front
 

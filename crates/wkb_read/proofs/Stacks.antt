@@ -1,15 +1,15 @@
 -- Open collections, as a part of one is finished.
 use Rattle.wkb_read.specs.Prelude.refusals
-use Rattle.wkb_read.proofs.Prelude.{◌≡◌, ℕ, suc, ◌+◌, ◌≤◌, List, [], ◌∷◌, ◌++◌, length, Ok, Err, refl, sym, ap, subst}
-use Rattle.wkb_read.proofs.Prelude.{◌∙◌, append_assoc, length-append, arith, Bor, Item, Cost, ◌⊕◌, one_turn, Reading}
-use Rattle.wkb_read.proofs.Prelude.{costs, done, and_then, repeated, consumed, Layout, BytesSpell, Refusal}
-use Rattle.wkb_read.proofs.Prelude.{Counts, Spent, AtMost, CanCount, Stops, Wkb, Open, Whole, Opened, IsCollectionIn}
+use Rattle.wkb_read.proofs.Prelude.{◌≡◌, ℕ, suc, ◌+◌, ◌≤◌, List, [], ◌∷◌, ◌++◌, length, Ok, Err, sym, ap, subst}
+use Rattle.wkb_read.proofs.Prelude.{◌∙◌, append_assoc, length-append, arith, Bor, Item, Cost, one_turn, Reading}
+use Rattle.wkb_read.proofs.Prelude.{costs, done, and_then, consumed, Layout, BytesSpell, Refusal}
+use Rattle.wkb_read.proofs.Prelude.{Counts, AtMost, Wkb, Open, Whole, Opened, IsCollectionIn}
 use Rattle.wkb_read.proofs.Prelude.{closing, list_item, collection_with, geometry_inside, after_member, in_collection}
 use Rattle.wkb_read.proofs.Prelude.{outward, first_member, cost_of, IsOpen, AreOpen, IsFinished, BeginsAs}
 use Rattle.wkb_read.proofs.Prelude.{ReadsAs, Result}
 use Rattle.wkb_view.specs.Outcome.{next_turn}
-use Rattle.wkb_read.proofs.Algebra.{cost_is, costs-costs, and_then-costs, and_then-assoc, and_then-same, and_then-least}
-use Rattle.wkb_read.proofs.Algebra.{done_then, repeated_more, repeated_none}
+use Rattle.wkb_view.proofs.Algebra.{and_then-costs, and_then-assoc, and_then-same}
+use Rattle.wkb_view.proofs.Algebra.{done_then, repeated_more, repeated_none, turn_begins, spent_in_all, at_most_in_all}
 use Rattle.wkb_read.proofs.Placed.{Closed, closed, one_more, part_read}
 use Rattle.wkb_view.specs.Entries.{entries, capacity}
 use Rattle.wkb_view.proofs.Members.{all_more}
@@ -25,17 +25,12 @@ pub record Finishes (os : List Open) (m : Item) (rest : List ℕ) (spent : Count
   pub stand : AreOpen os (m.encoding ++ rest)
   pub part : IsFinished m
 
-turn_is : (c d : Counts) → d ≡ next_turn c → cost_of d ≡ cost_of c ⊕ one_turn
-turn_is c d e = ap cost_of e ∙ cost_is _ _ refl (omega arith)
-
 -- ---- a part begins
 
 -- a reading that leads to another does so inside collections too
 moved : (os : List Open) (old new : Cost) (before after whole : Reading Item) → costs new after ≡ costs old before
     → costs old (and_then before (outward os)) ≡ whole → costs new (and_then after (outward os)) ≡ whole
-moved os old new before after whole e so_far =
-    sym (and_then-costs new after (outward os)) ∙ ap (λ (r : Reading Item). and_then r (outward os)) e
-    ∙ and_then-costs old before (outward os) ∙ so_far
+moved os old new before after whole e so_far = grind (arith, and_then-costs)
 
 -- a collection is opened, and its first member begins
 pub enters : (o : Open) (os : List Open) (rest : Bor (List ℕ)) (bytes : List ℕ) (mid new after : Counts)
@@ -48,8 +43,7 @@ enters o os rest bytes mid new after whole r b turn =
     let inside = in_collection (length os) o in
     record {
       so_far =
-          ap (λ (c : Cost). costs c (and_then member (outward (o ∷ os)))) (turn_is new after turn)
-          ∙ sym (costs-costs (cost_of new) one_turn (and_then member (outward (o ∷ os))))
+          turn_begins new after (and_then member (outward (o ∷ os))) turn
           ∙ ap (λ (s : Reading Item). costs (cost_of new) s)
           (ap (λ (s : Reading Item). costs one_turn s) (sym (and_then-assoc member inside (outward os)))
           ∙ sym (and_then-costs one_turn (and_then member inside) (outward os)))
@@ -73,79 +67,25 @@ finishes w os rest bytes mid new whole r b =
       part = p.part;
     }
 
--- the counters have room for the part, and for a turn
-pub can_begin : (os : List Open) (bytes : List ℕ) (old new : Counts) (whole : Reading Item)
-    → Reaches os bytes new (costs (cost_of old) whole)
-    → CanCount old whole.0 → CanCount new (geometry_inside (length os) bytes).0
-can_begin os bytes old new whole r fits =
-    let part = and_then-least (geometry_inside (length os) bytes) (outward os) in
-    record {
-      turns = omega (arith, ap (λ (s : Reading Item). s.0.turns) r.so_far, part.0, fits.turns);
-      slots = omega (arith, ap (λ (s : Reading Item). s.0.slots) r.so_far, part.1, fits.slots);
-    }
-
 -- what was counted before a turn is among the whole
 pub at_most_turn : (os : List Open) (bytes : List ℕ) (old new after : Counts) (whole : Reading Item)
     → Reaches os bytes after (costs (cost_of old) whole)
     → after ≡ next_turn new → AtMost old new whole.0
-at_most_turn os bytes old new after whole r turn = record {
-  turns = omega (arith, ap (λ (s : Reading Item). s.0.turns) r.so_far, ap (λ (c : Counts). c.turns) turn);
-  slots = omega (arith, ap (λ (s : Reading Item). s.0.slots) r.so_far, ap (λ (c : Counts). c.slots) turn);
-}
-
--- a part's refusal is passed outward
-pub stops_outward : (refusal : Refusal) (r : Reading Item) (f : Item → List ℕ → Reading Item) (whole : Reading Item)
-    (old mid new : Counts)
-    → costs (cost_of mid) (and_then r f) ≡ costs (cost_of old) whole → Stops refusal r mid new
-    → Stops refusal whole old new
-stops_outward (refusals.Cause cause) (c, Ok x) f whole old mid new so_far h = absurd cc
-stops_outward (refusals.Cause cause) (c, Err e) f whole old mid new so_far h = (
-  sym (ap (λ (s : Reading Item). s.1) so_far) ∙ h.0,
-  record {
-    turns = omega (arith, h.1.turns, ap (λ (s : Reading Item). s.0.turns) so_far);
-    slots = omega (arith, h.1.slots, ap (λ (s : Reading Item). s.0.slots) so_far);
-  },
-)
-stops_outward refusals.Memory r f whole old mid new so_far most =
-    let part = and_then-least r f in
-    record {
-      turns = omega (arith, most.turns, part.0, ap (λ (s : Reading Item). s.0.turns) so_far);
-      slots = omega (arith, most.slots, part.1, ap (λ (s : Reading Item). s.0.slots) so_far);
-    }
-
--- all is read
-pub all_read : (w : Item) (rest : List ℕ) (whole : Reading Item) (old new : Counts)
-    → costs (cost_of new) (done w rest) ≡ costs (cost_of old) whole
-    → ((end : List ℕ) × (whole.1 ≡ Ok (w, end))) × Spent old new whole.0
-all_read w rest whole old new e = (
-  (rest, sym (ap (λ (s : Reading Item). s.1) e)),
-  record {
-    turns = omega (arith, ap (λ (s : Reading Item). s.0.turns) e);
-    slots = omega (arith, ap (λ (s : Reading Item). s.0.slots) e);
-  },
-)
+at_most_turn os bytes old new after whole r turn =
+    at_most_in_all _ whole old after new r.so_far
+    (record {
+      turns = omega (arith, ap (λ (c : Counts). c.turns) turn);
+      slots = omega (arith, ap (λ (c : Counts). c.slots) turn);
+    })
 
 -- what this reading leads to is what is read
 pub reads_on : (result : Result Wkb Refusal) (r whole : Reading Item) (old mid new : Counts)
     → costs (cost_of mid) r ≡ costs (cost_of old) whole → ReadsAs r result mid new → ReadsAs whole result old new
-reads_on (Ok w) r whole old mid new e h = (
-  (h.0.0, sym (ap (λ (s : Reading Item). s.1) e) ∙ h.0.1),
-  record {
-    turns = omega (arith, h.1.turns, ap (λ (s : Reading Item). s.0.turns) e);
-    slots = omega (arith, h.1.slots, ap (λ (s : Reading Item). s.0.slots) e);
-  },
-)
-reads_on (Err (refusals.Cause cause)) r whole old mid new e h = (
-  sym (ap (λ (s : Reading Item). s.1) e) ∙ h.0,
-  record {
-    turns = omega (arith, h.1.turns, ap (λ (s : Reading Item). s.0.turns) e);
-    slots = omega (arith, h.1.slots, ap (λ (s : Reading Item). s.0.slots) e);
-  },
-)
-reads_on (Err refusals.Memory) r whole old mid new e h = record {
-  turns = omega (arith, h.turns, ap (λ (s : Reading Item). s.0.turns) e);
-  slots = omega (arith, h.slots, ap (λ (s : Reading Item). s.0.slots) e);
-}
+reads_on (Ok w) r whole old mid new e h =
+    ((h.0.0, sym (ap (λ (s : Reading Item). s.1) e) ∙ h.0.1), spent_in_all r whole old mid new e h.1)
+reads_on (Err (refusals.Cause cause)) r whole old mid new e h =
+    (sym (ap (λ (s : Reading Item). s.1) e) ∙ h.0, spent_in_all r whole old mid new e h.1)
+reads_on (Err refusals.Memory) r whole old mid new e h = at_most_in_all r whole old mid new e h
 
 -- ---- a part is finished
 
@@ -162,22 +102,12 @@ member_more : (member : List ℕ → Reading Item) (l : Layout) (bytes : List �
     → after_member member l bytes (suc n) front m rest
     ≡ costs one_turn (and_then (member rest) (after_member member l bytes n (front ++ m ∷ [])))
 member_more member l bytes n front m rest =
-    repeated_more n member rest (λ xs after. closing l bytes (front ++ m ∷ xs) after)
-    ∙ ap (λ (r : Reading Item). costs one_turn r)
-    (and_then-same (member rest) _ _ (λ x after. and_then-same (repeated n member after) _ _
-    (λ xs end. ap (λ (ms : List Item). closing l bytes ms end) (sym (append_assoc front (m ∷ []) (x ∷ xs))))))
+    grind (arith, and_then-same, repeated_more, append_assoc)
 
 goes_on : (o next : Open) (os : List Open) (m : Item) (rest : List ℕ) → IsNext o next m
     → outward (o ∷ os) m rest ≡ costs one_turn (and_then (geometry_inside (suc (length os)) rest) (outward (next ∷ os)))
 goes_on o next os m rest n =
-    let member = geometry_inside (suc (length os)) in
-    let inside = in_collection (length os) next in
-    let one : in_collection (length os) o m rest ≡ costs one_turn (and_then (member rest) inside) =
-    rw (n.left, n.layout, n.bytes, n.items)
-    (member_more member o.layout o.bytes.now next.left (entries o.members) m rest) in
-    ap (λ (r : Reading Item). and_then r (outward os)) one
-    ∙ and_then-costs one_turn (and_then (member rest) inside) (outward os)
-    ∙ ap (λ (r : Reading Item). costs one_turn r) (and_then-assoc (member rest) inside (outward os))
+    grind (arith, and_then-assoc, and_then-costs, member_more)
 
 more_open : (o next : Open) (m : Item) (rest : List ℕ) → IsNext o next m → IsOpen o (m.encoding ++ rest) → IsFinished m
     → IsOpen next rest
@@ -202,8 +132,7 @@ next_begins o next os m rest spent after whole n f turn =
     let r = and_then (geometry_inside (suc (length os)) rest) (outward (next ∷ os)) in
     record {
       so_far =
-          ap (λ (c : Cost). costs c r) (turn_is spent after turn)
-          ∙ sym (costs-costs (cost_of spent) one_turn r)
+          turn_begins spent after r turn
           ∙ ap (λ (s : Reading Item). costs (cost_of spent) s) (sym (goes_on o next os m rest n)) ∙ f.so_far;
       stand = (more_open o next m rest n f.stand.0 f.part, rw n.bytes f.stand.1);
     }

@@ -1,5 +1,5 @@
 -- Sums over a list that a loop goes through, and that they are below the number of bytes.
-use Rattle.wkb_read.proofs.Prelude.{◌≡◌, ℕ, zero, suc, ◌+◌, ◌≤◌, List, [], ◌∷◌, length, Some, slice_get, refl, ap, ◌∙◌}
+use Rattle.wkb_read.proofs.Prelude.{◌≡◌, ℕ, zero, suc, ◌+◌, ◌≤◌, List, [], ◌∷◌, length, Some, slice_get, refl, ap}
 use Rattle.wkb_read.proofs.Prelude.{arith, Item, values, BytesSpell, Layout, list_item, collection_with}
 use Rattle.std.proofs.lemmas.List.{drop_all}
 use Rattle.std.proofs.Common.{drop, sum_by}
@@ -13,17 +13,13 @@ use Rattle.wkb_read.specs.Contents.{coordinates_inside, parts_inside}
 next_added : {A : Type 0} (f : A → ℕ) (xs : List A) (i : ℕ) (x : A) → Some x ≡ slice_get xs i
     → sum_by f (drop i xs) ≡ f x + sum_by f (drop (suc i) xs)
 next_added f [] i x at = absurd (cc)
-next_added f (y ∷ xs) zero x at =
-    let same : y ≡ x = cc in
-    sum_by-cons f y xs ∙ ap (λ z. f z + sum_by f xs) same
+next_added f (y ∷ xs) zero x at = grind (arith, sum_by-cons)
 next_added f (y ∷ xs) (suc i) x at = next_added f xs i x at
 
 -- one more is added
 pub sum_more : {A : Type 0} (f : A → ℕ) (xs : List A) (i count n : ℕ) (x : A) → Some x ≡ slice_get xs i → n ≡ f x
     → count + sum_by f (drop i xs) ≡ sum_by f xs → (count + n) + sum_by f (drop (i + 1) xs) ≡ sum_by f xs
-sum_more f xs i count n x at is so_far =
-    let next : i + 1 ≡ suc i = omega arith in
-    ap (λ k. (count + n) + sum_by f (drop k xs)) next ∙ omega (arith, next_added f xs i x at, is, so_far)
+sum_more f xs i count n x at is so_far = grind (arith, next_added)
 
 -- a geometry has fewer coordinates and parts than bytes
 pub bytes_counted : (w : Item) → BytesSpell w

@@ -33,9 +33,9 @@ pub use Rattle.wkb_geom.specs.Values.{Coordinate, Value, Values, polygon, multi_
 pub use Rattle.wkb_geom.specs.Values.{dimension, no_members, member, member_count, listed_count}
 pub use Rattle.wkb_view.specs.declared.counts.Counts.{Counts}
 pub use Rattle.wkb_view.specs.Headers.{HasHead}
-pub use Rattle.wkb_view.specs.Outcome.{Spent, next_turn, AtMost, CanCount, Stops, IsCause}
+pub use Rattle.wkb_view.specs.Outcome.{Spent, next_turn, cost_of, AtMost, CanCount, Stops, IsCause}
 pub use Rattle.wkb_view.specs.Parts.{list_of_values, members_spelled, IsCollection}
 pub use Rattle.wkb_view.specs.Spelled.{BytesSpell, srid_of}
 pub use Rattle.wkb_view.specs.Members.{polygon_seen, multi_line_string_seen, multi_polygon_seen}
 pub use Rattle.wkb_view.specs.Views.{point_seen, line_string_seen, multi_point_seen}
-pub use Rattle.wkb_view.specs.SpelledAsWritten.{IsSpelledAsWritten}
+pub use Rattle.wkb_view.specs.SpelledAsWritten.{IsSpelledAsWritten, LendsEncoding}

@@ -3,7 +3,7 @@ use Rattle.std.specs.Prelude.{◌≡◌, ℕ, suc, ◌<◌, ◌+◌, ◌-◌, �
 use Rattle.std.specs.Prelude.{Ok, Err, Option, Some, None, Vec, reverse}
 use Rattle.std.specs.Global.{Global}
 use Rattle.std.specs.List.{AllByRecursion}
-use Rattle.wkb_read.specs.Prelude.{Refusal, Layout, max_nesting, number, Item, Cost, Reading, costs, one_turn, done}
+use Rattle.wkb_read.specs.Prelude.{Refusal, Layout, max_nesting, number, Item, Reading, costs, one_turn, done, cost_of}
 use Rattle.wkb_read.specs.Prelude.{and_then, repeated, collection_within, body_start, parts_start, geometry_at, Counts}
 use Rattle.wkb_read.specs.Prelude.{HasHead, Spent, Stops, BytesSpell}
 use Rattle.wkb_view.specs.Entries.{entries, capacity}
@@ -39,10 +39,6 @@ outward (o ∷ os) x rest = and_then (in_collection (length os) o x rest) (outwa
 -- the reading of a collection from its first member on, inside this number of open collections
 abbrev pub first_member : ℕ → Open → List ℕ → Reading Item
 first_member depth o bytes = costs one_turn (and_then (geometry_inside (suc depth) bytes) (in_collection depth o))
-
--- what was counted, as a cost
-abbrev pub cost_of : Counts → Cost
-cost_of c = record { turns = c.turns; slots = c.slots }
 
 -- where the members of an open collection begin
 abbrev pub members_start : Open → ℕ
@@ -88,14 +84,15 @@ BeginsAs read depth bytes (Ok (Opened o rest)) old new =
     × (o.bytes.now ≡ bytes) × (depth < max_nesting) × IsOpen o rest.now
 BeginsAs read depth bytes (Err refusal) old new = Stops refusal (read depth bytes) old new
 
--- a part was read inside the open collections `before`, and these are open after it: all is read, or the next part
--- begins
-abbrev pub Settles : List Open → Item → List Open → List ℕ → Option Item → Counts → Counts → Type 0
-Settles before part os rest (Some w) old new =
-    (os ≡ []) × (costs (cost_of new) (done w rest) ≡ costs (cost_of old) (outward before part rest))
-Settles before part os rest None old new =
+-- a part was read inside the open collections `before`, and those of `after` are open then: all is read, or the next
+-- part begins
+abbrev pub Settles : Vec Open Global → Item → Vec Open Global → List ℕ → Option Item → Counts → Counts → Type 0
+Settles before part after rest (Some w) old new =
+    (around after ≡ []) × (costs (cost_of new) (done w rest) ≡ costs (cost_of old) (outward (around before) part rest))
+Settles before part after rest None old new =
+    let os = around after in
     (costs (cost_of new) (and_then (geometry_inside (length os) rest) (outward os))
-    ≡ costs (cost_of old) (outward before part rest))
+    ≡ costs (cost_of old) (outward (around before) part rest))
     × AreOpen os rest
 
 -- the result is what this reading gives, and what it cost was counted

@@ -234,8 +234,9 @@ impl<'a> GeometryCollectionTrait for GeometryCollection<'a> {
 
 impl<'a> Wkb<'a> {
     ghost use Rattle.std.specs.Prelude.{◌≡◌, true, None, IfOk, IfErr, IfSome, IsSome};
-    ghost use Rattle.wkb_geom.specs.Encodings.{encoding, fault, form_with_flags};
+    ghost use Rattle.wkb_geom.specs.Encodings.{form_with_flags};
     ghost use Rattle.wkb_read.specs.Prelude.{srid_of, dimension, IsCollection, BytesSpell, IsSpelledAsWritten};
+    ghost use Rattle.wkb_read.specs.Prelude.{LendsEncoding};
     ghost use Rattle.wkb_read.specs.Placed.{collection_seen};
     ghost use Rattle.wkb_read.specs.Types.{geometry_type_of, IsListed};
     ghost use Rattle.wkb_read.specs.Reads.{Reads};
@@ -341,9 +342,7 @@ impl<'a> Wkb<'a> {
     /// Its bytes, if they are known to be its encoding in this order, with EWKB's flags or without, and with no SRID.
     #[inline(always)]
     fn as_written_without_srid(&self, order: Endianness, has_flags: bool) -> Option<&[u8]>
-        ensures encoding { IfSome result (λ b. b.now
-            ≡ encoding order (form_with_flags has_flags) (geometry_seen self.now)) }
-        ensures writable { IfSome result (λ _. fault (geometry_seen self.now) ≡ None) }
+        ensures { LendsEncoding order (form_with_flags has_flags) (geometry_seen self.now) result }
     {
         if self.is_as_written(order, has_flags) {
             Some(self.buf())

@@ -1,16 +1,16 @@
 -- How many coordinates the rings of a view have.
-use Rattle.std.proofs.Common.{◌≡◌, ℕ, ◌+◌, ◌-◌, ◌*◌, ◌/◌, ◌<◌, List, [], ◌∷◌, length, sum_by, refl, sym, arith, ap}
-use Rattle.std.proofs.Common.{subst, ◌∙◌}
+use Rattle.std.proofs.Common.{◌≡◌, ℕ, ◌+◌, ◌-◌, ◌*◌, ◌/◌, List, [], ◌∷◌, length, sum_by, sym, arith, ap}
+use Rattle.std.proofs.Common.{◌∙◌}
 use Rattle.std.proofs.lemmas.List.Sums.{sum_by-cons}
 use Rattle.std.proofs.Math.Nat.{mul-div_cancel_left, mul-add}
 use Rattle.wkb_geom.specs.Sizes.{rings_size}
 use Rattle.wkb_geom.specs.Dimensions.{size}
 use Rattle.wkb_view.specs.Prelude.{Dimension, width, as_dimensions, Layout, Listed, Coordinate, AreBytes, BytesSpell}
 use Rattle.wkb_view.specs.Prelude.{body_start}
-use Rattle.wkb_view.specs.Fitted.{fitted_parts}
 use Rattle.wkb_view.specs.Members.{polygon_laid, polygon_seen}
 use Rattle.wkb_view.proofs.Sized.{polygon_size, rings_same}
-use Rattle.wkb_geom.specs.declared.common.Dimension.TheVariants.{Xy, Xyz, Xym, Xyzm}
+use Rattle.wkb_view.specs.Ranges.{named_size}
+use Rattle.wkb_view.proofs.Items.{width-within}
 
 -- the bytes of rings, by how many of them and of coordinates there are
 module _ (w : ℕ) where
@@ -27,37 +27,20 @@ module _ (w : ℕ) where
       mul-add (8 * w) (length r) (sum_by length rs) in
       bytes ∙ omega (arith, more, split) ∙ ap (λ n. 4 * length (r ∷ rs) + 8 * w * n) (sym all)
 
-size_is : (d : Dimension) → size (as_dimensions d) ≡ width d
-size_is Xy = refl
-size_is Xyz = refl
-size_is Xym = refl
-size_is Xyzm = refl
-
 pub rings_counted : (d : Dimension) (rs : List (List (List ℕ)))
     → rings_size (as_dimensions d) rs ≡ 4 + 4 * length rs + 8 * width d * sum_by length rs
 rings_counted d rs =
     let same = summed (size (as_dimensions d)) rs in
-    let wide = ap (λ w. 4 * length rs + 8 * w * sum_by length rs) (size_is d) in
+    let wide = ap (λ w. 4 * length rs + 8 * w * sum_by length rs) (named_size d) in
     ap (λ n. 4 + n) (same ∙ wide) ∙ omega arith
-
-has_width : (d : Dimension) → 0 < 8 * width d
-has_width Xy = omega arith
-has_width Xyz = omega arith
-has_width Xym = omega arith
-has_width Xyzm = omega arith
 
 pub coordinates_counted : (d : Dimension) (n k s : ℕ) → n ≡ 4 + 4 * k + 8 * width d * s
     → (n - 4 - 4 * k) / (8 * width d) ≡ s
-coordinates_counted d n k s is =
-    let words : n - 4 - 4 * k ≡ 8 * width d * s = omega (arith, is) in
-    ap (λ m. m / (8 * width d)) words ∙ mul-div_cancel_left s (has_width d)
+coordinates_counted d n k s is = grind (arith, mul-div_cancel_left, width-within)
 
 -- the bytes of a polygon's view after the header
 pub view_counted : (l : Layout) (ends bytes : List ℕ) (p : Listed (List (List Coordinate)))
     → polygon_laid l ends bytes ≡ p → AreBytes bytes → BytesSpell (polygon_seen (polygon_laid l ends bytes))
     → (n : ℕ) → n ≡ length bytes - body_start l.has_srid
     → n ≡ 4 + 4 * length p.parts + 8 * width p.dimension * sum_by length p.parts
-view_counted l ends bytes p view fine spells n is =
-    let same = subst (λ q. fitted_parts q ≡ q.parts) view (rings_same l ends bytes p view fine spells) in
-    polygon_size l ends bytes p view fine spells n is ∙ ap (rings_size (as_dimensions p.dimension)) same
-    ∙ rings_counted p.dimension p.parts
+view_counted l ends bytes p view fine spells n is = grind (arith, polygon_size, rings_same, rings_counted)

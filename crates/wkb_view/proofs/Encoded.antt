@@ -1,7 +1,7 @@
 -- Views whose bytes are what is written of them.
 use Rattle.std.proofs.Common.{◌≡◌, ℕ, ◌+◌, ◌≤◌, List, [], ◌∷◌, length, map, take, drop, None, Some, false}
 use Rattle.std.proofs.Common.{refl, sym, ap, ◌∙◌, subst, arith}
-use Rattle.std.specs.Prelude.{slice_get, option_map, Option, IfSome, Bool, true}
+use Rattle.std.specs.Prelude.{slice_get, option_map, Bool, true}
 use Rattle.std.specs.Borrow.{Bor}
 use Rattle.std.specs.Bool.{then_some}
 use Rattle.std.proofs.lemmas.List.{take_all, take_more_same, length-map}
@@ -20,7 +20,7 @@ use Rattle.wkb_view.specs.Prelude.{spelled_in}
 use Rattle.wkb_geom.specs.Dimensions.{written_dimension}
 use Rattle.wkb_view.specs.Prelude.{as_dimensions, spelling_at, list_of_spellings, members_spelled, BytesSpell}
 use Rattle.wkb_view.specs.Fitted.{fitted_geometry, fitted_geometry-same}
-use Rattle.wkb_view.specs.SpelledAsWritten.{IsSpelledAsWritten}
+use Rattle.wkb_view.specs.SpelledAsWritten.{IsSpelledAsWritten, LendsEncoding}
 use Rattle.wkb_view.proofs.Members.{spelled_each}
 
 -- ---- bytes in memory that are the encoding of a geometry without a fault
@@ -53,13 +53,9 @@ module _ (order : Endianness) (form : Form) (has_flags : Bool) (form_is : form �
       (sym (fitted_geometry-same (geometry_of i.value) (lawful-geometry_of i.value good.0))) is_encoded
 
 -- what is lent where a test holds
-pub record Exposes (order : Endianness) (form : Form) (g : Geometry) (result : Option (Bor (List ℕ))) : Type 0 where
-  pub encoding : IfSome result (λ b. b.now ≡ encoding order form g)
-  pub writable : IfSome result (λ _. fault g ≡ None)
-
 pub exposes : {order : Endianness} {form : Form} {g : Geometry} (test : Bool) (buf : Bor (List ℕ))
     → (test ≡ true → IsEncoded buf.now order form g)
-    → Exposes order form g (then_some test buf)
+    → LendsEncoding order form g (then_some test buf)
 exposes true buf h = let whole = h refl in record { encoding = whole.encoding; writable = whole.writable }
 exposes false buf h = record { encoding = tt; writable = tt }
 
@@ -72,8 +68,7 @@ pub record HasWrittenHeader (k : ℕ) (l : Layout) (bytes : List ℕ) (order : E
   pub code : number order 4 (drop 1 bytes) ≡ code_of (form_with_flags has_flags) k l.dimension
 
 no_srid : (has_flags : Bool) → form_srid (form_with_flags has_flags) ≡ None
-no_srid true = refl
-no_srid false = refl
+no_srid has_flags = grind arith
 
 -- the spelling of a geometry with that header and these members
 pub header_spelled : (k : ℕ) (l : Layout) (bytes : List ℕ) (order : Endianness) (has_flags : Bool) (ss : Spellings)
@@ -92,8 +87,7 @@ member_written order has_flags kind d part =
 pub as_member : (order : Endianness) (has_flags : Bool) (v : Value)
     → written order (form_with_flags has_flags) (geometry_of v)
     ≡ written order (inner (form_with_flags has_flags)) (geometry_of v)
-as_member order true v = refl
-as_member order false v = refl
+as_member order has_flags v = grind arith
 
 -- the members before an index are spelled as they are written
 pub record AreWrittenBefore {A : Type 0} (order : Endianness) (has_flags : Bool) (kind : Dimension → A → Value)
@@ -141,14 +135,5 @@ pub all_written : {A : Type 0} {k : ℕ} {l : Layout} {bytes : List ℕ} {order 
     → spelled_in l bytes [] (spellings ms)
     ≡ node (written_header order (form_with_flags has_flags) k (written_dimension (as_dimensions l.dimension))) []
     (each_spelling (member_written order has_flags kind l.dimension) (map part ms))
-all_written {k = k} {l = l} {bytes = bytes} {order = order} {has_flags = has_flags} {kind = kind} {i = i} part ms
-    header all before =
-    let f = member_written order has_flags kind l.dimension in
-    let same =
-    sym (take_all i (map (λ m. m.spelled) ms) (omega (arith, length-map ms part, length-map ms (λ m. m.spelled))))
-    ∙ ap (take i) (sym (spelled_each ms)) ∙ before.same
-    ∙ take_all i (map f (map part ms)) (omega (arith, length-map (map part ms) f)) in
-    header_spelled k l bytes order has_flags (spellings ms) header
-    ∙ ap (λ ss.
-    node (written_header order (form_with_flags has_flags) k (written_dimension (as_dimensions l.dimension))) [] ss)
-    (each_spelled f part ms same)
+all_written part ms header all before =
+    grind (arith, spelled_each, length-map, take_all, header_spelled, each_spelled)

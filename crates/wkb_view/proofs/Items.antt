@@ -1,13 +1,13 @@
 -- Words and coordinates at their offsets.
 use Rattle.std.proofs.Common.{◌≡◌, ℕ, zero, suc, ◌+◌, ◌-◌, ◌*◌, ◌≤◌, ◌<◌, List, length, take, drop, Some, refl, sym, ap}
-use Rattle.std.proofs.Common.{◌∙◌, get_or, arith, Bool, true, false}
+use Rattle.std.proofs.Common.{◌∙◌, get_or, arith, Bool}
 use Rattle.std.specs.Prelude.{slice_get, is_none}
 use Rattle.std.proofs.lemmas.List.{drop-drop, drop-take}
 use Rattle.std.proofs.lemmas.Option.{get_or_from_slice_get}
 use Rattle.std.proofs.Math.Nat.{mul-le-mul_left, mul-le-mul_right, mul-add}
 use Rattle.wkb_geom.specs.Spellings.{header}
 use Rattle.wkb_geom.specs.Reading.{point_words_in}
-use Rattle.wkb_view.specs.Prelude.{Endianness, Dimension, Xy, Xyz, Xym, Xyzm, number, width, number-take, length-items}
+use Rattle.wkb_view.specs.Prelude.{Endianness, Dimension, number, width, number-take, length-items}
 use Rattle.wkb_view.specs.Prelude.{items, coordinate, coordinates, body_start}
 use Rattle.wkb_view.specs.Coords.{coordinate_encoding}
 use Rattle.wkb_view.specs.Prelude.{ring_in, Layout, is_nan, all_nan, point_of, point_item, point_item_of, srid_in}
@@ -16,9 +16,7 @@ pub items_at : {A : Type 0} (size : ℕ) (item : List ℕ → A) (n i : ℕ) (xs
     → slice_get (items size item n xs) i ≡ Some (item (drop (size * i) xs))
 items_at size item zero i xs h = absurd (omega arith)
 items_at size item (suc n) zero xs h = let z : 0 ≡ size * 0 = omega arith in ap (λ (k : ℕ). Some (item (drop k xs))) z
-items_at size item (suc n) (suc i) xs h =
-    items_at size item n i (drop size xs) (omega arith)
-    ∙ ap (λ (t : List ℕ). Some (item t)) (drop-drop (size * i) size xs ∙ ap (λ (k : ℕ). drop k xs) (omega arith))
+items_at size item (suc n) (suc i) xs h = grind (arith, drop-drop, items_at size item n i (drop size xs) (omega arith))
 
 pub word_at : (e : Endianness) (n i : ℕ) (xs : List ℕ) → i < n
     → get_or (items 8 (number e 8) n xs) i 0 ≡ number e 8 (drop (8 * i) xs)
@@ -46,33 +44,23 @@ words-take e (suc n) m xs h =
 pub coordinate_between : (e : Endianness) (d : Dimension) (n i start : ℕ) (encoding : List ℕ) → i < n
     → Some (coordinate e d (take (8 * width d) (drop (start + 8 * width d * i) encoding)))
     ≡ slice_get (coordinates e d n (drop start encoding)) i
-coordinate_between e d n i start encoding h =
-    ap (λ (ws : List ℕ). Some ws)
-    (words-take e (width d) (8 * width d) (drop (start + 8 * width d * i) encoding) (omega arith)
-    ∙ ap (λ (t : List ℕ). coordinate e d t) (sym (drop-drop (8 * width d * i) start encoding)))
-    ∙ sym (items_at (8 * width d) (coordinate e d) n i (drop start encoding) h)
+coordinate_between e d n i start encoding h = grind (arith, drop-drop, items_at, words-take)
 
 -- a coordinate after a header and a count
 pub coordinate_behind : (d : Dimension) (start i : ℕ) (encoding : List ℕ)
     → coordinate_encoding d (4 + 8 * width d * i) (drop start encoding)
     ≡ coordinate_encoding d (start + 4 + 8 * width d * i) encoding
-coordinate_behind d start i encoding =
-    ap (λ (t : List ℕ). take (8 * width d) t)
-    (drop-drop (4 + 8 * width d * i) start encoding ∙ ap (λ (k : ℕ). drop k encoding) (omega arith))
+coordinate_behind d start i encoding = grind (arith, drop-drop)
 
 pub ring_counted : (e : Endianness) (d : Dimension) (encoding : List ℕ)
     → length (ring_in e d encoding) ≡ number e 4 encoding
 ring_counted e d encoding = length-items (8 * width d) (coordinate e d) (number e 4 encoding) (drop 4 encoding)
 
 pub width-within : (d : Dimension) → (2 ≤ width d) × (width d ≤ 4)
-width-within Xy = (omega arith, omega arith)
-width-within Xyz = (omega arith, omega arith)
-width-within Xym = (omega arith, omega arith)
-width-within Xyzm = (omega arith, omega arith)
+width-within d = grind arith
 
 pub start-within : (srid : Bool) → body_start srid ≤ 9
-start-within true = omega arith
-start-within false = omega arith
+start-within srid = grind arith
 
 pub few_words : (d : Dimension) (i : ℕ) → 8 * width d * i ≤ 32 * i
 few_words d i = mul-le-mul_right i (omega (arith, (width-within d).1))
@@ -87,29 +75,16 @@ next_within size i n lt =
 
 -- ---- points that are empty, and those that are not
 
-empty_by : (l : Layout) (encoding ws : List ℕ) (b : Bool) → is_none (point_of (point_item_of l encoding ws b).value) ≡ b
-empty_by l encoding ws true = refl
-empty_by l encoding ws false = refl
-
 pub empty_is : (l : Layout) (encoding : List ℕ)
     → is_none (point_of (point_item l encoding).value) ≡ all_nan (point_words_in l encoding)
-empty_is l encoding = empty_by l encoding _ _
-
-encoding_by : (l : Layout) (encoding ws : List ℕ) (b : Bool) → (point_item_of l encoding ws b).encoding ≡ encoding
-encoding_by l encoding ws true = refl
-encoding_by l encoding ws false = refl
+empty_is l encoding = grind arith
 
 pub point_encoding_is : (l : Layout) (encoding : List ℕ) → (point_item l encoding).encoding ≡ encoding
-point_encoding_is l encoding = encoding_by l encoding _ _
-
-srid_by : (l : Layout) (encoding ws : List ℕ) (b : Bool)
-    → (header (point_item_of l encoding ws b).spelled).srid ≡ srid_in l.order l.has_srid encoding
-srid_by l encoding ws true = refl
-srid_by l encoding ws false = refl
+point_encoding_is l encoding = grind arith
 
 pub srid_is : (l : Layout) (encoding : List ℕ)
     → (header (point_item l encoding).spelled).srid ≡ srid_in l.order l.has_srid encoding
-srid_is l encoding = srid_by l encoding _ _
+srid_is l encoding = grind arith
 
 pub coordinate_is : (l : Layout) (encoding : List ℕ) (b : Bool) → b ≡ all_nan (point_words_in l encoding)
     → point_of (point_item_of l encoding (point_words_in l encoding) b).value ≡ point_of (point_item l encoding).value

@@ -1,5 +1,5 @@
 -- What the views of a point, a line string and a multi point hold is lawful, and what they say of dimensions.
-use Rattle.std.proofs.Common.{◌≡◌, Option, Some, None, ap}
+use Rattle.std.proofs.Common.{◌≡◌, Option, arith}
 use Rattle.std.specs.Option.{IfSome}
 use Rattle.std.specs.List.{AllByRecursion}
 use Rattle.wkb_geom.specs.Geometries.{IsPoint, AreCoordinates}
@@ -25,5 +25,4 @@ multi_point_is_lawful m = multi_point_item_lawful m.layout m.count m.buf.now m.i
 -- a part that has the whole's dimension has it by the traits' name, too
 pub dimensions_told : {A : Type 0} (dimension : A → Dimension) (o : Option A) (d : Dimension)
     → IfSome o (λ a. dimension a ≡ d) → IfSome o (λ a. as_dimensions (dimension a) ≡ as_dimensions d)
-dimensions_told dimension None d h = tt
-dimensions_told dimension (Some a) d h = ap as_dimensions h
+dimensions_told dimension o d h = grind arith

@@ -1,10 +1,9 @@
 -- Points, line strings and rings: what an encoding that was cut after them says, and what they cost.
-use Rattle.std.proofs.Common.{◌≡◌, ℕ, zero, suc, ◌-◌, ◌+◌, ◌≤◌, Bool, true, false, cond, ltb, List, [], ◌∷◌, length}
+use Rattle.std.proofs.Common.{◌≡◌, ℕ, zero, suc, ◌-◌, ◌+◌, ◌≤◌, List, [], ◌∷◌, length}
 use Rattle.std.proofs.Common.{take, drop, Option, Some, None, Ok, refl, sym, ap, ◌∙◌, length-take, length-drop, arith}
-use Rattle.std.proofs.lemmas.Bool.{le-ltb}
 use Rattle.wkb_geom.specs.Reading.{order_of_byte, head_by_order}
 use Rattle.wkb_view.specs.Prelude.{Endianness, Dimension, Layout, number, number-take, ring_end, Item, Outcome, Reading}
-use Rattle.wkb_view.specs.Prelude.{free, at_no_cost, head_at, consumed, line_string_at, layout_wanted, member_layout}
+use Rattle.wkb_view.specs.Prelude.{at_no_cost, head_at, consumed, line_string_at, layout_wanted, member_layout}
 use Rattle.wkb_view.specs.Prelude.{member_body, member_at, then_body}
 use Rattle.wkb_view.specs.Members.{item_of, IsEncoding, IsMemberOfKind, layout_said, member_item}
 use Rattle.wkb_view.specs.Pieces.{Passed, IsRing}
@@ -21,10 +20,7 @@ number_within order at end bytes h =
 by_order_same : (o : Option Endianness) (n : ℕ) (behind : List ℕ) → 4 ≤ n → n ≤ length behind
     → head_by_order o (take n behind) ≡ head_by_order o behind
 by_order_same None n behind h le = refl
-by_order_same (Some e) n behind h le =
-    let a : ltb (length (take n behind)) 4 ≡ false = le-ltb _ _ (omega (arith, length-take n behind)) in
-    let b : ltb (length behind) 4 ≡ false = le-ltb _ _ (omega arith) in
-    rw (a, b, number-take e 4 n behind h) refl
+by_order_same (Some e) n behind h le = grind (arith, length-take, number-take e 4 n behind h)
 
 -- a header reads no byte past its end
 pub head-take : (n : ℕ) (bytes : List ℕ) → 5 ≤ n → n ≤ length bytes → head_at (take n bytes) ≡ head_at bytes
@@ -33,14 +29,10 @@ head-take zero bytes h le = absurd (omega arith)
 head-take (suc n) [] h le = absurd (omega arith)
 head-take (suc n) (b ∷ bytes) h le = by_order_same (order_of_byte b) n bytes (omega arith) (omega arith)
 
-free_by : (b : Bool) (r p : Reading Item) → p.0 ≡ free → r.0 ≡ free → (cond b p r).0 ≡ free
-free_by true r p h k = h
-free_by false r p h k = k
-
 -- a line string costs nothing
 pub line_string_free : (l : Layout) (bytes : List ℕ) → line_string_at l bytes ≡ at_no_cost (line_string_at l bytes).1
 unfolding line_string_told
-line_string_free l bytes = ap (λ c. (c, (line_string_at l bytes).1)) (free_by _ _ _ refl refl)
+line_string_free l bytes = grind arith
 
 -- ---- what was passed, by the encoding that was taken
 

@@ -1,3 +1,4 @@
+pub mod Algebra
 pub mod Items
 pub mod Lawful
 pub mod Leaves

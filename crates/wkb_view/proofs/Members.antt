@@ -1,16 +1,14 @@
 -- Members in lists.
 use Rattle.std.proofs.Common.{◌≡◌, ℕ, zero, suc, List, [], ◌∷◌, ◌++◌, map, Option, Some, None, refl, sym, ap, ◌∙◌}
 use Rattle.std.proofs.Common.{subst, ◌+◌, ◌-◌, ◌*◌, ◌≤◌, ◌<◌, length, Bor}
-use Rattle.std.proofs.Common.{take, drop, Bool, true, false, ◌&&◌, Result, Ok, Err, length-drop, length-take, arith}
-use Rattle.std.specs.Prelude.{slice_get, option_map, if◌then◌else◌, ◌==◌, IsOk}
+use Rattle.std.proofs.Common.{take, drop, Bool, false, Result, Ok, length-drop, length-take, arith}
+use Rattle.std.specs.Prelude.{slice_get, option_map, IsOk}
 use Rattle.std.specs.List.{AllByRecursion}
 use Rattle.std.proofs.lemmas.Option.{slice_get-map}
 use Rattle.std.proofs.lemmas.List.{length-map}
 use Rattle.wkb_geom.specs.Values.{polygon}
-use Rattle.wkb_geom.specs.declared.error.Cause.TheVariants.{IncorrectType as incorrect_type}
-use Rattle.wkb_geom.specs.Reading.{type_kind, type_dimension, same_dimension}
 use Rattle.wkb_view.specs.Prelude.{Dimension, as_dimensions, Spelling, Coordinate, Listed, whole_of, Item, spellings}
-use Rattle.wkb_view.specs.Prelude.{polygon_of, Endianness, Layout, Head, Cause, multi_point_end, body_start, point_of}
+use Rattle.wkb_view.specs.Prelude.{polygon_of, Layout, Head, Cause, multi_point_end, body_start, point_of}
 use Rattle.wkb_view.specs.Prelude.{consumed, laid, head_at, layout_wanted, member_layout, list_of_spellings}
 use Rattle.wkb_plain.proofs.Lookups.{IsAnswered, copied_is}
 use Rattle.wkb_view.specs.Fitted.{fitted_parts, fitted_line_strings, fitted_polygons}
@@ -29,9 +27,7 @@ spelled_each (m ∷ ms) = ap (λ (ss : List Spelling). m.spelled ∷ ss) (spelle
 
 pub members_counted : {B : Type 0} (f : Item → B) (k : ℕ) (l : Layout) (ends encoding : List ℕ)
     → length (map f (members_in k l ends encoding)) ≡ length ends
-members_counted f k l ends encoding =
-    length-map (members_in k l ends encoding) f
-    ∙ parts_counted (member_item k l.dimension) (body_start l.has_srid + 4) ends encoding
+members_counted f k l ends encoding = grind (arith, parts_counted, length-map)
 
 module _ (k : ℕ) (l : Layout) (ends encoding : List ℕ) (i : ℕ) where
   -- one that is handed out has the encoding that its layout says
@@ -58,17 +54,13 @@ module _ (k : ℕ) (l : Layout) (ends encoding : List ℕ) (i : ℕ) where
   -- what is made of it
   pub members_seen : {B : Type 0} (f : Item → B) (o : Option (List ℕ)) → o ≡ slice_get (pieces_behind l ends encoding) i
       → option_map f (option_map (member_item k l.dimension) o) ≡ slice_get (map f (members_in k l ends encoding)) i
-  members_seen f o e =
-      ap (option_map f) (piece_seen (member_item k l.dimension) (body_start l.has_srid + 4) ends encoding i o e)
-      ∙ sym (slice_get-map f (members_in k l ends encoding) i)
+  members_seen f o e = grind (arith, slice_get-map, piece_seen)
 
   -- and its spelling
   pub spelling_seen : (o : Option (List ℕ)) → o ≡ slice_get (pieces_behind l ends encoding) i
       → option_map (λ m. m.spelled) (option_map (member_item k l.dimension) o)
       ≡ slice_get (list_of_spellings (spellings (members_in k l ends encoding))) i
-  spelling_seen o e =
-      members_seen (λ m. m.spelled) o e
-      ∙ sym (ap (λ (ss : List Spelling). slice_get ss i) (spelled_each (members_in k l ends encoding)))
+  spelling_seen o e = grind (arith, spelled_each, members_seen)
 
 -- what holds of each member holds with one more
 pub all_more : {A : Type 0} (P : A → Type 0) (xs : List A) (x : A) → AllByRecursion P xs → P x
@@ -85,10 +77,7 @@ each_at P (y ∷ xs) (suc i) x all e = each_at P xs i x all.1 e
 items_at : {B : Type 0} (f : Item → B) (ps : List (Listed (List (List Coordinate)))) (i : ℕ)
     (o : Option (Listed (List (List Coordinate)))) → slice_get ps i ≡ o
     → option_map f (option_map (λ p. whole_of polygon p) o) ≡ slice_get (map f (polygon_items ps)) i
-items_at f ps i o e =
-    sym (slice_get-map f (polygon_items ps) i
-    ∙ ap (option_map f)
-    (slice_get-map (λ p. whole_of polygon p) ps i ∙ ap (option_map (λ p. whole_of polygon p)) e))
+items_at f ps i o e = grind (arith, slice_get-map)
 
 seen_at : {B : Type 0} (f : Item → B) (ps : List (Listed (List (List Coordinate)))) (i : ℕ)
     (o : Option (Bor (Listed (List (List Coordinate))))) → IsAnswered ps i o
@@ -142,36 +131,19 @@ last_end-every start size (suc n) = omega (arith, last_end-every (start + size) 
 every-next : (start size n end : ℕ) → end ≡ start + size * n + size
     → every start size (suc n) ≡ every start size n ++ end ∷ []
 every-next start size zero end e = ap (λ (k : ℕ). k ∷ []) (omega arith)
-every-next start size (suc n) end e =
-    ap (λ (r : List ℕ). (start + size) ∷ r) (every-next (start + size) size n end (omega arith))
+every-next start size (suc n) end e = grind (arith, every-next (start + size) size n end (omega arith))
 
 -- the part at an index
 pub every_at : (start size n i : ℕ) (encoding : List ℕ) → i < n
     → slice_get (pieces start (every start size n) encoding) i ≡ Some (take size (drop (start + size * i) encoding))
 every_at start size zero i encoding lt = absurd (omega arith)
-every_at start size (suc n) zero encoding lt =
-    let k : start + size - start ≡ size = omega arith in
-    let z : start ≡ start + size * 0 = omega arith in
-    ap (λ (m : ℕ). Some (take m (drop start encoding))) k ∙ ap (λ (m : ℕ). Some (take size (drop m encoding))) z
-every_at start size (suc n) (suc i) encoding lt =
-    every_at (start + size) size n i encoding (omega arith)
-    ∙ ap (λ (m : ℕ). Some (take size (drop m encoding))) (omega arith)
+every_at start size (suc n) zero encoding lt = grind arith
+every_at start size (suc n) (suc i) encoding lt = grind (arith, every_at (start + size) size n i encoding (omega arith))
 
 -- ---- a member has no SRID, so that it has the size of all
 
-no_srid_by : (order : Endianness) (d : Dimension) (a b srid : Bool) (l : Layout)
-    → (if (a && (b && (if srid then false else true))) then Ok (laid order d srid) else Err incorrect_type) ≡ Ok l
-    → l.has_srid ≡ false
-no_srid_by order d true true false l e =
-    let same : laid order d false ≡ l = cc in ap (λ (m : Layout). m.has_srid) (sym same)
-no_srid_by order d true true true l e = absurd cc
-no_srid_by order d true false srid l e = absurd cc
-no_srid_by order d false b srid l e = absurd cc
-
 no_srid : (d : Dimension) (r : Result Head Cause) (l : Layout) → layout_wanted 1 d r ≡ Ok l → l.has_srid ≡ false
-no_srid d (Ok h) l e =
-    no_srid_by h.order d (type_kind h.wkb_type == 1) (same_dimension (type_dimension h.wkb_type) d) h.has_srid l e
-no_srid d (Err c) l e = absurd cc
+no_srid d r l e = grind arith
 
 -- the layout of a member has the dimension that is wanted
 pub member_laid : (k : ℕ) (d : Dimension) (bytes : List ℕ) (l : Layout) → member_layout k d bytes ≡ Ok l
@@ -212,31 +184,19 @@ pub points_end : (l : Layout) (i : ℕ) (bytes rest : List ℕ)
     → rest ≡ drop (last_end (body_start l.has_srid + 4) (point_ends l i)) bytes
     → last_end (body_start l.has_srid + 4) (point_ends l i) ≤ length bytes
     → multi_point_end l.dimension l.has_srid i + length rest ≡ length bytes
-points_end l i bytes rest rest-is within =
-    let start = body_start l.has_srid + 4 in
-    omega (
-      arith,
-      last_end-every start (stride l.dimension) i,
-      ap length rest-is ∙ length-drop (last_end start (point_ends l i)) bytes,
-    )
+points_end l i bytes rest rest-is within = grind (arith, length-drop, last_end-every)
 
 -- ---- members by their index
 
 pub points_counted : (l : Layout) (n : ℕ) (encoding : List ℕ)
     → length (map (λ i. point_of i.value) (points_in l n encoding)) ≡ n
-points_counted l n encoding =
-    members_counted (λ i. point_of i.value) 1 l (point_ends l n) encoding
-    ∙ length-every (body_start l.has_srid + 4) (stride l.dimension) n
+points_counted l n encoding = grind (arith, members_counted, length-every)
 
 pub point_encoding : (l : Layout) (n i : ℕ) (buf : List ℕ) (start : ℕ) (part : List ℕ) → i < n
     → start ≡ body_start l.has_srid + 4 + stride l.dimension * i
     → part ≡ take (stride l.dimension) (drop start buf) → Some part ≡ slice_get (pieces_behind l (point_ends l n) buf) i
-point_encoding l n i buf start part lt start-is part-is =
-    ap (λ (t : List ℕ). Some t) (part-is ∙ ap (λ (k : ℕ). take (stride l.dimension) (drop k buf)) start-is)
-    ∙ sym (every_at (body_start l.has_srid + 4) (stride l.dimension) n i buf lt)
+point_encoding l n i buf start part lt start-is part-is = grind (arith, every_at)
 
 pub point_past : (l : Layout) (n i : ℕ) (buf : List ℕ) → n ≤ i
     → None ≡ slice_get (pieces_behind l (point_ends l n) buf) i
-point_past l n i buf le =
-    pieces_past (body_start l.has_srid + 4) (point_ends l n) buf i
-    (omega (arith, length-every (body_start l.has_srid + 4) (stride l.dimension) n))
+point_past l n i buf le = grind (arith, pieces_past, length-every)

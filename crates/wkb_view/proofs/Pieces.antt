@@ -192,7 +192,7 @@ module _ {A : Type 0} {least : ℕ} {P : List ℕ → Type 0} {seen : List ℕ �
       let end_at = last_end-push start ends end in
       let more : length (ends ++ end ∷ []) ≡ length ends + 1 = length-append ends (end ∷ []) in
       record {
-        left = rw pushed (next_part new (seen (consumed rest after)) after lt so_far.left is spent);
+        left = rw pushed (next_part lt so_far.left new (seen (consumed rest after)) after is spent);
         stand = ArePieces-push P start ends end bytes so_far.stand piece;
         rest_is = passed.rest_is ∙ ap (λ (b : List ℕ). drop size b) so_far.rest_is ∙ drop-drop size last bytes
             ∙ ap (λ (n : ℕ). drop n bytes) (sym end_is ∙ sym end_at);

@@ -1,5 +1,8 @@
 -- What the views of coordinates and rings mean.
-use Rattle.std.specs.Prelude.{ℕ, ◌+◌, ◌*◌, List, take, drop}
+use Rattle.std.specs.Prelude.{◌≡◌, ℕ, ◌+◌, ◌*◌, List, take, drop, Option, IfSome}
+use Rattle.std.specs.Borrow.{Bor}
+use Rattle.std.specs.List.{flat_map}
+use Rattle.wkb_geom.specs.Encodings.{words_encoding}
 use Rattle.wkb_geom.specs.Spellings.{SpellsCoordinate, SpellsCoordinates}
 use Rattle.wkb_view.specs.Prelude.{Dimension, Endianness, Coordinate, width, coordinate, ring_in}
 use Rattle.wkb_view.specs.declared.coord.Coord.{Coord}
@@ -43,6 +46,10 @@ ring_offset r i = 4 + 8 * width r.dimension * i
 -- the bytes of the coordinate at an index
 abbrev pub ring_coord_bytes : LinearRing → ℕ → List ℕ
 ring_coord_bytes r i = coordinate_encoding r.dimension (ring_offset r i) r.bytes.now
+
+-- the bytes that are lent, if any, are these coordinates as they are written in this order, without a count
+abbrev pub LendsCoordinates : Endianness → List Coordinate → Option (Bor (List ℕ)) → Type 0
+LendsCoordinates order cs lent = IfSome lent (λ b. b.now ≡ flat_map (words_encoding order) cs)
 
 -- the bytes of a coordinate spell its words, and those of a ring its coordinates
 abbrev pub CoordBytesSpell : Coord → Type 0

@@ -4,7 +4,7 @@ use Rattle.std.specs.Borrow.{Bor}
 use Rattle.wkb_geom.specs.declared.code.TheConstants.{LINE_STRING, POLYGON, MULTI_LINE_STRING}
 use Rattle.wkb_geom.specs.declared.header.TheConstants.{MIN_MEMBER_SIZE}
 use Rattle.wkb_geom.specs.declared.words.TheConstants.{COUNT_SIZE}
-use Rattle.wkb_view.specs.Prelude.{Layout, Item, Reading, Cause, Refusal, list_at, slots_asked, body_start}
+use Rattle.wkb_view.specs.Prelude.{Layout, Item, Reading, Cause, Refusal, list_at, slots_asked, body_start, consumed}
 use Rattle.wkb_view.specs.Prelude.{ring_part, polygon_item, member_at, list_item, multi_line_string_with}
 use Rattle.wkb_view.specs.declared.counts.Counts.{Counts}
 use Rattle.wkb_view.specs.declared.reserved.Reserved.{Reserved}
@@ -67,9 +67,9 @@ module _ {least : ℕ} (parts : Layout → PartsOf least) (l : Layout) where
   abbrev pub parts_ending : List ℕ → List ℕ → List (parts l).Read
   parts_ending ends encoding = map (parts l).seen (pieces_behind l ends encoding)
 
-  -- each of these offsets is the end of a part
-  abbrev pub AreEndsOf : List ℕ → List ℕ → Type 0
-  AreEndsOf ends encoding = ArePieces (parts l).IsPart (body_start l.has_srid + 4) ends encoding
+  -- each of these offsets is the end of a part, in the bytes that were passed
+  abbrev pub AreEndsOf : List ℕ → List ℕ → Bor (List ℕ) → Type 0
+  AreEndsOf ends bytes rest = ArePieces (parts l).IsPart (body_start l.has_srid + 4) ends (consumed bytes rest.now)
 
   -- n parts were passed, and these are their ends, or one is refused
   abbrev pub PassesParts : ℕ → List ℕ → Result (Reserved ℕ × Bor (List ℕ)) Cause → Counts → Counts → Type 0

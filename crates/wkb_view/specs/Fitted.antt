@@ -13,6 +13,7 @@ use Rattle.wkb_geom.specs.declared.common.Dimensions.{Dimensions}
 use Rattle.wkb_geom.specs.Geometries.{Geometry, point, line_string, polygon, multi_point, multi_line_string}
 use Rattle.wkb_geom.specs.Geometries.{multi_polygon, collection, line, rectangle, triangle, Geometries, no_geometries}
 use Rattle.wkb_geom.specs.Geometries.{geometry, IsCoordinate, IsPoint, AreCoordinates, IsGeometry, AreGeometries}
+use Rattle.wkb_geom.specs.Sizes.{rings_size}
 use Rattle.wkb_view.specs.Prelude.{Dimension, Coordinate, size, as_dimensions, IsWord, Listed}
 
 -- whether there are as many words as the dimensions say, each in range
@@ -32,6 +33,10 @@ fitted_line_strings dims = map (fitted_line_string dims)
 -- the rings of a polygon, or the line strings of a multi line string, that fit its dimension
 abbrev pub fitted_parts : Listed (List (List Coordinate)) → List (List Coordinate)
 fitted_parts g = fitted_line_strings (as_dimensions g.dimension) g.parts
+
+-- the bytes of their count and of the rings
+abbrev pub fitted_rings_size : Listed (List (List Coordinate)) → ℕ
+fitted_rings_size p = rings_size (as_dimensions p.dimension) (fitted_parts p)
 
 -- the polygon of these rings
 abbrev pub fitted_polygon : Listed (List (List Coordinate)) → Geometry

@@ -10,6 +10,7 @@ pub mod Parts
 pub mod Passing
 pub mod Pieces
 pub mod Ranges
+pub mod Reads
 pub mod Spelled
 pub mod Views
 pub mod Prelude

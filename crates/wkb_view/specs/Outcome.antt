@@ -1,7 +1,7 @@
 -- How the result of a read agrees with reading.
 use Rattle.std.specs.Prelude.{◌≡◌, ℕ, ◌+◌, ◌≤◌, ◌<◌, ◌^◌, List, length, Result, Ok, Err, IfErr}
 use Rattle.std.specs.Borrow.{Bor}
-use Rattle.wkb_view.specs.Prelude.{Cause, Refusal, Cost, Outcome, Reading}
+use Rattle.wkb_view.specs.Prelude.{Cause, Refusal, Cost, Outcome, Reading, Item, consumed}
 use Rattle.wkb_view.specs.Prelude.refusals
 use Rattle.wkb_view.specs.declared.counts.Counts.{Counts}
 
@@ -9,6 +9,10 @@ use Rattle.wkb_view.specs.declared.counts.Counts.{Counts}
 pub record Spent (old new : Counts) (cost : Cost) : Type 0 where
   pub turns : new.turns ≡ old.turns + cost.turns
   pub slots : new.slots ≡ old.slots + cost.slots
+
+-- what was counted, as a cost
+abbrev pub cost_of : Counts → Cost
+cost_of c = record { turns = c.turns; slots = c.slots }
 
 -- one turn more
 abbrev pub next_turn : Counts → Counts
@@ -60,6 +64,10 @@ CountsOrStops shown (Err refusal) reading old new = Stops refusal reading old ne
 abbrev pub IsReadOrStops : {X Y : Type 0} → (X → Y) → Result (X × Bor (List ℕ)) Refusal → Reading Y → Counts → Counts
     → Type 0
 IsReadOrStops seen result reading old new = CountsOrStops (seen_with_rest seen) result reading old new
+
+-- what was read is the item of the bytes that were taken
+abbrev pub IsTakenAs : {X : Type 0} → (X → Item) → (List ℕ → Item) → List ℕ → X × Bor (List ℕ) → Type 0
+IsTakenAs seen item bytes x = seen x.0 ≡ item (consumed bytes x.1.now)
 
 -- what was read has at least this many bytes: those after it are so many fewer
 abbrev pub TakesAtLeast : {X : Type 0} → ℕ → List ℕ → X × Bor (List ℕ) → Type 0

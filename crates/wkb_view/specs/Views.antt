@@ -28,6 +28,9 @@ point_spelling p = (point_seen p).spelled
 abbrev pub point_order : Point → Endianness
 point_order p = order_of (point_spelling p)
 
+abbrev pub multi_point_spelling : MultiPoint → Spelling
+multi_point_spelling m = (multi_point_seen m).spelled
+
 abbrev pub line_string_spelling : LineString → Spelling
 line_string_spelling l = (line_string_seen l).spelled
 

@@ -1,7 +1,7 @@
 //! The offsets at which parts end.
 
 ghost use Rattle.std.specs.Prelude.{◌≡◌, ◌+◌, ℕ, length, ◌≤◌, IfOk, []};
-ghost use Rattle.wkb_view.specs.Prelude.{Layout, body_start, consumed};
+ghost use Rattle.wkb_view.specs.Prelude.{Layout, body_start};
 ghost use Rattle.wkb_view.specs.Ends.{PartsOf, whole_at, parts_at, AreEndsOf, PassesParts, ReadsEnds};
 ghost use Rattle.wkb_view.specs.Entries.{entries, capacity, HasSlots};
 ghost use Rattle.wkb_view.specs.Outcome.{CanCount, RefusesWithoutSlots};
@@ -40,7 +40,7 @@ pub(crate) fn read_ends<'a, P: Parts>(
 ) -> Result<(Vec<usize>, &'a [u8]), Refusal>
     requires fits { CanCount counts.old (whole_at P.parts layout bytes.now).0 }
     ensures answer { ReadsEnds P.parts layout bytes.now result counts.old counts.new }
-    ensures ends { IfOk result (λ x. AreEndsOf P.parts layout x.0.items (consumed bytes.now x.1.now)) }
+    ensures ends { IfOk result (λ x. AreEndsOf P.parts layout x.0.items bytes.now x.1) }
     ensures shorter { IfOk result (λ x. IsAfterCount layout bytes.now x.1.now) }
     ensures no_memory { RefusesWithoutSlots (whole_at P.parts layout bytes.now) result }
 {
@@ -62,7 +62,7 @@ fn pass_parts<'a, P: Parts>(
     requires room { HasSlots P.MIN_SIZE layout count bytes.now (capacity ends) }
     requires fits { CanCount counts.old (parts_at P.parts layout count bytes.now).0 }
     ensures answer { PassesParts P.parts layout count bytes.now result counts.old counts.new }
-    ensures ends { IfOk result (λ x. AreEndsOf P.parts layout (entries x.0) (consumed bytes.now x.1.now)) }
+    ensures ends { IfOk result (λ x. AreEndsOf P.parts layout (entries x.0) bytes.now x.1) }
     ensures shorter { IfOk result (λ x. IsAfterCount layout bytes.now x.1.now) }
 {
     let mut rest = layout.after_count(bytes);

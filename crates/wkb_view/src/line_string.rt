@@ -35,14 +35,14 @@ impl<'a> LineString<'a> {
     ghost use Rattle.std.specs.Prelude.{◌≡◌, length, ◌≤◌, IfOk};
     ghost use Rattle.wkb_geom.specs.Values as value;
     ghost use Rattle.wkb_geom.specs.declared.code.WkbType.TheVariants as kinds;
-    ghost use Rattle.wkb_view.specs.Prelude.{line_string_at, line_string_item, consumed, BytesSpell};
+    ghost use Rattle.wkb_view.specs.Prelude.{line_string_at, line_string_item, BytesSpell};
     ghost use Rattle.wkb_view.specs.Coords.{ring_encoding, ring_order, ring_dimension};
     ghost use Rattle.wkb_view.specs.Views.{line_string_seen, line_string_layout};
     ghost use Rattle.wkb_view.specs.Views.{line_string_offset, seen_coordinates};
     ghost use Rattle.wkb_view.specs.Views.{line_string_order, line_string_ring_bytes};
     ghost use Rattle.wkb_view.specs.Views.{line_string_coords_bytes, line_string_dimension};
     ghost use Rattle.wkb_view.specs.Headers.{HasHead};
-    ghost use Rattle.wkb_view.specs.Outcome.{IsRead, TakesAtLeast};
+    ghost use Rattle.wkb_view.specs.Outcome.{IsRead, IsTakenAs, TakesAtLeast};
     ghost use Rattle.wkb_view.specs.Members.{IsEncoding, PassedEncoding};
 
     /// The number of its bytes.
@@ -115,8 +115,7 @@ impl<'a> LineString<'a> {
     pub fn read(layout: Layout, bytes: &'a [u8]) -> Result<(LineString<'a>, &'a [u8]), Cause>
         requires head { HasHead (λ d. kinds.LineString d) layout bytes.now }
         ensures answer { IsRead line_string_seen result (line_string_at layout bytes.now).1 }
-        ensures item { IfOk result
-            (λ x. line_string_seen x.0 ≡ line_string_item layout (consumed bytes.now x.1.now)) }
+        ensures item { IfOk result (IsTakenAs line_string_seen (line_string_item layout) bytes.now) }
         ensures passed { IfOk result (λ x. PassedEncoding LINE_STRING layout bytes.now x.1.now) }
         ensures shorter { IfOk result (TakesAtLeast MIN_MEMBER_SIZE bytes.now) }
     {
@@ -179,10 +178,9 @@ impl Dimensioned for LineString<'_> {
 impl<'a> LineStringTrait for LineString<'a> {
     ghost use Rattle.std.specs.Prelude.{◌≡◌, length, IfSome, ◌<◌, Some, slice_get};
     ghost use Rattle.std.specs.Prelude.{IsSome, ◌↔◌};
-    ghost use Rattle.std.specs.List.{flat_map};
-    ghost use Rattle.wkb_geom.specs.Encodings.{words_encoding};
     ghost use Rattle.wkb_geom.specs.Found.{IsItemAt};
     ghost use Rattle.wkb_view.specs.Coords.{words_seen, coord_order, coord_dimension};
+    ghost use Rattle.wkb_view.specs.Coords.{LendsCoordinates};
     ghost use Rattle.wkb_view.specs.Coords.{coord_encoding};
     ghost use Rattle.wkb_view.specs.Ranges.{line_string_item_lawful};
     ghost use Rattle.wkb_view.specs.Views.{seen_coordinates, line_string_dimension};
@@ -202,8 +200,7 @@ impl<'a> LineStringTrait for LineString<'a> {
 
     #[inline]
     fn coords_as_written(&self, order: Endianness) -> Option<&[u8]>
-        ensures bytes { IfSome result
-            (λ b. b.now ≡ flat_map (words_encoding order) (seen_coordinates self.now)) }
+        ensures bytes { LendsCoordinates order (seen_coordinates self.now) result }
         ensures own_order { IsSome result ↔ (line_string_order self.now ≡ order) }
     {
         if self.layout.order == order {

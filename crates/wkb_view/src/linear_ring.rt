@@ -148,10 +148,9 @@ impl Dimensioned for LinearRing<'_> {
 impl<'a> LineStringTrait for LinearRing<'a> {
     ghost use Rattle.std.specs.Prelude.{◌≡◌, length, IfSome, ◌<◌, Some, slice_get};
     ghost use Rattle.std.specs.Prelude.{IsSome, ◌↔◌};
-    ghost use Rattle.std.specs.List.{flat_map};
-    ghost use Rattle.wkb_geom.specs.Encodings.{words_encoding};
     ghost use Rattle.wkb_geom.specs.Found.{IsItemAt};
     ghost use Rattle.wkb_view.specs.Coords.{words_seen, coord_order, coord_dimension};
+    ghost use Rattle.wkb_view.specs.Coords.{LendsCoordinates};
     ghost use Rattle.wkb_view.specs.Coords.{coord_encoding, ring_order, ring_dimension, ring_seen};
     ghost use Rattle.wkb_view.specs.Coords.{ring_coord_bytes};
     ghost use Rattle.wkb_view.specs.Ranges.{ring_lawful};
@@ -170,8 +169,7 @@ impl<'a> LineStringTrait for LinearRing<'a> {
 
     #[inline]
     fn coords_as_written(&self, order: Endianness) -> Option<&[u8]>
-        ensures bytes { IfSome result
-            (λ b. b.now ≡ flat_map (words_encoding order) (ring_seen self.now)) }
+        ensures bytes { LendsCoordinates order (ring_seen self.now) result }
         ensures own_order { IsSome result ↔ (ring_order self.now ≡ order) }
     {
         if self.order == order {

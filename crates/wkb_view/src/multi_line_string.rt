@@ -55,7 +55,8 @@ impl<'a> MultiLineString<'a> {
     ghost use Rattle.wkb_view.specs.Views.{seen_coordinates};
     ghost use Rattle.wkb_view.specs.Headers.{HasHead};
     ghost use Rattle.wkb_view.specs.Members.{multi_line_string_seen};
-    ghost use Rattle.wkb_view.specs.Outcome.{IsReadOrStops, TakesAtLeast, CanCount, RefusesWithoutSlots};
+    ghost use Rattle.wkb_view.specs.Outcome.{TakesAtLeast, CanCount, RefusesWithoutSlots};
+    ghost use Rattle.wkb_view.specs.Reads.{ReadsMultiLineString};
 
     /// The number of its bytes.
     #[inline]
@@ -117,8 +118,7 @@ impl<'a> MultiLineString<'a> {
     ) -> Result<(MultiLineString<'a>, &'a [u8]), Refusal>
         requires fits { CanCount counts.old (multi_line_string_at layout bytes.now).0 }
         requires head { HasHead (λ d. kinds.MultiLineString d) layout bytes.now }
-        ensures answer { IsReadOrStops multi_line_string_seen
-            result (multi_line_string_at layout bytes.now) counts.old counts.new }
+        ensures answer { ReadsMultiLineString layout bytes.now result counts.old counts.new }
         ensures shorter { IfOk result (TakesAtLeast MIN_MEMBER_SIZE bytes.now) }
         ensures no_memory { RefusesWithoutSlots (multi_line_string_at layout bytes.now) result }
     {

@@ -40,7 +40,8 @@ impl<'a> MultiPoint<'a> {
     ghost use Rattle.wkb_view.specs.Prelude.{multi_point_at, BytesSpell};
     ghost use Rattle.wkb_view.specs.Views.{multi_point_seen, seen_points, multi_point_offset};
     ghost use Rattle.wkb_view.specs.Headers.{HasHead};
-    ghost use Rattle.wkb_view.specs.Outcome.{IsReadCounted, CanCount, TakesAtLeast};
+    ghost use Rattle.wkb_view.specs.Outcome.{CanCount, TakesAtLeast};
+    ghost use Rattle.wkb_view.specs.Reads.{ReadsMultiPoint};
 
     /// The number of its bytes.
     #[inline]
@@ -88,7 +89,7 @@ impl<'a> MultiPoint<'a> {
     ) -> Result<(MultiPoint<'a>, &'a [u8]), Cause>
         requires fits { CanCount counts.old (multi_point_at layout bytes.now).0 }
         requires head { HasHead (λ d. kinds.MultiPoint d) layout bytes.now }
-        ensures answer { IsReadCounted multi_point_seen result (multi_point_at layout bytes.now) counts.old counts.new }
+        ensures answer { ReadsMultiPoint layout bytes.now result counts.old counts.new }
         ensures shorter { IfOk result (TakesAtLeast MIN_MEMBER_SIZE bytes.now) }
     {
         let count = layout.count_of_points(bytes)?;
@@ -137,9 +138,9 @@ fn pass_points<'a>(
 }
 
 impl OwnSrid for MultiPoint<'_> {
-    ghost use Rattle.wkb_view.specs.Views.{multi_point_seen};
+    ghost use Rattle.wkb_view.specs.Views.{multi_point_spelling};
 
-    ghost spelled = { λ s. (multi_point_seen s).spelled };
+    ghost spelled = { multi_point_spelling };
 
     #[inline]
     fn srid(&self) -> Option<u32> {
@@ -183,7 +184,7 @@ impl<'a> MultiPointTrait for MultiPoint<'a> {
     ghost use Rattle.wkb_geom.specs.Found.{IsItemAt};
     ghost use Rattle.wkb_view.specs.Prelude.{spelling_at};
     ghost use Rattle.wkb_view.specs.Views.{point_seen, seen_coordinate, point_dimension};
-    ghost use Rattle.wkb_view.specs.Views.{multi_point_seen, seen_points, multi_point_dimension};
+    ghost use Rattle.wkb_view.specs.Views.{multi_point_spelling, seen_points, multi_point_dimension};
     ghost use Rattle.wkb_view.specs.Views.{point_spelling, multi_point_member_bytes};
     ghost use Rattle.wkb_view.specs.Ranges.{multi_point_item_lawful};
 
@@ -206,8 +207,7 @@ impl<'a> MultiPointTrait for MultiPoint<'a> {
         ensures value { IsItemAt seen_coordinate result (seen_points self.now) i }
         ensures dimension { IfSome result
             (λ p. point_dimension p ≡ multi_point_dimension self.now) }
-        ensures spelled { option_map point_spelling result
-            ≡ spelling_at (multi_point_seen self.now).spelled i }
+        ensures spelled { option_map point_spelling result ≡ spelling_at (multi_point_spelling self.now) i }
         ensures bytes { IfSome result
             (λ p. (point_seen p).encoding ≡ multi_point_member_bytes self.now i) }
     {

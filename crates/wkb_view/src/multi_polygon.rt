@@ -2,10 +2,10 @@
 
 ghost use Rattle.std.specs.Prelude.{◌≡◌, ◌+◌, length, ◌≤◌, IfOk, []};
 ghost use Rattle.wkb_view.specs.Prelude.{as_dimensions, body_start, member_at};
-ghost use Rattle.wkb_view.specs.Outcome.{IsReadOrStops, TakesAtLeast, CanCount, RefusesWithoutSlots};
-ghost use Rattle.wkb_view.specs.Members.{members_behind, polygon_seen, AreOfDimension};
+ghost use Rattle.wkb_view.specs.Outcome.{TakesAtLeast, CanCount, RefusesWithoutSlots};
+ghost use Rattle.wkb_view.specs.Members.{members_behind, AreOfDimension};
 ghost use Rattle.wkb_view.specs.Pieces.{IsAfterCount};
-ghost use Rattle.wkb_view.specs.Passing.{polygons_seen};
+ghost use Rattle.wkb_view.specs.Reads.{ReadsMember, ReadsMembers};
 ghost use Rattle.wkb_view.specs.Entries.{entries, capacity, HasSlots};
 
 use crate::any::{
@@ -56,7 +56,8 @@ impl<'a> MultiPolygon<'a> {
     ghost use Rattle.wkb_view.specs.Prelude.{multi_polygon_at, BytesSpell};
     ghost use Rattle.wkb_view.specs.Headers.{HasHead};
     ghost use Rattle.wkb_view.specs.Members.{multi_polygon_seen};
-    ghost use Rattle.wkb_view.specs.Outcome.{IsReadOrStops, TakesAtLeast, CanCount, RefusesWithoutSlots};
+    ghost use Rattle.wkb_view.specs.Outcome.{TakesAtLeast, CanCount, RefusesWithoutSlots};
+    ghost use Rattle.wkb_view.specs.Reads.{ReadsMultiPolygon};
 
     /// The number of its bytes.
     #[inline]
@@ -94,8 +95,7 @@ impl<'a> MultiPolygon<'a> {
     ) -> Result<(MultiPolygon<'a>, &'a [u8]), Refusal>
         requires fits { CanCount counts.old (multi_polygon_at layout bytes.now).0 }
         requires head { HasHead (λ d. kinds.MultiPolygon d) layout bytes.now }
-        ensures answer { IsReadOrStops multi_polygon_seen
-            result (multi_polygon_at layout bytes.now) counts.old counts.new }
+        ensures answer { ReadsMultiPolygon layout bytes.now result counts.old counts.new }
         ensures shorter { IfOk result (TakesAtLeast MIN_MEMBER_SIZE bytes.now) }
         ensures no_memory { RefusesWithoutSlots (multi_polygon_at layout bytes.now) result }
     {
@@ -119,7 +119,7 @@ fn read_member<'a>(
 ) -> Result<(Polygon<'a>, &'a [u8]), Refusal>
     requires fits { CanCount counts.old (member_at POLYGON dimension bytes.now).0 }
     ensures dimension { IfOk result (λ x. x.0.dimension ≡ dimension) }
-    ensures answer { IsReadOrStops polygon_seen result (member_at POLYGON dimension bytes.now) counts.old counts.new }
+    ensures answer { ReadsMember dimension bytes.now result counts.old counts.new }
     ensures shorter { IfOk result (TakesAtLeast MIN_MEMBER_SIZE bytes.now) }
     ensures no_memory { RefusesWithoutSlots (member_at POLYGON dimension bytes.now) result }
 {
@@ -141,8 +141,7 @@ fn read_members<'a>(
     requires room { HasSlots MIN_MEMBER_SIZE layout count bytes.now (capacity members) }
     requires fits { CanCount counts.old (members_behind POLYGON layout count bytes.now).0 }
     ensures dimension { IfOk result (λ x. AreOfDimension layout.dimension (entries x.0)) }
-    ensures polygons { IsReadOrStops polygons_seen
-        result (members_behind POLYGON layout count bytes.now) counts.old counts.new }
+    ensures polygons { ReadsMembers layout count bytes.now result counts.old counts.new }
     ensures shorter { IfOk result (λ x. IsAfterCount layout bytes.now x.1.now) }
     ensures no_memory { RefusesWithoutSlots (members_behind POLYGON layout count bytes.now) result }
 {

@@ -31,7 +31,7 @@ impl<'a> Point<'a> {
     ghost use Rattle.std.specs.Prelude.{◌≡◌, length, is_none, IfOk};
     ghost use Rattle.wkb_geom.specs.Values as value;
     ghost use Rattle.wkb_geom.specs.declared.code.WkbType.TheVariants as kinds;
-    ghost use Rattle.wkb_view.specs.Prelude.{point_at, point_item, consumed, BytesSpell};
+    ghost use Rattle.wkb_view.specs.Prelude.{point_at, point_item, BytesSpell};
     ghost use Rattle.wkb_view.specs.Coords.{words_seen, coord_order, coord_dimension};
     ghost use Rattle.wkb_view.specs.Coords.{coord_encoding};
     ghost use Rattle.wkb_view.specs.Views.{coordinate_in, point_seen, seen_coordinate, point_layout};
@@ -39,7 +39,7 @@ impl<'a> Point<'a> {
     ghost use Rattle.wkb_view.specs.Views.{point_dimension};
     ghost use Rattle.wkb_view.specs.Headers.{HasHead};
     ghost use Rattle.wkb_view.specs.Members.{IsEncoding, PassedEncoding};
-    ghost use Rattle.wkb_view.specs.Outcome.{IsRead, TakesAtLeast};
+    ghost use Rattle.wkb_view.specs.Outcome.{IsRead, IsTakenAs, TakesAtLeast};
 
     /// The number of its bytes.
     #[inline]
@@ -115,8 +115,7 @@ impl<'a> Point<'a> {
     pub fn read(layout: Layout, bytes: &'a [u8]) -> Result<(Point<'a>, &'a [u8]), Cause>
         requires head { HasHead (λ d. kinds.Point d) layout bytes.now }
         ensures answer { IsRead point_seen result (point_at layout bytes.now) }
-        ensures item { IfOk result
-            (λ x. point_seen x.0 ≡ point_item layout (consumed bytes.now x.1.now)) }
+        ensures item { IfOk result (IsTakenAs point_seen (point_item layout) bytes.now) }
         ensures passed { IfOk result (λ x. PassedEncoding POINT layout bytes.now x.1.now) }
         ensures shorter { IfOk result (TakesAtLeast MIN_MEMBER_SIZE bytes.now) }
     {

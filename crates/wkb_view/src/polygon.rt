@@ -54,7 +54,8 @@ impl<'a> Polygon<'a> {
     ghost use Rattle.wkb_view.specs.Coords.{ring_order, ring_dimension, ring_seen};
     ghost use Rattle.wkb_view.specs.Headers.{HasHead};
     ghost use Rattle.wkb_view.specs.Members.{polygon_seen};
-    ghost use Rattle.wkb_view.specs.Outcome.{IsReadOrStops, CanCount, RefusesWithoutSlots, TakesAtLeast};
+    ghost use Rattle.wkb_view.specs.Outcome.{CanCount, RefusesWithoutSlots, TakesAtLeast};
+    ghost use Rattle.wkb_view.specs.Reads.{ReadsPolygon};
 
     /// The number of its bytes.
     #[inline]
@@ -126,7 +127,7 @@ impl<'a> Polygon<'a> {
         requires fits { CanCount counts.old (polygon_at layout bytes.now).0 }
         requires head { HasHead (λ d. kinds.Polygon d) layout bytes.now }
         ensures dimension { IfOk result (λ x. x.0.dimension ≡ layout.dimension) }
-        ensures answer { IsReadOrStops polygon_seen result (polygon_at layout bytes.now) counts.old counts.new }
+        ensures answer { ReadsPolygon layout bytes.now result counts.old counts.new }
         ensures shorter { IfOk result (TakesAtLeast MIN_MEMBER_SIZE bytes.now) }
         ensures no_memory { RefusesWithoutSlots (polygon_at layout bytes.now) result }
     {
@@ -189,10 +190,10 @@ impl<'a> PolygonTrait for Polygon<'a> {
     ghost use Rattle.std.specs.Prelude.{◌≡◌, ◌+◌, Some, None, IfSome};
     ghost use Rattle.wkb_geom.specs.Encodings.{fault};
     ghost use Rattle.wkb_geom.specs.Found.{IsItemAt};
-    ghost use Rattle.wkb_geom.specs.Sizes.{rings_size};
     ghost use Rattle.wkb_view.specs.Prelude.{as_dimensions, order_of};
     ghost use Rattle.wkb_view.specs.Coords.{ring_order, ring_dimension, ring_seen};
-    ghost use Rattle.wkb_view.specs.Fitted.{fitted_parts, fitted_polygon, line_strings_fit};
+    ghost use Rattle.wkb_view.specs.Fitted.{fitted_parts, fitted_rings_size, fitted_polygon};
+    ghost use Rattle.wkb_view.specs.Fitted.{line_strings_fit};
 
     type RingType = LinearRing<'a>;
 
@@ -233,7 +234,7 @@ impl<'a> PolygonTrait for Polygon<'a> {
     #[tactic(auto, using(crate::proofs::Sized::sized_laws))]
     #[inline]
     fn rings_size(&self) -> Option<usize>
-        ensures size { result ≡ Some (rings_size (as_dimensions self.now.dimension) (fitted_parts self.now)) }
+        ensures size { result ≡ Some (fitted_rings_size self.now) }
         ensures writable { fault (fitted_polygon self.now) ≡ None }
     {
         Some(self.layout.length_after_header(self.buf))

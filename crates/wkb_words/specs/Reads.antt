@@ -12,20 +12,21 @@ pub use Rattle.wkb.specs.Reads.{members_as_they_are, IsCollectionOf, IsViewOf, c
 pub use Rattle.wkb.specs.Reads.{HoldsMembers, IsCollectionIn, AreMembers, IsMemberAt, words_seen, ring_seen}
 pub use Rattle.wkb.specs.Reads.{coordinate_encoding, coord_order, coord_dimension, coord_encoding, ring_order}
 pub use Rattle.wkb.specs.Reads.{ring_dimension, ring_encoding, ring_offset, ring_coord_bytes, CoordBytesSpell}
-pub use Rattle.wkb.specs.Reads.{RingBytesSpell, point_seen, line_string_seen, multi_point_seen, point_layout}
-pub use Rattle.wkb.specs.Reads.{line_string_layout, multi_point_layout, point_dimension, line_string_dimension}
-pub use Rattle.wkb.specs.Reads.{multi_point_dimension, point_order, point_spelling, line_string_order}
-pub use Rattle.wkb.specs.Reads.{line_string_spelling, seen_coordinates, coordinate_in, line_string_offset}
-pub use Rattle.wkb.specs.Reads.{multi_point_offset, point_value, seen_coordinate, seen_points, point_coord_bytes}
-pub use Rattle.wkb.specs.Reads.{point_words_bytes, line_string_coord_bytes, line_string_coords_bytes}
-pub use Rattle.wkb.specs.Reads.{multi_point_member_bytes, list_of_values, IsCollection, points_of, members_spelled}
-pub use Rattle.wkb.specs.Reads.{list_of_spellings, spelling_at, BytesSpell, srid_of, order_of, polygon_seen}
-pub use Rattle.wkb.specs.Reads.{multi_line_string_seen, multi_polygon_seen, stride, ArePoints, multi_point_item}
-pub use Rattle.wkb.specs.Reads.{body_start, parts_start, point_item, line_string_item, fitted_line_string}
-pub use Rattle.wkb.specs.Reads.{fitted_line_strings, fitted_polygons, fitted_point, fitted_geometry, fitted_geometries}
-pub use Rattle.wkb.specs.Reads.{fitted_parts, fitted_polygon, fitted_members, fitted_geometry-same, Wkb, Coord, Counts}
-pub use Rattle.wkb.specs.Reads.{LineString, LinearRing, MultiPoint, Point, GeometryType, Layout, Reading, Cost}
-pub use Rattle.wkb.specs.Reads.{IsNotMemory, tells_size, geometry_type_of, IsListed, GeometryKind}
+pub use Rattle.wkb.specs.Reads.{RingBytesSpell, LendsCoordinates, point_seen, line_string_seen, multi_point_seen}
+pub use Rattle.wkb.specs.Reads.{point_layout, line_string_layout, multi_point_layout, point_dimension}
+pub use Rattle.wkb.specs.Reads.{line_string_dimension, multi_point_dimension, point_order, point_spelling}
+pub use Rattle.wkb.specs.Reads.{line_string_order, line_string_spelling, seen_coordinates, coordinate_in}
+pub use Rattle.wkb.specs.Reads.{line_string_offset, multi_point_offset, point_value, seen_coordinate, seen_points}
+pub use Rattle.wkb.specs.Reads.{point_coord_bytes, point_words_bytes, line_string_coord_bytes, line_string_coords_bytes}
+pub use Rattle.wkb.specs.Reads.{multi_point_member_bytes, multi_point_spelling, list_of_values, IsCollection, points_of}
+pub use Rattle.wkb.specs.Reads.{members_spelled, list_of_spellings, spelling_at, BytesSpell, srid_of, order_of}
+pub use Rattle.wkb.specs.Reads.{polygon_seen, multi_line_string_seen, multi_polygon_seen, stride, ArePoints}
+pub use Rattle.wkb.specs.Reads.{multi_point_item, body_start, parts_start, point_item, line_string_item}
+pub use Rattle.wkb.specs.Reads.{fitted_line_string, fitted_line_strings, fitted_polygons, fitted_point, fitted_geometry}
+pub use Rattle.wkb.specs.Reads.{fitted_geometries, fitted_parts, fitted_polygon, fitted_members, fitted_geometry-same}
+pub use Rattle.wkb.specs.Reads.{fitted_rings_size, Wkb, Coord, Counts, LineString, LinearRing, MultiPoint, Point}
+pub use Rattle.wkb.specs.Reads.{GeometryType, Layout, Reading, Cost, IsNotMemory, tells_size, geometry_type_of}
+pub use Rattle.wkb.specs.Reads.{IsListed, GeometryKind}
 
 abbrev pub reads_words : ℕ
-reads_words = 135
+reads_words = 138

@@ -33,5 +33,5 @@ pub fn number_of_words() -> usize
         encodings_words + reads_words + writes_words + laws_words + bridges_words + handed_words +
         lawful_words + lent_words + members_words + offsets_words + ranges_words + readback_words }
 {
-    727
+    730
 }

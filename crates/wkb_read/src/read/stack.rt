@@ -103,8 +103,7 @@ pub(crate) fn close_finished<'a>(
     requires part { IsFinished part }
     requires stand { AreOpen (around stack.old) (part.encoding ++ rest.now) }
     requires fits { counts.old.turns + (outward (around stack.old) part rest.now).0.turns < 2 ^ 128 }
-    ensures settles { Settles (around stack.old) part.entry (around stack.new)
-        rest.now result counts.old counts.new }
+    ensures settles { Settles stack.old part.entry stack.new rest.now result counts.old counts.new }
     ensures fewer { length stack.new.items ≤ length stack.old.items }
 {
     let mut finished = part;

@@ -1,7 +1,8 @@
-use Rattle.std.proofs.Common.{length, arith, ◌+◌, sum_by, ap, List}
+use Rattle.std.proofs.Common.{◌≤◌, length, arith, ◌+◌, sum_by, ap, List}
 use Rattle.wkb_read.specs.Prelude.{multi_polygon_seen, Coordinate}
 use Rattle.wkb_read.proofs.Sums.{sum_more, bytes_counted}
 use Rattle.wkb_read.proofs.contents.of_polygons.Goals as goal
+use Rattle.wkb_read.proofs.contents.of_polygons.Goals.{After-num_rings}
 
 pub overflow_add-coordinates : goal.overflow_add-coordinates
 overflow_add-coordinates c =
@@ -12,8 +13,9 @@ overflow_add-coordinates c =
     c.loop-i.invariant.coordinates_left in
     omega (arith, more, bytes_counted (multi_polygon_seen m) c.buf-bytes.ensures.spells, c.size-size.ensures)
 
-pub overflow_add-members-in-loop-i : goal.overflow_add-members-in-loop-i
-overflow_add-members-in-loop-i c =
+-- the parts with those of one polygon more are fewer than the bytes
+parts_fit : (c : After-num_rings) → c.loop-i.members + (1 + c.num_rings.result) ≤ c.size-size.result
+parts_fit c =
     let m = c.args.multi.now in
     let at = rw c.unwrap-polygon.ensures at c.polygon.ensures.part in
     let more = sum_more (λ (rings : List (List Coordinate)). 1 + length rings) m.parts c.loop-i.i
@@ -21,14 +23,12 @@ overflow_add-members-in-loop-i c =
     c.loop-i.invariant.members_left in
     omega (arith, more, bytes_counted (multi_polygon_seen m) c.buf-bytes.ensures.spells, c.size-size.ensures)
 
+pub overflow_add-members-in-loop-i : goal.overflow_add-members-in-loop-i
+overflow_add-members-in-loop-i c =
+    omega (arith, parts_fit (goal.at.overflow_add-members-in-loop-i c).After-num_rings)
+
 pub overflow_add-members : goal.overflow_add-members
-overflow_add-members c =
-    let m = c.args.multi.now in
-    let at = rw c.unwrap-polygon.ensures at c.polygon.ensures.part in
-    let more = sum_more (λ (rings : List (List Coordinate)). 1 + length rings) m.parts c.loop-i.i
-    c.loop-i.members (1 + c.num_rings.result) _ at (ap (λ n. 1 + n) c.num_rings.ensures)
-    c.loop-i.invariant.members_left in
-    omega (arith, more, bytes_counted (multi_polygon_seen m) c.buf-bytes.ensures.spells, c.size-size.ensures)
+overflow_add-members c = omega (arith, parts_fit (goal.at.overflow_add-members c).After-num_rings)
 
 pub loop-i-preserved : goal.loop-i-preserved
 loop-i-preserved c =

@@ -1,10 +1,11 @@
-use Rattle.std.proofs.Common.{◌≡◌, ◌+◌, Some, sum_by, length, slice_get, sym, ap, ◌∙◌, arith}
+use Rattle.std.proofs.Common.{ℕ, ◌≤◌, ◌≡◌, ◌+◌, Some, sum_by, length, slice_get, sym, ap, ◌∙◌, arith}
 use Rattle.std.proofs.lemmas.Option.{slice_get-get_or}
 use Rattle.wkb_geom.specs.Counted.{coordinate_count_each}
 use Rattle.wkb_geom.specs.Values.{member_count_each}
 use Rattle.wkb_read.specs.Contents.{coordinates_inside, parts_inside}
 use Rattle.wkb_read.proofs.Sums.{sum_more, sum_all, collection_counted, coordinates_summed, members_summed}
 use Rattle.wkb_read.proofs.geometry.+contents.Goals as goal
+use Rattle.wkb_read.proofs.geometry.+contents.Goals.{GeometryCollection::contents-After-contents-own}
 
 pub GeometryCollection::contents-overflow_add-coordinates : goal.GeometryCollection::contents-overflow_add-coordinates
 GeometryCollection::contents-overflow_add-coordinates t c =
@@ -27,9 +28,10 @@ GeometryCollection::contents-overflow_add-coordinates t c =
       ap (λ w. length w.encoding) c.self.view_is,
     )
 
-pub GeometryCollection::contents-overflow_add-members-in-loop-member :
-    goal.GeometryCollection::contents-overflow_add-members-in-loop-member
-GeometryCollection::contents-overflow_add-members-in-loop-member t c =
+-- the parts with those of one member more are fewer than the bytes
+parts_fit : (t : ℕ) (c : GeometryCollection::contents-After-contents-own t)
+    → c.loop-member.members + (1 + c.contents-own.result.members) ≤ c.size-size.result
+parts_fit t c =
     let g = c.self.inside in
     let items = c.deref-member-items.result.now in
     let i = c.loop-member.member-index in
@@ -49,26 +51,16 @@ GeometryCollection::contents-overflow_add-members-in-loop-member t c =
       ap (λ w. length w.encoding) c.self.view_is,
     )
 
+pub GeometryCollection::contents-overflow_add-members-in-loop-member :
+    goal.GeometryCollection::contents-overflow_add-members-in-loop-member
+GeometryCollection::contents-overflow_add-members-in-loop-member t c =
+    let p = goal.at.GeometryCollection::contents-overflow_add-members-in-loop-member t c in
+    omega (arith, parts_fit t p.After-contents-own)
+
 pub GeometryCollection::contents-overflow_add-members : goal.GeometryCollection::contents-overflow_add-members
 GeometryCollection::contents-overflow_add-members t c =
-    let g = c.self.inside in
-    let items = c.deref-member-items.result.now in
-    let i = c.loop-member.member-index in
-    let own = c.contents-own in
-    let at : Some c.member-item.result ≡ slice_get items i =
-    ap Some c.member-item.is ∙ sym (slice_get-get_or items i c.member-item.result c.loop-member-test.true) in
-    let more =
-    sum_more parts_inside items i c.loop-member.members (1 + own.result.members) c.member-item.result at
-    (ap (λ n. 1 + n) own.ensures.members_are) c.loop-member.invariant.members_left in
-    let within = collection_counted g.layout g.members.items g.buf.now c.self.invariant.0.1 in
-    omega (
-      arith,
-      more,
-      within,
-      ap (sum_by parts_inside) c.deref-member-items.ensures.value,
-      c.size-size.ensures,
-      ap (λ w. length w.encoding) c.self.view_is,
-    )
+    let p = goal.at.GeometryCollection::contents-overflow_add-members t c in
+    omega (arith, parts_fit t p.After-contents-own)
 
 pub GeometryCollection::contents-returns : goal.GeometryCollection::contents-returns
 GeometryCollection::contents-returns t c =

@@ -13,7 +13,7 @@ use Rattle.wkb_view.proofs.ends.read_ends.Goals.{In_ok-count}
 -- the list that was asked for
 here : (g : Over) (c : In_ok-count g)
     → let parts = g.P.Parts.parts c.args.layout in
-    IsList parts.kind c.args.layout parts.reading parts.whole c.args.bytes.now c.in_ok-count.count c.args.counts.now
+    IsList c.args.layout parts.reading parts.whole c.args.bytes.now c.in_ok-count.count c.args.counts.now
     c.counted_list.new.counts (whole_at g.P.Parts.parts c.args.layout c.args.bytes.now)
 here g c =
     let l = c.args.layout in
@@ -53,10 +53,10 @@ pass_parts-requires-clause-fits g c =
 pub returns-in_err-ends-clause-answer : goal.returns-in_err-ends-clause-answer
 returns-in_err-ends-clause-answer g c =
     let p = err_from_is_err_and c.from_residual-in_err-ends.result c.from_residual-in_err-ends.ensures.1 in
-    rw (p.1, p.2) (list_stops (refusals.Cause c.in_err-ends.field-0.0) _
-    (here g (goal.at.returns-in_err-ends-clause-answer g c).In_ok-count) c.in_err-ends.ensures.answer)
+    rw (p.1, p.2) (list_stops (here g (goal.at.returns-in_err-ends-clause-answer g c).In_ok-count)
+    (refusals.Cause c.in_err-ends.field-0.0) _ c.in_err-ends.ensures.answer)
 
 pub returns-clause-answer : goal.returns-clause-answer
 returns-clause-answer g c =
     let e = c.in_ok-ends.ensures.answer in
-    rw c.into_vec.ensures (list_reads _ _ _ (here g (goal.at.returns-clause-answer g c).In_ok-count) e.0 e.1)
+    rw c.into_vec.ensures (list_reads (here g (goal.at.returns-clause-answer g c).In_ok-count) _ _ _ e.0 e.1)

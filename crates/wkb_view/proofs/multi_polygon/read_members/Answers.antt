@@ -3,7 +3,7 @@ use Rattle.std.proofs.lemmas.List.{map-append}
 use Rattle.std.proofs.lemmas.Result.{err_from_is_err_and}
 use Rattle.wkb_view.specs.Entries.{entries}
 use Rattle.wkb_view.specs.Members.{AreOfDimension}
-use Rattle.wkb_view.proofs.Lists.{part_costs, next_part, part_stops, parts_end, parts_length}
+use Rattle.wkb_view.proofs.Lists.{part_costs, next_part, loop_stops, parts_end, parts_length}
 use Rattle.wkb_view.proofs.Members.{all_more}
 use Rattle.wkb_view.proofs.multi_polygon.read_members.Goals as goal
 
@@ -24,7 +24,7 @@ pub returns-in_err-polygon-clause-polygons : goal.returns-in_err-polygon-clause-
 returns-in_err-polygon-clause-polygons c =
     let p = err_from_is_err_and c.from_residual.result c.from_residual.ensures.1 in
     rw (p.1, p.2)
-    (part_stops c.in_err-polygon.field-0.0 _ c.loop-test.true c.loop.invariant.left c.in_err-polygon.ensures.answer)
+    (loop_stops c.loop-test.true c.loop.invariant.left c.in_err-polygon.field-0.0 _ c.in_err-polygon.ensures.answer)
 
 pub returns-in_err-polygon-clause-no_memory : goal.returns-in_err-polygon-clause-no_memory
 returns-in_err-polygon-clause-no_memory c =
@@ -40,7 +40,7 @@ loop-preserved c =
     record {
       left =
           rw (c.push.ensures.entries, map-append)
-          (next_part _ _ _ c.loop-test.true c.loop.invariant.left answer.0 spent);
+          (next_part c.loop-test.true c.loop.invariant.left _ _ _ answer.0 spent);
       room = omega (arith, c.push.ensures.room, c.loop.invariant.room);
       taken_in_all =
           omega (

@@ -1,8 +1,8 @@
 use Rattle.wkb_read.proofs.Prelude.{◌≡◌, length, reverse, [], ◌∷◌, refl, ap, ◌∙◌, length-append, reverse-append}
 use Rattle.wkb_read.proofs.Prelude.{length-reverse, arith, Item, Reading, costs, Counts, cost_of}
-use Rattle.wkb_read.proofs.Prelude.{first_member, outward}
-use Rattle.wkb_read.proofs.Stacks.{Reaches, Finishes, can_begin, at_most_turn, enters, finishes, stops_outward}
-use Rattle.wkb_read.proofs.Stacks.{all_read}
+use Rattle.wkb_read.proofs.Prelude.{first_member, outward, geometry_inside}
+use Rattle.wkb_read.proofs.Stacks.{Reaches, Finishes, at_most_turn, enters, finishes}
+use Rattle.wkb_view.proofs.Algebra.{part_counted, part_stops, all_read}
 use Rattle.std.proofs.lemmas.Result.{err_from_is_err_and}
 use Rattle.wkb_view.specs.Outcome.{next_turn}
 use Rattle.wkb_read.proofs.read.stack.read_collection.Goals as goal
@@ -34,9 +34,10 @@ part c around =
 
 pub read_front-requires : goal.read_front-requires
 read_front-requires c =
+    let os = reverse c.loop-collection.stack.items in
     let fits =
-    can_begin _ _ c.args.counts.now c.loop-collection.counts _ c.loop-collection.invariant.reaches c.requires.fits
-    in
+    part_counted (geometry_inside (length os) c.loop-collection.bytes.now) (outward os) _ c.args.counts.now
+    c.loop-collection.counts c.loop-collection.invariant.reaches.so_far c.requires.fits in
     record { fits = rw (← as_many (goal.at.read_front-requires c).After-len) fits }
 
 pub push_collection-requires-in-Ok-Opened : goal.push_collection-requires-in-Ok-Opened
@@ -91,8 +92,9 @@ close_finished-requires c =
 pub returns-in-Some : goal.returns-in-Some
 returns-in-Some c =
     let p = goal.at.returns-in-Some c in
-    all_read c.in-Some.whole c.in-Ok-Whole.rest.now _ c.args.counts.now c.close_finished.new.counts
-    (c.in-Some.ensures.settles.1 ∙ (part p.In-Ok-Whole (as_many p.After-len)).so_far)
+    let r = all_read c.in-Some.whole c.in-Ok-Whole.rest.now _ c.args.counts.now c.close_finished.new.counts
+    (c.in-Some.ensures.settles.1 ∙ (part p.In-Ok-Whole (as_many p.After-len)).so_far) in
+    ((c.in-Ok-Whole.rest.now, r.0), r.1)
 
 pub loop-collection-preserved : goal.loop-collection-preserved
 loop-collection-preserved c =
@@ -113,7 +115,7 @@ loop-collection-preserved c =
 
 pub returns-in-Err : goal.returns-in-Err
 returns-in-Err c =
-    stops_outward c.in-Err.refusal _
+    part_stops c.in-Err.refusal _
     (outward (reverse c.loop-collection.stack.items)) _ c.args.counts.now c.loop-collection.counts
     c.read_front.new.counts
     c.loop-collection.invariant.reaches.so_far

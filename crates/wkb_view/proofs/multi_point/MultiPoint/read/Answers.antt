@@ -1,24 +1,32 @@
 use Rattle.std.proofs.Common.{rules, ◌-◌, length, length-take, arith}
 use Rattle.std.proofs.lemmas.Result.{err_from_is_err_and}
+use Rattle.wkb_geom.specs.declared.code.TheConstants.{POINT}
+use Rattle.wkb_view.specs.Prelude.{list_item, member_at, multi_point_with, multi_point_at}
 use Rattle.wkb_view.specs.Prelude.refusals
 use Rattle.wkb_view.specs.Ranges.{AreBytes-take}
-use Rattle.wkb_view.proofs.Lists.{points_here, list_fits, list_reads, list_stops}
+use Rattle.wkb_view.proofs.Lists.{IsList, points_here, list_fits, list_reads, list_stops}
 use Rattle.wkb_view.proofs.SpelledRead.{body_spelled}
 use Rattle.wkb_view.proofs.multi_point.MultiPoint.read.Goals as goal
+use Rattle.wkb_view.proofs.multi_point.MultiPoint.read.Goals.{In_ok-count}
+
+-- the list that its points are
+here : (c : In_ok-count)
+    → IsList c.args.layout (member_at POINT c.args.layout.dimension) (list_item c.args.layout multi_point_with)
+    c.args.bytes.now c.in_ok-count.count c.args.counts.now c.args.counts.now
+    (multi_point_at c.args.layout c.args.bytes.now)
+here c =
+    points_here c.args.layout c.args.bytes.now c.in_ok-count.count c.args.counts.now c.in_ok-count.ensures.counted
+    c.in_ok-count.ensures.whole
 
 pub pass_points-requires-clause-fits : goal.pass_points-requires-clause-fits
 pass_points-requires-clause-fits c =
-    list_fits
-    (points_here c.args.layout c.args.bytes.now c.in_ok-count.count c.args.counts.now c.in_ok-count.ensures.counted
-    c.in_ok-count.ensures.whole) c.requires.fits
+    list_fits (here (goal.at.pass_points-requires-clause-fits c).In_ok-count) c.requires.fits
 
 pub invariant_of-result : goal.invariant_of-result
 invariant_of-result c =
     let bytes = c.args.bytes.now in
     let e = c.in_ok-rest.ensures.points in
-    let read = list_reads _ _ _
-    (points_here c.args.layout c.args.bytes.now c.in_ok-count.count c.args.counts.now c.in_ok-count.ensures.counted
-    c.in_ok-count.ensures.whole) e.0 e.1 in
+    let read = list_reads (here (goal.at.invariant_of-result c).In_ok-count) _ _ _ e.0 e.1 in
     record {
       whole = omega (arith, c.in_ok-rest.ensures.end, length-take (length bytes - length c.in_ok-rest.rest.now) bytes);
       in_range = AreBytes-take _ bytes (λ i. search rules);
@@ -29,13 +37,10 @@ invariant_of-result c =
 pub returns-clause-answer : goal.returns-clause-answer
 returns-clause-answer c =
     let e = c.in_ok-rest.ensures.points in
-    list_reads _ _ _
-    (points_here c.args.layout c.args.bytes.now c.in_ok-count.count c.args.counts.now c.in_ok-count.ensures.counted
-    c.in_ok-count.ensures.whole) e.0 e.1
+    list_reads (here (goal.at.returns-clause-answer c).In_ok-count) _ _ _ e.0 e.1
 
 pub returns-in_err-rest-clause-answer : goal.returns-in_err-rest-clause-answer
 returns-in_err-rest-clause-answer c =
     let p = err_from_is_err_and c.from_residual-in_err-rest.result c.from_residual-in_err-rest.ensures.1 in
-    rw (p.1, p.2) (list_stops (refusals.Cause c.in_err-rest.field-0.0) _
-    (points_here c.args.layout c.args.bytes.now c.in_ok-count.count c.args.counts.now c.in_ok-count.ensures.counted
-    c.in_ok-count.ensures.whole) c.in_err-rest.ensures.points)
+    rw (p.1, p.2) (list_stops (here (goal.at.returns-in_err-rest-clause-answer c).In_ok-count)
+    (refusals.Cause c.in_err-rest.field-0.0) _ c.in_err-rest.ensures.points)

@@ -10,7 +10,7 @@ use Rattle.wkb_view.proofs.multi_polygon.MultiPolygon.read.Goals.{In_ok-count}
 
 -- the list that was asked for
 here : (c : In_ok-count)
-    → IsList 6 c.args.layout (member_at 3 c.args.layout.dimension) (list_item c.args.layout multi_polygon_with)
+    → IsList c.args.layout (member_at 3 c.args.layout.dimension) (list_item c.args.layout multi_polygon_with)
     c.args.bytes.now c.in_ok-count.count c.args.counts.now c.counted_list.new.counts
     (multi_polygon_at c.args.layout c.args.bytes.now)
 here c =
@@ -20,7 +20,7 @@ here c =
 pub returns-clause-answer : goal.returns-clause-answer
 returns-clause-answer c =
     let e = c.in_ok-members.ensures.polygons in
-    rw c.into_vec.ensures (list_reads _ _ _ (here (goal.at.returns-clause-answer c).In_ok-count) e.0 e.1)
+    rw c.into_vec.ensures (list_reads (here (goal.at.returns-clause-answer c).In_ok-count) _ _ _ e.0 e.1)
 
 pub invariant_of-multi_polygon : goal.invariant_of-multi_polygon
 invariant_of-multi_polygon c =
@@ -28,7 +28,7 @@ invariant_of-multi_polygon c =
     let bytes = c.args.bytes.now in
     let e = c.in_ok-members.ensures in
     let read =
-    list_reads _ _ _ (here (goal.at.invariant_of-multi_polygon c).In_ok-count) e.polygons.0 e.polygons.1 in (
+    list_reads (here (goal.at.invariant_of-multi_polygon c).In_ok-count) _ _ _ e.polygons.0 e.polygons.1 in (
       omega (
         arith,
         e.shorter,
@@ -50,8 +50,8 @@ read_members-requires-clause-fits c =
 pub returns-in_err-members-clause-answer : goal.returns-in_err-members-clause-answer
 returns-in_err-members-clause-answer c =
     let p = err_from_is_err_and c.from_residual-in_err-members.result c.from_residual-in_err-members.ensures.1 in
-    rw (p.1, p.2) (list_stops c.in_err-members.field-0.0 _
-    (here (goal.at.returns-in_err-members-clause-answer c).In_ok-count) c.in_err-members.ensures.polygons)
+    rw (p.1, p.2) (list_stops (here (goal.at.returns-in_err-members-clause-answer c).In_ok-count)
+    c.in_err-members.field-0.0 _ c.in_err-members.ensures.polygons)
 
 pub counted_list-requires-clause-fits : goal.counted_list-requires-clause-fits
 counted_list-requires-clause-fits c =

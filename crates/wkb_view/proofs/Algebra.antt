@@ -1,0 +1,120 @@
+-- Readings one after the other, and their costs.
+use Rattle.std.proofs.Common.{◌≡◌, ◌+◌, ◌≤◌, ℕ, suc, List, [], ◌∷◌, Ok, Err, refl, sym, ap, ◌∙◌, add_assoc, zero-add}
+use Rattle.std.proofs.Common.{arith}
+use Rattle.wkb_geom.specs.Reading.{◌⊕◌}
+use Rattle.wkb_view.specs.Prelude.{Cost, free, one_turn, Reading, costs, done, and_then, repeated, Refusal, Cause}
+use Rattle.wkb_view.specs.Prelude.refusals
+use Rattle.wkb_view.specs.declared.counts.Counts.{Counts}
+use Rattle.wkb_view.specs.Outcome.{Spent, AtMost, CanCount, Stops, next_turn, cost_of}
+
+pub cost_is : (a b : Cost) → a.turns ≡ b.turns → a.slots ≡ b.slots → a ≡ b
+cost_is a b t s = rw (t, s) refl
+
+pub costs-costs : {A : Type 0} (a b : Cost) (r : Reading A) → costs a (costs b r) ≡ costs (a ⊕ b) r
+costs-costs a b r = grind (arith, add_assoc, cost_is)
+
+free-costs : {A : Type 0} (r : Reading A) → costs free r ≡ r
+free-costs r = ap (λ (c : Cost). (c, r.1)) (cost_is _ _ (zero-add r.0.turns) (zero-add r.0.slots))
+
+pub and_then-costs : {A B : Type 0} (c : Cost) (r : Reading A) (g : A → List ℕ → Reading B)
+    → and_then (costs c r) g ≡ costs c (and_then r g)
+and_then-costs c r g = grind (arith, costs-costs)
+
+pub and_then-assoc : {A B C : Type 0} (r : Reading A) (f : A → List ℕ → Reading B) (g : B → List ℕ → Reading C)
+    → and_then (and_then r f) g ≡ and_then r (λ x rest. and_then (f x rest) g)
+and_then-assoc r f g = grind (arith, and_then-costs)
+
+pub and_then-same : {A B : Type 0} (r : Reading A) (f g : A → List ℕ → Reading B)
+    → ((x : A) (rest : List ℕ) → f x rest ≡ g x rest) → and_then r f ≡ and_then r g
+and_then-same r f g h = grind (arith, h)
+
+pub then_done : {A : Type 0} (r : Reading A) → and_then r (λ x after. done x after) ≡ r
+then_done r = grind (arith, cost_is)
+
+pub done_then : {A B : Type 0} (x : A) (rest : List ℕ) (f : A → List ℕ → Reading B)
+    → and_then (done x rest) f ≡ f x rest
+done_then x rest f = free-costs (f x rest)
+
+-- what the first of two costs is among what both cost
+pub and_then-least : {A B : Type 0} (r : Reading A) (g : A → List ℕ → Reading B)
+    → (r.0.turns ≤ (and_then r g).0.turns) × (r.0.slots ≤ (and_then r g).0.slots)
+and_then-least r g = (grind arith, grind arith)
+
+-- one part more
+pub repeated_more : {A B : Type 0} (n : ℕ) (part : List ℕ → Reading A) (bytes : List ℕ)
+    (end : List A → List ℕ → Reading B)
+    → and_then (repeated (suc n) part bytes) end
+    ≡ costs one_turn
+    (and_then (part bytes) (λ x rest. and_then (repeated n part rest) (λ xs after. end (x ∷ xs) after)))
+unfolding repeated
+repeated_more n part bytes end = grind (arith, and_then-costs, and_then-assoc, and_then-same, done_then)
+
+pub repeated_none : {A B : Type 0} (part : List ℕ → Reading A) (bytes : List ℕ) (end : List A → List ℕ → Reading B)
+    → and_then (repeated 0 part bytes) end ≡ end [] bytes
+unfolding repeated
+repeated_none part bytes end = done_then [] bytes end
+
+-- ---- what was counted and what is left to be read, as what was counted before and the whole
+
+-- a turn is begun
+pub turn_begins : {A : Type 0} (old new : Counts) (r : Reading A) → new ≡ next_turn old
+    → costs (cost_of new) r ≡ costs (cost_of old) (costs one_turn r)
+turn_begins old new r turn = grind (arith, cost_is, costs-costs)
+
+module _ {A : Type 0} (r whole : Reading A) (old mid new : Counts)
+    (leads : costs (cost_of mid) r ≡ costs (cost_of old) whole) where
+  pub spent_in_all : Spent mid new r.0 → Spent old new whole.0
+  spent_in_all h = record {
+    turns = omega (arith, h.turns, ap (λ (s : Reading A). s.0.turns) leads);
+    slots = omega (arith, h.slots, ap (λ (s : Reading A). s.0.slots) leads);
+  }
+
+  pub at_most_in_all : AtMost mid new r.0 → AtMost old new whole.0
+  at_most_in_all h = record {
+    turns = omega (arith, h.turns, ap (λ (s : Reading A). s.0.turns) leads);
+    slots = omega (arith, h.slots, ap (λ (s : Reading A). s.0.slots) leads);
+  }
+
+-- all is read
+pub all_read : {A : Type 0} (x : A) (rest : List ℕ) (whole : Reading A) (old new : Counts)
+    → costs (cost_of new) (done x rest) ≡ costs (cost_of old) whole
+    → (whole.1 ≡ Ok (x, rest)) × Spent old new whole.0
+all_read x rest whole old new e = (
+  sym (ap (λ (s : Reading _). s.1) e),
+  spent_in_all (done x rest) whole old new new e (record { turns = omega arith; slots = omega arith }),
+)
+
+module _ {A B : Type 0} (r : Reading A) (f : A → List ℕ → Reading B) (whole : Reading B) (old mid : Counts)
+    (leads : costs (cost_of mid) (and_then r f) ≡ costs (cost_of old) whole) where
+  -- what the next part costs is among the cost of the whole
+  pub part_within : (mid.turns + r.0.turns ≤ old.turns + whole.0.turns)
+      × (mid.slots + r.0.slots ≤ old.slots + whole.0.slots)
+  part_within = grind (arith, and_then-least)
+
+  -- so where the whole can be counted, the part can
+  pub part_counted : CanCount old whole.0 → CanCount mid r.0
+  part_counted fits =
+      record { turns = omega (arith, part_within.0, fits.turns); slots = omega (arith, part_within.1, fits.slots) }
+
+-- a part that was read leads to what follows it
+pub part_leads : {A B : Type 0} (r : Reading A) (f : A → List ℕ → Reading B) (whole : Reading B) (old mid new : Counts)
+    (x : A) (rest : List ℕ)
+    → costs (cost_of mid) (and_then r f) ≡ costs (cost_of old) whole → r.1 ≡ Ok (x, rest) → Spent mid new r.0
+    → costs (cost_of new) (f x rest) ≡ costs (cost_of old) whole
+part_leads r f whole old mid new x rest leads is spent = grind (arith, cost_is, costs-costs)
+
+-- and where it stops, the whole does
+pub part_stops : {A B : Type 0} (refusal : Refusal) (r : Reading A) (f : A → List ℕ → Reading B) (whole : Reading B)
+    (old mid new : Counts)
+    → costs (cost_of mid) (and_then r f) ≡ costs (cost_of old) whole → Stops refusal r mid new
+    → Stops refusal whole old new
+part_stops (refusals.Cause cause) (c, Ok x) f whole old mid new leads h = absurd cc
+part_stops (refusals.Cause cause) (c, Err e) f whole old mid new leads h =
+    let met = h.0 in
+    let same : e ≡ cause = cc in (
+      sym (ap (λ (s : Reading _). s.1) leads) ∙ ap (λ (k : Cause). Err k) same,
+      spent_in_all _ whole old mid new leads h.1,
+    )
+part_stops refusals.Memory r f whole old mid new leads most =
+    let part = part_within r f whole old mid leads in
+    record { turns = omega (arith, most.turns, part.0); slots = omega (arith, most.slots, part.1) }
