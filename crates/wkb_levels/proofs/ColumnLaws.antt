@@ -1,6 +1,6 @@
 -- The singles of a row, from what its ends are.
-use Rattle.std.proofs.Common.{◌≡◌, ℕ, zero, suc, ◌+◌, ◌-◌, ◌/◌, ◌<◌, ◌≤◌, ◌↔◌, refl, sym, ap, ◌∙◌, subst, arith}
-use Rattle.std.proofs.Common.{List, [], ◌∷◌, length, take, drop, length-take, length-drop, slice_range}
+use Rattle.std.proofs.Common.{◌≡◌, ℕ, zero, suc, ◌+◌, ◌-◌, ◌/◌, ◌<◌, ◌≤◌, ◌↔◌, refl, ap, ◌∙◌, subst, arith}
+use Rattle.std.proofs.Common.{List, [], ◌∷◌, length, drop, length-take, length-drop, slice_range}
 use Rattle.std.proofs.Common.{Option, None, IsSome, IfSome}
 use Rattle.std.proofs.lemmas.Bool.{false≢true}
 use Rattle.std.proofs.lemmas.List.{drop-drop, take-take, drop-take}
@@ -22,15 +22,15 @@ inner_range : {A : Type 0} (items : List A) (r0 r1 s e : ℕ) → r0 ≤ s → s
 inner_range items r0 r1 s e a b c =
     let whole : r1 - r0 ≡ s - r0 + (r1 - s) = omega (arith, a, b, c) in
     let short : e - r0 - (s - r0) ≡ e - s = omega (arith, a, b) in
-    let there : r0 + (s - r0) ≡ s - 0 = omega (arith, a) in
-    let long : e - s ≡ e - 0 - (s - 0) = omega (arith, b) in
-    ap (λ k. take (e - r0 - (s - r0)) (drop (s - r0) (take k (drop r0 items)))) whole
-    ∙ ap (take (e - r0 - (s - r0))) (drop-take (s - r0) (r1 - s) (drop r0 items))
-    ∙ ap (λ k. take k (take (r1 - s) (drop (s - r0) (drop r0 items)))) short
-    ∙ take-take (e - s) (r1 - s) (drop (s - r0) (drop r0 items)) (omega (arith, c))
-    ∙ ap (take (e - s)) (drop-drop (s - r0) r0 items)
-    ∙ ap (λ k. take (e - s) (drop k items)) there
-    ∙ ap (λ k. take k (drop (s - 0) items)) long
+    let there : r0 + (s - r0) ≡ s = omega (arith, a) in
+    rw (
+      whole,
+      short,
+      drop-take (s - r0) (r1 - s) (drop r0 items),
+      take-take (e - s) (r1 - s) (drop (s - r0) (drop r0 items)) (omega (arith, c)),
+      drop-drop (s - r0) r0 items,
+      there,
+    ) (grind arith)
 
 -- the pieces of some of the items are those of all, where the ends are within them
 pieces_within : {A : Type 0} (items : List A) (r0 r1 start : ℕ) (ends : List ℕ) → r0 ≤ start
@@ -38,9 +38,11 @@ pieces_within : {A : Type 0} (items : List A) (r0 r1 start : ℕ) (ends : List �
 pieces_within items r0 r1 start [] h are = refl
 pieces_within items r0 r1 start (e ∷ ends) h are =
     let first = are.1 0 (omega arith) in
-    ap (λ p. p ∷ pieces_from r0 (slice_range items r0 r1) e ends) (inner_range items r0 r1 start e h first.0 first.1)
-    ∙ ap (λ ps. slice_range items (start - 0) (e - 0) ∷ ps)
-    (pieces_within items r0 r1 e ends (omega (arith, h, first.0)) (rest_fit r1 start e ends are))
+    grind (
+      arith,
+      inner_range items r0 r1 start e h first.0 first.1,
+      pieces_within items r0 r1 e ends (omega (arith, h, first.0)) (rest_fit r1 start e ends are),
+    )
 
 -- ---- some items of a level
 
@@ -68,8 +70,7 @@ part_ends limit e from to part has are = rw (has.start, has.ends) are
 
 pub ends_there : (limit : ℕ) (e : Ends) (from to : ℕ) (part : Ends) → HasPart e from to part
     → AreEndsWithin limit part → AreEndsBetween limit e from to
-ends_there limit e from to part has are =
-    subst (λ T. T) (λ i. AreEnds limit (has.start i) (has.ends i)) are
+ends_there limit e from to part has are = rw (← has.start, ← has.ends) are
 
 -- the last of them ends where the level does there
 pub part_last : (e : Ends) (from to : ℕ) (part : Ends) → HasPart e from to part
@@ -105,8 +106,7 @@ to_last limit e n last are = (
 )
 
 pub up_to : (n limit : ℕ) (e : Ends) → n ≤ limit → AreEndsWithin n e → AreEndsWithin limit e
-up_to n limit e more are =
-    (omega (arith, are.0, more), λ i h. let one = are.1 i h in (one.0, omega (arith, one.1, more)))
+up_to n limit e more are = grind arith
 
 -- ---- a row: its singles `s`, and the rings that these span, `r`
 
@@ -134,44 +134,42 @@ module _ (l : Levels) (d : Dimensions) (i : ℕ) (s : Ends)
     count_rings rings are = grind (arith, length-pieces, part_count)
 
     -- the singles end within them exactly if the row's levels are in order
-    pub levels_are : (n : ℕ) → n ≡ begin_of s (length (ends_of s))
-        → (0 < size d) × AreEndsWithin (length l.words.now / size d) r → AreEndsWithin n s ↔ AreRowLevels l d i
-    levels_are n last fit = (
+    pub levels_are : (rings : List (List (List ℕ))) → rings ≡ rings_in d l.words.now r
+        → (0 < size d) × AreEndsWithin (length l.words.now / size d) r
+        → AreEndsWithin (start_of s + length rings) s ↔ AreRowLevels l d i
+    levels_are rings given fit = (
       λ are.
           record {
             some_words = fit.0;
             order = has.order;
             within = has.within;
             singles = ends_there (length (ends_of l.ring_ends)) l.single_ends (row_begin l i) (row_end l i) s has
-                (up_to n (length (ends_of l.ring_ends)) s (omega (arith, last, spans.within)) are);
+                (up_to _ (length (ends_of l.ring_ends)) s (omega (arith, count_rings rings given, spans.within)) are);
             rings = rw (← has.start, ← part_last l.single_ends (row_begin l i) (row_end l i) s has)
                 (ends_there (length l.words.now / size d) l.ring_ends (start_of s) (begin_of s (length (ends_of s))) r
                 spans fit.1);
           },
       λ are.
-          to_last (length (ends_of l.ring_ends)) s n last
+          to_last (length (ends_of l.ring_ends)) s _ (count_rings rings given)
           (part_ends (length (ends_of l.ring_ends)) l.single_ends (row_begin l i) (row_end l i) s has are.singles),
     )
 
     -- and then the polygons of the rings are the row's singles
-    pub polygons_are : (n : ℕ) (rings : List (List (List ℕ))) → n ≡ begin_of s (length (ends_of s))
-        → rings ≡ rings_in d l.words.now r → AreEndsWithin n s
+    pub polygons_are : (rings : List (List (List ℕ))) → rings ≡ rings_in d l.words.now r
+        → AreEndsWithin (start_of s + length rings) s
         → pieces_from (start_of s) rings (start_of s) (ends_of s) ≡ singles_of l d i
-    polygons_are n rings last are fit =
-        ap (λ x. pieces_from (start_of s) x (start_of s) (ends_of s)) spanned
-        ∙ pieces_within (column_rings l d) (start_of s) n (start_of s) (ends_of s) (omega arith) fit
-        ∙ ap (λ k. pieces_from 0 (column_rings l d) k (ends_of s)) has.start
-        ∙ ap (pieces_from 0 (column_rings l d) (begin_of l.single_ends (row_begin l i))) has.ends
-        ∙ slice_range-pieces 0 (column_rings l d) (start_of l.single_ends) (ends_of l.single_ends) (row_begin l i)
-        (row_end l i) (omega (arith, has.order, has.within)) where
-          spanned : rings ≡ slice_range (column_rings l d) (start_of s) n
-          spanned =
-              are
-              ∙ ap (λ k. pieces_from 0 (coordinates_in d l.words.now) k (ends_of r)) spans.start
-              ∙ ap (pieces_from 0 (coordinates_in d l.words.now) (begin_of l.ring_ends (start_of s))) spans.ends
-              ∙ slice_range-pieces 0 (coordinates_in d l.words.now) (start_of l.ring_ends) (ends_of l.ring_ends)
-              (start_of s) (begin_of s (length (ends_of s))) (omega (arith, spans.order, spans.within))
-              ∙ ap (slice_range (column_rings l d) (start_of s)) (sym last)
+    polygons_are rings given fit =
+        let last = begin_of s (length (ends_of s)) in
+        let spanned : rings ≡ slice_range (column_rings l d) (start_of s) last =
+        rw (given, spans.start, spans.ends)
+        (slice_range-pieces 0 (coordinates_in d l.words.now) (start_of l.ring_ends) (ends_of l.ring_ends) (start_of s)
+        last (omega (arith, spans.order, spans.within))) in
+        rw spanned
+        (pieces_within (column_rings l d) (start_of s) last (start_of s) (ends_of s) (omega arith)
+        (rw (count_rings rings given) at fit)
+        ∙ rw (has.start, has.ends)
+        (slice_range-pieces 0 (column_rings l d) (start_of l.single_ends) (ends_of l.single_ends) (row_begin l i)
+        (row_end l i) (omega (arith, has.order, has.within))))
 
 -- ---- what follows from an option
 

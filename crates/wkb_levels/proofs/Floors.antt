@@ -1,33 +1,26 @@
 -- How far rows reach.
-use Rattle.std.proofs.Common.{◌≡◌, ℕ, ◌+◌, ◌≤◌, max, subst, ap, arith, inl, inr}
+use Rattle.std.proofs.Common.{◌≡◌, ℕ, ◌+◌, ◌≤◌, max, subst, ap, arith, ◌⊎◌, inl, inr}
 use Rattle.std.proofs.lemmas.Bool.{cases_eq}
 use Rattle.wkb_geom.specs.declared.common.Dimensions.{Dimensions}
 use Rattle.wkb_levels.specs.declared.levels.Levels.{Levels}
 use Rattle.wkb_levels.specs.declared.levels.Place.{Place}
-use Rattle.wkb_levels.specs.Columns.{EndUpTo, IsLevelFloor, IsFloor}
+use Rattle.wkb_levels.specs.Columns.{EndUpTo, IsLevelFloor, IsFloor, row_end, rings_end}
+use Rattle.wkb_levels.specs.Columns.{SpansSingles, SpansRings, SpansCoordinates, coordinates_end}
 
 -- ---- at one level
+
+-- a row that spans some items there reaches to its end, one that spans none reaches nowhere
+abbrev pub Reaches : (ℕ → Type 0) → (ℕ → ℕ) → ℕ → ℕ → ℕ → Type 0
+Reaches Spans end i floor next = (Spans i × (next ≡ max floor (end i))) ⊎ ((Spans i → ⊥) × (next ≡ floor))
 
 module _ {Spans : ℕ → Type 0} {end : ℕ → ℕ} where
   floor_first : (n : ℕ) → n ≡ 0 → IsLevelFloor Spans end 0 n
   floor_first n is =
       record { enough = λ j h. absurd (omega (arith, h)); least = λ other are. omega (arith, is) }
 
-  -- a row that spans no items there reaches nowhere
-  pub floor_kept : {i floor : ℕ} → IsLevelFloor Spans end i floor → (Spans i → ⊥) → IsLevelFloor Spans end (i + 1) floor
-  floor_kept {i} {floor} is differ =
-      record {
-        enough = λ j h spans. elim (cases_eq j i) [
-          | inl same ↦ absurd (differ (subst Spans same spans))
-          | inr other ↦ is.enough j (omega (arith, h, other)) spans
-        ];
-        least = λ n ends. is.least n (λ j h spans. ends j (omega (arith, h)) spans);
-      }
-
-  -- one that spans some reaches to its end
-  pub floor_moved : {i floor : ℕ} → IsLevelFloor Spans end i floor → Spans i → (next : ℕ) → next ≡ max floor (end i)
+  pub floor_next : {i floor next : ℕ} → IsLevelFloor Spans end i floor → Reaches Spans end i floor next
       → IsLevelFloor Spans end (i + 1) next
-  floor_moved {i} {floor} is here next moved =
+  floor_next {i} {floor} {next} is (inl (here, moved)) =
       record {
         enough = λ j h spans. elim (cases_eq j i) [
           | inl same ↦ let at : end j ≡ end i = ap end same in omega (arith, at, moved)
@@ -41,6 +34,14 @@ module _ {Spans : ℕ → Type 0} {end : ℕ → ℕ} where
               ends i (omega arith) here,
             );
       }
+  floor_next {i} {floor} {next} is (inr (differ, kept)) =
+      record {
+        enough = λ j h spans. elim (cases_eq j i) [
+          | inl same ↦ absurd (differ (subst Spans same spans))
+          | inr other ↦ omega (arith, is.enough j (omega (arith, h, other)) spans, kept)
+        ];
+        least = λ n ends. omega (arith, kept, is.least n (λ j h spans. ends j (omega (arith, h)) spans));
+      }
 
   -- a number is behind the earlier rows' ends exactly if it is behind the floor
   pub behind : {i floor : ℕ} → IsLevelFloor Spans end i floor → (n : ℕ) → floor ≤ n → EndUpTo Spans end i n
@@ -52,5 +53,17 @@ pub front_floor : (place : Place) → place.singles ≡ 0 → place.rings ≡ 0 
     → (l : Levels) (d : Dimensions) → IsFloor l d 0 place
 front_floor place s r c l d =
     record { singles = floor_first _ s; rings = floor_first _ r; coordinates = floor_first _ c }
+
+module _ {l : Levels} {d : Dimensions} {i : ℕ} {floor : Place} (is : IsFloor l d i floor) (next : Place) where
+  pub place_next : Reaches (SpansSingles l) (row_end l) i floor.singles next.singles
+      → Reaches (SpansRings l) (rings_end l) i floor.rings next.rings
+      → Reaches (SpansCoordinates l d) (coordinates_end l) i floor.coordinates next.coordinates
+      → IsFloor l d (i + 1) next
+  place_next s r c =
+      record {
+        singles = floor_next is.singles s;
+        rings = floor_next is.rings r;
+        coordinates = floor_next is.coordinates c;
+      }
 
 pub ruleset floor_laws = front_floor

@@ -11,6 +11,10 @@ use Rattle.wkb_geom.specs.Dimensions.{size}
 use Rattle.wkb_plain.specs.Runs.{runs, coordinates_in}
 use Rattle.wkb_levels.specs.Cuts.{start_at, AreEnds, AreOnes, pieces_from, only, only_each}
 
+pub length-range : {A : Type 0} (items : List A) (from to : ℕ) → to ≤ length items
+    → length (slice_range items from to) ≡ to - from
+length-range items from to within = grind (arith, length-take, length-drop)
+
 pub length-pieces : {A : Type 0} (base : ℕ) (items : List A) (start : ℕ) (ends : List ℕ)
     → length (pieces_from base items start ends) ≡ length ends
 length-pieces base items start [] = refl
@@ -72,26 +76,14 @@ pub last_of_part : (start : ℕ) (ends : List ℕ) (from to : ℕ) → from ≤ 
     → start_at (start_at start ends from) (slice_range ends from to) (length (slice_range ends from to))
     ≡ start_at start ends to
 last_of_part start ends from to order within =
-    let long : length (slice_range ends from to) ≡ to - from =
-    omega (arith, length-take (to - from) (drop from ends), length-drop from ends, order, within) in
     let there : from + (to - from) ≡ to = omega (arith, order) in
-    ap (start_at (start_at start ends from) (slice_range ends from to)) long
-    ∙ part_start start ends from (to - from) _ (to - from) refl (omega arith)
-    ∙ ap (start_at start ends) there
+    rw (length-range ends from to within, part_start start ends from (to - from) _ (to - from) refl (omega arith), there) refl
 
 -- some of the ends are in order too
 pub part_fits : (limit start : ℕ) (ends : List ℕ) (from to b : ℕ) → AreEnds limit start ends → from ≤ to
     → to ≤ length ends → b ≡ start_at start ends from → AreEnds limit b (take (to - from) (drop from ends))
-part_fits limit start ends from to b are order within at = (
-  rw at (start_within limit start ends from are (omega arith)),
-  λ i h.
-      let inside : i < to - from = omega (arith, h, length-take (to - from) (drop from ends)) in
-      let old = are.1 (from + i) (omega arith) in (
-        rw (part_start start ends from (to - from) b i at (omega arith))
-            (rw (part_index ends from (to - from) i inside) old.0),
-        rw (part_index ends from (to - from) i inside) old.1,
-      ),
-)
+part_fits limit start ends from to b are order within at =
+    grind (arith, length-take, length-drop, part_start, part_index, start_within)
 
 -- ---- items of one item each
 
@@ -119,13 +111,7 @@ ones_only base items start (e ∷ ends) low ones h =
     (omega (arith, next, low, h)) in
     let wide : e - base - k ≡ 1 = omega (arith, next, low) in
     let up : e - base ≡ suc k = omega (arith, next, low) in
-    ap (λ o. option_and_then (λ a. option_map (λ more. a ∷ more) o) (only (take (e - base - k) (drop k items)))) rest
-    ∙ ap
-    (λ n. option_and_then (λ a. Some (a ∷ take (length ends) (drop (e - base) items))) (only (take n (drop k items))))
-    wide
-    ∙ ap (λ l. option_and_then (λ a. Some (a ∷ take (length ends) (drop (e - base) items))) (only (take 1 l))) m.1
-    ∙ ap (λ n. Some (m.0 ∷ take (length ends) (drop n items))) up
-    ∙ ap (λ l. Some (take (suc (length ends)) l)) (sym m.1)
+    rw (rest, wide, up, m.1) refl
 
 pub not_only : {A : Type 0} (items : List A) → (length items ≡ 1 → ⊥) → only items ≡ None
 not_only items differ = grind arith
@@ -149,21 +135,10 @@ not_ones base items limit start (e ∷ ends) low whole are differ =
     let here = are.1 0 (omega arith) in
     elim (cases_eq e (start + 1)) [
       | inl one ↦
-          ap (λ o. option_and_then (λ a. option_map (λ more. a ∷ more) o) (only first))
-          (not_ones base items limit e ends (omega (arith, low, one)) whole (rest_fit limit start e ends are)
-          (λ ones. differ (λ i h. each_one i h one ones)))
-          ∙ no_rest (λ a more. a ∷ more) (only first)
-      | inr other ↦
-          ap (option_and_then (λ a. option_map (λ more. a ∷ more) (only_each (pieces_from base items e ends))))
-          (not_only first (λ l. other (omega (
-            arith,
-            l,
-            low,
-            whole,
-            here,
-            length-take (e - base - (start - base)) (drop (start - base) items),
-            length-drop (start - base) items,
-          ))))
+          let none = not_ones base items limit e ends (omega (arith, low, one)) whole (rest_fit limit start e ends are)
+          (λ ones. differ (λ i h. each_one i h one ones)) in
+          rw none (no_rest (λ a more. a ∷ more) (only first))
+      | inr other ↦ grind (arith, not_only first, length-take, length-drop)
     ] where
       each_one : (i : ℕ) → i < length (e ∷ ends) → e ≡ start + 1 → AreOnes e ends
           → slice_index (e ∷ ends) i ≡ start_at start (e ∷ ends) i + 1

@@ -6,7 +6,7 @@ use Rattle.wkb_levels.specs.EndLists.{start_of, ends_of, begin_of}
 use Rattle.wkb_levels.specs.RingLists.{rings_rings}
 use Rattle.wkb_levels.specs.PolygonLists.{polygons_polygons}
 use Rattle.wkb_levels.specs.declared.polygons.Polygons.{Polygons}
-use Rattle.wkb_levels.proofs.Pieces.{length-pieces, start_within, start_from, ones_at, ones_only}
+use Rattle.wkb_levels.proofs.Pieces.{length-pieces, slice_get-pieces, slice_range-pieces, start_within, start_from, ones_at, ones_only}
 use Rattle.wkb_levels.proofs.Pieces.{not_ones}
 
 -- a polygon for each end
@@ -56,3 +56,14 @@ not_ones_in p differ =
     let s = start_of p.ends in
     sym (not_ones s (rings_rings p.rings) (s + length (rings_rings p.rings)) s (ends_of p.ends) (omega arith)
     (omega arith) p.fit differ)
+
+pub ruleset polygon_laws = (
+  length-pieces,
+  slice_get-pieces,
+  slice_range-pieces,
+  begins_from,
+  ends_in,
+  ones_in,
+  ones_first,
+  not_ones_in,
+)

@@ -1,9 +1,10 @@
 -- A ring's words are inside the words, and are the coordinates of the piece.
 use Rattle.std.proofs.Common.{◌≡◌, ℕ, ◌+◌, ◌-◌, ◌*◌, ◌/◌, ◌%◌, ◌<◌, ◌≤◌, sym, ap, ◌∙◌, arith}
-use Rattle.std.proofs.Common.{◌↔◌, length, take, drop, length-take, length-drop, Option, Some, None, IfSome, IsSome}
+use Rattle.std.proofs.Common.{◌↔◌, length, take, drop, Option, Some, None, IfSome, IsSome}
 use Rattle.std.proofs.Common.{option_map, slice_get, slice_index, slice_range}
 use Rattle.std.proofs.Math.Nat.{mul-le-mul_left, mul-div-le, mul-sub, mul-mod_right, mul-add}
 use Rattle.std.proofs.lemmas.Bool.{false≢true}
+use Rattle.std.proofs.lemmas.Option.{slice_get_past}
 use Rattle.wkb_geom.specs.Dimensions.{size}
 use Rattle.wkb_plain.specs.Runs.{coordinates_in}
 use Rattle.wkb_plain.proofs.Runs.{length-runs}
@@ -13,7 +14,7 @@ use Rattle.wkb_levels.specs.Cuts.{AreOnes, only_each}
 use Rattle.wkb_levels.specs.EndLists.{start_of, ends_of, begin_of}
 use Rattle.wkb_levels.specs.RingLists.{rings_rings}
 use Rattle.wkb_levels.specs.declared.rings.Rings.{Rings}
-use Rattle.wkb_levels.proofs.Pieces.{length-pieces, slice_get-pieces, start_within}
+use Rattle.wkb_levels.proofs.Pieces.{length-range, length-pieces, slice_get-pieces, slice_range-pieces, start_within}
 use Rattle.wkb_levels.proofs.Pieces.{coordinates_between, ones_at, ones_only, not_ones}
 
 -- a ring for each end
@@ -43,16 +44,8 @@ pub whole_ring : (r : Rings) (w b e i : ℕ) → w ≡ size r.dim → b ≡ begi
     → e ≡ slice_index (ends_of r.ends) i → i < length (ends_of r.ends)
     → length (slice_range r.words.now (w * b) (w * e)) % size r.dim ≡ 0
 whole_ring r w b e i wide at to h =
-    let long : length (take (w * e - w * b) (drop (w * b) r.words.now)) ≡ w * (e - b) =
-    omega (
-      arith,
-      mul-sub w e b,
-      ends_within r w e i wide to h,
-      ends_behind r w b e i at to h,
-      length-take (w * e - w * b) (drop (w * b) r.words.now),
-      length-drop (w * b) r.words.now,
-    ) in
-    ap (λ n. n % size r.dim) (long ∙ ap (λ n. n * (e - b)) wide) ∙ mul-mod_right (size r.dim) (e - b)
+    rw (length-range r.words.now (w * b) (w * e) (ends_within r w e i wide to h), ← mul-sub w e b, wide)
+    (mul-mod_right (size r.dim) (e - b))
 
 -- they are the ring
 pub ring_at : (r : Rings) (w b e i : ℕ) → w ≡ size r.dim → b ≡ begin_of r.ends i → e ≡ slice_index (ends_of r.ends) i
@@ -66,10 +59,8 @@ ring_at r w b e i wide at to h = grind (arith, coordinates_between, slice_get-pi
 pub ones_within : (r : Rings) (w s n : ℕ) → w ≡ size r.dim → s ≡ start_of r.ends → n ≡ length (ends_of r.ends)
     → AreOnes (start_of r.ends) (ends_of r.ends) → w * s + w * n ≤ length r.words.now
 ones_within r w s n wide at count ones =
-    let there : s + n ≡ begin_of r.ends n =
-    ap (λ k. k + n) at
-    ∙ sym (ones_at (start_of r.ends) (ends_of r.ends) n ones (omega (arith, count))) in
-    omega (arith, mul-add w s n, begins_within r w (s + n) n wide there (omega (arith, count)))
+    let there = ones_at (start_of r.ends) (ends_of r.ends) n ones (omega (arith, count)) in
+    omega (arith, mul-add w s n, begins_within r w (s + n) n wide (omega (arith, at, there)) (omega (arith, count)))
 
 -- their coordinates are those of the words
 pub ones_are : (r : Rings) (w s n : ℕ) (o : Option LineString) → w ≡ size r.dim → s ≡ start_of r.ends
@@ -79,18 +70,9 @@ pub ones_are : (r : Rings) (w s n : ℕ) (o : Option LineString) → w ≡ size 
     (λ l. line_string_coordinates l ≡ coordinates_in r.dim (slice_range r.words.now (w * s) (w * s + w * n)))
     → option_map line_string_coordinates o ≡ only_each (rings_rings r)
 ones_are r w s n None wide at count ones some is =
-    absurd (false≢true (some.1 (r.some_words, whole))) where
-      long : length (slice_range r.words.now (w * s) (w * s + w * n)) ≡ w * n
-      long =
-          omega (
-            arith,
-            ones_within r w s n wide at count ones,
-            length-take (w * s + w * n - w * s) (drop (w * s) r.words.now),
-            length-drop (w * s) r.words.now,
-          )
-
-      whole : length (slice_range r.words.now (w * s) (w * s + w * n)) % size r.dim ≡ 0
-      whole = ap (λ k. k % size r.dim) (long ∙ ap (λ k. k * n) wide) ∙ mul-mod_right (size r.dim) n
+    let long = length-range r.words.now (w * s) (w * s + w * n) (ones_within r w s n wide at count ones) in
+    let same : w * s + w * n - w * s ≡ w * n = omega arith in
+    absurd (false≢true (some.1 (r.some_words, rw (long, same, wide) (mul-mod_right (size r.dim) n))))
 ones_are r w s n (Some l) wide at count ones some is =
     let d = r.dim in
     let words = r.words.now in
@@ -119,3 +101,20 @@ pub not_ones_are : (r : Rings) → (AreOnes (start_of r.ends) (ends_of r.ends) �
 not_ones_are r differ =
     not_ones 0 (coordinates_in r.dim r.words.now) (length r.words.now / size r.dim) (start_of r.ends) (ends_of r.ends)
     (omega arith) (omega (arith, length-runs (size r.dim) (length r.words.now / size r.dim) r.words.now)) r.fit differ
+
+pub ruleset ring_laws = (
+  length-pieces,
+  slice_get-pieces,
+  slice_range-pieces,
+  count_rings,
+  below,
+  begins_within,
+  ends_within,
+  ends_behind,
+  whole_ring,
+  ring_at,
+  ones_within,
+  ones_are,
+  not_ones_are,
+  slice_get_past,
+)

@@ -21,7 +21,7 @@ pub struct Polygons<'w> {
     ghost fit: { FitRings rings ends },
 }
 
-#[tactic(auto, using(crate::proofs::Pieces::piece_laws))]
+#[tactic(auto, using(crate::proofs::PolygonLaws::polygon_laws))]
 impl<'w> Polygons<'w> {
     ghost use Rattle.wkb_levels.specs.PolygonLists.{polygons_of, polygons_dimensions, polygons_polygons};
 

@@ -25,7 +25,7 @@ pub struct Rings<'w> {
     ghost fit: { AreEndsWithin (length words.now / size dim) ends },
 }
 
-#[tactic(auto, using(crate::proofs::Pieces::piece_laws))]
+#[tactic(auto, using(crate::proofs::RingLaws::ring_laws))]
 impl<'w> Rings<'w> {
     ghost use Rattle.wkb_levels.specs.RingLists.{rings_dimensions, rings_rings, rings_in, FitWords};
 

@@ -37,33 +37,26 @@ returns-in_err-rings-clause-some c =
     let at = goal.at.returns-in_err-rings-clause-some c in
     none_exactly _ c.from_residual-in_err-rings.ensures (λ are.
     false≢true (c.in_err-rings.ensures.some.1
-    (rings_fit c.args.self.now c.args.dim c.args.i c.in_ok-singles.singles (singles at.After-last) c.in_ok-spans.spans
-    (spans at.After-new) are)))
+    (rings_fit c.args.self.now c.args.dim c.args.i _ (singles at.After-last) _ (spans at.After-new) are)))
 
 pub new-requires-2 : goal.new-requires-2
 new-requires-2 c =
     let at = goal.at.new-requires-2 c in
     let counted =
-    count_rings c.args.self.now c.args.dim c.args.i c.in_ok-singles.singles (singles at.After-last) c.in_ok-spans.spans
-    (spans at.After-new) _ c.in_ok-rings.ensures.rings in
+    count_rings c.args.self.now c.args.dim c.args.i _ (singles at.After-last) _ (spans at.After-new) _
+    c.in_ok-rings.ensures.rings in
     omega (arith, counted, c.last.ensures, c.last.type_inv)
 
 pub returns-clause-some : goal.returns-clause-some
 returns-clause-some c =
     let at = goal.at.returns-clause-some c in
-    let counted =
-    count_rings c.args.self.now c.args.dim c.args.i c.in_ok-singles.singles (singles at.After-last) c.in_ok-spans.spans
-    (spans at.After-new) _ c.in_ok-rings.ensures.rings in
     follows_on c.new-2.result c.new-2.ensures.some
-    (levels_are c.args.self.now c.args.dim c.args.i c.in_ok-singles.singles (singles at.After-last) c.in_ok-spans.spans
-    (spans at.After-new) _ counted (c.in_ok-rings.ensures.some.0 refl))
+    (levels_are c.args.self.now c.args.dim c.args.i _ (singles at.After-last) _ (spans at.After-new) _
+    c.in_ok-rings.ensures.rings (c.in_ok-rings.ensures.some.0 refl))
 
 pub returns-clause-polygons : goal.returns-clause-polygons
 returns-clause-polygons c =
     let at = goal.at.returns-clause-polygons c in
-    let counted =
-    count_rings c.args.self.now c.args.dim c.args.i c.in_ok-singles.singles (singles at.After-last) c.in_ok-spans.spans
-    (spans at.After-new) _ c.in_ok-rings.ensures.rings in
     some_told polygons_polygons _ _ c.new-2.result c.new-2.ensures.some c.new-2.ensures.polygons
-    (polygons_are c.args.self.now c.args.dim c.args.i c.in_ok-singles.singles (singles at.After-last)
-    c.in_ok-spans.spans (spans at.After-new) _ _ counted c.in_ok-rings.ensures.rings)
+    (polygons_are c.args.self.now c.args.dim c.args.i _ (singles at.After-last) _ (spans at.After-new) _
+    c.in_ok-rings.ensures.rings)

@@ -1,6 +1,5 @@
-use Rattle.std.proofs.Common.{◌∙◌, sym, arith}
-use Rattle.std.proofs.lemmas.Bool.{false≢true}
-use Rattle.wkb_levels.proofs.RingLaws.{ones_within, ones_are, not_ones_are}
+use Rattle.std.proofs.Common.{arith}
+use Rattle.wkb_levels.proofs.RingLaws.{ones_within, ones_are}
 use Rattle.wkb_levels.proofs.rings.Rings.coordinates_one_each.Goals as goal
 
 pub overflow_mul-to : goal.overflow_mul-to
@@ -8,22 +7,8 @@ overflow_mul-to c =
     let ones = c.are_ones.ensures.0 c.if-not-are_ones.false in
     omega (arith, ones_within c.args.self.now _ _ _ c.size-width.ensures c.start.ensures c.len.ensures ones)
 
-pub overflow_add-to : goal.overflow_add-to
-overflow_add-to c =
-    let ones = c.are_ones.ensures.0 c.if-not-are_ones.false in
-    omega (arith, ones_within c.args.self.now _ _ _ c.size-width.ensures c.start.ensures c.len.ensures ones)
-
-pub slice_bounds-new-end : goal.slice_bounds-new-end
-slice_bounds-new-end c =
-    let ones = c.are_ones.ensures.0 c.if-not-are_ones.false in
-    ones_within c.args.self.now _ _ _ c.size-width.ensures c.start.ensures c.len.ensures ones
-
 pub returns-clause-value : goal.returns-clause-value
 returns-clause-value c =
     let ones = c.are_ones.ensures.0 c.if-not-are_ones.false in
     ones_are c.args.self.now _ _ _ c.new.result c.size-width.ensures c.start.ensures c.len.ensures ones
     c.new.ensures.some c.new.ensures.coordinates
-
-pub returns-then-not-are_ones-clause-value : goal.returns-then-not-are_ones-clause-value
-returns-then-not-are_ones-clause-value c =
-    sym (not_ones_are c.args.self.now (λ ones. false≢true (sym c.if-not-are_ones.true ∙ c.are_ones.ensures.1 ones)))
