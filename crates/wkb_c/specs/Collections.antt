@@ -142,8 +142,8 @@ abbrev pub part_of : CollectTarget → Wanted
 part_of target = member_part target.kind target.dimension
 
 -- a geometry of this type is such a member, once its SRID is dropped
-abbrev pub Takes : CollectTarget → WkbType → Type 0
-Takes target t = IsPart (part_of target) (type_kind t) (type_dimension t) false
+abbrev pub TakesMember : CollectTarget → WkbType → Type 0
+TakesMember target t = IsPart (part_of target) (type_kind t) (type_dimension t) false
 
 -- the options of a target's members
 abbrev pub inner_of : CollectTarget → WriteOptions

@@ -7,7 +7,7 @@ ghost use Rattle.wkb_rewrite.specs.Shares.{IsPut};
 ghost use Rattle.wkb_rewrite.specs.Targets.{encoding_for};
 ghost use Rattle.wkb_sink.specs.Blocks.{LaysAt};
 ghost use Rattle.wkb_c.specs.Classes.{IsRefusalStatus, IsNoRefusal, TellsOfRow};
-ghost use Rattle.wkb_c.specs.Collections.{collect_asked, AsksForTooMany, part_of, Takes, inner_of, front_of};
+ghost use Rattle.wkb_c.specs.Collections.{collect_asked, AsksForTooMany, part_of, TakesMember, inner_of, front_of};
 ghost use Rattle.wkb_c.specs.Collections.{MembersFit, PutsMembers};
 ghost use Rattle.wkb_c.specs.Collections.{HaveMembers, IsUnwanted, IsUnfit, IsFirstUnfit, IsFirstUnfitFor};
 ghost use Rattle.wkb_c.specs.Collections.{IsMeasuredFound, RowIsMeasured, AreMeasured, PutsCollected, WholeExceeds};
@@ -60,8 +60,8 @@ fn collect_target_of(kind: u32, dimension: u32, options: &Options) -> Option<Col
 impl CollectTarget {
     /// Whether a geometry of this type is one of its members, once its SRID is dropped.
     fn takes(&self, member: WkbType) -> bool
-        ensures fits { result ≡ true → Takes self.now member }
-        ensures unfit { result ≡ false → Takes self.now member → ⊥ }
+        ensures fits { result ≡ true → TakesMember self.now member }
+        ensures unfit { result ≡ false → TakesMember self.now member → ⊥ }
     {
         // No kind has a greater number than a collection, which takes any member.
         self.kind >= GEOMETRY_COLLECTION

@@ -77,7 +77,8 @@ pub last_of_part : (start : ℕ) (ends : List ℕ) (from to : ℕ) → from ≤ 
     ≡ start_at start ends to
 last_of_part start ends from to order within =
     let there : from + (to - from) ≡ to = omega (arith, order) in
-    rw (length-range ends from to within, part_start start ends from (to - from) _ (to - from) refl (omega arith), there) refl
+    let first = part_start start ends from (to - from) _ (to - from) refl (omega arith) in
+    rw (length-range ends from to within, first, there) refl
 
 -- some of the ends are in order too
 pub part_fits : (limit start : ℕ) (ends : List ℕ) (from to b : ℕ) → AreEnds limit start ends → from ≤ to

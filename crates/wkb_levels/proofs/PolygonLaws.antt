@@ -6,8 +6,8 @@ use Rattle.wkb_levels.specs.EndLists.{start_of, ends_of, begin_of}
 use Rattle.wkb_levels.specs.RingLists.{rings_rings}
 use Rattle.wkb_levels.specs.PolygonLists.{polygons_polygons}
 use Rattle.wkb_levels.specs.declared.polygons.Polygons.{Polygons}
-use Rattle.wkb_levels.proofs.Pieces.{length-pieces, slice_get-pieces, slice_range-pieces, start_within, start_from, ones_at, ones_only}
-use Rattle.wkb_levels.proofs.Pieces.{not_ones}
+use Rattle.wkb_levels.proofs.Pieces.{length-pieces, slice_get-pieces, slice_range-pieces, start_within, start_from}
+use Rattle.wkb_levels.proofs.Pieces.{ones_at, ones_only, not_ones}
 
 -- a polygon for each end
 pub count_polygons : (p : Polygons) → length (polygons_polygons p) ≡ length (ends_of p.ends)
