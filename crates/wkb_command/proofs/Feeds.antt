@@ -1,10 +1,13 @@
 -- The lines of a text.
-use Rattle.std.proofs.Common.{◌≡◌, ◌≢◌, ℕ, suc, ◌<◌, ◌==◌, Bool, true, false, List, [], ◌∷◌, ◌++◌, refl, sym, ap, ◌∙◌}
+use Rattle.std.proofs.Common.{◌≡◌, ◌≢◌, ℕ, suc, ◌<◌, ◌==◌, Bool, true, false, List, [], ◌∷◌, ◌++◌, refl, ap}
 use Rattle.std.proofs.Common.{arith}
-use Rattle.std.specs.Prelude.{if◌then◌else◌}
+use Rattle.std.proofs.Common.{lit<, Option, Some, None}
+use Rattle.std.specs.Prelude.{if◌then◌else◌, MatchOption}
+use Rattle.std.specs.Borrow.{Bor}
 use Rattle.std.specs.Str.{IsAscii, IsUtf8}
 use Rattle.std.proofs.lemmas.Str.{IsUtf8-from_ascii}
 use Rattle.std.proofs.lemmas.Str.Ascii.{IsAscii-nil, IsAscii-cons}
+use Rattle.std.proofs.lemmas.Str.Pattern.{IsSplitOnceResult, split_parts}
 use Rattle.std.proofs.lemmas.Bool.Decides.{nat_tests}
 use Rattle.wkb_command.specs.Calls.{AreHex, AreHexOf}
 use Rattle.wkb_command.specs.Program.{without_last_feed, onto_first, split_at_feeds, lines, IsOneLine}
@@ -106,43 +109,27 @@ split_some ys e = split_some_step ys e
     split_some_step [] = λ e. cc
     split_some_step (b ∷ rest) = choice_some b (b == 10) (split_at_feeds rest)
 
-pub lines-one : (input body : List ℕ) → body ≡ without_last_feed input → IsOneLine body → lines input ≡ body ∷ []
-lines-one input body is one = ap split_at_feeds (sym is) ∙ split_at_feeds-one body one
+-- the lines of a text, by its parts around the first line feed
+pub feeds_split : (text : List ℕ) (r : Option (Bor (List ℕ) × Bor (List ℕ))) → IsSplitOnceResult 10 text r
+    → MatchOption r (split_at_feeds text ≡ text ∷ [])
+    (λ x. split_at_feeds text ≡ x.0.now ∷ split_at_feeds x.1.now)
+feeds_split text None cases = split_at_feeds-one text (split_parts 10 text None cases (lit< tt))
+feeds_split text (Some x) cases =
+    let parts = split_parts 10 text (Some x) cases (lit< tt) in
+    rw parts.0 (split_at_feeds-first x.0.now x.1.now parts.1)
 
-pub lines-more : (input body first rest : List ℕ) → body ≡ without_last_feed input → body ≡ first ++ 10 ∷ rest
-    → IsOneLine first
-    → lines input ≡ first ∷ split_at_feeds rest
-lines-more input body first rest is whole one =
-    ap split_at_feeds (sym is ∙ whole) ∙ split_at_feeds-first first rest one
-
-pub lines-two : (input body first rest : List ℕ) → body ≡ without_last_feed input → body ≡ first ++ 10 ∷ rest
-    → IsOneLine first → IsOneLine rest
-    → lines input ≡ first ∷ rest ∷ []
-lines-two input body first rest is whole one last =
-    lines-more input body first rest is whole one ∙ ap (λ l. first ∷ l) (split_at_feeds-one rest last)
+-- and those of an input, by the parts of its body
+pub lines_split : (input body : List ℕ) (r : Option (Bor (List ℕ) × Bor (List ℕ))) → body ≡ without_last_feed input
+    → IsSplitOnceResult 10 body r
+    → MatchOption r (lines input ≡ body ∷ []) (λ x. lines input ≡ x.0.now ∷ split_at_feeds x.1.now)
+lines_split input body r is cases = rw (← is) (feeds_split body r cases)
 
 -- a line feed in the body: not one line
-pub not_one_line : (input body first rest : List ℕ) → body ≡ without_last_feed input → body ≡ first ++ 10 ∷ rest
-    → IsOneLine first
-    → (line : List ℕ) → lines input ≢ line ∷ []
-not_one_line input body first rest is whole one line e =
-    let more = lines-more input body first rest is whole one in
-    split_some rest (cc (more, e))
-
--- no line feed in the body: not two lines
-pub one_not_two : (input body : List ℕ) → body ≡ without_last_feed input → IsOneLine body
-    → (first second : List ℕ) → lines input ≢ first ∷ second ∷ []
-one_not_two input body is one first second e =
-    let whole = lines-one input body is one in
-    cc (whole, e)
+pub not_one_line : (texts : List (List ℕ)) (first rest : List ℕ) → texts ≡ first ∷ split_at_feeds rest
+    → (line : List ℕ) → texts ≢ line ∷ []
+not_one_line texts first rest more line e = split_some rest (cc (more, e))
 
 -- two line feeds in the body: not two lines
-pub more_not_two : (input body first rest next later : List ℕ) → body ≡ without_last_feed input
-    → body ≡ first ++ 10 ∷ rest → IsOneLine first
-    → rest ≡ next ++ 10 ∷ later → IsOneLine next
-    → (a b : List ℕ) → lines input ≢ a ∷ b ∷ []
-more_not_two input body first rest next later is whole one whole' one' a b e =
-    let all =
-    lines-more input body first rest is whole one
-    ∙ ap (λ l. first ∷ l) (ap split_at_feeds whole' ∙ split_at_feeds-first next later one') in
-    split_some later (cc (all, e))
+pub more_not_two : (texts : List (List ℕ)) (first next later : List ℕ) → texts ≡ first ∷ next ∷ split_at_feeds later
+    → (a b : List ℕ) → texts ≢ a ∷ b ∷ []
+more_not_two texts first next later more a b e = split_some later (cc (more, e))

@@ -1,6 +1,6 @@
 -- What reports say.
 use Rattle.std.proofs.Common.{◌≡◌, ◌≢◌, ℕ, List, [], ◌∷◌, ◌++◌, length, append_assoc, refl, sym, ◌∙◌, arith}
-use Rattle.std.proofs.Common.{Bool, true, false, Option, Some, Result, Ok, Err, ◌⊎◌, inl, inr, IfOk}
+use Rattle.std.proofs.Common.{Bool, true, false, Option, Some, None, Result, Ok, Err, ◌⊎◌, inl, inr, IfOk}
 use Rattle.std.specs.Prelude.{codes}
 use Rattle.std.specs.Bool.{MatchBool}
 use Rattle.std.specs.Fmt.{decimal}
@@ -27,7 +27,7 @@ use Rattle.wkb_command.specs.declared.calls.Cost.{Cost as HexCost}
 use Rattle.wkb_command.specs.Calls.{AreHex, AreHexOf, IsHexOf, OfHex, IsCost, IsFailureOf, RefusedFirst, IsOversized}
 use Rattle.wkb_command.specs.Calls.{OfTwoHexes, AreCompared}
 use Rattle.wkb_command.specs.Program.{Says, rewritten, rewritten_with_srid, accepted, counted_refusal, srid, refused}
-use Rattle.wkb_command.specs.Program.{same, different, not_hex, IsOneLine, IsNotSingle, IsNotPair, hex_line}
+use Rattle.wkb_command.specs.Program.{same, different, no_srid, not_hex, IsOneLine, IsNotSingle, IsNotPair, hex_line}
 use Rattle.wkb_command.specs.Program.{wanted_lines, Gives, counts, TellsCause, TellsError, TellsHexFault}
 use Rattle.wkb.proofs.Rewritten.{iso_fits}
 use Rattle.wkb_command.proofs.Hexes.{AreHex-from, AreHexOf-length}
@@ -125,19 +125,16 @@ two_inputs first second a b hex hex' = record { wanted = refl; hex = (hex, (hex'
 -- ---- how many lines are wanted
 
 pub gives_two : (texts inputs : List (List ℕ)) → IsNotPair texts → ¬ Gives Same texts inputs
-gives_two [] inputs h gives =
-    let e = AreHexOf-length [] inputs gives.hex in let w = gives.wanted in absurd (omega (arith, e, w))
-gives_two (a ∷ []) inputs h gives =
-    let e = AreHexOf-length (a ∷ []) inputs gives.hex in let w = gives.wanted in absurd (omega (arith, e, w))
+gives_two [] inputs h gives = absurd (omega (arith, AreHexOf-length [] inputs gives.hex, gives.wanted))
+gives_two (a ∷ []) inputs h gives = absurd (omega (arith, AreHexOf-length (a ∷ []) inputs gives.hex, gives.wanted))
 gives_two (a ∷ b ∷ []) inputs h gives = h a b refl
 gives_two (a ∷ b ∷ c ∷ rest) inputs h gives =
-    let e = AreHexOf-length (a ∷ b ∷ c ∷ rest) inputs gives.hex in let w = gives.wanted in absurd (omega (arith, e, w))
+    absurd (omega (arith, AreHexOf-length (a ∷ b ∷ c ∷ rest) inputs gives.hex, gives.wanted))
 
 gives_length_one : (texts inputs : List (List ℕ)) → length inputs ≡ 1 → AreHexOf texts inputs → IsNotSingle texts → ⊥
-gives_length_one [] inputs w hex h = let e = AreHexOf-length [] inputs hex in omega (arith, e, w)
+gives_length_one [] inputs w hex h = omega (arith, AreHexOf-length [] inputs hex, w)
 gives_length_one (a ∷ []) inputs w hex h = h a refl
-gives_length_one (a ∷ b ∷ rest) inputs w hex h =
-    let e = AreHexOf-length (a ∷ b ∷ rest) inputs hex in omega (arith, e, w)
+gives_length_one (a ∷ b ∷ rest) inputs w hex h = omega (arith, AreHexOf-length (a ∷ b ∷ rest) inputs hex, w)
 
 wants_one : (command : Command) → command ≢ Same → wanted_lines command ≡ 1
 wants_one n ne = grind arith
@@ -155,16 +152,15 @@ when_true b P Q is h = rw is at h
 pub when_false : (b : Bool) (P Q : Type 0) → b ≡ false → MatchBool b P Q → Q
 when_false b P Q is h = rw is at h
 
-pub says_rewritten : (order : Endianness) (text line items : List ℕ) → line ≡ hex_line items
-    → OfHex text (λ bytes. IsRewriting order Iso bytes items)
-    → Says (text ∷ []) (Rewrite order) line 0
-says_rewritten order text line items is h = rw is (rewritten (one_input (Rewrite order) text h.0 refl h.1) h.2)
+pub says_rewritten : (order : Endianness) (text items : List ℕ)
+    → OfHex text (λ bytes. IsRewriting order Iso bytes items) → Says (text ∷ []) (Rewrite order) (hex_line items) 0
+says_rewritten order text items h = rewritten (one_input (Rewrite order) text h.0 refl h.1) h.2
 
-pub says_rewritten_with_srid : (order : Endianness) (text line items : List ℕ) → line ≡ hex_line items
+pub says_rewritten_with_srid : (order : Endianness) (text items : List ℕ)
     → OfHex text (λ bytes. IsRewritingWithSrid order bytes items)
-    → Says (text ∷ []) (RewriteWithSrid order) line 0
-says_rewritten_with_srid order text line items is h =
-    rw is (rewritten_with_srid (one_input (RewriteWithSrid order) text h.0 refl h.1) h.2)
+    → Says (text ∷ []) (RewriteWithSrid order) (hex_line items) 0
+says_rewritten_with_srid order text items h =
+    rewritten_with_srid (one_input (RewriteWithSrid order) text h.0 refl h.1) h.2
 
 pub says_iso_refused : (order : Endianness) (text line : List ℕ) (inputs : List (List ℕ)) (e : WkbError)
     → Gives (Rewrite order) (text ∷ []) inputs
@@ -209,3 +205,11 @@ pub says_srid : (text line : List ℕ) (number : ℕ) (found : Option ℕ) → f
     → Says (text ∷ []) Srid line 0
 says_srid text line number found is whole h =
     rw whole (srid (one_input Srid text h.0 refl h.1) (rw is at h.2))
+
+pub says_no_srid : (text : List ℕ) (found : Option ℕ) (r : Result Report AllocError)
+    → IfOk r (IsReport (codes "no srid\n") 0) → found ≡ None → OfHex text (λ bytes. HasSrid bytes found)
+    → IfOk r (IsReportOn (text ∷ []) Srid)
+says_no_srid text found r new is h =
+    reports_line _ Srid (codes "no srid\n") 0 r new (no_srid (one_input Srid text h.0 refl h.1) (rw is at h.2))
+
+pub ruleset report_laws = (says_rewritten, says_rewritten_with_srid, says_srid, says_no_srid)

@@ -1,6 +1,6 @@
 -- What is written of a line in parts, and of its hex in pieces.
 use Rattle.std.proofs.Common.{◌≡◌, ℕ, ◌<◌, ◌≤◌, ◌*◌, ◌+◌, ◌-◌, List, [], ◌∷◌, ◌++◌, length, take, drop}
-use Rattle.std.proofs.Common.{slice_set, append_assoc, ◌/◌, ◌%◌, slice_index, Option, Result, Ok, Err, refl, sym, ap}
+use Rattle.std.proofs.Common.{slice_set, append_assoc, Option, Result, Ok, Err, refl, sym, ap}
 use Rattle.std.proofs.Common.{◌∙◌, arith}
 use Rattle.std.specs.Prelude.{OnOk}
 use Rattle.std.specs.Result.{IsErr, result_unwrap_or}
@@ -22,8 +22,7 @@ encode_with-append : (table front rest : List ℕ)
     → encode_with table (front ++ rest) ≡ encode_with table front ++ encode_with table rest
 unfolding encode_with
 encode_with-append table [] rest = refl
-encode_with-append table (b ∷ front) rest = let h = encode_with-append table front rest in
-    ap (λ l. slice_index table (b / 16) ∷ slice_index table (b % 16) ∷ l) h
+encode_with-append table (b ∷ front) rest = rw (encode_with-append table front rest) refl
 
 -- a piece of the rest is written
 pub piece_written : (before written rest piece behind bytes : List ℕ) → written ≡ encode_lower piece
@@ -63,9 +62,7 @@ pub part_and_more : (before rest piece behind bytes text : List ℕ) → text �
     → before ++ encode_lower rest ≡ encode_lower bytes
     → before ++ (text ++ (encode_lower behind ++ line_feed ∷ [])) ≡ encode_lower bytes ++ line_feed ∷ []
 part_and_more before rest piece behind bytes text is parts h =
-    sym (append_assoc before text (encode_lower behind ++ line_feed ∷ []))
-    ∙ sym (append_assoc (before ++ text) (encode_lower behind) (line_feed ∷ []))
-    ∙ ap (λ l. l ++ line_feed ∷ []) (piece_written before text rest piece behind bytes is parts h)
+    grind (arith, append_assoc, piece_written before text rest piece behind bytes is parts h)
 
 -- ---- lines in parts
 
@@ -74,17 +71,11 @@ starts_with_front front rest = grind (arith, common_steps)
 
 starts_before : (part behind written : List ℕ) → StartsWith part written → StartsWith (part ++ behind) written
 starts_before part behind written h =
-    let rest = drop (length written) part in
-    let whole : part ++ behind ≡ written ++ (rest ++ behind) =
-    ap (λ l. l ++ behind) (starts_with_rest part written h) ∙ append_assoc written rest behind in
-    rw whole (starts_with_front written (rest ++ behind))
+    rw (starts_with_rest part written h, append_assoc) (starts_with_front written _)
 
 starts_behind : (front part written : List ℕ) → StartsWith part written → StartsWith (front ++ part) (front ++ written)
 starts_behind front part written h =
-    let rest = drop (length written) part in
-    let whole : front ++ part ≡ (front ++ written) ++ rest =
-    ap (λ l. front ++ l) (starts_with_rest part written h) ∙ sym (append_assoc front written rest) in
-    rw whole (starts_with_front (front ++ written) rest)
+    rw (starts_with_rest part written h, ← append_assoc) (starts_with_front (front ++ written) _)
 
 OnOk-from : {T E : Type 0} (r : Result T E) (P Q : Type 0) → OnOk r P → (P → Q) → OnOk r Q
 OnOk-from (Ok x) P Q h f = f h

@@ -149,6 +149,7 @@ fn failure_report(alloc: Global, failure: HexFault) -> Result<Report, AllocError
     }
 }
 
+#[tactic(auto, using(crate::proofs::Told::report_laws))]
 fn rewriting_report(alloc: Global, order: Endianness, text: &str) -> Result<Report, AllocError>
     ensures { IfOk result (IsReportOn (text.now ∷ []) (Command.Rewrite order)) }
 {
@@ -165,6 +166,7 @@ fn rewriting_report(alloc: Global, order: Endianness, text: &str) -> Result<Repo
     }
 }
 
+#[tactic(auto, using(crate::proofs::Told::report_laws))]
 fn rewriting_with_srid_report(
     alloc: Global,
     order: Endianness,
@@ -227,6 +229,7 @@ fn counts_report(
     })
 }
 
+#[tactic(auto, using(crate::proofs::Told::report_laws))]
 fn srid_report(alloc: Global, text: &str) -> Result<Report, AllocError>
     ensures { IfOk result (IsReportOn (text.now ∷ []) Command.Srid) }
 {

@@ -1,11 +1,7 @@
 use Rattle.std.proofs.Common.{refl, ◌∷◌, []}
 use Rattle.wkb_command.specs.declared.program.Command.TheVariants.{Rewrite}
-use Rattle.wkb_command.proofs.Told.{says_rewritten, says_iso_refused, reports_failure}
+use Rattle.wkb_command.proofs.Told.{says_iso_refused, reports_failure}
 use Rattle.wkb_command.proofs.program.rewriting_report.Goals as goal
-
-pub returns-in-Ok : goal.returns-in-Ok
-returns-in-Ok c =
-    says_rewritten c.args.order c.args.text.now _ _ refl c.in-Ok.ensures.ok
 
 pub returns-in-Err : goal.returns-in-Err
 returns-in-Err c =
