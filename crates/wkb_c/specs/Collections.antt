@@ -141,7 +141,7 @@ pub data IsStatusOfCollecting (status : ℕ) : Type 0 where
 abbrev pub part_of : CollectTarget → Wanted
 part_of target = member_part target.kind target.dimension
 
--- a geometry of this type is such a member, once its SRID is dropped
+-- the target takes a geometry of this type as a member, once its SRID is dropped
 abbrev pub TakesMember : CollectTarget → WkbType → Type 0
 TakesMember target t = IsPart (part_of target) (type_kind t) (type_dimension t) false
 
@@ -175,7 +175,7 @@ abbrev pub MembersFit : Column → CollectTarget → ℕ → ℕ → List ℕ �
 MembersFit c target rows start out =
     (m : HaveMembers c (part_of target) rows) → start + length (inside_of target m.values) ≤ length out
 
--- these encodings are put from this index on, and nothing else changes
+-- the encodings of the members that these rows begin with are put from this index on, and nothing else changes
 abbrev pub PutsMembers : Column → CollectTarget → ℕ → ℕ → List ℕ → List ℕ → Type 0
 PutsMembers c target rows start before after =
     (m : HaveMembers c (part_of target) rows) → after ≡ sets before start (inside_of target m.values)

@@ -39,7 +39,7 @@ ReadsMultiPolygon l bytes result old new = IsReadOrStops multi_polygon_seen resu
 abbrev pub ReadsMember : Dimension → List ℕ → Read (Listed (List (List Coordinate))) → Counts → Counts → Type 0
 ReadsMember d bytes result old new = IsReadOrStops polygon_seen result (member_at POLYGON d bytes) old new
 
--- n of them are read, after the count of a multi polygon of this layout
+-- n polygons are read, each with a header of its own, after the count of a multi polygon of this layout
 abbrev pub ReadsMembers : Layout → ℕ → List ℕ → Read (Reserved (Listed (List (List Coordinate)))) → Counts → Counts
     → Type 0
 ReadsMembers l n bytes result old new = IsReadOrStops polygons_seen result (members_behind POLYGON l n bytes) old new
