@@ -8,7 +8,7 @@ import sys
 ROOT = pathlib.Path(__file__).resolve().parent.parent
 PAGES = [
     str(it.relative_to(ROOT))
-    for it in [*sorted(ROOT.glob("*.md")), *sorted(ROOT.glob("docs/*.md")), ROOT / "c/package.md"]
+    for it in [*sorted(ROOT.glob("*.md")), *sorted(ROOT.glob("docs/*.md")), ROOT / "c/package/package.md"]
 ]
 # What a build makes, and what a checkout keeps beside its files.
 NOT_OURS = {".git", "out", "build", "__pycache__", "wkb.so", "wkb_postgres.o"}

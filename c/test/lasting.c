@@ -1,4 +1,4 @@
-/* The library beside test/lasting.rows, whose form `c/lasting --help` tells: which inputs it accepts, and each byte
+/* The library beside test/lasting.rows, whose form `checks/library/lasting --help` tells: which inputs it accepts, and each byte
  * that it writes. Neither changes within version 1. A status inside its class changes only with the file. */
 #include "shared.h"
 

@@ -1,6 +1,6 @@
 /* Tries each call on worked cases, and what no proof of the library sees: that no byte after the input is read, that a
  * refusal leaves its outputs, that null may be given for what is empty or unwanted, and that calls may run at the same
- * time, in handlers of signals and in forked children, take little stack and ask for no memory. c/run compares what
+ * time, in handlers of signals and in forked children, take little stack and ask for no memory. checks/library/run compares what
  * this prints with expected. */
 #include "shared.h"
 

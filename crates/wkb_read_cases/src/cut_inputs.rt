@@ -89,7 +89,7 @@ const CLAIMED: [&str; 4] = [
     "01 07000000 ffffffff 01 02000000 00000000",
 ];
 
-// How many bytes their allocations ask for is in memory/expected.
+// How many bytes their allocations ask for is in checks/memory/expected.
 #[test]
 fn claimed_counts(rt: HostRuntime) -> Result<(), Fail> {
     for text in CLAIMED {

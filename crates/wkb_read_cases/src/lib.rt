@@ -3,7 +3,7 @@
 //! bytes and numbers that they expect were written down before the program ran.
 //!
 //! The inputs of the calls that allocate are made without an allocation, so that only those of the call under test can
-//! fail, each in turn: `memory/run wkb_read_cases` does that. A test in which an allocation failed ends with that error
+//! fail, each in turn: `checks/memory/run wkb_read_cases` does that. A test in which an allocation failed ends with that error
 //! and no other, and one in which none did passes.
 #![tactic(auto)]
 

@@ -1,6 +1,6 @@
 //! Names each word for contracts that `wkb` hands to its users: the check fails where one can't be named.
 //!
-//! `tools/public_words --write` makes this crate.
+//! `checks/sources/public_words --write` makes this crate.
 #![tactic(auto)]
 
 ghost use Rattle.std.specs.Prelude.{◌≡◌, ◌+◌};

@@ -1,0 +1,177 @@
+// What bench/c/speed times: random geometries of a shape, one by one and as a column. They are the same in each run.
+#ifndef SPEED_SHAPES_HPP
+#define SPEED_SHAPES_HPP
+
+#include "wkb.hpp"
+
+#include <algorithm>
+#include <cstdlib>
+#include <cstring>
+#include <random>
+
+namespace speed {
+
+constexpr std::size_t ROWS = 1000;
+constexpr wkb_options BIG = {WKB_ORDER_BIG, WKB_FORM_ISO, 0};
+constexpr wkb_options LITTLE = {WKB_ORDER_LITTLE, WKB_FORM_ISO, 0};
+using row = std::vector<std::byte>;
+
+inline std::mt19937_64 random_numbers(7);
+
+// The encoding of a geometry that is one, by a call that throws nothing: so an earlier library needs no texts of faults.
+inline row written(const row &input, const wkb_options &options) {
+  row out;
+  if (!wkb::try_write(input, options, out)) std::abort();
+  return out;
+}
+
+inline void put(row &out, std::uint32_t number) {
+  for (int k = 0; k < 4; k++) out.push_back(static_cast<std::byte>(number >> 8 * k));
+}
+
+inline void put_words(row &out, std::uint32_t count) {
+  for (std::uint32_t i = 0; i < count; i++) {
+    const double number = static_cast<double>(random_numbers() % 360000000) / 1e6 - 180;
+    std::byte bytes[8];
+    std::memcpy(bytes, &number, sizeof bytes);
+    out.insert(out.end(), bytes, bytes + 8);
+  }
+}
+
+inline void put_header(row &out, std::uint32_t code) {
+  out.push_back(std::byte{WKB_ORDER_LITTLE});
+  put(out, code);
+}
+
+// A ring, or the body of a line string. A ring ends as it begins, as GEOS asks.
+inline void put_line(row &out, std::uint32_t count, bool is_ring) {
+  put(out, count);
+  put_words(out, 2 * count);
+  if (is_ring) std::copy_n(out.end() - 16 * static_cast<std::ptrdiff_t>(count), 16, out.end() - 16);
+}
+
+inline void put_polygon(row &out, std::uint32_t rings, std::uint32_t count) {
+  put_header(out, WKB_KIND_POLYGON);
+  put(out, rings);
+  for (std::uint32_t i = 0; i < rings; i++) put_line(out, count, true);
+}
+
+inline row point() {
+  row out;
+  put_header(out, WKB_KIND_POINT);
+  put_words(out, 2);
+  return out;
+}
+
+inline row point_with_z() {
+  row out;
+  put_header(out, 1000 * WKB_DIM_XYZ + WKB_KIND_POINT);
+  put_words(out, 3);
+  return out;
+}
+
+template <std::uint32_t COUNT>
+row line() {
+  row out;
+  put_header(out, WKB_KIND_LINE_STRING);
+  put_line(out, COUNT, false);
+  return out;
+}
+
+template <std::uint32_t RINGS, std::uint32_t COUNT>
+row polygon() {
+  row out;
+  put_polygon(out, RINGS, COUNT);
+  return out;
+}
+
+inline row multi_polygon() {
+  row out;
+  put_header(out, WKB_KIND_MULTI_POLYGON);
+  put(out, 5);
+  for (int i = 0; i < 5; i++) put_polygon(out, 1, 12);
+  return out;
+}
+
+struct shape {
+  const char *name;
+  row (*make)();
+};
+
+constexpr shape SHAPES[] = {
+    {"point", point},
+    {"point with z", point_with_z},
+    {"line of 10", line<10>},
+    {"line of 100", line<100>},
+    {"polygon of 5", polygon<1, 5>},
+    {"polygon of 20", polygon<1, 20>},
+    {"polygon of 2 x 12", polygon<2, 12>},
+    {"multi polygon of 5 x 12", multi_polygon},
+};
+
+// What isn't timed: all shapes, two points in a multi point, and an empty point, inside one collection.
+inline row collection() {
+  row out;
+  put_header(out, WKB_KIND_GEOMETRY_COLLECTION);
+  put(out, std::size(SHAPES) + 2);
+  for (const shape &it : SHAPES) {
+    const row member = it.make();
+    out.insert(out.end(), member.begin(), member.end());
+  }
+  put_header(out, WKB_KIND_MULTI_POINT);
+  put(out, 2);
+  for (int i = 0; i < 2; i++) {
+    put_header(out, WKB_KIND_POINT);
+    put_words(out, 2);
+  }
+  put_header(out, WKB_KIND_POINT);
+  for (int i = 0; i < 4; i++) put(out, 0xfff12345);
+  return out;
+}
+
+inline std::vector<row> rows_of(const shape &of) {
+  std::vector<row> rows(ROWS);
+  std::generate(rows.begin(), rows.end(), of.make);
+  for (const row &input : rows)
+    if (!wkb::check(input)) std::exit(1);
+  return rows;
+}
+
+// All rows of a shape as a column, with rooms for what the calls write.
+struct whole_column {
+  std::vector<std::byte> data;
+  std::vector<std::int64_t> offsets{0};
+  std::vector<std::uint8_t> statuses;
+  std::vector<std::uint64_t> ends;
+  std::vector<wkb_box> boxes;
+  std::vector<wkb_part> parts;
+  std::vector<std::byte> out;
+  wkb::row_coordinates levels;
+  wkb_kind kind;
+  wkb_dim dimension;
+  wkb_column raw;
+
+  explicit whole_column(const std::vector<row> &rows) : statuses(rows.size()), ends(rows.size()), boxes(rows.size()) {
+    const wkb_found found = *wkb::check(rows[0]);
+    kind = static_cast<wkb_kind>(found.kind);
+    dimension = static_cast<wkb_dim>(found.dimension);
+    for (const row &it : rows) {
+      data.insert(data.end(), it.begin(), it.end());
+      offsets.push_back(static_cast<std::int64_t>(data.size()));
+    }
+    raw = wkb::column(data, std::span<const std::int64_t>(offsets));
+    parts.resize(wkb_column_parts(&raw, nullptr, 0, ends.data(), statuses.data()));
+    out.resize(data.size());
+    levels = wkb::coordinates_of_rows(raw, dimension);
+  }
+};
+
+// The rooms for coordinates that a column has, as C has them.
+inline wkb_coordinates rooms_of(wkb::row_coordinates &to) {
+  return {to.words.data(), to.words.size(), to.ring_ends.data(), to.ring_ends.size(),
+          to.single_ends.data(), to.single_ends.size(), to.row_ends.data(), 0, 0, 0};
+}
+
+}  // namespace speed
+
+#endif

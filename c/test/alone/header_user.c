@@ -1,0 +1,88 @@
+/* A user's program, which c/test/alone/header_test compiles as each version of C and of C++, with warnings as errors: switches over
+ * all constants of a type without a default, and sizes and counts of C's own type. */
+#include "wkb.h"
+
+/* What each number means. A switch over a number is never full for a compiler, so each has an end of its own. */
+const char *meaning_of_kind(wkb_kind kind);
+const char *meaning_of_kind(wkb_kind kind) {
+  switch (kind) {
+    case WKB_KIND_RING: return "a ring";
+    case WKB_KIND_POINT: return "a point";
+    case WKB_KIND_LINE_STRING: return "a line string";
+    case WKB_KIND_POLYGON: return "a polygon";
+    case WKB_KIND_MULTI_POINT: return "a multi point";
+    case WKB_KIND_MULTI_LINE_STRING: return "a multi line string";
+    case WKB_KIND_MULTI_POLYGON: return "a multi polygon";
+    case WKB_KIND_GEOMETRY_COLLECTION: return "a collection";
+  }
+  return wkb_kind_text(kind);
+}
+
+int words_of(wkb_dim dimension);
+int words_of(wkb_dim dimension) {
+  switch (dimension) {
+    case WKB_DIM_XY: return 2;
+    case WKB_DIM_XYZ:
+    case WKB_DIM_XYM: return 3;
+    case WKB_DIM_XYZM: return 4;
+  }
+  return 0;
+}
+
+int class_of(wkb_status status);
+int class_of(wkb_status status) {
+  switch (status) {
+    case WKB_STATUS_OK: return 0;
+    case WKB_STATUS_NO_ROOM: return 1;
+  }
+  if (wkb_status_is_early_end(status)) return 4;
+  if (wkb_status_is_refusal(status)) return 3;
+  return wkb_status_is_of_row(status) ? 2 : wkb_status_is_failure(status);
+}
+
+/* Writes an input in the other order, and returns how many bytes and parts there are. */
+size_t turned(const void *buf, size_t len, void *out, size_t room, char *text, size_t text_room);
+size_t turned(const void *buf, size_t len, void *out, size_t room, char *text, size_t text_room) {
+  wkb_found found;
+  wkb_fault fault;
+  wkb_options options = {WKB_ORDER_BIG, WKB_FORM_ISO, 0};
+  size_t size = 0, count = 0;
+  wkb_status status = wkb_check(buf, len, &found, &fault);
+  if (status != WKB_STATUS_OK) return wkb_fault_text(&fault, text, text_room);
+  switch (found.order) {
+    case WKB_ORDER_BIG: options.order = WKB_ORDER_LITTLE; break;
+    case WKB_ORDER_LITTLE: options.order = WKB_ORDER_BIG; break;
+  }
+  status = wkb_write(buf, len, &options, out, room, &size, &fault);
+  if (status == WKB_STATUS_OK) status = wkb_parts(buf, len, NULL, 0, &count, NULL);
+  return status == WKB_STATUS_NO_ROOM ? size + count : 0;
+}
+
+/* How long the rows are as one geometry, or else which row can't be a member. */
+size_t length_of(const wkb_column *column, size_t *row);
+size_t length_of(const wkb_column *column, size_t *row) {
+  const wkb_options options = {WKB_ORDER_LITTLE, WKB_FORM_ISO, 0};
+  size_t size = 0;
+  wkb_status status =
+      wkb_collect(column, WKB_KIND_MULTI_POINT, WKB_DIM_XY, &options, NULL, 0, &size, NULL, row);
+  return status == WKB_STATUS_NO_ROOM ? size : 0;
+}
+
+/* The rooms that a column needs. */
+size_t rooms_of(const wkb_column *column, const wkb_levels *levels, uint64_t *ends, uint8_t *statuses);
+size_t rooms_of(const wkb_column *column, const wkb_levels *levels, uint64_t *ends, uint8_t *statuses) {
+  const wkb_options options = {WKB_ORDER_LITTLE, WKB_FORM_ISO, 0};
+  size_t parts = wkb_column_parts(column, NULL, 0, ends, statuses);
+  size_t bytes = wkb_column_write(column, &options, NULL, 0, ends, statuses);
+  return parts + bytes +
+         wkb_column_from_coordinates(levels, WKB_KIND_POINT, WKB_DIM_XY, &options, NULL, 0, ends, statuses);
+}
+
+/* The first word of a geometry that is one point. */
+double first_word(const void *buf, const wkb_found *found);
+double first_word(const void *buf, const wkb_found *found) {
+  wkb_part whole = wkb_whole(found);
+  double words[4];
+  wkb_words(buf, &whole, 0, 1, words);
+  return whole.kind == WKB_KIND_POINT ? words[0] : wkb_word(buf, &whole, 0, 0);
+}

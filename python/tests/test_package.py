@@ -1,0 +1,130 @@
+"""The package beside wkb.h, its extension, other processes, and the example of the pages."""
+import concurrent.futures
+import ctypes
+import inspect
+import os
+import pathlib
+import pydoc
+import re
+import shutil
+import subprocess
+import sys
+import tempfile
+import unittest
+
+import wkb
+from samples import ISO_POLYGON, POINT, POLYGON
+from wkb import Status, _records, _wkb
+
+# The library is beside the package in the repository, above it in the source package.
+TOP = pathlib.Path(__file__).resolve().parents[2]
+C = TOP / "c" if (TOP / "c").exists() else TOP
+
+
+class Header(unittest.TestCase):
+    """The structs and the numbers are those of wkb.h."""
+
+    TEXT = re.sub(r"/\*.*?\*/", "", (C / "wkb.h").read_text(), flags=re.DOTALL)
+
+    def fields(self, name, types):
+        body = re.search(rf"typedef struct {name} {{(.*?)}} {name};", self.TEXT, re.DOTALL).group(1)
+        for line in body.split(";")[:-1]:
+            kind, names = re.fullmatch(r"\s*(?:const )?(\w+)\s+(.*)", line).groups()
+            for field in re.findall(r"[*\w]+", names):
+                yield field.strip("*"), types["*"] if "*" in field else types[kind]
+
+    def test_records(self):
+        types = {"uint64_t": "i8", "uint32_t": "u4", "double": "f8", "wkb_range": wkb.Range.FIELDS}
+        for record in (wkb.Found, wkb.Fault, wkb.Part, wkb.Range, wkb.Box):
+            fields = list(self.fields(f"wkb_{record.__name__.lower()}", types))
+            self.assertEqual(fields, record.FIELDS)
+            self.assertEqual(_records.layout(fields).size, sum(8 if it[-1] == "8" else 4 for it in _flat(fields)))
+
+    def test_numbers(self):
+        for numbers in (Status, wkb.Kind, wkb.Dimension, wkb.Order, wkb.Form):
+            prefix = {"Dimension": "DIM"}.get(numbers.__name__, numbers.__name__.upper())
+            found = re.findall(rf"WKB_{prefix}_(\w+) = (\d+)\b", self.TEXT)
+            self.assertEqual(found, [(it.name, str(it.value)) for it in numbers])
+
+
+def _flat(fields):
+    """The types of the fields, and of those inside them."""
+    return [it for _, kind in fields for it in ([kind] if isinstance(kind, str) else _flat(kind))]
+
+
+class Names(unittest.TestCase):
+    """What is public, and what help says of it."""
+
+    PUBLIC = {name for name in vars(wkb) if not name.startswith("_")}
+
+    def test_help(self):
+        shown = pydoc.plain(pydoc.render_doc(wkb))
+        self.assertLess(len(shown.splitlines()), 100)
+        for name in self.PUBLIC:
+            call = r"\(" if inspect.isfunction(getattr(wkb, name)) else ""
+            self.assertRegex(wkb.__doc__, rf"\b{name}\b{call}")
+        for name in {name for name in vars(wkb.Column) if not name.startswith("_")}:
+            self.assertRegex(wkb.__doc__, rf"\.{name}\(")
+
+    def test_names(self):
+        self.assertEqual(len(self.PUBLIC), 30)
+        for name in self.PUBLIC:
+            self.assertTrue(getattr(wkb, name).__doc__, name)
+        everything = {}
+        exec("from wkb import *", everything)
+        self.assertEqual(self.PUBLIC, everything.keys() - {"__builtins__"})
+
+    def test_version(self):
+        written = re.search(r'^version = "(.*)"$', (TOP / "python/pyproject.toml").read_text(), re.MULTILINE)
+        self.assertEqual(wkb.__version__, written.group(1))
+
+
+class Inside(unittest.TestCase):
+    """The library is inside the extension, and no other library is looked for."""
+
+    def test_load(self):
+        self.assertIsNone(wkb.load())
+        for path in ("libc.so.6", pathlib.Path("none.so")):
+            self.assertRaisesRegex(OSError, f"{path} can't take its place", wkb.load, path)
+        self.assertEqual(wkb.check(POINT).size, 21)
+
+    def test_environment(self):
+        """The package works anywhere, whatever WKB_LIBRARY names."""
+        with tempfile.TemporaryDirectory() as folder:
+            shutil.copytree(pathlib.Path(wkb.__file__).parent, f"{folder}/wkb",
+                            ignore=shutil.ignore_patterns("__pycache__"))
+            environment = dict(os.environ, PYTHONPATH=folder, WKB_LIBRARY=f"{folder}/none.so")
+            program = "import wkb; print(wkb.__file__, wkb.version())"
+            ran = subprocess.run([sys.executable, "-c", program], env=environment, stdout=subprocess.PIPE, check=True)
+            self.assertEqual(ran.stdout.decode(), f"{folder}/wkb/__init__.py (1, 0, 0)\n")
+
+    def test_names(self):
+        """The extension shows its first function alone, so that a program may have another such library."""
+        extension = ctypes.CDLL(_wkb.__file__)
+        self.assertTrue(extension.PyInit__wkb)
+        for name in ("wkb_check", "wkb_version", "wkb_raw_check"):
+            self.assertFalse(hasattr(extension, name))
+
+
+class OtherProcesses(unittest.TestCase):
+    def test_pool(self):
+        """A refused row raises its error here, and the pool goes on."""
+        with concurrent.futures.ProcessPoolExecutor(1) as pool:
+            jobs = [pool.submit(wkb.check, data) for data in (POINT, b"\2", POLYGON)]
+            self.assertEqual((jobs[0].result(), jobs[2].result()), (wkb.check(POINT), wkb.check(POLYGON)))
+            self.assertEqual(jobs[1].exception().status, Status.INVALID_BYTE_ORDER)
+
+
+@unittest.skipUnless((C / "examples/example.py").exists(), "only the repository has the example")
+class Example(unittest.TestCase):
+    def test_output(self):
+        ran = subprocess.run([sys.executable, C / "examples/example.py"], stdout=subprocess.PIPE, check=True)
+        self.assertEqual(ran.stdout.decode().splitlines(), [
+            "POLYGON of 2 parts in 33 bytes, SRID 4326",
+            "1.0 2.0",
+            ISO_POLYGON.hex(),
+            "OK NULL_ROW SHORT_LINEAR_RING",
+            "OK OK BAD_OFFSETS",
+            "1.0 1.0",
+            "0 1 2 2 0 1 2",
+        ])
