@@ -93,11 +93,11 @@ without_header around bytes c t e =
 -- ---- the open collections
 
 -- as many counts as collections are open
-as_many : (left : List ℕ) (depth : ℕ) → length left ≡ 128 → depth ≤ 128 → length (open_counts left depth) ≡ depth
+as_many : (left : List ℕ) (depth : ℕ) → length left ≡ max_nesting → depth ≤ max_nesting → length (open_counts left depth) ≡ depth
 as_many left depth len shallow = length-reverse (take depth left) ∙ omega (arith, length-take depth left)
 
 module _ (depth : ℕ) (h : Head) (d : Dimension) (l : Layout) (bytes : List ℕ)
-    (is : h.wkb_type ≡ kinds.GeometryCollection d) (l-is : l ≡ layout_of h) (shallow : depth < 128) where
+    (is : h.wkb_type ≡ kinds.GeometryCollection d) (l-is : l ≡ layout_of h) (shallow : depth < max_nesting) where
   -- what follows the header of a collection
   behind : (t : Tally)
       → body_walked depth h bytes t
@@ -108,7 +108,7 @@ module _ (depth : ℕ) (h : Head) (d : Dimension) (l : Layout) (bytes : List ℕ
       let k : max_nesting - depth ≡ suc (max_nesting - suc depth) = omega arith in
       rw (l-is, is, k) refl
 
-  pub opens : (left start : List ℕ) (n turns passed : ℕ) → length left ≡ 128 → n ≡ count_in l bytes
+  pub opens : (left start : List ℕ) (n turns passed : ℕ) → length left ≡ max_nesting → n ≡ count_in l bytes
       → body_start l.has_srid + 4 ≤ length bytes → start ≡ parts_start l.has_srid bytes
       → onward (body_walked depth h bytes (turns, passed)) (ahead_of (open_counts left depth))
       ≡ ahead_of (open_counts (slice_set left depth n) (depth + 1)) (turns, passed) start
@@ -166,8 +166,8 @@ starts left around (Err e) none fits = refl
 -- the next member begins
 module _ (left next bytes : List ℕ) (depth deep turns passed : ℕ) (reached whole : Walked) (ahead : reached ≡ whole)
     (finished : reached ≡ ahead_of (open_counts left depth) (turns, passed) bytes)
-    (settled : IsFollowed (open_counts left depth) (open_counts next deep)) (len : length next ≡ 128)
-    (shallow : deep ≤ 128) where
+    (settled : IsFollowed (open_counts left depth) (open_counts next deep)) (len : length next ≡ max_nesting)
+    (shallow : deep ≤ max_nesting) where
   begun : onward (inside_walked deep bytes (turns + 1, passed)) (ahead_of (open_counts next deep)) ≡ whole
   begun =
       ap (λ k. onward (inside_walked k bytes (turns + 1, passed)) (ahead_of (open_counts next deep)))

@@ -160,6 +160,27 @@ pub record Takes (w now : Pieces) (p : Piece) : Type 0 where
   pub inside : IsInside w.bytes.now w.at now.at p
   pub same : now.bytes.now ≡ w.bytes.now
 
+-- all pieces of a geometry at the front of these bytes are to come
+pub record HasAll (bytes : List ℕ) (w : Pieces) : Type 0 where
+  pub ahead : (g : HasGeometry bytes) → IsAhead w (all_pieces g)
+  pub begins : w.at ≡ 0
+  pub rings : w.rings ≡ 0
+  pub geometries : w.geometries ≡ 1
+  pub same : w.bytes.now ≡ bytes
+
+-- all of them but the first one are
+pub record IsBehind (bytes : List ℕ) (first : Piece) (w : Pieces) : Type 0 where
+  pub steps : (g : HasGeometry bytes) → IsTaken w (all_pieces g) first
+  pub inside : IsInside bytes 0 w.at first
+  pub same : w.bytes.now ≡ bytes
+
+-- this piece was taken, or none
+pub record TakesOrStays (w : Pieces) (result : Option Piece) (now : Pieces) : Type 0 where
+  pub takes : IfSome result (Takes w now)
+  pub further : IfSome result (λ p. w.at < now.at)
+  pub same : now.bytes.now ≡ w.bytes.now
+  pub stays : result ≡ None → now ≡ w
+
 -- the next of these pieces was taken, if there is one
 abbrev pub IsNext : Pieces → List Piece → Option Piece → Type 0
 IsNext now xs None = xs ≡ []

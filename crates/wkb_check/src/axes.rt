@@ -3,14 +3,14 @@
 ghost use Rattle.std.specs.Prelude.{◌≡◌, ◌*◌, ◌≤◌, length};
 ghost use Rattle.wkb_geom.specs.Dimensions.{width};
 ghost use Rattle.wkb_geom.specs.Reading.{coordinates};
-ghost use Rattle.wkb_check.specs.Ranges.{CanWiden, WidensRange};
+ghost use Rattle.wkb_check.specs.Ranges.{CanWiden, WidensRange, AreNumbers};
 ghost use Rattle.wkb_check.specs.Ordinates.{column_words, axis_place, z_axis, m_axis};
 ghost use Rattle.wkb_check.specs.Bounded.{WidensBounds, HasRoom, bounds_by};
 ghost use Rattle.wkb_check.specs.Bounded.{nothing as no_bounds};
 
-use crate::range::{Bounds, Range, rest_from};
+use crate::range::{Bounds, Range};
 use crate::ranks::Ranks;
-use wkb_geom::words::{WORD_SIZE, u64_at};
+use wkb_geom::words::{WORD_SIZE, rest_from, u64_at};
 use wkb_geom::{Dimension, Endianness};
 
 /// The ranges on each axis.
@@ -22,10 +22,64 @@ pub(crate) struct AxisRanks {
     m: Ranks,
 }
 
-/// Widens the ranges of x and y by the first two words of each of `count` coordinates, which have `size` bytes each.
+/// Widens the ranks of x and y by the first two words of each of `count` coordinates, as if each were a number.
 #[tactic(auto, using(crate::proofs::Widening::column_laws))]
 #[inline(always)]
+fn widen_plane_by_numbers(
+    x: &mut Ranks,
+    y: &mut Ranks,
+    order: Endianness,
+    size: usize,
+    count: u32,
+    bytes: &[u8],
+)
+    requires x { CanWiden x.old size 0 count bytes.now }
+    requires y { CanWiden y.old size 8 count bytes.now }
+    ensures x { AreNumbers x.new → WidensRange x.old x.new (column_words order size 0 count bytes.now) }
+    ensures y { AreNumbers y.new → WidensRange y.old y.new (column_words order size 8 count bytes.now) }
+{
+    let mut x_ranks = *x;
+    let mut y_ranks = *y;
+    let mut rest = bytes;
+    for _ in 0..count {
+        x_ranks = x_ranks.with_number(u64_at(rest, 0, order));
+        y_ranks = y_ranks.with_number(u64_at(rest, WORD_SIZE, order));
+        rest = rest_from(rest, size);
+    }
+    *x = x_ranks;
+    *y = y_ranks;
+}
+
+/// Widens the ranges of x and y by the first two words of each of `count` coordinates, which have `size` bytes each.
+#[inline(always)]
 fn widen_plane_in(
+    x: &mut Ranks,
+    y: &mut Ranks,
+    order: Endianness,
+    size: usize,
+    count: u32,
+    bytes: &[u8],
+)
+    requires x { CanWiden x.old size 0 count bytes.now }
+    requires y { CanWiden y.old size 8 count bytes.now }
+    ensures x { WidensRange x.old x.new (column_words order size 0 count bytes.now) }
+    ensures y { WidensRange y.old y.new (column_words order size 8 count bytes.now) }
+{
+    let mut x_numbers = *x;
+    let mut y_numbers = *y;
+    widen_plane_by_numbers(&mut x_numbers, &mut y_numbers, order, size, count, bytes);
+    if x_numbers.are_numbers() && y_numbers.are_numbers() {
+        *x = x_numbers;
+        *y = y_numbers;
+    } else {
+        widen_plane_word_by_word(x, y, order, size, count, bytes);
+    }
+}
+
+/// As `widen_plane_in`, with a test of each word. It isn't inlined, so that the loop without such tests is short.
+#[tactic(auto, using(crate::proofs::Widening::column_laws))]
+#[inline(never)]
+fn widen_plane_word_by_word(
     x: &mut Ranks,
     y: &mut Ranks,
     order: Endianness,
@@ -76,7 +130,7 @@ fn widen_plane(
 
 /// Which word of a coordinate is its z.
 #[inline(always)]
-fn place_of_z(dimension: Dimension) -> Option<usize>
+pub(crate) fn place_of_z(dimension: Dimension) -> Option<usize>
     ensures { result ≡ axis_place z_axis dimension }
 {
     match dimension {
@@ -87,7 +141,7 @@ fn place_of_z(dimension: Dimension) -> Option<usize>
 
 /// Which word of a coordinate is its m.
 #[inline(always)]
-fn place_of_m(dimension: Dimension) -> Option<usize>
+pub(crate) fn place_of_m(dimension: Dimension) -> Option<usize>
     ensures { result ≡ axis_place m_axis dimension }
 {
     match dimension {

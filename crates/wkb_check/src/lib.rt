@@ -5,6 +5,7 @@
 
 mod answer;
 mod axes;
+mod coordinate;
 mod head;
 mod nested;
 mod parts;
@@ -18,7 +19,7 @@ mod widen;
 
 pub use answer::{Refused, Summary, check, check_member, check_plain};
 pub use head::size_of_srid;
-pub use parts::{Part, PartPlace, dimension_number, put_geometries, width_number};
+pub use parts::{Part, PartPlace, put_geometries, width_number};
 pub use pieces::{Piece, Pieces, RING};
 pub use range::{Bounds, Range};
 pub use scan::{bounds, put_bounds};

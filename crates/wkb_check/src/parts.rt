@@ -1,7 +1,6 @@
 //! The table of a geometry's parts.
 
 ghost use Rattle.std.specs.Prelude.{◌≡◌, ◌+◌, ◌≤◌, length, drop};
-ghost use Rattle.wkb_geom.specs.Codes.{thousands};
 ghost use Rattle.wkb_geom.specs.Dimensions.{width};
 ghost use Rattle.wkb_check.specs.Tables.{entry_of, HasRingsFrom, PutsRings, FitGeometries, PutsFrom};
 
@@ -26,18 +25,6 @@ pub struct Part {
     pub order: u32,
 }
 
-/// The number of a dimension, as the thousands of a code.
-pub fn dimension_number(dimension: Dimension) -> u32
-    ensures { result ≡ thousands dimension }
-{
-    match dimension {
-        Dimension::Xy => 0,
-        Dimension::Xyz => 1,
-        Dimension::Xym => 2,
-        Dimension::Xyzm => 3,
-    }
-}
-
 /// How many words a coordinate has.
 #[tactic(auto, using(crate::proofs::Rings::width_is_small))]
 pub fn width_number(dimension: Dimension) -> u32
@@ -47,7 +34,7 @@ pub fn width_number(dimension: Dimension) -> u32
 }
 
 impl Part {
-    /// The entry of this piece, which ends at this byte, and whose rings or members end before this index.
+    /// The table entry of `piece`: `end` is its last byte plus one, `next` the index after its rings and members.
     #[inline(always)]
     fn of(piece: &Piece, end: usize, next: usize) -> Part
         ensures { result ≡ entry_of piece.now end next }
@@ -61,7 +48,7 @@ impl Part {
             srid: piece.srid.unwrap_or(0),
             has_srid: u32::from(piece.srid.is_some()),
             kind: piece.kind,
-            dimension: dimension_number(piece.dimension),
+            dimension: piece.dimension.thousands(),
             width: width_number(piece.dimension),
             order: u32::from(u8::from(piece.order)),
         }

@@ -4,16 +4,15 @@ ghost use Rattle.std.specs.Prelude.{◌≡◌, ◌+◌, ◌≤◌, ◌<◌, ◌^
 ghost use Rattle.std.specs.Iterator.{at_most};
 ghost use Rattle.wkb_geom.specs.Numbers.{number};
 ghost use Rattle.wkb_check.specs.Bounded.{HasGeometry};
-ghost use Rattle.wkb_check.specs.Pieces.{own_end, ring_piece, all_pieces, IsPieceAt, IsHeaderAt, IsAhead, HasAhead};
-ghost use Rattle.wkb_check.specs.Pieces.{IsTaken, IsInside, Takes, Steps, bytes_left};
+ghost use Rattle.wkb_check.specs.Pieces.{own_end, ring_piece, IsPieceAt, IsHeaderAt, HasAhead, HasAll, IsBehind};
+ghost use Rattle.wkb_check.specs.Pieces.{Takes, TakesOrStays, Steps, bytes_left};
 ghost use Rattle.wkb_check.specs.Public.{DescribesFront};
 
 use crate::answer::Summary;
 use crate::head::{bare_kind, size_of_srid};
-use crate::range::rest_from;
 use wkb_geom::code::{POINT, POLYGON};
 use wkb_geom::header::MEMBER_HEADER_SIZE;
-use wkb_geom::words::{COUNT_SIZE, u32_at};
+use wkb_geom::words::{COUNT_SIZE, rest_from, u32_at};
 use wkb_geom::{Dimension, Endianness, Head};
 
 /// The number of a ring among the kinds.
@@ -144,9 +143,9 @@ pub struct Pieces<'a> {
     at: usize,
     /// How many rings of the polygon before them are to come.
     rings: u32,
-    /// How many geometries are to come after these, besides those inside them.
+    /// How many geometries follow those rings, not counting what is inside them.
     geometries: usize,
-    /// The order and the dimension of that polygon.
+    /// Byte order and dimension of the polygon whose rings are next.
     order: Endianness,
     dimension: Dimension,
 }
@@ -156,11 +155,7 @@ impl<'a> Pieces<'a> {
     #[inline(always)]
     pub fn of(bytes: &'a [u8]) -> Pieces<'a>
         requires here { HasGeometry bytes.now }
-        ensures ahead { (g : HasGeometry bytes.now) → IsAhead result (all_pieces g) }
-        ensures begins { result.at ≡ 0 }
-        ensures rings { result.rings ≡ 0 }
-        ensures geometries { result.geometries ≡ 1 }
-        ensures same { result.bytes.now ≡ bytes.now }
+        ensures { HasAll bytes.now result }
     {
         Pieces {
             bytes,
@@ -177,9 +172,7 @@ impl<'a> Pieces<'a> {
     pub fn behind(bytes: &'a [u8], first: &Piece) -> Pieces<'a>
         requires here { HasGeometry bytes.now }
         requires first { IsPieceAt bytes.now 0 first.now }
-        ensures steps { (g : HasGeometry bytes.now) → IsTaken result (all_pieces g) first.now }
-        ensures inside { IsInside bytes.now 0 result.at first.now }
-        ensures same { result.bytes.now ≡ bytes.now }
+        ensures { IsBehind bytes.now first.now result }
     {
         let mut pieces = Pieces::of(bytes);
         pieces.pass_geometry(first);
@@ -238,10 +231,7 @@ impl<'a> Pieces<'a> {
     #[inline(always)]
     pub fn next_bare(&mut self, order: Endianness) -> Option<Piece>
         requires ahead { HasAhead self.old }
-        ensures takes { IfSome result (Takes self.old self.new) }
-        ensures further { IfSome result (λ p. self.old.at < self.new.at) }
-        ensures same { self.new.bytes.now ≡ self.old.bytes.now }
-        ensures stays { result ≡ None → self.new ≡ self.old }
+        ensures { TakesOrStays self.old result self.new }
     {
         if self.rings > 0 || self.geometries == 0 {
             return None;

@@ -1,27 +1,19 @@
 //! Ranges by the order of numbers on their words.
 
-ghost use Rattle.std.specs.Prelude.{◌≡◌, ◌+◌, ◌*◌, ◌<◌, ◌≤◌, ◌^◌, length, IfSome};
+ghost use Rattle.std.specs.Prelude.{◌≡◌, ◌+◌, ◌*◌, ◌<◌, ◌≤◌, ◌^◌, length, IfSome, true};
 ghost use Rattle.wkb_geom.specs.Dimensions.{width};
-ghost use Rattle.wkb_check.specs.Ranges.{rank as rank_of, word_of as word_by, range_by, with_word};
-ghost use Rattle.wkb_check.specs.Ranges.{CanWiden, WidensRange};
+ghost use Rattle.wkb_check.specs.Ranges.{word_of as word_by, range_by, with_word};
+ghost use Rattle.wkb_check.specs.Ranges.{CanWiden, WidensRange, AreNumbers, WidensNumbers};
 ghost use Rattle.wkb_check.specs.Ordinates.{column_words, place_words};
 
-use crate::range::{Range, rest_from};
-use wkb_geom::words::{WORD_SIZE, is_nan, u64_at};
+use crate::range::Range;
+use wkb_geom::words::{SIGN, WORD_SIZE, is_nan, rank, rest_from, u64_at};
 use wkb_geom::{Dimension, Endianness};
 
-/// The sign bit of a word.
-const SIGN: u64 = 0x8000_0000_0000_0000;
-
-/// The rank of a word in the order of numbers.
-#[inline(always)]
-fn rank(word: u64) -> u64
-    ensures { result ≡ rank_of word }
-{
-    // One exclusive or with a mask takes fewer steps than a sum and a difference to choose from.
-    let mask = if word < SIGN { SIGN } else { u64::MAX };
-    word ^ mask
-}
+/// The rank of minus infinity, the least number.
+const LEAST_RANK: u64 = 0x000f_ffff_ffff_ffff;
+/// The rank of infinity, the greatest number.
+const GREATEST_RANK: u64 = 0xfff0_0000_0000_0000;
 
 /// The word of a rank.
 #[inline(always)]
@@ -81,10 +73,78 @@ impl Ranks {
         }
     }
 
-    /// Widens the range by the word at offset `at` of each of `count` coordinates, which have `size` bytes each.
+    /// The ranks widened by this word as if it were a number. Of another the ranks tell it.
+    #[inline(always)]
+    pub(crate) fn with_number(self, word: u64) -> Ranks
+        requires room { self.count + 1 < 2 ^ 64 }
+        ensures { WidensNumbers self word result }
+    {
+        let here = rank(word);
+        Ranks {
+            least: self.least.min(here),
+            greatest: self.greatest.max(here),
+            count: self.count + 1,
+        }
+    }
+
+    /// Whether all words were numbers.
+    #[inline(always)]
+    pub(crate) fn are_numbers(self) -> bool
+        ensures { result ≡ true → AreNumbers self }
+    {
+        LEAST_RANK <= self.least && self.greatest <= GREATEST_RANK
+    }
+
+    /// Widens the ranks by a word of each of `count` coordinates, as if each were a number.
     #[tactic(auto, using(crate::proofs::Widening::column_laws))]
     #[inline(always)]
+    fn widen_by_numbers(
+        &mut self,
+        order: Endianness,
+        size: usize,
+        at: usize,
+        count: u32,
+        bytes: &[u8],
+    )
+        requires { CanWiden self.old size at count bytes.now }
+        ensures { AreNumbers self.new
+            → WidensRange self.old self.new (column_words order size at count bytes.now) }
+    {
+        let mut ranks = *self;
+        let mut rest = bytes;
+        for _ in 0..count {
+            ranks = ranks.with_number(u64_at(rest, at, order));
+            rest = rest_from(rest, size);
+        }
+        *self = ranks;
+    }
+
+    /// Widens the range by the word at offset `at` of each of `count` coordinates, which have `size` bytes each.
+    #[inline(always)]
     fn widen_in(&mut self, order: Endianness, size: usize, at: usize, count: u32, bytes: &[u8])
+        requires { CanWiden self.old size at count bytes.now }
+        ensures { WidensRange self.old self.new (column_words order size at count bytes.now) }
+    {
+        let mut numbers = *self;
+        numbers.widen_by_numbers(order, size, at, count, bytes);
+        if numbers.are_numbers() {
+            *self = numbers;
+        } else {
+            self.widen_word_by_word(order, size, at, count, bytes);
+        }
+    }
+
+    /// As `widen_in`, with a test of each word. It isn't inlined, so that the loop without such tests is short.
+    #[tactic(auto, using(crate::proofs::Widening::column_laws))]
+    #[inline(never)]
+    fn widen_word_by_word(
+        &mut self,
+        order: Endianness,
+        size: usize,
+        at: usize,
+        count: u32,
+        bytes: &[u8],
+    )
         requires { CanWiden self.old size at count bytes.now }
         ensures { WidensRange self.old self.new (column_words order size at count bytes.now) }
     {

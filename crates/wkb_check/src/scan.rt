@@ -9,8 +9,9 @@ ghost use Rattle.wkb_check.specs.Public.{Checks, DescribesFront};
 use crate::answer::{Refused, Summary, check, check_plain};
 use crate::axes::AxisRanks;
 use crate::pieces::{Piece, Pieces};
-use crate::range::{Bounds, rest_from};
+use crate::range::Bounds;
 use wkb_geom::code::POLYGON;
+use wkb_geom::words::rest_from;
 
 /// The bounds of a geometry that has coordinates, and so is this piece alone.
 #[inline(always)]
@@ -20,14 +21,17 @@ fn bounds_of_piece(buf: &[u8], only: &Piece) -> Bounds
     requires low { nat_lt only.now.kind POLYGON ≡ true }
     ensures { (g : HasGeometry buf.now) → AreBounds result g.value }
 {
-    let mut ranks = AxisRanks::empty();
     let bytes = rest_from(buf, only.offset);
+    if only.count == 1 {
+        return Bounds::of_coordinate(only.order, only.dimension, bytes);
+    }
+    let mut ranks = AxisRanks::empty();
     ranks.widen(only.order, only.dimension, only.count, bytes);
     ranks.bounds()
 }
 
-/// The first piece of a geometry that has coordinates, and so is this piece alone. Of another none is made, since the
-/// walk finds it again.
+/// The first piece of a geometry that has coordinates, and so is this piece alone. `None` for any other geometry: the
+/// walk visits its first piece anyway.
 #[inline(always)]
 fn only_piece(buf: &[u8], found: &Summary) -> Option<Piece>
     requires { DescribesFront buf.now found.now }

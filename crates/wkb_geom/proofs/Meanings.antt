@@ -4,11 +4,11 @@ use Rattle.std.proofs.Common.{false, refl, sym, ap, ◌∙◌, subst, arith, inl
 use Rattle.std.specs.Cmp.{first_so, second_so}
 use Rattle.std.specs.Prelude.{nat_le, nat_lt, ◌&&◌, ◌||◌, if◌then◌else◌}
 use Rattle.std.proofs.lemmas.Bool.{ltb-true, leb-true, lt-ltb}
-use Rattle.std.proofs.lemmas.Bool.Decides.{leb_tells}
+use Rattle.std.proofs.lemmas.Bool.Decides.{leb_tells, nat_tests}
 use Rattle.wkb_geom.specs.declared.common.Dimension.{Dimension}
 use Rattle.wkb_geom.specs.declared.code.WkbType.{WkbType}
 use Rattle.wkb_geom.specs.Dimensions.{has_z, has_m}
-use Rattle.wkb_geom.specs.Codes.{Code, flag, thousands, z_flag, m_flag, srid_flag}
+use Rattle.wkb_geom.specs.Codes.{Code, flag, thousands, dimension_of_thousands, z_flag, m_flag, srid_flag}
 use Rattle.wkb_geom.specs.Reading.{Meaning, type_kind, type_dimension, meaning_of, meaning_with, without, in_table}
 use Rattle.wkb_geom.specs.Reading.{type_of, dimension_with, iso_dimension}
 use Rattle.wkb_geom.specs.Meanings.{HasNoMeaning, has_srid_flag}
@@ -156,14 +156,22 @@ meaning_by : (c : ℕ) {b : Bool} → b ≡ is_in_table c → meaning_of c ≡ (
 unfolding meaning_of
 meaning_by c table = ap (λ (x : Bool). if x then Some (meant c) else None) (sym table)
 
+iso_of_thousands : (q : ℕ) (d : Dimension) → Some d ≡ dimension_of_thousands q → d ≡ iso_dimension q
+iso_of_thousands zero d e = cc
+iso_of_thousands (suc zero) d e = cc
+iso_of_thousands (suc (suc zero)) d e = cc
+iso_of_thousands (suc (suc (suc zero))) d e = cc
+iso_of_thousands (suc (suc (suc (suc q)))) d e = grind (arith, nat_tests)
+
 -- the meaning, from the steps that find it
 pub meaning_is : (c a b n : ℕ) (iso d : Dimension) (t : WkbType)
     → a ≡ without c z_flag → b ≡ without a m_flag → n ≡ without b srid_flag → true ≡ in_table n
-    → iso ≡ iso_dimension (n / 1000)
+    → Some iso ≡ dimension_of_thousands (n / 1000)
     → d ≡ dimension_with (nat_le z_flag c || has_z iso) (nat_le m_flag a || has_m iso) → t ≡ type_of (n % 1000) d
     → meaning_of c ≡ Some (record { wkb_type = t; has_srid = has_srid_flag c })
 meaning_is c a b n iso d t a-is b-is n-is table iso-is d-is t-is =
-    rw (t-is, d-is, iso-is, n-is, b-is, a-is) (meaning_by c (rw (n-is, b-is, a-is) at table))
+    rw (t-is, d-is, iso_of_thousands (n / 1000) iso iso-is, n-is, b-is, a-is)
+    (meaning_by c (rw (n-is, b-is, a-is) at table))
 
 pub meaning_is_none : (c a b n : ℕ) → a ≡ without c z_flag → b ≡ without a m_flag → n ≡ without b srid_flag
     → false ≡ in_table n → meaning_of c ≡ None

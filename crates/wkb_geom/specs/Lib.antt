@@ -1,4 +1,5 @@
 pub mod Numbers
+pub mod Ranks
 pub mod Dimensions
 pub mod Codes
 pub mod Grammar

@@ -3,9 +3,9 @@
 ghost use Rattle.std.specs.Prelude.{◌≡◌, ◌==◌, ◌||◌, ℕ, Bool, option_map};
 ghost use Rattle.wkb_geom.specs.declared.common.Dimension.{Dimension};
 ghost use Rattle.wkb_geom.specs.Dimensions.{has_z, has_m};
-ghost use Rattle.wkb_geom.specs.Codes.{Code, thousands, flag, iso_code, ewkb_code};
+ghost use Rattle.wkb_geom.specs.Codes.{Code, flag, iso_code, ewkb_code};
 ghost use Rattle.wkb_geom.specs.Reading.{type_of, type_kind, type_dimension, meaning, meaning_of};
-ghost use Rattle.wkb_geom.specs.Reading.{without, in_table, dimension_with, iso_dimension};
+ghost use Rattle.wkb_geom.specs.Reading.{without, in_table, dimension_with};
 ghost use Rattle.wkb_geom.specs.Meanings.{HasType, has_srid_flag};
 
 use crate::common::Dimension;
@@ -68,18 +68,6 @@ impl Model for WkbGeometryCode {
     ghost inverse = { λ n. record { code = n } };
 }
 
-/// The dimension of these thousands.
-fn of_thousands(thousands: u32) -> Dimension
-    ensures { result ≡ iso_dimension thousands }
-{
-    match thousands {
-        0 => Dimension::Xy,
-        1 => Dimension::Xyz,
-        2 => Dimension::Xym,
-        _ => Dimension::Xyzm,
-    }
-}
-
 /// The dimension that has a z or an m where a flag or the thousands say so.
 fn dimension_with_flags(z: bool, m: bool, iso: Dimension) -> Dimension
     ensures { result ≡ dimension_with (z || has_z iso) (m || has_m iso) }
@@ -118,7 +106,7 @@ pub fn of_kind(kind: u32, dimension: Dimension) -> WkbType
     }
 }
 
-/// A code without one of its flags, where it is the highest that may be set.
+/// `code` with `flag` cleared, provided no higher flag is set.
 fn without_flag(code: u32, flag: u32) -> u32
     ensures { result ≡ without code flag }
 {
@@ -167,8 +155,8 @@ impl WkbGeometryCode {
         if !is_in_table(n) {
             return None;
         }
-        let dimension = dimension_with_flags(z, m, of_thousands(n / 1000));
-        Some(of_kind(n % 1000, dimension))
+        let iso = Dimension::of_thousands(n / 1000)?;
+        Some(of_kind(n % 1000, dimension_with_flags(z, m, iso)))
     }
 }
 
@@ -215,13 +203,7 @@ impl WkbType {
     pub fn iso_code(self) -> u32
         ensures { result ≡ iso_code (type_kind self) (type_dimension self) }
     {
-        let thousands = match self.dimension() {
-            Dimension::Xy => 0,
-            Dimension::Xyz => 1000,
-            Dimension::Xym => 2000,
-            Dimension::Xyzm => 3000,
-        };
-        thousands + self.kind()
+        1000 * self.dimension().thousands() + self.kind()
     }
 
     /// The code with the flags of EWKB.

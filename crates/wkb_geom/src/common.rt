@@ -1,6 +1,7 @@
 //! Byte orders, dimensions and the two written forms.
 
 ghost use Rattle.std.specs.Prelude.{◌≡◌, ◌*◌};
+ghost use Rattle.wkb_geom.specs.Codes.{thousands, dimension_of_thousands};
 ghost use Rattle.wkb_geom.specs.Dimensions.{size, width, has_z, has_m, as_dimensions};
 ghost use Rattle.wkb_geom.specs.Meanings.{HasOrder, IsNamed};
 ghost use Rattle.wkb_geom.specs.Numbers.{order_byte};
@@ -56,6 +57,31 @@ pub enum Dimension {
 }
 
 impl Dimension {
+    /// The dimension of these thousands of an ISO code, if any.
+    pub fn of_thousands(thousands: u32) -> Option<Dimension>
+        ensures { result ≡ dimension_of_thousands thousands }
+    {
+        match thousands {
+            0 => Some(Dimension::Xy),
+            1 => Some(Dimension::Xyz),
+            2 => Some(Dimension::Xym),
+            3 => Some(Dimension::Xyzm),
+            _ => None,
+        }
+    }
+
+    /// The thousands of an ISO code.
+    pub fn thousands(self) -> u32
+        ensures { result ≡ thousands self }
+    {
+        match self {
+            Dimension::Xy => 0,
+            Dimension::Xyz => 1,
+            Dimension::Xym => 2,
+            Dimension::Xyzm => 3,
+        }
+    }
+
     /// The number of words in a coordinate.
     pub fn width(self) -> usize
         ensures { result ≡ width self }

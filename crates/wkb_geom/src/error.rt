@@ -9,6 +9,9 @@ use std::alloc::{AllocError, AllocFailed};
 use std::io;
 use thiserror::Error;
 
+/// How many collections may be open at once: one more is `Cause::NestingDepthExceeded`.
+pub const MAX_NESTING: usize = 128;
+
 /// A fault of the bytes, or of a geometry's dimension.
 #[derive(Debug, Clone, Copy, PartialEq, Error)]
 pub enum General {

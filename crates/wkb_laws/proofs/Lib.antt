@@ -19,3 +19,4 @@ pub mod OneEncoding
 pub mod PartsInPlace
 pub mod EncodingBytes
 pub mod Counts
+pub mod Sums

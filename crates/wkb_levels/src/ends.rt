@@ -49,7 +49,7 @@ impl<'w> Ends<'w> {
         }
     }
 
-    /// Where item i begins. As many as there are: where the last ends.
+    /// Where item i begins. For `i == len()`: where the last item ends.
     pub fn begin(&self, i: usize) -> u64
         requires { i ≤ length (ends_of self.now) }
         ensures { result ≡ begin_of self.now i }
@@ -95,7 +95,7 @@ impl<'w> Ends<'w> {
         Some(self.part(from as usize, to as usize))
     }
 
-    /// Where the last ends. Where there is none: where the first would begin.
+    /// The end of the last item; with no items, the start.
     pub fn last(&self) -> u64
         ensures { result ≡ begin_of self.now (length (ends_of self.now)) }
     {
@@ -124,7 +124,7 @@ impl<'w> Ends<'w> {
     }
 }
 
-/// The number `i` after `from`, which is no greater than `last`, or is `from` itself.
+/// `from + i`, which fits: it is at most `last`, or `i` is 0. `last` stands for the proof alone.
 fn number_at(from: u64, i: usize, last: u64) -> u64
     requires { (i ≡ 0) ⊎ (from + i ≤ last) }
     ensures { result ≡ from + i }
@@ -132,7 +132,7 @@ fn number_at(from: u64, i: usize, last: u64) -> u64
     from + i as u64
 }
 
-/// The number `i + 1` after `from`, which is no greater than `last`.
+/// The number `i + 1` after `from`, which is no greater than `last`, which stands for the proof alone.
 fn number_behind(from: u64, i: usize, last: u64) -> u64
     requires { from + i < last }
     ensures { result ≡ from + i + 1 }

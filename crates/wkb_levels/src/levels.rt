@@ -57,9 +57,8 @@ fn are_items(from: u64, to: u64, count: usize) -> bool
 impl<'w> Levels<'w> {
     ghost use Rattle.wkb_levels.specs.Columns.{AreRowLevels, IsClear, IsFloor, singles_of};
 
-    /// Moves the floor on past row i, as `row` does, where the row itself isn't asked for: a null row. Says whether the
-    /// row is clear: it spans items of each level, and begins at none before the floor. It looks at six ends, however
-    /// long the row is.
+    /// Advances `floor` past row i without building the row, as for a null row. Says whether the row is clear: it spans
+    /// items of each level, and begins at none before the floor. It looks at six ends, however long the row is.
     pub fn pass(&self, dim: Dimensions, i: usize, floor: &mut Place) -> bool
         requires index { i < length (ends_of self.now.row_ends) }
         requires floor { IsFloor self.now dim i floor.old }
@@ -92,8 +91,8 @@ impl<'w> Levels<'w> {
     }
 
     /// The singles of row i, as polygons are. None where its levels fall, or pass the next level's end, or the
-    /// dimension has no words. It looks at the end of each single and ring that the row spans. So only a row is asked
-    /// for that spans none that an earlier row does.
+    /// dimension has no words. It looks at the end of each single and ring that the row spans. Call it only
+    /// for rows that share no single and no ring with an earlier row, so that each end is read once.
     pub(crate) fn singles(&self, dim: Dimensions, i: usize) -> Option<Polygons<'w>>
         requires index { i < length (ends_of self.now.row_ends) }
         requires clear { IsClear self.now dim i }

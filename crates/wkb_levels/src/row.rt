@@ -69,10 +69,9 @@ impl<'w> Levels<'w> {
     /// before an earlier row's end, or don't fit the kind: a point, a line string or a polygon is one single, each
     /// single of another kind than a polygon has one ring, and a point's ring has one coordinate.
     ///
-    /// The floor is how far the rows before it reach, and then how far it reaches too. So rows are asked for in turn,
-    /// from `Place::front` on; `rows` does it. A row that at a level ends before it begins, or past the level's end,
-    /// reaches nowhere there and below. The ends between a row's first and last are looked at only where the row begins
-    /// at no level before the floor, so those of a column are looked at once, whatever they say.
+    /// On entry `floor` is the end of all rows before it; on return it includes this row. So ask for rows in turn, from
+    /// `Place::front` on; `rows` does it. A row that at a level ends before it begins, or past the level's end, reaches
+    /// nowhere there and below. `singles` is called only for a row that begins at no level before the floor.
     pub fn row(&self, kind: Kind, dim: Dimensions, i: usize, floor: &mut Place) -> Option<Row<'w>>
         requires index { i < length (ends_of self.now.row_ends) }
         requires floor { IsFloor self.now dim i floor.old }

@@ -1,4 +1,4 @@
-//! Encodings that stand in the input but for their headers, so that a copy makes them.
+//! Encodings of which all but the header is already in the input, and can be copied.
 
 ghost use Rattle.std.specs.Prelude.{◌≡◌, ◌≢◌, ◌+◌, ◌-◌, ◌≤◌, List, length, take, drop, IfSome, None, []};
 ghost use Rattle.std.specs.Prelude.{true, false};

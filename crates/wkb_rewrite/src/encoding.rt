@@ -3,7 +3,7 @@
 ghost use Rattle.std.specs.Prelude.{◌≡◌, ◌+◌, ◌<◌, ◌≤◌};
 ghost use Rattle.wkb_geom.specs.declared.common.Endianness.{Endianness};
 ghost use Rattle.wkb_geom.specs.declared.code.TheConstants.{MULTI_POINT, POLYGON};
-ghost use Rattle.wkb_geom.specs.declared.words.TheConstants.{COUNT_SIZE};
+ghost use Rattle.wkb_geom.specs.declared.header.TheConstants.{SRID_SIZE};
 ghost use Rattle.wkb_geom.specs.Encodings.{form_srid};
 ghost use Rattle.wkb_geom.specs.Reading.{type_kind};
 ghost use Rattle.wkb_check.specs.Bounded.{HasGeometry};
@@ -15,7 +15,7 @@ use crate::put::{put_piece, put_piece_of};
 use wkb_check::{Piece, Pieces, Summary, size_of_srid};
 use wkb_geom::Form;
 use wkb_geom::code::MULTI_POINT;
-use wkb_geom::words::COUNT_SIZE;
+use wkb_geom::header::SRID_SIZE;
 use wkb_sink::WriteOptions;
 
 /// The SRID that is written under a form.
@@ -35,17 +35,17 @@ pub fn size_with_own_srid(buf: &[u8], found: &Summary, form: Form) -> usize
     requires here { DescribesFront buf.now found.now }
     requires kind { type_kind found.now.wkb_type ≤ MULTI_POINT }
     ensures size { (order : Endianness) → IsFrontSize buf.now order form result }
-    ensures bound { result ≤ found.now.bytes + COUNT_SIZE }
+    ensures bound { result ≤ found.now.bytes + SRID_SIZE }
 {
     let first = Piece::outermost(buf, found);
     found.bytes + size_of_srid(srid_of_form(form)) - size_of_srid(first.srid)
 }
 
-/// The size of the encoding under a form of the geometry in which the check found this. Any order gives this size.
+/// The size of the encoding, under a form, of the geometry that the check found. It doesn't depend on the byte order.
 pub fn encoded_size(buf: &[u8], found: &Summary, form: Form) -> usize
     requires { DescribesFront buf.now found.now }
     ensures size { (order : Endianness) → IsFrontSize buf.now order form result }
-    ensures bound { result ≤ found.now.bytes + COUNT_SIZE }
+    ensures bound { result ≤ found.now.bytes + SRID_SIZE }
 {
     if found.wkb_type.kind() <= MULTI_POINT {
         return size_with_own_srid(buf, found, form);

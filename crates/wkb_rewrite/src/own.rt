@@ -1,4 +1,4 @@
-//! What a piece itself has: its words, in its order.
+//! The words of one piece, in the piece's byte order.
 
 ghost use Rattle.std.specs.Prelude.{◌≡◌, ◌≤◌, ℕ, List, length};
 ghost use Rattle.wkb_geom.specs.Numbers.{all_nan};

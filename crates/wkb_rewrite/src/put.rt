@@ -60,7 +60,7 @@ pub fn put_type_header(wkb_type: WkbType, options: WriteOptions, out: &mut [u8],
     put_srid(srid, order, out, end)
 }
 
-/// Puts the header of a piece, of a ring nothing, and returns the index after it.
+/// Puts the header of a piece (a ring has none), and returns the index after it.
 #[inline(always)]
 fn put_piece_header(piece: &Piece, options: WriteOptions, out: &mut [u8], at: usize) -> usize
     requires { HasRoomAt out.old at (piece_header options piece.now) }
@@ -143,7 +143,7 @@ fn put_words(buf: &[u8], piece: &Piece, order: Endianness, out: &mut [u8], at: u
     end
 }
 
-/// As `put_words`, in longer code that takes a point less time.
+/// `put_words` compiled once per dimension: more code, and fewer instructions for a point.
 #[inline(always)]
 fn put_words_by_dimension(
     buf: &[u8],

@@ -90,7 +90,7 @@ pub fn lay_coordinate<C: CoordTrait>(
     at + WORD_SIZE * words
 }
 
-/// Lays a coordinate by a call, where several are laid one after another.
+/// Lays a coordinate, as a real call: less code for shapes that lay several.
 pub fn lay_vertex<C: CoordTrait>(
     bytes: &mut [u8],
     at: usize,

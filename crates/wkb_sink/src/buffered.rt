@@ -16,8 +16,8 @@ use wkb_geom::words::COUNT_SIZE;
 #[derive(Clone, Copy)]
 pub struct Stopped;
 
-/// A sink with a block before it, a slice in whose first bytes wait that the sink hasn't got yet, and the error by
-/// which the sink failed.
+/// A sink, the block in front of it, whose first bytes have not reached the sink yet, and the error by which the sink
+/// failed.
 #[derive(Drop)]
 pub struct Buffered<'a, S: Sink> {
     pub sink: &'a mut S,
@@ -79,8 +79,8 @@ impl<'a, S: Sink> Buffered<'a, S> {
         }
     }
 
-    // `flush`, which also stops where the block is too small. It may be inlined: where no sink is behind the block, no
-    // call then borrows the block and the error, and they need no memory.
+    // Flushes, and fails if even an empty block has no room for `n`. Inlined, so that `lay_whole`, which has no real
+    // sink, keeps the block in registers.
     #[inline]
     #[tactic(auto, using(crate::proofs::Steps::room_laws))]
     fn flush_for(&mut self, n: usize) -> Result<(), Stopped>

@@ -116,7 +116,7 @@ pub fn store_words(bytes: &mut [u8], lent: &[u8], held: Endianness, order: Endia
     requires { length lent.now ≤ length bytes.old }
     ensures { Turns held order lent.now (take (length lent.now) bytes.new) }
 {
-    // Two words a turn: these become one instruction where a processor has one that turns both.
+    // Two words per iteration: a processor that can swap both at once then does.
     let words = lent.len() / WORD_SIZE;
     for pair in 0..words / 2 {
         let at = 2 * WORD_SIZE * pair;

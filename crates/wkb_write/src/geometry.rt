@@ -163,7 +163,8 @@ pub fn write_geometry<S: Sink, G: GeometryTrait>(
 /// assert_eq!(rt; encoding.len(), geometry_wkb_size(&geometry)?);
 /// ```
 ///
-/// Refused as `geometry_wkb_size_with` refuses it under the same options. `Memory` only of a geometry that is not.
+/// Refused as `geometry_wkb_size_with` refuses it under the same options. `Memory` is possible only for a geometry
+/// that passes these checks.
 #[inline(always)]
 #[tactic(auto, using(crate::proofs::Writing::encoding_fits))]
 pub fn to_vec<G: GeometryTrait>(

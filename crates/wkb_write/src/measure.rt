@@ -1,7 +1,7 @@
 //! Measuring: the first fault of a geometry, or the size of its encoding.
 //!
 //! Faults are found in preorder: a geometry's dimensions, its count, then its items. Only the bytes after the header
-//! are measured. `usize::MAX` means that size or any greater one: with a header none of them fits.
+//! are measured. `usize::MAX` stands for itself and everything larger: none of them fits once the header is added.
 
 ghost use Rattle.std.specs.Prelude.{◌≡◌, ◌*◌, ◌^◌, ◌<◌, ◌≤◌, Err, None, IsErrAnd};
 ghost use Rattle.wkb_geom.specs.Dimensions.{width, written_dimension};
@@ -112,7 +112,7 @@ pub fn supported_dimension(dim: Dimensions) -> Dimension
     dimension_to_write(dim)
 }
 
-/// The form's SRID, if it has one, fits four bytes.
+/// The form's SRID, if it has one, fits four bytes. This stands for the proof alone.
 #[inline(always)]
 pub fn form_fits(form: Form)
     ensures { IsForm form }

@@ -85,7 +85,7 @@ pub fn measure_geometry<G: Dimensioned, K: Nested<G>>(geom: &G) -> Measured
     }
 }
 
-// Whether the codes are EWKB's. A member keeps no more of the form, and this is passed in a register.
+// Whether the codes are EWKB's. Members need nothing else of the form, and a bool travels in a register.
 #[inline(always)]
 fn has_flags(form: Form) -> bool
     ensures { inner form ≡ form_with_flags result }

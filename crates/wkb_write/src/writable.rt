@@ -264,7 +264,7 @@ pub fn lay_whole<G, K: Writable<G>>(bytes: &mut [u8], geom: &G, options: &WriteO
     }
 }
 
-/// The length of bytes. As a call it fits `usize`, also in proofs.
+/// `bytes.len()`; as a call its result has a range in proofs.
 #[inline(always)]
 pub fn length(bytes: &[u8]) -> usize
     ensures { result ≡ length bytes.now }
@@ -272,7 +272,7 @@ pub fn length(bytes: &[u8]) -> usize
     bytes.len()
 }
 
-// What is in memory is never refused for its size: its length fits `usize`.
+// What is in memory is never refused for its size: its length fits `usize`. This stands for the proof alone.
 #[inline(always)]
 fn length_fits(bytes: &[u8])
     ensures { length bytes.now < 2 ^ 64 }

@@ -1,5 +1,12 @@
+use Rattle.std.proofs.Common.{refl}
 use Rattle.wkb_check.proofs.Following.{ahead_first}
 use Rattle.wkb_check.proofs.pieces.Pieces.of.Goals as goal
 
-pub returns-clause-ahead : goal.returns-clause-ahead
-returns-clause-ahead c = λ g. ahead_first c.args.bytes.now _ _ g
+pub returns : goal.returns
+returns c = record {
+  ahead = λ g. ahead_first c.args.bytes.now _ _ g;
+  begins = refl;
+  rings = refl;
+  geometries = refl;
+  same = refl;
+}

@@ -11,6 +11,6 @@ pub returns : goal.returns
 returns c =
     rw (← c.self.view_is)
     (meaning_is c.self.inside.code c.without_flag-a.result c.without_flag-b.result c.without_flag-n.result
-    c.of_thousands.result c.dimension_with_flags-dimension.result c.of_kind.result
+    c.in_ok-iso.iso c.dimension_with_flags.result c.of_kind.result
     c.without_flag-a.ensures c.without_flag-b.ensures c.without_flag-n.ensures c.if-not-is_in_table.ensures
-    c.of_thousands.ensures c.dimension_with_flags-dimension.ensures c.of_kind.ensures)
+    c.in_ok-iso.ensures c.dimension_with_flags.ensures c.of_kind.ensures)

@@ -1,5 +1,5 @@
 use Rattle.wkb_check.proofs.Widening.{column_next}
-use Rattle.wkb_check.proofs.ranks.Ranks.widen_in.Goals as goal
+use Rattle.wkb_check.proofs.ranks.Ranks.widen_word_by_word.Goals as goal
 
 pub loop-preserved : goal.loop-preserved
 loop-preserved c = record {
