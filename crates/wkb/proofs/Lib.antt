@@ -1,2 +1,3 @@
 pub mod Rewritten
 pub mod Ordinates
+mod Doubles

@@ -14,7 +14,8 @@ use Rattle.wkb.specs.Spellings.{Spelling, node, Spellings, no_spellings, spellin
 use Rattle.wkb.specs.Spellings.{HasOptions}
 use Rattle.wkb.specs.Geometries.{Geometry, normal}
 use Rattle.wkb.specs.Encodings.{Fault, encoding, refusal, form_srid}
-use Rattle.wkb.specs.Reads.{Item, spellings, values, IfRefused, IsFront, IsCollectionOf, list_of_spellings}
+use Rattle.wkb.specs.Reads.{Item, spellings, values, IfRefused, IsFront, IsCollectionOf}
+use Rattle.wkb.specs.Reads.{list_of_spellings}
 use Rattle.wkb.specs.Reads.{members_spelled, spelling_at, Listed, fitted_parts, fitted_members, fitted_line_string}
 use Rattle.wkb.specs.Reads.{fitted_line_strings}
 use Rattle.std.specs.declared.io.Error.{Error}

@@ -8,7 +8,8 @@ pub use Rattle.wkb_check.specs.declared.answer.Refused.{Refused}
 pub use Rattle.wkb_check.specs.Bounded.{on, AreBounds, BoundsFront, BoundsOnlyFront, FindsBounds, nothing}
 pub use Rattle.wkb_check.specs.Ordinates.{Axis, x_axis, y_axis, z_axis, m_axis, axis_place, words_in, words_on}
 pub use Rattle.wkb_check.specs.Ordinates.{words_of_each, words_on_each}
-pub use Rattle.wkb_check.specs.Ranges.{rank, lower, higher, no_numbers, with_number, with_word, widened, range_of}
+pub use Rattle.wkb_geom.specs.Ranks.{rank}
+pub use Rattle.wkb_check.specs.Ranges.{lower, higher, no_numbers, with_number, with_word, widened, range_of}
 pub use Rattle.wkb_check.specs.declared.range.Range.{Range}
 pub use Rattle.wkb_check.specs.declared.range.Bounds.{Bounds}
 pub use Rattle.wkb_geom.specs.Reading.{type_kind, type_dimension, type_of}

@@ -1,13 +1,13 @@
 -- Where the bytes are that views lend: a member's in those of the whole, a ring's in those of its polygon.
 use Rattle.std.proofs.Common.{◌≡◌, ℕ, suc, ◌+◌, ◌*◌, ◌≤◌, List, length, drop, Some, refl, sym, ap, subst, ◌∙◌}
-use Rattle.std.proofs.Common.{slice_get, drop-drop, length-append, arith}
+use Rattle.std.proofs.Common.{slice_get, drop-drop, length-append, append-nil, [], arith}
 use Rattle.wkb.specs.Prelude.{width, AreBytes, number}
-use Rattle.wkb.specs.Values.{Coordinate, point, line_string, polygon, multi_line_string, multi_polygon}
-use Rattle.wkb.specs.Spellings.{SpellsCoordinates}
+use Rattle.wkb.specs.Values.{Coordinate, point, line_string, polygon, multi_line_string, multi_polygon, nest}
+use Rattle.wkb.specs.Spellings.{SpellsCoordinates, max_nesting}
 use Rattle.wkb.specs.Reads.{Listed, Item, whole_of, BytesSpell, spelling_at, order_of, Point, LineString, MultiPoint}
 use Rattle.wkb.specs.Reads.{LinearRing, point_seen, point_dimension, seen_coordinate, point_value, multi_point_seen}
 use Rattle.wkb.specs.Reads.{multi_point_dimension, seen_points, line_string_seen, line_string_dimension}
-use Rattle.wkb.specs.Reads.{seen_coordinates, ring_seen, ring_encoding, ring_order, ring_dimension}
+use Rattle.wkb.specs.Reads.{seen_coordinates, ring_seen, ring_encoding, ring_order, ring_dimension, IsFront}
 use Rattle.wkb.specs.Laws.{IsMember, SpelledInFull, MembersInPlace, RingsInPlace, WordsStand, IsWordOf, StandsAt}
 use Rattle.wkb.specs.Laws.{member_start, ring_start, NextStart, SizeOfSpelled}
 use Rattle.wkb.specs.Bridges.{part_is_member, rest_stands, stands_within, begins_there}
@@ -17,6 +17,21 @@ pub record Lends (w : Item) (lent : List ℕ) : Type 0 where
   pub bytes : AreBytes lent
   pub encoding : lent ≡ w.encoding
   pub spells : BytesSpell w
+
+-- The bytes that a view lends begin with its geometry, as `front` of a geometry's `buf` says: of the other views the
+-- value holds no collection.
+pub lent_front : SpelledInFull → {w : Item} {lent : List ℕ} → Lends w lent → nest w.value ≤ max_nesting → IsFront lent w
+lent_front full {w = w} {lent = lent} own shallow = record {
+  rest = [];
+  front =
+      record {
+        front = w.encoding;
+        whole = own.encoding ∙ sym (append-nil w.encoding);
+        spelled = full w.spelled w.value w.encoding own.spells;
+        shallow = shallow;
+      };
+  encoding_is = refl;
+}
 
 -- The point of a multi point at an index is its member of this number.
 pub point_is_member : (m : MultiPoint) (k : ℕ) (p : Point) → point_dimension p ≡ multi_point_dimension m

@@ -14,9 +14,12 @@ pub mod Writes
 pub mod Laws
 pub mod Bridges
 pub mod Handed
+pub mod Kept
 pub mod Lawful
 pub mod Lent
 pub mod Members
 pub mod Offsets
+pub mod Order
+pub mod OwnBytes
 pub mod Ranges
 pub mod ReadBack

@@ -6,7 +6,7 @@ use Rattle.std.proofs.lemmas.Bool.{ltb-true, ltb-false}
 use Rattle.wkb.specs.Prelude.{Dimension, is_nan}
 use Rattle.wkb.specs.Values.{Coordinate, Value, Values, no_members, member}
 use Rattle.wkb.specs.Checks.{Range, rank, lower, higher, with_number, with_word, widened, range_of, no_numbers}
-use Rattle.wkb.specs.Checks.{Axis, axis_place, words_in, words_on}
+use Rattle.wkb.specs.Checks.{Axis, axis_place, words_in, words_on, Bounds, AreBounds, x_axis, y_axis, z_axis, m_axis}
 use Rattle.wkb.specs.Reads.{list_of_values}
 use Rattle.wkb_check.specs.Ordinates.{words_of_each, word_at, words_on_each}
 
@@ -121,7 +121,8 @@ member_within a (member u ts) (suc k) t x at h =
 
 -- ---- a loop over coordinates
 
-drop_at : {A : Type 0} (xs : List A) (i : ℕ) (x : A) → slice_get xs i ≡ Some x → drop i xs ≡ x ∷ drop (suc i) xs
+-- The items from an index on are the one there and those behind it.
+pub drop_at : {A : Type 0} (xs : List A) (i : ℕ) (x : A) → slice_get xs i ≡ Some x → drop i xs ≡ x ∷ drop (suc i) xs
 drop_at [] i x at = absurd (cc)
 drop_at (y ∷ xs) zero x at =
     let same : y ≡ x = cc in
@@ -145,3 +146,17 @@ counted_by r w false = omega arith
 -- A word counts at most once.
 pub counts_once : (r : Range) (w : ℕ) → (with_word r w).count ≤ r.count + 1
 counts_once r w = counted_by r w (is_nan w)
+
+-- ---- the bounds of a value
+
+abbrev bounds_of_ranges : Range → Range → Range → Range → Bounds
+bounds_of_ranges x y z m = record { x = x; y = y; z = z; m = m }
+
+-- A value has one set of bounds.
+pub same_bounds : (b c : Bounds) (t : Value) → AreBounds b t → AreBounds c t → b ≡ c
+same_bounds b c t h g =
+    let x : b.x ≡ c.x = h x_axis ∙ sym (g x_axis) in
+    let y : b.y ≡ c.y = h y_axis ∙ sym (g y_axis) in
+    let z : b.z ≡ c.z = h z_axis ∙ sym (g z_axis) in
+    let m : b.m ≡ c.m = h m_axis ∙ sym (g m_axis) in
+    λ i. bounds_of_ranges (x i) (y i) (z i) (m i)

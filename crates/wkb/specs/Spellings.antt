@@ -6,4 +6,4 @@ pub use Rattle.wkb_geom.specs.Spellings.{SpellsCoordinates, SpellsBody, Wanted, 
 pub use Rattle.wkb_geom.specs.Spellings.{SpellsEach}
 pub use Rattle.wkb_geom.specs.Fronts.{max_nesting, FrontWithin, Front}
 pub use Rattle.wkb_laws.specs.Written.{HasOptions, AllHaveOptions}
-pub use Rattle.wkb_geom.specs.Codes.{Code, iso_code, ewkb_code}
+pub use Rattle.wkb_geom.specs.Codes.{Code, iso_code, ewkb_code, thousands, dimension_of_thousands}

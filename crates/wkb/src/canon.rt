@@ -1,7 +1,9 @@
 //! The canonical form: the one encoding of the value at the front of an input. Inputs are checked, and then rewritten
 //! and compared where they are.
 
-ghost use Rattle.std.specs.Prelude.{◌≡◌, ◌⊎◌, IfOk, IfErr, MatchBool};
+ghost use Rattle.std.specs.Prelude.{◌≡◌, ◌<◌, ◌⊎◌, IfOk, IfErr, MatchBool};
+ghost use Rattle.wkb_geom.specs.Reading.{type_kind};
+ghost use Rattle.wkb_geom.specs.declared.code.TheConstants.{POLYGON};
 ghost use Rattle.wkb_geom.specs.Errors.{IsMemory};
 ghost use Rattle.wkb_read.specs.Memory.{IsNotMemory};
 ghost use Rattle.wkb_geom.specs.Encodings.{IsRewritingWithSrid};
@@ -13,10 +15,13 @@ ghost use Rattle.wkb.specs.Canonical.{IsAccepted, HaveOneValue, HaveTwoValues};
 
 use std::alloc::Global;
 use wkb_check::{Summary, check};
+use wkb_geom::code::POLYGON;
 use wkb_geom::error::{WkbError, WkbResult};
 use wkb_geom::header::MAX_HEADER_SIZE;
 use wkb_geom::{Endianness, Form};
-use wkb_rewrite::{Copied, encoded_size, have_one_value, put_pieces};
+use wkb_rewrite::{
+    Copied, encoded_size, have_one_value, put_one_piece, put_pieces, size_with_own_srid,
+};
 use wkb_write::WriteOptions;
 
 /// The encoding under the options of the geometry at the front of the bytes.
@@ -100,6 +105,24 @@ fn copied_to_vec(alloc: Global, copied: &Copied) -> WkbResult<Vec<u8>>
     Ok(encoding)
 }
 
+/// The encoding of a point or a line string in which the check found this.
+fn rewritten_piece(
+    alloc: Global,
+    buf: &[u8],
+    found: &Summary,
+    options: WriteOptions,
+) -> WkbResult<Vec<u8>>
+    requires here { DescribesFront buf.now found.now }
+    requires kind { type_kind found.now.wkb_type < POLYGON }
+    ensures ok { IfOk result
+        (λ encoding. IsRewritingUnder options buf.now encoding.items) }
+    ensures err { IfErr result IsMemory }
+{
+    let mut encoding = vec![in alloc; 0; size_with_own_srid(buf, found, options.form)]?;
+    put_one_piece(buf, found, options, encoding.as_mut_slice());
+    Ok(encoding)
+}
+
 /// The encoding of the geometry in which the check found this.
 fn rewritten(
     alloc: Global,
@@ -112,6 +135,9 @@ fn rewritten(
         (λ encoding. IsRewritingUnder options buf.now encoding.items) }
     ensures err { IfErr result IsMemory }
 {
+    if found.wkb_type.kind() < POLYGON {
+        return rewritten_piece(alloc, buf, found, options);
+    }
     if let Some(copied) = Copied::of(buf, found, options) {
         return copied_to_vec(alloc, &copied);
     }

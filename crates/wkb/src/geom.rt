@@ -15,6 +15,7 @@ pub use wkb_geom::geom::{
     LineTrait, MultiLineStringTrait, MultiPointTrait, MultiPolygonTrait, PointTrait, PolygonTrait,
     RectTrait, TriangleTrait,
 };
+pub use wkb_geom::words::is_at_most;
 use wkb_geom::words::is_nan;
 pub use wkb_plain::{
     Coord, Line, LineString, MultiLineString, MultiPoint, MultiPolygon, Point, Polygon, Rect,

@@ -2,6 +2,7 @@
 
 ghost use Rattle.wkb.specs.Prelude.{AreBytes};
 ghost use Rattle.wkb.specs.Encodings.{IsForm};
+ghost use Rattle.wkb.specs.Order.{RanksInOrder};
 
 use wkb_geom::Form;
 pub use wkb_laws::encodings::{
@@ -32,3 +33,9 @@ pub fn srid_fits(form: Form)
         Form::Iso | Form::Ewkb { srid: None } => {}
     }
 }
+
+/// Numbers are in the order of the ranks of their words, so that the least and the greatest of a range are so as numbers.
+#[tactic(auto, using(crate::proofs::Doubles::in_order))]
+pub fn ranks_in_order()
+    ensures { RanksInOrder }
+{}

@@ -3,3 +3,5 @@ pub mod KeysFound
 pub mod Rings
 pub mod Words
 pub mod BoxesHold
+pub mod FoundInBoxes
+pub mod Packages

@@ -12,5 +12,7 @@ pub mod Features
 pub mod Places
 pub mod Plain
 pub mod Boxes
+pub mod Geopackage
+pub mod Windows
 pub mod Gathered
 pub mod Sites

@@ -69,7 +69,7 @@ impl Command {
 /// The line that is written.
 #[derive(Drop)]
 enum Output {
-    /// A text that ends with its line feed.
+    /// A line, with its line feed.
     Text(String),
     /// An encoding. Its hex and a line feed are written piece by piece, and are never in memory as a whole.
     Hex(Vec<u8>),

@@ -20,7 +20,7 @@ more_slots_is : (c : Cost) (entries : ℕ) → more_slots c entries ≡ c ⊕ sl
 more_slots_is c entries = cost_is _ _ (omega arith) refl
 
 -- the collection's own list is asked for, and its members are read
-pub opens : (l : Layout) (bytes : List ℕ) (depth n : ℕ) (spent : Cost) (rest : List ℕ) (r : Reading Item) → depth < 128
+pub opens : (l : Layout) (bytes : List ℕ) (depth n : ℕ) (spent : Cost) (rest : List ℕ) (r : Reading Item) → depth < max_nesting
     → body_start l.has_srid + 4 ≤ length bytes
     → n ≡ number l.order 4 (drop (body_start l.has_srid) bytes) → rest ≡ drop (body_start l.has_srid + 4) bytes
     → r ≡ and_then (repeated n (geometry_inside (suc depth)) rest) (closing l bytes)
@@ -62,8 +62,8 @@ first_begins l bytes rest n member members some empty =
 
 -- ---- the refusal before any list
 
-pub too_many_around : (l : Layout) (bytes : List ℕ) (depth : ℕ) (c : Counts) → 128 ≤ depth
-    → Stops (refusals.Cause (nesting_depth_exceeded 128)) (collection_inside l depth bytes) c c
+pub too_many_around : (l : Layout) (bytes : List ℕ) (depth : ℕ) (c : Counts) → max_nesting ≤ depth
+    → Stops (refusals.Cause (nesting_depth_exceeded max_nesting)) (collection_inside l depth bytes) c c
 too_many_around l bytes depth c deep =
     let level : max_nesting - depth ≡ 0 = omega arith in
     rw level (refl, record { turns = omega arith; slots = omega arith })

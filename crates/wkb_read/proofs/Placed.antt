@@ -6,11 +6,11 @@ use Rattle.wkb_read.proofs.Prelude.{slice_get, AllByRecursion, ∥∥₁_elim, p
 use Rattle.wkb_read.proofs.Prelude.{Values, Item, Reading, body_start, parts_start, consumed, spellings, values, Counts}
 use Rattle.wkb_read.proofs.Prelude.{HasHead, BytesSpell, Wkb, Whole, joined_encodings, parts_in, HoldsMembers}
 use Rattle.wkb_read.proofs.Prelude.{IsCollectionIn, AreMembers, IsMemberAt, geometry_inside, IsFinished, BeginsAs}
-use Rattle.wkb_read.proofs.Prelude.{max_nesting}
+use Rattle.wkb_read.proofs.Prelude.{max_nesting, nest}
 use Rattle.wkb_geom.specs.declared.code.WkbType.TheVariants as kinds
 use Rattle.wkb_geom.specs.Numbers.{IsNumber}
 use Rattle.wkb_geom.specs.Spellings.{SpellsEach}
-use Rattle.wkb_geom.specs.Values.{count, nest}
+use Rattle.wkb_geom.specs.Values.{count}
 use Rattle.wkb_laws.proofs.Heads.{IsRight, has_srid_in, item_is}
 use Rattle.wkb_laws.proofs.Bodies.{parts_encoding}
 use Rattle.wkb_laws.proofs.OneFront.{one_spelling}
@@ -28,33 +28,34 @@ pub one_more : (xs : List Item) (x : Item) (rest : List ℕ)
 one_more xs x rest = grind (arith, append_assoc, append-nil, joined_encodings-append)
 
 -- what is read of bytes are their first ones, and spell it
-pub record PartRead (bytes : List ℕ) (w : Item) (rest : List ℕ) : Type 0 where
+pub record PartRead (depth : ℕ) (bytes : List ℕ) (w : Item) (rest : List ℕ) : Type 0 where
   pub whole : bytes ≡ w.encoding ++ rest
-  pub part : IsFinished w
+  pub part : IsFinished depth w
 
-read_by : (levels : ℕ) (bytes : List ℕ) (r : Reading Item) → IsRight levels any bytes r → (w : Item) (rest : List ℕ)
+read_by : (depth : ℕ) (bytes : List ℕ) (r : Reading Item) → IsRight (max_nesting - depth) any bytes r
+    → (w : Item) (rest : List ℕ)
     → r.1 ≡ Ok (w, rest)
     → length rest + 9 ≤ length bytes
-    → PartRead bytes w rest
-read_by levels bytes (c, Ok x) h w rest e long =
+    → PartRead depth bytes w rest
+read_by depth bytes (c, Ok x) h w rest e long =
     let same : x ≡ (w, rest) = cc in
     let left : length x.1 ≡ length rest = ap (λ (p : Item × List ℕ). length p.1) same in
-    subst (λ (p : Item × List ℕ). PartRead bytes p.0 p.1) same
+    subst (λ (p : Item × List ℕ). PartRead depth bytes p.0 p.1) same
     (record {
       whole = h.whole;
       part =
           record {
             spelled = ∣ h.spelled ∣₁;
             long = omega (arith, ap length h.whole, length-append x.0.encoding x.1, left, long);
+            shallow = h.shallow;
           };
     })
-read_by levels bytes (c, Err f) h w rest e long = absurd cc
+read_by depth bytes (c, Err f) h w rest e long = absurd cc
 
 pub part_read : (w : Wkb) (rest : Bor (List ℕ)) (bytes : List ℕ) (depth : ℕ) (old new : Counts)
-    → BeginsAs geometry_inside depth bytes (Ok (Whole w rest)) old new → PartRead bytes w rest.now
+    → BeginsAs geometry_inside depth bytes (Ok (Whole w rest)) old new → PartRead depth bytes w rest.now
 part_read w rest bytes depth old new b =
-    let levels = max_nesting - depth in
-    read_by levels bytes (geometry_inside depth bytes) (geometry_says levels bytes) w rest.now
+    read_by depth bytes (geometry_inside depth bytes) (geometry_says (max_nesting - depth) bytes) w rest.now
     (sym (ap (λ (x : Reading Item). x.1) b.0)) b.1
 
 -- what comes before the rest is what was taken

@@ -20,7 +20,7 @@ pub use Rattle.wkb_read.specs.Prelude.{collection_with, collection_within, layou
 pub use Rattle.wkb_read.specs.Prelude.{consumed, body_start, parts_start, type_kind, type_dimension, too_deep, body_at}
 pub use Rattle.wkb_read.specs.Prelude.{values, spellings, Refuses, any, Listed, Tells, TellsRefusal, Coordinate, Value}
 pub use Rattle.wkb_read.specs.Prelude.{Values, collection, member_count, listed_count, Counts, HasHead, IsCause, Spent}
-pub use Rattle.wkb_read.specs.Prelude.{AtMost, CanCount, Stops, BytesSpell, count_in, cost_of}
+pub use Rattle.wkb_read.specs.Prelude.{AtMost, CanCount, Stops, BytesSpell, count_in, cost_of, nest, nest_each}
 unfoldable pub use Rattle.wkb_read.specs.Prelude.{repeated, head_at, by_type_told, geometry_told, collection_told}
 pub use Rattle.wkb_read.specs.Prelude.{by_type, geometry_at, collection_at}
 pub use Rattle.wkb_laws.specs.Laws.{Agrees}

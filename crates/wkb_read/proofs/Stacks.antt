@@ -6,7 +6,8 @@ use Rattle.wkb_read.proofs.Prelude.{costs, done, and_then, consumed, Layout, Byt
 use Rattle.wkb_read.proofs.Prelude.{Counts, AtMost, Wkb, Open, Whole, Opened, IsCollectionIn}
 use Rattle.wkb_read.proofs.Prelude.{closing, list_item, collection_with, geometry_inside, after_member, in_collection}
 use Rattle.wkb_read.proofs.Prelude.{outward, first_member, cost_of, IsOpen, AreOpen, IsFinished, BeginsAs}
-use Rattle.wkb_read.proofs.Prelude.{ReadsAs, Result}
+use Rattle.wkb_read.proofs.Prelude.{ReadsAs, Result, ◌<◌, max_nesting, nest, nest_each, values}
+use Rattle.std.specs.Prelude.{max}
 use Rattle.wkb_view.specs.Outcome.{next_turn}
 use Rattle.wkb_view.proofs.Algebra.{and_then-costs, and_then-assoc, and_then-same}
 use Rattle.wkb_view.proofs.Algebra.{done_then, repeated_more, repeated_none, turn_begins, spent_in_all, at_most_in_all}
@@ -23,7 +24,7 @@ pub record Reaches (os : List Open) (bytes : List ℕ) (spent : Counts) (whole :
 pub record Finishes (os : List Open) (m : Item) (rest : List ℕ) (spent : Counts) (whole : Reading Item) : Type 0 where
   pub so_far : costs (cost_of spent) (outward os m rest) ≡ whole
   pub stand : AreOpen os (m.encoding ++ rest)
-  pub part : IsFinished m
+  pub part : IsFinished (length os) m
 
 -- ---- a part begins
 
@@ -109,9 +110,15 @@ goes_on : (o next : Open) (os : List Open) (m : Item) (rest : List ℕ) → IsNe
 goes_on o next os m rest n =
     grind (arith, and_then-assoc, and_then-costs, member_more)
 
-more_open : (o next : Open) (m : Item) (rest : List ℕ) → IsNext o next m → IsOpen o (m.encoding ++ rest) → IsFinished m
-    → IsOpen next rest
-more_open o next m rest n h part =
+-- with one member more, the list is nested as deep as it was, or as that member
+nest_more : (xs : List Item) (m : Item)
+    → nest_each (values (xs ++ m ∷ [])) ≡ max (nest_each (values xs)) (nest m.value)
+nest_more [] m = omega arith
+nest_more (x ∷ xs) m = omega (arith, nest_more xs m)
+
+more_open : (depth : ℕ) (o next : Open) (m : Item) (rest : List ℕ) → IsNext o next m
+    → IsOpen depth o (m.encoding ++ rest) → IsFinished (suc depth) m → IsOpen depth next rest
+more_open depth o next m rest n h part =
     let longer : length (entries next.members) ≡ length (entries o.members) + 1 =
     ap length n.items ∙ length-append (entries o.members) (m ∷ []) in
     record {
@@ -121,6 +128,7 @@ more_open o next m rest n h part =
       each = rw n.items (all_more BytesSpell (entries o.members) m h.each part.spelled);
       within = rw (n.layout, n.bytes) (omega (arith, longer, h.within, part.long, length-append m.encoding rest));
       room = rw (n.layout, n.bytes) (omega (arith, longer, n.left, n.capacity_kept, h.room));
+      shallow = rw n.items (omega (arith, nest_more (entries o.members) m, h.shallow, part.shallow));
     }
 
 -- the next member begins
@@ -134,13 +142,14 @@ next_begins o next os m rest spent after whole n f turn =
       so_far =
           turn_begins spent after r turn
           ∙ ap (λ (s : Reading Item). costs (cost_of spent) s) (sym (goes_on o next os m rest n)) ∙ f.so_far;
-      stand = (more_open o next m rest n f.stand.0 f.part, rw n.bytes f.stand.1);
+      stand = (more_open (length os) o next m rest n f.stand.0 f.part, rw n.bytes f.stand.1);
     }
 
 -- a collection that has all its members, and is a finished part itself
 pub record Completes (o : Open) (os : List Open) (members : List Item) (rest : List ℕ) (spent : Counts)
     (whole : Reading Item) : Type 0 where
   pub collection : IsCollectionIn o.layout members (consumed o.bytes.now rest)
+  pub shallow : nest_each (values members) < max_nesting
   pub finishes : Finishes os (list_item o.layout collection_with members (consumed o.bytes.now rest)) rest spent whole
 
 pub completes : (o : Open) (os : List Open) (m : Item) (members : List Item) (rest : List ℕ) (spent : Counts)
@@ -156,6 +165,8 @@ completes o os m members rest spent whole none is f =
     (h.behind ∙ sym (one_more front m rest))
     (all_more BytesSpell front m h.each f.part.spelled)) in
     let encoding = consumed o.bytes.now rest in
+    let deep : nest_each (values members) + suc (length os) ≤ max_nesting =
+    rw is (omega (arith, nest_more front m, h.shallow, f.part.shallow)) in
     let last : in_collection (length os) o m rest ≡ closing o.layout o.bytes.now members rest =
     rw (none, is) (repeated_none member rest (λ xs after. closing o.layout o.bytes.now (front ++ m ∷ xs) after)) in
     let out =
@@ -163,9 +174,15 @@ completes o os m members rest spent whole none is f =
     ∙ done_then (list_item o.layout collection_with members encoding) rest (outward os) in
     record {
       collection = c.collection;
+      shallow = omega (arith, deep);
       finishes = record {
         so_far = ap (λ (r : Reading Item). costs (cost_of spent) r) (sym out) ∙ f.so_far;
         stand = subst (AreOpen os) c.whole f.stand.1;
-        part = record { spelled = c.collection.1; long = omega (arith, c.collection.0.long) };
+        part =
+            record {
+              spelled = c.collection.1;
+              long = omega (arith, c.collection.0.long);
+              shallow = omega (arith, deep);
+            };
       };
     }

@@ -30,7 +30,7 @@ pub use Rattle.wkb_geom.specs.Stored.{Listed, whole_of, listed_code, values_code
 pub use Rattle.wkb_geom.specs.Encodings.{IsWritable}
 pub use Rattle.wkb_geom.specs.Errors.{Tells, TellsRefusal}
 pub use Rattle.wkb_geom.specs.Values.{Coordinate, Value, Values, polygon, multi_line_string, multi_polygon, collection}
-pub use Rattle.wkb_geom.specs.Values.{dimension, no_members, member, member_count, listed_count}
+pub use Rattle.wkb_geom.specs.Values.{dimension, no_members, member, member_count, listed_count, nest, nest_each}
 pub use Rattle.wkb_view.specs.declared.counts.Counts.{Counts}
 pub use Rattle.wkb_view.specs.Headers.{HasHead}
 pub use Rattle.wkb_view.specs.Outcome.{Spent, next_turn, cost_of, AtMost, CanCount, Stops, IsCause}

@@ -5,7 +5,7 @@ use Rattle.std.specs.Global.{Global}
 use Rattle.std.specs.List.{AllByRecursion}
 use Rattle.wkb_read.specs.Prelude.{Refusal, Layout, max_nesting, number, Item, Reading, costs, one_turn, done, cost_of}
 use Rattle.wkb_read.specs.Prelude.{and_then, repeated, collection_within, body_start, parts_start, geometry_at, Counts}
-use Rattle.wkb_read.specs.Prelude.{HasHead, Spent, Stops, BytesSpell}
+use Rattle.wkb_read.specs.Prelude.{HasHead, Spent, Stops, BytesSpell, nest, nest_each, values}
 use Rattle.wkb_view.specs.Entries.{entries, capacity}
 use Rattle.wkb_geom.specs.declared.code.WkbType.TheVariants as kinds
 use Rattle.wkb_read.specs.declared.geometry.Wkb.{Wkb}
@@ -48,15 +48,17 @@ members_start o = body_start o.layout.has_srid + 4
 abbrev pub members_count : Open → ℕ
 members_count o = length (entries o.members) + 1 + o.left
 
--- After an open collection's count come its members so far, each spelled by its bytes, and then these bytes, with which
--- the current member begins. The collection's list has room for the members left.
-pub record IsOpen (o : Open) (here : List ℕ) : Type 0 where
+-- After the count of a collection that is open inside this number of others come its members so far, each spelled by
+-- its bytes, and then these bytes, with which the current member begins. The collection's list has room for the members
+-- left, and no member so far is nested too deep.
+pub record IsOpen (depth : ℕ) (o : Open) (here : List ℕ) : Type 0 where
   pub head : HasHead (λ d. kinds.GeometryCollection d) o.layout o.bytes.now
   pub count : number o.layout.order 4 (drop (body_start o.layout.has_srid) o.bytes.now) ≡ members_count o
   pub behind : parts_start o.layout.has_srid o.bytes.now ≡ joined_encodings (entries o.members) ++ here
   pub each : AllByRecursion BytesSpell (entries o.members)
   pub within : 9 * length (entries o.members) + length here + members_start o ≤ length o.bytes.now
   pub room : min (members_count o) ((length o.bytes.now - members_start o) / 9) ≤ capacity o.members
+  pub shallow : nest_each (values (entries o.members)) + suc depth ≤ max_nesting
 
 -- the collections around what is read, the innermost first
 abbrev pub around : Vec Open Global → List Open
@@ -66,12 +68,14 @@ around stack = reverse stack.items
 -- that of the innermost with these bytes.
 abbrev pub AreOpen : List Open → List ℕ → Type 0
 AreOpen [] here = Unit {0}
-AreOpen (o ∷ os) here = IsOpen o here × AreOpen os o.bytes.now
+AreOpen (o ∷ os) here = IsOpen (length os) o here × AreOpen os o.bytes.now
 
--- a part that was read: spelled by its bytes, and no shorter than a header and a count
-pub record IsFinished (part : Item) : Type 0 where
+-- a part that was read inside this number of open collections: spelled by its bytes, no shorter than a header and a
+-- count, and not nested too deep
+pub record IsFinished (depth : ℕ) (part : Item) : Type 0 where
   pub spelled : BytesSpell part
   pub long : 9 ≤ length part.encoding
+  pub shallow : nest part.value ≤ max_nesting - depth
 
 -- This result begins what a reading gives of these bytes inside this number of open collections: a whole geometry is
 -- what it gives; of a collection it gives what comes of the first member; a refusal is its own.
@@ -81,7 +85,7 @@ BeginsAs read depth bytes (Ok (Whole w rest)) old new =
     × (length rest.now + 9 ≤ length bytes)
 BeginsAs read depth bytes (Ok (Opened o rest)) old new =
     (costs (cost_of new) (first_member depth o rest.now) ≡ costs (cost_of old) (read depth bytes))
-    × (o.bytes.now ≡ bytes) × (depth < max_nesting) × IsOpen o rest.now
+    × (o.bytes.now ≡ bytes) × (depth < max_nesting) × IsOpen depth o rest.now
 BeginsAs read depth bytes (Err refusal) old new = Stops refusal (read depth bytes) old new
 
 -- a part was read inside the open collections `before`, and those of `after` are open then: all is read, or the next

@@ -15,7 +15,8 @@ pub(crate) struct Contents {
     pub(crate) members: usize,
 }
 
-/// The coordinates of all line strings. They are fewer than the bytes, so that their sum fits.
+/// The coordinates of all line strings. There are fewer of them than bytes, so the sum can't overflow; the calls of
+/// `buf` and `size` give the proof those bounds.
 fn of_line_strings(multi: &MultiLineString<'_>) -> usize
     ensures { result ≡ sum_by length multi.now.parts }
 {

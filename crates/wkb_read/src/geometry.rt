@@ -32,7 +32,7 @@ use wkb_view::polygon::Polygon;
 pub struct GeometryCollection<'a> {
     pub(crate) buf: &'a [u8],
     pub(crate) layout: Layout,
-    // How many members may have an SRID. Its place is that of a line string's count, so that no geometry gets longer.
+    // How many members may have an SRID. It fills the slot that `LineString::count` has in `View`, so no view grows.
     pub(crate) with_srids: u32,
     pub(crate) members: Vec<Wkb<'a>>,
 }
@@ -69,8 +69,9 @@ impl Drop for Wkb<'_> {
 
 impl<'a> Model for GeometryCollection<'a> {
     ghost use Rattle.wkb_read.specs.Prelude.{Values, Listed, listed_code, values_code};
+    ghost use Rattle.wkb_read.specs.Prelude.{max_nesting, nest_each, values};
     ghost use Rattle.wkb_read.specs.Nodes.{size_inside, members_fall};
-    ghost use Rattle.std.specs.Prelude.{◌≡◌};
+    ghost use Rattle.std.specs.Prelude.{◌≡◌, ◌<◌};
     ghost use Rattle.wkb_read.specs.Placed.{IsCollectionIn, parts_in};
     ghost use Rattle.wkb_read.specs.NoSrids.{HaveNoSrids};
 
@@ -79,7 +80,8 @@ impl<'a> Model for GeometryCollection<'a> {
     ghost coded = { listed_code values_code };
 
     ghost invariant = { λ a. IsCollectionIn a.layout a.members.items a.buf.now
-        × (a.with_srids ≡ 0 → HaveNoSrids a.members.items) };
+        × (a.with_srids ≡ 0 → HaveNoSrids a.members.items)
+        × (nest_each (values a.members.items) < max_nesting) };
 
     ghost view = { λ a. parts_in a.layout a.members.items a.buf.now };
 
@@ -111,6 +113,7 @@ impl<'a> GeometryCollection<'a> {
     ghost use Rattle.std.specs.Prelude.{◌≡◌, true, IfOk, length};
     ghost use Rattle.wkb_read.specs.Prelude.{srid_of, BytesSpell, IsSpelledAsWritten};
     ghost use Rattle.wkb_read.specs.Placed.{collection_seen};
+    ghost use Rattle.wkb_read.specs.Reads.{IsFront};
 
     /// The number of its bytes.
     #[inline]
@@ -129,10 +132,12 @@ impl<'a> GeometryCollection<'a> {
     }
 
     /// The bytes of this geometry, from its order byte to its end.
+    #[tactic(auto, using(crate::proofs::Fronts::own_front))]
     #[inline]
     pub fn buf(&self) -> &'a [u8]
         ensures encoding { result.now ≡ self.now.encoding }
         ensures spells { BytesSpell (collection_seen self.now) }
+        ensures front { IsFront result.now (collection_seen self.now) }
     {
         self.buf
     }
@@ -239,7 +244,7 @@ impl<'a> Wkb<'a> {
     ghost use Rattle.wkb_read.specs.Prelude.{LendsEncoding};
     ghost use Rattle.wkb_read.specs.Placed.{collection_seen};
     ghost use Rattle.wkb_read.specs.Types.{geometry_type_of, IsListed};
-    ghost use Rattle.wkb_read.specs.Reads.{Reads};
+    ghost use Rattle.wkb_read.specs.Reads.{Reads, IsFront};
 
     /// The geometry at the front of the bytes, as `read_wkb` returns it.
     pub fn try_new(alloc: Global, buf: &'a [u8]) -> WkbResult<Wkb<'a>>
@@ -279,9 +284,11 @@ impl<'a> Wkb<'a> {
     }
 
     /// The bytes of this geometry, from its order byte to its end.
+    #[tactic(auto, using(crate::proofs::Fronts::own_front, crate::proofs::Fronts::point_shallow))]
     pub fn buf(&self) -> &'a [u8]
         ensures encoding { result.now ≡ self.now.encoding }
         ensures spells { BytesSpell self.now }
+        ensures front { IsFront result.now self.now }
     {
         match &self.kind {
             View::Point(point) => point.buf(),
@@ -438,8 +445,8 @@ impl<'a> GeometryTrait for Wkb<'a> {
 
     /// The number of its bytes without those of its own SRID.
     ///
-    /// None where a member has an SRID, and of each multi line string, each multi polygon, and each collection with one
-    /// of these inside: what their parts have isn't kept.
+    /// None if a member has an SRID, and for multi line strings, multi polygons and collections of these: reading
+    /// doesn't keep which of their parts have an SRID.
     #[inline]
     fn byte_size(&self) -> Option<usize>
         ensures size { IfSome result (λ n. n ≡ byte_size (geometry_seen self.now)) }

@@ -10,7 +10,7 @@ use crate::geometry::{View, Wkb};
 use crate::read::stack::{Begun, begin_collection, read_collection};
 use std::alloc::Global;
 use wkb_geom::code::WkbType;
-use wkb_geom::{Head, Refusal, WkbResult};
+use wkb_geom::{Head, MAX_NESTING, Refusal, WkbResult};
 use wkb_view::counts::Counts;
 use wkb_view::line_string::LineString;
 use wkb_view::multi_line_string::MultiLineString;
@@ -22,7 +22,7 @@ use wkb_view::polygon::Polygon;
 pub(crate) mod stack;
 
 /// The most collections that may be nested in one another; the 129th is refused.
-pub const MAX_WKB_NESTING_DEPTH: usize = 128;
+pub const MAX_WKB_NESTING_DEPTH: usize = MAX_NESTING;
 
 /// Reads the geometry at the front of the bytes; the bytes after it are not looked at.
 ///

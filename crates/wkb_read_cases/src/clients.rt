@@ -1,13 +1,17 @@
-//! What clients return: words of geometries in a blob, whether a value is stored, and codes.
+//! What clients return: words of geometries in a blob, whether a value is stored, codes, and what the own bytes of a
+//! geometry give.
 
 use std::alloc::Global;
 use std::test::Fail;
 use wkb::check::check;
+use wkb::reader::read_wkb;
 use wkb_cases::spelled::bytes;
 use wkb_cases::support::{THREE, TWO};
+use wkb_cases::texts::nested_in;
 use wkb_clients::collections::{WordPath, ring_word};
 use wkb_clients::keys::Store;
 use wkb_clients::kinds::code;
+use wkb_clients::own::{bounds_of, check_again, check_member_again, read_anew};
 use wkb_clients::package::word;
 
 /// Eight bytes that another format's header could have, and a big endian line string of one coordinate with a z.
@@ -85,5 +89,24 @@ fn codes_of_fronts(rt: HostRuntime) -> Result<(), Fail> {
     assert!(rt; code_at_front("01 e9030040 P P")? == Some(3001));
     assert!(rt; code_at_front("00 20000003 000010e6 00000000")? == Some(3));
     assert!(rt; code_at_front("01 c00b0000 P")?.is_none());
+    Ok(())
+}
+
+// The deepest geometry, and the one member in it.
+#[test]
+fn own_bytes(rt: HostRuntime) -> Result<(), Fail> {
+    let input = nested_in(128)?;
+    let geometry = match read_wkb(rt.alloc(), input.as_slice()) {
+        Ok(geometry) => geometry,
+        Err(error) => return Err(Fail::new(error)),
+    };
+    assert!(rt; bounds_of(&geometry).x.count == 1);
+    assert!(rt; check_again(&geometry).is_ok());
+    assert!(rt; matches!(check_member_again(&geometry, 0), Some(Ok(_))));
+    assert!(rt; check_member_again(&geometry, 1).is_none());
+    match read_anew(rt.alloc(), &geometry) {
+        Ok(again) => assert!(rt; again.buf() == geometry.buf()),
+        Err(error) => return Err(Fail::new(error)),
+    }
     Ok(())
 }

@@ -20,6 +20,8 @@ mod cut_inputs;
 #[cfg(test)]
 mod equality;
 #[cfg(test)]
+mod packages;
+#[cfg(test)]
 mod printed;
 #[cfg(test)]
 mod reading;

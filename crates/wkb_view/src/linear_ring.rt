@@ -99,8 +99,8 @@ impl<'a> LinearRing<'a> {
     }
 }
 
-/// The count of a ring of this many bytes. It is taken from their number, so that a ring far away in memory is not
-/// looked at. Sizes that are constants make the division a multiplication.
+/// The count of a ring of this many bytes. Computed from the length, so that the ring's own bytes, which may not be
+/// cached, are not read. Sizes that are constants make the division a multiplication.
 #[inline]
 fn count_of_size(dimension: Dimension, size: usize) -> usize
     requires { COUNT_SIZE ≤ size }

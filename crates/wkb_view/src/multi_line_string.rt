@@ -147,7 +147,7 @@ impl Parts for LineStrings {
 
     fn pass<'a>(layout: Layout, bytes: &'a [u8]) -> Result<&'a [u8], Cause> {
         let member = Layout::of_member(WkbType::LineString(layout.dimension), bytes)?;
-        // Built from its fields, so that it doesn't go through memory.
+        // Rebuilt field by field: LLVM then keeps it in registers (docs/COST.md).
         let member = Layout {
             order: member.order,
             dimension: layout.dimension,

@@ -82,7 +82,7 @@ impl<'a> Polygon<'a> {
         self.buf
     }
 
-    /// The number of coordinates of all rings, told by their bytes: no ring is visited.
+    /// The number of coordinates of all rings, computed from the number of bytes, without visiting the rings.
     pub fn num_coords(&self) -> usize
         ensures { result ≡ sum_by length self.now.parts }
     {

@@ -100,7 +100,7 @@ pub(crate) fn close_finished<'a>(
     rest: &'a [u8],
     counts: &mut Counts,
 ) -> Option<Wkb<'a>>
-    requires part { IsFinished part }
+    requires part { IsFinished (length (around stack.old)) part }
     requires stand { AreOpen (around stack.old) (part.encoding ++ rest.now) }
     requires fits { counts.old.turns + (outward (around stack.old) part rest.now).0.turns < 2 ^ 128 }
     ensures settles { Settles stack.old part.entry stack.new rest.now result counts.old counts.new }
@@ -146,7 +146,7 @@ pub(crate) fn read_collection<'a>(
     members: &'a [u8],
     counts: &mut Counts,
 ) -> Result<Wkb<'a>, Refusal>
-    requires stands { IsOpen outermost members.now }
+    requires stands { IsOpen 0 outermost members.now }
     requires fits { CanCount counts.old (first_member 0 outermost members.now).0 }
     ensures { ReadsAs (first_member 0 outermost.entry members.now) result counts.old counts.new }
 {

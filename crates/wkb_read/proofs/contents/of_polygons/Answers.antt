@@ -1,6 +1,7 @@
 use Rattle.std.proofs.Common.{◌≤◌, length, arith, ◌+◌, sum_by, ap, List}
 use Rattle.wkb_read.specs.Prelude.{multi_polygon_seen, Coordinate}
-use Rattle.wkb_read.proofs.Sums.{sum_more, bytes_counted}
+use Rattle.wkb_laws.proofs.Sums.{sum_more}
+use Rattle.wkb_read.proofs.Sums.{bytes_counted}
 use Rattle.wkb_read.proofs.contents.of_polygons.Goals as goal
 use Rattle.wkb_read.proofs.contents.of_polygons.Goals.{After-num_rings}
 

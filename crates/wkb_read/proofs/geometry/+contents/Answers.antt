@@ -3,7 +3,8 @@ use Rattle.std.proofs.lemmas.Option.{slice_get-get_or}
 use Rattle.wkb_geom.specs.Counted.{coordinate_count_each}
 use Rattle.wkb_geom.specs.Values.{member_count_each}
 use Rattle.wkb_read.specs.Contents.{coordinates_inside, parts_inside}
-use Rattle.wkb_read.proofs.Sums.{sum_more, sum_all, collection_counted, coordinates_summed, members_summed}
+use Rattle.wkb_laws.proofs.Sums.{sum_more, sum_all}
+use Rattle.wkb_read.proofs.Sums.{collection_counted, coordinates_summed, members_summed}
 use Rattle.wkb_read.proofs.geometry.+contents.Goals as goal
 use Rattle.wkb_read.proofs.geometry.+contents.Goals.{GeometryCollection::contents-After-contents-own}
 

@@ -49,6 +49,7 @@ returns-clause-begins c =
         each = rw items tt;
         within = omega (arith, none, behind);
         room = rw none (omega (arith, c.in_ok-count.ensures.room, c.in_ok-count.ensures.count, behind));
+        shallow = rw items (omega arith);
       },
     )
 
@@ -65,6 +66,7 @@ invariant_of-whole c =
           (sym c.in_ok-count.ensures.count ∙ c.if-count-eq0.true) c.in_ok-count.ensures.whole
           (drop-drop 4 start bytes ∙ sym back) tt).collection,
       λ _. tt,
+      omega arith,
     )
 
 pub returns-then-depth-ge-MAX_WKB_NESTING_DEPTH-clause-begins :
@@ -88,7 +90,7 @@ module _ (l : Layout) (bytes : List ℕ) where
   unfolding collection_told
   refused member = list_refused 9 l bytes _ (omega (arith, parts_length l.has_srid bytes))
 
-  module _ (depth : ℕ) (shallow : depth < 128) where
+  module _ (depth : ℕ) (shallow : depth < max_nesting) where
     level : max_nesting - depth ≡ suc (max_nesting - suc depth)
     level = omega (arith, shallow)
 

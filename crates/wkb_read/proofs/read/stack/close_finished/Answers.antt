@@ -97,7 +97,7 @@ invariant_of-finished c =
     let p = (goal.at.invariant_of-finished c).After-push in
     let same = (taken_off p _ _ c.in-Some-pop.ensures.items).0 in
     let all = all_in p _ _ same c.into_vec-members.ensures (omega (arith, c.if-top-gt0.false)) in
-    (rw (sym same) all.collection, rw c.deref.ensures.value at c.count_with_srids-with_srids.ensures)
+    (rw (sym same) all.collection, rw c.deref.ensures.value at c.count_with_srids-with_srids.ensures, all.shallow)
 
 pub loop-top-preserved : goal.loop-top-preserved
 loop-top-preserved c =

@@ -1,0 +1,48 @@
+-- What is found in a GeoPackage blob, and what isn't.
+use Rattle.std.proofs.Common.{◌≡◌, List, ℕ, Bool, true, false, sym, ap, subst, ◌∙◌, ◌⊎◌, inl, inr}
+use Rattle.wkb.specs.Prelude.{IsMemory, WkbError}
+use Rattle.wkb.specs.Checks.{Bounds, BoundsOnlyFront}
+use Rattle.wkb.specs.Ranges.{same_bounds}
+use Rattle.wkb.specs.Reads.{IsFront, HasNoFront}
+use Rattle.wkb_clients.specs.Common.{Item}
+use Rattle.wkb_clients.specs.declared.geopackage.BlobHeader.{BlobHeader}
+use Rattle.wkb_clients.specs.Geopackage.{IsBlobHeader, HoldsGeometry, HoldsNoGeometry, body_of, envelope_around, header_order}
+use Rattle.wkb_clients.specs.Geopackage.{envelope_kind}
+
+-- the envelope is judged by what the blob says
+pub as_said : (blob : List ℕ) (h : BlobHeader) (b : Bounds) (r : Bool) → IsBlobHeader blob h
+    → r ≡ envelope_around h.order h.envelope blob b
+    → r ≡ envelope_around (header_order blob) (envelope_kind blob) blob b
+as_said blob h b r head is = is ∙ (λ i. envelope_around (head.order i) (head.envelope i) blob b)
+
+-- the envelope isn't around the bounds
+pub none_around : (blob body : List ℕ) (b : Bounds) → body ≡ body_of blob → BoundsOnlyFront body b
+    → false ≡ envelope_around (header_order blob) (envelope_kind blob) blob b → HoldsNoGeometry blob
+none_around blob body b same only fails = λ h w holds.
+    let front = subst (λ l. IsFront l w) (sym same) holds.front in
+    let wrong : false ≡ true = fails ∙ holds.around b (only w.spelled w.value front.rest front.front) in
+    absurd (cc)
+
+-- no geometry is there
+pub none_there : (blob body : List ℕ) → body ≡ body_of blob → HasNoFront body → HoldsNoGeometry blob
+none_there blob body same none = λ h w holds.
+    let front = subst (λ l. IsFront l w) (sym same) holds.front in
+    none w.spelled w.value front.rest front.front
+
+pub memory_or_none : (blob body : List ℕ) (e : WkbError) → body ≡ body_of blob → IsMemory e ⊎ HasNoFront body
+    → IsMemory e ⊎ HoldsNoGeometry blob
+memory_or_none blob body e same (inl memory) = inl memory
+memory_or_none blob body e same (inr none) = inr (none_there blob body same none)
+
+-- a geometry is there, and the envelope is around its bounds
+pub holds : (blob body : List ℕ) (h : BlobHeader) (b : Bounds) (w : Item) → IsBlobHeader blob h → body ≡ body_of blob
+    → BoundsOnlyFront body b → true ≡ envelope_around (header_order blob) (envelope_kind blob) blob b → IsFront body w
+    → HoldsGeometry blob h w
+holds blob body h b w head same only around front =
+    record {
+      header = head;
+      front = subst (λ l. IsFront l w) same front;
+      around = λ c is.
+          ap (envelope_around (header_order blob) (envelope_kind blob) blob)
+          (same_bounds c b w.value is (only w.spelled w.value front.rest front.front)) ∙ sym around;
+    }

@@ -1,0 +1,86 @@
+-- What a GeoPackage blob holds (OGC 12-128, clause 2.1.3).
+use Rattle.std.specs.Prelude.{◌≡◌, ℕ, ◌+◌, ◌/◌, ◌%◌, ◌<◌, ◌≤◌, List, length, drop, slice_index, Bool, true, not}
+use Rattle.std.specs.Prelude.{◌&&◌, ◌==◌, nat_le, if◌then◌else◌}
+use Rattle.wkb.specs.Prelude.{Endianness, BigEndian, LittleEndian, number, is_nan, IsMemory}
+use Rattle.wkb.specs.Checks.{Range, Bounds, AreBounds, rank}
+use Rattle.wkb.specs.Reads.{IsFront}
+use Rattle.wkb_clients.specs.Common.{Item}
+use Rattle.wkb_clients.specs.declared.geopackage.BlobHeader.{BlobHeader}
+use Rattle.wkb_clients.specs.declared.geopackage.Unread.{Unread}
+use Rattle.wkb_clients.specs.declared.geopackage.Unread.TheVariants as reasons
+
+-- the byte of the flags: the order, three bits for the kind of the envelope, and whether the geometry is empty
+abbrev pub flags : List ℕ → ℕ
+flags blob = slice_index blob 3
+
+abbrev pub order_said : ℕ → Endianness
+order_said n = if n == 1 then LittleEndian else BigEndian
+
+abbrev pub header_order : List ℕ → Endianness
+header_order blob = order_said (flags blob % 2)
+
+abbrev pub envelope_kind : List ℕ → ℕ
+envelope_kind blob = flags blob / 2 % 8
+
+-- where the geometry begins: behind eight bytes and an envelope of no, two, three or four axes
+abbrev pub start_behind : ℕ → ℕ
+start_behind kind =
+    if kind == 0 then 8 else (if kind == 1 then 40 else (if kind == 2 then 56 else (if kind == 3 then 56 else 72)))
+
+abbrev pub body_of : List ℕ → List ℕ
+body_of blob = drop (start_behind (envelope_kind blob)) blob
+
+-- The blob begins with "GP" and the version 0. No bit of a later use is set, the envelope is whole, and the header has
+-- what the flags and the bytes behind them say.
+pub record IsBlobHeader (blob : List ℕ) (h : BlobHeader) : Type 0 where
+  pub g : slice_index blob 0 ≡ 71
+  pub p : slice_index blob 1 ≡ 80
+  pub version : slice_index blob 2 ≡ 0
+  pub clear : flags blob < 32
+  pub known : envelope_kind blob ≤ 4
+  pub whole : start_behind (envelope_kind blob) ≤ length blob
+  pub order : h.order ≡ header_order blob
+  pub envelope : h.envelope ≡ envelope_kind blob
+  pub empty : h.empty ≡ nat_le 16 (flags blob)
+  pub srs : h.srs ≡ number h.order 4 (drop 4 blob)
+
+abbrev pub HasNoBlobHeader : List ℕ → Type 0
+HasNoBlobHeader blob = (h : BlobHeader) → IsBlobHeader blob h → ⊥
+
+-- whether a word is a number at most another, in the order of numbers
+abbrev pub is_number_at_most : ℕ → ℕ → Bool
+is_number_at_most v w = not (is_nan v) && nat_le (rank v) (rank w)
+
+-- whether the two words at an offset are numbers, at most the least and at least the greatest of the range
+abbrev pub axis_around : Endianness → List ℕ → ℕ → Range → Bool
+axis_around order blob at r =
+    is_number_at_most (number order 8 (drop at blob)) r.least
+    && (not (is_nan (number order 8 (drop (at + 8) blob))) && nat_le (rank r.greatest) (rank (number order 8 (drop (at + 8) blob))))
+
+-- the axes behind x and y: z, m, or both
+abbrev pub others_around : Endianness → ℕ → List ℕ → Bounds → Bool
+others_around order kind blob b =
+    if kind == 2 then axis_around order blob 40 b.z
+    else (if kind == 3 then axis_around order blob 40 b.m
+    else (if kind == 4 then axis_around order blob 40 b.z && axis_around order blob 56 b.m else true))
+
+-- whether an envelope of this kind is around the bounds, on each axis that it has
+abbrev pub envelope_around : Endianness → ℕ → List ℕ → Bounds → Bool
+envelope_around order kind blob b =
+    if kind == 0 then true
+    else axis_around order blob 8 b.x && (axis_around order blob 24 b.y && others_around order kind blob b)
+
+-- The blob has this header, then an envelope around all numbers of the geometry, then the geometry.
+pub record HoldsGeometry (blob : List ℕ) (h : BlobHeader) (w : Item) : Type 0 where
+  pub header : IsBlobHeader blob h
+  pub front : IsFront (body_of blob) w
+  pub around : (b : Bounds) → AreBounds b w.value
+      → envelope_around (header_order blob) (envelope_kind blob) blob b ≡ true
+
+abbrev pub HoldsNoGeometry : List ℕ → Type 0
+HoldsNoGeometry blob = (h : BlobHeader) (w : Item) → HoldsGeometry blob h w → ⊥
+
+-- an allocation failed
+abbrev pub IsWantOfMemory : Unread → Type 0
+IsWantOfMemory (reasons.Geometry e) = IsMemory e
+IsWantOfMemory _ = ⊥

@@ -1,0 +1,151 @@
+//! A reader of GeoPackage blobs (OGC 12-128, clause 2.1.3), whose contract says which blobs it takes.
+
+ghost use Rattle.std.specs.Prelude.{◌≡◌, ◌+◌, ◌<◌, ◌≤◌, ◌⊎◌, MatchOption, IfOk, IfErr, length};
+ghost use Rattle.wkb_clients.specs.Geopackage.{IsBlobHeader, HasNoBlobHeader, start_behind, order_said, body_of};
+ghost use Rattle.wkb_clients.specs.Geopackage.{is_number_at_most, axis_around, others_around, envelope_around};
+ghost use Rattle.wkb_clients.specs.Geopackage.{header_order, envelope_kind, HoldsGeometry, HoldsNoGeometry, IsWantOfMemory};
+
+use crate::package::from_offset;
+use std::alloc::Global;
+use wkb::Endianness;
+use wkb::check::{Bounds, Range, bounds};
+use wkb::error::WkbError;
+use wkb::geom::is_at_most;
+use wkb::reader::{Wkb, read_wkb};
+use wkb_geom::words::{is_nan, u32_at, u64_at};
+
+/// What stands before the geometry: the order of the header's numbers, the kind of its envelope (0 for none, 1 for x
+/// and y, 2 with z, 3 with m, 4 with both), whether the geometry is said to be empty, and the reference system.
+#[derive(Clone, Copy)]
+pub struct BlobHeader {
+    pub order: Endianness,
+    pub envelope: u8,
+    pub empty: bool,
+    pub srs: u32,
+}
+
+/// Why a blob isn't read.
+#[derive(Drop)]
+pub enum Unread {
+    Header,
+    Envelope,
+    Geometry(WkbError),
+}
+
+/// A blob that was read.
+#[derive(Drop)]
+pub struct Package<'a> {
+    pub header: BlobHeader,
+    pub geometry: Wkb<'a>,
+}
+
+/// The order of which the lowest bit of the flags says that it is little endian.
+fn order_of_bit(bit: u8) -> Endianness
+    ensures { result ≡ order_said bit }
+{
+    if bit == 1 {
+        Endianness::LittleEndian
+    } else {
+        Endianness::BigEndian
+    }
+}
+
+/// Where the geometry begins behind an envelope of this kind.
+pub fn start_behind(kind: u8) -> usize
+    ensures { result ≡ start_behind kind }
+{
+    match kind {
+        0 => 8,
+        1 => 40,
+        2 | 3 => 56,
+        _ => 72,
+    }
+}
+
+/// The header, where the blob begins with one whose envelope is whole.
+pub fn read_header(blob: &[u8]) -> Option<BlobHeader>
+    ensures { MatchOption result (HasNoBlobHeader blob.now) (λ h. IsBlobHeader blob.now h) }
+{
+    if blob.len() < 8 || blob[0] != 0x47 || blob[1] != 0x50 || blob[2] != 0 {
+        return None;
+    }
+    let flags = blob[3];
+    let envelope = flags / 2 % 8;
+    if flags >= 32 || envelope > 4 || blob.len() < start_behind(envelope) {
+        return None;
+    }
+    let order = order_of_bit(flags % 2);
+    Some(BlobHeader {
+        order,
+        envelope,
+        empty: flags >= 16,
+        srs: u32_at(blob, 4, order),
+    })
+}
+
+/// The bytes behind the header.
+fn body_of(blob: &[u8], header: BlobHeader) -> &[u8]
+    requires { IsBlobHeader blob.now header }
+    ensures { result.now ≡ body_of blob.now }
+{
+    from_offset(blob, start_behind(header.envelope))
+}
+
+/// Whether the two words at an offset are numbers around the range.
+fn axis_around(blob: &[u8], at: usize, order: Endianness, range: Range) -> bool
+    requires { at + 16 ≤ length blob.now }
+    ensures { result ≡ axis_around order blob.now at range }
+{
+    let least = u64_at(blob, at, order);
+    let greatest = u64_at(blob, at + 8, order);
+    (!is_nan(least) && is_at_most(least, range.least))
+        && (!is_nan(greatest) && is_at_most(range.greatest, greatest))
+}
+
+/// Whether the axes behind x and y are around those of the bounds.
+fn others_around(blob: &[u8], order: Endianness, kind: u8, found: Bounds) -> bool
+    requires { start_behind kind ≤ length blob.now }
+    ensures { result ≡ others_around order kind blob.now found }
+{
+    match kind {
+        2 => axis_around(blob, 40, order, found.z),
+        3 => axis_around(blob, 40, order, found.m),
+        4 => axis_around(blob, 40, order, found.z) && axis_around(blob, 56, order, found.m),
+        _ => true,
+    }
+}
+
+/// Whether the envelope is around the bounds.
+fn envelope_around(blob: &[u8], order: Endianness, kind: u8, found: Bounds) -> bool
+    requires { start_behind kind ≤ length blob.now }
+    ensures { result ≡ envelope_around order kind blob.now found }
+{
+    if kind == 0 {
+        return true;
+    }
+    axis_around(blob, 8, order, found.x)
+        && (axis_around(blob, 24, order, found.y) && others_around(blob, order, kind, found))
+}
+
+/// Reads a blob: its header, an envelope around all numbers of the geometry, and the geometry.
+pub fn read<'a>(alloc: Global, blob: &'a [u8]) -> Result<Package<'a>, Unread>
+    ensures ok { IfOk result (λ p. HoldsGeometry blob.now p.header p.geometry) }
+    ensures err { IfErr result (λ e. IsWantOfMemory e ⊎ HoldsNoGeometry blob.now) }
+{
+    let Some(header) = read_header(blob) else {
+        return Err(Unread::Header);
+    };
+    let body = body_of(blob, header);
+    match bounds(body) {
+        Ok(found) => {
+            if !envelope_around(blob, header.order, header.envelope, found) {
+                return Err(Unread::Envelope);
+            }
+        }
+        Err(refused) => return Err(Unread::Geometry(WkbError::from(refused.cause))),
+    }
+    match read_wkb(alloc, body) {
+        Ok(geometry) => Ok(Package { header, geometry }),
+        Err(e) => Err(Unread::Geometry(e)),
+    }
+}

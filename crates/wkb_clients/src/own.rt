@@ -1,0 +1,87 @@
+//! The own bytes of a view, and of a member of a collection.
+
+ghost use Rattle.std.specs.Prelude.{◌≡◌, IfOk, IfErr, IfSome, MatchBool};
+ghost use Rattle.wkb.specs.Prelude.{IsMemory};
+ghost use Rattle.wkb.specs.Checks.{AreBounds};
+ghost use Rattle.wkb.specs.Geometries.{geometry_of};
+ghost use Rattle.wkb.specs.OwnBytes.{own_options};
+ghost use Rattle.wkb.specs.Writes.{IsEncodingOf};
+
+use std::alloc::Global;
+use wkb::Endianness;
+use wkb::canon::{canonical_with_srid, same};
+use wkb::check::{Bounds, Refused, Summary, bounds, check};
+use wkb::error::WkbResult;
+use wkb::geom::{GeometryTrait, GeometryType};
+use wkb::laws::{are_bytes, one_front, read_or_refused, spelled_in_full};
+use wkb::reader::{Polygon, Wkb, read_wkb};
+
+/// The check never refuses the bytes of a geometry.
+pub fn check_again(w: &Wkb<'_>) -> Result<Summary, Refused>
+    ensures { IfErr result (λ _. ⊥) }
+{
+    check(w.buf())
+}
+
+/// The bounds of a geometry.
+pub fn bounds_of(w: &Wkb<'_>) -> Bounds
+    ensures { AreBounds result w.now.value }
+{
+    match bounds(w.buf()) {
+        Ok(found) => found,
+        Err(_) => unreachable!(),
+    }
+}
+
+/// The check of a member of a collection, if there is one of this index, which never refuses it.
+pub fn check_member_again(w: &Wkb<'_>, i: usize) -> Option<Result<Summary, Refused>>
+    ensures { IfSome result (λ found. IfErr found (λ _. ⊥)) }
+{
+    let GeometryType::GeometryCollection(members) = w.as_type() else {
+        return None;
+    };
+    let Some(member) = members.get(i) else {
+        return None;
+    };
+    Some(check(member.buf()))
+}
+
+/// The geometry, read again from its own bytes.
+pub fn read_anew<'a>(alloc: Global, w: &Wkb<'a>) -> WkbResult<Wkb<'a>>
+    ensures same { IfOk result (λ x. x ≡ w.now) }
+    ensures err { IfErr result IsMemory }
+{
+    read_wkb(alloc, w.buf())
+}
+
+/// The check never refuses the bytes of a polygon's view, which holds no collection.
+pub fn check_polygon_again(p: &Polygon<'_>) -> Result<Summary, Refused>
+    ensures { IfErr result (λ _. ⊥) }
+{
+    spelled_in_full();
+    let bytes = p.buf();
+    are_bytes(bytes);
+    check(bytes)
+}
+
+/// The encoding of a geometry with its own SRID, which nothing but an allocation failure can refuse.
+pub fn key_anew(alloc: Global, w: &Wkb<'_>, order: Endianness) -> WkbResult<Vec<u8>>
+    ensures ok { IsEncodingOf (own_options order w.now) (geometry_of w.now.value) result }
+    ensures err { IfErr result IsMemory }
+{
+    one_front();
+    read_or_refused();
+    canonical_with_srid(alloc, w.buf(), order)
+}
+
+/// Whether two geometries have equal values, by their own bytes.
+pub fn are_equal(alloc: Global, w: &Wkb<'_>, v: &Wkb<'_>) -> bool
+    ensures { MatchBool result (w.now.value ≡ v.now.value) (w.now.value ≡ v.now.value → ⊥) }
+{
+    one_front();
+    read_or_refused();
+    match same(alloc, w.buf(), v.buf()) {
+        Ok(equal) => equal,
+        Err(_) => unreachable!(),
+    }
+}

@@ -1,0 +1,93 @@
+//! What the clients return that read GeoPackage blobs and look for geometries in a box.
+
+use std::alloc::Global;
+use std::test::Fail;
+use wkb::Endianness;
+use wkb::check::Range;
+use wkb_cases::spelled::bytes;
+use wkb_cases::support::{THREE, TWO};
+use wkb_clients::boxes::BoundingBox;
+use wkb_clients::geopackage::{Unread, read};
+use wkb_clients::windows::found_in;
+
+/// Twenty for a fault of the header, 30 for one of the envelope, 40 for one of the geometry; else the envelope's kind,
+/// and ten more where the header is big endian.
+fn outcome(alloc: Global, text: &str) -> Result<u8, Fail> {
+    let blob = bytes(text)?;
+    match read(alloc, blob.as_slice()) {
+        Ok(package) => match package.header.order {
+            Endianness::LittleEndian => Ok(package.header.envelope),
+            Endianness::BigEndian => Ok(10 + package.header.envelope),
+        },
+        Err(Unread::Header) => Ok(20),
+        Err(Unread::Envelope) => Ok(30),
+        Err(Unread::Geometry(_)) => Ok(40),
+    }
+}
+
+// A point (1 2): in an envelope from (1 2) to (1 2), without one, and in one whose z nothing is said of.
+#[test]
+fn packages_read(rt: HostRuntime) -> Result<(), Fail> {
+    let alloc = rt.alloc();
+    let tight =
+        "47500003 e6100000 000000000000f03f 000000000000f03f 0000000000000040 0000000000000040 01 01000000 P";
+    assert!(rt; outcome(alloc, tight)? == 1);
+    assert!(rt; outcome(alloc, "47500000 000010e6 01 01000000 P")? == 10);
+    let with_z =
+        "47500005 e6100000 000000000000f0bf 000000000000f03f 0000000000000040 0000000000000840
+        0000000000000000 0000000000000000 01 01000000 P";
+    assert!(rt; outcome(alloc, with_z)? == 2);
+    Ok(())
+}
+
+// Another letter, another version, a bit of a later use, an envelope of no kind, one that is cut; one from x 2 on, one
+// of a not-a-number; and a geometry without its last byte.
+#[test]
+fn packages_refused(rt: HostRuntime) -> Result<(), Fail> {
+    let alloc = rt.alloc();
+    assert!(rt; outcome(alloc, "47510001 e6100000 01 01000000 P")? == 20);
+    assert!(rt; outcome(alloc, "47500101 e6100000 01 01000000 P")? == 20);
+    assert!(rt; outcome(alloc, "47500021 e6100000 01 01000000 P")? == 20);
+    assert!(rt; outcome(alloc, "4750000b e6100000 01 01000000 P")? == 20);
+    assert!(rt; outcome(alloc, "47500003 e6100000 01 01000000 P")? == 20);
+    let late =
+        "47500003 e6100000 0000000000000040 0000000000000840 0000000000000040 0000000000000040 01 01000000 P";
+    assert!(rt; outcome(alloc, late)? == 30);
+    let nan =
+        "47500003 e6100000 000000000000f87f 000000000000f03f 0000000000000040 0000000000000040 01 01000000 P";
+    assert!(rt; outcome(alloc, nan)? == 30);
+    assert!(rt;
+        outcome(
+            alloc,
+            "47500001 e6100000 01 01000000 000000000000f03f 00000000000000"
+        )? == 40
+    );
+    Ok(())
+}
+
+// The box from (2 2) to (3 3): the line from (1 1) to (3 3) meets it, and so does a point on its corner, (2 2); not the
+// point (1 2), nor bytes that begin with no geometry.
+#[test]
+fn rows_in_a_box(rt: HostRuntime) -> Result<(), Fail> {
+    let line = bytes(
+        "01 02000000 02000000 000000000000f03f 000000000000f03f 0000000000000840 0000000000000840",
+    )?;
+    let corner = bytes("00 00000001 4000000000000000 4000000000000000")?;
+    let outside = bytes("01 01000000 P")?;
+    let side = Range {
+        least: TWO,
+        greatest: THREE,
+        count: 2,
+    };
+    let window = BoundingBox { x: side, y: side };
+    let rows = [outside.as_slice(), line.as_slice(), &[], corner.as_slice()];
+    match found_in(rt.alloc(), &window, &rows) {
+        Ok(found) => {
+            assert!(rt; found.len() == 2);
+            assert!(rt; found[0] == line.as_slice());
+            assert!(rt; found[1] == corner.as_slice());
+            Ok(())
+        }
+        Err(error) => Err(Fail::new(error)),
+    }
+}
