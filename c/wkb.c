@@ -2,38 +2,39 @@
  * and calls its proved wkb_raw_ call. The texts, the version, the class of refusals and wkb_words have no such call. */
 #include "wkb_raw.h"
 
-/* What the proved calls take for granted of the compiler and its options: structs as they were proved, pointers of 64
- * bits, little endian. */
-#define IS_LAID(TYPE, SIZE, PLACES) _Static_assert(sizeof(TYPE) == (SIZE) && (PLACES), "another layout of " #TYPE)
+/* What the proved calls assume of the compiler and its options: structs as they were proved, 64-bit pointers,
+ * little-endian. */
+#define IS_LAID(TYPE, SIZE, ALIGNMENT, PLACES) \
+  _Static_assert(sizeof(TYPE) == (SIZE) && _Alignof(TYPE) == (ALIGNMENT) && (PLACES), "another layout of " #TYPE)
 #define AT(TYPE, OFFSET, MEMBER) (offsetof(TYPE, MEMBER) == (OFFSET))
 _Static_assert(sizeof(void *) == 8 && sizeof(size_t) == 8, "another size of pointers");
-IS_LAID(wkb_found, 64, AT(wkb_found, 0, size) && AT(wkb_found, 8, parts) && AT(wkb_found, 16, coordinates) &&
+IS_LAID(wkb_found, 64, 8, AT(wkb_found, 0, size) && AT(wkb_found, 8, parts) && AT(wkb_found, 16, coordinates) &&
         AT(wkb_found, 24, offset) && AT(wkb_found, 32, count) && AT(wkb_found, 40, srid) &&
         AT(wkb_found, 44, has_srid) && AT(wkb_found, 48, kind) && AT(wkb_found, 52, dimension) &&
         AT(wkb_found, 56, width) && AT(wkb_found, 60, order));
-IS_LAID(wkb_fault, 40, AT(wkb_fault, 0, part) && AT(wkb_fault, 8, offset) && AT(wkb_fault, 16, end) &&
+IS_LAID(wkb_fault, 40, 8, AT(wkb_fault, 0, part) && AT(wkb_fault, 8, offset) && AT(wkb_fault, 16, end) &&
         AT(wkb_fault, 24, len) && AT(wkb_fault, 32, code) && AT(wkb_fault, 36, status));
-IS_LAID(wkb_options, 12, AT(wkb_options, 0, order) && AT(wkb_options, 4, form) && AT(wkb_options, 8, srid));
-IS_LAID(wkb_part, 64, AT(wkb_part, 0, begin) && AT(wkb_part, 8, end) && AT(wkb_part, 16, offset) &&
+IS_LAID(wkb_options, 12, 4, AT(wkb_options, 0, order) && AT(wkb_options, 4, form) && AT(wkb_options, 8, srid));
+IS_LAID(wkb_part, 64, 8, AT(wkb_part, 0, begin) && AT(wkb_part, 8, end) && AT(wkb_part, 16, offset) &&
         AT(wkb_part, 24, count) && AT(wkb_part, 32, next) && AT(wkb_part, 40, srid) && AT(wkb_part, 44, has_srid) &&
         AT(wkb_part, 48, kind) && AT(wkb_part, 52, dimension) && AT(wkb_part, 56, width) && AT(wkb_part, 60, order));
-IS_LAID(wkb_range, 24, AT(wkb_range, 0, least) && AT(wkb_range, 8, greatest) && AT(wkb_range, 16, count));
-IS_LAID(wkb_box, 96, AT(wkb_box, 0, x) && AT(wkb_box, 24, y) && AT(wkb_box, 48, z) && AT(wkb_box, 72, m));
-IS_LAID(wkb_raw_column, 64, AT(wkb_raw_column, 0, bytes) && AT(wkb_raw_column, 8, bytes_len) &&
+IS_LAID(wkb_range, 24, 8, AT(wkb_range, 0, least) && AT(wkb_range, 8, greatest) && AT(wkb_range, 16, count));
+IS_LAID(wkb_box, 96, 8, AT(wkb_box, 0, x) && AT(wkb_box, 24, y) && AT(wkb_box, 48, z) && AT(wkb_box, 72, m));
+IS_LAID(wkb_raw_column, 64, 8, AT(wkb_raw_column, 0, bytes) && AT(wkb_raw_column, 8, bytes_len) &&
         AT(wkb_raw_column, 16, offsets) && AT(wkb_raw_column, 24, offsets_len) && AT(wkb_raw_column, 32, offset_size)
         && AT(wkb_raw_column, 40, validity) && AT(wkb_raw_column, 48, validity_len) &&
         AT(wkb_raw_column, 56, validity_offset));
-IS_LAID(wkb_raw_level_column, 112, AT(wkb_raw_level_column, 0, words) && AT(wkb_raw_level_column, 8, word_count) &&
+IS_LAID(wkb_raw_level_column, 112, 8, AT(wkb_raw_level_column, 0, words) && AT(wkb_raw_level_column, 8, word_count) &&
         AT(wkb_raw_level_column, 16, ring_ends) && AT(wkb_raw_level_column, 24, ring_end_count) &&
         AT(wkb_raw_level_column, 32, rings) && AT(wkb_raw_level_column, 40, single_ends) &&
         AT(wkb_raw_level_column, 48, single_end_count) && AT(wkb_raw_level_column, 56, singles) &&
         AT(wkb_raw_level_column, 64, row_ends) && AT(wkb_raw_level_column, 72, row_end_count) &&
         AT(wkb_raw_level_column, 80, rows) && AT(wkb_raw_level_column, 88, validity) &&
         AT(wkb_raw_level_column, 96, validity_len) && AT(wkb_raw_level_column, 104, validity_offset));
-IS_LAID(wkb_raw_level_slices, 48, AT(wkb_raw_level_slices, 0, words) && AT(wkb_raw_level_slices, 8, words_room) &&
+IS_LAID(wkb_raw_level_slices, 48, 8, AT(wkb_raw_level_slices, 0, words) && AT(wkb_raw_level_slices, 8, words_room) &&
         AT(wkb_raw_level_slices, 16, ring_ends) && AT(wkb_raw_level_slices, 24, ring_room) &&
         AT(wkb_raw_level_slices, 32, single_ends) && AT(wkb_raw_level_slices, 40, single_room));
-IS_LAID(wkb_raw_totals, 24, AT(wkb_raw_totals, 0, coordinates) && AT(wkb_raw_totals, 8, rings) &&
+IS_LAID(wkb_raw_totals, 24, 8, AT(wkb_raw_totals, 0, coordinates) && AT(wkb_raw_totals, 8, rings) &&
         AT(wkb_raw_totals, 16, singles));
 #if defined __BYTE_ORDER__ && __BYTE_ORDER__ != __ORDER_LITTLE_ENDIAN__
 #error "the proved calls are for little endian"
@@ -52,7 +53,7 @@ const char *wkb_status_text(wkb_status status) {
   switch (status) {
     case WKB_STATUS_OK: return "ok";
     case WKB_STATUS_NO_MEMORY: return "out of memory";
-    case WKB_STATUS_NO_ROOM: return "the output doesn't fit its room";
+    case WKB_STATUS_NO_ROOM: return "the output buffer is too small";
     case WKB_STATUS_UNKNOWN_OPTION: return "unknown byte order, form, kind or dimension";
     case WKB_STATUS_TOO_MANY_ROWS: return "there are more rows than a count of four bytes holds";
     case WKB_STATUS_NULL_ROW: return "the row is null";
@@ -62,7 +63,7 @@ const char *wkb_status_text(wkb_status status) {
     case WKB_STATUS_SHORT_HEADER: return "the input ends inside a header or before a count";
     case WKB_STATUS_INVALID_BYTE_ORDER: return "a byte order is neither 0 nor 1";
     case WKB_STATUS_CODE_OUT_OF_RANGE: return "unknown geometry type code";
-    case WKB_STATUS_INCORRECT_TYPE: return "a member does not belong in its multi geometry";
+    case WKB_STATUS_INCORRECT_TYPE: return "a member has the wrong kind, dimension or SRID for its multi geometry";
     case WKB_STATUS_NESTING_DEPTH_EXCEEDED: return "a collection is inside 128 others";
     case WKB_STATUS_SHORT_POINT: return "the input ends inside a point";
     case WKB_STATUS_SHORT_LINE_STRING: return "the input ends inside a line string";
@@ -72,7 +73,7 @@ const char *wkb_status_text(wkb_status status) {
   if (wkb_status_is_early_end(status)) return "the input ends too early";
   if (wkb_status_is_refusal(status)) return "the input is refused";
   if (wkb_status_is_of_row(status)) return "something is wrong with the row";
-  return "the call couldn't do what it was asked for";
+  return "the call failed";
 }
 
 int wkb_status_is_refusal(wkb_status status) { return status >= 32; }
@@ -91,7 +92,7 @@ const char *wkb_kind_text(wkb_kind kind) {
   return "unknown kind";
 }
 
-/* A text that grows in a room. What doesn't fit is only counted. */
+/* A text that grows in a buffer. What doesn't fit is only counted. */
 typedef struct growing {
   char *out;
   size_t room;
@@ -115,17 +116,36 @@ static void add_number(growing *text, const char *before, uint64_t number) {
   for (; power > 0; power /= 10) add_letter(text, (char)('0' + number / power % 10));
 }
 
+/* Returns what a code that isn't read stands for by OGC 06-103r4, whatever its dimension and its SRID; null if it has
+ * no name. */
+static const char *unread_kind(uint32_t code) {
+  static const char *const NAMES[] = {
+      "a circular string", "a compound curve", "a curve polygon", "a multi curve", "a multi surface",
+      "a curve", "a surface", "a polyhedral surface", "a TIN", "a triangle"};
+  enum { FIRST = 8, COUNT = sizeof NAMES / sizeof NAMES[0] };
+  uint32_t number = code & 0x1fffffff, kind = number % 1000;
+  return number < 4000 && kind >= FIRST && kind < FIRST + COUNT ? NAMES[kind - FIRST] : NULL;
+}
+
+static void add_code(growing *text, uint32_t code) {
+  const char *name = unread_kind(code);
+  add_number(text, " ", code);
+  if (name == NULL) return;
+  add(text, ", "), add(text, name), add(text, ", which this library does not read");
+}
+
 size_t wkb_fault_text(const wkb_fault *fault, char *out, size_t room) {
   growing text = {out, room, 0};
   add(&text, wkb_status_text(fault->status));
-  if (fault->status == WKB_STATUS_CODE_OUT_OF_RANGE) add_number(&text, " ", fault->code);
+  if (fault->status == WKB_STATUS_CODE_OUT_OF_RANGE) add_code(&text, fault->code);
   if (wkb_status_is_refusal(fault->status)) {
-    add_number(&text, ", in part ", fault->part);
-    add_number(&text, " at byte ", fault->offset);
+    add_number(&text, ", at byte ", fault->offset);
+    add_number(&text, " (part ", fault->part);
+    add(&text, ")");
   }
-  if (wkb_status_is_early_end(fault->status)) {
-    add_number(&text, ", which would end at ", fault->end);
-    add_number(&text, " of ", fault->len);
+  if (fault->status >= WKB_STATUS_SHORT_POINT) {
+    add_number(&text, ": it needs ", fault->end);
+    add_number(&text, " bytes and has ", fault->len);
   }
   if (room > 0) out[text.length < room ? text.length : room - 1] = 0;
   return text.length;
@@ -169,21 +189,21 @@ wkb_status wkb_parts(const void *buf, size_t len, wkb_part *parts, size_t room, 
                        fault ? fault : &fault_here);
 }
 
-/* The bytes of all offsets of a column; none where no row has an offset. */
+/* Returns the bytes of all offsets of a column; none if no row has an offset. */
 static size_t offsets_len(const wkb_column *column) {
   size_t size = column->offset_size;
   if (column->rows == 0 || (size != sizeof(int32_t) && size != sizeof(int64_t))) return 0;
   return column->rows < SIZE_MAX / size ? size * (column->rows + 1) : 0;
 }
 
-/* The bytes up to the one with the validity bit of the last of some rows; none without validity or rows. */
+/* Returns the bytes of a validity bitmap up to the bit of the last of some rows; none without validity or rows. */
 static size_t validity_len(const void *validity, size_t first, size_t rows) {
   size_t more = rows - 1;
   if (validity == NULL || rows == 0) return 0;
   return first / 8 + more / 8 + (first % 8 + more % 8) / 8 + 1;
 }
 
-/* The same column with the lengths of its buffers. */
+/* Returns the same column with the lengths of its buffers. */
 static wkb_raw_column unpacked(const wkb_column *column) {
   size_t offsets = offsets_len(column);
   size_t validity = validity_len(column->validity, column->validity_offset, column->rows);
@@ -204,6 +224,16 @@ void wkb_column_check(const wkb_column *column, uint8_t *statuses) {
   if (column->rows == 0) return;
   wkb_raw_column raw = unpacked(column);
   wkb_raw_column_check(&raw, statuses, column->rows);
+}
+
+void wkb_column_found(const wkb_column *column, wkb_found *found, uint8_t *statuses) {
+  if (column->rows == 0) return;
+  wkb_raw_column raw = unpacked(column);
+  if (found == NULL) {
+    wkb_raw_column_check(&raw, statuses, column->rows);
+  } else {
+    wkb_raw_column_found(&raw, found, column->rows, statuses, column->rows);
+  }
 }
 
 void wkb_column_bounds(const wkb_column *column, wkb_box *boxes, uint8_t *statuses) {
@@ -263,7 +293,7 @@ void wkb_column_coordinates(const wkb_column *column, wkb_dim dimension, wkb_coo
   out->singles = totals.singles;
 }
 
-/* Levels with the lengths of their slices, where there are rows. */
+/* Returns levels with the lengths of their slices, if there are rows. */
 static wkb_raw_level_column unpacked_levels(const wkb_levels *levels) {
   static const double no_words[1] = {0};
   static const uint64_t no_ends[1] = {0};
@@ -310,8 +340,10 @@ void wkb_words(const void *buf, const wkb_part *part, uint64_t first, uint64_t c
     }
     return;
   }
-  for (uint64_t k = 0; k < words; k++) {
-    uint64_t word = wkb_little_word(bytes + 8 * k);
-    memcpy(out + k, &word, sizeof word);
+  /* The few words of a point are copied here, since a call takes longer. */
+  if (words > 4) {
+    memcpy(out, bytes, 8 * words);
+    return;
   }
+  for (uint64_t k = 0; k < words; k++) memcpy(out + k, bytes + 8 * k, sizeof *out);
 }

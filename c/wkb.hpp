@@ -1,12 +1,12 @@
 // A C++20 wrapper of wkb.h: spans, optionals, exceptions, and ranges over the parts of a geometry. Header only. Nothing
-// in it is proved. Nothing is copied but words on demand. A refused input is an exception, or for the calls whose names
-// begin with try_ and for check an empty optional or false, which costs a hundredth of it.
+// in it is proved. Coordinates are copied only on request. A rejected input is an exception, or for the calls whose
+// names begin with try_ and for check an empty optional or false, which costs a hundredth of it.
 //
 // What a call reads must not change during the call, by another thread or another process either: copy a mapped file
 // that others may write before the call. What a call writes must not overlap what it reads.
 //
-// Only vectors and exceptions allocate. Where one gets no memory, the call throws std::bad_alloc: a reader's table is
-// then empty, and all else is as it was. Without exceptions (-fno-exceptions) the program ends there, as with any
+// Only vectors and exceptions allocate. If an allocation fails, the call throws std::bad_alloc: a reader's table is
+// then empty, and all else is as it was. Without exceptions (-fno-exceptions) the program aborts there, as with any
 // vector, and the calls that throw refused are not declared. These allocate nothing: check, try_bounds, try_same,
 // try_write and try_read into spans, column, and each call of a part but words.
 #ifndef WKB_HPP
@@ -26,6 +26,7 @@
 #include <optional>
 #include <ranges>
 #include <span>
+#include <utility>
 #include <vector>
 #ifdef __cpp_exceptions
 #include <stdexcept>
@@ -39,8 +40,8 @@ using bytes = std::span<const std::byte>;
 
 namespace detail {
 
-// Whether a call did what it promises. If not, FAULT becomes what was FOUND, unless it is null: the fault of a refusal,
-// or else zeros, and the status.
+// Returns whether a call succeeded. If not, FAULT becomes what was FOUND, unless it is null: the first error of a
+// rejected input, or else zeros, and the status.
 inline bool accepted(wkb_status status, wkb_fault &found, wkb_fault *fault) noexcept {
   if (status == WKB_STATUS_OK) return true;
   found.status = status;
@@ -50,38 +51,38 @@ inline bool accepted(wkb_status status, wkb_fault &found, wkb_fault *fault) noex
 
 }  // namespace detail
 
-// What is at the front of the input, or nothing where it is refused. FAULT then says why, unless it is null.
-inline std::optional<wkb_found> check(bytes input, wkb_fault *fault = nullptr) noexcept {
+// Returns the geometry at the start of the input, or nothing if it is rejected. FAULT then says why, unless it is null.
+[[nodiscard]] inline std::optional<wkb_found> check(bytes input, wkb_fault *fault = nullptr) noexcept {
   wkb_found found;
   if (wkb_check(input.data(), input.size(), &found, fault) != WKB_STATUS_OK) return std::nullopt;
   return found;
 }
 
-// The bounds of the input's geometry, or nothing where it is refused. FAULT then says why, unless it is null.
-inline std::optional<wkb_box> try_bounds(bytes input, wkb_fault *fault = nullptr) noexcept {
+// Returns the bounds of the input's geometry, or nothing if it is rejected. FAULT then says why, unless it is null.
+[[nodiscard]] inline std::optional<wkb_box> try_bounds(bytes input, wkb_fault *fault = nullptr) noexcept {
   wkb_box box;
   if (wkb_bounds(input.data(), input.size(), &box, fault) != WKB_STATUS_OK) return std::nullopt;
   return box;
 }
 
-// Writes the encoding of the input's geometry under the options to the front of OUT, and returns its length. Where the
-// input is refused, the options are unknown or OUT is too small, it returns nothing, OUT is unchanged, and FAULT says
+// Writes the encoding of the input's geometry under the options to the start of OUT, and returns its length. If the
+// input is rejected, the options are invalid or OUT is too small, it returns nothing, OUT is unchanged, and FAULT says
 // why, unless it is null. An OUT that is four bytes longer than the input is never too small.
-inline std::optional<std::size_t> try_write(bytes input, const wkb_options &options, std::span<std::byte> out,
-                                            wkb_fault *fault = nullptr) noexcept {
+[[nodiscard]] inline std::optional<std::size_t> try_write(bytes input, const wkb_options &options,
+                                                          std::span<std::byte> out,
+                                                          wkb_fault *fault = nullptr) noexcept {
   std::size_t size = 0;
   wkb_fault found{};
-  const wkb_status status =
-      wkb_write(input.data(), input.size(), &options, out.data(), out.size(), &size, &found);
+  const wkb_status status = wkb_write(input.data(), input.size(), &options, out.data(), out.size(), &size, &found);
   if (!detail::accepted(status, found, fault)) return std::nullopt;
   return size;
 }
 
-// Replaces what OUT holds by the encoding of the input's geometry under the options, and returns true. Where the input
-// is refused or the options are unknown, it returns false, OUT is unchanged, and FAULT says why, unless it is null. It
-// allocates nothing where OUT has memory for four bytes more than the input.
-inline bool try_write(bytes input, const wkb_options &options, std::vector<std::byte> &out,
-                      wkb_fault *fault = nullptr) {
+// Replaces what OUT holds by the encoding of the input's geometry under the options, and returns true. If the input is
+// rejected or the options are invalid, it returns false, OUT is unchanged, and FAULT says why, unless it is null. It
+// doesn't allocate if OUT has capacity for four bytes more than the input.
+[[nodiscard]] inline bool try_write(bytes input, const wkb_options &options, std::vector<std::byte> &out,
+                                    wkb_fault *fault = nullptr) {
   // No encoding is longer than its geometry and an SRID. Of a long input the geometry may be a small part.
   constexpr std::size_t LONG = 1 << 16, SRID_SIZE = 4;
   const std::size_t before = out.size();
@@ -96,10 +97,10 @@ inline bool try_write(bytes input, const wkb_options &options, std::vector<std::
   return size.has_value();
 }
 
-// Whether both inputs begin with geometries of one value, or nothing where one is refused. FAULT then says why, and
+// Returns whether the geometries of both inputs are equal, or nothing if one is rejected. FAULT then says why, and
 // WHICH is 1 for the first input, 2 for the second, unless they are null.
-inline std::optional<bool> try_same(bytes a, bytes b, wkb_fault *fault = nullptr,
-                                    std::uint32_t *which = nullptr) noexcept {
+[[nodiscard]] inline std::optional<bool> try_same(bytes a, bytes b, wkb_fault *fault = nullptr,
+                                                  std::uint32_t *which = nullptr) noexcept {
   std::uint32_t equal = 0;
   if (wkb_same(a.data(), a.size(), b.data(), b.size(), &equal, fault, which) != WKB_STATUS_OK) return std::nullopt;
   return equal != 0;
@@ -107,7 +108,7 @@ inline std::optional<bool> try_same(bytes a, bytes b, wkb_fault *fault = nullptr
 
 #ifdef __cpp_exceptions
 
-// A refused input: why, and which part of it.
+// A rejected input: why, and which part of it.
 class refused : public std::runtime_error {
  public:
   explicit refused(const wkb_fault &fault) : std::runtime_error(text_of(fault)), fault_(fault) {}
@@ -125,7 +126,7 @@ class refused : public std::runtime_error {
   wkb_fault fault_;
 };
 
-// One of the two inputs of `same` is refused.
+// One of the two inputs of `same` is rejected.
 class refused_of_two : public refused {
  public:
   refused_of_two(const wkb_fault &fault, std::uint32_t which) : refused(fault), which_(which) {}
@@ -137,7 +138,7 @@ class refused_of_two : public refused {
   std::uint32_t which_;
 };
 
-// The bounds of the input's geometry. Throws refused.
+// Returns the bounds of the input's geometry. Throws refused.
 inline wkb_box bounds(bytes input) {
   wkb_fault fault;
   const auto box = try_bounds(input, &fault);
@@ -146,7 +147,7 @@ inline wkb_box bounds(bytes input) {
 }
 
 // Replaces what OUT holds by the encoding of the input's geometry under the options, as try_write does. Throws refused,
-// and std::invalid_argument for unknown options; OUT is then unchanged.
+// and std::invalid_argument for invalid options; OUT is then unchanged.
 inline void write(bytes input, const wkb_options &options, std::vector<std::byte> &out) {
   wkb_fault fault;
   if (try_write(input, options, out, &fault)) return;
@@ -154,14 +155,14 @@ inline void write(bytes input, const wkb_options &options, std::vector<std::byte
   throw refused(fault);
 }
 
-// The encoding of the input's geometry under the options. Throws as the call above.
+// Returns the encoding of the input's geometry under the options. Throws as the call above.
 inline std::vector<std::byte> write(bytes input, const wkb_options &options) {
   std::vector<std::byte> out;
   write(input, options, out);
   return out;
 }
 
-// Whether both inputs begin with geometries of one value. Throws refused_of_two.
+// Returns whether the geometries of both inputs are equal. Throws refused_of_two.
 inline bool same(bytes a, bytes b) {
   std::uint32_t which = 0;
   wkb_fault fault;
@@ -188,8 +189,7 @@ class part {
   bool empty() const noexcept { return size() == 0; }
   // Its own SRID.
   std::optional<std::uint32_t> srid() const noexcept {
-    if (entry_->has_srid == 0) return std::nullopt;
-    return entry_->srid;
+    return entry_->has_srid == 0 ? std::nullopt : std::optional<std::uint32_t>(entry_->srid);
   }
   // Its own bytes; of a geometry, a well-formed input.
   bytes encoding() const noexcept { return {input_ + entry_->begin, entry_->end - entry_->begin}; }
@@ -242,11 +242,7 @@ class part::iterator {
     entry_ = table_ + entry_->next;
     return *this;
   }
-  iterator operator++(int) noexcept {
-    iterator before = *this;
-    ++*this;
-    return before;
-  }
+  iterator operator++(int) noexcept { return std::exchange(*this, iterator(input_, table_, table_ + entry_->next)); }
   bool operator==(const iterator &other) const noexcept { return entry_ == other.entry_; }
 
  private:
@@ -259,13 +255,14 @@ class part::iterator {
   const wkb_part *entry_ = nullptr;
 };
 
-// The next entry is that of the first ring or member, or the end where there is none.
+// The next entry is that of the first ring or member, or the end if there is none.
 inline part::iterator part::begin() const noexcept { return {input_, table_, entry_ + 1}; }
 inline part::iterator part::end() const noexcept { return {input_, table_, table_ + entry_->next}; }
 
-// Reads the input's geometry into the front of TABLE, which takes as many entries as check finds parts. Where the input
-// is refused or TABLE is too small, it returns nothing, TABLE is unchanged, and FAULT says why, unless it is null.
-inline std::optional<part> try_read(bytes input, std::span<wkb_part> table, wkb_fault *fault = nullptr) noexcept {
+// Reads the input's geometry into the start of TABLE, which takes as many entries as check finds parts. If the input is
+// rejected or TABLE is too small, it returns nothing, TABLE is unchanged, and FAULT says why, unless it is null.
+[[nodiscard]] inline std::optional<part> try_read(bytes input, std::span<wkb_part> table,
+                                                  wkb_fault *fault = nullptr) noexcept {
   std::size_t count = 0;
   wkb_fault found{};
   const wkb_status status = wkb_parts(input.data(), input.size(), table.data(), table.size(), &count, &found);
@@ -276,8 +273,8 @@ inline std::optional<part> try_read(bytes input, std::span<wkb_part> table, wkb_
 // Reads one input after another into one table, so that a scan stops allocating once the table has grown.
 class reader {
  public:
-  // The input's geometry, or nothing where it is refused. FAULT then says why, unless it is null.
-  std::optional<part> try_read(bytes input, wkb_fault *fault = nullptr) {
+  // Returns the input's geometry, or nothing if it is rejected. FAULT then says why, unless it is null.
+  [[nodiscard]] std::optional<part> try_read(bytes input, wkb_fault *fault = nullptr) {
     count_ = 0;
     std::size_t count = 0;
     wkb_fault found{};
@@ -295,7 +292,7 @@ class reader {
   }
 
 #ifdef __cpp_exceptions
-  // The input's geometry. Throws refused.
+  // Returns the input's geometry. Throws refused.
   part read(bytes input) {
     wkb_fault fault;
     const auto whole = try_read(input, &fault);
@@ -304,17 +301,15 @@ class reader {
   }
 #endif
 
-  // The table of the input that was read last, in preorder; empty where that was refused, and in a reader moved from.
-  std::span<const wkb_part> table() const noexcept {
-    return {table_.data(), std::min(count_, table_.size())};
-  }
+  // The table of the input that was read last, in preorder; empty if that was rejected, and in a reader moved from.
+  std::span<const wkb_part> table() const noexcept { return {table_.data(), std::min(count_, table_.size())}; }
 
  private:
   std::vector<wkb_part> table_;
   std::size_t count_ = 0;
 };
 
-// A column as Arrow has it, with an offset more than it has rows. Null VALIDITY is that of a column without null rows.
+// A column as Arrow has it, with one offset more than it has rows. VALIDITY is null if no row is null.
 template <typename Offset>
   requires std::same_as<Offset, std::int32_t> || std::same_as<Offset, std::int64_t>
 wkb_column column(bytes data, std::span<const Offset> offsets, const void *validity = nullptr,
@@ -326,10 +321,22 @@ wkb_column column(bytes data, std::span<const Offset> offsets, const void *valid
 // The status of each row. No row stops the others, nor makes one of these calls throw.
 using statuses = std::vector<std::uint8_t>;
 
-inline statuses check_rows(const wkb_column &column) {
+[[nodiscard]] inline statuses check_rows(const wkb_column &column) {
   statuses found(column.rows);
   wkb_column_check(&column, found.data());
   return found;
+}
+
+// What is in each row; all zeros if its status isn't WKB_STATUS_OK.
+struct row_found {
+  wkb::statuses statuses;
+  std::vector<wkb_found> found;
+};
+
+[[nodiscard]] inline row_found found_of_rows(const wkb_column &column) {
+  row_found it{statuses(column.rows), std::vector<wkb_found>(column.rows)};
+  wkb_column_found(&column, it.found.data(), it.statuses.data());
+  return it;
 }
 
 // The bounds of each row; a row without bounds has those of a geometry without coordinates.
@@ -338,7 +345,7 @@ struct row_bounds {
   std::vector<wkb_box> boxes;
 };
 
-inline row_bounds bounds_of_rows(const wkb_column &column) {
+[[nodiscard]] inline row_bounds bounds_of_rows(const wkb_column &column) {
   row_bounds it{statuses(column.rows), std::vector<wkb_box>(column.rows)};
   wkb_column_bounds(&column, it.boxes.data(), it.statuses.data());
   return it;
@@ -351,7 +358,7 @@ struct row_parts {
   std::vector<wkb_part> parts;
 };
 
-inline row_parts parts_of_rows(const wkb_column &column) {
+[[nodiscard]] inline row_parts parts_of_rows(const wkb_column &column) {
   row_parts it{statuses(column.rows), std::vector<std::uint64_t>(column.rows), {}};
   it.parts.resize(wkb_column_parts(&column, nullptr, 0, it.ends.data(), it.statuses.data()));
   it.parts.resize(wkb_column_parts(&column, it.parts.data(), it.parts.size(), it.ends.data(), it.statuses.data()));
@@ -365,7 +372,7 @@ struct row_encodings {
   std::vector<std::byte> data;
 };
 
-inline row_encodings write_rows(const wkb_column &column, const wkb_options &options) {
+[[nodiscard]] inline row_encodings write_rows(const wkb_column &column, const wkb_options &options) {
   row_encodings it{statuses(column.rows), std::vector<std::uint64_t>(column.rows), {}};
   it.data.resize(wkb_column_write(&column, &options, nullptr, 0, it.ends.data(), it.statuses.data()));
   it.data.resize(
@@ -374,11 +381,12 @@ inline row_encodings write_rows(const wkb_column &column, const wkb_options &opt
 }
 
 // Replaces what OUT holds by the encoding under the options of the geometry of a kind and a dimension whose members are
-// the rows, and returns true. Where a row can't be a member, it returns false, OUT is unchanged, FAULT says why and ROW
-// which row it is, unless they are null. So it does where the kind, the dimension or the options are unknown, or there
-// are 2^32 rows or more; ROW is then unchanged.
-inline bool try_collect(const wkb_column &column, wkb_kind kind, wkb_dim dimension, const wkb_options &options,
-                        std::vector<std::byte> &out, wkb_fault *fault = nullptr, std::size_t *row = nullptr) {
+// the rows, and returns true. If a row can't be a member, it returns false, OUT is unchanged, FAULT says why and ROW
+// which row it is, unless they are null. So it does if the kind, the dimension or the options are invalid, or there are
+// 2^32 rows or more; ROW is then unchanged.
+[[nodiscard]] inline bool try_collect(const wkb_column &column, wkb_kind kind, wkb_dim dimension,
+                                      const wkb_options &options, std::vector<std::byte> &out,
+                                      wkb_fault *fault = nullptr, std::size_t *row = nullptr) {
   std::size_t size = 0;
   wkb_fault found{};
   const auto put = [&](std::byte *to, std::size_t room) {
@@ -406,7 +414,7 @@ class refused_row : public refused {
 };
 
 // The encoding under the options of the geometry of this kind and dimension whose members are the rows. Throws
-// refused_row, and std::invalid_argument for an unknown kind, dimension or option and for 2^32 rows or more.
+// refused_row, and std::invalid_argument for an invalid kind, dimension or option and for 2^32 rows or more.
 inline std::vector<std::byte> collect(const wkb_column &column, wkb_kind kind, wkb_dim dimension,
                                       const wkb_options &options) {
   std::vector<std::byte> out;
@@ -419,7 +427,8 @@ inline std::vector<std::byte> collect(const wkb_column &column, wkb_kind kind, w
 
 #endif  // __cpp_exceptions
 
-// The coordinates of all rows, in the levels of wkb_coordinates.
+// The coordinates of all rows, in the levels of wkb_coordinates, which says how GeoArrow's offsets of each kind are
+// made of these ends.
 struct row_coordinates {
   wkb::statuses statuses;
   std::vector<std::uint64_t> row_ends, single_ends, ring_ends;
@@ -432,7 +441,7 @@ inline std::size_t width_of(wkb_dim dimension) noexcept {
 }
 
 // Each coordinate has the words that DIMENSION names.
-inline row_coordinates coordinates_of_rows(const wkb_column &column, wkb_dim dimension) {
+[[nodiscard]] inline row_coordinates coordinates_of_rows(const wkb_column &column, wkb_dim dimension) {
   row_coordinates it{statuses(column.rows), std::vector<std::uint64_t>(column.rows), {}, {}, {}};
   const std::size_t width = width_of(dimension);
   wkb_coordinates out{};
@@ -450,8 +459,9 @@ inline row_coordinates coordinates_of_rows(const wkb_column &column, wkb_dim dim
   return it;
 }
 
-// Coordinates of one's own, in the levels of wkb_levels. A level without ends has one item for each of the next, as the
-// points of GeoArrow have; a level with ends has as many items as these are.
+// Coordinates of one's own, in the levels of wkb_levels, which says what GeoArrow's offsets of each kind are there. A
+// level without ends has one item for each of the next, as the points of GeoArrow have; a level with ends has as many
+// items as these are.
 struct levels {
   std::span<const double> words;
   std::optional<std::span<const std::uint64_t>> ring_ends{}, single_ends{}, row_ends{};
@@ -460,8 +470,8 @@ struct levels {
 };
 
 // The encodings of rows of one kind and one dimension.
-inline row_encodings rows_from_coordinates(const levels &from, wkb_kind kind, wkb_dim dimension,
-                                           const wkb_options &options) {
+[[nodiscard]] inline row_encodings rows_from_coordinates(const levels &from, wkb_kind kind, wkb_dim dimension,
+                                                         const wkb_options &options) {
   const auto items = [](const auto &ends, std::size_t below) { return ends ? ends->size() : below; };
   const auto data = [](const auto &ends) { return ends ? ends->data() : nullptr; };
   const std::size_t rings = items(from.ring_ends, from.words.size() / width_of(dimension));
@@ -483,6 +493,9 @@ inline row_encodings rows_from_coordinates(const levels &from, wkb_kind kind, wk
 
 template <>
 inline constexpr bool std::ranges::enable_borrowed_range<wkb::part> = true;
+// A part is copied as cheaply as a span: an adaptor keeps a copy of it, and not a reference to one that may be gone.
+template <>
+inline constexpr bool std::ranges::enable_view<wkb::part> = true;
 
 #endif  // C++20
 #endif

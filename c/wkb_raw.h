@@ -54,7 +54,7 @@ typedef struct wkb_raw_level_column {
 } wkb_raw_level_column;
 
 wkb_status wkb_raw_check(const uint8_t *buf, size_t len, wkb_found *found, wkb_fault *fault);
-wkb_status wkb_raw_bounds(const uint8_t *buf, size_t len, wkb_box *box, wkb_fault *fault);
+wkb_status wkb_raw_bounds(const uint8_t *buf, size_t len, wkb_box *bounds, wkb_fault *fault);
 wkb_status wkb_raw_write(const uint8_t *buf, size_t len, const wkb_options *options, uint8_t *out, size_t room,
                          size_t *size, wkb_fault *fault);
 wkb_status wkb_raw_same(const uint8_t *a, size_t a_len, const uint8_t *b, size_t b_len, uint32_t *equal,
@@ -63,6 +63,8 @@ wkb_status wkb_raw_parts(const uint8_t *buf, size_t len, wkb_part *parts, size_t
                          wkb_fault *fault);
 
 void wkb_raw_column_check(const wkb_raw_column *column, uint8_t *statuses, size_t rows);
+void wkb_raw_column_found(const wkb_raw_column *column, wkb_found *found, size_t found_count, uint8_t *statuses,
+                          size_t rows);
 void wkb_raw_column_bounds(const wkb_raw_column *column, wkb_box *boxes, size_t box_count, uint8_t *statuses,
                            size_t rows);
 void wkb_raw_column_parts(const wkb_raw_column *column, wkb_part *parts, size_t room, uint64_t *ends,

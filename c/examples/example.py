@@ -1,7 +1,7 @@
 """Reads a geometry, rewrites it, and reads a column of such: `python3 c/examples/example.py`. It wants the package."""
 import array
 
-import wkb
+import porchsorrel_wkb as wkb
 
 polygon = bytes.fromhex("0020000003000010e600000001000000013ff00000000000004000000000000000")
 found = wkb.check(polygon)

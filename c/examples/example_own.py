@@ -2,7 +2,7 @@
 with a hole."""
 from array import array
 
-import wkb
+import porchsorrel_wkb as wkb
 
 
 def print_rows(kind, coordinates, **offsets):

@@ -7,10 +7,11 @@ enum { WORDS_ROOM = DATA_ROOM / 8, ENDS_ROOM = DATA_ROOM / 4, UNTOUCHED = 0x5a }
 
 /* The calls, and the sum of the answers of each. */
 enum { CHECK, BOUNDS, WRITE, SAME, PARTS, COLUMN_CHECK, COLUMN_BOUNDS, COLUMN_PARTS, COLUMN_WRITE, COORDINATES, FROM,
-       COLLECT };
+       COLLECT, COLUMN_FOUND };
 static const char *const NAMES[] = {"check",         "bounds",       "write",        "same",
                                     "parts",         "column_check", "column_bounds", "column_parts",
-                                    "column_write",  "column_coordinates", "column_from_coordinates", "collect"};
+                                    "column_write",  "column_coordinates", "column_from_coordinates", "collect",
+                                    "column_found"};
 enum { CALLS = sizeof NAMES / sizeof NAMES[0] };
 static uint64_t sums[CALLS];
 
@@ -158,6 +159,7 @@ static struct {
   uint8_t statuses[COLUMN_INPUTS + 1], bytes[DATA_ROOM];
   uint64_t row_ends[COLUMN_INPUTS + 1], single_ends[ENDS_ROOM], ring_ends[ENDS_ROOM];
   wkb_box boxes[COLUMN_INPUTS + 1];
+  wkb_found found[COLUMN_INPUTS + 1];
   double words[WORDS_ROOM];
 } written;
 
@@ -202,6 +204,9 @@ static void check_columns(const wkb_column *it) {
   clear_statuses(), memset(written.boxes, UNTOUCHED, sizeof written.boxes);
   wkb_column_bounds(it, written.boxes, written.statuses);
   take_rows(COLUMN_BOUNDS), take_bytes(COLUMN_BOUNDS, written.boxes, sizeof written.boxes);
+  clear_statuses(), memset(written.found, UNTOUCHED, sizeof written.found);
+  wkb_column_found(it, written.found, written.statuses);
+  take_rows(COLUMN_FOUND), take_bytes(COLUMN_FOUND, written.found, sizeof written.found);
 }
 
 /* The last end of a call without room is the room that it needs. */

@@ -75,12 +75,13 @@ static void overlapping_rows_are_refused(void) {
   uint64_t ends[5];
   double words[16];
   uint64_t ring_ends[5], single_ends[5];
+  wkb_found found[5];
   wkb_box boxes[5];
   wkb_part parts[5];
   spelled("01 01000000 P 01 01000000 P 01 01000000 P", data);
   for (size_t k = 0; k < sizeof OVERLAPS / sizeof OVERLAPS[0]; k++) {
     wkb_column column = {data, sizeof data, OVERLAPS[k].offsets, 8, &OVERLAPS[k].validity, 0, 5};
-    for (int call = 0; call < 5; call++) {
+    for (int call = 0; call < 6; call++) {
       wkb_coordinates levels = {words, 16, ring_ends, 5, single_ends, 5, ends, 0, 0, 0};
       memset(statuses, 0x5a, sizeof statuses);
       if (call == 0) wkb_column_check(&column, statuses);
@@ -88,6 +89,7 @@ static void overlapping_rows_are_refused(void) {
       if (call == 2) wkb_column_parts(&column, parts, 5, ends, statuses);
       if (call == 3) wkb_column_write(&column, &LITTLE_ISO, out, sizeof out, ends, statuses);
       if (call == 4) wkb_column_coordinates(&column, WKB_DIM_XY, &levels, statuses);
+      if (call == 5) wkb_column_found(&column, found, statuses);
       expect(memcmp(statuses, OVERLAPS[k].statuses, sizeof statuses) == 0, "rows that overlap", "");
     }
   }
@@ -181,6 +183,27 @@ static void validity_may_begin_anywhere(void) {
   }
 }
 
+/* Each row has what is found of its own input, or an entry of zeros, and no entry after the last is written. */
+static void columns_are_found(void) {
+  static filled f;
+  static wkb_found found[COLUMN_ROWS + 1], before;
+  static const wkb_found ZEROS = {0};
+  uint8_t statuses[COLUMN_ROWS + 1];
+  fill(&f);
+  memset(found, 0x5a, sizeof found), memset(&before, 0x5a, sizeof before), memset(statuses, 0x5a, sizeof statuses);
+  wkb_column_found(&f.column, found, statuses);
+  statuses_are(statuses, COLUMN_ROWS, true, "the status of what is found");
+  for (size_t i = 0; i < COLUMN_ROWS; i++) {
+    const wkb_found *wanted = i < ANSWER_COUNT && statuses[i] == WKB_STATUS_OK ? &ANSWERS[i].found : &ZEROS;
+    expect(memcmp(&found[i], wanted, sizeof *wanted) == 0, "what is found of a row", input_of(i));
+  }
+  expect(memcmp(&found[COLUMN_ROWS], &before, sizeof before) == 0, "an entry more was written", "");
+  expect(statuses[COLUMN_ROWS] == 0x5a, "a status more was written", "what is found");
+  memset(statuses, 0x5a, sizeof statuses);
+  wkb_column_found(&f.column, NULL, statuses);
+  statuses_are(statuses, COLUMN_ROWS, true, "the status of what nobody wants");
+}
+
 /* Each row has the bounds of its own input, or an empty box. */
 static void columns_are_bounded(void) {
   static filled f;
@@ -264,6 +287,7 @@ static void columns_are_written(void) {
       }
       start = ends[i];
     }
+    expect(start == total, "all bytes", "the last end");
     expect(memcmp(out + put, before, sizeof out - put) == 0, "more bytes were written", "");
   }
 }
@@ -291,6 +315,7 @@ static void null_is_allowed(void) {
   wkb_box boxes[2];
   uint64_t ends[2];
   wkb_column_check(&none, NULL);
+  wkb_column_found(&none, NULL, NULL);
   wkb_column_bounds(&none, NULL, NULL);
   expect(wkb_column_parts(&none, NULL, 0, NULL, NULL) == 0, "no rows", "parts");
   expect(wkb_column_write(&none, &LITTLE_ISO, NULL, 0, NULL, NULL) == 0, "no rows", "write");
@@ -310,6 +335,7 @@ void columns_are_right(void) {
   narrow_offsets_are_the_same();
   other_offset_sizes_are_refused();
   validity_may_begin_anywhere();
+  columns_are_found();
   columns_are_bounded();
   columns_are_listed();
   columns_are_written();

@@ -13,8 +13,11 @@ void check_finds(const sample &s) {
   s.expect(found->coordinates == s.it.coordinates && found->count == s.it.parts[0].count, "the counts of check");
   s.expect(found->kind == s.it.parts[0].kind && found->dimension == s.dimension, "the kind of check");
   s.expect(found->width == s.width && found->order == s.order && found->has_srid == 0, "the rest of check");
-  for (std::size_t size = 0; size < s.bytes.size(); size++)
-    s.expect(!wkb::check(wkb::bytes(s.bytes).first(size)), "check of a cut");
+  for (std::size_t size = 0; size < s.bytes.size(); size++) {
+    wkb_fault fault{};
+    s.expect(!wkb::check(wkb::bytes(s.bytes).first(size), &fault), "check of a cut");
+    s.expect(wkb_status_is_early_end(fault.status), "what is cut lacks bytes");
+  }
 }
 
 // The words of a part with coordinates, the first of which is FIRST, by each call that returns words.
@@ -90,6 +93,29 @@ void writes(const sample &s) {
   s.expect(reader.read(own).srid() == 7u && wkb::check(own)->srid == 7, "an SRID of its own");
 }
 
+// A part is a view, so that an adaptor keeps a copy of it.
+static_assert(std::ranges::view<wkb::part> && std::ranges::borrowed_range<wkb::part>);
+static_assert(std::ranges::forward_range<wkb::part>);
+
+// What an adaptor makes of a part that is gone when that is read. clang before 16 has no adaptors by the library of gcc.
+auto adapted(const wkb::part &whole) {
+  wkb::part gone = whole;
+#if defined __clang__ && __clang_major__ < 16
+  return std::views::all(gone);
+#else
+  return gone | std::views::filter([](wkb::part member) { return member.size() < 100; });
+#endif
+}
+
+void adapts(const sample &s) {
+  wkb::reader reader;
+  const wkb::part whole = reader.read(s.bytes);
+  auto range = adapted(whole);
+  auto member = whole.begin();
+  for (const wkb::part it : range) s.expect(&it.entry() == &(*member++).entry(), "a member of a part that is gone");
+  s.expect(member == whole.end(), "how many members of a part that is gone there are");
+}
+
 // A geometry is the same as itself in the other order and with an SRID, and as no other, nor after a change of its end.
 void compares(const sample &s) {
   const wkb_order other_order = s.order == WKB_ORDER_BIG ? WKB_ORDER_LITTLE : WKB_ORDER_BIG;
@@ -118,6 +144,7 @@ int main() {
         reads(s);
         writes(s);
         compares(s);
+        adapts(s);
       }
     }
   }

@@ -3,6 +3,8 @@
 // next call. It prints nothing, and what is wrong where something is.
 #include "hpp.h"
 
+#include "wkb_facts.hpp"
+
 #include <array>
 #include <new>
 #include <type_traits>
@@ -94,8 +96,9 @@ void writes() {
   const auto before = spelled("0a0b0c"), big = spelled("00000000013ff00000000000004000000000000000");
   auto out = before;
   const auto is_unchanged = [&] { expect(out == before, "an output after a refusal"); };
-  expect(refusals([&] { wkb::try_write(POINT, BIG, out); }, is_unchanged) == 1 && out == big, "try_write");
-  expect(refusals([&] { wkb::try_write(POINT, BIG, out); }) == 0, "an output that has room");
+  const auto tries = [&] { expect(wkb::try_write(POINT, BIG, out), "what is written in the end"); };
+  expect(refusals(tries, is_unchanged) == 1 && out == big, "try_write");
+  expect(refusals(tries) == 0, "an output that has room");
   out = before, out.shrink_to_fit();
   expect(refusals([&] { wkb::write(POINT, BIG, out); }, is_unchanged) == 1 && out == big, "write");
   expect(refusals([&] { expect(wkb::write(POINT, BIG) == big, "an encoding"); }) == 1, "an encoding takes memory");
@@ -103,7 +106,8 @@ void writes() {
   std::vector<std::byte> input = spelled("0102000000ffff0000");
   input.resize(9 + 16 * 65535);
   out = before, out.shrink_to_fit();
-  expect(refusals([&] { wkb::try_write(input, BIG, out); }, is_unchanged) == 1 && out.size() == input.size(), "long");
+  const auto tries_long = [&] { expect(wkb::try_write(input, BIG, out), "a long one in the end"); };
+  expect(refusals(tries_long, is_unchanged) == 1 && out.size() == input.size(), "long");
   out = before, out.shrink_to_fit();
   needs_memory_to_throw<wkb::refused>([&] { wkb::write(CUT, BIG, out); }, is_unchanged);
   out = before, out.shrink_to_fit();
@@ -119,7 +123,9 @@ void collects() {
   const auto before = spelled("0a0b0c"), big = spelled("00000000040000000100000000013ff00000000000004000000000000000");
   auto out = before;
   const auto is_unchanged = [&] { expect(out == before, "an output of rows after a refusal"); };
-  const auto puts = [&] { wkb::try_collect(points, WKB_KIND_MULTI_POINT, WKB_DIM_XY, BIG, out); };
+  const auto puts = [&] {
+    expect(wkb::try_collect(points, WKB_KIND_MULTI_POINT, WKB_DIM_XY, BIG, out), "what is collected in the end");
+  };
   expect(refusals(puts, is_unchanged) == 1 && out == big && refusals(puts) == 0, "try_collect");
   const auto collect = [&](const wkb_column &of, wkb_dim dimension) {
     return wkb::collect(of, WKB_KIND_MULTI_POINT, dimension, BIG);
@@ -139,8 +145,9 @@ void columns() {
   const std::array<std::int32_t, 2> offsets{0, static_cast<std::int32_t>(POLYGON.size())};
   const wkb_column column = wkb::column(POLYGON, std::span<const std::int32_t>(offsets));
   const std::vector<std::uint64_t> one{1};
-  expect(refusals([&] { wkb::check_rows(column); }) == 1, "check_rows");
-  expect(refusals([&] { wkb::bounds_of_rows(column); }) == 2, "bounds_of_rows");
+  expect(refusals([&] { expect(wkb::check_rows(column).size() == 1, "statuses"); }) == 1, "check_rows");
+  expect(refusals([&] { expect(wkb::found_of_rows(column).found[0].parts == 3, "found"); }) == 2, "found_of_rows");
+  expect(refusals([&] { expect(wkb::bounds_of_rows(column).boxes[0].x.count == 2, "boxes"); }) == 2, "bounds_of_rows");
   expect(refusals([&] { expect(wkb::parts_of_rows(column).parts.size() == 3, "parts"); }) == 3, "parts_of_rows");
   expect(refusals([&] { expect(wkb::write_rows(column, BIG).data.size() == 49, "data"); }) == 3, "write_rows");
   wkb::row_coordinates found;
@@ -149,6 +156,18 @@ void columns() {
   const wkb::levels levels{found.words, found.ring_ends, found.single_ends, found.row_ends};
   const auto rows = [&] { return wkb::rows_from_coordinates(levels, WKB_KIND_POLYGON, WKB_DIM_XY, BIG); };
   expect(refusals([&] { expect(rows().data.size() == 49, "rows"); }) == 3, "rows_from_coordinates");
+}
+
+// A line string without coordinates that has an SRID.
+void facts() {
+  const auto line = spelled("0102000020e610000000000000");
+  const std::array<std::int32_t, 2> offsets{0, 13};
+  const wkb_column column = wkb::column(line, std::span<const std::int32_t>(offsets));
+  const std::vector<std::uint32_t> one{4326};
+  const auto found = wkb::found_of_rows(column);
+  const auto bounds = wkb::bounds_of_rows(column);
+  expect(refusals([&] { expect(wkb::facts_of_rows(column).srids == one, "facts"); }) == 5, "facts_of_rows");
+  expect(refusals([&] { expect(wkb::facts_of(found, bounds).srids == one, "the same facts"); }) == 1, "facts_of");
 }
 
 // What wkb.hpp says that allocates nothing; so it throws nothing.
@@ -185,5 +204,6 @@ int main() {
   collects();
   exceptions();
   columns();
+  facts();
   calls_without_memory();
 }

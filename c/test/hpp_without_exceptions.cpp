@@ -2,6 +2,8 @@
 // memory ends the program. It prints nothing, and what is wrong where something is.
 #include "hpp.h"
 
+#include "wkb_facts.hpp"
+
 #include <array>
 #include <exception>
 #ifndef _WIN32
@@ -93,7 +95,9 @@ void columns() {
   const std::array<std::int32_t, 2> offsets{0, 21};
   const wkb_column column = wkb::column(POINT, std::span<const std::int32_t>(offsets));
   expect(wkb::check_rows(column) == wkb::statuses{WKB_STATUS_OK}, "check_rows");
+  expect(wkb::found_of_rows(column).found[0].size == 21, "found_of_rows");
   expect(wkb::bounds_of_rows(column).boxes[0].y.least == 2, "bounds_of_rows");
+  expect(wkb::facts_of_rows(column).of_kind[WKB_KIND_POINT][WKB_DIM_XY] == 1, "facts_of_rows");
   expect(wkb::parts_of_rows(column).parts.size() == 1, "parts_of_rows");
   expect(wkb::write_rows(column, BIG).data == BIG_POINT, "write_rows");
   std::vector<std::byte> whole;
@@ -134,14 +138,16 @@ void refused_memory() {
   const wkb_column column = wkb::column(POINT, std::span<const std::int32_t>(offsets));
   std::vector<std::byte> out;
   std::array<std::byte, 21> room;
-  expect(!ends_without_memory([&] { reader.try_read(POINT), wkb::try_write(POINT, BIG, room); }), "memory not taken");
-  expect(ends_without_memory([] { wkb::reader().try_read(POINT); }), "try_read without memory");
-  expect(ends_without_memory([&] { wkb::try_write(POINT, BIG, out); }), "try_write without memory");
+  const auto takes_none = [&] { return reader.try_read(POINT) && wkb::try_write(POINT, BIG, room); };
+  expect(!ends_without_memory(takes_none), "memory not taken");
+  expect(ends_without_memory([] { return wkb::reader().try_read(POINT); }), "try_read without memory");
+  expect(ends_without_memory([&] { return wkb::try_write(POINT, BIG, out); }), "try_write without memory");
   expect(ends_without_memory([&] { point.words(); }), "words without memory");
-  expect(ends_without_memory([&] { wkb::check_rows(column); }), "check_rows without memory");
+  expect(ends_without_memory([&] { return wkb::check_rows(column); }), "check_rows without memory");
+  expect(ends_without_memory([&] { return wkb::facts_of_rows(column); }), "facts_of_rows without memory");
   out.clear(), out.shrink_to_fit();
-  expect(ends_without_memory([&] { wkb::try_collect(column, WKB_KIND_MULTI_POINT, WKB_DIM_XY, BIG, out); }),
-         "try_collect without memory");
+  const auto collects = [&] { return wkb::try_collect(column, WKB_KIND_MULTI_POINT, WKB_DIM_XY, BIG, out); };
+  expect(ends_without_memory(collects), "try_collect without memory");
 }
 #endif
 

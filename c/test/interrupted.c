@@ -15,7 +15,7 @@ enum { INTERRUPTED = 300, SIGNALS_MOST = 100000 };
 
 /* All that the calls write over the column of all inputs. */
 typedef struct results {
-  wkb_found found;
+  wkb_found found, row_found[COLUMN_ROWS];
   wkb_fault faults[5], row_fault;
   wkb_box box, boxes[COLUMN_ROWS];
   wkb_part parts[ROOM], row_parts[ROOM];
@@ -24,7 +24,7 @@ typedef struct results {
   uint64_t ends[3][COLUMN_ROWS], ring_ends[ROOM], single_ends[ROOM], row_ends[COLUMN_ROWS];
   uint32_t equal, which;
   char texts[5][WKB_FAULT_TEXT_ROOM];
-  uint8_t out[BYTES], row_out[BYTES], level_out[BYTES], whole_out[BYTES], statuses[6][COLUMN_ROWS];
+  uint8_t out[BYTES], row_out[BYTES], level_out[BYTES], whole_out[BYTES], statuses[7][COLUMN_ROWS];
 } results;
 
 static filled inputs;
@@ -69,6 +69,7 @@ static void call_all(results *r, size_t first) {
                            to.singles, r->row_ends,        column.rows,  NULL,     0};
   wkb_column_from_coordinates(&from, WKB_KIND_MULTI_POLYGON, WKB_DIM_XY, &LITTLE_ISO, r->level_out, BYTES, r->ends[2],
                               r->statuses[5]);
+  wkb_column_found(&column, r->row_found, r->statuses[6]);
 }
 
 /* Calls that interrupt others, or run beside them, are over other inputs. */

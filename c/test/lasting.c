@@ -70,6 +70,20 @@ static const char *wrong_writing(const row *r) {
   return NULL;
 }
 
+/* What is wrong with what is found of a column of one row that has the input, or NULL. */
+static const char *wrong_entry(const row *r) {
+  const int64_t offsets[2] = {0, (int64_t)r->len};
+  const wkb_column column = {r->bytes, r->len, offsets, sizeof offsets[0], NULL, 0, 1};
+  static const wkb_found NOTHING;
+  wkb_found entry;
+  uint8_t status;
+  memset(&entry, 0x5a, sizeof entry);
+  wkb_column_found(&column, &entry, &status);
+  if (status != r->status) return "a row of a column has another status than its bytes";
+  if (status != WKB_STATUS_OK) return memcmp(&entry, &NOTHING, sizeof entry) ? "a refused row has an entry" : NULL;
+  return is_found(r, &entry) ? NULL : "what is found of a row of a column changes";
+}
+
 /* What is wrong with the library's answer for a row, or NULL. */
 static const char *wrong_answer(const row *r) {
   wkb_found found;
@@ -80,7 +94,8 @@ static const char *wrong_answer(const row *r) {
   if (status != r->status) return "a status changes inside its class";
   if (status == WKB_STATUS_OK && !is_found(r, &found)) return "what is found changes";
   if (status != WKB_STATUS_OK && !is_fault(r, &fault)) return "a fault changes";
-  return wrong_writing(r);
+  const char *wrong = wrong_entry(r);
+  return wrong ? wrong : wrong_writing(r);
 }
 
 /* With these bits of a byte changed, this is what is wrong with a row. */

@@ -18,6 +18,7 @@ static void all_calls(size_t len, const char *what) {
   uint32_t equal = 0;
   uint8_t status;
   wkb_box box;
+  wkb_found entry;
   levels.row_ends = &end;
   asks = 0;
   wkb_status found = wkb_check(bytes, len, NULL, NULL);
@@ -27,6 +28,7 @@ static void all_calls(size_t len, const char *what) {
   expect(wkb_same(bytes, len, bytes, len, &equal, NULL, NULL) == found, "a comparison", what);
   expect(equal == (found == WKB_STATUS_OK), "one value", what);
   wkb_column_check(&column, &status), expect(status == found, "a row's check", what);
+  wkb_column_found(&column, &entry, &status), expect(status == found, "what is found of a row", what);
   wkb_column_bounds(&column, &box, &status), expect(status == found, "a row's bounds", what);
   wkb_column_parts(&column, parts, sizeof parts / sizeof parts[0], &end, &status);
   expect(status == found, "a row's parts", what);

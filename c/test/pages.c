@@ -26,17 +26,28 @@ static void column_ends_at_page(const answer *a, uint8_t *page_end, uint8_t *oth
     uint8_t status = 0x5a;
     uint64_t end;
     wkb_box box;
+    wkb_found found;
     memset(other_end - 2 * offset_size - 1, 0, 2 * offset_size + 1);
     memcpy(other_end - offset_size, &(uint64_t){len}, offset_size);
     wkb_column column = {page_end - len, len, other_end - 2 * offset_size, offset_size, NULL, 0, 1};
     wkb_column_check(&column, &status);
     expect(status == a->status, "a column at the end of a page", a->input);
+    wkb_column_found(&column, &found, &status);
+    expect(status == a->status, "what is found at the end of a page", a->input);
     wkb_column_bounds(&column, &box, &status);
     expect(status == a->status, "bounds at the end of a page", a->input);
     wkb_column_parts(&column, NULL, 0, &end, &status);
-    expect(status == (a->status == WKB_STATUS_OK ? WKB_STATUS_NO_ROOM : a->status), "parts at the end", a->input);
+    const wkb_status without_room = a->status == WKB_STATUS_OK ? WKB_STATUS_NO_ROOM : a->status;
+    expect(status == without_room, "parts at the end", a->input);
+    wkb_column_write(&column, &LITTLE_ISO, NULL, 0, &end, &status);
+    expect(status == without_room, "an encoding at the end", a->input);
+    double words[64];
+    uint64_t ring_ends[8], single_ends[8];
+    wkb_coordinates levels = {words, 64, ring_ends, 8, single_ends, 8, &end, 0, 0, 0};
+    wkb_column_coordinates(&column, WKB_DIM_XYZM, &levels, &status);
+    expect(status == a->status, "coordinates at the end", a->input);
     wkb_status of_all = wkb_collect(&column, WKB_KIND_GEOMETRY_COLLECTION, 0, &LITTLE_ISO, NULL, 0, NULL, NULL, NULL);
-    expect(of_all == status, "a collection at the end", a->input);
+    expect(of_all == without_room, "a collection at the end", a->input);
   }
   uint8_t status = 0x5a;
   int64_t offsets[2] = {0, (int64_t)len};
@@ -46,35 +57,61 @@ static void column_ends_at_page(const answer *a, uint8_t *page_end, uint8_t *oth
   expect(status == a->status, "validity at the end of a page", a->input);
 }
 
+/* Words and ends of levels, and a validity, each at the end of a page. */
+static void levels_end_at_page(uint8_t *page_end, uint8_t *other_end) {
+  double *words = (double *)(void *)page_end - 4;
+  uint64_t *ends = (uint64_t *)(void *)other_end - 1, end;
+  uint8_t out[64], status;
+  memset(words, 0, 4 * sizeof words[0]);
+  const wkb_levels points = {words, 4, NULL, 2, ends, 1, NULL, 1, NULL, 0};
+  const wkb_levels line = {words, 4, ends, 1, NULL, 1, NULL, 1, NULL, 0};
+  const wkb_levels multi_point = {words, 4, NULL, 2, NULL, 2, ends, 1, NULL, 0};
+  const wkb_levels null_row = {words, 4, NULL, 2, NULL, 2, NULL, 1, other_end - 1, 7};
+  *ends = 2;
+  wkb_column_from_coordinates(&points, WKB_KIND_POINT, WKB_DIM_XY, &LITTLE_ISO, out, sizeof out, &end, &status);
+  expect(status == WKB_STATUS_BAD_LEVELS, "a point of two rings at the end", "");
+  wkb_column_from_coordinates(&line, WKB_KIND_LINE_STRING, WKB_DIM_XY, &LITTLE_ISO, out, sizeof out, &end, &status);
+  expect(status == WKB_STATUS_OK && end == 41, "a line string at the end", "");
+  wkb_column_from_coordinates(&multi_point, WKB_KIND_MULTI_POINT, WKB_DIM_XY, &LITTLE_ISO, out, sizeof out, &end,
+                              &status);
+  expect(status == WKB_STATUS_OK && end == 51, "a multi point at the end", "");
+  other_end[-1] = 0;
+  wkb_column_from_coordinates(&null_row, WKB_KIND_POINT, WKB_DIM_XY, &LITTLE_ISO, out, sizeof out, &end, &status);
+  expect(status == WKB_STATUS_NULL_ROW, "the validity of levels at the end", "");
+}
+
 /* Null rows, and rows whose offsets are bad, over data that can't be read: no call reads them. */
 static void rows_without_bytes_are_not_read(const uint8_t *unreadable) {
   enum { ROWS = 4, ROOM = 8 };
   static const int32_t OFFSETS[ROWS + 1] = {0, 21, -1, 42, 21};
   static const uint8_t VALIDITY = 0x0e;
   const wkb_column column = {unreadable, 42, OFFSETS, 4, &VALIDITY, 0, ROWS};
-  uint8_t statuses[5][ROWS], out[ROOM];
+  uint8_t statuses[6][ROWS], out[ROOM];
   uint64_t ends[ROWS], rings[ROOM], singles[ROOM];
   double words[ROOM];
   wkb_part parts[ROOM];
   wkb_box boxes[ROWS];
+  wkb_found found[ROWS];
   wkb_coordinates to = {words, ROOM, rings, ROOM, singles, ROOM, ends, 0, 0, 0};
   wkb_column_check(&column, statuses[0]);
   wkb_column_bounds(&column, boxes, statuses[1]);
   wkb_column_parts(&column, parts, ROOM, ends, statuses[2]);
   wkb_column_write(&column, &LITTLE_ISO, out, ROOM, ends, statuses[3]);
   wkb_column_coordinates(&column, WKB_DIM_XY, &to, statuses[4]);
+  wkb_column_found(&column, found, statuses[5]);
   for (size_t i = 0; i < ROWS; i++) {
     const wkb_column rest = {unreadable, 42, OFFSETS + i, 4, &VALIDITY, i, ROWS - i};
     wkb_status status = wkb_collect(&rest, WKB_KIND_MULTI_POINT, 0, &LITTLE_ISO, out, ROOM, NULL, NULL, NULL);
     expect(status == (i ? WKB_STATUS_BAD_OFFSETS : WKB_STATUS_NULL_ROW), "a row of all", "");
   }
-  for (int i = 0; i < 5 * ROWS; i++)
+  for (int i = 0; i < 6 * ROWS; i++)
     expect(statuses[i / ROWS][i % ROWS] == (i % ROWS ? WKB_STATUS_BAD_OFFSETS : WKB_STATUS_NULL_ROW), "a row", "");
 }
 
 void nothing_is_read_after_the_input(void) {
   uint8_t *end = end_of_a_page(), *other_end = end_of_a_page();
   rows_without_bytes_are_not_read(end);
+  levels_end_at_page(end, other_end);
   for (int i = 0; i < ANSWER_COUNT; i++) {
     uint8_t bytes[128];
     size_t len = spelled(ANSWERS[i].input, bytes);

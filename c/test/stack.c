@@ -36,6 +36,7 @@ static void nest(void) {
 static wkb_status status;
 static uint8_t row_status;
 static wkb_box box;
+static wkb_found found;
 static size_t size;
 
 static void nothing(void) {}
@@ -53,6 +54,7 @@ static void copy(void) {
   wkb_words(bytes, &POINT, 0, 1, words);
 }
 static void check_rows(void) { wkb_column_check(&column, &row_status), status = row_status; }
+static void find_rows(void) { wkb_column_found(&column, &found, &row_status), status = row_status; }
 static void bounds_of_rows(void) { wkb_column_bounds(&column, &box, &row_status), status = row_status; }
 static void parts_of_rows(void) {
   wkb_column_parts(&column, parts, ROOM, &row_end, &row_status), status = row_status;
@@ -90,6 +92,7 @@ static const tried TRIED[] = {{"wkb_check", check, OTHERS_MOST, false},
                               {"wkb_same", same, OTHERS_MOST, false},
                               {"wkb_parts", list, PARTS_MOST, false},
                               {"wkb_column_check", check_rows, OTHERS_MOST, false},
+                              {"wkb_column_found", find_rows, OTHERS_MOST, false},
                               {"wkb_column_bounds", bounds_of_rows, OTHERS_MOST, false},
                               {"wkb_column_parts", parts_of_rows, PARTS_MOST, false},
                               {"wkb_column_write", write_rows, OTHERS_MOST, false},

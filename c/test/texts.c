@@ -1,41 +1,73 @@
 /* The texts of statuses, kinds and faults, the classes of statuses, and the version. */
 #include "shared.h"
 
-enum { STATUS_COUNT = 17, KIND_COUNT = 8, STATUSES_MOST = 300 };
+/* What is to be said of a number: whether the call failed, the row or the input is at fault, or bytes are missing. */
+typedef enum class { FINE, FAILURE, OF_ROW, REFUSAL, EARLY_END } class;
 
-/* The texts of numbers without a name: each is that of its class. */
-static const char *const CLASSES[] = {"the call couldn't do what it was asked for", "something is wrong with the row",
-                                      "the input is refused", "the input ends too early"};
+static const struct {
+  wkb_status status;
+  class is;
+  const char *text;
+} NAMED[] = {
+    {WKB_STATUS_OK, FINE, "ok"},
+    {WKB_STATUS_NO_MEMORY, FAILURE, "out of memory"},
+    {WKB_STATUS_NO_ROOM, FAILURE, "the output buffer is too small"},
+    {WKB_STATUS_UNKNOWN_OPTION, FAILURE, "unknown byte order, form, kind or dimension"},
+    {WKB_STATUS_TOO_MANY_ROWS, FAILURE, "there are more rows than a count of four bytes holds"},
+    {WKB_STATUS_NULL_ROW, OF_ROW, "the row is null"},
+    {WKB_STATUS_BAD_OFFSETS, OF_ROW,
+     "the row's offsets are negative, decrease or pass the end of the data, or it begins before a row ends"},
+    {WKB_STATUS_BAD_LEVELS, OF_ROW, "the row's levels don't fit its kind or each other"},
+    {WKB_STATUS_SHORT_HEADER, EARLY_END, "the input ends inside a header or before a count"},
+    {WKB_STATUS_INVALID_BYTE_ORDER, REFUSAL, "a byte order is neither 0 nor 1"},
+    {WKB_STATUS_CODE_OUT_OF_RANGE, REFUSAL, "unknown geometry type code"},
+    {WKB_STATUS_INCORRECT_TYPE, REFUSAL, "a member has the wrong kind, dimension or SRID for its multi geometry"},
+    {WKB_STATUS_NESTING_DEPTH_EXCEEDED, REFUSAL, "a collection is inside 128 others"},
+    {WKB_STATUS_SHORT_POINT, EARLY_END, "the input ends inside a point"},
+    {WKB_STATUS_SHORT_LINE_STRING, EARLY_END, "the input ends inside a line string"},
+    {WKB_STATUS_SHORT_MULTI_POINT, EARLY_END, "the input ends inside a multi point"},
+    {WKB_STATUS_SHORT_LINEAR_RING, EARLY_END, "the input ends inside a ring"},
+};
+enum { NAMED_COUNT = sizeof NAMED / sizeof NAMED[0], STATUSES_MOST = 300 };
 
-static const char *class_of(uint32_t status) {
-  return CLASSES[status >= 48 ? 3 : status >= 32 ? 2 : status >= 16 ? 1 : 0];
+/* Numbers that later versions may name, from the first to the last one of each class. */
+static const struct {
+  wkb_status first, last;
+  class is;
+  const char *text;
+} UNNAMED[] = {
+    {5, 15, FAILURE, "the call failed"},
+    {19, 31, OF_ROW, "something is wrong with the row"},
+    {37, 47, REFUSAL, "the input is refused"},
+    {52, STATUSES_MOST, EARLY_END, "the input ends too early"},
+    {UINT32_MAX, UINT32_MAX, EARLY_END, "the input ends too early"},
+};
+enum { UNNAMED_COUNT = sizeof UNNAMED / sizeof UNNAMED[0] };
+
+static void status_is(wkb_status status, class is, const char *text) {
+  expect(strcmp(wkb_status_text(status), text) == 0, "the text of a status", text);
+  expect(!wkb_status_is_failure(status) == (is != FAILURE), "what a call couldn't do", text);
+  expect(!wkb_status_is_of_row(status) == (is != OF_ROW), "what is wrong with a row", text);
+  expect(!wkb_status_is_refusal(status) == (is != REFUSAL && is != EARLY_END), "a refusal", text);
+  expect(!wkb_status_is_early_end(status) == (is != EARLY_END), "an early end", text);
 }
 
-static bool is_known(uint32_t status) { return strcmp(wkb_status_text(status), class_of(status)) != 0; }
-
-/* Each status has a text of its own, and any other number that of its class. */
-static void statuses_have_texts(void) {
-  int known = 0;
-  expect(strcmp(wkb_status_text(WKB_STATUS_OK), "ok") == 0, "a text", "ok");
-  expect(!is_known(UINT32_MAX) && !is_known(255) && !is_known(47) && !is_known(31) && !is_known(15), "a class", "");
-  for (uint32_t i = 0; i < STATUSES_MOST; i++) {
-    const char *text = wkb_status_text(i);
-    expect(*text != 0 && strchr(text, '\n') == NULL, "a line", text);
-    if (is_known(i)) known++;
-    for (uint32_t k = 0; k < i && is_known(i); k++) expect(strcmp(text, wkb_status_text(k)) != 0, "a text", text);
+/* Each status has a text and a class, and any other number those of its class. */
+static void statuses_are_told(void) {
+  for (int i = 0; i < NAMED_COUNT; i++) status_is(NAMED[i].status, NAMED[i].is, NAMED[i].text);
+  for (int i = 0; i < UNNAMED_COUNT; i++) {
+    status_is(UNNAMED[i].last, UNNAMED[i].is, UNNAMED[i].text);
+    for (wkb_status k = UNNAMED[i].first; k < UNNAMED[i].last; k++) status_is(k, UNNAMED[i].is, UNNAMED[i].text);
   }
-  expect(known == STATUS_COUNT, "as many texts as statuses", "");
 }
 
-/* Each kind has a text of its own, in lower case, and other numbers have one text. */
-static void kinds_have_texts(void) {
-  expect(strcmp(wkb_kind_text(WKB_KIND_MULTI_LINE_STRING), "multilinestring") == 0, "a kind", "");
-  for (uint32_t i = 0; i <= KIND_COUNT; i++) {
-    for (const char *at = wkb_kind_text(i); *at != 0 && i < KIND_COUNT; at++)
-      expect(*at >= 'a' && *at <= 'z', "a letter of a kind", at);
-    for (uint32_t k = 0; k < i; k++) expect(strcmp(wkb_kind_text(i), wkb_kind_text(k)) != 0, "a kind's text", "");
-  }
-  expect(strcmp(wkb_kind_text(UINT32_MAX), wkb_kind_text(KIND_COUNT)) == 0, "no kind", "");
+/* Each kind has its name, and other numbers have one text. */
+static void kinds_have_names(void) {
+  static const char *const NAMES[] = {"ring",       "point",           "linestring",   "polygon",
+                                      "multipoint", "multilinestring", "multipolygon", "geometrycollection"};
+  for (uint32_t i = 0; i < 8; i++) expect(strcmp(wkb_kind_text(i), NAMES[i]) == 0, "the name of a kind", NAMES[i]);
+  expect(strcmp(wkb_kind_text(8), "unknown kind") == 0, "no kind", "8");
+  expect(strcmp(wkb_kind_text(UINT32_MAX), "unknown kind") == 0, "no kind", "the last number");
 }
 
 /* A fault, and its text. */
@@ -44,17 +76,42 @@ typedef struct told {
   const char *text;
 } told;
 
+#define UNREAD ", which this library does not read, at byte 0 (part 0)"
 static const told TOLD[] = {
     {{0, 0, 0, 0, 0, WKB_STATUS_SHORT_HEADER},
-     "the input ends inside a header or before a count, in part 0 at byte 0"},
+     "the input ends inside a header or before a count, at byte 0 (part 0)"},
     {{3, 40, 0, 0, 4294967295, WKB_STATUS_CODE_OUT_OF_RANGE},
-     "unknown geometry type code 4294967295, in part 3 at byte 40"},
+     "unknown geometry type code 4294967295, at byte 40 (part 3)"},
     {{10, 99, 100, 9, 0, WKB_STATUS_SHORT_LINEAR_RING},
-     "the input ends inside a ring, in part 10 at byte 99, which would end at 100 of 9"},
-    {{1, 2, 0, 0, 0, 47}, "the input is refused, in part 1 at byte 2"},
-    {{1, 2, 3, 4, 0, 255}, "the input ends too early, in part 1 at byte 2, which would end at 3 of 4"},
+     "the input ends inside a ring, at byte 99 (part 10): it needs 100 bytes and has 9"},
+    {{1, 2, 0, 0, 0, 47}, "the input is refused, at byte 2 (part 1)"},
+    {{1, 2, 3, 4, 0, 255}, "the input ends too early, at byte 2 (part 1): it needs 3 bytes and has 4"},
     {{1, 2, 3, 4, 5, WKB_STATUS_UNKNOWN_OPTION}, "unknown byte order, form, kind or dimension"},
     {{1, 2, 3, 4, 5, WKB_STATUS_OK}, "ok"},
+    {{0, 0, 0, 0, 0, WKB_STATUS_CODE_OUT_OF_RANGE}, "unknown geometry type code 0, at byte 0 (part 0)"},
+    {{0, 0, 0, 0, 8, WKB_STATUS_CODE_OUT_OF_RANGE}, "unknown geometry type code 8, a circular string" UNREAD},
+    {{0, 0, 0, 0, 9, WKB_STATUS_CODE_OUT_OF_RANGE}, "unknown geometry type code 9, a compound curve" UNREAD},
+    {{0, 0, 0, 0, 10, WKB_STATUS_CODE_OUT_OF_RANGE}, "unknown geometry type code 10, a curve polygon" UNREAD},
+    {{0, 0, 0, 0, 11, WKB_STATUS_CODE_OUT_OF_RANGE}, "unknown geometry type code 11, a multi curve" UNREAD},
+    {{0, 0, 0, 0, 12, WKB_STATUS_CODE_OUT_OF_RANGE}, "unknown geometry type code 12, a multi surface" UNREAD},
+    {{0, 0, 0, 0, 13, WKB_STATUS_CODE_OUT_OF_RANGE}, "unknown geometry type code 13, a curve" UNREAD},
+    {{0, 0, 0, 0, 14, WKB_STATUS_CODE_OUT_OF_RANGE}, "unknown geometry type code 14, a surface" UNREAD},
+    {{0, 0, 0, 0, 15, WKB_STATUS_CODE_OUT_OF_RANGE}, "unknown geometry type code 15, a polyhedral surface" UNREAD},
+    {{0, 0, 0, 0, 16, WKB_STATUS_CODE_OUT_OF_RANGE}, "unknown geometry type code 16, a TIN" UNREAD},
+    {{0, 0, 0, 0, 17, WKB_STATUS_CODE_OUT_OF_RANGE}, "unknown geometry type code 17, a triangle" UNREAD},
+    {{0, 0, 0, 0, 18, WKB_STATUS_CODE_OUT_OF_RANGE}, "unknown geometry type code 18, at byte 0 (part 0)"},
+    {{0, 0, 0, 0, 1000, WKB_STATUS_CODE_OUT_OF_RANGE}, "unknown geometry type code 1000, at byte 0 (part 0)"},
+    /* By ISO, with the flags of EWKB, and with both. */
+    {{0, 0, 0, 0, 1008, WKB_STATUS_CODE_OUT_OF_RANGE}, "unknown geometry type code 1008, a circular string" UNREAD},
+    {{0, 0, 0, 0, 3017, WKB_STATUS_CODE_OUT_OF_RANGE}, "unknown geometry type code 3017, a triangle" UNREAD},
+    {{0, 0, 0, 0, 4010, WKB_STATUS_CODE_OUT_OF_RANGE}, "unknown geometry type code 4010, at byte 0 (part 0)"},
+    {{0, 0, 0, 0, 536870922, WKB_STATUS_CODE_OUT_OF_RANGE},
+     "unknown geometry type code 536870922, a curve polygon" UNREAD},
+    {{0, 0, 0, 0, 3758096399, WKB_STATUS_CODE_OUT_OF_RANGE},
+     "unknown geometry type code 3758096399, a polyhedral surface" UNREAD},
+    {{0, 0, 0, 0, 2147486664, WKB_STATUS_CODE_OUT_OF_RANGE},
+     "unknown geometry type code 2147486664, a TIN" UNREAD},
+    {{0, 0, 0, 0, 268435464, WKB_STATUS_CODE_OUT_OF_RANGE}, "unknown geometry type code 268435464, at byte 0 (part 0)"},
 };
 enum { TOLD_COUNT = sizeof TOLD / sizeof TOLD[0] };
 
@@ -77,32 +134,57 @@ static void faults_have_texts(void) {
 /* The longest text of each status fits its room. */
 static void longest_texts_fit(void) {
   for (uint32_t i = 0; i < STATUSES_MOST; i++) {
-    const wkb_fault fault = {UINT64_MAX, UINT64_MAX, UINT64_MAX, UINT64_MAX, UINT32_MAX, i};
-    expect(wkb_fault_text(&fault, NULL, 0) < WKB_FAULT_TEXT_ROOM, "the longest text", wkb_status_text(i));
+    /* The longest number is one without a name, and the longest name is that of a polyhedral surface. */
+    const uint32_t CODES[] = {UINT32_MAX, 0xe0000000 | 3015};
+    for (int k = 0; k < 2; k++) {
+      const wkb_fault fault = {UINT64_MAX, UINT64_MAX, UINT64_MAX, UINT64_MAX, CODES[k], i};
+      expect(wkb_fault_text(&fault, NULL, 0) < WKB_FAULT_TEXT_ROOM, "the longest text", wkb_status_text(i));
+    }
   }
 }
 
-/* Each number from 1 on is in one class, and the refusals that end too early are refusals. */
-static void statuses_are_in_classes(void) {
-  expect(!wkb_status_is_failure(0) && !wkb_status_is_of_row(0) && !wkb_status_is_refusal(0), "a class", "ok");
-  for (uint32_t i = 1; i < STATUSES_MOST; i++) {
-    expect(!wkb_status_is_failure(i) == (i > 15), "what a call couldn't do", wkb_status_text(i));
-    expect(!wkb_status_is_of_row(i) == (i < 16 || i > 31), "what is wrong with a row", wkb_status_text(i));
-    expect(!wkb_status_is_refusal(i) == (i < 32), "a refusal", wkb_status_text(i));
-    expect(!wkb_status_is_early_end(i) == (i < 48), "an early end", wkb_status_text(i));
-  }
-  for (int i = 0; i < ANSWER_COUNT; i++) {
-    const answer *a = &ANSWERS[i];
-    expect(wkb_status_is_refusal(a->status) == (a->status != WKB_STATUS_OK), "a refusal", a->input);
-    expect(wkb_status_is_early_end(a->status) == (a->fault.end != 0), "an input that ends too early", a->input);
+/* Geometries of each kind in both byte orders, with each sort of header, and inside one another. */
+static const char *const WHOLE[] = {
+    "01 01000000 P",
+    "00 00000001 P",
+    "01 01000020 e6100000 P",
+    "00 a0000001 000010e6 P W",
+    "01 02000000 02000000 P P",
+    "00 60000bba 000010e6 00000001 P P",
+    "01 03000000 02000000 01000000 P 02000000 P P",
+    "00 00000003 00000002 00000000 00000001 P",
+    "01 04000000 02000000 01 01000000 P 00 00000001 P",
+    "00 00000004 00000001 01 01000000 P",
+    "01 05000000 02000000 00 00000002 00000000 01 02000000 01000000 P",
+    "00 20000005 000010e6 00000001 00 20000002 000010e6 00000001 P",
+    "01 06000000 01000000 00 00000003 00000001 00000001 P",
+    "00 00000006 00000002 01 03000000 00000000 01 03000000 01000000 01000000 P",
+    "01 07000000 00000000",
+    "01 07000000 02000000 00 00000007 00000001 01 05000000 01000000 01 02000000 01000000 P 01 e9030000 P W",
+    "00 00000007 00000002 00 00000006 00000001 00 00000003 00000001 00000001 P 01 04000000 01000000 00 00000001 P",
+};
+
+/* Each geometry that is cut anywhere ends too early, and from 48 on the fault says how much is missing. */
+static void cut_inputs_end_too_early(void) {
+  for (size_t i = 0; i < sizeof WHOLE / sizeof WHOLE[0]; i++) {
+    uint8_t bytes[256];
+    wkb_fault fault;
+    size_t size = spelled(WHOLE[i], bytes);
+    expect(wkb_check(bytes, size, NULL, NULL) == WKB_STATUS_OK, "a whole geometry", WHOLE[i]);
+    for (size_t len = 0; len < size; len++) {
+      wkb_status status = wkb_check(bytes, len, NULL, &fault);
+      expect(wkb_status_is_early_end(status) && wkb_status_is_refusal(status), "a cut geometry", WHOLE[i]);
+      expect(status < 48 ? fault.end + fault.len == 0 : fault.end > fault.len, "what is missing", WHOLE[i]);
+      expect(status < 48 || fault.offset + fault.len == len, "where the input ends", WHOLE[i]);
+    }
   }
 }
 
 void texts_are_right(void) {
-  statuses_have_texts();
-  kinds_have_texts();
+  statuses_are_told();
+  kinds_have_names();
   faults_have_texts();
   longest_texts_fit();
-  statuses_are_in_classes();
+  cut_inputs_end_too_early();
   expect(wkb_version() == 1000000 && WKB_VERSION == 1000000, "the version", "");
 }

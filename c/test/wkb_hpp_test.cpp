@@ -33,14 +33,14 @@ static void bounds_and_refusals() {
     expect(false, "a short point is refused");
   } catch (const wkb::refused &refusal) {
     expect(refusal.status() == WKB_STATUS_SHORT_POINT && refusal.fault().end == 25, "the fault of bounds");
-    expect(says(refusal, "the input ends inside a point, in part 0 at byte 0, which would end at 25 of 20"), "point");
+    expect(says(refusal, "the input ends inside a point, at byte 0 (part 0): it needs 25 bytes and has 20"), "point");
   }
   const auto short_ring = spelled("01030000000100000004000000" + ONE_AND_TWO);
   try {
     wkb::bounds(short_ring);
     expect(false, "a short ring is refused");
   } catch (const wkb::refused &refusal) {
-    expect(says(refusal, "the input ends inside a ring, in part 1 at byte 9, which would end at 68 of 20"), "ring");
+    expect(says(refusal, "the input ends inside a ring, at byte 9 (part 1): it needs 68 bytes and has 20"), "ring");
   }
 }
 
@@ -209,9 +209,9 @@ static void collects() {
   expect(whole.size() == 9 + 21 + POLYGONS.size() && std::equal(POLYGONS.begin(), POLYGONS.end(), whole.begin() + 30),
          "a collection");
   expect(wkb::collect(of(0), WKB_KIND_GEOMETRY_COLLECTION, WKB_DIM_XY, options).size() == 9, "an empty one");
-  const std::string wrong = "a member does not belong in its multi geometry, in part 0 at byte 0";
+  const std::string wrong = "a member has the wrong kind, dimension or SRID for its multi geometry, at byte 0 (part 0)";
   expect(refused(2, WKB_KIND_MULTI_POINT) == std::pair<std::size_t, std::string>(1, wrong), "another kind");
-  const std::string ends = "the input ends inside a header or before a count, in part 0 at byte 0";
+  const std::string ends = "the input ends inside a header or before a count, at byte 0 (part 0)";
   expect(refused(3, WKB_KIND_GEOMETRY_COLLECTION) == std::pair<std::size_t, std::string>(2, ends), "an empty row");
   try {
     wkb::collect(of(3), WKB_KIND_POINT, WKB_DIM_XY, options);

@@ -33,6 +33,24 @@ static void words_agree(const uint8_t *buf, const wkb_part *part) {
   }
 }
 
+/* (1, 2, 3) and (4, 3, 2) behind a header and a count, in either byte order. */
+static void worked_words_are_found(void) {
+  static const char *const LINES[2] = {
+      "00 000003ea 00000002 3ff0000000000000 4000000000000000 4008000000000000"
+      " 4010000000000000 4008000000000000 4000000000000000",
+      "01 ea030000 02000000 WXY ZYX"};
+  for (uint32_t order = 0; order < 2; order++) {
+    uint8_t bytes[57];
+    const wkb_part line = {0, 57, 9, 2, 1, 0, 0, WKB_KIND_LINE_STRING, WKB_DIM_XYZ, 3, order};
+    double last[3];
+    expect(spelled(LINES[order], bytes) == sizeof bytes, "a worked line", LINES[order]);
+    expect(wkb_word(bytes, &line, 0, 0) == 1 && wkb_word(bytes, &line, 0, 2) == 3, "a worked word", LINES[order]);
+    expect(wkb_word(bytes, &line, 1, 0) == 4 && wkb_word(bytes, &line, 1, 2) == 2, "a worked word", LINES[order]);
+    wkb_words(bytes, &line, 1, 1, last);
+    expect(last[0] == 4 && last[1] == 3 && last[2] == 2, "the last words", LINES[order]);
+  }
+}
+
 /* Line strings of up to eight coordinates in each dimension and order, at each distance from an aligned address. */
 void words_are_right(void) {
   static uint8_t bytes[8 + 9 + 8 * 4 * 8];
@@ -47,6 +65,7 @@ void words_are_right(void) {
   wkb_words(worked, &part, 0, 1, xyz);
   expect(xyz[0] == 1 && xyz[1] == 2 && xyz[2] == 3, "worked words", "little endian");
   expect(wkb_little_word(worked) == 0x3ff0000000000000 && wkb_big_word(worked) == 0xf03f, "the number in a word", "");
+  worked_words_are_found();
   wkb_words(NULL, &part, 0, 0, NULL);
   for (size_t i = 0; i < sizeof bytes; i++) bytes[i] = (uint8_t)(i * 37 + 11);
   for (uint64_t shift = 0; shift < 8; shift++)

@@ -24,7 +24,7 @@ use Rattle.wkb_rewrite.specs.Targets.{encoding_for}
 use Rattle.wkb_c.specs.Collections.{AreRowMembers, HaveMembers, IsCollected, part_of}
 use Rattle.wkb_c.specs.Collections.{front_of, inside_of, collect_asked, collect_with, WritesCollected, CollectedExceeds}
 use Rattle.wkb_c.specs.Collections.{PutsCollected, WholeExceeds, IsFirstUnfit, IsFirstUnfitFor}
-use Rattle.wkb_c.specs.Coordinates.{dimension_named}
+use Rattle.wkb_geom.specs.Codes.{dimension_of_thousands}
 use Rattle.wkb_c.specs.Requests.{request_of, options_for}
 use Rattle.wkb_c.specs.declared.collect.CollectTarget.{CollectTarget}
 use Rattle.wkb_c.specs.declared.column.Column.{Column}
@@ -127,7 +127,7 @@ pub record IsAsked (k n : ℕ) (o : Options) (target : CollectTarget) : Type 0 w
   pub low : 4 ≤ k
   pub high : k ≤ 7
   pub kind_is : target.kind ≡ k
-  pub named : dimension_named n ≡ Some target.dimension
+  pub named : dimension_of_thousands n ≡ Some target.dimension
   pub request : Request
   pub asked : request_of o ≡ Some request
   pub options_are : target.options ≡ options_for request None
@@ -136,7 +136,7 @@ one_target : {a b : CollectTarget} → ◌≡◌ {A = Option CollectTarget} (Som
 one_target e = cc
 
 asked_with : (k n : ℕ) (o : Options) (target : CollectTarget) → 4 ≤ k → k ≤ 7
-    → (d : Option Dimension) (r : Option Request) → dimension_named n ≡ d → request_of o ≡ r
+    → (d : Option Dimension) (r : Option Request) → dimension_of_thousands n ≡ d → request_of o ≡ r
     → collect_with k d r ≡ Some target → IsAsked k n o target
 asked_with k n o target low high (Some d) (Some request) named asked e =
     let same = one_target e in
@@ -160,11 +160,11 @@ neither true b e = absurd cc
 pub is_asked : (k n : ℕ) (o : Options) (target : CollectTarget) → collect_asked k n o ≡ Some target
     → IsAsked k n o target
 is_asked k n o target e =
-    cond_both (nat_lt k 4 || nat_lt 7 k) None (collect_with k (dimension_named n) (request_of o))
+    cond_both (nat_lt k 4 || nat_lt 7 k) None (collect_with k (dimension_of_thousands n) (request_of o))
     (λ z. z ≡ Some target → IsAsked k n o target) (λ t e. absurd cc)
     (λ f e.
     let both = neither (nat_lt k 4) (nat_lt 7 k) f in
-    asked_with k n o target (ltb-false _ _ both.0) (ltb-false _ _ both.1) (dimension_named n) (request_of o) refl refl
+    asked_with k n o target (ltb-false _ _ both.0) (ltb-false _ _ both.1) (dimension_of_thousands n) (request_of o) refl refl
     e)
     e
 

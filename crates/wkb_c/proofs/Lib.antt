@@ -2,8 +2,8 @@ mod Common
 mod Telling
 mod Words
 mod Rows
+mod FoundRows
 mod Spans
-mod Boxes
 mod RowItems
 mod Called
 mod Encodings

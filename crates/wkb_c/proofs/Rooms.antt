@@ -4,13 +4,14 @@ use Rattle.wkb_c.proofs.Common.{Dimension, width}
 use Rattle.std.specs.Prelude.{flat_map}
 use Rattle.std.proofs.Common.{set}
 use lib.Seq.{length-sets}
+use Rattle.wkb_geom.specs.Codes.{dimension_of_thousands}
 use Rattle.wkb_geom.specs.declared.common.Dimension.TheVariants.{Xy}
 use Rattle.wkb_check.specs.Public.{DescribesFront}
 use Rattle.wkb_check.specs.declared.answer.Summary.{Summary}
 use Rattle.wkb_c.specs.Columns.{IsRow}
 use Rattle.wkb_c.specs.declared.column.Column.{Column}
 use Rattle.wkb_c.specs.Coordinates.{LevelLists, HasRoomUpTo, LevelsSuffice, written, no_room, LacksCoordinates}
-use Rattle.wkb_c.specs.Coordinates.{IsCoordinatesRow, HasCoordinates, handed, failed, dimension_named}
+use Rattle.wkb_c.specs.Coordinates.{IsCoordinatesRow, HasCoordinates, handed, failed}
 use Rattle.wkb_c.specs.Coordinates.{totals_after, with_levels, ring_counts, single_counts, ends, asked_subject_words}
 use Rattle.wkb_c.specs.declared.coordinates.Totals.{Totals}
 use Rattle.wkb_c.specs.declared.status.TheConstants.{NO_ROOM}
@@ -21,7 +22,7 @@ use Rattle.wkb_c.proofs.Rows.{statuses_more}
 
 -- what was checked has coordinates
 pub has_coordinates : {c : Column} {dimension i : ℕ} {asked : Dimension} (row : List ℕ) → IsRow c i row
-    → dimension_named dimension ≡ Some asked → (found : Summary) → (d : DescribesFront row found)
+    → dimension_of_thousands dimension ≡ Some asked → (found : Summary) → (d : DescribesFront row found)
     → HasCoordinates c dimension i asked (subjects d.spelled d.value)
 has_coordinates row is asked_is found d = record {
   row = row;
@@ -88,7 +89,7 @@ put_long asked xs from out = record {
   single_ends = length-sets out.single_ends from.singles (ends from.rings (flat_map single_counts xs));
 }
 
-one_dimension : (n : ℕ) (a b : Dimension) → dimension_named n ≡ Some a → dimension_named n ≡ Some b → a ≡ b
+one_dimension : (n : ℕ) (a b : Dimension) → dimension_of_thousands n ≡ Some a → dimension_of_thousands n ≡ Some b → a ≡ b
 one_dimension n a b f g = let same : Some a ≡ Some b = sym f ∙ g in cc
 
 -- what a row more says of totals, lengths and room
@@ -96,12 +97,12 @@ pub record RowSays (dimension status : ℕ) (from to : Totals) (before after : L
   pub far : Reaches from to
   pub small : AreSmall to
   pub long : AreAsLong after before
-  pub lacks : (asked : Dimension) → dimension_named dimension ≡ Some asked → HasRoomUpTo asked before to
+  pub lacks : (asked : Dimension) → dimension_of_thousands dimension ≡ Some asked → HasRoomUpTo asked before to
       → status ≡ NO_ROOM → ⊥
 
 says : {dimension status : ℕ} {from to : Totals} {before after : LevelLists} (xs : List Subject) (now : LevelLists)
     → to ≡ totals_after from xs → after ≡ now → AreSmall from → AreAsLong now before
-    → ((asked : Dimension) → dimension_named dimension ≡ Some asked → HasRoomUpTo asked before to → status ≡ NO_ROOM
+    → ((asked : Dimension) → dimension_of_thousands dimension ≡ Some asked → HasRoomUpTo asked before to → status ≡ NO_ROOM
     → ⊥)
     → RowSays dimension status from to before after
 says {from = from} {before = before} xs now to_is after_is small long lacks = record {

@@ -1,5 +1,6 @@
--- The statuses of a column's rows.
-use Rattle.wkb_c.proofs.Common.{ℕ, zero, suc, ◌+◌, ◌<◌, List, length, slice_index, sym, subst, arith}
+-- The statuses of a column's rows, and their items where each row has one.
+use Rattle.wkb_c.proofs.Common.{◌≡◌, ℕ, zero, suc, ◌+◌, ◌<◌, List, length, slice_index, sym, subst, arith}
+use Rattle.std.specs.Prelude.{slice_index_or}
 use Rattle.std.proofs.Common.{set}
 use lib.Seq.{get_or-set_same, get_or-set_other}
 
@@ -20,3 +21,17 @@ statuses_more Q statuses i s there above own =
     (λ j below. subst (Q j) (sym (get_or-set_other statuses i j s 0 (λ same. omega (arith, same, below))))
     (above j below))
     (subst (Q i) (sym (get_or-set_same statuses i s 0 there)) own)
+
+-- the same of statuses and items
+pub items_more : {A : Type 0} (Q : ℕ → ℕ → A → Type 0) (none : A) (statuses : List ℕ) (items : List A) (i s : ℕ) (a : A)
+    → i < length statuses → i < length items
+    → ((j : ℕ) → j < i → Q j (slice_index statuses j) (slice_index_or items j none)) → Q i s a
+    → (j : ℕ) → j < i + 1 → Q j (slice_index (set statuses i s) j) (slice_index_or (set items i a) j none)
+items_more Q none statuses items i s a there room above own =
+    below_more (λ j. Q j (slice_index (set statuses i s) j) (slice_index_or (set items i a) j none)) i
+    (λ j below.
+    let other : j ≡ i → ⊥ = λ same. omega (arith, same, below) in
+    subst (λ T. T) (λ k. Q j (sym (get_or-set_other statuses i j s 0 other) k)
+    (sym (get_or-set_other items i j a none other) k)) (above j below))
+    (subst (λ T. T) (λ k. Q i (sym (get_or-set_same statuses i s 0 there) k)
+    (sym (get_or-set_same items i a none room) k)) own)

@@ -1,14 +1,13 @@
 -- What the C library reports of a result of the check.
-use Rattle.wkb_c.proofs.Common.{◌≡◌, ◌≢◌, ℕ, List, refl, arith, sym, subst, is_some, kind, dimension, Value}
-use Rattle.wkb_c.proofs.Common.{header, Spelling, Spells}
+use Rattle.wkb_c.proofs.Common.{◌≡◌, ◌≢◌, ℕ, List, refl, arith, sym, ap, subst, kind, dimension, Value}
+use Rattle.wkb_c.proofs.Common.{header, Spelling, node, Spells}
 use Rattle.wkb_geom.specs.Fronts.{Front}
 use Rattle.wkb_geom.specs.Grammar.{Begins}
 use Rattle.wkb_geom.specs.declared.error.Cause.TheVariants.{General as general}
 use Rattle.wkb_geom.specs.declared.error.General.{General as Bad}
 use Rattle.wkb_geom.specs.declared.error.General.TheVariants.{InvalidByteOrder, CodeOutOfRange, UnsupportedDimensions}
-use Rattle.wkb_laws.proofs.Complete.{head_of}
-use Rattle.wkb_check.proofs.Ahead.{Says, says}
-use Rattle.wkb_check.proofs.Public.{geometry_opens}
+use Rattle.wkb_check.specs.Pieces.{leading, count_of, piece_of}
+use Rattle.wkb_check.specs.declared.pieces.Piece.{Piece}
 use Rattle.wkb_check.specs.Bounded.{HasGeometry}
 use Rattle.wkb_check.specs.Public.{DescribesFront, IsRefusedFor}
 use Rattle.wkb_check.specs.declared.answer.Refused.{Refused}
@@ -67,13 +66,24 @@ abbrev pub begins : (buf : List ℕ) (s : Spelling) (t : Value) (rest : List ℕ
     → Begins (Spells s t) buf rest
 begins buf s t rest f = record { front = f.front; whole = f.whole; first = f.spelled }
 
--- what is read of a geometry that is described, up to its count
-pub count_said : (buf : List ℕ) (f : Summary) → (d : DescribesFront buf f)
-    → Says buf d.spelled d.value
-    (head_of (header d.spelled).order (kind d.value) (dimension d.value) (is_some (header d.spelled).srid))
-count_said buf f d =
-    let here = begins buf d.spelled d.value d.rest d.front in
-    says buf d.spelled d.value d.rest here _ (geometry_opens buf d.spelled d.value d.rest here).head
+-- what the first piece of a geometry says of it
+pub record FirstPiece (s : Spelling) (t : Value) (p : Piece) : Type 0 where
+  pub offset_is : p.offset ≡ leading (header s) t
+  pub count_is : p.count ≡ count_of t
+  pub kind_is : p.kind ≡ kind t
+  pub dimension_is : p.dimension ≡ dimension t
+  pub order_is : p.order ≡ (header s).order
+  pub srid_is : p.srid ≡ (header s).srid
+
+pub first_piece : (s : Spelling) (t : Value) {p : Piece} → p ≡ piece_of 0 s t → FirstPiece s t p
+first_piece (node h words ss) t is = record {
+  offset_is = omega (arith, ap (λ p. p.offset) is);
+  count_is = ap (λ p. p.count) is;
+  kind_is = ap (λ p. p.kind) is;
+  dimension_is = ap (λ p. p.dimension) is;
+  order_is = ap (λ p. p.order) is;
+  srid_is = ap (λ p. p.srid) is;
+}
 
 -- the geometry that is accepted
 abbrev pub accepted_there : (buf : List ℕ) → IsAccepted buf → HasGeometry buf

@@ -43,10 +43,6 @@ pub record TellsFound (input : List ℕ) (before after : Found) (fault fault' : 
   pub found_kept : status ≢ OK → after ≡ before
   pub fault_kept : status ≡ OK → fault' ≡ fault
 
--- where the coordinates, rings or members begin of the geometry that the check found
-abbrev pub content_start : {input : List ℕ} {f : Summary} → DescribesFront input f → ℕ
-content_start d = leading (header d.spelled) d.value
-
 -- the entry of a geometry that is its only part
 abbrev pub whole_entry : Found → Part
 whole_entry f = record {

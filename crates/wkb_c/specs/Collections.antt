@@ -17,7 +17,7 @@ use Rattle.wkb_sink.specs.Options.{inner_options, counted_header}
 use Rattle.wkb_sink.specs.declared.options.WriteOptions.{WriteOptions}
 use Rattle.wkb_c.specs.Classes.{IsRowStatus}
 use Rattle.wkb_c.specs.Columns.{IsRow, LacksRow}
-use Rattle.wkb_c.specs.Coordinates.{dimension_named}
+use Rattle.wkb_geom.specs.Codes.{dimension_of_thousands}
 use Rattle.wkb_c.specs.Requests.{request_of, options_for}
 use Rattle.wkb_c.specs.Room.{IsHeld, Exceeds}
 use Rattle.wkb_c.specs.Statuses.{IsFaultWithin, IsStatusOfWriting, plain_fault}
@@ -39,7 +39,7 @@ collect_with kind None request = None
 abbrev pub collect_asked : ℕ → ℕ → Options → Option CollectTarget
 collect_asked kind dimension o =
     if nat_lt kind MULTI_POINT || nat_lt GEOMETRY_COLLECTION kind then None
-    else collect_with kind (dimension_named dimension) (request_of o)
+    else collect_with kind (dimension_of_thousands dimension) (request_of o)
 
 -- the numbers mean something, and ask for more members than a count holds
 abbrev pub AsksForTooMany : ℕ → ℕ → Options → ℕ → Type 0
@@ -78,7 +78,7 @@ pub record HaveMembers (c : Column) (w : Wanted) (rows : ℕ) : Type 0 where
 pub record IsCollected (c : Column) (rows k d : ℕ) (o : Options) (encoding : List ℕ) : Type 0 where
   pub value : Value
   pub kind_is : kind value ≡ k
-  pub dimension_is : dimension_named d ≡ Some (dimension value)
+  pub dimension_is : dimension_of_thousands d ≡ Some (dimension value)
   pub many : count (members value) ≡ rows
   pub are : AreRowMembers c (member_part k (dimension value)) 0 (members value)
   pub shallow : nest value ≤ max_nesting
@@ -126,7 +126,7 @@ pub record IsFirstUnfit (c : Column) (w : Wanted) (rows i status : ℕ) (fault :
 -- row i is the first that begins with no member of a geometry of this kind and this dimension
 pub record IsFirstUnfitFor (k d : ℕ) (c : Column) (rows i status : ℕ) (fault : WkbFault) : Type 0 where
   pub named : Dimension
-  pub named_is : dimension_named d ≡ Some named
+  pub named_is : dimension_of_thousands d ≡ Some named
   pub first : IsFirstUnfit c (member_part k named) rows i status fault
 
 -- what a call returns that collects rows

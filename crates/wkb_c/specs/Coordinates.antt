@@ -3,6 +3,7 @@
 use Rattle.std.specs.Prelude.{◌≡◌, ℕ, zero, suc, ◌+◌, ◌*◌, ◌≤◌, List, [], ◌∷◌, length, sum, flat_map}
 use Rattle.std.specs.Prelude.{Option, Some, None, ◌==◌, if◌then◌else◌, slice_index}
 use lib.Seq.{sets}
+use Rattle.wkb_geom.specs.Codes.{dimension_of_thousands}
 use Rattle.wkb_geom.specs.declared.common.Dimension.{Dimension}
 use Rattle.wkb_geom.specs.declared.common.Dimension.TheVariants.{Xy, Xyz, Xym, Xyzm}
 use Rattle.wkb_geom.specs.Dimensions.{width}
@@ -16,12 +17,6 @@ use Rattle.wkb_c.specs.RowItems.{end_of, NoneLacksRoom}
 use Rattle.wkb_check.specs.Subjects.{Subject, whole, ring, dimension_in, subject_coordinates, subjects}
 use Rattle.wkb_c.specs.declared.coordinates.Totals.{Totals}
 use Rattle.wkb_c.specs.declared.status.TheConstants.{OK, NO_ROOM, UNKNOWN_OPTION}
-
--- the dimension of this number
-abbrev pub dimension_named : ℕ → Option Dimension
-dimension_named n =
-    if n == 0 then Some Xy else (if n == 1 then Some Xyz else (if n == 2 then Some Xym else
-    (if n == 3 then Some Xyzm else None)))
 
 -- the z of a coordinate of this dimension
 abbrev pub z_of : Dimension → Coordinate → ℕ
@@ -121,16 +116,16 @@ pub data ArePut (asked : Dimension) (xs : List Subject) (status : ℕ) (from to 
 -- row i has no coordinates, and this status says why
 pub data LacksCoordinates (c : Column) (dimension i status : ℕ) : Type 0 where
   no_row : LacksRow c i status → LacksCoordinates c dimension i status
-  unknown : (row : List ℕ) → IsRow c i row → dimension_named dimension ≡ None → status ≡ UNKNOWN_OPTION
+  unknown : (row : List ℕ) → IsRow c i row → dimension_of_thousands dimension ≡ None → status ≡ UNKNOWN_OPTION
       → LacksCoordinates c dimension i status
-  refused : (row : List ℕ) (asked : Dimension) → IsRow c i row → dimension_named dimension ≡ Some asked
+  refused : (row : List ℕ) (asked : Dimension) → IsRow c i row → dimension_of_thousands dimension ≡ Some asked
       → IsRefusedWith row status → LacksCoordinates c dimension i status
 
 -- row i begins with a geometry of these subjects, and the dimension is this one
 pub record HasCoordinates (c : Column) (dimension i : ℕ) (asked : Dimension) (xs : List Subject) : Type 0 where
   pub row : List ℕ
   pub is_row : IsRow c i row
-  pub asked_is : dimension_named dimension ≡ Some asked
+  pub asked_is : dimension_of_thousands dimension ≡ Some asked
   pub s : Spelling
   pub t : Value
   pub rest : List ℕ
@@ -157,5 +152,5 @@ AreColumnCoordinates c dimension statuses row_ends out (suc i) at now =
 -- with room up to here in the dimension of this number none of the rows below a number lacks room
 abbrev pub LevelsSuffice : ℕ → LevelLists → Totals → ℕ → List ℕ → Type 0
 LevelsSuffice dimension out to rows statuses =
-    (asked : Dimension) → dimension_named dimension ≡ Some asked
+    (asked : Dimension) → dimension_of_thousands dimension ≡ Some asked
     → NoneLacksRoom (HasRoomUpTo asked out to) rows statuses

@@ -1,7 +1,7 @@
 -- The numbers of the enums of wkb.h, which programs are compiled with.
 use Rattle.std.specs.Prelude.{◌≡◌, ℕ, List, Option, Some}
 use Rattle.wkb_check.specs.declared.pieces.TheConstants.{RING}
-use Rattle.wkb_geom.specs.Codes.{thousands}
+use Rattle.wkb_geom.specs.Codes.{thousands, dimension_of_thousands}
 use Rattle.wkb_geom.specs.Numbers.{order_byte}
 use Rattle.wkb_geom.specs.Values.{Coordinate, Values, kind, point, line_string, polygon, multi_point, multi_line_string}
 use Rattle.wkb_geom.specs.Values.{multi_polygon, collection}
@@ -10,7 +10,6 @@ use Rattle.wkb_geom.specs.declared.common.Dimension.TheVariants.{Xy, Xyz, Xym, X
 use Rattle.wkb_geom.specs.declared.common.Endianness.TheVariants.{BigEndian, LittleEndian}
 use Rattle.wkb_geom.specs.declared.error.Cause.{Cause}
 use Rattle.wkb_c.specs.Classes.{IsRefusalStatus, IsShortStatus}
-use Rattle.wkb_c.specs.Coordinates.{dimension_named}
 use Rattle.wkb_c.specs.Statuses.{cause_status, cause_fault}
 use Rattle.wkb_c.specs.declared.inputs.TheConstants.{FIRST, SECOND, DIFFERENT, EQUAL}
 use Rattle.wkb_c.specs.declared.options.TheConstants.{BIG_ENDIAN, LITTLE_ENDIAN, ISO, EWKB_OWN_SRID, EWKB_WITH_SRID}
@@ -67,7 +66,7 @@ pub record HaveDimensionNumbers : Type 0 where
   pub xyz : thousands Xyz ≡ 1
   pub xym : thousands Xym ≡ 2
   pub xyzm : thousands Xyzm ≡ 3
-  pub named : (d : Dimension) → dimension_named (thousands d) ≡ Some d
+  pub named : (d : Dimension) → dimension_of_thousands (thousands d) ≡ Some d
 
 -- their byte orders
 pub record HaveOrderNumbers : Type 0 where

@@ -77,7 +77,7 @@ TotalsLayout = IsLaidOut totals
     (λ t. t.coordinates ▸ t.rings ▸ t.singles ▸ tt)
     24 8 (0 ∷ 8 ∷ 16 ∷ [])
 
--- a slice in a struct: a pointer, and then a length
+-- a slice in a struct: a pointer and a length, at these offsets; which of them is the first is the compiler's rule
 pub record SliceLayout : Type 0 where
   pub bytes : (a : NamedLft) → HasLayout (ShrSlice a.mir a.lft u8) 16 8 (0 ∷ 8 ∷ [])
   pub words : (a : NamedLft) → HasLayout (ShrSlice a.mir a.lft u64) 16 8 (0 ∷ 8 ∷ [])

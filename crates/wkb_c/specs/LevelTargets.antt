@@ -14,7 +14,7 @@ use Rattle.wkb_c.specs.declared.from_coordinates.LevelColumn.{LevelColumn}
 use Rattle.wkb_c.specs.declared.from_coordinates.LevelTarget.{LevelTarget}
 use Rattle.wkb_c.specs.declared.options.Options.{Options}
 use Rattle.wkb_c.specs.declared.options.Request.{Request}
-use Rattle.wkb_c.specs.Coordinates.{dimension_named}
+use Rattle.wkb_geom.specs.Codes.{dimension_of_thousands}
 use Rattle.wkb_c.specs.Requests.{request_of, options_for}
 
 -- the levels of a column; a level without ends has one item of the next level each
@@ -45,7 +45,7 @@ target_with None d request = None
 
 -- what the numbers ask for, where each means something
 abbrev pub target_asked : ℕ → ℕ → Options → Option LevelTarget
-target_asked kind dimension o = target_with (kind_named kind) (dimension_named dimension) (request_of o)
+target_asked kind dimension o = target_with (kind_named kind) (dimension_of_thousands dimension) (request_of o)
 
 -- where something is asked for, the rows before row i reach this far
 abbrev pub Ready : LevelColumn → Option LevelTarget → ℕ → Place → Type 0

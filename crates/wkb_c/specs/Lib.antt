@@ -5,6 +5,7 @@ pub mod Collections
 pub mod Columns
 pub mod Coordinates
 pub mod EnumNumbers
+pub mod FoundRows
 pub mod Layouts
 pub mod LevelLists
 pub mod LevelRows

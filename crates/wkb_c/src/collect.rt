@@ -7,7 +7,7 @@ ghost use Rattle.wkb_rewrite.specs.Shares.{IsPut};
 ghost use Rattle.wkb_rewrite.specs.Targets.{encoding_for};
 ghost use Rattle.wkb_sink.specs.Blocks.{LaysAt};
 ghost use Rattle.wkb_c.specs.Classes.{IsRefusalStatus, IsNoRefusal, TellsOfRow};
-ghost use Rattle.wkb_c.specs.Collections.{collect_asked, AsksForTooMany, part_of, TakesMember, inner_of, front_of};
+ghost use Rattle.wkb_c.specs.Collections.{collect_asked, AsksForTooMany, part_of, TakesMember, front_of};
 ghost use Rattle.wkb_c.specs.Collections.{MembersFit, PutsMembers};
 ghost use Rattle.wkb_c.specs.Collections.{HaveMembers, IsUnwanted, IsUnfit, IsFirstUnfit, IsFirstUnfitFor};
 ghost use Rattle.wkb_c.specs.Collections.{IsMeasuredFound, RowIsMeasured, AreMeasured, PutsCollected, WholeExceeds};
@@ -15,8 +15,7 @@ ghost use Rattle.wkb_c.specs.Collections.{WritesCollected, CollectedExceeds, IsS
 ghost use Rattle.wkb_c.specs.Columns.{Reach};
 ghost use Rattle.wkb_c.specs.Statuses.{IsFaultWithin};
 
-use crate::column::{Column, check_row};
-use crate::coordinates::dimension_of_number;
+use crate::column::{Column, found_in};
 use crate::encoding::{options_for, write_requested};
 use crate::fault::{NO_FAULT, WkbFault, report_refusal};
 use crate::options::{Options, Request, request_of};
@@ -47,7 +46,7 @@ fn collect_target_of(kind: u32, dimension: u32, options: &Options) -> Option<Col
     if kind < MULTI_POINT || GEOMETRY_COLLECTION < kind {
         return None;
     }
-    let dimension = dimension_of_number(dimension)?;
+    let dimension = Dimension::of_thousands(dimension)?;
     let request = request_of(options)?;
     Some(CollectTarget {
         kind,
@@ -66,16 +65,6 @@ impl CollectTarget {
         // No kind has a greater number than a collection, which takes any member.
         self.kind >= GEOMETRY_COLLECTION
             || (member.kind() + 3 == self.kind && member.dimension() == self.dimension)
-    }
-
-    /// The options of its members.
-    fn inner(&self) -> WriteOptions
-        ensures { result ≡ inner_of self.now }
-    {
-        WriteOptions {
-            endianness: self.options.endianness,
-            form: self.options.form.inner(),
-        }
     }
 
     /// Lays its header and the number of its members, and returns where they end.
@@ -124,7 +113,7 @@ fn measure_found(
         };
         return Err(INCORRECT_TYPE);
     }
-    let request = Request::Encoding(target.inner());
+    let request = Request::Encoding(target.options.inner());
     let mut size = 0;
     // Without room only its length is reported.
     let _status = write_requested(row, found, request, &mut [], &mut size);
@@ -161,7 +150,7 @@ fn measure_row(
     }
 }
 
-/// The length of a slice fits a word.
+/// The length of a slice fits a word. This stands for the proof alone, which sees the bound only as a clause.
 #[inline(always)]
 fn fits_word(bytes: &[u8])
     ensures { length bytes.now < 2 ^ 64 }
@@ -210,19 +199,14 @@ fn put_row_member(row: &[u8], options: WriteOptions, out: &mut [u8], at: usize) 
     ensures { (a : IsAccepted row.now)
         → IsPut out.old out.new at result (encoding_for options a.t) }
 {
+    let found = match found_in(row) {
+        Ok(found) => found,
+        Err(_status) => unreachable!(),
+    };
     let request = Request::Encoding(options);
     let mut size = 0;
-    if let Some(plain) = check_plain(row) {
-        let _status = write_requested(row, &plain, request, &mut out[at..], &mut size);
-        return at + size as usize;
-    }
-    match check_row(row) {
-        Ok(found) => {
-            let _status = write_requested(row, &found, request, &mut out[at..], &mut size);
-            at + size as usize
-        }
-        Err(_status) => unreachable!(),
-    }
+    let _status = write_requested(row, &found, request, &mut out[at..], &mut size);
+    at + size as usize
 }
 
 /// Puts the encodings of the members that the rows begin with from an index on.
@@ -238,7 +222,7 @@ fn put_row_members(
     requires room { MembersFit column.now target.now rows start out.old }
     ensures { PutsMembers column.now target.now rows start out.old out.new }
 {
-    let options = target.inner();
+    let options = target.options.inner();
     let mut reach = 0;
     let mut at = start;
     for i in 0..rows {
@@ -283,9 +267,10 @@ fn write_collected(
 /// Writes the encoding, under the options, of the geometry of this kind and dimension that has the geometries at the
 /// front of the first rows of a column as its members, in order, and its length.
 ///
-/// The rows are those of `wkb_raw_column_check`. A member keeps neither its byte order nor its SRID, and own SRIDs are
-/// none. `NO_ROOM` writes the length too, but no encoding. The numbers are looked at before the rows, and of these the
-/// first that begins with no member refuses the whole: `row` is its index, and its fault is counted from its own front.
+/// The rows are those of `wkb_raw_column_check`. Members keep neither their byte order nor their SRID, and
+/// `EWKB_OWN_SRID` writes none. `NO_ROOM` writes the length too, but no encoding. Kind, dimension and options are
+/// checked first; then the first row that is no valid member refuses the whole call: `row` is its index, and its fault
+/// is counted from its own front.
 #[unsafe(no_mangle)]
 pub extern "C" fn wkb_raw_collect(
     column: &Column<'_>,

@@ -31,8 +31,8 @@ pub struct Column<'a> {
 }
 
 impl<'a> Column<'a> {
-    /// The bytes of row i, or the status of a row without bytes. `reach` is how far the rows before it reach, and then
-    /// how far it reaches too.
+    /// The bytes of row i, or the status of a row without bytes. On entry `reach` is the end of the rows before it; on
+    /// return it includes row i.
     #[inline(always)]
     pub fn row(&self, i: usize, reach: &mut u64) -> Result<&'a [u8], u32>
         requires small { i < 2 ^ 63 }
@@ -70,6 +70,10 @@ pub fn rows_follow()
 pub fn is_unset(bitmap: &[u8], first: usize, i: usize) -> bool
     ensures { result ≡ is_unset_bit bitmap.now (first + i) }
 {
+    // Most columns have no bitmap.
+    if bitmap.is_empty() {
+        return false;
+    }
     // The sum itself may not fit.
     let low = first % 8 + i % 8;
     match bitmap.get(first / 8 + i / 8 + low / 8) {
@@ -153,16 +157,27 @@ pub fn check_row(row: &[u8]) -> Result<Summary, u32>
     }
 }
 
-/// The status of some bytes. The short way comes first: most rows hold no collection, and it counts in registers.
+/// What is at the front of a row, or the status of its refusal. The short way comes first: most rows hold no
+/// collection, and it counts in registers.
+#[inline(always)]
+pub fn found_in(row: &[u8]) -> Result<Summary, u32>
+    ensures accepted { IfOk result (λ found. DescribesFront row.now found) }
+    ensures refused { IfErr result (λ status. IsRefusedWith row.now status) }
+    ensures known { IfErr result FitsByte }
+{
+    match check_plain(row) {
+        Some(plain) => Ok(plain),
+        None => check_row(row),
+    }
+}
+
+/// The status of some bytes.
 #[tactic(auto, using(crate::proofs::Telling::found_is_accepted))]
 fn status_of_bytes(row: &[u8]) -> u32
     ensures status { IsStatusOf row.now result }
     ensures known { FitsByte result }
 {
-    if let Some(_plain) = check_plain(row) {
-        return OK;
-    }
-    match check_row(row) {
+    match found_in(row) {
         Ok(_found) => OK,
         Err(status) => status,
     }

@@ -8,7 +8,7 @@ ghost use Rattle.wkb_c.specs.LevelLists.{PutsFound, PutsRow, AreLevels, TotalsSu
 ghost use Rattle.wkb_c.specs.RowItems.{KeepsFrom, rows_of};
 
 use crate::column::{Column, check_row};
-use crate::coordinates::{LevelSlices, Totals, dimension_of_number, has_room, put_levels};
+use crate::coordinates::{LevelSlices, Totals, has_room, put_levels};
 use crate::status::{NO_ROOM, OK, UNKNOWN_OPTION};
 use wkb_check::{Piece, Summary, check_plain};
 use wkb_geom::Dimension;
@@ -59,7 +59,7 @@ fn put_row(
         Ok(row) => row,
         Err(status) => return status,
     };
-    let Some(asked) = dimension_of_number(dimension) else {
+    let Some(asked) = Dimension::of_thousands(dimension) else {
         return UNKNOWN_OPTION;
     };
     if let Some(found) = check_plain(row) {

@@ -9,7 +9,7 @@ ghost use Rattle.wkb_geom.specs.Reading.{coordinate};
 ghost use Rattle.wkb_check.specs.Bounded.{HasGeometry};
 ghost use Rattle.wkb_check.specs.Pieces.{IsPieceAt};
 ghost use Rattle.wkb_check.specs.Public.{DescribesFront};
-ghost use Rattle.wkb_c.specs.Coordinates.{dimension_named, z_of, m_of, HasRoomUpTo};
+ghost use Rattle.wkb_c.specs.Coordinates.{z_of, m_of, HasRoomUpTo};
 ghost use Rattle.wkb_c.specs.Coordinates.{totals_after};
 ghost use Rattle.wkb_c.specs.LevelLists.{levels_of, AreSameSlices, HasRoomFor, PutsLevels};
 ghost use Rattle.wkb_c.specs.PieceLevels.{ring_sizes, single_sizes, AreInside, IsRingInside, words_read, words_as};
@@ -41,19 +41,6 @@ pub struct LevelSlices<'a> {
     pub words: &'a mut [u64],
     pub ring_ends: &'a mut [u64],
     pub single_ends: &'a mut [u64],
-}
-
-/// The dimension of this number.
-pub fn dimension_of_number(number: u32) -> Option<Dimension>
-    ensures { result ≡ dimension_named number }
-{
-    match number {
-        0 => Some(Dimension::Xy),
-        1 => Some(Dimension::Xyz),
-        2 => Some(Dimension::Xym),
-        3 => Some(Dimension::Xyzm),
-        _ => None,
-    }
 }
 
 /// The z of a coordinate of this dimension.
@@ -99,7 +86,7 @@ fn put_coordinate(
     requires room { at + width asked ≤ length out.old }
     ensures { out.new ≡ sets out.old at (words_read asked order own row.now from) }
 {
-    // Both are read before the first is stored, so that they are moved at once.
+    // Reads both before storing either, so that one 16-byte move does it.
     let x = u64_at(row, from, order);
     let y = u64_at(row, from + WORD_SIZE, order);
     out[at] = x;

@@ -12,7 +12,7 @@ use crate::status::{NO_ROOM, OK};
 use wkb_check::Summary;
 use wkb_geom::Form;
 use wkb_geom::code::WkbType;
-use wkb_geom::words::COUNT_SIZE;
+use wkb_geom::header::SRID_SIZE;
 use wkb_rewrite::{encoded_size, put_encoding, put_one_piece, size_with_own_srid};
 use wkb_sink::WriteOptions;
 
@@ -42,8 +42,8 @@ pub fn write_requested(
     ensures { WritesRequested request buf.now out.old out.new result size.new }
 {
     let options = options_for(request, found.srid);
-    // An encoding is at most four bytes longer than its input, so its size is only asked for where there is less room.
-    if out.len() < buf.len() + COUNT_SIZE {
+    // An encoding is at most an SRID longer than its input, so its size is only asked for where there is less room.
+    if out.len() < buf.len() + SRID_SIZE {
         let wanted = encoded_size(buf, found, options.form);
         if out.len() < wanted {
             *size = wanted as u64;

@@ -10,12 +10,11 @@ ghost use Rattle.wkb_levels.specs.declared.ends.Ends.TheVariants.{Each, At};
 ghost use Rattle.wkb_levels.specs.EndLists.{ends_of};
 
 use crate::column::is_unset;
-use crate::coordinates::dimension_of_number;
 use crate::encoding::options_for;
 use crate::options::{Options, Request, request_of};
 use crate::status::{BAD_LEVELS, NO_ROOM, NULL_ROW, OK, UNKNOWN_OPTION};
-use wkb_geom::Dimensions;
 use wkb_geom::code::{LINE_STRING, MULTI_LINE_STRING, MULTI_POINT, MULTI_POLYGON, POINT, POLYGON};
+use wkb_geom::{Dimension, Dimensions};
 use wkb_levels::{Ends, Kind, Levels, Place, Written};
 use wkb_sink::WriteOptions;
 
@@ -94,7 +93,7 @@ fn target_of_numbers(kind: u32, dimension: u32, options: &Options) -> Option<Lev
     ensures { result ≡ target_asked kind dimension options.now }
 {
     let kind = kind_of_number(kind)?;
-    let dimension = dimension_of_number(dimension)?;
+    let dimension = Dimension::of_thousands(dimension)?;
     let request = request_of(options)?;
     Some(LevelTarget {
         kind,
@@ -104,7 +103,7 @@ fn target_of_numbers(kind: u32, dimension: u32, options: &Options) -> Option<Lev
     })
 }
 
-/// Writes row i from an index on. Returns its status, and how long its encoding is. The floor is as of `Levels::row`.
+/// Writes row i from an index on. Returns its status, and how long its encoding is. `floor` works as in `Levels::row`.
 fn write_level_row(
     column: &LevelColumn<'_>,
     levels: &Levels<'_>,

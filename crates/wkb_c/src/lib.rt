@@ -7,6 +7,7 @@ mod collect;
 mod column;
 mod column_bounds;
 mod column_coordinates;
+mod column_found;
 mod column_items;
 mod coordinates;
 mod encoding;

@@ -2,23 +2,14 @@ use Rattle.wkb_c.proofs.Common.{arith}
 use Rattle.wkb_c.proofs.Gathering.{requested_put, requested_size, never_refused}
 use Rattle.wkb_c.proofs.collect.put_row_member.Goals as goal
 
+pub unreachable-requires : goal.unreachable-requires
+unreachable-requires c = never_refused c.requires.here c.in-Err.ensures.refused
+
 pub overflow_add-result : goal.overflow_add-result
 overflow_add-result c =
     let here = c.requires.here in
     omega (arith, requested_size c.write_requested-status.ensures here, c.requires.room here)
 
-pub returns-in-Some : goal.returns-in-Some
-returns-in-Some c = λ a.
-    requested_put c.args.out.now c.args.at c.write_requested-status.ensures a (c.requires.room a)
-
-pub unreachable-requires : goal.unreachable-requires
-unreachable-requires c = never_refused c.requires.here c.in-Err.ensures.refused
-
-pub overflow_add-result-in-Ok : goal.overflow_add-result-in-Ok
-overflow_add-result-in-Ok c =
-    let here = c.requires.here in
-    omega (arith, requested_size c.write_requested-status-in-Ok.ensures here, c.requires.room here)
-
 pub returns : goal.returns
 returns c = λ a.
-    requested_put c.args.out.now c.args.at c.write_requested-status-in-Ok.ensures a (c.requires.room a)
+    requested_put c.args.out.now c.args.at c.write_requested-status.ensures a (c.requires.room a)

@@ -1,6 +1,8 @@
 use Rattle.wkb_c.proofs.Common.{arith}
-use Rattle.wkb_c.proofs.Boxes.{boxes_more}
+use Rattle.wkb_check.specs.Bounded.{nothing}
+use Rattle.wkb_c.specs.Boxes.{IsRowBox}
 use Rattle.wkb_c.proofs.RowItems.{set_more}
+use Rattle.wkb_c.proofs.Rows.{items_more}
 use Rattle.wkb_c.proofs.column_bounds.wkb_raw_column_bounds.Goals as goal
 
 pub loop-i-preserved : goal.loop-i-preserved
@@ -11,7 +13,7 @@ loop-i-preserved c =
       reaches = row.ensures.reach;
       lists = set_more lists l.i row.result row.new.found (omega arith);
       done =
-          boxes_more c.args.column.now l.statuses l.boxes l.i row.result row.new.found
+          items_more (IsRowBox c.args.column.now) nothing l.statuses l.boxes l.i row.result row.new.found
           (omega (arith, c.loop-i-test.true, c.min-i-end.ensures, lists.as_many))
           (omega (arith, c.loop-i-test.true, c.min-i-end.ensures, lists.as_many_others)) l.invariant.done
           row.ensures.row;

@@ -6,7 +6,7 @@ use Rattle.wkb_c.proofs.column_coordinates.put_row.Goals as goal
 
 pub returns-in_default-clause-put : goal.returns-in_default-clause-put
 returns-in_default-clause-put c =
-    failed (unknown c.in-Ok.row.now c.in-Ok.ensures.row (sym c.dimension_of_number.ensures ∙ c.in_default.is) refl) refl
+    failed (unknown c.in-Ok.row.now c.in-Ok.ensures.row (sym c.of_thousands.ensures ∙ c.in_default.is) refl) refl
     refl
 
 pub returns-in-Err-check_row-clause-put : goal.returns-in-Err-check_row-clause-put

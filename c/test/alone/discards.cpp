@@ -1,0 +1,27 @@
+// Drops the result of each call that says by it whether it worked, or what became of each row. A compiler has to warn of
+// each line that ends in `dropped`, and of no other.
+#include "wkb_facts.hpp"
+
+void drop(wkb::bytes in, const wkb_options &options, std::vector<std::byte> &out, std::span<wkb_part> table,
+          wkb::reader &reader, const wkb_column &rows);
+void drop(wkb::bytes in, const wkb_options &options, std::vector<std::byte> &out, std::span<wkb_part> table,
+          wkb::reader &reader, const wkb_column &rows) {
+  wkb::check(in);  // dropped
+  wkb::try_bounds(in);  // dropped
+  wkb::try_write(in, options, std::span(out));  // dropped
+  wkb::try_write(in, options, out);  // dropped
+  wkb::try_same(in, in);  // dropped
+  wkb::try_read(in, table);  // dropped
+  reader.try_read(in);  // dropped
+  wkb::try_collect(rows, WKB_KIND_MULTI_POINT, WKB_DIM_XY, options, out);  // dropped
+  wkb::check_rows(rows);  // dropped
+  wkb::found_of_rows(rows);  // dropped
+  wkb::bounds_of_rows(rows);  // dropped
+  wkb::parts_of_rows(rows);  // dropped
+  wkb::write_rows(rows, options);  // dropped
+  wkb::coordinates_of_rows(rows, WKB_DIM_XY);  // dropped
+  wkb::rows_from_coordinates({}, WKB_KIND_POINT, WKB_DIM_XY, options);  // dropped
+  wkb::facts_of_rows(rows);  // dropped
+  wkb::write(in, options, out);
+  reader.read(in);
+}

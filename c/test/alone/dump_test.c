@@ -1,0 +1,149 @@
+/* The dump over worked cases, whose lines are in test/dump.cases; and over random inputs, of which half are broken: its
+ * walk ends at the part and the byte that wkb_check refuses, or at the size that it finds, and it puts no more lines
+ * than its options say. With a seed and a number it tries so many random inputs. */
+#include "../../wkb_dump.h"
+#include "../generated.h"
+
+enum { INPUTS = 20000, LINE_ROOM = 2048, CASES = 30 };
+
+static const wkb_dump_options OPTIONS[] = {{3, 1000}, {0, 0}, {1, 1}, {2, 20}, {0, 40}, {4, 0}};
+enum { OPTION_COUNT = sizeof OPTIONS / sizeof OPTIONS[0] };
+
+/* What was put. */
+typedef struct output {
+  uint64_t lines, most;
+  char last[512];
+} output;
+
+static void fail(const char *what, const generated *it, uint64_t number) {
+  printf("input %llu: %s:\n", (unsigned long long)number, what);
+  for (size_t i = 0; i < it->len; i++) printf("%02x", it->bytes[i]);
+  printf("\n");
+  exit(1);
+}
+
+/* Counts a line, which has one end and no other control characters. */
+static int count_line(void *to, const char *line, size_t length) {
+  output *out = to;
+  if (length < 2 || length >= sizeof out->last || line[length - 1] != '\n') exit(2);
+  for (size_t i = 0; i + 1 < length; i++)
+    if (line[i] < ' ' || line[i] > '~') exit(2);
+  memcpy(out->last, line, length - 1), out->last[length - 1] = 0;
+  out->lines++;
+  return out->most > 0 && out->lines == out->most;
+}
+
+/* What is wrong with a dump of these bytes, or NULL. */
+static const char *wrong_dump(const uint8_t *bytes, size_t len, const wkb_dump_options *options) {
+  wkb_found found;
+  wkb_fault fault;
+  wkb_dump_walk walk;
+  output out = {0};
+  bool is_good = wkb_check(bytes, len, &found, &fault) == WKB_STATUS_OK;
+  int status = wkb_dump(bytes, len, options, count_line, &out, &walk);
+  bool is_cut_short = options->lines > 0 && out.lines > options->lines;
+  if (options->lines > 0 && out.lines > options->lines + WKB_DUMP_LINES_MORE) return "too many lines";
+  if (status != (is_good && found.size == len ? WKB_DUMP_ALONE : WKB_DUMP_OTHER)) return "another status";
+  if (!is_good) {
+    if (walk.parts != fault.part + 1) return "it ends at another part";
+    if (walk.begin != fault.offset) return "the refused part begins elsewhere";
+    return walk.end >= fault.offset && walk.end <= len ? NULL : "it ends elsewhere";
+  }
+  if (is_cut_short) return walk.parts <= found.parts && walk.end <= found.size ? NULL : "it goes on past the end";
+  if (walk.parts != found.parts) return "another number of parts";
+  return walk.end == found.size ? NULL : "it ends elsewhere";
+}
+
+/* The dump ends where its lines are no longer taken. */
+static bool stops(const uint8_t *bytes, size_t len) {
+  output out = {.most = 2};
+  return wkb_dump(bytes, len, NULL, count_line, &out, NULL) != WKB_DUMP_STOPPED || out.lines == 2;
+}
+
+/* The next line of the worked cases, without comments. */
+static FILE *cases;
+static char wanted[LINE_ROOM];
+
+static bool next_line(void) {
+  do {
+    if (fgets(wanted, sizeof wanted, cases) == NULL) return false;
+  } while (wanted[0] == '#');
+  wanted[strcspn(wanted, "\r\n")] = 0;
+  return true;
+}
+
+/* A line is the next one of the worked case. */
+static int is_wanted(void *to, const char *line, size_t length) {
+  if (!next_line() || strlen(wanted) != length - 1 || memcmp(wanted, line, length - 1) != 0) {
+    printf("%s:\nwanted %s\nput    %.*s", (char *)to, wanted, (int)length, line);
+    exit(1);
+  }
+  return 0;
+}
+
+static int try_cases(void) {
+  static char head[LINE_ROOM], hex[LINE_ROOM];
+  int tried = 0, status, used = 0;
+  cases = fopen("test/dump.cases", "rb");
+  if (cases == NULL) return 0;
+  for (bool is_there = next_line(); is_there; is_there = next_line(), tried++) {
+    unsigned items, lines;
+    memcpy(head, wanted, sizeof head);
+    if (sscanf(head, "> %d %u %u %n", &status, &items, &lines, &used) != 3) exit(5);
+    const wkb_dump_options options = {items, lines};
+    snprintf(hex, sizeof hex, "%s", head + used);
+    size_t len = wkb_dump_from_hex(hex, strlen(hex));
+    if (len == WKB_DUMP_NOT_HEX || wkb_dump(hex, len, &options, is_wanted, head, NULL) != status) {
+      printf("%s: another status\n", head);
+      exit(1);
+    }
+  }
+  fclose(cases);
+  return tried;
+}
+
+/* Texts and the bytes that they are, in hex; NULL where they are no hex. */
+static void try_hex(void) {
+  static const struct { const char *text, *bytes; } TEXTS[] = {
+      {"", ""}, {" \n", ""}, {"0x", ""}, {"\\x0aF0", "0af0"}, {"0XfF 00\r\n01\t", "ff0001"}, {" \n0x01", "01"},
+      {"0", NULL}, {"0g", NULL}, {"0 1", NULL}, {"x01", NULL}, {"0x0x01", NULL}, {"\\", NULL}, {"01 0", NULL}};
+  for (size_t i = 0; i < sizeof TEXTS / sizeof TEXTS[0]; i++) {
+    char text[32], bytes[64] = "";
+    size_t length = strlen(TEXTS[i].text);
+    memcpy(text, TEXTS[i].text, length + 1);
+    size_t count = wkb_dump_from_hex(text, length);
+    bool is_hex = count != WKB_DUMP_NOT_HEX;
+    for (size_t k = 0; is_hex && k < count; k++) snprintf(bytes + 2 * k, 3, "%02x", (unsigned char)text[k]);
+    const char *meant = is_hex ? TEXTS[i].bytes : TEXTS[i].text;
+    if (is_hex != (TEXTS[i].bytes != NULL) || strcmp(is_hex ? bytes : text, meant) != 0) {
+      printf("hex: %s\n", TEXTS[i].text);
+      exit(1);
+    }
+  }
+}
+
+int main(int count, char **words) {
+  static generated it;
+  uint64_t seed = count == 3 ? strtoull(words[1], NULL, 10) : 1;
+  uint64_t inputs = count == 3 ? strtoull(words[2], NULL, 10) : INPUTS, refused = 0;
+  try_hex();
+  int tried = try_cases();
+  if (tried < CASES) return 6;
+  begin_numbers(seed);
+  for (uint64_t i = 0; i < inputs; i++) {
+    generate(&it, 1 + random_below(7), random_below(4));
+    /* In a block of its own, so that a sanitizer sees what is read after it. */
+    uint8_t *bytes = malloc(it.len > 0 ? it.len : 1);
+    if (bytes == NULL) return 3;
+    memcpy(bytes, it.bytes, it.len);
+    const char *wrong = wrong_dump(bytes, it.len, &OPTIONS[i % OPTION_COUNT]);
+    if (wrong != NULL) fail(wrong, &it, i);
+    if (i % 16 == 0 && !stops(bytes, it.len)) fail("it goes on", &it, i);
+    refused += wkb_check(bytes, it.len, NULL, NULL) != WKB_STATUS_OK;
+    free(bytes);
+  }
+  if (refused < inputs / 4 || refused > inputs - inputs / 4) return 4;
+  printf("%d worked cases, and %llu random inputs, whose dumps end where wkb_check says\n", tried,
+         (unsigned long long)inputs);
+  return 0;
+}

@@ -1,0 +1,390 @@
+/* The walk over the bytes that wkb_check has looked at, and the lines that it puts. See wkb_dump.h. */
+#include "wkb_dump.h"
+
+#include <inttypes.h>
+#include <stdarg.h>
+#include <stdbool.h>
+#include <stdio.h>
+#include <stdlib.h>
+
+/* A collection is inside at most 128 others; below it are a multi polygon's polygons and their rings. */
+enum { DEEPEST = 132, IN_A_LINE = 8, LINE_ROOM = 512, SAYS_ROOM = 320, NUMBER_ROOM = 40, PATH_NAMES = 8 };
+enum { INDENT = 2, MOST_INDENT = 32, INDENT_BESIDE_BYTES = 14 };
+static const uint32_t SRID_FLAG = 0x20000000, FLAGS = 0xe0000000;
+static const uint64_t NO_PART = UINT64_MAX;
+static const char *const DIMENSIONS[] = {"xy", "xyz", "xym", "xyzm"};
+
+/* Rings or members of which one is walked over. */
+typedef struct list {
+  uint32_t count;      /* how many there are */
+  uint32_t begun;      /* how many have begun */
+  uint32_t left_out;   /* how many of these were left out */
+  uint32_t dimension;  /* that of rings */
+  bool is_of_rings, is_big;
+} list;
+
+typedef struct dump {
+  const uint8_t *bytes;
+  size_t len, front, at;       /* the input, where the geometry begins in it, and the next byte */
+  wkb_dump_options options;
+  wkb_dump_put *put;
+  void *to;
+  uint64_t lines;              /* how many were put */
+  uint64_t refused;            /* the part that is refused, or NO_PART */
+  wkb_dump_walk walk;
+  list lists[DEEPEST];         /* from the outermost one that is open on */
+  uint32_t depth;              /* how many are open */
+  uint32_t hidden;             /* the depth at which an item is left out, or 0 */
+  bool is_at_refused, is_full, has_stopped;
+} dump;
+
+/* Whether what is here is shown. */
+static bool is_shown(const dump *it) {
+  return !it->has_stopped && it->hidden == 0 && (it->is_at_refused || !it->is_full);
+}
+
+static int indent_of(const dump *it) {
+  int indent = INDENT * (int)it->depth;
+  return indent < MOST_INDENT ? indent : MOST_INDENT;
+}
+
+/* Puts a line. The one after the last that is wanted says that more are left out. */
+static void put_line(dump *it, const char *format, ...) {
+  char line[LINE_ROOM + 1];
+  va_list words;
+  va_start(words, format);
+  int length = vsnprintf(line, LINE_ROOM, format, words);
+  va_end(words);
+  if (it->has_stopped) return;
+  size_t end = length < 0 ? 0 : length < LINE_ROOM ? (size_t)length : LINE_ROOM - 1;
+  line[end++] = '\n';
+  it->has_stopped = it->put(it->to, line, end) != 0;
+  it->lines++;
+  if (it->is_full || it->options.lines == 0 || it->lines < it->options.lines) return;
+  it->is_full = true;
+  put_line(it, "%10s..  and so on, after %" PRIu64 " lines", "", it->lines);
+}
+
+/* Goes past the next COUNT bytes, or as many as there are, and shows them with what they say. Returns whether all of
+ * them are there. */
+static bool put_bytes(dump *it, size_t count, const char *format, ...) {
+  char hex[3 * IN_A_LINE + 1] = "", says[SAYS_ROOM];
+  size_t there = it->len - it->at < count ? it->len - it->at : count;
+  if (there > 0 && is_shown(it)) {
+    for (size_t i = 0; i < there && i < IN_A_LINE; i++) snprintf(hex + 3 * i, 4, "%02x ", it->bytes[it->at + i]);
+    va_list words;
+    va_start(words, format);
+    vsnprintf(says, sizeof says, format, words);
+    va_end(words);
+    if (there < count) snprintf(says, sizeof says, "cut off: %d of %d bytes", (int)there, (int)count);
+    int indent = indent_of(it), beside = indent < INDENT_BESIDE_BYTES ? INDENT_BESIDE_BYTES - indent : 1;
+    put_line(it, "%8" PRIu64 "  %*s%-*s%*s%s", (uint64_t)it->at, indent, "", 3 * IN_A_LINE, hex, beside, "", says);
+  }
+  it->at += there;
+  return there == count;
+}
+
+/* Returns the next four bytes as a number, or 0 if there are fewer. */
+static uint32_t next_number(const dump *it, bool is_big) {
+  uint32_t number = 0;
+  if (it->len - it->at < 4) return 0;
+  for (int i = 0; i < 4; i++) number = number << 8 | it->bytes[it->at + (size_t)(is_big ? i : 3 - i)];
+  return number;
+}
+
+/* Goes past a count of coordinates, rings or members. Returns whether all of it is there. */
+static bool put_count(dump *it, bool is_big, const char *what, uint32_t *count) {
+  *count = next_number(it, is_big);
+  return put_bytes(it, 4, "%" PRIu32 " %s%s", *count, what, *count == 1 ? "" : "s");
+}
+
+static double next_double(const dump *it, bool is_big) {
+  uint64_t word = 0;
+  double value;
+  if (it->len - it->at >= 8) word = is_big ? wkb_big_word(it->bytes + it->at) : wkb_little_word(it->bytes + it->at);
+  memcpy(&value, &word, sizeof value);
+  return value;
+}
+
+/* The fewest digits that are read as the same number, with a point in any locale. */
+static void spell(double value, char text[NUMBER_ROOM]) {
+  static const char LETTERS[] = "+-0123456789e";
+  char *to = text;
+  if (value != value || value - value != 0) {
+    snprintf(text, NUMBER_ROOM, value != value ? "NaN" : value < 0 ? "-infinity" : "infinity");
+    return;
+  }
+  for (int digits = 15; digits <= 17; digits++) {
+    snprintf(text, NUMBER_ROOM, "%.*g", digits, value);
+    if (strtod(text, NULL) == value) break;
+  }
+  for (const char *from = text; *from != 0; from++) {
+    bool is_letter = strchr(LETTERS, *from) != NULL;
+    if (is_letter || to == text || to[-1] != '.') *to++ = is_letter ? *from : '.';
+  }
+  *to = 0;
+}
+
+static void put_left_out(dump *it, uint64_t count, const char *what) {
+  put_line(it, "%10s%*s..  %" PRIu64 " more %s%s", "", indent_of(it), "", count, what, count == 1 ? "" : "s");
+}
+
+/* Returns how many items of a list are shown if some are left out; 0 for all. */
+static uint64_t most_items(const dump *it) {
+  return it->is_full && it->options.items == 0 ? WKB_DUMP_ITEMS : it->options.items;
+}
+
+static bool is_left_out(const dump *it, uint64_t item, uint64_t count) {
+  uint64_t most = most_items(it);
+  return most > 0 && count > most && item + 1 >= most && item + 1 < count;
+}
+
+static bool put_coordinate(dump *it, uint32_t dimension, bool is_big) {
+  char text[NUMBER_ROOM];
+  for (const char *name = DIMENSIONS[dimension]; *name != 0; name++) {
+    if (is_shown(it)) spell(next_double(it, is_big), text);
+    if (!put_bytes(it, 8, "%c %s", *name, text)) return false;
+  }
+  return true;
+}
+
+/* The coordinates of a point, a line string or a ring, as many as there are. Returns whether all are there. */
+static bool put_coordinates(dump *it, uint32_t dimension, bool is_big, uint64_t count) {
+  size_t size = 8 * strlen(DIMENSIONS[dimension]);
+  uint64_t held = (it->len - it->at) / size, whole = count < held ? count : held;
+  for (uint64_t i = 0; i < whole; i++) {
+    if (is_shown(it) && !is_left_out(it, i, count)) {
+      put_coordinate(it, dimension, is_big);
+      continue;
+    }
+    uint64_t more = (is_shown(it) && whole == count ? count - 1 : whole) - i;
+    if (is_shown(it)) put_left_out(it, more, "coordinate");
+    it->at += size * more, i += more - 1;
+  }
+  return whole == count || put_coordinate(it, dimension, is_big);
+}
+
+static const char *name_of(const list *items) { return items->is_of_rings ? "ring" : "member"; }
+
+/* What is before the item of the innermost lists, from a depth on: how many are left out, and which one this is. */
+static void put_headings(dump *it, uint32_t from) {
+  uint32_t depth = it->depth;
+  for (it->depth = from; it->depth <= depth; it->depth++) {
+    list *items = &it->lists[it->depth - 1];
+    uint32_t item = items->begun - 1;
+    it->depth--;
+    if (items->left_out > 0) put_left_out(it, items->left_out, name_of(items));
+    put_line(it, "%10s%*s- %s %" PRIu32 "%s", "", indent_of(it), "", name_of(items), item,
+             !items->is_of_rings ? "" : item == 0 ? ", exterior" : ", interior");
+    it->depth++;
+  }
+  it->depth = depth;
+}
+
+/* Begins the next item of the innermost list. */
+static void begin_item(dump *it) {
+  list *items = &it->lists[it->depth - 1];
+  uint32_t item = items->begun++;
+  if (it->hidden == 0 || it->hidden == it->depth)
+    it->hidden = it->is_full || is_left_out(it, item, items->count) ? it->depth : 0;
+  if (it->hidden > 0)
+    items->left_out++;
+  else
+    put_headings(it, it->depth);
+}
+
+/* Begins a part. The rejected one is shown wherever it is. */
+static void begin_part(dump *it) {
+  it->walk.begin = it->at - it->front;
+  it->is_at_refused = it->walk.parts++ == it->refused;
+  if (!it->is_at_refused || it->hidden == 0) return;
+  for (uint32_t i = it->hidden; i <= it->depth; i++) it->lists[i - 1].left_out--;
+  uint32_t from = it->hidden;
+  it->hidden = 0;
+  put_headings(it, from);
+}
+
+static bool put_ring(dump *it) {
+  const list *rings = &it->lists[it->depth - 1];
+  begin_part(it);
+  uint32_t count;
+  return put_count(it, rings->is_big, "coordinate", &count) &&
+         put_coordinates(it, rings->dimension, rings->is_big, count);
+}
+
+/* The code of a geometry, in the digits in which its standard has it, and what it says. Returns whether it says a
+ * kind. */
+static bool put_code(dump *it, bool is_big, uint32_t *code, uint32_t *kind, uint32_t *dimension) {
+  *code = next_number(it, is_big);
+  *kind = (*code & ~FLAGS) % 1000, *dimension = (*code & ~FLAGS) / 1000;
+  const char *format = *code & FLAGS ? "code 0x%08" PRIx32 "%s%s%s%s" : "code %" PRIu32 "%s%s%s%s";
+  if (*dimension > WKB_DIM_XYZM || *kind < WKB_KIND_POINT || *kind > WKB_KIND_GEOMETRY_COLLECTION) {
+    put_bytes(it, 4, format, *code, ", which no geometry here has", "", "", "");
+    return false;
+  }
+  *dimension |= *code >> 31 | (*code >> 29 & 2);
+  return put_bytes(it, 4, format, *code, ": ", wkb_kind_text(*kind), ", ", DIMENSIONS[*dimension]);
+}
+
+/* The front of a geometry. Returns whether the bytes after it are its body. */
+static bool put_front(dump *it, bool *is_big, uint32_t *kind, uint32_t *dimension) {
+  uint32_t code;
+  if (it->at == it->len) return false;
+  uint8_t order = it->bytes[it->at];
+  *is_big = order == WKB_ORDER_BIG;
+  put_bytes(it, 1, "%s", *is_big ? "big endian" : order == WKB_ORDER_LITTLE ? "little endian" : "no byte order");
+  if (order > WKB_ORDER_LITTLE || !put_code(it, *is_big, &code, kind, dimension)) return false;
+  return (code & SRID_FLAG) == 0 || put_bytes(it, 4, "SRID %" PRIu32, next_number(it, *is_big));
+}
+
+/* A geometry up to its own coordinates, or up to its rings or members, which are then the innermost list. Returns
+ * whether all of it is there. */
+static bool put_geometry(dump *it) {
+  uint32_t kind, dimension, count;
+  bool is_big;
+  begin_part(it);
+  if (!put_front(it, &is_big, &kind, &dimension)) return false;
+  if (kind == WKB_KIND_POINT) return put_coordinates(it, dimension, is_big, 1);
+  const char *what = kind == WKB_KIND_LINE_STRING ? "coordinate" : kind == WKB_KIND_POLYGON ? "ring" : "member";
+  if (!put_count(it, is_big, what, &count)) return false;
+  if (kind == WKB_KIND_LINE_STRING) return put_coordinates(it, dimension, is_big, count);
+  if (it->is_at_refused || it->depth == DEEPEST) return false;
+  const list items = {count, 0, 0, dimension, kind == WKB_KIND_POLYGON, is_big};
+  it->lists[it->depth++] = items;
+  return true;
+}
+
+/* Walks over the parts, up to the end or to that of the refused part. */
+static void put_parts(dump *it) {
+  bool is_all_there = put_geometry(it);
+  while (is_all_there && !it->is_at_refused && it->depth > 0 && !it->has_stopped) {
+    const list *items = &it->lists[it->depth - 1];
+    if (it->is_full && it->refused == NO_PART) return;
+    if (items->begun == items->count) {
+      it->depth--;
+    } else {
+      begin_item(it);
+      is_all_there = items->is_of_rings ? put_ring(it) : put_geometry(it);
+    }
+    if (it->depth < it->hidden) it->hidden = 0;
+  }
+}
+
+/* The items that the refused part is in, from the innermost one on. */
+static void put_path(dump *it) {
+  char text[SAYS_ROOM] = "";
+  size_t length = 0;
+  for (uint32_t i = 0; i < it->depth && i < PATH_NAMES; i++) {
+    const list *items = &it->lists[it->depth - 1 - i];
+    length += (size_t)snprintf(text + length, sizeof text - length, "%s%s %" PRIu32, i == 0 ? "in " : " of ",
+                               name_of(items), items->begun - 1);
+  }
+  uint32_t more = it->depth > PATH_NAMES ? it->depth - PATH_NAMES : 0;
+  if (more > 0) snprintf(text + length, sizeof text - length, " and so on, %" PRIu32 " more", more);
+  if (it->depth > 0) put_line(it, "%10s%s", "", text);
+}
+
+/* Shows the geometry behind the header, and how it ends. Returns whether it is alone. */
+static bool put_whole(dump *it) {
+  wkb_found found;
+  wkb_fault fault;
+  it->front = it->at;
+  bool is_good = wkb_check(it->bytes + it->at, it->len - it->at, &found, &fault) == WKB_STATUS_OK;
+  it->refused = is_good ? NO_PART : fault.part;
+  put_parts(it);
+  it->walk.end = it->at - it->front;
+  if (!is_good) {
+    char text[WKB_FAULT_TEXT_ROOM];
+    fault.offset += it->front;
+    wkb_fault_text(&fault, text, sizeof text);
+    put_line(it, "%10srefused: %s", "", text);
+    put_path(it);
+    return false;
+  }
+  uint64_t end = it->front + found.size, more = it->len - end;
+  if (more == 0)
+    put_line(it, "%8" PRIu64 "  the end", end);
+  else
+    put_line(it, "%8" PRIu64 "  the end of the geometry, and %" PRIu64 " more byte%s", end, more, more == 1 ? "" : "s");
+  return more == 0;
+}
+
+/* The ranges of an envelope in the header of a GeoPackage. */
+static bool put_envelope(dump *it, const char *names, bool is_big) {
+  for (; *names != 0; names++)
+    for (int i = 0; i < 2; i++) {
+      char text[NUMBER_ROOM];
+      spell(next_double(it, is_big), text);
+      if (!put_bytes(it, 8, "%s %c %s", i == 0 ? "least" : "greatest", *names, text)) return false;
+    }
+  return true;
+}
+
+/* Shows the header of a GeoPackage: "GP", a version, flags, the srs_id and an envelope. Returns what is wrong with it,
+ * or NULL. */
+static const char *put_header(dump *it) {
+  static const char *const ENVELOPES[] = {"", "xy", "xyz", "xym", "xyzm"};
+  enum { LITTLE = 1, EMPTY = 16, EXTENDED = 32, KNOWN_ENVELOPES = 5 };
+  const char *cut = "the input ends inside its GeoPackage header";
+  put_bytes(it, 2, "the header of a GeoPackage");
+  if (it->len - it->at < 2) {
+    put_bytes(it, 2, "version and flags");
+    return cut;
+  }
+  uint8_t version = it->bytes[it->at], flags = it->bytes[it->at + 1];
+  uint32_t envelope = flags >> 1 & 7;
+  bool is_big = (flags & LITTLE) == 0, is_known = envelope < KNOWN_ENVELOPES;
+  put_bytes(it, 1, "version %d", version + 1);
+  put_bytes(it, 1, "flags: %s, %s%s envelope%s%s", is_big ? "big endian" : "little endian",
+            !is_known ? "an unknown" : envelope == 0 ? "no" : "an ", !is_known ? "" : ENVELOPES[envelope],
+            flags & EMPTY ? ", empty" : "", flags & EXTENDED ? ", extended" : "");
+  if (!put_bytes(it, 4, "SRID %" PRId32, (int32_t)next_number(it, is_big))) return cut;
+  if (version != 0) return "unknown version of a GeoPackage header";
+  if (flags & EXTENDED) return "an extended GeoPackage geometry, which is not WKB";
+  if (!is_known) return "unknown envelope in a GeoPackage header";
+  return put_envelope(it, ENVELOPES[envelope], is_big) ? NULL : cut;
+}
+
+int wkb_dump(const void *buf, size_t len, const wkb_dump_options *options, wkb_dump_put *put, void *to,
+             wkb_dump_walk *walk) {
+  static const wkb_dump_options USUAL = {WKB_DUMP_ITEMS, WKB_DUMP_LINES};
+  dump it = {.bytes = buf, .len = len, .options = options ? *options : USUAL, .put = put, .to = to};
+  const char *wrong = len >= 2 && memcmp(buf, "GP", 2) == 0 ? put_header(&it) : NULL;
+  bool is_alone = wrong == NULL && put_whole(&it);
+  if (wrong != NULL) put_line(&it, "%10srefused: %s", "", wrong);
+  if (walk != NULL) *walk = it.walk;
+  return it.has_stopped ? WKB_DUMP_STOPPED : is_alone ? WKB_DUMP_ALONE : WKB_DUMP_OTHER;
+}
+
+/* The value of a digit of hex, or -1. */
+static int digit_of(char letter) {
+  static const char DIGITS[] = "0123456789abcdef", CAPITALS[] = "0123456789ABCDEF";
+  for (int i = 0; i < 16; i++)
+    if (letter == DIGITS[i] || letter == CAPITALS[i]) return i;
+  return -1;
+}
+
+static bool is_space(char letter) { return letter == ' ' || (letter >= '\t' && letter <= '\r'); }
+
+/* Goes through hex, and writes its bytes unless OUT is null. Returns how many there are, or WKB_DUMP_NOT_HEX. */
+static size_t read_hex(const char *text, size_t length, char *out) {
+  size_t bytes = 0, i = 0;
+  while (i < length && is_space(text[i])) i++;
+  if (length - i >= 2 && (text[i] == '0' || text[i] == '\\') && (text[i + 1] == 'x' || text[i + 1] == 'X')) i += 2;
+  while (i < length) {
+    if (is_space(text[i])) {
+      i++;
+      continue;
+    }
+    int high = digit_of(text[i]), low = i + 1 < length ? digit_of(text[i + 1]) : -1;
+    if (high < 0 || low < 0) return WKB_DUMP_NOT_HEX;
+    if (out != NULL) out[bytes] = (char)(high << 4 | low);
+    bytes++, i += 2;
+  }
+  return bytes;
+}
+
+size_t wkb_dump_from_hex(char *text, size_t length) {
+  size_t bytes = read_hex(text, length, NULL);
+  return bytes == WKB_DUMP_NOT_HEX ? bytes : read_hex(text, length, text);
+}

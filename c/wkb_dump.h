@@ -1,0 +1,59 @@
+/* Shows the bytes of a geometry line by line, with what they mean, and where and why they are rejected. This is plain
+ * C over wkb.h, and no part of the library: who wants it compiles wkb_dump.c too. It is tested, and not proved.
+ *
+ * It decides nothing itself. It asks wkb_check, and ends where the geometry ends by what that finds, or with the part
+ * that it rejects. It doesn't allocate, has no global state, and takes at most 8 KB of stack besides what printf takes.
+ * As for each call of wkb.h, the input must not change during a call. */
+#ifndef WKB_DUMP_H
+#define WKB_DUMP_H
+
+#include "wkb.h"
+
+#ifdef __cplusplus
+extern "C" {
+#endif
+
+/* Takes a line of the dump, of LENGTH characters with its line feed, without a terminating NUL. A result that isn't 0
+ * ends the dump. It may also leave it by longjmp, since the dump holds nothing. */
+typedef int wkb_dump_put(void *to, const char *line, size_t length);
+
+/* How much is shown. */
+typedef struct wkb_dump_options {
+  uint32_t items;  /* of more coordinates, rings or members in one list so many are shown, the last of them with the
+                      first ones; 0: all */
+  uint64_t lines;  /* after so many lines only what leads to the rejected part, that part and the end, which take at
+                      most WKB_DUMP_LINES_MORE lines; 0: all */
+} wkb_dump_options;
+
+enum { WKB_DUMP_ITEMS = 3, WKB_DUMP_LINES = 1000, WKB_DUMP_LINES_MORE = 300 };
+
+/* What the dump returns, and the exit status of a program. */
+enum {
+  WKB_DUMP_ALONE = 0,   /* the input is one geometry, without trailing bytes */
+  WKB_DUMP_OTHER = 1,   /* it is rejected, or more bytes come after the geometry */
+  WKB_DUMP_STOPPED = 2  /* PUT has ended the dump */
+};
+
+/* What was walked over, in bytes from the start of the geometry. */
+typedef struct wkb_dump_walk {
+  uint64_t parts;  /* how many parts have begun; the last of a rejected input is the rejected one */
+  uint64_t begin;  /* where the last of them starts */
+  uint64_t end;    /* one past the last byte that is shown or left out */
+} wkb_dump_walk;
+
+/* Shows the geometry at the start of the input, which may have the header of a GeoPackage's blob before it. Null
+ * OPTIONS are WKB_DUMP_ITEMS and WKB_DUMP_LINES. WALK may be null. The time that it takes is proportional to that of
+ * wkb_check and to the lines. */
+int wkb_dump(const void *buf, size_t len, const wkb_dump_options *options, wkb_dump_put *put, void *to,
+             wkb_dump_walk *walk);
+
+/* Decodes hex to bytes at the start of TEXT, and returns how many there are. Hex is an even number of digits of either
+ * case, with white space anywhere between bytes, and optionally 0x or \x before it. If the text is something else it is
+ * unchanged, and the result is WKB_DUMP_NOT_HEX. */
+size_t wkb_dump_from_hex(char *text, size_t length);
+#define WKB_DUMP_NOT_HEX SIZE_MAX
+
+#ifdef __cplusplus
+}
+#endif
+#endif

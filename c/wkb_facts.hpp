@@ -1,0 +1,87 @@
+// What occurs in a column: which kinds and dimensions, which SRIDs, and the bounds of all rows together. It is made over
+// wkb.hpp, of what is found in each row and of the bounds of each row. Nothing in it is proved.
+#ifndef WKB_FACTS_HPP
+#define WKB_FACTS_HPP
+
+#include "wkb.hpp"
+
+#include <array>
+#include <cmath>
+#include <limits>
+
+namespace wkb {
+
+// The facts of a column. Rows are counted by their status: an accepted row is one whose status is WKB_STATUS_OK, and the
+// rest of the facts is about these rows alone.
+struct column_facts {
+  std::size_t rows = 0, accepted = 0, null_rows = 0, refused = 0;
+  // How many rows are of a kind and a dimension, by their numbers: of_kind[WKB_KIND_POINT][WKB_DIM_XYZ].
+  std::array<std::array<std::size_t, 4>, 8> of_kind{};
+  // How many rows have no SRID, and the SRIDs that the others have, each once and in order. The SRIDs of members don't
+  // count.
+  std::size_t without_srid = 0;
+  std::vector<std::uint32_t> srids{};
+  // The bounds of all rows together. The range of an ordinate that no row has is that of a geometry without coordinates.
+  wkb_box box{};
+};
+
+namespace detail {
+
+// Whether a number is below another, where -0 is below +0.
+inline bool is_below(double a, double b) noexcept {
+  return a < b || (a == b && std::signbit(a) && !std::signbit(b));
+}
+
+inline void widen(wkb_range &whole, const wkb_range &by) noexcept {
+  if (is_below(by.least, whole.least)) whole.least = by.least;
+  if (is_below(whole.greatest, by.greatest)) whole.greatest = by.greatest;
+  whole.count += by.count;
+}
+
+// Rows beside each other mostly have one SRID. The others are sorted once, however many there are.
+inline void add_srid(std::vector<std::uint32_t> &srids, std::uint32_t srid) {
+  if (srids.empty() || srids.back() != srid) srids.push_back(srid);
+}
+
+inline void sort_srids(std::vector<std::uint32_t> &srids) {
+  std::sort(srids.begin(), srids.end());
+  srids.erase(std::unique(srids.begin(), srids.end()), srids.end());
+}
+
+}  // namespace detail
+
+// What occurs in the rows, by what is found in each and the bounds of each: both of one column.
+[[nodiscard]] inline column_facts facts_of(const row_found &found, const row_bounds &bounds) {
+  constexpr wkb_range NONE{std::numeric_limits<double>::infinity(), -std::numeric_limits<double>::infinity(), 0};
+  column_facts facts;
+  facts.rows = found.statuses.size();
+  facts.box = {NONE, NONE, NONE, NONE};
+  for (const std::uint8_t status : found.statuses) {
+    facts.accepted += status == WKB_STATUS_OK;
+    facts.null_rows += status == WKB_STATUS_NULL_ROW;
+    facts.refused += wkb_status_is_refusal(status) != 0;
+  }
+  for (std::size_t row = 0; row < facts.rows; row++) {
+    if (found.statuses[row] != WKB_STATUS_OK) continue;
+    const wkb_found &it = found.found[row];
+    facts.of_kind[it.kind][it.dimension]++;
+    if (it.has_srid == 0) facts.without_srid++;
+    else detail::add_srid(facts.srids, it.srid);
+  }
+  detail::sort_srids(facts.srids);
+  for (const wkb_box &box : bounds.boxes) {
+    detail::widen(facts.box.x, box.x), detail::widen(facts.box.y, box.y);
+    detail::widen(facts.box.z, box.z), detail::widen(facts.box.m, box.m);
+  }
+  return facts;
+}
+
+// What occurs in the rows of a column. On the way it takes 162 bytes of memory a row, and up to 12
+// more if each has an SRID of its own.
+[[nodiscard]] inline column_facts facts_of_rows(const wkb_column &column) {
+  return facts_of(found_of_rows(column), bounds_of_rows(column));
+}
+
+}  // namespace wkb
+
+#endif

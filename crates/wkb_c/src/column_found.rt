@@ -1,0 +1,78 @@
+//! What the check finds in a column's rows.
+
+ghost use Rattle.std.specs.Prelude.{◌≡◌, ◌+◌, ◌<◌, ◌^◌, length};
+ghost use Rattle.wkb_c.specs.Classes.{FitsByte};
+ghost use Rattle.wkb_c.specs.Columns.{Reach, AreStatuses};
+ghost use Rattle.wkb_c.specs.FoundRows.{IsFoundIn, IsFoundInRow, AreFoundRows};
+ghost use Rattle.wkb_c.specs.RowItems.{KeepsFrom, rows_of};
+
+use crate::column::{Column, check_row};
+use crate::found::{Found, NOTHING_FOUND, found_of};
+use crate::status::OK;
+use wkb_check::check_plain;
+
+/// Puts what the check finds of some bytes by the long way, and returns their status.
+///
+/// It isn't inlined, so that rows that take the short way don't pay for its frame.
+#[inline(never)]
+fn find_any(row: &[u8], found: &mut Found) -> u32
+    ensures found { IsFoundIn row.now result found.new }
+    ensures known { FitsByte result }
+{
+    match check_row(row) {
+        Ok(summary) => {
+            *found = found_of(row, &summary);
+            OK
+        }
+        Err(status) => {
+            *found = NOTHING_FOUND;
+            status
+        }
+    }
+}
+
+/// Puts what the check finds of row i, and returns its status.
+fn find_row(column: &Column, i: usize, reach: &mut u64, found: &mut Found) -> u32
+    requires small { i < 2 ^ 63 }
+    requires before { Reach column.now i reach.old }
+    ensures reach { Reach column.now (i + 1) reach.new }
+    ensures found { IsFoundInRow column.now i result found.new }
+    ensures known { FitsByte result }
+{
+    let row = match column.row(i, reach) {
+        Ok(row) => row,
+        Err(status) => {
+            *found = NOTHING_FOUND;
+            return status;
+        }
+    };
+    match check_plain(row) {
+        Some(plain) => {
+            *found = found_of(row, &plain);
+            OK
+        }
+        None => find_any(row, found),
+    }
+}
+
+/// What the check finds in each row of a column: a status and an entry a row, all zeros for a row without a geometry.
+///
+/// The rows and their statuses are those of `wkb_raw_column_check`. No row stops the others.
+#[unsafe(no_mangle)]
+pub extern "C" fn wkb_raw_column_found(
+    column: &Column<'_>,
+    found: &mut [Found],
+    statuses: &mut [u8],
+)
+    ensures each { AreFoundRows column.now (rows_of statuses.old found.old) statuses.new found.new }
+    ensures checked { AreStatuses column.now (rows_of statuses.old found.old) statuses.new }
+    ensures statuses_kept { KeepsFrom (rows_of statuses.old found.old) statuses.old statuses.new }
+    ensures found_kept { KeepsFrom (rows_of statuses.old found.old) found.old found.new }
+    ensures as_many { length statuses.new ≡ length statuses.old }
+    ensures as_many_found { length found.new ≡ length found.old }
+{
+    let mut reach = 0;
+    for i in 0..statuses.len().min(found.len()) {
+        statuses[i] = find_row(column, i, &mut reach, &mut found[i]) as u8;
+    }
+}
